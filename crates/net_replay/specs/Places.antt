@@ -68,4 +68,4 @@ new_call_at declared word = do
   Ok c
 
 abbrev pub alias_at : List ℕ → Result Alias What
-alias_at word = elim (aliases.alias_at word) [ Ok letters ↦ Ok (record { letters = letters }) | Err e ↦ Err whats.Alias ]
+alias_at word = elim (aliases.alias_at word) [ Ok alias ↦ Ok alias | Err e ↦ Err whats.Alias ]

@@ -1,5 +1,5 @@
-ghost use Rattle.std.specs.Prelude.{◌≡◌, ◌<◌, ◌≤◌, ◌==◌, ◌∷◌, ◌^◌, length, nat_le, map, not, Some, None, IfOk, if◌then◌else◌};
-ghost use Rattle.std.specs.List.{list_all, position_or_len, slice_split};
+ghost use Rattle.std.specs.Prelude.{◌≡◌, ◌<◌, ◌≤◌, ◌==◌, ◌∷◌, ◌^◌, length, nat_le, map, not, Some, None, IfSome, IfOk, if◌then◌else◌};
+ghost use Rattle.std.specs.List.{list_all, position, slice_split};
 ghost use Rattle.std.specs.Str.Lines.{lines, strip_carriage_return};
 ghost use Rattle.net_replay.specs.Words as words;
 
@@ -11,20 +11,18 @@ pub fn first_line(text: &[u8]) -> (&[u8], &[u8])
     ensures cut { lines text.now ≡ result.0.now ∷ lines result.1.now }
     ensures shorter { length result.1.now < length text.now }
 {
-    let end = line_len(text);
-    if end < text.len() {
-        (without_return(&text[..end]), &text[end + 1..])
-    } else {
-        (text, &text[end..])
+    match line_feed(text) {
+        Some(end) => (without_return(&text[..end]), &text[end + 1..]),
+        None => (text, &text[text.len()..]),
     }
 }
 
-/// How many bytes stand before the first line feed, or in all.
-fn line_len(text: &[u8]) -> usize
-    ensures len { result ≡ position_or_len (λ b. b == 10) text.now }
-    ensures within { result ≤ length text.now }
+/// The place of the first line feed.
+fn line_feed(text: &[u8]) -> Option<usize>
+    ensures place { result ≡ position (λ b. b == 10) text.now }
+    ensures within { IfSome result (λ at. at < length text.now) }
 {
-    text.iter().position(|b| *b == b'\n').unwrap_or(text.len())
+    text.iter().position(|b| *b == b'\n')
 }
 
 /// A line without the one carriage return at its end, if it has one.
