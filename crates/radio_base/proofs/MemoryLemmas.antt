@@ -1,4 +1,4 @@
-use Rattle.std.proofs.Common.{◌≡◌, ℕ, ◌+◌, ◌-◌, ◌≤◌, ◌++◌, ◌∙◌, List, length, take, drop, sym, arith}
+use Rattle.std.proofs.Common.{◌≡◌, ℕ, ◌+◌, ◌-◌, ◌++◌, List, length, take, drop, sym, arith}
 use Rattle.std.proofs.lemmas.List.{take_all, take-append-drop, drop-drop, length-drop}
 
 -- the bytes behind `at` are those that a read has copied to the front of a buffer, and the rest

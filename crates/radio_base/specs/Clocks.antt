@@ -1,5 +1,5 @@
 -- What clocks hand out.
-use Rattle.std.specs.Prelude.{ℕ, ◌≡◌, ◌+◌, ◌*◌, ◌-◌, ◌^◌, ◌<◌, ◌++◌, List, [], ◌∷◌, zero, suc, min, nat_lt, Option, None, Some, if◌then◌else◌, ⊤}
+use Rattle.std.specs.Prelude.{ℕ, ◌≡◌, ◌+◌, ◌*◌, ◌-◌, ◌^◌, ◌++◌, List, [], ◌∷◌, zero, suc, min, nat_lt, Option, None, Some, if◌then◌else◌, ⊤}
 use Rattle.radio_base.specs.Causes.{one_more}
 
 -- a list that is told grows by xs, unless it is told no more; one that isn't told stays untold

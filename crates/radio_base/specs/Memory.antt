@@ -1,5 +1,5 @@
 -- Sources and sinks in memory, as plain data.
-use Rattle.std.specs.Prelude.{ℕ, ◌≡◌, ◌≢◌, ◌+◌, ◌-◌, ◌^◌, ◌<◌, ◌≤◌, ◌⊎◌, ◌++◌, List, [], length, min, take, drop, Contains}
+use Rattle.std.specs.Prelude.{ℕ, ◌≢◌, ◌+◌, ◌-◌, ◌^◌, ◌<◌, ◌≤◌, ◌⊎◌, ◌++◌, List, [], length, min, take, drop, Contains}
 use Rattle.radio_base.specs.Causes.{one_more}
 use Rattle.radio_base.specs.Streams.{size_noted}
 
