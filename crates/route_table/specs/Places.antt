@@ -1,0 +1,15 @@
+-- Where a route is put, as an index.
+use Rattle.std.specs.Prelude.{ℕ, suc, List, [], ◌∷◌, if◌then◌else◌}
+use Rattle.ax_address.specs.Callsign.{Callsign}
+use Rattle.route_table.specs.declared.route.Route.{Route}
+use Rattle.route_table.specs.Table.{is_to}
+use Rattle.route_table.specs.Ranks.{is_before, placed}
+
+-- the ranked routes with one more, where that leads to the destination
+abbrev pub considered : Callsign → Route → List Route → List Route
+considered dest r rs = if is_to dest r then placed r rs else rs
+
+-- how many ranked routes stand before the route's place
+abbrev pub place_of : Route → List Route → ℕ
+place_of r [] = 0
+place_of r (x ∷ xs) = if is_before r x then 0 else suc (place_of r xs)
