@@ -31,7 +31,8 @@ pub fn octet(word: &[u8]) -> Result<u8, What>
 /// A number of any size, which has to be from `least` to `most`.
 #[tactic(auto, unfolding(crate::specs::Places::value_at))]
 pub fn value(least: u32, most: u32, word: &[u8]) -> Result<u32, What>
-    ensures { result ≡ places.value_at least most word.now }
+    ensures value { result ≡ places.value_at least most word.now }
+    ensures in_range { IfOk result (λ v. (least ≤ v) × (v ≤ most)) }
 {
     needs(is_number(word), What::Number)?;
     number_of(least, most, word).ok_or(What::Value)

@@ -1,5 +1,4 @@
-ghost use Rattle.std.specs.Prelude.{Some};
-
+use radio_base::NoMemory;
 use std::alloc::{AllocError, AllocFailed};
 use std::fmt;
 use thiserror::Error;
@@ -100,6 +99,17 @@ pub enum ReplayRefusal {
     FramesFull,
     #[error("out of memory")]
     NoMemory,
+}
+
+impl From<NoMemory> for ReplayRefusal {
+    ghost use Rattle.std.specs.Prelude.{◌≡◌};
+    ghost use Rattle.net_replay.specs.declared.reasons.ReplayRefusal.TheVariants as refusals;
+
+    ghost from_gives = { λ _ e. e ≡ refusals.NoMemory };
+
+    fn from(_: NoMemory) -> Self {
+        ReplayRefusal::NoMemory
+    }
 }
 
 impl From<AllocError> for ReplayRefusal {
