@@ -26,7 +26,7 @@ is_lock_on r row = is_none row.count && is_same_pair r row
 
 -- a report becomes a row: it is good enough, the last of its pair, and no row is a lock of that pair
 abbrev pub is_new : ℕ → List Route → Route → List Route → Bool
-is_new minq rows r later = is_good minq r && (not (list_any (is_same_pair r) later) && not (list_any (is_lock_on r) rows))
+is_new minq rows r later = (is_good minq r && not (list_any (is_same_pair r) later)) && not (list_any (is_lock_on r) rows)
 
 -- the reports that become rows
 abbrev pub new_rows : ℕ → List Route → List Route → List Route

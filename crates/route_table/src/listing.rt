@@ -1,4 +1,5 @@
 ghost use Rattle.std.specs.Prelude.{◌≡◌, None, [], IfOk, OnOk, slice_get};
+ghost use Rattle.route_table.specs.Places as places;
 ghost use Rattle.route_table.specs.Ranks as ranks;
 ghost use Rattle.route_table.specs.Rows as spec;
 
@@ -19,7 +20,7 @@ pub(crate) fn destinations_of(alloc: Global, rows: &[Route]) -> Result<Vec<Call>
 
 /// Puts the call at its place among calls in order, where it isn't there.
 fn add_call(calls: &mut Vec<Call>, call: Call) -> Result<(), AllocFailed<Call>>
-    requires { ranks.Rise calls.old.items }
+    requires { places.InOrder calls.old.items }
     ensures { OnOk result (calls.new.items ≡ ranks.with_call call calls.old.items) }
 {
     match calls.binary_search(&call) {

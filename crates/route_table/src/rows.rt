@@ -1,4 +1,5 @@
 ghost use Rattle.std.specs.Prelude.{◌≡◌, ◌≤◌, ◌<◌, ◌+◌, ◌-◌, ◌++◌, length, map, filter, OnOk, OnErr};
+ghost use Rattle.std.specs.List.{list_any};
 ghost use Rattle.route_table.specs.Rows as spec;
 
 use crate::reports::MAX_REPORTS;
@@ -13,11 +14,18 @@ fn is_same_pair(a: &Route, b: &Route) -> bool
     a.dest == b.dest && a.neighbour == b.neighbour
 }
 
+/// Whether one of the reports is of the route's pair.
+fn is_told(reports: &[Route], route: &Route) -> bool
+    ensures { result ≡ list_any (spec.is_same_pair route.now) reports.now }
+{
+    reports.iter().any(|report| is_same_pair(route, report))
+}
+
 /// Whether the row stays beside these reports: a lock does, and what none of them replaces.
 fn stays(reports: &[Route], row: &Route) -> bool
     ensures { result ≡ spec.stays reports.now row.now }
 {
-    row.count.is_none() || !reports.iter().any(|report| is_same_pair(row, report))
+    row.count.is_none() || !is_told(reports, row)
 }
 
 fn is_lock_on(report: &Route, row: &Route) -> bool
@@ -26,13 +34,18 @@ fn is_lock_on(report: &Route, row: &Route) -> bool
     row.count.is_none() && is_same_pair(report, row)
 }
 
+/// Whether one of the rows is a lock of the report's pair.
+fn is_locked(rows: &[Route], report: &Route) -> bool
+    ensures { result ≡ list_any (spec.is_lock_on report.now) rows.now }
+{
+    rows.iter().any(|row| is_lock_on(report, row))
+}
+
 /// Whether the report becomes a row: it is good enough, the last of its pair, and no row is a lock of that pair.
 fn is_new(minq: u8, rows: &[Route], report: &Route, later: &[Route]) -> bool
     ensures { result ≡ spec.is_new minq rows.now report.now later.now }
 {
-    report.quality >= minq
-        && !later.iter().any(|other| is_same_pair(report, other))
-        && !rows.iter().any(|row| is_lock_on(report, row))
+    report.quality >= minq && !is_told(later, report) && !is_locked(rows, report)
 }
 
 /// The reports that become rows.
@@ -56,7 +69,8 @@ pub(crate) fn new_rows(
 
 /// How many rows stay beside these reports.
 pub(crate) fn count_staying(rows: &[Route], reports: &[Route]) -> usize
-    ensures { result ≡ length (filter (spec.stays reports.now) rows.now) }
+    ensures value { result ≡ length (filter (spec.stays reports.now) rows.now) }
+    ensures bound { result ≤ length rows.now }
 {
     rows.iter().filter(|row| stays(reports, row)).count()
 }
