@@ -12,7 +12,10 @@ use Rattle.std.proofs.lemmas.List.Sorted.{searchable_from_sorted}
 use Rattle.ax_address.specs.Callsign.{Callsign}
 use Rattle.ax_address.specs.CallOrder.{same_call, call_lt, call_cmp}
 use Rattle.route_table.specs.declared.route.Route.{Route}
+use Rattle.route_table.specs.declared.route.RouteRules.{RouteRules}
+use Rattle.route_table.specs.Log.{Item}
 use Rattle.route_table.specs.Ranks.{with_call, calls_into, Rise}
+use Rattle.route_table.specs.Table.{usable, destinations}
 use Rattle.route_table.specs.Places.{InOrder}
 use Rattle.route_table.specs.Rows.{is_above, is_below, lowest_from}
 use Rattle.route_table.proofs.Calls.{same_call-true, same_call-equal, apart_sym, call_total, call_cmp-Equal, call_lt_trans, call_lt_irrefl, call_lt_equal, call_lt_asym, call_lt_total, greater_apart}
@@ -195,3 +198,6 @@ none_after (d ∷ ds) (suc i) (suc k) h w = none_after ds i k h (omega arith)
 -- one destination more, as the loop goes on
 pub next_destination : (rows : List Route) (xs ys : List Callsign) (i : ℕ) (r : Route) → i < length rows → r ≡ get_or rows i r → ys ≡ with_call r.dest xs → calls_into ys (drop (i + 1) rows) ≡ calls_into xs (drop i rows)
 next_destination rows xs ys i r within e h = rw (h, drop-cons rows i r within, ← e, add-one) refl
+
+pub destinations_rise : (rules : RouteRules) (log : List Item) → Rise (destinations rules log)
+destinations_rise rules log = rise_from_order (destinations rules log) (calls_rise (usable rules log) [] tt)
