@@ -1,5 +1,5 @@
 -- The destinations of a log are those of its usable routes.
-use Rattle.std.proofs.Common.{◌≡◌, ◌<◌, ◌∙◌, ℕ, refl, sym, subst, List, [], ◌∷◌, length, get_or, Bool, true, false, cond}
+use Rattle.std.proofs.Common.{◌≡◌, ◌∙◌, refl, sym, subst, List, [], ◌∷◌, get_or, Bool, true, false, cond}
 use Rattle.std.specs.Prelude.{◌||◌, ◌↔◌, Any, Contains}
 use Rattle.std.specs.List.{list_any}
 use Rattle.std.proofs.lemmas.List.Folds.{Any-from_list_any, list_any-from_Any}
@@ -70,6 +70,7 @@ leading c rs h =
     (a.0, a.1, a.2, a.3, same_call-true a.1.dest c a.4)
 
 pub destinations_exact : (rules : RouteRules) (log : List Item) (call : Callsign) → Contains (destinations rules log) call ↔ Any (λ (r : Route). r.dest ≡ call) (usable rules log)
-destinations_exact rules log call =
-    ((λ h. leading call (usable rules log) (sym (calls_among call (usable rules log) []) ∙ contained call (destinations rules log) h)),
-     (λ h. contains call (destinations rules log) (calls_among call (usable rules log) [] ∙ led call (usable rules log) h)))
+destinations_exact rules log call = (
+  (λ h. leading call (usable rules log) (sym (calls_among call (usable rules log) []) ∙ contained call (destinations rules log) h)),
+  (λ h. contains call (destinations rules log) (calls_among call (usable rules log) [] ∙ led call (usable rules log) h)),
+)

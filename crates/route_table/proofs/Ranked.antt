@@ -1,6 +1,6 @@
 -- The routes of a log to a destination, ranked: in order, and the same routes.
-use Rattle.std.proofs.Common.{◌≡◌, ◌≤◌, ◌<◌, ◌++◌, ◌∙◌, ℕ, refl, sym, ap, subst, List, [], ◌∷◌, length, filter, arith, Bool, true, false, cond, append_assoc, append-nil}
-use Rattle.std.specs.Prelude.{Some, None, ◌&&◌, ◌||◌, ◌==◌, not, nat_eq, nat_lt, AllPairs, IsPermutation, insert}
+use Rattle.std.proofs.Common.{◌≡◌, ◌++◌, ◌∙◌, ℕ, refl, sym, ap, subst, List, [], ◌∷◌, filter, arith, Bool, true, false, cond, append_assoc, append-nil}
+use Rattle.std.specs.Prelude.{◌&&◌, ◌||◌, ◌==◌, not, nat_lt, AllPairs, IsPermutation}
 use Rattle.std.specs.List.{list_any, AllByRecursion}
 use Rattle.std.specs.Cmp.{IsTotalOrder}
 use Rattle.std.specs.Ordering.{nat_cmp, ordering_then, ordering_reverse, is_lt}
@@ -18,11 +18,10 @@ use Rattle.ax_address.specs.declared.alias.Alias.{Alias}
 use Rattle.route_table.specs.declared.route.Route.{Route}
 use Rattle.route_table.specs.declared.route.RouteRules.{RouteRules}
 use Rattle.route_table.specs.Log.{Item, Report, Lock, Round, Failure}
-use Rattle.route_table.specs.Live.{is_report_of, is_lock_of, is_failure_of, rounds, is_live, live_of, live_among, live}
-use Rattle.route_table.specs.Ranks.{is_before, placed, ranked_into, ranked}
+use Rattle.route_table.specs.Live.{is_report_of, is_lock_of, is_failure_of, rounds, is_live, live_among, live}
+use Rattle.route_table.specs.Ranks.{is_before, placed, ranked_into}
 use Rattle.route_table.specs.Table.{is_good, usable, is_to, all_routes_to}
 use Rattle.route_table.specs.Places.{place_of}
-use Rattle.route_table.specs.Rows.{is_same_pair}
 use Rattle.route_table.proofs.Calls.{and_true, same_call-true, same_call_refl, same_call-equal, apart_sym, call_total, call_cmp-Equal, then_equal, less_from_lt}
 use Rattle.route_table.proofs.Placing.{placed-insert}
 
@@ -131,10 +130,10 @@ ranked_moves [] done = subst (λ xs. IsPermutation xs done) (sym (append-nil don
 ranked_moves (r ∷ rs) done =
     let there : IsPermutation (r ∷ done) (placed r done) = subst (λ xs. IsPermutation (r ∷ done) xs) (sym (placed-insert r done)) (IsPermutation-insert done (place_of r done) r) in
     IsPermutation-trans (done ++ r ∷ rs) (r ∷ (done ++ rs)) (ranked_into (placed r done) rs)
-      (IsPermutation-middle done r rs)
-      (IsPermutation-trans (r ∷ (done ++ rs)) (placed r done ++ rs) (ranked_into (placed r done) rs)
-        (IsPermutation-append_left rs (r ∷ done) (placed r done) there)
-        (ranked_moves rs (placed r done)))
+    (IsPermutation-middle done r rs)
+    (IsPermutation-trans (r ∷ (done ++ rs)) (placed r done ++ rs) (ranked_into (placed r done) rs)
+    (IsPermutation-append_left rs (r ∷ done) (placed r done) there)
+    (ranked_moves rs (placed r done)))
 
 pub routes_rearranged : (rules : RouteRules) (log : List Item) (dest : Callsign) → IsPermutation (filter (is_to dest) (usable rules log)) (all_routes_to rules log dest)
 routes_rearranged rules log dest = ranked_moves (filter (is_to dest) (usable rules log)) []
@@ -195,8 +194,8 @@ none_of_locked : (life : ℕ) (log : List Item) (d n : Callsign) → list_any (i
 none_of_locked life log d n l [] k = tt
 none_of_locked life log d n l (Report e a m q ∷ xs) k =
     all_case (OffPair d n) (is_live life log e m xs) _ (live_among life log xs)
-      (λ t. locked_case d n e m log (same_call d e && same_call n m) refl l (live_unlocked (list_any (is_report_of e m) xs) (list_any (is_lock_of e m) log) (list_any (is_failure_of m) xs) (nat_lt (rounds xs) life) t).1)
-      (none_of_locked life log d n l xs k)
+    (λ t. locked_case d n e m log (same_call d e && same_call n m) refl l (live_unlocked (list_any (is_report_of e m) xs) (list_any (is_lock_of e m) log) (list_any (is_failure_of m) xs) (nat_lt (rounds xs) life) t).1)
+    (none_of_locked life log d n l xs k)
 none_of_locked life log d n l (Lock e a m q ∷ xs) k =
     let p = or_parts (same_call d e && same_call n m) (list_any (is_lock_of d n) xs) k in
     lock_case (OffPair d n) (list_any (is_lock_of e m) xs) _ (live_among life log xs) p.0 (none_of_locked life log d n l xs p.1)
@@ -229,13 +228,13 @@ none_twice : (life : ℕ) (log pre xs : List Item) → log ≡ pre ++ xs → Non
 none_twice life log pre [] e = tt
 none_twice life log pre (Report d a n q ∷ xs) e =
     twice_case (is_live life log d n xs) _ (live_among life log xs)
-      (λ t. let p = live_unlocked (list_any (is_report_of d n) xs) (list_any (is_lock_of d n) log) (list_any (is_failure_of n) xs) (nat_lt (rounds xs) life) t in
-        none_of_pair life log d n xs p.0 (no_later_lock d n log pre xs (Report d a n q) e p.1))
-      (none_twice life log (pre ++ Report d a n q ∷ []) xs (next_part log pre xs (Report d a n q) e))
+    (λ t. let p = live_unlocked (list_any (is_report_of d n) xs) (list_any (is_lock_of d n) log) (list_any (is_failure_of n) xs) (nat_lt (rounds xs) life) t in
+    none_of_pair life log d n xs p.0 (no_later_lock d n log pre xs (Report d a n q) e p.1))
+    (none_twice life log (pre ++ Report d a n q ∷ []) xs (next_part log pre xs (Report d a n q) e))
 none_twice life log pre (Lock d a n q ∷ xs) e =
     twice_lock (list_any (is_lock_of d n) xs) _ (live_among life log xs)
-      (λ b. none_of_locked life log d n (is_locked_there d n a q log pre xs e) xs b)
-      (none_twice life log (pre ++ Lock d a n q ∷ []) xs (next_part log pre xs (Lock d a n q) e))
+    (λ b. none_of_locked life log d n (is_locked_there d n a q log pre xs e) xs b)
+    (none_twice life log (pre ++ Lock d a n q ∷ []) xs (next_part log pre xs (Lock d a n q) e))
 none_twice life log pre (Round ∷ xs) e = none_twice life log (pre ++ Round ∷ []) xs (next_part log pre xs Round e)
 none_twice life log pre (Failure n ∷ xs) e = none_twice life log (pre ++ Failure n ∷ []) xs (next_part log pre xs (Failure n) e)
 
@@ -280,4 +279,4 @@ pub routes_ranked : (rules : RouteRules) (log : List Item) (dest : Callsign) →
 routes_ranked rules log dest =
     let there = filter (is_to dest) (usable rules log) in
     pairs_from_rank (all_routes_to rules log dest)
-      (ranked_rank there [] (all_apart dest (usable rules log) (filter_twice (is_good rules.minq) (live rules.life log) (none_twice rules.life log [] log refl))) (apart_from_none there) tt)
+    (ranked_rank there [] (all_apart dest (usable rules log) (filter_twice (is_good rules.minq) (live rules.life log) (none_twice rules.life log [] log refl))) (apart_from_none there) tt)
