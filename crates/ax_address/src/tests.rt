@@ -57,3 +57,42 @@ fn aliases_are_padded_and_shown(rt: HostRuntime) {
     assert!(rt; Alias::read(b"TOOLONG") == Err(AliasRefusal::TooLong));
     assert!(rt; Alias::read(b"A:BCDEFG") == Err(AliasRefusal::BadChar { at: 1 }));
 }
+
+#[test]
+fn octets_of_a_source_address(rt: HostRuntime) -> Result<(), Fail> {
+    let octets = [0x9C, 0x60, 0x86, 0x82, 0x98, 0x98, 0x6F];
+    let address = Address {
+        call: Call::read(b"N0CALL-7").ok().ok_or("a call")?,
+        bit7: false,
+        reserved: 3,
+    };
+    assert!(rt; read_address(&octets) == Ok((address, true)));
+    assert_eq!(rt; write_address(&address, true), octets);
+    Ok(())
+}
+
+#[test]
+fn octets_at_fault(rt: HostRuntime) {
+    for (octets, refusal) in [
+        (
+            [0x9C, 0x40, 0x86, 0x82, 0x98, 0x98, 0x6F],
+            AddressRefusal::BadPadding { at: 2 },
+        ),
+        (
+            [0x9C, 0x40, 0x40, 0x41, 0x86, 0x98, 0x6F],
+            AddressRefusal::BadChar { at: 3 },
+        ),
+        (
+            [0x40, 0x9C, 0x86, 0x82, 0x98, 0x98, 0x6F],
+            AddressRefusal::BadChar { at: 0 },
+        ),
+        (
+            [0x9C, 0x60, 0x86, 0x82, 0x98, 0x99, 0x6F],
+            AddressRefusal::BadChar { at: 5 },
+        ),
+    ] {
+        assert!(rt; read_address(&octets) == Err(refusal));
+        assert!(rt; address_fault(&octets) == Some(refusal));
+    }
+    assert!(rt; address_fault(&[0x9C, 0x60]) == None);
+}

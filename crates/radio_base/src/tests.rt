@@ -16,6 +16,13 @@ fn text_has_decimals_and_capital_digits(rt: HostRuntime) -> Result<(), Fail> {
         out.bytes(),
         b"pid=CF len=0 18446744073709551615 0A".as_slice()
     );
+    let mut more = TextOut::new(rt.alloc());
+    more.text("a ")?;
+    more.append(&out)?;
+    assert_eq!(rt;
+        more.bytes(),
+        b"a pid=CF len=0 18446744073709551615 0A".as_slice()
+    );
     Ok(())
 }
 

@@ -1,0 +1,57 @@
+-- Addresses in octets: six characters, each shifted left by one, and an octet with the SSID.
+-- (AX.25 2.2, section 3.12.)
+use Rattle.std.specs.Prelude.{ℕ, ◌≡◌, ◌+◌, ◌*◌, ◌/◌, ◌%◌, List, [], ◌∷◌, ◌++◌, map, take, drop, slice_get, Bool, ◌&&◌, ◌==◌, Option, Some, None, if◌then◌else◌}
+use Rattle.std.specs.List.{prefix_len}
+use Rattle.ax_address.specs.declared.address.Address.{Address}
+use Rattle.ax_address.specs.declared.octets.AddressRefusal.{AddressRefusal}
+use Rattle.ax_address.specs.declared.octets.AddressRefusal.TheVariants.{BadChar, BadPadding}
+use Rattle.ax_address.specs.Callsign.{IsCallsign, is_call_char, space}
+
+-- the C or H bit, two reserved bits, the SSID, and the extension bit, which the last address has
+abbrev pub ssid_octet : Address → Bool → ℕ
+ssid_octet a last = (if a.bit7 then 128 else 0) + 32 * a.reserved + 2 * a.call.ssid + (if last then 1 else 0)
+
+abbrev pub address_octets : Address → Bool → List ℕ
+address_octets a last = map (λ b. 2 * b) a.call.letters ++ ssid_octet a last ∷ []
+
+-- seven octets are the address, with this extension bit
+pub record SpellsAddress (a : Address) (last : Bool) (octets : List ℕ) : Type 0 where
+  pub is_call : IsCallsign a.call.letters a.call.ssid
+  pub spelled : octets ≡ address_octets a last
+
+abbrev pub is_char_octet : ℕ → Bool
+is_char_octet o = (o % 2 == 0) && is_call_char (o / 2)
+
+abbrev pub is_space_octet : ℕ → Bool
+is_space_octet o = o == 2 * space
+
+-- how many octets can begin a call: characters, and behind at least one of them spaces
+abbrev pub good_behind : ℕ → List ℕ → ℕ
+good_behind n octets = if n == 0 then 0 else n + prefix_len is_space_octet (drop n octets)
+
+abbrev pub good_octets : List ℕ → ℕ
+good_octets octets = good_behind (prefix_len is_char_octet octets) octets
+
+abbrev pub place_of : AddressRefusal → ℕ
+place_of (BadChar at) = at
+place_of (BadPadding at) = at
+
+-- a character that can't stand at its place comes after a space
+abbrev pub refusal_at : ℕ → Option ℕ → Option AddressRefusal
+refusal_at at None = None
+refusal_at at (Some o) = Some (if is_char_octet o then BadPadding at else BadChar at)
+
+abbrev pub fault_in : List ℕ → Option AddressRefusal
+fault_in octets = refusal_at (good_octets octets) (slice_get octets (good_octets octets))
+
+-- the first of the six octets for characters that can't stand there, also where some of the six are missing
+abbrev pub address_fault : List ℕ → Option AddressRefusal
+address_fault octets = fault_in (take 6 octets)
+
+-- octets that spell an address have no fault
+abbrev pub SpelledWithoutFault : Type 0
+SpelledWithoutFault = (a : Address) (last : Bool) (octets : List ℕ) → SpellsAddress a last octets → address_fault octets ≡ None
+
+-- octets spell one address at most
+abbrev pub SpelledOnce : Type 0
+SpelledOnce = (a b : Address) (last end : Bool) (octets : List ℕ) → SpellsAddress a last octets → SpellsAddress b end octets → (a ≡ b) × (last ≡ end)

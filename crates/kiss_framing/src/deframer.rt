@@ -1,0 +1,85 @@
+ghost use Rattle.std.specs.Prelude.{◌≡◌, ℕ, ◌≤◌, List, [], ◌∷◌, ◌++◌, length, IfSome};
+ghost use Rattle.kiss_framing.specs.Stream.{items, given_by_byte, frame_of as frame_in};
+ghost use Rattle.kiss_framing.specs.Deframing.{StandsFor, pending_of};
+ghost use Rattle.kiss_framing.specs.Feeding.{GoesOn, IsSmall, handed_out};
+
+use crate::piece::{Ends, Piece};
+use std::marker::Model;
+
+/// What a stream gives.
+#[derive(Clone, Copy, Debug, PartialEq, Eq)]
+pub enum KissItem<'a> {
+    /// A frame: its port and its command, each at most 15, and at most 1,023 bytes of payload.
+    Frame {
+        port: u8,
+        command: u8,
+        payload: &'a [u8],
+    },
+    /// A piece has its 1,025th unescaped byte. Nothing of it is handed out.
+    TooLong,
+}
+
+/// Takes the items out of a stream, a byte at a time. However the stream is cut, they are the same.
+#[derive(Drop)]
+pub struct Deframer {
+    piece: Piece,
+}
+
+impl Model for Deframer {
+    ghost use Rattle.std.specs.Prelude.{◌≡◌};
+    ghost use Rattle.kiss_framing.specs.Deframing.{Held};
+    ghost use Rattle.kiss_framing.specs.Stepping.{held_at};
+
+    ghost Value = { Held };
+
+    ghost view = { λ d. held_at d.piece.place d.piece.bytes.items };
+}
+
+impl Deframer {
+    ghost use Rattle.std.specs.Borrow.{sem};
+
+    /// A deframer that was fed nothing yet.
+    pub fn new() -> Deframer
+        ensures { StandsFor result [] }
+    {
+        Deframer {
+            piece: Piece::new(),
+        }
+    }
+
+    /// The number of unescaped bytes that are held of the piece that is coming: 0 behind a `FEND`, and in a piece that was too long.
+    pub fn pending(&self) -> usize
+        ensures { result ≡ pending_of self.now }
+    {
+        self.piece.len()
+    }
+
+    /// Takes in the next byte of the stream, and hands out the item that it completes, if any.
+    pub fn feed(&mut self, byte: u8) -> Option<KissItem<'_>>
+        ensures* goes_on { sem 𝓛 (GoesOn self.entry byte) }
+        ensures adds { (stream : List ℕ) → StandsFor self.old stream → items (stream ++ byte ∷ []) ≡ items stream ++ handed_out result }
+        ensures exact { (stream : List ℕ) → StandsFor self.old stream → handed_out result ≡ given_by_byte stream byte }
+        ensures small { IfSome result IsSmall }
+    {
+        match self.piece.take_in(byte) {
+            Ends::Nothing => None,
+            Ends::Room => Some(KissItem::TooLong),
+            Ends::Piece => frame_of(self.piece.bytes.as_slice()),
+        }
+    }
+}
+
+/// The frame of these unescaped bytes: none where there are none.
+fn frame_of(bytes: &[u8]) -> Option<KissItem<'_>>
+    ensures frame { handed_out result ≡ frame_in bytes.now }
+    ensures small { length bytes.now ≤ 1024 → IfSome result IsSmall }
+{
+    match bytes {
+        [] => None,
+        [head, payload @ ..] => Some(KissItem::Frame {
+            port: *head / 16,
+            command: *head % 16,
+            payload,
+        }),
+    }
+}
