@@ -6,14 +6,17 @@ use Rattle.ax_address.specs.CallOrder.{same_call}
 use Rattle.route_table.specs.declared.route.Route.{Route}
 use Rattle.route_table.specs.Log.{Item, Report, Lock, Round, Failure}
 
+-- the item is a report of the pair
 abbrev pub is_report_of : Callsign → Callsign → Item → Bool
 is_report_of dest neighbour (Report d a n q) = same_call dest d && same_call neighbour n
 is_report_of dest neighbour _ = false
 
+-- the item is a lock of the pair
 abbrev pub is_lock_of : Callsign → Callsign → Item → Bool
 is_lock_of dest neighbour (Lock d a n q) = same_call dest d && same_call neighbour n
 is_lock_of dest neighbour _ = false
 
+-- the item is a failure of the link to the neighbour
 abbrev pub is_failure_of : Callsign → Item → Bool
 is_failure_of neighbour (Failure n) = same_call neighbour n
 is_failure_of neighbour _ = false

@@ -7,6 +7,7 @@ use Rattle.route_table.specs.declared.route.Route.{Route}
 use Rattle.route_table.specs.Log.{Item, Report}
 use Rattle.route_table.specs.Table.{is_good}
 
+-- both routes lead to one destination by one neighbour
 abbrev pub is_same_pair : Route → Route → Bool
 is_same_pair a b = same_call a.dest b.dest && same_call a.neighbour b.neighbour
 
@@ -21,6 +22,7 @@ fresh life (_ ∷ items) = fresh life items
 abbrev pub stays : List Route → Route → Bool
 stays reports row = is_none row.count || not (list_any (is_same_pair row) reports)
 
+-- the row is a lock of the route's pair
 abbrev pub is_lock_on : Route → Route → Bool
 is_lock_on r row = is_none row.count && is_same_pair r row
 
@@ -37,13 +39,16 @@ new_rows minq rows (r ∷ later) = if is_new minq rows r later then r ∷ new_ro
 abbrev pub rows_with : ℕ → List Route → List Route → List Route
 rows_with minq reports rows = filter (stays reports) rows ++ new_rows minq rows reports
 
+-- a count, one round later
 abbrev pub count_down : Option ℕ → Option ℕ
 count_down None = None
 count_down (Some n) = Some (n - 1)
 
+-- a row, one round later
 abbrev pub older : Route → Route
 older r = record { dest = r.dest; alias = r.alias; neighbour = r.neighbour; quality = r.quality; count = count_down r.count }
 
+-- the row is locked, or its count has not run out
 abbrev pub still_counts : Option ℕ → Bool
 still_counts None = true
 still_counts (Some n) = not (n == 0)
@@ -56,10 +61,12 @@ after_round rows = filter (λ r. still_counts r.count) (map older rows)
 abbrev pub outlives : Callsign → Route → Bool
 outlives neighbour row = is_none row.count || not (same_call row.neighbour neighbour)
 
+-- the call is above the bound, where there is one
 abbrev pub is_above : Option Callsign → Callsign → Bool
 is_above None c = true
 is_above (Some bound) c = call_lt bound c
 
+-- the call is below the best so far, where there is one
 abbrev pub is_below : Callsign → Option Callsign → Bool
 is_below c None = true
 is_below c (Some best) = call_lt c best

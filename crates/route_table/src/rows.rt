@@ -1,4 +1,4 @@
-ghost use Rattle.std.specs.Prelude.{◌≡◌, ◌≤◌, ◌<◌, ◌+◌, ◌-◌, ◌++◌, length, map, filter, OnOk, OnErr};
+ghost use Rattle.std.specs.Prelude.{◌≡◌, ◌≤◌, ◌++◌, length, map, filter, OnOk, OnErr};
 ghost use Rattle.std.specs.List.{list_any};
 ghost use Rattle.route_table.specs.Rows as spec;
 
@@ -15,7 +15,7 @@ fn is_same_pair(a: &Route, b: &Route) -> bool
 }
 
 /// Whether one of the reports is of the route's pair.
-fn is_told(reports: &[Route], route: &Route) -> bool
+fn is_reported(reports: &[Route], route: &Route) -> bool
     ensures { result ≡ list_any (spec.is_same_pair route.now) reports.now }
 {
     reports.iter().any(|report| is_same_pair(route, report))
@@ -25,7 +25,7 @@ fn is_told(reports: &[Route], route: &Route) -> bool
 fn stays(reports: &[Route], row: &Route) -> bool
     ensures { result ≡ spec.stays reports.now row.now }
 {
-    row.count.is_none() || !is_told(reports, row)
+    row.count.is_none() || !is_reported(reports, row)
 }
 
 fn is_lock_on(report: &Route, row: &Route) -> bool
@@ -45,7 +45,7 @@ fn is_locked(rows: &[Route], report: &Route) -> bool
 fn is_new(minq: u8, rows: &[Route], report: &Route, later: &[Route]) -> bool
     ensures { result ≡ spec.is_new minq rows.now report.now later.now }
 {
-    report.quality >= minq && !is_told(later, report) && !is_locked(rows, report)
+    report.quality >= minq && !is_reported(later, report) && !is_locked(rows, report)
 }
 
 /// The reports that become rows.
