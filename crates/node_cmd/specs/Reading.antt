@@ -1,0 +1,28 @@
+-- What reading a file leaves.
+use Rattle.std.specs.Prelude.{ℕ, ◌≡◌, ◌<◌, ◌≤◌, List, length, Option}
+use Rattle.std.specs.Io.KnownBytes.{Consumes, IsAtEnd}
+use Rattle.radio_base.specs.Causes.{Rose}
+use Rattle.node_cmd.specs.declared.reading.ReadRefusal.{ReadRefusal}
+use Rattle.node_cmd.specs.declared.reading.ReadRefusal.TheVariants.{Fault, TooLong, NoMemory}
+
+-- these bytes were read, and the input ended behind them
+pub record ReadsAll (old new : Option (List ℕ)) (bytes : List ℕ) : Type 0 where
+  pub taken : Consumes old new bytes
+  pub ended : IsAtEnd new
+  pub fits : length bytes ≤ 1048576
+
+-- more bytes were read than a file may have
+abbrev pub ReadsTooMuch : Option (List ℕ) → Option (List ℕ) → Type 0
+ReadsTooMuch old new = (bytes : List ℕ) × Consumes old new bytes × (1048576 < length bytes)
+
+-- why a file wasn't read
+abbrev pub WhyUnread : Option (List ℕ) → Option (List ℕ) → ℕ → ℕ → ReadRefusal → Type 0
+WhyUnread old new before now Fault = Rose before now
+WhyUnread old new before now TooLong = ReadsTooMuch old new × (now ≡ before)
+WhyUnread old new before now NoMemory = now ≡ before
+
+-- why a read added nothing
+abbrev pub WhyNoMore : ℕ → ℕ → ReadRefusal → Type 0
+WhyNoMore before now Fault = Rose before now
+WhyNoMore before now TooLong = ⊥
+WhyNoMore before now NoMemory = now ≡ before
