@@ -8,7 +8,8 @@ use radio_base::{NoMemory, Sink};
 use std::alloc::Global;
 
 /// What the commands are.
-pub const USAGE: &str = "usage: replay | node call=CALL alias=ALIAS [key=value] | frames modulo=8|128 | soak seed=N\n";
+pub const USAGE: &str =
+    "usage: replay | node call=CALL alias=ALIAS [key=value] | frames modulo=8|128 | soak seed=N\n";
 
 pub const READ_FAULT: &str = "read fault\n";
 

@@ -57,7 +57,7 @@ fn read_more<S: Source>(source: &mut S, bytes: &mut Vec<u8>) -> Result<usize, Re
     ensures more { IfOk result (λ n. (more : List ℕ) × (bytes.new.items ≡ bytes.old.items ++ more) × (length more ≡ n) × Consumes (S.left source.old) (S.left source.new) more) }
     ensures end { IfOk result (λ n. n ≡ 0 → IsAtEnd (S.left source.new)) }
     ensures same { OnOk result (S.faults source.new ≡ S.faults source.old) }
-    ensures err { IfErr result (λ e. WhyNoMore (S.faults source.old) (S.faults source.new) e) }
+    ensures err { IfErr result (λ e. WhyNoMore (S.left source.old) (S.left source.new) (S.faults source.old) (S.faults source.new) e) }
 {
     let mut buf = [0u8; READ_SIZE];
     let count = source.read(&mut buf)?;
