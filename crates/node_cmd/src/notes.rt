@@ -1,5 +1,5 @@
 ghost use Rattle.std.specs.Prelude.{◌≡◌, IfOk, string_bytes};
-ghost use Rattle.node_cmd.specs.Notes.{bad_line_note, word_of};
+ghost use Rattle.node_cmd.specs.Notes.{bad_line_note};
 ghost use Rattle.node_cmd.specs.Writing.{Says};
 
 use crate::writing::write_all;
@@ -26,26 +26,5 @@ pub fn say<N: Sink>(notes: &mut N, text: &str)
 pub fn bad_line_note(alloc: Global, line: u32, what: What) -> Result<String, NoMemory>
     ensures { IfOk result (λ s. string_bytes s ≡ bad_line_note line what) }
 {
-    let word = word_of(what);
-    Ok(format!(in alloc; "line {line}: {word}\n")?)
-}
-
-fn word_of(what: What) -> &'static str
-    ensures { result.now ≡ word_of what }
-{
-    match what {
-        What::Many => "many",
-        What::Char => "char",
-        What::Word => "word",
-        What::NotBuilt => "not built",
-        What::Late => "late",
-        What::Count => "count",
-        What::Number => "number",
-        What::Call => "call",
-        What::Alias => "alias",
-        What::Node => "node",
-        What::Twice => "twice",
-        What::Key => "key",
-        What::Value => "value",
-    }
+    Ok(format!(in alloc; "line {line}: {what}\n")?)
 }

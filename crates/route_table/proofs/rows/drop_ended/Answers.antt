@@ -1,0 +1,8 @@
+use Rattle.std.proofs.Common.{rules}
+use Rattle.std.proofs.lemmas.Fn.{filter_same}
+use Rattle.route_table.specs.Rows as spec
+use Rattle.route_table.specs.declared.route.Route.{Route}
+use Rattle.route_table.proofs.rows.drop_ended.Goals as goal
+
+pub returns-clause-items : goal.returns-clause-items
+returns-clause-items c = filter_same _ (λ (r : Route). spec.still_counts r.count) _ (λ x b f h. (search rules, search rules)) _ _ c.retain.ensures.filtered

@@ -1,0 +1,70 @@
+-- What a table's rows come to by each kind of item; `usable` of the log says the same afresh.
+use Rattle.std.specs.Prelude.{ℕ, ◌-◌, List, [], ◌∷◌, ◌++◌, filter, map, Option, Some, None, Bool, true, false, ◌&&◌, ◌||◌, ◌==◌, not, nat_le, is_none, if◌then◌else◌}
+use Rattle.std.specs.List.{list_any}
+use Rattle.ax_address.specs.Callsign.{Callsign}
+use Rattle.ax_address.specs.CallOrder.{same_call, call_lt}
+use Rattle.route_table.specs.declared.route.Route.{Route}
+use Rattle.route_table.specs.Log.{Item, Report, Lock, Round, Failure}
+use Rattle.route_table.specs.Table.{is_good}
+
+abbrev pub is_same_pair : Route → Route → Bool
+is_same_pair a b = same_call a.dest b.dest && same_call a.neighbour b.neighbour
+
+-- the routes of the reports among the items, with a whole life before them
+abbrev pub fresh : ℕ → List Item → List Route
+fresh life [] = []
+fresh life (Report d a n q ∷ items) =
+    record { dest = d; alias = a; neighbour = n; quality = q; count = Some life } ∷ fresh life items
+fresh life (_ ∷ items) = fresh life items
+
+-- a row stays beside these reports: it is locked, or none of them is of its pair
+abbrev pub stays : List Route → Route → Bool
+stays reports row = is_none row.count || not (list_any (is_same_pair row) reports)
+
+abbrev pub is_lock_on : Route → Route → Bool
+is_lock_on r row = is_none row.count && is_same_pair r row
+
+-- a report becomes a row: it is good enough, the last of its pair, and no row is a lock of that pair
+abbrev pub is_new : ℕ → List Route → Route → List Route → Bool
+is_new minq rows r later = (is_good minq r && not (list_any (is_same_pair r) later)) && not (list_any (is_lock_on r) rows)
+
+-- the reports that become rows
+abbrev pub new_rows : ℕ → List Route → List Route → List Route
+new_rows minq rows [] = []
+new_rows minq rows (r ∷ later) = if is_new minq rows r later then r ∷ new_rows minq rows later else new_rows minq rows later
+
+-- the rows after a broadcast
+abbrev pub rows_with : ℕ → List Route → List Route → List Route
+rows_with minq reports rows = filter (stays reports) rows ++ new_rows minq rows reports
+
+abbrev pub count_down : Option ℕ → Option ℕ
+count_down None = None
+count_down (Some n) = Some (n - 1)
+
+abbrev pub older : Route → Route
+older r = record { dest = r.dest; alias = r.alias; neighbour = r.neighbour; quality = r.quality; count = count_down r.count }
+
+abbrev pub still_counts : Option ℕ → Bool
+still_counts None = true
+still_counts (Some n) = not (n == 0)
+
+-- the rows after a round
+abbrev pub after_round : List Route → List Route
+after_round rows = filter (λ r. still_counts r.count) (map older rows)
+
+-- a row outlives the failure of the link to a neighbour
+abbrev pub outlives : Callsign → Route → Bool
+outlives neighbour row = is_none row.count || not (same_call row.neighbour neighbour)
+
+abbrev pub is_above : Option Callsign → Callsign → Bool
+is_above None c = true
+is_above (Some bound) c = call_lt bound c
+
+abbrev pub is_below : Callsign → Option Callsign → Bool
+is_below c None = true
+is_below c (Some best) = call_lt c best
+
+-- the lowest destination of the rows above a bound, or what was found before
+abbrev pub lowest_from : Option Callsign → Option Callsign → List Route → Option Callsign
+lowest_from bound best [] = best
+lowest_from bound best (r ∷ rs) = lowest_from bound (if is_above bound r.dest && is_below r.dest best then Some r.dest else best) rs

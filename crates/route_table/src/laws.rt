@@ -1,0 +1,15 @@
+//! What the definitions of a log's table come to, in the words of the subject.
+
+ghost use Rattle.route_table.specs.Laws as law;
+
+/// All routes to a destination are its usable routes in another order, each before those behind it.
+pub fn ranking()
+    ensures ranked { law.AreRanked }
+    ensures rearranged { law.AreRearranged }
+{}
+
+/// The destinations rise in call order, and are those of the usable routes.
+pub fn destinations()
+    ensures rising { law.DestinationsRise }
+    ensures exact { law.DestinationsAreExact }
+{}
