@@ -55,7 +55,7 @@ apart_sym a b h = apart_case a b (same_call b a) refl h
 pub call_total : IsTotalOrder call_cmp
 call_total = then_total (on_total (λ (c : Callsign). c.letters) nat_list_cmp_total) (on_total (λ (c : Callsign). c.ssid) nat_cmp_total)
 
-then_equal : (p q : Ordering) → ordering_then p q ≡ Equal → (p ≡ Equal) × (q ≡ Equal)
+pub then_equal : (p q : Ordering) → ordering_then p q ≡ Equal → (p ≡ Equal) × (q ≡ Equal)
 then_equal Less q h = absurd (cc)
 then_equal Equal q h = (refl, h)
 then_equal Greater q h = absurd (cc)
@@ -75,7 +75,7 @@ call_cmp-Equal a b h =
     let f : a.ssid ≡ b.ssid = nat_cmp_equal a.ssid b.ssid p.1 in
     λ i. record { letters = e i; ssid = f i }
 
-less_from_lt : (o : Ordering) → is_lt o ≡ true → o ≡ Less
+pub less_from_lt : (o : Ordering) → is_lt o ≡ true → o ≡ Less
 less_from_lt Less h = refl
 less_from_lt Equal h = absurd (cc)
 less_from_lt Greater h = absurd (cc)

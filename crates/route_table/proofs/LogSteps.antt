@@ -14,8 +14,8 @@ use Rattle.route_table.specs.declared.route.RouteRules.{RouteRules}
 use Rattle.route_table.specs.Log.{Item, Report, Lock, Round, Failure, broadcast, entry_reports, quality_over}
 use Rattle.route_table.specs.Live.{is_report_of, is_lock_of, is_failure_of, rounds, is_live, live_of, live_among, live}
 use Rattle.route_table.specs.Table.{is_good, usable}
-use Rattle.route_table.specs.Held.{Held, IsGoodLock, StandsFor}
-use Rattle.route_table.specs.Rows.{is_same_pair, fresh, stays, is_lock_on, is_new, new_rows, rows_with, older, still_counts, after_round, outlives}
+use Rattle.route_table.specs.Held.{IsGoodLock, StandsFor}
+use Rattle.route_table.specs.Rows.{is_same_pair, fresh, stays, new_rows, rows_with, older, still_counts, after_round, outlives}
 use Rattle.route_table.proofs.Calls.{and_true, same_call-true}
 
 abbrev row : Callsign → Alias → Callsign → ℕ → ℕ → Route
@@ -65,8 +65,14 @@ failure_test false false false false false = refl
 failure_step : (life : ℕ) (log : List Item) (n : Callsign) (x : Item) (later : List Item) → live_of life (log ++ Failure n ∷ []) x (later ++ Failure n ∷ []) ≡ filter (outlives n) (live_of life log x later)
 failure_step life log n (Report d a m q) later =
     let z : rounds later + 0 ≡ rounds later = omega arith in
-    rw (list_any-append (is_report_of d m) later (Failure n ∷ []), list_any-append (is_lock_of d m) log (Failure n ∷ []), list_any-append (is_failure_of m) later (Failure n ∷ []), rounds-append later (Failure n ∷ []), z,
-        failure_test (list_any (is_report_of d m) later) (list_any (is_lock_of d m) log) (list_any (is_failure_of m) later) (same_call m n) (nat_lt (rounds later) life))
+    rw (
+      list_any-append (is_report_of d m) later (Failure n ∷ []),
+      list_any-append (is_lock_of d m) log (Failure n ∷ []),
+      list_any-append (is_failure_of m) later (Failure n ∷ []),
+      rounds-append later (Failure n ∷ []),
+      z,
+      failure_test (list_any (is_report_of d m) later) (list_any (is_lock_of d m) log) (list_any (is_failure_of m) later) (same_call m n) (nat_lt (rounds later) life),
+    )
     (keep_if (outlives n) (row d a m q (life - rounds later)) (same_call m n) (is_live life log d m later) refl)
 failure_step life log n (Lock d a m q) later =
     rw (list_any-append (is_lock_of d m) later (Failure n ∷ [])) (keep_lock (outlives n) (locked d a m q) (list_any (is_lock_of d m) later) refl)
@@ -111,8 +117,13 @@ round_lock d a n q false = refl
 
 round_step : (life : ℕ) (log : List Item) (x : Item) (later : List Item) → live_of life (log ++ Round ∷ []) x (later ++ Round ∷ []) ≡ after_round (live_of life log x later)
 round_step life log (Report d a n q) later =
-    rw (list_any-append (is_report_of d n) later (Round ∷ []), list_any-append (is_lock_of d n) log (Round ∷ []), list_any-append (is_failure_of n) later (Round ∷ []), rounds-append later (Round ∷ []),
-        round_test (list_any (is_report_of d n) later) (list_any (is_lock_of d n) log) (list_any (is_failure_of n) later) (nat_lt (rounds later + 1) life))
+    rw (
+      list_any-append (is_report_of d n) later (Round ∷ []),
+      list_any-append (is_lock_of d n) log (Round ∷ []),
+      list_any-append (is_failure_of n) later (Round ∷ []),
+      rounds-append later (Round ∷ []),
+      round_test (list_any (is_report_of d n) later) (list_any (is_lock_of d n) log) (list_any (is_failure_of n) later) (nat_lt (rounds later + 1) life),
+    )
     (round_case d a n q life (rounds later) ((not (list_any (is_report_of d n) later) && not (list_any (is_lock_of d n) log)) && not (list_any (is_failure_of n) later)))
 round_step life log (Lock d a n q) later =
     rw (list_any-append (is_lock_of d n) later (Round ∷ [])) (round_lock d a n q (list_any (is_lock_of d n) later))
@@ -172,10 +183,18 @@ report_test false false false false false = refl
 report_step : (life : ℕ) (log more : List Item) → AllByRecursion IsReport more → (x : Item) (later : List Item) → live_of life (log ++ more) x (later ++ more) ≡ filter (stays (fresh life more)) (live_of life log x later)
 report_step life log more h (Report d a n q) later =
     let z : rounds later + 0 ≡ rounds later = omega arith in
-    rw (list_any-append (is_report_of d n) later more, list_any-append (is_lock_of d n) log more, list_any-append (is_failure_of n) later more, rounds-append later more,
-        reports_no_lock d n more h, reports_no_failure n more h, reports_no_round more h, z,
-        reports_told life (row d a n q (life - rounds later)) more h,
-        report_test (list_any (is_report_of d n) later) (list_any (is_lock_of d n) log) (list_any (is_failure_of n) later) (list_any (is_same_pair (row d a n q (life - rounds later))) (fresh life more)) (nat_lt (rounds later) life))
+    rw (
+      list_any-append (is_report_of d n) later more,
+      list_any-append (is_lock_of d n) log more,
+      list_any-append (is_failure_of n) later more,
+      rounds-append later more,
+      reports_no_lock d n more h,
+      reports_no_failure n more h,
+      reports_no_round more h,
+      z,
+      reports_told life (row d a n q (life - rounds later)) more h,
+      report_test (list_any (is_report_of d n) later) (list_any (is_lock_of d n) log) (list_any (is_failure_of n) later) (list_any (is_same_pair (row d a n q (life - rounds later))) (fresh life more)) (nat_lt (rounds later) life),
+    )
     (keep_if (stays (fresh life more)) (row d a n q (life - rounds later)) (list_any (is_same_pair (row d a n q (life - rounds later))) (fresh life more)) (is_live life log d n later) refl)
 report_step life log more h (Lock d a n q) later =
     rw (list_any-append (is_lock_of d n) later more, reports_no_lock d n more h) (keep_lock (stays (fresh life more)) (locked d a n q) (list_any (is_lock_of d n) later) refl)
@@ -200,8 +219,6 @@ lock_case : (good f : Route → Bool) (r : Route) (B S X : Bool) (rest : List Ro
 lock_case good f r true true X rest g e x h = sym (h refl refl) ∙ sym x
 lock_case good f r true false X rest g e x h = sym x
 lock_case good f r false S X rest g e x h = rw (g, e, x) refl
-
-
 
 later_lock : (d n e m : Callsign) (xs : List Item) → list_any (is_lock_of e m) xs ≡ true → (same_call d e && same_call n m) ≡ true → list_any (is_lock_of d n) xs ≡ true
 later_lock d n e m xs b s =

@@ -1,12 +1,12 @@
 -- Entering a route among the best three, and a call among calls.
 use Rattle.std.proofs.Common.{◌≡◌, ◌≤◌, ◌<◌, ◌+◌, ◌∙◌, ℕ, zero, suc, refl, sym, ap, List, [], ◌∷◌, length, take, drop, arith, Bool, true, false, cond, get_or, filter, drop-cons, add-one}
-use Rattle.std.specs.Prelude.{insert, slice_get}
+use Rattle.std.specs.Prelude.{insert}
 use Rattle.std.proofs.lemmas.List.{take_all, take-take}
 use Rattle.std.proofs.lemmas.List.Edits.{length-insert}
 use Rattle.ax_address.specs.Callsign.{Callsign}
-use Rattle.ax_address.specs.CallOrder.{same_call, call_lt}
+use Rattle.ax_address.specs.CallOrder.{same_call}
 use Rattle.route_table.specs.declared.route.Route.{Route}
-use Rattle.route_table.specs.Ranks.{is_before, placed, ranked_into, with_call}
+use Rattle.route_table.specs.Ranks.{is_before, placed, ranked_into}
 use Rattle.route_table.specs.Places.{place_of, considered}
 use Rattle.route_table.specs.Table.{is_to}
 

@@ -1,10 +1,9 @@
 -- Calls in order.
 use Rattle.std.proofs.Common.{◌≡◌, ◌≤◌, ◌<◌, ◌+◌, ◌∙◌, ℕ, zero, suc, refl, sym, ap, List, [], ◌∷◌, length, filter, get_or, drop, drop-cons, arith, Bool, true, false, cond, add-one, subst}
-use Rattle.std.specs.Prelude.{insert, slice_get, Option, Some, None, ◌&&◌, All, AllPairs}
-use Rattle.std.specs.List.{AllByRecursion, AllWithin}
+use Rattle.std.specs.Prelude.{insert, slice_get, Option, Some, None, ◌&&◌}
+use Rattle.std.specs.List.{AllByRecursion}
 use Rattle.std.specs.List.Sorted.{IsPartitionPoint, IsNonDecreasingBy}
 use Rattle.std.specs.Ordering.{is_lt, ordering_index}
-use Rattle.std.specs.declared.cmp.Ordering.{Ordering}
 use Rattle.std.specs.declared.cmp.Ordering.TheVariants.{Less, Equal, Greater}
 use Rattle.std.proofs.lemmas.List.Elements.{All-from_recursion}
 use Rattle.std.proofs.lemmas.List.Kept.{AllPairs-cons}
@@ -12,10 +11,13 @@ use Rattle.std.proofs.lemmas.List.Sorted.{searchable_from_sorted}
 use Rattle.ax_address.specs.Callsign.{Callsign}
 use Rattle.ax_address.specs.CallOrder.{same_call, call_lt, call_cmp}
 use Rattle.route_table.specs.declared.route.Route.{Route}
+use Rattle.route_table.specs.declared.route.RouteRules.{RouteRules}
+use Rattle.route_table.specs.Log.{Item}
 use Rattle.route_table.specs.Ranks.{with_call, calls_into, Rise}
+use Rattle.route_table.specs.Table.{usable, destinations}
 use Rattle.route_table.specs.Places.{InOrder}
 use Rattle.route_table.specs.Rows.{is_above, is_below, lowest_from}
-use Rattle.route_table.proofs.Calls.{same_call-true, same_call-equal, apart_sym, call_total, call_cmp-Equal, call_lt_trans, call_lt_irrefl, call_lt_equal, call_lt_asym, call_lt_total, greater_apart}
+use Rattle.route_table.proofs.Calls.{same_call-true, same_call-equal, call_total, call_cmp-Equal, call_lt_trans, call_lt_equal, call_lt_asym, call_lt_total, greater_apart}
 
 abbrev Below : Callsign → List Callsign → Type 0
 Below c ds = AllByRecursion (λ d. call_lt c d ≡ true) ds
@@ -42,8 +44,8 @@ with_call_rises c (d ∷ ds) h = cases (call_lt d c) (same_call d c) refl refl (
     cases true S l s ih = (with_call_below d c ds l h.0, ih)
     cases false true l s ih = h
     cases false false l s ih =
-      let below = call_lt_total d c l s in
-      ((below, below_more c d below ds h.0), h)
+        let below = call_lt_total d c l s in
+        ((below, below_more c d below ds h.0), h)
 
 pub calls_rise : (rs : List Route) (done : List Callsign) → InOrder done → InOrder (calls_into done rs)
 calls_rise [] done h = h
@@ -195,3 +197,6 @@ none_after (d ∷ ds) (suc i) (suc k) h w = none_after ds i k h (omega arith)
 -- one destination more, as the loop goes on
 pub next_destination : (rows : List Route) (xs ys : List Callsign) (i : ℕ) (r : Route) → i < length rows → r ≡ get_or rows i r → ys ≡ with_call r.dest xs → calls_into ys (drop (i + 1) rows) ≡ calls_into xs (drop i rows)
 next_destination rows xs ys i r within e h = rw (h, drop-cons rows i r within, ← e, add-one) refl
+
+pub destinations_rise : (rules : RouteRules) (log : List Item) → Rise (destinations rules log)
+destinations_rise rules log = rise_from_order (destinations rules log) (calls_rise (usable rules log) [] tt)

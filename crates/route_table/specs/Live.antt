@@ -24,9 +24,9 @@ rounds [] = 0
 rounds (Round ∷ items) = 1 + rounds items
 rounds (_ ∷ items) = rounds items
 
--- A report of `log`, which `later` follows there, is live where it is the last report of its destination and neighbour,
--- no lock of that pair stands anywhere in the log, no later failure names its neighbour, and fewer than `life` rounds
--- follow it (NET/ROM Appendix B's obsolescence count; the lock and the failure are this project's profile).
+-- Whether a report of `log`, which `later` follows there, is live (NET/ROM Appendix B ages its routes by rounds; locks and
+-- failures are this project's profile): it is the last report of its destination and neighbour, no lock of that pair
+-- stands anywhere in the log, no later failure names its neighbour, and fewer than `life` rounds follow it.
 abbrev pub is_live : ℕ → List Item → Callsign → Callsign → List Item → Bool
 is_live life log dest neighbour later =
     not (list_any (is_report_of dest neighbour) later)

@@ -1,10 +1,10 @@
 -- What a table's rows come to by each kind of item; `usable` of the log says the same afresh.
-use Rattle.std.specs.Prelude.{ℕ, ◌-◌, List, [], ◌∷◌, ◌++◌, filter, map, Option, Some, None, Bool, true, false, ◌&&◌, ◌||◌, ◌==◌, not, nat_le, is_none, if◌then◌else◌}
+use Rattle.std.specs.Prelude.{ℕ, ◌-◌, List, [], ◌∷◌, ◌++◌, filter, map, Option, Some, None, Bool, true, ◌&&◌, ◌||◌, ◌==◌, not, is_none, if◌then◌else◌}
 use Rattle.std.specs.List.{list_any}
 use Rattle.ax_address.specs.Callsign.{Callsign}
 use Rattle.ax_address.specs.CallOrder.{same_call, call_lt}
 use Rattle.route_table.specs.declared.route.Route.{Route}
-use Rattle.route_table.specs.Log.{Item, Report, Lock, Round, Failure}
+use Rattle.route_table.specs.Log.{Item, Report}
 use Rattle.route_table.specs.Table.{is_good}
 
 abbrev pub is_same_pair : Route → Route → Bool

@@ -1,5 +1,4 @@
 use Rattle.std.proofs.Common.{◌∙◌}
-use Rattle.route_table.specs.Places.{InOrder}
 use Rattle.route_table.proofs.Rising.{with_call_rises, next_destination}
 use Rattle.route_table.proofs.listing.destinations_of.Goals as goal
 
