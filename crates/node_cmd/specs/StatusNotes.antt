@@ -1,7 +1,7 @@
 -- Which status has which note.
 use Rattle.std.specs.Prelude.{ℕ, List}
 use Rattle.node_cmd.specs.declared.status.Status.{Status}
-use Rattle.node_cmd.specs.declared.status.Status.TheVariants.{Done, Usage, BadFile, ReadFault, WriteFault, TooLong, TooLate, NoMemory}
+use Rattle.node_cmd.specs.declared.status.Status.TheVariants.{Usage, BadFile, ReadFault, TooLong}
 use Rattle.node_cmd.specs.Notes.{usage_note, read_fault_note, too_long_note}
 
 -- P holds of the status's note, where that is the same each time

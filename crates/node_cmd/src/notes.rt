@@ -7,12 +7,14 @@ use net_replay::What;
 use radio_base::{NoMemory, Sink};
 use std::alloc::Global;
 
-/// What the commands are.
+/// All commands with their words, of which `replay` is built so far.
 pub const USAGE: &str =
     "usage: replay | node call=CALL alias=ALIAS [key=value] | frames modulo=8|128 | soak seed=N\n";
 
+/// A read of the input failed.
 pub const READ_FAULT: &str = "read fault\n";
 
+/// The input is longer than is taken.
 pub const TOO_LONG: &str = "too long\n";
 
 /// Writes a note. A fault of the notes changes nothing else.

@@ -15,7 +15,7 @@ struct Outcome {
 /// A run that reads and writes the given number of bytes at a time, and whose given reads and writes
 /// fail.
 #[derive(Drop)]
-struct Setting<'a> {
+struct Case<'a> {
     words: &'a [&'a str],
     file: &'a [u8],
     piece: usize,
@@ -23,8 +23,8 @@ struct Setting<'a> {
     failing_writes: &'a [u64],
 }
 
-fn replay_of(file: &[u8]) -> Setting<'_> {
-    Setting {
+fn replay_of(file: &[u8]) -> Case<'_> {
+    Case {
         words: &["replay"],
         file,
         piece: 1000,
@@ -33,14 +33,14 @@ fn replay_of(file: &[u8]) -> Setting<'_> {
     }
 }
 
-fn outcome_of(alloc: Global, setting: &Setting<'_>) -> Result<Outcome, NoMemory> {
+fn outcome_of(alloc: Global, case: &Case<'_>) -> Result<Outcome, NoMemory> {
     let mut words = Vec::new(alloc);
-    for word in setting.words {
+    for word in case.words {
         words.push(word.to_string(alloc)?)?;
     }
-    let piece = setting.piece.max(1);
-    let mut source = MemSource::new(alloc, setting.file, piece, setting.failing_reads)?;
-    let mut written = MemSink::new(alloc, 10_000, piece, setting.failing_writes)?;
+    let piece = case.piece.max(1);
+    let mut source = MemSource::new(alloc, case.file, piece, case.failing_reads)?;
+    let mut written = MemSink::new(alloc, 10_000, piece, case.failing_writes)?;
     let mut notes = MemSink::new(alloc, 1_000, 1_000, &[])?;
     let mut clock = MemClock::new(0, 1);
     let status = run(
@@ -98,11 +98,11 @@ fn other_words_are_told_what_the_commands_are(rt: HostRuntime) -> Result<(), Fai
         &["Replay"],
     ];
     for given in words {
-        let setting = Setting {
+        let case = Case {
             words: given,
             ..replay_of(HEARD)
         };
-        let outcome = outcome_of(rt.alloc(), &setting)?;
+        let outcome = outcome_of(rt.alloc(), &case)?;
         assert_eq!(rt; outcome.status, Status::Usage);
         assert_eq!(rt; outcome.written.bytes(), b"".as_slice());
         let usage =
@@ -124,22 +124,22 @@ fn a_bad_line_is_named(rt: HostRuntime) -> Result<(), Fail> {
 
 #[test]
 fn faults_in_mid_stream_end_a_run(rt: HostRuntime) -> Result<(), Fail> {
-    let setting = Setting {
+    let case = Case {
         piece: 1,
         failing_reads: &[3],
         ..replay_of(HEARD)
     };
-    let outcome = outcome_of(rt.alloc(), &setting)?;
+    let outcome = outcome_of(rt.alloc(), &case)?;
     assert_eq!(rt; outcome.status, Status::ReadFault);
     assert_eq!(rt; outcome.written.bytes(), b"".as_slice());
     assert_eq!(rt; outcome.notes.bytes(), b"read fault\n".as_slice());
 
-    let setting = Setting {
+    let case = Case {
         piece: 1,
         failing_writes: &[2],
         ..replay_of(HEARD)
     };
-    let outcome = outcome_of(rt.alloc(), &setting)?;
+    let outcome = outcome_of(rt.alloc(), &case)?;
     assert_eq!(rt; outcome.status, Status::WriteFault);
     assert_eq!(rt; outcome.written.bytes(), b"t".as_slice());
     assert_eq!(rt; outcome.notes.bytes(), b"".as_slice());
