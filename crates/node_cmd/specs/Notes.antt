@@ -1,0 +1,19 @@
+-- What is said where a command was refused.
+use Rattle.std.specs.Prelude.{ℕ, ◌++◌, List, codes}
+use Rattle.std.specs.Fmt.{decimal}
+use Rattle.net_replay.specs.declared.reasons.What.{What}
+use Rattle.net_replay.specs.Reasons.{word_for}
+
+-- all commands with their words, of which `replay` is built so far
+abbrev pub usage_note : List ℕ
+usage_note = codes "usage: replay | node call=CALL alias=ALIAS [key=value] | frames modulo=8|128 | soak seed=N\n"
+
+abbrev pub read_fault_note : List ℕ
+read_fault_note = codes "read fault\n"
+
+abbrev pub too_long_note : List ℕ
+too_long_note = codes "too long\n"
+
+-- the line's number, and what is wrong with it
+abbrev pub bad_line_note : ℕ → What → List ℕ
+bad_line_note line what = codes "line " ++ decimal line ++ codes ": " ++ word_for what ++ codes "\n"

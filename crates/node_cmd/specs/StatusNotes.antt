@@ -1,0 +1,20 @@
+-- Which status has which note.
+use Rattle.std.specs.Prelude.{ℕ, List}
+use Rattle.node_cmd.specs.declared.status.Status.{Status}
+use Rattle.node_cmd.specs.declared.status.Status.TheVariants.{Usage, BadFile, ReadFault, TooLong}
+use Rattle.node_cmd.specs.Notes.{usage_note, read_fault_note, too_long_note}
+
+-- P holds of the status's note, where that is the same each time
+abbrev pub HasNote : Status → (List ℕ → Type 0) → Type 0
+HasNote Usage P = P usage_note
+HasNote ReadFault P = P read_fault_note
+HasNote TooLong P = P too_long_note
+HasNote _ P = Unit {0}
+
+-- the status has no note
+abbrev pub IsSilent : Status → Type 0
+IsSilent Usage = ⊥
+IsSilent ReadFault = ⊥
+IsSilent TooLong = ⊥
+IsSilent BadFile = ⊥
+IsSilent _ = Unit {0}

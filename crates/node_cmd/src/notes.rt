@@ -1,0 +1,32 @@
+ghost use Rattle.std.specs.Prelude.{◌≡◌, IfOk, string_bytes};
+ghost use Rattle.node_cmd.specs.Notes.{bad_line_note};
+ghost use Rattle.node_cmd.specs.Writing.{Says};
+
+use crate::writing::write_all;
+use net_replay::What;
+use radio_base::{NoMemory, Sink};
+use std::alloc::Global;
+
+/// All commands with their words, of which `replay` is built so far.
+pub const USAGE: &str =
+    "usage: replay | node call=CALL alias=ALIAS [key=value] | frames modulo=8|128 | soak seed=N\n";
+
+/// A read of the input failed.
+pub const READ_FAULT: &str = "read fault\n";
+
+/// The input is longer than is taken.
+pub const TOO_LONG: &str = "too long\n";
+
+/// Writes a note. A fault of the notes changes nothing else.
+pub fn say<N: Sink>(notes: &mut N, text: &str)
+    ensures { Says (N.written notes.old) (N.written notes.new) (N.faults notes.old) (N.faults notes.new) text.now }
+{
+    let _ = write_all(notes, text.as_bytes());
+}
+
+/// Names the first bad line of a file, and what is wrong with it.
+pub fn bad_line_note(alloc: Global, line: u32, what: What) -> Result<String, NoMemory>
+    ensures { IfOk result (λ s. string_bytes s ≡ bad_line_note line what) }
+{
+    Ok(format!(in alloc; "line {line}: {what}\n")?)
+}

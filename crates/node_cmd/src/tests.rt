@@ -1,0 +1,173 @@
+use crate::run::run;
+use crate::status::Status;
+use radio_base::{MemClock, MemSink, MemSource, NoMemory};
+use std::alloc::Global;
+use std::test::Fail;
+
+/// How a run ended, and what it left.
+#[derive(Drop)]
+struct Outcome {
+    status: Status,
+    written: MemSink,
+    notes: MemSink,
+}
+
+/// A run that reads and writes the given number of bytes at a time, and whose given reads and writes
+/// fail.
+#[derive(Drop)]
+struct Case<'a> {
+    words: &'a [&'a str],
+    file: &'a [u8],
+    piece: usize,
+    failing_reads: &'a [u64],
+    failing_writes: &'a [u64],
+}
+
+fn replay_of(file: &[u8]) -> Case<'_> {
+    Case {
+        words: &["replay"],
+        file,
+        piece: 1000,
+        failing_reads: &[],
+        failing_writes: &[],
+    }
+}
+
+fn outcome_of(alloc: Global, case: &Case<'_>) -> Result<Outcome, NoMemory> {
+    let mut words = Vec::new(alloc);
+    for word in case.words {
+        words.push(word.to_string(alloc)?)?;
+    }
+    let piece = case.piece.max(1);
+    let mut source = MemSource::new(alloc, case.file, piece, case.failing_reads)?;
+    let mut written = MemSink::new(alloc, 10_000, piece, case.failing_writes)?;
+    let mut notes = MemSink::new(alloc, 1_000, 1_000, &[])?;
+    let mut clock = MemClock::new(0, 1);
+    let status = run(
+        alloc,
+        &words,
+        &mut source,
+        &mut written,
+        &mut notes,
+        &mut clock,
+    );
+    Ok(Outcome {
+        status,
+        written,
+        notes,
+    })
+}
+
+const HEARD: &[u8] = b"node 1 N0AAA ANODE
+heard 1 N0BBB BNODE N0CCC CNODE N0DDD 192 N0EEE ENODE N0DDD 255
+";
+
+#[test]
+fn good_files_are_reported(rt: HostRuntime) -> Result<(), Fail> {
+    let rows: [(&[u8], &[u8]); 3] = [
+        (b"", b"verdict done\n"),
+        (
+            b"node 1 N0AAA ANODE",
+            b"table 1 N0AAA ANODE\nverdict done\n",
+        ),
+        (
+            HEARD,
+            b"table 1 N0AAA ANODE
+route N0BBB BNODE N0BBB 192 6
+route N0CCC CNODE N0BBB 144 6
+route N0EEE ENODE N0BBB 191 6
+verdict done
+",
+        ),
+    ];
+    for (file, report) in rows {
+        let outcome = outcome_of(rt.alloc(), &replay_of(file))?;
+        assert_eq!(rt; outcome.status, Status::Done);
+        assert_eq!(rt; outcome.written.bytes(), report);
+        assert_eq!(rt; outcome.notes.bytes(), b"".as_slice());
+    }
+    Ok(())
+}
+
+#[test]
+fn other_words_are_told_what_the_commands_are(rt: HostRuntime) -> Result<(), Fail> {
+    let words: [&[&str]; 4] = [
+        &[],
+        &["frames", "modulo=16"],
+        &["replay", "replay"],
+        &["Replay"],
+    ];
+    for given in words {
+        let case = Case {
+            words: given,
+            ..replay_of(HEARD)
+        };
+        let outcome = outcome_of(rt.alloc(), &case)?;
+        assert_eq!(rt; outcome.status, Status::Usage);
+        assert_eq!(rt; outcome.written.bytes(), b"".as_slice());
+        let usage =
+            b"usage: replay | node call=CALL alias=ALIAS [key=value] | frames modulo=8|128 | soak seed=N\n";
+        assert_eq!(rt; outcome.notes.bytes(), usage.as_slice());
+    }
+    Ok(())
+}
+
+#[test]
+fn a_bad_line_is_named(rt: HostRuntime) -> Result<(), Fail> {
+    let file = b"# one node\nnode 1 N0AAA ANODE\n\njump 1\njump 2\n";
+    let outcome = outcome_of(rt.alloc(), &replay_of(file))?;
+    assert_eq!(rt; outcome.status, Status::BadFile);
+    assert_eq!(rt; outcome.written.bytes(), b"".as_slice());
+    assert_eq!(rt; outcome.notes.bytes(), b"line 4: word\n".as_slice());
+    Ok(())
+}
+
+#[test]
+fn faults_in_mid_stream_end_a_run(rt: HostRuntime) -> Result<(), Fail> {
+    let case = Case {
+        piece: 1,
+        failing_reads: &[3],
+        ..replay_of(HEARD)
+    };
+    let outcome = outcome_of(rt.alloc(), &case)?;
+    assert_eq!(rt; outcome.status, Status::ReadFault);
+    assert_eq!(rt; outcome.written.bytes(), b"".as_slice());
+    assert_eq!(rt; outcome.notes.bytes(), b"read fault\n".as_slice());
+
+    let case = Case {
+        piece: 1,
+        failing_writes: &[2],
+        ..replay_of(HEARD)
+    };
+    let outcome = outcome_of(rt.alloc(), &case)?;
+    assert_eq!(rt; outcome.status, Status::WriteFault);
+    assert_eq!(rt; outcome.written.bytes(), b"t".as_slice());
+    assert_eq!(rt; outcome.notes.bytes(), b"".as_slice());
+    Ok(())
+}
+
+#[test]
+fn a_file_has_at_most_2_to_the_20_bytes(rt: HostRuntime) -> Result<(), Fail> {
+    let file = vec![in rt.alloc(); b'#'; 1_048_577]?;
+    let longest = outcome_of(rt.alloc(), &replay_of(&file[1..]))?;
+    assert_eq!(rt; longest.status, Status::Done);
+    assert_eq!(rt; longest.written.bytes(), b"verdict done\n".as_slice());
+
+    let too_long = outcome_of(rt.alloc(), &replay_of(&file))?;
+    assert_eq!(rt; too_long.status, Status::TooLong);
+    assert_eq!(rt; too_long.written.bytes(), b"".as_slice());
+    assert_eq!(rt; too_long.notes.bytes(), b"too long\n".as_slice());
+    Ok(())
+}
+
+#[test]
+fn statuses_have_their_exit_statuses(rt: HostRuntime) {
+    assert_eq!(rt; Status::Done.code(), 0);
+    assert_eq!(rt; Status::Usage.code(), 2);
+    assert_eq!(rt; Status::BadFile.code(), 3);
+    assert_eq!(rt; Status::ReadFault.code(), 4);
+    assert_eq!(rt; Status::WriteFault.code(), 5);
+    assert_eq!(rt; Status::TooLong.code(), 6);
+    assert_eq!(rt; Status::TooLate.code(), 7);
+    assert_eq!(rt; Status::NoMemory.code(), 8);
+}
