@@ -171,3 +171,62 @@ fn statuses_have_their_exit_statuses(rt: HostRuntime) {
     assert_eq!(rt; Status::TooLate.code(), 7);
     assert_eq!(rt; Status::NoMemory.code(), 8);
 }
+
+/// A NODES frame of N0CALL-7 with an alias and no entries, as KISS bytes.
+const NODES: &[u8] =
+    b"\xC0\x00\x9C\x9E\x88\x8A\xA6\x40\xE0\x9C\x60\x86\x82\x98\x98\x6F\x03\xCF\xFFBNODE \xC0";
+
+const NODES_LINE: &[u8] = b"port=0 N0CALL-7>NODES cmd UI pf=0 pid=CF len=7\n";
+
+fn frames_of(stream: &[u8]) -> Case<'_> {
+    Case {
+        words: &["frames", "modulo=8"],
+        file: stream,
+        piece: 1000,
+        failing_reads: &[],
+        failing_writes: &[],
+    }
+}
+
+#[test]
+fn each_item_of_a_stream_has_its_line(rt: HostRuntime) -> Result<(), Fail> {
+    let streams: [(&[u8], &[u8]); 5] = [
+        (b"", b""),
+        (NODES, NODES_LINE),
+        // An octet behind a control field of a kind without information; no PID; no frame at all.
+        (
+            b"\xC0\x00\x9C\x9E\x88\x8A\xA6\x40\xE0\x9C\x60\x86\x82\x98\x98\x6F\x41\x00\xC0",
+            b"port=0 bad extra 15\n",
+        ),
+        (
+            b"\x10\x9C\x9E\x88\x8A\xA6\x40\xE0\x9C\x60\x86\x82\x98\x98\x6F\x03\xC0\x00\xC0",
+            b"port=1 bad pid 15\nport=0 bad short 0\n",
+        ),
+        // TXDELAY of port 2.
+        (b"\xC0\x21\x05\xC0", b"port=2 command=1 len=1\n"),
+    ];
+    for (stream, lines) in streams {
+        let outcome = outcome_of(rt.alloc(), &frames_of(stream))?;
+        assert_eq!(rt; outcome.status, Status::Done);
+        assert_eq!(rt; outcome.written.bytes(), lines);
+        assert_eq!(rt; outcome.notes.bytes(), b"".as_slice());
+    }
+    let long = vec![in rt.alloc(); 0u8; 1025]?;
+    let outcome = outcome_of(rt.alloc(), &frames_of(&long))?;
+    assert_eq!(rt; outcome.written.bytes(), b"too long\n".as_slice());
+    Ok(())
+}
+
+#[test]
+fn the_lines_of_a_read_are_written_before_the_next(rt: HostRuntime) -> Result<(), Fail> {
+    let case = Case {
+        piece: NODES.len(),
+        failing_reads: &[2],
+        ..frames_of(NODES)
+    };
+    let outcome = outcome_of(rt.alloc(), &case)?;
+    assert_eq!(rt; outcome.status, Status::ReadFault);
+    assert_eq!(rt; outcome.written.bytes(), NODES_LINE);
+    assert_eq!(rt; outcome.notes.bytes(), b"read fault\n".as_slice());
+    Ok(())
+}

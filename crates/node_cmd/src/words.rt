@@ -1,18 +1,55 @@
-ghost use Rattle.std.specs.Prelude.{◌↔◌, IsTrue};
-ghost use Rattle.node_cmd.specs.Words.{IsReplay, IsReplayWord};
+ghost use Rattle.std.specs.Prelude.{◌≡◌, IfSome, IfNone, IsTrue, ◌↔◌, codes};
+ghost use Rattle.node_cmd.specs.declared.words.Command.{Command};
+ghost use Rattle.node_cmd.specs.Words.{AskFor};
 
-/// Whether the words are the command `replay`.
-pub fn is_replay(words: &[String]) -> bool
-    ensures { IsTrue result ↔ IsReplay words.now }
+/// What the program can do.
+#[derive(Clone, Copy, Debug, PartialEq, Eq)]
+pub enum Command {
+    /// `replay`
+    Replay,
+    /// `frames modulo=8`
+    FramesModulo8,
+    /// `frames modulo=128`
+    FramesModulo128,
+}
+
+/// The command that the words ask for.
+pub fn command_of(words: &[String]) -> Option<Command>
+    ensures found { IfSome result (AskFor words.now) }
+    ensures none { IfNone result ((c : Command) → ¬ AskFor words.now c) }
 {
     match words {
-        [word] => is_replay_word(word.as_bytes()),
-        _ => false,
+        [word] if is_replay(word.as_bytes()) => Some(Command::Replay),
+        [word, modulo] if is_frames(word.as_bytes()) && is_modulo8(modulo.as_bytes()) => {
+            Some(Command::FramesModulo8)
+        }
+        [word, modulo] if is_frames(word.as_bytes()) && is_modulo128(modulo.as_bytes()) => {
+            Some(Command::FramesModulo128)
+        }
+        _ => None,
     }
 }
 
-fn is_replay_word(word: &[u8]) -> bool
-    ensures { IsTrue result ↔ IsReplayWord word.now }
+fn is_replay(word: &[u8]) -> bool
+    ensures { IsTrue result ↔ (word.now ≡ codes "replay") }
 {
     word == b"replay".as_slice()
+}
+
+fn is_frames(word: &[u8]) -> bool
+    ensures { IsTrue result ↔ (word.now ≡ codes "frames") }
+{
+    word == b"frames".as_slice()
+}
+
+fn is_modulo8(word: &[u8]) -> bool
+    ensures { IsTrue result ↔ (word.now ≡ codes "modulo=8") }
+{
+    word == b"modulo=8".as_slice()
+}
+
+fn is_modulo128(word: &[u8]) -> bool
+    ensures { IsTrue result ↔ (word.now ≡ codes "modulo=128") }
+{
+    word == b"modulo=128".as_slice()
 }

@@ -1,0 +1,6 @@
+pub mod Addresses
+pub mod Words
+pub mod Fields
+pub mod FieldsAgain
+pub mod FrameLaws
+pub mod Spelled

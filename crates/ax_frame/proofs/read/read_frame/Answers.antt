@@ -1,0 +1,7 @@
+use Rattle.ax_frame.proofs.Spelled.{reads_only}
+use Rattle.ax_frame.proofs.read.read_frame.Goals as goal
+
+pub returns-clause-only : goal.returns-clause-only
+returns-clause-only g c = rw (← c.SIZE.ensures)
+    (reads_only c.SIZE.result c.args.bytes.now c.frame_of.result c.frame_spelling.ensures.without_fault c.frame_spelling.ensures.once
+    (rw c.SIZE.ensures c.requires) c.frame_of.ensures.found c.frame_of.ensures.refused)

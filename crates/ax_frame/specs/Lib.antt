@@ -1,0 +1,5 @@
+pub mod Controls
+pub mod Frames
+pub mod Parts
+pub mod Reading
+pub mod FrameText

@@ -1,0 +1,37 @@
+use crate::{Control, Head};
+use arrayvec::ArrayVec;
+
+/// A frame whose information lies where the frame was read from.
+#[derive(Debug, Drop, PartialEq, Eq)]
+pub struct FrameView<'a> {
+    pub head: Head,
+    pub control: Control,
+    /// There for I and UI alone.
+    pub pid: Option<u8>,
+    pub info: &'a [u8],
+}
+
+/// Room for the octets of a frame.
+pub type FrameBytes = ArrayVec<u8, 1023>;
+
+/// Why octets are no frame: the first octet that can't stand at its place, or that is missing. Places
+/// count octets from 0.
+#[derive(Clone, Copy, Debug, PartialEq, Eq)]
+pub enum FrameRefusal {
+    /// The octets end at `at`, where another must stand.
+    Short { at: usize },
+    /// The octet at `at` can't stand in its address, or is octet 6 with the extension bit set.
+    BadCall { at: usize },
+    /// The eighth repeater isn't the last address.
+    TooManyRepeaters,
+    /// The octet at `at` begins no control field.
+    BadControl { at: usize },
+    /// The octets end at `at`, where the PID must stand.
+    NoPid { at: usize },
+    /// At `at` stands an octet, behind a control field of a kind without information.
+    ExtraInfo { at: usize },
+}
+
+/// The frame has more than 1,023 octets.
+#[derive(Clone, Copy, Debug, PartialEq, Eq)]
+pub struct Full;

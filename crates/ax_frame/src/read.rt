@@ -1,0 +1,246 @@
+ghost use Rattle.std.specs.Prelude.{◌≡◌, ◌≤◌, ◌<◌, ◌+◌, ◌*◌, ◌^◌, ◌++◌, List, ℕ, length, take, drop, IfOk, Ok, Err, IsOkAnd, MatchResult};
+ghost use Rattle.ax_frame.specs.Reading as reading;
+ghost use Rattle.ax_address.specs.Octets.{SpellsAddress};
+ghost use Rattle.std.specs.Result.{result_err};
+ghost use Rattle.ax_frame.specs.Controls.{IsLinkModulus};
+ghost use Rattle.ax_frame.specs.Frames.{Frame, Spells, SpellsHead, view};
+ghost use Rattle.ax_frame.specs.Parts.{HasHead, SpellsLast};
+ghost use Rattle.ax_frame.specs.declared.head.Head.{Head};
+
+use crate::{Control, FrameRefusal, FrameView, Head, laws};
+use ax_address::{Address, AddressRefusal, Path, address_fault, read_address};
+use radio_base::Modulus;
+
+/// The addresses, and how many octets they have, or the first octet that can't stand there.
+pub fn read_head(bytes: &[u8]) -> Result<(Head, usize), FrameRefusal>
+    // What is read is spelled so.
+    ensures found { IfOk result (λ x. (x.1 ≤ length bytes.now) × SpellsHead x.0 (take x.1 bytes.now)) }
+
+    // What is spelled so is read.
+    ensures only { (h : Head) (octets rest : List ℕ) → SpellsHead h octets → bytes.now ≡ octets ++ rest → result ≡ Ok (h, length octets) }
+
+    // The addresses end there, or an octet is at fault.
+    ensures judged { MatchResult result (λ x. reading.head_end bytes.now ≡ Ok x.1) (λ e. reading.head_end bytes.now ≡ Err e) }
+{
+    // By the laws of the spelling no other head is spelled so, and none that is spelled is refused.
+    laws::head_spelling();
+    head_of(bytes)
+}
+
+fn head_of(bytes: &[u8]) -> Result<(Head, usize), FrameRefusal>
+    ensures found { IfOk result (λ x. (x.1 ≤ length bytes.now) × SpellsHead x.0 (take x.1 bytes.now)) }
+    ensures judged { MatchResult result (λ x. reading.head_end bytes.now ≡ Ok x.1) (λ e. reading.head_end bytes.now ≡ Err e) }
+{
+    let (dest, last) = address_at(bytes, 0)?;
+    if last {
+        return Err(FrameRefusal::BadCall { at: 6 });
+    }
+    let (source, last) = address_at(bytes, 7)?;
+    if last {
+        let path = Path::new();
+        return Ok((Head { dest, source, path }, 14));
+    }
+    let path = repeaters(bytes)?;
+    let end = 14 + 7 * path.len();
+    Ok((Head { dest, source, path }, end))
+}
+
+/// The frame that the octets spell, with sequence numbers modulo 8 or 128, or the first octet that can't
+/// stand at its place. The information is lent.
+pub fn read_frame<M: Modulus>(bytes: &[u8]) -> Result<FrameView<'_>, FrameRefusal>
+    requires { IsLinkModulus M.SIZE }
+
+    // What is read is spelled so.
+    ensures found { IfOk result (λ v. Spells M.SIZE (view v) bytes.now) }
+
+    // What is spelled so is read.
+    ensures only { (f : Frame) → Spells M.SIZE f bytes.now → IsOkAnd result (λ v. view v ≡ f) }
+
+    // It is refused exactly where an octet is at fault.
+    ensures refused { result_err result ≡ reading.first_fault M.SIZE bytes.now }
+{
+    // By the laws of the spelling no other frame is spelled so, and none that is spelled is refused.
+    laws::frame_spelling();
+    frame_of(M::SIZE, bytes)
+}
+
+fn frame_of(size: u64, bytes: &[u8]) -> Result<FrameView<'_>, FrameRefusal>
+    requires { IsLinkModulus size }
+    ensures found { IfOk result (λ v. Spells size (view v) bytes.now) }
+    ensures refused { result_err result ≡ reading.first_fault size bytes.now }
+{
+    let (head, control, pid, at) = parts(size, bytes)?;
+    let info = &bytes[at..];
+    Ok(FrameView {
+        head,
+        control,
+        pid,
+        info,
+    })
+}
+
+/// What stands before the information, and where that begins.
+#[tactic(auto, unfolding(crate::specs::Reading::frame_at))]
+fn parts(size: u64, bytes: &[u8]) -> Result<(Head, Control, Option<u8>, usize), FrameRefusal>
+    requires { IsLinkModulus size }
+    ensures judged { MatchResult result (λ x. reading.frame_at size bytes.now ≡ Ok (x.1, x.2, x.3)) (λ e. reading.frame_at size bytes.now ≡ Err e) }
+    ensures head { IfOk result (λ x. HasHead x.0 bytes.now) }
+    ensures within { IfOk result (λ x. x.3 ≤ length bytes.now) }
+{
+    let (head, at) = read_head(bytes)?;
+    let (control, at) = control_at(size, bytes, at)?;
+    let (pid, at) = pid_at(&control, bytes, at)?;
+    Ok((head, control, pid, at))
+}
+
+/// The repeaters, which stand behind destination and source, where the source isn't the last address.
+fn repeaters(bytes: &[u8]) -> Result<Path, FrameRefusal>
+    requires { 14 ≤ length bytes.now }
+    ensures judged { MatchResult result (λ p. reading.addresses_end 8 14 bytes.now ≡ Ok (14 + 7 * length p.items)) (λ e. reading.addresses_end 8 14 bytes.now ≡ Err e) }
+    ensures found { IfOk result (λ p. SpellsLast 14 bytes.now p.items) }
+{
+    let mut path = Path::new();
+    for nth in 0..8 {
+        let (repeater, last) = address_at(bytes, 14 + 7 * nth)?;
+        path.push(repeater);
+        if last {
+            return Ok(path);
+        }
+    }
+    Err(FrameRefusal::TooManyRepeaters)
+}
+
+/// The address at a place, and its extension bit.
+fn address_at(bytes: &[u8], at: usize) -> Result<(Address, bool), FrameRefusal>
+    requires { at ≤ length bytes.now }
+    ensures judged { MatchResult result (λ x. reading.extension_at at bytes.now ≡ Ok x.1) (λ e. reading.extension_at at bytes.now ≡ Err e) }
+    ensures found { IfOk result (λ x. (at + 7 ≤ length bytes.now) × SpellsAddress x.0 x.1 (take 7 (drop at bytes.now))) }
+{
+    let octets = &bytes[at..];
+    match octets.first_chunk::<7>() {
+        Some(octets) => match read_address(octets) {
+            Ok(read) => Ok(read),
+            Err(refusal) => Err(FrameRefusal::BadCall {
+                at: at + refusal.at(),
+            }),
+        },
+        None => match address_fault(octets) {
+            Some(refusal) => Err(FrameRefusal::BadCall {
+                at: at + refusal.at(),
+            }),
+            None => Err(FrameRefusal::Short { at: bytes.len() }),
+        },
+    }
+}
+
+/// The control field at a place, with sequence numbers modulo `size`, and where it ends.
+#[tactic(auto, unfolding(crate::specs::Reading::control_at))]
+fn control_at(size: u64, bytes: &[u8], at: usize) -> Result<(Control, usize), FrameRefusal>
+    requires { at ≤ length bytes.now }
+    ensures { result ≡ reading.control_at size at bytes.now }
+{
+    match bytes.get(at).copied() {
+        None => Err(FrameRefusal::Short { at }),
+        Some(first) => control_from(size, at, first, bytes.get(at + 1).copied()),
+    }
+}
+
+fn control_from(
+    size: u64,
+    at: usize,
+    first: u8,
+    next: Option<u8>,
+) -> Result<(Control, usize), FrameRefusal>
+    requires { at + 2 < 2 ^ 64 }
+    ensures { result ≡ reading.control_from size at first next }
+{
+    let pf = (first >> 4) % 2 == 1;
+    if first % 4 == 3 {
+        field_end(at, at + 1, unnumbered(first - 16 * ((first >> 4) % 2), pf))
+    } else if size == 8 {
+        field_end(
+            at,
+            at + 1,
+            numbered(first % 16, (first >> 1) % 8, first >> 5, pf),
+        )
+    } else {
+        two_octets(at, first, next)
+    }
+}
+
+fn field_end(
+    at: usize,
+    end: usize,
+    control: Option<Control>,
+) -> Result<(Control, usize), FrameRefusal>
+    ensures { result ≡ reading.field_end at end control }
+{
+    match control {
+        None => Err(FrameRefusal::BadControl { at }),
+        Some(control) => Ok((control, end)),
+    }
+}
+
+fn two_octets(at: usize, first: u8, next: Option<u8>) -> Result<(Control, usize), FrameRefusal>
+    requires { at + 2 < 2 ^ 64 }
+    ensures { result ≡ reading.two_octets at first next }
+{
+    match next {
+        Some(next) => field_end(
+            at,
+            at + 2,
+            numbered(first, first >> 1, next >> 1, next % 2 == 1),
+        ),
+        None if numbered(first, 0, 0, false).is_some() => Err(FrameRefusal::Short { at: at + 1 }),
+        None => Err(FrameRefusal::BadControl { at }),
+    }
+}
+
+fn numbered(code: u8, ns: u8, nr: u8, pf: bool) -> Option<Control>
+    ensures { result ≡ reading.numbered code ns nr pf }
+{
+    match code {
+        _ if code % 2 == 0 => Some(Control::I { ns, nr, pf }),
+        0x01 => Some(Control::Rr { nr, pf }),
+        0x05 => Some(Control::Rnr { nr, pf }),
+        0x09 => Some(Control::Rej { nr, pf }),
+        0x0D => Some(Control::Srej { nr, pf }),
+        _ => None,
+    }
+}
+
+fn unnumbered(code: u8, pf: bool) -> Option<Control>
+    ensures { result ≡ reading.unnumbered code pf }
+{
+    match code {
+        0x2F => Some(Control::Sabm { pf }),
+        0x6F => Some(Control::Sabme { pf }),
+        0x43 => Some(Control::Disc { pf }),
+        0x0F => Some(Control::Dm { pf }),
+        0x63 => Some(Control::Ua { pf }),
+        0x87 => Some(Control::Frmr { pf }),
+        0x03 => Some(Control::Ui { pf }),
+        0xAF => Some(Control::Xid { pf }),
+        0xE3 => Some(Control::Test { pf }),
+        _ => None,
+    }
+}
+
+/// The PID at a place, where the kind has one, and where the information begins.
+#[tactic(auto, unfolding(crate::specs::Reading::pid_at))]
+fn pid_at(control: &Control, bytes: &[u8], at: usize) -> Result<(Option<u8>, usize), FrameRefusal>
+    requires { at ≤ length bytes.now }
+    ensures { result ≡ reading.pid_at control.now at bytes.now }
+{
+    if control.has_pid() {
+        return match bytes.get(at).copied() {
+            None => Err(FrameRefusal::NoPid { at }),
+            Some(pid) => Ok((Some(pid), at + 1)),
+        };
+    }
+    if control.takes_info() || bytes.len() <= at {
+        Ok((None, at))
+    } else {
+        Err(FrameRefusal::ExtraInfo { at })
+    }
+}
