@@ -1,6 +1,6 @@
 -- An act at the place of the node that it names.
-use Rattle.std.proofs.Common.{◌≡◌, ◌<◌, ◌≤◌, ◌+◌, ◌∙◌, ◌++◌, ℕ, zero, suc, refl, sym, ap, subst, List, [], ◌∷◌, length, arith, Bool, true, false, cond, get_or, set}
-use Rattle.std.specs.Prelude.{◌==◌, not, nat_lt, Option, Some, None}
+use Rattle.std.proofs.Common.{◌≡◌, ◌<◌, ◌≤◌, ◌+◌, ◌++◌, ℕ, zero, suc, refl, sym, ap, subst, List, [], ◌∷◌, length, arith, Bool, true, false, cond, get_or, set}
+use Rattle.std.specs.Prelude.{◌==◌, not, nat_lt, Some, None}
 use Rattle.std.specs.List.{position, position_or_len}
 use Rattle.std.proofs.lemmas.Bool.{ltb-false}
 use Rattle.std.proofs.lemmas.Option.{cond_some}

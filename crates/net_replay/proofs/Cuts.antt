@@ -1,6 +1,6 @@
 -- The first line of a text, cut off.
 use Rattle.std.proofs.Common.{◌≡◌, ◌<◌, ◌≤◌, ◌+◌, ◌∙◌, ℕ, suc, refl, sym, ap, List, [], ◌∷◌, length, take, drop, arith, Bool, true, false, cond}
-use Rattle.std.specs.Prelude.{not, ◌==◌, nat_lt, Option, Some, None}
+use Rattle.std.specs.Prelude.{not, ◌==◌, nat_lt, Some, None}
 use Rattle.std.specs.List.{slice_split, onto_first, position, position_or_len}
 use Rattle.std.specs.Str.Lines.{lines, lines_of_parts, strip_carriage_return}
 use Rattle.std.proofs.lemmas.Bool.{ltb-false}

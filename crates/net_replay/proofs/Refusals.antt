@@ -1,6 +1,5 @@
 -- A node whose table has no room for a broadcast stays as it was.
-use Rattle.std.proofs.Common.{◌≡◌, ◌<◌, ◌∙◌, ◌++◌, ℕ, List, length, arith, false, ap, sym, cond}
-use Rattle.std.specs.Prelude.{nat_le}
+use Rattle.std.proofs.Common.{◌≡◌, ◌<◌, ◌++◌, ℕ, List, length, arith, false}
 use Rattle.std.proofs.lemmas.Bool.Decides.{nat_tests}
 use Rattle.ax_address.specs.Callsign.{Callsign}
 use Rattle.ax_address.specs.declared.alias.Alias.{Alias}

@@ -1,5 +1,5 @@
 -- What the keys are set to. Own profile.
-use Rattle.std.specs.Prelude.{ℕ, ◌≤◌, List, find, unwrap_or, Option, IfSome, Bool, ◌&&◌, ◌==◌}
+use Rattle.std.specs.Prelude.{ℕ, List, find, unwrap_or, Option, Bool, ◌&&◌, ◌==◌}
 use Rattle.std.specs.Option.{option_map}
 use Rattle.net_replay.specs.declared.keys.Key.{Key}
 use Rattle.net_replay.specs.Keys.{Assignment, place_of, default_of}

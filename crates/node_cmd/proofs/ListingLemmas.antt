@@ -1,8 +1,8 @@
 -- The lines of items.
-use Rattle.std.proofs.Common.{◌≡◌, ◌≢◌, ◌++◌, ◌∙◌, ℕ, List, [], ◌∷◌, refl, sym, ap, length, arith, false, append_assoc, append-nil, codes}
+use Rattle.std.proofs.Common.{◌≡◌, ◌≢◌, ◌++◌, ℕ, List, [], ◌∷◌, refl, sym, length, arith, false, append_assoc, append-nil}
 use Rattle.std.specs.Prelude.{◌==◌}
 use Rattle.std.proofs.lemmas.Bool.Decides.{nat_tests}
-use Rattle.kiss_framing.specs.Stream.{Item, Frame as Piece, Too_long}
+use Rattle.kiss_framing.specs.Stream.{Item, Frame as Piece}
 use Rattle.node_cmd.specs.Listing.{IsDataLine, IsLine, command_line, Lists}
 
 -- one item's line lists that item

@@ -4,7 +4,7 @@ use Rattle.std.specs.Prelude.{Option}
 use Rattle.std.specs.Io.KnownBytes.{Appends, Consumes}
 use Rattle.std.proofs.KnownBytes.{Appends-trans}
 use Rattle.kiss_framing.specs.Stream.{Item, items}
-use Rattle.node_cmd.specs.Listing.{IsLine, Lists, AddsLines}
+use Rattle.node_cmd.specs.Listing.{Lists, AddsLines}
 use Rattle.node_cmd.specs.Writing.{AppendsFront}
 use Rattle.node_cmd.specs.declared.frames.TheConstants.{MAX_STREAM}
 use Rattle.node_cmd.specs.declared.frames.ListRefusal.{ListRefusal}

@@ -1,7 +1,6 @@
 -- The lines of a KISS stream, one for each of its items (this project's profile).
 use Rattle.std.specs.Prelude.{ℕ, ◌≡◌, ◌⊎◌, ◌==◌, ◌++◌, List, [], ◌∷◌, length, Some, codes}
 use Rattle.std.specs.Bool.{MatchBool}
-use Rattle.std.specs.Fmt.{decimal}
 use Rattle.kiss_framing.specs.Stream.{Item, Frame as Piece, Too_long, items}
 use Rattle.ax_frame.specs.declared.frame.FrameRefusal.{FrameRefusal}
 use Rattle.ax_frame.specs.declared.frame.FrameRefusal.TheVariants.{Short, BadCall, TooManyRepeaters, BadControl, NoPid, ExtraInfo}
