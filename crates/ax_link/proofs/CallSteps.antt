@@ -1,0 +1,62 @@
+-- A call of a link is a step of the machine.
+use Rattle.std.proofs.Common.{◌≡◌, ℕ, ◌+◌, ◌<◌, Bool, true, false, not, ◌||◌, nat_le, if◌then◌else◌, List, ◌++◌, length, Result, Ok, Err, OnOk, refl, ap, ◌∙◌, subst, arith, length-append}
+use Rattle.std.proofs.lemmas.Bool.Decides.{nat_tests}
+use Rattle.radio_base.specs.declared.modulus.TheConstants.{COUNT_MAX}
+use Rattle.radio_base.specs.declared.payload.Payload.{Payload}
+use Rattle.ax_link.specs.declared.plain.SendRefusal.{SendRefusal}
+use Rattle.ax_link.specs.State.{State, Going, begin}
+use Rattle.ax_link.specs.Table.{accepted, may_close, takes}
+use Rattle.ax_link.specs.Standing.{Held, Stands, StandsFor, state_of}
+use Rattle.ax_link.specs.Windows.{IsDrained, answer_by, send_answer, taken_in}
+
+-- a step begins where nothing waits
+pub begins : (size : ℕ) (h : Held) (s : State) → IsDrained h → StandsFor size h s → Stands size h (begin s)
+begins size h s drained stands =
+    record {
+      before = stands.before;
+      gots = stands.gots;
+      acked = stands.acked;
+      got = stands.got;
+      is = ap begin stands.is ∙ rw (drained.outs, drained.notice) refl;
+    }
+
+-- a part that is done from what is kept is a step
+pub stepped : (size : ℕ) (h later : Held) (now moment : ℕ) (part : ℕ → Going → Going) → IsDrained h → now ≡ moment →
+    ((g : Going) → Stands size h g → Stands size later (part now g)) →
+    (s : State) → StandsFor size h s → Stands size later (part moment (begin s))
+stepped size h later now moment part drained e does s stands =
+    subst (λ (n : ℕ). Stands size later (part n (begin s))) e (does (begin s) (begins size h s drained stands))
+
+both_hold : (up closing : Bool) → (not up || closing) ≡ false → (up ≡ true) × (closing ≡ false)
+both_hold true true e = absurd (cc e)
+both_hold true false e = (refl, refl)
+both_hold false closing e = absurd (cc e)
+
+takes_all : (size : ℕ) (h : Held) (before gots : List Payload) → length before ≡ h.acked → may_close h.phase ≡ true → h.closing ≡ false →
+    length h.queue < 128 → h.acked + length h.queue < COUNT_MAX → takes (state_of size h before gots) ≡ true
+takes_all size h before gots a up stays room more =
+    let n : length (before ++ h.queue) ≡ h.acked + length h.queue = omega (arith, length-append before h.queue, a) in
+    rw (up, stays, n) (grind (arith, nat_tests, room, more))
+
+accepts_by : (size : ℕ) (h : Held) (before gots : List Payload) (refused full ended : Bool) → length before ≡ h.acked →
+    (not (may_close h.phase) || h.closing) ≡ refused → nat_le 128 (length h.queue) ≡ full → nat_le COUNT_MAX (h.acked + length h.queue) ≡ ended →
+    answer_by refused full ended ≡ taken_in →
+    takes (state_of size h before gots) ≡ true
+accepts_by size h before gots true full ended a r f e is = absurd (cc is)
+accepts_by size h before gots false true ended a r f e is = absurd (cc is)
+accepts_by size h before gots false false true a r f e is = absurd (cc is)
+accepts_by size h before gots false false false a r f e is =
+    let both = both_hold (may_close h.phase) h.closing r in
+    takes_all size h before gots a both.0 both.1 (grind (arith, nat_tests, f)) (grind (arith, nat_tests, e))
+
+-- where the answer is Ok, the machine takes the payload
+pub accepts : (size : ℕ) (h later : Held) (now moment : ℕ) (p : Payload) → IsDrained h → now ≡ moment → send_answer h ≡ taken_in →
+    ((g : Going) → Stands size h g → Stands size later (accepted now p g)) →
+    (s : State) → StandsFor size h s → Stands size later (if takes s then accepted moment p (begin s) else begin s)
+accepts size h later now moment p drained e is does s stands =
+    let t : takes s ≡ true = ap takes stands.is ∙ accepts_by size h stands.before stands.gots _ _ _ stands.acked refl refl refl is in
+    rw t (stepped size h later now moment (λ n g. accepted n p g) drained e does s stands)
+
+pub on_ok : (r : Result (Unit {0}) SendRefusal) (P Q : Type 0) → (r ≡ taken_in → P → Q) → OnOk r P → OnOk r Q
+on_ok (Ok tt) P Q f p = f refl p
+on_ok (Err e) P Q f p = tt

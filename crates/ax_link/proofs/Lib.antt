@@ -1,0 +1,16 @@
+pub mod Arrivals
+pub mod CallSteps
+pub mod Inputs
+pub mod Leaving
+pub mod PairSteps
+pub mod NoUa
+pub mod Pairs
+pub mod Standings
+pub mod Steps
+pub mod PairTexts
+pub mod RunExamples
+pub mod RunStarts
+pub mod RunStates
+pub mod RunSteps
+pub mod Runs
+pub mod Ways

@@ -1,0 +1,38 @@
+-- What frames are on a link (AX.25 2.2, section 4.3).
+use Rattle.std.specs.Prelude.{ℕ, Bool, not, ◌==◌, if◌then◌else◌, List, length, nat_le, Option, Some, None}
+use Rattle.radio_base.specs.declared.payload.Payload.{Payload}
+use Rattle.ax_frame.specs.declared.control.Control.{Control}
+use Rattle.ax_frame.specs.declared.control.Control.TheVariants as control
+use Rattle.ax_link.specs.declared.kind.Kind.{Kind}
+use Rattle.ax_link.specs.State.{Frame}
+use Rattle.ax_link.specs.declared.kind.Kind.TheVariants.{I, Rr, Rnr, Rej, Srej, SetUp, OtherSetUp, Disc, Dm, Ua, Frmr, Xid, Other}
+
+-- a SABM or SABME: no response sets a link up
+abbrev pub set_up_kind : Bool → Bool → Bool → Kind
+set_up_kind command own_modulus pf = if not command then Other else if own_modulus then SetUp pf else OtherSetUp pf
+
+-- a link whose numbers count modulo 8 is set up by SABM, any other by SABME
+abbrev pub kind_of : ℕ → Bool → Control → Kind
+kind_of size command (control.I ns nr pf) = I ns nr pf
+kind_of size command (control.Rr nr pf) = Rr nr pf
+kind_of size command (control.Rnr nr pf) = Rnr nr pf
+kind_of size command (control.Rej nr pf) = Rej nr pf
+kind_of size command (control.Srej nr pf) = Srej nr pf
+kind_of size command (control.Sabm pf) = set_up_kind command (size == 8) pf
+kind_of size command (control.Sabme pf) = set_up_kind command (not (size == 8)) pf
+kind_of size command (control.Disc pf) = Disc pf
+kind_of size command (control.Dm pf) = Dm pf
+kind_of size command (control.Ua pf) = Ua pf
+kind_of size command (control.Frmr pf) = Frmr pf
+kind_of size command (control.Ui pf) = Other
+kind_of size command (control.Xid pf) = Xid pf
+kind_of size command (control.Test pf) = Other
+
+-- the payload of an I frame: none without a PID, or where the information has more than 256 octets
+abbrev pub payload_of : Option ℕ → List ℕ → Option Payload
+payload_of None info = None
+payload_of (Some pid) info = if nat_le (length info) 256 then Some (record { pid = pid; info = record { items = info } }) else None
+
+-- a frame as it comes in
+abbrev pub frame_in : ℕ → Bool → Control → Option ℕ → List ℕ → Frame
+frame_in size command control pid info = record { command = command; kind = kind_of size command control; payload = payload_of pid info }

@@ -1,0 +1,204 @@
+-- The steps of which the rows of the link's table are made.
+use Rattle.std.specs.Prelude.{ℕ, zero, suc, ◌+◌, ◌-◌, ◌%◌, min, Bool, true, false, not, ◌&&◌, ◌||◌, nat_eq, nat_lt, nat_le, if◌then◌else◌, List, [], ◌∷◌, ◌++◌, length, drop, replicate, slice_get, slice_set, Option, Some, None, is_some}
+use Rattle.radio_base.specs.declared.modulus.TheConstants.{COUNT_MAX}
+use Rattle.radio_base.specs.declared.payload.Payload.{Payload}
+use Rattle.radio_base.specs.Modulus.{place_of}
+use Rattle.ax_link.specs.declared.plain.LinkPhase.{LinkPhase}
+use Rattle.ax_link.specs.declared.plain.LinkPhase.TheVariants.{Releasing}
+use Rattle.ax_link.specs.declared.plain.LinkNotice.{LinkNotice}
+use Rattle.ax_link.specs.declared.kind.Kind.{Kind}
+use Rattle.ax_link.specs.declared.kind.Kind.TheVariants.{I, Rr, Rnr, Rej, Srej, Disc}
+use Rattle.ax_link.specs.State.{Frame, State, Going, wire, busy, high, ack_place, is_up, judged, restamped}
+
+-- how many payloads Fill puts out
+abbrev pub fill_count : State → ℕ
+fill_count s =
+    if is_up s.phase && not (s.polling || s.peer_busy)
+    then min ((s.acked + s.rules.window) - s.sent) (length s.given - s.sent)
+    else 0
+
+abbrev pub put : Bool → Kind → Going → Going
+put command kind g = record g { outs = g.outs ++ record { command = command; kind = kind; payload = None } ∷ [] }
+
+abbrev pub rr : State → Bool → Kind
+rr s pf = if busy s then Rnr (wire s (length s.gots)) pf else Rr (wire s (length s.gots)) pf
+
+-- I frames for many numbers from n on
+abbrev pub frames_of : ℕ → ℕ → List Payload → ℕ → ℕ → List Frame
+frames_of size got given n zero = []
+frames_of size got given n (suc many) = record { command = true; kind = I (n % size) (got % size) false; payload = slice_get given n } ∷ frames_of size got given (suc n) many
+
+abbrev pub frames : State → ℕ → ℕ → List Frame
+frames s n many = frames_of s.rules.size (length s.gots) s.given n many
+
+-- SREJ with F 0 for many numbers from n on
+abbrev pub asks : State → ℕ → ℕ → List Frame
+asks s n zero = []
+asks s n (suc many) = record { command = false; kind = Srej (wire s n) false; payload = None } ∷ asks s (suc n) many
+
+abbrev pub to_phase : ℕ → LinkPhase → Going → Going
+to_phase now phase g = record g { link = judged now g.link (record g.link { phase = phase }) }
+
+abbrev pub note : LinkNotice → Going → Going
+note n g = record g { notes = g.notes ++ n ∷ [] }
+
+abbrev pub reset : ℕ → Going → Going
+reset now g = record g {
+  link = judged now g.link (record g.link {
+    given = [];
+    acked = 0;
+    sent = 0;
+    gots = [];
+    early = replicate g.link.rules.window None;
+    inbox = [];
+    tries = 0;
+    polling = false;
+    peer_busy = false;
+    asked = false;
+  });
+}
+
+abbrev pub timed : ℕ → Bool → Kind → Going → Going
+timed now command kind g = let h = put command kind g in record h { link = restamped now h.link }
+
+abbrev pub fill : ℕ → Going → Going
+fill now g =
+    let many : ℕ = fill_count g.link in
+    record g {
+      link = judged now g.link (record g.link { sent = g.link.sent + many });
+      outs = g.outs ++ frames g.link g.link.sent many;
+    }
+
+abbrev pub release : ℕ → Going → Going
+release now g = timed now true (Disc true) (to_phase now Releasing (record g { link = record g.link { tries = 0 } }))
+
+abbrev pub finish : ℕ → Going → Going
+finish now g = if is_up g.link.phase && g.link.closing && nat_eq g.link.acked (length g.link.given) then release now g else g
+
+abbrev pub again : ℕ → Going → Going
+again now g = record g { link = restamped now g.link; outs = g.outs ++ frames g.link g.link.acked (g.link.sent - g.link.acked) }
+
+abbrev pub acknowledge : ℕ → ℕ → Going → Going
+acknowledge now x g =
+    if nat_lt g.link.acked x
+    then record g { link = restamped now (judged now g.link (record g.link { acked = x; tries = 0 })) }
+    else g
+
+abbrev pub hold : ℕ → Bool → Going → Going
+hold now b g = record g { link = judged now g.link (record g.link { peer_busy = b }) }
+
+abbrev pub polled : ℕ → Going → Going
+polled now g = record g { link = judged now g.link (record g.link { polling = true }) }
+
+abbrev pub start_poll : ℕ → Going → Going
+start_poll now g = timed now true (rr (polled now g).link true) (polled now g)
+
+abbrev pub end_poll : ℕ → Going → Going
+end_poll now g = record g { link = judged now g.link (record g.link { polling = false; tries = 0 }) }
+
+-- payload number got is taken
+abbrev pub take_next : Payload → State → State
+take_next p s = record s { gots = s.gots ++ p ∷ []; inbox = s.inbox ++ p ∷ []; early = drop 1 s.early ++ None ∷ [] }
+
+-- the early payload that is next, where it may be taken
+abbrev pub first_early : List (Option Payload) → Option Payload
+first_early [] = None
+first_early (p ∷ e) = p
+
+abbrev pub next_early : State → Option Payload
+next_early s = if busy s || nat_le COUNT_MAX (length s.gots) then None else first_early s.early
+
+-- early payloads follow while they are next and the inbox isn't full; the count is the length of early
+abbrev pub move_on : ℕ → State → State
+move_on zero s = s
+move_on (suc k) s = elim (next_early s) as (λ x. State) [ None ↦ s | Some p ↦ move_on k (take_next p s) ]
+
+abbrev pub moved : State → State
+moved s = move_on (length s.early) s
+
+abbrev pub resupply : ℕ → Bool → Bool → Bool → Going → Going
+resupply now ends rej unpolled g =
+    if ends then again now (end_poll now g) else if rej && unpolled then again now g else g
+
+-- Fill, then Finish
+abbrev pub supply : ℕ → Going → Going
+supply now g = finish now (fill now g)
+
+abbrev pub answered : Bool → Going → Going
+answered poll g = if poll then put false (rr g.link true) g else g
+
+abbrev pub resupplied : ℕ → Bool → Bool → Going → Going
+resupplied now final rej g = resupply now (final && g.link.polling) rej (not g.link.polling) g
+
+-- RR, RNR, REJ: rnr and rej tell which; x is the place_of of N(R)
+abbrev pub supervised : ℕ → Bool → Bool → Bool → Bool → ℕ → Going → Going
+supervised now command rnr rej pf x g =
+    supply now (resupplied now (not command && pf) rej (answered (command && pf) (hold now rnr (acknowledge now x g))))
+
+abbrev pub on_supervisory : ℕ → Bool → Bool → Bool → Bool → ℕ → Going → Going
+on_supervisory now command rnr rej pf nr g =
+    elim (ack_place g.link nr) as (λ x. Going) [ None ↦ g | Some x ↦ supervised now command rnr rej pf x g ]
+
+-- an SREJ with F 1, x being the place of N(R)
+abbrev pub selected : ℕ → ℕ → Going → Going
+selected now x g =
+    let h = end_poll now (acknowledge now x g) in
+    supply now (record h { outs = h.outs ++ frames h.link x (min 1 (h.link.sent - x)) })
+
+abbrev pub on_srej : ℕ → Bool → ℕ → Going → Going
+on_srej now false nr g =
+    elim (place_of g.link.rules.size nr g.link.acked (g.link.sent - g.link.acked)) as (λ x. Going)
+    [ None ↦ g | Some y ↦ record g { outs = g.outs ++ frames g.link y 1 } ]
+on_srej now true nr g = elim (ack_place g.link nr) as (λ x. Going) [ None ↦ g | Some x ↦ selected now x g ]
+
+-- the answer after a payload was taken
+abbrev pub answer_taken : Bool → Going → Going
+answer_taken pf g = if pf || (busy g.link || nat_eq (fill_count g.link) 0) then put false (rr g.link pf) g else g
+
+abbrev pub take_in : Bool → State → Going → Going
+take_in pf s g = answer_taken pf (record g { link = s })
+
+abbrev pub ask : Bool → Going → Going
+ask pf g = put false (Rej (wire g.link (length g.link.gots)) pf) (record g { link = record g.link { asked = true } })
+
+-- a payload that isn't the next one: the next one is asked for, once
+abbrev pub ask_again : Bool → Going → Going
+ask_again pf g = if not g.link.asked then ask pf g else if pf then put false (rr g.link true) g else g
+
+abbrev pub text_plain : Bool → ℕ → Payload → Going → Going
+text_plain pf ns p g =
+    if nat_eq ns (wire g.link (length g.link.gots))
+    then take_in pf (record (take_next p g.link) { asked = false }) g
+    else ask_again pf g
+
+abbrev pub stored : ℕ → Payload → State → State
+stored i p s = if is_some (first_early (drop i s.early)) then s else record s { early = slice_set s.early i (Some p) }
+
+abbrev pub text_later : Bool → ℕ → Payload → Going → Going
+text_later pf n p g =
+    let h = record g { link = stored (n - length g.link.gots) p g.link; outs = g.outs ++ asks g.link (high g.link) (n - high g.link) } in
+    if pf then put false (rr h.link true) h else h
+
+abbrev pub text_srej : Bool → ℕ → Payload → Going → Going
+text_srej pf ns p g =
+    elim (place_of g.link.rules.size ns (length g.link.gots) g.link.rules.window) as (λ x. Going) [
+      | None ↦ put false (rr g.link pf) g
+      | Some n ↦ if nat_lt (length g.link.gots) n
+          then text_later pf n p g
+          else take_in pf (moved (take_next p g.link)) g
+    ]
+
+abbrev pub text : Bool → ℕ → Payload → Going → Going
+text pf ns p g =
+    if nat_le COUNT_MAX (length g.link.gots) then g
+    else if busy g.link then put false (Rnr (wire g.link (length g.link.gots)) pf) g
+    else if g.link.rules.srej then text_srej pf ns p g
+    else text_plain pf ns p g
+
+-- an I frame with a payload, x being the place of N(R)
+abbrev pub informed : ℕ → Bool → ℕ → Payload → ℕ → Going → Going
+informed now pf ns p x g = supply now (text pf ns p (acknowledge now x g))
+
+abbrev pub on_i : ℕ → Bool → ℕ → ℕ → Option Payload → Going → Going
+on_i now pf ns nr None g = g
+on_i now pf ns nr (Some p) g = elim (ack_place g.link nr) as (λ x. Going) [ None ↦ g | Some x ↦ informed now pf ns p x g ]

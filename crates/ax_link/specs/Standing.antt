@@ -1,0 +1,93 @@
+-- What the code keeps of an end of a link, and what it has forgotten.
+use Rattle.std.specs.Prelude.{◌≡◌, ℕ, ◌+◌, ◌≤◌, Bool, false, List, [], ◌++◌, map, length, replicate, Option, None}
+use Rattle.std.specs.Option.{option_to_list}
+use Rattle.radio_base.specs.declared.payload.Payload.{Payload}
+use Rattle.ax_link.specs.declared.plain.LinkPhase.{LinkPhase}
+use Rattle.ax_link.specs.declared.plain.LinkNotice.{LinkNotice}
+use Rattle.ax_link.specs.declared.plain.LinkOut.{LinkOut}
+use Rattle.ax_link.specs.Kinds.{kind_of}
+use Rattle.ax_link.specs.State.{Frame, Rules, State, Going, t1_runs}
+
+-- what is kept: of the payloads that were accepted those that aren't acknowledged, and of what came what wasn't taken
+pub record Held : Type 0 where
+  pub window : ℕ
+  pub t1 : ℕ
+  pub t3 : ℕ
+  pub retries : ℕ
+  pub phase : LinkPhase
+  pub queue : List Payload
+  pub acked : ℕ
+  pub sent : ℕ
+  pub got : ℕ
+  pub inbox : List Payload
+  pub tries : ℕ
+  pub polling : Bool
+  pub peer_busy : Bool
+  pub asked : Bool
+  pub closing : Bool
+  pub t1_at : ℕ
+  pub heard : ℕ
+  pub stopped : ℕ
+  pub outs : List LinkOut
+  pub notice : Option LinkNotice
+
+-- a frame that waits to be sent, by its kind
+abbrev pub frame_of : ℕ → LinkOut → Frame
+frame_of size out = record { command = out.command; kind = kind_of size out.command out.control; payload = out.payload }
+
+abbrev pub rules_of : ℕ → Held → Rules
+rules_of size h = record { size = size; window = h.window; srej = false; t1 = h.t1; t3 = h.t3; retries = h.retries }
+
+-- the state in which these payloads were acknowledged, and these were got
+abbrev pub state_of : ℕ → Held → List Payload → List Payload → State
+state_of size h before gots =
+    record {
+      rules = rules_of size h;
+      phase = h.phase;
+      given = before ++ h.queue;
+      acked = h.acked;
+      sent = h.sent;
+      gots = gots;
+      early = replicate h.window None;
+      inbox = h.inbox;
+      tries = h.tries;
+      polling = h.polling;
+      peer_busy = h.peer_busy;
+      asked = h.asked;
+      closing = h.closing;
+      t1_at = h.t1_at;
+      heard = h.heard;
+      stopped = h.stopped;
+    }
+
+-- the same, with the frames and the notice that wait
+abbrev pub going_of : ℕ → Held → List Payload → List Payload → Going
+going_of size h before gots =
+    record { link = state_of size h before gots; outs = map (frame_of size) h.outs; notes = option_to_list h.notice }
+
+-- what is kept stands for a state that differs from it in nothing but what was forgotten: the payloads that were
+-- acknowledged, and those that were got
+pub record StandsFor (size : ℕ) (h : Held) (s : State) : Type 0 where
+  pub before : List Payload
+  pub gots : List Payload
+  pub acked : length before ≡ h.acked
+  pub got : length gots ≡ h.got
+  pub is : s ≡ state_of size h before gots
+
+-- the same of a step under way
+pub record Stands (size : ℕ) (h : Held) (g : Going) : Type 0 where
+  pub before : List Payload
+  pub gots : List Payload
+  pub acked : length before ≡ h.acked
+  pub got : length gots ≡ h.got
+  pub is : g ≡ going_of size h before gots
+
+-- whether T1 runs
+abbrev pub runs : Held → Bool
+runs h = t1_runs (state_of 0 h [] [])
+
+-- a call adds at most so many frames to those that wait, and leaves the window and the notice
+pub record Adds (k : ℕ) (old new : Held) : Type 0 where
+  pub window : new.window ≡ old.window
+  pub outs : length new.outs ≤ length old.outs + k
+  pub notice : new.notice ≡ old.notice

@@ -1,0 +1,103 @@
+-- One end of a link: what it knows (AX.25 2.2, section 4.2, with the choices of this project's profile).
+use Rattle.std.specs.Prelude.{ℕ, ◌+◌, ◌-◌, ◌%◌, max, Bool, true, false, not, ◌&&◌, ◌||◌, nat_eq, nat_lt, nat_le, if◌then◌else◌, List, [], ◌∷◌, length, Option, Some, None, suc}
+use Rattle.radio_base.specs.declared.payload.Payload.{Payload}
+use Rattle.radio_base.specs.Modulus.{place_of}
+use Rattle.ax_link.specs.declared.plain.LinkPhase.{LinkPhase}
+use Rattle.ax_link.specs.declared.plain.LinkPhase.TheVariants.{Down, SettingUp, Up, Releasing}
+use Rattle.ax_link.specs.declared.plain.LinkNotice.{LinkNotice}
+use Rattle.ax_link.specs.declared.kind.Kind.{Kind}
+
+-- a frame that is put out, or under way. An I frame without a payload is one that no link takes
+pub record Frame : Type 0 where
+  pub command : Bool
+  pub kind : Kind
+  pub payload : Option Payload
+
+-- what stays: the modulus, the window that is used, the times in milliseconds
+pub record Rules : Type 0 where
+  pub size : ℕ
+  pub window : ℕ
+  pub srej : Bool
+  pub t1 : ℕ
+  pub t3 : ℕ
+  pub retries : ℕ
+
+pub record State : Type 0 where
+  pub rules : Rules
+  pub phase : LinkPhase
+  pub given : List Payload  -- what was accepted for the other station since the link was Down or reset
+  pub acked : ℕ  -- how many of them the other station has
+  pub sent : ℕ  -- how many were put out
+  pub gots : List Payload  -- what was got from it; their number is the next one expected
+  pub early : List (Option Payload)  -- what came before its turn; the first place is for the next one expected
+  pub inbox : List Payload  -- what was got and not taken
+  pub tries : ℕ
+  pub polling : Bool
+  pub peer_busy : Bool
+  pub asked : Bool  -- a REJ was put out and not answered
+  pub closing : Bool
+  pub t1_at : ℕ  -- when T1 comes, while it runs
+  pub heard : ℕ  -- the last arrival
+  pub stopped : ℕ  -- when T1 last stopped, 0 where it never did
+
+-- a step under way: the state, the frames that it puts out and the notices that it gives, in order
+pub record Going : Type 0 where
+  pub link : State
+  pub outs : List Frame
+  pub notes : List LinkNotice
+
+abbrev pub begin : State → Going
+begin s = record { link = s; outs = []; notes = [] }
+
+-- a number as it stands on the air
+abbrev pub wire : State → ℕ → ℕ
+wire s n = n % s.rules.size
+
+-- no room for what comes
+abbrev pub busy : State → Bool
+busy s = nat_le 64 (length s.inbox)
+
+-- 1 more than the last place that is filled, 0 where none is
+abbrev pub top : List (Option Payload) → ℕ
+top [] = 0
+top (None ∷ early) = if nat_eq (top early) 0 then 0 else suc (top early)
+top (Some p ∷ early) = suc (top early)
+
+-- one more than the highest number that is known
+abbrev pub high : State → ℕ
+high s = length s.gots + top s.early
+
+-- where N(R) stands among what is put out and not acknowledged
+abbrev pub ack_place : State → ℕ → Option ℕ
+ack_place s nr = place_of s.rules.size nr s.acked (suc (s.sent - s.acked))
+
+abbrev pub is_up : LinkPhase → Bool
+is_up Down = false
+is_up SettingUp = false
+is_up Up = true
+is_up Releasing = false
+
+-- T1 runs while an answer is awaited
+abbrev pub runs_in : LinkPhase → State → Bool
+runs_in Down s = false
+runs_in SettingUp s = true
+runs_in Up s = nat_lt s.acked s.sent || (s.polling || s.peer_busy)
+runs_in Releasing s = true
+
+abbrev pub t1_runs : State → Bool
+t1_runs s = runs_in s.phase s
+
+-- after a change from old: T1 begins to run, or has stopped
+abbrev pub judged : ℕ → State → State → State
+judged now old s = record s {
+  t1_at = if not (t1_runs old) && t1_runs s then now + s.rules.t1 else s.t1_at;
+  stopped = if t1_runs old && not (t1_runs s) then now else s.stopped;
+}
+
+-- T1 begins anew
+abbrev pub restamped : ℕ → State → State
+restamped now s = record s { t1_at = now + s.rules.t1 }
+
+-- T3 comes so long after the last arrival and after T1's last stop, whichever is later
+abbrev pub t3_at : State → ℕ
+t3_at s = max s.heard s.stopped + s.rules.t3

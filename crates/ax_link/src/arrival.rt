@@ -1,0 +1,369 @@
+ghost use Rattle.std.specs.Prelude.{◌≡◌, ℕ, Bool, List, ◌+◌, ◌-◌, ◌*◌, ◌≤◌, ◌<◌, ◌++◌, ◌∷◌, [], ◌&&◌, not, nat_eq, nat_le, length, true, false, None, Some, IfSome};
+ghost use Rattle.radio_base.specs.declared.modulus.TheConstants.{COUNT_MAX};
+ghost use Rattle.ax_link.specs.Kinds as kinds;
+
+use crate::kind::Kind;
+use crate::plain::{LinkNotice, LinkPhase};
+use crate::station::Station;
+use arrayvec::ArrayVec;
+use ax_frame::Control;
+use radio_base::{COUNT_MAX, Modulus, Payload};
+
+/// The payload of an I frame: none without a PID, or where the information has more than 256 octets.
+fn payload_of(pid: Option<u8>, info: &[u8]) -> Option<Payload>
+    ensures { result ≡ kinds.payload_of pid info.now }
+{
+    let pid = pid?;
+    let mut text = ArrayVec::new();
+    match text.try_extend_from_slice(info) {
+        Ok(()) => Some(Payload { pid, info: text }),
+        Err(_) => None,
+    }
+}
+
+impl<M: Modulus> Station<M> {
+    ghost use Rattle.radio_base.specs.declared.payload.Payload.{Payload};
+    ghost use Rattle.ax_link.specs.declared.kind.Kind.TheVariants as Kind;
+    ghost use Rattle.ax_link.specs.Kinds.{kind_of, payload_of, frame_in};
+    ghost use Rattle.radio_base.specs.Modulus.{place_of};
+    ghost use Rattle.ax_link.specs.State as state;
+    ghost use Rattle.ax_link.specs.Moves as moves;
+    ghost use Rattle.ax_link.specs.Table as table;
+    ghost use Rattle.ax_link.specs.Standing.{Adds, state_of};
+    ghost use Rattle.ax_link.specs.Stations.{Does, arrived, held_of, taken, text_again};
+
+    pub(crate) fn arrive(
+        &mut self,
+        command: bool,
+        control: &Control,
+        pid: Option<u8>,
+        info: &[u8],
+        now: u64,
+    )
+        requires now { now ≤ COUNT_MAX }
+        requires outs { self.old.outs.items ≡ [] }
+        requires notice { self.old.notice ≡ None }
+        requires size { self.old.window < M.SIZE }
+        ensures does { Does M.SIZE (arrived now (frame_in M.SIZE command control.now pid info.now)) self.old self.new }
+        ensures window { self.new.window ≡ self.old.window }
+    {
+        self.heard = now;
+        let kind = Kind::of::<M>(command, control);
+        match self.phase {
+            LinkPhase::Down => self.arrive_down(command, kind, now),
+            LinkPhase::SettingUp => self.arrive_setting_up(kind, now),
+            LinkPhase::Up => self.arrive_up(command, kind, payload_of(pid, info), now),
+            LinkPhase::Releasing => self.arrive_releasing(kind, now),
+        }
+    }
+
+    fn arrive_down(&mut self, command: bool, kind: Kind, now: u64)
+        requires now { now ≤ COUNT_MAX }
+        requires outs { self.old.outs.items ≡ [] }
+        requires notice { self.old.notice ≡ None }
+        ensures does { Does M.SIZE (table.arrive_down now command kind) self.old self.new }
+        ensures window { self.new.window ≡ self.old.window }
+    {
+        match kind {
+            Kind::SetUp { pf } => {
+                self.reset(now);
+                self.to_phase(LinkPhase::Up, now);
+                self.put(false, Control::Ua { pf });
+                self.note(LinkNotice::Opened);
+            }
+            Kind::Disc { pf } | Kind::Xid { pf } => self.refuse_if(command, pf),
+            Kind::I { pf, .. }
+            | Kind::Rr { pf, .. }
+            | Kind::Rnr { pf, .. }
+            | Kind::Rej { pf, .. }
+            | Kind::Srej { pf, .. } => self.refuse_if(command && pf, true),
+            _ => {}
+        }
+    }
+
+    fn refuse_if(&mut self, asked: bool, pf: bool)
+        requires { length self.old.outs.items + 1 ≤ 2 * self.old.window + 4 }
+        ensures does { Does M.SIZE (table.refused_if asked pf) self.old self.new }
+        ensures window { self.new.window ≡ self.old.window }
+    {
+        if asked {
+            self.put(false, Control::Dm { pf });
+        }
+    }
+
+    fn arrive_setting_up(&mut self, kind: Kind, now: u64)
+        requires now { now ≤ COUNT_MAX }
+        requires outs { self.old.outs.items ≡ [] }
+        requires notice { self.old.notice ≡ None }
+        ensures does { Does M.SIZE (table.arrive_setting now kind) self.old self.new }
+        ensures window { self.new.window ≡ self.old.window }
+    {
+        match kind {
+            Kind::Ua { pf: true } => {
+                self.to_phase(LinkPhase::Up, now);
+                self.note(LinkNotice::Opened);
+                self.fill_and_finish(now);
+            }
+            Kind::Dm { pf: true } => {
+                self.to_phase(LinkPhase::Down, now);
+                self.note(LinkNotice::Refused);
+            }
+            Kind::SetUp { pf } => self.put(false, Control::Ua { pf }),
+            Kind::Disc { pf } => self.put(false, Control::Dm { pf }),
+            _ => {}
+        }
+    }
+
+    fn arrive_up(&mut self, command: bool, kind: Kind, payload: Option<Payload>, now: u64)
+        requires now { now ≤ COUNT_MAX }
+        requires outs { self.old.outs.items ≡ [] }
+        requires notice { self.old.notice ≡ None }
+        requires size { self.old.window < M.SIZE }
+        ensures does { Does M.SIZE (table.arrive_up now command kind payload) self.old self.new }
+        ensures window { self.new.window ≡ self.old.window }
+    {
+        match kind {
+            Kind::I { ns, nr, pf } => match payload {
+                Some(payload) => self.on_text(ns, nr, pf, payload, now),
+                None => {}
+            },
+            Kind::Rr { nr, pf } => self.on_supervisory(command, false, false, pf, nr, now),
+            Kind::Rnr { nr, pf } => self.on_supervisory(command, true, false, pf, nr, now),
+            Kind::Rej { nr, pf } => self.on_supervisory(command, false, true, pf, nr, now),
+            Kind::Srej { nr, pf } => self.on_selective_reject(pf, nr, now),
+            Kind::SetUp { pf } => {
+                self.reset(now);
+                self.put(false, Control::Ua { pf });
+                self.note(LinkNotice::Reset);
+            }
+            Kind::Disc { pf } => {
+                self.put(false, Control::Ua { pf });
+                self.to_phase(LinkPhase::Down, now);
+                self.note(LinkNotice::Closed);
+            }
+            Kind::Dm { .. } => {
+                self.to_phase(LinkPhase::Down, now);
+                self.note(LinkNotice::Closed);
+            }
+            Kind::Frmr { .. } => {
+                self.reset(now);
+                self.note(LinkNotice::Reset);
+                self.to_phase(LinkPhase::SettingUp, now);
+                let control = self.set_up_command();
+                self.put_timed(control, now);
+            }
+            _ => {}
+        }
+    }
+
+    fn arrive_releasing(&mut self, kind: Kind, now: u64)
+        requires now { now ≤ COUNT_MAX }
+        requires outs { self.old.outs.items ≡ [] }
+        requires notice { self.old.notice ≡ None }
+        ensures does { Does M.SIZE (table.arrive_releasing now kind) self.old self.new }
+        ensures window { self.new.window ≡ self.old.window }
+    {
+        match kind {
+            Kind::Ua { pf: true } | Kind::Dm { pf: true } => {
+                self.to_phase(LinkPhase::Down, now);
+                self.note(LinkNotice::Closed);
+            }
+            Kind::Disc { pf } => self.put(false, Control::Ua { pf }),
+            Kind::SetUp { pf } | Kind::OtherSetUp { pf } => self.put(false, Control::Dm { pf }),
+            _ => {}
+        }
+    }
+
+    /// Where an acknowledgement stands among what was put out.
+    fn acknowledged_by(&self, nr: u8) -> Option<u64>
+        requires { self.now.window < M.SIZE }
+        ensures exact { (before gots : List Payload) → result ≡ state.ack_place (state_of M.SIZE (held_of self.now) before gots) nr }
+        ensures bounds { IfSome result (λ below. (self.now.acked ≤ below) × (below ≤ self.now.sent)) }
+    {
+        if (nr as u64) < M::SIZE {
+            M::place(nr, self.acked, self.sent - self.acked + 1)
+        } else {
+            None
+        }
+    }
+
+    /// An RR, RNR or REJ. An RNR says that the other station is busy, a REJ asks for all that isn't acknowledged.
+    fn on_supervisory(
+        &mut self,
+        command: bool,
+        peer_busy: bool,
+        reject: bool,
+        pf: bool,
+        nr: u8,
+        now: u64,
+    )
+        requires now { now ≤ COUNT_MAX }
+        requires outs { self.old.outs.items ≡ [] }
+        requires size { self.old.window < M.SIZE }
+        ensures does { Does M.SIZE (moves.on_supervisory now command peer_busy reject pf nr) self.old self.new }
+        ensures notice { self.new.notice ≡ self.old.notice }
+        ensures window { self.new.window ≡ self.old.window }
+    {
+        if let Some(below) = self.acknowledged_by(nr) {
+            self.supervised(command, peer_busy, reject, pf, below, now);
+        }
+    }
+
+    fn supervised(
+        &mut self,
+        command: bool,
+        peer_busy: bool,
+        reject: bool,
+        pf: bool,
+        below: u64,
+        now: u64,
+    )
+        requires now { now ≤ COUNT_MAX }
+        requires outs { self.old.outs.items ≡ [] }
+        requires from { self.old.acked ≤ below }
+        requires to { below ≤ self.old.sent }
+        ensures does { Does M.SIZE (moves.supervised now command peer_busy reject pf below) self.old self.new }
+        ensures notice { self.new.notice ≡ self.old.notice }
+        ensures window { self.new.window ≡ self.old.window }
+    {
+        self.acknowledge(below, now);
+        self.hold(peer_busy, now);
+        self.answer_poll(command, pf);
+        self.supply_again(command, pf, reject, now);
+        self.fill_and_finish(now);
+    }
+
+    /// A command with the poll bit asks for an answer.
+    fn answer_poll(&mut self, command: bool, pf: bool)
+        requires { length self.old.outs.items + 1 ≤ 2 * self.old.window + 4 }
+        ensures does { Does M.SIZE (moves.answered (command && pf)) self.old self.new }
+        ensures adds { Adds 1 (held_of self.old) (held_of self.new) }
+    {
+        if command && pf {
+            let control = self.ready(true);
+            self.put(false, control);
+        }
+    }
+
+    /// What a response with the final bit or a REJ asks for is put out again.
+    fn supply_again(&mut self, command: bool, pf: bool, reject: bool, now: u64)
+        requires now { now ≤ COUNT_MAX }
+        requires room { length self.old.outs.items + self.old.window ≤ 2 * self.old.window + 4 }
+        ensures does { Does M.SIZE (moves.resupplied now (not command && pf) reject) self.old self.new }
+        ensures adds { Adds self.old.window (held_of self.old) (held_of self.new) }
+    {
+        if !command && pf && self.polling {
+            self.end_poll(now);
+            self.again(now);
+        } else if reject && !self.polling {
+            self.again(now);
+        }
+    }
+
+    /// An SREJ asks for one payload. With the final bit it acknowledges all below, and ends a poll.
+    fn on_selective_reject(&mut self, last: bool, nr: u8, now: u64)
+        requires now { now ≤ COUNT_MAX }
+        requires outs { self.old.outs.items ≡ [] }
+        requires size { self.old.window < M.SIZE }
+        ensures does { Does M.SIZE (moves.on_srej now last nr) self.old self.new }
+        ensures notice { self.new.notice ≡ self.old.notice }
+        ensures window { self.new.window ≡ self.old.window }
+    {
+        if last {
+            self.on_last_selective_reject(nr, now);
+        } else {
+            self.on_plain_selective_reject(nr);
+        }
+    }
+
+    fn on_last_selective_reject(&mut self, nr: u8, now: u64)
+        requires now { now ≤ COUNT_MAX }
+        requires outs { self.old.outs.items ≡ [] }
+        requires size { self.old.window < M.SIZE }
+        ensures does { Does M.SIZE (moves.on_srej now true nr) self.old self.new }
+        ensures notice { self.new.notice ≡ self.old.notice }
+        ensures window { self.new.window ≡ self.old.window }
+    {
+        if let Some(below) = self.acknowledged_by(nr) {
+            self.selected(below, now);
+        }
+    }
+
+    fn on_plain_selective_reject(&mut self, nr: u8)
+        requires outs { self.old.outs.items ≡ [] }
+        requires size { self.old.window < M.SIZE }
+        ensures does { (now : ℕ) → Does M.SIZE (moves.on_srej now false nr) self.old self.new }
+        ensures notice { self.new.notice ≡ self.old.notice }
+        ensures window { self.new.window ≡ self.old.window }
+    {
+        if let Some(number) = self.asked_for_by(nr) {
+            self.put_texts(number, 1);
+        }
+    }
+
+    /// Which payload of those that aren't acknowledged is asked for.
+    fn asked_for_by(&self, nr: u8) -> Option<u64>
+        requires { self.now.window < M.SIZE }
+        ensures exact { result ≡ place_of M.SIZE nr self.now.acked (self.now.sent - self.now.acked) }
+        ensures bounds { IfSome result (λ number. (self.now.acked ≤ number) × (number < self.now.sent)) }
+    {
+        if (nr as u64) < M::SIZE {
+            M::place(nr, self.acked, self.sent - self.acked)
+        } else {
+            None
+        }
+    }
+
+    fn selected(&mut self, below: u64, now: u64)
+        requires now { now ≤ COUNT_MAX }
+        requires outs { self.old.outs.items ≡ [] }
+        requires from { self.old.acked ≤ below }
+        requires to { below ≤ self.old.sent }
+        ensures does { Does M.SIZE (moves.selected now below) self.old self.new }
+        ensures notice { self.new.notice ≡ self.old.notice }
+        ensures window { self.new.window ≡ self.old.window }
+    {
+        self.acknowledge(below, now);
+        self.end_poll(now);
+        self.text_again(below);
+        self.fill_and_finish(now);
+    }
+
+    /// Puts out the payload of this number again, where it was put out.
+    fn text_again(&mut self, number: u64)
+        requires room { length self.old.outs.items + 1 ≤ 2 * self.old.window + 4 }
+        requires from { self.old.acked ≤ number }
+        requires to { number ≤ self.old.sent }
+        ensures does { Does M.SIZE (text_again number) self.old self.new }
+        ensures adds { Adds 1 (held_of self.old) (held_of self.new) }
+    {
+        self.put_texts(number, (self.sent - number).min(1));
+    }
+
+    fn on_text(&mut self, ns: u8, nr: u8, pf: bool, payload: Payload, now: u64)
+        requires now { now ≤ COUNT_MAX }
+        requires outs { self.old.outs.items ≡ [] }
+        requires size { self.old.window < M.SIZE }
+        ensures does { Does M.SIZE (moves.on_i now pf ns nr (Some payload)) self.old self.new }
+        ensures notice { self.new.notice ≡ self.old.notice }
+        ensures window { self.new.window ≡ self.old.window }
+    {
+        if let Some(below) = self.acknowledged_by(nr) {
+            self.informed(ns, pf, payload, below, now);
+        }
+    }
+
+    fn informed(&mut self, ns: u8, pf: bool, payload: Payload, below: u64, now: u64)
+        requires now { now ≤ COUNT_MAX }
+        requires outs { self.old.outs.items ≡ [] }
+        requires from { self.old.acked ≤ below }
+        requires to { below ≤ self.old.sent }
+        ensures does { Does M.SIZE (moves.informed now pf ns payload below) self.old self.new }
+        ensures notice { self.new.notice ≡ self.old.notice }
+        ensures window { self.new.window ≡ self.old.window }
+    {
+        self.acknowledge(below, now);
+        self.text(pf, ns, payload);
+        self.fill_and_finish(now);
+    }
+}

@@ -1,0 +1,170 @@
+ghost use Rattle.std.specs.Prelude.{◌≡◌, ℕ, List, ◌+◌, ◌*◌, ◌≤◌, ◌<◌, ◌&&◌, [], nat_le, length, slice_get, false, None, OnOk, OnErr, IfOk};
+ghost use Rattle.radio_base.specs.declared.modulus.TheConstants.{COUNT_MAX};
+ghost use Rattle.ax_link.specs.Windows.{window_used};
+
+use crate::plain::{LinkConfig, LinkPhase, SendRefusal};
+use crate::station::{INBOX, QUEUE, Station, push};
+use circular_buffer::HeapCircularBuffer;
+use radio_base::{COUNT_MAX, Modulus, NoMemory, Payload};
+use std::alloc::Global;
+use std::marker::PhantomData;
+
+/// The window that is used.
+fn window_of<M: Modulus>(config: LinkConfig) -> u8
+    ensures value { result ≡ window_used M.SIZE config.window }
+    ensures some { 0 < result }
+    ensures most { result ≤ 127 }
+{
+    let (default, most) = if M::SIZE == 8 { (4, 7) } else { (32, 127) };
+    if config.window == 0 {
+        default
+    } else {
+        config.window.min(most)
+    }
+}
+
+impl<M: Modulus> Station<M> {
+    ghost use Rattle.ax_link.specs.State as state;
+    ghost use Rattle.ax_link.specs.Table as table;
+    ghost use Rattle.ax_link.specs.Windows.{held_new, send_answer};
+    ghost use Rattle.ax_link.specs.Standing.{Adds};
+    ghost use Rattle.ax_link.specs.Stations.{Does, begun, closed_if, held_of, queued};
+
+    pub(crate) fn new(alloc: Global, config: LinkConfig) -> Result<Station<M>, NoMemory>
+        requires t1 { config.t1 ≤ COUNT_MAX }
+        requires t3 { config.t3 ≤ COUNT_MAX }
+        ensures { IfOk result (λ st. held_of st ≡ held_new M.SIZE config) }
+    {
+        let window = window_of::<M>(config);
+        let queue = HeapCircularBuffer::with_capacity(alloc, QUEUE)?;
+        let inbox = HeapCircularBuffer::with_capacity(alloc, INBOX)?;
+        let outs = HeapCircularBuffer::with_capacity(alloc, 2 * window as usize + 4)?;
+        Ok(Station {
+            window: window as u64,
+            t1: config.t1,
+            t3: config.t3,
+            retries: config.retries,
+            phase: LinkPhase::Down,
+            queue,
+            acked: 0,
+            sent: 0,
+            got: 0,
+            inbox,
+            tries: 0,
+            polling: false,
+            peer_busy: false,
+            asked: false,
+            closing: false,
+            t1_at: 0,
+            heard: 0,
+            stopped: 0,
+            outs,
+            notice: None,
+            modulus: PhantomData,
+        })
+    }
+
+    pub(crate) fn set_up(&mut self, now: u64)
+        requires now { now ≤ COUNT_MAX }
+        requires outs { self.old.outs.items ≡ [] }
+        ensures does { Does M.SIZE (begun now) self.old self.new }
+        ensures window { self.new.window ≡ self.old.window }
+    {
+        if matches!(self.phase, LinkPhase::Down) {
+            self.reset(now);
+            self.to_phase(LinkPhase::SettingUp, now);
+            let control = self.set_up_command();
+            self.put_timed(control, now);
+        }
+    }
+
+    pub(crate) fn send(&mut self, payload: Payload, now: u64) -> Result<(), SendRefusal>
+        requires now { now ≤ COUNT_MAX }
+        requires outs { self.old.outs.items ≡ [] }
+        ensures answer { result ≡ send_answer (held_of self.old) }
+        ensures does { OnOk result (Does M.SIZE (table.accepted now payload) self.old self.new) }
+        ensures err { OnErr result (held_of self.new ≡ held_of self.old) }
+        ensures window { self.new.window ≡ self.old.window }
+    {
+        if !self.may_close() || self.closing {
+            return Err(SendRefusal::NotUp);
+        }
+        if self.queue.len() >= QUEUE {
+            return Err(SendRefusal::QueueFull);
+        }
+        if self.acked + self.queue.len() as u64 >= COUNT_MAX {
+            return Err(SendRefusal::Exhausted);
+        }
+        self.accept(payload, now);
+        Ok(())
+    }
+
+    fn accept(&mut self, payload: Payload, now: u64)
+        requires now { now ≤ COUNT_MAX }
+        requires outs { self.old.outs.items ≡ [] }
+        requires room { length self.old.queue.items < 128 }
+        requires numbers { self.old.acked + length self.old.queue.items < COUNT_MAX }
+        ensures does { Does M.SIZE (table.accepted now payload) self.old self.new }
+        ensures window { self.new.window ≡ self.old.window }
+    {
+        self.enqueue(payload);
+        self.fill(now);
+    }
+
+    fn enqueue(&mut self, payload: Payload)
+        requires room { length self.old.queue.items < 128 }
+        requires numbers { self.old.acked + length self.old.queue.items < COUNT_MAX }
+        ensures does { Does M.SIZE (queued payload) self.old self.new }
+        ensures adds { Adds 0 (held_of self.old) (held_of self.new) }
+    {
+        push(&mut self.queue, payload);
+    }
+
+    fn may_close(&self) -> bool
+        ensures { result ≡ table.may_close self.now.phase }
+    {
+        matches!(self.phase, LinkPhase::SettingUp | LinkPhase::Up)
+    }
+
+    pub(crate) fn close(&mut self, now: u64)
+        requires now { now ≤ COUNT_MAX }
+        requires outs { self.old.outs.items ≡ [] }
+        ensures does { Does M.SIZE (closed_if now) self.old self.new }
+        ensures window { self.new.window ≡ self.old.window }
+    {
+        if self.may_close() {
+            self.close_in_turn(now);
+        }
+    }
+
+    fn close_in_turn(&mut self, now: u64)
+        requires now { now ≤ COUNT_MAX }
+        requires outs { self.old.outs.items ≡ [] }
+        ensures does { Does M.SIZE (table.closed now) self.old self.new }
+        ensures window { self.new.window ≡ self.old.window }
+    {
+        self.closing = true;
+        self.finish(now);
+    }
+
+    pub(crate) fn take(&mut self) -> Option<Payload>
+        requires outs { self.old.outs.items ≡ [] }
+        ensures does { Does M.SIZE table.taken_out self.old self.new }
+        ensures payload { result ≡ slice_get self.old.inbox.items 0 }
+        ensures window { self.new.window ≡ self.old.window }
+    {
+        let busy = self.is_up_and_busy();
+        let payload = self.inbox.pop_front();
+        if busy {
+            let control = self.ready(false);
+            self.put(false, control);
+        }
+        payload
+    }
+
+    fn is_up_and_busy(&self) -> bool
+        ensures { result ≡ (state.is_up self.now.phase && nat_le 64 (length self.now.inbox.items)) }
+    {
+        self.is_up() && self.is_busy()
+    }
+}

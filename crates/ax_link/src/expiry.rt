@@ -1,0 +1,98 @@
+ghost use Rattle.std.specs.Prelude.{◌≡◌, ℕ, ◌+◌, ◌*◌, ◌≤◌, ◌<◌, [], length, None};
+ghost use Rattle.radio_base.specs.declared.modulus.TheConstants.{COUNT_MAX};
+
+use crate::plain::{LinkNotice, LinkPhase};
+use crate::station::Station;
+use ax_frame::Control;
+use radio_base::Modulus;
+
+impl<M: Modulus> Station<M> {
+    ghost use Rattle.ax_link.specs.Table as table;
+    ghost use Rattle.ax_link.specs.Standing.{Adds};
+    ghost use Rattle.ax_link.specs.Stations.{Does, asked_once_more, end_told, held_of};
+
+    /// Time has passed.
+    pub(crate) fn tick(&mut self, now: u64)
+        requires now { now ≤ COUNT_MAX }
+        requires outs { self.old.outs.items ≡ [] }
+        requires notice { self.old.notice ≡ None }
+        ensures does { Does M.SIZE (table.ticked now) self.old self.new }
+        ensures window { self.new.window ≡ self.old.window }
+    {
+        if self.t1_runs() {
+            if self.t1_at <= now {
+                self.expire(now);
+            }
+        } else if self.is_up() && self.heard.max(self.stopped) + self.t3 <= now {
+            self.start_poll(now);
+        }
+    }
+
+    /// T1 has come: no answer did.
+    fn expire(&mut self, now: u64)
+        requires now { now ≤ COUNT_MAX }
+        requires outs { self.old.outs.items ≡ [] }
+        requires notice { self.old.notice ≡ None }
+        ensures does { Does M.SIZE (table.expire now) self.old self.new }
+        ensures window { self.new.window ≡ self.old.window }
+    {
+        if self.tries == self.retries {
+            self.fail(now);
+        } else {
+            self.retry(now);
+        }
+    }
+
+    fn fail(&mut self, now: u64)
+        requires now { now ≤ COUNT_MAX }
+        requires outs { self.old.outs.items ≡ [] }
+        requires notice { self.old.notice ≡ None }
+        ensures does { Does M.SIZE (table.failed now) self.old self.new }
+        ensures window { self.new.window ≡ self.old.window }
+    {
+        self.tell_end();
+        self.to_phase(LinkPhase::Down, now);
+        self.note(LinkNotice::Failed);
+    }
+
+    /// The other station is told that an open link ends.
+    fn tell_end(&mut self)
+        requires { self.old.outs.items ≡ [] }
+        ensures does { Does M.SIZE end_told self.old self.new }
+        ensures adds { Adds 1 (held_of self.old) (held_of self.new) }
+    {
+        match self.phase {
+            LinkPhase::Up => self.put(false, Control::Dm { pf: false }),
+            LinkPhase::Down | LinkPhase::SettingUp | LinkPhase::Releasing => {}
+        }
+    }
+
+    /// The answer is awaited once more.
+    fn retry(&mut self, now: u64)
+        requires now { now ≤ COUNT_MAX }
+        requires outs { self.old.outs.items ≡ [] }
+        requires tries { self.old.tries < self.old.retries }
+        ensures does { Does M.SIZE (table.retried now) self.old self.new }
+        ensures window { self.new.window ≡ self.old.window }
+    {
+        self.tries += 1;
+        self.ask_once_more(now);
+    }
+
+    fn ask_once_more(&mut self, now: u64)
+        requires now { now ≤ COUNT_MAX }
+        requires outs { self.old.outs.items ≡ [] }
+        ensures does { Does M.SIZE (asked_once_more now) self.old self.new }
+        ensures window { self.new.window ≡ self.old.window }
+    {
+        match self.phase {
+            LinkPhase::Down => {}
+            LinkPhase::SettingUp => {
+                let control = self.set_up_command();
+                self.put_timed(control, now);
+            }
+            LinkPhase::Up => self.start_poll(now),
+            LinkPhase::Releasing => self.put_timed(Control::Disc { pf: true }, now),
+        }
+    }
+}

@@ -1,0 +1,84 @@
+//! What holds of two ends of a link over a channel that loses frames but neither reorders nor repeats them.
+ghost use Rattle.std.specs.Prelude.{◌≡◌, ◌≤◌, ◌++◌, ◌⊎◌, ℕ, List, [], ◌∷◌, false, length};
+ghost use mathlib.Core.List.{IsPrefix};
+ghost use Rattle.ax_link.specs.declared.plain.LinkPhase.TheVariants.{SettingUp, Up};
+ghost use Rattle.ax_link.specs.State.{Frame, State, begin};
+ghost use Rattle.ax_link.specs.Moves.{fill, finish};
+ghost use Rattle.ax_link.specs.Table.{Input, step};
+ghost use Rattle.ax_link.specs.Pair.{PairSound, Both, Core, Queue, InScope, IsNew, Fits, NoRestartIn, OfNoAccount, core, opens_count, texts_of, acks_of, after_ua};
+ghost use Rattle.ax_link.specs.Runs.{CleanRun, Ends, Event, Safe, Side, Starts, carrying, new_ends, run, two_new};
+ghost use Rattle.ax_link.specs.Windows.{rules_new};
+ghost use Rattle.ax_link.specs.declared.plain.LinkConfig.{LinkConfig};
+ghost use Rattle.radio_base.specs.declared.payload.Payload.{Payload};
+
+/// A call or a tick at either end, the arrival of the oldest frame or its loss, a fill and a finish by themselves
+/// keep the pair sound, as long as no set-up command is put out or arrives and no end that is Up leaves Up.
+pub fn pair_step()
+    ensures left { (now : ℕ) (l r : State) (i : Input) (to_l to_l' to_r : List Frame) →
+        Queue i to_l to_l' → InScope l i (step l i now) → PairSound l r to_l to_r →
+        PairSound (step l i now).link r to_l' (to_r ++ (step l i now).outs) }
+    ensures right { (now : ℕ) (l r : State) (i : Input) (to_l to_r to_r' : List Frame) →
+        Queue i to_r to_r' → InScope r i (step r i now) → PairSound l r to_l to_r →
+        PairSound l (step r i now).link (to_l ++ (step r i now).outs) to_r' }
+    ensures lost { (l r : State) (f : Frame) (to_l to_r : List Frame) →
+        PairSound l r (f ∷ to_l) to_r → PairSound l r to_l to_r }
+    ensures filled { (now : ℕ) (l r : State) (to_l to_r : List Frame) → PairSound l r to_l to_r →
+        PairSound (fill now (begin l)).link r to_l (to_r ++ (fill now (begin l)).outs) }
+    ensures finished { (now : ℕ) (l r : State) (to_l to_r : List Frame) →
+        (l.phase ≡ Up → (finish now (begin l)).link.phase ≡ Up) → PairSound l r to_l to_r →
+        PairSound (finish now (begin l)).link r to_l (to_r ++ (finish now (begin l)).outs) }
+    ensures swapped { (l r : State) (to_l to_r : List Frame) →
+        PairSound l r to_l to_r → PairSound r l to_r to_l }
+{}
+
+/// Where one end has just become Up or was reset in Up, and the other is SettingUp, the pair is sound: nothing was
+/// counted or got, at most one UA with F is under way to the end that is SettingUp and no text or acknowledgement
+/// behind it, and none is under way to the other end. The windows have to fit the modulus.
+pub fn pair_start()
+    ensures sound { (l r : State) (to_l to_r : List Frame) → l.phase ≡ Up → r.phase ≡ SettingUp →
+        Fits (core l) (core r) → Fits (core r) (core l) → IsNew l → IsNew r → opens_count to_r ≤ 1 →
+        texts_of (after_ua to_r) ≡ [] → acks_of (after_ua to_r) ≡ [] → texts_of to_l ≡ [] → acks_of to_l ≡ [] →
+        PairSound l r to_l to_r }
+{}
+
+/// In a sound pair each end has got a beginning of what was given to the other, and counts as acknowledged no more
+/// than the other has got.
+pub fn pair_safe()
+    ensures safe { (l r : State) (to_l to_r : List Frame) → PairSound l r to_l to_r →
+        IsPrefix r.gots l.given × IsPrefix l.gots r.given × (l.acked ≤ length r.gots) × (r.acked ≤ length l.gots) }
+{}
+
+/// A step of an end that is Up keeps the payloads and the acknowledgements of both ways sound, whether the end stays
+/// Up or leaves it, unless it begins anew: the frame that arrives is neither a set-up command nor FRMR.
+pub fn pair_left()
+    ensures both { (now : ℕ) (l : State) (i : Input) (other : Core) (to_l to_l' to_other : List Frame) →
+        l.phase ≡ Up → Queue i to_l to_l' → NoRestartIn i → Both (core l) other to_l to_other →
+        Both (core (step l i now).link) other to_l' (to_other ++ (step l i now).outs) }
+{}
+
+/// A frame that brings no payload, acknowledges nothing and opens no end may come into the queue at any place, and go
+/// from it. Of both ways alone, only the payloads and the acknowledgements under way are of account.
+pub fn pair_frames()
+    ensures comes { (l r : State) (f : Frame) (before behind to_r : List Frame) → OfNoAccount f →
+        PairSound l r (before ++ behind) to_r → PairSound l r (before ++ f ∷ behind) to_r }
+    ensures goes { (l r : State) (f : Frame) (before behind to_r : List Frame) → OfNoAccount f →
+        PairSound l r (before ++ f ∷ behind) to_r → PairSound l r (before ++ behind) to_r }
+    ensures both { (l r : Core) (to_l to_l' to_r to_r' : List Frame) →
+        texts_of to_l ≡ texts_of to_l' → acks_of to_l ≡ acks_of to_l' →
+        texts_of to_r ≡ texts_of to_r' → acks_of to_r ≡ acks_of to_r' →
+        Both l r to_l to_r → Both l r to_l' to_r' }
+{}
+
+/// Two ends that start Down and new, with windows that fit: after any clean run of calls, ticks, arrivals and losses at
+/// either end, each end has got a beginning of what was given to the other, and counts as acknowledged no more than the
+/// other has got. A run is clean while at most one set-up command was ever put out and no end that has been Up has left
+/// Up. Each beginning of a clean run is clean, so this holds at each moment of it. Two links that were just made without SREJ
+/// start so, and there is a clean run that carries a payload.
+pub fn link_safe()
+    ensures safe { (w : Ends) (events : List (Side × Event)) → Starts w → CleanRun w events → Safe (run w events) }
+    ensures new { (size : ℕ) (a b : LinkConfig) → (size ≡ 8) ⊎ (size ≡ 128) → a.srej ≡ false → b.srej ≡ false →
+        Starts (new_ends (rules_new size a) (rules_new size b)) }
+    ensures met { (p : Payload) → CleanRun two_new (carrying p) ×
+        ((run two_new (carrying p)).right.link.gots ≡ p ∷ []) × ((run two_new (carrying p)).left.link.acked ≡ 1) }
+    ensures begun { (w : Ends) (early later : List (Side × Event)) → CleanRun w (early ++ later) → CleanRun w early }
+{}

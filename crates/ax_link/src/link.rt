@@ -1,0 +1,164 @@
+ghost use Rattle.std.specs.Prelude.{◌≡◌, ℕ, List, ◌≤◌, ◌<◌, drop, slice_get, false, IfOk, OnOk, OnErr, IsOk, IsTrue, ◌↔◌, None, min};
+ghost use Rattle.std.specs.Option.{option_copied};
+ghost use Rattle.radio_base.specs.declared.modulus.TheConstants.{COUNT_MAX};
+ghost use Rattle.ax_link.specs.Kinds.{frame_in};
+ghost use Rattle.ax_link.specs.State.{State};
+ghost use Rattle.ax_link.specs.Table as table;
+ghost use Rattle.ax_link.specs.Standing.{Stands, StandsFor};
+ghost use Rattle.ax_link.specs.Windows.{IsDrained, facts_of, opening, rules_new, send_answer};
+
+use crate::moves::copy_of;
+use crate::plain::{LinkConfig, LinkFacts, LinkNotice, LinkOut, SendRefusal};
+use crate::station::Station;
+use ax_frame::Control;
+use radio_base::{COUNT_MAX, Modulus, Moment, NoMemory, Payload};
+use std::alloc::Global;
+use std::marker::Model;
+
+/// One end of a link.
+#[derive(Drop)]
+pub struct Link<M: Modulus> {
+    station: Station<M>,
+}
+
+impl<M: Modulus> Model for Link<M> {
+    ghost use Rattle.std.specs.Prelude.{◌<◌};
+    ghost use Rattle.ax_link.specs.Standing.{Held};
+
+    ghost Value = { Held };
+
+    ghost use Rattle.ax_link.specs.Stations.{held_of};
+
+    ghost view = { λ l. held_of l.station };
+
+    ghost invariant = { λ l. l.station.window < M.SIZE };
+}
+
+impl<M: Modulus> Link<M> {
+    /// A link that is Down. It takes all the memory that it will ever need.
+    pub fn new(alloc: Global, config: LinkConfig) -> Result<Link<M>, NoMemory>
+        requires modulus { M.SIZE ≡ 8 }
+        requires srej { config.srej ≡ false }
+        requires t1 { config.t1 ≤ COUNT_MAX }
+        requires t3 { config.t3 ≤ COUNT_MAX }
+        ensures opening { IfOk result (λ link. StandsFor M.SIZE link (opening (rules_new M.SIZE config))) }
+        ensures drained { IfOk result IsDrained }
+    {
+        let station = Station::new(alloc, config)?;
+        Ok(Link { station })
+    }
+
+    /// Sets the link up, where it is Down.
+    pub fn set_up(&mut self, now: Moment)
+        requires { IsDrained self.old }
+        ensures { (s : State) → StandsFor M.SIZE self.old s → Stands M.SIZE self.new (table.step s table.Set_up now.0) }
+    {
+        self.station.set_up(moment(now));
+    }
+
+    /// Accepts a payload for the other station.
+    pub fn send(&mut self, payload: &Payload, now: Moment) -> Result<(), SendRefusal>
+        requires { IsDrained self.old }
+        ensures answer { result ≡ send_answer self.old }
+        ensures does { OnOk result ((s : State) → StandsFor M.SIZE self.old s → Stands M.SIZE self.new (table.step s (table.Send payload.now) now.0)) }
+        ensures err { OnErr result (self.new ≡ self.old) }
+    {
+        self.station.send(copy_of(payload), moment(now))
+    }
+
+    /// Takes in a frame of the other station.
+    pub fn arrive(
+        &mut self,
+        command: bool,
+        control: &Control,
+        pid: Option<u8>,
+        info: &[u8],
+        now: Moment,
+    ) -> Result<(), NoMemory>
+        requires { IsDrained self.old }
+        ensures does { (s : State) → StandsFor M.SIZE self.old s → Stands M.SIZE self.new (table.step s (table.Arrive (frame_in M.SIZE command control.now pid info.now)) now.0) }
+        ensures ok { IsOk result }
+    {
+        self.station
+            .arrive(command, control, pid, info, moment(now));
+        Ok(())
+    }
+
+    /// Time has passed.
+    pub fn tick(&mut self, now: Moment) -> Result<(), NoMemory>
+        requires { IsDrained self.old }
+        ensures does { (s : State) → StandsFor M.SIZE self.old s → Stands M.SIZE self.new (table.step s table.Tick now.0) }
+        ensures ok { IsOk result }
+    {
+        self.station.tick(moment(now));
+        Ok(())
+    }
+
+    /// Releases the link once all that was accepted is acknowledged.
+    pub fn close(&mut self, now: Moment)
+        requires { IsDrained self.old }
+        ensures { (s : State) → StandsFor M.SIZE self.old s → Stands M.SIZE self.new (table.step s table.Close now.0) }
+    {
+        self.station.close(moment(now));
+    }
+
+    /// The next frame that waits to be sent.
+    pub fn next_out(&mut self) -> Option<LinkOut>
+        ensures value { result ≡ slice_get self.old.outs 0 }
+        ensures rest { self.new ≡ record self.old { outs = drop 1 self.old.outs } }
+    {
+        self.station.outs.pop_front()
+    }
+
+    /// The next notice.
+    pub fn notice(&mut self) -> Option<LinkNotice>
+        ensures value { result ≡ self.old.notice }
+        ensures rest { self.new ≡ record self.old { notice = None } }
+    {
+        self.station.notice.take()
+    }
+
+    /// Takes the oldest payload of the inbox.
+    pub fn take(&mut self, now: Moment) -> Option<Payload>
+        requires { IsDrained self.old }
+        ensures does { (s : State) → StandsFor M.SIZE self.old s → Stands M.SIZE self.new (table.step s table.Take now.0) }
+        ensures payload { result ≡ slice_get self.old.inbox 0 }
+    {
+        self.station.take()
+    }
+
+    /// The oldest payload of the inbox.
+    pub fn first(&self) -> Option<&Payload>
+        ensures { option_copied result ≡ slice_get self.now.inbox 0 }
+    {
+        self.station.inbox.front()
+    }
+
+    /// The phase and the counts as they stand.
+    pub fn facts(&self) -> LinkFacts
+        ensures { result ≡ facts_of self.now }
+    {
+        LinkFacts {
+            phase: self.station.phase,
+            acked: self.station.acked,
+            sent: self.station.sent,
+            got: self.station.got,
+            held: self.station.queue.len(),
+            inbox: self.station.inbox.len(),
+        }
+    }
+
+    /// Whether no frame and no notice waits.
+    pub fn drained(&self) -> bool
+        ensures { IsTrue result ↔ IsDrained self.now }
+    {
+        self.station.outs.is_empty() && self.station.notice.is_none()
+    }
+}
+
+/// A moment above 2^62 ms counts as 2^62 ms.
+fn moment(now: Moment) -> u64
+    ensures { result ≡ min now.0 COUNT_MAX }
+{
+    now.0.min(COUNT_MAX)
+}

@@ -1,0 +1,84 @@
+use ax_frame::Control;
+use radio_base::Payload;
+
+/// Where an end of a link stands.
+#[derive(Clone, Copy, Debug, PartialEq, Eq)]
+pub enum LinkPhase {
+    /// There is no link.
+    Down,
+    /// A set-up command was put out, and its answer is awaited.
+    SettingUp,
+    /// Payloads go both ways.
+    Up,
+    /// A DISC was put out, and its answer is awaited.
+    Releasing,
+}
+
+/// What has become of a link.
+#[derive(Clone, Copy, Debug, PartialEq, Eq)]
+pub enum LinkNotice {
+    /// The link is Up.
+    Opened,
+    /// The link was set up anew: what was under way is lost.
+    Reset,
+    /// The link has ended.
+    Closed,
+    /// The other station has refused the link.
+    Refused,
+    /// The other station has not answered.
+    Failed,
+}
+
+/// How a link goes. A time is at most 2^62 milliseconds.
+#[derive(Clone, Copy, Debug, PartialEq, Eq)]
+pub struct LinkConfig {
+    /// How many payloads may be under way. 0 is the default of the modulus, 4 or 32; more than 7 or 127 counts as that.
+    pub window: u8,
+    /// Whether single payloads are asked for again.
+    pub srej: bool,
+    /// How long an answer is awaited, in milliseconds.
+    pub t1: u64,
+    /// After how long a silent link is asked whether it stands, in milliseconds.
+    pub t3: u64,
+    /// How often an answer is asked for again.
+    pub retries: u8,
+}
+
+/// A frame that a link puts out.
+#[derive(Clone, Debug, Drop, PartialEq, Eq)]
+pub struct LinkOut {
+    /// Whether it is a command; else it is a response.
+    pub command: bool,
+    pub control: Control,
+    /// There in an I frame alone.
+    pub payload: Option<Payload>,
+}
+
+/// What a link tells of itself.
+#[derive(Clone, Copy, Debug, PartialEq, Eq)]
+pub struct LinkFacts {
+    pub phase: LinkPhase,
+    /// How many payloads the other station has acknowledged.
+    pub acked: u64,
+    /// How many were put out.
+    pub sent: u64,
+    /// How many came from the other station.
+    pub got: u64,
+    /// How many were accepted and not acknowledged.
+    pub held: usize,
+    /// How many came and were not taken.
+    pub inbox: usize,
+}
+
+/// Why a payload isn't accepted.
+#[derive(Clone, Copy, Debug, PartialEq, Eq)]
+pub enum SendRefusal {
+    /// The link is Down or Releasing, or is to be closed.
+    NotUp,
+    /// 128 payloads are held.
+    QueueFull,
+    /// The numbers of payloads have come to their end.
+    Exhausted,
+    /// Memory ran out. A `Link` has its memory from the start, and never answers so.
+    NoMemory,
+}

@@ -1,0 +1,170 @@
+ghost use Rattle.std.specs.Prelude.{ℕ, ◌≤◌, ◌<◌};
+
+use crate::{Link, LinkConfig, LinkNotice, LinkOut, LinkPhase, SendRefusal};
+use arrayvec::ArrayVec;
+use ax_frame::Control;
+use radio_base::{M8, Moment, Payload};
+use std::process::Abort;
+use std::test::Fail;
+
+const CONFIG: LinkConfig = LinkConfig {
+    window: 7,
+    srej: false,
+    t1: 3000,
+    t3: 300_000,
+    retries: 2,
+};
+
+const NOW: Moment = Moment(1);
+
+fn text(letter: u8) -> Payload {
+    let mut info = ArrayVec::new();
+    let _ = info.try_push(letter);
+    Payload { pid: 0xF0, info }
+}
+
+/// The control field of the next frame that waits.
+fn next_control(link: &mut Link<M8>) -> Option<Control> {
+    let out = link.next_out()?;
+    Some(out.control)
+}
+
+fn send(rt: &impl Abort, link: &mut Link<M8>, letter: u8, now: Moment) -> Result<(), SendRefusal> {
+    assert!(rt; link.drained());
+    link.send(&text(letter), now)
+}
+
+fn take(rt: &impl Abort, link: &mut Link<M8>) -> Option<Payload> {
+    assert!(rt; link.drained());
+    link.take(NOW)
+}
+
+/// A frame without information comes.
+fn hear(rt: &impl Abort, link: &mut Link<M8>, command: bool, control: Control) {
+    assert!(rt; link.drained());
+    assert!(rt; link.arrive(command, &control, None, &[], NOW).is_ok());
+}
+
+/// Hands a text of one end to the other.
+fn bring(rt: &impl Abort, link: &mut Link<M8>, out: &LinkOut) {
+    assert!(rt; link.drained());
+    let arrived = match &out.payload {
+        Some(payload) => {
+            let info = payload.info.as_slice();
+            link.arrive(out.command, &out.control, Some(payload.pid), info, NOW)
+        }
+        None => link.arrive(out.command, &out.control, None, &[], NOW),
+    };
+    assert!(rt; arrived.is_ok());
+}
+
+/// The other station sets the link up.
+fn expect_opened(rt: &impl Abort, link: &mut Link<M8>) {
+    hear(rt, link, true, Control::Sabm { pf: true });
+    assert!(rt; next_control(link) == Some(Control::Ua { pf: true }));
+    assert!(rt; link.notice() == Some(LinkNotice::Opened));
+}
+
+#[test]
+fn a_lost_text_is_asked_for_and_all_come(rt: HostRuntime) -> Result<(), Fail> {
+    let mut left = Link::<M8>::new(rt.alloc(), CONFIG)?;
+    let mut right = Link::<M8>::new(rt.alloc(), CONFIG)?;
+    expect_opened(&rt, &mut left);
+    expect_opened(&rt, &mut right);
+
+    for n in 0..7 {
+        assert!(rt; send(&rt, &mut left, n, NOW) == Ok(()));
+        let out = left.next_out().expect(&rt, "a text goes out");
+        assert!(rt;
+            out.control
+                == Control::I {
+                    ns: n,
+                    nr: 0,
+                    pf: false
+                }
+        );
+        if n > 0 {
+            bring(&rt, &mut right, &out);
+            let answer = next_control(&mut right);
+            let reject = Control::Rej { nr: 0, pf: false };
+            assert!(rt; answer == if n == 1 { Some(reject) } else { None });
+        }
+    }
+
+    hear(&rt, &mut left, false, Control::Rej { nr: 0, pf: false });
+    assert_eq!(rt; left.facts().acked, 0);
+    for n in 0..7 {
+        let out = left.next_out().expect(&rt, "a text goes out again");
+        assert!(rt;
+            out.control
+                == Control::I {
+                    ns: n,
+                    nr: 0,
+                    pf: false
+                }
+        );
+        bring(&rt, &mut right, &out);
+        assert!(rt;
+            next_control(&mut right)
+                == Some(Control::Rr {
+                    nr: n + 1,
+                    pf: false
+                })
+        );
+        assert!(rt; take(&rt, &mut right) == Some(text(n)));
+    }
+    assert!(rt; left.drained());
+    Ok(())
+}
+
+#[test]
+fn when_a_payload_is_refused(rt: HostRuntime) -> Result<(), Fail> {
+    let mut link = Link::<M8>::new(rt.alloc(), CONFIG)?;
+    assert!(rt; send(&rt, &mut link, 0, NOW) == Err(SendRefusal::NotUp));
+    expect_opened(&rt, &mut link);
+    for _ in 0..128 {
+        assert!(rt; send(&rt, &mut link, 0, NOW) == Ok(()));
+        let _ = link.next_out();
+    }
+    assert!(rt; send(&rt, &mut link, 0, NOW) == Err(SendRefusal::QueueFull));
+    assert_eq!(rt; link.facts().held, 128);
+    Ok(())
+}
+
+/// A link that gets no answer puts out the frame once for each retry, and then fails.
+fn expect_failure(rt: &impl Abort, link: &mut Link<M8>, begun: u64, asks: Control)
+    requires { begun ≤ 40000 }
+{
+    for tries in 1..=2 {
+        assert!(rt; link.drained());
+        assert!(rt; link.tick(Moment(begun + 3000 * tries)).is_ok());
+        assert!(rt; next_control(link) == Some(asks));
+    }
+    assert!(rt; link.drained());
+    assert!(rt; link.tick(Moment(begun + 9000)).is_ok());
+    assert!(rt; link.notice() == Some(LinkNotice::Failed));
+    assert!(rt; link.facts().phase == LinkPhase::Down);
+}
+
+#[test]
+fn nobody_answers(rt: HostRuntime) -> Result<(), Fail> {
+    let mut link = Link::<M8>::new(rt.alloc(), CONFIG)?;
+    assert!(rt; link.drained());
+    link.set_up(Moment(0));
+    assert!(rt; next_control(&mut link) == Some(Control::Sabm { pf: true }));
+    expect_failure(&rt, &mut link, 0, Control::Sabm { pf: true });
+
+    expect_opened(&rt, &mut link);
+    assert!(rt; send(&rt, &mut link, 0, Moment(20_000)) == Ok(()));
+    let _ = link.next_out();
+    expect_failure(&rt, &mut link, 20_000, Control::Rr { nr: 0, pf: true });
+    assert!(rt; next_control(&mut link) == Some(Control::Dm { pf: false }));
+
+    expect_opened(&rt, &mut link);
+    assert!(rt; link.drained());
+    link.close(Moment(40_000));
+    assert!(rt; next_control(&mut link) == Some(Control::Disc { pf: true }));
+    assert!(rt; link.facts().phase == LinkPhase::Releasing);
+    expect_failure(&rt, &mut link, 40_000, Control::Disc { pf: true });
+    Ok(())
+}

@@ -1,0 +1,97 @@
+ghost use Rattle.std.specs.Prelude.{◌≡◌, ℕ, Bool, List, ◌+◌, ◌-◌, ◌*◌, ◌≤◌, ◌<◌, ◌++◌, ◌∷◌, [], ◌&&◌, not, nat_eq, nat_le, length, true, false, None, Some, IfSome};
+ghost use Rattle.radio_base.specs.declared.modulus.TheConstants.{COUNT_MAX};
+
+use crate::station::{Station, push};
+use ax_frame::Control;
+use radio_base::{COUNT_MAX, Modulus, Payload};
+
+impl<M: Modulus> Station<M> {
+    ghost use Rattle.radio_base.specs.declared.payload.Payload.{Payload};
+    ghost use Rattle.ax_link.specs.declared.kind.Kind.TheVariants as Kind;
+    ghost use Rattle.ax_link.specs.Kinds.{kind_of, payload_of};
+    ghost use Rattle.ax_link.specs.State as state;
+    ghost use Rattle.ax_link.specs.Moves as moves;
+    ghost use Rattle.ax_link.specs.Table as table;
+    ghost use Rattle.ax_link.specs.Standing.{Adds, state_of};
+    ghost use Rattle.ax_link.specs.Stations.{Does, held_of, taken, text_again};
+
+    /// A payload has come with this number on the air.
+    pub(crate) fn text(&mut self, pf: bool, ns: u8, payload: Payload)
+        requires { length self.old.outs.items + 1 ≤ 2 * self.old.window + 4 }
+        ensures does { Does M.SIZE (moves.text pf ns payload) self.old self.new }
+        ensures adds { Adds 1 (held_of self.old) (held_of self.new) }
+    {
+        if self.got >= COUNT_MAX {
+            return;
+        }
+        if self.is_busy() {
+            let nr = M::wire(self.got);
+            self.put(false, Control::Rnr { nr, pf });
+        } else {
+            self.text_in_turn(pf, ns, payload);
+        }
+    }
+
+    /// Without single payloads being asked for, only the next one is taken.
+    fn text_in_turn(&mut self, pf: bool, ns: u8, payload: Payload)
+        requires room { length self.old.outs.items + 1 ≤ 2 * self.old.window + 4 }
+        requires busy { length self.old.inbox.items < 64 }
+        requires more { self.old.got < COUNT_MAX }
+        ensures does { Does M.SIZE (moves.text_plain pf ns payload) self.old self.new }
+        ensures adds { Adds 1 (held_of self.old) (held_of self.new) }
+    {
+        if ns == M::wire(self.got) {
+            self.take_in(payload);
+            self.answer_taken(pf);
+        } else {
+            self.ask_again(pf);
+        }
+    }
+
+    fn take_in(&mut self, payload: Payload)
+        requires busy { length self.old.inbox.items < 64 }
+        requires more { self.old.got < COUNT_MAX }
+        ensures does { Does M.SIZE (taken payload) self.old self.new }
+        ensures adds { Adds 0 (held_of self.old) (held_of self.new) }
+    {
+        push(&mut self.inbox, payload);
+        self.got += 1;
+        self.asked = false;
+    }
+
+    /// Answers a payload that was taken, unless a payload goes out that carries the answer.
+    fn answer_taken(&mut self, pf: bool)
+        requires { length self.old.outs.items + 1 ≤ 2 * self.old.window + 4 }
+        ensures does { Does M.SIZE (moves.answer_taken pf) self.old self.new }
+        ensures adds { Adds 1 (held_of self.old) (held_of self.new) }
+    {
+        if pf || self.is_busy() || self.fill_count() == 0 {
+            let control = self.ready(pf);
+            self.put(false, control);
+        }
+    }
+
+    /// A payload has come that isn't the next one: the next one is asked for, once.
+    fn ask_again(&mut self, pf: bool)
+        requires { length self.old.outs.items + 1 ≤ 2 * self.old.window + 4 }
+        ensures does { Does M.SIZE (moves.ask_again pf) self.old self.new }
+        ensures adds { Adds 1 (held_of self.old) (held_of self.new) }
+    {
+        if !self.asked {
+            self.ask(pf);
+        } else if pf {
+            let control = self.ready(true);
+            self.put(false, control);
+        }
+    }
+
+    fn ask(&mut self, pf: bool)
+        requires { length self.old.outs.items + 1 ≤ 2 * self.old.window + 4 }
+        ensures does { Does M.SIZE (moves.ask pf) self.old self.new }
+        ensures adds { Adds 1 (held_of self.old) (held_of self.new) }
+    {
+        self.asked = true;
+        let nr = M::wire(self.got);
+        self.put(false, Control::Rej { nr, pf });
+    }
+}

@@ -1,0 +1,19 @@
+//! What holds of every message and its segments.
+ghost use Rattle.ax_segment.specs.Laws.{PiecesAreFull, SegmentsJoin, JoinedPrefix};
+
+/// The pieces of a text, one after another, are this text. All but the last are full, and the last isn't empty.
+pub fn pieces_are_full()
+    ensures { PiecesAreFull }
+{}
+
+/// A joiner that holds nothing answers the segments of a message by `More`, and the last by `Whole` with this message
+/// and its PID. Then it holds nothing.
+pub fn segments_join()
+    ensures { SegmentsJoin }
+{}
+
+/// However many segments of a run of messages have come, in order, the messages that were joined are the first ones
+/// of those that were split.
+pub fn joined_prefix()
+    ensures { JoinedPrefix }
+{}

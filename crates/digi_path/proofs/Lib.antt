@@ -1,0 +1,4 @@
+pub mod Calls
+pub mod Acting
+pub mod Judging
+pub mod WaysBack
