@@ -130,7 +130,7 @@ answered poll g = if poll then put false (rr g.link true) g else g
 abbrev pub resupplied : ℕ → Bool → Bool → Going → Going
 resupplied now final rej g = resupply now (final && g.link.polling) rej (not g.link.polling) g
 
--- RR, RNR, REJ: rnr and rej tell which; x is the place_of of N(R)
+-- RR, RNR, REJ: rnr and rej tell which; x is the place of N(R)
 abbrev pub supervised : ℕ → Bool → Bool → Bool → Bool → ℕ → Going → Going
 supervised now command rnr rej pf x g =
     supply now (resupplied now (not command && pf) rej (answered (command && pf) (hold now rnr (acknowledge now x g))))

@@ -20,7 +20,7 @@ TextsFine given size window sent [] reach = reach ≤ sent
 TextsFine given size window sent (t ∷ ts) reach =
     (n : ℕ) × (n % size ≡ t.0) × (slice_get given n ≡ Some t.1) × (reach ≤ n + window) × TextsFine given size window sent ts (max reach (suc n))
 
--- each early payload is the one of its number; the first place_of stands for number base
+-- each early payload is the one of its number; the first place stands for number base
 abbrev pub EarlyFine : {A : Type 0} → List A → ℕ → List (Option A) → Type 0
 EarlyFine given base [] = Unit {0}
 EarlyFine given base (None ∷ e) = EarlyFine given (suc base) e

@@ -1,0 +1,5 @@
+pub mod Fragments
+pub mod Gathering
+pub mod Answering
+pub mod Holding
+pub mod Laws
