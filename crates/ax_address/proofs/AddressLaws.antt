@@ -59,7 +59,7 @@ spelled_without_fault a last octets h = ap address_fault h.spelled ∙ call_has_
 
 -- ---- once
 
-halves-doubles : (xs : List ℕ) → halves (doubles xs) ≡ xs
+pub halves-doubles : (xs : List ℕ) → halves (doubles xs) ≡ xs
 halves-doubles [] = refl
 halves-doubles (x ∷ xs) = let half : (2 * x) / 2 ≡ x = omega arith in rw (half, halves-doubles xs) refl
 

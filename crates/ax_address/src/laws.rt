@@ -1,6 +1,7 @@
 //! What the definitions promise by themselves.
 
 ghost use Rattle.ax_address.specs.CallReading.{ReadsCallTexts};
+ghost use Rattle.ax_address.specs.NetCalls.{SpelledNetCallIsRead, WrittenNetCallSpellsIt};
 ghost use Rattle.ax_address.specs.Octets.{SpelledWithoutFault, SpelledOnce};
 
 /// A text is read as a call exactly where it is what the call is shown as, or that with the suffix `-0`
@@ -13,4 +14,11 @@ pub fn call_texts()
 pub fn address_spelling()
     ensures without_fault { SpelledWithoutFault }
     ensures once { SpelledOnce }
+{}
+
+/// Octets that spell a call in a broadcast or datagram are read as it, and so spell no other; and what is written for a call
+/// spells it.
+pub fn net_call_spelling()
+    ensures read { SpelledNetCallIsRead }
+    ensures written { WrittenNetCallSpellsIt }
 {}

@@ -96,3 +96,20 @@ fn octets_at_fault(rt: HostRuntime) {
     }
     assert!(rt; address_fault(&[0x9C, 0x60]) == None);
 }
+
+#[test]
+fn octets_of_a_call_in_a_datagram(rt: HostRuntime) -> Result<(), Fail> {
+    let call = Call::read(b"N0CALL-7").ok().ok_or("a call")?;
+    for last in [0x6E, 0x0E, 0xEF] {
+        assert!(rt; read_net_call(&[0x9C, 0x60, 0x86, 0x82, 0x98, 0x98, last]) == Ok(call));
+    }
+    assert!(rt;
+        read_net_call(&[0x9C, 0x40, 0x86, 0x82, 0x98, 0x98, 0x6E])
+            == Err(AddressRefusal::BadPadding { at: 2 })
+    );
+    assert_eq!(rt;
+        write_net_call(&call),
+        [0x9C, 0x60, 0x86, 0x82, 0x98, 0x98, 0x6E]
+    );
+    Ok(())
+}

@@ -1,0 +1,74 @@
+-- A call's seven octets in a broadcast or datagram: what is spelled is read.
+use Rattle.std.proofs.Common.{◌≡◌, ◌+◌, ◌-◌, ◌*◌, ◌/◌, ◌%◌, ◌++◌, ◌∙◌, ℕ, refl, sym, ap, List, [], ◌∷◌, length, replicate, take, get_or, arith}
+use Rattle.std.specs.Prelude.{None, Ok}
+use Rattle.std.proofs.lemmas.List.{take_at, length-append, length-map, length-replicate}
+use Rattle.ax_address.specs.Callsign.{Callsign, IsCallsign, name_in, padded}
+use Rattle.ax_address.specs.Octets.{fault_in, address_fault}
+use Rattle.ax_address.specs.NetCalls.{SpelledNetCallIsRead, WrittenNetCallSpellsIt, net_call_in}
+use Rattle.ax_address.proofs.AddressLaws.{call_has_none, halves-doubles}
+use Rattle.ax_address.proofs.CallOctets.{doubles, halves, seven, good}
+
+six_doubled : (c : Callsign) → IsCallsign c.letters c.ssid → length (doubles c.letters) ≡ 6
+six_doubled c h =
+    let name = name_in c.letters in
+    let six : length (padded name) ≡ 6 = omega (arith, length-append name (replicate (6 - length name) 32), length-replicate {A = ℕ} (6 - length name) 32, h.six) in
+    length-map c.letters (λ b. 2 * b) ∙ (ap length h.spaces ∙ six)
+
+last_of : (os : List ℕ) (o : ℕ) → length os ≡ 6 → get_or (os ++ o ∷ []) 6 0 ≡ o
+last_of (a ∷ b ∷ c ∷ d ∷ e ∷ f ∷ []) o h = refl
+last_of [] o h = absurd (omega arith)
+last_of (a ∷ []) o h = absurd (omega arith)
+last_of (a ∷ b ∷ []) o h = absurd (omega arith)
+last_of (a ∷ b ∷ c ∷ []) o h = absurd (omega arith)
+last_of (a ∷ b ∷ c ∷ d ∷ []) o h = absurd (omega arith)
+last_of (a ∷ b ∷ c ∷ d ∷ e ∷ []) o h = absurd (omega arith)
+last_of (a ∷ b ∷ c ∷ d ∷ e ∷ f ∷ g ∷ more) o h = absurd (omega arith)
+
+abbrev pub call_made : List ℕ → ℕ → Callsign
+call_made letters ssid = record { letters = letters; ssid = ssid }
+
+call_in_octets : (c : Callsign) (o : ℕ) → IsCallsign c.letters c.ssid → o / 2 % 16 ≡ c.ssid → net_call_in (doubles c.letters ++ o ∷ []) ≡ c
+call_in_octets c o h e =
+    let six = six_doubled c h in
+    let letters : halves (take 6 (doubles c.letters ++ o ∷ [])) ≡ c.letters = ap halves (take_at (doubles c.letters) (o ∷ []) 6 six) ∙ halves-doubles c.letters in
+    let ssid : get_or (doubles c.letters ++ o ∷ []) 6 0 / 2 % 16 ≡ c.ssid = ap (λ k. k / 2 % 16) (last_of (doubles c.letters) o six) ∙ e in
+    ap (λ ls. call_made ls (get_or (doubles c.letters ++ o ∷ []) 6 0 / 2 % 16)) letters ∙ ap (call_made c.letters) ssid
+
+pub spelled_is_read : SpelledNetCallIsRead
+spelled_is_read c octets h =
+    let none : address_fault octets ≡ None = ap address_fault h.spelled ∙ call_has_none c.letters c.ssid (h.last ∷ []) h.is_call in
+    let call : net_call_in octets ≡ c = ap net_call_in h.spelled ∙ call_in_octets c h.last h.is_call h.ssid in
+    rw none (ap Ok call)
+
+pub written_spells : WrittenNetCallSpellsIt
+written_spells c h = record {
+  is_call = h;
+  last = 96 + 2 * c.ssid;
+  spelled = refl;
+  ssid = let small = h.small in omega arith;
+}
+
+-- the octets before the seventh, halved, are the letters
+pub letters_taken : (os : List ℕ) → length os ≡ 7
+    → halves (take 6 os) ≡ get_or os 0 0 / 2 ∷ get_or os 1 0 / 2 ∷ get_or os 2 0 / 2 ∷ get_or os 3 0 / 2 ∷ get_or os 4 0 / 2 ∷ get_or os 5 0 / 2 ∷ []
+letters_taken os len = ap (λ xs. halves (take 6 xs)) (seven os len)
+
+-- and doubled again they are the octets
+pub six_are : (os : List ℕ) → length os ≡ 7 → address_fault os ≡ None
+    → os ≡ doubles (get_or os 0 0 / 2 ∷ get_or os 1 0 / 2 ∷ get_or os 2 0 / 2 ∷ get_or os 3 0 / 2 ∷ get_or os 4 0 / 2 ∷ get_or os 5 0 / 2 ∷ []) ++ get_or os 6 0 ∷ []
+six_are os len h =
+    let six = get_or os 0 0 ∷ get_or os 1 0 ∷ get_or os 2 0 ∷ get_or os 3 0 ∷ get_or os 4 0 ∷ get_or os 5 0 ∷ [] in
+    let fault : fault_in six ≡ None = ap address_fault (sym (seven os len)) ∙ h in
+    seven os len ∙ ap (λ xs. xs ++ get_or os 6 0 ∷ []) (sym (good six refl fault).doubles_are)
+
+-- six letters one by one
+pub six_letters : (ls : List ℕ) (o : ℕ) → length ls ≡ 6
+    → 2 * get_or ls 0 0 ∷ 2 * get_or ls 1 0 ∷ 2 * get_or ls 2 0 ∷ 2 * get_or ls 3 0 ∷ 2 * get_or ls 4 0 ∷ 2 * get_or ls 5 0 ∷ o ∷ [] ≡ doubles ls ++ o ∷ []
+six_letters (a ∷ b ∷ c ∷ d ∷ e ∷ f ∷ []) o h = refl
+six_letters [] o h = absurd (omega arith)
+six_letters (a ∷ []) o h = absurd (omega arith)
+six_letters (a ∷ b ∷ []) o h = absurd (omega arith)
+six_letters (a ∷ b ∷ c ∷ []) o h = absurd (omega arith)
+six_letters (a ∷ b ∷ c ∷ d ∷ []) o h = absurd (omega arith)
+six_letters (a ∷ b ∷ c ∷ d ∷ e ∷ []) o h = absurd (omega arith)
+six_letters (a ∷ b ∷ c ∷ d ∷ e ∷ f ∷ g ∷ more) o h = absurd (omega arith)
