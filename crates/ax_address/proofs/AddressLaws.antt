@@ -63,10 +63,10 @@ pub halves-doubles : (xs : List ℕ) → halves (doubles xs) ≡ xs
 halves-doubles [] = refl
 halves-doubles (x ∷ xs) = let half : (2 * x) / 2 ≡ x = omega arith in rw (half, halves-doubles xs) refl
 
-abbrev bits : Bool → ℕ → ℕ → Bool → ℕ
+abbrev pub bits : Bool → ℕ → ℕ → Bool → ℕ
 bits b r s l = cond b 128 0 + 32 * r + 2 * s + cond l 1 0
 
-bits_are : (b : Bool) (r s : ℕ) (l : Bool) → r ≤ 3 → s ≤ 15 → (nat_le 128 (bits b r s l) ≡ b) × (bits b r s l / 32 % 4 ≡ r) × (bits b r s l / 2 % 16 ≡ s) × ((bits b r s l % 2 == 1) ≡ l)
+pub bits_are : (b : Bool) (r s : ℕ) (l : Bool) → r ≤ 3 → s ≤ 15 → (nat_le 128 (bits b r s l) ≡ b) × (bits b r s l / 32 % 4 ≡ r) × (bits b r s l / 2 % 16 ≡ s) × ((bits b r s l % 2 == 1) ≡ l)
 bits_are true r s true rs ss = (grind (arith, nat_tests), omega arith, omega arith, grind (arith, nat_tests))
 bits_are true r s false rs ss = (grind (arith, nat_tests), omega arith, omega arith, grind (arith, nat_tests))
 bits_are false r s true rs ss = (grind (arith, nat_tests), omega arith, omega arith, grind (arith, nat_tests))
@@ -84,14 +84,14 @@ made c b r rs = record { call = c; bit7 = b; reserved = r; two_bits = rs }
 made_again : (c : Callsign) (b : Bool) (r q : ℕ) → r ≡ q → (rs : r ≤ 3) (qs : q ≤ 3) → made c b r rs ≡ made c b q qs
 made_again c b r q e rs qs = subst (λ (k : ℕ). (ks : k ≤ 3) → made c b r rs ≡ made c b k ks) e (λ ks. ap (made c b r) (le_prop rs ks)) qs
 
-same_address : (a b : Address) → a.call ≡ b.call → a.bit7 ≡ b.bit7 → a.reserved ≡ b.reserved → a ≡ b
+pub same_address : (a b : Address) → a.call ≡ b.call → a.bit7 ≡ b.bit7 → a.reserved ≡ b.reserved → a ≡ b
 unfolding made
 same_address a b c d e =
     let first : a ≡ made b.call a.bit7 a.reserved a.two_bits = ap (λ k. made k a.bit7 a.reserved a.two_bits) c in
     let second : made b.call a.bit7 a.reserved a.two_bits ≡ made b.call b.bit7 a.reserved a.two_bits = ap (λ k. made b.call k a.reserved a.two_bits) d in
     first ∙ second ∙ made_again b.call b.bit7 a.reserved b.reserved e a.two_bits b.two_bits
 
-same_call_is : (x y : Callsign) → x.letters ≡ y.letters → x.ssid ≡ y.ssid → x ≡ y
+pub same_call_is : (x y : Callsign) → x.letters ≡ y.letters → x.ssid ≡ y.ssid → x ≡ y
 same_call_is x y l s = ap (λ ls. record x { letters = ls }) l ∙ ap (λ n. record y { ssid = n }) s
 
 pub spelled_once : SpelledOnce

@@ -1,11 +1,11 @@
--- A call's seven octets in a broadcast or datagram: what is spelled is read.
-use Rattle.std.proofs.Common.{◌≡◌, ◌+◌, ◌-◌, ◌*◌, ◌/◌, ◌%◌, ◌++◌, ◌∙◌, ℕ, refl, sym, ap, List, [], ◌∷◌, length, replicate, take, get_or, arith}
+-- Seven octets, of a call in a broadcast or datagram or of an address: what is spelled is read.
+use Rattle.std.proofs.Common.{nat_le, slice_index, ◌≡◌, ◌+◌, ◌-◌, ◌*◌, ◌/◌, ◌%◌, ◌++◌, ◌∙◌, ℕ, refl, sym, ap, List, [], ◌∷◌, length, replicate, take, get_or, arith}
 use Rattle.std.specs.Prelude.{None, Ok}
 use Rattle.std.proofs.lemmas.List.{take_at, length-append, length-map, length-replicate}
 use Rattle.ax_address.specs.Callsign.{Callsign, IsCallsign, name_in, padded}
-use Rattle.ax_address.specs.Octets.{fault_in, address_fault}
+use Rattle.ax_address.specs.Octets.{fault_in, address_fault, address_in, ssid_octet, SpelledIsHeld}
 use Rattle.ax_address.specs.NetCalls.{SpelledNetCallIsRead, WrittenNetCallSpellsIt, net_call_in}
-use Rattle.ax_address.proofs.AddressLaws.{call_has_none, halves-doubles}
+use Rattle.ax_address.proofs.AddressLaws.{call_has_none, halves-doubles, bits_are, same_call_is, same_address}
 use Rattle.ax_address.proofs.CallOctets.{doubles, halves, seven, good}
 
 six_doubled : (c : Callsign) → IsCallsign c.letters c.ssid → length (doubles c.letters) ≡ 6
@@ -72,3 +72,16 @@ six_letters (a ∷ b ∷ c ∷ []) o h = absurd (omega arith)
 six_letters (a ∷ b ∷ c ∷ d ∷ []) o h = absurd (omega arith)
 six_letters (a ∷ b ∷ c ∷ d ∷ e ∷ []) o h = absurd (omega arith)
 six_letters (a ∷ b ∷ c ∷ d ∷ e ∷ f ∷ g ∷ more) o h = absurd (omega arith)
+
+-- ---- an address
+
+pub spelled_is_held : SpelledIsHeld
+spelled_is_held a last octets h =
+    let c = a.call in
+    let o = ssid_octet a last in
+    let six = six_doubled c h.is_call in
+    let at : slice_index octets 6 ≡ o = ap (λ os. slice_index os 6) h.spelled ∙ last_of (doubles c.letters) o six in
+    let letters : halves (take 6 octets) ≡ c.letters = ap (λ os. halves (take 6 os)) h.spelled ∙ (ap halves (take_at (doubles c.letters) (o ∷ []) 6 six) ∙ halves-doubles c.letters) in
+    let parts = bits_are a.bit7 a.reserved c.ssid last a.two_bits h.is_call.small in
+    let call : (address_in octets).call ≡ c = same_call_is (address_in octets).call c letters (ap (λ k. k / 2 % 16) at ∙ parts.2) in
+    same_address (address_in octets) a call (ap (nat_le 128) at ∙ parts.0) (ap (λ k. k / 32 % 4) at ∙ parts.1)

@@ -1,10 +1,12 @@
 -- Addresses in octets: six characters, each shifted left by one, and an octet with the SSID.
 -- (AX.25 2.2, section 3.12.)
-use Rattle.std.specs.Prelude.{ℕ, ◌≡◌, ◌+◌, ◌*◌, ◌/◌, ◌%◌, List, [], ◌∷◌, ◌++◌, map, take, drop, slice_get, Bool, ◌&&◌, ◌==◌, Option, Some, None, if◌then◌else◌}
+use Rattle.std.specs.Prelude.{ℕ, ◌≡◌, ◌+◌, ◌*◌, ◌/◌, ◌%◌, List, [], ◌∷◌, ◌++◌, map, take, drop, slice_get, slice_index, nat_le, Bool, ◌&&◌, ◌==◌, Option, Some, None, if◌then◌else◌}
 use Rattle.std.specs.List.{prefix_len}
 use Rattle.ax_address.specs.declared.address.Address.{Address}
 use Rattle.ax_address.specs.declared.octets.AddressRefusal.{AddressRefusal}
 use Rattle.ax_address.specs.declared.octets.AddressRefusal.TheVariants.{BadChar, BadPadding}
+use Rattle.std.proofs.Common.{lit<}
+use Rattle.std.proofs.Math.Nat.{mod-lt, le-pred_of_lt}
 use Rattle.ax_address.specs.Callsign.{IsCallsign, is_call_char, space}
 
 -- the C or H bit, two reserved bits, the SSID, and the extension bit, which the last address has
@@ -18,6 +20,17 @@ address_octets a last = map (λ b. 2 * b) a.call.letters ++ ssid_octet a last �
 pub record SpellsAddress (a : Address) (last : Bool) (octets : List ℕ) : Type 0 where
   pub is_call : IsCallsign a.call.letters a.call.ssid
   pub spelled : octets ≡ address_octets a last
+
+-- the address that seven octets hold, where they spell one
+abbrev pub address_in : List ℕ → Address
+address_in octets =
+    let last = slice_index octets 6 in
+    record {
+      call = record { letters = map (λ o. o / 2) (take 6 octets); ssid = last / 2 % 16 };
+      bit7 = nat_le 128 last;
+      reserved = last / 32 % 4;
+      two_bits = le-pred_of_lt (mod-lt (last / 32) (lit< tt));
+    }
 
 abbrev pub is_char_octet : ℕ → Bool
 is_char_octet o = (o % 2 == 0) && is_call_char (o / 2)
@@ -51,6 +64,10 @@ address_fault octets = fault_in (take 6 octets)
 -- octets that spell an address have no fault
 abbrev pub SpelledWithoutFault : Type 0
 SpelledWithoutFault = (a : Address) (last : Bool) (octets : List ℕ) → SpellsAddress a last octets → address_fault octets ≡ None
+
+-- octets that spell an address hold it
+abbrev pub SpelledIsHeld : Type 0
+SpelledIsHeld = (a : Address) (last : Bool) (octets : List ℕ) → SpellsAddress a last octets → address_in octets ≡ a
 
 -- octets spell one address at most
 abbrev pub SpelledOnce : Type 0
