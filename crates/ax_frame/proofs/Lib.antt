@@ -4,3 +4,4 @@ pub mod Fields
 pub mod FieldsAgain
 pub mod FrameLaws
 pub mod Spelled
+pub mod ReadAgain

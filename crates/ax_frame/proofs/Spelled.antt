@@ -22,13 +22,13 @@ use Rattle.ax_frame.proofs.FrameLaws.{ok_is}
 
 -- ---- the addresses
 
-seven : (a : Address) (last : Bool) → IsAddress a → length (address_octets a last) ≡ 7
+pub seven : (a : Address) (last : Bool) → IsAddress a → length (address_octets a last) ≡ 7
 seven a last h = omega (arith, length-append (map (λ b. 2 * b) a.call.letters) (octets.ssid_octet a last ∷ []), length-map a.call.letters (λ b. 2 * b), six_letters a.call.letters a.call.ssid h)
 
-front_of : (a : Address) (last : Bool) (rest : List ℕ) → IsAddress a → take 7 (address_octets a last ++ rest) ≡ address_octets a last
+pub front_of : (a : Address) (last : Bool) (rest : List ℕ) → IsAddress a → take 7 (address_octets a last ++ rest) ≡ address_octets a last
 front_of a last rest h = take_at (address_octets a last) rest 7 (seven a last h)
 
-spells : (a : Address) (last : Bool) → IsAddress a → SpellsAddress a last (address_octets a last)
+pub spells : (a : Address) (last : Bool) → IsAddress a → SpellsAddress a last (address_octets a last)
 spells a last h = record { is_call = h; spelled = refl }
 
 extension_again : octets.SpelledWithoutFault → (at : ℕ) (bytes rest : List ℕ) (a : Address) (last : Bool) → at ≤ length bytes → drop at bytes ≡ address_octets a last ++ rest → IsAddress a → extension_at at bytes ≡ Ok last
@@ -56,7 +56,7 @@ addresses_again without left at bytes rest (a ∷ b ∷ more) some few h within 
     (within_later at bytes (addresses_octets (b ∷ more) ++ rest) a false apart h.0 within) (later at bytes (addresses_octets (b ∷ more) ++ rest) a false apart h.0) in
     end_later left at bytes (omega arith) here ∙ (ih ∙ ap Ok (omega arith))
 
-addresses_length : (many : List Address) → AllByRecursion IsAddress many → length (addresses_octets many) ≡ 7 * length many
+pub addresses_length : (many : List Address) → AllByRecursion IsAddress many → length (addresses_octets many) ≡ 7 * length many
 addresses_length [] h = refl
 addresses_length (a ∷ []) h = seven a true h.0
 addresses_length (a ∷ b ∷ more) h = omega (arith, length-append (address_octets a false) (addresses_octets (b ∷ more)), seven a false h.0, addresses_length (b ∷ more) h.1)
@@ -101,16 +101,16 @@ pid_again at c None bytes info e there ends =
 pub info_place : ℕ → Frame → ℕ
 info_place size f = 7 * length (addresses f.head) + length (control_octets size f.control) + length (pid_octets f.pid)
 
-apart : (size : ℕ) (f : Frame) (bytes : List ℕ) → Spells size f bytes → bytes ≡ addresses_octets (addresses f.head) ++ (control_octets size f.control ++ (pid_octets f.pid ++ f.info))
+pub apart : (size : ℕ) (f : Frame) (bytes : List ℕ) → Spells size f bytes → bytes ≡ addresses_octets (addresses f.head) ++ (control_octets size f.control ++ (pid_octets f.pid ++ f.info))
 apart size f bytes h =
     let a = addresses_octets (addresses f.head) in
     h.spelled ∙ (append_assoc (a ++ control_octets size f.control) (pid_octets f.pid) f.info ∙ append_assoc a (control_octets size f.control) (pid_octets f.pid ++ f.info))
 
-record FrameAgain (size : ℕ) (f : Frame) (bytes : List ℕ) : Type 0 where
+pub record FrameAgain (size : ℕ) (f : Frame) (bytes : List ℕ) : Type 0 where
   pub read : frame_at size bytes ≡ Ok (f.control, f.pid, info_place size f)
   pub info_is : drop (info_place size f) bytes ≡ f.info
 
-frame_again : octets.SpelledWithoutFault → (size : ℕ) (f : Frame) (bytes : List ℕ) → IsLinkModulus size → Spells size f bytes → FrameAgain size f bytes
+pub frame_again : octets.SpelledWithoutFault → (size : ℕ) (f : Frame) (bytes : List ℕ) → IsLinkModulus size → Spells size f bytes → FrameAgain size f bytes
 unfolding frame_at info_place
 frame_again without size f bytes m h =
     let a = addresses_octets (addresses f.head) in
@@ -155,7 +155,7 @@ addresses_once one (a ∷ c ∷ some) (b ∷ d ∷ more) x y p q h k e =
     let ih = addresses_once one (c ∷ some) (d ∷ more) x y (omega arith) (omega arith) h.1 k.1 s.2 in
     (ap (λ z. z ∷ (c ∷ some)) s.0 ∙ ap (λ zs. b ∷ zs) ih.0, ih.1)
 
-same_head : (h g : Head) → addresses h ≡ addresses g → h ≡ g
+pub same_head : (h g : Head) → addresses h ≡ addresses g → h ≡ g
 same_head h g e =
     let tail : h.source ∷ h.path.items ≡ g.source ∷ g.path.items = ap (drop 1) e in
     let items : h.path.items ≡ g.path.items = ap (drop 2) e in

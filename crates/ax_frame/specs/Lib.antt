@@ -1,5 +1,6 @@
 pub mod Controls
 pub mod Frames
 pub mod Parts
+pub mod Read
 pub mod Reading
 pub mod FrameText

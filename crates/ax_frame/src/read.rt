@@ -1,5 +1,6 @@
 ghost use Rattle.std.specs.Prelude.{◌≡◌, ◌≤◌, ◌<◌, ◌+◌, ◌*◌, ◌^◌, ◌++◌, List, ℕ, length, take, drop, IfOk, Ok, Err, IsOkAnd, MatchResult};
 ghost use Rattle.ax_frame.specs.Reading as reading;
+ghost use Rattle.ax_frame.specs.Read.{read_at, read_head_at};
 ghost use Rattle.ax_address.specs.Octets.{SpellsAddress};
 ghost use Rattle.std.specs.Result.{result_err};
 ghost use Rattle.ax_frame.specs.Controls.{IsLinkModulus};
@@ -21,6 +22,7 @@ pub fn read_head(bytes: &[u8]) -> Result<(Head, usize), FrameRefusal>
 
     // The addresses end there, or an octet is at fault.
     ensures judged { MatchResult result (λ x. reading.head_end bytes.now ≡ Ok x.1) (λ e. reading.head_end bytes.now ≡ Err e) }
+    ensures exact { result ≡ read_head_at bytes.now }
 {
     // By the laws of the spelling no other head is spelled so, and none that is spelled is refused.
     laws::head_spelling();
@@ -58,6 +60,7 @@ pub fn read_frame<M: Modulus>(bytes: &[u8]) -> Result<FrameView<'_>, FrameRefusa
 
     // It is refused exactly where an octet is at fault.
     ensures refused { result_err result ≡ reading.first_fault M.SIZE bytes.now }
+    ensures exact { MatchResult result (λ v. read_at M.SIZE bytes.now ≡ Ok (view v)) (λ e. read_at M.SIZE bytes.now ≡ Err e) }
 {
     // By the laws of the spelling no other frame is spelled so, and none that is spelled is refused.
     laws::frame_spelling();
