@@ -17,20 +17,20 @@ use Rattle.route_table.specs.Held.{IsGoodLock}
 use Rattle.route_table.specs.Rows.{is_same_pair, fresh, stays, new_rows, rows_with, older, still_counts, after_round, outlives}
 use Rattle.route_table.proofs.Calls.{and_true, same_call-true}
 
-abbrev row : Callsign → Alias → Callsign → ℕ → ℕ → Route
+abbrev pub row : Callsign → Alias → Callsign → ℕ → ℕ → Route
 row d a n q c = record { dest = d; alias = a; neighbour = n; quality = q; count = Some c }
 
-abbrev locked : Callsign → Alias → Callsign → ℕ → Route
+abbrev pub locked : Callsign → Alias → Callsign → ℕ → Route
 locked d a n q = record { dest = d; alias = a; neighbour = n; quality = q; count = None }
 
 -- where more items do the same to what each item of the log gives, they do it to the whole log, and give what they give
-among-append : (life : ℕ) (log whole more : List Item) (change : List Route → List Route) → change [] ≡ [] → ((a b : List Route) → change (a ++ b) ≡ change a ++ change b) → ((x : Item) (later : List Item) → live_of life whole x (later ++ more) ≡ change (live_of life log x later)) → (xs : List Item) → live_among life whole (xs ++ more) ≡ change (live_among life log xs) ++ live_among life whole more
+pub among-append : (life : ℕ) (log whole more : List Item) (change : List Route → List Route) → change [] ≡ [] → ((a b : List Route) → change (a ++ b) ≡ change a ++ change b) → ((x : Item) (later : List Item) → live_of life whole x (later ++ more) ≡ change (live_of life log x later)) → (xs : List Item) → live_among life whole (xs ++ more) ≡ change (live_among life log xs) ++ live_among life whole more
 among-append life log whole more change e s step [] = rw e refl
 among-append life log whole more change e s step (x ∷ xs) =
     rw (step x xs, among-append life log whole more change e s step xs, s (live_of life log x xs) (live_among life log xs))
     (sym (append_assoc (change (live_of life log x xs)) (change (live_among life log xs)) (live_among life whole more)))
 
-rounds-append : (xs ys : List Item) → rounds (xs ++ ys) ≡ rounds xs + rounds ys
+pub rounds-append : (xs ys : List Item) → rounds (xs ++ ys) ≡ rounds xs + rounds ys
 rounds-append [] ys = omega arith
 rounds-append (Report d a n q ∷ xs) ys = rounds-append xs ys
 rounds-append (Lock d a n q ∷ xs) ys = rounds-append xs ys
@@ -42,7 +42,7 @@ or_false true = refl
 or_false false = refl
 
 -- a route that more items end where S holds
-keep_if : (keep : Route → Bool) (r : Route) (S T : Bool) → keep r ≡ not S → cond (T && not S) (r ∷ []) [] ≡ filter keep (cond T (r ∷ []) [])
+pub keep_if : (keep : Route → Bool) (r : Route) (S T : Bool) → keep r ≡ not S → cond (T && not S) (r ∷ []) [] ≡ filter keep (cond T (r ∷ []) [])
 keep_if keep r true true k = rw k refl
 keep_if keep r true false k = refl
 keep_if keep r false true k = rw k refl
@@ -264,7 +264,7 @@ comm_case p r x xs true false a b h = rw (a, b) h
 comm_case p r x xs false true a b h = rw (a, b, a) h
 comm_case p r x xs false false a b h = rw (a, b) h
 
-filter_comm : (p r : Route → Bool) (xs : List Route) → filter p (filter r xs) ≡ filter r (filter p xs)
+pub filter_comm : (p r : Route → Bool) (xs : List Route) → filter p (filter r xs) ≡ filter r (filter p xs)
 filter_comm p r [] = refl
 filter_comm p r (x ∷ xs) = comm_case p r x xs (p x) (r x) refl refl (filter_comm p r xs)
 

@@ -14,7 +14,7 @@ use Rattle.route_table.specs.Held.{IsGoodLock, StandsFor}
 use Rattle.route_table.specs.Rows.{fresh, stays, new_rows, rows_with, after_round, outlives}
 use Rattle.route_table.proofs.LogSteps.{IsReport, usable-round, usable-failure, usable-reports}
 
-good_locks-append : (minq : ℕ) (xs ys : List Item) → AllByRecursion (IsGoodLock minq) xs → AllByRecursion (IsGoodLock minq) ys → AllByRecursion (IsGoodLock minq) (xs ++ ys)
+pub good_locks-append : (minq : ℕ) (xs ys : List Item) → AllByRecursion (IsGoodLock minq) xs → AllByRecursion (IsGoodLock minq) ys → AllByRecursion (IsGoodLock minq) (xs ++ ys)
 good_locks-append minq [] ys h k = k
 good_locks-append minq (x ∷ xs) ys h k = (h.0, good_locks-append minq xs ys h.1 k)
 

@@ -1,11 +1,14 @@
 -- What a table's rows come to by each kind of item; `usable` of the log says the same afresh.
-use Rattle.std.specs.Prelude.{ℕ, ◌-◌, List, [], ◌∷◌, ◌++◌, filter, map, Option, Some, None, Bool, true, ◌&&◌, ◌||◌, ◌==◌, not, is_none, if◌then◌else◌}
+use Rattle.std.specs.Prelude.{ℕ, ◌-◌, List, [], ◌∷◌, ◌++◌, filter, map, take, slice_get, Option, Some, None, Bool, true, ◌&&◌, ◌||◌, ◌==◌, not, is_none, if◌then◌else◌}
 use Rattle.std.specs.List.{list_any}
 use Rattle.ax_address.specs.Callsign.{Callsign}
 use Rattle.ax_address.specs.CallOrder.{same_call, call_lt}
+use Rattle.ax_address.specs.declared.Entry.{Entry}
 use Rattle.route_table.specs.declared.route.Route.{Route}
 use Rattle.route_table.specs.Log.{Item, Report}
-use Rattle.route_table.specs.Table.{is_good}
+use Rattle.route_table.specs.Table.{is_good, is_to}
+use Rattle.route_table.specs.Ranks.{ranked}
+use Rattle.route_table.specs.Broadcast.{entry_by}
 
 -- both routes lead to one destination by one neighbour
 abbrev pub is_same_pair : Route → Route → Bool
@@ -38,6 +41,14 @@ new_rows minq rows (r ∷ later) = if is_new minq rows r later then r ∷ new_ro
 -- the rows after a broadcast
 abbrev pub rows_with : ℕ → List Route → List Route → List Route
 rows_with minq reports rows = filter (stays reports) rows ++ new_rows minq rows reports
+
+-- a row stays beside a lock: it is of another pair
+abbrev pub stays_beside : Route → Route → Bool
+stays_beside lock row = not (is_same_pair row lock)
+
+-- the rows after a lock
+abbrev pub rows_with_lock : Route → List Route → List Route
+rows_with_lock lock rows = filter (stays_beside lock) rows ++ lock ∷ []
 
 -- a count, one round later
 abbrev pub count_down : Option ℕ → Option ℕ
@@ -75,3 +86,7 @@ is_below c (Some best) = call_lt c best
 abbrev pub lowest_from : Option Callsign → Option Callsign → List Route → Option Callsign
 lowest_from bound best [] = best
 lowest_from bound best (r ∷ rs) = lowest_from bound (if is_above bound r.dest && is_below r.dest best then Some r.dest else best) rs
+
+-- what is said of a destination that has these rows among others
+abbrev pub entry_from : ℕ → List Route → Callsign → Option Entry
+entry_from least rows dest = entry_by least (slice_get (take 3 (ranked (filter (is_to dest) rows))) 0)

@@ -44,7 +44,7 @@ pub(crate) fn destination_of(rows: &[Route], nth: usize) -> Option<Call>
 }
 
 /// The lowest destination of the rows above a bound.
-fn lowest_above(rows: &[Route], bound: &Option<Call>) -> Option<Call>
+pub(crate) fn lowest_above(rows: &[Route], bound: &Option<Call>) -> Option<Call>
     ensures { result ≡ spec.lowest_from bound.now None rows.now }
 {
     let mut best = None;

@@ -1,4 +1,4 @@
-ghost use Rattle.std.specs.Prelude.{◌≡◌, ◌≤◌, ◌++◌, length, map, filter, OnOk, OnErr};
+ghost use Rattle.std.specs.Prelude.{◌≡◌, ◌≤◌, ◌++◌, [], ◌∷◌, length, map, filter, OnOk, OnErr};
 ghost use Rattle.std.specs.List.{list_any};
 ghost use Rattle.route_table.specs.Rows as spec;
 
@@ -89,6 +89,32 @@ pub(crate) fn replace(
     for row in new {
         rows.push_reserved(*row);
     }
+    Ok(())
+}
+
+/// Whether the row stays beside a lock: only what is of the lock's pair goes.
+fn stays_beside(lock: &Route, row: &Route) -> bool
+    ensures { result ≡ spec.stays_beside lock.now row.now }
+{
+    !is_same_pair(row, lock)
+}
+
+/// How many rows stay beside a lock.
+pub(crate) fn count_beside(rows: &[Route], lock: &Route) -> usize
+    ensures value { result ≡ length (filter (spec.stays_beside lock.now) rows.now) }
+    ensures bound { result ≤ length rows.now }
+{
+    rows.iter().filter(|row| stays_beside(lock, row)).count()
+}
+
+/// Puts a lock in the place of what is of its pair. Room is made first, so nothing changes on an `Err`.
+pub(crate) fn lock_in(rows: &mut Vec<Route>, lock: Route) -> Result<(), AllocError>
+    ensures ok { OnOk result (rows.new.items ≡ spec.rows_with_lock lock rows.old.items) }
+    ensures err { OnErr result (rows.new.items ≡ rows.old.items) }
+{
+    rows.reserve(1)?;
+    rows.retain(|row| stays_beside(&lock, row));
+    rows.push_reserved(lock);
     Ok(())
 }
 

@@ -1,4 +1,4 @@
-use crate::{HeardRefusal, MAX_PAIRS, Route, RouteRules, RouteTable};
+use crate::{HeardRefusal, LockRefusal, MAX_PAIRS, Route, RouteRules, RouteTable};
 use arrayvec::ArrayVec;
 use ax_address::{Alias, Call, Entry};
 use std::process::Abort;
@@ -181,5 +181,53 @@ fn a_full_table_refuses_one_pair_more(rt: HostRuntime) -> Result<(), Fail> {
         table.heard(&numbered(100)?, &name, PATH_QUALITY, &[]),
         Ok(())
     );
+    Ok(())
+}
+
+#[test]
+fn a_lock_stands_in_place_of_what_was_heard(rt: HostRuntime) -> Result<(), Fail> {
+    let own = call(b"N0AAA")?;
+    let (dest, neighbour, name) = (call(b"N0CCC")?, call(b"N0BBB")?, alias(b"C")?);
+    let mut table = RouteTable::new(rt.alloc(), own, RULES);
+    let heard = [entry(b"N0CCC", b"CNODE", b"N0DDD", 192)?];
+    table.heard(&neighbour, &alias(b"B")?, PATH_QUALITY, &heard)?;
+    assert_eq!(rt; table.lock(&dest, &name, &neighbour, 200), Ok(()));
+    table.link_failed(&neighbour);
+    for _ in 0..7 {
+        table.round();
+    }
+    let locked = Route {
+        dest,
+        alias: name,
+        neighbour,
+        quality: 200,
+        count: None,
+    };
+    assert_eq!(rt; table.routes(&dest).as_slice(), [locked].as_slice());
+    assert_eq!(rt; table.live(), 1);
+    assert_eq!(rt;
+        table.lock(&own, &name, &neighbour, 200),
+        Err(LockRefusal::Own)
+    );
+    assert_eq!(rt;
+        table.lock(&dest, &name, &neighbour, 0),
+        Err(LockRefusal::TooLow)
+    );
+    Ok(())
+}
+
+#[test]
+fn a_route_is_broadcast_until_its_count_is_too_low(rt: HostRuntime) -> Result<(), Fail> {
+    let mut table = RouteTable::new(rt.alloc(), call(b"N0AAA")?, RULES);
+    table.heard(&call(b"N0CCC")?, &alias(b"CNODE")?, PATH_QUALITY, &[])?;
+    table.lock(&call(b"N0BBB")?, &alias(b"B")?, &call(b"N0CCC")?, 7)?;
+    let locked = entry(b"N0BBB", b"B", b"N0CCC", 7)?;
+    let heard = entry(b"N0CCC", b"CNODE", b"N0CCC", 192)?;
+    table.round();
+    assert_eq!(rt; table.entries(0).as_slice(), [locked, heard].as_slice());
+    assert_eq!(rt; table.entries(1).as_slice(), [heard].as_slice());
+    table.round();
+    assert_eq!(rt; table.entries(0).as_slice(), [locked].as_slice());
+    assert!(rt; table.entries(1).is_empty());
     Ok(())
 }
