@@ -1,0 +1,14 @@
+//! What the definitions promise by themselves.
+
+ghost use Rattle.nodes_broadcast.specs.Laws as law;
+
+/// Octets that spell a broadcast are read as it, and so spell no other; what is written for a broadcast spells it, and
+/// is read as it; and octets that are read and written again are the same but for the bits that say nothing.
+pub fn nodes_spelling()
+    ensures read { law.SpelledIsRead }
+    ensures written { law.WrittenSpellsIt }
+    ensures read_back { law.WrittenIsRead }
+    ensures same { law.WrittenAgainIsTheSame }
+{
+    ax_address::laws::net_call_spelling();
+}

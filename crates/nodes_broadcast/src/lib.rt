@@ -1,0 +1,16 @@
+//! NODES broadcasts: what a NET/ROM node tells its neighbours of the nodes that it knows (NET/ROM, Appendix B).
+//!
+//! The information of a broadcast is 0xFF, the sender's alias, and an entry of 21 octets for each destination. No call
+//! takes memory.
+#![tactic(auto)]
+
+pub mod laws;
+mod nodes;
+mod read;
+#[cfg(test)]
+mod tests;
+mod write;
+
+pub use nodes::{MAX_ENTRIES, Nodes, NodesRefusal};
+pub use read::read_nodes;
+pub use write::write_nodes;

@@ -1,0 +1,34 @@
+use arrayvec::ArrayVec;
+use ax_address::{Alias, Entry};
+
+/// How many entries a broadcast has at most (NET/ROM, Appendix B).
+pub const MAX_ENTRIES: usize = 11;
+
+/// The first octet of each broadcast.
+pub(crate) const SIGNATURE: u8 = 0xFF;
+
+/// The first octet and the alias.
+pub(crate) const HEAD_LEN: usize = 7;
+
+/// A call, an alias, a call and a quality.
+pub(crate) const ENTRY_LEN: usize = 21;
+
+/// What a NODES broadcast says: how its sender names itself, and what it can reach.
+#[derive(Clone, Debug, Drop, PartialEq, Eq)]
+pub struct Nodes {
+    pub alias: Alias,
+    pub entries: ArrayVec<Entry, 11>,
+}
+
+/// Why octets are no NODES broadcast. What stands first comes first.
+#[derive(Clone, Copy, Debug, PartialEq, Eq)]
+pub enum NodesRefusal {
+    /// There is no first octet 0xFF.
+    NotNodes,
+    /// There are `at` octets, which is not 7 and 21 for each entry.
+    BadLength { at: usize },
+    /// There are more than eleven entries.
+    TooMany,
+    /// The octet at `at`, from 0, can't stand there in a call.
+    BadCall { at: usize },
+}
