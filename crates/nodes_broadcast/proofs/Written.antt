@@ -1,6 +1,5 @@
 -- What is written for a broadcast spells it.
-use Rattle.std.proofs.Common.{◌≡◌, ◌≤◌, ◌+◌, ◌-◌, ◌*◌, ◌++◌, ◌∙◌, ℕ, refl, sym, ap, subst, List, [], ◌∷◌, length, take, drop, map, replicate, arith, append_assoc, length-take, length-drop}
-use Rattle.std.specs.Prelude.{Ok}
+use Rattle.std.proofs.Common.{◌≡◌, ◌+◌, ◌-◌, ◌*◌, ◌++◌, ◌∙◌, ℕ, refl, sym, ap, subst, List, [], ◌∷◌, length, take, drop, map, replicate, arith, append_assoc, length-take, length-drop}
 use Rattle.std.specs.List.{AllByRecursion}
 use Rattle.std.proofs.lemmas.List.{take_at, drop_at, length-append, length-map, length-replicate}
 use Rattle.ax_address.specs.Callsign.{Callsign, IsCallsign, name_in, padded}

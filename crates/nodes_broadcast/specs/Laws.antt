@@ -1,5 +1,5 @@
 -- Laws of the spelling of broadcasts.
-use Rattle.std.specs.Prelude.{ℕ, zero, suc, ◌≡◌, ◌/◌, ◌%◌, List, [], ◌∷◌, ◌++◌, length, take, drop, map, Ok}
+use Rattle.std.specs.Prelude.{ℕ, zero, suc, ◌≡◌, ◌/◌, ◌%◌, List, ◌++◌, length, take, drop, map, Ok}
 use Rattle.nodes_broadcast.specs.Nodes.{Broadcast, IsBroadcast, Spells, nodes_octets}
 use Rattle.nodes_broadcast.specs.Reading.{nodes_at}
 

@@ -1,10 +1,8 @@
-use Rattle.std.proofs.Common.{◌≡◌, ◌<◌, ◌≤◌, ◌+◌, ◌-◌, ◌*◌, ◌/◌, ◌∙◌, [], suc, sym, refl, ap, length, drop, take, arith, length-drop, Ok}
-use Rattle.std.proofs.lemmas.List.{length-append}
+use Rattle.std.proofs.Common.{◌≡◌, ◌+◌, ◌-◌, ◌*◌, ◌/◌, ◌∙◌, suc, sym, ap, length, take, arith, Ok}
 use Rattle.std.proofs.lemmas.Result.{err_from_is_err_and}
-use Rattle.ax_address.specs.declared.Entry.{Entry}
-use Rattle.nodes_broadcast.specs.Nodes.{SpellsEntry, SpellsEntries}
+use Rattle.nodes_broadcast.specs.Nodes.{SpellsEntry}
 use Rattle.nodes_broadcast.specs.Reading.{entry_at, entries_at}
-use Rattle.nodes_broadcast.proofs.Turns.{behind, behind_nothing, read_on, refused_here, read_all, spells_on, spells_all}
+use Rattle.nodes_broadcast.proofs.Turns.{behind_nothing, read_on, refused_here, read_all, spells_on, spells_all}
 use Rattle.nodes_broadcast.proofs.read.entries_of.Goals as goal
 
 pub loop-nth-init : goal.loop-nth-init

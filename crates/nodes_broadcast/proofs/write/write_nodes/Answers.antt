@@ -1,4 +1,4 @@
-use Rattle.std.proofs.Common.{◌≡◌, ◌<◌, ◌≤◌, ◌+◌, ◌*◌, ◌∙◌, sym, refl, ap, subst, length, arith, rules}
+use Rattle.std.proofs.Common.{◌≡◌, ◌<◌, ◌≤◌, ◌∙◌, sym, refl, ap, subst, length, arith, rules}
 use Rattle.nodes_broadcast.specs.Nodes.{Spells, view}
 use Rattle.nodes_broadcast.proofs.Turns.{written_on, written_all, all_on, all_done}
 use Rattle.nodes_broadcast.proofs.write.write_nodes.Goals as goal

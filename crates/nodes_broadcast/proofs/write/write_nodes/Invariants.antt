@@ -1,4 +1,4 @@
-use Rattle.std.proofs.Common.{◌≡◌, ◌≤◌, ◌+◌, ◌*◌, ◌++◌, length, take, drop}
+use Rattle.std.proofs.Common.{◌≡◌, ◌+◌, ◌*◌, ◌++◌, length, take, drop}
 use Rattle.std.specs.List.{AllByRecursion}
 use Rattle.nodes_broadcast.specs.Nodes.{IsEntry, view, nodes_octets, entries_octets}
 use Rattle.nodes_broadcast.proofs.write.write_nodes.Given as goal
