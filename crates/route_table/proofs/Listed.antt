@@ -15,7 +15,7 @@ use Rattle.route_table.proofs.Calls.{same_call-true, same_call_refl, same_call-e
 abbrev among : Callsign → List Callsign → Bool
 among c ds = list_any (λ d. same_call d c) ds
 
-abbrev leads : Callsign → List Route → Bool
+abbrev pub leads : Callsign → List Route → Bool
 leads c rs = list_any (λ (r : Route). same_call r.dest c) rs
 
 swap_or : (a b c : Bool) → (a || (b || c)) ≡ (b || (a || c))
@@ -64,7 +64,7 @@ contains c ds h =
 led : (c : Callsign) (rs : List Route) → Any (λ (r : Route). r.dest ≡ c) rs → leads c rs ≡ true
 led c rs h = list_any-from_Any (λ (r : Route). same_call r.dest c) rs (h.0, h.1, h.2, h.3, same_call-equal h.1.dest c h.4)
 
-leading : (c : Callsign) (rs : List Route) → leads c rs ≡ true → Any (λ (r : Route). r.dest ≡ c) rs
+pub leading : (c : Callsign) (rs : List Route) → leads c rs ≡ true → Any (λ (r : Route). r.dest ≡ c) rs
 leading c rs h =
     let a = Any-from_list_any (λ (r : Route). same_call r.dest c) rs h in
     (a.0, a.1, a.2, a.3, same_call-true a.1.dest c a.4)

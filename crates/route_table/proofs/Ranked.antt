@@ -147,7 +147,7 @@ abbrev NoneTwice : List Route → Type 0
 NoneTwice [] = Unit {0}
 NoneTwice (r ∷ rs) = AllByRecursion (OffPair r.dest r.neighbour) rs × NoneTwice rs
 
-or_parts : (a b : Bool) → (a || b) ≡ false → (a ≡ false) × (b ≡ false)
+pub or_parts : (a b : Bool) → (a || b) ≡ false → (a ≡ false) × (b ≡ false)
 or_parts true b h = absurd (cc)
 or_parts false b h = (refl, h)
 

@@ -19,7 +19,7 @@ use Rattle.route_table.specs.Places.{InOrder}
 use Rattle.route_table.specs.Rows.{is_above, is_below, lowest_from}
 use Rattle.route_table.proofs.Calls.{same_call-true, same_call-equal, call_total, call_cmp-Equal, call_lt_trans, call_lt_equal, call_lt_asym, call_lt_total, greater_apart}
 
-abbrev Below : Callsign → List Callsign → Type 0
+abbrev pub Below : Callsign → List Callsign → Type 0
 Below c ds = AllByRecursion (λ d. call_lt c d ≡ true) ds
 
 below_more : (c d : Callsign) → call_lt c d ≡ true → (ds : List Callsign) → Below d ds → Below c ds

@@ -13,18 +13,15 @@ abbrev pub is_fresh : ℕ → Option ℕ → Bool
 is_fresh least None = true
 is_fresh least (Some count) = nat_le least count
 
--- what is said of a route: its destination, alias, neighbour and quality
-abbrev pub entry_of : Route → Entry
-entry_of r = record { dest = r.dest; alias = r.alias; best = r.neighbour; quality = r.quality }
-
--- what is said of a destination with this first route
-abbrev pub entry_by : ℕ → Option Route → Option Entry
-entry_by least None = None
-entry_by least (Some r) = if is_fresh least r.count then Some (entry_of r) else None
+-- what is said of a destination with this first route: the alias, neighbour and quality of the route
+abbrev pub entry_by : ℕ → Callsign → Option Route → Option Entry
+entry_by least dest None = None
+entry_by least dest (Some r) =
+    if is_fresh least r.count then Some (record { dest = dest; alias = r.alias; best = r.neighbour; quality = r.quality }) else None
 
 -- what is said of a destination
 abbrev pub entry_to : RouteRules → List Item → Callsign → Option Entry
-entry_to rules log dest = entry_by rules.least (slice_get (routes_to rules log dest) 0)
+entry_to rules log dest = entry_by rules.least dest (slice_get (routes_to rules log dest) 0)
 
 -- To broadcast: what is said of each destination, in call order.
 abbrev pub to_broadcast : RouteRules → List Item → List Entry

@@ -1,11 +1,14 @@
 -- Laws of the definitions of a log's table.
-use Rattle.std.specs.Prelude.{◌≡◌, ◌↔◌, List, filter, true, AllPairs, Contains, Any, IsPermutation}
+use Rattle.std.specs.Prelude.{◌≡◌, ◌↔◌, List, filter, slice_get, Some, true, AllPairs, Contains, Any, IsPermutation}
 use Rattle.ax_address.specs.Callsign.{Callsign}
+use Rattle.ax_address.specs.CallOrder.{call_lt}
+use Rattle.ax_address.specs.declared.Entry.{Entry}
 use Rattle.route_table.specs.declared.route.RouteRules.{RouteRules}
 use Rattle.route_table.specs.declared.route.Route.{Route}
 use Rattle.route_table.specs.Log.{Item}
 use Rattle.route_table.specs.Ranks.{is_before, Rise}
-use Rattle.route_table.specs.Table.{usable, is_to, all_routes_to, destinations}
+use Rattle.route_table.specs.Table.{usable, is_to, all_routes_to, routes_to, destinations}
+use Rattle.route_table.specs.Broadcast.{is_fresh, to_broadcast}
 
 -- each route to a destination comes before those behind it
 abbrev pub AreRanked : Type 0
@@ -25,3 +28,20 @@ DestinationsRise = (rules : RouteRules) (log : List Item) → Rise (destinations
 abbrev pub DestinationsAreExact : Type 0
 DestinationsAreExact =
     (rules : RouteRules) (log : List Item) (call : Callsign) → Contains (destinations rules log) call ↔ Any (λ (r : Route). r.dest ≡ call) (usable rules log)
+
+-- the destinations that are broadcast rise in call order, so none stands twice
+abbrev pub BroadcastRises : Type 0
+BroadcastRises = (rules : RouteRules) (log : List Item) → AllPairs (λ (a b : Entry). call_lt a.dest b.dest ≡ true) (to_broadcast rules log)
+
+-- the entry says what the first route to its destination is, and that route is locked or has enough rounds left
+pub record TellsFirstRoute (rules : RouteRules) (log : List Item) (e : Entry) : Type 0 where
+  pub route : Route
+  pub first : slice_get (routes_to rules log e.dest) 0 ≡ Some route
+  pub fresh : is_fresh rules.least route.count ≡ true
+  pub alias : e.alias ≡ route.alias
+  pub best : e.best ≡ route.neighbour
+  pub quality : e.quality ≡ route.quality
+
+-- an entry is broadcast exactly where it tells of such a route
+abbrev pub BroadcastIsExact : Type 0
+BroadcastIsExact = (rules : RouteRules) (log : List Item) (e : Entry) → Contains (to_broadcast rules log) e ↔ TellsFirstRoute rules log e

@@ -89,4 +89,4 @@ lowest_from bound best (r ∷ rs) = lowest_from bound (if is_above bound r.dest 
 
 -- what is said of a destination that has these rows among others
 abbrev pub entry_from : ℕ → List Route → Callsign → Option Entry
-entry_from least rows dest = entry_by least (slice_get (take 3 (ranked (filter (is_to dest) rows))) 0)
+entry_from least rows dest = entry_by least dest (slice_get (take 3 (ranked (filter (is_to dest) rows))) 0)

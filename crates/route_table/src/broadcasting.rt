@@ -56,7 +56,12 @@ fn entry_to(rows: &[Route], least: u8, dest: &Call) -> Option<Entry>
     ensures { result ≡ rows_spec.entry_from least rows.now dest.now }
 {
     match best_of(rows, dest).first() {
-        Some(route) if is_fresh(least, route) => Some(entry_of(route)),
+        Some(route) if is_fresh(least, route) => Some(Entry {
+            dest: *dest,
+            alias: route.alias,
+            best: route.neighbour,
+            quality: route.quality,
+        }),
         _ => None,
     }
 }
@@ -68,16 +73,5 @@ fn is_fresh(least: u8, route: &Route) -> bool
     match route.count {
         Some(count) => count >= least,
         None => true,
-    }
-}
-
-fn entry_of(route: &Route) -> Entry
-    ensures { result ≡ broadcast.entry_of route.now }
-{
-    Entry {
-        dest: route.dest,
-        alias: route.alias,
-        best: route.neighbour,
-        quality: route.quality,
     }
 }

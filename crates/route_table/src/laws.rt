@@ -13,3 +13,10 @@ pub fn destinations()
     ensures rising { law.DestinationsRise }
     ensures exact { law.DestinationsAreExact }
 {}
+
+/// An entry is broadcast exactly where it tells of the first route to its destination, and that is locked or has enough
+/// rounds left; the destinations of the entries rise in call order.
+pub fn broadcasts()
+    ensures rising { law.BroadcastRises }
+    ensures exact { law.BroadcastIsExact }
+{}
