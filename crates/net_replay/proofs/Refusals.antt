@@ -1,23 +1,29 @@
--- A node whose table has no room for a broadcast stays as it was.
-use Rattle.std.proofs.Common.{◌≡◌, ◌<◌, ◌++◌, ℕ, List, length, arith, false}
+-- A table that has no room stays as it was, and says so.
+use Rattle.std.proofs.Common.{◌≡◌, ◌<◌, ◌≤◌, ◌++◌, ◌∷◌, [], ◌∙◌, ℕ, List, length, refl, sym, ap, arith, true, false}
+use Rattle.std.specs.Prelude.{nat_lt, nat_le}
 use Rattle.std.proofs.lemmas.Bool.Decides.{nat_tests}
 use Rattle.ax_address.specs.Callsign.{Callsign}
+use Rattle.ax_address.specs.CallOrder.{same_call}
 use Rattle.ax_address.specs.declared.alias.Alias.{Alias}
 use Rattle.ax_address.specs.declared.Entry.{Entry}
-use Rattle.route_table.specs.Log.{broadcast}
+use Rattle.route_table.specs.Log as logs
+use Rattle.route_table.specs.Log.{Item, broadcast}
 use Rattle.route_table.specs.Table.{usable}
-use Rattle.route_table.specs.Held.{Held, IsFull}
-use Rattle.net_replay.specs.declared.stations.Station.{Station}
-use Rattle.net_replay.specs.World.{NodeState, has_room, heard_items, after_broadcast}
-use Rattle.net_replay.specs.Traces.{StandsFor}
+use Rattle.route_table.specs.Held.{Held, IsFull, HasRoom, CanLock}
+use Rattle.net_replay.specs.declared.station.Station.{Station}
+use Rattle.net_replay.specs.Nodes.{StationState, has_room, live_with, live_now}
+use Rattle.net_replay.specs.Traces.{HoldsLog}
 
-no_room : (s : Station) (state : NodeState) (c : Callsign) (a : Alias) (es : List Entry) (live would_be : ℕ) → IsFull s.table (broadcast s.table.own c a s.path_quality es) live would_be → StandsFor s state → has_room state (heard_items state c a es) ≡ false
-no_room s state c a es live would_be full stands =
-    let after : would_be ≡ length (usable state.rules (state.log ++ heard_items state c a es)) = rw (stands.rules, stands.own, stands.path_quality) at (full.after state.log stands.log) in
+-- a table that is full for these items has no room for them in any log that it stands for
+pub no_room : (s : Station) (state : StationState) (items : List Item) (live would_be : ℕ) → IsFull s.table items live would_be → HoldsLog s state
+    → (has_room state items ≡ false) × (live ≡ live_now state) × (would_be ≡ live_with state items)
+no_room s state items live would_be full holds =
+    let after : would_be ≡ length (usable state.rules (state.log ++ items)) = rw holds.rules at (full.after state.log holds.log) in
+    let now : live ≡ length (usable state.rules state.log) = rw holds.rules at (full.held state.log holds.log) in
     let over : 16384 < would_be = full.over in
-    grind (arith, nat_tests)
+    (grind (arith, nat_tests), now, after)
 
--- the node stands for the same state, and that is the one after the broadcast
-pub after_refusal : (s : Station) (table : Held) (state : NodeState) (c : Callsign) (a : Alias) (es : List Entry) (live would_be : ℕ) → IsFull s.table (broadcast s.table.own c a s.path_quality es) live would_be → table ≡ s.table → StandsFor s state → StandsFor (record s { table = table }) (after_broadcast state c a es)
-after_refusal s table state c a es live would_be full same stands =
-    rw (no_room s state c a es live would_be full stands, same) stands
+pub room : (s : Station) (state : StationState) (items : List Item) → HasRoom s.table items → HoldsLog s state → has_room state items ≡ true
+room s state items has holds =
+    let few : length (usable state.rules (state.log ++ items)) ≤ 16384 = rw holds.rules at (has state.log holds.log) in
+    grind (arith, nat_tests)

@@ -5,20 +5,21 @@ use Rattle.std.proofs.lemmas.List.{take_all}
 use Rattle.std.proofs.lemmas.Bool.Decides.{nat_tests}
 use Rattle.net_replay.specs.declared.declarations.Declaration.{Declaration}
 use Rattle.net_replay.specs.Keys.{Assignment}
-use Rattle.net_replay.specs.declared.stations.Station.{Station}
+use Rattle.net_replay.specs.declared.node.Node.{Node}
 use Rattle.net_replay.specs.Plan.{Plan}
-use Rattle.net_replay.specs.World.{NodeState, started, started_from, start, has_number}
+use Rattle.net_replay.specs.Nodes.{NodeState}
+use Rattle.net_replay.specs.World.{started, started_from, start, has_number}
 use Rattle.net_replay.specs.Traces.{StandsFor, StandFor}
 
 -- one more node on both sides
-pub stand-snoc : (ss : List Station) (xs : List NodeState) (s : Station) (x : NodeState) → StandFor ss xs → StandsFor s x → StandFor (ss ++ s ∷ []) (xs ++ x ∷ [])
+pub stand-snoc : (ss : List Node) (xs : List NodeState) (s : Node) (x : NodeState) → StandFor ss xs → StandsFor s x → StandFor (ss ++ s ∷ []) (xs ++ x ∷ [])
 stand-snoc [] [] s x all one = (one, tt)
 stand-snoc [] (y ∷ xs) s x all one = absurd all
 stand-snoc (r ∷ ss) [] s x all one = absurd all
 stand-snoc (r ∷ ss) (y ∷ xs) s x all one = (all.0, stand-snoc ss xs s x all.1 one)
 
 -- a node of that number is added, and then those among the others
-pub started_first : (ss now : List Station) (states : List NodeState) (s : Station) (first : Declaration) (declared : List Declaration) (settings : List Assignment) (n : ℕ) → 1 ≤ length declared → first ≡ get_or declared 0 first → first.node ≡ n → StandsFor s (started settings first) → ((xs : List NodeState) → StandFor (ss ++ s ∷ []) xs → StandFor now (xs ++ map (started settings) (filter (has_number n) (take (length declared - 1) (drop 1 declared))))) → StandFor ss states → StandFor now (states ++ map (started settings) (filter (has_number n) declared))
+pub started_first : (ss now : List Node) (states : List NodeState) (s : Node) (first : Declaration) (declared : List Declaration) (settings : List Assignment) (n : ℕ) → 1 ≤ length declared → first ≡ get_or declared 0 first → first.node ≡ n → StandsFor s (started settings first) → ((xs : List NodeState) → StandFor (ss ++ s ∷ []) xs → StandFor now (xs ++ map (started settings) (filter (has_number n) (take (length declared - 1) (drop 1 declared))))) → StandFor ss states → StandFor now (states ++ map (started settings) (filter (has_number n) declared))
 started_first ss now states s first [] settings n h e same one rest stand = absurd (omega arith)
 started_first ss now states s first (d ∷ ds) settings n h e same one rest stand =
     let here : (d.node == n) ≡ true = subst (λ (k : Declaration). (k.node == n) ≡ true) e (grind (arith, nat_tests)) in

@@ -6,16 +6,17 @@ use Rattle.net_replay.specs.declared.reasons.What.TheVariants.{Many}
 use Rattle.net_replay.specs.declared.reasons.NetworkRefusal.{NetworkRefusal}
 use Rattle.net_replay.specs.declared.reasons.NetworkRefusal.TheVariants.{BadLine, NoMemory}
 use Rattle.net_replay.specs.declared.line.Line.{Line}
-use Rattle.net_replay.specs.declared.line.Line.TheVariants.{Node, Set, Act}
+use Rattle.net_replay.specs.declared.line.Line.TheVariants.{Node, Channel, Set, Act}
 use Rattle.net_replay.specs.Plan.{Plan}
 use Rattle.net_replay.specs.Lines.{line_at}
 
 abbrev pub nothing : Plan
-nothing = record { declared = []; settings = []; acts = [] }
+nothing = record { declared = []; channels = []; settings = []; acts = [] }
 
 -- a plan with what line number n says
 abbrev pub with_line : ℕ → Line → Plan → Plan
 with_line n (Node declaration) plan = record plan { declared = plan.declared ++ declaration ∷ [] }
+with_line n (Channel channel) plan = record plan { channels = plan.channels ++ channel ∷ [] }
 with_line n (Set setting) plan = record plan { settings = plan.settings ++ setting ∷ [] }
 with_line n (Act act) plan = record plan { acts = plan.acts ++ record { line = n; act = act } ∷ [] }
 

@@ -1,6 +1,8 @@
 -- The word by which a reason is shown. Own profile.
 use Rattle.std.specs.Prelude.{ℕ, List, codes}
 use Rattle.net_replay.specs.declared.reasons.What.{What}
+use Rattle.net_replay.specs.declared.reasons.Why.{Why}
+use Rattle.net_replay.specs.declared.reasons.Why.TheVariants as whys
 use Rattle.net_replay.specs.declared.reasons.What.TheVariants.{Many, Char, Word, NotBuilt, Late, Count, Number, Call, Alias, Node, Twice, Key, Value}
 
 abbrev pub word_for : What → List ℕ
@@ -17,3 +19,13 @@ word_for Node = codes "node"
 word_for Twice = codes "twice"
 word_for Key = codes "key"
 word_for Value = codes "value"
+
+-- and why an act wasn't done
+abbrev pub word_for_why : Why → List ℕ
+word_for_why whys.Own = codes "own"
+word_for_why whys.TooLow = codes "too low"
+word_for_why whys.TableFull = codes "table full"
+word_for_why whys.NoFrame = codes "no frame"
+word_for_why whys.NoChannel = codes "no channel"
+word_for_why whys.Settled = codes "settled"
+word_for_why whys.NotSettled = codes "not settled"

@@ -12,6 +12,8 @@ use std::marker::Model;
 pub enum Key {
     /// `life`: how many rounds a report lives, 1 to 255.
     Life,
+    /// `least`: how many rounds a broadcast route has left at least, 1 to 255.
+    Least,
     /// `minq`: the least quality of a usable report, 1 to 255.
     MinimumQuality,
     /// `quality`: the quality of the path to each neighbour, 0 to 255.
@@ -46,6 +48,8 @@ impl Key {
     {
         if word == b"life".as_slice() {
             Ok(Key::Life)
+        } else if word == b"least".as_slice() {
+            Ok(Key::Least)
         } else if word == b"minq".as_slice() {
             Ok(Key::MinimumQuality)
         } else if word == b"quality".as_slice() {
@@ -63,6 +67,7 @@ impl Key {
     {
         match self {
             Key::Life => 1,
+            Key::Least => 1,
             Key::MinimumQuality => 1,
             Key::PathQuality => 0,
         }
@@ -74,6 +79,7 @@ impl Key {
     {
         match self {
             Key::Life => 255,
+            Key::Least => 255,
             Key::MinimumQuality => 255,
             Key::PathQuality => 255,
         }
@@ -85,6 +91,7 @@ impl Key {
     {
         match self {
             Key::Life => 6,
+            Key::Least => 5,
             Key::MinimumQuality => 1,
             Key::PathQuality => 192,
         }
@@ -96,8 +103,9 @@ impl Key {
     {
         match self {
             Key::Life => 0,
-            Key::MinimumQuality => 1,
-            Key::PathQuality => 2,
+            Key::Least => 1,
+            Key::MinimumQuality => 2,
+            Key::PathQuality => 3,
         }
     }
 }
@@ -106,8 +114,7 @@ impl Key {
 fn is_later_key(word: &[u8]) -> bool
     ensures { result ≡ list_any (pointwise nat_eq word.now) keys.later_keys }
 {
-    word == b"least".as_slice()
-        || word == b"window".as_slice()
+    word == b"window".as_slice()
         || word == b"timeout".as_slice()
         || word == b"retries".as_slice()
         || word == b"busy".as_slice()

@@ -1,4 +1,5 @@
 ghost use Rattle.std.specs.Prelude.{◌≡◌, ◌≤◌, IfOk};
+ghost use Rattle.net_replay.specs.Lines as lines;
 ghost use Rattle.net_replay.specs.Places as places;
 
 use crate::declarations::{Declaration, has_call, has_node};
@@ -26,6 +27,20 @@ pub fn octet(word: &[u8]) -> Result<u8, What>
 {
     let value = number(0, 255, word)?;
     Ok(value as u8)
+}
+
+/// The number of a frame, from 1.
+pub fn frame(word: &[u8]) -> Result<u32, What>
+    ensures { result ≡ lines.frame_at word.now }
+{
+    number(1, 4_294_967_295, word)
+}
+
+/// How many frames, at most.
+pub fn count(word: &[u8]) -> Result<u32, What>
+    ensures { result ≡ lines.count_at word.now }
+{
+    number(1, 100_000, word)
 }
 
 /// A number of any size, which has to be from `least` to `most`.

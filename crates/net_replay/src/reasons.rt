@@ -59,6 +59,44 @@ impl fmt::Display for What {
     }
 }
 
+/// Why an act of a network wasn't done.
+#[derive(Clone, Copy, Debug, PartialEq, Eq)]
+pub enum Why {
+    /// A route to the node itself.
+    Own,
+    /// A route of a quality below the least that the node uses.
+    TooLow,
+    /// The node's table has no room for the route.
+    TableFull,
+    /// No frame has that number.
+    NoFrame,
+    /// The node sent the frame itself, or shares no channel with its sender.
+    NoChannel,
+    /// The frame is settled already.
+    Settled,
+    /// The frame isn't settled yet.
+    NotSettled,
+}
+
+impl fmt::Display for Why {
+    ghost use Rattle.std.specs.Prelude.{Some};
+    ghost use Rattle.net_replay.specs.Reasons.{word_for_why};
+
+    ghost output = { λ why. Some (word_for_why why) };
+
+    fn fmt<W: fmt::Write>(&self, f: &mut fmt::Formatter<W>) -> fmt::Result {
+        f.write_str(match self {
+            Why::Own => "own",
+            Why::TooLow => "too low",
+            Why::TableFull => "table full",
+            Why::NoFrame => "no frame",
+            Why::NoChannel => "no channel",
+            Why::Settled => "settled",
+            Why::NotSettled => "not settled",
+        })
+    }
+}
+
 /// Why a network file wasn't read.
 #[derive(Clone, Copy, Debug, PartialEq, Eq, Error)]
 pub enum NetworkRefusal {

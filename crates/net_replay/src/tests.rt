@@ -43,7 +43,7 @@ fn the_first_bad_word_of_the_first_bad_line_is_told(rt: HostRuntime) {
             Some((3, What::Twice)),
         ),
         ("node 1 N0AAA A\nset 1 window 4", Some((2, What::NotBuilt))),
-        ("node 1 N0AAA A\nchannel 1 2", Some((2, What::NotBuilt))),
+        ("node 1 N0AAA A\nvia 1 N0BBB", Some((2, What::NotBuilt))),
         (
             "node 1 N0AAA A\nheard 1 N0BBB B N0CCC C N0DDD",
             Some((2, What::Count)),

@@ -1,0 +1,51 @@
+-- Something handed to a node, and what comes of it published.
+use Rattle.std.proofs.Common.{◌≡◌, ◌<◌, ◌≤◌, ◌+◌, ◌++◌, ◌∙◌, ℕ, refl, sym, ap, subst, List, [], length, map, arith}
+use Rattle.std.specs.Prelude.{Some, None}
+use Rattle.std.proofs.lemmas.List.{length-append, length-map}
+use Rattle.net_replay.specs.declared.air.Aired.{Aired}
+use Rattle.net_replay.specs.declared.channels.Channel.{Channel}
+use Rattle.net_replay.specs.declared.node.Node.{Node}
+use Rattle.net_replay.specs.declared.node.Outputs.{Outputs}
+use Rattle.net_replay.specs.declared.reasons.ReplayRefusal.{ReplayRefusal}
+use Rattle.net_replay.specs.declared.reasons.ReplayRefusal.TheVariants.{FramesFull, NoMemory}
+use Rattle.net_replay.specs.Air.{in_air}
+use Rattle.net_replay.specs.Nodes.{NodeState, Input, Reaction, reacts}
+use Rattle.net_replay.specs.World.{World, node_in, aired, tell, events_of, reached, reaches, comes_of}
+use Rattle.net_replay.specs.Traces.{Course, IsTraceOf, HandsOut, Reached, Publishes, IsRefusal}
+
+pub refusal_of : (e : ReplayRefusal) (n m : ℕ) → n ≡ m → IsRefusal e n → IsRefusal e m
+refusal_of e n m same h = subst (IsRefusal e) same h
+
+pub refused_still : (e : ReplayRefusal) (n m : ℕ) → n ≤ m → IsRefusal e n → IsRefusal e m
+refused_still FramesFull n m more h = omega arith
+refused_still NoMemory n m more h = tt
+
+pub handed : (channels : List Channel) (line number : ℕ) (input : Input) (w : World) (old new : Course) (out : Outputs) → IsTraceOf old w → Reached number input new.nodes w.nodes (Some out)
+    → ((r : Reaction NodeState) → HandsOut out r → Publishes channels line number r old.air new.air old.events new.events)
+    → IsTraceOf new (reached channels line number input w)
+unfolding reached
+handed channels line number input w old new out trace there publishes =
+    let state = there.state in
+    let p = publishes (reacts state input) there.hands in
+    rw there.is_in (record {
+      told = p.events ∙ (ap (λ es. es ++ map (tell line) (events_of number (length old.air) (reacts state input) (aired channels number (reacts state input)))) trace.told
+        ∙ ap (λ (air : List Aired). w.told ++ map (tell line) (events_of number (length air) (reacts state input) (aired channels number (reacts state input)))) trace.air);
+      air = p.frames ∙ ap (λ air. air ++ map (in_air number) (aired channels number (reacts state input))) trace.air;
+      nodes = there.stand;
+    })
+
+pub not_handed : (channels : List Channel) (line number : ℕ) (input : Input) (w : World) (old new : Course) → IsTraceOf old w → Reached number input new.nodes w.nodes None
+    → new.air ≡ old.air → new.events ≡ old.events → IsTraceOf new (reached channels line number input w)
+unfolding reached
+not_handed channels line number input w old new trace there air events =
+    rw there.none (record { told = events ∙ trace.told; air = air ∙ trace.air; nodes = there.stand })
+
+pub refused : (channels : List Channel) (line number : ℕ) (input : Input) (w : World) (old : Course) (nodes : List Node) (out : Outputs) (e : ReplayRefusal) → IsTraceOf old w → Reached number input nodes w.nodes (Some out)
+    → ((r : Reaction NodeState) → HandsOut out r → IsRefusal e (length old.air + length (aired channels number r)))
+    → IsRefusal e (length (reached channels line number input w).air)
+unfolding reached
+refused channels line number input w old nodes out e trace there refuses =
+    let state = there.state in
+    let frames = aired channels number (reacts state input) in
+    let many : length old.air + length frames ≡ length (w.air ++ map (in_air number) frames) = ap (λ (air : List Aired). length air + length frames) trace.air ∙ omega (arith, length-append w.air (map (in_air number) frames), length-map frames (in_air number)) in
+    rw there.is_in (refusal_of e _ _ many (refuses (reacts state input) there.hands))

@@ -1,0 +1,13 @@
+use Rattle.std.proofs.Common.{subst, sym}
+use Rattle.net_replay.specs.Traces.{StandsFor}
+use Rattle.net_replay.proofs.NodePlaces.{found, not_found, at_place, in_none}
+use Rattle.net_replay.proofs.finding.node_of.Goals as goal
+
+pub returns-in-Some : goal.returns-in-Some
+returns-in-Some c = λ states stand.
+    let place = at_place c.args.number c.args.nodes.now states c.in-Some.at c.index-nodes-at.result (found c.args.number c.args.nodes.now c.in-Some.at c.in-Some.ensures.place c.in-Some.ensures.within) stand in
+    record { state = place.state; is_in = place.is_in; stands = subst (λ n. StandsFor n place.state) (sym c.index-nodes-at.is) place.stands }
+
+pub returns-in-None : goal.returns-in-None
+returns-in-None c = λ states stand.
+    (in_none c.args.number c.args.nodes.now states (not_found c.args.number c.args.nodes.now c.in-None.ensures.place) stand)

@@ -1,0 +1,80 @@
+-- Frames in the air, and who hears whom. Own profile.
+use Rattle.std.specs.Prelude.{ℕ, zero, suc, ◌+◌, ◌-◌, List, [], ◌∷◌, ◌++◌, length, map, filter, position, slice_get, Bool, true, false, ◌≡◌, ◌&&◌, ◌==◌, not, Option, Some, None, if◌then◌else◌}
+use Rattle.std.specs.List.{AllByRecursion, list_any, range_with_len}
+use Rattle.net_replay.specs.declared.air.Aired.{Aired}
+use Rattle.net_replay.specs.declared.channels.Channel.{Channel}
+use Rattle.net_replay.specs.declared.reasons.Why.{Why}
+use Rattle.net_replay.specs.declared.reasons.Why.TheVariants.{NoFrame, Settled, NotSettled, NoChannel}
+
+-- ---- channels
+
+abbrev pub has_member : List ℕ → ℕ → Bool
+has_member members node = list_any (λ m. m == node) members
+
+abbrev pub is_on : ℕ → Channel → Bool
+is_on node channel = has_member channel.nodes.items node
+
+-- the node is on a channel
+abbrev pub is_on_air : List Channel → ℕ → Bool
+is_on_air channels node = list_any (is_on node) channels
+
+abbrev pub share_channel : List Channel → ℕ → ℕ → Bool
+share_channel channels sender node = list_any (λ channel. is_on sender channel && is_on node channel) channels
+
+-- nodes hear each other where they are two and share a channel
+abbrev pub can_hear : List Channel → ℕ → ℕ → Bool
+can_hear channels sender node = not (sender == node) && share_channel channels sender node
+
+-- the nodes that hear a sender, by number
+abbrev pub hearers : List Channel → ℕ → List ℕ
+hearers channels sender = filter (can_hear channels sender) (range_with_len 1 16)
+
+-- ---- frames
+
+abbrev pub AllSettled : List Aired → Type 0
+AllSettled frames = AllByRecursion (λ (f : Aired). f.settled ≡ true) frames
+
+-- a frame as it is put in the air
+abbrev pub in_air : ℕ → List ℕ → Aired
+in_air sender octets = record { sender = sender; octets = octets; settled = false }
+
+-- Frames are numbered from 1.
+abbrev pub frame_of : List Aired → ℕ → Option Aired
+frame_of air number = slice_get air (number - 1)
+
+-- the place of the oldest frame that isn't settled
+abbrev pub oldest : List Aired → Option ℕ
+oldest air = position (λ f. not f.settled) air
+
+abbrev pub settled : Aired → Aired
+settled f = record f { settled = true }
+
+-- the frames, where the one at a place is settled
+abbrev pub settled_at : ℕ → List Aired → List Aired
+settled_at at [] = []
+settled_at zero (f ∷ fs) = settled f ∷ fs
+settled_at (suc at) (f ∷ fs) = f ∷ settled_at at fs
+
+-- why a frame that has to be settled, or unsettled, isn't
+abbrev pub wrong_state : Bool → Aired → Option Why
+wrong_state true f = if f.settled then None else Some NotSettled
+wrong_state false f = if f.settled then Some Settled else None
+
+abbrev pub or_else : Option Why → Option Why → Option Why
+or_else (Some why) other = Some why
+or_else None other = other
+
+-- why such a frame can't be found
+abbrev pub lost_fault : Bool → Option Aired → Option Why
+lost_fault settled None = Some NoFrame
+lost_fault settled (Some f) = wrong_state settled f
+
+-- why the node can't hear a frame
+abbrev pub unheard : List Channel → ℕ → Option Aired → Option Why
+unheard channels node None = Some NoFrame
+unheard channels node (Some f) = if can_hear channels f.sender node then None else Some NoChannel
+
+-- why a frame that has to be settled, or unsettled, can't go to a node: it isn't there, isn't so, or the node is its sender or
+-- shares no channel with it
+abbrev pub delivery_fault : List Channel → ℕ → Bool → Option Aired → Option Why
+delivery_fault channels node settled f = or_else (lost_fault settled f) (unheard channels node f)

@@ -1,0 +1,92 @@
+use crate::reasons::Why;
+use ax_address::{Alias, Call};
+use route_table::Route;
+use std::marker::Model;
+
+/// What a node has to tell of something that reached it.
+#[derive(Clone, Copy, Debug, PartialEq, Eq)]
+pub enum NodeEntry {
+    /// It refused a broadcast: it has `live` usable routes and would have had `would_be`, more than it may.
+    Overflow { live: usize, would_be: usize },
+}
+
+/// A node's table as it was when it was shown.
+#[derive(Debug, Drop)]
+pub struct Table {
+    node: u8,
+    call: Call,
+    alias: Alias,
+    routes: Vec<Route>,
+}
+
+impl Model for Table {
+    ghost use Rattle.net_replay.specs.Tables.{Table};
+
+    ghost Value = { Table };
+
+    ghost view = { λ t. record { node = t.node; call = t.call; alias = t.alias; routes = t.routes.items } };
+}
+
+impl Table {
+    ghost use Rattle.std.specs.Prelude.{◌≡◌};
+
+    /// A table of these routes, by destination, and of each the best first.
+    pub(crate) fn new(node: u8, call: Call, alias: Alias, routes: Vec<Route>) -> Table
+        ensures { result ≡ record { node = node; call = call; alias = alias; routes = routes.items } }
+    {
+        Table {
+            node,
+            call,
+            alias,
+            routes,
+        }
+    }
+
+    /// The node's number.
+    pub fn node(&self) -> u8
+        ensures { result ≡ self.now.node }
+    {
+        self.node
+    }
+
+    /// The node's call.
+    pub fn call(&self) -> Call
+        ensures { result ≡ self.now.call }
+    {
+        self.call
+    }
+
+    /// The node's alias.
+    pub fn alias(&self) -> Alias
+        ensures { result ≡ self.now.alias }
+    {
+        self.alias
+    }
+
+    /// The routes, by destination, and of each the best first.
+    pub fn routes(&self) -> &[Route]
+        ensures { result.now ≡ self.now.routes }
+    {
+        &self.routes
+    }
+}
+
+/// Something that a replay has to tell.
+#[derive(Debug, Drop)]
+pub enum Event {
+    /// What the node of that number tells.
+    Entry { node: u8, entry: NodeEntry },
+    /// The frame of that number, from 1, was put in the air.
+    InAir { frame: usize },
+    /// A node's table was shown.
+    Shown { table: Table },
+    /// An act wasn't done.
+    Refused { why: Why },
+}
+
+/// An event with the number of the line at which it came, from 1.
+#[derive(Debug, Drop)]
+pub struct NumberedEvent {
+    pub line: u32,
+    pub event: Event,
+}
