@@ -1,11 +1,14 @@
 -- What `replay` reads and writes.
-use Rattle.std.specs.Prelude.{ℕ, ◌≡◌, ◌<◌, ◌≤◌, List, length, Option, Ok, Err, IsSomeAnd}
+use Rattle.std.specs.Prelude.{ℕ, ◌≡◌, ◌<◌, ◌≤◌, List, length, Option, Result, Ok, Err, IsSomeAnd}
 use Rattle.std.specs.Io.KnownBytes.{Appends}
 use Rattle.net_replay.specs.Networks.{network_of, Bad}
 use Rattle.net_replay.specs.Plan.{Plan}
+use Rattle.net_replay.specs.Traces.{most_frames}
 use Rattle.net_replay.specs.World.{world}
 use Rattle.net_replay.specs.Reports.{report_text}
 use Rattle.node_cmd.specs.declared.reading.TheConstants.{MAX_FILE}
+use Rattle.node_cmd.specs.declared.replays.ReportRefusal.{ReportRefusal}
+use Rattle.node_cmd.specs.declared.replays.ReportRefusal.TheVariants.{BadLine, TooManyFrames, NoMemory}
 use Rattle.node_cmd.specs.Notes.{bad_line_note}
 use Rattle.node_cmd.specs.Reading.{ReadsAll}
 use Rattle.node_cmd.specs.Writing.{AppendsFront}
@@ -18,13 +21,26 @@ ReadsNetwork old new P = (bytes : List ℕ) × (network : Plan) × ReadsAll old 
 abbrev pub ReadsBadFile : Option (List ℕ) → Option (List ℕ) → (List ℕ → Type 0) → Type 0
 ReadsBadFile old new P = (bytes : List ℕ) × (bad : Bad) × ReadsAll old new bytes × (network_of bytes ≡ Err bad) × P (bad_line_note bad.0 bad.1)
 
+-- so many frames as a replay may have in the air, or more, are put there
+abbrev pub AirsFew : Plan → Type 0
+AirsFew network = length (world network).air ≤ most_frames
+
+abbrev pub AirsTooMany : Plan → Type 0
+AirsTooMany network = most_frames < length (world network).air
+
+-- why there is no report of what was read: a bad line, too many frames, or want of memory
+abbrev pub NotReported : ReportRefusal → Result Plan Bad → Type 0
+NotReported (BadLine line what) read = read ≡ Err (line, what)
+NotReported TooManyFrames read = (network : Plan) × (read ≡ Ok network) × AirsTooMany network
+NotReported NoMemory read = Unit {0}
+
 -- the report of a network was written
 abbrev pub WritesReport : Option (List ℕ) → Option (List ℕ) → Plan → Type 0
-WritesReport old new network = Appends old new (report_text (world network))
+WritesReport old new network = AirsFew network × Appends old new (report_text (world network))
 
 -- a front of the report of a network was written
 abbrev pub WritesFront : Option (List ℕ) → Option (List ℕ) → Plan → Type 0
-WritesFront old new network = AppendsFront old new (report_text (world network))
+WritesFront old new network = AirsFew network × AppendsFront old new (report_text (world network))
 
 -- the source tells its bytes, and they are more than a file may have
 abbrev pub TellsTooMuch : Option (List ℕ) → Type 0
@@ -34,6 +50,13 @@ TellsTooMuch left = IsSomeAnd left (λ bytes. MAX_FILE < length bytes)
 abbrev pub TellsBadFile : Option (List ℕ) → Type 0
 TellsBadFile left = IsSomeAnd left (λ bytes. (length bytes ≤ MAX_FILE) × ((bad : Bad) × (network_of bytes ≡ Err bad)))
 
--- the source tells its bytes, and they are the file of a network
+-- the source tells its bytes, and they are the file of a network of which P holds
+abbrev pub Tells : (Plan → Type 0) → Option (List ℕ) → Type 0
+Tells P left = IsSomeAnd left (λ bytes. (length bytes ≤ MAX_FILE) × ((network : Plan) × (network_of bytes ≡ Ok network) × P network))
+
+-- one that puts as many frames in the air as it may, or too many
 abbrev pub TellsNetwork : Option (List ℕ) → Type 0
-TellsNetwork left = IsSomeAnd left (λ bytes. (length bytes ≤ MAX_FILE) × ((network : Plan) × (network_of bytes ≡ Ok network)))
+TellsNetwork left = Tells AirsFew left
+
+abbrev pub TellsTooManyFrames : Option (List ℕ) → Type 0
+TellsTooManyFrames left = Tells AirsTooMany left

@@ -1,21 +1,35 @@
 ghost use Rattle.std.specs.Prelude.{◌≡◌, ◌≢◌, ◌≤◌, ◌⊎◌, length, Ok, IfOk, IfErr};
 ghost use Rattle.radio_base.specs.Causes.{Rose};
-ghost use Rattle.net_replay.specs.Networks.{network_of, ReadAs};
+ghost use Rattle.net_replay.specs.Networks.{network_of};
 ghost use Rattle.net_replay.specs.Plan.{Plan};
-ghost use Rattle.net_replay.specs.World.{world};
+ghost use Rattle.net_replay.specs.Traces.{IsTraceOf};
+ghost use Rattle.net_replay.specs.World.{World, world};
 ghost use Rattle.net_replay.specs.Reports.{report_text};
 ghost use Rattle.node_cmd.specs.Reading.{ReadsFew, ReadsTooMuch};
 ghost use Rattle.node_cmd.specs.Writing.{Says};
 ghost use Rattle.node_cmd.specs.StatusNotes.{HasNote, IsSilent};
-ghost use Rattle.node_cmd.specs.Replays.{ReadsNetwork, ReadsBadFile, WritesReport, WritesFront, TellsTooMuch, TellsBadFile, TellsNetwork};
+ghost use Rattle.node_cmd.specs.Replays.{ReadsNetwork, ReadsBadFile, WritesReport, WritesFront, AirsFew, AirsTooMany, NotReported, TellsTooMuch, TellsTooManyFrames, TellsBadFile, TellsNetwork};
+ghost use Rattle.node_cmd.specs.declared.replays.ReportRefusal.TheVariants as Refusal;
 
 use crate::notes::{READ_FAULT, TOO_LONG, bad_line_note, say};
 use crate::reading::{MAX_FILE, ReadRefusal, read_file};
 use crate::status::Status;
 use crate::writing::write_all;
-use net_replay::{NetworkRefusal, read_network, replay, report};
+use net_replay::{
+    Network, NetworkRefusal, ReplayRefusal, Trace, What, read_network, replay, report,
+};
 use radio_base::{Sink, Source, TextOut};
 use std::alloc::Global;
+
+/// Why there is no report.
+#[derive(Clone, Copy, Debug, PartialEq, Eq)]
+pub enum ReportRefusal {
+    /// The first bad line, counted from 1.
+    BadLine { line: u32, what: What },
+    /// A frame would be put in the air after the last that may be there.
+    TooManyFrames,
+    NoMemory,
+}
 
 /// Reads a network file from the source to its end, and writes the report of that network to the sink.
 ///
@@ -32,9 +46,10 @@ pub fn replay_file<S: Source, K: Sink, N: Sink>(
     ensures read_few { result ≡ Status.ReadFault → ReadsFew (S.left source.old) (S.left source.new) }
     ensures read_same { result ≢ Status.ReadFault → S.faults source.new ≡ S.faults source.old }
 
-    // A file is too long exactly where one more byte was read than it may have.
-    ensures too_long { result ≡ Status.TooLong → ReadsTooMuch (S.left source.old) (S.left source.new) }
-    ensures too_long_comes { TellsTooMuch (S.left source.old) → ¬ Rose (S.faults source.old) (S.faults source.new) → (result ≡ Status.TooLong) ⊎ (result ≡ Status.NoMemory) }
+    // It is too long exactly where one more byte was read than a file may have, or where a good file would
+    // put one more frame in the air than may be there.
+    ensures too_long { result ≡ Status.TooLong → ReadsTooMuch (S.left source.old) (S.left source.new) ⊎ ReadsNetwork (S.left source.old) (S.left source.new) AirsTooMany }
+    ensures too_long_comes { TellsTooMuch (S.left source.old) ⊎ TellsTooManyFrames (S.left source.old) → ¬ Rose (S.faults source.old) (S.faults source.new) → (result ≡ Status.TooLong) ⊎ (result ≡ Status.NoMemory) }
 
     // A file is bad exactly where it was read to its end and has a first bad line, which the note names.
     ensures bad_file { result ≡ Status.BadFile → ReadsBadFile (S.left source.old) (S.left source.new) (Says (N.written notes.old) (N.written notes.new) (N.faults notes.old) (N.faults notes.new)) }
@@ -74,14 +89,18 @@ pub fn replay_file<S: Source, K: Sink, N: Sink>(
     };
     let text = match report_of(alloc, &bytes) {
         Ok(text) => text,
-        Err(NetworkRefusal::BadLine { line, what }) => match bad_line_note(alloc, line, what) {
+        Err(ReportRefusal::BadLine { line, what }) => match bad_line_note(alloc, line, what) {
             Ok(note) => {
                 say(notes, &note);
                 return Status::BadFile;
             }
             Err(_) => return Status::NoMemory,
         },
-        Err(NetworkRefusal::NoMemory) => return Status::NoMemory,
+        Err(ReportRefusal::TooManyFrames) => {
+            say(notes, TOO_LONG);
+            return Status::TooLong;
+        }
+        Err(ReportRefusal::NoMemory) => return Status::NoMemory,
     };
     match write_all(sink, text.bytes()) {
         Ok(()) => Status::Done,
@@ -90,19 +109,36 @@ pub fn replay_file<S: Source, K: Sink, N: Sink>(
 }
 
 /// The report of the network that a file spells.
-fn report_of(alloc: Global, bytes: &[u8]) -> Result<TextOut, NetworkRefusal>
+fn report_of(alloc: Global, bytes: &[u8]) -> Result<TextOut, ReportRefusal>
     requires { length bytes.now ≤ MAX_FILE }
-    ensures ok { IfOk result (λ t. (network : Plan) × (network_of bytes.now ≡ Ok network) × (t ≡ report_text (world network))) }
-    ensures err { IfErr result (λ e. ReadAs e (network_of bytes.now)) }
+    ensures ok { IfOk result (λ t. (network : Plan) × (network_of bytes.now ≡ Ok network) × AirsFew network × (t ≡ report_text (world network))) }
+    ensures err { IfErr result (λ e. NotReported e (network_of bytes.now)) }
 {
-    let network = read_network(alloc, bytes)?;
-    let trace = match replay(alloc, &network) {
-        Ok(trace) => trace,
-        Err(_) => return Err(NetworkRefusal::NoMemory),
-    };
+    match read_network(alloc, bytes) {
+        Ok(network) => report_of_network(alloc, &network),
+        Err(NetworkRefusal::BadLine { line, what }) => Err(ReportRefusal::BadLine { line, what }),
+        Err(NetworkRefusal::NoMemory) => Err(ReportRefusal::NoMemory),
+    }
+}
+
+fn report_of_network(alloc: Global, network: &Network) -> Result<TextOut, ReportRefusal>
+    ensures ok { IfOk result (λ t. AirsFew network.now × (t ≡ report_text (world network.now))) }
+    ensures err { IfErr result (λ e. NotReported e (Ok network.now)) }
+{
+    match replay(alloc, network) {
+        Ok(trace) => report_of_trace(alloc, &trace),
+        Err(ReplayRefusal::FramesFull) => Err(ReportRefusal::TooManyFrames),
+        Err(ReplayRefusal::NoMemory) => Err(ReportRefusal::NoMemory),
+    }
+}
+
+fn report_of_trace(alloc: Global, trace: &Trace) -> Result<TextOut, ReportRefusal>
+    ensures ok { IfOk result (λ t. (w : World) → IsTraceOf trace.now w → t ≡ report_text w) }
+    ensures err { IfErr result (λ e. e ≡ Refusal.NoMemory) }
+{
     let mut out = TextOut::new(alloc);
-    match report(alloc, &trace, &mut out) {
+    match report(alloc, trace, &mut out) {
         Ok(()) => Ok(out),
-        Err(_) => Err(NetworkRefusal::NoMemory),
+        Err(_) => Err(ReportRefusal::NoMemory),
     }
 }
