@@ -29,7 +29,7 @@ handed channels line number input w old new out trace there publishes =
     let p = publishes (reacts state input) there.hands in
     rw there.is_in (record {
       told = p.events ∙ (ap (λ es. es ++ map (tell line) (events_of number (length old.air) (reacts state input) (aired channels number (reacts state input)))) trace.told
-        ∙ ap (λ (air : List Aired). w.told ++ map (tell line) (events_of number (length air) (reacts state input) (aired channels number (reacts state input)))) trace.air);
+          ∙ ap (λ (air : List Aired). w.told ++ map (tell line) (events_of number (length air) (reacts state input) (aired channels number (reacts state input)))) trace.air);
       air = p.frames ∙ ap (λ air. air ++ map (in_air number) (aired channels number (reacts state input))) trace.air;
       nodes = there.stand;
     })

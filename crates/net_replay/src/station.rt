@@ -164,11 +164,7 @@ impl Station {
     }
 
     /// The frame that broadcasts these entries.
-    fn broadcast_of(
-        &self,
-        alloc: Global,
-        entries: ArrayVec<Entry, 11>,
-    ) -> Result<Octets, NoMemory>
+    fn broadcast_of(&self, alloc: Global, entries: ArrayVec<Entry, 11>) -> Result<Octets, NoMemory>
         ensures { IfOk result (λ octets. (s : StationState) → HoldsLog self.now s → octets ≡ nodes.broadcast_octets s.call (record { alias = s.alias; entries = entries.items })) }
     {
         let nodes = Nodes {

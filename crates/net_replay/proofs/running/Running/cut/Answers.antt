@@ -22,8 +22,7 @@ loop-preserved c = λ w trace.
     let later = c.args.count - (c.loop.counter + 1) in
     let next : c.args.count - c.loop.counter ≡ suc later = omega (arith, c.loop-test.true) in
     let found : oldest i.0.air ≡ Some at = ap oldest (sym i.1.air) ∙ sym c.in-Some.ensures.place in
-    let same = same_air c.loop.self.nodes.items c.loop.self.air c.oldest.new.self c.loop.self.events.items i.0 i.1 c.in-Some.ensures.same in
-    (
+    let same = same_air c.loop.self.nodes.items c.loop.self.air c.oldest.new.self c.loop.self.events.items i.0 i.1 c.in-Some.ensures.same in (
       settles at i.0,
       settled_air c.loop.self.nodes.items c.oldest.new.self c.settle.new.self c.loop.self.events.items at c.settle.ensures i.0 same,
       sym (ap (λ n. cuts n i.0) next ∙ cuts_one later at i.0 found) ∙ i.2,

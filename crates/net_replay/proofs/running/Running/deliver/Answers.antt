@@ -19,7 +19,7 @@ returns-in-None c =
     let runs = runs_then (left self) mid (left c.hand_aired.new.self) (settles at) next c.hand_aired.result (settled_air self.nodes.items self.air c.settle.new.self self.events.items at c.settle.ensures) c.hand_aired.ensures in
     runs_as (left self) (left c.hand_aired.new.self) (λ w. next (settles at w)) (does channels line (acts.Deliver c.args.frame node)) c.hand_aired.result
     (λ w t.
-      let none : delivery_fault channels node false (frame_of w.air c.args.frame) ≡ None = ap (λ air. delivery_fault channels node false (frame_of air c.args.frame)) (sym t.air) ∙ sym c.in-None.ensures in
-      let done : World = delivers channels line node (frame_of (settles (c.args.frame - 1) w).air c.args.frame) (settles (c.args.frame - 1) w) in
-      ap (λ k. delivers channels line node (slice_get (settles k w).air k) (settles k w)) c.place_of_frame-at.ensures ∙ sym (ap (λ why. unless_refused line why done w) none))
+    let none : delivery_fault channels node false (frame_of w.air c.args.frame) ≡ None = ap (λ air. delivery_fault channels node false (frame_of air c.args.frame)) (sym t.air) ∙ sym c.in-None.ensures in
+    let done : World = delivers channels line node (frame_of (settles (c.args.frame - 1) w).air c.args.frame) (settles (c.args.frame - 1) w) in
+    ap (λ k. delivers channels line node (slice_get (settles k w).air k) (settles k w)) c.place_of_frame-at.ensures ∙ sym (ap (λ why. unless_refused line why done w) none))
     runs

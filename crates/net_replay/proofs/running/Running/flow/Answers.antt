@@ -21,18 +21,18 @@ pub returns-in_err-flow_once : goal.returns-in_err-flow_once
 returns-in_err-flow_once c =
     let p = err_from_is_err_and c.from_residual.result c.from_residual.ensures.1 in
     rw (p.1, p.2) (λ w trace.
-      let i = c.loop.invariant w trace in
-      let at = c.in-Some.at in
-      let channels = c.args.channels.now in
-      let line = c.args.line in
-      let later = c.args.count - (c.loop.counter + 1) in
-      let next : c.args.count - c.loop.counter ≡ suc later = omega (arith, c.loop-test.true) in
-      let found : oldest i.0.air ≡ Some at = ap oldest (sym i.1.air) ∙ sym c.in-Some.ensures.place in
-      let same = same_air c.loop.self.nodes.items c.loop.self.air c.oldest.new.self c.loop.self.events.items i.0 i.1 c.in-Some.ensures.same in
-      let once : World = spreads channels line (slice_get (settles at i.0).air at) (settles at i.0) in
-      let whole : flows channels line later once ≡ flows channels line c.args.count w = sym (ap (λ n. flows channels line n i.0) next ∙ flows_one channels line later at i.0 found) ∙ i.2 in
-      let more : length once.air ≤ length (flows channels line c.args.count w).air = subst (λ (v : World). length once.air ≤ length v.air) whole (flows_grows channels line later once) in
-      refused_still _ _ _ more (c.in_err-flow_once.ensures i.0 same))
+    let i = c.loop.invariant w trace in
+    let at = c.in-Some.at in
+    let channels = c.args.channels.now in
+    let line = c.args.line in
+    let later = c.args.count - (c.loop.counter + 1) in
+    let next : c.args.count - c.loop.counter ≡ suc later = omega (arith, c.loop-test.true) in
+    let found : oldest i.0.air ≡ Some at = ap oldest (sym i.1.air) ∙ sym c.in-Some.ensures.place in
+    let same = same_air c.loop.self.nodes.items c.loop.self.air c.oldest.new.self c.loop.self.events.items i.0 i.1 c.in-Some.ensures.same in
+    let once : World = spreads channels line (slice_get (settles at i.0).air at) (settles at i.0) in
+    let whole : flows channels line later once ≡ flows channels line c.args.count w = sym (ap (λ n. flows channels line n i.0) next ∙ flows_one channels line later at i.0 found) ∙ i.2 in
+    let more : length once.air ≤ length (flows channels line c.args.count w).air = subst (λ (v : World). length once.air ≤ length v.air) whole (flows_grows channels line later once) in
+    refused_still _ _ _ more (c.in_err-flow_once.ensures i.0 same))
 
 pub loop-preserved : goal.loop-preserved
 loop-preserved c = λ w trace.
@@ -43,8 +43,7 @@ loop-preserved c = λ w trace.
     let later = c.args.count - (c.loop.counter + 1) in
     let next : c.args.count - c.loop.counter ≡ suc later = omega (arith, c.loop-test.true) in
     let found : oldest i.0.air ≡ Some at = ap oldest (sym i.1.air) ∙ sym c.in-Some.ensures.place in
-    let same = same_air c.loop.self.nodes.items c.loop.self.air c.oldest.new.self c.loop.self.events.items i.0 i.1 c.in-Some.ensures.same in
-    (
+    let same = same_air c.loop.self.nodes.items c.loop.self.air c.oldest.new.self c.loop.self.events.items i.0 i.1 c.in-Some.ensures.same in (
       spreads channels line (slice_get (settles at i.0).air at) (settles at i.0),
       c.in_ok-flow_once.ensures i.0 same,
       sym (ap (λ n. flows channels line n i.0) next ∙ flows_one channels line later at i.0 found) ∙ i.2,

@@ -9,8 +9,8 @@ pub returns-in_err-publish-in-Some : goal.returns-in_err-publish-in-Some
 returns-in_err-publish-in-Some c =
     let p = err_from_is_err_and c.from_residual-in_err-publish-in-Some.result c.from_residual-in_err-publish-in-Some.ensures.1 in
     rw (p.1, p.2) (λ w trace.
-      let there = rw c.in-Some.is at (c.in_ok-reaction.ensures w.nodes (rw c.deref_mut.ensures.value trace.nodes)) in
-      refused c.args.channels.now c.args.line c.args.number (input_of c.args.input.now) w (left c.args.self.now) c.react_at.new.nodes c.in-Some.outputs _ trace there c.in_err-publish-in-Some.ensures.err)
+    let there = rw c.in-Some.is at (c.in_ok-reaction.ensures w.nodes (rw c.deref_mut.ensures.value trace.nodes)) in
+    refused c.args.channels.now c.args.line c.args.number (input_of c.args.input.now) w (left c.args.self.now) c.react_at.new.nodes c.in-Some.outputs _ trace there c.in_err-publish-in-Some.ensures.err)
 
 pub returns-in_ok-publish-in-Some : goal.returns-in_ok-publish-in-Some
 returns-in_ok-publish-in-Some c = λ w trace.

@@ -29,8 +29,7 @@ loop-nth-preserved c = λ s h.
     let i = c.loop-nth.invariant s h in
     let es = to_broadcast s.rules s.log in
     let items = rw h.rules at (c.entries-entries.ensures s.log h.log) in
-    let octets = c.in_ok-broadcast_of.ensures s h ∙ ap (λ (xs : List _). broadcast_octets s.call (record { alias = s.alias; entries = xs })) items in
-    (
+    let octets = c.in_ok-broadcast_of.ensures s h ∙ ap (λ (xs : List _). broadcast_octets s.call (record { alias = s.alias; entries = xs })) items in (
       c.in_ok-push.ensures.items ∙ (ap (λ f. c.loop-nth.frames.items ++ f ∷ []) octets ∙ (ap (λ fs. fs ++ round_frame s es c.loop-nth.nth ∷ []) i.0 ∙ map_more (round_frame s es) c.loop-nth.nth)),
       λ more. let same : c.loop-nth.nth + 1 - 1 ≡ c.loop-nth.nth = omega arith in rw same (some_left es (11 * c.loop-nth.nth) (rw items at (not_behind c.loop-nth.nth c.entries-entries.result.items (sym (c.is_behind.ensures ∙ ap (λ xs. nat_lt 0 c.loop-nth.nth && (length xs == 0)) c.as_slice.ensures.value) ∙ c.if-is_behind.false) (omega (arith, more))))),
       i.2,
