@@ -11,7 +11,7 @@ use Rattle.radio_base.specs.declared.payload.Payload.{Payload}
 use Rattle.ax_link.specs.State.{Rules, State, Frame, Going, is_up}
 use Rattle.ax_link.specs.Table.{Input, Set_up, Send, Arrive, Tick, Close, Take, step}
 use Rattle.ax_link.specs.Pair.{Fits, IsNew, core}
-use Rattle.ax_link.specs.Windows.{opening, rules_new}
+use Rattle.ax_link.specs.Opening.{opening, rules_new}
 
 -- an end and its past
 pub record End : Type 0 where

@@ -6,7 +6,7 @@ pub returns-clause-safe : goal.returns-clause-safe
 returns-clause-safe c = λ w events. run_safe w events
 
 pub returns-clause-new : goal.returns-clause-new
-returns-clause-new c = λ size a b m s t. new_starts size a b m s t
+returns-clause-new c = λ size a b m s. new_starts size a b m s
 
 pub returns-clause-met : goal.returns-clause-met
 returns-clause-met c = λ p. carries p
