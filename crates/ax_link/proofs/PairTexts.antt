@@ -1,5 +1,5 @@
 -- An I frame keeps the two ways.
-use Rattle.std.proofs.Common.{◌≡◌, ℕ, zero, suc, ◌+◌, ◌-◌, ◌%◌, ◌<◌, ◌≤◌, List, [], ◌∷◌, ◌++◌, length, drop, Option, Some, None, slice_get, slice_set, nat_lt, nat_le, refl, ap, sym, ◌∙◌, arith, max, if◌then◌else◌, true, false, Bool, nat_eq, not, ◌||◌, subst, append_assoc, append-nil, is_some}
+use Rattle.std.proofs.Common.{◌≡◌, ℕ, zero, suc, ◌+◌, ◌-◌, ◌%◌, ◌<◌, ◌≤◌, List, [], ◌∷◌, ◌++◌, length, Option, Some, None, slice_get, slice_set, nat_lt, nat_le, refl, ap, sym, ◌∙◌, arith, max, if◌then◌else◌, true, false, Bool, nat_eq, not, ◌||◌, subst, append_assoc, append-nil}
 use Rattle.std.proofs.lemmas.Bool.Decides.{nat_tests}
 use Rattle.ax_link.specs.Moves.{take_next, first_early, next_early, move_on, moved, put, rr, fill_count, answer_taken, take_in, text_plain, text_later, text_srej, text, stored, is_free, asks, asks_of}
 use Rattle.ax_link.specs.declared.kind.Kind.{Kind}

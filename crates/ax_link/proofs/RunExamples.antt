@@ -3,10 +3,11 @@ use Rattle.std.proofs.Common.{◌≡◌, ℕ, ◌+◌, ◌<◌, ◌≤◌, Bool,
 use Rattle.std.proofs.lemmas.Bool.Decides.{nat_tests}
 use Rattle.radio_base.specs.declared.payload.Payload.{Payload}
 use Rattle.ax_link.specs.declared.plain.LinkConfig.{LinkConfig}
+use Rattle.ax_link.specs.declared.plain.LinkPhase.TheVariants.{Up}
 use Rattle.ax_link.specs.Opening.{opening, rules_new, window_used}
 use Rattle.ax_link.specs.State.{places}
 use Rattle.ax_link.specs.Pair.{Fits, IsNew, core}
-use Rattle.ax_link.specs.Runs.{CleanRun, Starts, carrying, new_ends, run, two_new}
+use Rattle.ax_link.specs.Runs.{Clean, CleanRun, Ends, Starts, carrying, losing, new_ends, run, two_new}
 use Rattle.ax_link.proofs.RunStates.{top_none}
 
 fits_8 : (srej : Bool) (w : ℕ) → window_used 8 srej w < 8
@@ -56,21 +57,41 @@ new_starts size a b m s = record {
   leftward = new_fits size b a m (sym s);
 }
 
-pub carries : (p : Payload) → CleanRun two_new (carrying p) × ((run two_new (carrying p)).right.link.gots ≡ p ∷ []) × ((run two_new (carrying p)).left.link.acked ≡ 1)
+-- at most one set-up command was put out, and an end that has been Up is
+not_up : (w : Ends) → w.left.set_ups + w.right.set_ups ≤ 1 → w.left.was_up ≡ false → w.right.was_up ≡ false → Clean w
+not_up w s l r = record { set_ups = s; left = λ e. absurd (cc (e, l)); right = λ e. absurd (cc (e, r)) }
+
+right_up : (w : Ends) → w.left.set_ups + w.right.set_ups ≤ 1 → w.left.was_up ≡ false → w.right.link.phase ≡ Up → Clean w
+right_up w s l r = record { set_ups = s; left = λ e. absurd (cc (e, l)); right = λ e. r }
+
+both_up : (w : Ends) → w.left.set_ups + w.right.set_ups ≤ 1 → w.left.link.phase ≡ Up → w.right.link.phase ≡ Up → Clean w
+both_up w s l r = record { set_ups = s; left = λ e. l; right = λ e. r }
+
+one : 1 + 0 ≤ 1
+one = omega arith
+
+pub carries : (p : Payload) → CleanRun (two_new false) (carrying p) × ((run (two_new false) (carrying p)).right.link.gots ≡ p ∷ []) × ((run (two_new false) (carrying p)).left.link.acked ≡ 1)
 carries p = (
+  (not_up _ (omega arith) refl refl, (not_up _ one refl refl, (right_up _ one refl refl, (both_up _ one refl refl, (both_up _ one refl refl, (both_up _ one refl refl, both_up _ one refl refl)))))),
+  refl,
+  refl,
+)
+
+pub carries_early : (p q : Payload) → CleanRun (two_new true) (losing p q) × ((run (two_new true) (losing p q)).right.link.gots ≡ p ∷ q ∷ []) × ((run (two_new true) (losing p q)).left.link.acked ≡ 2)
+carries_early p q = (
   (
-    record { set_ups = omega arith; left = λ e. absurd (cc e); right = λ e. absurd (cc e) },
+    not_up _ (omega arith) refl refl,
     (
-      record { set_ups = omega arith; left = λ e. absurd (cc e); right = λ e. absurd (cc e) },
+      not_up _ one refl refl,
       (
-        record { set_ups = omega arith; left = λ e. absurd (cc e); right = λ e. refl },
+        right_up _ one refl refl,
         (
-          record { set_ups = omega arith; left = λ e. refl; right = λ e. refl },
+          both_up _ one refl refl,
           (
-            record { set_ups = omega arith; left = λ e. refl; right = λ e. refl },
+            both_up _ one refl refl,
             (
-              record { set_ups = omega arith; left = λ e. refl; right = λ e. refl },
-              record { set_ups = omega arith; left = λ e. refl; right = λ e. refl },
+              both_up _ one refl refl,
+              (both_up _ one refl refl, (both_up _ one refl refl, (both_up _ one refl refl, (both_up _ one refl refl, both_up _ one refl refl)))),
             ),
           ),
         ),

@@ -1,18 +1,16 @@
 -- What the code keeps, a step further.
-use Rattle.std.proofs.Common.{◌≡◌, ℕ, zero, suc, ◌+◌, ◌-◌, ◌%◌, ◌<◌, ◌≤◌, Bool, true, false, List, [], ◌∷◌, ◌++◌, length, slice_get, Option, Some, None, map, refl, ap, sym, ◌∙◌, subst, arith, append_assoc, add-one, nat_lt, nat_le, ◌&&◌, ◌||◌, if◌then◌else◌, take, drop, length-append}
+use Rattle.std.proofs.Common.{◌≡◌, ℕ, zero, suc, ◌+◌, ◌-◌, ◌%◌, ◌<◌, ◌≤◌, Bool, true, false, List, [], ◌∷◌, ◌++◌, length, slice_get, Option, Some, None, map, refl, ap, sym, ◌∙◌, subst, arith, append_assoc, add-one, nat_lt, nat_le, ◌&&◌, take, drop, length-append}
 use Rattle.std.proofs.lemmas.Bool.Decides.{nat_tests}
 use Rattle.std.proofs.lemmas.List.{map-append, length-take-le, take-append-drop}
 use Rattle.radio_base.specs.declared.payload.Payload.{Payload}
 use Rattle.ax_frame.specs.declared.control.Control.TheVariants as control
-use Rattle.ax_link.specs.declared.kind.Kind.{Kind}
 use Rattle.ax_link.specs.declared.plain.LinkPhase.{LinkPhase}
 use Rattle.ax_link.specs.declared.plain.LinkPhase.TheVariants.{Down, SettingUp, Up, Releasing}
 use Rattle.ax_link.specs.declared.plain.LinkOut.{LinkOut}
 use Rattle.ax_link.specs.State.{Frame, Going, is_up}
 use Rattle.ax_link.specs.Table.{taken_out}
-use Rattle.radio_base.specs.declared.modulus.TheConstants.{COUNT_MAX}
 use Rattle.ax_link.specs.Moves.{acknowledge, frames_of, resumed}
-use Rattle.ax_link.specs.Standing.{Held, Stands, runs, going_of, state_of, frame_of}
+use Rattle.ax_link.specs.Standing.{Held, Stands, runs, going_of, frame_of}
 use Rattle.ax_link.specs.Stations.{PutsTexts, judged_held, next_taken, queued}
 use Rattle.circular_buffer.specs.Buffer.{keep_last}
 

@@ -35,7 +35,7 @@ impl<M: Modulus> Model for Link<M> {
 }
 
 impl<M: Modulus> Link<M> {
-    /// A link that is Down. It takes all the memory that it will ever need.
+    /// A link that is Down, of modulo 8 or 128. It takes all the memory that it will ever need.
     pub fn new(alloc: Global, config: LinkConfig) -> Result<Link<M>, NoMemory>
         requires modulus { (M.SIZE ≡ 8) ⊎ (M.SIZE ≡ 128) }
         requires t1 { config.t1 ≤ COUNT_MAX }

@@ -1,4 +1,4 @@
-use Rattle.std.proofs.Common.{◌∙◌, arith}
+use Rattle.std.proofs.Common.{arith}
 use Rattle.ax_link.proofs.EarlyPlaces.{top_at, top_before}
 use Rattle.ax_link.proofs.early.top.Goals.{then-is_filled, else-is_filled}
 use Rattle.ax_link.proofs.early.top.Goals as goal
