@@ -10,13 +10,6 @@ use Rattle.ax_link.specs.Stations.{asked_for, is_filled, moved_on, next_taken, w
 use Rattle.ax_link.proofs.Standings.{itself, standing}
 
 -- ---- places ----
-one_more_empty : (n : ℕ) → replicate {A = Option Payload} n None ++ None ∷ [] ≡ replicate (suc n) None
-one_more_empty zero = refl
-one_more_empty (suc n) = ap (λ e. None ∷ e) (one_more_empty n)
-
-pub one_empty_more : (n : ℕ) → replicate {A = Option Payload} n None ++ None ∷ [] ≡ replicate (n + 1) None
-one_empty_more n = rw (add-one n) (one_more_empty n)
-
 set_same : (e : List (Option Payload)) (i : ℕ) (x : Option Payload) → slice_get e i ≡ Some x → slice_set e i x ≡ e
 set_same [] i x h = refl
 set_same (y ∷ e) zero x h = ap (λ k. k ∷ e) (cc h)
@@ -79,9 +72,6 @@ pub record Goes (size : ℕ) (h : Held) (k : ℕ) (goal : Going) : Type 0 where
   pub stands : Stands size h at
   pub goes : record at { link = move_on k at.link } ≡ goal
 
-pub goes_first : (size : ℕ) (h : Held) (g : Going) → Stands size h g → Goes size h (length h.early) (moved_on g)
-goes_first size h g s = record { at = g; stands = s; goes = rw s.is refl }
-
 move_some : (k : ℕ) (s : State) (p : Payload) → Some p ≡ next_early s → move_on (suc k) s ≡ move_on k (take_next p s)
 move_some k s p e = ap (λ (x : Option Payload). elim x as (λ y. State) [ None ↦ s | Some q ↦ move_on k (take_next q s) ]) (sym e)
 
@@ -109,7 +99,3 @@ pub goes_no_further : (size k : ℕ) (h : Held) (goal : Going) →
 goes_no_further size k h goal next w =
     let n : None ≡ next_early w.at.link = next w.stands.before w.stands.gots w.stands.got ∙ ap (λ (x : Going). next_early x.link) (sym w.stands.is) in
     subst (Stands size h) (ap (λ (x : State). record w.at { link = x }) (sym (move_none k w.at.link n)) ∙ w.goes) w.stands
-
--- none may follow any more
-pub goes_to_end : (size k : ℕ) (h : Held) (goal : Going) → k ≡ 0 → Goes size h k goal → Stands size h goal
-goes_to_end size k h goal e w = subst (Stands size h) (ap (λ (m : ℕ). record w.at { link = move_on m w.at.link }) (sym e) ∙ w.goes) w.stands

@@ -140,9 +140,6 @@ srej_at false pf n p g other to_me to_other e l q t b =
     let k = both_taken g.link p other to_me (to_other ++ g.outs) (subst (λ k. slice_get other.given k ≡ Some p) i q) (subst (λ k. TextsFine other.given other.rules.size other.rules.window other.sent (texts_of to_me) (max (high g.link) (suc k))) i t) b in
     fine_answer_taken pf (record g { link = moved (take_next p g.link) }) other to_me to_other (both_moved (length (take_next p g.link).early) (take_next p g.link) other to_me (to_other ++ g.outs) k)
 
-wire_below : (n size ns : ℕ) → 0 < size → n % size ≡ ns → ns < size
-wire_below n size ns z e = omega (arith, z, e)
-
 srej_by : (x : Option ℕ) (pf : Bool) (ns : ℕ) (p : Payload) (g : Going) (other : Core) (to_me to_other : List Frame) → place_of g.link.rules.size ns (length g.link.gots) g.link.rules.window ≡ x → other.rules.window + g.link.rules.window ≤ other.rules.size → Coming g.link other to_me ns p → Fine g other to_me to_other →
     Fine (elim x as (λ y. Going) [ None ↦ put false (rr g.link pf) g | Some n ↦ if nat_lt (length g.link.gots) n then text_later pf n p g else take_in pf (moved (take_next p g.link)) g ]) other to_me to_other
 srej_by None pf ns p g other to_me to_other e f m b = fine_rr false pf g other to_me to_other b
