@@ -7,7 +7,7 @@ use Rattle.ax_link.specs.declared.plain.SendRefusal.{SendRefusal}
 use Rattle.ax_link.specs.State.{State, Going, begin}
 use Rattle.ax_link.specs.Table.{accepted, may_close, takes}
 use Rattle.ax_link.specs.Standing.{Held, Stands, StandsFor, state_of}
-use Rattle.ax_link.specs.Windows.{IsDrained, answer_by, send_answer, taken_in}
+use Rattle.ax_link.specs.Opening.{IsDrained, answer_by, send_answer, taken_in}
 
 -- a step begins where nothing waits
 pub begins : (size : ℕ) (h : Held) (s : State) → IsDrained h → StandsFor size h s → Stands size h (begin s)

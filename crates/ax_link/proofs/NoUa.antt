@@ -1,6 +1,6 @@
 -- No step of an end that stays Up puts out a UA with F.
 use Rattle.std.proofs.Common.{◌≡◌, ℕ, zero, suc, ◌+◌, ◌-◌, List, [], ◌∷◌, ◌++◌, length, Option, Some, None, refl, arith, true, false, Bool, min, max, nat_lt, nat_le, nat_eq, not, ◌&&◌, ◌||◌, if◌then◌else◌, drop}
-use Rattle.ax_link.specs.Moves.{put, note, to_phase, rr, timed, fill, fill_count, finish, supply, again, end_poll, start_poll, resupply, resupplied, answered, supervised, acknowledge, hold, on_supervisory, on_srej, on_i, text, text_plain, text_later, text_srej, take_in, answer_taken, stored, asks, frames, frames_of, moved, take_next}
+use Rattle.ax_link.specs.Moves.{put, note, to_phase, rr, timed, fill, fill_count, finish, supply, again, end_poll, start_poll, resupply, resupplied, answered, supervised, acknowledge, hold, on_supervisory, on_srej, on_i, text, text_plain, text_later, text_srej, take_in, answer_taken, stored, asks, asks_of, frames, frames_of, moved, take_next}
 use Rattle.ax_link.specs.declared.kind.Kind.{Kind}
 use Rattle.ax_link.specs.declared.kind.Kind.TheVariants.{I, Rr, Rnr, Rej, Srej, Disc, Dm, Ua, Frmr, SetUp, OtherSetUp, Xid, Other}
 use Rattle.ax_link.specs.State.{State, Frame, Going, ack_place, begin, is_up, busy, t1_runs, judged, restamped, wire, high}
@@ -30,9 +30,9 @@ q_shots : (size got : ℕ) (given : List Payload) (n many : ℕ) → opens_count
 q_shots size got given n zero = refl
 q_shots size got given n (suc many) = q_shots size got given (suc n) many
 
-q_asks : (s : State) (n many : ℕ) → opens_count (asks s n many) ≡ 0
-q_asks s n zero = refl
-q_asks s n (suc many) = q_asks s (suc n) many
+q_asks : (size n many : ℕ) → opens_count (asks_of size n many) ≡ 0
+q_asks size n zero = refl
+q_asks size n (suc many) = q_asks size (suc n) many
 
 q_add : (xs ys : List Frame) → opens_count xs ≡ 0 → opens_count ys ≡ 0 → opens_count (xs ++ ys) ≡ 0
 q_add xs ys a b = omega (arith, count_more xs ys, a, b)
@@ -118,7 +118,7 @@ q_plain pf ns p g q =
 
 q_later : (pf : Bool) (n : ℕ) (p : Payload) (g : Going) → Quiet g → Quiet (text_later pf n p g)
 q_later pf n p g q =
-    let a : opens_count (g.outs ++ asks g.link (high g.link) (n - high g.link)) ≡ 0 = q_add g.outs (asks g.link (high g.link) (n - high g.link)) q (q_asks g.link (high g.link) (n - high g.link)) in
+    let a : opens_count (g.outs ++ asks g.link (high g.link) (n - high g.link)) ≡ 0 = q_add g.outs (asks g.link (high g.link) (n - high g.link)) q (q_asks g.link.rules.size (high g.link) (n - high g.link)) in
     q_if pf (put false (rr (stored (n - length g.link.gots) p g.link) true) (record g { link = stored (n - length g.link.gots) p g.link; outs = g.outs ++ asks g.link (high g.link) (n - high g.link) }))
     (record g { link = stored (n - length g.link.gots) p g.link; outs = g.outs ++ asks g.link (high g.link) (n - high g.link) })
     (q_rr false true (record g { link = stored (n - length g.link.gots) p g.link; outs = g.outs ++ asks g.link (high g.link) (n - high g.link) }) a) a

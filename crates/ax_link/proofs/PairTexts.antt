@@ -1,7 +1,7 @@
 -- An I frame keeps the two ways.
-use Rattle.std.proofs.Common.{◌≡◌, ℕ, zero, suc, ◌+◌, ◌-◌, ◌%◌, ◌<◌, ◌≤◌, List, [], ◌∷◌, ◌++◌, length, drop, Option, Some, None, slice_get, slice_set, nat_lt, nat_le, refl, ap, sym, ◌∙◌, arith, max, if◌then◌else◌, true, false, Bool, nat_eq, not, ◌||◌, subst, append_assoc, append-nil, is_some}
+use Rattle.std.proofs.Common.{◌≡◌, ℕ, zero, suc, ◌+◌, ◌-◌, ◌%◌, ◌<◌, ◌≤◌, List, [], ◌∷◌, ◌++◌, length, Option, Some, None, slice_get, slice_set, nat_lt, nat_le, refl, ap, sym, ◌∙◌, arith, max, if◌then◌else◌, true, false, Bool, nat_eq, not, ◌||◌, subst, append_assoc, append-nil}
 use Rattle.std.proofs.lemmas.Bool.Decides.{nat_tests}
-use Rattle.ax_link.specs.Moves.{take_next, first_early, next_early, move_on, moved, put, rr, fill_count, answer_taken, take_in, text_plain, text_later, text_srej, text, stored, asks}
+use Rattle.ax_link.specs.Moves.{take_next, first_early, next_early, move_on, moved, put, rr, fill_count, answer_taken, take_in, text_plain, text_later, text_srej, text, stored, is_free, asks, asks_of}
 use Rattle.ax_link.specs.declared.kind.Kind.{Kind}
 use Rattle.ax_link.specs.declared.kind.Kind.TheVariants.{Rnr, Rej}
 use Rattle.ax_link.specs.State.{State, Frame, Going, top, high, wire, busy}
@@ -56,9 +56,9 @@ both_moved zero s other to_me to_other b = b
 both_moved (suc k) s other to_me to_other b = both_moved_by k (next_early s) s other to_me to_other (λ s2 b2. both_moved k s2 other to_me to_other b2) refl b
 
 -- a payload is stored early
-stored_if : (c : Bool) (i : ℕ) (p : Payload) (s : State) (other : Core) (to_me to_other : List Frame) → slice_get other.given (length s.gots + i) ≡ Some p → TextsFine other.given other.rules.size other.rules.window other.sent (texts_of to_me) (max (high s) (suc (length s.gots + i))) → Both (core s) other to_me to_other → Both (core (if c then s else record s { early = slice_set s.early i (Some p) })) other to_me to_other
-stored_if true i p s other to_me to_other g t b = b
-stored_if false i p s other to_me to_other g t b = record {
+stored_if : (c : Bool) (i : ℕ) (p : Payload) (s : State) (other : Core) (to_me to_other : List Frame) → slice_get other.given (length s.gots + i) ≡ Some p → TextsFine other.given other.rules.size other.rules.window other.sent (texts_of to_me) (max (high s) (suc (length s.gots + i))) → Both (core s) other to_me to_other → Both (core (if c then record s { early = slice_set s.early i (Some p) } else s)) other to_me to_other
+stored_if false i p s other to_me to_other g t b = b
+stored_if true i p s other to_me to_other g t b = record {
   out = record { fits = record { size = b.out.fits.size; window = b.out.fits.window; both = b.out.fits.both }; begun = b.out.begun; early = b.out.early; texts = b.out.texts; acks = b.out.acks; window = b.out.window; room = b.out.room };
   back = record {
     fits = record { size = b.back.fits.size; window = b.back.fits.window; both = b.back.fits.both };
@@ -72,7 +72,7 @@ stored_if false i p s other to_me to_other g t b = record {
 }
 
 pub both_stored : (i : ℕ) (p : Payload) (s : State) (other : Core) (to_me to_other : List Frame) → slice_get other.given (length s.gots + i) ≡ Some p → TextsFine other.given other.rules.size other.rules.window other.sent (texts_of to_me) (max (high s) (suc (length s.gots + i))) → Both (core s) other to_me to_other → Both (core (stored i p s)) other to_me to_other
-both_stored i p s other to_me to_other g t b = stored_if (is_some (first_early (drop i s.early))) i p s other to_me to_other g t b
+both_stored i p s other to_me to_other g t b = stored_if (is_free (slice_get s.early i)) i p s other to_me to_other g t b
 
 fine_answer_taken : (pf : Bool) (g : Going) (other : Core) (to_me to_other : List Frame) → Fine g other to_me to_other → Fine (answer_taken pf g) other to_me to_other
 fine_answer_taken pf g other to_me to_other b = fine_if (pf || (busy g.link || nat_eq (fill_count g.link) 0)) (put false (rr g.link pf) g) g other to_me to_other (fine_rr false pf g other to_me to_other b) b
@@ -101,13 +101,13 @@ plain_by false pf ns p g other to_me to_other e m b =
 pub fine_plain : (pf : Bool) (ns : ℕ) (p : Payload) (g : Going) (other : Core) (to_me to_other : List Frame) → Coming g.link other to_me ns p → Fine g other to_me to_other → Fine (text_plain pf ns p g) other to_me to_other
 fine_plain pf ns p g other to_me to_other m b = plain_by (nat_eq ns (wire g.link (length g.link.gots))) pf ns p g other to_me to_other refl m b
 
-asks_texts : (s : State) (n many : ℕ) → texts_of (asks s n many) ≡ []
-asks_texts s n zero = refl
-asks_texts s n (suc many) = asks_texts s (suc n) many
+asks_texts : (size n many : ℕ) → texts_of (asks_of size n many) ≡ []
+asks_texts size n zero = refl
+asks_texts size n (suc many) = asks_texts size (suc n) many
 
-asks_acks : (s : State) (n many : ℕ) → acks_of (asks s n many) ≡ []
-asks_acks s n zero = refl
-asks_acks s n (suc many) = asks_acks s (suc n) many
+asks_acks : (size n many : ℕ) → acks_of (asks_of size n many) ≡ []
+asks_acks size n zero = refl
+asks_acks size n (suc many) = asks_acks size (suc n) many
 
 -- frames that bring no text and acknowledge nothing
 both_quiet : (me other : Core) (to_me to_other more : List Frame) → texts_of more ≡ [] → acks_of more ≡ [] → Both me other to_me to_other → Both me other to_me (to_other ++ more)
@@ -127,7 +127,7 @@ fine_later pf n p g other to_me to_other l q t b =
     (subst (λ k. slice_get other.given k ≡ Some p) (sym i) q)
     (subst (λ k. TextsFine other.given other.rules.size other.rules.window other.sent (texts_of to_me) (max (high g.link) (suc k))) (sym i) t) b in
     let a = subst (Both (core (stored (n - length g.link.gots) p g.link)) other to_me) (append_assoc to_other g.outs (asks g.link (high g.link) (n - high g.link)))
-    (both_quiet (core (stored (n - length g.link.gots) p g.link)) other to_me (to_other ++ g.outs) (asks g.link (high g.link) (n - high g.link)) (asks_texts g.link (high g.link) (n - high g.link)) (asks_acks g.link (high g.link) (n - high g.link)) s) in
+    (both_quiet (core (stored (n - length g.link.gots) p g.link)) other to_me (to_other ++ g.outs) (asks g.link (high g.link) (n - high g.link)) (asks_texts g.link.rules.size (high g.link) (n - high g.link)) (asks_acks g.link.rules.size (high g.link) (n - high g.link)) s) in
     fine_if pf (put false (rr (record g { link = stored (n - length g.link.gots) p g.link; outs = g.outs ++ asks g.link (high g.link) (n - high g.link) }).link true) (record g { link = stored (n - length g.link.gots) p g.link; outs = g.outs ++ asks g.link (high g.link) (n - high g.link) }))
     (record g { link = stored (n - length g.link.gots) p g.link; outs = g.outs ++ asks g.link (high g.link) (n - high g.link) }) other to_me to_other
     (fine_rr false true (record g { link = stored (n - length g.link.gots) p g.link; outs = g.outs ++ asks g.link (high g.link) (n - high g.link) }) other to_me to_other a) a
@@ -139,9 +139,6 @@ srej_at false pf n p g other to_me to_other e l q t b =
     let i : n ≡ length g.link.gots = grind (arith, nat_tests, e, l) in
     let k = both_taken g.link p other to_me (to_other ++ g.outs) (subst (λ k. slice_get other.given k ≡ Some p) i q) (subst (λ k. TextsFine other.given other.rules.size other.rules.window other.sent (texts_of to_me) (max (high g.link) (suc k))) i t) b in
     fine_answer_taken pf (record g { link = moved (take_next p g.link) }) other to_me to_other (both_moved (length (take_next p g.link).early) (take_next p g.link) other to_me (to_other ++ g.outs) k)
-
-wire_below : (n size ns : ℕ) → 0 < size → n % size ≡ ns → ns < size
-wire_below n size ns z e = omega (arith, z, e)
 
 srej_by : (x : Option ℕ) (pf : Bool) (ns : ℕ) (p : Payload) (g : Going) (other : Core) (to_me to_other : List Frame) → place_of g.link.rules.size ns (length g.link.gots) g.link.rules.window ≡ x → other.rules.window + g.link.rules.window ≤ other.rules.size → Coming g.link other to_me ns p → Fine g other to_me to_other →
     Fine (elim x as (λ y. Going) [ None ↦ put false (rr g.link pf) g | Some n ↦ if nat_lt (length g.link.gots) n then text_later pf n p g else take_in pf (moved (take_next p g.link)) g ]) other to_me to_other

@@ -7,7 +7,7 @@ use Rattle.ax_link.specs.declared.plain.LinkNotice.TheVariants.{Failed}
 use Rattle.ax_link.specs.declared.plain.LinkPhase.{LinkPhase}
 use Rattle.ax_link.specs.declared.plain.LinkPhase.TheVariants.{Down, SettingUp, Up, Releasing}
 use Rattle.ax_link.specs.Moves.{note, to_phase, timed, fill}
-use Rattle.ax_link.specs.State.{State, Frame, Going, begin, high, top}
+use Rattle.ax_link.specs.State.{State, Frame, Going, begin, high, places, top}
 use Rattle.ax_link.specs.Table.{Input, Set_up, Send, Arrive, Tick, Close, Take, step_at, arrive_in, arrive_down, takes}
 use Rattle.ax_link.specs.Pair.{Core, core, Fits, IsNew, NoSetUps, after_ua, texts_of, acks_of}
 use Rattle.ax_link.specs.Runs.{set_ups_in}
@@ -37,7 +37,7 @@ early_same l g u n e p o = record {
 }
 
 pub early_down : (now : ℕ) (i : Input) (l : State) → IsNew l → NoArrival i → Early (record l { phase = Down }) (step_at now (record l { phase = Down }) i)
-early_down now Set_up l n k = record { phase = tt; new = record { acked = refl; sent = refl; high = omega (arith, top_none l.rules.window) }; rules = refl; only = (tt, tt); count = omega arith }
+early_down now Set_up l n k = record { phase = tt; new = record { acked = refl; sent = refl; high = omega (arith, top_none (places l.rules)) }; rules = refl; only = (tt, tt); count = omega arith }
 early_down now (Send x) l n k = early_same (record l { phase = Down }) (begin (record l { phase = Down })) tt (record { acked = n.acked; sent = n.sent; high = n.high }) refl refl refl
 early_down now (Arrive f) l n k = absurd k
 early_down now Tick l n k = early_same (record l { phase = Down }) (begin (record l { phase = Down })) tt (record { acked = n.acked; sent = n.sent; high = n.high }) refl refl refl
@@ -122,7 +122,7 @@ open_in Releasing g pf r a b e u v n m f h o t = absurd u
 pub opening : (now : ℕ) (command pf : Bool) (l r : State) (a b : ℕ) → NotUp r.phase → IsNew r → Fits (core l) (core r) → Fits (core r) (core l) → 1 ≤ a + b →
     Holds (arrive_down now command (SetUp pf) (begin l)).link r [] (arrive_down now command (SetUp pf) (begin l)).outs a b
 opening now command pf l r a b u m f h t =
-    open_in r.phase (arrive_down now command (SetUp pf) (begin l)) pf r a b refl u refl (record { acked = refl; sent = refl; high = omega (arith, top_none l.rules.window) }) m
+    open_in r.phase (arrive_down now command (SetUp pf) (begin l)) pf r a b refl u refl (record { acked = refl; sent = refl; high = omega (arith, top_none (places l.rules)) }) m
     (fits_left (core l) (core (arrive_down now command (SetUp pf) (begin l)).link) (core r) refl f)
     (fits_right (core r) (core l) (core (arrive_down now command (SetUp pf) (begin l)).link) refl h) refl t
 

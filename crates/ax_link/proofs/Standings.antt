@@ -1,19 +1,18 @@
 -- What the code keeps, a step further.
-use Rattle.std.proofs.Common.{◌≡◌, ℕ, zero, suc, ◌+◌, ◌-◌, ◌%◌, ◌<◌, ◌≤◌, Bool, true, false, List, [], ◌∷◌, ◌++◌, length, slice_get, Option, Some, None, map, refl, ap, sym, ◌∙◌, subst, arith, append_assoc, add-one, nat_lt, nat_le, ◌&&◌, ◌||◌, if◌then◌else◌, take, drop, replicate, length-append}
+use Rattle.std.proofs.Common.{◌≡◌, ℕ, zero, suc, ◌+◌, ◌-◌, ◌%◌, ◌<◌, ◌≤◌, Bool, true, false, List, [], ◌∷◌, ◌++◌, length, slice_get, Option, Some, None, map, refl, ap, sym, ◌∙◌, subst, arith, append_assoc, add-one, nat_lt, nat_le, ◌&&◌, take, drop, length-append}
 use Rattle.std.proofs.lemmas.Bool.Decides.{nat_tests}
 use Rattle.std.proofs.lemmas.List.{map-append, length-take-le, take-append-drop}
 use Rattle.radio_base.specs.declared.payload.Payload.{Payload}
 use Rattle.ax_frame.specs.declared.control.Control.TheVariants as control
-use Rattle.ax_link.specs.declared.kind.Kind.{Kind}
 use Rattle.ax_link.specs.declared.plain.LinkPhase.{LinkPhase}
 use Rattle.ax_link.specs.declared.plain.LinkPhase.TheVariants.{Down, SettingUp, Up, Releasing}
 use Rattle.ax_link.specs.declared.plain.LinkOut.{LinkOut}
-use Rattle.ax_link.specs.State.{Frame, State, Going, busy, is_up}
+use Rattle.ax_link.specs.State.{Frame, Going, is_up}
 use Rattle.ax_link.specs.Table.{taken_out}
-use Rattle.radio_base.specs.declared.modulus.TheConstants.{COUNT_MAX}
-use Rattle.ax_link.specs.Moves.{acknowledge, first_early, frames_of, move_on, moved, next_early, put, rr, take_next}
-use Rattle.ax_link.specs.Standing.{Held, Stands, runs, going_of, state_of, frame_of}
-use Rattle.ax_link.specs.Stations.{PutsTexts, judged_held, queued, taken}
+use Rattle.ax_link.specs.Moves.{acknowledge, frames_of, resumed}
+use Rattle.ax_link.specs.Standing.{Held, Stands, runs, going_of, frame_of}
+use Rattle.ax_link.specs.Stations.{PutsTexts, judged_held, next_taken, queued}
+use Rattle.circular_buffer.specs.Buffer.{keep_last}
 
 -- what is kept stands for itself, with what was forgotten
 pub itself : (size : ℕ) (h : Held) (before gots : List Payload) → length before ≡ h.acked → length gots ≡ h.got → Stands size h (going_of size h before gots)
@@ -96,39 +95,43 @@ pub tries_anew : (size : ℕ) (h : Held) (g : Going) → Stands size h g → Sta
 tries_anew size h g s = record { before = s.before; gots = s.gots; acked = s.acked; got = s.got; is = ap (λ (x : Going). record x { link = record x.link { tries = 0 } }) s.is }
 
 -- what is done at a place, once the place is known
+pub placed_or : (size : ℕ) (h later : Held) (found : Option ℕ) (none : Going → Going) (at : ℕ → Going → Going) (find : Going → Option ℕ) →
+    ((before gots : List Payload) → length before ≡ h.acked → length gots ≡ h.got → found ≡ find (going_of size h before gots)) →
+    ((g : Going) → Stands size h g → Stands size later (elim found as (λ x. Going) [ None ↦ none g | Some x ↦ at x g ])) →
+    (g : Going) → Stands size h g → Stands size later (elim (find g) as (λ x. Going) [ None ↦ none g | Some x ↦ at x g ])
+placed_or size h later found none at find known does =
+    standing size h later (λ g. elim (find g) as (λ x. Going) [ None ↦ none g | Some x ↦ at x g ])
+    (λ before gots a b.
+    let G : Going = going_of size h before gots in
+    subst (λ y. Stands size later (elim y as (λ x. Going) [ None ↦ none G | Some x ↦ at x G ])) (known before gots a b)
+    (does G (itself size h before gots a b)))
+
+-- and nothing without a place
 pub placed : (size : ℕ) (h later : Held) (found : Option ℕ) (at : ℕ → Going → Going) (find : Going → Option ℕ) →
     ((before gots : List Payload) → length before ≡ h.acked → length gots ≡ h.got → found ≡ find (going_of size h before gots)) →
     ((g : Going) → Stands size h g → Stands size later (elim found as (λ x. Going) [ None ↦ g | Some x ↦ at x g ])) →
     (g : Going) → Stands size h g → Stands size later (elim (find g) as (λ x. Going) [ None ↦ g | Some x ↦ at x g ])
-placed size h later found at find known does =
-    standing size h later (λ g. elim (find g) as (λ x. Going) [ None ↦ g | Some x ↦ at x g ])
-    (λ before gots a b.
-    let G : Going = going_of size h before gots in
-    subst (λ y. Stands size later (elim y as (λ x. Going) [ None ↦ G | Some x ↦ at x G ])) (known before gots a b)
-    (does G (itself size h before gots a b)))
+placed size h later found at find known does = placed_or size h later found (λ g. g) at find known does
 
-empty_more : (w : ℕ) → replicate {A = Option Payload} w None ++ None ∷ [] ≡ replicate (suc w) None
-empty_more zero = refl
-empty_more (suc w) = ap (λ e. None ∷ e) (empty_more w)
-
-empty_places : (w : ℕ) → 0 < w → drop 1 (replicate {A = Option Payload} w None) ++ None ∷ [] ≡ replicate w None
-empty_places zero l = absurd (omega (arith, l))
-empty_places (suc w) l = empty_more w
+-- a full ring lets its first place go
+first_leaves : (e : List (Option Payload)) (room : ℕ) → length e ≡ room → keep_last room (e ++ None ∷ []) ≡ drop 1 (e ++ None ∷ [])
+first_leaves e room l =
+    let step : length (e ++ None ∷ []) - room ≡ 1 = omega (arith, length-append e (None ∷ []), l) in
+    ap (λ n. drop n (e ++ None ∷ [])) step
 
 -- the next payload is taken
-pub takes_next : (size : ℕ) (h later : Held) (p : Payload) → 0 < h.window →
-    later ≡ record h { inbox = h.inbox ++ p ∷ []; got = h.got + 1; asked = false } →
-    (g : Going) → Stands size h g → Stands size later (taken p g)
-takes_next size h later p some e =
-    rw e
-    (standing size h _ (taken p) (λ before gots a b.
-    record {
-      before = before;
-      gots = gots ++ p ∷ [];
-      acked = a;
-      got = omega (arith, length-append gots (p ∷ []), b);
-      is = rw (empty_places h.window some) refl;
-    }))
+pub takes_next : (size : ℕ) (h later : Held) (p : Payload) (room : ℕ) → length h.early ≡ room →
+    later ≡ record h { inbox = h.inbox ++ p ∷ []; got = h.got + 1; early = keep_last room (h.early ++ None ∷ []) } →
+    (g : Going) → Stands size h g → Stands size later (next_taken p g)
+takes_next size h later p room full e =
+    rw (e, first_leaves h.early room full)
+    (standing size h _ (next_taken p) (λ before gots a b.
+    record { before = before; gots = gots ++ p ∷ []; acked = a; got = omega (arith, length-append gots (p ∷ []), b); is = refl }))
+
+-- nothing is asked for any more
+pub asked_no_more : (size : ℕ) (h : Held) (g : Going) → Stands size h g → Stands size (record h { asked = false }) (record g { link = record g.link { asked = false } })
+asked_no_more size h g s =
+    record { before = s.before; gots = s.gots; acked = s.acked; got = s.got; is = ap (λ (x : Going). record x { link = record x.link { asked = false } }) s.is }
 
 -- one try more is counted
 pub one_try_more : (size : ℕ) (h : Held) (g : Going) → Stands size h g →
@@ -150,36 +153,12 @@ pub to_be_closed : (size : ℕ) (h : Held) (g : Going) → Stands size h g → S
 to_be_closed size h g s =
     record { before = s.before; gots = s.gots; acked = s.acked; got = s.got; is = ap (λ (x : Going). record x { link = record x.link { closing = true } }) s.is }
 
-first_empty : (w : ℕ) → first_early (replicate {A = Option Payload} w None) ≡ None
-first_empty zero = refl
-first_empty (suc w) = refl
-
-none_by : (b : Bool) (x : Option Payload) → x ≡ None → (if b then None else x) ≡ None
-none_by true x e = refl
-none_by false x e = e
-
--- no payload came early, so none moves on
-none_moves : (k size : ℕ) (h : Held) (before gots : List Payload) → move_on k (state_of size h before gots) ≡ state_of size h before gots
-none_moves zero size h before gots = refl
-none_moves (suc k) size h before gots =
-    let s : State = state_of size h before gots in
-    let e : next_early s ≡ None = none_by (busy s || nat_le COUNT_MAX (length gots)) (first_early (replicate h.window None)) (first_empty h.window) in
-    ap (λ (x : Option Payload). elim x as (λ y. State) [ None ↦ s | Some p ↦ move_on k (take_next p s) ]) e
-
 -- a payload is taken out of a full inbox
-pub taken_from_full : (size : ℕ) (h rest later : Held) (kind : Kind) → rest ≡ record h { inbox = drop 1 h.inbox } →
+pub taken_from_full : (size : ℕ) (h rest later : Held) → rest ≡ record h { inbox = drop 1 h.inbox } →
     (is_up h.phase && nat_le 64 (length h.inbox)) ≡ true →
-    ((before gots : List Payload) → length gots ≡ rest.got → kind ≡ rr (state_of size rest before gots) false) →
-    ((g : Going) → Stands size rest g → Stands size later (put false kind g)) →
+    ((g : Going) → Stands size rest g → Stands size later (resumed g)) →
     (g : Going) → Stands size h g → Stands size later (taken_out g)
-taken_from_full size h rest later kind e test known does =
+taken_from_full size h rest later e test does =
     standing size h later taken_out (λ before gots a b.
     let r : Held = record h { inbox = drop 1 h.inbox } in
-    let S : State = state_of size r before gots in
-    let still : moved S ≡ S = none_moves (length S.early) size r before gots in
-    let said : kind ≡ rr S false = subst (λ (x : Held). kind ≡ rr (state_of size x before gots) false) e (known before gots (b ∙ ap (λ (x : Held). x.got) (sym e))) in
-    let done : Stands size later (put false kind (going_of size r before gots)) =
-    does (going_of size r before gots) (subst (λ (x : Held). Stands size x (going_of size r before gots)) (sym e) (itself size r before gots a b)) in
-    rw test
-    (subst (λ (x : State). Stands size later (put false (rr x false) (record (going_of size h before gots) { link = x }))) (sym still)
-    (subst (λ (k : Kind). Stands size later (put false k (going_of size r before gots))) said done)))
+    rw test (does (going_of size r before gots) (subst (λ (x : Held). Stands size x (going_of size r before gots)) (sym e) (itself size r before gots a b))))

@@ -115,7 +115,7 @@ early_snoc given base [] p = tt
 early_snoc given base (None ∷ e) p = early_snoc given (suc base) e p
 early_snoc given base (Some x ∷ e) p = (p.0, early_snoc given (suc base) e p.1)
 
-pub early_next : {A : Type 0} (given : List A) (base : ℕ) (e : List (Option A)) → EarlyFine given base e → EarlyFine given (suc base) (drop 1 e ++ None ∷ [])
+pub early_next : {A : Type 0} (given : List A) (base : ℕ) (e : List (Option A)) → EarlyFine given base e → EarlyFine given (suc base) (drop 1 (e ++ None ∷ []))
 early_next given base [] p = tt
 early_next given base (None ∷ e) p = early_snoc given (suc base) e p
 early_next given base (Some x ∷ e) p = early_snoc given (suc base) e p.1
@@ -135,7 +135,7 @@ top_snoc (Some x ∷ e) = ap suc (top_snoc e)
 top_less : (t : ℕ) → t ≡ (if nat_eq t 0 then 0 else suc t) - 1
 top_less t = grind (arith, nat_tests)
 
-pub top_next : (e : List (Option Payload)) → top (drop 1 e ++ None ∷ []) ≡ top e - 1
+pub top_next : (e : List (Option Payload)) → top (drop 1 (e ++ None ∷ [])) ≡ top e - 1
 top_next [] = refl
 top_next (None ∷ e) = top_snoc e ∙ top_less (top e)
 top_next (Some x ∷ e) = omega (arith, top_snoc e)
@@ -162,5 +162,5 @@ pub record Held (given : List Payload) (s : State) : Type 0 where
 pub held_take : (given : List Payload) (p : Payload) (s : State) → Held given s → slice_get given (length s.gots) ≡ Some p → Held given (take_next p s)
 held_take given p s h g = record {
   begun = prefix_next s.gots given p h.begun g;
-  early = subst (λ n. EarlyFine given n (drop 1 s.early ++ None ∷ [])) (omega (arith, length-append s.gots (p ∷ []))) (early_next given (length s.gots) s.early h.early);
+  early = subst (λ n. EarlyFine given n (drop 1 (s.early ++ None ∷ []))) (omega (arith, length-append s.gots (p ∷ []))) (early_next given (length s.gots) s.early h.early);
 }

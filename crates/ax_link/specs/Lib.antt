@@ -1,9 +1,9 @@
 pub mod Kinds
 pub mod Moves
+pub mod Opening
 pub mod Pair
 pub mod Runs
 pub mod Standing
 pub mod State
 pub mod Stations
 pub mod Table
-pub mod Windows

@@ -1,5 +1,5 @@
 -- The steps of which the rows of the link's table are made.
-use Rattle.std.specs.Prelude.{ℕ, zero, suc, ◌+◌, ◌-◌, ◌%◌, min, Bool, true, false, not, ◌&&◌, ◌||◌, nat_eq, nat_lt, nat_le, if◌then◌else◌, List, [], ◌∷◌, ◌++◌, length, drop, replicate, slice_get, slice_set, Option, Some, None, is_some}
+use Rattle.std.specs.Prelude.{ℕ, zero, suc, ◌+◌, ◌-◌, ◌%◌, min, Bool, true, false, not, ◌&&◌, ◌||◌, nat_eq, nat_lt, nat_le, if◌then◌else◌, List, [], ◌∷◌, ◌++◌, length, drop, replicate, slice_get, slice_set, Option, Some, None}
 use Rattle.radio_base.specs.declared.modulus.TheConstants.{COUNT_MAX}
 use Rattle.radio_base.specs.declared.payload.Payload.{Payload}
 use Rattle.radio_base.specs.Modulus.{place_of}
@@ -8,7 +8,7 @@ use Rattle.ax_link.specs.declared.plain.LinkPhase.TheVariants.{Releasing}
 use Rattle.ax_link.specs.declared.plain.LinkNotice.{LinkNotice}
 use Rattle.ax_link.specs.declared.kind.Kind.{Kind}
 use Rattle.ax_link.specs.declared.kind.Kind.TheVariants.{I, Rr, Rnr, Rej, Srej, Disc}
-use Rattle.ax_link.specs.State.{Frame, State, Going, wire, busy, high, ack_place, is_up, judged, restamped}
+use Rattle.ax_link.specs.State.{Frame, State, Going, wire, busy, high, ack_place, is_up, judged, places, restamped}
 
 -- how many payloads Fill puts out
 abbrev pub fill_count : State → ℕ
@@ -32,9 +32,12 @@ abbrev pub frames : State → ℕ → ℕ → List Frame
 frames s n many = frames_of s.rules.size (length s.gots) s.given n many
 
 -- SREJ with F 0 for many numbers from n on
+abbrev pub asks_of : ℕ → ℕ → ℕ → List Frame
+asks_of size n zero = []
+asks_of size n (suc many) = record { command = false; kind = Srej (n % size) false; payload = None } ∷ asks_of size (suc n) many
+
 abbrev pub asks : State → ℕ → ℕ → List Frame
-asks s n zero = []
-asks s n (suc many) = record { command = false; kind = Srej (wire s n) false; payload = None } ∷ asks s (suc n) many
+asks s n many = asks_of s.rules.size n many
 
 abbrev pub to_phase : ℕ → LinkPhase → Going → Going
 to_phase now phase g = record g { link = judged now g.link (record g.link { phase = phase }) }
@@ -49,7 +52,7 @@ reset now g = record g {
     acked = 0;
     sent = 0;
     gots = [];
-    early = replicate g.link.rules.window None;
+    early = replicate (places g.link.rules) None;
     inbox = [];
     tries = 0;
     polling = false;
@@ -96,9 +99,9 @@ start_poll now g = timed now true (rr (polled now g).link true) (polled now g)
 abbrev pub end_poll : ℕ → Going → Going
 end_poll now g = record g { link = judged now g.link (record g.link { polling = false; tries = 0 }) }
 
--- payload number got is taken
+-- payload number got is taken; what came early is one place nearer
 abbrev pub take_next : Payload → State → State
-take_next p s = record s { gots = s.gots ++ p ∷ []; inbox = s.inbox ++ p ∷ []; early = drop 1 s.early ++ None ∷ [] }
+take_next p s = record s { gots = s.gots ++ p ∷ []; inbox = s.inbox ++ p ∷ []; early = drop 1 (s.early ++ None ∷ []) }
 
 -- the early payload that is next, where it may be taken
 abbrev pub first_early : List (Option Payload) → Option Payload
@@ -115,6 +118,10 @@ move_on (suc k) s = elim (next_early s) as (λ x. State) [ None ↦ s | Some p �
 
 abbrev pub moved : State → State
 moved s = move_on (length s.early) s
+
+-- an end that was busy goes on: early payloads follow, and the other end is told
+abbrev pub resumed : Going → Going
+resumed g = put false (rr (moved g.link) false) (record g { link = moved g.link })
 
 abbrev pub resupply : ℕ → Bool → Bool → Bool → Going → Going
 resupply now ends rej unpolled g =
@@ -171,22 +178,30 @@ text_plain pf ns p g =
     then take_in pf (record (take_next p g.link) { asked = false }) g
     else ask_again pf g
 
-abbrev pub stored : ℕ → Payload → State → State
-stored i p s = if is_some (first_early (drop i s.early)) then s else record s { early = slice_set s.early i (Some p) }
+-- whether this place is there and empty
+abbrev pub is_free : Option (Option Payload) → Bool
+is_free None = false
+is_free (Some None) = true
+is_free (Some (Some p)) = false
 
+-- a payload is kept early, where none is kept in its place
+abbrev pub stored : ℕ → Payload → State → State
+stored i p s = if is_free (slice_get s.early i) then record s { early = slice_set s.early i (Some p) } else s
+
+-- payload number n comes before its turn: what is missing below it and wasn't known to be missing is asked for
 abbrev pub text_later : Bool → ℕ → Payload → Going → Going
 text_later pf n p g =
-    let h = record g { link = stored (n - length g.link.gots) p g.link; outs = g.outs ++ asks g.link (high g.link) (n - high g.link) } in
-    if pf then put false (rr h.link true) h else h
+    answered pf
+    (record g { link = stored (n - length g.link.gots) p g.link; outs = g.outs ++ asks g.link (high g.link) (n - high g.link) })
+
+-- payload number n of the window comes
+abbrev pub text_at : Bool → ℕ → Payload → Going → Going
+text_at pf n p g = if nat_lt (length g.link.gots) n then text_later pf n p g else take_in pf (moved (take_next p g.link)) g
 
 abbrev pub text_srej : Bool → ℕ → Payload → Going → Going
 text_srej pf ns p g =
-    elim (place_of g.link.rules.size ns (length g.link.gots) g.link.rules.window) as (λ x. Going) [
-      | None ↦ put false (rr g.link pf) g
-      | Some n ↦ if nat_lt (length g.link.gots) n
-          then text_later pf n p g
-          else take_in pf (moved (take_next p g.link)) g
-    ]
+    elim (place_of g.link.rules.size ns (length g.link.gots) g.link.rules.window) as (λ x. Going)
+    [ None ↦ put false (rr g.link pf) g | Some n ↦ text_at pf n p g ]
 
 abbrev pub text : Bool → ℕ → Payload → Going → Going
 text pf ns p g =

@@ -11,7 +11,7 @@ use Rattle.radio_base.specs.declared.payload.Payload.{Payload}
 use Rattle.ax_link.specs.State.{Rules, State, Frame, Going, is_up}
 use Rattle.ax_link.specs.Table.{Input, Set_up, Send, Arrive, Tick, Close, Take, step}
 use Rattle.ax_link.specs.Pair.{Fits, IsNew, core}
-use Rattle.ax_link.specs.Windows.{opening, rules_new}
+use Rattle.ax_link.specs.Opening.{opening, rules_new}
 
 -- an end and its past
 pub record End : Type 0 where
@@ -107,16 +107,22 @@ new_end rules = record { link = opening rules; coming = []; set_ups = 0; was_up 
 abbrev pub new_ends : Rules → Rules → Ends
 new_ends a b = record { left = new_end a; right = new_end b }
 
--- such of modulo 8 with a window of 4
-abbrev pub two_new : Ends
-two_new =
-    let rules : Rules = rules_new 8 (record { window = 4; srej = false; t1 = 3000; t3 = 300000; retries = 10 }) in
+-- such of modulo 8 with a window of 4, with SREJ or without
+abbrev pub two_new : Bool → Ends
+two_new srej =
+    let rules : Rules = rules_new 8 (record { window = 4; srej = srej; t1 = 3000; t3 = 300000; retries = 10 }) in
     new_ends rules rules
 
 -- the left end sets the link up, and a payload goes to the right end and is acknowledged
 abbrev pub carrying : Payload → List (Side × Event)
 carrying p =
     (Left, Calls Set_up 0) ∷ (Right, Comes 0) ∷ (Left, Comes 0) ∷ (Left, Calls (Send p) 0) ∷ (Right, Comes 0) ∷ (Left, Comes 0) ∷ []
+
+-- of two payloads the first is lost, and asked for alone once the second has come before its turn; both are acknowledged
+abbrev pub losing : Payload → Payload → List (Side × Event)
+losing p q =
+    (Left, Calls Set_up 0) ∷ (Right, Comes 0) ∷ (Left, Comes 0) ∷ (Left, Calls (Send p) 0) ∷ (Left, Calls (Send q) 0)
+    ∷ (Right, Lost) ∷ (Right, Comes 0) ∷ (Left, Comes 0) ∷ (Right, Comes 0) ∷ (Left, Comes 0) ∷ []
 
 -- both ends are Down and new, nothing is under way or was put out, and the windows fit the one modulus
 pub record Starts (w : Ends) : Type 0 where

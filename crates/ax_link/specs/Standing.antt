@@ -1,5 +1,5 @@
 -- What the code keeps of an end of a link, and what it has forgotten.
-use Rattle.std.specs.Prelude.{◌≡◌, ℕ, ◌+◌, ◌≤◌, Bool, false, List, [], ◌++◌, map, length, replicate, Option, None}
+use Rattle.std.specs.Prelude.{◌≡◌, ℕ, ◌+◌, ◌≤◌, Bool, List, [], ◌++◌, map, length, Option}
 use Rattle.std.specs.Option.{option_to_list}
 use Rattle.radio_base.specs.declared.payload.Payload.{Payload}
 use Rattle.ax_link.specs.declared.plain.LinkPhase.{LinkPhase}
@@ -14,11 +14,13 @@ pub record Held : Type 0 where
   pub t1 : ℕ
   pub t3 : ℕ
   pub retries : ℕ
+  pub srej : Bool
   pub phase : LinkPhase
   pub queue : List Payload
   pub acked : ℕ
   pub sent : ℕ
   pub got : ℕ
+  pub early : List (Option Payload)
   pub inbox : List Payload
   pub tries : ℕ
   pub polling : Bool
@@ -36,7 +38,7 @@ abbrev pub frame_of : ℕ → LinkOut → Frame
 frame_of size out = record { command = out.command; kind = kind_of size out.command out.control; payload = out.payload }
 
 abbrev pub rules_of : ℕ → Held → Rules
-rules_of size h = record { size = size; window = h.window; srej = false; t1 = h.t1; t3 = h.t3; retries = h.retries }
+rules_of size h = record { size = size; window = h.window; srej = h.srej; t1 = h.t1; t3 = h.t3; retries = h.retries }
 
 -- the state in which these payloads were acknowledged, and these were got
 abbrev pub state_of : ℕ → Held → List Payload → List Payload → State
@@ -48,7 +50,7 @@ state_of size h before gots =
       acked = h.acked;
       sent = h.sent;
       gots = gots;
-      early = replicate h.window None;
+      early = h.early;
       inbox = h.inbox;
       tries = h.tries;
       polling = h.polling;

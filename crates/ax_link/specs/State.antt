@@ -22,6 +22,10 @@ pub record Rules : Type 0 where
   pub t3 : ℕ
   pub retries : ℕ
 
+-- with SREJ each number of the window has a place where a payload can be kept early; without SREJ none has
+abbrev pub places : Rules → ℕ
+places rules = if rules.srej then rules.window else 0
+
 pub record State : Type 0 where
   pub rules : Rules
   pub phase : LinkPhase

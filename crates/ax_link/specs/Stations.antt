@@ -1,10 +1,10 @@
 -- What the calls of a station do.
-use Rattle.std.specs.Prelude.{◌≡◌, ℕ, ◌+◌, ◌-◌, min, Bool, false, not, ◌&&◌, if◌then◌else◌, List, [], ◌∷◌, ◌++◌, length, map}
+use Rattle.std.specs.Prelude.{◌≡◌, ℕ, ◌+◌, ◌-◌, min, Bool, true, false, not, ◌&&◌, if◌then◌else◌, List, [], ◌∷◌, ◌++◌, length, map, Option, Some, None, slice_get, slice_set}
 use Rattle.radio_base.specs.declared.payload.Payload.{Payload}
 use Rattle.ax_link.specs.declared.station.Station.{Station}
-use Rattle.ax_link.specs.State.{Frame, Going}
+use Rattle.ax_link.specs.State.{Frame, Going, high}
 use Rattle.ax_link.specs.Table.{arrive_in, closed, fail_in, may_close, retry_in, set_up_in}
-use Rattle.ax_link.specs.Moves.{frames, frames_of, take_next}
+use Rattle.ax_link.specs.Moves.{asks, frames, frames_of, is_free, moved, put, rr, stored, take_in, take_next}
 use Rattle.ax_link.specs.Standing.{Held, Stands, frame_of, runs}
 
 -- what a station keeps
@@ -15,11 +15,13 @@ held_of st =
       t1 = st.t1;
       t3 = st.t3;
       retries = st.retries;
+      srej = st.srej;
       phase = st.phase;
       queue = st.queue.items;
       acked = st.acked;
       sent = st.sent;
       got = st.got;
+      early = st.early.items;
       inbox = st.inbox.items;
       tries = st.tries;
       polling = st.polling;
@@ -56,8 +58,46 @@ pub record PutsTexts (size n many : ℕ) (old new : Held) : Type 0 where
       map (frame_of size) new.outs ≡ map (frame_of size) old.outs ++ frames_of size old.got (before ++ old.queue) n many
 
 -- the next payload is taken
+abbrev pub next_taken : Payload → Going → Going
+next_taken p g = record g { link = take_next p g.link }
+
+-- and nothing is asked for any more
 abbrev pub taken : Payload → Going → Going
 taken p g = record g { link = record (take_next p g.link) { asked = false } }
+
+-- rr is put out as a response
+abbrev pub told_ready : Bool → Going → Going
+told_ready pf g = put false (rr g.link pf) g
+
+-- the next payload is taken, and early ones follow
+abbrev pub text_next : Bool → Payload → Going → Going
+text_next pf p g = take_in pf (moved (take_next p g.link)) g
+
+-- early payloads follow
+abbrev pub moved_on : Going → Going
+moved_on g = record g { link = moved g.link }
+
+-- many numbers from n on are asked for
+abbrev pub asked_for : ℕ → ℕ → Going → Going
+asked_for n many g = record g { outs = g.outs ++ asks g.link n many }
+
+-- what is missing below number n, and wasn't known to be missing, is asked for
+abbrev pub missing_asked : ℕ → Going → Going
+missing_asked n g = record g { outs = g.outs ++ asks g.link (high g.link) (n - high g.link) }
+
+-- payload number n is kept early
+abbrev pub kept_early : ℕ → Payload → Going → Going
+kept_early n p g = record g { link = stored (n - length g.link.gots) p g.link }
+
+-- whether a payload is kept in this place
+abbrev pub is_filled : Option (Option Payload) → Bool
+is_filled None = false
+is_filled (Some None) = false
+is_filled (Some (Some p)) = true
+
+-- what the places of early payloads hold once a payload was kept in place i
+abbrev pub with_early : ℕ → Payload → List (Option Payload) → List (Option Payload)
+with_early i p early = if is_free (slice_get early i) then slice_set early i (Some p) else early
 
 -- one payload that is asked for goes out, if it was put out before
 abbrev pub text_again : ℕ → Going → Going

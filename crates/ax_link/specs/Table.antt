@@ -9,7 +9,7 @@ use Rattle.ax_link.specs.declared.plain.LinkNotice.TheVariants.{Opened, Reset, C
 use Rattle.ax_link.specs.declared.kind.Kind.{Kind}
 use Rattle.ax_link.specs.declared.kind.Kind.TheVariants.{I, Rr, Rnr, Rej, Srej, SetUp, OtherSetUp, Disc, Dm, Ua, Frmr, Xid}
 use Rattle.ax_link.specs.State.{Frame, State, Going, begin, busy, is_up, t1_runs, t3_at}
-use Rattle.ax_link.specs.Moves.{put, rr, to_phase, note, reset, timed, fill, finish, supply, start_poll, moved, on_i, on_supervisory, on_srej}
+use Rattle.ax_link.specs.Moves.{put, to_phase, note, reset, timed, fill, finish, supply, start_poll, resumed, on_i, on_supervisory, on_srej}
 
 abbrev pub refused_if : Bool → Bool → Going → Going
 refused_if asked pf g = if asked then put false (Dm pf) g else g
@@ -121,9 +121,7 @@ closed now g = finish now (record g { link = record g.link { closing = true } })
 abbrev pub taken_out : Going → Going
 taken_out g =
     let rest = record g.link { inbox = drop 1 g.link.inbox } in
-    if is_up g.link.phase && busy g.link
-    then put false (rr (moved rest) false) (record g { link = moved rest })
-    else record g { link = rest }
+    if is_up g.link.phase && busy g.link then resumed (record g { link = rest }) else record g { link = rest }
 
 abbrev pub step_at : ℕ → State → Input → Going
 step_at now s Set_up = set_up_in s.phase now (begin s)

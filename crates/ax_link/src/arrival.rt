@@ -228,20 +228,19 @@ impl<M: Modulus> Station<M> {
     {
         self.acknowledge(below, now);
         self.hold(peer_busy, now);
-        self.answer_poll(command, pf);
+        self.answer_command(command, pf);
         self.supply_again(command, pf, reject, now);
         self.fill_and_finish(now);
     }
 
     /// A command with the poll bit asks for an answer.
-    fn answer_poll(&mut self, command: bool, pf: bool)
+    fn answer_command(&mut self, command: bool, pf: bool)
         requires { length self.old.outs.items + 1 ≤ 2 * self.old.window + 4 }
         ensures does { Does M.SIZE (moves.answered (command && pf)) self.old self.new }
         ensures adds { Adds 1 (held_of self.old) (held_of self.new) }
     {
-        if command && pf {
-            let control = self.ready(true);
-            self.put(false, control);
+        if command {
+            self.answer_poll(pf);
         }
     }
 
@@ -356,6 +355,7 @@ impl<M: Modulus> Station<M> {
     fn informed(&mut self, ns: u8, pf: bool, payload: Payload, below: u64, now: u64)
         requires now { now ≤ COUNT_MAX }
         requires outs { self.old.outs.items ≡ [] }
+        requires size { self.old.window < M.SIZE }
         requires from { self.old.acked ≤ below }
         requires to { below ≤ self.old.sent }
         ensures does { Does M.SIZE (moves.informed now pf ns payload below) self.old self.new }

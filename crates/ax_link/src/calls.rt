@@ -1,7 +1,8 @@
 ghost use Rattle.std.specs.Prelude.{◌≡◌, ℕ, List, ◌+◌, ◌*◌, ◌≤◌, ◌<◌, ◌&&◌, [], nat_le, length, slice_get, false, None, OnOk, OnErr, IfOk};
 ghost use Rattle.radio_base.specs.declared.modulus.TheConstants.{COUNT_MAX};
-ghost use Rattle.ax_link.specs.Windows.{window_used};
+ghost use Rattle.ax_link.specs.Opening.{IsDrained, opening, rules_new, window_used};
 
+use crate::early::empty;
 use crate::plain::{LinkConfig, LinkPhase, SendRefusal};
 use crate::station::{INBOX, QUEUE, Station, push};
 use circular_buffer::HeapCircularBuffer;
@@ -11,11 +12,16 @@ use std::marker::PhantomData;
 
 /// The window that is used.
 fn window_of<M: Modulus>(config: LinkConfig) -> u8
-    ensures value { result ≡ window_used M.SIZE config.window }
+    ensures value { result ≡ window_used M.SIZE config.srej config.window }
     ensures some { 0 < result }
     ensures most { result ≤ 127 }
 {
-    let (default, most) = if M::SIZE == 8 { (4, 7) } else { (32, 127) };
+    let (default, most) = match (M::SIZE == 8, config.srej) {
+        (true, false) => (4, 7),
+        (true, true) => (4, 4),
+        (false, false) => (32, 127),
+        (false, true) => (32, 64),
+    };
     if config.window == 0 {
         default
     } else {
@@ -25,30 +31,38 @@ fn window_of<M: Modulus>(config: LinkConfig) -> u8
 
 impl<M: Modulus> Station<M> {
     ghost use Rattle.ax_link.specs.State as state;
+    ghost use Rattle.ax_link.specs.Moves as moves;
     ghost use Rattle.ax_link.specs.Table as table;
-    ghost use Rattle.ax_link.specs.Windows.{held_new, send_answer};
-    ghost use Rattle.ax_link.specs.Standing.{Adds};
+    ghost use Rattle.ax_link.specs.Opening.{send_answer};
+    ghost use Rattle.ax_link.specs.Standing.{Adds, StandsFor};
     ghost use Rattle.ax_link.specs.Stations.{Does, begun, closed_if, held_of, queued};
 
     pub(crate) fn new(alloc: Global, config: LinkConfig) -> Result<Station<M>, NoMemory>
         requires t1 { config.t1 ≤ COUNT_MAX }
         requires t3 { config.t3 ≤ COUNT_MAX }
-        ensures { IfOk result (λ st. held_of st ≡ held_new M.SIZE config) }
+        ensures opening { IfOk result (λ st. StandsFor M.SIZE (held_of st) (opening (rules_new M.SIZE config))) }
+        ensures drained { IfOk result (λ st. IsDrained (held_of st)) }
+        ensures window { IfOk result (λ st. st.window ≡ window_used M.SIZE config.srej config.window) }
     {
         let window = window_of::<M>(config);
         let queue = HeapCircularBuffer::with_capacity(alloc, QUEUE)?;
         let inbox = HeapCircularBuffer::with_capacity(alloc, INBOX)?;
         let outs = HeapCircularBuffer::with_capacity(alloc, 2 * window as usize + 4)?;
+        let early_room = if config.srej { window as usize } else { 0 };
+        let mut early = HeapCircularBuffer::with_capacity(alloc, early_room)?;
+        empty(&mut early);
         Ok(Station {
             window: window as u64,
             t1: config.t1,
             t3: config.t3,
             retries: config.retries,
+            srej: config.srej,
             phase: LinkPhase::Down,
             queue,
             acked: 0,
             sent: 0,
             got: 0,
+            early,
             inbox,
             tries: 0,
             polling: false,
@@ -156,10 +170,19 @@ impl<M: Modulus> Station<M> {
         let busy = self.is_up_and_busy();
         let payload = self.inbox.pop_front();
         if busy {
-            let control = self.ready(false);
-            self.put(false, control);
+            self.resume();
         }
         payload
+    }
+
+    /// The end was busy: early payloads follow, and the other station is told.
+    fn resume(&mut self)
+        requires { length self.old.outs.items + 1 ≤ 2 * self.old.window + 4 }
+        ensures does { Does M.SIZE moves.resumed self.old self.new }
+        ensures adds { Adds 1 (held_of self.old) (held_of self.new) }
+    {
+        self.move_on();
+        self.tell_ready(false);
     }
 
     fn is_up_and_busy(&self) -> bool

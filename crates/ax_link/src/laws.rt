@@ -1,13 +1,13 @@
 //! What holds of two ends of a link over a channel that loses frames but neither reorders nor repeats them.
-ghost use Rattle.std.specs.Prelude.{◌≡◌, ◌≤◌, ◌++◌, ◌⊎◌, ℕ, List, [], ◌∷◌, false, length};
+ghost use Rattle.std.specs.Prelude.{◌≡◌, ◌≤◌, ◌++◌, ◌⊎◌, ℕ, List, [], ◌∷◌, false, true, length};
 ghost use mathlib.Core.List.{IsPrefix};
 ghost use Rattle.ax_link.specs.declared.plain.LinkPhase.TheVariants.{SettingUp, Up};
 ghost use Rattle.ax_link.specs.State.{Frame, State, begin};
 ghost use Rattle.ax_link.specs.Moves.{fill, finish};
 ghost use Rattle.ax_link.specs.Table.{Input, step};
 ghost use Rattle.ax_link.specs.Pair.{PairSound, Both, Core, Queue, InScope, IsNew, Fits, NoRestartIn, OfNoAccount, core, opens_count, texts_of, acks_of, after_ua};
-ghost use Rattle.ax_link.specs.Runs.{CleanRun, Ends, Event, Safe, Side, Starts, carrying, new_ends, run, two_new};
-ghost use Rattle.ax_link.specs.Windows.{rules_new};
+ghost use Rattle.ax_link.specs.Runs.{CleanRun, Ends, Event, Safe, Side, Starts, carrying, losing, new_ends, run, two_new};
+ghost use Rattle.ax_link.specs.Opening.{rules_new};
 ghost use Rattle.ax_link.specs.declared.plain.LinkConfig.{LinkConfig};
 ghost use Rattle.radio_base.specs.declared.payload.Payload.{Payload};
 
@@ -72,13 +72,16 @@ pub fn pair_frames()
 /// Two ends that start Down and new, with windows that fit: after any clean run of calls, ticks, arrivals and losses at
 /// either end, each end has got a beginning of what was given to the other, and counts as acknowledged no more than the
 /// other has got. A run is clean while at most one set-up command was ever put out and no end that has been Up has left
-/// Up. Each beginning of a clean run is clean, so this holds at each moment of it. Two links that were just made without SREJ
-/// start so, and there is a clean run that carries a payload.
+/// Up. Each beginning of a clean run is clean, so this holds at each moment of it. Two links that were just made, of one modulus and
+/// both with SREJ or both without, start so. There is a clean run that carries a payload, and one with SREJ in which a
+/// payload is lost and the next one comes before its turn.
 pub fn link_safe()
     ensures safe { (w : Ends) (events : List (Side × Event)) → Starts w → CleanRun w events → Safe (run w events) }
-    ensures new { (size : ℕ) (a b : LinkConfig) → (size ≡ 8) ⊎ (size ≡ 128) → a.srej ≡ false → b.srej ≡ false →
+    ensures new { (size : ℕ) (a b : LinkConfig) → (size ≡ 8) ⊎ (size ≡ 128) → a.srej ≡ b.srej →
         Starts (new_ends (rules_new size a) (rules_new size b)) }
-    ensures met { (p : Payload) → CleanRun two_new (carrying p) ×
-        ((run two_new (carrying p)).right.link.gots ≡ p ∷ []) × ((run two_new (carrying p)).left.link.acked ≡ 1) }
+    ensures met { (p : Payload) → CleanRun (two_new false) (carrying p) ×
+        ((run (two_new false) (carrying p)).right.link.gots ≡ p ∷ []) × ((run (two_new false) (carrying p)).left.link.acked ≡ 1) }
+    ensures early { (p q : Payload) → CleanRun (two_new true) (losing p q) ×
+        ((run (two_new true) (losing p q)).right.link.gots ≡ p ∷ q ∷ []) × ((run (two_new true) (losing p q)).left.link.acked ≡ 2) }
     ensures begun { (w : Ends) (early later : List (Side × Event)) → CleanRun w (early ++ later) → CleanRun w early }
 {}

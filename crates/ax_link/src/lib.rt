@@ -3,6 +3,7 @@
 
 mod arrival;
 mod calls;
+mod early;
 mod expiry;
 mod kind;
 pub mod laws;

@@ -1,11 +1,11 @@
-ghost use Rattle.std.specs.Prelude.{◌≡◌, ℕ, List, ◌≤◌, ◌<◌, drop, slice_get, false, IfOk, OnOk, OnErr, IsOk, IsTrue, ◌↔◌, None, min};
+ghost use Rattle.std.specs.Prelude.{◌≡◌, ℕ, List, ◌≤◌, ◌<◌, drop, slice_get, IfOk, OnOk, OnErr, IsOk, IsTrue, ◌↔◌, ◌⊎◌, None, min};
 ghost use Rattle.std.specs.Option.{option_copied};
 ghost use Rattle.radio_base.specs.declared.modulus.TheConstants.{COUNT_MAX};
 ghost use Rattle.ax_link.specs.Kinds.{frame_in};
 ghost use Rattle.ax_link.specs.State.{State};
 ghost use Rattle.ax_link.specs.Table as table;
 ghost use Rattle.ax_link.specs.Standing.{Stands, StandsFor};
-ghost use Rattle.ax_link.specs.Windows.{IsDrained, facts_of, opening, rules_new, send_answer};
+ghost use Rattle.ax_link.specs.Opening.{IsDrained, facts_of, opening, rules_new, send_answer};
 
 use crate::moves::copy_of;
 use crate::plain::{LinkConfig, LinkFacts, LinkNotice, LinkOut, SendRefusal};
@@ -35,10 +35,9 @@ impl<M: Modulus> Model for Link<M> {
 }
 
 impl<M: Modulus> Link<M> {
-    /// A link that is Down. It takes all the memory that it will ever need.
+    /// A link that is Down, of modulo 8 or 128. It takes all the memory that it will ever need.
     pub fn new(alloc: Global, config: LinkConfig) -> Result<Link<M>, NoMemory>
-        requires modulus { M.SIZE ≡ 8 }
-        requires srej { config.srej ≡ false }
+        requires modulus { (M.SIZE ≡ 8) ⊎ (M.SIZE ≡ 128) }
         requires t1 { config.t1 ≤ COUNT_MAX }
         requires t3 { config.t3 ≤ COUNT_MAX }
         ensures opening { IfOk result (λ link. StandsFor M.SIZE link (opening (rules_new M.SIZE config))) }

@@ -34,7 +34,7 @@ impl<M: Modulus> Station<M> {
     ghost use Rattle.radio_base.specs.declared.payload.Payload.{Payload};
     ghost use Rattle.ax_link.specs.Moves as moves;
     ghost use Rattle.ax_link.specs.Standing.{Adds, state_of};
-    ghost use Rattle.ax_link.specs.Stations.{Does, PutsTexts, held_of, texts_out};
+    ghost use Rattle.ax_link.specs.Stations.{Does, PutsTexts, held_of, texts_out, told_ready};
 
     /// The payload of this number, where it waits.
     fn text_of(&self, number: u64) -> Option<Payload>
@@ -80,6 +80,27 @@ impl<M: Modulus> Station<M> {
     {
         for number in from..from + many {
             self.put_text(number);
+        }
+    }
+
+    /// Tells where this end stands, as a response.
+    pub(crate) fn tell_ready(&mut self, pf: bool)
+        requires { length self.old.outs.items + 1 ≤ 2 * self.old.window + 4 }
+        ensures does { Does M.SIZE (told_ready pf) self.old self.new }
+        ensures adds { Adds 1 (held_of self.old) (held_of self.new) }
+    {
+        let control = self.ready(pf);
+        self.put(false, control);
+    }
+
+    /// A poll asks for an answer.
+    pub(crate) fn answer_poll(&mut self, poll: bool)
+        requires { length self.old.outs.items + 1 ≤ 2 * self.old.window + 4 }
+        ensures does { Does M.SIZE (moves.answered poll) self.old self.new }
+        ensures adds { Adds 1 (held_of self.old) (held_of self.new) }
+    {
+        if poll {
+            self.tell_ready(true);
         }
     }
 

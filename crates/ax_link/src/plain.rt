@@ -32,9 +32,11 @@ pub enum LinkNotice {
 /// How a link goes. A time is at most 2^62 milliseconds.
 #[derive(Clone, Copy, Debug, PartialEq, Eq)]
 pub struct LinkConfig {
-    /// How many payloads may be under way. 0 is the default of the modulus, 4 or 32; more than 7 or 127 counts as that.
+    /// How many payloads may be under way. 0 is the default of the modulus, 4 or 32; more than 7 or 127 counts as that,
+    /// and with `srej` more than 4 or 64.
     pub window: u8,
-    /// Whether single payloads are asked for again.
+    /// Whether a lost payload is asked for alone (SREJ), and later ones are kept; else all from it on are (REJ). Both
+    /// stations have to agree on it.
     pub srej: bool,
     /// How long an answer is awaited, in milliseconds.
     pub t1: u64,

@@ -1,7 +1,8 @@
-ghost use Rattle.std.specs.Prelude.{◌≡◌, ℕ, Bool, List, ◌+◌, ◌*◌, ◌≤◌, ◌<◌, ◌++◌, ◌∷◌, [], nat_le, length, true, false, None, Some};
+ghost use Rattle.std.specs.Prelude.{◌≡◌, ℕ, Bool, List, ◌+◌, ◌*◌, ◌≤◌, ◌<◌, ◌++◌, ◌∷◌, [], nat_le, if◌then◌else◌, length, true, false, None, Some};
 ghost use Rattle.circular_buffer.specs.Buffer.{buffer};
 ghost use Rattle.radio_base.specs.declared.modulus.TheConstants.{COUNT_MAX};
 
+use crate::early::{Places, empty};
 use crate::plain::{LinkNotice, LinkOut, LinkPhase};
 use ax_frame::Control;
 use circular_buffer::HeapCircularBuffer;
@@ -20,12 +21,14 @@ pub(crate) struct Station<M> {
     pub(crate) t1: u64,
     pub(crate) t3: u64,
     pub(crate) retries: u8,
+    pub(crate) srej: bool,
     pub(crate) phase: LinkPhase,
     /// What was accepted and isn't acknowledged.
     pub(crate) queue: HeapCircularBuffer<Payload>,
     pub(crate) acked: u64,
     pub(crate) sent: u64,
     pub(crate) got: u64,
+    pub(crate) early: Places,
     pub(crate) inbox: HeapCircularBuffer<Payload>,
     pub(crate) tries: u8,
     pub(crate) polling: bool,
@@ -47,6 +50,8 @@ pub(crate) struct Station<M> {
     ghost window_some: { 0 < window },
     ghost window_fits: { window < 128 },
     ghost got_fits: { got ≤ COUNT_MAX },
+    ghost early_room: { early.capacity ≡ (if srej then window else 0) },
+    ghost early_places: { length early.items ≡ early.capacity },
     ghost inbox_room: { inbox.capacity ≡ 64 },
     ghost inbox_fits: { length inbox.items ≤ 64 },
     ghost outs_room: { outs.capacity ≡ 2 * window + 4 },
@@ -138,6 +143,7 @@ impl<M: Modulus> Station<M> {
         requires { length self.old.outs.items < 2 * self.old.window + 4 }
         ensures does { Does M.SIZE (moves.put command (kind_of M.SIZE command control)) self.old self.new }
         ensures adds { Adds 1 (held_of self.old) (held_of self.new) }
+        ensures got { self.new.got ≡ self.old.got }
     {
         let out = LinkOut {
             command,
@@ -185,6 +191,7 @@ impl<M: Modulus> Station<M> {
     {
         let ran = self.t1_runs();
         self.queue.clear();
+        empty(&mut self.early);
         self.inbox.clear();
         self.acked = 0;
         self.sent = 0;

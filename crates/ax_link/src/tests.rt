@@ -3,7 +3,7 @@ ghost use Rattle.std.specs.Prelude.{ℕ, ◌≤◌, ◌<◌};
 use crate::{Link, LinkConfig, LinkNotice, LinkOut, LinkPhase, SendRefusal};
 use arrayvec::ArrayVec;
 use ax_frame::Control;
-use radio_base::{M8, Moment, Payload};
+use radio_base::{M8, M128, Modulus, Moment, Payload};
 use std::process::Abort;
 use std::test::Fail;
 
@@ -24,12 +24,17 @@ fn text(letter: u8) -> Payload {
 }
 
 /// The control field of the next frame that waits.
-fn next_control(link: &mut Link<M8>) -> Option<Control> {
+fn next_control<M: Modulus>(link: &mut Link<M>) -> Option<Control> {
     let out = link.next_out()?;
     Some(out.control)
 }
 
-fn send(rt: &impl Abort, link: &mut Link<M8>, letter: u8, now: Moment) -> Result<(), SendRefusal> {
+fn send<M: Modulus>(
+    rt: &impl Abort,
+    link: &mut Link<M>,
+    letter: u8,
+    now: Moment,
+) -> Result<(), SendRefusal> {
     assert!(rt; link.drained());
     link.send(&text(letter), now)
 }
@@ -40,7 +45,7 @@ fn take(rt: &impl Abort, link: &mut Link<M8>) -> Option<Payload> {
 }
 
 /// A frame without information comes.
-fn hear(rt: &impl Abort, link: &mut Link<M8>, command: bool, control: Control) {
+fn hear<M: Modulus>(rt: &impl Abort, link: &mut Link<M>, command: bool, control: Control) {
     assert!(rt; link.drained());
     assert!(rt; link.arrive(command, &control, None, &[], NOW).is_ok());
 }
@@ -59,8 +64,13 @@ fn bring(rt: &impl Abort, link: &mut Link<M8>, out: &LinkOut) {
 }
 
 /// The other station sets the link up.
-fn expect_opened(rt: &impl Abort, link: &mut Link<M8>) {
-    hear(rt, link, true, Control::Sabm { pf: true });
+fn expect_opened<M: Modulus>(rt: &impl Abort, link: &mut Link<M>) {
+    let set_up = if M::SIZE == 8 {
+        Control::Sabm { pf: true }
+    } else {
+        Control::Sabme { pf: true }
+    };
+    hear(rt, link, true, set_up);
     assert!(rt; next_control(link) == Some(Control::Ua { pf: true }));
     assert!(rt; link.notice() == Some(LinkNotice::Opened));
 }
@@ -73,16 +83,7 @@ fn a_lost_text_is_asked_for_and_all_come(rt: HostRuntime) -> Result<(), Fail> {
     expect_opened(&rt, &mut right);
 
     for n in 0..7 {
-        assert!(rt; send(&rt, &mut left, n, NOW) == Ok(()));
-        let out = left.next_out().expect(&rt, "a text goes out");
-        assert!(rt;
-            out.control
-                == Control::I {
-                    ns: n,
-                    nr: 0,
-                    pf: false
-                }
-        );
+        let out = expect_sent(&rt, &mut left, n, n);
         if n > 0 {
             bring(&rt, &mut right, &out);
             let answer = next_control(&mut right);
@@ -114,6 +115,83 @@ fn a_lost_text_is_asked_for_and_all_come(rt: HostRuntime) -> Result<(), Fail> {
         assert!(rt; take(&rt, &mut right) == Some(text(n)));
     }
     assert!(rt; left.drained());
+    Ok(())
+}
+
+/// A payload is accepted, and goes out with this number on the air.
+fn expect_sent<M: Modulus>(rt: &impl Abort, link: &mut Link<M>, letter: u8, ns: u8) -> LinkOut {
+    assert!(rt; send(rt, link, letter, NOW) == Ok(()));
+    let out = link.next_out().expect(rt, "a text goes out");
+    let text = Control::I {
+        ns,
+        nr: 0,
+        pf: false,
+    };
+    assert!(rt; out.control == text);
+    out
+}
+
+#[test]
+fn a_lost_text_alone_is_asked_for(rt: HostRuntime) -> Result<(), Fail> {
+    let config = LinkConfig {
+        window: 4,
+        srej: true,
+        ..CONFIG
+    };
+    let mut left = Link::<M8>::new(rt.alloc(), config)?;
+    let mut right = Link::<M8>::new(rt.alloc(), config)?;
+    expect_opened(&rt, &mut left);
+    expect_opened(&rt, &mut right);
+
+    let ask = Control::Srej { nr: 2, pf: false };
+    for n in 0..4 {
+        let out = expect_sent(&rt, &mut left, n, n);
+        if n != 2 {
+            bring(&rt, &mut right, &out);
+            let ready = Control::Rr {
+                nr: n + 1,
+                pf: false,
+            };
+            assert!(rt; next_control(&mut right) == Some(if n == 3 { ask } else { ready }));
+        }
+    }
+
+    hear(&rt, &mut left, false, ask);
+    assert_eq!(rt; left.facts().acked, 0);
+    let again = left.next_out().expect(&rt, "the text goes out again");
+    assert!(rt; again.payload == Some(text(2)));
+    assert!(rt; left.drained());
+    bring(&rt, &mut right, &again);
+    assert!(rt; next_control(&mut right) == Some(Control::Rr { nr: 4, pf: false }));
+    for n in 0..4 {
+        assert!(rt; take(&rt, &mut right) == Some(text(n)));
+    }
+    Ok(())
+}
+
+#[test]
+fn numbers_go_on_past_the_modulus(rt: HostRuntime) -> Result<(), Fail> {
+    let config = LinkConfig {
+        window: 127,
+        ..CONFIG
+    };
+    let mut link = Link::<M128>::new(rt.alloc(), config)?;
+    expect_opened(&rt, &mut link);
+    for n in 0..127 {
+        let _ = expect_sent(&rt, &mut link, n, n);
+    }
+    assert!(rt; send(&rt, &mut link, 127, NOW) == Ok(()));
+    assert!(rt; link.drained());
+
+    let all = Control::Rr { nr: 127, pf: false };
+    hear(&rt, &mut link, false, all);
+    let last = Control::I {
+        ns: 127,
+        nr: 0,
+        pf: false,
+    };
+    assert!(rt; next_control(&mut link) == Some(last));
+    let _ = expect_sent(&rt, &mut link, 128, 0);
     Ok(())
 }
 

@@ -1,7 +1,7 @@
 ghost use Rattle.std.specs.Prelude.{◌≡◌, ℕ, Bool, List, ◌+◌, ◌-◌, ◌*◌, ◌≤◌, ◌<◌, ◌++◌, ◌∷◌, [], ◌&&◌, not, nat_eq, nat_le, length, true, false, None, Some, IfSome};
 ghost use Rattle.radio_base.specs.declared.modulus.TheConstants.{COUNT_MAX};
 
-use crate::station::{Station, push};
+use crate::station::Station;
 use ax_frame::Control;
 use radio_base::{COUNT_MAX, Modulus, Payload};
 
@@ -13,13 +13,14 @@ impl<M: Modulus> Station<M> {
     ghost use Rattle.ax_link.specs.Moves as moves;
     ghost use Rattle.ax_link.specs.Table as table;
     ghost use Rattle.ax_link.specs.Standing.{Adds, state_of};
-    ghost use Rattle.ax_link.specs.Stations.{Does, held_of, taken, text_again};
+    ghost use Rattle.ax_link.specs.Stations.{Does, held_of, taken, text_next};
 
     /// A payload has come with this number on the air.
     pub(crate) fn text(&mut self, pf: bool, ns: u8, payload: Payload)
-        requires { length self.old.outs.items + 1 ≤ 2 * self.old.window + 4 }
+        requires room { length self.old.outs.items + self.old.window ≤ 2 * self.old.window + 4 }
+        requires size { self.old.window < M.SIZE }
         ensures does { Does M.SIZE (moves.text pf ns payload) self.old self.new }
-        ensures adds { Adds 1 (held_of self.old) (held_of self.new) }
+        ensures adds { Adds self.old.window (held_of self.old) (held_of self.new) }
     {
         if self.got >= COUNT_MAX {
             return;
@@ -27,9 +28,55 @@ impl<M: Modulus> Station<M> {
         if self.is_busy() {
             let nr = M::wire(self.got);
             self.put(false, Control::Rnr { nr, pf });
+        } else if self.srej {
+            self.text_in_window(pf, ns, payload);
         } else {
             self.text_in_turn(pf, ns, payload);
         }
+    }
+
+    /// Where single payloads are asked for, each one of the window is taken or kept.
+    fn text_in_window(&mut self, pf: bool, ns: u8, payload: Payload)
+        requires room { length self.old.outs.items + self.old.window ≤ 2 * self.old.window + 4 }
+        requires size { self.old.window < M.SIZE }
+        requires busy { length self.old.inbox.items < 64 }
+        requires more { self.old.got < COUNT_MAX }
+        ensures does { Does M.SIZE (moves.text_srej pf ns payload) self.old self.new }
+        ensures adds { Adds self.old.window (held_of self.old) (held_of self.new) }
+    {
+        match self.in_window(ns) {
+            Some(number) => self.text_at(pf, number, payload),
+            None => self.tell_ready(pf),
+        }
+    }
+
+    fn text_at(&mut self, pf: bool, number: u64, payload: Payload)
+        requires room { length self.old.outs.items + self.old.window ≤ 2 * self.old.window + 4 }
+        requires busy { length self.old.inbox.items < 64 }
+        requires more { self.old.got < COUNT_MAX }
+        requires from { self.old.got ≤ number }
+        requires below { number < self.old.got + self.old.window }
+        ensures does { Does M.SIZE (moves.text_at pf number payload) self.old self.new }
+        ensures adds { Adds self.old.window (held_of self.old) (held_of self.new) }
+    {
+        if self.got < number {
+            self.text_later(pf, number, payload);
+        } else {
+            self.text_next(pf, payload);
+        }
+    }
+
+    /// The next payload has come, and early ones follow.
+    fn text_next(&mut self, pf: bool, payload: Payload)
+        requires room { length self.old.outs.items + 1 ≤ 2 * self.old.window + 4 }
+        requires busy { length self.old.inbox.items < 64 }
+        requires more { self.old.got < COUNT_MAX }
+        ensures does { Does M.SIZE (text_next pf payload) self.old self.new }
+        ensures adds { Adds 1 (held_of self.old) (held_of self.new) }
+    {
+        self.take_next(payload);
+        self.move_on();
+        self.answer_taken(pf);
     }
 
     /// Without single payloads being asked for, only the next one is taken.
@@ -54,8 +101,7 @@ impl<M: Modulus> Station<M> {
         ensures does { Does M.SIZE (taken payload) self.old self.new }
         ensures adds { Adds 0 (held_of self.old) (held_of self.new) }
     {
-        push(&mut self.inbox, payload);
-        self.got += 1;
+        self.take_next(payload);
         self.asked = false;
     }
 
@@ -66,8 +112,7 @@ impl<M: Modulus> Station<M> {
         ensures adds { Adds 1 (held_of self.old) (held_of self.new) }
     {
         if pf || self.is_busy() || self.fill_count() == 0 {
-            let control = self.ready(pf);
-            self.put(false, control);
+            self.tell_ready(pf);
         }
     }
 
@@ -79,9 +124,8 @@ impl<M: Modulus> Station<M> {
     {
         if !self.asked {
             self.ask(pf);
-        } else if pf {
-            let control = self.ready(true);
-            self.put(false, control);
+        } else {
+            self.answer_poll(pf);
         }
     }
 

@@ -1,8 +1,6 @@
-use Rattle.std.proofs.Common.{refl}
 use Rattle.ax_link.specs.Stations.{held_of}
-use Rattle.ax_link.proofs.Standings.{takes_next}
+use Rattle.ax_link.proofs.Standings.{asked_no_more}
 use Rattle.ax_link.proofs.station.Station.take_in.Goals as goal
 
 pub returns-clause-does : goal.returns-clause-does
-returns-clause-does g c =
-    takes_next g.M.Modulus.SIZE (held_of c.args.self.now) _ c.args.payload c.args.self.now.window_some (rw c.push.ensures refl)
+returns-clause-does g c = λ part stands. asked_no_more _ (held_of c.take_next.new.self) _ (c.take_next.ensures.does part stands)

@@ -6,40 +6,17 @@ use Rattle.ax_link.specs.declared.plain.LinkFacts.{LinkFacts}
 use Rattle.ax_link.specs.declared.plain.LinkPhase.TheVariants.{Down}
 use Rattle.ax_link.specs.declared.plain.SendRefusal.{SendRefusal}
 use Rattle.ax_link.specs.declared.plain.SendRefusal.TheVariants.{NotUp, QueueFull, Exhausted}
-use Rattle.ax_link.specs.State.{Rules, State}
+use Rattle.ax_link.specs.State.{Rules, State, places}
 use Rattle.ax_link.specs.Table.{may_close}
 use Rattle.ax_link.specs.Standing.{Held}
 
--- the window that is used: of modulo 8 at most 7, by default 4; of another modulus at most 127, by default 32
-abbrev pub window_used : ℕ → ℕ → ℕ
-window_used size window =
-    if size == 8 then (if window == 0 then 4 else min window 7) else (if window == 0 then 32 else min window 127)
+-- how many payloads may be under way: one less than there are numbers, with SREJ half as many as there are numbers
+abbrev pub window_most : ℕ → Bool → ℕ
+window_most size srej = if size == 8 then (if srej then 4 else 7) else (if srej then 64 else 127)
 
--- what a new link holds
-abbrev pub held_new : ℕ → LinkConfig → Held
-held_new size config =
-    record {
-      window = window_used size config.window;
-      t1 = config.t1;
-      t3 = config.t3;
-      retries = config.retries;
-      phase = Down;
-      queue = [];
-      acked = 0;
-      sent = 0;
-      got = 0;
-      inbox = [];
-      tries = 0;
-      polling = false;
-      peer_busy = false;
-      asked = false;
-      closing = false;
-      t1_at = 0;
-      heard = 0;
-      stopped = 0;
-      outs = [];
-      notice = None;
-    }
+-- the window that is used: 0 stands for 4 of modulo 8, and for 32 of modulo 128
+abbrev pub window_used : ℕ → Bool → ℕ → ℕ
+window_used size srej window = if window == 0 then (if size == 8 then 4 else 32) else min window (window_most size srej)
 
 abbrev pub taken_in : Result (Unit {0}) SendRefusal
 taken_in = Ok tt
@@ -55,7 +32,7 @@ send_answer h =
 
 abbrev pub rules_new : ℕ → LinkConfig → Rules
 rules_new size config =
-    record { size = size; window = window_used size config.window; srej = config.srej; t1 = config.t1; t3 = config.t3; retries = config.retries }
+    record { size = size; window = window_used size config.srej config.window; srej = config.srej; t1 = config.t1; t3 = config.t3; retries = config.retries }
 
 -- a link that is Down and has known nothing yet
 abbrev pub opening : Rules → State
@@ -67,7 +44,7 @@ opening rules =
       acked = 0;
       sent = 0;
       gots = [];
-      early = replicate rules.window None;
+      early = replicate (places rules) None;
       inbox = [];
       tries = 0;
       polling = false;

@@ -1,0 +1,187 @@
+ghost use Rattle.std.specs.Prelude.{◌≡◌, ℕ, List, ◌+◌, ◌-◌, ◌*◌, ◌%◌, ◌≤◌, ◌<◌, length, replicate, slice_get, false, None, IfSome};
+ghost use Rattle.circular_buffer.specs.Buffer.{buffer};
+ghost use Rattle.radio_base.specs.declared.modulus.TheConstants.{COUNT_MAX};
+ghost use Rattle.ax_link.specs.State as state;
+ghost use Rattle.ax_link.specs.Stations.{is_filled, with_early};
+
+use crate::moves::copy_of;
+use crate::station::{Station, push};
+use ax_frame::Control;
+use circular_buffer::HeapCircularBuffer;
+use radio_base::{COUNT_MAX, Modulus, Payload};
+
+/// Places for payloads that come before their turn, the first for the next one expected.
+pub(crate) type Places = HeapCircularBuffer<Option<Payload>>;
+
+/// Leaves every place empty.
+pub(crate) fn empty(early: &mut Places)
+    ensures { early.new ≡ buffer (replicate early.old.capacity None) early.old.capacity }
+{
+    early.clear();
+    for done in 0..early.capacity() {
+        push(early, None);
+    }
+}
+
+/// Whether a payload is kept in this place.
+fn is_filled(early: &Places, place: usize) -> bool
+    ensures { result ≡ is_filled (slice_get early.now.items place) }
+{
+    matches!(early.get(place), Some(Some(_)))
+}
+
+/// 1 more than the last place that is filled, 0 where none is.
+fn top(early: &Places) -> usize
+    ensures value { result ≡ state.top early.now.items }
+    ensures within { result ≤ length early.now.items }
+{
+    let mut top = 0;
+    for place in 0..early.len() {
+        if is_filled(early, place) {
+            top = place + 1;
+        }
+    }
+    top
+}
+
+/// Keeps a payload, where none is kept in its place.
+fn keep(early: &mut Places, place: usize, payload: Payload)
+    ensures { early.new ≡ buffer (with_early place payload early.old.items) early.old.capacity }
+{
+    if let Some(kept) = early.get_mut(place) {
+        if kept.is_none() {
+            *kept = Some(payload);
+        }
+    }
+}
+
+impl<M: Modulus> Station<M> {
+    ghost use Rattle.radio_base.specs.declared.payload.Payload.{Payload};
+    ghost use Rattle.radio_base.specs.Modulus.{place_of};
+    ghost use Rattle.ax_link.specs.declared.kind.Kind.TheVariants as Kind;
+    ghost use Rattle.ax_link.specs.Moves as moves;
+    ghost use Rattle.ax_link.specs.Standing.{Adds, state_of};
+    ghost use Rattle.ax_link.specs.Stations.{Does, asked_for, held_of, kept_early, missing_asked, moved_on, next_taken};
+
+    /// Takes the next payload: what came early is one place nearer.
+    pub(crate) fn take_next(&mut self, payload: Payload)
+        requires busy { length self.old.inbox.items < 64 }
+        requires more { self.old.got < COUNT_MAX }
+        ensures does { Does M.SIZE (next_taken payload) self.old self.new }
+        ensures adds { Adds 0 (held_of self.old) (held_of self.new) }
+    {
+        push(&mut self.inbox, payload);
+        self.got += 1;
+        // The places are full, so that the first one leaves.
+        let _ = self.early.push_back(None);
+    }
+
+    /// The early payload that is next, where it may be taken.
+    fn next_early(&self) -> Option<Payload>
+        ensures exact { (before gots : List Payload) → length gots ≡ self.now.got →
+            result ≡ moves.next_early (state_of M.SIZE (held_of self.now) before gots) }
+        ensures room { IfSome result (λ _. (length self.now.inbox.items < 64) × (self.now.got < COUNT_MAX)) }
+    {
+        if self.is_busy() || self.got >= COUNT_MAX {
+            return None;
+        }
+        match self.early.front() {
+            Some(Some(payload)) => Some(copy_of(payload)),
+            _ => None,
+        }
+    }
+
+    /// Early payloads follow while they are next and the inbox isn't full.
+    pub(crate) fn move_on(&mut self)
+        ensures does { Does M.SIZE moved_on self.old self.new }
+        ensures adds { Adds 0 (held_of self.old) (held_of self.new) }
+    {
+        for done in 0..self.early.len() {
+            match self.next_early() {
+                Some(payload) => self.take_next(payload),
+                None => return,
+            }
+        }
+    }
+
+    /// 1 more than the highest number that is known.
+    fn high(&self) -> u64
+        ensures exact { (before gots : List Payload) → length gots ≡ self.now.got →
+            result ≡ state.high (state_of M.SIZE (held_of self.now) before gots) }
+        ensures low { self.now.got ≤ result }
+        ensures most { result ≤ self.now.got + self.now.window }
+    {
+        self.got + top(&self.early) as u64
+    }
+
+    /// Which payload of the window has this number on the air.
+    pub(crate) fn in_window(&self, ns: u8) -> Option<u64>
+        requires { self.now.window < M.SIZE }
+        ensures exact { result ≡ place_of M.SIZE ns self.now.got self.now.window }
+        ensures bounds { IfSome result (λ number. (self.now.got ≤ number) × (number < self.now.got + self.now.window)) }
+    {
+        if (ns as u64) < M::SIZE {
+            M::place(ns, self.got, self.window)
+        } else {
+            None
+        }
+    }
+
+    /// Asks for this payload alone.
+    fn ask_for(&mut self, number: u64)
+        requires { length self.old.outs.items < 2 * self.old.window + 4 }
+        ensures does { Does M.SIZE (moves.put false (Kind.Srej (number % M.SIZE) false)) self.old self.new }
+        ensures adds { Adds 1 (held_of self.old) (held_of self.new) }
+        ensures got { self.new.got ≡ self.old.got }
+    {
+        let nr = M::wire(number);
+        self.put(false, Control::Srej { nr, pf: false });
+    }
+
+    /// Asks for `many` payloads from this number on.
+    fn ask_for_each(&mut self, from: u64, many: u64)
+        requires room { length self.old.outs.items + many ≤ 2 * self.old.window + 4 }
+        requires within { from + many ≤ self.old.got + self.old.window }
+        ensures does { Does M.SIZE (asked_for from many) self.old self.new }
+        ensures adds { Adds many (held_of self.old) (held_of self.new) }
+        ensures got { self.new.got ≡ self.old.got }
+    {
+        for number in from..from + many {
+            self.ask_for(number);
+        }
+    }
+
+    /// Asks for what is missing below this payload and wasn't known to be missing.
+    fn ask_for_missing(&mut self, number: u64)
+        requires room { length self.old.outs.items + self.old.window ≤ 2 * self.old.window + 4 }
+        requires below { number < self.old.got + self.old.window }
+        ensures does { Does M.SIZE (missing_asked number) self.old self.new }
+        ensures adds { Adds (self.old.window - 1) (held_of self.old) (held_of self.new) }
+        ensures got { self.new.got ≡ self.old.got }
+    {
+        let high = self.high();
+        self.ask_for_each(high, number.saturating_sub(high));
+    }
+
+    /// Keeps the payload of this number, where none is kept in its place.
+    fn keep_early(&mut self, number: u64, payload: Payload)
+        requires { self.old.got ≤ number }
+        ensures does { Does M.SIZE (kept_early number payload) self.old self.new }
+        ensures adds { Adds 0 (held_of self.old) (held_of self.new) }
+    {
+        keep(&mut self.early, (number - self.got) as usize, payload);
+    }
+
+    /// A payload of the window has come before its turn.
+    pub(crate) fn text_later(&mut self, pf: bool, number: u64, payload: Payload)
+        requires room { length self.old.outs.items + self.old.window ≤ 2 * self.old.window + 4 }
+        requires from { self.old.got ≤ number }
+        requires below { number < self.old.got + self.old.window }
+        ensures does { Does M.SIZE (moves.text_later pf number payload) self.old self.new }
+        ensures adds { Adds self.old.window (held_of self.old) (held_of self.new) }
+    {
+        self.ask_for_missing(number);
+        self.keep_early(number, payload);
+        self.answer_poll(pf);
+    }
+}
