@@ -1,6 +1,7 @@
 -- Frames, and the octets that spell them (AX.25 2.2, section 3).
 use Rattle.std.specs.Prelude.{◌≡◌, ℕ, ◌≤◌, List, [], ◌∷◌, ◌++◌, length, true, false, Option, Some, None, Ok, is_some}
 use Rattle.std.specs.List.{AllByRecursion}
+use Rattle.arrayvec.specs.ArrayVec.{ArrayVec}
 use Rattle.ax_address.specs.declared.address.Address.{Address}
 use Rattle.ax_address.specs.Callsign.{IsCallsign}
 use Rattle.ax_address.specs.Octets.{address_octets}
@@ -22,6 +23,9 @@ frame head control pid info = record { head = head; control = control; pid = pid
 
 abbrev pub view : FrameView → Frame
 view v = frame v.head v.control v.pid v.info.now
+
+abbrev pub head : Address → Address → ArrayVec Address → Head
+head dest source path = record { dest = dest; source = source; path = path }
 
 -- destination, source and repeaters, in the order of their octets
 abbrev pub addresses : Head → List Address

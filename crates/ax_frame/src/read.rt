@@ -1,10 +1,10 @@
-ghost use Rattle.std.specs.Prelude.{◌≡◌, ◌≤◌, ◌<◌, ◌+◌, ◌*◌, ◌^◌, ◌++◌, List, ℕ, length, take, drop, IfOk, Ok, Err, IsOkAnd, MatchResult};
+ghost use Rattle.std.specs.Prelude.{◌≡◌, ◌≤◌, ◌<◌, ◌+◌, ◌*◌, ◌^◌, ◌++◌, [], List, ℕ, length, take, drop, IfOk, OnOk, Ok, Err, IsOkAnd, MatchResult};
 ghost use Rattle.ax_frame.specs.Reading as reading;
 ghost use Rattle.ax_frame.specs.Read.{read_at, read_head_at};
 ghost use Rattle.ax_address.specs.Octets.{SpellsAddress};
 ghost use Rattle.std.specs.Result.{result_err};
 ghost use Rattle.ax_frame.specs.Controls.{IsLinkModulus};
-ghost use Rattle.ax_frame.specs.Frames.{Frame, Spells, SpellsHead, view};
+ghost use Rattle.ax_frame.specs.Frames.{Frame, Spells, SpellsHead, head, view};
 ghost use Rattle.ax_frame.specs.Parts.{HasHead, SpellsLast};
 ghost use Rattle.ax_frame.specs.declared.head.Head.{Head};
 
@@ -33,18 +33,29 @@ fn head_of(bytes: &[u8]) -> Result<(Head, usize), FrameRefusal>
     ensures found { IfOk result (λ x. (x.1 ≤ length bytes.now) × SpellsHead x.0 (take x.1 bytes.now)) }
     ensures judged { MatchResult result (λ x. reading.head_end bytes.now ≡ Ok x.1) (λ e. reading.head_end bytes.now ≡ Err e) }
 {
+    let mut path = Path::new();
+    let (dest, source, end) = addresses(bytes, &mut path)?;
+    Ok((Head { dest, source, path }, end))
+}
+
+/// Destination, source and where the addresses end. The repeaters are put into the path where it stands, since a
+/// path is long to move.
+fn addresses(bytes: &[u8], path: &mut Path) -> Result<(Address, Address, usize), FrameRefusal>
+    requires { path.old.items ≡ [] }
+    ensures found { IfOk result (λ x. (x.2 ≤ length bytes.now) × SpellsHead (head x.0 x.1 path.new) (take x.2 bytes.now)) }
+    ensures judged { MatchResult result (λ x. reading.head_end bytes.now ≡ Ok x.2) (λ e. reading.head_end bytes.now ≡ Err e) }
+{
     let (dest, last) = address_at(bytes, 0)?;
     if last {
         return Err(FrameRefusal::BadCall { at: 6 });
     }
     let (source, last) = address_at(bytes, 7)?;
     if last {
-        let path = Path::new();
-        return Ok((Head { dest, source, path }, 14));
+        return Ok((dest, source, 14));
     }
-    let path = repeaters(bytes)?;
+    repeaters(bytes, path)?;
     let end = 14 + 7 * path.len();
-    Ok((Head { dest, source, path }, end))
+    Ok((dest, source, end))
 }
 
 /// The frame that the octets spell, with sequence numbers modulo 8 or 128, or the first octet that can't
@@ -72,42 +83,49 @@ fn frame_of(size: u64, bytes: &[u8]) -> Result<FrameView<'_>, FrameRefusal>
     ensures found { IfOk result (λ v. Spells size (view v) bytes.now) }
     ensures refused { result_err result ≡ reading.first_fault size bytes.now }
 {
-    let (head, control, pid, at) = parts(size, bytes)?;
+    let mut path = Path::new();
+    let ((dest, source), control, pid, at) = parts(size, bytes, &mut path)?;
     let info = &bytes[at..];
     Ok(FrameView {
-        head,
+        head: Head { dest, source, path },
         control,
         pid,
         info,
     })
 }
 
-/// What stands before the information, and where that begins.
+/// What stands before the information, and where that begins; the repeaters are put into the path.
 #[tactic(auto, unfolding(crate::specs::Reading::frame_at))]
-fn parts(size: u64, bytes: &[u8]) -> Result<(Head, Control, Option<u8>, usize), FrameRefusal>
-    requires { IsLinkModulus size }
+fn parts(
+    size: u64,
+    bytes: &[u8],
+    path: &mut Path,
+) -> Result<((Address, Address), Control, Option<u8>, usize), FrameRefusal>
+    requires modulus { IsLinkModulus size }
+    requires empty { path.old.items ≡ [] }
     ensures judged { MatchResult result (λ x. reading.frame_at size bytes.now ≡ Ok (x.1, x.2, x.3)) (λ e. reading.frame_at size bytes.now ≡ Err e) }
-    ensures head { IfOk result (λ x. HasHead x.0 bytes.now) }
+    ensures head { IfOk result (λ x. HasHead (head x.0.0 x.0.1 path.new) bytes.now) }
     ensures within { IfOk result (λ x. x.3 ≤ length bytes.now) }
 {
-    let (head, at) = read_head(bytes)?;
+    let (dest, source, at) = addresses(bytes, path)?;
     let (control, at) = control_at(size, bytes, at)?;
     let (pid, at) = pid_at(&control, bytes, at)?;
-    Ok((head, control, pid, at))
+    Ok(((dest, source), control, pid, at))
 }
 
-/// The repeaters, which stand behind destination and source, where the source isn't the last address.
-fn repeaters(bytes: &[u8]) -> Result<Path, FrameRefusal>
-    requires { 14 ≤ length bytes.now }
-    ensures judged { MatchResult result (λ p. reading.addresses_end 8 14 bytes.now ≡ Ok (14 + 7 * length p.items)) (λ e. reading.addresses_end 8 14 bytes.now ≡ Err e) }
-    ensures found { IfOk result (λ p. SpellsLast 14 bytes.now p.items) }
+/// Puts the repeaters into the path. They stand behind destination and source, where the source isn't the last
+/// address.
+fn repeaters(bytes: &[u8], path: &mut Path) -> Result<(), FrameRefusal>
+    requires len { 14 ≤ length bytes.now }
+    requires empty { path.old.items ≡ [] }
+    ensures judged { MatchResult result (λ _. reading.addresses_end 8 14 bytes.now ≡ Ok (14 + 7 * length path.new.items)) (λ e. reading.addresses_end 8 14 bytes.now ≡ Err e) }
+    ensures found { OnOk result (SpellsLast 14 bytes.now path.new.items) }
 {
-    let mut path = Path::new();
     for nth in 0..8 {
         let (repeater, last) = address_at(bytes, 14 + 7 * nth)?;
         path.push(repeater);
         if last {
-            return Ok(path);
+            return Ok(());
         }
     }
     Err(FrameRefusal::TooManyRepeaters)

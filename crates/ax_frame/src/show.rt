@@ -86,12 +86,15 @@ fn push_format(format: Format, line: &mut Line)
 {
     match format {
         Format::Information { ns, nr, pf } => {
-            push_number(" ns=", ns as usize, line);
-            push_number(" nr=", nr as usize, line);
+            line.push_str(" ns=");
+            push_decimal(ns as usize, line);
+            line.push_str(" nr=");
+            push_decimal(nr as usize, line);
             push_poll(pf, line);
         }
         Format::Supervisory { code: _, nr, pf } => {
-            push_number(" nr=", nr as usize, line);
+            line.push_str(" nr=");
+            push_decimal(nr as usize, line);
             push_poll(pf, line);
         }
         Format::Unnumbered { code: _, pf } => push_poll(pf, line),
@@ -128,16 +131,16 @@ fn push_info(control: &Control, len: usize, line: &mut Line)
     ensures len { length line.new.bytes ≤ length line.old.bytes + 25 }
 {
     if control.takes_info() {
-        push_number(" len=", len, line);
+        line.push_str(" len=");
+        push_decimal(len, line);
     }
 }
 
-fn push_number(name: &str, number: usize, line: &mut Line)
-    requires { length line.old.bytes + length name.now + 20 ≤ 202 }
-    ensures text { line.new.bytes ≡ line.old.bytes ++ texts.number_text name.now number }
-    ensures len { length line.new.bytes ≤ length line.old.bytes + length name.now + 20 }
+fn push_decimal(number: usize, line: &mut Line)
+    requires { length line.old.bytes + 20 ≤ 202 }
+    ensures text { line.new.bytes ≡ line.old.bytes ++ decimal number }
+    ensures len { length line.new.bytes ≤ length line.old.bytes + 20 }
 {
-    line.push_str(name);
     line.push_str(Buffer::new().format(number));
 }
 

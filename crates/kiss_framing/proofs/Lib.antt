@@ -1,4 +1,5 @@
 pub mod Escapes
 pub mod Pieces
 pub mod ReadBack
+pub mod Runs
 pub mod Steps

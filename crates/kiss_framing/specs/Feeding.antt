@@ -1,11 +1,11 @@
 -- What the deframer answers, and what it is once that is given back.
-use Rattle.std.specs.Prelude.{ℕ, ◌≤◌, List, [], ◌∷◌, ◌++◌, length, Option, None, Some, ⊤}
+use Rattle.std.specs.Prelude.{◌≡◌, ℕ, ◌≤◌, ◌<◌, List, [], ◌∷◌, ◌++◌, length, take, Option, None, Some, ⊤}
 use Rattle.std.specs.Borrow.{follows_so, MutBor, Fml}
 use mathlib.Core.Option.{none}
 use Rattle.kiss_framing.specs.declared.deframer.KissItem.{KissItem}
 use Rattle.kiss_framing.specs.declared.deframer.KissItem.TheVariants as kiss
 use Rattle.kiss_framing.specs.contracts.deframer.Deframer.{the_row}
-use Rattle.kiss_framing.specs.Stream.{Item, Frame, Too_long}
+use Rattle.kiss_framing.specs.Stream.{Item, Frame, Too_long, items}
 use Rattle.kiss_framing.specs.Deframing.{Held, StandsFor}
 
 -- the item that is handed out, if any
@@ -19,8 +19,12 @@ abbrev pub IsSmall : KissItem → Type 0
 IsSmall (kiss.Frame port command payload) = (port ≤ 15) × (command ≤ 15) × (length payload.now ≤ 1023)
 IsSmall kiss.TooLong = Unit {0}
 
--- once what was lent is given back, the deframer stands for the stream that it stood for, with this byte behind it
-abbrev pub GoesOn : MutBor Held → ℕ → Fml
-GoesOn deframer b =
+-- once what was lent is given back, the deframer stands for the stream that it stood for, with these bytes behind it
+abbrev pub GoesOn : MutBor Held → List ℕ → Fml
+GoesOn deframer bytes =
     follows_so the_row the_row deframer.ghost_name none (λ _ _. ⊤)
-    (λ later. (stream : List ℕ) → StandsFor deframer.now stream → StandsFor later (stream ++ b ∷ []))
+    (λ later. (stream : List ℕ) → StandsFor deframer.now stream → StandsFor later (stream ++ bytes))
+
+-- no fewer than so many of these bytes bring the stream an item
+abbrev pub IsQuietBefore : ℕ → List ℕ → List ℕ → Type 0
+IsQuietBefore count stream bytes = (fewer : ℕ) → fewer < count → items (stream ++ take fewer bytes) ≡ items stream

@@ -1,5 +1,5 @@
 -- How what is held goes on by one byte, case by case as the deframer takes it in.
-use Rattle.std.specs.Prelude.{ℕ, true, false, ◌==◌, if◌then◌else◌, List, [], ◌∷◌, ◌++◌}
+use Rattle.std.specs.Prelude.{◌≡◌, ◌≢◌, ℕ, ◌+◌, true, false, ◌==◌, if◌then◌else◌, List, [], ◌∷◌, ◌++◌, length, take}
 use Rattle.kiss_framing.specs.declared.TheConstants.{FEND, FESC, TFEND, TFESC}
 use Rattle.kiss_framing.specs.declared.piece.Place.{Place}
 use Rattle.kiss_framing.specs.declared.piece.Place.TheVariants.{Between, Within, Escaped, Skipping}
@@ -45,3 +45,36 @@ within Skipped b = (Skipped, [])
 -- by one byte: what is held then, and the items that it gives
 abbrev pub step : Held → ℕ → Held × List Item
 step held b = if b == FEND then after_fend held else within held b
+
+-- a byte that stands for itself
+abbrev pub IsPlain : ℕ → Type 0
+IsPlain b = ((b == FEND) ≡ false) × ((b == FESC) ≡ false)
+
+-- by these bytes, none of which gives an item, from what is held to what is held later
+abbrev pub Leads : Held → List ℕ → Held → Type 0
+Leads held [] later = held ≡ later
+Leads held (b ∷ more) later = ((step held b).1 ≡ []) × Leads (step held b).0 more later
+
+-- the last of so many bytes is the first that gives an item
+pub record LastGives (held : Held) (bytes : List ℕ) (count : ℕ) (later : Held) (given : List Item) : Type 0 where
+  pub front : List ℕ
+  pub last : ℕ
+  pub rest : List ℕ
+  pub between : Held
+  pub cut : bytes ≡ front ++ last ∷ rest
+  pub counted : count ≡ length front + 1
+  pub led : Leads held front between
+  pub gave : (later, given) ≡ step between last
+  pub some : given ≢ []
+
+-- bytes are taken in, of which the last alone may end something
+abbrev pub EndsNext : Held → List ℕ → ℕ → Ends → Held → List ℕ → Type 0
+EndsNext held bytes count ends.Nothing later buffer = Leads held (take count bytes) later
+EndsNext held bytes count ends.Piece later buffer = LastGives held bytes count later (items_at ends.Piece buffer)
+EndsNext held bytes count ends.Room later buffer = LastGives held bytes count later (items_at ends.Room buffer)
+
+-- bytes are taken in up to the first that ends something, or all where none does
+abbrev pub EndsAt : Held → List ℕ → ℕ → Ends → Held → List ℕ → Type 0
+EndsAt held bytes count ends.Nothing later buffer = (count ≡ length bytes) × Leads held bytes later
+EndsAt held bytes count ends.Piece later buffer = LastGives held bytes count later (items_at ends.Piece buffer)
+EndsAt held bytes count ends.Room later buffer = LastGives held bytes count later (items_at ends.Room buffer)

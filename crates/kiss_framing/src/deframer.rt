@@ -1,7 +1,8 @@
-ghost use Rattle.std.specs.Prelude.{◌≡◌, ℕ, ◌≤◌, List, [], ◌∷◌, ◌++◌, length, IfSome};
+ghost use Rattle.std.specs.Prelude.{◌≡◌, ℕ, ◌≤◌, List, [], ◌∷◌, ◌++◌, ◌<◌, length, take, IfSome, IfNone};
 ghost use Rattle.kiss_framing.specs.Stream.{items, given_by_byte, frame_of as frame_in};
 ghost use Rattle.kiss_framing.specs.Deframing.{StandsFor, pending_of};
-ghost use Rattle.kiss_framing.specs.Feeding.{GoesOn, IsSmall, handed_out};
+ghost use Rattle.kiss_framing.specs.Stepping.{items_at};
+ghost use Rattle.kiss_framing.specs.Feeding.{GoesOn, IsQuietBefore, IsSmall, handed_out};
 
 use crate::piece::{Ends, Piece};
 use std::marker::Model;
@@ -19,7 +20,8 @@ pub enum KissItem<'a> {
     TooLong,
 }
 
-/// Takes the items out of a stream, a byte at a time. However the stream is cut, they are the same.
+/// Takes the items out of a stream, by single bytes or as many as there are. However the stream is cut, they are the
+/// same.
 #[derive(Drop)]
 pub struct Deframer {
     piece: Piece,
@@ -56,16 +58,42 @@ impl Deframer {
 
     /// Takes in the next byte of the stream, and hands out the item that it completes, if any.
     pub fn feed(&mut self, byte: u8) -> Option<KissItem<'_>>
-        ensures* goes_on { sem 𝓛 (GoesOn self.entry byte) }
+        ensures* goes_on { sem 𝓛 (GoesOn self.entry (byte ∷ [])) }
         ensures adds { (stream : List ℕ) → StandsFor self.old stream → items (stream ++ byte ∷ []) ≡ items stream ++ handed_out result }
         ensures exact { (stream : List ℕ) → StandsFor self.old stream → handed_out result ≡ given_by_byte stream byte }
         ensures small { IfSome result IsSmall }
     {
-        match self.piece.take_in(byte) {
-            Ends::Nothing => None,
-            Ends::Room => Some(KissItem::TooLong),
-            Ends::Piece => frame_of(self.piece.bytes.as_slice()),
-        }
+        let ends = self.piece.take_in(byte);
+        item_of(&self.piece, ends)
+    }
+
+    /// Takes in bytes of the stream up to the first that completes an item, or all of them where none does: how many
+    /// it took in, and the item.
+    pub fn feed_until_item(&mut self, bytes: &[u8]) -> (usize, Option<KissItem<'_>>)
+        ensures* goes_on { sem 𝓛 (GoesOn self.entry (take result.0 bytes.now)) }
+        ensures adds { (stream : List ℕ) → StandsFor self.old stream → items (stream ++ take result.0 bytes.now) ≡ items stream ++ handed_out result.1 }
+
+        // No byte before the last gives an item, and where none gives one all are taken in.
+        ensures first { (stream : List ℕ) → StandsFor self.old stream → IsQuietBefore result.0 stream bytes.now }
+        ensures all { IfNone result.1 (result.0 ≡ length bytes.now) }
+        ensures within { result.0 ≤ length bytes.now }
+        ensures moves { 0 < length bytes.now → 0 < result.0 }
+        ensures small { IfSome result.1 IsSmall }
+    {
+        let (count, ends) = self.piece.take_in_some(bytes);
+        (count, item_of(&self.piece, ends))
+    }
+}
+
+/// The item of what has ended.
+fn item_of(piece: &Piece, ends: Ends) -> Option<KissItem<'_>>
+    ensures item { handed_out result ≡ items_at ends piece.now.bytes.items }
+    ensures small { IfSome result IsSmall }
+{
+    match ends {
+        Ends::Nothing => None,
+        Ends::Room => Some(KissItem::TooLong),
+        Ends::Piece => frame_of(piece.bytes.as_slice()),
     }
 }
 

@@ -1,9 +1,15 @@
-ghost use Rattle.std.specs.Prelude.{◌≡◌, ◌++◌, ◌∷◌, []};
+ghost use Rattle.std.specs.Prelude.{◌≡◌, ◌≢◌, ◌≤◌, ◌<◌, ◌++◌, ◌∷◌, [], length, take};
+ghost use Rattle.std.specs.List.{AllByRecursion};
 ghost use Rattle.kiss_framing.specs.Deframing.{pending_of};
-ghost use Rattle.kiss_framing.specs.Stepping.{held_at, items_at, step, after_fend, after_plain, after_escape, grown};
+ghost use Rattle.kiss_framing.specs.Stepping.{held_at, items_at, step, after_fend, after_plain, after_escape, grown, IsPlain, Leads, EndsNext, EndsAt};
 
 use crate::{FEND, FESC, LONGEST, TFEND, TFESC};
 use arrayvec::ArrayVec;
+use memchr::memchr2;
+
+/// How many bytes are searched at a time for the next `FEND` or `FESC`: one is often near, and a search of more bytes
+/// takes longer to begin.
+const NEAR: usize = 128;
 
 /// Where the next byte of the stream stands.
 #[derive(Clone, Copy, Debug, PartialEq, Eq)]
@@ -56,9 +62,64 @@ impl Piece {
         }
     }
 
+    /// Takes in bytes of the stream up to the first that ends something, or all of them where none does.
+    pub(crate) fn take_in_some(&mut self, bytes: &[u8]) -> (usize, Ends)
+        ensures { EndsAt (held_at self.old.place self.old.bytes.items) bytes.now result.0 result.1 (held_at self.new.place self.new.bytes.items) self.new.bytes.items }
+    {
+        let mut taken = 0;
+        while taken < bytes.len() {
+            let (count, ends) = self.take_in_next(&bytes[taken..]);
+            taken += count;
+            match ends {
+                Ends::Nothing => {}
+                _ => return (taken, ends),
+            }
+        }
+        (taken, Ends::Nothing)
+    }
+
+    /// Takes in bytes that stand for themselves, and the byte behind them.
+    fn take_in_next(&mut self, bytes: &[u8]) -> (usize, Ends)
+        ensures ends { EndsNext (held_at self.old.place self.old.bytes.items) bytes.now result.0 result.1 (held_at self.new.place self.new.bytes.items) self.new.bytes.items }
+        ensures within { result.0 ≤ length bytes.now }
+        ensures moves { 0 < length bytes.now → 0 < result.0 }
+    {
+        let run = self.take_in_run(bytes);
+        match bytes.get(run) {
+            None => (run, Ends::Nothing),
+            Some(byte) => (run + 1, self.take_in(*byte)),
+        }
+    }
+
+    /// Takes in bytes of the piece that stand for themselves, as many as there is room for, or drops them where it is
+    /// too long.
+    fn take_in_run(&mut self, bytes: &[u8]) -> usize
+        ensures count { result ≤ length bytes.now }
+        ensures led { Leads (held_at self.old.place self.old.bytes.items) (take result bytes.now) (held_at self.new.place self.new.bytes.items) }
+    {
+        match self.place {
+            Place::Within => self.hold_run(plain_run(bytes)),
+            Place::Skipping => plain_run(bytes).len(),
+            Place::Between | Place::Escaped => 0,
+        }
+    }
+
+    /// Holds as many of these bytes as there is room for.
+    fn hold_run(&mut self, run: &[u8]) -> usize
+        requires within { self.old.place ≡ Place.Within }
+        requires plain { AllByRecursion IsPlain run.now }
+        ensures count { result ≤ length run.now }
+        ensures led { Leads (held_at self.old.place self.old.bytes.items) (take result run.now) (held_at self.new.place self.new.bytes.items) }
+    {
+        let count = run.len().min(self.bytes.remaining_capacity());
+        let _ = self.bytes.try_extend_from_slice(&run[..count]);
+        count
+    }
+
     /// Takes in the next byte of the stream.
     pub(crate) fn take_in(&mut self, byte: u8) -> Ends
-        ensures { (held_at self.new.place self.new.bytes.items, items_at result self.new.bytes.items) ≡ step (held_at self.old.place self.old.bytes.items) byte }
+        ensures some { result ≢ Ends.Nothing → items_at result self.new.bytes.items ≢ [] }
+        ensures stepped { (held_at self.new.place self.new.bytes.items, items_at result self.new.bytes.items) ≡ step (held_at self.old.place self.old.bytes.items) byte }
     {
         if byte == FEND {
             return self.end();
@@ -75,11 +136,12 @@ impl Piece {
     }
 
     fn end(&mut self) -> Ends
-        ensures { (held_at self.new.place self.new.bytes.items, items_at result self.new.bytes.items) ≡ after_fend (held_at self.old.place self.old.bytes.items) }
+        ensures some { result ≢ Ends.Nothing → items_at result self.new.bytes.items ≢ [] }
+        ensures stepped { (held_at self.new.place self.new.bytes.items, items_at result self.new.bytes.items) ≡ after_fend (held_at self.old.place self.old.bytes.items) }
     {
         let ends = match self.place {
-            Place::Within | Place::Escaped => Ends::Piece,
-            Place::Between | Place::Skipping => Ends::Nothing,
+            Place::Within | Place::Escaped if !self.bytes.is_empty() => Ends::Piece,
+            _ => Ends::Nothing,
         };
         self.place = Place::Between;
         ends
@@ -87,7 +149,8 @@ impl Piece {
 
     /// Takes in a byte that no `FESC` stands before.
     fn take_plain(&mut self, byte: u8) -> Ends
-        ensures { (held_at self.new.place self.new.bytes.items, items_at result self.new.bytes.items) ≡ after_plain self.old.bytes.items byte }
+        ensures some { result ≢ Ends.Nothing → items_at result self.new.bytes.items ≢ [] }
+        ensures stepped { (held_at self.new.place self.new.bytes.items, items_at result self.new.bytes.items) ≡ after_plain self.old.bytes.items byte }
     {
         if byte == FESC {
             self.place = Place::Escaped;
@@ -99,7 +162,8 @@ impl Piece {
 
     /// Takes in the byte behind a `FESC`.
     fn take_escaped(&mut self, byte: u8) -> Ends
-        ensures { (held_at self.new.place self.new.bytes.items, items_at result self.new.bytes.items) ≡ after_escape self.old.bytes.items byte }
+        ensures some { result ≢ Ends.Nothing → items_at result self.new.bytes.items ≢ [] }
+        ensures stepped { (held_at self.new.place self.new.bytes.items, items_at result self.new.bytes.items) ≡ after_escape self.old.bytes.items byte }
     {
         match byte {
             TFEND => self.hold(FEND),
@@ -113,7 +177,8 @@ impl Piece {
 
     /// Holds one more byte, or drops the piece where it has no room.
     fn hold(&mut self, byte: u8) -> Ends
-        ensures { (held_at self.new.place self.new.bytes.items, items_at result self.new.bytes.items) ≡ grown (self.old.bytes.items ++ byte ∷ []) }
+        ensures some { result ≢ Ends.Nothing → items_at result self.new.bytes.items ≢ [] }
+        ensures stepped { (held_at self.new.place self.new.bytes.items, items_at result self.new.bytes.items) ≡ grown (self.old.bytes.items ++ byte ∷ []) }
     {
         match self.bytes.try_push(byte) {
             Ok(()) => {
@@ -125,5 +190,30 @@ impl Piece {
                 Ends::Room
             }
         }
+    }
+}
+
+/// Bytes before the first `FEND` or `FESC`. Where it stands first, no search begins.
+fn plain_run(bytes: &[u8]) -> &[u8]
+    ensures front { result.now ≡ take (length result.now) bytes.now }
+    ensures within { length result.now ≤ length bytes.now }
+    ensures plain { AllByRecursion IsPlain result.now }
+{
+    match bytes {
+        [FEND | FESC, ..] => &[],
+        _ => near_run(bytes),
+    }
+}
+
+/// The bytes before the first `FEND` or `FESC` of those that are searched at a time.
+fn near_run(bytes: &[u8]) -> &[u8]
+    ensures front { result.now ≡ take (length result.now) bytes.now }
+    ensures within { length result.now ≤ length bytes.now }
+    ensures plain { AllByRecursion IsPlain result.now }
+{
+    let near = &bytes[..bytes.len().min(NEAR)];
+    match memchr2(FEND, FESC, near) {
+        Some(at) => &near[..at],
+        None => near,
     }
 }

@@ -58,6 +58,24 @@ fn the_longest_frame_and_one_byte_more(rt: HostRuntime) {
 }
 
 #[test]
+fn a_stream_is_taken_in_up_to_each_item(rt: HostRuntime) {
+    let stream = b"\xC0\x00\x41\xDB\xDC\x42\xC0\xC0\x00\x43\xC0\x00".as_slice();
+    let mut deframer = Deframer::new();
+    let (count, item) = deframer.feed_until_item(stream);
+    assert_eq!(rt; count, 7);
+    assert!(rt; item == frame(b"\x41\xC0\x42"));
+    let (count, item) = deframer.feed_until_item(&stream[7..]);
+    assert_eq!(rt; count, 4);
+    assert!(rt; item == frame(b"\x43"));
+    let (count, item) = deframer.feed_until_item(&stream[11..]);
+    assert_eq!(rt; count, 1);
+    assert!(rt; item == None);
+    let (count, item) = deframer.feed_until_item(&[0; 1100]);
+    assert_eq!(rt; count, 1024);
+    assert!(rt; item == Some(KissItem::TooLong));
+}
+
+#[test]
 fn a_type_byte_that_is_escaped(rt: HostRuntime) {
     let mut out = ArrayVec::<u8, 5>::new();
     assert_eq!(rt; enframe(12, 0, &[1], &mut out), Ok(()));

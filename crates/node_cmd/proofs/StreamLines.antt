@@ -1,5 +1,5 @@
 -- The lines of a stream, as its bytes come.
-use Rattle.std.proofs.Common.{◌≡◌, ◌++◌, ◌∙◌, ◌≤◌, ℕ, List, [], ◌∷◌, refl, sym, ap, append_assoc, append-nil, length}
+use Rattle.std.proofs.Common.{◌≡◌, ◌++◌, ◌∙◌, ◌≤◌, ◌-◌, take, drop, take_all, length-drop, arith, ℕ, List, [], ◌∷◌, refl, sym, ap, append_assoc, append-nil, length}
 use Rattle.std.specs.Prelude.{Option}
 use Rattle.std.specs.Io.KnownBytes.{Appends, Consumes}
 use Rattle.std.proofs.KnownBytes.{Appends-trans}
@@ -10,6 +10,10 @@ use Rattle.node_cmd.specs.declared.frames.TheConstants.{MAX_STREAM}
 use Rattle.node_cmd.specs.declared.frames.ListRefusal.{ListRefusal}
 use Rattle.node_cmd.specs.declared.frames.ListRefusal.TheVariants.{ReadFault, WriteFault, TooLong, NoMemory}
 use Rattle.node_cmd.specs.Frames.{WritesLines, WritesSomeLines, PieceUnlisted, WhyUnlisted}
+
+-- a slice from a place on is all that stands there
+pub rest_of : (n : ℕ) (bytes : List ℕ) → take (length bytes - n) (drop n bytes) ≡ drop n bytes
+rest_of n bytes = take_all (length bytes - n) (drop n bytes) (omega (arith, length-drop n bytes))
 
 -- the lines of items one after another
 pub lists-append : (size : ℕ) (is js : List Item) (a b : List ℕ) → Lists size is a → Lists size js b → Lists size (is ++ js) (a ++ b)

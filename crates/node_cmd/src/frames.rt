@@ -1,4 +1,4 @@
-ghost use Rattle.std.specs.Prelude.{◌≡◌, ◌≢◌, ◌⊎◌, ◌++◌, ◌∷◌, [], List, ℕ, OnOk, IfErr};
+ghost use Rattle.std.specs.Prelude.{◌≡◌, ◌≢◌, ◌⊎◌, ◌++◌, ◌≤◌, ◌<◌, List, ℕ, length, take, OnOk, IfOk, IfErr};
 ghost use Rattle.std.specs.Io.KnownBytes.{Appends};
 ghost use Rattle.radio_base.specs.Causes.{Rose};
 ghost use Rattle.kiss_framing.specs.Deframing.{StandsFor};
@@ -99,28 +99,33 @@ fn add_items<M: Modulus>(
     ensures fed { OnOk result ((stream : List ℕ) → StandsFor deframer.old stream → StandsFor deframer.new (stream ++ bytes.now)) }
     ensures added { OnOk result ((stream : List ℕ) → StandsFor deframer.old stream → (more : List ℕ) × AddsLines M.SIZE stream bytes.now more × (text.new ≡ text.old ++ more)) }
 {
-    for byte in bytes {
-        add_byte::<M>(*byte, deframer, text)?;
+    let mut taken = 0;
+    while taken < bytes.len() {
+        taken += add_next::<M>(&bytes[taken..], deframer, text)?;
     }
     Ok(())
 }
 
-/// Adds the line of the item that this byte ends, if it ends one.
-fn add_byte<M: Modulus>(
-    byte: u8,
+/// Takes in bytes up to the first that ends an item and adds the item's line, or takes in all where none does.
+/// Answers with how many it took in.
+fn add_next<M: Modulus>(
+    bytes: &[u8],
     deframer: &mut Deframer,
     text: &mut TextOut,
-) -> Result<(), NoMemory>
+) -> Result<usize, NoMemory>
     requires { IsLinkModulus M.SIZE }
-    ensures fed { OnOk result ((stream : List ℕ) → StandsFor deframer.old stream → StandsFor deframer.new (stream ++ byte ∷ [])) }
-    ensures added { OnOk result ((stream : List ℕ) → StandsFor deframer.old stream → (more : List ℕ) × AddsLines M.SIZE stream (byte ∷ []) more × (text.new ≡ text.old ++ more)) }
+    ensures fed { IfOk result (λ count. (stream : List ℕ) → StandsFor deframer.old stream → StandsFor deframer.new (stream ++ take count bytes.now)) }
+    ensures added { IfOk result (λ count. (stream : List ℕ) → StandsFor deframer.old stream → (more : List ℕ) × AddsLines M.SIZE stream (take count bytes.now) more × (text.new ≡ text.old ++ more)) }
+    ensures within { IfOk result (λ count. count ≤ length bytes.now) }
+    ensures moves { IfOk result (λ count. 0 < length bytes.now → 0 < count) }
 {
-    match deframer.feed(byte) {
+    let (count, item) = deframer.feed_until_item(bytes);
+    match item {
         Some(item) => {
             add_item::<M>(&item, text)?;
-            Ok(())
+            Ok(count)
         }
-        None => Ok(()),
+        None => Ok(count),
     }
 }
 

@@ -43,17 +43,17 @@ fn add_data<M: Modulus>(port: u8, payload: &[u8], text: &mut TextOut) -> Result<
 {
     let mut line = Line::new();
     push_number("port=", port as usize, &mut line);
-    match read_frame::<M>(payload) {
+    match &read_frame::<M>(payload) {
         Ok(frame) => {
             line.push_str(" ");
             text.text(line.as_str())?;
-            show_frame(&frame, text)?;
+            show_frame(frame, text)?;
             text.text("\n")?;
             Ok(())
         }
         Err(refusal) => {
             line.push_str(" bad ");
-            push_refusal(refusal, &mut line);
+            push_refusal(*refusal, &mut line);
             line.push('\n');
             text.text(line.as_str())?;
             Ok(())

@@ -1,20 +1,26 @@
-use Rattle.std.proofs.Common.{◌++◌, ◌∷◌, [], ◌∙◌, take, get_or, ap, append_assoc}
-use Rattle.std.proofs.lemmas.List.{take_more}
-use Rattle.node_cmd.proofs.StreamLines.{adds-append}
+use Rattle.std.proofs.Common.{◌++◌, ◌∙◌, take, drop, ap, append_assoc, arith, length-drop, take-add}
+use Rattle.node_cmd.proofs.StreamLines.{adds-append, rest_of}
 use Rattle.node_cmd.proofs.frames.add_items.Goals as goal
 
-pub loop-byte-preserved : goal.loop-byte-preserved
-loop-byte-preserved g c = λ stream stands.
-    let i = c.loop-byte.invariant stream stands in
+pub loop-taken-preserved : goal.loop-taken-preserved
+loop-taken-preserved g c =
     let bytes = c.args.bytes.now in
-    let front = take c.loop-byte.byte-index bytes in
-    let byte = get_or bytes c.loop-byte.byte-index 0 in
-    let more = c.in_ok-add_byte.ensures.added (stream ++ front) i.0 in
-    rw (take_more bytes c.loop-byte.byte-index 0 c.loop-byte-test.true) (
-      rw append_assoc at (c.in_ok-add_byte.ensures.fed (stream ++ front) i.0),
-      (
-        i.1.0 ++ more.0,
-        adds-append _ stream front (byte ∷ []) i.1.0 more.0 i.1.1 more.1,
-        more.2 ∙ (ap (λ xs. xs ++ more.0) i.1.2 ∙ append_assoc c.args.text.now i.1.0 more.0),
-      ),
-    )
+    let taken = c.loop-taken.taken in
+    let count = c.in_ok-taken.field-0 in
+    let front = take taken bytes in
+    let next = take count (drop taken bytes) in
+    let told = rw (rest_of taken bytes) at c.in_ok-taken.ensures in
+    record {
+      within = omega (arith, told.within, c.loop-taken.invariant.within, length-drop taken bytes);
+      told = λ stream stands.
+          let i = c.loop-taken.invariant.told stream stands in
+          let more = told.added (stream ++ front) i.0 in
+          rw (take-add taken count bytes) (
+            rw append_assoc at (told.fed (stream ++ front) i.0),
+            (
+              i.1.0 ++ more.0,
+              adds-append _ stream front next i.1.0 more.0 i.1.1 more.1,
+              more.2 ∙ (ap (λ xs. xs ++ more.0) i.1.2 ∙ append_assoc c.args.text.now i.1.0 more.0),
+            ),
+          );
+    }

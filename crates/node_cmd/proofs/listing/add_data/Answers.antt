@@ -12,6 +12,6 @@ returns-in_ok-text-in-Ok-2 g c =
     let all : c.text-in-Ok.new.self ≡ ((c.args.text.now ++ (port ++ codes " ")) ++ text) ++ codes "\n" =
     rw (c.in_ok-text-in-Ok-2.ensures.ok, c.in_ok-show_frame-in-Ok.ensures.ok, c.in_ok-text-in-Ok.ensures.ok, prefix) refl in (
       (port ++ (codes " " ++ text)) ++ codes "\n",
-      (codes " " ++ text, inl (record { frame = view c.in-Ok.frame; spelled = c.in-Ok.ensures.found; shown = refl }), refl),
+      (codes " " ++ text, inl (record { frame = view c.in-Ok.frame; spelled = rw c.in-Ok.is at c.read_frame.ensures.found; shown = refl }), refl),
       all ∙ gained c.args.text.now port (codes " ") text (codes "\n"),
     )
