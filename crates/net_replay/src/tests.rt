@@ -60,6 +60,9 @@ fn the_first_bad_word_of_the_first_bad_line_is_told(rt: HostRuntime) {
 
 /// The report of a network.
 fn reported(alloc: Global, text: &[u8]) -> Result<TextOut, Fail> {
+    if text.len() > 1_048_576 {
+        return Err("a text that is too long".into());
+    }
     let network = read_network(alloc, text)?;
     let trace = replay(alloc, &network)?;
     let mut out = TextOut::new(alloc);
