@@ -20,22 +20,11 @@ pub record Routing (C : Type 0) : Type 0 where
   pub spent : Bool
 
 module _ {C : Type 0} (made : C → List CarrierCall → C → Type 0) where
-  pub record DoesRoute (old new : Routing C) (now : ℕ) (result : Routed) (answer : Offered) (w : Way) : Type 0 where
-    pub told : result ≡ told_of w answer
-    pub calls : made old.carrier (offers_of w now answer) new.carrier
-
   -- the step told this, made these calls of the carrier, and the table took these items in
   pub record DoesPump (old new : Routing C) (log : List Item) (result : Option Routed) (p : Pumping) : Type 0 where
     pub told : result ≡ p.told
     pub calls : made old.carrier p.calls new.carrier
     pub table : StandsFor new.table (log ++ p.items)
-
-  -- a datagram that came up, from the collecting on
-  abbrev pub Routes : Routing C → Routing C → Datagram → ℕ → Routed → Type 0
-  Routes old new d now result =
-      (answer : Offered) ×
-      ((log : List Item) → StandsFor old.table log →
-      DoesRoute old new now result answer (way old.own (next_hop old.table.rules log) d))
 
   -- Whatever log the table stands for, the step is that of the log's next hops, of the lists of the carrier, and of what
   -- the carrier answered where it was offered a datagram.
@@ -45,10 +34,24 @@ module _ {C : Type 0} (made : C → List CarrierCall → C → Type 0) where
       ((log : List Item) → StandsFor old.table log →
       DoesPump old new log result (pumping old.own (next_hop old.table.rules log) lost waiting now answer))
 
+  -- of a step that takes a datagram, what comes after it was collected
+  pub record DoesRoute (old new : Routing C) (now : ℕ) (result : Routed) (answer : Offered) (w : Way) : Type 0 where
+    pub told : result ≡ told_of w answer
+    pub calls : made old.carrier (offers_of w now answer) new.carrier
+
+  abbrev pub Routes : Routing C → Routing C → Datagram → ℕ → Routed → Type 0
+  Routes old new d now result =
+      (answer : Offered) ×
+      ((log : List Item) → StandsFor old.table log →
+      DoesRoute old new now result answer (way old.own (next_hop old.table.rules log) d))
+
+  -- the sending told this, and made these calls of the carrier
   pub record DoesSend (old new : Routing C) (result : Sending) (s : Sent) : Type 0 where
     pub told : result ≡ s.told
     pub calls : made old.carrier s.calls new.carrier
 
+  -- Whatever log the table stands for, the datagram is sent to the log's next hop, by what the carrier answered where it
+  -- was offered it.
   abbrev pub Sends : Routing C → Routing C → Callsign → Datagram → ℕ → Sending → Type 0
   Sends old new to d now result =
       (answer : Offered) ×

@@ -26,7 +26,7 @@ pub trait Carrier {
     /// These calls, with their arguments and answers, lead from the one carrier to the other.
     ghost made: { Self → List CarrierCall → Self → Type 0 };
 
-    /// Hands a datagram down to a neighbour.
+    /// Hands a datagram down to a neighbour. Where there is no memory for it, no more is said.
     fn offer(&mut self, to: &Call, datagram: &Datagram, now: Moment) -> Result<Offered, NoMemory>
         ensures made { IfOk result (λ answer. made self.old (Offer to.now datagram.now now.0 answer ∷ []) self.new) }
         ensures waiting { waiting self.new ≡ waiting self.old }

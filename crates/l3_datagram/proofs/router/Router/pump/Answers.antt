@@ -1,3 +1,4 @@
+-- The calls of the carrier follow one another, and a datagram that came is routed by whatever log the table stands for.
 use Rattle.l3_datagram.specs.declared.carrier.Offered.TheVariants.{Taken}
 use Rattle.l3_datagram.proofs.Steps.{idle, taken}
 use Rattle.l3_datagram.proofs.router.Router.pump.Goals as goal
