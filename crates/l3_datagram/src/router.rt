@@ -36,7 +36,8 @@ impl<C: Carrier> Router<C> {
     ghost use Rattle.l3_datagram.specs.contracts.router.Router.{the_row};
     ghost use Rattle.route_table.specs.contracts.table.RouteTable.{the_row as table_row};
 
-    /// A router of the node `own`, whose datagrams go over `ttl` hops at most.
+    /// A router of the node `own`, whose datagrams go over `ttl` hops at most. The allocator stands here as at each
+    /// constructor of what grows later on: the table and the carrier have theirs.
     pub fn new(_alloc: Global, own: Call, table: RouteTable, carrier: C, ttl: u8) -> Router<C>
         requires { 1 ≤ ttl }
         ensures { result ≡ record { own = own; ttl = ttl; table = table; carrier = carrier; spent = false } }
@@ -160,12 +161,14 @@ impl<C: Carrier> Router<C> {
         self.ttl
     }
 
+    /// The node's routing table.
     pub fn table(&self) -> &RouteTable
         ensures { result.now ≡ self.now.table }
     {
         &self.table
     }
 
+    /// The same, to be changed: what is left of it is the router's table then.
     pub fn table_mut(&mut self) -> &mut RouteTable
         ensures value { result.now ≡ self.old.table }
         ensures* writes_back { sem 𝓛 (Lends (the_row C.row) table_row self.entry result (λ w. record self.old { table = w })) }
@@ -173,12 +176,14 @@ impl<C: Carrier> Router<C> {
         &mut self.table
     }
 
+    /// What carries the datagrams.
     pub fn carrier(&self) -> &C
         ensures { result.now ≡ self.now.carrier }
     {
         &self.carrier
     }
 
+    /// The same, to be changed: what is left of it is the router's carrier then.
     pub fn carrier_mut(&mut self) -> &mut C
         ensures value { result.now ≡ self.old.carrier }
         ensures* writes_back { sem 𝓛 (Lends (the_row C.row) C.row self.entry result (λ w. record self.old { carrier = w })) }
