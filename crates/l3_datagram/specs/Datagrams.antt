@@ -1,0 +1,70 @@
+-- Datagrams in octets: the call of the origin, the call of the destination, the time to live, and then the transport.
+-- (NET/ROM, Appendix B.)
+use Rattle.std.specs.Prelude.{ℕ, ◌≡◌, ◌+◌, ◌≤◌, List, ◌∷◌, ◌++◌, length, take, drop, slice_index, Result, Ok, Err, nat_lt, if◌then◌else◌}
+use Rattle.ax_address.specs.Callsign.{Callsign, IsCallsign}
+use Rattle.ax_address.specs.Octets.{place_of}
+use Rattle.ax_address.specs.NetCalls.{SpellsNetCall, net_call_at, net_call_octets}
+use Rattle.ax_address.specs.declared.octets.AddressRefusal.{AddressRefusal}
+use Rattle.l3_datagram.specs.declared.datagram.DatagramHead.{DatagramHead}
+use Rattle.l3_datagram.specs.declared.datagram.DatagramRefusal.{DatagramRefusal}
+use Rattle.l3_datagram.specs.declared.datagram.DatagramRefusal.TheVariants.{Short, TooLong, BadCall}
+use Rattle.l3_datagram.specs.declared.datagram.TheConstants.{TTL_AT, HEAD_SIZE, MAX_DATAGRAM}
+use Rattle.l3_datagram.specs.CarrierCall.{Datagram}
+
+-- at most 256 octets are the datagram with this head and this transport
+pub record SpellsDatagram (head : DatagramHead) (transport octets : List ℕ) : Type 0 where
+  pub origin : List ℕ
+  pub dest : List ℕ
+  pub from : SpellsNetCall head.origin origin
+  pub to : SpellsNetCall head.dest dest
+  pub spelled : octets ≡ origin ++ dest ++ head.ttl ∷ transport
+  pub fits : length octets ≤ MAX_DATAGRAM
+
+infixl 10 ◌>>=◌
+abbrev pub ◌>>=◌ : {A B : Type 0} → Result A DatagramRefusal → (A → Result B DatagramRefusal) → Result B DatagramRefusal
+(Ok x) >>= f = f x
+(Err e) >>= f = Err e
+
+-- First the length is judged: the octets end before the transport, or there are too many.
+abbrev pub sized : List ℕ → Result (List ℕ) DatagramRefusal
+sized octets =
+    if nat_lt (length octets) HEAD_SIZE
+    then Err (Short (length octets))
+    else (if nat_lt MAX_DATAGRAM (length octets) then Err TooLong else Ok octets)
+
+abbrev pub fault_from : ℕ → Result Callsign AddressRefusal → Result Callsign DatagramRefusal
+fault_from at (Ok call) = Ok call
+fault_from at (Err refusal) = Err (BadCall (at + place_of refusal))
+
+-- the call in the seven octets from a place on
+abbrev pub call_from : ℕ → List ℕ → Result Callsign DatagramRefusal
+call_from at octets = fault_from at (net_call_at (take 7 (drop at octets)))
+
+-- The length, the origin and the destination are judged, in this order. Octets are read as a head exactly where they
+-- spell a datagram with it, as the law of `datagram_spelling` says.
+unfoldable pub head_at : List ℕ → Result DatagramHead DatagramRefusal
+head_at octets = do
+  whole ← sized octets
+  origin ← call_from 0 whole
+  dest ← call_from 7 whole
+  Ok (record { origin = origin; dest = dest; ttl = slice_index whole TTL_AT })
+
+-- what is written
+abbrev pub octets_with : DatagramHead → List ℕ → List ℕ
+octets_with head transport = net_call_octets head.origin ++ net_call_octets head.dest ++ head.ttl ∷ transport
+
+abbrev pub datagram_with : DatagramHead → List ℕ → Datagram
+datagram_with head transport = record { items = octets_with head transport }
+
+-- octets that spell a datagram are read as its head, and so spell no other one, and what follows the head is its transport
+abbrev pub SpelledDatagramIsRead : Type 0
+SpelledDatagramIsRead =
+    (head : DatagramHead) (transport octets : List ℕ) → SpellsDatagram head transport octets →
+    (head_at octets ≡ Ok head) × (drop HEAD_SIZE octets ≡ transport)
+
+-- what is written for a head and a transport spells the datagram with them
+abbrev pub WrittenDatagramSpellsIt : Type 0
+WrittenDatagramSpellsIt =
+    (head : DatagramHead) (transport : List ℕ) → IsCallsign head.origin.letters head.origin.ssid →
+    IsCallsign head.dest.letters head.dest.ssid → length transport ≤ 241 →
+    SpellsDatagram head transport (octets_with head transport)

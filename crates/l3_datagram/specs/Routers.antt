@@ -1,0 +1,65 @@
+-- A router: a node's routing table over a carrier.
+use Rattle.std.specs.Prelude.{ℕ, ◌≡◌, List, ◌++◌, Option, Bool}
+use Rattle.ax_address.specs.Callsign.{Callsign}
+use Rattle.route_table.specs.Log.{Item}
+use Rattle.route_table.specs.Table.{next_hop}
+use Rattle.route_table.specs.Held.{Held, StandsFor, SameNode}
+use Rattle.l3_datagram.specs.declared.carrier.Offered.{Offered}
+use Rattle.l3_datagram.specs.declared.routed.Routed.{Routed}
+use Rattle.l3_datagram.specs.declared.routed.Sending.{Sending}
+use Rattle.l3_datagram.specs.CarrierCall.{CarrierCall, Datagram, Parcel}
+use Rattle.l3_datagram.specs.Hops.{Way, way, told_of, offers_of, Pumping, pumping, Sent, sending_to}
+
+-- what contracts see of a router: this node's call, how many hops its datagrams go over, its table and its carrier, and
+-- whether it is spent
+pub record Routing (C : Type 0) : Type 0 where
+  pub own : Callsign
+  pub ttl : ℕ
+  pub table : Held
+  pub carrier : C
+  pub spent : Bool
+
+module _ {C : Type 0} (made : C → List CarrierCall → C → Type 0) where
+  -- the step told this, made these calls of the carrier, and the table took these items in
+  pub record DoesPump (old new : Routing C) (log : List Item) (result : Option Routed) (p : Pumping) : Type 0 where
+    pub told : result ≡ p.told
+    pub calls : made old.carrier p.calls new.carrier
+    pub table : StandsFor new.table (log ++ p.items)
+
+  -- Whatever log the table stands for, the step is that of the log's next hops, of the lists of the carrier, and of what
+  -- the carrier answered where it was offered a datagram.
+  abbrev pub Pumps : Routing C → Routing C → List Callsign → List Parcel → ℕ → Option Routed → Type 0
+  Pumps old new lost waiting now result =
+      (answer : Offered) ×
+      ((log : List Item) → StandsFor old.table log →
+      DoesPump old new log result (pumping old.own (next_hop old.table.rules log) lost waiting now answer))
+
+  -- of a step that takes a datagram, what comes after it was collected
+  pub record DoesRoute (old new : Routing C) (now : ℕ) (result : Routed) (answer : Offered) (w : Way) : Type 0 where
+    pub told : result ≡ told_of w answer
+    pub calls : made old.carrier (offers_of w now answer) new.carrier
+
+  abbrev pub Routes : Routing C → Routing C → Datagram → ℕ → Routed → Type 0
+  Routes old new d now result =
+      (answer : Offered) ×
+      ((log : List Item) → StandsFor old.table log →
+      DoesRoute old new now result answer (way old.own (next_hop old.table.rules log) d))
+
+  -- the sending told this, and made these calls of the carrier
+  pub record DoesSend (old new : Routing C) (result : Sending) (s : Sent) : Type 0 where
+    pub told : result ≡ s.told
+    pub calls : made old.carrier s.calls new.carrier
+
+  -- Whatever log the table stands for, the datagram is sent to the log's next hop, by what the carrier answered where it
+  -- was offered it.
+  abbrev pub Sends : Routing C → Routing C → Callsign → Datagram → ℕ → Sending → Type 0
+  Sends old new to d now result =
+      (answer : Offered) ×
+      ((log : List Item) → StandsFor old.table log →
+      DoesSend old new result (sending_to d (next_hop old.table.rules log to) now answer))
+
+-- the call, the hops and the rules of the table stay
+pub record SameRouter {C : Type 0} (old new : Routing C) : Type 0 where
+  pub own : new.own ≡ old.own
+  pub ttl : new.ttl ≡ old.ttl
+  pub node : SameNode old.table new.table

@@ -1,0 +1,24 @@
+//! What the definitions promise by themselves.
+ghost use Rattle.l3_datagram.specs.Datagrams.{SpelledDatagramIsRead, WrittenDatagramSpellsIt};
+ghost use Rattle.l3_datagram.specs.Onward.{GoesOneHopOn};
+ghost use Rattle.l3_datagram.specs.Network.{WaitingWasOffered};
+
+/// Octets that spell a datagram are read as its head, and what follows the head is its transport; so they spell no other
+/// one. And what is written for a head and a transport spells the datagram with them, and so is read as this head.
+pub fn datagram_spelling()
+    ensures read { SpelledDatagramIsRead }
+    ensures written { WrittenDatagramSpellsIt }
+{
+    ax_address::laws::net_call_spelling();
+}
+
+/// A datagram that goes on to a neighbour has every octet of the one that came but its time to live, which is one less.
+pub fn one_hop_on()
+    ensures { GoesOneHopOn }
+{}
+
+/// In a network of nodes over carriers in memory, each pair that waits at a node was offered to this node by that neighbour
+/// before, where each datagram that is brought was fetched at that neighbour for this node.
+pub fn waiting_was_offered()
+    ensures { WaitingWasOffered }
+{}

@@ -1,0 +1,34 @@
+use crate::Datagram;
+use ax_address::Call;
+
+/// What became of a datagram of this node.
+#[derive(Clone, Copy, Debug, PartialEq, Eq)]
+pub enum Sending {
+    /// The carrier took it to the next hop.
+    Sent,
+    /// No route leads to its destination.
+    NoRoute,
+    /// The carrier had no room for it.
+    Dropped,
+}
+
+/// What came up: a lost neighbour, or a datagram and what became of it.
+#[derive(Debug, Drop, PartialEq, Eq)]
+pub enum Routed {
+    /// The neighbour was lost, and its reports ended.
+    Lost(Call),
+    /// The datagram is for this node. It is as it came: its transport is from octet 15 on.
+    Mine { origin: Call, datagram: Datagram },
+    /// The carrier took it to the next hop.
+    Forwarded,
+    /// It has gone over as many hops as it may.
+    Expired,
+    /// No route leads to its destination.
+    NoRoute,
+    /// It came from this node itself.
+    Returned,
+    /// The carrier had no room for it.
+    Dropped,
+    /// Its octets are no datagram.
+    Bad,
+}
