@@ -1,5 +1,5 @@
 -- The frames in the air only become more.
-use Rattle.std.proofs.Common.{◌≡◌, ◌<◌, ◌≤◌, ◌+◌, ◌-◌, ◌++◌, ◌∙◌, ℕ, zero, suc, refl, sym, ap, List, [], ◌∷◌, length, map, filter, arith, Bool, true, false, cond}
+use Rattle.std.proofs.Common.{◌≡◌, ◌<◌, ◌≤◌, ◌+◌, ◌-◌, ℕ, zero, suc, refl, ap, List, [], ◌∷◌, length, map, filter, arith, Bool, true, false, cond}
 use Rattle.std.specs.Prelude.{Option, Some, None, slice_get}
 use Rattle.std.specs.List.{range_with_len}
 use Rattle.std.proofs.lemmas.List.{length-append}
@@ -12,7 +12,7 @@ use Rattle.net_replay.specs.declared.network.NumberedAct.{NumberedAct}
 use Rattle.net_replay.specs.declared.reasons.Why.{Why}
 use Rattle.net_replay.specs.Air.{in_air, hearers, frame_of, oldest, delivery_fault, lost_fault}
 use Rattle.net_replay.specs.Nodes.{NodeState, Input, Bytes, Round, Failure, Lock, reacts, broadcast_octets}
-use Rattle.net_replay.specs.World.{World, node_in, aired, reached, reaches, goes_to, settles, delivers, spreads, flows, cuts, loses, shows, unless_refused, does, after_acts, kiss_bytes}
+use Rattle.net_replay.specs.World.{World, node_in, aired, reached, reaches, goes_to, settles, delivers, spreads, flows, cuts, shows, unless_refused, does, after_acts, kiss_bytes}
 use Rattle.net_replay.proofs.Oldest.{length-settled_at}
 
 reaches_grows : (channels : List Channel) (line node : ℕ) (input : Input) (w : World) (n : Option NodeState) → length w.air ≤ length (reaches channels line node input w n).air

@@ -1,5 +1,5 @@
 -- Something handed to a node, and what comes of it published.
-use Rattle.std.proofs.Common.{◌≡◌, ◌<◌, ◌≤◌, ◌+◌, ◌++◌, ◌∙◌, ℕ, refl, sym, ap, subst, List, [], length, map, arith}
+use Rattle.std.proofs.Common.{◌≡◌, ◌≤◌, ◌+◌, ◌++◌, ◌∙◌, ℕ, ap, subst, List, length, map, arith}
 use Rattle.std.specs.Prelude.{Some, None}
 use Rattle.std.proofs.lemmas.List.{length-append, length-map}
 use Rattle.net_replay.specs.declared.air.Aired.{Aired}
@@ -10,7 +10,7 @@ use Rattle.net_replay.specs.declared.reasons.ReplayRefusal.{ReplayRefusal}
 use Rattle.net_replay.specs.declared.reasons.ReplayRefusal.TheVariants.{FramesFull, NoMemory}
 use Rattle.net_replay.specs.Air.{in_air}
 use Rattle.net_replay.specs.Nodes.{NodeState, Input, Reaction, reacts}
-use Rattle.net_replay.specs.World.{World, node_in, aired, tell, events_of, reached, reaches, comes_of}
+use Rattle.net_replay.specs.World.{World, aired, tell, events_of, reached}
 use Rattle.net_replay.specs.Traces.{Course, IsTraceOf, HandsOut, Reached, Publishes, IsRefusal}
 
 pub refusal_of : (e : ReplayRefusal) (n m : ℕ) → n ≡ m → IsRefusal e n → IsRefusal e m

@@ -14,8 +14,7 @@ use Rattle.nodes_broadcast.specs.Reading.{nodes_at}
 use Rattle.route_table.specs.Log.{broadcast}
 use Rattle.net_replay.specs.declared.events.NodeEntry.{NodeEntry}
 use Rattle.net_replay.specs.declared.station.Station.{Station}
-use Rattle.net_replay.specs.Nodes as nodes
-use Rattle.net_replay.specs.Nodes.{StationState, Reaction, takes_item, takes_items, takes_octets, takes_head, takes_frame, takes_broadcast, hears, taken_in, has_room, is_taken, is_broadcast, new_items}
+use Rattle.net_replay.specs.Nodes.{StationState, Reaction, takes_item, takes_items, takes_head, takes_frame, takes_broadcast, has_room, is_taken, is_broadcast, new_items}
 use Rattle.net_replay.specs.Traces.{Follows, Takes}
 
 -- ---- items put no frames out and refuse nothing

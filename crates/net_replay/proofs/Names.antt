@@ -1,6 +1,6 @@
 -- The call to which broadcasts go.
 use Rattle.std.proofs.Common.{◌≡◌, refl}
-use Rattle.std.specs.Prelude.{Result, Ok, Err, codes}
+use Rattle.std.specs.Prelude.{Ok, Err, codes}
 use Rattle.ax_address.specs.Callsign.{Callsign}
 use Rattle.ax_address.specs.declared.call.CallRefusal.{CallRefusal}
 use Rattle.ax_address.specs.CallReading.{call_at}

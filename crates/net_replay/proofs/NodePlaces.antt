@@ -1,5 +1,5 @@
 -- The node of a number, among the nodes.
-use Rattle.std.proofs.Common.{◌≡◌, ◌<◌, ◌≤◌, ◌+◌, ℕ, zero, suc, refl, sym, ap, subst, List, [], ◌∷◌, length, arith, Bool, true, false, cond, get_or, set}
+use Rattle.std.proofs.Common.{◌≡◌, ◌<◌, ◌≤◌, ◌+◌, ℕ, zero, suc, refl, sym, subst, List, [], ◌∷◌, length, arith, Bool, true, false, cond, get_or, set}
 use Rattle.std.specs.Prelude.{◌==◌, not, nat_lt, Some, None}
 use Rattle.std.specs.List.{position, position_or_len}
 use Rattle.std.proofs.lemmas.Bool.{ltb-false}

@@ -1,7 +1,7 @@
 -- The oldest frame that isn't settled, and a frame settled at its place.
-use Rattle.std.proofs.Common.{◌≡◌, ◌<◌, ◌≤◌, ◌+◌, ◌∙◌, ℕ, zero, suc, refl, sym, ap, List, [], ◌∷◌, length, take, arith, Bool, true, false, cond, get_or, set}
+use Rattle.std.proofs.Common.{◌≡◌, ◌<◌, ◌≤◌, ◌+◌, ℕ, zero, suc, refl, ap, List, [], ◌∷◌, length, take, arith, true, false, get_or, set}
 use Rattle.std.specs.Prelude.{not}
-use Rattle.std.specs.List.{position_or_len, AllByRecursion}
+use Rattle.std.specs.List.{position_or_len}
 use Rattle.net_replay.specs.declared.air.Aired.{Aired}
 use Rattle.net_replay.specs.Air.{AllSettled, settled, settled_at}
 

@@ -1,15 +1,9 @@
 -- A table that has no room stays as it was, and says so.
-use Rattle.std.proofs.Common.{◌≡◌, ◌<◌, ◌≤◌, ◌++◌, ◌∷◌, [], ◌∙◌, ℕ, List, length, refl, sym, ap, arith, true, false}
-use Rattle.std.specs.Prelude.{nat_lt, nat_le}
+use Rattle.std.proofs.Common.{◌≡◌, ◌<◌, ◌≤◌, ◌++◌, ℕ, List, length, arith, true, false}
 use Rattle.std.proofs.lemmas.Bool.Decides.{nat_tests}
-use Rattle.ax_address.specs.Callsign.{Callsign}
-use Rattle.ax_address.specs.CallOrder.{same_call}
-use Rattle.ax_address.specs.declared.alias.Alias.{Alias}
-use Rattle.ax_address.specs.declared.Entry.{Entry}
-use Rattle.route_table.specs.Log as logs
-use Rattle.route_table.specs.Log.{Item, broadcast}
+use Rattle.route_table.specs.Log.{Item}
 use Rattle.route_table.specs.Table.{usable}
-use Rattle.route_table.specs.Held.{Held, IsFull, HasRoom, CanLock}
+use Rattle.route_table.specs.Held.{IsFull, HasRoom}
 use Rattle.net_replay.specs.declared.station.Station.{Station}
 use Rattle.net_replay.specs.Nodes.{StationState, has_room, live_with, live_now}
 use Rattle.net_replay.specs.Traces.{HoldsLog}

@@ -1,6 +1,6 @@
 -- One thing done after another.
 use Rattle.std.proofs.Common.{◌≡◌, ◌≤◌, ◌∙◌, ap, sym, subst, length, ℕ, List}
-use Rattle.std.specs.Prelude.{Result, Ok, Err, IsErrAnd}
+use Rattle.std.specs.Prelude.{Result, Ok, Err}
 use Rattle.net_replay.specs.declared.reasons.ReplayRefusal.{ReplayRefusal}
 use Rattle.net_replay.specs.declared.air.Aired.{Aired}
 use Rattle.net_replay.specs.declared.events.NumberedEvent.{NumberedEvent}

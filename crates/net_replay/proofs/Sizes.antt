@@ -1,5 +1,5 @@
 -- How long frames and their KISS bytes are.
-use Rattle.std.proofs.Common.{◌≡◌, ◌<◌, ◌≤◌, ◌+◌, ◌*◌, ◌++◌, ◌∙◌, ℕ, zero, suc, refl, ap, List, [], ◌∷◌, length, arith, Bool, true, false, cond}
+use Rattle.std.proofs.Common.{◌≤◌, ◌*◌, ℕ, refl, List, [], ◌∷◌, length, arith, Bool, true, false, cond}
 use Rattle.std.specs.Prelude.{◌==◌, Result, Ok, Err, OnOk, IsOk, IsErr}
 use Rattle.std.specs.List.{flat_map}
 use Rattle.std.proofs.lemmas.List.{length-append}

@@ -1,5 +1,5 @@
 -- Frames in the air, and who hears whom. Own profile.
-use Rattle.std.specs.Prelude.{ℕ, zero, suc, ◌+◌, ◌-◌, List, [], ◌∷◌, ◌++◌, length, map, filter, position, slice_get, Bool, true, false, ◌≡◌, ◌&&◌, ◌==◌, not, Option, Some, None, if◌then◌else◌}
+use Rattle.std.specs.Prelude.{ℕ, zero, suc, ◌-◌, List, [], ◌∷◌, filter, position, slice_get, Bool, true, false, ◌≡◌, ◌&&◌, ◌==◌, not, Option, Some, None, if◌then◌else◌}
 use Rattle.std.specs.List.{AllByRecursion, list_any, range_with_len}
 use Rattle.net_replay.specs.declared.air.Aired.{Aired}
 use Rattle.net_replay.specs.declared.channels.Channel.{Channel}

@@ -1,5 +1,5 @@
 -- The report of a network, line by line. Own profile.
-use Rattle.std.specs.Prelude.{ℕ, ◌-◌, List, [], ◌++◌, flat_map, slice_get, Option, Some, None, Result, Ok, Err, codes}
+use Rattle.std.specs.Prelude.{ℕ, List, [], ◌++◌, flat_map, Option, Some, None, Result, Ok, Err, codes}
 use Rattle.std.specs.Fmt.{decimal}
 use Rattle.ax_address.specs.Callsign as calls
 use Rattle.ax_address.specs.Alias as aliases

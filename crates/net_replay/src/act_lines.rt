@@ -45,24 +45,6 @@ fn lock(
     }))
 }
 
-/// `round N`
-pub fn round_line(before: &Network, words: &[&[u8]]) -> Result<Line, What>
-    ensures { result ≡ lines.round_line before.now (texts words.now) }
-{
-    match words {
-        [number] => round(before, number),
-        _ => Err(What::Count),
-    }
-}
-
-#[tactic(auto, unfolding(crate::specs::Lines::round_at))]
-fn round(before: &Network, number: &[u8]) -> Result<Line, What>
-    ensures { result ≡ lines.round_at before.now number.now }
-{
-    let node = node(before.declared(), number)?;
-    Ok(Line::Act(Act::Round { node }))
-}
-
 /// `linkfail N CALL`
 pub fn linkfail_line(before: &Network, words: &[&[u8]]) -> Result<Line, What>
     ensures { result ≡ lines.linkfail_line before.now (texts words.now) }
@@ -82,112 +64,114 @@ fn failure(before: &Network, number: &[u8], name: &[u8]) -> Result<Line, What>
     Ok(Line::Act(Act::LinkFail { node, call }))
 }
 
-/// `show N`
-pub fn show_line(before: &Network, words: &[&[u8]]) -> Result<Line, What>
-    ensures { result ≡ lines.show_line before.now (texts words.now) }
+/// The number of a declared node, and nothing else.
+fn node_alone(before: &Network, words: &[&[u8]]) -> Result<u8, What>
+    ensures { result ≡ lines.node_alone before.now (texts words.now) }
 {
     match words {
-        [number] => show(before, number),
+        [number] => node(before.declared(), number),
         _ => Err(What::Count),
     }
 }
 
-#[tactic(auto, unfolding(crate::specs::Lines::show_at))]
-fn show(before: &Network, number: &[u8]) -> Result<Line, What>
-    ensures { result ≡ lines.show_at before.now number.now }
+/// The number of a frame, and nothing else.
+fn frame_alone(words: &[&[u8]]) -> Result<u32, What>
+    ensures { result ≡ lines.frame_alone (texts words.now) }
 {
+    match words {
+        [word] => frame(word),
+        _ => Err(What::Count),
+    }
+}
+
+/// How many frames, and nothing else.
+fn count_alone(words: &[&[u8]]) -> Result<u32, What>
+    ensures { result ≡ lines.count_alone (texts words.now) }
+{
+    match words {
+        [word] => count(word),
+        _ => Err(What::Count),
+    }
+}
+
+/// The number of a frame, and that of the node to which it goes.
+fn frame_and_node(before: &Network, words: &[&[u8]]) -> Result<(u32, u8), What>
+    ensures { result ≡ lines.frame_and_node before.now (texts words.now) }
+{
+    match words {
+        [word, number] => frame_and_node_of(before, word, number),
+        _ => Err(What::Count),
+    }
+}
+
+#[tactic(auto, unfolding(crate::specs::Lines::frame_and_node_at))]
+fn frame_and_node_of(before: &Network, word: &[u8], number: &[u8]) -> Result<(u32, u8), What>
+    ensures { result ≡ lines.frame_and_node_at before.now word.now number.now }
+{
+    let frame = frame(word)?;
     let node = node(before.declared(), number)?;
+    Ok((frame, node))
+}
+
+/// `round N`
+#[tactic(auto, unfolding(crate::specs::Lines::round_line))]
+pub fn round_line(before: &Network, words: &[&[u8]]) -> Result<Line, What>
+    ensures { result ≡ lines.round_line before.now (texts words.now) }
+{
+    let node = node_alone(before, words)?;
+    Ok(Line::Act(Act::Round { node }))
+}
+
+/// `show N`
+#[tactic(auto, unfolding(crate::specs::Lines::show_line))]
+pub fn show_line(before: &Network, words: &[&[u8]]) -> Result<Line, What>
+    ensures { result ≡ lines.show_line before.now (texts words.now) }
+{
+    let node = node_alone(before, words)?;
     Ok(Line::Act(Act::Show { node }))
 }
 
 /// `deliver K N`
+#[tactic(auto, unfolding(crate::specs::Lines::deliver_line))]
 pub fn deliver_line(before: &Network, words: &[&[u8]]) -> Result<Line, What>
     ensures { result ≡ lines.deliver_line before.now (texts words.now) }
 {
-    match words {
-        [number, name] => delivery(before, number, name),
-        _ => Err(What::Count),
-    }
-}
-
-#[tactic(auto, unfolding(crate::specs::Lines::delivery_at))]
-fn delivery(before: &Network, number: &[u8], name: &[u8]) -> Result<Line, What>
-    ensures { result ≡ lines.delivery_at before.now number.now name.now }
-{
-    let frame = frame(number)?;
-    let node = node(before.declared(), name)?;
+    let (frame, node) = frame_and_node(before, words)?;
     Ok(Line::Act(Act::Deliver { frame, node }))
 }
 
 /// `again K N`
+#[tactic(auto, unfolding(crate::specs::Lines::again_line))]
 pub fn again_line(before: &Network, words: &[&[u8]]) -> Result<Line, What>
     ensures { result ≡ lines.again_line before.now (texts words.now) }
 {
-    match words {
-        [number, name] => repetition(before, number, name),
-        _ => Err(What::Count),
-    }
-}
-
-#[tactic(auto, unfolding(crate::specs::Lines::repetition_at))]
-fn repetition(before: &Network, number: &[u8], name: &[u8]) -> Result<Line, What>
-    ensures { result ≡ lines.repetition_at before.now number.now name.now }
-{
-    let frame = frame(number)?;
-    let node = node(before.declared(), name)?;
+    let (frame, node) = frame_and_node(before, words)?;
     Ok(Line::Act(Act::Again { frame, node }))
 }
 
 /// `lose K`
-pub fn lose_line(before: &Network, words: &[&[u8]]) -> Result<Line, What>
-    ensures { result ≡ lines.lose_line before.now (texts words.now) }
+#[tactic(auto, unfolding(crate::specs::Lines::lose_line))]
+pub fn lose_line(words: &[&[u8]]) -> Result<Line, What>
+    ensures { result ≡ lines.lose_line (texts words.now) }
 {
-    match words {
-        [word] => loss(word),
-        _ => Err(What::Count),
-    }
-}
-
-#[tactic(auto, unfolding(crate::specs::Lines::loss_at))]
-fn loss(word: &[u8]) -> Result<Line, What>
-    ensures { result ≡ lines.loss_at word.now }
-{
-    let frame = frame(word)?;
+    let frame = frame_alone(words)?;
     Ok(Line::Act(Act::Lose { frame }))
 }
 
 /// `flow COUNT`
-pub fn flow_line(before: &Network, words: &[&[u8]]) -> Result<Line, What>
-    ensures { result ≡ lines.flow_line before.now (texts words.now) }
+#[tactic(auto, unfolding(crate::specs::Lines::flow_line))]
+pub fn flow_line(words: &[&[u8]]) -> Result<Line, What>
+    ensures { result ≡ lines.flow_line (texts words.now) }
 {
-    match words {
-        [word] => flow(word),
-        _ => Err(What::Count),
-    }
-}
-
-#[tactic(auto, unfolding(crate::specs::Lines::flow_at))]
-fn flow(word: &[u8]) -> Result<Line, What>
-    ensures { result ≡ lines.flow_at word.now }
-{
-    let count = count(word)?;
+    let count = count_alone(words)?;
     Ok(Line::Act(Act::Flow { count }))
 }
 
 /// `cut COUNT`
-pub fn cut_line(before: &Network, words: &[&[u8]]) -> Result<Line, What>
-    ensures { result ≡ lines.cut_line before.now (texts words.now) }
+#[tactic(auto, unfolding(crate::specs::Lines::cut_line))]
+pub fn cut_line(words: &[&[u8]]) -> Result<Line, What>
+    ensures { result ≡ lines.cut_line (texts words.now) }
 {
-    match words {
-        [word] => cut(word),
-        _ => Err(What::Count),
-    }
-}
-
-#[tactic(auto, unfolding(crate::specs::Lines::cut_at))]
-fn cut(word: &[u8]) -> Result<Line, What>
-    ensures { result ≡ lines.cut_at word.now }
-{
-    let count = count(word)?;
+    let count = count_alone(words)?;
     Ok(Line::Act(Act::Cut { count }))
 }

@@ -1,5 +1,3 @@
-use Rattle.std.proofs.Common.{subst, sym}
-use Rattle.net_replay.specs.Traces.{StandsFor}
 use Rattle.net_replay.proofs.NodePlaces.{found, not_found, at_place, in_none}
 use Rattle.net_replay.proofs.finding.react_at.Goals as goal
 

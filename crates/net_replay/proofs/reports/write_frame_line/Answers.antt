@@ -1,4 +1,4 @@
-use Rattle.std.proofs.Common.{◌≡◌, ◌++◌, ◌∷◌, [], ◌∙◌, ap}
+use Rattle.std.proofs.Common.{◌++◌, ◌∷◌, [], ◌∙◌, ap}
 use Rattle.net_replay.specs.Reports.{text_of_frame}
 use Rattle.ax_frame.specs.Read.{read_at}
 use Rattle.net_replay.proofs.Joined.{frame_line_joined}

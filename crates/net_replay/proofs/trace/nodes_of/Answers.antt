@@ -1,4 +1,4 @@
-use Rattle.std.proofs.Common.{◌++◌, ◌+◌, ◌-◌, ◌∙◌, sym, ap, subst, map, filter, List, ◌≡◌, append_assoc}
+use Rattle.std.proofs.Common.{◌++◌, ◌+◌, ◌-◌, ◌∙◌, sym, ap, subst, map, filter, List, append_assoc}
 use Rattle.net_replay.specs.Nodes.{NodeState}
 use Rattle.net_replay.specs.World.{started, started_from, has_number}
 use Rattle.net_replay.specs.Traces.{StandFor}

@@ -2,7 +2,7 @@ use Rattle.std.proofs.Common.{◌≡◌, ◌+◌, ◌-◌, ◌∙◌, suc, sym, 
 use Rattle.std.specs.Prelude.{None, Some}
 use Rattle.net_replay.specs.Air.{oldest}
 use Rattle.net_replay.specs.World.{cuts, settles}
-use Rattle.net_replay.specs.Traces.{IsTraceOf, left, course}
+use Rattle.net_replay.specs.Traces.{IsTraceOf, course}
 use Rattle.net_replay.proofs.Growing.{cuts_none, cuts_one}
 use Rattle.net_replay.proofs.Runs.{same_air, settled_air}
 use Rattle.net_replay.proofs.running.Running.cut.Goals as goal

@@ -3,7 +3,7 @@ use Rattle.std.specs.Prelude.{None, Some, slice_get}
 use Rattle.std.proofs.lemmas.Result.{err_from_is_err_and}
 use Rattle.net_replay.specs.Air.{oldest}
 use Rattle.net_replay.specs.World.{World, flows, spreads, settles}
-use Rattle.net_replay.specs.Traces.{IsTraceOf, left, course}
+use Rattle.net_replay.specs.Traces.{IsTraceOf, course}
 use Rattle.net_replay.proofs.Growing.{flows_none, flows_one, flows_grows}
 use Rattle.net_replay.proofs.Handing.{refused_still}
 use Rattle.net_replay.proofs.Runs.{same_air}
