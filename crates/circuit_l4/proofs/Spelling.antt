@@ -11,7 +11,7 @@ use Rattle.circuit_l4.specs.declared.transport.Transport.{Transport}
 use Rattle.circuit_l4.specs.declared.transport.Transport.TheVariants.{Request, Accept, Refuse, Disconnect, Disconnected, Info, InfoAck}
 use Rattle.circuit_l4.specs.declared.transport.TransportRefusal.{TransportRefusal}
 use Rattle.circuit_l4.specs.declared.transport.TransportRefusal.TheVariants.{Short, TooLong}
-use Rattle.circuit_l4.specs.Transports.{pair_at, flags_in, flag_bits, Begins, transport_octets}
+use Rattle.circuit_l4.specs.Transports.{headed, pair_at, flags_in, flag_bits, Begins, transport_octets}
 use Rattle.circuit_l4.specs.Reading.{octet_at, call_from, fault_from, request_at, accept_at, of_opcode, transport_at}
 use Rattle.circuit_l4.specs.Laws.{SpelledTransportIsRead, WrittenTransportSpellsIt, WrittenTransportIsRead}
 
@@ -70,13 +70,15 @@ spelled_is_read read (Info to tx rx flags text) octets h =
 spelled_is_read read (InfoAck to rx flags) octets h =
     begun 6 to octets _ h.0 (rw (h.0.has_code, h.0.is_for, h.1, h.2) refl)
 
--- a call is written in seven octets
-seven : (c : Callsign) → IsCallsign c.letters c.ssid → length (net_call_octets c) ≡ 7
-seven c h =
+pub doubled_six : (c : Callsign) → IsCallsign c.letters c.ssid → length (map (λ b. 2 * b) c.letters) ≡ 6
+doubled_six c h =
     let name = name_in c.letters in
     let six : length (padded name) ≡ 6 = omega (arith, length-append name (replicate (6 - length name) 32), length-replicate {A = ℕ} (6 - length name) 32, h.six) in
-    let doubled : length (map (λ b. 2 * b) c.letters) ≡ 6 = length-map c.letters (λ b. 2 * b) ∙ (ap length h.spaces ∙ six) in
-    omega (arith, length-append (map (λ b. 2 * b) c.letters) ((96 + 2 * c.ssid) ∷ []), doubled)
+    length-map c.letters (λ b. 2 * b) ∙ (ap length h.spaces ∙ six)
+
+-- a call is written in seven octets
+seven : (c : Callsign) → IsCallsign c.letters c.ssid → length (net_call_octets c) ≡ 7
+seven c h = omega (arith, length-append (map (λ b. 2 * b) c.letters) ((96 + 2 * c.ssid) ∷ []), doubled_six c h)
 
 -- two calls of seven octets, one after the other
 module _ (a b : List ℕ) (seven_a : length a ≡ 7) (seven_b : length b ≡ 7) where
@@ -140,30 +142,36 @@ flags_back code small flags index ident third fourth text =
     let c = flags.more in
     flags_are _ _ _ a b c (choke_back code small a b c) (nak_back code small a b c) (more_back code small a b c)
 
+-- five octets and at most 236 more begin as a transport
+begins : (code octet third fourth : ℕ) (to : Pair) (more : List ℕ) → octet % 32 ≡ code → length more ≤ 236 → Begins code to (headed to third fourth octet ++ more)
+begins code octet third fourth to more h few = record { whole = omega arith; fits = omega (arith, few); has_code = h; is_for = refl }
+
 pub written_spells : WrittenNetCallSpellsIt → WrittenTransportSpellsIt
 written_spells written (Request pair window user node) h =
     let u = net_call_octets user in
     let n = net_call_octets node in
     let su = seven user h.0 in
-    let sn = seven node h.1 in (
-      record { whole = omega arith; fits = omega (arith, both u n su sn); has_code = refl; is_for = refl },
+    let sn = seven node h.1 in
+    let size = both u n su sn in (
+      begins 1 1 0 0 pair (window ∷ u ++ n) refl (omega (arith, size)),
       record {
-        whole = omega (arith, both u n su sn);
+        whole = omega (arith, size);
         proposed = refl;
         of_user = subst (SpellsNetCall user) (sym (first u n su sn)) (written user h.0);
         at_node = subst (SpellsNetCall node) (sym (second u n su sn)) (written node h.1);
       },
     )
-written_spells written (Accept to own window) h = (record { whole = omega arith; fits = omega arith; has_code = refl; is_for = refl }, record { whole = omega arith; accepted = refl; by = refl; agreed = refl })
-written_spells written (Refuse to) h = (record { whole = omega arith; fits = omega arith; has_code = refl; is_for = refl }, refl)
-written_spells written (Disconnect to) h = record { whole = omega arith; fits = omega arith; has_code = refl; is_for = refl }
-written_spells written (Disconnected to) h = record { whole = omega arith; fits = omega arith; has_code = refl; is_for = refl }
+written_spells written (Accept to own window) h =
+    (begins 2 2 own.index own.ident to (window ∷ []) refl (omega arith), record { whole = omega arith; accepted = refl; by = refl; agreed = refl })
+written_spells written (Refuse to) h = (begins 2 130 0 0 to (0 ∷ []) refl (omega arith), refl)
+written_spells written (Disconnect to) h = begins 3 3 0 0 to [] refl (omega arith)
+written_spells written (Disconnected to) h = begins 4 4 0 0 to [] refl (omega arith)
 written_spells written (Info to tx rx flags text) h = (
-  record { whole = omega arith; fits = omega (arith, h); has_code = code_back 5 (omega arith) flags.choke flags.nak flags.more; is_for = refl },
+  begins 5 (5 + flag_bits flags) tx rx to text.items (code_back 5 (omega arith) flags.choke flags.nak flags.more) h,
   record { number = refl; expected = refl; flagged = flags_back 5 (omega arith) flags to.index to.ident tx rx text.items; told = refl },
 )
 written_spells written (InfoAck to rx flags) h = (
-  record { whole = omega arith; fits = omega arith; has_code = code_back 6 (omega arith) flags.choke flags.nak flags.more; is_for = refl },
+  begins 6 (6 + flag_bits flags) 0 rx to [] (code_back 6 (omega arith) flags.choke flags.nak flags.more) (omega arith),
   refl,
   flags_back 6 (omega arith) flags to.index to.ident 0 rx [],
 )
