@@ -4,7 +4,6 @@ ghost use Rattle.std.specs.Result.{result_err};
 ghost use Rattle.ax_address.specs.Octets as octet;
 ghost use Rattle.ax_address.specs.declared.address.Address.{Address};
 
-use crate::call::is_call_char;
 use crate::{Address, Call};
 
 /// Why octets are no address. Places count octets from 0.
@@ -77,10 +76,17 @@ fn space_octets(octets: &[u8]) -> usize
     octets.iter().take_while(|o| **o == b' ' << 1).count()
 }
 
+/// The character that each octet is, shifted left by one, and a point where it is none that a call has.
+const CHARS: &[u8; 256] = b"\
+    ................................................................\
+    ................................0.1.2.3.4.5.6.7.8.9.............\
+    ..A.B.C.D.E.F.G.H.I.J.K.L.M.N.O.P.Q.R.S.T.U.V.W.X.Y.Z...........\
+    ................................................................";
+
 fn is_char_octet(o: u8) -> bool
     ensures { result ≡ octet.is_char_octet o }
 {
-    o % 2 == 0 && is_call_char(o >> 1)
+    CHARS[o as usize] != b'.'
 }
 
 /// The address that seven octets spell, and its extension bit, or the first octet that can't stand there.
