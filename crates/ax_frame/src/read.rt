@@ -78,16 +78,25 @@ pub fn read_frame<M: Modulus>(bytes: &[u8]) -> Result<FrameView<'_>, FrameRefusa
     frame_of(M::SIZE, bytes)
 }
 
+/// The frame that the octets spell. Its path is filled where it stands, and stays one place in memory: taken into a
+/// caller, each of its eight addresses would be moved part by part.
+#[inline(never)]
 fn frame_of(size: u64, bytes: &[u8]) -> Result<FrameView<'_>, FrameRefusal>
     requires { IsLinkModulus size }
     ensures found { IfOk result (λ v. Spells size (view v) bytes.now) }
     ensures refused { result_err result ≡ reading.first_fault size bytes.now }
 {
-    let mut path = Path::new();
-    let ((dest, source), control, pid, at) = parts(size, bytes, &mut path)?;
+    let mut head = Head {
+        dest: Address::default(),
+        source: Address::default(),
+        path: Path::new(),
+    };
+    let ((dest, source), control, pid, at) = parts(size, bytes, &mut head.path)?;
+    head.dest = dest;
+    head.source = source;
     let info = &bytes[at..];
     Ok(FrameView {
-        head: Head { dest, source, path },
+        head,
         control,
         pid,
         info,
@@ -114,7 +123,8 @@ fn parts(
 }
 
 /// Puts the repeaters into the path. They stand behind destination and source, where the source isn't the last
-/// address.
+/// address. No caller takes this in, so that the path stays one place in memory.
+#[inline(never)]
 fn repeaters(bytes: &[u8], path: &mut Path) -> Result<(), FrameRefusal>
     requires len { 14 ≤ length bytes.now }
     requires empty { path.old.items ≡ [] }

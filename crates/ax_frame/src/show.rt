@@ -2,14 +2,13 @@ ghost use Rattle.std.specs.Prelude.{◌≡◌, ◌<◌, ◌≤◌, ◌+◌, ◌*
 ghost use Rattle.std.specs.Fmt.{decimal};
 ghost use Rattle.std.specs.List.{flat_map};
 ghost use Rattle.radio_base.specs.Text.{hex_digit};
-ghost use Rattle.ax_address.specs.Callsign as calls;
 ghost use Rattle.ax_frame.specs.Frames.{view};
 ghost use Rattle.ax_frame.specs.FrameText as texts;
 
 use crate::control::Format;
 use crate::{Control, FrameView, Head, is_command};
 use arrayvec::ArrayString;
-use ax_address::{Address, Call};
+use ax_address::Address;
 use itoa::Buffer;
 use radio_base::{NoMemory, TextOut};
 
@@ -39,9 +38,9 @@ fn push_head(head: &Head, line: &mut Line)
     ensures text { line.new.bytes ≡ texts.head_text head.now }
     ensures len { length line.new.bytes ≤ 107 }
 {
-    push_call(&head.source.call, line);
+    head.source.call.append_to(line);
     line.push('>');
-    push_call(&head.dest.call, line);
+    head.dest.call.append_to(line);
     for repeater in head.path.iter() {
         push_repeater(repeater, line);
     }
@@ -53,18 +52,10 @@ fn push_repeater(repeater: &Address, line: &mut Line)
     ensures len { length line.new.bytes ≤ length line.old.bytes + 11 }
 {
     line.push(',');
-    push_call(&repeater.call, line);
+    repeater.call.append_to(line);
     if repeater.bit7 {
         line.push('*');
     }
-}
-
-fn push_call(call: &Call, line: &mut Line)
-    requires { length line.old.bytes + 9 ≤ 202 }
-    ensures text { line.new.bytes ≡ line.old.bytes ++ calls.shown call.now }
-    ensures len { length line.new.bytes ≤ length line.old.bytes + 9 }
-{
-    line.push_str(call.show().as_str());
 }
 
 fn push_direction(head: &Head, line: &mut Line)
@@ -136,12 +127,17 @@ fn push_info(control: &Control, len: usize, line: &mut Line)
     }
 }
 
+#[tactic(auto, using(std::proofs::lemmas::Fmt::decimal_digit))]
 fn push_decimal(number: usize, line: &mut Line)
     requires { length line.old.bytes + 20 ≤ 202 }
     ensures text { line.new.bytes ≡ line.old.bytes ++ decimal number }
     ensures len { length line.new.bytes ≤ length line.old.bytes + 20 }
 {
-    line.push_str(Buffer::new().format(number));
+    if number < 10 {
+        line.push((b'0' + number as u8) as char);
+    } else {
+        line.push_str(Buffer::new().format(number));
+    }
 }
 
 fn hex_digit(n: u8) -> char

@@ -94,5 +94,9 @@ fn push_number(name: &str, number: usize, line: &mut Line)
     ensures len { length line.new.bytes ≤ length line.old.bytes + length name.now + 20 }
 {
     line.push_str(name);
-    line.push_str(Buffer::new().format(number));
+    if number < 10 {
+        line.push((b'0' + number as u8) as char);
+    } else {
+        line.push_str(Buffer::new().format(number));
+    }
 }
