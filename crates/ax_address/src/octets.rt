@@ -90,6 +90,7 @@ fn is_char_octet(o: u8) -> bool
 }
 
 /// The address that seven octets spell, and its extension bit, or the first octet that can't stand there.
+#[inline(always)]
 pub fn read_address(octets: &[u8; 7]) -> Result<(Address, bool), AddressRefusal>
     // What is read is spelled so.
     ensures found { IfOk result (λ x. octet.SpellsAddress x.0 x.1 octets.now) }

@@ -40,6 +40,7 @@ fn head_of(bytes: &[u8]) -> Result<(Head, usize), FrameRefusal>
 
 /// Destination, source and where the addresses end. The repeaters are put into the path where it stands, since a
 /// path is long to move.
+#[inline(always)]
 fn addresses(bytes: &[u8], path: &mut Path) -> Result<(Address, Address, usize), FrameRefusal>
     requires { path.old.items ≡ [] }
     ensures found { IfOk result (λ x. (x.2 ≤ length bytes.now) × SpellsHead (head x.0 x.1 path.new) (take x.2 bytes.now)) }
@@ -142,6 +143,7 @@ fn repeaters(bytes: &[u8], path: &mut Path) -> Result<(), FrameRefusal>
 }
 
 /// The address at a place, and its extension bit.
+#[inline(always)]
 fn address_at(bytes: &[u8], at: usize) -> Result<(Address, bool), FrameRefusal>
     requires { at ≤ length bytes.now }
     ensures judged { MatchResult result (λ x. reading.extension_at at bytes.now ≡ Ok x.1) (λ e. reading.extension_at at bytes.now ≡ Err e) }
