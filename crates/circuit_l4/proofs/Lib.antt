@@ -1,2 +1,16 @@
 pub mod Spelling
 pub mod Again
+pub mod Acknowledged
+pub mod Standings
+pub mod Queues
+pub mod EarlyPieces
+pub mod Receives
+pub mod Moves
+pub mod Answered
+pub mod PutOut
+pub mod Steps
+pub mod EndParts
+pub mod EndRetries
+pub mod EndFailing
+pub mod EndDisconnects
+pub mod Takes

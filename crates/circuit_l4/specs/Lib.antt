@@ -1,3 +1,17 @@
 pub mod Transports
 pub mod Reading
 pub mod Laws
+pub mod Sending
+pub mod Receiving
+pub mod Queued
+pub mod Halves
+pub mod Inboxes
+pub mod EndState
+pub mod EndMoves
+pub mod EndTable
+pub mod EndOpening
+pub mod EndStanding
+pub mod Forgetting
+pub mod Outboxes
+pub mod EndLaws
+pub mod EndCalls

@@ -1,4 +1,5 @@
 //! What the definitions promise by themselves.
+ghost use Rattle.circuit_l4.specs.EndLaws as end_law;
 ghost use Rattle.circuit_l4.specs.Laws as law;
 
 /// Octets that spell a transport are read as it, and so spell no other; what is written for a transport spells it, and is
@@ -11,3 +12,12 @@ pub fn transport_spelling()
 {
     ax_address::laws::net_call_spelling();
 }
+
+/// Whatever an end is given: it fails for want of an answer exactly where one expiry more has counted than there are
+/// retries; a step by which it fails puts out nothing; and it puts out a disconnect request only once all that was ever
+/// written is acknowledged.
+pub fn endings()
+    ensures retries { end_law.FailsAfterRetries }
+    ensures silent { end_law.FailingPutsOutNothing }
+    ensures acknowledged { end_law.DisconnectsWhenAcknowledged }
+{}

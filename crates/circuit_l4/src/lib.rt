@@ -1,14 +1,30 @@
-//! Transports of NET/ROM circuits (Appendix B, level 4): what one end of a circuit sends the other inside a datagram.
-//! No call takes memory.
+//! Circuits of NET/ROM (Appendix B, level 4): what the ends of a circuit send each other inside datagrams, and one end.
 #![tactic(auto)]
 
+mod arrivals;
+mod calls;
+mod end;
+#[cfg(test)]
+mod end_tests;
+mod expiry;
+mod incoming;
 pub mod laws;
+mod machine;
+mod messages;
+mod outgoing;
+mod piece;
+mod plain;
 mod read;
+mod supplies;
 #[cfg(test)]
 mod tests;
+mod texts;
 mod transport;
 mod write;
 
+pub use end::End;
+pub use piece::BUSY_AT;
+pub use plain::{EndConfig, EndFacts, EndNotice, EndPhase, QUEUE_MAX, WriteRefusal};
 pub use read::read_transport;
 pub use transport::{Flags, MAX_TEXT, MAX_TRANSPORT, Pair, Transport, TransportRefusal};
 pub use write::write_transport;

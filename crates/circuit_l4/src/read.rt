@@ -1,4 +1,4 @@
-ghost use Rattle.std.specs.Prelude.{◌≡◌, ◌+◌, ◌<◌, ◌≤◌, List, Ok, length, take, drop, IfOk, IsOk, true, false};
+ghost use Rattle.std.specs.Prelude.{◌≡◌, ◌+◌, ◌<◌, ◌≤◌, Ok, length, take, drop, IfOk, IsOk, false};
 ghost use Rattle.ax_address.specs.NetCalls.{SpellsNetCall};
 ghost use Rattle.circuit_l4.specs.Transports as octet;
 ghost use Rattle.circuit_l4.specs.Reading as reading;

@@ -1,4 +1,4 @@
-ghost use Rattle.std.specs.Prelude.{◌≡◌, ◌+◌, ◌≤◌, ◌++◌, length};
+ghost use Rattle.std.specs.Prelude.{◌≡◌, ◌+◌, ◌≤◌};
 ghost use Rattle.ax_address.specs.Callsign.{IsCallsign};
 ghost use Rattle.circuit_l4.specs.Transports as octet;
 ghost use Rattle.circuit_l4.specs.Laws.{IsTransport};

@@ -1,0 +1,14 @@
+use Rattle.circuit_l4.proofs.Acknowledged.{still_kept, still_stands}
+use Rattle.circuit_l4.proofs.outgoing.Outgoing.acknowledge.Goals as goal
+
+pub invariant_of-self : goal.invariant_of-self
+invariant_of-self c =
+    let from = rw (← c.self.view_is) at c.requires.from in
+    let to = rw (← c.self.view_is) at c.requires.to in
+    still_kept _ _ _ _ _ _ from to c.forget.ensures.forgets c.forget.ensures.queued c.self.invariant
+
+pub returns-clause-does : goal.returns-clause-does
+returns-clause-does c s h =
+    let from = rw (← c.self.view_is) at c.requires.from in
+    let held = rw (← c.self.view_is) at h in
+    still_stands _ _ _ _ s from c.forget.ensures.forgets held

@@ -1,0 +1,5 @@
+use Rattle.circuit_l4.proofs.Acknowledged.{unacked}
+use Rattle.circuit_l4.proofs.outgoing.Outgoing.queued.Goals as goal
+
+pub returns-clause-exact : goal.returns-clause-exact
+returns-clause-exact c s h = let held = rw (← c.self.view_is) at h in unacked _ _ s c.self.invariant held

@@ -1,0 +1,80 @@
+-- How an end of a circuit begins, and what it tells of itself.
+use Rattle.std.specs.Prelude.{ℕ, ◌≤◌, false, [], length, None, replicate}
+use Rattle.radio_base.specs.declared.modulus.TheConstants.{COUNT_MAX}
+use Rattle.ax_address.specs.Callsign.{Callsign}
+use Rattle.circuit_l4.specs.declared.transport.Pair.{Pair}
+use Rattle.circuit_l4.specs.declared.transport.Transport.TheVariants.{Accept}
+use Rattle.circuit_l4.specs.declared.plain.EndConfig.{EndConfig}
+use Rattle.circuit_l4.specs.declared.plain.EndFacts.{EndFacts}
+use Rattle.circuit_l4.specs.declared.plain.EndPhase.TheVariants.{Connecting, Up}
+use Rattle.circuit_l4.specs.declared.plain.EndNotice.TheVariants.{Opened}
+use Rattle.circuit_l4.specs.declared.calls.Beginning.{Beginning}
+use Rattle.circuit_l4.specs.declared.machine.Role.TheVariants.{Requester, Responder}
+use Rattle.circuit_l4.specs.Sending.{Sending, unacknowledged}
+use Rattle.circuit_l4.specs.Receiving.{Receiving, waiting}
+use Rattle.circuit_l4.specs.EndState.{State, Going, begin}
+use Rattle.circuit_l4.specs.EndMoves.{put, note, awaited}
+use Rattle.circuit_l4.specs.EndTable.{agreed, ask}
+
+-- the settings that an end takes
+pub record IsConfig (config : EndConfig) : Type 0 where
+  pub some : 1 ≤ config.window
+  pub window : config.window ≤ 64
+  pub timeout : config.timeout ≤ COUNT_MAX
+  pub busy : config.busy ≤ COUNT_MAX
+  pub inactive : config.inactive ≤ COUNT_MAX
+
+-- nothing was written, nothing came
+abbrev pub unwritten : Sending
+unwritten = record { wrote = []; acked = 0; sent = 0 }
+
+abbrev pub unheard : ℕ → Receiving
+unheard window = record { got = 0; early = replicate window None; gathered = []; received = []; taken = 0; asked = None }
+
+-- an end that has known nothing yet
+abbrev pub new : Beginning → EndConfig → ℕ → State
+new b config now =
+    record {
+      role = b.role;
+      pair = b.pair;
+      to = b.to;
+      config = config;
+      phase = b.phase;
+      window = b.window;
+      sending = unwritten;
+      receiving = unheard config.window;
+      held = false;
+      closing = false;
+      tries = 0;
+      expiries = 0;
+      due = None;
+      quiet = now;
+    }
+
+abbrev pub unknown_pair : Pair
+unknown_pair = record { index = 0; ident = 0 }
+
+-- a requester asks the other end for a circuit
+abbrev pub requesting : Pair → Callsign → Callsign → EndConfig → ℕ → Going
+requesting pair user node config now =
+    let b : Beginning = record { role = Requester user node; pair = pair; to = unknown_pair; phase = Connecting; window = config.window } in
+    ask b.role (begin (awaited now (new b config now)))
+
+-- a responder accepts at once
+abbrev pub responding : Pair → Pair → ℕ → EndConfig → ℕ → Going
+responding pair partner proposed config now =
+    let b : Beginning = record { role = Responder; pair = pair; to = partner; phase = Up; window = agreed config.window proposed } in
+    note (Opened b.window) (put (Accept partner pair b.window) (begin (new b config now)))
+
+-- what an end tells of itself
+abbrev pub facts_of : State → EndFacts
+facts_of s =
+    record {
+      phase = s.phase;
+      window = s.window;
+      wrote = length s.sending.wrote;
+      received = length s.receiving.received;
+      acked = s.sending.acked;
+      waiting = waiting s.receiving;
+      queued = unacknowledged s.sending;
+    }

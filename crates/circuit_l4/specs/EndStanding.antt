@@ -1,0 +1,106 @@
+-- What the code keeps of an end of a circuit stands for every state that agrees with it: of the halves it has forgotten the
+-- messages that were wholly acknowledged and those that were taken, and of the rest how many expiries counted.
+-- What is kept:
+use Rattle.std.specs.Prelude.{◌≡◌, ℕ, Bool, List, [], Option, None, Result, Ok, Err}
+use Rattle.std.specs.Option.{option_to_list}
+use Rattle.circuit_l4.specs.declared.machine.Machine.{Machine}
+use Rattle.circuit_l4.specs.declared.machine.Role.{Role}
+use Rattle.circuit_l4.specs.declared.transport.Pair.{Pair}
+use Rattle.circuit_l4.specs.declared.plain.EndConfig.{EndConfig}
+use Rattle.circuit_l4.specs.declared.plain.EndPhase.{EndPhase}
+use Rattle.circuit_l4.specs.declared.plain.EndNotice.{EndNotice}
+use Rattle.circuit_l4.specs.declared.plain.WriteRefusal.{WriteRefusal}
+use Rattle.circuit_l4.specs.declared.plain.WriteRefusal.TheVariants as refusal
+use Rattle.circuit_l4.specs.EndState.{Going, Out, State}
+use Rattle.circuit_l4.specs.Sending.{Sending}
+use Rattle.circuit_l4.specs.Receiving.{Receiving}
+use Rattle.circuit_l4.specs.Halves.{Inbox, IsReceiving, IsSending, Outbox}
+
+pub record Kept : Type 0 where
+  pub role : Role
+  pub pair : Pair
+  pub to : Pair
+  pub config : EndConfig
+  pub phase : EndPhase
+  pub window : ℕ
+  pub outgoing : Outbox
+  pub incoming : Inbox
+  pub held : Bool
+  pub closing : Bool
+  pub tries : ℕ
+  pub due : Option ℕ
+  pub quiet : ℕ
+  pub outs : List Out
+  pub notice : Option EndNotice
+
+abbrev pub kept_of : Machine → Kept
+kept_of m =
+    record {
+      role = m.role;
+      pair = m.pair;
+      to = m.to;
+      config = m.config;
+      phase = m.phase;
+      window = m.window;
+      outgoing = m.outgoing;
+      incoming = m.incoming;
+      held = m.held;
+      closing = m.closing;
+      tries = m.tries;
+      due = m.due;
+      quiet = m.quiet;
+      outs = m.outs.items;
+      notice = m.notice;
+    }
+
+-- the state in which these are the halves, and so many expiries counted
+abbrev pub state_of : Kept → Sending → Receiving → ℕ → State
+state_of m sending receiving expiries =
+    record {
+      role = m.role;
+      pair = m.pair;
+      to = m.to;
+      config = m.config;
+      phase = m.phase;
+      window = m.window;
+      sending = sending;
+      receiving = receiving;
+      held = m.held;
+      closing = m.closing;
+      tries = m.tries;
+      expiries = expiries;
+      due = m.due;
+      quiet = m.quiet;
+    }
+
+-- the same, with the outputs and the notice that wait
+abbrev pub going_of : Kept → Sending → Receiving → ℕ → Going
+going_of m sending receiving expiries =
+    record { end = state_of m sending receiving expiries; outs = m.outs; notes = option_to_list m.notice }
+
+pub record StandsFor (m : Kept) (s : State) : Type 0 where
+  pub written : Sending
+  pub came : Receiving
+  pub expiries : ℕ
+  pub sending : IsSending m.outgoing written
+  pub receiving : IsReceiving m.incoming came
+  pub is : s ≡ state_of m written came expiries
+
+-- the same of a step under way
+pub record Stands (m : Kept) (g : Going) : Type 0 where
+  pub written : Sending
+  pub came : Receiving
+  pub expiries : ℕ
+  pub sending : IsSending m.outgoing written
+  pub receiving : IsReceiving m.incoming came
+  pub is : g ≡ going_of m written came expiries
+
+-- no output and no notice waits
+pub record IsDrained (m : Kept) : Type 0 where
+  pub outs : m.outs ≡ []
+  pub notice : m.notice ≡ None
+
+-- the answer to a message: the one expected, but where it is accepted memory may be missing
+pub data IsWriteAnswer : Result (Unit {0}) WriteRefusal → Result (Unit {0}) WriteRefusal → Type 0 where
+  Expected : (r : Result (Unit {0}) WriteRefusal) → IsWriteAnswer r r
+  Missing : IsWriteAnswer (Ok tt) (Err refusal.NoMemory)

@@ -1,0 +1,91 @@
+-- What the code keeps of the two halves of an end, and what it has forgotten.
+use Rattle.std.specs.Prelude.{◌≡◌, ℕ, ◌+◌, ◌<◌, ◌≤◌, Bool, true, false, if◌then◌else◌, List, [], ◌∷◌, ◌++◌, length, Option, Result, Ok, Err}
+use Rattle.circuit_reassembly.specs.Fragments.{Fragment}
+use Rattle.radio_base.specs.declared.modulus.TheConstants.{COUNT_MAX}
+use Rattle.circuit_reassembly.specs.Gathering.{Answer, More, Whole, Too_long}
+use Rattle.circuit_reassembly.specs.declared.gather.Oversize.{Oversize}
+use Rattle.circuit_l4.specs.declared.piece.Piece.{Piece}
+use Rattle.circuit_l4.specs.declared.piece.TheConstants.{BUSY_AT}
+use Rattle.circuit_l4.specs.Sending.{Sending, bytes_of, fragments_of_all, total}
+use Rattle.circuit_l4.specs.Receiving.{Receiving, Appended, Came, inbox, first_taken, with_message}
+
+-- of what was written: the messages that aren't wholly acknowledged
+pub record Outbox : Type 0 where
+  pub queue : List (List ℕ)
+  pub done : ℕ  -- how many fragments of the first of them are acknowledged
+  pub acked : ℕ
+  pub sent : ℕ
+  pub wrote : ℕ  -- how many messages were ever written
+  pub total : ℕ  -- how many fragments they have
+
+-- it stands for each half in which whole messages were acknowledged before
+pub record IsSending (o : Outbox) (s : Sending) : Type 0 where
+  pub before : List (List ℕ)
+  pub wrote : s.wrote ≡ before ++ o.queue
+  pub count : o.wrote ≡ length s.wrote
+  pub total : o.total ≡ total s
+  pub acked : o.acked ≡ s.acked
+  pub sent : o.sent ≡ s.sent
+  pub places : s.acked ≡ length (fragments_of_all before) + o.done
+
+-- of what came: the messages that weren't taken
+pub record Inbox : Type 0 where
+  pub got : ℕ
+  pub early : List (Option Piece)
+  pub gathered : List ℕ
+  pub messages : List (List ℕ)
+  pub received : ℕ  -- how many messages ever came whole
+  pub asked : Option ℕ
+
+-- it stands for each half in which messages were taken before
+pub record IsReceiving (i : Inbox) (r : Receiving) : Type 0 where
+  pub got : i.got ≡ r.got
+  pub early : i.early ≡ r.early
+  pub gathered : i.gathered ≡ r.gathered
+  pub messages : i.messages ≡ inbox r
+  pub count : i.received ≡ length r.received
+  pub taken : r.taken ≤ length r.received
+  pub asked : i.asked ≡ r.asked
+
+-- the bytes that came and weren't taken
+abbrev pub waiting_in : Inbox → ℕ
+waiting_in i = bytes_of i.messages + length i.gathered
+
+-- the next fragment may be taken in
+pub record Takes (i : Inbox) : Type 0 where
+  pub room : waiting_in i < BUSY_AT
+  pub numbers : i.got < COUNT_MAX
+
+-- a fragment as the code holds it
+abbrev pub fragment_in : Piece → Fragment
+fragment_in p = (p.text.items, p.more)
+
+-- the answer to a fragment that came: whether the next one expected has to be asked for, or that its message is too long
+abbrev pub came_answer : Came → Result Bool Oversize
+came_answer c = if c.fits then Ok c.nak else Err (record {})
+
+abbrev pub moved_answer : Appended → Result (Unit {0}) Oversize
+moved_answer a = if a.fits then Ok tt else Err (record {})
+
+-- the messages once the next fragment was answered so
+abbrev pub with_answer : Answer → List (List ℕ) → List (List ℕ)
+with_answer More messages = messages
+with_answer (Whole m) messages = with_message m messages
+with_answer Too_long messages = messages
+
+-- whether a message came whole that has bytes
+abbrev pub whole_answer : Answer → Result Bool Oversize
+whole_answer More = Ok false
+whole_answer (Whole []) = Ok false
+whole_answer (Whole (b ∷ bs)) = Ok true
+whole_answer Too_long = Err (record {})
+
+-- the half once a message was taken, or none
+abbrev pub took : Bool → Receiving → Receiving
+took true r = first_taken r
+took false r = r
+
+-- the first message, or what stands there
+abbrev pub first_or : List ℕ → List (List ℕ) → List ℕ
+first_or bytes [] = bytes
+first_or bytes (m ∷ ms) = m

@@ -1,0 +1,124 @@
+-- The receiving half of an end of a circuit: what came from the other end (NET/ROM, Appendix B; that fragments are kept
+-- before their turn, and how many bytes may wait, is this project's profile).
+use Rattle.std.specs.Prelude.{ℕ, zero, suc, ◌+◌, ◌-◌, Bool, true, false, not, ◌||◌, nat_eq, nat_lt, nat_le, if◌then◌else◌, List, [], ◌∷◌, ◌++◌, length, drop, slice_get, slice_set, Option, Some, None}
+use Rattle.radio_base.specs.declared.modulus.TheConstants.{COUNT_MAX}
+use Rattle.radio_base.specs.Modulus.{place_of}
+use Rattle.circuit_reassembly.specs.Gathering.{Answer, More, Whole, Too_long, gather_step}
+use Rattle.circuit_l4.specs.declared.piece.Piece.{Piece}
+use Rattle.circuit_l4.specs.declared.piece.TheConstants.{BUSY_AT}
+use Rattle.circuit_l4.specs.Sending.{bytes_of}
+
+pub record Receiving : Type 0 where
+  pub got : ℕ  -- the number of the next fragment expected
+  pub early : List (Option Piece)  -- what came before its turn; the first place is for the next fragment expected
+  pub gathered : List ℕ  -- the bytes of a message of which more is to come
+  pub received : List (List ℕ)  -- the messages that ever came whole
+  pub taken : ℕ  -- how many of them were taken
+  pub asked : Option ℕ  -- the last number that was asked for by a negative acknowledgement
+
+-- the messages that weren't taken
+abbrev pub inbox : Receiving → List (List ℕ)
+inbox r = drop r.taken r.received
+
+-- the bytes that came and weren't taken
+abbrev pub waiting : Receiving → ℕ
+waiting r = bytes_of (inbox r) + length r.gathered
+
+-- no text is taken in for now
+abbrev pub busy : Receiving → Bool
+busy r = nat_le BUSY_AT (waiting r)
+
+-- a half after fragments were appended, and whether they all fitted their messages
+pub record Appended : Type 0 where
+  pub half : Receiving
+  pub fits : Bool
+
+-- what came early is one place nearer
+abbrev pub next_expected : Receiving → Receiving
+next_expected r = record r { got = r.got + 1; early = drop 1 (r.early ++ None ∷ []) }
+
+-- a message without bytes is dropped
+abbrev pub with_message : List ℕ → List (List ℕ) → List (List ℕ)
+with_message [] received = received
+with_message (b ∷ bs) received = received ++ (b ∷ bs) ∷ []
+
+abbrev pub appended : Receiving → List ℕ × Answer → Appended
+appended r (held, More) = record { half = record (next_expected r) { gathered = held }; fits = true }
+appended r (held, Whole m) =
+    record { half = record (next_expected r) { gathered = held; received = with_message m r.received }; fits = true }
+appended r (held, Too_long) = record { half = r; fits = false }
+
+-- the next fragment is appended to what is gathered; where the message would be too long, nothing is changed
+abbrev pub append : List ℕ → Bool → Receiving → Appended
+append text more r = appended r (gather_step r.gathered text more)
+
+abbrev pub first_early : List (Option Piece) → Option Piece
+first_early [] = None
+first_early (p ∷ e) = p
+
+-- the early fragment that is next, where it may be taken
+abbrev pub next_early : Receiving → Option Piece
+next_early r = if busy r || nat_le COUNT_MAX r.got then None else first_early r.early
+
+-- early fragments follow while they are next and the end isn't busy; the count is the length of early
+abbrev pub move_on : ℕ → Receiving → Appended
+move_on zero r = record { half = r; fits = true }
+move_on (suc k) r =
+    elim (next_early r) as (λ x. Appended) [
+      | None ↦ record { half = r; fits = true }
+      | Some p ↦ (let a = append p.text.items p.more r in if a.fits then move_on k a.half else a)
+    ]
+
+abbrev pub moved_on : Receiving → Appended
+moved_on r = move_on (length r.early) r
+
+-- the next fragment is appended, and early ones follow
+abbrev pub append_next : List ℕ → Bool → Receiving → Appended
+append_next text more r = let a = append text more r in if a.fits then moved_on a.half else a
+
+-- what becomes of a fragment: the half after it, whether a negative acknowledgement is owed, and whether it fitted
+pub record Came : Type 0 where
+  pub half : Receiving
+  pub nak : Bool
+  pub fits : Bool
+
+abbrev pub ignored : Receiving → Came
+ignored r = record { half = r; nak = false; fits = true }
+
+abbrev pub is_free : Option (Option Piece) → Bool
+is_free None = false
+is_free (Some None) = true
+is_free (Some (Some p)) = false
+
+-- a fragment is kept early, where none is kept in its place
+abbrev pub keep : ℕ → Piece → List (Option Piece) → List (Option Piece)
+keep place piece early = if is_free (slice_get early place) then slice_set early place (Some piece) else early
+
+abbrev pub is_asked : Option ℕ → ℕ → Bool
+is_asked None n = false
+is_asked (Some a) n = nat_eq a n
+
+-- fragment number n comes before its turn: the next one expected is asked for, once
+abbrev pub came_early : ℕ → Piece → Receiving → Came
+came_early n piece r =
+    record {
+      half = record r { early = keep (n - r.got) piece r.early; asked = Some r.got };
+      nak = not (is_asked r.asked r.got);
+      fits = true;
+    }
+
+abbrev pub came_next : Piece → Receiving → Came
+came_next piece r = let a = append_next piece.text.items piece.more r in record { half = a.half; nak = false; fits = a.fits }
+
+abbrev pub came_at : ℕ → Piece → Receiving → Came
+came_at n piece r = if nat_lt r.got n then came_early n piece r else came_next piece r
+
+-- a fragment comes with the number tx on the air: it is one of the window, or nothing is done
+abbrev pub came : ℕ → ℕ → Piece → Receiving → Came
+came window tx piece r =
+    if busy r || nat_le COUNT_MAX r.got then ignored r
+    else elim (place_of 256 tx r.got window) as (λ x. Came) [ None ↦ ignored r | Some n ↦ came_at n piece r ]
+
+-- the first message is taken
+abbrev pub first_taken : Receiving → Receiving
+first_taken r = record r { taken = r.taken + 1 }

@@ -1,0 +1,143 @@
+ghost use Rattle.std.specs.Prelude.{◌≡◌, ◌*◌, ◌≤◌, [], None};
+ghost use Rattle.radio_base.specs.declared.modulus.TheConstants.{COUNT_MAX};
+ghost use Rattle.circuit_l4.specs.EndTable as table;
+
+use crate::machine::Machine;
+use crate::piece::Piece;
+use crate::plain::{EndNotice, EndPhase};
+use crate::transport::{Flags, Pair, Transport};
+use arrayvec::ArrayVec;
+use radio_base::COUNT_MAX;
+
+/// The window that both ends take: that of the other end, at most the own one, and at least 1.
+pub(crate) fn agreed(own: u8, other: u8) -> u8
+    ensures { result ≡ table.agreed own other }
+{
+    other.min(own).max(1)
+}
+
+/// The text of a message, as a fragment.
+fn piece_of(text: &ArrayVec<u8, 236>, more: bool) -> Piece
+    ensures { result ≡ record { text = text.now; more = more } }
+{
+    let mut copy = ArrayVec::new();
+    let _ = copy.try_extend_from_slice(text.as_slice());
+    Piece { text: copy, more }
+}
+
+impl Machine {
+    ghost use Rattle.circuit_l4.specs.EndCalls.{Does};
+    ghost use Rattle.circuit_l4.specs.EndTable.{arrived};
+
+    pub(crate) fn arrive(&mut self, transport: &Transport, now: u64)
+        requires now { now ≤ COUNT_MAX }
+        requires outs { self.old.outs.items ≡ [] }
+        requires notice { self.old.notice ≡ None }
+        ensures does { Does (arrived now transport.now) self.old self.new }
+        ensures config { self.new.config ≡ self.old.config }
+    {
+        match self.phase {
+            EndPhase::Connecting => self.arrive_connecting(transport, now),
+            EndPhase::Up => self.arrive_up(transport, now),
+            EndPhase::Closing => self.arrive_closing(transport),
+            EndPhase::Ended => {}
+        }
+    }
+
+    fn arrive_connecting(&mut self, transport: &Transport, now: u64)
+        requires now { now ≤ COUNT_MAX }
+        requires outs { self.old.outs.items ≡ [] }
+        requires notice { self.old.notice ≡ None }
+        ensures does { Does (table.arrive_connecting now transport.now) self.old self.new }
+        ensures config { self.new.config ≡ self.old.config }
+    {
+        match transport {
+            Transport::Accept { to: _, own, window } => self.accepted(*own, *window, now),
+            Transport::Refuse { to: _ } => self.end(EndNotice::Refused),
+            _ => {}
+        }
+    }
+
+    fn accepted(&mut self, own: Pair, window: u8, now: u64)
+        requires now { now ≤ COUNT_MAX }
+        requires outs { self.old.outs.items ≡ [] }
+        requires notice { self.old.notice ≡ None }
+        ensures does { Does (table.accepted now own window) self.old self.new }
+        ensures config { self.new.config ≡ self.old.config }
+    {
+        self.to = own;
+        self.window = agreed(self.config.window, window);
+        self.phase = EndPhase::Up;
+        self.due = None;
+        self.quiet = now;
+        self.note(EndNotice::Opened {
+            window: self.window,
+        });
+        self.finish(now);
+    }
+
+    fn arrive_up(&mut self, transport: &Transport, now: u64)
+        requires now { now ≤ COUNT_MAX }
+        requires outs { self.old.outs.items ≡ [] }
+        requires notice { self.old.notice ≡ None }
+        ensures does { Does (table.arrive_up now transport.now) self.old self.new }
+        ensures config { self.new.config ≡ self.old.config }
+    {
+        match transport {
+            Transport::Info {
+                to: _,
+                tx,
+                rx,
+                flags,
+                text,
+            } => self.hear_info(*tx, *rx, *flags, piece_of(text, flags.more), now),
+            Transport::InfoAck { to: _, rx, flags } => self.hear_info_ack(*rx, *flags, now),
+            Transport::Disconnect { to: _ } => self.closed_by_partner(),
+            _ => {}
+        }
+    }
+
+    fn hear_info(&mut self, tx: u8, rx: u8, flags: Flags, piece: Piece, now: u64)
+        requires now { now ≤ COUNT_MAX }
+        requires outs { self.old.outs.items ≡ [] }
+        requires notice { self.old.notice ≡ None }
+        ensures does { Does (table.hear_info now tx rx flags piece) self.old self.new }
+        ensures config { self.new.config ≡ self.old.config }
+    {
+        self.quiet = now;
+        self.on_info(tx, rx, flags, piece, now);
+    }
+
+    fn hear_info_ack(&mut self, rx: u8, flags: Flags, now: u64)
+        requires now { now ≤ COUNT_MAX }
+        requires outs { self.old.outs.items ≡ [] }
+        ensures does { Does (table.hear_info_ack now rx flags) self.old self.new }
+        ensures config { self.new.config ≡ self.old.config }
+    {
+        self.quiet = now;
+        self.on_info_ack(rx, flags, now);
+    }
+
+    fn arrive_closing(&mut self, transport: &Transport)
+        requires outs { self.old.outs.items ≡ [] }
+        requires notice { self.old.notice ≡ None }
+        ensures does { Does (table.arrive_closing transport.now) self.old self.new }
+        ensures config { self.new.config ≡ self.old.config }
+    {
+        match transport {
+            Transport::Disconnect { to: _ } => self.closed_by_partner(),
+            Transport::Disconnected { to: _ } => self.end(EndNotice::Closed),
+            _ => {}
+        }
+    }
+
+    fn closed_by_partner(&mut self)
+        requires outs { self.old.outs.items ≡ [] }
+        requires notice { self.old.notice ≡ None }
+        ensures does { Does table.closed_by_partner self.old self.new }
+        ensures config { self.new.config ≡ self.old.config }
+    {
+        self.put(Transport::Disconnected { to: self.to });
+        self.end(EndNotice::ClosedByPartner);
+    }
+}

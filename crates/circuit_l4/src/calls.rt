@@ -1,0 +1,194 @@
+ghost use Rattle.std.specs.Prelude.{◌≡◌, ◌+◌, ◌*◌, ◌≤◌, ◌<◌, [], ◌&&◌, nat_lt, length, None, OnOk, OnErr, IfOk};
+ghost use Rattle.radio_base.specs.declared.modulus.TheConstants.{COUNT_MAX};
+
+use crate::incoming::Incoming;
+use crate::machine::{Machine, Role};
+use crate::outgoing::Outgoing;
+use crate::plain::{EndConfig, EndNotice, EndPhase, QUEUE_MAX, WriteRefusal};
+use crate::transport::Pair;
+use circuit_reassembly::{LONGEST, Oversize, fragment_count};
+use circular_buffer::HeapCircularBuffer;
+use l3_datagram::Message;
+use radio_base::{COUNT_MAX, NoMemory};
+use std::alloc::Global;
+
+/// How a machine begins.
+#[derive(Clone, Copy, Debug, PartialEq, Eq)]
+pub(crate) struct Beginning {
+    pub(crate) role: Role,
+    pub(crate) pair: Pair,
+    pub(crate) to: Pair,
+    pub(crate) phase: EndPhase,
+    pub(crate) window: u8,
+}
+
+impl Machine {
+    ghost use Rattle.circuit_l4.specs.EndTable as table;
+    ghost use Rattle.circuit_l4.specs.EndState.{State, is_up};
+    ghost use Rattle.circuit_l4.specs.EndOpening as opening;
+    ghost use Rattle.circuit_l4.specs.EndOpening.{IsConfig};
+    ghost use Rattle.circuit_l4.specs.EndCalls.{Adds, Does, MayWrite, accepted};
+    ghost use Rattle.circuit_l4.specs.EndStanding.{IsDrained, IsWriteAnswer, StandsFor, kept_of};
+    ghost use Rattle.circuit_l4.specs.EndTable.{goes_on};
+    ghost use Rattle.circuit_l4.specs.Halves.{IsReceiving, first_or};
+    ghost use Rattle.circuit_l4.specs.Receiving.{Receiving, busy};
+
+    /// An end that has known nothing yet. Takes all the memory that is needed but that of messages to be written.
+    pub(crate) fn new(
+        alloc: Global,
+        beginning: Beginning,
+        config: EndConfig,
+        now: u64,
+    ) -> Result<Machine, NoMemory>
+        requires now { now ≤ COUNT_MAX }
+        requires window { beginning.window ≤ config.window }
+        requires config { IsConfig config }
+        ensures opening { IfOk result (λ m. StandsFor (kept_of m) (opening.new beginning config now)) }
+        ensures drained { IfOk result (λ m. IsDrained (kept_of m)) }
+        ensures config { IfOk result (λ m. m.config ≡ config) }
+    {
+        let incoming = Incoming::new(alloc, config.window)?;
+        let outs = HeapCircularBuffer::with_capacity(alloc, 2 * config.window as usize + 2)?;
+        Ok(Machine {
+            role: beginning.role,
+            pair: beginning.pair,
+            to: beginning.to,
+            config,
+            phase: beginning.phase,
+            window: beginning.window,
+            outgoing: Outgoing::new(alloc),
+            incoming,
+            held: false,
+            closing: false,
+            tries: 0,
+            due: None,
+            quiet: now,
+            outs,
+            notice: None,
+        })
+    }
+
+    /// Whether a message would be accepted, with memory for it.
+    fn write_answer(&self, message: &[u8]) -> Result<(), WriteRefusal>
+        ensures exact { (s : State) → StandsFor (kept_of self.now) s → result ≡ table.write_answer s message.now }
+        ensures room { OnOk result (MayWrite message.now self.now.outgoing) }
+    {
+        if !self.is_up() {
+            return Err(WriteRefusal::NotUp);
+        }
+        if self.closing {
+            return Err(WriteRefusal::Closing);
+        }
+        if message.is_empty() {
+            return Err(WriteRefusal::Empty);
+        }
+        if message.len() > LONGEST {
+            return Err(WriteRefusal::TooLong);
+        }
+        if self.outgoing.queued() + message.len() > QUEUE_MAX {
+            return Err(WriteRefusal::QueueFull);
+        }
+        if self.outgoing.total() + fragment_count(message.len()) as u64 > COUNT_MAX {
+            return Err(WriteRefusal::Exhausted);
+        }
+        Ok(())
+    }
+
+    pub(crate) fn write(&mut self, message: &[u8], now: u64) -> Result<(), WriteRefusal>
+        requires now { now ≤ COUNT_MAX }
+        requires outs { self.old.outs.items ≡ [] }
+        ensures answer { (s : State) → StandsFor (kept_of self.old) s → IsWriteAnswer (table.write_answer s message.now) result }
+        ensures does { OnOk result (Does (table.wrote now message.now) self.old self.new) }
+        ensures err { OnErr result (kept_of self.new ≡ kept_of self.old) }
+        ensures config { self.new.config ≡ self.old.config }
+    {
+        match self.write_answer(message) {
+            Ok(()) => self.accept(message, now),
+            Err(refusal) => Err(refusal),
+        }
+    }
+
+    /// Writes a message for which there is room.
+    fn accept(&mut self, message: &[u8], now: u64) -> Result<(), WriteRefusal>
+        requires now { now ≤ COUNT_MAX }
+        requires outs { self.old.outs.items ≡ [] }
+        requires message { MayWrite message.now self.old.outgoing }
+        ensures answer { IsWriteAnswer accepted result }
+        ensures does { OnOk result (Does (table.wrote now message.now) self.old self.new) }
+        ensures err { OnErr result (kept_of self.new ≡ kept_of self.old) }
+        ensures config { self.new.config ≡ self.old.config }
+    {
+        match self.outgoing.write(message) {
+            Ok(()) => {
+                self.quiet = now;
+                self.fill(now);
+                Ok(())
+            }
+            Err(NoMemory) => Err(WriteRefusal::NoMemory),
+        }
+    }
+
+    pub(crate) fn close(&mut self, now: u64)
+        requires now { now ≤ COUNT_MAX }
+        requires outs { self.old.outs.items ≡ [] }
+        ensures does { Does (table.closed now) self.old self.new }
+        ensures config { self.new.config ≡ self.old.config }
+    {
+        if self.may_close() {
+            self.close_in_turn(now);
+        }
+    }
+
+    fn may_close(&self) -> bool
+        ensures { result ≡ table.may_close self.now.phase }
+    {
+        matches!(self.phase, EndPhase::Connecting | EndPhase::Up)
+    }
+
+    fn close_in_turn(&mut self, now: u64)
+        requires now { now ≤ COUNT_MAX }
+        requires outs { self.old.outs.items ≡ [] }
+        ensures does { Does (table.closed_in_turn now) self.old self.new }
+        ensures config { self.new.config ≡ self.old.config }
+    {
+        self.closing = true;
+        self.finish(now);
+    }
+
+    pub(crate) fn take(&mut self, out: &mut Message) -> bool
+        requires outs { self.old.outs.items ≡ [] }
+        requires notice { self.old.notice ≡ None }
+        ensures does { Does table.taken self.old self.new }
+        ensures message { out.new.items ≡ first_or out.old.items self.old.incoming.messages }
+        ensures answer { result ≡ nat_lt 0 (length self.old.incoming.messages) }
+        ensures config { self.new.config ≡ self.old.config }
+    {
+        let was_busy = self.is_up_and_busy();
+        if !self.incoming.take(out) {
+            return false;
+        }
+        if was_busy && !self.incoming.is_busy() {
+            self.resume();
+        }
+        true
+    }
+
+    fn is_up_and_busy(&self) -> bool
+        ensures { (r : Receiving) → IsReceiving self.now.incoming r → result ≡ (is_up self.now.phase && busy r) }
+    {
+        self.is_up() && self.incoming.is_busy()
+    }
+
+    /// An end that was busy goes on: early fragments follow, and the other end is told.
+    fn resume(&mut self)
+        requires outs { self.old.outs.items ≡ [] }
+        requires notice { self.old.notice ≡ None }
+        ensures does { Does goes_on self.old self.new }
+        ensures config { self.new.config ≡ self.old.config }
+    {
+        match self.incoming.move_on() {
+            Ok(()) => self.tell_got(false),
+            Err(Oversize) => self.end(EndNotice::FailedOversize),
+        }
+    }
+}

@@ -1,0 +1,192 @@
+ghost use Rattle.std.specs.Prelude.{◌≡◌, ◌↔◌, min, drop, slice_get, nat_lt, length, None, IfOk, OnOk, OnErr, IsOk, IsTrue};
+ghost use Rattle.radio_base.specs.declared.modulus.TheConstants.{COUNT_MAX};
+ghost use Rattle.circuit_l4.specs.EndState.{State};
+ghost use Rattle.circuit_l4.specs.EndTable as table;
+ghost use Rattle.circuit_l4.specs.EndOpening as opening;
+ghost use Rattle.circuit_l4.specs.EndOpening.{IsConfig};
+ghost use Rattle.circuit_l4.specs.EndStanding.{IsDrained, IsWriteAnswer, Stands, StandsFor};
+ghost use Rattle.circuit_l4.specs.Halves.{first_or};
+ghost use Rattle.circuit_l4.specs.Receiving.{inbox};
+
+use crate::arrivals::agreed;
+use crate::calls::Beginning;
+use crate::machine::{Machine, Role};
+use crate::plain::{EndConfig, EndFacts, EndNotice, EndPhase, WriteRefusal};
+use crate::transport::{Pair, Transport};
+use ax_address::Call;
+use l3_datagram::Message;
+use radio_base::{COUNT_MAX, Moment, NoMemory};
+use std::alloc::Global;
+use std::marker::Model;
+
+/// One end of a circuit.
+#[derive(Drop)]
+pub struct End {
+    machine: Machine,
+}
+
+impl Model for End {
+    ghost use Rattle.circuit_l4.specs.EndStanding.{Kept};
+
+    ghost Value = { Kept };
+
+    ghost use Rattle.circuit_l4.specs.EndStanding.{kept_of};
+
+    ghost view = { λ e. kept_of e.machine };
+}
+
+impl End {
+    /// An end that asks for a circuit, for a user at a node. It takes all the memory that it will ever need but that of
+    /// messages that are written.
+    pub fn requester(
+        alloc: Global,
+        pair: Pair,
+        user: Call,
+        node: Call,
+        config: EndConfig,
+        now: Moment,
+    ) -> Result<End, NoMemory>
+        requires { IsConfig config }
+        ensures opening { IfOk result (λ end. Stands end (opening.requesting pair user node config (min now.0 COUNT_MAX))) }
+    {
+        let now = moment(now);
+        let beginning = Beginning {
+            role: Role::Requester { user, node },
+            pair,
+            to: Pair { index: 0, ident: 0 },
+            phase: EndPhase::Connecting,
+            window: config.window,
+        };
+        let mut machine = Machine::new(alloc, beginning, config, now)?;
+        machine.wait(now);
+        machine.ask();
+        Ok(End { machine })
+    }
+
+    /// An end that was asked for a circuit by the end with the pair `partner`, and accepts. It takes all the memory that it
+    /// will ever need but that of messages that are written.
+    pub fn responder(
+        alloc: Global,
+        pair: Pair,
+        partner: Pair,
+        proposed: u8,
+        config: EndConfig,
+        now: Moment,
+    ) -> Result<End, NoMemory>
+        requires { IsConfig config }
+        ensures opening { IfOk result (λ end. Stands end (opening.responding pair partner proposed config (min now.0 COUNT_MAX))) }
+    {
+        let window = agreed(config.window, proposed);
+        let beginning = Beginning {
+            role: Role::Responder,
+            pair,
+            to: partner,
+            phase: EndPhase::Up,
+            window,
+        };
+        let mut machine = Machine::new(alloc, beginning, config, moment(now))?;
+        machine.put(Transport::Accept {
+            to: partner,
+            own: pair,
+            window,
+        });
+        machine.note(EndNotice::Opened { window });
+        Ok(End { machine })
+    }
+
+    /// Writes a message for the other end.
+    ///
+    /// `NotUp`, `Closing`, `Empty`, `TooLong`, `QueueFull` and `Exhausted` come exactly where they say, in this order.
+    /// After a refusal nothing is changed.
+    pub fn write(&mut self, message: &[u8], now: Moment) -> Result<(), WriteRefusal>
+        requires { IsDrained self.old }
+        ensures answer { (s : State) → StandsFor self.old s → IsWriteAnswer (table.write_answer s message.now) result }
+        ensures does { OnOk result ((s : State) → StandsFor self.old s → Stands self.new (table.step s (table.Write message.now) now.0)) }
+        ensures err { OnErr result (self.new ≡ self.old) }
+    {
+        self.machine.write(message, moment(now))
+    }
+
+    /// Closes the circuit once all that was written is acknowledged.
+    pub fn close(&mut self, now: Moment)
+        requires { IsDrained self.old }
+        ensures { (s : State) → StandsFor self.old s → Stands self.new (table.step s table.Close now.0) }
+    {
+        self.machine.close(moment(now));
+    }
+
+    /// Takes in what the other end has sent.
+    pub fn arrive(&mut self, transport: &Transport, now: Moment) -> Result<(), NoMemory>
+        requires { IsDrained self.old }
+        ensures does { (s : State) → StandsFor self.old s → Stands self.new (table.step s (table.Arrive transport.now) now.0) }
+        ensures ok { IsOk result }
+    {
+        self.machine.arrive(transport, moment(now));
+        Ok(())
+    }
+
+    /// Time has passed.
+    pub fn tick(&mut self, now: Moment) -> Result<(), NoMemory>
+        requires { IsDrained self.old }
+        ensures does { (s : State) → StandsFor self.old s → Stands self.new (table.step s table.Tick now.0) }
+        ensures ok { IsOk result }
+    {
+        self.machine.tick(moment(now));
+        Ok(())
+    }
+
+    /// Takes the first message that has come; false where none waits, and `out` is as it was then.
+    pub fn take(&mut self, out: &mut Message, now: Moment) -> bool
+        requires { IsDrained self.old }
+        ensures does { (s : State) → StandsFor self.old s → Stands self.new (table.step s table.Take now.0) }
+        ensures message { (s : State) → StandsFor self.old s → out.new.items ≡ first_or out.old.items (inbox s.receiving) }
+        ensures answer { (s : State) → StandsFor self.old s → result ≡ nat_lt 0 (length (inbox s.receiving)) }
+    {
+        self.machine.take(out)
+    }
+
+    /// The next transport that waits to be sent, with the number of the fragment that it carries.
+    pub fn next_out(&mut self) -> Option<(Transport, Option<u64>)>
+        ensures value { result ≡ slice_get self.old.outs 0 }
+        ensures rest { self.new ≡ record self.old { outs = drop 1 self.old.outs } }
+    {
+        self.machine.outs.pop_front()
+    }
+
+    /// The next notice.
+    pub fn notice(&mut self) -> Option<EndNotice>
+        ensures value { result ≡ self.old.notice }
+        ensures rest { self.new ≡ record self.old { notice = None } }
+    {
+        self.machine.notice.take()
+    }
+
+    /// The phase, the window and the counts as they stand.
+    pub fn facts(&self) -> EndFacts
+        ensures { (s : State) → StandsFor self.now s → result ≡ opening.facts_of s }
+    {
+        EndFacts {
+            phase: self.machine.phase,
+            window: self.machine.window,
+            wrote: self.machine.outgoing.wrote(),
+            received: self.machine.incoming.received(),
+            acked: self.machine.outgoing.acked(),
+            waiting: self.machine.incoming.waiting(),
+            queued: self.machine.outgoing.queued(),
+        }
+    }
+
+    /// Whether no output and no notice waits.
+    pub fn drained(&self) -> bool
+        ensures { IsTrue result ↔ IsDrained self.now }
+    {
+        self.machine.outs.is_empty() && self.machine.notice.is_none()
+    }
+}
+
+/// A moment above 2^62 ms counts as 2^62 ms.
+fn moment(now: Moment) -> u64
+    ensures { result ≡ min now.0 COUNT_MAX }
+{
+    now.0.min(COUNT_MAX)
+}

@@ -1,0 +1,147 @@
+ghost use Rattle.std.specs.Prelude.{◌≡◌, ◌+◌, ◌*◌, ◌≤◌, ◌<◌, [], length, None};
+ghost use Rattle.radio_base.specs.declared.modulus.TheConstants.{COUNT_MAX};
+
+use crate::machine::{Machine, Role};
+use crate::plain::{EndNotice, EndPhase};
+use crate::transport::Transport;
+
+impl Machine {
+    ghost use Rattle.circuit_l4.specs.EndTable as table;
+    ghost use Rattle.circuit_l4.specs.EndCalls.{Adds, Does, request_of};
+    ghost use Rattle.circuit_l4.specs.EndStanding.{kept_of};
+    ghost use Rattle.circuit_l4.specs.EndTable.{asked, asked_once_more, fell_due, fell_due_up};
+
+    /// Time has passed.
+    pub(crate) fn tick(&mut self, now: u64)
+        requires now { now ≤ COUNT_MAX }
+        requires outs { self.old.outs.items ≡ [] }
+        requires notice { self.old.notice ≡ None }
+        ensures does { Does (table.ticked now) self.old self.new }
+        ensures config { self.new.config ≡ self.old.config }
+    {
+        if self.is_up() && self.quiet + self.config.inactive <= now {
+            self.end(EndNotice::FailedInactive);
+        } else if self.is_due(now) {
+            self.fall_due(now);
+        }
+    }
+
+    fn is_due(&self, now: u64) -> bool
+        ensures { result ≡ table.is_due self.now.due now }
+    {
+        match self.due {
+            Some(at) => at <= now,
+            None => false,
+        }
+    }
+
+    fn fall_due(&mut self, now: u64)
+        requires now { now ≤ COUNT_MAX }
+        requires outs { self.old.outs.items ≡ [] }
+        requires notice { self.old.notice ≡ None }
+        ensures does { Does (fell_due now) self.old self.new }
+        ensures config { self.new.config ≡ self.old.config }
+    {
+        match self.phase {
+            EndPhase::Connecting | EndPhase::Closing => self.expire(now),
+            EndPhase::Up => self.fall_due_up(now),
+            EndPhase::Ended => {}
+        }
+    }
+
+    fn fall_due_up(&mut self, now: u64)
+        requires now { now ≤ COUNT_MAX }
+        requires outs { self.old.outs.items ≡ [] }
+        requires notice { self.old.notice ≡ None }
+        ensures does { Does (fell_due_up now) self.old self.new }
+        ensures config { self.new.config ≡ self.old.config }
+    {
+        if self.held {
+            self.release(now);
+        } else {
+            self.expire(now);
+        }
+    }
+
+    /// An end that was held long enough goes on.
+    fn release(&mut self, now: u64)
+        requires now { now ≤ COUNT_MAX }
+        requires outs { self.old.outs.items ≡ [] }
+        ensures does { Does (table.released now) self.old self.new }
+        ensures config { self.new.config ≡ self.old.config }
+    {
+        self.held = false;
+        self.due = None;
+        self.again();
+        self.fill(now);
+        self.wait_if_out(now);
+    }
+
+    /// An answer hasn't come: it is awaited once more, or no longer.
+    fn expire(&mut self, now: u64)
+        requires now { now ≤ COUNT_MAX }
+        requires outs { self.old.outs.items ≡ [] }
+        requires notice { self.old.notice ≡ None }
+        ensures does { Does (table.expired now) self.old self.new }
+        ensures config { self.new.config ≡ self.old.config }
+    {
+        if self.tries == self.config.retries {
+            self.end(EndNotice::FailedRetries);
+        } else {
+            self.retry(now);
+        }
+    }
+
+    fn retry(&mut self, now: u64)
+        requires now { now ≤ COUNT_MAX }
+        requires outs { self.old.outs.items ≡ [] }
+        requires tries { self.old.tries < self.old.config.retries }
+        ensures does { Does (table.retried now) self.old self.new }
+        ensures config { self.new.config ≡ self.old.config }
+    {
+        self.ask_once_more();
+        self.tries += 1;
+        self.wait(now);
+    }
+
+    fn ask_once_more(&mut self)
+        requires { self.old.outs.items ≡ [] }
+        ensures does { Does asked_once_more self.old self.new }
+        ensures adds { Adds (self.old.config.window + 1) self.old self.new }
+        ensures tries { self.new.tries ≡ self.old.tries }
+    {
+        match self.phase {
+            EndPhase::Connecting => self.ask(),
+            EndPhase::Up => self.again(),
+            EndPhase::Closing => self.put(Transport::Disconnect { to: self.to }),
+            EndPhase::Ended => {}
+        }
+    }
+
+    /// What asks the other end for a circuit; a responder has no such thing.
+    fn request(&self) -> Option<Transport>
+        ensures { result ≡ request_of (kept_of self.now) }
+    {
+        match &self.role {
+            Role::Requester { user, node } => Some(Transport::Request {
+                pair: self.pair,
+                window: self.config.window,
+                user: *user,
+                node: *node,
+            }),
+            Role::Responder => None,
+        }
+    }
+
+    /// Asks the other end for a circuit.
+    pub(crate) fn ask(&mut self)
+        requires { length self.old.outs.items < 2 * self.old.config.window + 2 }
+        ensures does { Does asked self.old self.new }
+        ensures adds { Adds 1 self.old self.new }
+        ensures rest { kept_of self.new ≡ record (kept_of self.old) { outs = (kept_of self.new).outs } }
+    {
+        if let Some(request) = self.request() {
+            self.put(request);
+        }
+    }
+}

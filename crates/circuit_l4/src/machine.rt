@@ -1,0 +1,195 @@
+ghost use Rattle.std.specs.Prelude.{◌≡◌, ◌+◌, ◌-◌, ◌*◌, ◌≤◌, ◌<◌, ◌++◌, ◌∷◌, [], length, false, None, Some};
+ghost use Rattle.radio_base.specs.declared.modulus.TheConstants.{COUNT_MAX};
+
+use crate::incoming::Incoming;
+use crate::outgoing::Outgoing;
+use crate::plain::{EndConfig, EndNotice, EndPhase};
+use crate::transport::{Flags, Pair, Transport};
+use ax_address::Call;
+use circular_buffer::HeapCircularBuffer;
+use radio_base::{M256, Modulus};
+
+/// Which end of a circuit it is.
+#[derive(Clone, Copy, Debug, PartialEq, Eq)]
+pub(crate) enum Role {
+    /// The end that asks for the circuit, for this user at this node.
+    Requester { user: Call, node: Call },
+    /// The end that was asked.
+    Responder,
+}
+
+/// What an end puts out, with the number of the fragment that it carries.
+pub(crate) type Out = (Transport, Option<u64>);
+
+/// One end of a circuit. What waits to be put out has its room from the start.
+#[derive(Drop)]
+pub(crate) struct Machine {
+    pub(crate) role: Role,
+    pub(crate) pair: Pair,
+    /// The other end's pair, once it is known.
+    pub(crate) to: Pair,
+    pub(crate) config: EndConfig,
+    pub(crate) phase: EndPhase,
+    pub(crate) window: u8,
+    pub(crate) outgoing: Outgoing,
+    pub(crate) incoming: Incoming,
+    /// The other end takes no text for now.
+    pub(crate) held: bool,
+    pub(crate) closing: bool,
+    pub(crate) tries: u8,
+    /// When an answer is awaited no longer.
+    pub(crate) due: Option<u64>,
+    /// When it was opened, last written to, or last heard text or an acknowledgement.
+    pub(crate) quiet: u64,
+    pub(crate) outs: HeapCircularBuffer<Out>,
+    pub(crate) notice: Option<EndNotice>,
+    ghost acked_is_sent: { outgoing.acked ≤ outgoing.sent },
+    ghost sent_is_written: { outgoing.sent ≤ outgoing.total },
+    ghost total_fits: { outgoing.total ≤ COUNT_MAX },
+    ghost sent_in_window: { outgoing.sent ≤ outgoing.acked + config.window },
+    ghost window_fits: { window ≤ config.window },
+    ghost own_window_some: { 1 ≤ config.window },
+    ghost own_window_fits: { config.window ≤ 64 },
+    ghost places: { length incoming.early ≡ config.window },
+    ghost outs_room: { outs.capacity ≡ 2 * config.window + 2 },
+    ghost timeout_fits: { config.timeout ≤ COUNT_MAX },
+    ghost busy_fits: { config.busy ≤ COUNT_MAX },
+    ghost inactive_fits: { config.inactive ≤ COUNT_MAX },
+    ghost quiet_fits: { quiet ≤ COUNT_MAX },
+    ghost tries_fit: { tries ≤ config.retries },
+    ghost retries_fit: { config.retries < 256 },
+}
+
+impl Machine {
+    ghost use Rattle.circuit_l4.specs.EndState as state;
+    ghost use Rattle.circuit_l4.specs.EndMoves as moves;
+    ghost use Rattle.circuit_l4.specs.Halves.{IsReceiving};
+    ghost use Rattle.circuit_l4.specs.Receiving.{Receiving, busy};
+    ghost use Rattle.circuit_l4.specs.EndCalls.{Adds, Does};
+    ghost use Rattle.circuit_l4.specs.EndStanding.{kept_of};
+
+    pub(crate) fn is_up(&self) -> bool
+        ensures { result ≡ state.is_up self.now.phase }
+    {
+        matches!(self.phase, EndPhase::Up)
+    }
+
+    fn push(&mut self, out: Out)
+        requires { length self.old.outs.items < 2 * self.old.config.window + 2 }
+        ensures { kept_of self.new ≡ record (kept_of self.old) { outs = self.old.outs.items ++ out ∷ [] } }
+    {
+        let _ = self.outs.push_back(out);
+    }
+
+    /// Puts out a transport without text.
+    pub(crate) fn put(&mut self, transport: Transport)
+        requires { length self.old.outs.items < 2 * self.old.config.window + 2 }
+        ensures does { Does (moves.put transport) self.old self.new }
+        ensures adds { Adds 1 self.old self.new }
+        ensures rest { kept_of self.new ≡ record (kept_of self.old) { outs = (kept_of self.new).outs } }
+    {
+        self.push((transport, None));
+    }
+
+    /// The flags of a transport, with choke where no text is taken in for now.
+    fn flags(&self, nak: bool, more: bool) -> Flags
+        ensures { (r : Receiving) → IsReceiving self.now.incoming r → result ≡ record { choke = busy r; nak = nak; more = more } }
+    {
+        Flags {
+            choke: self.incoming.is_busy(),
+            nak,
+            more,
+        }
+    }
+
+    /// Puts out the fragment of this number, where it waits.
+    fn put_info(&mut self, number: u64)
+        requires waits { self.old.outgoing.acked ≤ number }
+        requires room { length self.old.outs.items < 2 * self.old.config.window + 2 }
+        ensures does { Does (moves.put_infos number 1) self.old self.new }
+        ensures adds { Adds 1 self.old self.new }
+        ensures rest { kept_of self.new ≡ record (kept_of self.old) { outs = (kept_of self.new).outs } }
+    {
+        if let Some(piece) = self.outgoing.piece(number) {
+            let transport = Transport::Info {
+                to: self.to,
+                tx: M256::wire(number),
+                rx: M256::wire(self.incoming.got()),
+                flags: self.flags(false, piece.more),
+                text: piece.text,
+            };
+            self.push((transport, Some(number)));
+        }
+    }
+
+    /// Puts out the fragments of many numbers from this one on.
+    pub(crate) fn put_infos(&mut self, from: u64, many: u64)
+        requires waits { self.old.outgoing.acked ≤ from }
+        requires numbers { from + many ≤ COUNT_MAX }
+        requires room { length self.old.outs.items + many ≤ 2 * self.old.config.window + 2 }
+        ensures does { Does (moves.put_infos from many) self.old self.new }
+        ensures adds { Adds many self.old self.new }
+        ensures rest { kept_of self.new ≡ record (kept_of self.old) { outs = (kept_of self.new).outs } }
+    {
+        for number in from..from + many {
+            self.put_info(number);
+        }
+    }
+
+    /// Tells what was got.
+    pub(crate) fn tell_got(&mut self, nak: bool)
+        requires { length self.old.outs.items < 2 * self.old.config.window + 2 }
+        ensures does { Does (moves.told_got nak) self.old self.new }
+        ensures adds { Adds 1 self.old self.new }
+        ensures rest { kept_of self.new ≡ record (kept_of self.old) { outs = (kept_of self.new).outs } }
+    {
+        let transport = Transport::InfoAck {
+            to: self.to,
+            rx: M256::wire(self.incoming.got()),
+            flags: self.flags(nak, false),
+        };
+        self.put(transport);
+    }
+
+    pub(crate) fn note(&mut self, notice: EndNotice)
+        requires { self.old.notice ≡ None }
+        ensures does { Does (moves.note notice) self.old self.new }
+        ensures outs { self.new.outs ≡ self.old.outs }
+        ensures config { self.new.config ≡ self.old.config }
+    {
+        self.notice = Some(notice);
+    }
+
+    pub(crate) fn end(&mut self, notice: EndNotice)
+        requires { self.old.notice ≡ None }
+        ensures does { Does (moves.ended notice) self.old self.new }
+        ensures outs { self.new.outs ≡ self.old.outs }
+        ensures config { self.new.config ≡ self.old.config }
+    {
+        self.phase = EndPhase::Ended;
+        self.note(notice);
+    }
+
+    /// An answer is awaited from now on.
+    pub(crate) fn wait(&mut self, now: u64)
+        requires { now ≤ COUNT_MAX }
+        ensures does { Does (moves.changed (moves.awaited now)) self.old self.new }
+        ensures rest { kept_of self.new ≡ record (kept_of self.old) { due = Some (now + self.old.config.timeout) } }
+    {
+        self.due = Some(now + self.config.timeout);
+    }
+
+    /// An answer is awaited while text is out.
+    pub(crate) fn wait_if_out(&mut self, now: u64)
+        requires { now ≤ COUNT_MAX }
+        ensures does { Does (moves.changed (moves.awaited_if_out now)) self.old self.new }
+        ensures adds { Adds 0 self.old self.new }
+        ensures rest { kept_of self.new ≡ record (kept_of self.old) { due = self.new.due } }
+    {
+        if self.outgoing.acked() < self.outgoing.sent() {
+            self.wait(now);
+        } else {
+            self.due = None;
+        }
+    }
+}
