@@ -1,6 +1,5 @@
 -- What the code keeps of an end of a circuit stands for every state that agrees with it: of the halves it has forgotten the
 -- messages that were wholly acknowledged and those that were taken, and of the rest how many expiries counted.
--- What is kept:
 use Rattle.std.specs.Prelude.{◌≡◌, ℕ, Bool, List, [], Option, None, Result, Ok, Err}
 use Rattle.std.specs.Option.{option_to_list}
 use Rattle.circuit_l4.specs.declared.machine.Machine.{Machine}
@@ -16,6 +15,7 @@ use Rattle.circuit_l4.specs.Sending.{Sending}
 use Rattle.circuit_l4.specs.Receiving.{Receiving}
 use Rattle.circuit_l4.specs.Halves.{Inbox, IsReceiving, IsSending, Outbox}
 
+-- what is kept
 pub record Kept : Type 0 where
   pub role : Role
   pub pair : Pair

@@ -135,7 +135,8 @@ impl End {
         Ok(())
     }
 
-    /// Takes the first message that has come; false where none waits, and `out` is as it was then.
+    /// Takes the first message that has come; false where none waits, and `out` is as it was then. What it does is the
+    /// same at every moment.
     pub fn take(&mut self, out: &mut Message, now: Moment) -> bool
         requires { IsDrained self.old }
         ensures does { (s : State) → StandsFor self.old s → Stands self.new (table.step s table.Take now.0) }

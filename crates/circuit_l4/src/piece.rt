@@ -6,7 +6,7 @@ use arrayvec::ArrayVec;
 pub const BUSY_AT: usize = 16384;
 
 /// A fragment of a message.
-#[derive(Clone, Debug, Drop, PartialEq, Eq)]
+#[derive(Drop)]
 pub(crate) struct Piece {
     pub(crate) text: ArrayVec<u8, 236>,
     /// Whether the message goes on.
