@@ -3,10 +3,9 @@ ghost use Rattle.radio_base.specs.declared.modulus.TheConstants.{COUNT_MAX};
 ghost use Rattle.circuit_l4.specs.EndTable as table;
 
 use crate::machine::Machine;
-use crate::piece::Piece;
+use crate::piece::{Piece, piece_of};
 use crate::plain::{EndNotice, EndPhase};
 use crate::transport::{Flags, Pair, Transport};
-use arrayvec::ArrayVec;
 use radio_base::COUNT_MAX;
 
 /// The window that both ends take: that of the other end, at most the own one, and at least 1.
@@ -14,15 +13,6 @@ pub(crate) fn agreed(own: u8, other: u8) -> u8
     ensures { result ≡ table.agreed own other }
 {
     other.min(own).max(1)
-}
-
-/// The text of a message, as a fragment.
-fn piece_of(text: &ArrayVec<u8, 236>, more: bool) -> Piece
-    ensures { result ≡ record { text = text.now; more = more } }
-{
-    let mut copy = ArrayVec::new();
-    let _ = copy.try_extend_from_slice(text.as_slice());
-    Piece { text: copy, more }
 }
 
 impl Machine {
@@ -90,7 +80,7 @@ impl Machine {
                 rx,
                 flags,
                 text,
-            } => self.hear_info(*tx, *rx, *flags, piece_of(text, flags.more), now),
+            } => self.hear_info(*tx, *rx, *flags, piece_of(text.as_slice(), flags.more), now),
             Transport::InfoAck { to: _, rx, flags } => self.hear_info_ack(*rx, *flags, now),
             Transport::Disconnect { to: _ } => self.closed_by_partner(),
             _ => {}

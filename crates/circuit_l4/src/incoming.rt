@@ -9,7 +9,7 @@ ghost use Rattle.circuit_l4.specs.Receiving.{Receiving};
 ghost use Rattle.circuit_l4.specs.Halves.{IsReceiving, Takes, came_answer, first_or, moved_answer, took, whole_answer, with_answer};
 
 use crate::messages::Messages;
-use crate::piece::{BUSY_AT, Piece, copy_of};
+use crate::piece::{BUSY_AT, Piece, piece_of};
 use circuit_reassembly::{Gather, Gathered, Oversize};
 use circular_buffer::HeapCircularBuffer;
 use l3_datagram::Message;
@@ -181,7 +181,7 @@ impl Incoming {
             return None;
         }
         match self.early.front() {
-            Some(Some(piece)) => Some(copy_of(piece)),
+            Some(Some(piece)) => Some(piece_of(piece.text.as_slice(), piece.more)),
             _ => None,
         }
     }

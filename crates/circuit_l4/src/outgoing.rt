@@ -7,8 +7,7 @@ ghost use Rattle.circuit_l4.specs.Halves.{IsSending, fragment_in};
 ghost use Rattle.circuit_l4.specs.Forgetting.{Forgets, ForgetsFirst, texts};
 ghost use Rattle.circuit_l4.specs.declared.plain.TheConstants.{QUEUE_MAX};
 
-use crate::piece::Piece;
-use arrayvec::ArrayVec;
+use crate::piece::{Piece, piece_of};
 use circuit_reassembly::{fragment, fragment_count};
 use radio_base::{COUNT_MAX, NoMemory};
 use std::alloc::Global;
@@ -212,14 +211,4 @@ fn piece_in(message: &[u8], nth: usize) -> Option<Piece>
         Some((text, more)) => Some(piece_of(text, more)),
         None => None,
     }
-}
-
-/// A fragment of these bytes.
-fn piece_of(bytes: &[u8], more: bool) -> Piece
-    requires { length bytes.now ≤ 236 }
-    ensures { fragment_in result ≡ (bytes.now, more) }
-{
-    let mut text = ArrayVec::new();
-    let _ = text.try_extend_from_slice(bytes);
-    Piece { text, more }
 }

@@ -1,4 +1,4 @@
-ghost use Rattle.std.specs.Prelude.{◌≡◌};
+ghost use Rattle.std.specs.Prelude.{◌≡◌, ◌≤◌, length};
 
 use arrayvec::ArrayVec;
 
@@ -13,14 +13,12 @@ pub(crate) struct Piece {
     pub(crate) more: bool,
 }
 
-/// A fragment with the same text.
-pub(crate) fn copy_of(piece: &Piece) -> Piece
-    ensures { result ≡ piece.now }
+/// A fragment of these bytes.
+pub(crate) fn piece_of(bytes: &[u8], more: bool) -> Piece
+    requires { length bytes.now ≤ 236 }
+    ensures { result ≡ record { text = record { items = bytes.now }; more = more } }
 {
     let mut text = ArrayVec::new();
-    let _ = text.try_extend_from_slice(piece.text.as_slice());
-    Piece {
-        text,
-        more: piece.more,
-    }
+    let _ = text.try_extend_from_slice(bytes);
+    Piece { text, more }
 }
