@@ -15,6 +15,3 @@ pub use head::{Head, is_command};
 pub use read::{read_frame, read_head};
 pub use show::show_frame;
 pub use write::write_frame;
-
-#[cfg(test)]
-mod tests;

@@ -15,6 +15,3 @@ mod texts;
 
 pub use link::Link;
 pub use plain::{LinkConfig, LinkFacts, LinkNotice, LinkOut, LinkPhase, SendRefusal};
-
-#[cfg(test)]
-mod tests;

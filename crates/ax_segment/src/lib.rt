@@ -22,6 +22,3 @@ pub const FIRST_BIT: u8 = 0x80;
 pub const FULL_PIECE: usize = 255;
 /// The most bytes of a message: a first segment and 127 others carry these.
 pub const LONGEST_MESSAGE: usize = 32_639;
-
-#[cfg(test)]
-mod tests;

@@ -4,8 +4,6 @@
 mod arrivals;
 mod calls;
 mod end;
-#[cfg(test)]
-mod end_tests;
 mod expiry;
 mod incoming;
 pub mod laws;
@@ -16,8 +14,6 @@ mod piece;
 mod plain;
 mod read;
 mod supplies;
-#[cfg(test)]
-mod tests;
 mod texts;
 mod transport;
 mod write;

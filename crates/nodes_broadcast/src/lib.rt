@@ -7,8 +7,6 @@
 pub mod laws;
 mod nodes;
 mod read;
-#[cfg(test)]
-mod tests;
 mod write;
 
 pub use nodes::{MAX_ENTRIES, Nodes, NodesRefusal};

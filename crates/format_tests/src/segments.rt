@@ -1,4 +1,4 @@
-use crate::{Joined, Joiner, Split, SplitRefusal};
+use ax_segment::{Joined, Joiner, Split, SplitRefusal};
 use radio_base::Payload;
 use std::alloc::Global;
 use std::process::Abort;

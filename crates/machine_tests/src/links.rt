@@ -1,8 +1,8 @@
 ghost use Rattle.std.specs.Prelude.{ℕ, ◌≤◌, ◌<◌};
 
-use crate::{Link, LinkConfig, LinkNotice, LinkOut, LinkPhase, SendRefusal};
 use arrayvec::ArrayVec;
 use ax_frame::Control;
+use ax_link::{Link, LinkConfig, LinkNotice, LinkOut, LinkPhase, SendRefusal};
 use radio_base::{M8, M128, Modulus, Moment, Payload};
 use std::process::Abort;
 use std::test::Fail;

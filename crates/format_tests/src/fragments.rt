@@ -1,4 +1,4 @@
-use crate::{Gather, Gathered, Oversize, fragment, fragment_count};
+use circuit_reassembly::{Gather, Gathered, Oversize, fragment, fragment_count};
 use std::test::Fail;
 
 #[test]

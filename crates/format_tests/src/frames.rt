@@ -1,5 +1,8 @@
-use super::*;
 use ax_address::{Address, Call, Path};
+use ax_frame::{
+    Control, FrameBytes, FrameRefusal, FrameView, Full, Head, is_command, read_frame, read_head,
+    show_frame, write_frame,
+};
 use radio_base::{M8, M128, TextOut};
 use std::test::Fail;
 

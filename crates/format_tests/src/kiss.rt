@@ -1,5 +1,5 @@
-use crate::{Deframer, FEND, Full, KissItem, enframe};
 use arrayvec::ArrayVec;
+use kiss_framing::{Deframer, FEND, Full, KissItem, enframe};
 use std::process::Abort;
 
 fn frame(payload: &[u8]) -> Option<KissItem<'_>> {

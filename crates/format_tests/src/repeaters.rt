@@ -1,5 +1,5 @@
-use crate::{DigiStep, reversed, step};
 use ax_address::{Address, Call, Path};
+use digi_path::{DigiStep, reversed, step};
 use std::test::Fail;
 
 fn call(text: &str) -> Result<Call, Fail> {

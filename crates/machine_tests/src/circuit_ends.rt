@@ -1,8 +1,8 @@
-use crate::{
-    End, EndConfig, EndNotice, EndPhase, Flags, MAX_TEXT, Pair, QUEUE_MAX, Transport, WriteRefusal,
-};
 use arrayvec::ArrayVec;
 use ax_address::Call;
+use circuit_l4::{
+    End, EndConfig, EndNotice, EndPhase, Flags, MAX_TEXT, Pair, QUEUE_MAX, Transport, WriteRefusal,
+};
 use l3_datagram::Message;
 use radio_base::{Moment, NoMemory};
 use std::alloc::Global;

@@ -1,6 +1,6 @@
-use crate::{Flags, Pair, Transport, TransportRefusal, read_transport, write_transport};
 use arrayvec::ArrayVec;
 use ax_address::Call;
+use circuit_l4::{Flags, Pair, Transport, TransportRefusal, read_transport, write_transport};
 use std::test::Fail;
 
 /// N0AAA asks from its own node, with the pair 1, 1 and a window of 4.

@@ -1,6 +1,6 @@
-use crate::{HeardRefusal, LockRefusal, MAX_PAIRS, Route, RouteRules, RouteTable};
 use arrayvec::ArrayVec;
 use ax_address::{Alias, Call, Entry};
+use route_table::{HeardRefusal, LockRefusal, MAX_PAIRS, Route, RouteRules, RouteTable};
 use std::process::Abort;
 use std::test::Fail;
 

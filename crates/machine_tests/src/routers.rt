@@ -1,7 +1,7 @@
 ghost use Rattle.std.specs.Prelude.{[]};
 
-use crate::*;
 use ax_address::{Alias, Call, Entry};
+use l3_datagram::*;
 use radio_base::{Moment, NoMemory};
 use route_table::{RouteRules, RouteTable};
 use std::alloc::Global;

@@ -1,4 +1,7 @@
-use super::*;
+use ax_address::{
+    Address, AddressRefusal, Alias, AliasRefusal, Call, CallRefusal, address_fault, read_address,
+    read_net_call, write_address, write_net_call,
+};
 use std::test::Fail;
 
 #[test]

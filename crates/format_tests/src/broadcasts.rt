@@ -1,6 +1,6 @@
-use crate::{Nodes, NodesRefusal, read_nodes, write_nodes};
 use arrayvec::ArrayVec;
 use ax_address::{Alias, Call, Entry};
+use nodes_broadcast::{Nodes, NodesRefusal, read_nodes, write_nodes};
 use std::test::Fail;
 
 const NO_ENTRIES: [u8; 7] = [0xFF, b'B', b'N', b'O', b'D', b'E', b' '];

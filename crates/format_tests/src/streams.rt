@@ -1,4 +1,4 @@
-use crate::{Clock, Failed, MemClock, MemSink, MemSource, Moment, Sink, Source, TextOut};
+use radio_base::{Clock, Failed, MemClock, MemSink, MemSource, Moment, Sink, Source, TextOut};
 use std::test::Fail;
 
 #[test]
