@@ -11,6 +11,6 @@ mod read;
 mod tests;
 mod write;
 
-pub use nodes::{MAX_ENTRIES, Nodes, NodesRefusal};
+pub use nodes::{Nodes, NodesRefusal};
 pub use read::read_nodes;
 pub use write::write_nodes;
