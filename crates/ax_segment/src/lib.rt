@@ -14,8 +14,6 @@ mod split;
 pub use joiner::{Joined, Joiner};
 pub use split::{Split, SplitRefusal};
 
-/// The PID that marks a segment (AX.25 2.2, section 3.4).
-pub const SEGMENT_PID: u8 = 0x08;
 /// Set in the first octet of a first segment.
 pub const FIRST_BIT: u8 = 0x80;
 /// The most octets behind the first one of a segment.

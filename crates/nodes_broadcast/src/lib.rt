@@ -9,6 +9,6 @@ mod nodes;
 mod read;
 mod write;
 
-pub use nodes::{MAX_ENTRIES, Nodes, NodesRefusal};
+pub use nodes::{Nodes, NodesRefusal};
 pub use read::read_nodes;
 pub use write::write_nodes;

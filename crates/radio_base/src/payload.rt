@@ -1,6 +1,13 @@
 use arrayvec::ArrayVec;
 
-/// What one information frame carries: the protocol of its text (AX.25 2.2, 3.4) and at most 256 octets.
+/// The protocol of a text (AX.25 2.2, section 3.4) that belongs to NET/ROM.
+pub const NETROM_PID: u8 = 0xCF;
+/// The protocol of a text that belongs to no layer 3.
+pub const TEXT_PID: u8 = 0xF0;
+/// The protocol of a segment of a longer message.
+pub const SEGMENT_PID: u8 = 0x08;
+
+/// What one information frame carries: the protocol of its text (AX.25 2.2, section 3.4) and at most 256 octets.
 ///
 /// The default is an empty text of protocol 0: what an unused place of a buffer holds.
 #[derive(Clone, Debug, Default, Drop, PartialEq, Eq)]
