@@ -4,7 +4,7 @@ ghost use Rattle.std.specs.Prelude.{◌≡◌};
 ghost use Rattle.ax_address.specs.CallOrder.{call_cmp};
 ghost use Rattle.ax_address.specs.CallReading.{ReadsCallTexts};
 ghost use Rattle.ax_address.specs.NetCalls.{SpelledNetCallIsRead, WrittenNetCallSpellsIt, NetCallWrittenAgainIsTheSame};
-ghost use Rattle.ax_address.specs.Octets.{SpelledWithoutFault, SpelledOnce, SpelledIsHeld};
+ghost use Rattle.ax_address.specs.Octets.{SpelledWithoutFault, SpelledOnce, SpelledIsHeld, FaultIsFirst, FrontGoesOn};
 
 use crate::{Call, MAX_ENTRIES, MAX_REPEATERS};
 use std::cmp::Ordering;
@@ -27,6 +27,12 @@ pub fn address_spelling()
     ensures without_fault { SpelledWithoutFault }
     ensures held { SpelledIsHeld }
     ensures once { SpelledOnce }
+{}
+
+/// The first fault of an address's octets is at the first octet that no call has at its place.
+pub fn address_faults()
+    ensures first { FaultIsFirst }
+    ensures front { FrontGoesOn }
 {}
 
 /// Octets that spell a call in a broadcast or datagram are read as it, and so spell no other; what is written for a call

@@ -9,10 +9,7 @@ use ax_address::{Address, Call, Path};
 use ax_frame::{Control, FrameBytes, FrameView, Head, write_frame};
 use kiss_framing::enframe;
 use nodes_broadcast::{Nodes, write_nodes};
-use radio_base::M8;
-
-/// The PID of NET/ROM.
-const NETROM_PID: u8 = 0xCF;
+use radio_base::{M8, NETROM_PID};
 
 /// A frame as KISS bytes: at most 1,024 bytes with the type byte, each of which may be escaped, between two FENDs.
 pub type KissBytes = ArrayVec<u8, 2050>;

@@ -16,7 +16,7 @@ use crate::keys::{Key, Setting};
 use crate::reasons::Why;
 use crate::settings::value_of;
 use arrayvec::ArrayVec;
-use ax_address::{Alias, Call, Entry};
+use ax_address::{Alias, Call, Entry, MAX_ENTRIES};
 use ax_frame::{FrameView, Head, read_frame, read_head};
 use digi_path::{DigiStep, step};
 use nodes_broadcast::{Nodes, read_nodes};
@@ -154,7 +154,7 @@ impl Station {
         let most = most_frames(&destinations);
         let mut frames = Vec::new(alloc);
         for nth in 0..most {
-            let entries = self.table.entries(11 * nth);
+            let entries = self.table.entries(MAX_ENTRIES * nth);
             if is_behind(nth, entries.as_slice()) {
                 return Ok(frames);
             }
@@ -164,7 +164,11 @@ impl Station {
     }
 
     /// The frame that broadcasts these entries.
-    fn broadcast_of(&self, alloc: Global, entries: ArrayVec<Entry, 11>) -> Result<Octets, NoMemory>
+    fn broadcast_of(
+        &self,
+        alloc: Global,
+        entries: ArrayVec<Entry, MAX_ENTRIES>,
+    ) -> Result<Octets, NoMemory>
         ensures { IfOk result (λ octets. (s : StationState) → HoldsLog self.now s → octets ≡ nodes.broadcast_octets s.call (record { alias = s.alias; entries = entries.items })) }
     {
         let nodes = Nodes {
@@ -202,7 +206,7 @@ impl Station {
 fn most_frames(destinations: &[Call]) -> usize
     ensures { result ≡ 1 + length destinations.now / 11 }
 {
-    1 + destinations.len() / 11
+    1 + destinations.len() / MAX_ENTRIES
 }
 
 /// Behind the last frame of a round: the first one stands even without entries.

@@ -7,7 +7,7 @@ use radio_base::{Failed, Source};
 use std::alloc::{AllocError, Global};
 
 /// The most bytes that a network file may have.
-pub const MAX_FILE: usize = 1_048_576;
+const MAX_FILE: usize = 1_048_576;
 
 /// The most bytes that are read at a time.
 const READ_SIZE: usize = 4096;
