@@ -14,12 +14,13 @@ use std::alloc::Global;
 
 /// How a machine begins.
 #[derive(Clone, Copy, Debug, PartialEq, Eq)]
-pub(crate) struct Beginning {
-    pub(crate) role: Role,
-    pub(crate) pair: Pair,
-    pub(crate) to: Pair,
-    pub(crate) phase: EndPhase,
-    pub(crate) window: u8,
+pub struct Beginning {
+    pub role: Role,
+    pub pair: Pair,
+    /// The other end's pair, once it is known.
+    pub to: Pair,
+    pub phase: EndPhase,
+    pub window: u8,
 }
 
 impl Machine {

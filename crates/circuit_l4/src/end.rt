@@ -1,4 +1,4 @@
-ghost use Rattle.std.specs.Prelude.{◌≡◌, ◌↔◌, min, drop, slice_get, nat_lt, length, None, IfOk, OnOk, OnErr, IsOk, IsTrue};
+ghost use Rattle.std.specs.Prelude.{◌≡◌, ◌↔◌, ◌≤◌, ◌+◌, ◌*◌, min, drop, slice_get, nat_lt, length, None, IfOk, OnOk, OnErr, IsOk, IsTrue};
 ghost use Rattle.radio_base.specs.declared.modulus.TheConstants.{COUNT_MAX};
 ghost use Rattle.circuit_l4.specs.EndState.{State};
 ghost use Rattle.circuit_l4.specs.EndTable as table;
@@ -103,6 +103,8 @@ impl End {
         ensures answer { (s : State) → StandsFor self.old s → IsWriteAnswer (table.write_answer s message.now) result }
         ensures does { OnOk result ((s : State) → StandsFor self.old s → Stands self.new (table.step s (table.Write message.now) now.0)) }
         ensures err { OnErr result (self.new ≡ self.old) }
+        ensures few { length self.new.outs ≤ 2 * self.old.config.window + 2 }
+        ensures config { self.new.config ≡ self.old.config }
     {
         self.machine.write(message, moment(now))
     }
@@ -110,7 +112,9 @@ impl End {
     /// Closes the circuit once all that was written is acknowledged.
     pub fn close(&mut self, now: Moment)
         requires { IsDrained self.old }
-        ensures { (s : State) → StandsFor self.old s → Stands self.new (table.step s table.Close now.0) }
+        ensures does { (s : State) → StandsFor self.old s → Stands self.new (table.step s table.Close now.0) }
+        ensures few { length self.new.outs ≤ 2 * self.old.config.window + 2 }
+        ensures config { self.new.config ≡ self.old.config }
     {
         self.machine.close(moment(now));
     }
@@ -120,6 +124,8 @@ impl End {
         requires { IsDrained self.old }
         ensures does { (s : State) → StandsFor self.old s → Stands self.new (table.step s (table.Arrive transport.now) now.0) }
         ensures ok { IsOk result }
+        ensures few { length self.new.outs ≤ 2 * self.old.config.window + 2 }
+        ensures config { self.new.config ≡ self.old.config }
     {
         self.machine.arrive(transport, moment(now));
         Ok(())
@@ -130,6 +136,8 @@ impl End {
         requires { IsDrained self.old }
         ensures does { (s : State) → StandsFor self.old s → Stands self.new (table.step s table.Tick now.0) }
         ensures ok { IsOk result }
+        ensures few { length self.new.outs ≤ 2 * self.old.config.window + 2 }
+        ensures config { self.new.config ≡ self.old.config }
     {
         self.machine.tick(moment(now));
         Ok(())
@@ -142,6 +150,8 @@ impl End {
         ensures does { (s : State) → StandsFor self.old s → Stands self.new (table.step s table.Take now.0) }
         ensures message { (s : State) → StandsFor self.old s → out.new.items ≡ first_or out.old.items (inbox s.receiving) }
         ensures answer { (s : State) → StandsFor self.old s → result ≡ nat_lt 0 (length (inbox s.receiving)) }
+        ensures few { length self.new.outs ≤ 2 * self.old.config.window + 2 }
+        ensures config { self.new.config ≡ self.old.config }
     {
         self.machine.take(out)
     }

@@ -11,7 +11,7 @@ use radio_base::{M256, Modulus};
 
 /// Which end of a circuit it is.
 #[derive(Clone, Copy, Debug, PartialEq, Eq)]
-pub(crate) enum Role {
+pub enum Role {
     /// The end that asks for the circuit, for this user at this node.
     Requester { user: Call, node: Call },
     /// The end that was asked.
@@ -52,6 +52,7 @@ pub(crate) struct Machine {
     ghost own_window_fits: { config.window ≤ 64 },
     ghost places: { length incoming.early ≡ config.window },
     ghost outs_room: { outs.capacity ≡ 2 * config.window + 2 },
+    ghost outs_fit: { length outs.items ≤ 2 * config.window + 2 },
     ghost timeout_fits: { config.timeout ≤ COUNT_MAX },
     ghost busy_fits: { config.busy ≤ COUNT_MAX },
     ghost inactive_fits: { config.inactive ≤ COUNT_MAX },

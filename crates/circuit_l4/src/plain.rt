@@ -59,7 +59,8 @@ pub struct EndFacts {
     pub received: u64,
     /// How many fragments the other end has acknowledged.
     pub acked: u64,
-    /// How many bytes came and weren't taken.
+    /// How many bytes came and weren't taken, those of a message of which more is to come among them. Whether a message
+    /// waits is told by `received` and by how many were taken.
     pub waiting: usize,
     /// How many bytes are in written messages that aren't wholly acknowledged.
     pub queued: usize,

@@ -10,9 +10,9 @@ use radio_base::{COUNT_MAX, M256, Modulus};
 
 /// What has to be put out once more: so many fragments from a number on.
 #[derive(Clone, Copy, Debug, PartialEq, Eq)]
-pub(crate) struct Owed {
-    pub(crate) from: u64,
-    pub(crate) many: u64,
+pub struct Owed {
+    pub from: u64,
+    pub many: u64,
 }
 
 impl Machine {
