@@ -5,15 +5,29 @@ use Rattle.std.proofs.Math.Seq.{drop-append-add}
 use Rattle.ax_address.specs.Callsign.{Callsign, name_in, padded}
 use Rattle.ax_address.specs.NetCalls.{SpellsNetCall, SpelledNetCallIsRead, WrittenNetCallSpellsIt, net_call_at, net_call_octets}
 use Rattle.l3_datagram.specs.declared.datagram.DatagramHead.{DatagramHead}
-use Rattle.l3_datagram.specs.Datagrams.{SpelledDatagramIsRead, WrittenDatagramSpellsIt, sized, call_from, fault_from, head_at}
+use Rattle.l3_datagram.specs.Datagrams.{SpelledDatagramIsRead, WrittenAgainIsTheSame, WrittenDatagramSpellsIt, plain_call, sized, call_from, fault_from, head_at}
+
+-- a call has six characters
+doubled_six : (c : Callsign) (octets : List ℕ) → SpellsNetCall c octets → length (map (λ b. 2 * b) c.letters) ≡ 6
+doubled_six c octets h =
+    let name = name_in c.letters in
+    let six : length (padded name) ≡ 6 = omega (arith, length-append name (replicate (6 - length name) 32), length-replicate {A = ℕ} (6 - length name) 32, h.is_call.six) in
+    length-map c.letters (λ b. 2 * b) ∙ (ap length h.is_call.spaces ∙ six)
 
 -- a call is spelled by seven octets
 seven : (c : Callsign) (octets : List ℕ) → SpellsNetCall c octets → length octets ≡ 7
 seven c octets h =
-    let name = name_in c.letters in
-    let six : length (padded name) ≡ 6 = omega (arith, length-append name (replicate (6 - length name) 32), length-replicate {A = ℕ} (6 - length name) 32, h.is_call.six) in
-    let doubled : length (map (λ b. 2 * b) c.letters) ≡ 6 = length-map c.letters (λ b. 2 * b) ∙ (ap length h.is_call.spaces ∙ six) in
+    let doubled : length (map (λ b. 2 * b) c.letters) ≡ 6 = doubled_six c octets h in
     ap length h.spelled ∙ omega (arith, length-append (map (λ b. 2 * b) c.letters) (h.last ∷ []), doubled)
+
+-- a call that is read and written again is the same, but for what is ignored
+same_call : (c : Callsign) (octets : List ℕ) → SpellsNetCall c octets → net_call_octets c ≡ plain_call octets
+same_call c octets h =
+    let doubled = map (λ b. 2 * b) c.letters in
+    let six = doubled_six c octets h in
+    let front : take 6 (doubled ++ h.last ∷ []) ≡ doubled = take_at doubled (h.last ∷ []) 6 six in
+    let back : get_or (doubled ++ h.last ∷ []) 6 0 ≡ h.last = get_or-append_right doubled (h.last ∷ []) 6 6 0 six (omega arith) in
+    rw (h.spelled, front, back, h.ssid) refl
 
 drop_at : (front back : List ℕ) (n more : ℕ) → length front ≡ n → drop (n + more) (front ++ back) ≡ drop more back
 drop_at front back n more len = ap (λ k. drop (k + more) (front ++ back)) (sym len) ∙ drop-append-add front back more
@@ -34,6 +48,9 @@ module _ (a b : List ℕ) (ttl : ℕ) (transport : List ℕ) (seven_a : length a
 
   hops : get_or (a ++ b ++ ttl ∷ transport) 14 0 ≡ ttl
   hops = get_or-append_right (a ++ b) (ttl ∷ transport) 14 14 0 both (omega arith)
+
+  from_hops : drop 14 (a ++ b ++ ttl ∷ transport) ≡ ttl ∷ transport
+  from_hops = drop_at (a ++ b) (ttl ∷ transport) 14 0 both
 
   rest : drop 15 (a ++ b ++ ttl ∷ transport) ≡ transport
   rest = drop_at (a ++ b) (ttl ∷ transport) 14 1 both
@@ -77,3 +94,9 @@ written_spells written head transport from to fits = record {
       let b = net_call_octets head.dest in
       omega (arith, size a b head.ttl transport (seven head.origin a (written head.origin from)) (seven head.dest b (written head.dest to)));
 }
+
+pub written_again : WrittenAgainIsTheSame
+written_again head transport octets h =
+    let sa = seven head.origin h.origin h.from in
+    let sb = seven head.dest h.dest h.to in
+    rw (h.spelled, first h.origin h.dest head.ttl transport sa sb, second h.origin h.dest head.ttl transport sa sb, from_hops h.origin h.dest head.ttl transport sa sb, same_call head.origin h.origin h.from, same_call head.dest h.dest h.to) refl

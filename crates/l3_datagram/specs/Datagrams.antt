@@ -1,6 +1,6 @@
 -- Datagrams in octets: the call of the origin, the call of the destination, the time to live, and then the transport.
 -- (NET/ROM, Appendix B.)
-use Rattle.std.specs.Prelude.{ℕ, ◌≡◌, ◌+◌, ◌≤◌, List, ◌∷◌, ◌++◌, length, take, drop, slice_index, Result, Ok, Err, nat_lt, if◌then◌else◌}
+use Rattle.std.specs.Prelude.{ℕ, ◌≡◌, ◌+◌, ◌*◌, ◌/◌, ◌%◌, ◌≤◌, List, [], ◌∷◌, ◌++◌, length, take, drop, slice_index, Result, Ok, Err, nat_lt, if◌then◌else◌}
 use Rattle.ax_address.specs.Callsign.{Callsign, IsCallsign}
 use Rattle.ax_address.specs.Octets.{place_of}
 use Rattle.ax_address.specs.NetCalls.{SpellsNetCall, net_call_at, net_call_octets}
@@ -8,7 +8,6 @@ use Rattle.ax_address.specs.declared.octets.AddressRefusal.{AddressRefusal}
 use Rattle.l3_datagram.specs.declared.datagram.DatagramHead.{DatagramHead}
 use Rattle.l3_datagram.specs.declared.datagram.DatagramRefusal.{DatagramRefusal}
 use Rattle.l3_datagram.specs.declared.datagram.DatagramRefusal.TheVariants.{Short, TooLong, BadCall}
-use Rattle.l3_datagram.specs.declared.datagram.TheConstants.{TTL_AT, HEAD_SIZE, MAX_DATAGRAM}
 use Rattle.l3_datagram.specs.CarrierCall.{Datagram}
 
 -- at most 256 octets are the datagram with this head and this transport
@@ -18,7 +17,7 @@ pub record SpellsDatagram (head : DatagramHead) (transport octets : List ℕ) : 
   pub from : SpellsNetCall head.origin origin
   pub to : SpellsNetCall head.dest dest
   pub spelled : octets ≡ origin ++ dest ++ head.ttl ∷ transport
-  pub fits : length octets ≤ MAX_DATAGRAM
+  pub fits : length octets ≤ 256
 
 infixl 10 ◌>>=◌
 abbrev pub ◌>>=◌ : {A B : Type 0} → Result A DatagramRefusal → (A → Result B DatagramRefusal) → Result B DatagramRefusal
@@ -28,9 +27,9 @@ abbrev pub ◌>>=◌ : {A B : Type 0} → Result A DatagramRefusal → (A → Re
 -- First the length is judged: the octets end before the transport, or there are too many.
 abbrev pub sized : List ℕ → Result (List ℕ) DatagramRefusal
 sized octets =
-    if nat_lt (length octets) HEAD_SIZE
+    if nat_lt (length octets) 15
     then Err (Short (length octets))
-    else (if nat_lt MAX_DATAGRAM (length octets) then Err TooLong else Ok octets)
+    else (if nat_lt 256 (length octets) then Err TooLong else Ok octets)
 
 abbrev pub fault_from : ℕ → Result Callsign AddressRefusal → Result Callsign DatagramRefusal
 fault_from at (Ok call) = Ok call
@@ -47,7 +46,7 @@ head_at octets = do
   whole ← sized octets
   origin ← call_from 0 whole
   dest ← call_from 7 whole
-  Ok (record { origin = origin; dest = dest; ttl = slice_index whole TTL_AT })
+  Ok (record { origin = origin; dest = dest; ttl = slice_index whole 14 })
 
 -- what is written
 abbrev pub octets_with : DatagramHead → List ℕ → List ℕ
@@ -60,7 +59,7 @@ datagram_with head transport = record { items = octets_with head transport }
 abbrev pub SpelledDatagramIsRead : Type 0
 SpelledDatagramIsRead =
     (head : DatagramHead) (transport octets : List ℕ) → SpellsDatagram head transport octets →
-    (head_at octets ≡ Ok head) × (drop HEAD_SIZE octets ≡ transport)
+    (head_at octets ≡ Ok head) × (drop 15 octets ≡ transport)
 
 -- what is written for a head and a transport spells the datagram with them
 abbrev pub WrittenDatagramSpellsIt : Type 0
@@ -68,3 +67,18 @@ WrittenDatagramSpellsIt =
     (head : DatagramHead) (transport : List ℕ) → IsCallsign head.origin.letters head.origin.ssid →
     IsCallsign head.dest.letters head.dest.ssid → length transport ≤ 241 →
     SpellsDatagram head transport (octets_with head transport)
+
+-- the octets of a call, of whose last one bits 4 to 1 alone are kept
+abbrev pub plain_call : List ℕ → List ℕ
+plain_call octets = take 6 octets ++ (96 + 2 * (slice_index octets 6 / 2 % 16)) ∷ []
+
+-- the octets of a datagram, of which all that is ignored is as it is written: bits 7, 6, 5 and 0 of the last octet of
+-- each call
+abbrev pub plain : List ℕ → List ℕ
+plain octets = plain_call (take 7 octets) ++ plain_call (take 7 (drop 7 octets)) ++ drop 14 octets
+
+-- octets that are read and written again are the same, but for what is ignored
+abbrev pub WrittenAgainIsTheSame : Type 0
+WrittenAgainIsTheSame =
+    (head : DatagramHead) (transport octets : List ℕ) → SpellsDatagram head transport octets →
+    octets_with head transport ≡ plain octets

@@ -7,7 +7,6 @@ use Rattle.l3_datagram.specs.declared.carrier.Offered.{Offered}
 use Rattle.l3_datagram.specs.declared.carrier.Offered.TheVariants as offered
 use Rattle.l3_datagram.specs.declared.datagram.DatagramHead.{DatagramHead}
 use Rattle.l3_datagram.specs.declared.datagram.DatagramRefusal.{DatagramRefusal}
-use Rattle.l3_datagram.specs.declared.datagram.TheConstants.{TTL_AT}
 use Rattle.l3_datagram.specs.declared.routed.Routed.{Routed}
 use Rattle.l3_datagram.specs.declared.routed.Routed.TheVariants.{Lost, Mine, Forwarded, Expired, NoRoute, Returned, Dropped, Bad}
 use Rattle.l3_datagram.specs.declared.routed.Sending.{Sending}
@@ -22,7 +21,7 @@ pub data Way : Type 0 where
 
 -- the datagram with another time to live, and every other octet as it came
 abbrev pub with_ttl : Datagram → ℕ → Datagram
-with_ttl d ttl = record { items = slice_set d.items TTL_AT ttl }
+with_ttl d ttl = record { items = slice_set d.items 14 ttl }
 
 -- to the next hop, if there is one, with one hop less to go
 abbrev pub onward : Datagram → ℕ → Option Callsign → Way

@@ -1,15 +1,14 @@
 -- What a router changes of a datagram that it hands on.
 use Rattle.std.specs.Prelude.{ℕ, ◌≡◌, ◌≢◌, ◌+◌, List, length, slice_get, slice_index, Option}
 use Rattle.ax_address.specs.Callsign.{Callsign}
-use Rattle.l3_datagram.specs.declared.datagram.TheConstants.{TTL_AT}
 use Rattle.l3_datagram.specs.CarrierCall.{Datagram}
 use Rattle.l3_datagram.specs.Hops.{GoesOn, way}
 
 -- the octets are the same but for the time to live, which is one less
 pub record IsOneHopOn (old new : List ℕ) : Type 0 where
   pub size : length new ≡ length old
-  pub others : (at : ℕ) → at ≢ TTL_AT → slice_get new at ≡ slice_get old at
-  pub ttl : slice_index new TTL_AT + 1 ≡ slice_index old TTL_AT
+  pub others : (at : ℕ) → at ≢ 14 → slice_get new at ≡ slice_get old at
+  pub ttl : slice_index new 14 + 1 ≡ slice_index old 14
 
 -- a datagram that goes on is the one that came, one hop further
 abbrev pub GoesOneHopOn : Type 0

@@ -3,7 +3,6 @@ use Rattle.std.specs.Prelude.{◌≡◌, List, [], ◌∷◌, ◌++◌, length, 
 use Rattle.ax_address.specs.Callsign.{Callsign}
 use Rattle.l3_datagram.specs.declared.carrier.Offered.{Offered}
 use Rattle.l3_datagram.specs.declared.carrier.Offered.TheVariants.{Taken, Dropped}
-use Rattle.l3_datagram.specs.declared.plain_carrier.TheConstants.{MAX_OFFERED}
 use Rattle.l3_datagram.specs.CarrierCall.{CarrierCall, Datagram, Parcel, Offer, Collect, Fail}
 
 -- what waits to be collected, and what was offered and not yet fetched
@@ -25,7 +24,7 @@ fetched c = record { waiting = c.waiting; offered = drop 1 c.offered }
 
 -- It takes a datagram where fewer than 1,024 wait to be fetched (this project's profile).
 abbrev pub offer_answer : Plain → Offered
-offer_answer c = if nat_lt (length c.offered) MAX_OFFERED then Taken else Dropped
+offer_answer c = if nat_lt (length c.offered) 1024 then Taken else Dropped
 
 abbrev pub after_offer : Plain → Parcel → Offered → Plain
 after_offer c parcel Taken = record { waiting = c.waiting; offered = c.offered ++ parcel ∷ [] }

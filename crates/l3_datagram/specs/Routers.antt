@@ -1,5 +1,5 @@
 -- A router: a node's routing table over a carrier.
-use Rattle.std.specs.Prelude.{ℕ, ◌≡◌, List, ◌++◌, Option, Bool}
+use Rattle.std.specs.Prelude.{ℕ, ◌≡◌, ◌+◌, ◌<◌, List, [], ◌∷◌, ◌++◌, length, drop, Option, Some, None, Bool}
 use Rattle.ax_address.specs.Callsign.{Callsign}
 use Rattle.route_table.specs.Log.{Item}
 use Rattle.route_table.specs.Table.{next_hop}
@@ -57,6 +57,16 @@ module _ {C : Type 0} (made : C → List CarrierCall → C → Type 0) where
       (answer : Offered) ×
       ((log : List Item) → StandsFor old.table log →
       DoesSend old new result (sending_to d (next_hop old.table.rules log to) now answer))
+
+-- what waits after a step: the first datagram is taken, unless a neighbour was lost
+abbrev pub waiting_left : List Callsign → List Parcel → List Parcel
+waiting_left [] waiting = drop 1 waiting
+waiting_left (neighbour ∷ _) waiting = waiting
+
+-- None exactly where no neighbour is lost and no datagram waits
+abbrev pub NoneWhereEmpty : List Callsign → List Parcel → Option Routed → Type 0
+NoneWhereEmpty lost waiting None = (lost ≡ []) × (waiting ≡ [])
+NoneWhereEmpty lost waiting (Some routed) = 0 < length lost + length waiting
 
 -- the call, the hops and the rules of the table stay
 pub record SameRouter {C : Type 0} (old new : Routing C) : Type 0 where

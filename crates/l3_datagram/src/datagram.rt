@@ -52,7 +52,7 @@ pub fn read_datagram(bytes: &[u8]) -> Result<DatagramHead, DatagramRefusal>
     ensures exact { result ≡ octet.head_at bytes.now }
 
     // What is read is spelled so.
-    ensures found { IfOk result (λ head. octet.SpellsDatagram head (drop HEAD_SIZE bytes.now) bytes.now) }
+    ensures found { IfOk result (λ head. octet.SpellsDatagram head (drop 15 bytes.now) bytes.now) }
     ensures size { IsOk result → (15 ≤ length bytes.now) × (length bytes.now ≤ 256) }
 {
     if bytes.len() < HEAD_SIZE {

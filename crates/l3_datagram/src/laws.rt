@@ -1,13 +1,15 @@
 //! What the definitions promise by themselves.
-ghost use Rattle.l3_datagram.specs.Datagrams.{SpelledDatagramIsRead, WrittenDatagramSpellsIt};
+ghost use Rattle.l3_datagram.specs.Datagrams.{SpelledDatagramIsRead, WrittenAgainIsTheSame, WrittenDatagramSpellsIt};
 ghost use Rattle.l3_datagram.specs.Onward.{GoesOneHopOn};
 ghost use Rattle.l3_datagram.specs.Network.{WaitingWasOffered};
 
 /// Octets that spell a datagram are read as its head, and what follows the head is its transport; so they spell no other
-/// one. And what is written for a head and a transport spells the datagram with them, and so is read as this head.
+/// one. What is written for a head and a transport spells the datagram with them, and so is read as this head. And octets
+/// that are read and written again are the same but for what is ignored.
 pub fn datagram_spelling()
     ensures read { SpelledDatagramIsRead }
     ensures written { WrittenDatagramSpellsIt }
+    ensures same { WrittenAgainIsTheSame }
 {
     ax_address::laws::net_call_spelling();
 }

@@ -1,4 +1,4 @@
-ghost use Rattle.std.specs.Prelude.{◌≡◌, ◌≤◌, ◌↔◌, length, IfOk, IsErr, IsTrue, false, [], ◌∷◌};
+ghost use Rattle.std.specs.Prelude.{◌≡◌, ◌≤◌, ◌↔◌, drop, length, IfOk, IsErr, IsTrue, false, [], ◌∷◌};
 ghost use Rattle.std.specs.Borrow.{Lends, sem};
 
 use crate::datagram::{datagram_of, with_ttl};
@@ -30,7 +30,7 @@ impl<C> Model for Router<C> {
 }
 
 impl<C: Carrier> Router<C> {
-    ghost use Rattle.l3_datagram.specs.Routers.{Routing, Routes, Pumps, Sends, SameRouter};
+    ghost use Rattle.l3_datagram.specs.Routers.{Routing, Routes, Pumps, Sends, SameRouter, NoneWhereEmpty, waiting_left};
     ghost use Rattle.l3_datagram.specs.CarrierCall.{Offer};
     ghost use Rattle.l3_datagram.specs.Datagrams.{datagram_with};
     ghost use Rattle.l3_datagram.specs.contracts.router.Router.{the_row};
@@ -56,6 +56,8 @@ impl<C: Carrier> Router<C> {
         requires { length transport.now ≤ 241 }
         ensures sends { let d = datagram_with (record { origin = self.old.own; dest = to.now; ttl = self.old.ttl }) transport.now in
             IfOk result (Sends C.made self.old self.new to.now d now.0) }
+        ensures lost { C.lost self.new.carrier ≡ C.lost self.old.carrier }
+        ensures waiting { C.waiting self.new.carrier ≡ C.waiting self.old.carrier }
         ensures table { self.new.table ≡ self.old.table }
         ensures same { SameRouter self.old self.new }
         ensures memory { IsErr result ↔ IsTrue self.new.spent }
@@ -82,6 +84,9 @@ impl<C: Carrier> Router<C> {
     /// neither is there.
     pub fn pump(&mut self, now: Moment) -> Result<Option<Routed>, NoMemory>
         ensures pumps { IfOk result (Pumps C.made self.old self.new (C.lost self.old.carrier) (C.waiting self.old.carrier) now.0) }
+        ensures none { IfOk result (NoneWhereEmpty (C.lost self.old.carrier) (C.waiting self.old.carrier)) }
+        ensures lost { IfOk result (λ _. C.lost self.new.carrier ≡ drop 1 (C.lost self.old.carrier)) }
+        ensures waiting { IfOk result (λ _. C.waiting self.new.carrier ≡ waiting_left (C.lost self.old.carrier) (C.waiting self.old.carrier)) }
         ensures same { SameRouter self.old self.new }
         ensures memory { IsErr result ↔ IsTrue self.new.spent }
         ensures spent { IsTrue self.old.spent → self.new ≡ self.old }
@@ -106,6 +111,8 @@ impl<C: Carrier> Router<C> {
     fn route(&mut self, datagram: Datagram, now: Moment) -> Result<Routed, NoMemory>
         requires { self.old.spent ≡ false }
         ensures routes { IfOk result (Routes C.made self.old self.new datagram now.0) }
+        ensures lost { C.lost self.new.carrier ≡ C.lost self.old.carrier }
+        ensures waiting { C.waiting self.new.carrier ≡ C.waiting self.old.carrier }
         ensures table { self.new.table ≡ self.old.table }
         ensures same { SameRouter self.old self.new }
         ensures memory { IsErr result ↔ IsTrue self.new.spent }
@@ -139,6 +146,8 @@ impl<C: Carrier> Router<C> {
     /// Offers a datagram to the carrier. Want of memory spends the router.
     fn offer(&mut self, to: &Call, datagram: &Datagram, now: Moment) -> Result<Offered, NoMemory>
         ensures made { IfOk result (λ answer. C.made self.old.carrier (Offer to.now datagram.now now.0 answer ∷ []) self.new.carrier) }
+        ensures lost { C.lost self.new.carrier ≡ C.lost self.old.carrier }
+        ensures waiting { C.waiting self.new.carrier ≡ C.waiting self.old.carrier }
         ensures same { self.new ≡ record self.old { carrier = self.new.carrier; spent = self.new.spent } }
         ensures memory { IsErr result ↔ IsTrue self.new.spent }
     {
