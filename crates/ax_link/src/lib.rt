@@ -13,6 +13,7 @@ mod plain;
 mod station;
 mod texts;
 
+pub use kind::Kind;
 pub use link::Link;
 pub use plain::{LinkConfig, LinkFacts, LinkNotice, LinkOut, LinkPhase, SendRefusal};
 
