@@ -1,16 +1,15 @@
 -- A call of a link is a step of the machine.
-use Rattle.std.proofs.Common.{◌≡◌, ℕ, ◌+◌, ◌<◌, Bool, true, false, not, ◌||◌, nat_le, if◌then◌else◌, List, ◌++◌, length, Result, Ok, Err, OnOk, refl, ap, ◌∙◌, subst, arith, length-append}
+use Rattle.std.proofs.Common.{◌≡◌, ℕ, ◌+◌, ◌<◌, Bool, true, false, not, ◌||◌, nat_le, if◌then◌else◌, List, ◌++◌, length, Result, Ok, Err, OnOk, is_ok, ◌&&◌, nat_lt, refl, ap, sym, ◌∙◌, subst, arith, length-append}
 use Rattle.std.proofs.lemmas.Bool.Decides.{nat_tests}
-use Rattle.radio_base.specs.declared.modulus.TheConstants.{COUNT_MAX}
 use Rattle.radio_base.specs.declared.payload.Payload.{Payload}
 use Rattle.ax_link.specs.declared.plain.SendRefusal.{SendRefusal}
-use Rattle.ax_link.specs.State.{State, Going, begin}
+use Rattle.ax_link.specs.State.{State, Going, begin, count_end}
 use Rattle.ax_link.specs.Table.{accepted, may_close, takes}
-use Rattle.ax_link.specs.Standing.{Held, Stands, StandsFor, state_of}
+use Rattle.ax_link.specs.Standing.{Held, KeepsGoing, Keeps, state_of}
 use Rattle.ax_link.specs.Opening.{IsDrained, answer_by, send_answer, taken_in}
 
 -- a step begins where nothing waits
-pub begins : (size : ℕ) (h : Held) (s : State) → IsDrained h → StandsFor size h s → Stands size h (begin s)
+pub begins : (size : ℕ) (h : Held) (s : State) → IsDrained h → Keeps size h s → KeepsGoing size h (begin s)
 begins size h s drained stands =
     record {
       before = stands.before;
@@ -22,10 +21,10 @@ begins size h s drained stands =
 
 -- a part that is done from what is kept is a step
 pub stepped : (size : ℕ) (h later : Held) (now moment : ℕ) (part : ℕ → Going → Going) → IsDrained h → now ≡ moment →
-    ((g : Going) → Stands size h g → Stands size later (part now g)) →
-    (s : State) → StandsFor size h s → Stands size later (part moment (begin s))
+    ((g : Going) → KeepsGoing size h g → KeepsGoing size later (part now g)) →
+    (s : State) → Keeps size h s → KeepsGoing size later (part moment (begin s))
 stepped size h later now moment part drained e does s stands =
-    subst (λ (n : ℕ). Stands size later (part n (begin s))) e (does (begin s) (begins size h s drained stands))
+    subst (λ (n : ℕ). KeepsGoing size later (part n (begin s))) e (does (begin s) (begins size h s drained stands))
 
 both_hold : (up closing : Bool) → (not up || closing) ≡ false → (up ≡ true) × (closing ≡ false)
 both_hold true true e = absurd (cc e)
@@ -33,13 +32,13 @@ both_hold true false e = (refl, refl)
 both_hold false closing e = absurd (cc e)
 
 takes_all : (size : ℕ) (h : Held) (before gots : List Payload) → length before ≡ h.acked → may_close h.phase ≡ true → h.closing ≡ false →
-    length h.queue < 128 → h.acked + length h.queue < COUNT_MAX → takes (state_of size h before gots) ≡ true
+    length h.queue < 128 → h.acked + length h.queue < count_end → takes (state_of size h before gots) ≡ true
 takes_all size h before gots a up stays room more =
     let n : length (before ++ h.queue) ≡ h.acked + length h.queue = omega (arith, length-append before h.queue, a) in
     rw (up, stays, n) (grind (arith, nat_tests, room, more))
 
 accepts_by : (size : ℕ) (h : Held) (before gots : List Payload) (refused full ended : Bool) → length before ≡ h.acked →
-    (not (may_close h.phase) || h.closing) ≡ refused → nat_le 128 (length h.queue) ≡ full → nat_le COUNT_MAX (h.acked + length h.queue) ≡ ended →
+    (not (may_close h.phase) || h.closing) ≡ refused → nat_le 128 (length h.queue) ≡ full → nat_le count_end (h.acked + length h.queue) ≡ ended →
     answer_by refused full ended ≡ taken_in →
     takes (state_of size h before gots) ≡ true
 accepts_by size h before gots true full ended a r f e is = absurd (cc is)
@@ -51,8 +50,8 @@ accepts_by size h before gots false false false a r f e is =
 
 -- where the answer is Ok, the machine takes the payload
 pub accepts : (size : ℕ) (h later : Held) (now moment : ℕ) (p : Payload) → IsDrained h → now ≡ moment → send_answer h ≡ taken_in →
-    ((g : Going) → Stands size h g → Stands size later (accepted now p g)) →
-    (s : State) → StandsFor size h s → Stands size later (if takes s then accepted moment p (begin s) else begin s)
+    ((g : Going) → KeepsGoing size h g → KeepsGoing size later (accepted now p g)) →
+    (s : State) → Keeps size h s → KeepsGoing size later (if takes s then accepted moment p (begin s) else begin s)
 accepts size h later now moment p drained e is does s stands =
     let t : takes s ≡ true = ap takes stands.is ∙ accepts_by size h stands.before stands.gots _ _ _ stands.acked refl refl refl is in
     rw t (stepped size h later now moment (λ n g. accepted n p g) drained e does s stands)
@@ -60,3 +59,29 @@ accepts size h later now moment p drained e is does s stands =
 pub on_ok : (r : Result (Unit {0}) SendRefusal) (P Q : Type 0) → (r ≡ taken_in → P → Q) → OnOk r P → OnOk r Q
 on_ok (Ok tt) P Q f p = f refl p
 on_ok (Err e) P Q f p = tt
+
+same_tests : (a b c d : Bool) → is_ok (answer_by (not a || b) c d) ≡ (a && (not b && (not c && not d)))
+same_tests true true c d = refl
+same_tests false b c d = refl
+same_tests true false true d = refl
+same_tests true false false true = refl
+same_tests true false false false = refl
+
+-- the answer is Ok exactly where the machine takes the payload
+pub takes_is : (size : ℕ) (h : Held) (s : State) → Keeps size h s → is_ok (send_answer h) ≡ takes s
+takes_is size h s stands =
+    let n : length (stands.before ++ h.queue) ≡ h.acked + length h.queue = omega (arith, length-append stands.before h.queue, stands.acked) in
+    let room : nat_lt (length (stands.before ++ h.queue)) (h.acked + 128) ≡ not (nat_le 128 (length h.queue)) = more (nat_le 128 (length h.queue)) refl n in
+    let left : nat_lt (length (stands.before ++ h.queue)) count_end ≡ not (nat_le count_end (h.acked + length h.queue)) = most (nat_le count_end (h.acked + length h.queue)) refl n in
+    same_tests (may_close h.phase) h.closing (nat_le 128 (length h.queue)) (nat_le count_end (h.acked + length h.queue))
+    ∙ sym (ap takes stands.is
+    ∙ ap (λ b. may_close h.phase && (not h.closing && (b && nat_lt (length (stands.before ++ h.queue)) count_end))) room
+    ∙ ap (λ b. may_close h.phase && (not h.closing && (not (nat_le 128 (length h.queue)) && b))) left)
+  where
+    more : (b : Bool) → nat_le 128 (length h.queue) ≡ b → length (stands.before ++ h.queue) ≡ h.acked + length h.queue → nat_lt (length (stands.before ++ h.queue)) (h.acked + 128) ≡ not b
+    more true e n = grind (arith, nat_tests, e, n)
+    more false e n = grind (arith, nat_tests, e, n)
+
+    most : (b : Bool) → nat_le count_end (h.acked + length h.queue) ≡ b → length (stands.before ++ h.queue) ≡ h.acked + length h.queue → nat_lt (length (stands.before ++ h.queue)) count_end ≡ not b
+    most true e n = grind (arith, nat_tests, e, n)
+    most false e n = grind (arith, nat_tests, e, n)

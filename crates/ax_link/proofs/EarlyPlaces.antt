@@ -1,12 +1,12 @@
 -- Payloads that came before their turn.
-use Rattle.std.proofs.Common.{◌≡◌, ℕ, zero, suc, ◌+◌, ◌-◌, ◌%◌, ◌≤◌, Bool, true, false, List, [], ◌∷◌, ◌++◌, take, replicate, length, slice_get, slice_set, Option, Some, None, is_some, refl, ap, sym, ◌∙◌, subst, arith, append_assoc, add-one}
+use Rattle.std.proofs.Common.{◌≡◌, ℕ, zero, suc, ◌+◌, ◌-◌, ◌%◌, ◌≤◌, Bool, true, false, List, [], ◌∷◌, ◌++◌, take, length, slice_get, slice_set, Option, Some, None, is_some, refl, ap, sym, ◌∙◌, subst, arith, append_assoc, add-one}
 use Rattle.std.proofs.lemmas.Bool.Decides.{nat_tests}
 use Rattle.radio_base.specs.declared.payload.Payload.{Payload}
 use Rattle.ax_link.specs.declared.kind.Kind.TheVariants.{Srej}
 use Rattle.ax_link.specs.State.{Frame, State, Going, top}
 use Rattle.ax_link.specs.Moves.{asks_of, move_on, next_early, put, take_next}
-use Rattle.ax_link.specs.Standing.{Held, Stands, going_of, state_of}
-use Rattle.ax_link.specs.Stations.{asked_for, is_filled, moved_on, next_taken, with_early}
+use Rattle.ax_link.specs.Standing.{Held, KeepsGoing, going_of, state_of}
+use Rattle.ax_link.specs.Stations.{asked_for, is_filled, next_taken, with_early}
 use Rattle.ax_link.proofs.Standings.{itself, standing}
 
 -- ---- places ----
@@ -56,20 +56,20 @@ one_more size from many number g z e = rw (e, ← z, asks_step g.link.rules.size
 
 -- one more is asked for
 pub one_more_asked : (size from number : ℕ) (old mid later : Held) → from ≤ number →
-    ((g : Going) → Stands size old g → Stands size mid (asked_for from (number - from) g)) →
-    ((g : Going) → Stands size mid g → Stands size later (put false (Srej (number % size) false) g)) →
-    (g : Going) → Stands size old g → Stands size later (asked_for from (number + 1 - from) g)
+    ((g : Going) → KeepsGoing size old g → KeepsGoing size mid (asked_for from (number - from) g)) →
+    ((g : Going) → KeepsGoing size mid g → KeepsGoing size later (put false (Srej (number % size) false) g)) →
+    (g : Going) → KeepsGoing size old g → KeepsGoing size later (asked_for from (number + 1 - from) g)
 one_more_asked size from number old mid later l before does =
     standing size old later (asked_for from (number + 1 - from)) (λ kept gots a b.
     let g : Going = going_of size old kept gots in
     let n : number + 1 - from ≡ suc (number - from) = omega (arith, l) in
-    rw n (subst (Stands size later) (one_more size from (number - from) number g refl (omega (arith, l))) (does _ (before g (itself size old kept gots a b)))))
+    rw n (subst (KeepsGoing size later) (one_more size from (number - from) number g refl (omega (arith, l))) (does _ (before g (itself size old kept gots a b)))))
 
 -- ---- moving on ----
 -- what is kept stands for a step that will be this one, once at most k early payloads have followed
 pub record Goes (size : ℕ) (h : Held) (k : ℕ) (goal : Going) : Type 0 where
   pub at : Going
-  pub stands : Stands size h at
+  pub stands : KeepsGoing size h at
   pub goes : record at { link = move_on k at.link } ≡ goal
 
 move_some : (k : ℕ) (s : State) (p : Payload) → Some p ≡ next_early s → move_on (suc k) s ≡ move_on k (take_next p s)
@@ -82,7 +82,7 @@ move_none (suc k) s e = ap (λ (x : Option Payload). elim x as (λ y. State) [ N
 -- one has followed
 pub goes_on : (size k rest : ℕ) (h later : Held) (p : Payload) (goal : Going) → k ≡ suc rest →
     ((before gots : List Payload) → length gots ≡ h.got → Some p ≡ next_early (state_of size h before gots)) →
-    ((g : Going) → Stands size h g → Stands size later (next_taken p g)) →
+    ((g : Going) → KeepsGoing size h g → KeepsGoing size later (next_taken p g)) →
     Goes size h k goal → Goes size later rest goal
 goes_on size k rest h later p goal e next does w =
     let n : Some p ≡ next_early w.at.link = next w.stands.before w.stands.gots w.stands.got ∙ ap (λ (x : Going). next_early x.link) (sym w.stands.is) in
@@ -95,7 +95,7 @@ goes_on size k rest h later p goal e next does w =
 -- none follows
 pub goes_no_further : (size k : ℕ) (h : Held) (goal : Going) →
     ((before gots : List Payload) → length gots ≡ h.got → None ≡ next_early (state_of size h before gots)) →
-    Goes size h k goal → Stands size h goal
+    Goes size h k goal → KeepsGoing size h goal
 goes_no_further size k h goal next w =
     let n : None ≡ next_early w.at.link = next w.stands.before w.stands.gots w.stands.got ∙ ap (λ (x : Going). next_early x.link) (sym w.stands.is) in
-    subst (Stands size h) (ap (λ (x : State). record w.at { link = x }) (sym (move_none k w.at.link n)) ∙ w.goes) w.stands
+    subst (KeepsGoing size h) (ap (λ (x : State). record w.at { link = x }) (sym (move_none k w.at.link n)) ∙ w.goes) w.stands

@@ -6,6 +6,10 @@ pub mod Leaving
 pub mod PairSteps
 pub mod NoUa
 pub mod Pairs
+pub mod PutOut
+pub mod Notices
+pub mod KindsOut
+pub mod Takings
 pub mod Standings
 pub mod Steps
 pub mod PairTexts

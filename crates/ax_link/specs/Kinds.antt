@@ -1,5 +1,5 @@
 -- What frames are on a link (AX.25 2.2, section 4.3).
-use Rattle.std.specs.Prelude.{ℕ, Bool, not, ◌==◌, if◌then◌else◌, List, length, nat_le, Option, Some, None}
+use Rattle.std.specs.Prelude.{ℕ, Bool, false, not, ◌==◌, if◌then◌else◌, List, [], length, nat_le, Option, Some, None}
 use Rattle.radio_base.specs.declared.payload.Payload.{Payload}
 use Rattle.ax_frame.specs.declared.control.Control.{Control}
 use Rattle.ax_frame.specs.declared.control.Control.TheVariants as control
@@ -36,3 +36,28 @@ payload_of (Some pid) info = if nat_le (length info) 256 then Some (record { pid
 -- a frame as it comes in
 abbrev pub frame_in : ℕ → Bool → Control → Option ℕ → List ℕ → Frame
 frame_in size command control pid info = record { command = command; kind = kind_of size command control; payload = payload_of pid info }
+
+-- the control field of a frame of this kind. No link puts out the last four
+abbrev pub control_of : ℕ → Kind → Control
+control_of size (I ns nr pf) = control.I ns nr pf
+control_of size (Rr nr pf) = control.Rr nr pf
+control_of size (Rnr nr pf) = control.Rnr nr pf
+control_of size (Rej nr pf) = control.Rej nr pf
+control_of size (Srej nr pf) = control.Srej nr pf
+control_of size (SetUp pf) = if size == 8 then control.Sabm pf else control.Sabme pf
+control_of size (Disc pf) = control.Disc pf
+control_of size (Dm pf) = control.Dm pf
+control_of size (Ua pf) = control.Ua pf
+control_of size (OtherSetUp pf) = if size == 8 then control.Sabme pf else control.Sabm pf
+control_of size (Frmr pf) = control.Frmr pf
+control_of size (Xid pf) = control.Xid pf
+control_of size Other = control.Test false
+
+-- the PID and the information of a frame with a payload, or without one
+abbrev pub pid_of : Option Payload → Option ℕ
+pid_of None = None
+pid_of (Some p) = Some p.pid
+
+abbrev pub info_of : Option Payload → List ℕ
+info_of None = []
+info_of (Some p) = p.info.items

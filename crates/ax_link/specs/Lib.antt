@@ -1,7 +1,10 @@
+pub mod Bounds
 pub mod Kinds
+pub mod Laws
 pub mod Moves
 pub mod Opening
 pub mod Pair
+pub mod PutOut
 pub mod Runs
 pub mod Standing
 pub mod State

@@ -1,6 +1,5 @@
 -- The steps of which the rows of the link's table are made.
 use Rattle.std.specs.Prelude.{ℕ, zero, suc, ◌+◌, ◌-◌, ◌%◌, min, Bool, true, false, not, ◌&&◌, ◌||◌, nat_eq, nat_lt, nat_le, if◌then◌else◌, List, [], ◌∷◌, ◌++◌, length, drop, replicate, slice_get, slice_set, Option, Some, None}
-use Rattle.radio_base.specs.declared.modulus.TheConstants.{COUNT_MAX}
 use Rattle.radio_base.specs.declared.payload.Payload.{Payload}
 use Rattle.radio_base.specs.Modulus.{place_of}
 use Rattle.ax_link.specs.declared.plain.LinkPhase.{LinkPhase}
@@ -8,7 +7,7 @@ use Rattle.ax_link.specs.declared.plain.LinkPhase.TheVariants.{Releasing}
 use Rattle.ax_link.specs.declared.plain.LinkNotice.{LinkNotice}
 use Rattle.ax_link.specs.declared.kind.Kind.{Kind}
 use Rattle.ax_link.specs.declared.kind.Kind.TheVariants.{I, Rr, Rnr, Rej, Srej, Disc}
-use Rattle.ax_link.specs.State.{Frame, State, Going, wire, busy, high, ack_place, is_up, judged, places, restamped}
+use Rattle.ax_link.specs.State.{Frame, State, Going, count_end, wire, busy, high, ack_place, is_up, judged, places, restamped}
 
 -- how many payloads Fill puts out
 abbrev pub fill_count : State → ℕ
@@ -109,7 +108,7 @@ first_early [] = None
 first_early (p ∷ e) = p
 
 abbrev pub next_early : State → Option Payload
-next_early s = if busy s || nat_le COUNT_MAX (length s.gots) then None else first_early s.early
+next_early s = if busy s || nat_le count_end (length s.gots) then None else first_early s.early
 
 -- early payloads follow while they are next and the inbox isn't full; the count is the length of early
 abbrev pub move_on : ℕ → State → State
@@ -205,7 +204,7 @@ text_srej pf ns p g =
 
 abbrev pub text : Bool → ℕ → Payload → Going → Going
 text pf ns p g =
-    if nat_le COUNT_MAX (length g.link.gots) then g
+    if nat_le count_end (length g.link.gots) then g
     else if busy g.link then put false (Rnr (wire g.link (length g.link.gots)) pf) g
     else if g.link.rules.srej then text_srej pf ns p g
     else text_plain pf ns p g

@@ -1,12 +1,11 @@
 -- How a link begins, and when it accepts a payload.
 use Rattle.std.specs.Prelude.{◌≡◌, ℕ, ◌+◌, Bool, false, not, ◌||◌, ◌==◌, nat_le, min, if◌then◌else◌, [], length, None, Result, Ok, Err, replicate}
-use Rattle.radio_base.specs.declared.modulus.TheConstants.{COUNT_MAX}
 use Rattle.ax_link.specs.declared.plain.LinkConfig.{LinkConfig}
 use Rattle.ax_link.specs.declared.plain.LinkFacts.{LinkFacts}
 use Rattle.ax_link.specs.declared.plain.LinkPhase.TheVariants.{Down}
 use Rattle.ax_link.specs.declared.plain.SendRefusal.{SendRefusal}
 use Rattle.ax_link.specs.declared.plain.SendRefusal.TheVariants.{NotUp, QueueFull, Exhausted}
-use Rattle.ax_link.specs.State.{Rules, State, places}
+use Rattle.ax_link.specs.State.{Rules, State, count_end, places}
 use Rattle.ax_link.specs.Table.{may_close}
 use Rattle.ax_link.specs.Standing.{Held}
 
@@ -28,7 +27,7 @@ answer_by refused full ended =
 -- whether a payload is accepted
 abbrev pub send_answer : Held → Result (Unit {0}) SendRefusal
 send_answer h =
-    answer_by (not (may_close h.phase) || h.closing) (nat_le 128 (length h.queue)) (nat_le COUNT_MAX (h.acked + length h.queue))
+    answer_by (not (may_close h.phase) || h.closing) (nat_le 128 (length h.queue)) (nat_le count_end (h.acked + length h.queue))
 
 abbrev pub rules_new : ℕ → LinkConfig → Rules
 rules_new size config =
@@ -63,4 +62,4 @@ pub record IsDrained (h : Held) : Type 0 where
 
 -- what a link tells of itself
 abbrev pub facts_of : Held → LinkFacts
-facts_of h = record { phase = h.phase; acked = h.acked; sent = h.sent; got = h.got; held = length h.queue; inbox = length h.inbox }
+facts_of h = record { phase = h.phase; acked = h.acked; sent = h.sent; got = h.got; held = length h.queue; inbox = length h.inbox; closing = h.closing }

@@ -11,6 +11,7 @@ use Rattle.radio_base.specs.declared.payload.Payload.{Payload}
 use Rattle.ax_link.specs.State.{Rules, State, Frame, Going, is_up}
 use Rattle.ax_link.specs.Table.{Input, Set_up, Send, Arrive, Tick, Close, Take, step}
 use Rattle.ax_link.specs.Pair.{Fits, IsNew, core}
+use Rattle.ax_link.specs.Bounds.{Bounded, stock}
 use Rattle.ax_link.specs.Opening.{opening, rules_new}
 
 -- an end and its past
@@ -147,6 +148,21 @@ pub record Clean (w : Ends) : Type 0 where
 abbrev pub CleanRun : Ends → List (Side × Event) → Type 0
 CleanRun w [] = Clean w
 CleanRun w (e ∷ es) = Clean w × CleanRun (happens w e.0 e.1) es
+
+-- what was got at an end and taken, which is all but what the inbox holds, is a beginning of what was given to the other
+pub record TakenIn (from to : State) : Type 0 where
+  pub taken : List Payload
+  pub rest : taken ++ to.inbox ≡ to.gots
+  pub begun : IsPrefix taken from.given
+
+pub record TakenSafe (w : Ends) : Type 0 where
+  pub right : TakenIn w.left.link w.right.link
+  pub left : TakenIn w.right.link w.left.link
+
+-- the links are within their bounds
+pub record EndsBounded (w : Ends) : Type 0 where
+  pub left : Bounded (stock w.left.link)
+  pub right : Bounded (stock w.right.link)
 
 -- each end has got a beginning of what was given to the other, and counts as acknowledged no more than the other has got
 pub record Safe (w : Ends) : Type 0 where

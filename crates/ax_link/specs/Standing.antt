@@ -5,6 +5,7 @@ use Rattle.radio_base.specs.declared.payload.Payload.{Payload}
 use Rattle.ax_link.specs.declared.plain.LinkPhase.{LinkPhase}
 use Rattle.ax_link.specs.declared.plain.LinkNotice.{LinkNotice}
 use Rattle.ax_link.specs.declared.plain.LinkOut.{LinkOut}
+use Rattle.ax_link.specs.Bounds.{Bounded, stock}
 use Rattle.ax_link.specs.Kinds.{kind_of}
 use Rattle.ax_link.specs.State.{Frame, Rules, State, Going, t1_runs}
 
@@ -67,9 +68,8 @@ abbrev pub going_of : ℕ → Held → List Payload → List Payload → Going
 going_of size h before gots =
     record { link = state_of size h before gots; outs = map (frame_of size) h.outs; notes = option_to_list h.notice }
 
--- what is kept stands for a state that differs from it in nothing but what was forgotten: the payloads that were
--- acknowledged, and those that were got
-pub record StandsFor (size : ℕ) (h : Held) (s : State) : Type 0 where
+-- what is kept is that of a state, but for what was forgotten: the payloads that were acknowledged, and those that were got
+pub record Keeps (size : ℕ) (h : Held) (s : State) : Type 0 where
   pub before : List Payload
   pub gots : List Payload
   pub acked : length before ≡ h.acked
@@ -77,12 +77,22 @@ pub record StandsFor (size : ℕ) (h : Held) (s : State) : Type 0 where
   pub is : s ≡ state_of size h before gots
 
 -- the same of a step under way
-pub record Stands (size : ℕ) (h : Held) (g : Going) : Type 0 where
+pub record KeepsGoing (size : ℕ) (h : Held) (g : Going) : Type 0 where
   pub before : List Payload
   pub gots : List Payload
   pub acked : length before ≡ h.acked
   pub got : length gots ≡ h.got
   pub is : g ≡ going_of size h before gots
+
+-- what is kept stands for a state within its bounds that differs from it in nothing but what was forgotten
+pub record StandsFor (size : ℕ) (h : Held) (s : State) : Type 0 where
+  pub keeps : Keeps size h s
+  pub bounds : Bounded (stock s)
+
+-- the same of a step that was done, with the frames and the notice that wait
+pub record Stands (size : ℕ) (h : Held) (g : Going) : Type 0 where
+  pub keeps : KeepsGoing size h g
+  pub bounds : Bounded (stock g.link)
 
 -- whether T1 runs
 abbrev pub runs : Held → Bool

@@ -7,6 +7,10 @@ use Rattle.ax_link.specs.declared.plain.LinkPhase.TheVariants.{Down, SettingUp, 
 use Rattle.ax_link.specs.declared.plain.LinkNotice.{LinkNotice}
 use Rattle.ax_link.specs.declared.kind.Kind.{Kind}
 
+-- where counts and moments end: 2^62
+abbrev pub count_end : ℕ
+count_end = 4611686018427387904
+
 -- a frame that is put out, or under way. An I frame without a payload is one that no link takes
 pub record Frame : Type 0 where
   pub command : Bool

@@ -5,7 +5,7 @@ use Rattle.ax_link.specs.declared.station.Station.{Station}
 use Rattle.ax_link.specs.State.{Frame, Going, high}
 use Rattle.ax_link.specs.Table.{arrive_in, closed, fail_in, may_close, retry_in, set_up_in}
 use Rattle.ax_link.specs.Moves.{asks, frames, frames_of, is_free, moved, put, rr, stored, take_in, take_next}
-use Rattle.ax_link.specs.Standing.{Held, Stands, frame_of, runs}
+use Rattle.ax_link.specs.Standing.{Held, KeepsGoing, frame_of, runs}
 
 -- what a station keeps
 abbrev pub held_of : {M : Type 0} → Station M → Held
@@ -37,7 +37,7 @@ held_of st =
 
 -- a call does this part of a step
 abbrev pub Does : {M : Type 0} → ℕ → (Going → Going) → Station M → Station M → Type 0
-Does size part old new = (g : Going) → Stands size (held_of old) g → Stands size (held_of new) (part g)
+Does size part old new = (g : Going) → KeepsGoing size (held_of old) g → KeepsGoing size (held_of new) (part g)
 
 -- after a change before which T1 ran or not
 abbrev pub judged_held : ℕ → Bool → Held → Held

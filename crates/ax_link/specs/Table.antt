@@ -1,14 +1,13 @@
 -- The table of an end of a link: what it does with each input in each phase (AX.25 2.2, section 6, with the choices of
 -- this project's profile). An input that the table doesn't name does nothing.
 use Rattle.std.specs.Prelude.{ℕ, suc, ◌+◌, min, Bool, true, false, not, ◌&&◌, nat_eq, nat_lt, nat_le, if◌then◌else◌, [], ◌∷◌, ◌++◌, length, drop, Option}
-use Rattle.radio_base.specs.declared.modulus.TheConstants.{COUNT_MAX}
 use Rattle.radio_base.specs.declared.payload.Payload.{Payload}
 use Rattle.ax_link.specs.declared.plain.LinkPhase.{LinkPhase}
 use Rattle.ax_link.specs.declared.plain.LinkPhase.TheVariants.{Down, SettingUp, Up, Releasing}
 use Rattle.ax_link.specs.declared.plain.LinkNotice.TheVariants.{Opened, Reset, Closed, Refused, Failed}
 use Rattle.ax_link.specs.declared.kind.Kind.{Kind}
 use Rattle.ax_link.specs.declared.kind.Kind.TheVariants.{I, Rr, Rnr, Rej, Srej, SetUp, OtherSetUp, Disc, Dm, Ua, Frmr, Xid}
-use Rattle.ax_link.specs.State.{Frame, State, Going, begin, busy, is_up, t1_runs, t3_at}
+use Rattle.ax_link.specs.State.{Frame, State, Going, count_end, begin, busy, is_up, t1_runs, t3_at}
 use Rattle.ax_link.specs.Moves.{put, to_phase, note, reset, timed, fill, finish, supply, start_poll, resumed, on_i, on_supervisory, on_srej}
 
 abbrev pub refused_if : Bool → Bool → Going → Going
@@ -104,7 +103,7 @@ may_close Up = true
 may_close Releasing = false
 
 abbrev pub takes : State → Bool
-takes s = may_close s.phase && (not s.closing && (nat_lt (length s.given) (s.acked + 128) && nat_lt (length s.given) COUNT_MAX))
+takes s = may_close s.phase && (not s.closing && (nat_lt (length s.given) (s.acked + 128) && nat_lt (length s.given) count_end))
 
 abbrev pub set_up_in : LinkPhase → ℕ → Going → Going
 set_up_in Down now g = timed now true (SetUp true) (to_phase now SettingUp (reset now g))
@@ -132,4 +131,4 @@ step_at now s Close = if may_close s.phase then closed now (begin s) else begin 
 step_at now s Take = taken_out (begin s)
 
 abbrev pub step : State → Input → ℕ → Going
-step s input now = step_at (min now COUNT_MAX) s input
+step s input now = step_at (min now count_end) s input

@@ -34,13 +34,13 @@ impl<M: Modulus> Station<M> {
     ghost use Rattle.ax_link.specs.Moves as moves;
     ghost use Rattle.ax_link.specs.Table as table;
     ghost use Rattle.ax_link.specs.Opening.{send_answer};
-    ghost use Rattle.ax_link.specs.Standing.{Adds, StandsFor};
+    ghost use Rattle.ax_link.specs.Standing.{Adds, Keeps};
     ghost use Rattle.ax_link.specs.Stations.{Does, begun, closed_if, held_of, queued};
 
     pub(crate) fn new(alloc: Global, config: LinkConfig) -> Result<Station<M>, NoMemory>
         requires t1 { config.t1 ≤ COUNT_MAX }
         requires t3 { config.t3 ≤ COUNT_MAX }
-        ensures opening { IfOk result (λ st. StandsFor M.SIZE (held_of st) (opening (rules_new M.SIZE config))) }
+        ensures opening { IfOk result (λ st. Keeps M.SIZE (held_of st) (opening (rules_new M.SIZE config))) }
         ensures drained { IfOk result (λ st. IsDrained (held_of st)) }
         ensures window { IfOk result (λ st. st.window ≡ window_used M.SIZE config.srej config.window) }
     {

@@ -5,8 +5,8 @@ use ax_frame::Control;
 use radio_base::Modulus;
 
 /// What a frame is on a link.
-#[derive(Clone, Copy)]
-pub(crate) enum Kind {
+#[derive(Clone, Copy, Debug, PartialEq, Eq)]
+pub enum Kind {
     I { ns: u8, nr: u8, pf: bool },
     Rr { nr: u8, pf: bool },
     Rnr { nr: u8, pf: bool },

@@ -6,8 +6,9 @@ ghost use Rattle.ax_link.specs.State.{Frame, State, begin};
 ghost use Rattle.ax_link.specs.Moves.{fill, finish};
 ghost use Rattle.ax_link.specs.Table.{Input, step};
 ghost use Rattle.ax_link.specs.Pair.{PairSound, Both, Core, Queue, InScope, IsNew, Fits, NoRestartIn, OfNoAccount, core, opens_count, texts_of, acks_of, after_ua};
-ghost use Rattle.ax_link.specs.Runs.{CleanRun, Ends, Event, Safe, Side, Starts, carrying, losing, new_ends, run, two_new};
+ghost use Rattle.ax_link.specs.Runs.{CleanRun, Ends, EndsBounded, Event, Safe, Side, Starts, TakenSafe, carrying, losing, new_ends, run, two_new};
 ghost use Rattle.ax_link.specs.Opening.{rules_new};
+ghost use Rattle.ax_link.specs.Laws.{BoundsStay, KindsGoOut, NoticesAre, PayloadsStay, SettingsStay};
 ghost use Rattle.ax_link.specs.declared.plain.LinkConfig.{LinkConfig};
 ghost use Rattle.radio_base.specs.declared.payload.Payload.{Payload};
 
@@ -74,7 +75,9 @@ pub fn pair_frames()
 /// other has got. A run is clean while at most one set-up command was ever put out and no end that has been Up has left
 /// Up. Each beginning of a clean run is clean, so this holds at each moment of it. Two links that were just made, of one modulus and
 /// both with SREJ or both without, start so. There is a clean run that carries a payload, and one with SREJ in which a
-/// payload is lost and the next one comes before its turn.
+/// payload is lost and the next one comes before its turn. Where the links are within their bounds at the start, as those are
+/// that were just made, all that was got at an end but what its inbox holds, so what was taken, is a beginning of what was given
+/// to the other.
 pub fn link_safe()
     ensures safe { (w : Ends) (events : List (Side × Event)) → Starts w → CleanRun w events → Safe (run w events) }
     ensures new { (size : ℕ) (a b : LinkConfig) → (size ≡ 8) ⊎ (size ≡ 128) → a.srej ≡ b.srej →
@@ -83,5 +86,20 @@ pub fn link_safe()
         ((run (two_new false) (carrying p)).right.link.gots ≡ p ∷ []) × ((run (two_new false) (carrying p)).left.link.acked ≡ 1) }
     ensures early { (p q : Payload) → CleanRun (two_new true) (losing p q) ×
         ((run (two_new true) (losing p q)).right.link.gots ≡ p ∷ q ∷ []) × ((run (two_new true) (losing p q)).left.link.acked ≡ 2) }
+    ensures taken { (w : Ends) (events : List (Side × Event)) → Starts w → EndsBounded w → CleanRun w events → TakenSafe (run w events) }
+    ensures bounded { (size : ℕ) (a b : LinkConfig) → (size ≡ 8) ⊎ (size ≡ 128) → a.srej ≡ b.srej →
+        EndsBounded (new_ends (rules_new size a) (rules_new size b)) }
     ensures begun { (w : Ends) (early later : List (Side × Event)) → CleanRun w (early ++ later) → CleanRun w early }
+{}
+
+/// Of each step, whatever comes. The settings stay. A link within its bounds is left within them. Whatever property all
+/// payloads have that were given, and whatever property all have that came: the step keeps them, where what it takes in has
+/// them, and each payload that it puts out has the first; so it is one that was given. It gives exactly the notice that is
+/// stated for its input, and no other. And only frames of certain kinds go out, by the phase in which it began.
+pub fn steps()
+    ensures settings { SettingsStay }
+    ensures bounds { BoundsStay }
+    ensures payloads { PayloadsStay }
+    ensures notices { NoticesAre }
+    ensures kinds { KindsGoOut }
 {}

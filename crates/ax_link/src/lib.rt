@@ -13,5 +13,6 @@ mod plain;
 mod station;
 mod texts;
 
+pub use kind::Kind;
 pub use link::Link;
 pub use plain::{LinkConfig, LinkFacts, LinkNotice, LinkOut, LinkPhase, SendRefusal};

@@ -1,10 +1,10 @@
-ghost use Rattle.std.specs.Prelude.{◌≡◌, ℕ, List, ◌≤◌, ◌<◌, drop, slice_get, IfOk, OnOk, OnErr, IsOk, IsTrue, ◌↔◌, ◌⊎◌, None, min};
+ghost use Rattle.std.specs.Prelude.{◌≡◌, ℕ, List, ◌≤◌, ◌<◌, drop, slice_get, IfOk, IfSome, OnOk, OnErr, IsTrue, ◌↔◌, ◌⊎◌, None, is_ok, min};
 ghost use Rattle.std.specs.Option.{option_copied};
-ghost use Rattle.radio_base.specs.declared.modulus.TheConstants.{COUNT_MAX};
 ghost use Rattle.ax_link.specs.Kinds.{frame_in};
-ghost use Rattle.ax_link.specs.State.{State};
+ghost use Rattle.ax_link.specs.State.{State, count_end};
 ghost use Rattle.ax_link.specs.Table as table;
 ghost use Rattle.ax_link.specs.Standing.{Stands, StandsFor};
+ghost use Rattle.ax_link.specs.PutOut.{CanBeSent};
 ghost use Rattle.ax_link.specs.Opening.{IsDrained, facts_of, opening, rules_new, send_answer};
 
 use crate::moves::copy_of;
@@ -31,15 +31,18 @@ impl<M: Modulus> Model for Link<M> {
 
     ghost view = { λ l. held_of l.station };
 
-    ghost invariant = { λ l. l.station.window < M.SIZE };
+    ghost use Rattle.ax_link.specs.PutOut.{AllPut};
+
+    // The window fits the modulus, and each frame that waits can be written.
+    ghost invariant = { λ l. (l.station.window < M.SIZE) × AllPut M.SIZE l.station.outs.items };
 }
 
 impl<M: Modulus> Link<M> {
     /// A link that is Down, of modulo 8 or 128. It takes all the memory that it will ever need.
     pub fn new(alloc: Global, config: LinkConfig) -> Result<Link<M>, NoMemory>
         requires modulus { (M.SIZE ≡ 8) ⊎ (M.SIZE ≡ 128) }
-        requires t1 { config.t1 ≤ COUNT_MAX }
-        requires t3 { config.t3 ≤ COUNT_MAX }
+        requires t1 { config.t1 ≤ count_end }
+        requires t3 { config.t3 ≤ count_end }
         ensures opening { IfOk result (λ link. StandsFor M.SIZE link (opening (rules_new M.SIZE config))) }
         ensures drained { IfOk result IsDrained }
     {
@@ -50,7 +53,8 @@ impl<M: Modulus> Link<M> {
     /// Sets the link up, where it is Down.
     pub fn set_up(&mut self, now: Moment)
         requires { IsDrained self.old }
-        ensures { (s : State) → StandsFor M.SIZE self.old s → Stands M.SIZE self.new (table.step s table.Set_up now.0) }
+        ensures does { (s : State) → StandsFor M.SIZE self.old s → Stands M.SIZE self.new (table.step s table.Set_up now.0) }
+        ensures quiet { self.new.notice ≡ None }
     {
         self.station.set_up(moment(now));
     }
@@ -59,7 +63,9 @@ impl<M: Modulus> Link<M> {
     pub fn send(&mut self, payload: &Payload, now: Moment) -> Result<(), SendRefusal>
         requires { IsDrained self.old }
         ensures answer { result ≡ send_answer self.old }
+        ensures takes { (s : State) → StandsFor M.SIZE self.old s → is_ok result ≡ table.takes s }
         ensures does { OnOk result ((s : State) → StandsFor M.SIZE self.old s → Stands M.SIZE self.new (table.step s (table.Send payload.now) now.0)) }
+        ensures quiet { OnOk result (self.new.notice ≡ None) }
         ensures err { OnErr result (self.new ≡ self.old) }
     {
         self.station.send(copy_of(payload), moment(now))
@@ -73,37 +79,35 @@ impl<M: Modulus> Link<M> {
         pid: Option<u8>,
         info: &[u8],
         now: Moment,
-    ) -> Result<(), NoMemory>
+    )
         requires { IsDrained self.old }
         ensures does { (s : State) → StandsFor M.SIZE self.old s → Stands M.SIZE self.new (table.step s (table.Arrive (frame_in M.SIZE command control.now pid info.now)) now.0) }
-        ensures ok { IsOk result }
     {
         self.station
             .arrive(command, control, pid, info, moment(now));
-        Ok(())
     }
 
     /// Time has passed.
-    pub fn tick(&mut self, now: Moment) -> Result<(), NoMemory>
+    pub fn tick(&mut self, now: Moment)
         requires { IsDrained self.old }
         ensures does { (s : State) → StandsFor M.SIZE self.old s → Stands M.SIZE self.new (table.step s table.Tick now.0) }
-        ensures ok { IsOk result }
     {
         self.station.tick(moment(now));
-        Ok(())
     }
 
     /// Releases the link once all that was accepted is acknowledged.
     pub fn close(&mut self, now: Moment)
         requires { IsDrained self.old }
-        ensures { (s : State) → StandsFor M.SIZE self.old s → Stands M.SIZE self.new (table.step s table.Close now.0) }
+        ensures does { (s : State) → StandsFor M.SIZE self.old s → Stands M.SIZE self.new (table.step s table.Close now.0) }
     {
         self.station.close(moment(now));
     }
 
-    /// The next frame that waits to be sent.
+    /// The next frame that waits to be sent. It can be written: its numbers are below the modulus, and it has a PID and
+    /// information exactly where its kind has them.
     pub fn next_out(&mut self) -> Option<LinkOut>
         ensures value { result ≡ slice_get self.old.outs 0 }
+        ensures can_be_sent { IfSome result (CanBeSent M.SIZE) }
         ensures rest { self.new ≡ record self.old { outs = drop 1 self.old.outs } }
     {
         self.station.outs.pop_front()
@@ -121,6 +125,7 @@ impl<M: Modulus> Link<M> {
     pub fn take(&mut self, now: Moment) -> Option<Payload>
         requires { IsDrained self.old }
         ensures does { (s : State) → StandsFor M.SIZE self.old s → Stands M.SIZE self.new (table.step s table.Take now.0) }
+        ensures quiet { self.new.notice ≡ None }
         ensures payload { result ≡ slice_get self.old.inbox 0 }
     {
         self.station.take()
@@ -144,6 +149,7 @@ impl<M: Modulus> Link<M> {
             got: self.station.got,
             held: self.station.queue.len(),
             inbox: self.station.inbox.len(),
+            closing: self.station.closing,
         }
     }
 
@@ -157,7 +163,7 @@ impl<M: Modulus> Link<M> {
 
 /// A moment above 2^62 ms counts as 2^62 ms.
 fn moment(now: Moment) -> u64
-    ensures { result ≡ min now.0 COUNT_MAX }
+    ensures { result ≡ min now.0 count_end }
 {
     now.0.min(COUNT_MAX)
 }

@@ -70,6 +70,8 @@ pub struct LinkFacts {
     pub held: usize,
     /// How many came and were not taken.
     pub inbox: usize,
+    /// Whether it is to be released once all that was accepted is acknowledged.
+    pub closing: bool,
 }
 
 /// Why a payload isn't accepted.
@@ -81,6 +83,4 @@ pub enum SendRefusal {
     QueueFull,
     /// The numbers of payloads have come to their end.
     Exhausted,
-    /// Memory ran out. A `Link` has its memory from the start, and never answers so.
-    NoMemory,
 }

@@ -54,6 +54,7 @@ pub(crate) struct Station<M> {
     ghost early_places: { length early.items ≡ early.capacity },
     ghost inbox_room: { inbox.capacity ≡ 64 },
     ghost inbox_fits: { length inbox.items ≤ 64 },
+    ghost inbox_was_got: { length inbox.items ≤ got },
     ghost outs_room: { outs.capacity ≡ 2 * window + 4 },
     ghost t1_fits: { t1 ≤ COUNT_MAX },
     ghost t3_fits: { t3 ≤ COUNT_MAX },
