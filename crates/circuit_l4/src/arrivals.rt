@@ -3,6 +3,7 @@ ghost use Rattle.radio_base.specs.declared.modulus.TheConstants.{COUNT_MAX};
 ghost use Rattle.circuit_l4.specs.EndTable as table;
 
 use crate::machine::Machine;
+use crate::output::Output;
 use crate::piece::{Piece, piece_of};
 use crate::plain::{EndNotice, EndPhase};
 use crate::transport::{Flags, Pair, Transport};
@@ -127,7 +128,7 @@ impl Machine {
         ensures does { Does table.closed_by_partner self.old self.new }
         ensures config { self.new.config ≡ self.old.config }
     {
-        self.put(Transport::Disconnected { to: self.to });
+        self.put(Output::Disconnected { to: self.to });
         self.end(EndNotice::ClosedByPartner);
     }
 }

@@ -10,6 +10,7 @@ pub mod laws;
 mod machine;
 mod messages;
 mod outgoing;
+mod output;
 mod piece;
 mod plain;
 mod read;

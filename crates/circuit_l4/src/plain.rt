@@ -4,7 +4,7 @@ pub const QUEUE_MAX: usize = 65536;
 /// How an end of a circuit goes. A time is in milliseconds, and at most 2^62 of them.
 #[derive(Clone, Copy, Debug, PartialEq, Eq)]
 pub struct EndConfig {
-    /// How many fragments may be under way, from 1 to 64.
+    /// How many fragments may be under way, from 1 to 127.
     pub window: u8,
     /// How long an answer is awaited.
     pub timeout: u64,
@@ -81,6 +81,4 @@ pub enum WriteRefusal {
     QueueFull,
     /// The numbers of fragments have come to their end.
     Exhausted,
-    /// Memory ran out.
-    NoMemory,
 }

@@ -78,7 +78,8 @@ impl Machine {
 
     /// The acknowledgement part of a message. Answers what has to be put out once more.
     fn acknowledge(&mut self, rx: u8, flags: Flags, now: u64) -> Owed
-        requires { now ≤ COUNT_MAX }
+        requires now { now ≤ COUNT_MAX }
+        requires outs { self.old.outs.items ≡ [] }
         ensures does { (g : Going) → Stands (kept_of self.old) g →
             Stands (kept_of self.new) (moves.changed (λ s. (moves.acknowledged now rx flags s).end) g)
             × (result ≡ (moves.acknowledged now rx flags g.end).owed) }
@@ -105,6 +106,7 @@ impl Machine {
         requires now { now ≤ COUNT_MAX }
         requires from { self.old.outgoing.acked ≤ below }
         requires to { below ≤ self.old.outgoing.sent }
+        requires outs { self.old.outs.items ≡ [] }
         ensures does { (g : Going) → Stands (kept_of self.old) g →
             Stands (kept_of self.new) (moves.changed (λ s. (moves.acknowledged_at now flags below s).end) g)
             × (result ≡ (moves.acknowledged_at now flags below g.end).owed) }
@@ -122,6 +124,7 @@ impl Machine {
         requires now { now ≤ COUNT_MAX }
         requires from { self.old.outgoing.acked ≤ below }
         requires to { below ≤ self.old.outgoing.sent }
+        requires outs { self.old.outs.items ≡ [] }
         ensures does { Does (moves.changed (moves.advanced now below)) self.old self.new }
         ensures adds { Adds 0 self.old self.new }
         ensures acked { self.new.outgoing.acked ≡ below }

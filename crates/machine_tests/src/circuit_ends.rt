@@ -4,7 +4,7 @@ use circuit_l4::{
     End, EndConfig, EndNotice, EndPhase, Flags, MAX_TEXT, Pair, QUEUE_MAX, Transport, WriteRefusal,
 };
 use l3_datagram::Message;
-use radio_base::{Moment, NoMemory};
+use radio_base::{M256, Modulus, Moment, NoMemory};
 use std::alloc::Global;
 use std::process::Abort;
 use std::test::Fail;
@@ -96,7 +96,7 @@ fn text(bytes: &[u8]) -> ArrayVec<u8, 236> {
 
 fn hear(rt: &impl Abort, end: &mut End, transport: Transport) {
     assert!(rt; end.drained());
-    assert!(rt; end.arrive(&transport, NOW).is_ok());
+    end.arrive(&transport, NOW);
 }
 
 fn hear_text(rt: &impl Abort, end: &mut End, tx: u8, bytes: &[u8], more: bool) {
@@ -126,7 +126,7 @@ fn close(rt: &impl Abort, end: &mut End) {
 
 fn tick(rt: &impl Abort, end: &mut End, at: u64) {
     assert!(rt; end.drained());
-    assert!(rt; end.tick(Moment(at)).is_ok());
+    end.tick(Moment(at));
 }
 
 fn take(rt: &impl Abort, end: &mut End, out: &mut Message) -> bool {
@@ -137,10 +137,10 @@ fn take(rt: &impl Abort, end: &mut End, out: &mut Message) -> bool {
 #[test]
 fn the_window_is_at_most_the_own_one_and_at_least_one(rt: HostRuntime) -> Result<(), Fail> {
     let config = EndConfig {
-        window: 64,
+        window: 127,
         ..CONFIG
     };
-    for (proposed, window) in [(127, 64), (0, 1)] {
+    for (proposed, window) in [(255, 127), (0, 1)] {
         let mut end = End::responder(rt.alloc(), OWN, PARTNER, proposed, config, NOW)?;
         expect_opened(&rt, &mut end, window);
     }
@@ -278,5 +278,53 @@ fn a_busy_end_takes_no_text_until_a_message_is_taken(rt: HostRuntime) -> Result<
     expect_told(&rt, &mut end, 70, false);
     hear_text(&rt, &mut end, 70, &[70], false);
     expect_told(&rt, &mut end, 71, false);
+    Ok(())
+}
+
+/// A message that has other bytes at each place of a fragment.
+fn long_message() -> [u8; 8191] {
+    let mut bytes = [0; 8191];
+    for at in 0..8191usize {
+        bytes[at] = (at % 251) as u8;
+    }
+    bytes
+}
+
+/// The fragments of a message go out, the first with this number.
+fn expect_fragments(rt: &impl Abort, end: &mut End, message: &[u8], first: u64) {
+    for (nth, piece) in message.chunks(MAX_TEXT).enumerate() {
+        let number = first.wrapping_add(nth as u64);
+        let flags = Flags {
+            more: piece.len() == MAX_TEXT,
+            ..Flags::default()
+        };
+        let info = Transport::Info {
+            to: PARTNER,
+            tx: M256::wire(number),
+            rx: 0,
+            flags,
+            text: text(piece),
+        };
+        assert!(rt; end.next_out() == Some((info, Some(number))));
+    }
+}
+
+#[test]
+fn text_goes_out_as_it_was_written_past_65536_bytes(rt: HostRuntime) -> Result<(), Fail> {
+    let config = EndConfig {
+        window: 127,
+        ..CONFIG
+    };
+    let mut end = End::responder(rt.alloc(), OWN, PARTNER, 127, config, NOW)?;
+    expect_opened(&rt, &mut end, 127);
+    let message = long_message();
+    for nth in 0..20u64 {
+        assert!(rt; write(&rt, &mut end, &message) == Ok(()));
+        expect_fragments(&rt, &mut end, &message, 35 * nth);
+        let (to, rx, flags) = (OWN, M256::wire(35 * nth + 34), Flags::default());
+        hear(&rt, &mut end, Transport::InfoAck { to, rx, flags });
+    }
+    assert_eq!(rt; end.facts().acked, 699);
+    assert_eq!(rt; end.facts().queued, 8191);
     Ok(())
 }
