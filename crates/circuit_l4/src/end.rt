@@ -19,7 +19,16 @@ use radio_base::{COUNT_MAX, Moment, NoMemory};
 use std::alloc::Global;
 use std::marker::Model;
 
-/// One end of a circuit.
+/// One end of a circuit (NET/ROM, Appendix B, level 4): a pure machine, which reads no clock and knows no carrier. Its calls are of three
+/// kinds.
+///
+/// - Inputs, each with its moment in milliseconds: `write`, `close` and `take` of the user, `arrive` of a transport of the other end, `tick`
+///   of time. They want `drained()`.
+/// - Outputs: `next_out` and `notice`. After `requester`, `responder` and each input both are fetched until they answer None.
+/// - Looks, which change nothing: `facts`, `drained`.
+///
+/// `tick` is called about once a second, since no call tells when something is due. `requester` and `responder` take all the memory that an
+/// end needs. What each input does is one row of the table in `specs/EndTable.antt`.
 #[derive(Drop)]
 pub struct End {
     machine: Machine,

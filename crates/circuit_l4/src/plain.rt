@@ -1,7 +1,7 @@
 /// How many bytes of messages that aren't wholly acknowledged an end holds at most (this project's profile).
 pub const QUEUE_MAX: usize = 65536;
 
-/// How an end of a circuit goes. A time is in milliseconds, and at most 2^62 of them.
+/// The settings of an end of a circuit. A time is in milliseconds, and at most 2^62 of them.
 #[derive(Clone, Copy, Debug, PartialEq, Eq)]
 pub struct EndConfig {
     /// How many fragments may be under way, from 1 to 127.
@@ -17,6 +17,21 @@ pub struct EndConfig {
 }
 
 /// Where an end of a circuit stands.
+///
+/// ```text
+/// requester / Request          responder / Accept
+///     |                              |
+///     v            Accept            v
+/// +------------+ ------------> +-----------+  closing, all acknowledged / Disconnect   +---------+
+/// | Connecting |               |    Up     | ----------------------------------------> | Closing |
+/// +------------+               +-----------+                                           +---------+
+///     | Refuse; retries              | Disconnect / Disconnected; retries;                  | Disconnected; retries;
+///     |                              | oversize; inactive                                   | Disconnect / Disconnected
+///     v                              v                                                      v
+/// +---------------------------------------------------------------------------------------------+
+/// |                                            Ended                                            |
+/// +---------------------------------------------------------------------------------------------+
+/// ```
 #[derive(Clone, Copy, Debug, PartialEq, Eq)]
 pub enum EndPhase {
     /// A request was put out, and its answer is awaited.
