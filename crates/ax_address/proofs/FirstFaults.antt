@@ -1,8 +1,8 @@
 -- The first fault of octets is the first octet that no call has at its place.
-use Rattle.std.proofs.Common.{◌≡◌, ◌≤◌, ◌<◌, ◌+◌, ◌-◌, ◌*◌, ◌/◌, ◌++◌, ◌∙◌, ℕ, zero, suc, refl, sym, ap, List, [], ◌∷◌, length, replicate, take, drop, arith, Bool, true, false, cond}
+use Rattle.std.proofs.Common.{◌≡◌, ◌≤◌, ◌<◌, ◌+◌, ◌-◌, ◌/◌, ◌++◌, ◌∙◌, ℕ, zero, suc, refl, sym, ap, List, [], ◌∷◌, length, replicate, take, drop, arith, Bool, true, false, cond}
 use Rattle.std.specs.Prelude.{◌==◌, Option, Some, None, slice_get}
 use Rattle.std.specs.List.{prefix_len}
-use Rattle.std.proofs.lemmas.List.{take_all, take-append-drop, take-take, drop-take, length-append, length-drop, length-map, length-take, length-replicate, append_assoc, append-nil}
+use Rattle.std.proofs.lemmas.List.{take_all, take-append-drop, take-take, drop-take, length-append, length-drop, length-map, length-take, length-replicate, append_assoc}
 use Rattle.std.proofs.Math.Seq.{take-append-add}
 use Rattle.std.proofs.lemmas.List.Sums.{prefix_len-le-length}
 use Rattle.std.proofs.lemmas.Option.{slice_get_past, slice_get_within}
@@ -10,7 +10,7 @@ use Rattle.std.proofs.lemmas.Bool.Decides.{nat_tests}
 use Rattle.ax_address.specs.declared.octets.AddressRefusal.{AddressRefusal}
 use Rattle.ax_address.specs.declared.octets.AddressRefusal.TheVariants.{BadChar, BadPadding}
 use Rattle.ax_address.specs.Callsign.{padded}
-use Rattle.ax_address.specs.Octets.{is_char_octet, is_space_octet, good_behind, good_octets, refusal_at, place_of, fault_in, address_fault, FirstBad, FaultIsFirst, FrontGoesOn}
+use Rattle.ax_address.specs.Octets.{is_char_octet, is_space_octet, good_octets, refusal_at, place_of, fault_in, address_fault, FaultIsFirst, FrontGoesOn}
 use Rattle.ax_address.proofs.CallOctets.{halves, doubles, chars, spaces, none_past, no_refusal}
 use Rattle.ax_address.proofs.AddressLaws.{name_has_none, doubles-padded}
 

@@ -1,17 +1,16 @@
 -- Where the first fault of the addresses stands.
-use Rattle.std.proofs.Common.{◌≡◌, ◌≤◌, ◌<◌, ◌+◌, ◌-◌, ◌*◌, ◌%◌, ◌++◌, ◌∙◌, ◌⊎◌, ℕ, zero, suc, inl, inr, refl, sym, ap, subst, List, [], ◌∷◌, length, take, drop, get_or, arith, Bool, true, false, cond}
+use Rattle.std.proofs.Common.{◌≡◌, ◌≤◌, ◌<◌, ◌+◌, ◌-◌, ◌%◌, ◌++◌, ◌∙◌, ℕ, refl, sym, ap, subst, List, ◌∷◌, length, take, drop, get_or, arith, Bool, true, false, cond}
 use Rattle.std.specs.Prelude.{◌==◌, Option, Some, None, Result, Ok, Err, nat_lt}
-use Rattle.std.proofs.lemmas.List.{append_assoc, take-append-drop, take-append-le, take-take, take_all, drop_at, length-append, length-drop, length-take, get_or_at}
+use Rattle.std.proofs.lemmas.List.{take-append-drop, take-append-le, take_all, length-append, length-drop, length-take, get_or_at}
 use Rattle.std.proofs.lemmas.Bool.Decides.{nat_tests}
 use Rattle.ax_address.specs.declared.octets.AddressRefusal.{AddressRefusal}
 use Rattle.ax_address.specs.Octets as octets
 use Rattle.ax_address.specs.Octets.{fault_in, address_fault}
 use Rattle.ax_frame.specs.declared.frame.FrameRefusal.{FrameRefusal}
-use Rattle.ax_frame.specs.declared.frame.FrameRefusal.TheVariants.{Short, BadCall, TooManyRepeaters}
-use Rattle.ax_frame.specs.Reading.{extension_from, extension_at, addresses_end, head_end}
-use Rattle.ax_frame.specs.Faults.{place_of, is_missing, IsPlaced}
-use Rattle.ax_frame.proofs.Kept.{Kept, kept_less, kept_of, kept_get_or, kept_drop, drop_front}
-use Rattle.ax_frame.proofs.Addresses.{end_refused, end_here, end_later, head_refused, head_ended, head_goes_on}
+use Rattle.ax_frame.specs.declared.frame.FrameRefusal.TheVariants.{Short, BadCall}
+use Rattle.ax_frame.specs.Reading.{extension_from, extension_at}
+use Rattle.ax_frame.specs.Faults.{place_of, IsPlaced}
+use Rattle.ax_frame.proofs.Kept.{Kept, kept_less, kept_get_or, kept_drop, drop_front}
 
 -- ---- one address
 

@@ -1,7 +1,7 @@
 -- Where the first fault of a control field stands.
-use Rattle.std.proofs.Common.{◌≡◌, ◌≤◌, ◌<◌, ◌+◌, ◌-◌, ◌*◌, ◌/◌, ◌%◌, ◌++◌, ◌∙◌, ℕ, zero, suc, refl, sym, ap, List, [], ◌∷◌, length, take, drop, arith, Bool, true, false, cond}
+use Rattle.std.proofs.Common.{◌≡◌, ◌≤◌, ◌<◌, ◌+◌, ◌-◌, ◌*◌, ◌/◌, ◌%◌, ◌++◌, ◌∙◌, ℕ, zero, suc, refl, sym, ap, List, [], ◌∷◌, length, take, arith, Bool, true, false, cond}
 use Rattle.std.specs.Prelude.{◌==◌, ◌||◌, Option, Some, None, is_some, Result, Ok, Err, slice_get, nat_le}
-use Rattle.std.proofs.lemmas.List.{append_assoc, append-nil, length-append, length-take}
+use Rattle.std.proofs.lemmas.List.{append_assoc, length-append, length-take}
 use Rattle.std.proofs.lemmas.Option.{slice_get_past, slice_get_within}
 use Rattle.std.proofs.lemmas.Bool.Decides.{nat_tests}
 use Rattle.ax_frame.specs.declared.control.Control.{Control}
@@ -11,7 +11,7 @@ use Rattle.ax_frame.specs.declared.frame.FrameRefusal.TheVariants.{Short, BadCon
 use Rattle.ax_frame.specs.Controls.{has_pid, takes_info}
 use Rattle.ax_frame.specs.Reading.{unnumbered, numbered, poll_bit, field_end, two_octets, control_from, control_or_short, control_at, pid_at}
 use Rattle.ax_frame.specs.Faults.{place_of, IsPlaced}
-use Rattle.ax_frame.proofs.Kept.{Kept, kept_less, kept_of, kept_get}
+use Rattle.ax_frame.proofs.Kept.{Kept, kept_of, kept_get}
 
 -- ---- octets at a place
 

@@ -2,9 +2,7 @@
 use Rattle.std.proofs.Common.{◌≡◌, ◌≤◌, ◌<◌, ◌+◌, ◌++◌, ◌∙◌, ◌⊎◌, inl, inr, ℕ, refl, sym, ap, subst, List, [], ◌∷◌, length, take, arith, Bool, true, false}
 use Rattle.std.specs.Prelude.{Option, Some, None, Result, Ok, Err, slice_get, nat_lt}
 use Rattle.std.proofs.lemmas.Bool.Decides.{nat_tests}
-use Rattle.std.specs.Result.{result_err}
 use Rattle.std.proofs.lemmas.List.{append_assoc, length-append, length-take}
-use Rattle.std.proofs.lemmas.Option.{slice_get_within}
 use Rattle.ax_address.specs.Octets as octets
 use Rattle.ax_frame.specs.declared.control.Control.{Control}
 use Rattle.ax_frame.specs.declared.frame.FrameRefusal.{FrameRefusal}
@@ -12,9 +10,9 @@ use Rattle.ax_frame.specs.declared.frame.FrameRefusal.TheVariants.{NoPid, ExtraI
 use Rattle.ax_frame.specs.Controls.{has_pid, takes_info}
 use Rattle.ax_frame.specs.Reading.{head_end, control_at, pid_at, frame_at, first_fault}
 use Rattle.ax_frame.specs.Faults.{place_of, FirstBad, FaultIsFirst}
-use Rattle.ax_frame.proofs.Kept.{Kept, kept_less, kept_of, kept_get}
+use Rattle.ax_frame.proofs.Kept.{kept_less, kept_of}
 use Rattle.ax_frame.proofs.HeadFaults.{Ends, Fails, head_ends, head_fails}
-use Rattle.ax_frame.proofs.FieldFaults.{Field, FieldRead, FieldBad, FieldGoes, field_of, sabm_goes, past_length, get_behind, pid_plain, pid_there, pid_extra, pid_info, pid_missing}
+use Rattle.ax_frame.proofs.FieldFaults.{Field, FieldRead, FieldBad, field_of, sabm_goes, past_length, get_behind, pid_plain, pid_there, pid_extra, pid_info, pid_missing}
 
 -- ---- the parts of a frame, one behind the other
 

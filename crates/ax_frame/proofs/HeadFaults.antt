@@ -1,7 +1,7 @@
 -- Where the first fault of a head stands.
-use Rattle.std.proofs.Common.{◌≡◌, ◌≤◌, ◌<◌, ◌+◌, ◌-◌, ◌*◌, ◌%◌, ◌++◌, ◌∙◌, ℕ, zero, suc, refl, sym, ap, subst, List, [], ◌∷◌, length, take, drop, get_or, arith, Bool, true, false, cond}
+use Rattle.std.proofs.Common.{◌≡◌, ◌≤◌, ◌<◌, ◌+◌, ◌-◌, ◌*◌, ◌%◌, ◌++◌, ◌∙◌, ℕ, zero, suc, refl, sym, ap, subst, List, [], ◌∷◌, length, take, drop, get_or, arith, Bool, true, false}
 use Rattle.std.specs.Prelude.{◌==◌, Result, Ok, Err, None}
-use Rattle.std.proofs.lemmas.List.{append_assoc, take-append-le, take-take, drop_at, length-append, length-take, get_or-drop}
+use Rattle.std.proofs.lemmas.List.{append_assoc, take-take, drop_at, length-append, length-take, get_or-drop}
 use Rattle.ax_address.specs.Octets as octets
 use Rattle.ax_address.specs.Octets.{address_fault}
 use Rattle.ax_frame.specs.declared.frame.FrameRefusal.{FrameRefusal}
