@@ -1,4 +1,5 @@
-ghost use Rattle.std.specs.Prelude.{◌≡◌, ◌-◌};
+ghost use Rattle.std.specs.Prelude.{◌≡◌, ◌-◌, Some};
+ghost use Rattle.circuit_l4.specs.Outputs.{fragment_from, out_of, with_text};
 
 use crate::outgoing::Outgoing;
 use crate::transport::{Flags, Pair, Transport};
@@ -43,8 +44,6 @@ pub(crate) enum Output {
 }
 
 impl Output {
-    ghost use Rattle.circuit_l4.specs.Outputs.{out_of};
-
     /// What goes out, with its text from what was written.
     pub(crate) fn fetch(self, outgoing: &Outgoing) -> Out
         ensures { result ≡ out_of outgoing.now.queue (outgoing.now.acked - outgoing.now.done) self }
@@ -72,26 +71,26 @@ impl Output {
                 number,
                 rx,
                 choke,
-            } => {
-                let piece = outgoing.piece(number);
-                let flags = Flags {
-                    choke,
-                    nak: false,
-                    more: piece.more,
-                };
-                let (tx, text) = (M256::wire(number), piece.text);
-                (
-                    Transport::Info {
-                        to,
-                        tx,
-                        rx,
-                        flags,
-                        text,
-                    },
-                    Some(number),
-                )
-            }
+            } => (info(to, number, rx, choke, outgoing), Some(number)),
             Output::InfoAck { to, rx, flags } => (Transport::InfoAck { to, rx, flags }, None),
         }
+    }
+}
+
+/// An information message with the fragment of this number.
+fn info(to: Pair, number: u64, rx: u8, choke: bool, outgoing: &Outgoing) -> Transport
+    ensures { (result, Some number) ≡ with_text to number rx choke (fragment_from outgoing.now.queue (outgoing.now.acked - outgoing.now.done) number) }
+{
+    let piece = outgoing.piece(number);
+    Transport::Info {
+        to,
+        tx: M256::wire(number),
+        rx,
+        flags: Flags {
+            choke,
+            nak: false,
+            more: piece.more,
+        },
+        text: piece.text,
     }
 }
