@@ -4,6 +4,9 @@ use std::alloc::AllocError;
 /// How many usable routes a table holds at most (this project's profile).
 pub const MAX_PAIRS: usize = 16_384;
 
+/// How many entries a broadcast has at most (NET/ROM Appendix B).
+pub const MAX_ENTRIES: usize = 11;
+
 /// What a node goes by. Each is at least 1 in a table.
 #[derive(Clone, Copy, Debug, PartialEq, Eq)]
 pub struct RouteRules {
