@@ -50,6 +50,16 @@ fn assert_routes(
     Ok(())
 }
 
+/// Asserts that the rows are these, each by its destination, neighbour and quality.
+fn assert_rows(rt: &impl Abort, rows: &[Route], wanted: &[(&[u8], &[u8], u8)]) -> Result<(), Fail> {
+    assert_eq!(rt; rows.len(), wanted.len());
+    for (row, (dest, neighbour, quality)) in rows.iter().zip(wanted) {
+        assert_eq!(rt; row.dest, call(dest)?);
+        assert!(rt; is_route(row, neighbour, *quality, 6)?);
+    }
+    Ok(())
+}
+
 #[test]
 fn the_fourth_report_moves_up_when_a_link_fails(rt: HostRuntime) -> Result<(), Fail> {
     let mut table = RouteTable::new(rt.alloc(), call(b"N0AAA")?, RULES);
@@ -71,6 +81,20 @@ fn the_fourth_report_moves_up_when_a_link_fails(rt: HostRuntime) -> Result<(), F
     )?;
     assert_eq!(rt; table.next_hop(&dest), Some(call(b"N0BBB")?));
     assert_eq!(rt; table.live(), 8);
+    assert_rows(
+        &rt,
+        table.rows(),
+        &[
+            (b"N0BBB", b"N0BBB", 192),
+            (b"N0CCC", b"N0CCC", 192),
+            (b"N0DDD", b"N0DDD", 192),
+            (b"N0EEE", b"N0EEE", 192),
+            (b"N0ZZZ", b"N0BBB", 191),
+            (b"N0ZZZ", b"N0CCC", 188),
+            (b"N0ZZZ", b"N0DDD", 180),
+            (b"N0ZZZ", b"N0EEE", 173),
+        ],
+    )?;
 
     let failed = call(b"N0BBB")?;
     table.link_failed(&failed);
@@ -82,6 +106,18 @@ fn the_fourth_report_moves_up_when_a_link_fails(rt: HostRuntime) -> Result<(), F
     assert_eq!(rt; table.next_hop(&dest), Some(call(b"N0CCC")?));
     assert_eq!(rt; table.next_hop(&failed), None);
     assert_eq!(rt; table.live(), 6);
+    assert_rows(
+        &rt,
+        table.rows(),
+        &[
+            (b"N0CCC", b"N0CCC", 192),
+            (b"N0DDD", b"N0DDD", 192),
+            (b"N0EEE", b"N0EEE", 192),
+            (b"N0ZZZ", b"N0CCC", 188),
+            (b"N0ZZZ", b"N0DDD", 180),
+            (b"N0ZZZ", b"N0EEE", 173),
+        ],
+    )?;
     Ok(())
 }
 
