@@ -1,3 +1,4 @@
+//! One address of a frame, and the path of its repeaters (AX.25 2.2, section 3.12).
 ghost use Rattle.std.specs.Prelude.{◌≤◌};
 
 use crate::Call;

@@ -1,3 +1,4 @@
+//! A frame that is lent from its octets, and why octets are none.
 use crate::{Control, Head};
 use arrayvec::ArrayVec;
 

@@ -1,3 +1,4 @@
+//! Octets become frames (AX.25 2.2, sections 3 and 4).
 ghost use Rattle.std.specs.Prelude.{◌≡◌, ◌≤◌, ◌<◌, ◌+◌, ◌*◌, ◌^◌, ◌++◌, [], List, ℕ, length, take, drop, IfOk, OnOk, Ok, Err, IsOkAnd, MatchResult};
 ghost use Rattle.ax_frame.specs.Reading as reading;
 ghost use Rattle.ax_frame.specs.Read.{read_at, read_head_at};

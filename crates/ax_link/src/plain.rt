@@ -1,3 +1,4 @@
+//! What is handed to a link and what it tells: settings, frames, notices, facts.
 use ax_frame::Control;
 use radio_base::Payload;
 

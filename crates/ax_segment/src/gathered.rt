@@ -1,3 +1,4 @@
+//! The bytes of a message that is being joined.
 ghost use Rattle.std.specs.Prelude.{◌≡◌, ◌<◌, ◌≤◌, OnErr, IfOk, IsTrue};
 ghost use Rattle.ax_segment.specs.Gathering.{held_at, answer_at};
 ghost use Rattle.ax_segment.specs.Joining.{Nothing, join_step, begun_by, continued_by, counted};

@@ -1,3 +1,4 @@
+//! Segments are joined to messages.
 ghost use Rattle.std.specs.Prelude.{◌≡◌, IfOk};
 ghost use Rattle.ax_segment.specs.Joining.{Nothing, join_step, held_of};
 ghost use Rattle.ax_segment.specs.Pushing.{StepsTo, answer_of};

@@ -1,3 +1,4 @@
+//! Messages are cut into segments.
 ghost use Rattle.std.specs.Prelude.{◌≡◌, ℕ, ◌+◌, ◌<◌, ◌≤◌, ◌++◌, ◌∷◌, [], ◌↔◌, length, take, drop, IsOk, MatchOption, MatchResult};
 ghost use Rattle.ax_segment.specs.Segments.{segments_of, IsSplittable, HasCause};
 

@@ -1,3 +1,4 @@
+//! What an end does with a transport of the other end (NET/ROM, Appendix B, level 4).
 ghost use Rattle.std.specs.Prelude.{◌≡◌, ◌*◌, ◌≤◌, [], None};
 ghost use Rattle.radio_base.specs.declared.modulus.TheConstants.{COUNT_MAX};
 ghost use Rattle.circuit_l4.specs.EndTable as table;

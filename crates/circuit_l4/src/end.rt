@@ -1,3 +1,4 @@
+//! One end of a circuit: its public calls.
 ghost use Rattle.std.specs.Prelude.{◌≡◌, ◌↔◌, ◌≤◌, ◌+◌, ◌*◌, ◌^◌, min, drop, slice_get, nat_lt, length, None, IfOk, OnOk, OnErr, IsOk, IsTrue};
 ghost use Rattle.circuit_l4.specs.EndState.{State};
 ghost use Rattle.circuit_l4.specs.EndTable as table;

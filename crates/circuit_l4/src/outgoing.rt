@@ -1,3 +1,4 @@
+//! The sending half of an end: what was written and isn't wholly acknowledged.
 ghost use Rattle.std.specs.Prelude.{◌≡◌, ◌+◌, ◌-◌, ◌≤◌, ◌<◌, ◌++◌, ◌∷◌, [], length, IfOk};
 ghost use Rattle.radio_base.specs.declared.modulus.TheConstants.{COUNT_MAX};
 ghost use Rattle.circuit_reassembly.specs.Fragments.{fragments_of};

@@ -1,3 +1,4 @@
+//! A fragment with its flag, and when an end is busy.
 ghost use Rattle.std.specs.Prelude.{◌≡◌, ◌≤◌, length};
 
 use arrayvec::ArrayVec;

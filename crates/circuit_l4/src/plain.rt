@@ -1,3 +1,5 @@
+//! What is handed to an end and what it tells: settings, refusals, notices, facts.
+
 /// How many bytes of messages that aren't wholly acknowledged an end holds at most (this project's profile).
 pub const QUEUE_MAX: usize = 65536;
 

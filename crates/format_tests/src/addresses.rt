@@ -1,3 +1,4 @@
+//! Calls, aliases and addresses, in texts and octets.
 use ax_address::{
     Address, AddressRefusal, Alias, AliasRefusal, Call, CallRefusal, address_fault, read_address,
     read_net_call, write_address, write_net_call,

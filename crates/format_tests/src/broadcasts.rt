@@ -1,3 +1,4 @@
+//! NODES broadcasts in octets.
 use arrayvec::ArrayVec;
 use ax_address::{Alias, Call, Entry};
 use nodes_broadcast::{Nodes, NodesRefusal, read_nodes, write_nodes};

@@ -1,3 +1,4 @@
+//! Messages as fragments.
 use circuit_reassembly::{Gather, Gathered, Oversize, fragment, fragment_count};
 use std::test::Fail;
 

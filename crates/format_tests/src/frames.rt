@@ -1,3 +1,4 @@
+//! AX.25 frames in octets and as text.
 use ax_address::{Address, Call, Path};
 use ax_frame::{
     Control, FrameBytes, FrameRefusal, FrameView, Full, Head, is_command, read_frame, read_head,

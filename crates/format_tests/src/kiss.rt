@@ -1,3 +1,4 @@
+//! KISS streams and frames.
 use arrayvec::ArrayVec;
 use kiss_framing::{Deframer, FEND, Full, KissItem, enframe};
 use std::process::Abort;

@@ -15,6 +15,8 @@ mod frames;
 #[cfg(test)]
 mod kiss;
 #[cfg(test)]
+mod numbers;
+#[cfg(test)]
 mod repeaters;
 #[cfg(test)]
 mod segments;

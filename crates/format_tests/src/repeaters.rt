@@ -1,3 +1,4 @@
+//! What stations do with a frame by its path.
 use ax_address::{Address, Call, Path};
 use digi_path::{DigiStep, reversed, step};
 use std::test::Fail;

@@ -1,3 +1,4 @@
+//! Messages as segments.
 use ax_segment::{Joined, Joiner, Split, SplitRefusal};
 use radio_base::Payload;
 use std::alloc::Global;

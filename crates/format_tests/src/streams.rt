@@ -1,3 +1,4 @@
+//! Sources, sinks, clocks and text in memory.
 use radio_base::{Clock, Failed, MemClock, MemSink, MemSource, Moment, Sink, Source, TextOut};
 use std::test::Fail;
 

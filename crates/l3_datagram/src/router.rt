@@ -1,3 +1,4 @@
+//! The routing step of a node (NET/ROM, Appendix B, level 3).
 ghost use Rattle.std.specs.Prelude.{◌≡◌, ◌≤◌, ◌↔◌, drop, length, IfOk, IsErr, IsTrue, false, [], ◌∷◌};
 ghost use Rattle.std.specs.Borrow.{Lends, sem};
 

@@ -1,3 +1,4 @@
+//! Ends of circuits: worked runs, every notice, text past the room of the ring.
 use arrayvec::ArrayVec;
 use ax_address::Call;
 use circuit_l4::{

@@ -13,4 +13,6 @@ mod routers;
 #[cfg(test)]
 mod routes;
 #[cfg(test)]
+mod seeded_routes;
+#[cfg(test)]
 mod transports;

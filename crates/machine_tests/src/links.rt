@@ -1,3 +1,4 @@
+//! Links: worked runs, numbers past the modulus, failures.
 ghost use Rattle.std.specs.Prelude.{ℕ, ◌≤◌, ◌<◌};
 
 use arrayvec::ArrayVec;

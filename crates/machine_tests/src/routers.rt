@@ -1,3 +1,4 @@
+//! Routers over carriers in memory.
 ghost use Rattle.std.specs.Prelude.{[]};
 
 use ax_address::{Alias, Call, Entry};

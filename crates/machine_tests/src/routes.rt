@@ -1,3 +1,4 @@
+//! Routing tables: worked ones, a full one, and one beside a plain list of reports.
 use arrayvec::ArrayVec;
 use ax_address::{Alias, Call, Entry};
 use route_table::{HeardRefusal, LockRefusal, MAX_PAIRS, Route, RouteRules, RouteTable};

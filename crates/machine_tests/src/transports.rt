@@ -1,3 +1,4 @@
+//! Transports in octets: worked ones, and those of the Linux kernel.
 use arrayvec::ArrayVec;
 use ax_address::Call;
 use circuit_l4::{Flags, Pair, Transport, TransportRefusal, read_transport, write_transport};

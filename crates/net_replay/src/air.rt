@@ -1,3 +1,4 @@
+//! The frames that were put in the air.
 ghost use Rattle.std.specs.Prelude.{◌≡◌, ◌≤◌, ◌-◌, Some, length, take, not};
 ghost use Rattle.std.specs.List.{position_or_len};
 ghost use Rattle.net_replay.specs.declared.air.Aired.{Aired};

@@ -1,3 +1,4 @@
+//! Broadcasts as frames and as KISS bytes.
 ghost use Rattle.std.specs.Prelude.{◌≡◌, ◌≤◌, length};
 ghost use Rattle.ax_frame.specs.Frames.{view as frame_of};
 ghost use Rattle.nodes_broadcast.specs.Nodes.{view};

@@ -1,3 +1,4 @@
+//! Who hears whom.
 ghost use Rattle.std.specs.Prelude.{◌≡◌};
 ghost use Rattle.net_replay.specs.Air as airs;
 

@@ -1,3 +1,4 @@
+//! Lines that declare: `node`, `set`, `channel`.
 ghost use Rattle.std.specs.Prelude.{◌≡◌, ◌≤◌, ◌+◌, [], length, Ok, Err, IsTrue, MatchResult};
 ghost use Rattle.net_replay.specs.Words.{texts};
 ghost use Rattle.net_replay.specs.Lines as lines;

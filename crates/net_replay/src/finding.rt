@@ -1,3 +1,4 @@
+//! A node by its number.
 ghost use Rattle.std.specs.Prelude.{◌≡◌, ◌<◌, List, position, length, IfOk, IfSome};
 ghost use Rattle.net_replay.specs.Nodes.{NodeState};
 ghost use Rattle.net_replay.specs.Traces.{StandFor, Reached, Found, has_node, input_of};

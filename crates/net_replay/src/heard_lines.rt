@@ -1,3 +1,4 @@
+//! The line `heard`.
 ghost use Rattle.std.specs.Prelude.{◌≡◌, ◌≤◌, ◌+◌, ◌*◌, ◌++◌, List, length, Ok, Err, IsTrue, MatchResult};
 ghost use Rattle.ax_address.specs.declared.Entry.{Entry};
 ghost use Rattle.net_replay.specs.Words.{texts};

@@ -1,3 +1,4 @@
+//! A node of a replay: its KISS bytes.
 ghost use Rattle.std.specs.Prelude.{◌≡◌, ℕ, List, ◌++◌, ◌∷◌, [], IfOk, OnOk, Some, None};
 ghost use Rattle.kiss_framing.specs.Deframing as kiss;
 ghost use Rattle.kiss_framing.specs.Feeding.{handed_out};

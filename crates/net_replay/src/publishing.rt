@@ -1,3 +1,4 @@
+//! What a node hands out is told and put in the air.
 ghost use Rattle.std.specs.Prelude.{◌≡◌, ◌+◌, ◌++◌, ◌∷◌, [], map, length, OnOk, IfErr};
 ghost use Rattle.net_replay.specs.declared.events.Event.TheVariants as told;
 ghost use Rattle.net_replay.specs.Air.{in_air};

@@ -1,3 +1,4 @@
+//! The words of a line, by the rules of their places.
 ghost use Rattle.std.specs.Prelude.{◌≡◌, ◌≤◌, IfOk};
 ghost use Rattle.net_replay.specs.Lines as lines;
 ghost use Rattle.net_replay.specs.Places as places;

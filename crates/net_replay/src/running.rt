@@ -1,3 +1,4 @@
+//! A replay while it runs: one act after another.
 ghost use Rattle.std.specs.Prelude.{◌∷◌, [], filter, slice_get};
 ghost use Rattle.net_replay.specs.declared.acts.Act.TheVariants as acts;
 ghost use Rattle.net_replay.specs.Air.{can_hear, hearers};

@@ -1,3 +1,4 @@
+//! A node of a replay above its KISS bytes: its table and its broadcasts.
 ghost use Rattle.std.specs.Prelude.{◌≡◌, ◌≤◌, ◌*◌, length, IfOk, OnOk};
 ghost use Rattle.ax_frame.specs.Read.{read_at};
 ghost use Rattle.nodes_broadcast.specs.Reading.{nodes_at};

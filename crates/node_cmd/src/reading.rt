@@ -1,3 +1,4 @@
+//! A file is read to its end.
 ghost use Rattle.std.specs.Prelude.{◌≡◌, ◌++◌, List, ℕ, length, OnOk, IfOk, IfErr};
 ghost use Rattle.std.specs.Io.KnownBytes.{Consumes, IsAtEnd};
 ghost use Rattle.node_cmd.specs.declared.reading.ReadRefusal.TheVariants.{Fault, NoMemory};

@@ -1,3 +1,4 @@
+//! The command `replay`.
 ghost use Rattle.std.specs.Prelude.{◌≡◌, ◌≢◌, ◌≤◌, ◌⊎◌, length, Ok, IfOk, IfErr};
 ghost use Rattle.radio_base.specs.Causes.{Rose};
 ghost use Rattle.net_replay.specs.Networks.{network_of};

@@ -1,3 +1,4 @@
+//! A broadcast, and why octets are none (NET/ROM, Appendix B).
 use arrayvec::ArrayVec;
 use ax_address::{Alias, Entry, MAX_ENTRIES};
 

@@ -1,3 +1,4 @@
+//! Octets become broadcasts.
 ghost use Rattle.std.specs.Prelude.{◌≡◌, ◌≤◌, ◌/◌, ◌%◌, [], ◌∷◌, length, take, IfOk, IfNone, IsOkAnd, MatchResult, Ok, Err, true};
 ghost use Rattle.nodes_broadcast.specs.Nodes.{Broadcast, view, Spells, SpellsEntry, SpellsEntries};
 ghost use Rattle.nodes_broadcast.specs.Reading as reading;

@@ -1,3 +1,4 @@
+//! What an information frame carries.
 use arrayvec::ArrayVec;
 
 /// The protocol of a text (AX.25 2.2, section 3.4) that belongs to NET/ROM.

@@ -1,3 +1,4 @@
+//! Routes by quality, and which is the better one (NET/ROM, Appendix B).
 ghost use Rattle.std.specs.Prelude.{◌≡◌, ◌≤◌, length};
 ghost use Rattle.route_table.specs.Places as places;
 ghost use Rattle.route_table.specs.Ranks as ranks;

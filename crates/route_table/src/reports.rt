@@ -1,3 +1,4 @@
+//! The reports that a broadcast stands for (NET/ROM, Appendix B).
 ghost use Rattle.std.specs.Prelude.{◌≡◌, ◌≤◌, length};
 ghost use Rattle.route_table.specs.Log as log;
 ghost use Rattle.route_table.specs.Rows as rows;

@@ -1,3 +1,4 @@
+//! The usable routes that a table keeps.
 ghost use Rattle.std.specs.Prelude.{◌≡◌, ◌≤◌, ◌<◌, ◌+◌, ◌∷◌, [], map, filter, length, vec_len, vec_capacity, Some, OnOk, OnErr};
 ghost use Rattle.route_table.specs.Places as places;
 ghost use Rattle.route_table.specs.Ranks as ranks;

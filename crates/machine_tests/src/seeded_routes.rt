@@ -2,7 +2,7 @@
 
 ghost use Rattle.std.specs.Prelude.{◌≤◌, ◌<◌};
 
-use crate::{LockRefusal, Route, RouteRules, RouteTable};
+use route_table::{LockRefusal, Route, RouteRules, RouteTable};
 use arrayvec::ArrayVec;
 use ax_address::{Alias, Call, Entry};
 use std::alloc::Global;

@@ -1,4 +1,5 @@
-use crate::{NetworkRefusal, What, read_network, replay, report};
+//! Network files, and what they come to: bad lines, and the report of worked ones.
+use net_replay::{NetworkRefusal, What, read_network, replay, report};
 use radio_base::TextOut;
 use std::alloc::Global;
 use std::test::Fail;

@@ -1,4 +1,5 @@
-use crate::{COUNT_MAX, M8, M128, M256, Modulus};
+//! Numbers on the air.
+use radio_base::{COUNT_MAX, M8, M128, M256, Modulus};
 
 fn last_number<M: Modulus>() -> u8 {
     M::wire(M::SIZE - 1)
