@@ -32,7 +32,7 @@ cut_more (n ∷ lengths) bytes message h =
     rw (take-append-le n bytes message fits, drop-append-le n bytes message fits)
     (ap (λ ms. take n bytes ∷ ms) (cut_more lengths (drop n bytes) message (rw (length-drop n bytes) (h.3))))
 
-keep_all : {X : Type 0} (xs : List X) (n : ℕ) → length xs ≤ n → keep_last n xs ≡ xs
+pub keep_all : {X : Type 0} (xs : List X) (n : ℕ) → length xs ≤ n → keep_last n xs ≡ xs
 keep_all xs n h = let z : length xs - n ≡ 0 = omega arith in rw z refl
 
 abbrev queue_of : Buffer ℕ → Buffer ℕ → Queue

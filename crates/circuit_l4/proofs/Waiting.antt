@@ -18,6 +18,7 @@ use Rattle.circuit_l4.specs.EndStanding.{Kept, Stands, going_of}
 use Rattle.circuit_l4.specs.EndCalls.{puts}
 use Rattle.circuit_l4.specs.Outputs.{out_of, outs_of, with_text}
 use Rattle.circuit_l4.proofs.Acknowledged.{all-append}
+use Rattle.circuit_l4.proofs.Queues.{keep_all}
 use Rattle.circuit_l4.proofs.Rings.{get-behind}
 
 -- ---- a queue of outputs ----
@@ -57,9 +58,6 @@ unfolding outs_of
 few_out queue first outputs n h = rw (length-map outputs (out_of queue first)) h
 
 -- ---- something more waits ----
-keep_all : {X : Type 0} (xs : List X) (n : ℕ) → length xs ≤ n → keep_last n xs ≡ xs
-keep_all xs n h = let z : length xs - n ≡ 0 = omega arith in rw z refl
-
 pub waits_too : (queue : List (List ℕ)) (first : ℕ) (outputs : List Output) (o : Output) (room : ℕ) → length outputs < room →
     outs_of queue first (keep_last room (outputs ++ o ∷ [])) ≡ outs_of queue first outputs ++ out_of queue first o ∷ []
 waits_too queue first outputs o room h =

@@ -14,7 +14,7 @@ use Rattle.circuit_l4.specs.Receiving.{Receiving}
 use Rattle.circuit_l4.specs.Outputs.{outs_of}
 use Rattle.circuit_l4.specs.Halves.{Inbox, IsReceiving, IsSending, Outbox}
 
--- what is kept
+-- what is kept; what waits to be put out is as it goes out
 pub record Kept : Type 0 where
   pub role : Role
   pub pair : Pair

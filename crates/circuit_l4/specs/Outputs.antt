@@ -25,5 +25,6 @@ out_of queue first (Disconnected to) = (transport.Disconnected to, None)
 out_of queue first (Info to number rx choke) = with_text to number rx choke (fragment_from queue first number)
 out_of queue first (InfoAck to rx flags) = (transport.InfoAck to rx flags, None)
 
+-- all that waits
 unfoldable pub outs_of : List (List ℕ) → ℕ → List Output → List Out
 outs_of queue first outputs = map (out_of queue first) outputs
