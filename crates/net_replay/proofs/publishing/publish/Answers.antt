@@ -1,7 +1,6 @@
-use Rattle.std.proofs.Common.{◌≡◌, ◌∙◌, ◌++◌, ap, sym, map, length, rules, append_assoc, List}
-use Rattle.std.proofs.lemmas.List.{map-append}
+use Rattle.std.proofs.Common.{◌∙◌, ◌++◌, ap, map, length, List}
 use Rattle.net_replay.specs.Air.{in_air}
-use Rattle.net_replay.specs.World.{tell, refusal_event, air_events}
+use Rattle.net_replay.specs.World.{tell, refusal_event}
 use Rattle.net_replay.specs.declared.events.Event.TheVariants.{Entry}
 use Rattle.net_replay.proofs.Handing.{frames_are, told_all}
 use Rattle.net_replay.proofs.publishing.publish.Goals as goal
