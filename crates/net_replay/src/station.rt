@@ -1,5 +1,5 @@
 //! A node of a replay above its KISS bytes: its table and its broadcasts.
-ghost use Rattle.std.specs.Prelude.{◌≡◌, ◌≤◌, ◌*◌, length, IfOk, OnOk};
+ghost use Rattle.std.specs.Prelude.{◌≡◌, ◌≤◌, ◌*◌, [], true, false, length, IfOk, OnOk};
 ghost use Rattle.ax_frame.specs.Read.{read_at};
 ghost use Rattle.nodes_broadcast.specs.Reading.{nodes_at};
 ghost use Rattle.route_table.specs.Held.{AreRules};
@@ -147,7 +147,7 @@ impl Station {
     }
 
     /// The frames that broadcast the routes.
-    pub fn broadcasts(&self, alloc: Global) -> Result<Vec<Octets>, NoMemory>
+    fn broadcasts(&self, alloc: Global) -> Result<Vec<Octets>, NoMemory>
         ensures { IfOk result (λ frames. (s : StationState) → HoldsLog self.now s → frames.items ≡ (nodes.broadcasts s).frames) }
     {
         let entries = self.table.all_entries(alloc)?;
@@ -157,6 +157,18 @@ impl Station {
             frames.push(self.broadcast_of(alloc, page)?)?;
         }
         Ok(frames)
+    }
+
+    /// The frames that broadcast the routes, of a node on a channel.
+    pub fn aired_broadcasts(&self, alloc: Global, on_air: bool) -> Result<Vec<Octets>, NoMemory>
+        ensures frames { on_air ≡ true → IfOk result (λ frames. (s : StationState) → HoldsLog self.now s → frames.items ≡ (nodes.broadcasts s).frames) }
+        ensures silent { on_air ≡ false → IfOk result (λ frames. frames.items ≡ []) }
+    {
+        if on_air {
+            self.broadcasts(alloc)
+        } else {
+            Ok(Vec::new(alloc))
+        }
     }
 
     /// The frame that broadcasts these entries.
