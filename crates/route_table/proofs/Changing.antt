@@ -1,14 +1,13 @@
 -- Rows in order, as reports change them.
-use Rattle.std.proofs.Common.{◌≡◌, ◌<◌, ◌∙◌, ℕ, zero, suc, refl, sym, ap, subst, List, [], ◌∷◌, map, length, arith, Bool, true, false, cond, get_or, filter, Some}
-use Rattle.std.specs.Prelude.{remove, not, ◌||◌, ◌&&◌, is_none, nat_lt, nat_eq, slice_set}
+use Rattle.std.proofs.Common.{◌≡◌, ◌<◌, ◌+◌, ◌-◌, ◌∙◌, ℕ, zero, suc, refl, sym, ap, subst, List, [], ◌∷◌, map, length, arith, Bool, true, false, cond, get_or, filter, Some}
+use Rattle.std.specs.Prelude.{remove, not, ◌||◌, ◌&&◌, is_none, slice_set}
 use Rattle.std.specs.List.{list_any}
-use Rattle.ax_address.specs.CallOrder.{same_call, call_lt}
 use Rattle.route_table.specs.declared.route.Route.{Route}
-use Rattle.route_table.specs.Ranks.{is_before, stands_before, placed}
+use Rattle.route_table.specs.Ranks.{stands_before, placed}
 use Rattle.route_table.specs.Rows.{is_same_pair, is_lock_on, stays_beside, beside, with_report, after_reports, older, still_counts, after_round}
 use Rattle.route_table.specs.Table.{is_good}
-use Rattle.route_table.specs.Places.{InRows, NoneTwice, Stand, PairAt}
-use Rattle.route_table.proofs.Order.{stands_asym, same_pair_true, same_pair_sym, same_pair_over}
+use Rattle.route_table.specs.Places.{InRows, NoneTwice, Stand, PairAt, FitsAt}
+use Rattle.route_table.proofs.Order.{stands_trans, stands_asym, same_pair_sym, same_pair_over}
 use Rattle.route_table.proofs.Sorting.{Ahead, Apart, placed_all, placed_rows, filter_rows, filter_once}
 
 -- the rows beside a route
@@ -92,31 +91,40 @@ pair_found r (x ∷ xs) (suc i) d w s = rw (pair_found r xs i d (omega arith) s)
     or_true true = refl
     or_true false = refl
 
--- a route in the place of one of its pair and quality
-
-same_rank : (r x y : Route) → r.dest ≡ x.dest → r.quality ≡ x.quality → r.neighbour ≡ x.neighbour → stands_before r y ≡ stands_before x y
-same_rank r x y d q n =
-    ap (λ c. call_lt c y.dest || (same_call c y.dest && is_before r y)) d
-    ∙ (ap (λ k. call_lt x.dest y.dest || (same_call x.dest y.dest && (nat_lt y.quality k || (nat_eq k y.quality && call_lt r.neighbour y.neighbour)))) q
-    ∙ ap (λ c. call_lt x.dest y.dest || (same_call x.dest y.dest && (nat_lt y.quality x.quality || (nat_eq x.quality y.quality && call_lt c y.neighbour)))) n)
-
-ahead_like : (r x : Route) → r.dest ≡ x.dest → r.quality ≡ x.quality → r.neighbour ≡ x.neighbour → (xs : List Route) → Ahead x xs → placed r xs ≡ r ∷ xs
-ahead_like r x d q n [] h = refl
-ahead_like r x d q n (y ∷ ys) h = let e : stands_before r y ≡ true = same_rank r x y d q n ∙ h.0 in rw e refl
+-- a route in the place of a row, where it stands between those before and behind it
 
 ahead_at : (x : Route) (xs : List Route) (i : ℕ) (d : Route) → i < length xs → Ahead x xs → stands_before x (get_or xs i d) ≡ true
 ahead_at x [] i d w h = absurd (omega arith)
 ahead_at x (y ∷ ys) zero d w h = h.0
 ahead_at x (y ∷ ys) (suc i) d w h = ahead_at x ys i d (omega arith) h.1
 
-pub placed_over : (r : Route) (xs : List Route) (i : ℕ) (d : Route) → InRows xs → i < length xs → is_same_pair r (get_or xs i d) ≡ true → r.quality ≡ (get_or xs i d).quality → placed r (remove xs i) ≡ slice_set xs i r
-placed_over r [] i d h w s q = absurd (omega arith)
-placed_over r (x ∷ xs) zero d h w s q = let p = same_pair_true r x s in ahead_like r x p.0 q p.1 xs h.0
-placed_over r (x ∷ xs) (suc i) d h w s q =
+first_place : (r : Route) (xs : List Route) → ((d : Route) → 0 < length xs → stands_before r (get_or xs 0 d) ≡ true) → placed r xs ≡ r ∷ xs
+first_place r [] h = refl
+first_place r (x ∷ xs) h = let e : stands_before r x ≡ true = h x (omega arith) in rw e refl
+
+-- the rows before that place stand before the route
+before_it : (r x : Route) (xs : List Route) (i : ℕ) → Ahead x xs → i < length xs → ((d : Route) → stands_before (get_or (x ∷ xs) i d) r ≡ true) → stands_before x r ≡ true
+before_it r x xs zero a w h = h x
+before_it r x xs (suc i) a w h = stands_trans x (get_or xs i x) r (ahead_at x xs i x (omega arith) a) (h x)
+
+pub placed_over : (r : Route) (xs : List Route) (i : ℕ) → InRows xs → i < length xs
+    → ((d : Route) → 0 < i → stands_before (get_or xs (i - 1) d) r ≡ true) → ((d : Route) → i + 1 < length xs → stands_before r (get_or xs (i + 1) d) ≡ true)
+    → placed r (remove xs i) ≡ slice_set xs i r
+placed_over r [] i h w a b = absurd (omega arith)
+placed_over r (x ∷ xs) zero h w a b = first_place r xs (λ d l. b d (omega (arith, l)))
+placed_over r (x ∷ xs) (suc i) h w a b =
     let within : i < length xs = omega arith in
-    let p = same_pair_true r (get_or xs i d) s in
-    let e : stands_before r x ≡ false = same_rank r (get_or xs i d) x p.0 q p.1 ∙ stands_asym x (get_or xs i d) (ahead_at x xs i d within h.0) in
-    rw e (ap (λ ys. x ∷ ys) (placed_over r xs i d h.1 within s q))
+    let one : suc i - 1 ≡ i = omega arith in
+    let up : stands_before x r ≡ true = before_it r x xs i h.0 within (λ d. rw one at (a d (omega arith))) in
+    let e : stands_before r x ≡ false = stands_asym x r up in
+    rw e (ap (λ ys. x ∷ ys) (placed_over r xs i h.1 within (over_after i within a) (λ d l. let two : suc i + 1 ≡ suc (i + 1) = omega arith in rw two at (b d (omega (arith, l))))))
+  where
+    over_after : (i : ℕ) → i < length xs → ((d : Route) → 0 < suc i → stands_before (get_or (x ∷ xs) (suc i - 1) d) r ≡ true) → (d : Route) → 0 < i → stands_before (get_or xs (i - 1) d) r ≡ true
+    over_after zero w a d l = absurd (omega arith)
+    over_after (suc k) w a d l =
+        let two : suc (suc k) - 1 ≡ suc k = omega arith in
+        let one : suc k - 1 ≡ k = omega arith in
+        rw one (rw two at (a d (omega arith)))
 
 -- what a report comes to, by what is found of its pair
 
@@ -192,9 +200,9 @@ pub change_moved : (minq : ℕ) (r : Route) (rows : List Route) (i : ℕ) (row :
 change_moved minq r rows i row s p e c g =
     sym (report_over minq r rows i row s.once p.0 (p.1 row) (ap (λ (x : Route). is_none x.count) (sym e) ∙ c) ∙ ap (λ b. cond b (placed r (remove rows i)) (remove rows i)) g)
 
-pub change_same : (minq : ℕ) (r : Route) (rows : List Route) (i : ℕ) (row : Route) → Stand rows → PairAt r rows (Some i) → row ≡ get_or rows i row → is_none row.count ≡ false → is_good minq r ≡ true → row.quality ≡ r.quality → slice_set rows i r ≡ with_report minq r rows
-change_same minq r rows i row s p e c g q =
-    sym (placed_over r rows i row s.order p.0 (p.1 row) (sym q ∙ ap (λ (x : Route). x.quality) e)) ∙ change_moved minq r rows i row s p e c g
+pub change_same : (minq : ℕ) (r : Route) (rows : List Route) (i : ℕ) (row : Route) → Stand rows → PairAt r rows (Some i) → row ≡ get_or rows i row → is_none row.count ≡ false → is_good minq r ≡ true → FitsAt r rows i → slice_set rows i r ≡ with_report minq r rows
+change_same minq r rows i row s p e c g f =
+    sym (placed_over r rows i s.order p.0 f.after f.before) ∙ change_moved minq r rows i row s p e c g
 
 pub remove_rows : (r : Route) (rows : List Route) (i : ℕ) → Stand rows → PairAt r rows (Some i) → InRows (remove rows i)
 remove_rows r rows i s p = subst InRows (beside_found r rows i r s.once p.0 (p.1 r)) (filter_rows (stays_beside r) rows s.order)

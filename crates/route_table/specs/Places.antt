@@ -1,5 +1,5 @@
 -- Rows in order, by recursion, and places in them.
-use Rattle.std.specs.Prelude.{ℕ, ◌<◌, List, [], ◌∷◌, length, slice_index_or, ◌≡◌, true, false, not, Option, Some, None, is_none}
+use Rattle.std.specs.Prelude.{ℕ, ◌+◌, ◌-◌, ◌<◌, List, [], ◌∷◌, length, slice_index_or, ◌≡◌, true, false, not, Option, Some, None, is_none}
 use Rattle.std.specs.List.{AllByRecursion, list_any, prefix_len}
 use Rattle.ax_address.specs.Callsign.{Callsign}
 use Rattle.ax_address.specs.CallOrder.{call_lt}
@@ -38,3 +38,8 @@ place_of r rows = prefix_len (λ x. not (stands_before r x)) rows
 abbrev pub PairAt : Route → List Route → Option ℕ → Type 0
 PairAt r rows None = list_any (is_same_pair r) rows ≡ false
 PairAt r rows (Some at) = (at < length rows) × ((d : Route) → is_same_pair r (slice_index_or rows at d) ≡ true)
+
+-- the route stands between the rows before and behind the one at that place
+pub record FitsAt (r : Route) (rows : List Route) (at : ℕ) : Type 0 where
+  pub after : (d : Route) → 0 < at → stands_before (slice_index_or rows (at - 1) d) r ≡ true
+  pub before : (d : Route) → at + 1 < length rows → stands_before r (slice_index_or rows (at + 1) d) ≡ true

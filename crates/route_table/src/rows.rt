@@ -1,11 +1,12 @@
 //! The usable routes that a table keeps.
-ghost use Rattle.std.specs.Prelude.{◌≡◌, ◌≤◌, ◌<◌, ◌+◌, ◌∷◌, [], map, filter, length, vec_len, vec_capacity, Some, OnOk, OnErr};
+ghost use Rattle.std.specs.Prelude.{◌≡◌, ◌≤◌, ◌<◌, ◌+◌, ◌-◌, ◌∷◌, [], map, filter, length, vec_len, vec_capacity, slice_index_or, true, Some, OnOk, OnErr};
+ghost use Rattle.route_table.specs.declared.route.Route.{Route};
 ghost use Rattle.route_table.specs.Places as places;
 ghost use Rattle.route_table.specs.Ranks as ranks;
 ghost use Rattle.route_table.specs.Rows as spec;
 ghost use Rattle.route_table.specs.Table as table;
 
-use crate::ranking::{place_of, place_of_pair};
+use crate::ranking::{place_of, place_of_pair, stands_before};
 use crate::route::Route;
 use ax_address::Call;
 use std::alloc::AllocError;
@@ -79,11 +80,36 @@ fn change(rows: &mut Vec<Route>, minq: u8, at: usize, report: &Route)
     }
     if !is_good(minq, report) {
         rows.remove(at);
-    } else if row.quality == report.quality {
+    } else if fits_at(rows, at, report) {
         rows[at] = *report;
     } else {
         rows.remove(at);
         enter(rows, report);
+    }
+}
+
+/// Whether a route stands between the rows before and behind the one at that place.
+fn fits_at(rows: &[Route], at: usize, route: &Route) -> bool
+    requires { at < length rows.now }
+    ensures { result ≡ true → places.FitsAt route.now rows.now at }
+{
+    is_after(rows, at, route) && is_before(rows, at, route)
+}
+
+fn is_after(rows: &[Route], at: usize, route: &Route) -> bool
+    requires { at < length rows.now }
+    ensures { result ≡ true → (d : Route) → 0 < at → ranks.stands_before (slice_index_or rows.now (at - 1) d) route.now ≡ true }
+{
+    at == 0 || stands_before(&rows[at - 1], route)
+}
+
+fn is_before(rows: &[Route], at: usize, route: &Route) -> bool
+    requires { at < length rows.now }
+    ensures { result ≡ true → (d : Route) → at + 1 < length rows.now → ranks.stands_before route.now (slice_index_or rows.now (at + 1) d) ≡ true }
+{
+    match rows.get(at + 1) {
+        Some(next) => stands_before(route, next),
+        None => true,
     }
 }
 
