@@ -12,7 +12,7 @@ use Rattle.ax_segment.specs.Joining.{Held as Joined, join_step}
 use Rattle.ax_segment.specs.declared.TheConstants.{SEGMENT_PID}
 use Rattle.link_table.specs.declared.route.Route.{Route}
 use Rattle.link_table.specs.declared.pending.Pending.{Pending}
-use Rattle.link_table.specs.declared.pending.Written.{Written}
+use Rattle.link_table.specs.declared.written.Written.{Written}
 use Rattle.link_table.specs.Fetching.{written}
 use Rattle.link_table.specs.Frames.{Sent, all_sent, fitting, netrom, sent_by}
 use Rattle.link_table.specs.Standing.{GoesQuietly, Goes, HandsUp, Lifted, WorkStands, gone_out}

@@ -242,6 +242,12 @@ is_128 peer t = elim (link_with peer t.links) as (λ x. Bool) [ None ↦ false |
 
 -- ---- what is promised of the answer where no link stands
 
+-- the modulus of the link that a set-up command asks for
+abbrev pub set_up_size : Control → Option ℕ
+set_up_size (control.Sabm pf) = Some 8
+set_up_size (control.Sabme pf) = Some 128
+set_up_size _ = None
+
 abbrev pub sets_up : Control → Bool
 sets_up (control.Sabm pf) = true
 sets_up (control.Sabme pf) = true

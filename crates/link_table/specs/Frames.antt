@@ -1,9 +1,11 @@
 -- The frames of a node's links: what of a link's frames goes on the air, and over which addresses (AX.25 2.2, section 3).
-use Rattle.std.specs.Prelude.{ℕ, Bool, not, nat_le, if◌then◌else◌, List, [], ◌∷◌, ◌++◌, length}
+use Rattle.std.specs.Prelude.{ℕ, Bool, not, nat_le, if◌then◌else◌, List, [], ◌∷◌, ◌++◌, length, true, false}
 use Rattle.std.proofs.Common.{lit≤}
 use Rattle.arrayvec.specs.ArrayVec.{ArrayVec}
 use Rattle.ax_address.specs.Callsign.{Callsign}
 use Rattle.ax_address.specs.declared.address.Address.{Address}
+use Rattle.ax_frame.specs.declared.control.Control.{Control}
+use Rattle.ax_frame.specs.declared.control.Control.TheVariants as control
 use Rattle.ax_frame.specs.declared.head.Head.{Head}
 use Rattle.ax_frame.specs.Frames.{Frame as AirFrame, frame, frame_octets, head}
 use Rattle.ax_link.specs.Kinds.{control_of, info_of, pid_of}
@@ -50,3 +52,12 @@ sent_by size own peer path f =
 abbrev pub all_sent : ℕ → Callsign → Callsign → ArrayVec Address → List Frame → List Sent
 all_sent size own peer path [] = []
 all_sent size own peer path (f ∷ fs) = fitting (sent_by size own peer path f) ++ all_sent size own peer path fs
+
+-- whether a frame has sequence numbers; else its octets are the same by either modulus
+abbrev pub is_numbered : Control → Bool
+is_numbered (control.I ns nr pf) = true
+is_numbered (control.Rr nr pf) = true
+is_numbered (control.Rnr nr pf) = true
+is_numbered (control.Rej nr pf) = true
+is_numbered (control.Srej nr pf) = true
+is_numbered _ = false

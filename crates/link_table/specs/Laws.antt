@@ -1,5 +1,5 @@
 -- What holds of every table of links.
-use Rattle.std.specs.Prelude.{ℕ, ◌≡◌, ◌≤◌, ◌==◌, ◌||◌, ◌⊎◌, not, nat_le, Bool, false, List, [], ◌++◌, length, None, Some}
+use Rattle.std.specs.Prelude.{ℕ, ◌≡◌, ◌≤◌, ◌==◌, ◌||◌, ◌⊎◌, not, nat_le, Bool, true, false, List, [], ◌++◌, length, Option, None, Some}
 use Rattle.std.specs.List.{AllByRecursion}
 use Rattle.radio_base.specs.declared.payload.Payload.{Payload}
 use Rattle.ax_address.specs.Callsign.{Callsign}
@@ -9,39 +9,48 @@ use Rattle.ax_link.specs.Bounds.{Bounded, stock}
 use Rattle.ax_link.specs.PutOut.{Has, HavePayloads}
 use Rattle.l3_datagram.specs.CarrierCall.{Datagram, Parcel}
 use Rattle.l3_datagram.specs.declared.carrier.Offered.TheVariants.{Taken}
-use Rattle.link_table.specs.Calls.{arrive, break_link, close, collected, fetched, lost_told, most_links, noticed, offer, packed, source, tick}
-use Rattle.link_table.specs.Frames.{Sent, netrom}
+use Rattle.link_table.specs.Calls.{arrive, break_link, close, collected, fetched, lost_told, most_links, noticed, offer, packed, set_up_size, source, tick}
+use Rattle.link_table.specs.Frames.{Sent, is_numbered, netrom}
 use Rattle.link_table.specs.Table.{Linked, Table, link_with}
 use Rattle.link_table.specs.Works.{Work, most_taken, settled}
 
--- Two properties of pairs of call and payload are any: the first is asked of what is offered, by the peer to which, the
--- second of what comes, by the neighbour from which.
-module _ (offered came : Callsign → Payload → Bool) where
-  -- a payload for a peer: it isn't NET/ROM's, or it has the property
+-- Three properties are any. The first two are of pairs of call and payload: the one is asked of what is offered, by the peer
+-- to which, the other of what comes, by the neighbour from which. The third is of moduli.
+module _ (offered came : Callsign → Payload → Bool) (sizes : ℕ → Bool) where
+  -- a modulus with the third property
+  abbrev pub IsOne : ℕ → Type 0
+  IsOne size = sizes size ≡ true
+
+  -- a payload for a peer: it isn't NET/ROM's, or it has the first property
   abbrev pub goes_to : Callsign → Payload → Bool
   goes_to peer p = not (p.pid == netrom) || offered peer p
 
   -- a link is within its bounds; what is accepted for its peer has the first property, what came from it the second
-  abbrev pub LinkHolds : Linked → Type 0
-  LinkHolds l = Bounded (stock l.link) × HavePayloads (goes_to l.peer) (came l.peer) (stock l.link)
+  pub record LinkHolds (l : Linked) : Type 0 where
+    pub bounds : Bounded (stock l.link)
+    pub payloads : HavePayloads (goes_to l.peer) (came l.peer) (stock l.link)
+    pub size : IsOne l.link.rules.size
 
   abbrev pub ParcelCame : Parcel → Type 0
   ParcelCame p = Has (came p.0) (packed p.1)
 
-  -- a frame with the PID of NET/ROM carries what was offered to the peer to which it goes
-  abbrev pub FrameOffered : Sent → Type 0
-  FrameOffered s = (p : Payload) → s.frame.pid ≡ Some p.pid → s.frame.info ≡ p.info.items → Has (goes_to s.frame.head.dest.call) p
+  -- a frame with the PID of NET/ROM carries what was offered to the peer to which it goes; one with numbers is of such a modulus
+  pub record FrameHolds (s : Sent) : Type 0 where
+    pub payload : (p : Payload) → s.frame.pid ≡ Some p.pid → s.frame.info ≡ p.info.items → Has (goes_to s.frame.head.dest.call) p
+    pub size : is_numbered s.frame.control ≡ true → IsOne s.size
 
   -- the table: its links, the datagrams that wait, and the frames that wait to be fetched
   pub record Carries (t : Table) : Type 0 where
     pub modulus : (t.size ≡ 8) ⊎ (t.size ≡ 128)
+    pub size : IsOne t.size
     pub links : AllByRecursion LinkHolds t.links
     pub waiting : AllByRecursion ParcelCame t.pending.waiting
-    pub frames : AllByRecursion FrameOffered t.pending.frames
+    pub frames : AllByRecursion FrameHolds t.pending.frames
 
-  -- what a frame brings has the second property
-  abbrev pub Brings : AirFrame → Type 0
-  Brings f = (p : Payload) → payload_of f.pid f.info ≡ Some p → Has (came (source f)) p
+  -- what a frame brings has the second property, and the modulus for which it sets a link up the third
+  pub record Brings (f : AirFrame) : Type 0 where
+    pub payload : (p : Payload) → payload_of f.pid f.info ≡ Some p → Has (came (source f)) p
+    pub size : (n : ℕ) → set_up_size f.control ≡ Some n → IsOne n
 
   -- each call keeps it: only what a frame brings ever waits, and only what was offered to a peer is sent to it as NET/ROM's
   pub record CarriesOn : Type 0 where
@@ -56,7 +65,7 @@ module _ (offered came : Callsign → Payload → Bool) where
     pub fetches : (t : Table) → Carries t → Carries (fetched t)
 
 abbrev pub CarriesWhatWasOffered : Type 0
-CarriesWhatWasOffered = (offered came : Callsign → Payload → Bool) → CarriesOn offered came
+CarriesWhatWasOffered = (offered came : Callsign → Payload → Bool) (sizes : ℕ → Bool) → CarriesOn offered came sizes
 
 -- of a link within its bounds nothing is left in the inbox once payload by payload was taken
 abbrev pub SettledAll : Type 0

@@ -12,10 +12,12 @@ mod pending;
 mod route;
 mod table;
 mod work;
+mod written;
 
 pub use link_of::LinkOf;
 pub use path_refusal::PathRefusal;
 pub use table::LinkTable;
+pub use written::{Written, WrittenAs};
 
 /// The PID of what NET/ROM sends (AX.25 2.2, section 3.4).
 pub const NETROM_PID: u8 = 0xCF;

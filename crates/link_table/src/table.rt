@@ -6,9 +6,9 @@ ghost use Rattle.link_table.specs.Calls as calls;
 
 use crate::held_links::HeldLinks;
 use crate::pending::Pending;
-use crate::{LinkOf, MAX_PATHS, MAX_REPEATERS, PathRefusal};
+use crate::{LinkOf, MAX_PATHS, MAX_REPEATERS, PathRefusal, Written};
 use ax_address::{Call, Path};
-use ax_frame::{FrameBytes, FrameView};
+use ax_frame::FrameView;
 use ax_link::{LinkConfig, LinkNotice};
 use indexmap::IndexMap;
 use l3_datagram::{Carrier, Datagram, Offered};
@@ -39,7 +39,7 @@ impl Model for LinkTable {
 impl LinkTable {
     ghost use Rattle.link_table.specs.Standing.{LentStands, NotNoMemory, TableGoes, TableStands, width};
     ghost use Rattle.link_table.specs.Table.{link_with};
-    ghost use Rattle.link_table.specs.Frames.{octets_of};
+    ghost use Rattle.link_table.specs.Fetching.{written};
     ghost use Rattle.ax_frame.specs.Frames.{view};
     ghost use Rattle.std.specs.Option.{option_copied, option_map};
     ghost use Rattle.link_table.specs.declared.path_refusal.PathRefusal.TheVariants as refusals;
@@ -177,15 +177,12 @@ impl LinkTable {
         Ok(())
     }
 
-    /// The next frame that waits to be sent.
-    pub fn next_out(&mut self) -> Option<FrameBytes>
-        ensures answer { (t : Table) → TableStands self.old t → option_map (λ f. f.items) result ≡ option_map octets_of (slice_get t.pending.frames 0) }
+    /// The next frame that waits to be sent, and how its octets were written: the oldest one. None where no frame waits.
+    pub fn next_out(&mut self) -> Option<Written>
+        ensures answer { (t : Table) → TableStands self.old t → result ≡ option_map written (slice_get t.pending.frames 0) }
         ensures rest { TableGoes calls.fetched self.old self.new }
     {
-        match self.core.pending.frames.pop_front() {
-            Some(written) => Some(written.bytes),
-            None => None,
-        }
+        self.core.pending.frames.pop_front()
     }
 
     /// The next notice of a link.
