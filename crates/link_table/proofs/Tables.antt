@@ -1,0 +1,69 @@
+-- What is held, and what contracts see of it.
+use Rattle.std.proofs.Common.{◌≡◌, ◌==◌, Bool, true, false, List, Some, None, refl, ap, sym, ◌∙◌, subst}
+use Rattle.std.specs.Map.{lookup}
+use Rattle.ax_address.specs.Callsign.{Callsign}
+use Rattle.ax_address.specs.CallOrder.{same_call}
+use Rattle.ax_link.specs.State.{State}
+use Rattle.link_table.specs.declared.entry.Entry.{Entry}
+use Rattle.link_table.specs.Calls.{is_128}
+use Rattle.link_table.proofs.Links.{Found, found, none_found}
+use Rattle.link_table.specs.declared.held_links.HeldLinks.{HeldLinks}
+use Rattle.link_table.specs.Standing.{CoreGoes, CoreStands, LentStands, LinksStand, TableGoes, TableStands, shown, size_of, width}
+use Rattle.link_table.specs.Table.{Linked, Table, link_with}
+
+pub to_table : (c : HeldLinks) (t : Table) → CoreStands c t → TableStands (shown c false) t
+to_table c t s =
+    record {
+      spent = refl;
+      own = s.own;
+      by_links = s.by_links;
+      size = s.size;
+      config = s.config;
+      links = s.links;
+      paths = s.paths;
+      waiting = s.pending.waiting;
+      lost = s.pending.lost;
+      notices = s.pending.notices;
+      frames = s.pending.frames;
+    }
+
+pub to_core : (c : HeldLinks) (t : Table) → TableStands (shown c false) t → CoreStands c t
+to_core c t s =
+    record {
+      own = s.own;
+      by_links = s.by_links;
+      size = s.size;
+      config = s.config;
+      links = s.links;
+      paths = s.paths;
+      pending = record { waiting = s.waiting; lost = s.lost; notices = s.notices; frames = s.frames };
+    }
+
+-- what the links do, the table does
+pub goes_as : (part : Table → Table) (old new : HeldLinks) → CoreGoes part old new → TableGoes part (shown old false) (shown new false)
+goes_as part old new goes t s = to_table new (part t) (goes t (to_core old t s))
+
+-- ---- what is lent, by what the map has
+
+pub lent : (own peer : Callsign) (es : List (Callsign × Entry)) (ls : List Linked) (e : Entry) → LinksStand own es ls → lookup (same_call peer) es ≡ Some e →
+    LentStands (Some e.link) (link_with peer ls)
+lent own peer es ls e s q =
+    let f : Found own peer e ls = found own peer es ls e s q in
+    subst (λ x. LentStands (Some e.link) x) (sym f.with) f.stands.link
+
+pub lent_none : (own peer : Callsign) (es : List (Callsign × Entry)) (ls : List Linked) → LinksStand own es ls → lookup (same_call peer) es ≡ None → LentStands None (link_with peer ls)
+lent_none own peer es ls s q = subst (λ x. LentStands None x) (sym (none_found own peer es ls s q)) tt
+
+wide_128 : (b : Bool) → (width b == 128) ≡ b
+wide_128 true = refl
+wide_128 false = refl
+
+pub wide_is : (own peer : Callsign) (es : List (Callsign × Entry)) (t : Table) (e : Entry) (b : Bool) → LinksStand own es t.links → lookup (same_call peer) es ≡ Some e → width b ≡ size_of e.link →
+    b ≡ is_128 peer t
+wide_is own peer es t e b s q w =
+    let f : Found own peer e t.links = found own peer es t.links e s q in
+    let size : f.link.link.rules.size ≡ width b = ap (λ (z : State). z.rules.size) f.stands.link.keeps.is ∙ sym w in
+    sym (ap (λ z. elim z as (λ x. Bool) [ None ↦ false | Some l ↦ l.link.rules.size == 128 ]) f.with ∙ ap (λ n. n == 128) size ∙ wide_128 b)
+
+pub wide_none : (own peer : Callsign) (es : List (Callsign × Entry)) (t : Table) → LinksStand own es t.links → lookup (same_call peer) es ≡ None → false ≡ is_128 peer t
+wide_none own peer es t s q = sym (ap (λ z. elim z as (λ x. Bool) [ None ↦ false | Some l ↦ l.link.rules.size == 128 ]) (none_found own peer es t.links s q))

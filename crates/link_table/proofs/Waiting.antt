@@ -1,0 +1,243 @@
+-- What is added to the datagrams that wait.
+use Rattle.std.proofs.Common.{◌≡◌, ℕ, zero, suc, ◌==◌, ◌&&◌, Bool, true, false, nat_le, List, [], ◌∷◌, ◌++◌, length, map, Option, Some, None, slice_get, refl, ap, sym, ◌∙◌, subst, if◌then◌else◌, append_assoc, append-nil}
+use Rattle.std.specs.List.{AllByRecursion}
+use Rattle.radio_base.specs.declared.payload.Payload.{Payload}
+use Rattle.ax_address.specs.Callsign.{Callsign}
+use Rattle.ax_address.specs.CallOrder.{same_call}
+use Rattle.ax_frame.specs.declared.control.Control.{Control}
+use Rattle.ax_frame.specs.declared.control.Control.TheVariants as control
+use Rattle.ax_frame.specs.FrameText.{is_command}
+use Rattle.ax_frame.specs.Frames.{Frame as AirFrame}
+use Rattle.ax_link.specs.State.{Frame}
+use Rattle.ax_link.specs.Table.{Arrive, Close, Send, Set_up, Take, Tick, takes}
+use Rattle.ax_link.specs.declared.plain.LinkNotice.{LinkNotice}
+use Rattle.ax_link.specs.declared.plain.LinkNotice.TheVariants.{Closed, Failed}
+use Rattle.ax_segment.specs.declared.TheConstants.{SEGMENT_PID}
+use Rattle.ax_segment.specs.Joining.{join_step}
+use Rattle.l3_datagram.specs.CarrierCall.{Datagram, Parcel}
+use Rattle.l3_datagram.specs.declared.carrier.Offered.TheVariants.{Taken, Dropped}
+use Rattle.link_table.specs.Calls as calls
+use Rattle.link_table.specs.Frames.{netrom}
+use Rattle.link_table.specs.Laws.{OnlyFramesBring}
+use Rattle.link_table.specs.Table.{Linked, Table, link_with, path_to, without}
+use Rattle.link_table.specs.Works.{Work, arrived, is_down, handed_up, most_taken, settled, stepped, taken, told}
+use Rattle.link_table.proofs.Carrier.{same_call-true}
+
+-- pairs with this call were added
+abbrev Adds : Callsign → List Parcel → List Parcel → Type 0
+Adds peer old new = (added : List Parcel) × (new ≡ old ++ added) × AllByRecursion (λ p. p.0 ≡ peer) added
+
+nothing : (peer : Callsign) (old : List Parcel) → Adds peer old old
+nothing peer old = ([], sym (append-nil old), tt)
+
+all_snoc : (peer : Callsign) (xs ys : List Parcel) → AllByRecursion (λ p. p.0 ≡ peer) xs → AllByRecursion (λ p. p.0 ≡ peer) ys → AllByRecursion (λ p. p.0 ≡ peer) (xs ++ ys)
+all_snoc peer [] ys a b = b
+all_snoc peer (x ∷ xs) ys a b = (a.0, all_snoc peer xs ys a.1 b)
+
+next : (peer : Callsign) (a b c : List Parcel) → Adds peer a b → Adds peer b c → Adds peer a c
+next peer a b c x y = (x.0 ++ y.0, y.1 ∙ ap (λ zs. zs ++ y.0) x.1 ∙ append_assoc a x.0 y.0, all_snoc peer x.0 y.0 x.2 y.2)
+
+handed_adds : (p : Payload) (w : Work) → Adds w.linked.peer w.pending.waiting (handed_up p w).pending.waiting
+handed_adds p w = by (p.pid == netrom) (p.pid == SEGMENT_PID)
+  where
+    by : (b c : Bool) → Adds w.linked.peer w.pending.waiting (if b
+        then record w { pending = record w.pending { waiting = w.pending.waiting ++ (w.linked.peer, p.info) ∷ [] } }
+        else if c
+        then record w { linked = record w.linked { joiner = (join_step w.linked.joiner p.info.items).0 } }
+        else w).pending.waiting
+    by true c = ((w.linked.peer, p.info) ∷ [], refl, (refl, tt))
+    by false true = nothing w.linked.peer w.pending.waiting
+    by false false = nothing w.linked.peer w.pending.waiting
+
+handed_peer : (p : Payload) (w : Work) → (handed_up p w).linked.peer ≡ w.linked.peer
+handed_peer p w = by (p.pid == netrom) (p.pid == SEGMENT_PID)
+  where
+    by : (b c : Bool) → (if b
+        then record w { pending = record w.pending { waiting = w.pending.waiting ++ (w.linked.peer, p.info) ∷ [] } }
+        else if c
+        then record w { linked = record w.linked { joiner = (join_step w.linked.joiner p.info.items).0 } }
+        else w).linked.peer ≡ w.linked.peer
+    by true c = refl
+    by false true = refl
+    by false false = refl
+
+settled_adds : (n : ℕ) (own peer : Callsign) (now : ℕ) (w : Work) → w.linked.peer ≡ peer → Adds peer w.pending.waiting (settled n own now w).pending.waiting
+settled_adds zero own peer now w e = nothing peer w.pending.waiting
+settled_adds (suc n) own peer now w e = by (slice_get w.linked.link.inbox 0) (λ p q. settled_adds n own peer now (taken own now p w) q)
+  where
+    by : (r : Option Payload) → ((p : Payload) → (taken own now p w).linked.peer ≡ peer → Adds peer (taken own now p w).pending.waiting (settled n own now (taken own now p w)).pending.waiting) →
+        Adds peer w.pending.waiting (elim r as (λ y. Work) [ None ↦ w | Some p ↦ settled n own now (taken own now p w) ]).pending.waiting
+    by None rest = nothing peer w.pending.waiting
+    by (Some p) rest =
+        let s : Work = stepped own Take now w in
+        next peer w.pending.waiting (taken own now p w).pending.waiting (settled n own now (taken own now p w)).pending.waiting
+        (subst (λ k. Adds k s.pending.waiting (handed_up p s).pending.waiting) e (handed_adds p s)) (rest p (handed_peer p s ∙ e))
+
+arrived_adds : (own peer : Callsign) (f : Frame) (now : ℕ) (w : Work) → w.linked.peer ≡ peer → Adds peer w.pending.waiting (arrived own f now w).pending.waiting
+arrived_adds own peer f now w e = by (is_down s.linked.link.phase)
+  where
+    s : Work
+    s = stepped own (Arrive f) now w
+
+    by : (b : Bool) → Adds peer w.pending.waiting (if b then s else settled most_taken own now s).pending.waiting
+    by true = nothing peer w.pending.waiting
+    by false = settled_adds most_taken own peer now s e
+
+peer_found : (peer : Callsign) (ls : List Linked) (l : Linked) → link_with peer ls ≡ Some l → peer ≡ l.peer
+peer_found peer [] l e = absurd (cc e)
+peer_found peer (m ∷ ls) l e = by (same_call peer m.peer) refl e (λ r. peer_found peer ls l r)
+  where
+    by : (b : Bool) → same_call peer m.peer ≡ b → (if b then Some m else link_with peer ls) ≡ Some l → (link_with peer ls ≡ Some l → peer ≡ l.peer) → peer ≡ l.peer
+    by true q r rest = let same : m ≡ l = cc r in same_call-true peer m.peer q ∙ ap (λ (x : Linked). x.peer) same
+    by false q r rest = rest r
+
+to_link_adds : (f : AirFrame) (now : ℕ) (t : Table) → Adds (calls.source f) t.pending.waiting (calls.to_link f now t).pending.waiting
+to_link_adds f now t = by (link_with (calls.source f) t.links) refl
+  where
+    by : (r : Option Linked) → link_with (calls.source f) t.links ≡ r → Adds (calls.source f) t.pending.waiting (elim r as (λ y. Table)
+        [ None ↦ t | Some l ↦ calls.kept (calls.source f) (arrived t.own (calls.link_frame l.link.rules.size f) now (record { linked = l; pending = t.pending })) t ]).pending.waiting
+    by None e = nothing (calls.source f) t.pending.waiting
+    by (Some l) e = arrived_adds t.own (calls.source f) (calls.link_frame l.link.rules.size f) now (record { linked = l; pending = t.pending }) (sym (peer_found (calls.source f) t.links l e))
+
+-- ---- what adds nothing
+
+at_link_keeps : (peer : Callsign) (part : Work → Work) (t : Table) → ((w : Work) → (part w).pending.waiting ≡ w.pending.waiting) → (calls.at_link peer part t).pending.waiting ≡ t.pending.waiting
+at_link_keeps peer part t k = by (link_with peer t.links)
+  where
+    by : (r : Option Linked) → (elim r as (λ y. Table) [ None ↦ t | Some l ↦ calls.kept peer (part (record { linked = l; pending = t.pending })) t ]).pending.waiting ≡ t.pending.waiting
+    by None = refl
+    by (Some l) = k (record { linked = l; pending = t.pending })
+
+ended_keeps : (peer : Callsign) (notes : List LinkNotice) (t : Table) → (calls.ended peer notes t).pending.waiting ≡ t.pending.waiting
+ended_keeps peer notes t = by (link_with peer t.links)
+  where
+    by : (r : Option Linked) → (elim r as (λ y. Table) [ None ↦ t | Some l ↦ record t { links = without peer t.links; pending = told peer notes t.pending } ]).pending.waiting ≡ t.pending.waiting
+    by None = refl
+    by (Some l) = refl
+
+new_adds : (size : ℕ) (pf : Bool) (f : AirFrame) (now : ℕ) (t : Table) → Adds (calls.source f) t.pending.waiting (calls.set_up_new size pf f now t).pending.waiting
+new_adds size pf f now t = by (nat_le calls.most_links (length t.links))
+  where
+    by : (c : Bool) → Adds (calls.source f) t.pending.waiting (if c then calls.answered f (control.Dm pf) [] t else calls.to_link f now (calls.made (calls.source f) size (calls.back f) t)).pending.waiting
+    by true = nothing (calls.source f) t.pending.waiting
+    by false = to_link_adds f now (calls.made (calls.source f) size (calls.back f) t)
+
+set_up_adds : (size : ℕ) (pf : Bool) (f : AirFrame) (now : ℕ) (t : Table) → Adds (calls.source f) t.pending.waiting (calls.set_up size pf f now t).pending.waiting
+set_up_adds size pf f now t = by (link_with (calls.source f) t.links)
+  where
+    e : Table
+    e = calls.ended (calls.source f) (Closed ∷ []) t
+
+    same : (c : Bool) → Adds (calls.source f) t.pending.waiting (if c then calls.to_link f now t else calls.set_up_new size pf f now e).pending.waiting
+    same true = to_link_adds f now t
+    same false = subst (λ xs. Adds (calls.source f) xs (calls.set_up_new size pf f now e).pending.waiting) (ended_keeps (calls.source f) (Closed ∷ []) t) (new_adds size pf f now e)
+
+    by : (r : Option Linked) → Adds (calls.source f) t.pending.waiting (elim r as (λ y. Table)
+        [ None ↦ calls.set_up_new size pf f now t | Some l ↦ if l.link.rules.size == size then calls.to_link f now t else calls.set_up_new size pf f now e ]).pending.waiting
+    by None = new_adds size pf f now t
+    by (Some l) = same (l.link.rules.size == size)
+
+other_adds : (f : AirFrame) (now : ℕ) (t : Table) → Adds (calls.source f) t.pending.waiting (calls.no_set_up f now t).pending.waiting
+other_adds f now t = by (link_with (calls.source f) t.links)
+  where
+    down : (c : Bool) → Adds (calls.source f) t.pending.waiting (if c then calls.answered_down f t else t).pending.waiting
+    down true = nothing (calls.source f) t.pending.waiting
+    down false = nothing (calls.source f) t.pending.waiting
+
+    by : (r : Option Linked) → Adds (calls.source f) t.pending.waiting (elim r as (λ y. Table) [ None ↦ if is_command f.head then calls.answered_down f t else t | Some l ↦ calls.to_link f now t ]).pending.waiting
+    by None = down (is_command f.head)
+    by (Some l) = to_link_adds f now t
+
+ui_adds : (f : AirFrame) (pid : Option ℕ) (t : Table) → Adds (calls.source f) t.pending.waiting (calls.ui f pid t).pending.waiting
+ui_adds f None t = nothing (calls.source f) t.pending.waiting
+ui_adds f (Some pid) t = by ((pid == netrom) && nat_le (length f.info) 256)
+  where
+    by : (c : Bool) → Adds (calls.source f) t.pending.waiting
+        (if c then record t { pending = record t.pending { waiting = t.pending.waiting ++ (calls.source f, record { items = f.info }) ∷ [] } } else t).pending.waiting
+    by true = ((calls.source f, record { items = f.info }) ∷ [], refl, (refl, tt))
+    by false = nothing (calls.source f) t.pending.waiting
+
+kind_adds : (command : Bool) (c : Control) (f : AirFrame) (now : ℕ) (t : Table) → Adds (calls.source f) t.pending.waiting (calls.arrive_kind command c f now t).pending.waiting
+kind_adds true (control.I ns nr pf) f now t = other_adds f now t
+kind_adds false (control.I ns nr pf) f now t = other_adds f now t
+kind_adds true (control.Rr nr pf) f now t = other_adds f now t
+kind_adds false (control.Rr nr pf) f now t = other_adds f now t
+kind_adds true (control.Rnr nr pf) f now t = other_adds f now t
+kind_adds false (control.Rnr nr pf) f now t = other_adds f now t
+kind_adds true (control.Rej nr pf) f now t = other_adds f now t
+kind_adds false (control.Rej nr pf) f now t = other_adds f now t
+kind_adds true (control.Srej nr pf) f now t = other_adds f now t
+kind_adds false (control.Srej nr pf) f now t = other_adds f now t
+kind_adds true (control.Sabm pf) f now t = set_up_adds 8 pf f now t
+kind_adds false (control.Sabm pf) f now t = other_adds f now t
+kind_adds true (control.Sabme pf) f now t = set_up_adds 128 pf f now t
+kind_adds false (control.Sabme pf) f now t = other_adds f now t
+kind_adds true (control.Disc pf) f now t = other_adds f now t
+kind_adds false (control.Disc pf) f now t = other_adds f now t
+kind_adds true (control.Dm pf) f now t = other_adds f now t
+kind_adds false (control.Dm pf) f now t = other_adds f now t
+kind_adds true (control.Ua pf) f now t = other_adds f now t
+kind_adds false (control.Ua pf) f now t = other_adds f now t
+kind_adds true (control.Frmr pf) f now t = other_adds f now t
+kind_adds false (control.Frmr pf) f now t = other_adds f now t
+kind_adds true (control.Ui pf) f now t = ui_adds f f.pid t
+kind_adds false (control.Ui pf) f now t = ui_adds f f.pid t
+kind_adds true (control.Xid pf) f now t = other_adds f now t
+kind_adds false (control.Xid pf) f now t = other_adds f now t
+kind_adds true (control.Test pf) f now t = nothing (calls.source f) t.pending.waiting
+kind_adds false (control.Test pf) f now t = other_adds f now t
+
+ticks_keep : (peers : List Callsign) (now : ℕ) (t : Table) → (calls.tick_each peers now t).pending.waiting ≡ t.pending.waiting
+ticks_keep [] now t = refl
+ticks_keep (p ∷ ps) now t = ticks_keep ps now (calls.at_link p (stepped t.own Tick now) t) ∙ at_link_keeps p (stepped t.own Tick now) t (λ w. refl)
+
+standing_keeps : (to : Callsign) (d : Datagram) (now : ℕ) (t : Table) → (calls.offer_standing to d now t).table.pending.waiting ≡ t.pending.waiting
+standing_keeps to d now t = by (link_with to t.links)
+  where
+    yes : calls.Offering
+    yes = record { answer = Taken; table = calls.at_link to (stepped t.own (Send (calls.packed d)) now) t }
+
+    no : calls.Offering
+    no = record { answer = Dropped; table = t }
+
+    takes_by : (b : Bool) → (if b then yes else no).table.pending.waiting ≡ t.pending.waiting
+    takes_by true = at_link_keeps to (stepped t.own (Send (calls.packed d)) now) t (λ w. refl)
+    takes_by false = refl
+
+    by : (r : Option Linked) → (elim r as (λ y. calls.Offering) [ None ↦ no | Some l ↦ if takes l.link then yes else no ]).table.pending.waiting ≡ t.pending.waiting
+    by None = refl
+    by (Some l) = takes_by (takes l.link)
+
+link_keeps : (to : Callsign) (d : Datagram) (now : ℕ) (t : Table) → (calls.offer_link to d now t).table.pending.waiting ≡ t.pending.waiting
+link_keeps to d now t = by (link_with to t.links)
+  where
+    m : Table
+    m = calls.made to t.size (path_to to t.paths) t
+
+    full : (b : Bool) → (if b then record { answer = Dropped; table = t } else calls.offer_standing to d now (calls.opened_to to now t)).table.pending.waiting ≡ t.pending.waiting
+    full true = refl
+    full false = standing_keeps to d now (calls.opened_to to now t) ∙ at_link_keeps to (stepped t.own Set_up now) m (λ w. refl)
+
+    by : (r : Option Linked) → (elim r as (λ y. calls.Offering) [
+      | None ↦ if nat_le calls.most_links (length t.links) then record { answer = Dropped; table = t } else calls.offer_standing to d now (calls.opened_to to now t)
+      | Some l ↦ calls.offer_standing to d now t
+    ]).table.pending.waiting ≡ t.pending.waiting
+    by None = full (nat_le calls.most_links (length t.links))
+    by (Some l) = standing_keeps to d now t
+
+offer_keeps : (to : Callsign) (d : Datagram) (now : ℕ) (t : Table) → (calls.offer to d now t).table.pending.waiting ≡ t.pending.waiting
+offer_keeps to d now t = by t.by_links
+  where
+    by : (b : Bool) → (if b then calls.offer_link to d now t else record { answer = Taken; table = calls.offer_ui to d t }).table.pending.waiting ≡ t.pending.waiting
+    by true = link_keeps to d now t
+    by false = refl
+
+pub only_frames_bring : OnlyFramesBring
+only_frames_bring =
+    record {
+      arrives = λ t f now. kind_adds (is_command f.head) f.control f now t;
+      ticks = λ t now. ticks_keep (map (λ l. l.peer) t.links) now t;
+      closes = λ t peer now. at_link_keeps peer (stepped t.own Close now) t (λ w. refl);
+      breaks = λ t peer. ended_keeps peer (Failed ∷ []) t;
+      offers = λ t to d now. offer_keeps to d now t;
+    }

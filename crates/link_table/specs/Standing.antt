@@ -1,0 +1,259 @@
+-- What the code keeps of a table of links, and for which tables it stands.
+use Rattle.std.specs.Prelude.{◌≡◌, ℕ, ◌≤◌, ◌==◌, Bool, true, false, if◌then◌else◌, List, [], ◌∷◌, ◌++◌, length, map, Result, Ok, Err, Option, None, Some}
+use Rattle.std.specs.Option.{option_to_list}
+use Rattle.ax_address.specs.Callsign.{Callsign}
+use Rattle.ax_link.specs.declared.plain.LinkConfig.{LinkConfig}
+use Rattle.ax_link.specs.declared.plain.LinkNotice.{LinkNotice}
+use Rattle.ax_link.specs.Opening.{IsDrained}
+use Rattle.ax_link.specs.Standing.{Held, StandsFor, frame_of}
+use Rattle.ax_link.specs.State.{State}
+use Rattle.ax_link.specs.Table.{Input, Send, step, takes}
+use Rattle.l3_datagram.specs.declared.carrier.Offered.{Offered}
+use Rattle.l3_datagram.specs.declared.carrier.Offered.TheVariants.{Taken, Dropped}
+use Rattle.ax_segment.specs.Joining.{Held as Joined, join_step}
+use Rattle.ax_segment.specs.declared.TheConstants.{SEGMENT_PID}
+use Rattle.radio_base.specs.declared.payload.Payload.{Payload}
+use Rattle.l3_datagram.specs.CarrierCall.{Parcel}
+use Rattle.link_table.specs.declared.link_of.LinkOf.{LinkOf}
+use Rattle.link_table.specs.declared.link_of.LinkOf.TheVariants.{Eight, Wide}
+use Rattle.link_table.specs.declared.path_refusal.PathRefusal.{PathRefusal}
+use Rattle.link_table.specs.declared.path_refusal.PathRefusal.TheVariants.{TooLong, Full, NoMemory}
+use Rattle.link_table.specs.declared.route.Route.{Route}
+use Rattle.link_table.specs.declared.pending.Pending.{Pending}
+use Rattle.link_table.specs.declared.written.Written.{Written}
+use Rattle.link_table.specs.declared.entry.Entry.{Entry}
+use Rattle.link_table.specs.declared.held_links.HeldLinks.{HeldLinks}
+use Rattle.link_table.specs.Calls.{most_links}
+use Rattle.std.proofs.Common.{refl, subst, sym}
+use Rattle.l3_datagram.specs.CarrierCall.{CarrierCall}
+use Rattle.link_table.specs.Carrying.{AllAnswer, after_call, after_calls}
+use Rattle.link_table.specs.Fetching.{PendingStands, written}
+use Rattle.link_table.specs.Frames.{all_sent, netrom}
+use Rattle.link_table.specs.Table.{Linked, Table, Via}
+use Rattle.ax_address.specs.CallOrder.{same_call}
+use Rattle.std.specs.Map.{lookup, remove_entry}
+use Rattle.link_table.specs.Works.{Work, is_down, joiner_after, lost_by}
+
+abbrev pub size_of : LinkOf → ℕ
+size_of (Eight l) = 8
+size_of (Wide l) = 128
+
+abbrev pub held_of : LinkOf → Held
+held_of (Eight l) = l
+held_of (Wide l) = l
+
+-- a link as it is kept, with over what its frames go, its joiner and what waits to be fetched
+pub record WorkStands (size : ℕ) (h : Held) (route : Route) (j : Joined) (kept : Pending) (w : Work) : Type 0 where
+  pub peer : w.linked.peer ≡ route.peer
+  pub path : w.linked.path ≡ route.path
+  pub link : StandsFor size h w.linked.link
+  pub joiner : w.linked.joiner ≡ j
+  pub pending : PendingStands kept w.pending
+
+-- what was kept goes over to what is kept as the work does
+abbrev pub Goes : ℕ → Route → (Work → Work) → Held → Held → Joined → Joined → Pending → Pending → Type 0
+Goes size route part old new joiner joiner2 kept kept2 =
+    (w : Work) → WorkStands size old route joiner kept w → WorkStands size new route joiner2 kept2 (part w)
+
+-- the frames of a link have gone out
+abbrev pub gone_out : ℕ → Route → Held → List Written
+gone_out size route h = map written (all_sent size route.own route.peer route.path (map (frame_of size) h.outs))
+
+-- what comes of a step of a link, by what waited after it
+pub record Lifted (size : ℕ) (route : Route) (old new : Held) (j j2 : Joined) (kept kept2 : Pending) : Type 0 where
+  pub link : new ≡ record old { outs = []; notice = None }
+  pub joiner : j2 ≡ joiner_after (option_to_list old.notice) j
+  pub waiting : kept2.waiting.items ≡ kept.waiting.items
+  pub lost : kept2.lost.items ≡ kept.lost.items ++ lost_by route.peer (option_to_list old.notice)
+  pub notices : kept2.notices.items ≡ kept.notices.items ++ map (λ n. (route.peer, n)) (option_to_list old.notice)
+  pub frames : kept2.frames.items ≡ kept.frames.items ++ gone_out size route old
+
+-- a payload that was taken: what is held of a message in segments, and what waits, by its PID
+abbrev pub joined_with : Payload → Joined → Joined
+joined_with p j = if p.pid == netrom then j else if p.pid == SEGMENT_PID then (join_step j p.info.items).0 else j
+
+abbrev pub waiting_with : Callsign → Payload → List Parcel → List Parcel
+waiting_with peer p ws = if p.pid == netrom then ws ++ (peer, p.info) ∷ [] else ws
+
+pub record HandsUp (p : Payload) (route : Route) (j j2 : Joined) (kept kept2 : Pending) : Type 0 where
+  pub joiner : j2 ≡ joined_with p j
+  pub waiting : kept2.waiting.items ≡ waiting_with route.peer p kept.waiting.items
+  pub lost : kept2.lost.items ≡ kept.lost.items
+  pub notices : kept2.notices.items ≡ kept.notices.items
+  pub frames : kept2.frames.items ≡ kept.frames.items
+
+abbrev pub EntryStands : Entry → Pending → Work → Type 0
+EntryStands e kept w = WorkStands (size_of e.link) (held_of e.link) e.route e.joiner kept w
+
+-- the modulus, by whether it is the greater one
+abbrev pub width : Bool → ℕ
+width wide = if wide then 128 else 8
+
+-- what was kept of an entry goes over to what is kept as the work does; the entry stays at its route and modulus
+pub record EntryGoes (part : Work → Work) (old new : Entry) (kept kept2 : Pending) : Type 0 where
+  pub route : new.route ≡ old.route
+  pub size : size_of new.link ≡ size_of old.link
+  pub goes : Goes (size_of old.link) old.route part (held_of old.link) (held_of new.link) old.joiner new.joiner kept kept2
+
+-- a link of the table
+pub record LinkStands (node key : Callsign) (e : Entry) (l : Linked) : Type 0 where
+  pub own : e.route.own ≡ node
+  pub peer : e.route.peer ≡ key
+  pub is : l.peer ≡ key
+  pub path : l.path ≡ e.route.path
+  pub link : StandsFor (size_of e.link) (held_of e.link) l.link
+  pub joiner : l.joiner ≡ e.joiner
+
+-- link by link, in their order
+abbrev pub LinksStand : Callsign → List (Callsign × Entry) → List Linked → Type 0
+LinksStand own [] [] = Unit {0}
+LinksStand own (e ∷ es) (l ∷ ls) = LinkStands own e.0 e.1 l × LinksStand own es ls
+LinksStand own [] (l ∷ ls) = ⊥
+LinksStand own (e ∷ es) [] = ⊥
+
+-- nothing waits at a link
+abbrev pub AllDrained : List (Callsign × Entry) → Type 0
+AllDrained [] = Unit {0}
+AllDrained (e ∷ es) = IsDrained (held_of e.1.link) × AllDrained es
+
+-- what the code keeps stands for a table
+pub record CoreStands (c : HeldLinks) (t : Table) : Type 0 where
+  pub own : t.own ≡ c.own
+  pub by_links : t.by_links ≡ c.by_links
+  pub size : t.size ≡ width c.wide
+  pub config : t.config ≡ c.config
+  pub links : LinksStand c.own c.links.entries t.links
+  pub paths : t.paths ≡ c.paths.entries
+  pub pending : PendingStands c.pending t.pending
+
+-- what was kept goes over to what is kept as the call does
+abbrev pub CoreGoes : (Table → Table) → HeldLinks → HeldLinks → Type 0
+CoreGoes part old new = (t : Table) → CoreStands old t → CoreStands new (part t)
+
+-- between calls no link has anything left to put out or to tell, and there are no more than 64
+pub record Rests (c : HeldLinks) : Type 0 where
+  pub drained : AllDrained c.links.entries
+  pub few : length c.links.entries ≤ most_links
+
+-- whether the link with a peer is Down
+abbrev pub down_by : Option Entry → Bool
+down_by None = false
+down_by (Some e) = is_down (held_of e.link).phase
+
+abbrev pub down_at : Callsign → List (Callsign × Entry) → Bool
+down_at peer es = down_by (lookup (same_call peer) es)
+
+abbrev pub down_left : Callsign → List (Callsign × Entry) → List (Callsign × Entry)
+down_left peer es = if down_at peer es then remove_entry (same_call peer) es else es
+
+-- what contracts see of a table of links
+pub record Kept : Type 0 where
+  pub own : Callsign
+  pub by_links : Bool
+  pub wide : Bool
+  pub config : LinkConfig
+  pub links : List (Callsign × Entry)
+  pub paths : List Via
+  pub waiting : List Parcel
+  pub lost : List Callsign
+  pub notices : List (Callsign × LinkNotice)
+  pub frames : List Written
+  pub spent : Bool  -- memory ran out in an earlier call
+
+abbrev pub shown : HeldLinks → Bool → Kept
+shown c spent =
+    record {
+      own = c.own;
+      by_links = c.by_links;
+      wide = c.wide;
+      config = c.config;
+      links = c.links.entries;
+      paths = c.paths.entries;
+      waiting = c.pending.waiting.items;
+      lost = c.pending.lost.items;
+      notices = c.pending.notices.items;
+      frames = c.pending.frames.items;
+      spent = spent;
+    }
+
+-- it stands for a table where it isn't spent, and holds what the table holds but for what links have forgotten
+pub record TableStands (k : Kept) (t : Table) : Type 0 where
+  pub spent : k.spent ≡ false
+  pub own : t.own ≡ k.own
+  pub by_links : t.by_links ≡ k.by_links
+  pub size : t.size ≡ width k.wide
+  pub config : t.config ≡ k.config
+  pub links : LinksStand k.own k.links t.links
+  pub paths : t.paths ≡ k.paths
+  pub waiting : k.waiting ≡ t.pending.waiting
+  pub lost : k.lost ≡ t.pending.lost
+  pub notices : k.notices ≡ t.pending.notices
+  pub frames : k.frames ≡ map written t.pending.frames
+
+abbrev pub TableGoes : (Table → Table) → Kept → Kept → Type 0
+TableGoes part old new = (t : Table) → TableStands old t → TableStands new (part t)
+
+-- For each table that the carrier before stands for, these calls have these answers, and the carrier after stands for the
+-- table to which they lead.
+abbrev pub Made : Kept → List CarrierCall → Kept → Type 0
+Made old cs new = (t : Table) → TableStands old t → AllAnswer t cs × TableStands new (after_calls cs t)
+
+all_answer : (t : Table) (cs more : List CarrierCall) → AllAnswer t cs → AllAnswer (after_calls cs t) more → AllAnswer t (cs ++ more)
+all_answer t [] more a b = b
+all_answer t (c ∷ cs) more a b = (a.0, all_answer (after_call c t) cs more a.1 b)
+
+after_more : (t : Table) (cs more : List CarrierCall) → after_calls (cs ++ more) t ≡ after_calls more (after_calls cs t)
+after_more t [] more = refl
+after_more t (c ∷ cs) more = after_more (after_call c t) cs more
+
+pub more_made : (a b c : Kept) (cs more : List CarrierCall) → Made a cs b → Made b more c → Made a (cs ++ more) c
+more_made a b c cs more first next t s =
+    let x = first t s in
+    let y = next (after_calls cs t) x.1 in
+    (all_answer t cs more x.0 y.0, subst (TableStands c) (sym (after_more t cs more)) y.1)
+
+-- frames that were kept go over to those that are kept as the step of the link puts out; it tells nothing
+pub record Quietly (size : ℕ) (route : Route) (i : Input) (now : ℕ) (s : State) (new : Held) (fs fs2 : List Written) : Type 0 where
+  pub link : StandsFor size new (step s i now).link
+  pub frames : fs2 ≡ fs ++ map written (all_sent size route.own route.peer route.path (step s i now).outs)
+  pub notes : (step s i now).notes ≡ []
+
+abbrev pub GoesQuietly : ℕ → Route → Input → ℕ → Held → Held → List Written → List Written → Type 0
+GoesQuietly size route i now old new fs fs2 = (s : State) → StandsFor size old s → Quietly size route i now s new fs fs2
+
+-- a payload is offered to a link: it is taken, or nothing is changed
+abbrev pub Offers : ℕ → Route → Payload → ℕ → Held → Held → List Written → List Written → Offered → Type 0
+Offers size route p now old new fs fs2 Taken = ((s : State) → StandsFor size old s → takes s ≡ true) × GoesQuietly size route (Send p) now old new fs fs2
+Offers size route p now old new fs fs2 Dropped = ((s : State) → StandsFor size old s → takes s ≡ false) × (new ≡ old) × (fs2 ≡ fs)
+
+-- of an entry, all but its link stays, and that keeps its modulus
+pub record SameEntry (old new : Entry) : Type 0 where
+  pub route : new.route ≡ old.route
+  pub joiner : new.joiner ≡ old.joiner
+  pub size : size_of new.link ≡ size_of old.link
+
+abbrev pub is_wide : LinkOf → Bool
+is_wide (Eight l) = false
+is_wide (Wide l) = true
+
+-- whether the link with a peer is of modulo 128, where one stands
+abbrev pub wide_by : Option Entry → Option Bool
+wide_by None = None
+wide_by (Some e) = Some (is_wide e.link)
+
+abbrev pub wide_at : Callsign → List (Callsign × Entry) → Option Bool
+wide_at peer es = wide_by (lookup (same_call peer) es)
+
+-- a link that is lent stands for the one of the table: none where none stands
+abbrev pub LentStands : Option LinkOf → Option Linked → Type 0
+LentStands None None = Unit {0}
+LentStands (Some l) (Some linked) = StandsFor (size_of l) (held_of l) linked.link
+LentStands None (Some linked) = ⊥
+LentStands (Some l) None = ⊥
+
+-- a call has an answer other than want of memory
+abbrev pub NotNoMemory : Result (Unit {0}) PathRefusal → Type 0
+NotNoMemory (Ok _) = Unit {0}
+NotNoMemory (Err NoMemory) = ⊥
+NotNoMemory (Err TooLong) = Unit {0}
+NotNoMemory (Err Full) = Unit {0}

@@ -1,0 +1,83 @@
+-- A step of one link, and what comes of it at the node.
+use Rattle.std.specs.Prelude.{ℕ, zero, suc, ◌==◌, Bool, true, false, if◌then◌else◌, List, [], ◌∷◌, ◌++◌, map, slice_get, None, Some}
+use Rattle.radio_base.specs.declared.payload.Payload.{Payload}
+use Rattle.ax_address.specs.Callsign.{Callsign}
+use Rattle.ax_link.specs.declared.plain.LinkNotice.{LinkNotice}
+use Rattle.ax_link.specs.declared.plain.LinkNotice.TheVariants.{Reset, Refused, Failed}
+use Rattle.ax_link.specs.declared.plain.LinkPhase.{LinkPhase}
+use Rattle.ax_link.specs.declared.plain.LinkPhase.TheVariants.{Down, SettingUp, Up, Releasing}
+use Rattle.ax_link.specs.State.{Frame, Going}
+use Rattle.ax_link.specs.Table.{Input, Arrive, Take, step}
+use Rattle.ax_segment.specs.declared.TheConstants.{SEGMENT_PID}
+use Rattle.ax_segment.specs.Joining.{Held, Nothing, join_step}
+use Rattle.link_table.specs.Frames.{Sent, netrom, all_sent}
+use Rattle.link_table.specs.Table.{Linked, Pending}
+
+-- a link, and what waits to be fetched
+pub record Work : Type 0 where
+  pub linked : Linked
+  pub pending : Pending
+
+-- a Reset empties the joiner
+abbrev pub joiner_after : List LinkNotice → Held → Held
+joiner_after [] held = held
+joiner_after (Reset ∷ notes) held = Nothing
+joiner_after (n ∷ notes) held = joiner_after notes held
+
+-- the peer is lost where its link has failed or was refused
+abbrev pub lost_by : Callsign → List LinkNotice → List Callsign
+lost_by peer [] = []
+lost_by peer (Failed ∷ notes) = peer ∷ lost_by peer notes
+lost_by peer (Refused ∷ notes) = peer ∷ lost_by peer notes
+lost_by peer (n ∷ notes) = lost_by peer notes
+
+abbrev pub told : Callsign → List LinkNotice → Pending → Pending
+told peer notes p = record p { notices = p.notices ++ map (λ n. (peer, n)) notes; lost = p.lost ++ lost_by peer notes }
+
+abbrev pub put_out : List Sent → Pending → Pending
+put_out sents p = record p { frames = p.frames ++ sents }
+
+-- what comes of a step of the link: its frames go out over its path, and its notices are told
+abbrev pub lifted : Callsign → Going → Work → Work
+lifted own g w =
+    record {
+      linked = record w.linked { link = g.link; joiner = joiner_after g.notes w.linked.joiner };
+      pending = told w.linked.peer g.notes (put_out (all_sent w.linked.link.rules.size own w.linked.peer w.linked.path g.outs) w.pending);
+    }
+
+abbrev pub stepped : Callsign → Input → ℕ → Work → Work
+stepped own i now w = lifted own (step w.linked.link i now) w
+
+-- a payload that was taken from the link: a datagram comes up, a segment goes to the joiner, and all else is dropped
+abbrev pub handed_up : Payload → Work → Work
+handed_up p w =
+    if p.pid == netrom
+    then record w { pending = record w.pending { waiting = w.pending.waiting ++ (w.linked.peer, p.info) ∷ [] } }
+    else if p.pid == SEGMENT_PID
+    then record w { linked = record w.linked { joiner = (join_step w.linked.joiner p.info.items).0 } }
+    else w
+
+abbrev pub taken : Callsign → ℕ → Payload → Work → Work
+taken own now p w = handed_up p (stepped own Take now w)
+
+-- payload by payload is taken, as long as one is there and fewer than so many were
+abbrev pub settled : ℕ → Callsign → ℕ → Work → Work
+settled zero own now w = w
+settled (suc n) own now w =
+    elim (slice_get w.linked.link.inbox 0) as (λ x. Work) [ None ↦ w | Some p ↦ settled n own now (taken own now p w) ]
+
+-- more than an inbox and the places for early payloads hold
+abbrev pub most_taken : ℕ
+most_taken = 192
+
+abbrev pub is_down : LinkPhase → Bool
+is_down Down = true
+is_down SettingUp = false
+is_down Up = false
+is_down Releasing = false
+
+-- a frame has come: what it brought is taken at once, unless the link has ended
+abbrev pub arrived : Callsign → Frame → ℕ → Work → Work
+arrived own f now w =
+    let s : Work = stepped own (Arrive f) now w in
+    if is_down s.linked.link.phase then s else settled most_taken own now s

@@ -1,0 +1,454 @@
+//! The links of a node, whether or not memory has run out.
+ghost use Rattle.std.specs.Prelude.{◌≡◌, ◌≤◌, ◌<◌, ℕ, List, None, Some, OnOk, IfOk, if◌then◌else◌, map, length, is_some, true, ◌∷◌, []};
+ghost use Rattle.ax_link.specs.State.{count_end};
+ghost use Rattle.indexmap.specs.IndexMap.{shift_remove_entry, keys};
+ghost use Rattle.std.specs.Map.{keys_of, lookup};
+ghost use Rattle.ax_frame.specs.Frames.{HasParts, view};
+ghost use Rattle.ax_frame.specs.FrameText.{is_command};
+ghost use Rattle.ax_address.specs.CallOrder.{same_call};
+ghost use Rattle.ax_link.specs.Table as table;
+ghost use Rattle.link_table.specs.Works as works;
+ghost use Rattle.link_table.specs.Calls as calls;
+
+use crate::answers::{answer, refusal, way_back};
+use crate::entry::Entry;
+use crate::offers::packed;
+use crate::pending::{Pending, put};
+use crate::route::{Route, copy_of};
+use crate::work::note;
+use crate::{MAX_LINKS, NETROM_PID};
+use arrayvec::ArrayVec;
+use ax_address::{Call, Path};
+use ax_frame::{Control, FrameView, is_command};
+use ax_link::{LinkConfig, LinkNotice};
+use indexmap::IndexMap;
+use l3_datagram::{Datagram, MAX_DATAGRAM, Offered};
+use radio_base::{M8, Moment, NoMemory};
+use std::alloc::Global;
+
+#[derive(Drop)]
+pub(crate) struct HeldLinks {
+    pub(crate) alloc: Global,
+    pub(crate) own: Call,
+    pub(crate) by_links: bool,
+    pub(crate) wide: bool,
+    pub(crate) config: LinkConfig,
+    pub(crate) links: IndexMap<Call, Entry>,
+    pub(crate) paths: IndexMap<Call, Path>,
+    pub(crate) pending: Pending,
+    ghost t1_fits: { config.t1 ≤ count_end },
+    ghost t3_fits: { config.t3 ≤ count_end },
+}
+
+impl HeldLinks {
+    ghost use Rattle.link_table.specs.Table.{Table, path_to};
+    ghost use Rattle.link_table.specs.Standing.{CoreGoes, CoreStands, Rests, down_at, down_left, wide_at, width};
+
+    /// Whether the link with a peer is of modulo 128: none where no link stands.
+    fn width(&self, peer: &Call) -> Option<bool>
+        ensures { result ≡ wide_at peer.now self.now.links.entries }
+    {
+        match self.links.get(peer) {
+            Some(entry) => Some(entry.is_wide()),
+            None => None,
+        }
+    }
+
+    /// Whether the link with a peer is Down.
+    fn is_down(&self, peer: &Call) -> bool
+        ensures { result ≡ down_at peer.now self.now.links.entries }
+    {
+        match self.links.get(peer) {
+            Some(entry) => entry.is_down(),
+            None => false,
+        }
+    }
+
+    /// A link that is Down leaves at once.
+    fn drop_if_down(&mut self, peer: &Call)
+        ensures rest { self.new ≡ record self.old { links = self.new.links } }
+        ensures left { self.new.links.entries ≡ down_left peer.now self.old.links.entries }
+    {
+        if self.is_down(peer) {
+            let _ = self.links.shift_remove(peer);
+        }
+    }
+
+    /// The repeaters to a peer.
+    fn path_to(&self, peer: &Call) -> Path
+        ensures { result ≡ path_to peer.now self.now.paths.entries }
+    {
+        match self.paths.get(peer) {
+            Some(path) => copy_of(path),
+            None => Path::new(),
+        }
+    }
+
+    /// One link more, which is Down.
+    fn make(&mut self, wide: bool, route: Route) -> Result<(), NoMemory>
+        requires rests { Rests self.old }
+        requires none { lookup (same_call route.peer) self.old.links.entries ≡ None }
+        requires room { length self.old.links.entries < calls.most_links }
+        requires own { route.own ≡ self.old.own }
+        ensures rests { OnOk result (Rests self.new) }
+        ensures goes { OnOk result (CoreGoes (calls.made route.peer (width wide) route.path) self.old self.new) }
+        ensures same { OnOk result (self.new ≡ record self.old { links = self.new.links }) }
+        ensures pending { self.new.pending ≡ self.old.pending }
+    {
+        let peer = route.peer;
+        let entry = Entry::new(self.alloc, wide, self.config, route)?;
+        self.links.insert(peer, entry)?;
+        Ok(())
+    }
+
+    /// A link ends without a frame.
+    pub(crate) fn end(&mut self, peer: &Call, notice: LinkNotice) -> Result<(), NoMemory>
+        requires { Rests self.old }
+        ensures rests { OnOk result (Rests self.new) }
+        ensures goes { OnOk result (CoreGoes (calls.ended peer.now (notice ∷ [])) self.old self.new) }
+        ensures gone { OnOk result (lookup (same_call peer.now) self.new.links.entries ≡ None) }
+        ensures same { OnOk result (self.new ≡ record self.old { links = self.new.links; pending = self.new.pending }) }
+    {
+        if self.remove(peer) {
+            note(notice, peer, &mut self.pending)?;
+        }
+        Ok(())
+    }
+
+    /// Takes the link with a peer out, and says whether one stood.
+    fn remove(&mut self, peer: &Call) -> bool
+        ensures stood { result ≡ is_some (lookup (same_call peer.now) self.old.links.entries) }
+        ensures rest { self.new ≡ record self.old { links = self.new.links } }
+        ensures left { self.new.links.entries ≡ shift_remove_entry (same_call peer.now) self.old.links.entries }
+        ensures gone { lookup (same_call peer.now) self.new.links.entries ≡ None }
+    {
+        self.links.shift_remove(peer).is_some()
+    }
+
+    fn to_link(&mut self, frame: &FrameView<'_>, now: Moment) -> Result<(), NoMemory>
+        requires { Rests self.old }
+        ensures rests { OnOk result (Rests self.new) }
+        ensures goes { OnOk result (CoreGoes (calls.to_link (view frame.now) now.0) self.old self.new) }
+    {
+        let peer = frame.head.source.call;
+        match self.links.get_mut(&peer) {
+            Some(entry) => entry.arrive(&mut self.pending, frame, now)?,
+            None => return Ok(()),
+        }
+        self.drop_if_down(&peer);
+        Ok(())
+    }
+
+    fn answer(
+        &mut self,
+        frame: &FrameView<'_>,
+        control: &Control,
+        info: &[u8],
+    ) -> Result<(), NoMemory>
+        requires { HasParts 8 control.now None info.now }
+        ensures goes { OnOk result (CoreGoes (calls.answered (view frame.now) control.now info.now) self.old self.new) }
+        ensures links { self.new.links ≡ self.old.links }
+    {
+        answer(&mut self.pending.frames, &self.own, frame, control, info)?;
+        Ok(())
+    }
+
+    fn set_up_new(
+        &mut self,
+        wide: bool,
+        pf: bool,
+        frame: &FrameView<'_>,
+        now: Moment,
+    ) -> Result<(), NoMemory>
+        requires rests { Rests self.old }
+        requires none { lookup (same_call (calls.source (view frame.now))) self.old.links.entries ≡ None }
+        ensures rests { OnOk result (Rests self.new) }
+        ensures goes { OnOk result (CoreGoes (calls.set_up_new (width wide) pf (view frame.now) now.0) self.old self.new) }
+    {
+        if self.links.len() >= MAX_LINKS {
+            self.answer(frame, &Control::Dm { pf }, &[])?;
+            return Ok(());
+        }
+        let route = way_back(&self.own, frame);
+        self.make(wide, route)?;
+        self.to_link(frame, now)?;
+        Ok(())
+    }
+
+    fn set_up(
+        &mut self,
+        wide: bool,
+        pf: bool,
+        frame: &FrameView<'_>,
+        now: Moment,
+    ) -> Result<(), NoMemory>
+        requires { Rests self.old }
+        ensures rests { OnOk result (Rests self.new) }
+        ensures goes { OnOk result (CoreGoes (calls.set_up (width wide) pf (view frame.now) now.0) self.old self.new) }
+    {
+        match self.width(&frame.head.source.call) {
+            None => {
+                self.set_up_new(wide, pf, frame, now)?;
+                Ok(())
+            }
+            Some(of_link) => {
+                if of_link == wide {
+                    self.to_link(frame, now)?;
+                    return Ok(());
+                }
+                self.end(&frame.head.source.call, LinkNotice::Closed)?;
+                self.set_up_new(wide, pf, frame, now)?;
+                Ok(())
+            }
+        }
+    }
+
+    fn no_set_up(
+        &mut self,
+        command: bool,
+        frame: &FrameView<'_>,
+        now: Moment,
+    ) -> Result<(), NoMemory>
+        requires rests { Rests self.old }
+        requires command { command ≡ is_command frame.now.head }
+        ensures rests { OnOk result (Rests self.new) }
+        ensures goes { OnOk result (CoreGoes (calls.no_set_up (view frame.now) now.0) self.old self.new) }
+    {
+        if self.links.contains_key(&frame.head.source.call) {
+            self.to_link(frame, now)?;
+            return Ok(());
+        }
+        if command {
+            self.answer_down(frame)?;
+        }
+        Ok(())
+    }
+
+    /// Where no link stands, a command is answered as by a link that is Down.
+    fn answer_down(&mut self, frame: &FrameView<'_>) -> Result<(), NoMemory>
+        ensures goes { OnOk result (CoreGoes (calls.answered_down (view frame.now)) self.old self.new) }
+        ensures links { self.new.links ≡ self.old.links }
+    {
+        match refusal(&frame.control) {
+            Some(pf) => {
+                self.answer(frame, &Control::Dm { pf }, &[])?;
+                Ok(())
+            }
+            None => Ok(()),
+        }
+    }
+
+    /// A datagram in a UI frame.
+    fn ui(&mut self, frame: &FrameView<'_>) -> Result<(), NoMemory>
+        ensures goes { OnOk result (CoreGoes (calls.ui (view frame.now) frame.now.pid) self.old self.new) }
+        ensures links { self.new.links ≡ self.old.links }
+    {
+        if frame.pid == Some(NETROM_PID) && frame.info.len() <= MAX_DATAGRAM {
+            let mut datagram = Datagram::new();
+            let _ = datagram.try_extend_from_slice(frame.info);
+            self.pending
+                .waiting
+                .push_back((frame.head.source.call, datagram))?;
+        }
+        Ok(())
+    }
+
+    /// Takes in a frame to this node.
+    pub(crate) fn arrive(&mut self, frame: &FrameView<'_>, now: Moment) -> Result<(), NoMemory>
+        requires { Rests self.old }
+        ensures rests { OnOk result (Rests self.new) }
+        ensures goes { OnOk result (CoreGoes (calls.arrive (view frame.now) now.0) self.old self.new) }
+    {
+        if is_command(&frame.head) {
+            self.arrive_command(frame, now)?;
+            return Ok(());
+        }
+        match frame.control {
+            Control::Ui { .. } => self.ui(frame)?,
+            _ => self.no_set_up(false, frame, now)?,
+        }
+        Ok(())
+    }
+
+    fn arrive_command(&mut self, frame: &FrameView<'_>, now: Moment) -> Result<(), NoMemory>
+        requires rests { Rests self.old }
+        requires command { is_command frame.now.head ≡ true }
+        ensures rests { OnOk result (Rests self.new) }
+        ensures goes { OnOk result (CoreGoes (calls.arrive_kind true frame.now.control (view frame.now) now.0) self.old self.new) }
+    {
+        match frame.control {
+            Control::Ui { .. } => self.ui(frame)?,
+            Control::Test { pf } => self.answer(frame, &Control::Test { pf }, frame.info)?,
+            Control::Sabm { pf } => self.set_up(false, pf, frame, now)?,
+            Control::Sabme { pf } => self.set_up(true, pf, frame, now)?,
+            _ => self.no_set_up(true, frame, now)?,
+        }
+        Ok(())
+    }
+
+    /// The peers, in the order in which their links were made.
+    fn peers(&self) -> ArrayVec<Call, 64>
+        requires { Rests self.now }
+        ensures { result.items ≡ keys_of self.now.links.entries }
+    {
+        let mut peers = ArrayVec::new();
+        let _ = peers.try_extend_from_slice(self.links.keys().as_slice());
+        peers
+    }
+
+    fn tick_link(&mut self, peer: &Call, now: Moment) -> Result<(), NoMemory>
+        requires { Rests self.old }
+        ensures rests { OnOk result (Rests self.new) }
+        ensures goes { OnOk result (CoreGoes (λ t. calls.at_link peer.now (works.stepped t.own table.Tick now.0) t) self.old self.new) }
+    {
+        match self.links.get_mut(peer) {
+            Some(entry) => entry.tick(&mut self.pending, now)?,
+            None => return Ok(()),
+        }
+        self.drop_if_down(peer);
+        Ok(())
+    }
+
+    pub(crate) fn tick(&mut self, now: Moment) -> Result<(), NoMemory>
+        requires { Rests self.old }
+        ensures rests { OnOk result (Rests self.new) }
+        ensures goes { OnOk result (CoreGoes (calls.tick now.0) self.old self.new) }
+    {
+        let peers = self.peers();
+        for peer in peers.as_slice() {
+            self.tick_link(peer, now)?;
+        }
+        Ok(())
+    }
+
+    pub(crate) fn close(&mut self, peer: &Call, now: Moment) -> Result<(), NoMemory>
+        requires { Rests self.old }
+        ensures rests { OnOk result (Rests self.new) }
+        ensures goes { OnOk result (CoreGoes (calls.close peer.now now.0) self.old self.new) }
+    {
+        match self.links.get_mut(peer) {
+            Some(entry) => entry.close(&mut self.pending, now)?,
+            None => return Ok(()),
+        }
+        self.drop_if_down(peer);
+        Ok(())
+    }
+
+    fn offer_ui(&mut self, to: &Call, datagram: &Datagram) -> Result<(), NoMemory>
+        ensures goes { OnOk result (CoreGoes (calls.offer_ui to.now datagram.now) self.old self.new) }
+        ensures links { self.new.links ≡ self.old.links }
+        ensures waiting { self.new.pending.waiting ≡ self.old.pending.waiting }
+        ensures lost { self.new.pending.lost ≡ self.old.pending.lost }
+    {
+        let route = Route {
+            own: self.own,
+            peer: *to,
+            path: self.path_to(to),
+        };
+        put::<M8>(
+            &mut self.pending.frames,
+            &route.head(true),
+            &Control::Ui { pf: false },
+            Some(NETROM_PID),
+            datagram.as_slice(),
+        )
+    }
+
+    fn set_up_link(&mut self, to: &Call, now: Moment) -> Result<(), NoMemory>
+        requires { Rests self.old }
+        ensures rests { OnOk result (Rests self.new) }
+        ensures goes { OnOk result (CoreGoes (λ t. calls.at_link to.now (works.stepped t.own table.Set_up now.0) t) self.old self.new) }
+        ensures waiting { self.new.pending.waiting ≡ self.old.pending.waiting }
+        ensures lost { self.new.pending.lost ≡ self.old.pending.lost }
+    {
+        match self.links.get_mut(to) {
+            Some(entry) => {
+                entry.set_up(&mut self.pending.frames, now)?;
+                Ok(())
+            }
+            None => Ok(()),
+        }
+    }
+
+    fn send(&mut self, to: &Call, datagram: &Datagram, now: Moment) -> Result<Offered, NoMemory>
+        requires { Rests self.old }
+        ensures rests { OnOk result (Rests self.new) }
+        ensures offers { IfOk result (λ answer. (t : Table) → CoreStands self.old t →
+            (answer ≡ (calls.offer_standing to.now datagram.now now.0 t).answer) × CoreStands self.new (calls.offer_standing to.now datagram.now now.0 t).table) }
+        ensures waiting { self.new.pending.waiting ≡ self.old.pending.waiting }
+        ensures lost { self.new.pending.lost ≡ self.old.pending.lost }
+    {
+        let payload = packed(datagram);
+        match self.links.get_mut(to) {
+            Some(entry) => {
+                let offered = entry.send(&mut self.pending.frames, &payload, now)?;
+                Ok(offered)
+            }
+            None => Ok(Offered::Dropped),
+        }
+    }
+
+    pub(crate) fn offer(
+        &mut self,
+        to: &Call,
+        datagram: &Datagram,
+        now: Moment,
+    ) -> Result<Offered, NoMemory>
+        requires { Rests self.old }
+        ensures rests { OnOk result (Rests self.new) }
+        ensures offers { IfOk result (λ answer. (t : Table) → CoreStands self.old t →
+            (answer ≡ (calls.offer to.now datagram.now now.0 t).answer) × CoreStands self.new (calls.offer to.now datagram.now now.0 t).table) }
+        ensures waiting { self.new.pending.waiting ≡ self.old.pending.waiting }
+        ensures lost { self.new.pending.lost ≡ self.old.pending.lost }
+    {
+        if !self.by_links {
+            self.offer_ui(to, datagram)?;
+            return Ok(Offered::Taken);
+        }
+        if self.links.contains_key(to) {
+            let offered = self.send(to, datagram, now)?;
+            return Ok(offered);
+        }
+        if self.links.len() >= MAX_LINKS {
+            return Ok(Offered::Dropped);
+        }
+        let offered = self.offer_new(to, datagram, now)?;
+        Ok(offered)
+    }
+
+    /// Offers a datagram to a link that is made for it.
+    fn offer_new(
+        &mut self,
+        to: &Call,
+        datagram: &Datagram,
+        now: Moment,
+    ) -> Result<Offered, NoMemory>
+        requires rests { Rests self.old }
+        requires none { lookup (same_call to.now) self.old.links.entries ≡ None }
+        requires room { length self.old.links.entries < calls.most_links }
+        ensures rests { OnOk result (Rests self.new) }
+        ensures offers { IfOk result (λ answer. (t : Table) → CoreStands self.old t →
+            (answer ≡ (calls.offer_standing to.now datagram.now now.0 (calls.opened_to to.now now.0 t)).answer)
+            × CoreStands self.new (calls.offer_standing to.now datagram.now now.0 (calls.opened_to to.now now.0 t)).table) }
+        ensures waiting { self.new.pending.waiting ≡ self.old.pending.waiting }
+        ensures lost { self.new.pending.lost ≡ self.old.pending.lost }
+    {
+        let route = Route {
+            own: self.own,
+            peer: *to,
+            path: self.path_to(to),
+        };
+        self.make(self.wide, route)?;
+        self.set_up_link(to, now)?;
+        let offered = self.send(to, datagram, now)?;
+        Ok(offered)
+    }
+
+    pub(crate) fn set_path(&mut self, peer: &Call, path: &Path) -> Result<(), NoMemory>
+        ensures goes { OnOk result (CoreGoes (calls.with_path peer.now path.now) self.old self.new) }
+        ensures links { self.new.links ≡ self.old.links }
+    {
+        self.paths.insert(*peer, copy_of(path))?;
+        Ok(())
+    }
+}

@@ -1,0 +1,29 @@
+//! A node's links by peer, and with them a carrier of datagrams (AX.25 2.2; NET/ROM, Appendix B).
+#![tactic(auto)]
+
+mod answers;
+mod entry;
+mod held_links;
+pub mod laws;
+mod link_of;
+mod offers;
+mod path_refusal;
+mod pending;
+mod route;
+mod table;
+mod work;
+mod written;
+
+pub use link_of::LinkOf;
+pub use path_refusal::PathRefusal;
+pub use table::LinkTable;
+pub use written::{Written, WrittenAs};
+
+/// The PID of what NET/ROM sends (AX.25 2.2, section 3.4).
+pub const NETROM_PID: u8 = 0xCF;
+/// The most links of a node (this project's profile).
+pub const MAX_LINKS: usize = 64;
+/// The most peers that have a path (this project's profile).
+pub const MAX_PATHS: usize = 16;
+/// The most repeaters of a path that a node uses first (this project's profile).
+pub const MAX_REPEATERS: usize = 2;
