@@ -24,13 +24,12 @@ use Rattle.ax_link.specs.State.{Frame, Rules}
 use Rattle.ax_link.specs.Table.{Arrive, Close, Input, Send, Set_up, Take, Tick, step, takes}
 use Rattle.ax_link.specs.declared.plain.LinkNotice.{LinkNotice}
 use Rattle.ax_link.specs.declared.plain.LinkNotice.TheVariants.{Closed, Failed}
-use Rattle.ax_segment.specs.declared.TheConstants.{SEGMENT_PID}
 use Rattle.ax_segment.specs.Joining.{Nothing, join_step}
 use Rattle.l3_datagram.specs.CarrierCall.{Datagram}
 use Rattle.l3_datagram.specs.declared.carrier.Offered.TheVariants.{Taken, Dropped}
 use Rattle.ax_frame.specs.declared.head.Head.{Head}
 use Rattle.link_table.specs.Calls as calls
-use Rattle.link_table.specs.Frames.{all_sent, fitting, head_to, is_numbered, most_octets, netrom, octets_of, Sent, sent, sent_by}
+use Rattle.link_table.specs.Frames.{all_sent, fitting, head_to, is_numbered, most_octets, netrom, octets_of, segment, Sent, sent, sent_by}
 use Rattle.link_table.specs.Laws.{Brings, Carries, CarriesOn, FrameHolds, LinkHolds, ParcelCame, goes_to}
 use Rattle.link_table.specs.Table.{Linked, Pending, Table, path_to, link_with, with_link, without}
 use Rattle.link_table.specs.Works.{Work, arrived, is_down, handed_up, most_taken, put_out, settled, stepped, taken, told}
@@ -116,7 +115,7 @@ module _ (law : PayloadsStay) (bounds_stay : BoundsStay) (settings_stay : Settin
       )
 
   handed_carries : (p : Payload) (w : Work) → Has (came w.linked.peer) p → WorkCarries w → WorkCarries (handed_up p w)
-  handed_carries p w a x = by (p.pid == netrom) refl (p.pid == SEGMENT_PID)
+  handed_carries p w a x = by (p.pid == netrom) refl (p.pid == segment)
     where
       by : (b : Bool) → (p.pid == netrom) ≡ b → (c : Bool) → WorkCarries
           (if b

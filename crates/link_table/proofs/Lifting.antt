@@ -9,12 +9,11 @@ use Rattle.ax_link.specs.Standing.{Held, Stands, StandsFor, frame_of}
 use Rattle.ax_link.specs.State.{Frame, Going, State}
 use Rattle.ax_link.specs.Table.{Arrive, Input, Take, step}
 use Rattle.ax_segment.specs.Joining.{Held as Joined, join_step}
-use Rattle.ax_segment.specs.declared.TheConstants.{SEGMENT_PID}
 use Rattle.link_table.specs.declared.route.Route.{Route}
 use Rattle.link_table.specs.declared.pending.Pending.{Pending}
 use Rattle.link_table.specs.declared.written.Written.{Written}
 use Rattle.link_table.specs.Fetching.{written}
-use Rattle.link_table.specs.Frames.{Sent, all_sent, fitting, netrom, sent_by}
+use Rattle.link_table.specs.Frames.{all_sent, fitting, netrom, segment, Sent, sent_by}
 use Rattle.link_table.specs.Standing.{GoesQuietly, Goes, HandsUp, Lifted, WorkStands, gone_out}
 use Rattle.link_table.specs.Works.{Work, arrived, is_down, handed_up, most_taken, settled, stepped, taken}
 
@@ -76,7 +75,7 @@ lifts size route i now old mid new j j2 k k2 does l w stands =
 -- a payload that was taken is handed up
 pub hands : (size : ℕ) (route : Route) (p : Payload) (h : Held) (j j2 : Joined) (k k2 : Pending) → HandsUp p route j j2 k k2 →
     Goes size route (handed_up p) h h j j2 k k2
-hands size route p h j j2 k k2 u w s = by (p.pid == netrom) (p.pid == SEGMENT_PID) u.joiner u.waiting
+hands size route p h j j2 k k2 u w s = by (p.pid == netrom) (p.pid == segment) u.joiner u.waiting
   where
     by : (b c : Bool) → j2 ≡ (if b then j else if c then (join_step j p.info.items).0 else j) →
         k2.waiting.items ≡ (if b then k.waiting.items ++ (route.peer, p.info) ∷ [] else k.waiting.items) →

@@ -10,13 +10,12 @@ use Rattle.ax_address.specs.CallOrder.{same_call}
 use Rattle.ax_link.specs.Moves.{first_early, move_on, next_early, resumed, take_next}
 use Rattle.ax_link.specs.State.{State, begin, busy, is_up}
 use Rattle.ax_link.specs.Table.{Send, Set_up, Take, step, takes}
-use Rattle.ax_segment.specs.declared.TheConstants.{SEGMENT_PID}
 use Rattle.ax_segment.specs.Joining.{Nothing, join_step}
 use Rattle.ax_link.specs.Opening.{opening, rules_new}
 use Rattle.l3_datagram.specs.CarrierCall.{Datagram}
 use Rattle.l3_datagram.specs.declared.carrier.Offered.TheVariants.{Taken, Dropped}
 use Rattle.link_table.specs.Calls as calls
-use Rattle.link_table.specs.Frames.{netrom}
+use Rattle.link_table.specs.Frames.{netrom, segment}
 use Rattle.link_table.specs.Laws.{NewLinkTakes, SettledAll}
 use Rattle.link_table.specs.Table.{Linked, Table, link_with, path_to, with_link}
 use Rattle.link_table.specs.Works.{Work, handed_up, most_taken, settled, stepped, taken}
@@ -82,7 +81,7 @@ take_weight now s p q = by (is_up s.phase && busy s)
     by false = lighter
 
 handed_link : (p : Payload) (w : Work) → (handed_up p w).linked.link ≡ w.linked.link
-handed_link p w = by (p.pid == netrom) (p.pid == SEGMENT_PID)
+handed_link p w = by (p.pid == netrom) (p.pid == segment)
   where
     by : (b c : Bool) → (if b
         then record w { pending = record w.pending { waiting = w.pending.waiting ++ (w.linked.peer, p.info) ∷ [] } }

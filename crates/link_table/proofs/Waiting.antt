@@ -12,12 +12,11 @@ use Rattle.ax_link.specs.State.{Frame}
 use Rattle.ax_link.specs.Table.{Arrive, Close, Send, Set_up, Take, Tick, takes}
 use Rattle.ax_link.specs.declared.plain.LinkNotice.{LinkNotice}
 use Rattle.ax_link.specs.declared.plain.LinkNotice.TheVariants.{Closed, Failed}
-use Rattle.ax_segment.specs.declared.TheConstants.{SEGMENT_PID}
 use Rattle.ax_segment.specs.Joining.{join_step}
 use Rattle.l3_datagram.specs.CarrierCall.{Datagram, Parcel}
 use Rattle.l3_datagram.specs.declared.carrier.Offered.TheVariants.{Taken, Dropped}
 use Rattle.link_table.specs.Calls as calls
-use Rattle.link_table.specs.Frames.{netrom}
+use Rattle.link_table.specs.Frames.{netrom, segment}
 use Rattle.link_table.specs.Laws.{OnlyFramesBring}
 use Rattle.link_table.specs.Table.{Linked, Table, link_with, path_to, without}
 use Rattle.link_table.specs.Works.{Work, arrived, is_down, handed_up, most_taken, settled, stepped, taken, told}
@@ -38,7 +37,7 @@ next : (peer : Callsign) (a b c : List Parcel) → Adds peer a b → Adds peer b
 next peer a b c x y = (x.0 ++ y.0, y.1 ∙ ap (λ zs. zs ++ y.0) x.1 ∙ append_assoc a x.0 y.0, all_snoc peer x.0 y.0 x.2 y.2)
 
 handed_adds : (p : Payload) (w : Work) → Adds w.linked.peer w.pending.waiting (handed_up p w).pending.waiting
-handed_adds p w = by (p.pid == netrom) (p.pid == SEGMENT_PID)
+handed_adds p w = by (p.pid == netrom) (p.pid == segment)
   where
     by : (b c : Bool) → Adds w.linked.peer w.pending.waiting (if b
         then record w { pending = record w.pending { waiting = w.pending.waiting ++ (w.linked.peer, p.info) ∷ [] } }
@@ -50,7 +49,7 @@ handed_adds p w = by (p.pid == netrom) (p.pid == SEGMENT_PID)
     by false false = nothing w.linked.peer w.pending.waiting
 
 handed_peer : (p : Payload) (w : Work) → (handed_up p w).linked.peer ≡ w.linked.peer
-handed_peer p w = by (p.pid == netrom) (p.pid == SEGMENT_PID)
+handed_peer p w = by (p.pid == netrom) (p.pid == segment)
   where
     by : (b c : Bool) → (if b
         then record w { pending = record w.pending { waiting = w.pending.waiting ++ (w.linked.peer, p.info) ∷ [] } }

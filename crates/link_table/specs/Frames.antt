@@ -15,6 +15,10 @@ use Rattle.ax_link.specs.State.{Frame}
 abbrev pub netrom : ℕ
 netrom = 0xCF
 
+-- the PID of a segment (AX.25 2.2, section 3.4)
+abbrev pub segment : ℕ
+segment = 0x08
+
 -- the most octets of a frame that is put out
 abbrev pub most_octets : ℕ
 most_octets = 1023

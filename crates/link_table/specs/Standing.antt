@@ -11,7 +11,6 @@ use Rattle.ax_link.specs.Table.{Input, Send, step, takes}
 use Rattle.l3_datagram.specs.declared.carrier.Offered.{Offered}
 use Rattle.l3_datagram.specs.declared.carrier.Offered.TheVariants.{Taken, Dropped}
 use Rattle.ax_segment.specs.Joining.{Held as Joined, join_step}
-use Rattle.ax_segment.specs.declared.TheConstants.{SEGMENT_PID}
 use Rattle.radio_base.specs.declared.payload.Payload.{Payload}
 use Rattle.l3_datagram.specs.CarrierCall.{Parcel}
 use Rattle.link_table.specs.declared.link_of.LinkOf.{LinkOf}
@@ -28,7 +27,7 @@ use Rattle.std.proofs.Common.{refl, subst, sym}
 use Rattle.l3_datagram.specs.CarrierCall.{CarrierCall}
 use Rattle.link_table.specs.Carrying.{AllAnswer, after_call, after_calls}
 use Rattle.link_table.specs.Fetching.{PendingStands, written}
-use Rattle.link_table.specs.Frames.{all_sent, netrom}
+use Rattle.link_table.specs.Frames.{all_sent, netrom, segment}
 use Rattle.link_table.specs.Table.{Linked, Table, Via}
 use Rattle.ax_address.specs.CallOrder.{same_call}
 use Rattle.std.specs.Map.{lookup, remove_entry}
@@ -70,7 +69,7 @@ pub record Lifted (size : ℕ) (route : Route) (old new : Held) (j j2 : Joined) 
 
 -- a payload that was taken: what is held of a message in segments, and what waits, by its PID
 abbrev pub joined_with : Payload → Joined → Joined
-joined_with p j = if p.pid == netrom then j else if p.pid == SEGMENT_PID then (join_step j p.info.items).0 else j
+joined_with p j = if p.pid == netrom then j else if p.pid == segment then (join_step j p.info.items).0 else j
 
 abbrev pub waiting_with : Callsign → Payload → List Parcel → List Parcel
 waiting_with peer p ws = if p.pid == netrom then ws ++ (peer, p.info) ∷ [] else ws

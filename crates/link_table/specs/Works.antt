@@ -8,9 +8,8 @@ use Rattle.ax_link.specs.declared.plain.LinkPhase.{LinkPhase}
 use Rattle.ax_link.specs.declared.plain.LinkPhase.TheVariants.{Down, SettingUp, Up, Releasing}
 use Rattle.ax_link.specs.State.{Frame, Going}
 use Rattle.ax_link.specs.Table.{Input, Arrive, Take, step}
-use Rattle.ax_segment.specs.declared.TheConstants.{SEGMENT_PID}
 use Rattle.ax_segment.specs.Joining.{Held, Nothing, join_step}
-use Rattle.link_table.specs.Frames.{Sent, netrom, all_sent}
+use Rattle.link_table.specs.Frames.{all_sent, netrom, segment, Sent}
 use Rattle.link_table.specs.Table.{Linked, Pending}
 
 -- a link, and what waits to be fetched
@@ -53,7 +52,7 @@ abbrev pub handed_up : Payload → Work → Work
 handed_up p w =
     if p.pid == netrom
     then record w { pending = record w.pending { waiting = w.pending.waiting ++ (w.linked.peer, p.info) ∷ [] } }
-    else if p.pid == SEGMENT_PID
+    else if p.pid == segment
     then record w { linked = record w.linked { joiner = (join_step w.linked.joiner p.info.items).0 } }
     else w
 

@@ -10,20 +10,20 @@ ghost use Rattle.ax_link.specs.Table as table;
 ghost use Rattle.link_table.specs.Works as works;
 ghost use Rattle.link_table.specs.Calls as calls;
 
+use crate::MAX_LINKS;
 use crate::answers::{answer, refusal, way_back};
 use crate::entry::Entry;
 use crate::offers::packed;
 use crate::pending::{Pending, put};
 use crate::route::{Route, copy_of};
 use crate::work::note;
-use crate::{MAX_LINKS, NETROM_PID};
 use arrayvec::ArrayVec;
 use ax_address::{Call, Path};
 use ax_frame::{Control, FrameView, is_command};
 use ax_link::{LinkConfig, LinkNotice};
 use indexmap::IndexMap;
 use l3_datagram::{Datagram, MAX_DATAGRAM, Offered};
-use radio_base::{M8, Moment, NoMemory};
+use radio_base::{M8, Moment, NETROM_PID, NoMemory};
 use std::alloc::Global;
 
 #[derive(Drop)]

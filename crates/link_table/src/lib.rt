@@ -19,11 +19,9 @@ pub use path_refusal::PathRefusal;
 pub use table::LinkTable;
 pub use written::{Written, WrittenAs};
 
-/// The PID of what NET/ROM sends (AX.25 2.2, section 3.4).
-pub const NETROM_PID: u8 = 0xCF;
 /// The most links of a node (this project's profile).
 pub const MAX_LINKS: usize = 64;
 /// The most peers that have a path (this project's profile).
 pub const MAX_PATHS: usize = 16;
 /// The most repeaters of a path that a node uses first (this project's profile).
-pub const MAX_REPEATERS: usize = 2;
+pub const MAX_ORIGINATED: usize = 2;

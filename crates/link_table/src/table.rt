@@ -6,7 +6,7 @@ ghost use Rattle.link_table.specs.Calls as calls;
 
 use crate::held_links::HeldLinks;
 use crate::pending::Pending;
-use crate::{LinkOf, MAX_PATHS, MAX_REPEATERS, PathRefusal, Written};
+use crate::{LinkOf, MAX_ORIGINATED, MAX_PATHS, PathRefusal, Written};
 use ax_address::{Call, Path};
 use ax_frame::FrameView;
 use ax_link::{LinkConfig, LinkNotice};
@@ -83,7 +83,7 @@ impl LinkTable {
         if self.spent {
             return Err(PathRefusal::NoMemory);
         }
-        if path.len() > MAX_REPEATERS {
+        if path.len() > MAX_ORIGINATED {
             return Err(PathRefusal::TooLong);
         }
         if self.core.paths.len() >= MAX_PATHS && !self.core.paths.contains_key(peer) {

@@ -15,14 +15,13 @@ ghost use Rattle.link_table.specs.Frames.{all_sent, fitting, sent_by};
 ghost use Rattle.link_table.specs.Standing.{Goes, HandsUp, Lifted, gone_out};
 ghost use Rattle.link_table.specs.Works as works;
 
-use crate::NETROM_PID;
 use crate::pending::{Frames, Pending, put};
 use crate::route::Route;
 use ax_address::Call;
 use ax_frame::{FrameView, is_command};
 use ax_link::{Link, LinkNotice, LinkOut, LinkPhase};
-use ax_segment::{Joiner, SEGMENT_PID};
-use radio_base::{Modulus, Moment, NoMemory, Payload};
+use ax_segment::Joiner;
+use radio_base::{Modulus, Moment, NETROM_PID, NoMemory, Payload, SEGMENT_PID};
 
 /// Puts out one frame of a link.
 fn put_out<M: Modulus>(frames: &mut Frames, route: &Route, out: &LinkOut) -> Result<(), NoMemory>
