@@ -1,0 +1,12 @@
+use Rattle.std.proofs.Common.{◌≡◌, ◌≤◌, ◌+◌, ◌*◌, ◌++◌, length, take}
+use Rattle.std.specs.Prelude.{codes}
+use Rattle.std.specs.List.{flat_map}
+use Rattle.node_prompt.specs.Prompts.{ended}
+use Rattle.node_prompt.specs.Replies as replies
+use Rattle.node_prompt.proofs.lines.add_node_lines.Given as goal
+
+abbrev pub invariant-loop-route : goal.invariant-loop-route
+invariant-loop-route l = record {
+  text : l.reply.items ≡ l.fn.reply.items ++ ended (codes "Nodes:") ++ flat_map replies.node_line (take l.route-index l.nodes);
+  len : length l.reply.items ≤ 25 + 17 * l.route-index;
+}

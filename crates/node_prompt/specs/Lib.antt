@@ -1,0 +1,5 @@
+pub mod Words
+pub mod Commands
+pub mod Prompts
+pub mod Replies
+pub mod Laws
