@@ -31,10 +31,10 @@ past_none [] n h = refl
 past_none (o ∷ os) zero h = absurd (omega arith)
 past_none (o ∷ os) (suc n) h = past_none os n (omega arith)
 
-doubles-padded : (name : List ℕ) → doubles (padded name) ≡ doubles name ++ replicate (6 - length name) 64
+pub doubles-padded : (name : List ℕ) → doubles (padded name) ≡ doubles name ++ replicate (6 - length name) 64
 doubles-padded name = map-append (λ b. 2 * b) name (replicate (6 - length name) 32) ∙ ap (λ xs. doubles name ++ xs) (doubles-replicate (6 - length name))
 
-name_has_none : (name : List ℕ) → AllByRecursion IsCallChar name → 0 < length name → length name ≤ 6 → fault_in (doubles (padded name)) ≡ None
+pub name_has_none : (name : List ℕ) → AllByRecursion IsCallChar name → 0 < length name → length name ≤ 6 → fault_in (doubles (padded name)) ≡ None
 name_has_none name h some six =
     let os = doubles name ++ replicate (6 - length name) 64 in
     let front : prefix_len is_char_octet os ≡ length name = name_front name (6 - length name) h in

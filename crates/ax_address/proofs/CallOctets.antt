@@ -31,7 +31,7 @@ chars_step o os true e ih =
     rw next ((c.0, ih.0), rw (c.1, ih.1) refl)
 chars_step o os false e ih = (tt, refl)
 
-chars : (os : List ℕ) → AllByRecursion IsCallChar (halves (take (prefix_len is_char_octet os) os)) × (doubles (halves (take (prefix_len is_char_octet os) os)) ≡ take (prefix_len is_char_octet os) os)
+pub chars : (os : List ℕ) → AllByRecursion IsCallChar (halves (take (prefix_len is_char_octet os) os)) × (doubles (halves (take (prefix_len is_char_octet os) os)) ≡ take (prefix_len is_char_octet os) os)
 chars [] = (tt, refl)
 chars (o ∷ os) = chars_step o os (is_char_octet o) refl (chars os)
 
@@ -43,16 +43,16 @@ spaces_step o os true e ih h =
     ap (λ x. x ∷ os) k ∙ ap (λ xs. 64 ∷ xs) rest
 spaces_step o os false e ih h = absurd (omega arith)
 
-spaces : (os : List ℕ) → length os ≤ prefix_len is_space_octet os → os ≡ replicate (length os) 64
+pub spaces : (os : List ℕ) → length os ≤ prefix_len is_space_octet os → os ≡ replicate (length os) 64
 spaces [] h = refl
 spaces (o ∷ os) h = spaces_step o os (is_space_octet o) refl (spaces os) h
 
-none_past : (os : List ℕ) (n : ℕ) → slice_get os n ≡ None → length os ≤ n
+pub none_past : (os : List ℕ) (n : ℕ) → slice_get os n ≡ None → length os ≤ n
 none_past [] n h = omega arith
 none_past (o ∷ os) zero h = absurd cc
 none_past (o ∷ os) (suc n) h = let ih = none_past os n h in omega arith
 
-no_refusal : (at : ℕ) (o : Option ℕ) → refusal_at at o ≡ None → o ≡ None
+pub no_refusal : (at : ℕ) (o : Option ℕ) → refusal_at at o ≡ None → o ≡ None
 no_refusal at None h = refl
 no_refusal at (Some o) h = absurd cc
 

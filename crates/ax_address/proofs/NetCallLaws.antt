@@ -1,10 +1,10 @@
 -- Seven octets, of a call in a broadcast or datagram or of an address: what is spelled is read.
 use Rattle.std.proofs.Common.{nat_le, slice_index, ◌≡◌, ◌+◌, ◌-◌, ◌*◌, ◌/◌, ◌%◌, ◌++◌, ◌∙◌, ℕ, refl, sym, ap, List, [], ◌∷◌, length, replicate, take, get_or, arith}
 use Rattle.std.specs.Prelude.{None, Ok}
-use Rattle.std.proofs.lemmas.List.{take_at, length-append, length-map, length-replicate}
+use Rattle.std.proofs.lemmas.List.{take_at, drop_at, length-append, length-map, length-replicate}
 use Rattle.ax_address.specs.Callsign.{Callsign, IsCallsign, name_in, padded}
 use Rattle.ax_address.specs.Octets.{fault_in, address_fault, address_in, ssid_octet, SpelledIsHeld}
-use Rattle.ax_address.specs.NetCalls.{SpelledNetCallIsRead, WrittenNetCallSpellsIt, net_call_in}
+use Rattle.ax_address.specs.NetCalls.{SpellsNetCall, SpelledNetCallIsRead, WrittenNetCallSpellsIt, NetCallWrittenAgainIsTheSame, net_call_in, net_call_octets, heeded_call}
 use Rattle.ax_address.proofs.AddressLaws.{call_has_none, halves-doubles, bits_are, same_call_is, same_address}
 use Rattle.ax_address.proofs.CallOctets.{doubles, halves, seven, good}
 
@@ -47,6 +47,16 @@ written_spells c h = record {
   spelled = refl;
   ssid = let small = h.small in omega arith;
 }
+
+-- what is heeded of a call's octets is its letters and its SSID
+call_parts : (ls : List ℕ) (o ssid : ℕ) → length ls ≡ 6 → o / 2 % 16 ≡ ssid → heeded_call (ls ++ o ∷ []) ≡ ls ++ ssid ∷ []
+call_parts ls o ssid h e = rw (take_at ls (o ∷ []) 6 h, drop_at ls (o ∷ []) 6 h) (ap (λ k. ls ++ k ∷ []) e)
+
+pub call_heeded : (c : Callsign) (os : List ℕ) → SpellsNetCall c os → heeded_call os ≡ doubles c.letters ++ c.ssid ∷ []
+call_heeded c os h = ap heeded_call h.spelled ∙ call_parts (doubles c.letters) h.last c.ssid (six_doubled c h.is_call) h.ssid
+
+pub written_again : NetCallWrittenAgainIsTheSame
+written_again c os h = call_heeded c (net_call_octets c) (written_spells c h.is_call) ∙ sym (call_heeded c os h)
 
 -- the octets before the seventh, halved, are the letters
 pub letters_taken : (os : List ℕ) → length os ≡ 7

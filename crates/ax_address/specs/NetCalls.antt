@@ -1,6 +1,6 @@
 -- Calls inside NET/ROM's broadcasts, datagrams and requests: seven octets as in an address, of whose last
 -- one the SSID alone counts. (NET/ROM, Appendix B; what is written in the other bits is this project's profile.)
-use Rattle.std.specs.Prelude.{ℕ, ◌≡◌, ◌+◌, ◌*◌, ◌/◌, ◌%◌, List, [], ◌∷◌, ◌++◌, map, take, get_or, Option, Some, None, Result, Ok, Err}
+use Rattle.std.specs.Prelude.{ℕ, ◌≡◌, ◌+◌, ◌*◌, ◌/◌, ◌%◌, List, [], ◌∷◌, ◌++◌, map, take, drop, get_or, Option, Some, None, Result, Ok, Err}
 use Rattle.ax_address.specs.declared.octets.AddressRefusal.{AddressRefusal}
 use Rattle.ax_address.specs.Callsign.{Callsign, IsCallsign}
 use Rattle.ax_address.specs.Octets.{address_fault}
@@ -35,3 +35,12 @@ SpelledNetCallIsRead = (c : Callsign) (octets : List ℕ) → SpellsNetCall c oc
 -- what is written for a call spells it
 abbrev pub WrittenNetCallSpellsIt : Type 0
 WrittenNetCallSpellsIt = (c : Callsign) → IsCallsign c.letters c.ssid → SpellsNetCall c (net_call_octets c)
+
+-- of the last octet of a call bits 4 to 1 alone are heeded
+abbrev pub heeded_call : List ℕ → List ℕ
+heeded_call octets = take 6 octets ++ map (λ o. o / 2 % 16) (drop 6 octets)
+
+-- octets that are read as a call and written again are the same, but for what isn't heeded
+abbrev pub NetCallWrittenAgainIsTheSame : Type 0
+NetCallWrittenAgainIsTheSame =
+    (c : Callsign) (octets : List ℕ) → SpellsNetCall c octets → heeded_call (net_call_octets c) ≡ heeded_call octets

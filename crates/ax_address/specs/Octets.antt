@@ -1,6 +1,6 @@
 -- Addresses in octets: six characters, each shifted left by one, and an octet with the SSID.
 -- (AX.25 2.2, section 3.12.)
-use Rattle.std.specs.Prelude.{ℕ, ◌≡◌, ◌+◌, ◌*◌, ◌/◌, ◌%◌, List, [], ◌∷◌, ◌++◌, map, take, drop, slice_get, slice_index, nat_le, Bool, ◌&&◌, ◌==◌, Option, Some, None, if◌then◌else◌}
+use Rattle.std.specs.Prelude.{ℕ, ◌≡◌, ◌+◌, ◌*◌, ◌/◌, ◌%◌, ◌<◌, ◌≤◌, length, List, [], ◌∷◌, ◌++◌, map, take, drop, slice_get, slice_index, nat_le, Bool, ◌&&◌, ◌==◌, Option, Some, None, if◌then◌else◌}
 use Rattle.std.specs.List.{prefix_len}
 use Rattle.ax_address.specs.declared.address.Address.{Address}
 use Rattle.ax_address.specs.declared.octets.AddressRefusal.{AddressRefusal}
@@ -72,3 +72,18 @@ SpelledIsHeld = (a : Address) (last : Bool) (octets : List ℕ) → SpellsAddres
 -- octets spell one address at most
 abbrev pub SpelledOnce : Type 0
 SpelledOnce = (a b : Address) (last end : Bool) (octets : List ℕ) → SpellsAddress a last octets → SpellsAddress b end octets → (a ≡ b) × (last ≡ end)
+
+-- the octet that a refusal names is there, and is the first that no call has at its place: whatever stands behind it, it
+-- is refused, and what stands before it has no fault
+pub record FirstBad (octets : List ℕ) (refusal : AddressRefusal) : Type 0 where
+  pub within : place_of refusal < length octets
+  pub among : place_of refusal < 6
+  pub stays : (more : List ℕ) → address_fault (take (place_of refusal + 1) octets ++ more) ≡ Some refusal
+  pub before : address_fault (take (place_of refusal) octets) ≡ None
+
+abbrev pub FaultIsFirst : Type 0
+FaultIsFirst = (octets : List ℕ) (refusal : AddressRefusal) → address_fault octets ≡ Some refusal → FirstBad octets refusal
+
+-- up to six octets without a fault go on to six without one
+abbrev pub FrontGoesOn : Type 0
+FrontGoesOn = (front : List ℕ) → length front ≤ 6 → address_fault front ≡ None → (more : List ℕ) × (length (front ++ more) ≡ 6) × (address_fault (front ++ more) ≡ None)

@@ -1,3 +1,4 @@
+//! One address of a frame, and the path of its repeaters (AX.25 2.2, section 3.12).
 ghost use Rattle.std.specs.Prelude.{◌≤◌};
 
 use crate::Call;
@@ -24,5 +25,8 @@ impl Default for Address {
     }
 }
 
+/// The most repeaters of a frame (AX.25 2.2, section 3.12).
+pub const MAX_REPEATERS: usize = 8;
+
 /// The repeaters of a frame, in the order in which they repeat it.
-pub type Path = ArrayVec<Address, 8>;
+pub type Path = ArrayVec<Address, MAX_REPEATERS>;

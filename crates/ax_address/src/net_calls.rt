@@ -1,3 +1,4 @@
+//! Calls as broadcasts and datagrams spell them (NET/ROM, Appendix B).
 ghost use Rattle.std.specs.Prelude.{◌≡◌, ◌<◌, IfOk, IfErr, Ok};
 ghost use Rattle.ax_address.specs.Callsign.{Callsign};
 ghost use Rattle.ax_address.specs.NetCalls as net;

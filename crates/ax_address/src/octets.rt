@@ -1,3 +1,4 @@
+//! Addresses as frames spell them (AX.25 2.2, section 3.12).
 ghost use Rattle.std.specs.Prelude.{◌≡◌, ◌<◌, ◌≤◌, ◌/◌, ◌*◌, take, drop, map, length, IfOk, IfErr, IfSome, Ok, None, Bool};
 ghost use Rattle.std.specs.List.{prefix_len};
 ghost use Rattle.std.specs.Result.{result_err};

@@ -5,3 +5,8 @@ pub mod FieldsAgain
 pub mod FrameLaws
 pub mod Spelled
 pub mod ReadAgain
+pub mod Kept
+pub mod AddressFaults
+pub mod HeadFaults
+pub mod FieldFaults
+pub mod FirstFaults

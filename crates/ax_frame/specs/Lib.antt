@@ -1,4 +1,5 @@
 pub mod Controls
+pub mod Faults
 pub mod Frames
 pub mod Parts
 pub mod Read

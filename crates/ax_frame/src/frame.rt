@@ -1,3 +1,4 @@
+//! A frame that is lent from its octets, and why octets are none.
 use crate::{Control, Head};
 use arrayvec::ArrayVec;
 
@@ -11,8 +12,11 @@ pub struct FrameView<'a> {
     pub info: &'a [u8],
 }
 
+/// The most octets of a frame: those that a frame of KISS has beside its type byte (this project's profile).
+pub const MAX_FRAME: usize = 1023;
+
 /// Room for the octets of a frame.
-pub type FrameBytes = ArrayVec<u8, 1023>;
+pub type FrameBytes = ArrayVec<u8, MAX_FRAME>;
 
 /// Why octets are no frame: the first octet that can't stand at its place, or that is missing. Places
 /// count octets from 0.

@@ -1,3 +1,4 @@
+//! Who a frame is to and from, and by whom (AX.25 2.2, sections 3.12 and 6.1.2).
 ghost use Rattle.std.specs.Prelude.{◌≡◌};
 ghost use Rattle.ax_frame.specs.FrameText as texts;
 

@@ -1,5 +1,6 @@
 //! What the definitions promise by themselves.
 
+ghost use Rattle.ax_frame.specs.Faults.{FaultIsFirst};
 ghost use Rattle.ax_frame.specs.Frames.{HeadWithoutFault, HeadSpelledOnce, SpelledWithoutFault, SpelledOnce};
 ghost use Rattle.ax_frame.specs.Read.{SpelledHeadIsRead, SpelledIsRead};
 
@@ -19,4 +20,11 @@ pub fn frame_spelling()
     ensures once { SpelledOnce }
 {
     ax_address::laws::address_spelling();
+}
+
+/// The first fault of octets is at the first octet that no frame has at its place, or where they end and one must follow.
+pub fn frame_faults()
+    ensures { FaultIsFirst }
+{
+    ax_address::laws::address_faults();
 }

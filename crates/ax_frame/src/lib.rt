@@ -10,11 +10,8 @@ mod show;
 mod write;
 
 pub use control::Control;
-pub use frame::{FrameBytes, FrameRefusal, FrameView, Full};
+pub use frame::{FrameBytes, FrameRefusal, FrameView, Full, MAX_FRAME};
 pub use head::{Head, is_command};
 pub use read::{read_frame, read_head};
 pub use show::show_frame;
 pub use write::write_frame;
-
-#[cfg(test)]
-mod tests;

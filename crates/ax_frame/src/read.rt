@@ -1,3 +1,4 @@
+//! Octets become frames (AX.25 2.2, sections 3 and 4).
 ghost use Rattle.std.specs.Prelude.{◌≡◌, ◌≤◌, ◌<◌, ◌+◌, ◌*◌, ◌^◌, ◌++◌, [], List, ℕ, length, take, drop, IfOk, OnOk, Ok, Err, IsOkAnd, MatchResult};
 ghost use Rattle.ax_frame.specs.Reading as reading;
 ghost use Rattle.ax_frame.specs.Read.{read_at, read_head_at};
@@ -9,7 +10,7 @@ ghost use Rattle.ax_frame.specs.Parts.{HasHead, SpellsLast};
 ghost use Rattle.ax_frame.specs.declared.head.Head.{Head};
 
 use crate::{Control, FrameRefusal, FrameView, Head, laws};
-use ax_address::{Address, AddressRefusal, Path, address_fault, read_address};
+use ax_address::{Address, AddressRefusal, MAX_REPEATERS, Path, address_fault, read_address};
 use radio_base::Modulus;
 
 /// The addresses, and how many octets they have, or the first octet that can't stand there.
@@ -132,7 +133,7 @@ fn repeaters(bytes: &[u8], path: &mut Path) -> Result<(), FrameRefusal>
     ensures judged { MatchResult result (λ _. reading.addresses_end 8 14 bytes.now ≡ Ok (14 + 7 * length path.new.items)) (λ e. reading.addresses_end 8 14 bytes.now ≡ Err e) }
     ensures found { OnOk result (SpellsLast 14 bytes.now path.new.items) }
 {
-    for nth in 0..8 {
+    for nth in 0..MAX_REPEATERS {
         let (repeater, last) = address_at(bytes, 14 + 7 * nth)?;
         path.push(repeater);
         if last {

@@ -1,3 +1,4 @@
+//! Frames become octets (AX.25 2.2, sections 3 and 4).
 ghost use Rattle.std.specs.Prelude.{◌≡◌, ◌<◌, ◌≤◌, ◌+◌, ◌*◌, ◌++◌, ◌∷◌, [], ◌↔◌, ℕ, Bool, length, IsErr, IsTrue, OnOk, OnErr, None, Some, false, is_some};
 ghost use Rattle.std.specs.List.{AllByRecursion, flat_map};
 ghost use Rattle.ax_address.specs.Octets.{address_octets};

@@ -1,3 +1,4 @@
+//! What a link does when T1 or T3 has come (AX.25 2.2, section 6.7).
 ghost use Rattle.std.specs.Prelude.{◌≡◌, ℕ, ◌+◌, ◌*◌, ◌≤◌, ◌<◌, [], length, None};
 ghost use Rattle.radio_base.specs.declared.modulus.TheConstants.{COUNT_MAX};
 

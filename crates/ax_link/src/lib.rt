@@ -16,6 +16,3 @@ mod texts;
 pub use kind::Kind;
 pub use link::Link;
 pub use plain::{LinkConfig, LinkFacts, LinkNotice, LinkOut, LinkPhase, SendRefusal};
-
-#[cfg(test)]
-mod tests;

@@ -1,3 +1,4 @@
+//! One end of a link: its public calls.
 ghost use Rattle.std.specs.Prelude.{◌≡◌, ℕ, List, ◌≤◌, ◌<◌, drop, slice_get, IfOk, IfSome, OnOk, OnErr, IsTrue, ◌↔◌, ◌⊎◌, None, is_ok, min};
 ghost use Rattle.std.specs.Option.{option_copied};
 ghost use Rattle.ax_link.specs.Kinds.{frame_in};
@@ -15,7 +16,15 @@ use radio_base::{COUNT_MAX, Modulus, Moment, NoMemory, Payload};
 use std::alloc::Global;
 use std::marker::Model;
 
-/// One end of a link.
+/// One end of a link (AX.25 2.2, sections 4 and 6): a pure machine, which reads no clock and no stream. Its calls are of three kinds.
+///
+/// - Inputs, each with its moment in milliseconds: `set_up`, `send`, `close` and `take` of the user, `arrive` of a frame of the other
+///   station, `tick` of time. They want `drained()`.
+/// - Outputs: `next_out` and `notice`. After each input both are fetched until they answer None.
+/// - Looks, which change nothing: `first`, `facts`, `drained`.
+///
+/// `tick` is called about once a second, since no call tells when the next timer is due. `new` takes all the memory that a link needs.
+/// What each input does is one row of the table in `specs/Table.antt`.
 #[derive(Drop)]
 pub struct Link<M: Modulus> {
     station: Station<M>,

@@ -1,3 +1,4 @@
+//! The moves of which a link's steps are made: Fill, Again, Poll, Reset and the rest.
 ghost use Rattle.std.specs.Prelude.{◌≡◌, ℕ, Bool, List, ◌+◌, ◌-◌, ◌*◌, ◌≤◌, ◌<◌, ◌++◌, ◌∷◌, [], nat_eq, nat_le, length, drop, slice_get, true, false, None, Some};
 ghost use Rattle.circular_buffer.specs.Buffer.{buffer};
 ghost use Rattle.radio_base.specs.declared.modulus.TheConstants.{COUNT_MAX};

@@ -1,7 +1,26 @@
+//! What is handed to a link and what it tells: settings, frames, notices, facts.
 use ax_frame::Control;
 use radio_base::Payload;
 
-/// Where an end of a link stands.
+/// Where an end of a link stands. The standard's names are Disconnected, Awaiting Connection, Connected (while a poll isn't answered:
+/// Timer Recovery) and Awaiting Release.
+///
+/// ```text
+///                 set_up / SABM(E)
+/// +------+ -----------------------------> +-----------+ --.  T1: SABM(E) again
+/// |      | <----------------------------- | SettingUp | <-'
+/// |      |   DM F=1; T1 after N2 tries    +-----------+
+/// |      |                                      | UA F=1
+/// | Down |   SABM(E) / UA                       v
+/// |      | -----------------------------> +-----------+ --.  SABM(E) / UA: reset
+/// |      | <----------------------------- |    Up     | <-'  FRMR / SABM(E): to SettingUp
+/// |      |   DISC / UA; DM; T1 after N2   +-----------+
+/// |      |                                      | closing, all acknowledged / DISC
+/// |      |                                      v
+/// |      | <----------------------------- +-----------+ --.  T1: DISC again
+/// +------+   UA or DM F=1; T1 after N2    | Releasing | <-'
+///                                         +-----------+
+/// ```
 #[derive(Clone, Copy, Debug, PartialEq, Eq)]
 pub enum LinkPhase {
     /// There is no link.
@@ -29,7 +48,7 @@ pub enum LinkNotice {
     Failed,
 }
 
-/// How a link goes. A time is at most 2^62 milliseconds.
+/// The settings of a link. A time is in milliseconds, and at most 2^62 of them.
 #[derive(Clone, Copy, Debug, PartialEq, Eq)]
 pub struct LinkConfig {
     /// How many payloads may be under way. 0 is the default of the modulus, 4 or 32; more than 7 or 127 counts as that,
@@ -81,6 +100,6 @@ pub enum SendRefusal {
     NotUp,
     /// 128 payloads are held.
     QueueFull,
-    /// The numbers of payloads have come to their end.
+    /// 2^62 payloads were accepted, and no number is left.
     Exhausted,
 }

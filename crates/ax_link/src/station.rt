@@ -1,3 +1,4 @@
+//! What one end of a link keeps.
 ghost use Rattle.std.specs.Prelude.{◌≡◌, ℕ, Bool, List, ◌+◌, ◌*◌, ◌≤◌, ◌<◌, ◌++◌, ◌∷◌, [], nat_le, if◌then◌else◌, length, true, false, None, Some};
 ghost use Rattle.circular_buffer.specs.Buffer.{buffer};
 ghost use Rattle.radio_base.specs.declared.modulus.TheConstants.{COUNT_MAX};

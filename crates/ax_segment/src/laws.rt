@@ -1,5 +1,8 @@
 //! What holds of every message and its segments.
+ghost use Rattle.std.specs.Prelude.{◌≡◌};
 ghost use Rattle.ax_segment.specs.Laws.{PiecesAreFull, SegmentsJoin, JoinedPrefix};
+
+use crate::{FIRST_BIT, FULL_PIECE, LONGEST_MESSAGE};
 
 /// The pieces of a text, one after another, are this text. All but the last are full, and the last isn't empty.
 pub fn pieces_are_full()
@@ -16,4 +19,11 @@ pub fn segments_join()
 /// of those that were split.
 pub fn joined_prefix()
     ensures { JoinedPrefix }
+{}
+
+/// The bit of a first segment, the most octets behind the first one of a segment, and the most bytes of a message.
+pub fn numbers()
+    ensures first_bit { FIRST_BIT ≡ 0x80 }
+    ensures full_piece { FULL_PIECE ≡ 255 }
+    ensures longest { LONGEST_MESSAGE ≡ 32639 }
 {}

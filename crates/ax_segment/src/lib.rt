@@ -10,18 +10,14 @@ mod gathered;
 mod joiner;
 pub mod laws;
 mod split;
+mod whole;
 
 pub use joiner::{Joined, Joiner};
 pub use split::{Split, SplitRefusal};
 
-/// The PID that marks a segment (AX.25 2.2, section 3.4).
-pub const SEGMENT_PID: u8 = 0x08;
 /// Set in the first octet of a first segment.
 pub const FIRST_BIT: u8 = 0x80;
 /// The most octets behind the first one of a segment.
 pub const FULL_PIECE: usize = 255;
 /// The most bytes of a message: a first segment and 127 others carry these.
 pub const LONGEST_MESSAGE: usize = 32_639;
-
-#[cfg(test)]
-mod tests;

@@ -1,9 +1,10 @@
+//! Messages are cut into segments.
 ghost use Rattle.std.specs.Prelude.{◌≡◌, ℕ, ◌+◌, ◌<◌, ◌≤◌, ◌++◌, ◌∷◌, [], ◌↔◌, length, take, drop, IsOk, MatchOption, MatchResult};
 ghost use Rattle.ax_segment.specs.Segments.{segments_of, IsSplittable, HasCause};
 
-use crate::{FIRST_BIT, FULL_PIECE, LONGEST_MESSAGE, SEGMENT_PID};
+use crate::{FIRST_BIT, FULL_PIECE, LONGEST_MESSAGE};
 use arrayvec::ArrayVec;
-use radio_base::Payload;
+use radio_base::{Payload, SEGMENT_PID};
 use std::marker::Model;
 
 /// Why a message has no segments.
@@ -57,7 +58,7 @@ impl<'a> Split<'a> {
 
     /// Gives the next segment: none once all were given.
     pub fn next(&mut self) -> Option<Payload>
-        ensures { MatchOption result ((self.old ≡ []) × (self.new ≡ [])) (λ payload. (payload.pid ≡ SEGMENT_PID) × (self.old ≡ payload.info.items ∷ self.new)) }
+        ensures { MatchOption result ((self.old ≡ []) × (self.new ≡ [])) (λ payload. (payload.pid ≡ 0x08) × (self.old ≡ payload.info.items ∷ self.new)) }
     {
         if !self.begun {
             let (bytes, left) = self.left.split_at((FULL_PIECE - 1).min(self.left.len()));
@@ -79,7 +80,7 @@ impl<'a> Split<'a> {
 /// A segment of these octets and bytes.
 fn segment(start: &[u8], bytes: &[u8]) -> Payload
     requires { length start.now + length bytes.now ≤ 256 }
-    ensures pid { result.pid ≡ SEGMENT_PID }
+    ensures pid { result.pid ≡ 0x08 }
     ensures info { result.info.items ≡ start.now ++ bytes.now }
 {
     let mut info = ArrayVec::new();

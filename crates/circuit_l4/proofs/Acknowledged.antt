@@ -1,17 +1,16 @@
 -- Messages of which all fragments are acknowledged, and those behind them.
-use Rattle.std.proofs.Common.{◌≡◌, ℕ, suc, ◌+◌, ◌-◌, ◌≤◌, ◌<◌, List, [], ◌∷◌, ◌++◌, length, slice_get, true, false, nat_le, refl, ap, sym, ◌∙◌, arith, append_assoc, length-append}
+use Rattle.std.proofs.Common.{◌≡◌, ℕ, ◌+◌, ◌-◌, ◌≤◌, ◌<◌, List, [], ◌∷◌, ◌++◌, length, true, false, nat_le, refl, ap, sym, ◌∙◌, arith, append_assoc, length-append}
 use Rattle.std.proofs.lemmas.Bool.Decides.{nat_tests}
 use Rattle.std.proofs.lemmas.Grind.{div_ceil_times}
 use Rattle.radio_base.specs.declared.modulus.TheConstants.{COUNT_MAX}
-use Rattle.circuit_reassembly.specs.Fragments.{Fragment, fragments_in, fragments_of}
-use Rattle.circuit_l4.specs.declared.plain.TheConstants.{QUEUE_MAX}
-use Rattle.circuit_l4.specs.Sending.{Sending, bytes_of, fragments, fragments_of_all, unacknowledged, unacknowledged_of, written}
+use Rattle.circuit_reassembly.specs.Fragments.{fragments_in, fragments_of}
+use Rattle.circuit_l4.specs.Sending.{Sending, bytes_of, fragments_of_all, unacknowledged, unacknowledged_of, written}
 use Rattle.circuit_l4.specs.Halves.{Outbox, IsSending}
 use Rattle.circuit_l4.specs.Forgetting.{Forgets, ForgetsFirst, IsUnder}
 use Rattle.circuit_l4.specs.Outboxes.{IsOutbox}
 
 -- ---- messages one behind the other ----
-all-append : (ms ns : List (List ℕ)) → fragments_of_all (ms ++ ns) ≡ fragments_of_all ms ++ fragments_of_all ns
+pub all-append : (ms ns : List (List ℕ)) → fragments_of_all (ms ++ ns) ≡ fragments_of_all ms ++ fragments_of_all ns
 all-append [] ns = refl
 all-append (m ∷ ms) ns = rw (all-append ms ns, append_assoc) refl
 
@@ -21,10 +20,6 @@ many-append ms ns = rw (all-append ms ns) (length-append (fragments_of_all ms) (
 bytes-append : (ms ns : List (List ℕ)) → bytes_of (ms ++ ns) ≡ bytes_of ms + bytes_of ns
 bytes-append [] ns = omega arith
 bytes-append (m ∷ ms) ns = omega (arith, bytes-append ms ns)
-
-get-behind : (fs gs : List Fragment) (n : ℕ) → slice_get (fs ++ gs) (length fs + n) ≡ slice_get gs n
-get-behind [] gs n = ap (slice_get gs) (omega arith)
-get-behind (f ∷ fs) gs n = let e : suc (length fs) + n ≡ suc (length fs + n) = omega arith in rw e (get-behind fs gs n)
 
 -- ---- what isn't acknowledged ----
 -- from the queue on all bytes count
@@ -40,17 +35,8 @@ behind (m ∷ ms) queue done =
     let rest : ((length (fragments_of m) + length (fragments_of_all ms)) + done) - length (fragments_of m) ≡ length (fragments_of_all ms) + done = omega arith in
     rw (many, all, rest) (behind ms queue done)
 
-pub unacked : (o : Outbox) (queued : ℕ) (s : Sending) → IsOutbox o queued → IsSending o s → queued ≡ unacknowledged s
-unacked o queued s k h = k.bytes ∙ sym (rw (h.wrote, h.places) (behind h.before o.queue o.done ∙ under o.done o.queue k.first))
-
--- the fragments of the queue are the last ones
-pub found_behind : (o : Outbox) (s : Sending) (number : ℕ) → o.acked ≤ number → o.done ≤ o.acked → IsSending o s →
-    slice_get (fragments_of_all o.queue) (number - (o.acked - o.done)) ≡ slice_get (fragments s) number
-found_behind o s number from done h =
-    let nth : ℕ = number - (o.acked - o.done) in
-    let place : number ≡ length (fragments_of_all h.before) + nth = omega (arith, h.places, h.acked) in
-    let all : fragments s ≡ fragments_of_all h.before ++ fragments_of_all o.queue = ap fragments_of_all h.wrote ∙ all-append h.before o.queue in
-    sym (ap (λ fs. slice_get fs number) all ∙ ap (slice_get (fragments_of_all h.before ++ fragments_of_all o.queue)) place ∙ get-behind (fragments_of_all h.before) (fragments_of_all o.queue) nth)
+pub unacked : (o : Outbox) (s : Sending) → IsOutbox o → IsSending o s → bytes_of o.queue ≡ unacknowledged s
+unacked o s k h = sym (rw (h.wrote, h.places) (behind h.before o.queue o.done ∙ under o.done o.queue k.first))
 
 -- ---- messages are forgotten ----
 -- so far, messages were forgotten with their fragments
@@ -64,9 +50,9 @@ one_more old middle new done kept left f g =
 abbrev moved : Outbox → List (List ℕ) → ℕ → ℕ → Outbox
 moved o queue done below = record o { queue = queue; done = done; acked = below }
 
-pub still_kept : (o : Outbox) (queue : List (List ℕ)) (done below was queued : ℕ) → o.acked ≤ below → below ≤ o.sent → Forgets o.queue (o.done + (below - o.acked)) queue done → queued ≡ bytes_of queue →
-    IsOutbox o was → IsOutbox (moved o queue done below) queued
-still_kept o queue done below was queued from to f bytes k =
+pub still_kept : (o : Outbox) (queue : List (List ℕ)) (done below : ℕ) → o.acked ≤ below → below ≤ o.sent → Forgets o.queue (o.done + (below - o.acked)) queue done →
+    IsOutbox o → IsOutbox (moved o queue done below)
+still_kept o queue done below from to f k =
     let many : length (fragments_of_all o.queue) ≡ length (fragments_of_all f.before) + length (fragments_of_all queue) = ap (λ ms. length (fragments_of_all ms)) f.queue ∙ many-append f.before queue in
     record {
       acked = to;
@@ -76,8 +62,7 @@ still_kept o queue done below was queued from to f bytes k =
       done = omega (arith, f.fragments, k.done);
       first = f.first;
       places = omega (arith, many, f.fragments, k.places);
-      bytes = bytes;
-      most = omega (arith, bytes, ap bytes_of f.queue ∙ bytes-append f.before queue, k.bytes, k.most);
+      most = omega (arith, ap bytes_of f.queue ∙ bytes-append f.before queue, k.most);
     }
 
 pub still_stands : (o : Outbox) (queue : List (List ℕ)) (done below : ℕ) (s : Sending) → o.acked ≤ below → Forgets o.queue (o.done + (below - o.acked)) queue done →
@@ -105,10 +90,10 @@ under-more : (done : ℕ) (queue : List (List ℕ)) (message : List ℕ) → IsU
 under-more done [] message h n = n refl
 under-more done (m ∷ ms) message h n = h
 
-pub added_kept : (o : Outbox) (message : List ℕ) (queue : List (List ℕ)) (many was queued : ℕ) → 0 < length (fragments_of message) → bytes_of o.queue + length message ≤ QUEUE_MAX →
+pub added_kept : (o : Outbox) (message : List ℕ) (queue : List (List ℕ)) (many : ℕ) → 0 < length (fragments_of message) → bytes_of o.queue + length message ≤ 65536 →
     o.total + length (fragments_of message) ≤ COUNT_MAX →
-    queue ≡ o.queue ++ message ∷ [] → many ≡ length (fragments_of message) → queued ≡ was + length message → IsOutbox o was → IsOutbox (added o queue many) queued
-added_kept o message queue many was queued has fits room e n b k =
+    queue ≡ o.queue ++ message ∷ [] → many ≡ length (fragments_of message) → IsOutbox o → IsOutbox (added o queue many)
+added_kept o message queue many has fits room e n k =
     let all : length (fragments_of_all queue) ≡ length (fragments_of_all o.queue) + length (fragments_of message) =
     ap (λ ms. length (fragments_of_all ms)) e ∙ many-append o.queue (message ∷ []) ∙ omega (arith, length-append (fragments_of message) []) in
     record {
@@ -119,8 +104,7 @@ added_kept o message queue many was queued has fits room e n b k =
       done = k.done;
       first = rw e (under-more o.done o.queue message k.first (λ empty. omega (arith, has, k.places, k.acked, k.sent, ap (λ ms. length (fragments_of_all ms)) empty)));
       places = omega (arith, k.places, all, n);
-      bytes = b ∙ rw (e, bytes-append) (omega (arith, k.bytes));
-      most = omega (arith, b, k.bytes, fits);
+      most = rw (e, bytes-append) (omega (arith, fits));
     }
 
 pub added_stands : (o : Outbox) (message : List ℕ) (queue : List (List ℕ)) (many : ℕ) (s : Sending) → queue ≡ o.queue ++ message ∷ [] → many ≡ length (fragments_of message) →

@@ -3,6 +3,8 @@ pub mod Again
 pub mod Acknowledged
 pub mod Standings
 pub mod Queues
+pub mod Rings
+pub mod Waiting
 pub mod EarlyPieces
 pub mod Receives
 pub mod Moves

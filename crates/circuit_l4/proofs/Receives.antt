@@ -10,6 +10,7 @@ use Rattle.circuit_l4.specs.Sending.{bytes_of}
 use Rattle.circuit_l4.specs.Receiving.{Receiving, append, appended, first_taken, inbox, with_message}
 use Rattle.circuit_l4.specs.declared.incoming.Incoming.TheInside.{Inside}
 use Rattle.circuit_l4.specs.Halves.{Inbox, IsReceiving, Takes, whole_answer, with_answer}
+use Rattle.circuit_l4.specs.Queued.{Queue}
 use Rattle.circuit_l4.specs.Inboxes.{IsInbox, inbox_of}
 
 -- ---- taking ----
@@ -42,7 +43,7 @@ after a s whole n =
       got = a.got + 1;
       early = buffer (drop 1 (a.early.items ++ None ∷ [])) a.early.capacity;
       gather = s.0;
-      inbox = with_answer s.1 a.inbox;
+      inbox = record a.inbox { messages = with_answer s.1 a.inbox.messages };
       received = a.received + bool_byte whole;
       waiting = a.waiting + n;
       asked = a.asked;
@@ -123,11 +124,12 @@ at_most_one false = omega arith
 
 stays_inbox : (a b : Inside) (text : List ℕ) (more whole : Bool) → Appends a b text more whole → IsInbox a → Takes (inbox_of a) → length text ≤ 236 → IsInbox b
 stays_inbox a b text more whole does h t fits =
-    let bytes = bytes_after (nat_lt 8192 (length (a.gather ++ text))) more a.gather text a.inbox whole does.fits in
+    let bytes = bytes_after (nat_lt 8192 (length (a.gather ++ text))) more a.gather text a.inbox.messages whole does.fits in
     let places : length (drop 1 (a.early.items ++ None ∷ [])) ≡ a.early.capacity = rw (length-drop, length-append) (omega (arith, h.places)) in
     rw (does.is)
     (record {
       places = places;
+      room = h.room;
       waits = omega (arith, bytes, h.waits);
       most = omega (arith, h.waits, t.room, fits);
       numbers = omega (arith, t.numbers);
@@ -139,10 +141,10 @@ pub record Fitted (a b : Inside) (text : List ℕ) (more : Bool) : Type 0 where
   pub is_inbox : IsInbox b
   pub does : (r : Receiving) → IsReceiving (inbox_of a) r → IsReceiving (inbox_of b) (append text more r).half
 
-pub fitted : (a : Inside) (now text : List ℕ) (more whole : Bool) (early : Buffer (Option Piece)) (held : List ℕ) (messages : List (List ℕ)) (many : ℕ) →
+pub fitted : (a : Inside) (now text : List ℕ) (more whole : Bool) (early : Buffer (Option Piece)) (held : List ℕ) (messages : Queue) (many : ℕ) →
     IsInbox a → Takes (inbox_of a) → now ≡ text → length now ≤ 236 →
     early ≡ buffer (keep_last a.early.capacity (a.early.items ++ None ∷ [])) a.early.capacity → held ≡ (gather_step a.gather now more).0 →
-    messages ≡ with_answer (gather_step a.gather now more).1 a.inbox → many ≡ bool_byte whole → whole_answer (gather_step a.gather now more).1 ≡ Ok whole →
+    messages ≡ record a.inbox { messages = with_answer (gather_step a.gather now more).1 a.inbox.messages } → many ≡ bool_byte whole → whole_answer (gather_step a.gather now more).1 ≡ Ok whole →
     Fitted a (record { got = a.got + 1; early = early; gather = held; inbox = messages; received = a.received + many; waiting = a.waiting + length now; asked = a.asked }) text more
 fitted a now text more whole early held messages many h t same fits e g m n answer =
     let b : Inside = record { got = a.got + 1; early = early; gather = held; inbox = messages; received = a.received + many; waiting = a.waiting + length now; asked = a.asked } in

@@ -1,10 +1,14 @@
 -- A call of an end is a step of the machine.
-use Rattle.std.proofs.Common.{◌≡◌, ℕ, Bool, true, if◌then◌else◌, List, Result, Ok, Err, is_ok, OnOk, refl, ap, sym, ◌∙◌, subst}
+use Rattle.std.proofs.Common.{◌≡◌, ℕ, ◌-◌, ◌<◌, Bool, true, false, not, is_some, IsTrue, if◌then◌else◌, List, [], length, Option, Some, None, Result, Ok, Err, is_ok, OnOk, refl, ap, sym, ◌∙◌, subst, arith}
+use Rattle.std.proofs.lemmas.List.{nil_from_length}
+use Rattle.circuit_l4.specs.declared.plain.EndNotice.{EndNotice}
 use Rattle.circuit_l4.specs.declared.plain.WriteRefusal.{WriteRefusal}
 use Rattle.circuit_l4.specs.EndState.{Going, State, begin}
 use Rattle.circuit_l4.specs.EndTable.{write_answer, wrote}
-use Rattle.circuit_l4.specs.EndCalls.{accepted}
-use Rattle.circuit_l4.specs.EndStanding.{Expected, IsDrained, IsWriteAnswer, Kept, Missing, Stands, StandsFor}
+use Rattle.circuit_l4.specs.EndStanding.{IsDrained, Kept, Stands, StandsFor}
+use Rattle.circuit_l4.specs.Outputs.{outs_of}
+use Rattle.circuit_l4.specs.declared.output.Output.{Output}
+use Rattle.circuit_l4.proofs.Waiting.{emptied, none_out}
 
 -- a step begins where nothing waits
 pub begins : (k : Kept) (s : State) → IsDrained k → StandsFor k s → Stands k (begin s)
@@ -24,19 +28,34 @@ pub stepped : (k later : Kept) (now moment : ℕ) (part : ℕ → Going → Goin
     (s : State) → StandsFor k s → Stands later (part moment (begin s))
 stepped k later now moment part drained e does s h = subst (λ n. Stands later (part n (begin s))) e (does (begin s) (begins k s drained h))
 
-answered_ok : (expected r : Result (Unit {0}) WriteRefusal) → IsWriteAnswer expected r → r ≡ accepted → is_ok expected ≡ true
-answered_ok expected r (Expected x) e = ap is_ok e
-answered_ok expected r Missing e = absurd (cc e)
-
 -- where the answer is Ok, the machine takes the message
-pub accepts : (k later : Kept) (now moment : ℕ) (message : List ℕ) (r : Result (Unit {0}) WriteRefusal) → IsDrained k → now ≡ moment → r ≡ accepted →
-    ((s : State) → StandsFor k s → IsWriteAnswer (write_answer s message) r) →
+pub accepts : (k later : Kept) (now moment : ℕ) (message : List ℕ) (r : Result (Unit {0}) WriteRefusal) → IsDrained k → now ≡ moment → r ≡ Ok tt →
+    ((s : State) → StandsFor k s → r ≡ write_answer s message) →
     ((g : Going) → Stands k g → Stands later (wrote now message g)) →
     (s : State) → StandsFor k s → Stands later (if is_ok (write_answer s message) then wrote moment message (begin s) else begin s)
 accepts k later now moment message r drained e is answer does s h =
-    subst (λ (ok : Bool). Stands later (if ok then wrote moment message (begin s) else begin s)) (sym (answered_ok (write_answer s message) r (answer s h) is))
+    subst (λ (ok : Bool). Stands later (if ok then wrote moment message (begin s) else begin s)) (ap is_ok (sym is ∙ answer s h))
     (stepped k later now moment (λ n g. wrote n message g) drained e does s h)
 
-pub on_ok : (r : Result (Unit {0}) WriteRefusal) (P Q : Type 0) → (r ≡ accepted → P → Q) → OnOk r P → OnOk r Q
+pub on_ok : (r : Result (Unit {0}) WriteRefusal) (P Q : Type 0) → (r ≡ Ok tt → P → Q) → OnOk r P → OnOk r Q
 on_ok (Ok tt) P Q f p = f refl p
 on_ok (Err e) P Q f p = tt
+
+-- where nothing goes out, nothing waits
+pub idle : (k : Kept) (outputs : List Output) → k.outs ≡ outs_of k.outgoing.queue (k.outgoing.acked - k.outgoing.done) outputs → IsDrained k → outputs ≡ []
+idle k outputs e h = emptied _ _ outputs (sym e ∙ h.outs)
+
+-- no output waits, so nothing does where there is no notice
+pub drained : (k : Kept) (outputs : List Output) (notice : Option EndNotice) (none : Bool) → k.outs ≡ outs_of k.outgoing.queue (k.outgoing.acked - k.outgoing.done) outputs →
+    length outputs ≡ 0 → k.notice ≡ notice → is_some notice ≡ not none → (IsTrue none → IsDrained k) × (IsDrained k → IsTrue none)
+drained k outputs None true e z n h =
+    let nothing : k.outs ≡ [] = rw (e, nil_from_length outputs z) (none_out k.outgoing.queue (k.outgoing.acked - k.outgoing.done)) in
+    (λ t. record { outs = nothing; notice = n }, λ d. refl)
+drained k outputs None false e z n h = absurd (cc h)
+drained k outputs (Some notice) true e z n h = absurd (cc h)
+drained k outputs (Some notice) false e z n h = (λ t. absurd (cc t), λ d. absurd (cc (n, d.notice)))
+
+-- an output waits
+pub waits : (k : Kept) (outputs : List Output) (none : Bool) → k.outs ≡ outs_of k.outgoing.queue (k.outgoing.acked - k.outgoing.done) outputs →
+    0 < length outputs → none ≡ false → (IsTrue none → IsDrained k) × (IsDrained k → IsTrue none)
+waits k outputs none e some h = (λ t. absurd (cc (h, t)), λ d. absurd (omega (arith, some, ap length (idle k outputs e d))))

@@ -1,21 +1,18 @@
 -- What the calls inside an end do.
-use Rattle.std.specs.Prelude.{◌≡◌, ℕ, ◌+◌, ◌≤◌, ◌<◌, List, length, Option, Some, None, Result, Ok}
-use Rattle.radio_base.specs.declared.modulus.TheConstants.{COUNT_MAX}
-use Rattle.circuit_reassembly.specs.declared.TheConstants.{LONGEST}
+use Rattle.std.specs.Prelude.{◌≡◌, ℕ, ◌+◌, ◌-◌, ◌^◌, ◌≤◌, ◌<◌, List, [], ◌∷◌, ◌++◌, length, Option, Some, None}
 use Rattle.circuit_reassembly.specs.Fragments.{fragments_of}
 use Rattle.circuit_l4.specs.declared.machine.Machine.{Machine}
 use Rattle.circuit_l4.specs.declared.machine.Role.{Role}
 use Rattle.circuit_l4.specs.declared.machine.Role.TheVariants.{Requester, Responder}
-use Rattle.circuit_l4.specs.declared.plain.TheConstants.{QUEUE_MAX}
-use Rattle.circuit_l4.specs.declared.plain.WriteRefusal.{WriteRefusal}
+use Rattle.circuit_l4.specs.declared.output.Output.{Output}
+use Rattle.circuit_l4.specs.declared.output.Output.TheVariants.{Request}
 use Rattle.circuit_l4.specs.declared.texts.Owed.{Owed}
 use Rattle.circuit_l4.specs.declared.transport.Pair.{Pair}
-use Rattle.circuit_l4.specs.declared.transport.Transport.{Transport}
-use Rattle.circuit_l4.specs.declared.transport.Transport.TheVariants.{Request}
 use Rattle.circuit_l4.specs.Sending.{bytes_of}
 use Rattle.circuit_l4.specs.Halves.{Outbox}
 use Rattle.circuit_l4.specs.EndState.{Going}
-use Rattle.circuit_l4.specs.EndStanding.{Kept, Stands, kept_of}
+use Rattle.circuit_l4.specs.EndStanding.{Stands, kept_of}
+use Rattle.circuit_l4.specs.Outputs.{out_of}
 
 -- a call does this part of a step
 abbrev pub Does : (Going → Going) → Machine → Machine → Type 0
@@ -32,20 +29,18 @@ pub record IsOwed (owed : Owed) (m : Machine) : Type 0 where
   pub from : m.outgoing.acked ≤ owed.from
   pub to : owed.from + owed.many ≤ m.outgoing.sent
 
+-- something waits to be put out
+abbrev pub puts : Outbox → Output → Going → Going
+puts o output g = record g { outs = g.outs ++ out_of o.queue (o.acked - o.done) output ∷ [] }
+
 -- what asks for a circuit; a responder has no such thing
-abbrev pub request_by : Role → Pair → ℕ → Option Transport
+abbrev pub request_by : Role → Pair → ℕ → Option Output
 request_by (Requester user node) pair window = Some (Request pair window user node)
 request_by Responder pair window = None
-
-abbrev pub request_of : Kept → Option Transport
-request_of m = request_by m.role m.pair m.config.window
 
 -- a message may be written
 pub record MayWrite (message : List ℕ) (o : Outbox) : Type 0 where
   pub some : 0 < length message
-  pub fits : length message ≤ LONGEST
-  pub queue : bytes_of o.queue + length message ≤ QUEUE_MAX
-  pub numbers : o.total + length (fragments_of message) ≤ COUNT_MAX
-
-abbrev pub accepted : Result (Unit {0}) WriteRefusal
-accepted = Ok tt
+  pub fits : length message ≤ 8192
+  pub queue : bytes_of o.queue + length message ≤ 65536
+  pub numbers : o.total + length (fragments_of message) ≤ 2 ^ 62

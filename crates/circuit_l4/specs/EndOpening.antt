@@ -1,6 +1,5 @@
 -- How an end of a circuit begins, and what it tells of itself.
-use Rattle.std.specs.Prelude.{ℕ, ◌≤◌, false, [], length, None, replicate}
-use Rattle.radio_base.specs.declared.modulus.TheConstants.{COUNT_MAX}
+use Rattle.std.specs.Prelude.{ℕ, ◌^◌, ◌≤◌, false, [], length, None, replicate}
 use Rattle.ax_address.specs.Callsign.{Callsign}
 use Rattle.circuit_l4.specs.declared.transport.Pair.{Pair}
 use Rattle.circuit_l4.specs.declared.transport.Transport.TheVariants.{Accept}
@@ -19,10 +18,10 @@ use Rattle.circuit_l4.specs.EndTable.{agreed, ask}
 -- the settings that an end takes
 pub record IsConfig (config : EndConfig) : Type 0 where
   pub some : 1 ≤ config.window
-  pub window : config.window ≤ 64
-  pub timeout : config.timeout ≤ COUNT_MAX
-  pub busy : config.busy ≤ COUNT_MAX
-  pub inactive : config.inactive ≤ COUNT_MAX
+  pub window : config.window ≤ 127
+  pub timeout : config.timeout ≤ 2 ^ 62
+  pub busy : config.busy ≤ 2 ^ 62
+  pub inactive : config.inactive ≤ 2 ^ 62
 
 -- nothing was written, nothing came
 abbrev pub unwritten : Sending

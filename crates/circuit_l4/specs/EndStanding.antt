@@ -1,6 +1,6 @@
 -- What the code keeps of an end of a circuit stands for every state that agrees with it: of the halves it has forgotten the
 -- messages that were wholly acknowledged and those that were taken, and of the rest how many expiries counted.
-use Rattle.std.specs.Prelude.{◌≡◌, ℕ, Bool, List, [], Option, None, Result, Ok, Err}
+use Rattle.std.specs.Prelude.{◌≡◌, ℕ, ◌-◌, Bool, List, [], Option, None}
 use Rattle.std.specs.Option.{option_to_list}
 use Rattle.circuit_l4.specs.declared.machine.Machine.{Machine}
 use Rattle.circuit_l4.specs.declared.machine.Role.{Role}
@@ -8,14 +8,13 @@ use Rattle.circuit_l4.specs.declared.transport.Pair.{Pair}
 use Rattle.circuit_l4.specs.declared.plain.EndConfig.{EndConfig}
 use Rattle.circuit_l4.specs.declared.plain.EndPhase.{EndPhase}
 use Rattle.circuit_l4.specs.declared.plain.EndNotice.{EndNotice}
-use Rattle.circuit_l4.specs.declared.plain.WriteRefusal.{WriteRefusal}
-use Rattle.circuit_l4.specs.declared.plain.WriteRefusal.TheVariants as refusal
 use Rattle.circuit_l4.specs.EndState.{Going, Out, State}
 use Rattle.circuit_l4.specs.Sending.{Sending}
 use Rattle.circuit_l4.specs.Receiving.{Receiving}
+use Rattle.circuit_l4.specs.Outputs.{outs_of}
 use Rattle.circuit_l4.specs.Halves.{Inbox, IsReceiving, IsSending, Outbox}
 
--- what is kept
+-- what is kept; what waits to be put out is as it goes out
 pub record Kept : Type 0 where
   pub role : Role
   pub pair : Pair
@@ -49,7 +48,7 @@ kept_of m =
       tries = m.tries;
       due = m.due;
       quiet = m.quiet;
-      outs = m.outs.items;
+      outs = outs_of m.outgoing.queue (m.outgoing.acked - m.outgoing.done) m.outs.items;
       notice = m.notice;
     }
 
@@ -99,8 +98,3 @@ pub record Stands (m : Kept) (g : Going) : Type 0 where
 pub record IsDrained (m : Kept) : Type 0 where
   pub outs : m.outs ≡ []
   pub notice : m.notice ≡ None
-
--- the answer to a message: the one expected, but where it is accepted memory may be missing
-pub data IsWriteAnswer : Result (Unit {0}) WriteRefusal → Result (Unit {0}) WriteRefusal → Type 0 where
-  Expected : (r : Result (Unit {0}) WriteRefusal) → IsWriteAnswer r r
-  Missing : IsWriteAnswer (Ok tt) (Err refusal.NoMemory)

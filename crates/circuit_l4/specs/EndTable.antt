@@ -1,8 +1,6 @@
 -- The table of an end of a circuit: what it does with each input in each phase (NET/ROM, Appendix B, with the choices of
 -- this project's profile). An input that the table doesn't name does nothing.
-use Rattle.std.specs.Prelude.{ℕ, suc, ◌+◌, min, max, Bool, true, false, not, ◌&&◌, nat_eq, nat_lt, nat_le, if◌then◌else◌, List, length, Option, Some, None, Result, Ok, Err, is_ok}
-use Rattle.radio_base.specs.declared.modulus.TheConstants.{COUNT_MAX}
-use Rattle.circuit_reassembly.specs.declared.TheConstants.{LONGEST}
+use Rattle.std.specs.Prelude.{ℕ, suc, ◌+◌, ◌^◌, min, max, Bool, true, false, not, ◌&&◌, nat_eq, nat_lt, nat_le, if◌then◌else◌, List, length, Option, Some, None, Result, Ok, Err, is_ok}
 use Rattle.circuit_reassembly.specs.Fragments.{fragments_of}
 use Rattle.circuit_l4.specs.declared.transport.Pair.{Pair}
 use Rattle.circuit_l4.specs.declared.transport.Flags.{Flags}
@@ -14,7 +12,6 @@ use Rattle.circuit_l4.specs.declared.plain.EndPhase.TheVariants.{Connecting, Up,
 use Rattle.circuit_l4.specs.declared.plain.EndNotice.TheVariants.{Opened, Refused, Closed, ClosedByPartner, FailedRetries, FailedOversize, FailedInactive}
 use Rattle.circuit_l4.specs.declared.plain.WriteRefusal.{WriteRefusal}
 use Rattle.circuit_l4.specs.declared.plain.WriteRefusal.TheVariants as refusal
-use Rattle.circuit_l4.specs.declared.plain.TheConstants.{QUEUE_MAX}
 use Rattle.circuit_l4.specs.declared.machine.Role.{Role}
 use Rattle.circuit_l4.specs.declared.machine.Role.TheVariants.{Requester, Responder}
 use Rattle.circuit_l4.specs.EndState.{State, Going, begin, is_up}
@@ -145,9 +142,9 @@ write_answer s message =
     if not (is_up s.phase) then Err refusal.NotUp
     else if s.closing then Err refusal.Closing
     else if nat_eq (length message) 0 then Err refusal.Empty
-    else if nat_lt LONGEST (length message) then Err refusal.TooLong
-    else if nat_lt QUEUE_MAX (unacknowledged s.sending + length message) then Err refusal.QueueFull
-    else if nat_lt COUNT_MAX (total s.sending + length (fragments_of message)) then Err refusal.Exhausted
+    else if nat_lt 8192 (length message) then Err refusal.TooLong
+    else if nat_lt 65536 (unacknowledged s.sending + length message) then Err refusal.QueueFull
+    else if nat_lt (2 ^ 62) (total s.sending + length (fragments_of message)) then Err refusal.Exhausted
     else Ok tt
 
 -- a message is written
@@ -188,4 +185,4 @@ step_at now g Take = taken g
 
 -- a moment above 2^62 milliseconds counts as 2^62
 abbrev pub step : State → Input → ℕ → Going
-step s input now = step_at (min now COUNT_MAX) (begin s) input
+step s input now = step_at (min now (2 ^ 62)) (begin s) input

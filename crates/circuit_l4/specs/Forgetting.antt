@@ -1,11 +1,7 @@
 -- Messages of which all fragments are acknowledged are forgotten.
-use Rattle.std.specs.Prelude.{◌≡◌, ℕ, ◌+◌, ◌<◌, Bool, true, false, List, [], ◌∷◌, ◌++◌, map, length, Vec}
+use Rattle.std.specs.Prelude.{◌≡◌, ℕ, ◌+◌, ◌<◌, Bool, true, false, List, [], ◌∷◌, ◌++◌, length}
 use Rattle.circuit_reassembly.specs.Fragments.{fragments_of}
 use Rattle.circuit_l4.specs.Sending.{fragments_of_all}
-
--- the bytes of messages
-abbrev pub texts : {Z : Type 0} → List (Vec ℕ Z) → List (List ℕ)
-texts messages = map (λ m. m.items) messages
 
 -- so many fragments are acknowledged, and the first message has more
 abbrev pub IsUnder : ℕ → List (List ℕ) → Type 0

@@ -1,11 +1,9 @@
 -- What the code keeps of the two halves of an end, and what it has forgotten.
-use Rattle.std.specs.Prelude.{◌≡◌, ℕ, ◌+◌, ◌<◌, ◌≤◌, Bool, true, false, if◌then◌else◌, List, [], ◌∷◌, ◌++◌, length, Option, Result, Ok, Err}
+use Rattle.std.specs.Prelude.{◌≡◌, ℕ, ◌+◌, ◌^◌, ◌<◌, ◌≤◌, Bool, true, false, if◌then◌else◌, List, [], ◌∷◌, ◌++◌, length, Option, Result, Ok, Err}
 use Rattle.circuit_reassembly.specs.Fragments.{Fragment}
-use Rattle.radio_base.specs.declared.modulus.TheConstants.{COUNT_MAX}
 use Rattle.circuit_reassembly.specs.Gathering.{Answer, More, Whole, Too_long}
 use Rattle.circuit_reassembly.specs.declared.gather.Oversize.{Oversize}
 use Rattle.circuit_l4.specs.declared.piece.Piece.{Piece}
-use Rattle.circuit_l4.specs.declared.piece.TheConstants.{BUSY_AT}
 use Rattle.circuit_l4.specs.Sending.{Sending, bytes_of, fragments_of_all, total}
 use Rattle.circuit_l4.specs.Receiving.{Receiving, Appended, Came, inbox, first_taken, with_message}
 
@@ -53,8 +51,8 @@ waiting_in i = bytes_of i.messages + length i.gathered
 
 -- the next fragment may be taken in
 pub record Takes (i : Inbox) : Type 0 where
-  pub room : waiting_in i < BUSY_AT
-  pub numbers : i.got < COUNT_MAX
+  pub room : waiting_in i < 16384
+  pub numbers : i.got < 2 ^ 62
 
 -- a fragment as the code holds it
 abbrev pub fragment_in : Piece → Fragment

@@ -3,14 +3,13 @@ use Rattle.std.specs.Prelude.{ℕ, ◌≡◌, ◌+◌, ◌*◌, ◌/◌, ◌%◌
 use Rattle.ax_address.specs.Callsign.{IsCallsign}
 use Rattle.circuit_l4.specs.declared.transport.Transport.{Transport}
 use Rattle.circuit_l4.specs.declared.transport.Transport.TheVariants.{Request, Accept, Refuse, Disconnect, Disconnected, Info, InfoAck}
-use Rattle.circuit_l4.specs.declared.transport.TheConstants.{MAX_TEXT}
 use Rattle.circuit_l4.specs.Transports.{SpellsTransport, transport_octets}
 use Rattle.circuit_l4.specs.Reading.{transport_at}
 
 -- the calls of a request are calls, and a text has at most 236 bytes
 abbrev pub IsTransport : Transport → Type 0
 IsTransport (Request pair window user node) = IsCallsign user.letters user.ssid × IsCallsign node.letters node.ssid
-IsTransport (Info to tx rx flags text) = length text.items ≤ MAX_TEXT
+IsTransport (Info to tx rx flags text) = length text.items ≤ 236
 IsTransport _ = Unit {0}
 
 -- octets that spell a transport are read as it, and so spell no other one

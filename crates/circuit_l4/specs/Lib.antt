@@ -7,6 +7,7 @@ pub mod Queued
 pub mod Halves
 pub mod Inboxes
 pub mod EndState
+pub mod Outputs
 pub mod EndMoves
 pub mod EndTable
 pub mod EndOpening

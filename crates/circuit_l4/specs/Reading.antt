@@ -8,7 +8,6 @@ use Rattle.circuit_l4.specs.declared.transport.Transport.{Transport}
 use Rattle.circuit_l4.specs.declared.transport.Transport.TheVariants.{Request, Accept, Refuse, Disconnect, Disconnected, Info, InfoAck}
 use Rattle.circuit_l4.specs.declared.transport.TransportRefusal.{TransportRefusal}
 use Rattle.circuit_l4.specs.declared.transport.TransportRefusal.TheVariants.{Short, BadOpcode, BadCall, TooLong}
-use Rattle.circuit_l4.specs.declared.transport.TheConstants.{MAX_TRANSPORT}
 use Rattle.circuit_l4.specs.Transports.{pair_at, opcode, choke, flags_in}
 
 infixl 10 ◌>>=◌
@@ -63,6 +62,6 @@ of_opcode octets =
 -- Octets are read as a transport exactly where they spell it, as the law of `transport_spelling` says.
 unfoldable pub transport_at : List ℕ → Result Transport TransportRefusal
 transport_at octets =
-    if nat_lt MAX_TRANSPORT (length octets) then Err TooLong
+    if nat_lt 241 (length octets) then Err TooLong
     else if nat_lt (length octets) 5 then Err (Short (length octets))
     else of_opcode octets

@@ -1,11 +1,9 @@
 -- The receiving half of an end of a circuit: what came from the other end (NET/ROM, Appendix B; that fragments are kept
 -- before their turn, and how many bytes may wait, is this project's profile).
-use Rattle.std.specs.Prelude.{ℕ, zero, suc, ◌+◌, ◌-◌, Bool, true, false, not, ◌||◌, nat_eq, nat_lt, nat_le, if◌then◌else◌, List, [], ◌∷◌, ◌++◌, length, drop, slice_get, slice_set, Option, Some, None}
-use Rattle.radio_base.specs.declared.modulus.TheConstants.{COUNT_MAX}
+use Rattle.std.specs.Prelude.{ℕ, zero, suc, ◌+◌, ◌-◌, ◌^◌, Bool, true, false, not, ◌||◌, nat_eq, nat_lt, nat_le, if◌then◌else◌, List, [], ◌∷◌, ◌++◌, length, drop, slice_get, slice_set, Option, Some, None}
 use Rattle.radio_base.specs.Modulus.{place_of}
 use Rattle.circuit_reassembly.specs.Gathering.{Answer, More, Whole, Too_long, gather_step}
 use Rattle.circuit_l4.specs.declared.piece.Piece.{Piece}
-use Rattle.circuit_l4.specs.declared.piece.TheConstants.{BUSY_AT}
 use Rattle.circuit_l4.specs.Sending.{bytes_of}
 
 pub record Receiving : Type 0 where
@@ -26,7 +24,7 @@ waiting r = bytes_of (inbox r) + length r.gathered
 
 -- no text is taken in for now
 abbrev pub busy : Receiving → Bool
-busy r = nat_le BUSY_AT (waiting r)
+busy r = nat_le 16384 (waiting r)
 
 -- a half after fragments were appended, and whether they all fitted their messages
 pub record Appended : Type 0 where
@@ -58,7 +56,7 @@ first_early (p ∷ e) = p
 
 -- the early fragment that is next, where it may be taken
 abbrev pub next_early : Receiving → Option Piece
-next_early r = if busy r || nat_le COUNT_MAX r.got then None else first_early r.early
+next_early r = if busy r || nat_le (2 ^ 62) r.got then None else first_early r.early
 
 -- early fragments follow while they are next and the end isn't busy; the count is the length of early
 abbrev pub move_on : ℕ → Receiving → Appended
@@ -116,7 +114,7 @@ came_at n piece r = if nat_lt r.got n then came_early n piece r else came_next p
 -- a fragment comes with the number tx on the air: it is one of the window, or nothing is done
 abbrev pub came : ℕ → ℕ → Piece → Receiving → Came
 came window tx piece r =
-    if busy r || nat_le COUNT_MAX r.got then ignored r
+    if busy r || nat_le (2 ^ 62) r.got then ignored r
     else elim (place_of 256 tx r.got window) as (λ x. Came) [ None ↦ ignored r | Some n ↦ came_at n piece r ]
 
 -- the first message is taken

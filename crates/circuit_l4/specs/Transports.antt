@@ -6,7 +6,6 @@ use Rattle.circuit_l4.specs.declared.transport.Pair.{Pair}
 use Rattle.circuit_l4.specs.declared.transport.Flags.{Flags}
 use Rattle.circuit_l4.specs.declared.transport.Transport.{Transport}
 use Rattle.circuit_l4.specs.declared.transport.Transport.TheVariants.{Request, Accept, Refuse, Disconnect, Disconnected, Info, InfoAck}
-use Rattle.circuit_l4.specs.declared.transport.TheConstants.{MAX_TRANSPORT}
 
 -- the pair in two octets from a place on
 abbrev pub pair_at : ℕ → List ℕ → Pair
@@ -26,7 +25,7 @@ flags_in octets = record { choke = choke octets; nak = slice_index octets 4 / 64
 -- what each transport begins with: five octets, of which the first two are a pair and the last one has the opcode
 pub record Begins (code : ℕ) (to : Pair) (octets : List ℕ) : Type 0 where
   pub whole : 5 ≤ length octets
-  pub fits : length octets ≤ MAX_TRANSPORT
+  pub fits : length octets ≤ 241
   pub has_code : opcode octets ≡ code
   pub is_for : pair_at 0 octets ≡ to
 

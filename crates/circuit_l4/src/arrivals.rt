@@ -1,8 +1,10 @@
+//! What an end does with a transport of the other end (NET/ROM, Appendix B, level 4).
 ghost use Rattle.std.specs.Prelude.{◌≡◌, ◌*◌, ◌≤◌, [], None};
 ghost use Rattle.radio_base.specs.declared.modulus.TheConstants.{COUNT_MAX};
 ghost use Rattle.circuit_l4.specs.EndTable as table;
 
 use crate::machine::Machine;
+use crate::output::Output;
 use crate::piece::{Piece, piece_of};
 use crate::plain::{EndNotice, EndPhase};
 use crate::transport::{Flags, Pair, Transport};
@@ -127,7 +129,7 @@ impl Machine {
         ensures does { Does table.closed_by_partner self.old self.new }
         ensures config { self.new.config ≡ self.old.config }
     {
-        self.put(Transport::Disconnected { to: self.to });
+        self.put(Output::Disconnected { to: self.to });
         self.end(EndNotice::ClosedByPartner);
     }
 }

@@ -1,3 +1,4 @@
+//! What an end does for its user: opening, writing, closing, taking.
 ghost use Rattle.std.specs.Prelude.{◌≡◌, ◌+◌, ◌*◌, ◌≤◌, ◌<◌, [], ◌&&◌, nat_lt, length, None, OnOk, OnErr, IfOk};
 ghost use Rattle.radio_base.specs.declared.modulus.TheConstants.{COUNT_MAX};
 
@@ -14,12 +15,13 @@ use std::alloc::Global;
 
 /// How a machine begins.
 #[derive(Clone, Copy, Debug, PartialEq, Eq)]
-pub(crate) struct Beginning {
-    pub(crate) role: Role,
-    pub(crate) pair: Pair,
-    pub(crate) to: Pair,
-    pub(crate) phase: EndPhase,
-    pub(crate) window: u8,
+pub struct Beginning {
+    pub role: Role,
+    pub pair: Pair,
+    /// The other end's pair, once it is known.
+    pub to: Pair,
+    pub phase: EndPhase,
+    pub window: u8,
 }
 
 impl Machine {
@@ -27,13 +29,13 @@ impl Machine {
     ghost use Rattle.circuit_l4.specs.EndState.{State, is_up};
     ghost use Rattle.circuit_l4.specs.EndOpening as opening;
     ghost use Rattle.circuit_l4.specs.EndOpening.{IsConfig};
-    ghost use Rattle.circuit_l4.specs.EndCalls.{Adds, Does, MayWrite, accepted};
-    ghost use Rattle.circuit_l4.specs.EndStanding.{IsDrained, IsWriteAnswer, StandsFor, kept_of};
+    ghost use Rattle.circuit_l4.specs.EndCalls.{Adds, Does, MayWrite};
+    ghost use Rattle.circuit_l4.specs.EndStanding.{IsDrained, StandsFor, kept_of};
     ghost use Rattle.circuit_l4.specs.EndTable.{goes_on};
     ghost use Rattle.circuit_l4.specs.Halves.{IsReceiving, first_or};
     ghost use Rattle.circuit_l4.specs.Receiving.{Receiving, busy};
 
-    /// An end that has known nothing yet. Takes all the memory that is needed but that of messages to be written.
+    /// An end that has known nothing yet. Takes all the memory that is ever needed.
     pub(crate) fn new(
         alloc: Global,
         beginning: Beginning,
@@ -45,8 +47,10 @@ impl Machine {
         requires config { IsConfig config }
         ensures opening { IfOk result (λ m. StandsFor (kept_of m) (opening.new beginning config now)) }
         ensures drained { IfOk result (λ m. IsDrained (kept_of m)) }
+        ensures outs { IfOk result (λ m. m.outs.items ≡ []) }
         ensures config { IfOk result (λ m. m.config ≡ config) }
     {
+        let outgoing = Outgoing::new(alloc)?;
         let incoming = Incoming::new(alloc, config.window)?;
         let outs = HeapCircularBuffer::with_capacity(alloc, 2 * config.window as usize + 2)?;
         Ok(Machine {
@@ -56,7 +60,7 @@ impl Machine {
             config,
             phase: beginning.phase,
             window: beginning.window,
-            outgoing: Outgoing::new(alloc),
+            outgoing,
             incoming,
             held: false,
             closing: false,
@@ -68,7 +72,7 @@ impl Machine {
         })
     }
 
-    /// Whether a message would be accepted, with memory for it.
+    /// Whether a message is accepted.
     fn write_answer(&self, message: &[u8]) -> Result<(), WriteRefusal>
         ensures exact { (s : State) → StandsFor (kept_of self.now) s → result ≡ table.write_answer s message.now }
         ensures room { OnOk result (MayWrite message.now self.now.outgoing) }
@@ -97,35 +101,27 @@ impl Machine {
     pub(crate) fn write(&mut self, message: &[u8], now: u64) -> Result<(), WriteRefusal>
         requires now { now ≤ COUNT_MAX }
         requires outs { self.old.outs.items ≡ [] }
-        ensures answer { (s : State) → StandsFor (kept_of self.old) s → IsWriteAnswer (table.write_answer s message.now) result }
+        ensures answer { (s : State) → StandsFor (kept_of self.old) s → result ≡ table.write_answer s message.now }
         ensures does { OnOk result (Does (table.wrote now message.now) self.old self.new) }
         ensures err { OnErr result (kept_of self.new ≡ kept_of self.old) }
         ensures config { self.new.config ≡ self.old.config }
     {
-        match self.write_answer(message) {
-            Ok(()) => self.accept(message, now),
-            Err(refusal) => Err(refusal),
-        }
+        self.write_answer(message)?;
+        self.accept(message, now);
+        Ok(())
     }
 
     /// Writes a message for which there is room.
-    fn accept(&mut self, message: &[u8], now: u64) -> Result<(), WriteRefusal>
+    fn accept(&mut self, message: &[u8], now: u64)
         requires now { now ≤ COUNT_MAX }
         requires outs { self.old.outs.items ≡ [] }
         requires message { MayWrite message.now self.old.outgoing }
-        ensures answer { IsWriteAnswer accepted result }
-        ensures does { OnOk result (Does (table.wrote now message.now) self.old self.new) }
-        ensures err { OnErr result (kept_of self.new ≡ kept_of self.old) }
+        ensures does { Does (table.wrote now message.now) self.old self.new }
         ensures config { self.new.config ≡ self.old.config }
     {
-        match self.outgoing.write(message) {
-            Ok(()) => {
-                self.quiet = now;
-                self.fill(now);
-                Ok(())
-            }
-            Err(NoMemory) => Err(WriteRefusal::NoMemory),
-        }
+        self.outgoing.write(message);
+        self.quiet = now;
+        self.fill(now);
     }
 
     pub(crate) fn close(&mut self, now: u64)

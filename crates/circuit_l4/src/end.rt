@@ -1,16 +1,17 @@
-ghost use Rattle.std.specs.Prelude.{◌≡◌, ◌↔◌, min, drop, slice_get, nat_lt, length, None, IfOk, OnOk, OnErr, IsOk, IsTrue};
-ghost use Rattle.radio_base.specs.declared.modulus.TheConstants.{COUNT_MAX};
+//! One end of a circuit: its public calls.
+ghost use Rattle.std.specs.Prelude.{◌≡◌, ◌↔◌, ◌≤◌, ◌+◌, ◌*◌, ◌^◌, min, drop, slice_get, nat_lt, length, None, IfOk, OnOk, OnErr, IsOk, IsTrue};
 ghost use Rattle.circuit_l4.specs.EndState.{State};
 ghost use Rattle.circuit_l4.specs.EndTable as table;
 ghost use Rattle.circuit_l4.specs.EndOpening as opening;
 ghost use Rattle.circuit_l4.specs.EndOpening.{IsConfig};
-ghost use Rattle.circuit_l4.specs.EndStanding.{IsDrained, IsWriteAnswer, Stands, StandsFor};
+ghost use Rattle.circuit_l4.specs.EndStanding.{IsDrained, Stands, StandsFor};
 ghost use Rattle.circuit_l4.specs.Halves.{first_or};
 ghost use Rattle.circuit_l4.specs.Receiving.{inbox};
 
 use crate::arrivals::agreed;
 use crate::calls::Beginning;
 use crate::machine::{Machine, Role};
+use crate::output::Output;
 use crate::plain::{EndConfig, EndFacts, EndNotice, EndPhase, WriteRefusal};
 use crate::transport::{Pair, Transport};
 use ax_address::Call;
@@ -19,7 +20,16 @@ use radio_base::{COUNT_MAX, Moment, NoMemory};
 use std::alloc::Global;
 use std::marker::Model;
 
-/// One end of a circuit.
+/// One end of a circuit (NET/ROM, Appendix B, level 4): a pure machine, which reads no clock and knows no carrier. Its calls are of three
+/// kinds.
+///
+/// - Inputs, each with its moment in milliseconds: `write`, `close` and `take` of the user, `arrive` of a transport of the other end, `tick`
+///   of time. They want `drained()`.
+/// - Outputs: `next_out` and `notice`. After `requester`, `responder` and each input both are fetched until they answer None.
+/// - Looks, which change nothing: `facts`, `drained`.
+///
+/// `tick` is called about once a second, since no call tells when something is due. `requester` and `responder` take all the memory that an
+/// end needs. What each input does is one row of the table in `specs/EndTable.antt`.
 #[derive(Drop)]
 pub struct End {
     machine: Machine,
@@ -36,8 +46,7 @@ impl Model for End {
 }
 
 impl End {
-    /// An end that asks for a circuit, for a user at a node. It takes all the memory that it will ever need but that of
-    /// messages that are written.
+    /// An end that asks for a circuit, for a user at a node. It takes all the memory that it will ever need.
     pub fn requester(
         alloc: Global,
         pair: Pair,
@@ -47,7 +56,7 @@ impl End {
         now: Moment,
     ) -> Result<End, NoMemory>
         requires { IsConfig config }
-        ensures opening { IfOk result (λ end. Stands end (opening.requesting pair user node config (min now.0 COUNT_MAX))) }
+        ensures opening { IfOk result (λ end. Stands end (opening.requesting pair user node config (min now.0 (2 ^ 62)))) }
     {
         let now = moment(now);
         let beginning = Beginning {
@@ -64,7 +73,7 @@ impl End {
     }
 
     /// An end that was asked for a circuit by the end with the pair `partner`, and accepts. It takes all the memory that it
-    /// will ever need but that of messages that are written.
+    /// will ever need.
     pub fn responder(
         alloc: Global,
         pair: Pair,
@@ -74,7 +83,7 @@ impl End {
         now: Moment,
     ) -> Result<End, NoMemory>
         requires { IsConfig config }
-        ensures opening { IfOk result (λ end. Stands end (opening.responding pair partner proposed config (min now.0 COUNT_MAX))) }
+        ensures opening { IfOk result (λ end. Stands end (opening.responding pair partner proposed config (min now.0 (2 ^ 62)))) }
     {
         let window = agreed(config.window, proposed);
         let beginning = Beginning {
@@ -85,7 +94,7 @@ impl End {
             window,
         };
         let mut machine = Machine::new(alloc, beginning, config, moment(now))?;
-        machine.put(Transport::Accept {
+        machine.put(Output::Accept {
             to: partner,
             own: pair,
             window,
@@ -96,13 +105,15 @@ impl End {
 
     /// Writes a message for the other end.
     ///
-    /// `NotUp`, `Closing`, `Empty`, `TooLong`, `QueueFull` and `Exhausted` come exactly where they say, in this order.
+    /// Each refusal comes exactly where it says, in the order in which they stand.
     /// After a refusal nothing is changed.
     pub fn write(&mut self, message: &[u8], now: Moment) -> Result<(), WriteRefusal>
         requires { IsDrained self.old }
-        ensures answer { (s : State) → StandsFor self.old s → IsWriteAnswer (table.write_answer s message.now) result }
+        ensures answer { (s : State) → StandsFor self.old s → result ≡ table.write_answer s message.now }
         ensures does { OnOk result ((s : State) → StandsFor self.old s → Stands self.new (table.step s (table.Write message.now) now.0)) }
         ensures err { OnErr result (self.new ≡ self.old) }
+        ensures few { length self.new.outs ≤ 2 * self.old.config.window + 2 }
+        ensures config { self.new.config ≡ self.old.config }
     {
         self.machine.write(message, moment(now))
     }
@@ -110,29 +121,31 @@ impl End {
     /// Closes the circuit once all that was written is acknowledged.
     pub fn close(&mut self, now: Moment)
         requires { IsDrained self.old }
-        ensures { (s : State) → StandsFor self.old s → Stands self.new (table.step s table.Close now.0) }
+        ensures does { (s : State) → StandsFor self.old s → Stands self.new (table.step s table.Close now.0) }
+        ensures few { length self.new.outs ≤ 2 * self.old.config.window + 2 }
+        ensures config { self.new.config ≡ self.old.config }
     {
         self.machine.close(moment(now));
     }
 
     /// Takes in what the other end has sent.
-    pub fn arrive(&mut self, transport: &Transport, now: Moment) -> Result<(), NoMemory>
+    pub fn arrive(&mut self, transport: &Transport, now: Moment)
         requires { IsDrained self.old }
         ensures does { (s : State) → StandsFor self.old s → Stands self.new (table.step s (table.Arrive transport.now) now.0) }
-        ensures ok { IsOk result }
+        ensures few { length self.new.outs ≤ 2 * self.old.config.window + 2 }
+        ensures config { self.new.config ≡ self.old.config }
     {
         self.machine.arrive(transport, moment(now));
-        Ok(())
     }
 
     /// Time has passed.
-    pub fn tick(&mut self, now: Moment) -> Result<(), NoMemory>
+    pub fn tick(&mut self, now: Moment)
         requires { IsDrained self.old }
         ensures does { (s : State) → StandsFor self.old s → Stands self.new (table.step s table.Tick now.0) }
-        ensures ok { IsOk result }
+        ensures few { length self.new.outs ≤ 2 * self.old.config.window + 2 }
+        ensures config { self.new.config ≡ self.old.config }
     {
         self.machine.tick(moment(now));
-        Ok(())
     }
 
     /// Takes the first message that has come; false where none waits, and `out` is as it was then. What it does is the
@@ -142,6 +155,8 @@ impl End {
         ensures does { (s : State) → StandsFor self.old s → Stands self.new (table.step s table.Take now.0) }
         ensures message { (s : State) → StandsFor self.old s → out.new.items ≡ first_or out.old.items (inbox s.receiving) }
         ensures answer { (s : State) → StandsFor self.old s → result ≡ nat_lt 0 (length (inbox s.receiving)) }
+        ensures few { length self.new.outs ≤ 2 * self.old.config.window + 2 }
+        ensures config { self.new.config ≡ self.old.config }
     {
         self.machine.take(out)
     }
@@ -151,7 +166,7 @@ impl End {
         ensures value { result ≡ slice_get self.old.outs 0 }
         ensures rest { self.new ≡ record self.old { outs = drop 1 self.old.outs } }
     {
-        self.machine.outs.pop_front()
+        self.machine.next_out()
     }
 
     /// The next notice.
@@ -187,7 +202,7 @@ impl End {
 
 /// A moment above 2^62 ms counts as 2^62 ms.
 fn moment(now: Moment) -> u64
-    ensures { result ≡ min now.0 COUNT_MAX }
+    ensures { result ≡ min now.0 (2 ^ 62) }
 {
     now.0.min(COUNT_MAX)
 }

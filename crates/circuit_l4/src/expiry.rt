@@ -1,13 +1,14 @@
+//! What an end does when time has passed.
 ghost use Rattle.std.specs.Prelude.{◌≡◌, ◌+◌, ◌*◌, ◌≤◌, ◌<◌, [], length, None};
 ghost use Rattle.radio_base.specs.declared.modulus.TheConstants.{COUNT_MAX};
 
 use crate::machine::{Machine, Role};
+use crate::output::Output;
 use crate::plain::{EndNotice, EndPhase};
-use crate::transport::Transport;
 
 impl Machine {
     ghost use Rattle.circuit_l4.specs.EndTable as table;
-    ghost use Rattle.circuit_l4.specs.EndCalls.{Adds, Does, request_of};
+    ghost use Rattle.circuit_l4.specs.EndCalls.{Adds, Does, request_by};
     ghost use Rattle.circuit_l4.specs.EndStanding.{kept_of};
     ghost use Rattle.circuit_l4.specs.EndTable.{asked, asked_once_more, fell_due, fell_due_up};
 
@@ -113,17 +114,17 @@ impl Machine {
         match self.phase {
             EndPhase::Connecting => self.ask(),
             EndPhase::Up => self.again(),
-            EndPhase::Closing => self.put(Transport::Disconnect { to: self.to }),
+            EndPhase::Closing => self.put(Output::Disconnect { to: self.to }),
             EndPhase::Ended => {}
         }
     }
 
     /// What asks the other end for a circuit; a responder has no such thing.
-    fn request(&self) -> Option<Transport>
-        ensures { result ≡ request_of (kept_of self.now) }
+    fn request(&self) -> Option<Output>
+        ensures { result ≡ request_by self.now.role self.now.pair self.now.config.window }
     {
         match &self.role {
-            Role::Requester { user, node } => Some(Transport::Request {
+            Role::Requester { user, node } => Some(Output::Request {
                 pair: self.pair,
                 window: self.config.window,
                 user: *user,

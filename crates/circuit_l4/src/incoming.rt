@@ -1,8 +1,7 @@
+//! The receiving half of an end: what came and wasn't taken.
 ghost use Rattle.std.specs.Prelude.{◌≡◌, ◌+◌, ◌≤◌, ◌↔◌, [], length, nat_lt, replicate, IfOk, IfSome, IsTrue, None};
 ghost use Rattle.circular_buffer.specs.Buffer.{buffer};
-ghost use Rattle.circuit_reassembly.specs.declared.TheConstants.{FRAGMENT, LONGEST};
 ghost use Rattle.circuit_reassembly.specs.Gathering.{gather_step};
-ghost use Rattle.circuit_l4.specs.declared.messages.TheConstants.{ROOM};
 ghost use Rattle.circuit_l4.specs.Sending.{bytes_of};
 ghost use Rattle.circuit_l4.specs.Receiving as spec;
 ghost use Rattle.circuit_l4.specs.Receiving.{Receiving};
@@ -10,12 +9,16 @@ ghost use Rattle.circuit_l4.specs.Halves.{IsReceiving, Takes, came_answer, first
 
 use crate::messages::Messages;
 use crate::piece::{BUSY_AT, Piece, piece_of};
-use circuit_reassembly::{Gather, Gathered, Oversize};
+use circuit_reassembly::{FRAGMENT, Gather, Gathered, Oversize};
 use circular_buffer::HeapCircularBuffer;
 use l3_datagram::Message;
 use radio_base::{COUNT_MAX, M256, Modulus, NoMemory};
 use std::alloc::Global;
 use std::marker::Model;
+
+/// The most bytes that messages have which wait to be taken: an end that holds 16,384 takes in no more, and a fragment has at
+/// most 236.
+const ROOM: usize = BUSY_AT + FRAGMENT;
 
 /// Places for fragments that come before their turn, the first for the next one expected.
 type Places = HeapCircularBuffer<Option<Piece>>;
@@ -56,7 +59,7 @@ impl Incoming {
             got: 0,
             early: empty_places(alloc, window)?,
             gather: Gather::new(alloc)?,
-            inbox: Messages::new(alloc)?,
+            inbox: Messages::new(alloc, ROOM)?,
             received: 0,
             waiting: 0,
             asked: None,
@@ -245,10 +248,10 @@ fn gather_next(
     text: &[u8],
     more: bool,
 ) -> Result<bool, Oversize>
-    requires text { length text.now ≤ FRAGMENT }
-    requires room { bytes_of inbox.old + length gather.old + length text.now ≤ ROOM }
+    requires text { length text.now ≤ 236 }
+    requires room { bytes_of inbox.old.messages + length gather.old + length text.now ≤ inbox.old.room }
     ensures held { gather.new ≡ (gather_step gather.old text.now more).0 }
-    ensures messages { inbox.new ≡ with_answer (gather_step gather.old text.now more).1 inbox.old }
+    ensures messages { inbox.new ≡ record inbox.old { messages = with_answer (gather_step gather.old text.now more).1 inbox.old.messages } }
     ensures answer { result ≡ whole_answer (gather_step gather.old text.now more).1 }
 {
     match gather.push(text, more) {
@@ -260,9 +263,9 @@ fn gather_next(
 
 /// Keeps a message, and answers whether it has bytes; one without is dropped.
 fn keep_message(inbox: &mut Messages, message: &[u8]) -> bool
-    requires most { length message.now ≤ LONGEST }
-    requires room { bytes_of inbox.old + length message.now ≤ ROOM }
-    ensures messages { inbox.new ≡ spec.with_message message.now inbox.old }
+    requires most { length message.now ≤ 8192 }
+    requires room { bytes_of inbox.old.messages + length message.now ≤ inbox.old.room }
+    ensures messages { inbox.new ≡ record inbox.old { messages = spec.with_message message.now inbox.old.messages } }
     ensures answer { result ≡ nat_lt 0 (length message.now) }
 {
     if message.is_empty() {

@@ -1,6 +1,9 @@
 //! What the definitions promise by themselves.
+ghost use Rattle.std.specs.Prelude.{◌≡◌};
 ghost use Rattle.circuit_l4.specs.EndLaws as end_law;
 ghost use Rattle.circuit_l4.specs.Laws as law;
+
+use crate::{BUSY_AT, MAX_TEXT, MAX_TRANSPORT, QUEUE_MAX};
 
 /// Octets that spell a transport are read as it, and so spell no other; what is written for a transport spells it, and is
 /// read as it; and octets that are read and written again are the same but for what is ignored.
@@ -20,4 +23,12 @@ pub fn endings()
     ensures retries { end_law.FailsAfterRetries }
     ensures silent { end_law.FailingPutsOutNothing }
     ensures acknowledged { end_law.DisconnectsWhenAcknowledged }
+{}
+
+/// The most octets of a transport and bytes of its text, and the bytes of messages that an end holds and at which it is busy.
+pub fn numbers()
+    ensures transport { MAX_TRANSPORT ≡ 241 }
+    ensures text { MAX_TEXT ≡ 236 }
+    ensures queue { QUEUE_MAX ≡ 65536 }
+    ensures busy { BUSY_AT ≡ 16384 }
 {}

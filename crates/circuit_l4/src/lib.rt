@@ -4,20 +4,17 @@
 mod arrivals;
 mod calls;
 mod end;
-#[cfg(test)]
-mod end_tests;
 mod expiry;
 mod incoming;
 pub mod laws;
 mod machine;
 mod messages;
 mod outgoing;
+mod output;
 mod piece;
 mod plain;
 mod read;
 mod supplies;
-#[cfg(test)]
-mod tests;
 mod texts;
 mod transport;
 mod write;

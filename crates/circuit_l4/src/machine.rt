@@ -1,27 +1,26 @@
-ghost use Rattle.std.specs.Prelude.{◌≡◌, ◌+◌, ◌-◌, ◌*◌, ◌≤◌, ◌<◌, ◌++◌, ◌∷◌, [], length, false, None, Some};
+//! What an end keeps above its two halves.
+ghost use Rattle.std.specs.Prelude.{◌≡◌, ◌+◌, ◌-◌, ◌*◌, ◌≤◌, ◌<◌, length, drop, slice_get, None, Some};
 ghost use Rattle.radio_base.specs.declared.modulus.TheConstants.{COUNT_MAX};
 
 use crate::incoming::Incoming;
 use crate::outgoing::Outgoing;
+use crate::output::{Out, Output};
 use crate::plain::{EndConfig, EndNotice, EndPhase};
-use crate::transport::{Flags, Pair, Transport};
+use crate::transport::{Flags, Pair};
 use ax_address::Call;
 use circular_buffer::HeapCircularBuffer;
 use radio_base::{M256, Modulus};
 
 /// Which end of a circuit it is.
 #[derive(Clone, Copy, Debug, PartialEq, Eq)]
-pub(crate) enum Role {
+pub enum Role {
     /// The end that asks for the circuit, for this user at this node.
     Requester { user: Call, node: Call },
     /// The end that was asked.
     Responder,
 }
 
-/// What an end puts out, with the number of the fragment that it carries.
-pub(crate) type Out = (Transport, Option<u64>);
-
-/// One end of a circuit. What waits to be put out has its room from the start.
+/// One end of a circuit. It has its room from the start.
 #[derive(Drop)]
 pub(crate) struct Machine {
     pub(crate) role: Role,
@@ -41,7 +40,7 @@ pub(crate) struct Machine {
     pub(crate) due: Option<u64>,
     /// When it was opened, last written to, or last heard text or an acknowledgement.
     pub(crate) quiet: u64,
-    pub(crate) outs: HeapCircularBuffer<Out>,
+    pub(crate) outs: HeapCircularBuffer<Output>,
     pub(crate) notice: Option<EndNotice>,
     ghost acked_is_sent: { outgoing.acked ≤ outgoing.sent },
     ghost sent_is_written: { outgoing.sent ≤ outgoing.total },
@@ -49,9 +48,10 @@ pub(crate) struct Machine {
     ghost sent_in_window: { outgoing.sent ≤ outgoing.acked + config.window },
     ghost window_fits: { window ≤ config.window },
     ghost own_window_some: { 1 ≤ config.window },
-    ghost own_window_fits: { config.window ≤ 64 },
+    ghost own_window_fits: { config.window ≤ 127 },
     ghost places: { length incoming.early ≡ config.window },
     ghost outs_room: { outs.capacity ≡ 2 * config.window + 2 },
+    ghost outs_fit: { length outs.items ≤ 2 * config.window + 2 },
     ghost timeout_fits: { config.timeout ≤ COUNT_MAX },
     ghost busy_fits: { config.busy ≤ COUNT_MAX },
     ghost inactive_fits: { config.inactive ≤ COUNT_MAX },
@@ -63,9 +63,7 @@ pub(crate) struct Machine {
 impl Machine {
     ghost use Rattle.circuit_l4.specs.EndState as state;
     ghost use Rattle.circuit_l4.specs.EndMoves as moves;
-    ghost use Rattle.circuit_l4.specs.Halves.{IsReceiving};
-    ghost use Rattle.circuit_l4.specs.Receiving.{Receiving, busy};
-    ghost use Rattle.circuit_l4.specs.EndCalls.{Adds, Does};
+    ghost use Rattle.circuit_l4.specs.EndCalls.{Adds, Does, puts};
     ghost use Rattle.circuit_l4.specs.EndStanding.{kept_of};
 
     pub(crate) fn is_up(&self) -> bool
@@ -74,31 +72,24 @@ impl Machine {
         matches!(self.phase, EndPhase::Up)
     }
 
-    fn push(&mut self, out: Out)
+    /// Something waits to be put out.
+    pub(crate) fn put(&mut self, output: Output)
         requires { length self.old.outs.items < 2 * self.old.config.window + 2 }
-        ensures { kept_of self.new ≡ record (kept_of self.old) { outs = self.old.outs.items ++ out ∷ [] } }
-    {
-        let _ = self.outs.push_back(out);
-    }
-
-    /// Puts out a transport without text.
-    pub(crate) fn put(&mut self, transport: Transport)
-        requires { length self.old.outs.items < 2 * self.old.config.window + 2 }
-        ensures does { Does (moves.put transport) self.old self.new }
+        ensures does { Does (puts self.old.outgoing output) self.old self.new }
         ensures adds { Adds 1 self.old self.new }
         ensures rest { kept_of self.new ≡ record (kept_of self.old) { outs = (kept_of self.new).outs } }
     {
-        self.push((transport, None));
+        let _ = self.outs.push_back(output);
     }
 
-    /// The flags of a transport, with choke where no text is taken in for now.
-    fn flags(&self, nak: bool, more: bool) -> Flags
-        ensures { (r : Receiving) → IsReceiving self.now.incoming r → result ≡ record { choke = busy r; nak = nak; more = more } }
+    /// The next transport that goes out.
+    pub(crate) fn next_out(&mut self) -> Option<Out>
+        ensures value { result ≡ slice_get (kept_of self.old).outs 0 }
+        ensures rest { kept_of self.new ≡ record (kept_of self.old) { outs = drop 1 (kept_of self.old).outs } }
     {
-        Flags {
-            choke: self.incoming.is_busy(),
-            nak,
-            more,
+        match self.outs.pop_front() {
+            Some(output) => Some(output.fetch(&self.outgoing)),
+            None => None,
         }
     }
 
@@ -110,15 +101,14 @@ impl Machine {
         ensures adds { Adds 1 self.old self.new }
         ensures rest { kept_of self.new ≡ record (kept_of self.old) { outs = (kept_of self.new).outs } }
     {
-        if let Some(piece) = self.outgoing.piece(number) {
-            let transport = Transport::Info {
+        if number < self.outgoing.total() {
+            let info = Output::Info {
                 to: self.to,
-                tx: M256::wire(number),
+                number,
                 rx: M256::wire(self.incoming.got()),
-                flags: self.flags(false, piece.more),
-                text: piece.text,
+                choke: self.incoming.is_busy(),
             };
-            self.push((transport, Some(number)));
+            self.put(info);
         }
     }
 
@@ -143,12 +133,17 @@ impl Machine {
         ensures adds { Adds 1 self.old self.new }
         ensures rest { kept_of self.new ≡ record (kept_of self.old) { outs = (kept_of self.new).outs } }
     {
-        let transport = Transport::InfoAck {
+        let flags = Flags {
+            choke: self.incoming.is_busy(),
+            nak,
+            more: false,
+        };
+        let info_ack = Output::InfoAck {
             to: self.to,
             rx: M256::wire(self.incoming.got()),
-            flags: self.flags(nak, false),
+            flags,
         };
-        self.put(transport);
+        self.put(info_ack);
     }
 
     pub(crate) fn note(&mut self, notice: EndNotice)
@@ -175,6 +170,7 @@ impl Machine {
         requires { now ≤ COUNT_MAX }
         ensures does { Does (moves.changed (moves.awaited now)) self.old self.new }
         ensures rest { kept_of self.new ≡ record (kept_of self.old) { due = Some (now + self.old.config.timeout) } }
+        ensures outs { self.new.outs ≡ self.old.outs }
     {
         self.due = Some(now + self.config.timeout);
     }

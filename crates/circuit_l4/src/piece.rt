@@ -1,3 +1,4 @@
+//! A fragment with its flag, and when an end is busy.
 ghost use Rattle.std.specs.Prelude.{◌≡◌, ◌≤◌, length};
 
 use arrayvec::ArrayVec;
@@ -7,10 +8,10 @@ pub const BUSY_AT: usize = 16384;
 
 /// A fragment of a message.
 #[derive(Drop)]
-pub(crate) struct Piece {
-    pub(crate) text: ArrayVec<u8, 236>,
+pub struct Piece {
+    pub text: ArrayVec<u8, 236>,
     /// Whether the message goes on.
-    pub(crate) more: bool,
+    pub more: bool,
 }
 
 /// A fragment of these bytes.

@@ -1,10 +1,12 @@
+//! What is handed to an end and what it tells: settings, refusals, notices, facts.
+
 /// How many bytes of messages that aren't wholly acknowledged an end holds at most (this project's profile).
 pub const QUEUE_MAX: usize = 65536;
 
-/// How an end of a circuit goes. A time is in milliseconds, and at most 2^62 of them.
+/// The settings of an end of a circuit. A time is in milliseconds, and at most 2^62 of them.
 #[derive(Clone, Copy, Debug, PartialEq, Eq)]
 pub struct EndConfig {
-    /// How many fragments may be under way, from 1 to 64.
+    /// How many fragments may be under way, from 1 to 127.
     pub window: u8,
     /// How long an answer is awaited.
     pub timeout: u64,
@@ -17,6 +19,21 @@ pub struct EndConfig {
 }
 
 /// Where an end of a circuit stands.
+///
+/// ```text
+/// requester / Request          responder / Accept
+///     |                              |
+///     v            Accept            v
+/// +------------+ ------------> +-----------+  closing, all acknowledged / Disconnect   +---------+
+/// | Connecting |               |    Up     | ----------------------------------------> | Closing |
+/// +------------+               +-----------+                                           +---------+
+///     | Refuse; retries              | Disconnect / Disconnected; retries;                  | Disconnected; retries;
+///     |                              | oversize; inactive                                   | Disconnect / Disconnected
+///     v                              v                                                      v
+/// +---------------------------------------------------------------------------------------------+
+/// |                                            Ended                                            |
+/// +---------------------------------------------------------------------------------------------+
+/// ```
 #[derive(Clone, Copy, Debug, PartialEq, Eq)]
 pub enum EndPhase {
     /// A request was put out, and its answer is awaited.
@@ -59,7 +76,8 @@ pub struct EndFacts {
     pub received: u64,
     /// How many fragments the other end has acknowledged.
     pub acked: u64,
-    /// How many bytes came and weren't taken.
+    /// How many bytes came and weren't taken, those of a message of which more is to come among them. Whether a message
+    /// waits is told by `received` and by how many were taken.
     pub waiting: usize,
     /// How many bytes are in written messages that aren't wholly acknowledged.
     pub queued: usize,
@@ -80,6 +98,4 @@ pub enum WriteRefusal {
     QueueFull,
     /// The numbers of fragments have come to their end.
     Exhausted,
-    /// Memory ran out.
-    NoMemory,
 }

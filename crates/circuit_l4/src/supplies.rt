@@ -1,9 +1,10 @@
+//! What an end puts out as its window allows.
 ghost use Rattle.std.specs.Prelude.{◌≡◌, ℕ, ◌+◌, ◌*◌, ◌≤◌, length};
 ghost use Rattle.radio_base.specs.declared.modulus.TheConstants.{COUNT_MAX};
 
 use crate::machine::Machine;
+use crate::output::Output;
 use crate::plain::EndPhase;
-use crate::transport::Transport;
 
 impl Machine {
     ghost use Rattle.circuit_l4.specs.EndMoves as moves;
@@ -81,7 +82,7 @@ impl Machine {
         ensures does { Does (moves.closing_begun now) self.old self.new }
         ensures adds { Adds 1 self.old self.new }
     {
-        self.put(Transport::Disconnect { to: self.to });
+        self.put(Output::Disconnect { to: self.to });
         self.phase = EndPhase::Closing;
         self.held = false;
         self.tries = 0;

@@ -1,3 +1,4 @@
+//! What an end does with the text of an Info.
 ghost use Rattle.std.specs.Prelude.{◌≡◌, ℕ, suc, ◌+◌, ◌-◌, ◌*◌, ◌≤◌, [], length, None, IfSome};
 ghost use Rattle.radio_base.specs.declared.modulus.TheConstants.{COUNT_MAX};
 
@@ -10,9 +11,9 @@ use radio_base::{COUNT_MAX, M256, Modulus};
 
 /// What has to be put out once more: so many fragments from a number on.
 #[derive(Clone, Copy, Debug, PartialEq, Eq)]
-pub(crate) struct Owed {
-    pub(crate) from: u64,
-    pub(crate) many: u64,
+pub struct Owed {
+    pub from: u64,
+    pub many: u64,
 }
 
 impl Machine {
@@ -78,7 +79,8 @@ impl Machine {
 
     /// The acknowledgement part of a message. Answers what has to be put out once more.
     fn acknowledge(&mut self, rx: u8, flags: Flags, now: u64) -> Owed
-        requires { now ≤ COUNT_MAX }
+        requires now { now ≤ COUNT_MAX }
+        requires outs { self.old.outs.items ≡ [] }
         ensures does { (g : Going) → Stands (kept_of self.old) g →
             Stands (kept_of self.new) (moves.changed (λ s. (moves.acknowledged now rx flags s).end) g)
             × (result ≡ (moves.acknowledged now rx flags g.end).owed) }
@@ -105,6 +107,7 @@ impl Machine {
         requires now { now ≤ COUNT_MAX }
         requires from { self.old.outgoing.acked ≤ below }
         requires to { below ≤ self.old.outgoing.sent }
+        requires outs { self.old.outs.items ≡ [] }
         ensures does { (g : Going) → Stands (kept_of self.old) g →
             Stands (kept_of self.new) (moves.changed (λ s. (moves.acknowledged_at now flags below s).end) g)
             × (result ≡ (moves.acknowledged_at now flags below g.end).owed) }
@@ -122,6 +125,7 @@ impl Machine {
         requires now { now ≤ COUNT_MAX }
         requires from { self.old.outgoing.acked ≤ below }
         requires to { below ≤ self.old.outgoing.sent }
+        requires outs { self.old.outs.items ≡ [] }
         ensures does { Does (moves.changed (moves.advanced now below)) self.old self.new }
         ensures adds { Adds 0 self.old self.new }
         ensures acked { self.new.outgoing.acked ≡ below }

@@ -1,3 +1,4 @@
+//! What the ends of a circuit say to each other (NET/ROM, Appendix B, level 4).
 use arrayvec::ArrayVec;
 use ax_address::Call;
 

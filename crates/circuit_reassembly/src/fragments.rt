@@ -1,3 +1,4 @@
+//! Messages are cut into fragments.
 ghost use Rattle.std.specs.Prelude.{◌≡◌, ◌<◌, ◌≤◌, ℕ, List, length, slice_get, IfSome, MatchOption, Some, None};
 ghost use Rattle.circuit_reassembly.specs.Fragments.{fragments_of, fragment_at, fragments_in};
 

@@ -1,6 +1,9 @@
 //! What the definitions promise by themselves.
 
+ghost use Rattle.std.specs.Prelude.{◌≡◌};
 ghost use Rattle.circuit_reassembly.specs.Laws.{FragmentsMakeTheMessage, GathersTheMessage};
+
+use crate::{FRAGMENT, LONGEST};
 
 /// The fragments of a message, joined in order, are the message. Each has 1 to 236 bytes, each but the last has 236, and
 /// exactly the last has the flag that no more follow.
@@ -12,4 +15,10 @@ pub fn fragments_make_the_message()
 /// whole message. Nothing is held then.
 pub fn gathers_the_message()
     ensures { GathersTheMessage }
+{}
+
+/// The most bytes of a fragment, and of a message.
+pub fn numbers()
+    ensures fragment { FRAGMENT ≡ 236 }
+    ensures longest { LONGEST ≡ 8192 }
 {}

@@ -16,6 +16,3 @@ pub use gather::{Gather, Gathered, Oversize};
 pub const FRAGMENT: usize = 236;
 /// The most bytes of one message (this project's profile).
 pub const LONGEST: usize = 8192;
-
-#[cfg(test)]
-mod tests;

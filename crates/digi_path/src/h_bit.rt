@@ -1,3 +1,4 @@
+//! A repeater's H bit (AX.25 2.2, section 3.12).
 ghost use Rattle.std.specs.Prelude.{◌≡◌};
 
 use ax_address::Address;

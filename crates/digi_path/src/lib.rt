@@ -11,6 +11,3 @@ mod reversal;
 
 pub use digi_step::{DigiStep, step};
 pub use reversal::reversed;
-
-#[cfg(test)]
-mod tests;

@@ -1,3 +1,4 @@
+//! The way back of an answer.
 ghost use Rattle.std.specs.Prelude.{◌≡◌};
 ghost use Rattle.digi_path.specs.Paths.{way_back};
 

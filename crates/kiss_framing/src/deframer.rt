@@ -1,3 +1,4 @@
+//! A KISS stream becomes frames.
 ghost use Rattle.std.specs.Prelude.{◌≡◌, ℕ, ◌≤◌, List, [], ◌∷◌, ◌++◌, ◌<◌, length, take, IfSome, IfNone};
 ghost use Rattle.kiss_framing.specs.Stream.{items, given_by_byte, frame_of as frame_in};
 ghost use Rattle.kiss_framing.specs.Deframing.{StandsFor, pending_of};

@@ -1,3 +1,4 @@
+//! A frame becomes KISS bytes.
 ghost use Rattle.std.specs.Prelude.{◌≡◌, ℕ, ◌≤◌, ◌+◌, ◌*◌, ◌<◌, List, ◌++◌, ◌∷◌, [], ◌↔◌, length, take, OnOk, OnErr, IsOk};
 ghost use Rattle.std.specs.List.{flat_map};
 ghost use Rattle.kiss_framing.specs.Enframing.{escape_of, octets_of, framed};

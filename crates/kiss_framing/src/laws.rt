@@ -1,5 +1,8 @@
 //! What holds of every stream and every frame.
+ghost use Rattle.std.specs.Prelude.{◌≡◌};
 ghost use Rattle.kiss_framing.specs.Laws.{BytesAdd, FendParts, FramesReadBack};
+
+use crate::{FEND, FESC, LONGEST, TFEND, TFESC};
 
 /// Each byte of a stream adds its item to those before it: a `FEND` the frame of a piece of 1 to 1,024 unescaped
 /// bytes, and the 1,025th byte of a piece that it is too long.
@@ -15,4 +18,13 @@ pub fn fend_parts()
 /// A frame as it is sent reads back as this frame and nothing else.
 pub fn frames_read_back()
     ensures { FramesReadBack }
+{}
+
+/// The bytes that KISS names, and the most bytes of a frame, 1,024.
+pub fn numbers()
+    ensures fend { FEND ≡ 0xC0 }
+    ensures fesc { FESC ≡ 0xDB }
+    ensures tfend { TFEND ≡ 0xDC }
+    ensures tfesc { TFESC ≡ 0xDD }
+    ensures longest { LONGEST ≡ 1024 }
 {}

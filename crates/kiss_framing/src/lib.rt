@@ -23,6 +23,3 @@ pub const TFEND: u8 = 0xDC;
 pub const TFESC: u8 = 0xDD;
 /// The most unescaped bytes that a frame may have, its type byte among them (this project's profile).
 pub const LONGEST: usize = 1024;
-
-#[cfg(test)]
-mod tests;

@@ -1,3 +1,4 @@
+//! What is held of a stream between two items.
 ghost use Rattle.std.specs.Prelude.{◌≡◌, ◌≢◌, ◌≤◌, ◌<◌, ◌++◌, ◌∷◌, [], length, take};
 ghost use Rattle.std.specs.List.{AllByRecursion};
 ghost use Rattle.kiss_framing.specs.Deframing.{pending_of};

@@ -1,10 +1,11 @@
 -- What a router's calls of its carrier come to, one after another.
 use Rattle.std.proofs.Common.{◌≡◌, ℕ, List, [], ◌∷◌, ◌++◌, Option, Some, None, slice_get, refl, ap, subst, sym, append-nil}
 use Rattle.ax_address.specs.Callsign.{Callsign}
-use Rattle.route_table.specs.Log.{Item}
+use Rattle.route_table.specs.Log.{Item, Failure}
 use Rattle.route_table.specs.Held.{StandsFor}
 use Rattle.l3_datagram.specs.declared.carrier.Offered.{Offered}
 use Rattle.l3_datagram.specs.declared.routed.Routed.{Routed}
+use Rattle.l3_datagram.specs.declared.routed.Routed.TheVariants.{Lost}
 use Rattle.l3_datagram.specs.CarrierCall.{CarrierCall, Parcel, Collect, Fail}
 use Rattle.l3_datagram.specs.Hops.{way, pumping}
 use Rattle.l3_datagram.specs.Routers.{Routing, DoesRoute, DoesPump}
@@ -25,6 +26,18 @@ idle made more_made old new mid [] [] next log now answer stands l w first then 
 }
 idle made more_made old new mid (c ∷ lost) waiting next log now answer stands l w first then = cc
 idle made more_made old new mid [] (p ∷ waiting) next log now answer stands l w first then = cc
+
+-- a neighbour was lost
+pub lost_one :
+    {C : Type 0} (made : C → List CarrierCall → C → Type 0)
+    (old new : Routing C) (lost : List Callsign) (waiting : List Parcel) (neighbour : Callsign)
+    (next : Callsign → Option Callsign) (log : List Item) (now : ℕ) (answer : Offered) →
+    StandsFor new.table (log ++ Failure neighbour ∷ []) → Some neighbour ≡ slice_get lost 0 → made old.carrier (Fail (Some neighbour) ∷ []) new.carrier →
+    DoesPump made old new log (Some (Lost neighbour)) (pumping old.own next lost waiting now answer)
+lost_one made old new [] waiting neighbour next log now answer stands l first = cc
+lost_one made old new (c ∷ lost) waiting neighbour next log now answer stands l first =
+    let e : c ≡ neighbour = cc in
+    subst (λ k. DoesPump made old new log (Some (Lost neighbour)) (pumping old.own next (k ∷ lost) waiting now answer)) (sym e) (record { told = refl; calls = first; table = stands })
 
 -- nothing was lost, and a datagram waits
 pub taken :

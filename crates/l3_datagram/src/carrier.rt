@@ -1,3 +1,4 @@
+//! What takes datagrams to neighbours, as a trait.
 ghost use Rattle.std.specs.Prelude.{◌≡◌, List, [], ◌∷◌, ◌++◌, drop, slice_get, IfOk};
 ghost use Rattle.l3_datagram.specs.CarrierCall.{CarrierCall, Parcel, Offer, Collect, Fail};
 ghost use Rattle.ax_address.specs.Callsign.{Callsign};

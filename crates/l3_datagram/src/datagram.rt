@@ -1,3 +1,4 @@
+//! Datagrams in octets (NET/ROM, Appendix B, level 3).
 ghost use Rattle.std.specs.Prelude.{◌≡◌, ◌+◌, ◌<◌, ◌≤◌, ◌↔◌, List, ℕ, Ok, length, take, drop, IfOk, IsOk, IsErr};
 ghost use Rattle.ax_address.specs.NetCalls.{SpellsNetCall};
 ghost use Rattle.l3_datagram.specs.Datagrams as octet;

@@ -20,6 +20,3 @@ pub use datagram::{
 pub use plain_carrier::{MAX_OFFERED, PlainCarrier};
 pub use routed::{Routed, Sending};
 pub use router::Router;
-
-#[cfg(test)]
-mod tests;

@@ -1,3 +1,4 @@
+//! What became of a datagram.
 use crate::Datagram;
 use ax_address::Call;
 

@@ -1,3 +1,4 @@
+//! The routing step of a node (NET/ROM, Appendix B, level 3).
 ghost use Rattle.std.specs.Prelude.{◌≡◌, ◌≤◌, ◌↔◌, drop, length, IfOk, IsErr, IsTrue, false, [], ◌∷◌};
 ghost use Rattle.std.specs.Borrow.{Lends, sem};
 
@@ -9,7 +10,10 @@ use route_table::RouteTable;
 use std::alloc::Global;
 use std::marker::Model;
 
-/// The routing step of a node, over a carrier.
+/// The routing step of a node, over a carrier (NET/ROM, Appendix B, level 3): a pure machine.
+///
+/// `send` hands a transport of this node to the next hop. `pump` takes one lost neighbour or one datagram that came up from the carrier and says
+/// what became of it, and is called until it answers None. `table_mut` and `carrier_mut` lend the parts to whoever feeds them.
 ///
 /// Once it has answered NoMemory it is spent, and answers that ever after.
 #[derive(Drop)]

@@ -6,11 +6,14 @@ mod entry;
 mod held_links;
 pub mod laws;
 mod link_of;
+mod offer_calls;
 mod offers;
 mod path_refusal;
 mod pending;
 mod route;
 mod table;
+mod text_calls;
+mod texts;
 mod work;
 mod written;
 
@@ -19,8 +22,6 @@ pub use path_refusal::PathRefusal;
 pub use table::LinkTable;
 pub use written::{Written, WrittenAs};
 
-/// The PID of what NET/ROM sends (AX.25 2.2, section 3.4).
-pub const NETROM_PID: u8 = 0xCF;
 /// The most links of a node (this project's profile).
 pub const MAX_LINKS: usize = 64;
 /// The most peers that have a path (this project's profile).

@@ -1,3 +1,4 @@
+//! Lines that name nodes, frames or counts: `lock`, `linkfail`, `deliver` and their kin.
 ghost use Rattle.std.specs.Prelude.{◌≡◌};
 ghost use Rattle.net_replay.specs.Words.{texts};
 ghost use Rattle.net_replay.specs.Lines as lines;

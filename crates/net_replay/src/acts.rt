@@ -1,3 +1,4 @@
+//! What happens in a network, one act a line.
 use ax_address::{Alias, Call};
 use nodes_broadcast::Nodes;
 

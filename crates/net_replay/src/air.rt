@@ -1,15 +1,14 @@
+//! The frames that were put in the air.
 ghost use Rattle.std.specs.Prelude.{◌≡◌, ◌≤◌, ◌-◌, Some, length, take, not};
 ghost use Rattle.std.specs.List.{position_or_len};
 ghost use Rattle.net_replay.specs.declared.air.Aired.{Aired};
 ghost use Rattle.net_replay.specs.Air as airs;
 
 use crate::channels::{Channel, can_hear};
+use crate::limits::MAX_FRAMES;
 use crate::reasons::{ReplayRefusal, Why};
 use std::alloc::{AllocError, Global};
 use std::marker::Model;
-
-/// How many frames may be in the air.
-const MOST_FRAMES: usize = 100_000;
 
 /// The octets of a frame, at most 1,023.
 #[derive(Debug, Drop)]
@@ -136,7 +135,7 @@ impl Air {
         ensures full { result ≡ Err FramesFull → most_frames ≤ length self.old }
         ensures err { OnErr result (self.new ≡ self.old) }
     {
-        if self.frames.len() >= MOST_FRAMES {
+        if self.frames.len() >= MAX_FRAMES {
             return Err(ReplayRefusal::FramesFull);
         }
         self.frames.push(Aired {

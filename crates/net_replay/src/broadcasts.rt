@@ -1,3 +1,4 @@
+//! Broadcasts as frames and as KISS bytes.
 ghost use Rattle.std.specs.Prelude.{◌≡◌, ◌≤◌, length};
 ghost use Rattle.ax_frame.specs.Frames.{view as frame_of};
 ghost use Rattle.nodes_broadcast.specs.Nodes.{view};
@@ -9,10 +10,7 @@ use ax_address::{Address, Call, Path};
 use ax_frame::{Control, FrameBytes, FrameView, Head, write_frame};
 use kiss_framing::enframe;
 use nodes_broadcast::{Nodes, write_nodes};
-use radio_base::M8;
-
-/// The PID of NET/ROM.
-const NETROM_PID: u8 = 0xCF;
+use radio_base::{M8, NETROM_PID};
 
 /// A frame as KISS bytes: at most 1,024 bytes with the type byte, each of which may be escaped, between two FENDs.
 pub type KissBytes = ArrayVec<u8, 2050>;

@@ -1,12 +1,14 @@
+//! Who hears whom.
 ghost use Rattle.std.specs.Prelude.{◌≡◌};
 ghost use Rattle.net_replay.specs.Air as airs;
 
+use crate::limits::MAX_NODES;
 use arrayvec::ArrayVec;
 
 /// Nodes that hear each other, 2 to 16 by their numbers.
 #[derive(Debug, Drop)]
 pub struct Channel {
-    pub nodes: ArrayVec<u8, 16>,
+    pub nodes: ArrayVec<u8, MAX_NODES>,
 }
 
 impl Channel {

@@ -1,3 +1,4 @@
+//! The nodes that a file declares.
 ghost use Rattle.std.specs.Prelude.{◌≡◌};
 ghost use Rattle.net_replay.specs.Places as places;
 

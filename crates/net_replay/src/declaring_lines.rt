@@ -1,3 +1,4 @@
+//! Lines that declare: `node`, `set`, `channel`.
 ghost use Rattle.std.specs.Prelude.{◌≡◌, ◌≤◌, ◌+◌, [], length, Ok, Err, IsTrue, MatchResult};
 ghost use Rattle.net_replay.specs.Words.{texts};
 ghost use Rattle.net_replay.specs.Lines as lines;
@@ -5,6 +6,7 @@ ghost use Rattle.net_replay.specs.Lines as lines;
 use crate::channels::{Channel, has_member};
 use crate::declarations::Declaration;
 use crate::keys::{Key, Setting};
+use crate::limits::MAX_NODES;
 use crate::line::Line;
 use crate::network::Network;
 use crate::reading::{alias, needs, new_call, new_node, node, value};
@@ -69,10 +71,10 @@ fn are_members(words: &[&[u8]]) -> bool
     ensures value { result ≡ lines.are_members (texts words.now) }
     ensures few { IsTrue result → length words.now ≤ 16 }
 {
-    words.len() >= 2 && words.len() <= 16
+    words.len() >= 2 && words.len() <= MAX_NODES
 }
 
-fn members_of(declared: &[Declaration], words: &[&[u8]]) -> Result<ArrayVec<u8, 16>, What>
+fn members_of(declared: &[Declaration], words: &[&[u8]]) -> Result<ArrayVec<u8, MAX_NODES>, What>
     requires { length words.now ≤ 16 }
     ensures { MatchResult result (λ v. lines.members_at declared.now [] (texts words.now) ≡ Ok v.items) (λ e. lines.members_at declared.now [] (texts words.now) ≡ Err e) }
 {
@@ -84,7 +86,7 @@ fn members_of(declared: &[Declaration], words: &[&[u8]]) -> Result<ArrayVec<u8, 
 /// Adds the nodes that the words name, each declared and there once.
 fn add_members(
     declared: &[Declaration],
-    members: &mut ArrayVec<u8, 16>,
+    members: &mut ArrayVec<u8, MAX_NODES>,
     words: &[&[u8]],
 ) -> Result<(), What>
     requires { length members.old.items + length words.now ≤ 16 }

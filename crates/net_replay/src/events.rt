@@ -1,3 +1,4 @@
+//! What there is to tell of a replay.
 use crate::reasons::Why;
 use ax_address::{Alias, Call};
 use route_table::Route;

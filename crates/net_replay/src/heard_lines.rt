@@ -1,3 +1,4 @@
+//! The line `heard`.
 ghost use Rattle.std.specs.Prelude.{◌≡◌, ◌≤◌, ◌+◌, ◌*◌, ◌++◌, List, length, Ok, Err, IsTrue, MatchResult};
 ghost use Rattle.ax_address.specs.declared.Entry.{Entry};
 ghost use Rattle.net_replay.specs.Words.{texts};
@@ -9,7 +10,7 @@ use crate::network::Network;
 use crate::reading::{alias, call, needs, node, octet};
 use crate::reasons::What;
 use arrayvec::ArrayVec;
-use ax_address::Entry;
+use ax_address::{Entry, MAX_ENTRIES};
 use nodes_broadcast::Nodes;
 
 /// `heard N CALL ALIAS`, and up to eleven times `DEST ALIAS BEST QUALITY`
@@ -46,10 +47,10 @@ fn are_entries(words: &[&[u8]]) -> bool
     ensures value { result ≡ lines.are_entries (texts words.now) }
     ensures few { IsTrue result → length words.now ≤ 44 }
 {
-    words.len() % 4 == 0 && words.len() <= 44
+    words.len() % 4 == 0 && words.len() <= 4 * MAX_ENTRIES
 }
 
-fn entries_of(words: &[&[u8]]) -> Result<ArrayVec<Entry, 11>, What>
+fn entries_of(words: &[&[u8]]) -> Result<ArrayVec<Entry, MAX_ENTRIES>, What>
     requires { length words.now ≤ 44 }
     ensures { MatchResult result (λ v. lines.entries_at (texts words.now) ≡ Ok v.items) (λ e. lines.entries_at (texts words.now) ≡ Err e) }
 {
@@ -59,7 +60,7 @@ fn entries_of(words: &[&[u8]]) -> Result<ArrayVec<Entry, 11>, What>
 }
 
 /// Adds the entries that the words spell, four words to an entry.
-fn add_entries(entries: &mut ArrayVec<Entry, 11>, words: &[&[u8]]) -> Result<(), What>
+fn add_entries(entries: &mut ArrayVec<Entry, MAX_ENTRIES>, words: &[&[u8]]) -> Result<(), What>
     requires { 4 * length entries.old.items + length words.now ≤ 44 }
     ensures { MatchResult result (λ _. (more : List Entry) × (lines.entries_at (texts words.now) ≡ Ok more) × (entries.new.items ≡ entries.old.items ++ more)) (λ e. lines.entries_at (texts words.now) ≡ Err e) }
 {

@@ -1,4 +1,5 @@
-ghost use Rattle.std.specs.Prelude.{◌≡◌, ℕ, List, ◌++◌, ◌∷◌, [], IfOk, OnOk, Some, None};
+//! A node of a replay: its KISS bytes.
+ghost use Rattle.std.specs.Prelude.{◌≡◌, ℕ, Bool, List, ◌++◌, ◌∷◌, [], IfOk, OnOk, Some, None};
 ghost use Rattle.kiss_framing.specs.Deframing as kiss;
 ghost use Rattle.kiss_framing.specs.Feeding.{handed_out};
 ghost use Rattle.net_replay.specs.Nodes as nodes;
@@ -75,13 +76,18 @@ impl Node {
         }
     }
 
-    /// Takes in what reaches the node.
-    pub fn react(&mut self, alloc: Global, input: &Input<'_>) -> Result<Outputs, NoMemory>
-        ensures { IfOk result (λ out. Reacts self.old self.new out (λ n. nodes.reacts n (input_of input.now))) }
+    /// Takes in what reaches the node. Its frames are made where it is on a channel.
+    pub fn react(
+        &mut self,
+        alloc: Global,
+        on_air: bool,
+        input: &Input<'_>,
+    ) -> Result<Outputs, NoMemory>
+        ensures { IfOk result (λ out. Reacts on_air self.old self.new out (λ n. nodes.reacts n (input_of input.now))) }
     {
         match input {
             Input::Bytes(bytes) => self.take_bytes(alloc, bytes),
-            Input::Round => self.do_round(alloc),
+            Input::Round => self.do_round(alloc, on_air),
             Input::Failure(neighbour) => {
                 self.station.table.link_failed(neighbour);
                 Ok(Outputs::none(alloc))
@@ -95,12 +101,12 @@ impl Node {
         }
     }
 
-    /// Does a round: the routing counts go down, and the routes are broadcast.
-    fn do_round(&mut self, alloc: Global) -> Result<Outputs, NoMemory>
-        ensures { IfOk result (λ out. Reacts self.old self.new out (λ n. nodes.reacts n nodes.Round)) }
+    /// Does a round: the routing counts go down, and the routes are broadcast where the node is on a channel.
+    fn do_round(&mut self, alloc: Global, on_air: bool) -> Result<Outputs, NoMemory>
+        ensures { IfOk result (λ out. Reacts on_air self.old self.new out (λ n. nodes.reacts n nodes.Round)) }
     {
         self.station.table.round();
-        let frames = self.station.broadcasts(alloc)?;
+        let frames = self.station.aired_broadcasts(alloc, on_air)?;
         Ok(Outputs {
             entries: Vec::new(alloc),
             refusal: None,
@@ -117,7 +123,7 @@ impl Node {
         neighbour: &Call,
         quality: u8,
     ) -> Result<Outputs, NoMemory>
-        ensures { IfOk result (λ out. Reacts self.old self.new out (λ n. nodes.reacts n (nodes.Lock dest.now alias.now neighbour.now quality))) }
+        ensures { IfOk result (λ out. (on_air : Bool) → Reacts on_air self.old self.new out (λ n. nodes.reacts n (nodes.Lock dest.now alias.now neighbour.now quality))) }
     {
         let refusal = self.station.lock(dest, alias, neighbour, quality)?;
         Ok(Outputs {
@@ -129,7 +135,7 @@ impl Node {
 
     /// Takes in KISS bytes.
     fn take_bytes(&mut self, alloc: Global, bytes: &[u8]) -> Result<Outputs, NoMemory>
-        ensures { IfOk result (λ out. Reacts self.old self.new out (λ n. nodes.reacts n (nodes.Bytes bytes.now))) }
+        ensures { IfOk result (λ out. (on_air : Bool) → Reacts on_air self.old self.new out (λ n. nodes.reacts n (nodes.Bytes bytes.now))) }
     {
         let mut entries = Vec::new(alloc);
         for byte in bytes {

@@ -1,18 +1,19 @@
+//! What a node hands out is told and put in the air.
 ghost use Rattle.std.specs.Prelude.{◌≡◌, ◌+◌, ◌++◌, ◌∷◌, [], map, length, OnOk, IfErr};
 ghost use Rattle.net_replay.specs.declared.events.Event.TheVariants as told;
-ghost use Rattle.net_replay.specs.Air.{in_air};
+ghost use Rattle.net_replay.specs.Air.{in_air, is_on_air};
 ghost use Rattle.net_replay.specs.Nodes.{NodeState, Reaction};
 ghost use Rattle.net_replay.specs.Traces.{HandsOut, Publishes, IsRefusal};
 ghost use Rattle.net_replay.specs.World as world;
 
 use crate::air::{Air, Octets};
-use crate::channels::{Channel, is_on_air};
+use crate::channels::Channel;
 use crate::events::{Event, NodeEntry, NumberedEvent};
 use crate::node::Outputs;
 use crate::reasons::{ReplayRefusal, Why};
 use std::alloc::AllocError;
 
-/// Tells what a node hands out, and puts its frames in the air where it is on a channel.
+/// Tells what a node hands out, and puts its frames in the air.
 pub fn publish(
     air: &mut Air,
     events: &mut Vec<NumberedEvent>,
@@ -21,17 +22,13 @@ pub fn publish(
     node: u8,
     outputs: Outputs,
 ) -> Result<(), ReplayRefusal>
-    ensures ok { OnOk result ((r : Reaction NodeState) → HandsOut outputs r → Publishes channels.now line node r air.old air.new events.old.items events.new.items) }
-    ensures err { IfErr result (λ e. (r : Reaction NodeState) → HandsOut outputs r → IsRefusal e (length air.old + length (world.aired channels.now node r))) }
+    ensures ok { OnOk result ((r : Reaction NodeState) → HandsOut (is_on_air channels.now node) outputs r → Publishes channels.now line node r air.old air.new events.old.items events.new.items) }
+    ensures err { IfErr result (λ e. (r : Reaction NodeState) → HandsOut (is_on_air channels.now node) outputs r → IsRefusal e (length air.old + length (world.aired channels.now node r))) }
 {
     tell_entries(events, line, node, &outputs.entries)?;
     tell_refusal(events, line, outputs.refusal)?;
-    if is_on_air(channels, node) {
-        put_in_air(air, events, line, node, outputs.frames)?;
-        Ok(())
-    } else {
-        Ok(())
-    }
+    put_in_air(air, events, line, node, outputs.frames)?;
+    Ok(())
 }
 
 /// Tells a node's entries.

@@ -1,8 +1,10 @@
+//! The words of a line, by the rules of their places.
 ghost use Rattle.std.specs.Prelude.{◌≡◌, ◌≤◌, IfOk};
 ghost use Rattle.net_replay.specs.Lines as lines;
 ghost use Rattle.net_replay.specs.Places as places;
 
 use crate::declarations::{Declaration, has_call, has_node};
+use crate::limits::{MAX_FRAMES, MAX_NODES};
 use crate::reasons::What;
 use crate::words::{is_number, number_of};
 use ax_address::{Alias, Call};
@@ -33,14 +35,14 @@ pub fn octet(word: &[u8]) -> Result<u8, What>
 pub fn frame(word: &[u8]) -> Result<u32, What>
     ensures { result ≡ lines.frame_at word.now }
 {
-    number(1, 4_294_967_295, word)
+    number(1, u32::MAX, word)
 }
 
 /// How many frames, at most.
 pub fn count(word: &[u8]) -> Result<u32, What>
     ensures { result ≡ lines.count_at word.now }
 {
-    number(1, 100_000, word)
+    number(1, MAX_FRAMES as u32, word)
 }
 
 /// A number of any size, which has to be from `least` to `most`.
@@ -57,7 +59,7 @@ pub fn value(least: u32, most: u32, word: &[u8]) -> Result<u32, What>
 fn node_number(word: &[u8]) -> Result<u8, What>
     ensures { result ≡ places.number_at 1 16 word.now }
 {
-    let value = number(1, 16, word)?;
+    let value = number(1, MAX_NODES as u32, word)?;
     Ok(value as u8)
 }
 

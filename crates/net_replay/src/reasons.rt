@@ -1,3 +1,4 @@
+//! Why lines are bad or aren't done, and why files and replays are refused.
 use radio_base::NoMemory;
 use std::alloc::{AllocError, AllocFailed};
 use std::fmt;

@@ -1,3 +1,4 @@
+//! A replay while it runs: one act after another.
 ghost use Rattle.std.specs.Prelude.{◌∷◌, [], filter, slice_get};
 ghost use Rattle.net_replay.specs.declared.acts.Act.TheVariants as acts;
 ghost use Rattle.net_replay.specs.Air.{can_hear, hearers};
@@ -8,7 +9,7 @@ ghost use Rattle.net_replay.specs.World as world;
 use crate::acts::Act;
 use crate::air::{Air, place_of_frame};
 use crate::broadcasts::{broadcast_frame, kiss_bytes};
-use crate::channels::{Channel, can_hear};
+use crate::channels::{Channel, can_hear, is_on_air};
 use crate::events::{Event, NumberedEvent};
 use crate::finding::{node_of, react_at};
 use crate::network::NumberedAct;
@@ -99,7 +100,8 @@ impl Running {
     ) -> Result<(), ReplayRefusal>
         ensures { Runs (left self.old) (left self.new) (world.reached channels.now line number (input_of input.now)) result }
     {
-        let reaction = react_at(&mut self.nodes, alloc, number, input)?;
+        let on_air = is_on_air(channels, number);
+        let reaction = react_at(&mut self.nodes, alloc, number, on_air, input)?;
         match reaction {
             Some(outputs) => {
                 publish(

@@ -1,3 +1,4 @@
+//! The settings of nodes, and their defaults.
 ghost use Rattle.std.specs.Prelude.{◌≡◌, ◌≤◌, IsTrue, IfSome};
 ghost use Rattle.net_replay.specs.Keys as keys;
 ghost use Rattle.net_replay.specs.Settings as set;

@@ -1,8 +1,8 @@
-ghost use Rattle.std.specs.Prelude.{◌≡◌, ◌≤◌, ◌+◌, ◌/◌, ◌&&◌, ◌==◌, nat_lt, length, flat_map, IfOk, OnOk};
+//! A node of a replay above its KISS bytes: its table and its broadcasts.
+ghost use Rattle.std.specs.Prelude.{◌≡◌, ◌≤◌, ◌*◌, [], true, false, length, IfOk, OnOk};
 ghost use Rattle.ax_frame.specs.Read.{read_at};
 ghost use Rattle.nodes_broadcast.specs.Reading.{nodes_at};
 ghost use Rattle.route_table.specs.Held.{AreRules};
-ghost use Rattle.route_table.specs.Table.{routes_to};
 ghost use Rattle.net_replay.specs.Nodes as nodes;
 ghost use Rattle.net_replay.specs.Nodes.{StationState};
 ghost use Rattle.net_replay.specs.Traces.{HoldsLog, Follows};
@@ -16,12 +16,12 @@ use crate::keys::{Key, Setting};
 use crate::reasons::Why;
 use crate::settings::value_of;
 use arrayvec::ArrayVec;
-use ax_address::{Alias, Call, Entry};
+use ax_address::{Alias, Call, Entry, MAX_ENTRIES};
 use ax_frame::{FrameView, Head, read_frame, read_head};
 use digi_path::{DigiStep, step};
 use nodes_broadcast::{Nodes, read_nodes};
 use radio_base::{M8, NoMemory};
-use route_table::{HeardRefusal, LockRefusal, Route, RouteRules, RouteTable};
+use route_table::{HeardRefusal, LockRefusal, RouteRules, RouteTable};
 use std::alloc::Global;
 
 /// A node above its KISS bytes.
@@ -147,24 +147,36 @@ impl Station {
     }
 
     /// The frames that broadcast the routes.
-    pub fn broadcasts(&self, alloc: Global) -> Result<Vec<Octets>, NoMemory>
+    fn broadcasts(&self, alloc: Global) -> Result<Vec<Octets>, NoMemory>
         ensures { IfOk result (λ frames. (s : StationState) → HoldsLog self.now s → frames.items ≡ (nodes.broadcasts s).frames) }
     {
-        let destinations = self.table.destinations(alloc)?;
-        let most = most_frames(&destinations);
+        let entries = self.table.all_entries(alloc)?;
         let mut frames = Vec::new(alloc);
-        for nth in 0..most {
-            let entries = self.table.entries(11 * nth);
-            if is_behind(nth, entries.as_slice()) {
-                return Ok(frames);
-            }
-            frames.push(self.broadcast_of(alloc, entries)?)?;
+        for nth in 0..frame_count(&entries) {
+            let page = entries_of_frame(&entries, nth);
+            frames.push(self.broadcast_of(alloc, page)?)?;
         }
         Ok(frames)
     }
 
+    /// The frames that broadcast the routes, of a node on a channel.
+    pub fn aired_broadcasts(&self, alloc: Global, on_air: bool) -> Result<Vec<Octets>, NoMemory>
+        ensures frames { on_air ≡ true → IfOk result (λ frames. (s : StationState) → HoldsLog self.now s → frames.items ≡ (nodes.broadcasts s).frames) }
+        ensures silent { on_air ≡ false → IfOk result (λ frames. frames.items ≡ []) }
+    {
+        if on_air {
+            self.broadcasts(alloc)
+        } else {
+            Ok(Vec::new(alloc))
+        }
+    }
+
     /// The frame that broadcasts these entries.
-    fn broadcast_of(&self, alloc: Global, entries: ArrayVec<Entry, 11>) -> Result<Octets, NoMemory>
+    fn broadcast_of(
+        &self,
+        alloc: Global,
+        entries: ArrayVec<Entry, MAX_ENTRIES>,
+    ) -> Result<Octets, NoMemory>
         ensures { IfOk result (λ octets. (s : StationState) → HoldsLog self.now s → octets ≡ nodes.broadcast_octets s.call (record { alias = s.alias; entries = entries.items })) }
     {
         let nodes = Nodes {
@@ -180,36 +192,31 @@ impl Station {
     pub fn shown(&self, alloc: Global) -> Result<Table, NoMemory>
         ensures { IfOk result (λ table. (s : StationState) → HoldsLog self.now s → table ≡ world.table_of s) }
     {
-        let destinations = self.table.destinations(alloc)?;
-        let routes = self.routes_to(alloc, &destinations)?;
+        let routes = self.table.routes_of_all(alloc)?;
         Ok(Table::new(self.node, self.call, self.alias, routes))
     }
+}
 
-    /// The routes to these destinations.
-    fn routes_to(&self, alloc: Global, destinations: &[Call]) -> Result<Vec<Route>, NoMemory>
-        ensures { IfOk result (λ routes. (s : StationState) → HoldsLog self.now s → routes.items ≡ flat_map (routes_to s.rules s.log) destinations.now) }
-    {
-        let mut routes = Vec::new(alloc);
-        for destination in destinations {
-            let found = self.table.routes(destination);
-            routes.extend_from_slice(found.as_slice())?;
-        }
-        Ok(routes)
+/// How many frames these entries need: eleven entries a frame, and at least one frame.
+fn frame_count(entries: &[Entry]) -> usize
+    ensures { result ≡ nodes.frame_count entries.now }
+{
+    match entries {
+        [] => 1,
+        [_, others @ ..] => 1 + others.len() / MAX_ENTRIES,
     }
 }
 
-/// How many frames the routes to these destinations need at most, and one more.
-fn most_frames(destinations: &[Call]) -> usize
-    ensures { result ≡ 1 + length destinations.now / 11 }
+/// The entries of a frame, by its number from 0.
+fn entries_of_frame(entries: &[Entry], nth: usize) -> ArrayVec<Entry, MAX_ENTRIES>
+    requires { 11 * nth ≤ length entries.now }
+    ensures { result.items ≡ nodes.entries_of_frame entries.now nth }
 {
-    1 + destinations.len() / 11
-}
-
-/// Behind the last frame of a round: the first one stands even without entries.
-fn is_behind(nth: usize, entries: &[Entry]) -> bool
-    ensures { result ≡ nat_lt 0 nth && (length entries.now == 0) }
-{
-    nth > 0 && entries.is_empty()
+    let start = MAX_ENTRIES * nth;
+    let count = (entries.len() - start).min(MAX_ENTRIES);
+    let mut page = ArrayVec::new();
+    let _ = page.try_extend_from_slice(&entries[start..start + count]);
+    page
 }
 
 /// What a node's routing table goes by.

@@ -1,3 +1,4 @@
+//! Lines, and their words.
 ghost use Rattle.std.specs.Prelude.{◌≡◌, ◌<◌, ◌≤◌, ◌==◌, ◌∷◌, ◌^◌, length, nat_le, map, not, Some, None, IfSome, IfOk, if◌then◌else◌};
 ghost use Rattle.std.specs.List.{list_all, position, slice_split};
 ghost use Rattle.std.specs.Str.Lines.{lines, strip_carriage_return};

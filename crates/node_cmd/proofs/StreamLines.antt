@@ -1,15 +1,16 @@
 -- The lines of a stream, as its bytes come.
-use Rattle.std.proofs.Common.{◌≡◌, ◌++◌, ◌∙◌, ◌≤◌, ◌-◌, take, drop, take_all, length-drop, arith, ℕ, List, [], ◌∷◌, refl, sym, ap, append_assoc, append-nil, length}
-use Rattle.std.specs.Prelude.{Option}
+use Rattle.std.proofs.Common.{◌≡◌, ◌++◌, ◌∙◌, ◌≤◌, ◌-◌, take, drop, take_all, length-drop, arith, ℕ, List, [], ◌∷◌, refl, sym, ap, append_assoc, append-nil, length, false}
+use Rattle.std.specs.Prelude.{Option, ◌≢◌, ◌==◌}
+use Rattle.std.proofs.lemmas.Bool.Decides.{nat_tests}
+use Rattle.radio_base.specs.Streams.{size_noted}
 use Rattle.std.specs.Io.KnownBytes.{Appends, Consumes}
 use Rattle.std.proofs.KnownBytes.{Appends-trans}
 use Rattle.kiss_framing.specs.Stream.{Item, items}
 use Rattle.node_cmd.specs.Listing.{Lists, AddsLines}
 use Rattle.node_cmd.specs.Writing.{AppendsFront}
-use Rattle.node_cmd.specs.declared.frames.TheConstants.{MAX_STREAM}
 use Rattle.node_cmd.specs.declared.frames.ListRefusal.{ListRefusal}
 use Rattle.node_cmd.specs.declared.frames.ListRefusal.TheVariants.{ReadFault, WriteFault, TooLong, NoMemory}
-use Rattle.node_cmd.specs.Frames.{WritesLines, WritesSomeLines, PieceUnlisted, WhyUnlisted}
+use Rattle.node_cmd.specs.Frames.{WritesLines, WritesSomeLines, IsLastRead, PieceUnlisted, WhyUnlisted, max_stream, most_read}
 
 -- a slice from a place on is all that stands there
 pub rest_of : (n : ℕ) (bytes : List ℕ) → take (length bytes - n) (drop n bytes) ≡ drop n bytes
@@ -55,10 +56,21 @@ writes-some size w w' w'' stream bytes more before adds after = (
 )
 
 -- why the last read's lines weren't written is why the stream wasn't listed
-pub piece_unlisted : (size : ℕ) (left left' w w' w'' : Option (List ℕ)) (stream bytes : List ℕ) (reads reads' writes writes' writes'' : ℕ) (e : ListRefusal) → Consumes left left' (stream ++ bytes) → length stream ≤ MAX_STREAM → length (stream ++ bytes) ≤ MAX_STREAM → WritesLines size w w' stream → reads' ≡ reads → writes' ≡ writes → PieceUnlisted size stream bytes w' w'' writes' writes'' e → WhyUnlisted size left left' w w'' reads reads' writes writes'' e
-piece_unlisted size left left' w w' w'' stream bytes reads reads' writes writes' writes'' WriteFault taken few fits before rs ws why =
+pub piece_unlisted : (size : ℕ) (left left' sizes sizes' w w' w'' : Option (List ℕ)) (stream bytes : List ℕ) (reads reads' writes writes' writes'' : ℕ) (e : ListRefusal) → Consumes left left' (stream ++ bytes) → length stream ≤ max_stream → length (stream ++ bytes) ≤ max_stream → IsLastRead sizes sizes' bytes → WritesLines size w w' stream → reads' ≡ reads → writes' ≡ writes → PieceUnlisted size stream bytes w' w'' writes' writes'' e → WhyUnlisted size left left' sizes sizes' w w'' reads reads' writes writes'' e
+piece_unlisted size left left' sizes sizes' w w' w'' stream bytes reads reads' writes writes' writes'' WriteFault taken few fits last before rs ws why =
     ((stream ++ bytes, record { taken = taken; fits = fits }, writes-some size w w' w'' stream bytes why.0.0 before why.0.1 why.0.2), rw (← ws) why.1, rs)
-piece_unlisted size left left' w w' w'' stream bytes reads reads' writes writes' writes'' NoMemory taken few fits before rs ws why =
-    ((stream, bytes, taken, few, rw why.0 before), rs, why.1 ∙ ws)
-piece_unlisted size left left' w w' w'' stream bytes reads reads' writes writes' writes'' ReadFault taken few fits before rs ws why = absurd why
-piece_unlisted size left left' w w' w'' stream bytes reads reads' writes writes' writes'' TooLong taken few fits before rs ws why = absurd why
+piece_unlisted size left left' sizes sizes' w w' w'' stream bytes reads reads' writes writes' writes'' NoMemory taken few fits last before rs ws why =
+    (record { stream = stream; last = bytes; taken = taken; fits = few; read = last; lines = rw why.0 before }, rs, why.1 ∙ ws)
+piece_unlisted size left left' sizes sizes' w w' w'' stream bytes reads reads' writes writes' writes'' ReadFault taken few fits last before rs ws why = absurd why
+piece_unlisted size left left' sizes sizes' w w' w'' stream bytes reads reads' writes writes' writes'' TooLong taken few fits last before rs ws why = absurd why
+
+-- a read of so many bytes was the last
+pub last_read : (sizes sizes' sizes'' : Option (List ℕ)) (earlier bytes : List ℕ) (n : ℕ) → Appends sizes sizes' earlier → Appends sizes' sizes'' (size_noted n) → n ≢ 0 → length bytes ≡ n → n ≤ most_read → IsLastRead sizes sizes'' bytes
+last_read sizes sizes' sizes'' earlier bytes n before noted some long few =
+    let one : size_noted n ≡ length bytes ∷ [] = rw long (let e : (n == 0) ≡ false = grind (arith, nat_tests) in rw e refl) in
+    record {
+      some = omega (arith, long);
+      few = omega (arith, long);
+      earlier = earlier;
+      told = Appends-trans _ _ _ _ _ before (rw one at noted);
+    }

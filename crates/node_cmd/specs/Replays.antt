@@ -6,11 +6,10 @@ use Rattle.net_replay.specs.Plan.{Plan}
 use Rattle.net_replay.specs.Traces.{most_frames}
 use Rattle.net_replay.specs.World.{world}
 use Rattle.net_replay.specs.Reports.{report_text}
-use Rattle.node_cmd.specs.declared.reading.TheConstants.{MAX_FILE}
 use Rattle.node_cmd.specs.declared.replays.ReportRefusal.{ReportRefusal}
 use Rattle.node_cmd.specs.declared.replays.ReportRefusal.TheVariants.{BadLine, TooManyFrames, NoMemory}
 use Rattle.node_cmd.specs.Notes.{bad_line_note}
-use Rattle.node_cmd.specs.Reading.{ReadsAll}
+use Rattle.node_cmd.specs.Reading.{ReadsAll, max_file}
 use Rattle.node_cmd.specs.Writing.{AppendsFront}
 
 -- a file was read to its end, and it is one of a network of which P holds
@@ -44,15 +43,15 @@ WritesFront old new network = AirsFew network × AppendsFront old new (report_te
 
 -- the source tells its bytes, and they are more than a file may have
 abbrev pub TellsTooMuch : Option (List ℕ) → Type 0
-TellsTooMuch left = IsSomeAnd left (λ bytes. MAX_FILE < length bytes)
+TellsTooMuch left = IsSomeAnd left (λ bytes. max_file < length bytes)
 
 -- the source tells its bytes, and they are a file with a bad line
 abbrev pub TellsBadFile : Option (List ℕ) → Type 0
-TellsBadFile left = IsSomeAnd left (λ bytes. (length bytes ≤ MAX_FILE) × ((bad : Bad) × (network_of bytes ≡ Err bad)))
+TellsBadFile left = IsSomeAnd left (λ bytes. (length bytes ≤ max_file) × ((bad : Bad) × (network_of bytes ≡ Err bad)))
 
 -- the source tells its bytes, and they are the file of a network of which P holds
 abbrev pub Tells : (Plan → Type 0) → Option (List ℕ) → Type 0
-Tells P left = IsSomeAnd left (λ bytes. (length bytes ≤ MAX_FILE) × ((network : Plan) × (network_of bytes ≡ Ok network) × P network))
+Tells P left = IsSomeAnd left (λ bytes. (length bytes ≤ max_file) × ((network : Plan) × (network_of bytes ≡ Ok network) × P network))
 
 -- one that puts as many frames in the air as it may, or too many
 abbrev pub TellsNetwork : Option (List ℕ) → Type 0

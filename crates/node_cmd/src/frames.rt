@@ -1,3 +1,4 @@
+//! The command `frames`.
 ghost use Rattle.std.specs.Prelude.{◌≡◌, ◌≢◌, ◌⊎◌, ◌++◌, ◌≤◌, ◌<◌, List, ℕ, length, take, OnOk, IfOk, IfErr};
 ghost use Rattle.std.specs.Io.KnownBytes.{Appends};
 ghost use Rattle.radio_base.specs.Causes.{Rose};
@@ -17,7 +18,7 @@ use radio_base::{Modulus, NoMemory, Sink, Source, TextOut};
 use std::alloc::Global;
 
 /// The most bytes that a stream may have: one less than 2^32.
-pub const MAX_STREAM: u64 = 4_294_967_295;
+const MAX_STREAM: u64 = 4_294_967_295;
 
 /// The most bytes that are read at a time.
 const READ_SIZE: usize = 16_384;
@@ -42,7 +43,7 @@ pub fn list_frames<M: Modulus, S: Source, K: Sink>(
     ensures all { OnOk result (ListsAll M.SIZE (S.left source.old) (S.left source.new) (K.written sink.old) (K.written sink.new)) }
     ensures read_same { OnOk result (S.faults source.new ≡ S.faults source.old) }
     ensures write_same { OnOk result (K.faults sink.new ≡ K.faults sink.old) }
-    ensures err { IfErr result (λ e. WhyUnlisted M.SIZE (S.left source.old) (S.left source.new) (K.written sink.old) (K.written sink.new) (S.faults source.old) (S.faults source.new) (K.faults sink.old) (K.faults sink.new) e) }
+    ensures err { IfErr result (λ e. WhyUnlisted M.SIZE (S.left source.old) (S.left source.new) (S.reads source.old) (S.reads source.new) (K.written sink.old) (K.written sink.new) (S.faults source.old) (S.faults source.new) (K.faults sink.old) (K.faults sink.new) e) }
 {
     let mut deframer = Deframer::new();
     let mut buf = [0u8; READ_SIZE];
@@ -150,8 +151,8 @@ pub fn frames_of_stream<M: Modulus, S: Source, K: Sink, N: Sink>(
     ensures read_lines { result ≡ Status.ReadFault → ListsWhatWasRead M.SIZE (S.left source.old) (S.left source.new) (K.written sink.old) (K.written sink.new) }
     ensures read_same { result ≢ Status.ReadFault → S.faults source.new ≡ S.faults source.old }
 
-    // It is too long where a read brings byte 2^32; the lines of the earlier reads were written.
-    ensures too_long { result ≡ Status.TooLong → ListsUntilTooLong M.SIZE (S.left source.old) (S.left source.new) (K.written sink.old) (K.written sink.new) }
+    // It is too long where a read brings byte 2^32; exactly the lines of the earlier reads were written.
+    ensures too_long { result ≡ Status.TooLong → ListsUntilTooLong M.SIZE (S.left source.old) (S.left source.new) (S.reads source.old) (S.reads source.new) (K.written sink.old) (K.written sink.new) }
     ensures too_long_comes { TellsLongStream (S.left source.old) → ¬ Rose (S.faults source.old) (S.faults source.new) → ¬ Rose (K.faults sink.old) (K.faults sink.new) → (result ≡ Status.TooLong) ⊎ (result ≡ Status.NoMemory) }
 
     // A write fault comes only where the sink's count rose, behind a front of the lines of what was read.
@@ -159,8 +160,8 @@ pub fn frames_of_stream<M: Modulus, S: Source, K: Sink, N: Sink>(
     ensures write_front { result ≡ Status.WriteFault → ListsSome M.SIZE (S.left source.old) (S.left source.new) (K.written sink.old) (K.written sink.new) }
     ensures write_same { result ≢ Status.WriteFault → K.faults sink.new ≡ K.faults sink.old }
 
-    // Where memory runs out, the lines of the reads before the last were written.
-    ensures no_memory { result ≡ Status.NoMemory → ListsEarlierReads M.SIZE (S.left source.old) (S.left source.new) (K.written sink.old) (K.written sink.new) }
+    // Where memory runs out, exactly the lines of the reads before the last were written.
+    ensures no_memory { result ≡ Status.NoMemory → ListsEarlierReads M.SIZE (S.left source.old) (S.left source.new) (S.reads source.old) (S.reads source.new) (K.written sink.old) (K.written sink.new) }
 
     // Its words were right, no line can be bad, and it can't be late.
     ensures others { (result ≢ Status.Usage) × (result ≢ Status.BadFile) × (result ≢ Status.TooLate) }

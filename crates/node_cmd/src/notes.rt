@@ -1,3 +1,4 @@
+//! What is said where a command was refused.
 ghost use Rattle.std.specs.Prelude.{◌≡◌, IfOk, string_bytes};
 ghost use Rattle.node_cmd.specs.Notes.{bad_line_note};
 ghost use Rattle.node_cmd.specs.Writing.{Says};

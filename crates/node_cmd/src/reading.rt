@@ -1,3 +1,4 @@
+//! A file is read to its end.
 ghost use Rattle.std.specs.Prelude.{◌≡◌, ◌++◌, List, ℕ, length, OnOk, IfOk, IfErr};
 ghost use Rattle.std.specs.Io.KnownBytes.{Consumes, IsAtEnd};
 ghost use Rattle.node_cmd.specs.declared.reading.ReadRefusal.TheVariants.{Fault, NoMemory};
@@ -7,7 +8,7 @@ use radio_base::{Failed, Source};
 use std::alloc::{AllocError, Global};
 
 /// The most bytes that a network file may have.
-pub const MAX_FILE: usize = 1_048_576;
+const MAX_FILE: usize = 1_048_576;
 
 /// The most bytes that are read at a time.
 const READ_SIZE: usize = 4096;

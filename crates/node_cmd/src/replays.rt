@@ -1,3 +1,4 @@
+//! The command `replay`.
 ghost use Rattle.std.specs.Prelude.{◌≡◌, ◌≢◌, ◌≤◌, ◌⊎◌, length, Ok, IfOk, IfErr};
 ghost use Rattle.radio_base.specs.Causes.{Rose};
 ghost use Rattle.net_replay.specs.Networks.{network_of};
@@ -5,14 +6,14 @@ ghost use Rattle.net_replay.specs.Plan.{Plan};
 ghost use Rattle.net_replay.specs.Traces.{IsTraceOf};
 ghost use Rattle.net_replay.specs.World.{World, world};
 ghost use Rattle.net_replay.specs.Reports.{report_text};
-ghost use Rattle.node_cmd.specs.Reading.{ReadsFew, ReadsTooMuch};
+ghost use Rattle.node_cmd.specs.Reading.{ReadsFew, ReadsTooMuch, max_file};
 ghost use Rattle.node_cmd.specs.Writing.{Says};
 ghost use Rattle.node_cmd.specs.StatusNotes.{HasNote, IsSilent};
 ghost use Rattle.node_cmd.specs.Replays.{ReadsNetwork, ReadsBadFile, WritesReport, WritesFront, AirsFew, AirsTooMany, NotReported, TellsTooMuch, TellsTooManyFrames, TellsBadFile, TellsNetwork};
 ghost use Rattle.node_cmd.specs.declared.replays.ReportRefusal.TheVariants as Refusal;
 
 use crate::notes::{READ_FAULT, TOO_LONG, bad_line_note, say};
-use crate::reading::{MAX_FILE, ReadRefusal, read_file};
+use crate::reading::{ReadRefusal, read_file};
 use crate::status::Status;
 use crate::writing::write_all;
 use net_replay::{
@@ -110,7 +111,7 @@ pub fn replay_file<S: Source, K: Sink, N: Sink>(
 
 /// The report of the network that a file spells.
 fn report_of(alloc: Global, bytes: &[u8]) -> Result<TextOut, ReportRefusal>
-    requires { length bytes.now ≤ MAX_FILE }
+    requires { length bytes.now ≤ max_file }
     ensures ok { IfOk result (λ t. (network : Plan) × (network_of bytes.now ≡ Ok network) × AirsFew network × (t ≡ report_text (world network))) }
     ensures err { IfErr result (λ e. NotReported e (network_of bytes.now)) }
 {

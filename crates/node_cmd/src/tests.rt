@@ -1,3 +1,4 @@
+//! The whole program over streams in memory.
 use crate::run::run;
 use crate::status::Status;
 use radio_base::{MemClock, MemSink, MemSource, NoMemory};

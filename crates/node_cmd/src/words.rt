@@ -1,3 +1,4 @@
+//! The commands, and the words that ask for them.
 ghost use Rattle.std.specs.Prelude.{◌≡◌, IfSome, IfNone, IsTrue, ◌↔◌, codes};
 ghost use Rattle.node_cmd.specs.declared.words.Command.{Command};
 ghost use Rattle.node_cmd.specs.Words.{AskFor};

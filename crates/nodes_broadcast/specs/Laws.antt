@@ -1,5 +1,6 @@
 -- Laws of the spelling of broadcasts.
-use Rattle.std.specs.Prelude.{ℕ, zero, suc, ◌≡◌, ◌/◌, ◌%◌, List, ◌++◌, length, take, drop, map, Ok}
+use Rattle.std.specs.Prelude.{ℕ, zero, suc, ◌≡◌, List, ◌++◌, length, take, drop, Ok}
+use Rattle.ax_address.specs.NetCalls.{heeded_call}
 use Rattle.nodes_broadcast.specs.Nodes.{Broadcast, IsBroadcast, Spells, nodes_octets}
 use Rattle.nodes_broadcast.specs.Reading.{nodes_at}
 
@@ -14,10 +15,6 @@ WrittenSpellsIt = (b : Broadcast) → IsBroadcast b → Spells b (nodes_octets b
 -- what is written for a broadcast is read as it
 abbrev pub WrittenIsRead : Type 0
 WrittenIsRead = (b : Broadcast) → IsBroadcast b → nodes_at (nodes_octets b) ≡ Ok b
-
--- of the last octet of a call bits 4 to 1 alone are heeded
-abbrev pub heeded_call : List ℕ → List ℕ
-heeded_call octets = take 6 octets ++ map (λ o. o / 2 % 16) (drop 6 octets)
 
 -- what is heeded of an entry's octets
 abbrev pub heeded_entry : List ℕ → List ℕ

@@ -7,10 +7,8 @@
 pub mod laws;
 mod nodes;
 mod read;
-#[cfg(test)]
-mod tests;
 mod write;
 
-pub use nodes::{MAX_ENTRIES, Nodes, NodesRefusal};
+pub use nodes::{Nodes, NodesRefusal};
 pub use read::read_nodes;
 pub use write::write_nodes;

@@ -1,8 +1,6 @@
+//! A broadcast, and why octets are none (NET/ROM, Appendix B).
 use arrayvec::ArrayVec;
-use ax_address::{Alias, Entry};
-
-/// How many entries a broadcast has at most (NET/ROM, Appendix B).
-pub const MAX_ENTRIES: usize = 11;
+use ax_address::{Alias, Entry, MAX_ENTRIES};
 
 /// The first octet of each broadcast.
 pub(crate) const SIGNATURE: u8 = 0xFF;
@@ -17,7 +15,7 @@ pub(crate) const ENTRY_LEN: usize = 21;
 #[derive(Clone, Debug, Drop, PartialEq, Eq)]
 pub struct Nodes {
     pub alias: Alias,
-    pub entries: ArrayVec<Entry, 11>,
+    pub entries: ArrayVec<Entry, MAX_ENTRIES>,
 }
 
 /// Why octets are no NODES broadcast. What stands first comes first.

@@ -1,12 +1,13 @@
+//! Octets become broadcasts.
 ghost use Rattle.std.specs.Prelude.{◌≡◌, ◌≤◌, ◌/◌, ◌%◌, [], ◌∷◌, length, take, IfOk, IfNone, IsOkAnd, MatchResult, Ok, Err, true};
 ghost use Rattle.nodes_broadcast.specs.Nodes.{Broadcast, view, Spells, SpellsEntry, SpellsEntries};
 ghost use Rattle.nodes_broadcast.specs.Reading as reading;
 ghost use Rattle.ax_address.specs.NetCalls.{SpellsNetCall};
 
 use crate::laws;
-use crate::nodes::{ENTRY_LEN, HEAD_LEN, MAX_ENTRIES, Nodes, NodesRefusal, SIGNATURE};
+use crate::nodes::{ENTRY_LEN, HEAD_LEN, Nodes, NodesRefusal, SIGNATURE};
 use arrayvec::ArrayVec;
-use ax_address::{Alias, Call, Entry, read_net_call};
+use ax_address::{Alias, Call, Entry, MAX_ENTRIES, read_net_call};
 
 /// The broadcast that the information of a frame spells, or why it spells none: the first octet, then the length, then
 /// the calls from the first on.

@@ -1,3 +1,4 @@
+//! Broadcasts become octets.
 ghost use Rattle.std.specs.Prelude.{◌≡◌, ◌≤◌, ◌+◌, ◌++◌, length};
 ghost use Rattle.nodes_broadcast.specs.Nodes.{view, Spells, IsEntry, nodes_octets, entry_octets};
 

@@ -1,3 +1,4 @@
+//! The numbers of calls that fail, for sources and sinks in memory.
 ghost use Rattle.std.specs.Prelude.{◌≡◌, ◌↔◌, IsTrue};
 ghost use Rattle.radio_base.specs.Memory.{NextFails};
 

@@ -1,3 +1,4 @@
+//! Moments, and who tells them.
 ghost use Rattle.std.specs.Prelude.{◌≡◌, ◌≤◌, [], ◌∷◌, List, ℕ, Option};
 ghost use Rattle.radio_base.specs.Clocks.{Gains, Ticking, moment_of, moments_told, after_moment};
 

@@ -1,3 +1,4 @@
+//! The two ways in which any call may fail for want of something outside.
 ghost use Rattle.std.specs.Prelude.{◌≡◌};
 
 use std::alloc::{AllocError, AllocFailed};

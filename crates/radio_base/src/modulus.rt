@@ -1,3 +1,4 @@
+//! Numbers on the air, and their places in a window (AX.25 2.2, section 4.2.4).
 ghost use Rattle.std.specs.Prelude.{◌≡◌, ℕ, ◌+◌, ◌*◌, ◌%◌, ◌^◌, ◌<◌, ◌≤◌, IfSome, IfNone};
 ghost use Rattle.radio_base.specs.Modulus.{IsDistance, IsPlace, place_of};
 ghost use Rattle.std.proofs.Common.{arith};
@@ -95,6 +96,3 @@ impl Modulus for M256 {
 
     ghost octets = { Prim.omega arith };
 }
-
-#[cfg(test)]
-mod tests;

@@ -1,6 +1,7 @@
 -- How the usable routes of a log go on by a lock.
-use Rattle.std.proofs.Common.{◌≡◌, ◌≤◌, ◌+◌, ◌-◌, ◌++◌, ◌∙◌, ℕ, refl, sym, ap, List, [], ◌∷◌, filter, arith, length, length-append, Bool, true, false, cond}
-use Rattle.std.specs.Prelude.{◌||◌, ◌&&◌, not, nat_lt, nat_le}
+use Rattle.std.proofs.Common.{◌≡◌, ◌≤◌, ◌+◌, ◌-◌, ◌++◌, ◌∙◌, ℕ, refl, sym, ap, List, [], ◌∷◌, filter, arith, length, subst, Bool, true, false, cond}
+use Rattle.std.specs.Prelude.{◌||◌, ◌&&◌, not, nat_lt, nat_le, IsPermutation}
+use Rattle.std.proofs.lemmas.List.Sorted.{IsPermutation-trans, IsPermutation-to_front, IsPermutation-cons}
 use Rattle.std.specs.List.{list_any}
 use Rattle.std.proofs.lemmas.List.Elements.{filter-append}
 use Rattle.std.proofs.lemmas.List.Folds.{list_any-append}
@@ -14,9 +15,12 @@ use Rattle.route_table.specs.Log.{Item, Report, Lock, Round, Failure}
 use Rattle.route_table.specs.Live.{is_report_of, is_lock_of, is_failure_of, rounds, is_live, live_of, live}
 use Rattle.route_table.specs.Table.{is_good, usable}
 use Rattle.route_table.specs.Held.{StandsFor}
-use Rattle.route_table.specs.Rows.{stays_beside, rows_with_lock}
+use Rattle.route_table.specs.Places.{Stand}
+use Rattle.route_table.specs.Ranks.{placed}
+use Rattle.route_table.specs.Rows.{stays_beside, beside, rows_with_lock}
 use Rattle.route_table.proofs.LogSteps.{row, locked, among-append, rounds-append, keep_if, filter_comm}
-use Rattle.route_table.proofs.Standing.{good_locks-append}
+use Rattle.route_table.proofs.Sorting.{placed_moves}
+use Rattle.route_table.proofs.Standing.{good_locks-append, filtered, live_is}
 
 lock_test : (A L F S W : Bool) → (((not (A || false) && not (L || (S || false))) && not (F || false)) && W) ≡ ((((not A && not L) && not F) && W) && not S)
 lock_test true L F S W = refl
@@ -71,15 +75,23 @@ usable-lock rules log e b m p h =
     )
     refl
 
-pub lock_stands : (own : Callsign) (rules : RouteRules) (rows new : List Route) (e : Callsign) (b : Alias) (m : Callsign) (p : ℕ) (log : List Item) → rules.minq ≤ p → new ≡ rows_with_lock (locked e b m p) rows → StandsFor (record { own = own; rules = rules; rows = rows }) log → StandsFor (record { own = own; rules = rules; rows = new }) (log ++ Lock e b m p ∷ [])
-lock_stands own rules rows new e b m p log h eq s = record {
-  locks = good_locks-append rules.minq log (Lock e b m p ∷ []) s.locks (h, tt);
-  rows = eq ∙ (ap (rows_with_lock (locked e b m p)) s.rows ∙ sym (usable-lock rules log e b m p h));
-}
+lock_moves : (r : Route) (U rows : List Route) → IsPermutation (beside r U) (beside r rows) → IsPermutation (rows_with_lock r U) (placed r (beside r rows))
+lock_moves r U rows b =
+    IsPermutation-trans (beside r U ++ r ∷ []) (r ∷ beside r U) (placed r (beside r rows)) (IsPermutation-to_front (beside r U) r)
+    (IsPermutation-trans (r ∷ beside r U) (r ∷ beside r rows) (placed r (beside r rows)) (IsPermutation-cons r (beside r U) (beside r rows) b) (placed_moves r (beside r rows)))
+
+pub lock_stands : (own : Callsign) (rules : RouteRules) (rows new : List Route) (e : Callsign) (b : Alias) (m : Callsign) (p : ℕ) (log : List Item) → rules.minq ≤ p → Stand rows → new ≡ placed (locked e b m p) (beside (locked e b m p) rows) → StandsFor (record { own = own; rules = rules; rows = rows }) log → StandsFor (record { own = own; rules = rules; rows = new }) (log ++ Lock e b m p ∷ [])
+lock_stands own rules rows new e b m p log h k eq s =
+    let moved = lock_moves (locked e b m p) (usable rules log) rows (filtered rules rows log (stays_beside (locked e b m p)) k s.rows) in
+    record {
+      locks = good_locks-append rules.minq log (Lock e b m p ∷ []) s.locks (h, tt);
+      rows = subst (λ xs. IsPermutation xs new) (sym (usable-lock rules log e b m p h)) (subst (λ ys. IsPermutation (rows_with_lock (locked e b m p) (usable rules log)) ys) (sym eq) moved);
+    }
 
 -- what the code counts before it changes the rows
-pub lock_count : (own : Callsign) (rules : RouteRules) (rows rows-1 : List Route) (e : Callsign) (b : Alias) (m : Callsign) (p k : ℕ)
-    → rules.minq ≤ p → rows-1 ≡ rows → k ≡ length (filter (stays_beside (locked e b m p)) rows-1)
-    → (log : List Item) → StandsFor (record { own = own; rules = rules; rows = rows }) log → k + 1 ≡ length (usable rules (log ++ Lock e b m p ∷ []))
-lock_count own rules rows rows-1 e b m p k h e1 ek log s =
-    rw (ek, e1, s.rows, usable-lock rules log e b m p h) (sym (length-append (filter (stays_beside (locked e b m p)) (usable rules log)) (locked e b m p ∷ [])))
+pub lock_count : (own : Callsign) (rules : RouteRules) (rows view : List Route) (e : Callsign) (b : Alias) (m : Callsign) (p k : ℕ)
+    → rules.minq ≤ p → Stand rows → view ≡ rows → k ≡ length (placed (locked e b m p) (beside (locked e b m p) view))
+    → (log : List Item) → StandsFor (record { own = own; rules = rules; rows = rows }) log → k ≡ length (usable rules (log ++ Lock e b m p ∷ []))
+lock_count own rules rows view e b m p k h t v ek log s =
+    ek ∙ (ap (λ xs. length (placed (locked e b m p) (beside (locked e b m p) xs))) v
+    ∙ live_is own rules _ (log ++ Lock e b m p ∷ []) (lock_stands own rules rows (placed (locked e b m p) (beside (locked e b m p) rows)) e b m p log h t refl s))

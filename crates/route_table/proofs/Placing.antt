@@ -1,79 +1,231 @@
--- Entering a route among the best three, and a call among calls.
-use Rattle.std.proofs.Common.{◌≡◌, ◌≤◌, ◌<◌, ◌+◌, ◌∙◌, ℕ, zero, suc, refl, sym, ap, List, [], ◌∷◌, length, take, drop, arith, Bool, true, false, cond, get_or, filter, drop-cons, add-one}
-use Rattle.std.specs.Prelude.{insert}
-use Rattle.std.proofs.lemmas.List.{take_all, take-take}
-use Rattle.std.proofs.lemmas.List.Edits.{length-insert}
+-- Searching rows in order.
+use Rattle.std.proofs.Common.{◌≡◌, ◌≤◌, ◌<◌, ◌+◌, ◌∙◌, ℕ, zero, suc, refl, sym, ap, subst, List, [], ◌∷◌, ◌++◌, length, take, drop, arith, Bool, true, false, cond, get_or, filter, append-nil, ◌-◌, inl, inr}
+use Rattle.std.specs.Prelude.{insert, not, ◌||◌, ◌&&◌}
+use Rattle.std.specs.List.{list_any, prefix_len, AllByRecursion}
+use Rattle.std.specs.List.Sorted.{IsPartitionedBy, IsPartitionPoint}
+use Rattle.std.proofs.lemmas.Bool.{cases_lt}
+use Rattle.std.proofs.lemmas.List.Sums.{prefix_len_is, prefix_len_stops}
+use Rattle.std.proofs.lemmas.List.Folds.{list_any_more}
+use Rattle.std.proofs.lemmas.List.{take_all, take-append-le}
 use Rattle.ax_address.specs.Callsign.{Callsign}
-use Rattle.ax_address.specs.CallOrder.{same_call}
+use Rattle.ax_address.specs.CallOrder.{same_call, call_lt}
 use Rattle.route_table.specs.declared.route.Route.{Route}
-use Rattle.route_table.specs.Ranks.{is_before, placed, ranked_into}
-use Rattle.route_table.specs.Places.{place_of, considered}
+use Rattle.route_table.specs.Ranks.{is_before, stands_before, placed}
+use Rattle.route_table.specs.Rows.{is_same_pair}
 use Rattle.route_table.specs.Table.{is_to}
+use Rattle.route_table.specs.Places.{InRows, start_of, place_of}
+use Rattle.route_table.proofs.Calls.{same_call-true, apart_sym, call_lt_trans, call_lt_equal, call_lt_total}
+use Rattle.route_table.proofs.Order.{stands_trans}
+use Rattle.route_table.proofs.Sorting.{Ahead, pairs_from_rows}
 
-insert_case : (b : Bool) (r x : Route) (xs : List Route) (p : ℕ) → placed r xs ≡ insert xs p r → cond b (r ∷ x ∷ xs) (x ∷ placed r xs) ≡ insert (x ∷ xs) (cond b 0 (suc p)) r
-insert_case true r x xs p h = refl
-insert_case false r x xs p h = ap (λ ys. x ∷ ys) h
+-- what rows in order before a row pass where it does
+pub parted : (p : Route → Bool) → ((a b : Route) → stands_before a b ≡ true → p b ≡ true → p a ≡ true) → (rows : List Route) → InRows rows → IsPartitionedBy p rows
+parted p down rows h = λ i j d lo hi t.
+    elim (cases_lt i j) [
+      | inl under ↦ down (get_or rows i d) (get_or rows j d) (pairs_from_rows rows h i j d under hi) t
+      | inr over ↦
+          let is_it : i ≡ j = omega arith in
+          rw is_it t
+    ]
+
+-- a row's destination is no higher than those behind it
+dest_case : (a b : Route) (c : Callsign) (L S : Bool) → call_lt a.dest b.dest ≡ L → same_call a.dest b.dest ≡ S → (L || (S && is_before a b)) ≡ true → call_lt b.dest c ≡ true → call_lt a.dest c ≡ true
+dest_case a b c true S l s h k = call_lt_trans a.dest b.dest c l k
+dest_case a b c false true l s h k = ap (λ d. call_lt d c) (same_call-true a.dest b.dest s) ∙ k
+dest_case a b c false false l s h k = absurd (cc)
+
+pub lower_down : (c : Callsign) (a b : Route) → stands_before a b ≡ true → call_lt b.dest c ≡ true → call_lt a.dest c ≡ true
+lower_down c a b h k = dest_case a b c (call_lt a.dest b.dest) (same_call a.dest b.dest) refl refl h k
+
+higher_case : (a b : Route) (c : Callsign) (L S : Bool) → call_lt a.dest b.dest ≡ L → same_call a.dest b.dest ≡ S → (L || (S && is_before a b)) ≡ true → call_lt c a.dest ≡ true → call_lt c b.dest ≡ true
+higher_case a b c true S l s h k = call_lt_trans c a.dest b.dest k l
+higher_case a b c false true l s h k = ap (call_lt c) (sym (same_call-true a.dest b.dest s)) ∙ k
+higher_case a b c false false l s h k = absurd (cc)
+
+pub higher_up : (c : Callsign) (a b : Route) → stands_before a b ≡ true → call_lt c a.dest ≡ true → call_lt c b.dest ≡ true
+higher_up c a b h k = higher_case a b c (call_lt a.dest b.dest) (same_call a.dest b.dest) refl refl h k
+
+place_case : (r a b : Route) (A B : Bool) → stands_before r a ≡ A → stands_before r b ≡ B → stands_before a b ≡ true → not B ≡ true → not A ≡ true
+place_case r a b false B s t h k = refl
+place_case r a b true false s t h k = let u = stands_trans r a b s h in absurd (cc)
+place_case r a b true true s t h k = absurd (cc)
+
+pub place_down : (r a b : Route) → stands_before a b ≡ true → not (stands_before r b) ≡ true → not (stands_before r a) ≡ true
+place_down r a b h k = place_case r a b (stands_before r a) (stands_before r b) refl refl h k
+
+-- where a search by halves ends is as many as pass
+pub point_is : (p : Route → Bool) (rows : List Route) (i : ℕ) (d : Route) → i ≤ length rows → IsPartitionPoint (λ y. p y ≡ true) (λ y. p y ≡ false) rows i → i ≡ prefix_len p rows
+point_is p rows i d h point = sym (prefix_len_is p rows i d h (λ k l. point.0 k d (omega arith) l) (λ l. point.1 i d (omega arith) l))
+
+-- the same, where no row is at hand to stand in for one that isn't there
+pub start_is : (c : Callsign) (rows : List Route) (i : ℕ) → i ≤ length rows → IsPartitionPoint (λ (y : Route). call_lt y.dest c ≡ true) (λ (y : Route). call_lt y.dest c ≡ false) rows i → i ≡ start_of c rows
+start_is c [] i h point = omega arith
+start_is c (x ∷ xs) i h point = point_is (λ (r : Route). call_lt r.dest c) (x ∷ xs) i x h point
+
+-- putting in, by the place
+
+put_case : (b : Bool) (r x : Route) (xs : List Route) (n : ℕ) → placed r xs ≡ insert xs n r → cond b (r ∷ x ∷ xs) (x ∷ placed r xs) ≡ insert (x ∷ xs) (cond (not b) (1 + n) 0) r
+put_case true r x xs n h = refl
+put_case false r x xs n h = let z : 1 + n ≡ suc n = omega arith in rw z (ap (λ ys. x ∷ ys) h)
 
 pub placed-insert : (r : Route) (xs : List Route) → placed r xs ≡ insert xs (place_of r xs) r
 placed-insert r [] = refl
-placed-insert r (x ∷ xs) = insert_case (is_before r x) r x xs (place_of r xs) (placed-insert r xs)
+placed-insert r (x ∷ xs) = put_case (stands_before r x) r x xs (place_of r xs) (placed-insert r xs)
 
-three : (r : Route) (xs : List Route) (p : ℕ) → length xs ≡ 3 → p < 3 → insert (take 2 xs) p r ≡ take 3 (insert xs p r)
-three r (a ∷ b ∷ c ∷ []) zero h k = refl
-three r (a ∷ b ∷ c ∷ []) (suc zero) h k = refl
-three r (a ∷ b ∷ c ∷ []) (suc (suc zero)) h k = refl
-three r (a ∷ b ∷ c ∷ []) (suc (suc (suc p))) h k = absurd (omega arith)
-three r [] p h k = absurd (omega arith)
-three r (a ∷ []) p h k = absurd (omega arith)
-three r (a ∷ b ∷ []) p h k = absurd (omega arith)
-three r (a ∷ b ∷ c ∷ d ∷ xs) p h k = absurd (omega arith)
+-- rows of lower and of higher destinations
 
-pub enter_over : (r : Route) (xs : List Route) → length xs ≡ 3 → place_of r xs < 3 → insert (take 2 xs) (place_of r xs) r ≡ take 3 (placed r xs)
-enter_over r xs h k = three r xs (place_of r xs) h k ∙ ap (take 3) (sym (placed-insert r xs))
+pub not_to_lower : (c : Callsign) (x : Route) → call_lt x.dest c ≡ true → same_call x.dest c ≡ false
+not_to_lower c x h = cases (same_call x.dest c) refl
+  where
+    cases : (b : Bool) → same_call x.dest c ≡ b → b ≡ false
+    cases false e = refl
+    cases true e = let f = call_lt_equal x.dest c (same_call-true x.dest c e) in absurd (cc)
 
-small : (r : Route) (xs : List Route) (p : ℕ) → length xs < 3 → p ≤ length xs → insert xs p r ≡ take 3 (insert xs p r)
-small r xs p h k = sym (take_all 3 (insert xs p r) (omega (arith, length-insert xs p r k)))
+pub not_to_higher : (c : Callsign) (x : Route) → call_lt c x.dest ≡ true → same_call x.dest c ≡ false
+not_to_higher c x h = cases (same_call x.dest c) refl
+  where
+    cases : (b : Bool) → same_call x.dest c ≡ b → b ≡ false
+    cases false e = refl
+    cases true e = let f = call_lt_equal c x.dest (sym (same_call-true x.dest c e)) in absurd (cc)
 
-pub enter_room : (r : Route) (xs : List Route) → length xs < 3 → place_of r xs ≤ length xs → insert xs (place_of r xs) r ≡ take 3 (placed r xs)
-enter_room r xs h k = small r xs (place_of r xs) h k ∙ ap (take 3) (sym (placed-insert r xs))
+abbrev pub Higher : Callsign → List Route → Type 0
+Higher c rows = AllByRecursion (λ (x : Route). call_lt c x.dest ≡ true) rows
 
-last : (r : Route) (xs : List Route) (p : ℕ) → length xs ≤ 3 → p ≤ length xs → 3 ≤ p → xs ≡ take 3 (insert xs p r)
-last r (a ∷ b ∷ c ∷ []) (suc (suc (suc zero))) h w k = refl
-last r (a ∷ b ∷ c ∷ []) (suc (suc (suc (suc p)))) h w k = absurd (omega arith)
-last r (a ∷ b ∷ c ∷ []) (suc (suc zero)) h w k = absurd (omega arith)
-last r (a ∷ b ∷ c ∷ []) (suc zero) h w k = absurd (omega arith)
-last r (a ∷ b ∷ c ∷ []) zero h w k = absurd (omega arith)
-last r [] p h w k = absurd (omega arith)
-last r (a ∷ []) p h w k = absurd (omega arith)
-last r (a ∷ b ∷ []) p h w k = absurd (omega arith)
-last r (a ∷ b ∷ c ∷ d ∷ xs) p h w k = absurd (omega arith)
+pub higher_all : (c : Callsign) (a : Route) (xs : List Route) → call_lt c a.dest ≡ true → Ahead a xs → Higher c xs
+higher_all c a [] h k = tt
+higher_all c a (x ∷ xs) h k = (higher_up c a x k.0 h, higher_all c a xs h k.1)
 
-pub enter_past : (r : Route) (xs : List Route) → length xs ≤ 3 → place_of r xs ≤ length xs → 3 ≤ place_of r xs → xs ≡ take 3 (placed r xs)
-enter_past r xs h w k = last r xs (place_of r xs) h w k ∙ ap (take 3) (sym (placed-insert r xs))
+pub higher_from : (c : Callsign) (rows : List Route) (i : ℕ) (d : Route) → InRows rows → i < length rows → call_lt c (get_or rows i d).dest ≡ true → Higher c (drop i rows)
+higher_from c [] i d h w l = absurd (omega arith)
+higher_from c (x ∷ xs) zero d h w l = (l, higher_all c x xs l h.0)
+higher_from c (x ∷ xs) (suc i) d h w l = higher_from c xs i d h.1 (omega arith) l
 
-take_again : (n : ℕ) (x : Route) (xs : List Route) → take n (x ∷ take n xs) ≡ take n (x ∷ xs)
-take_again zero x xs = refl
-take_again (suc n) x xs = ap (λ ys. x ∷ ys) (take-take n (suc n) xs (omega arith))
+pub none_to_higher : (c : Callsign) (rows : List Route) → Higher c rows → filter (is_to c) rows ≡ []
+none_to_higher c [] h = refl
+none_to_higher c (x ∷ xs) h = let e : same_call x.dest c ≡ false = not_to_higher c x h.0 in rw e (none_to_higher c xs h.1)
 
-front_case : (n : ℕ) (b : Bool) (r x : Route) (xs : List Route) → take n (placed r xs) ≡ take n (placed r (take n xs)) → take (suc n) (cond b (r ∷ x ∷ xs) (x ∷ placed r xs)) ≡ take (suc n) (cond b (r ∷ x ∷ take n xs) (x ∷ placed r (take n xs)))
-front_case n true r x xs h = ap (λ ys. r ∷ ys) (sym (take_again n x xs))
-front_case n false r x xs h = ap (λ ys. x ∷ ys) h
+-- the rows before the start of a destination lead elsewhere
+skip_case : (b : Bool) (c : Callsign) (x : Route) (xs : List Route) (n : ℕ) → call_lt x.dest c ≡ b → filter (is_to c) (drop n xs) ≡ filter (is_to c) xs → filter (is_to c) (drop (cond b (1 + n) 0) (x ∷ xs)) ≡ filter (is_to c) (x ∷ xs)
+skip_case false c x xs n e h = refl
+skip_case true c x xs n e h =
+    let f : same_call x.dest c ≡ false = not_to_lower c x e in
+    let z : 1 + n ≡ suc n = omega arith in
+    rw (z, f) h
 
-enter_front : (n : ℕ) (r : Route) (xs : List Route) → take n (placed r xs) ≡ take n (placed r (take n xs))
-enter_front zero r xs = refl
-enter_front (suc n) r [] = refl
-enter_front (suc n) r (x ∷ xs) = front_case n (is_before r x) r x xs (enter_front n r xs)
+pub from_start : (c : Callsign) (rows : List Route) → filter (is_to c) (drop (start_of c rows) rows) ≡ filter (is_to c) rows
+from_start c [] = refl
+from_start c (x ∷ xs) = skip_case (call_lt x.dest c) c x xs (start_of c xs) refl (from_start c xs)
 
--- of what is ranked onto a list, the best three depend on its best three
-pub ranked_front : (xs rest : List Route) → take 3 (ranked_into (take 3 xs) rest) ≡ take 3 (ranked_into xs rest)
-ranked_front xs [] = take-take 3 3 xs (omega arith)
-ranked_front xs (r ∷ rest) = sym (ranked_front (placed r (take 3 xs)) rest) ∙ (ap (λ ys. take 3 (ranked_into ys rest)) (sym (enter_front 3 r xs)) ∙ ranked_front (placed r xs) rest)
+before_case : (b : Bool) (r x : Route) (xs : List Route) (n : ℕ) → call_lt x.dest r.dest ≡ b → list_any (is_same_pair r) (take n xs) ≡ false → list_any (is_same_pair r) (take (cond b (1 + n) 0) (x ∷ xs)) ≡ false
+before_case false r x xs n e h = refl
+before_case true r x xs n e h =
+    let f : same_call r.dest x.dest ≡ false = apart_sym x.dest r.dest (not_to_lower r.dest x e) in
+    let z : 1 + n ≡ suc n = omega arith in
+    rw z (rw f h)
 
-best_case : (b : Bool) (r : Route) (xs rest : List Route) → take 3 (ranked_into (take 3 (cond b (placed r xs) xs)) rest) ≡ take 3 (ranked_into xs (cond b (r ∷ rest) rest))
-best_case true r xs rest = ranked_front (placed r xs) rest
-best_case false r xs rest = ranked_front xs rest
+pub none_before_start : (r : Route) (rows : List Route) → list_any (is_same_pair r) (take (start_of r.dest rows) rows) ≡ false
+none_before_start r [] = refl
+none_before_start r (x ∷ xs) = before_case (call_lt x.dest r.dest) r x xs (start_of r.dest xs) refl (none_before_start r xs)
 
--- one route more, as the loop goes on
-pub next_best : (dest : Callsign) (rows xs ys : List Route) (i : ℕ) (r : Route) → i < length rows → r ≡ get_or rows i r → ys ≡ take 3 (considered dest r xs) → take 3 (ranked_into ys (filter (is_to dest) (drop (i + 1) rows))) ≡ take 3 (ranked_into xs (filter (is_to dest) (drop i rows)))
-next_best dest rows xs ys i r within e h =
-    rw (h, drop-cons rows i r within, ← e, add-one) (best_case (same_call r.dest dest) r xs (filter (is_to dest) (drop (suc i) rows)))
+-- from the start on no row leads to a lower destination
+pub not_lower : (c : Callsign) (rows : List Route) (i : ℕ) (d : Route) → InRows rows → start_of c rows ≤ i → i < length rows → call_lt (get_or rows i d).dest c ≡ false
+not_lower c rows i d h lo hi = cases (call_lt (get_or rows i d).dest c) refl
+  where
+    cases : (b : Bool) → call_lt (get_or rows i d).dest c ≡ b → b ≡ false
+    cases false e = refl
+    cases true e =
+        let first = parted (λ r. call_lt r.dest c) (lower_down c) rows h (start_of c rows) i d lo hi e in
+        let stop = prefix_len_stops (λ (r : Route). call_lt r.dest c) rows d (omega arith) in
+        absurd (cc)
+
+-- a row behind the start that leads elsewhere leads higher
+pub leads_higher : (c : Callsign) (rows : List Route) (i : ℕ) (d : Route) → InRows rows → start_of c rows ≤ i → i < length rows → same_call (get_or rows i d).dest c ≡ false → call_lt c (get_or rows i d).dest ≡ true
+leads_higher c rows i d h lo hi s = call_lt_total (get_or rows i d).dest c (not_lower c rows i d h lo hi) s
+
+none_pair_higher : (r : Route) (rows : List Route) → Higher r.dest rows → list_any (is_same_pair r) rows ≡ false
+none_pair_higher r [] h = refl
+none_pair_higher r (x ∷ xs) h =
+    let e : same_call r.dest x.dest ≡ false = apart_sym x.dest r.dest (not_to_higher r.dest x h.0) in
+    rw e (none_pair_higher r xs h.1)
+
+any_parts : (p : Route → Bool) (rows : List Route) (i : ℕ) → list_any p (take i rows) ≡ false → list_any p (drop i rows) ≡ false → list_any p rows ≡ false
+any_parts p [] i h k = refl
+any_parts p (x ∷ xs) zero h k = k
+any_parts p (x ∷ xs) (suc i) h k = any_case (p x) (list_any p (take i xs)) (list_any p xs) h (any_parts p xs i) k
+  where
+    any_case : (b t u : Bool) → (b || t) ≡ false → (t ≡ false → list_any p (drop i xs) ≡ false → u ≡ false) → list_any p (drop i xs) ≡ false → (b || u) ≡ false
+    any_case true t u h f k = h
+    any_case false t u h f k = f h k
+
+-- the search has come to a row that leads elsewhere
+pub none_of_pair_from : (r : Route) (rows : List Route) (i : ℕ) (d : Route) → InRows rows → start_of r.dest rows ≤ i → i < length rows → same_call (get_or rows i d).dest r.dest ≡ false → list_any (is_same_pair r) (take i rows) ≡ false → list_any (is_same_pair r) rows ≡ false
+none_of_pair_from r rows i d h lo hi s before =
+    any_parts (is_same_pair r) rows i before (none_pair_higher r (drop i rows) (higher_from r.dest rows i d h hi (leads_higher r.dest rows i d h lo hi s)))
+
+pub none_of_pair_next : (r : Route) (rows : List Route) (i : ℕ) (d : Route) → i < length rows → is_same_pair r (get_or rows i d) ≡ false → list_any (is_same_pair r) (take i rows) ≡ false → list_any (is_same_pair r) (take (i + 1) rows) ≡ false
+none_of_pair_next r rows i d w s before = list_any_more (is_same_pair r) rows i d w ∙ rw (before, s) refl
+
+-- the rows from the start of a destination on
+
+pub drop_rows : (n : ℕ) (rows : List Route) → InRows rows → InRows (drop n rows)
+drop_rows zero rows h = h
+drop_rows (suc n) [] h = tt
+drop_rows (suc n) (x ∷ xs) h = drop_rows n xs h.1
+
+abbrev pub NotLower : Callsign → List Route → Type 0
+NotLower c rows = AllByRecursion (λ (x : Route). call_lt x.dest c ≡ false) rows
+
+not_lower_case : (b : Bool) (c : Callsign) (x y : Route) → call_lt x.dest c ≡ false → stands_before x y ≡ true → call_lt y.dest c ≡ b → b ≡ false
+not_lower_case false c x y h k e = refl
+not_lower_case true c x y h k e = let f = lower_down c x y k e in absurd (cc)
+
+pub none_lower : (c : Callsign) (x : Route) (xs : List Route) → call_lt x.dest c ≡ false → Ahead x xs → NotLower c xs
+none_lower c x [] h k = tt
+none_lower c x (y ∷ ys) h k = (not_lower_case (call_lt y.dest c) c x y h k.0 refl, none_lower c x ys h k.1)
+
+tail_case : (b : Bool) (c : Callsign) (x : Route) (xs : List Route) (n : ℕ) → call_lt x.dest c ≡ b → Ahead x xs → NotLower c (drop n xs) → NotLower c (drop (cond b (1 + n) 0) (x ∷ xs))
+tail_case false c x xs n e a h = (e, none_lower c x xs e a)
+tail_case true c x xs n e a h = let z : 1 + n ≡ suc n = omega arith in rw z h
+
+pub tail_not_lower : (c : Callsign) (rows : List Route) → InRows rows → NotLower c (drop (start_of c rows) rows)
+tail_not_lower c [] h = tt
+tail_not_lower c (x ∷ xs) h = tail_case (call_lt x.dest c) c x xs (start_of c xs) refl h.0 (tail_not_lower c xs h.1)
+
+pub none_from : (c : Callsign) (tail : List Route) (i : ℕ) (d : Route) → InRows tail → NotLower c tail → i < length tail → same_call (get_or tail i d).dest c ≡ false → filter (is_to c) (drop i tail) ≡ []
+none_from c [] i d h n w s = absurd (omega arith)
+none_from c (x ∷ xs) zero d h n w s =
+    let l : call_lt c x.dest ≡ true = call_lt_total x.dest c n.0 s in
+    none_to_higher c (x ∷ xs) (l, higher_all c x xs l h.0)
+none_from c (x ∷ xs) (suc i) d h n w s = none_from c xs i d h.1 n.1 (omega arith) s
+
+pub whole_tail : (n : ℕ) (rows : List Route) → take (length rows - n) (drop n rows) ≡ drop n rows
+whole_tail zero [] = refl
+whole_tail (suc n) [] = let z : 0 - suc n ≡ 0 = omega arith in rw z refl
+whole_tail zero (x ∷ xs) = let z : suc (length xs) - 0 ≡ suc (length xs) = omega arith in rw z (ap (λ ys. x ∷ ys) (take_all (length xs) xs (omega arith)))
+whole_tail (suc n) (x ∷ xs) = let z : suc (length xs) - suc n ≡ length xs - n = omega arith in rw z (whole_tail n xs)
+
+-- a search for the best three is done: as many are found, or no more are there
+pub best_full : (c : Callsign) (rows tail best : List Route) (i : ℕ) → length best ≡ 3 → best ++ filter (is_to c) (drop i tail) ≡ filter (is_to c) rows → best ≡ take 3 (filter (is_to c) rows)
+best_full c rows tail best i h t = rw (← t) (sym (take-append-le 3 best (filter (is_to c) (drop i tail)) (omega arith) ∙ take_all 3 best (omega arith)))
+
+pub best_done : (c : Callsign) (rows rest best : List Route) → length best ≤ 3 → filter (is_to c) rest ≡ [] → best ++ filter (is_to c) rest ≡ filter (is_to c) rows → best ≡ take 3 (filter (is_to c) rows)
+best_done c rows rest best h e t =
+    let a : best ≡ filter (is_to c) rows = sym (append-nil best) ∙ (ap (λ ys. best ++ ys) (sym e) ∙ t) in
+    rw (← a) (sym (take_all 3 best h))
+
+pub best_elsewhere : (c : Callsign) (rows tail best : List Route) (i s : ℕ) (r : Route) → InRows rows → tail ≡ drop s rows → s ≡ start_of c rows → i < length tail → r ≡ get_or tail i r → same_call r.dest c ≡ false
+    → length best ≤ 3 → best ++ filter (is_to c) (drop i tail) ≡ filter (is_to c) rows → best ≡ take 3 (filter (is_to c) rows)
+best_elsewhere c rows tail best i s r h e q w g t few told =
+    let f : tail ≡ drop (start_of c rows) rows = e ∙ ap (λ n. drop n rows) q in
+    let order : InRows tail = subst InRows (sym f) (drop_rows (start_of c rows) rows h) in
+    let lower : NotLower c tail = subst (NotLower c) (sym f) (tail_not_lower c rows h) in
+    best_done c rows (drop i tail) best few (none_from c tail i r order lower w (ap (λ (x : Route). same_call x.dest c) (sym g) ∙ t)) told
+
+drop_end : (xs : List Route) (i : ℕ) → length xs ≤ i → drop i xs ≡ []
+drop_end [] zero h = refl
+drop_end [] (suc i) h = refl
+drop_end (x ∷ xs) zero h = absurd (omega arith)
+drop_end (x ∷ xs) (suc i) h = drop_end xs i (omega arith)
+
+pub best_end : (c : Callsign) (rows tail best : List Route) (i : ℕ) → length tail ≤ i → length best ≤ 3 → best ++ filter (is_to c) (drop i tail) ≡ filter (is_to c) rows → best ≡ take 3 (filter (is_to c) rows)
+best_end c rows tail best i w few told = best_done c rows (drop i tail) best few (ap (filter (is_to c)) (drop_end tail i w)) told

@@ -10,14 +10,13 @@ use Rattle.ax_address.specs.declared.Entry.{Entry}
 use Rattle.route_table.specs.declared.route.Route.{Route}
 use Rattle.route_table.specs.declared.route.RouteRules.{RouteRules}
 use Rattle.route_table.specs.Log.{Item}
-use Rattle.route_table.specs.Ranks.{ranked}
-use Rattle.route_table.specs.Table.{usable, is_to, routes_to, destinations}
+use Rattle.route_table.specs.Table.{usable, table, is_to, routes_to, destinations}
 use Rattle.route_table.specs.Broadcast.{is_fresh, entry_by, entry_to, to_broadcast}
-use Rattle.route_table.specs.Places.{InOrder}
 use Rattle.route_table.specs.Laws.{TellsFirstRoute}
-use Rattle.route_table.proofs.Rising.{Below, calls_rise}
-use Rattle.route_table.proofs.Ranked.{or_parts}
-use Rattle.route_table.proofs.Listed.{leads, leading, destinations_exact}
+use Rattle.route_table.proofs.Groups.{Below, InOrder, calls_rise}
+use Rattle.route_table.proofs.Sorting.{in_order_rows}
+use Rattle.route_table.proofs.Twice.{or_parts, usable_once}
+use Rattle.route_table.proofs.Listed.{leads, leading, leads_table, destinations_exact}
 
 abbrev said : Callsign → Route → Entry
 said c r = record { dest = c; alias = r.alias; best = r.neighbour; quality = r.quality }
@@ -78,14 +77,14 @@ none_led c (r ∷ rs) h =
     let p = or_parts (same_call r.dest c) (leads c rs) h in
     none_case (same_call r.dest c) r (filter (is_to c) rs) p.0 (none_led c rs p.1)
 
-led_case : (c : Callsign) (rs : List Route) (r : Route) (b : Bool) → leads c rs ≡ b → slice_get (take 3 (ranked (filter (is_to c) rs))) 0 ≡ Some r → b ≡ true
+led_case : (c : Callsign) (rs : List Route) (r : Route) (b : Bool) → leads c rs ≡ b → slice_get (take 3 (filter (is_to c) rs)) 0 ≡ Some r → b ≡ true
 led_case c rs r true l h = refl
 led_case c rs r false l h =
-    let none : slice_get (take 3 (ranked (filter (is_to c) rs))) 0 ≡ None = ap (λ xs. slice_get (take 3 (ranked xs)) 0) (none_led c rs l) in
+    let none : slice_get (take 3 (filter (is_to c) rs)) 0 ≡ None = ap (λ xs. slice_get (take 3 xs) 0) (none_led c rs l) in
     absurd (cc)
 
 is_destination : (rules : RouteRules) (log : List Item) (c : Callsign) (r : Route) → slice_get (routes_to rules log c) 0 ≡ Some r → Contains (destinations rules log) c
-is_destination rules log c r h = (destinations_exact rules log c).1 (leading c (usable rules log) (led_case c (usable rules log) r (leads c (usable rules log)) refl h))
+is_destination rules log c r h = (destinations_exact rules log c).1 (leading c (usable rules log) (sym (leads_table rules log c) ∙ led_case c (table rules log) r (leads c (table rules log)) refl h))
 
 tells_first : (rules : RouteRules) (log : List Item) (e : Entry) → Contains (to_broadcast rules log) e → TellsFirstRoute rules log e
 tells_first rules log e h =
@@ -150,4 +149,4 @@ named rules log c e h = let t = tells rules.least c (slice_get (routes_to rules 
 
 pub broadcast_rises : (rules : RouteRules) (log : List Item) → AllPairs (λ (a b : Entry). call_lt a.dest b.dest ≡ true) (to_broadcast rules log)
 broadcast_rises rules log =
-    pairs_from_order (to_broadcast rules log) (ordered (entry_to rules log) (named rules log) (destinations rules log) (calls_rise (usable rules log) [] tt))
+    pairs_from_order (to_broadcast rules log) (ordered (entry_to rules log) (named rules log) (destinations rules log) (calls_rise (table rules log) (in_order_rows (usable rules log) (usable_once rules log))))

@@ -1,14 +1,27 @@
 -- Laws of the definitions of a log's table.
-use Rattle.std.specs.Prelude.{◌≡◌, ◌↔◌, List, filter, slice_get, Some, true, AllPairs, Contains, Any, IsPermutation}
+use Rattle.std.specs.Prelude.{◌≡◌, ◌↔◌, List, filter, slice_get, Some, true, false, AllPairs, Contains, Any, IsPermutation}
 use Rattle.ax_address.specs.Callsign.{Callsign}
 use Rattle.ax_address.specs.CallOrder.{call_lt}
 use Rattle.ax_address.specs.declared.Entry.{Entry}
 use Rattle.route_table.specs.declared.route.RouteRules.{RouteRules}
 use Rattle.route_table.specs.declared.route.Route.{Route}
 use Rattle.route_table.specs.Log.{Item}
-use Rattle.route_table.specs.Ranks.{is_before, Rise}
-use Rattle.route_table.specs.Table.{usable, is_to, all_routes_to, routes_to, destinations}
+use Rattle.route_table.specs.Ranks.{is_before, AreInOrder, Rise}
+use Rattle.route_table.specs.Rows.{is_same_pair}
+use Rattle.route_table.specs.Table.{usable, table, is_to, all_routes_to, routes_to, destinations}
 use Rattle.route_table.specs.Broadcast.{is_fresh, to_broadcast}
+
+-- no two usable routes lead to one destination by one neighbour
+abbrev pub NoPairTwice : Type 0
+NoPairTwice = (rules : RouteRules) (log : List Item) → AllPairs (λ a b. is_same_pair a b ≡ false) (usable rules log)
+
+-- each route of a table stands before those behind it
+abbrev pub TableIsInOrder : Type 0
+TableIsInOrder = (rules : RouteRules) (log : List Item) → AreInOrder (table rules log)
+
+-- a table has the usable routes, in another order
+abbrev pub TableIsRearranged : Type 0
+TableIsRearranged = (rules : RouteRules) (log : List Item) → IsPermutation (usable rules log) (table rules log)
 
 -- each route to a destination comes before those behind it
 abbrev pub AreRanked : Type 0

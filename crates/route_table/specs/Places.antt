@@ -1,22 +1,45 @@
--- Where a route is put, as an index; calls in order, by recursion.
-use Rattle.std.specs.Prelude.{ℕ, suc, List, [], ◌∷◌, ◌≡◌, true, if◌then◌else◌}
-use Rattle.std.specs.List.{AllByRecursion}
+-- Rows in order, by recursion, and places in them.
+use Rattle.std.specs.Prelude.{ℕ, ◌+◌, ◌-◌, ◌<◌, List, [], ◌∷◌, length, slice_index_or, ◌≡◌, true, false, not, Option, Some, None, is_none}
+use Rattle.std.specs.List.{AllByRecursion, list_any, prefix_len}
 use Rattle.ax_address.specs.Callsign.{Callsign}
 use Rattle.ax_address.specs.CallOrder.{call_lt}
 use Rattle.route_table.specs.declared.route.Route.{Route}
-use Rattle.route_table.specs.Table.{is_to}
-use Rattle.route_table.specs.Ranks.{is_before, placed}
+use Rattle.route_table.specs.Ranks.{stands_before}
+use Rattle.route_table.specs.Rows.{is_same_pair}
 
--- the ranked routes with one more, where that leads to the destination
-abbrev pub considered : Callsign → Route → List Route → List Route
-considered dest r rs = if is_to dest r then placed r rs else rs
+-- each row stands before those behind it
+abbrev pub InRows : List Route → Type 0
+InRows [] = Unit {0}
+InRows (r ∷ rs) = AllByRecursion (λ s. stands_before r s ≡ true) rs × InRows rs
 
--- how many ranked routes stand before the route's place
+-- no two rows are of one pair
+abbrev pub NoneTwice : List Route → Type 0
+NoneTwice [] = Unit {0}
+NoneTwice (r ∷ rs) = AllByRecursion (λ s. is_same_pair r s ≡ false) rs × NoneTwice rs
+
+-- how the rows of a table stand
+pub record Stand (rows : List Route) : Type 0 where
+  pub order : InRows rows
+  pub once : NoneTwice rows
+
+-- none of the routes is a lock
+abbrev pub AreCounted : List Route → Type 0
+AreCounted routes = AllByRecursion (λ (r : Route). is_none r.count ≡ false) routes
+
+-- how many rows lead to lower destinations
+abbrev pub start_of : Callsign → List Route → ℕ
+start_of dest rows = prefix_len (λ r. call_lt r.dest dest) rows
+
+-- how many rows don't have the route before them
 abbrev pub place_of : Route → List Route → ℕ
-place_of r [] = 0
-place_of r (x ∷ xs) = if is_before r x then 0 else suc (place_of r xs)
+place_of r rows = prefix_len (λ x. not (stands_before r x)) rows
 
--- each call is below those behind it
-abbrev pub InOrder : List Callsign → Type 0
-InOrder [] = Unit {0}
-InOrder (c ∷ cs) = AllByRecursion (λ d. call_lt c d ≡ true) cs × InOrder cs
+-- where a row of the route's pair is
+abbrev pub PairAt : Route → List Route → Option ℕ → Type 0
+PairAt r rows None = list_any (is_same_pair r) rows ≡ false
+PairAt r rows (Some at) = (at < length rows) × ((d : Route) → is_same_pair r (slice_index_or rows at d) ≡ true)
+
+-- the route stands between the rows before and behind the one at that place
+pub record FitsAt (r : Route) (rows : List Route) (at : ℕ) : Type 0 where
+  pub after : (d : Route) → 0 < at → stands_before (slice_index_or rows (at - 1) d) r ≡ true
+  pub before : (d : Route) → at + 1 < length rows → stands_before r (slice_index_or rows (at + 1) d) ≡ true

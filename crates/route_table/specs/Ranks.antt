@@ -1,5 +1,5 @@
--- Routes ranked, and calls in order, by inserting one after another.
--- `laws` says what that comes to: sorted, and the same routes or calls.
+-- The order of routes: in a table, and to one destination.
+-- `laws` says what a list in order comes to: sorted, and the same routes.
 use Rattle.std.specs.Prelude.{List, [], ◌∷◌, Bool, ◌&&◌, ◌||◌, nat_lt, nat_eq, if◌then◌else◌, ◌≡◌, true, AllPairs}
 use Rattle.ax_address.specs.Callsign.{Callsign}
 use Rattle.ax_address.specs.CallOrder.{same_call, call_lt}
@@ -10,29 +10,23 @@ use Rattle.route_table.specs.declared.route.Route.{Route}
 abbrev pub is_before : Route → Route → Bool
 is_before a b = nat_lt b.quality a.quality || (nat_eq a.quality b.quality && call_lt a.neighbour b.neighbour)
 
--- the route at its place among ranked ones
+-- In a table routes stand by destination call, and those to one destination the better first.
+abbrev pub stands_before : Route → Route → Bool
+stands_before a b = call_lt a.dest b.dest || (same_call a.dest b.dest && is_before a b)
+
+-- each route stands before those behind it
+abbrev pub AreInOrder : List Route → Type 0
+AreInOrder routes = AllPairs (λ a b. stands_before a b ≡ true) routes
+
+-- the route at its place among routes in order
 abbrev pub placed : Route → List Route → List Route
 placed r [] = r ∷ []
-placed r (x ∷ xs) = if is_before r x then r ∷ x ∷ xs else x ∷ placed r xs
+placed r (x ∷ xs) = if stands_before r x then r ∷ x ∷ xs else x ∷ placed r xs
 
--- the routes placed among ranked ones, one after another
-abbrev pub ranked_into : List Route → List Route → List Route
-ranked_into done [] = done
-ranked_into done (r ∷ rs) = ranked_into (placed r done) rs
-
--- the routes, the best first
-abbrev pub ranked : List Route → List Route
-ranked rs = ranked_into [] rs
-
--- the call at its place among calls in order, once
-abbrev pub with_call : Callsign → List Callsign → List Callsign
-with_call c [] = c ∷ []
-with_call c (d ∷ ds) = if call_lt d c then d ∷ with_call c ds else (if same_call d c then d ∷ ds else c ∷ d ∷ ds)
-
--- the destinations of the routes, each put among calls in order
-abbrev pub calls_into : List Callsign → List Route → List Callsign
-calls_into done [] = done
-calls_into done (r ∷ rs) = calls_into (with_call r.dest done) rs
+-- the routes, in order
+abbrev pub in_order : List Route → List Route
+in_order [] = []
+in_order (r ∷ rs) = placed r (in_order rs)
 
 -- each call is below those behind it
 abbrev pub Rise : List Callsign → Type 0

@@ -1,13 +1,13 @@
 -- What a table's rows come to by each kind of item; `usable` of the log says the same afresh.
-use Rattle.std.specs.Prelude.{ℕ, ◌-◌, List, [], ◌∷◌, ◌++◌, filter, map, take, slice_get, Option, Some, None, Bool, true, ◌&&◌, ◌||◌, ◌==◌, not, is_none, if◌then◌else◌}
-use Rattle.std.specs.List.{list_any}
+use Rattle.std.specs.Prelude.{ℕ, ◌+◌, ◌-◌, List, [], ◌∷◌, ◌++◌, filter, map, take, drop, slice_get, Option, Some, None, Bool, true, false, ◌&&◌, ◌||◌, ◌==◌, not, is_none, if◌then◌else◌}
+use Rattle.std.specs.List.{list_any, dedup, prefix_len}
 use Rattle.ax_address.specs.Callsign.{Callsign}
-use Rattle.ax_address.specs.CallOrder.{same_call, call_lt}
+use Rattle.ax_address.specs.CallOrder.{same_call}
 use Rattle.ax_address.specs.declared.Entry.{Entry}
 use Rattle.route_table.specs.declared.route.Route.{Route}
 use Rattle.route_table.specs.Log.{Item, Report}
 use Rattle.route_table.specs.Table.{is_good, is_to}
-use Rattle.route_table.specs.Ranks.{ranked}
+use Rattle.route_table.specs.Ranks.{placed}
 use Rattle.route_table.specs.Broadcast.{entry_by}
 
 -- both routes lead to one destination by one neighbour
@@ -50,6 +50,26 @@ stays_beside lock row = not (is_same_pair row lock)
 abbrev pub rows_with_lock : Route → List Route → List Route
 rows_with_lock lock rows = filter (stays_beside lock) rows ++ lock ∷ []
 
+-- the rows without those of the route's pair
+abbrev pub beside : Route → List Route → List Route
+beside r rows = filter (stays_beside r) rows
+
+-- rows in order after one report: a lock of its pair stays as it is, and else the report stands at its place, if it is good enough
+abbrev pub with_report : ℕ → Route → List Route → List Route
+with_report minq r rows =
+    if list_any (is_lock_on r) rows then rows
+    else (if is_good minq r then placed r (beside r rows) else beside r rows)
+
+-- rows in order after one report after another
+abbrev pub after_reports : ℕ → List Route → List Route → List Route
+after_reports minq [] rows = rows
+after_reports minq (r ∷ rs) rows = after_reports minq rs (with_report minq r rows)
+
+-- whether a row of the route's pair is there after these reports, where no lock of it is: as the last of them of its pair has it
+abbrev pub is_held_after : ℕ → Route → List Route → Bool → Bool
+is_held_after minq r [] held = held
+is_held_after minq r (s ∷ rs) held = is_held_after minq r rs (if is_same_pair r s then is_good minq s else held)
+
 -- a count, one round later
 abbrev pub count_down : Option ℕ → Option ℕ
 count_down None = None
@@ -72,21 +92,31 @@ after_round rows = filter (λ r. still_counts r.count) (map older rows)
 abbrev pub outlives : Callsign → Route → Bool
 outlives neighbour row = is_none row.count || not (same_call row.neighbour neighbour)
 
--- the call is above the bound, where there is one
-abbrev pub is_above : Option Callsign → Callsign → Bool
-is_above None c = true
-is_above (Some bound) c = call_lt bound c
+-- the destinations of rows in order, each once
+abbrev pub calls_of : List Route → List Callsign
+calls_of rows = dedup same_call (map (λ r. r.dest) rows)
 
--- the call is below the best so far, where there is one
-abbrev pub is_below : Callsign → Option Callsign → Bool
-is_below c None = true
-is_below c (Some best) = call_lt c best
+-- the best routes of rows in order to a destination
+abbrev pub best_of : List Route → Callsign → List Route
+best_of rows dest = take 3 (filter (is_to dest) rows)
 
--- the lowest destination of the rows above a bound, or what was found before
-abbrev pub lowest_from : Option Callsign → Option Callsign → List Route → Option Callsign
-lowest_from bound best [] = best
-lowest_from bound best (r ∷ rs) = lowest_from bound (if is_above bound r.dest && is_below r.dest best then Some r.dest else best) rs
+-- the rows behind those that lead where the first one does
+abbrev pub behind : List Route → List Route
+behind [] = []
+behind (r ∷ rs) = drop (prefix_len (is_to r.dest) rs) rs
+
+-- the best routes of rows in order to the destination of the first one
+abbrev pub best_of_first : List Route → List Route
+best_of_first [] = []
+best_of_first (r ∷ rs) = take 3 (r ∷ take (prefix_len (is_to r.dest) rs) rs)
 
 -- what is said of a destination that has these rows among others
 abbrev pub entry_from : ℕ → List Route → Callsign → Option Entry
-entry_from least rows dest = entry_by least dest (slice_get (take 3 (ranked (filter (is_to dest) rows))) 0)
+entry_from least rows dest = entry_by least dest (slice_get (best_of rows dest) 0)
+
+-- so many rows, where one of a pair was there or not and now is there or not
+abbrev pub changed : ℕ → Bool → Bool → ℕ
+changed n true true = n
+changed n true false = n - 1
+changed n false true = n + 1
+changed n false false = n

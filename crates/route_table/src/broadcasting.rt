@@ -1,36 +1,32 @@
-ghost use Rattle.std.specs.Prelude.{◌≡◌, ◌<◌, ◌≤◌, ◌++◌, List, length, [], take, drop, filter_map};
+//! The entries that a node broadcasts (NET/ROM, Appendix B).
+ghost use Rattle.std.specs.Prelude.{◌≡◌, ◌<◌, ◌≤◌, ◌++◌, List, Some, length, take, drop, filter_map, IfOk, OnOk};
 ghost use Rattle.std.specs.List.{cons_option};
 ghost use Rattle.ax_address.specs.declared.Entry.{Entry};
 ghost use Rattle.arrayvec.specs.ArrayVec.{array_vec_len};
-ghost use Rattle.route_table.specs.Ranks as ranks;
-ghost use Rattle.route_table.specs.Rows as rows_spec;
 ghost use Rattle.route_table.specs.Broadcast as broadcast;
+ghost use Rattle.route_table.specs.Places as places;
+ghost use Rattle.route_table.specs.Rows as spec;
 
-use crate::listing::lowest_above;
-use crate::ranking::best_of;
+use crate::listing::behind;
 use crate::route::Route;
 use arrayvec::ArrayVec;
-use ax_address::{Call, Entry};
-
-/// How many entries a broadcast has at most (NET/ROM Appendix B).
-const MAX_ENTRIES: usize = 11;
+use ax_address::{Entry, MAX_ENTRIES};
+use std::alloc::{AllocError, Global};
 
 /// The entries that the rows give to broadcast, in call order, from that number on.
 pub(crate) fn entries_of(rows: &[Route], least: u8, from: usize) -> ArrayVec<Entry, MAX_ENTRIES>
-    ensures { result.items ≡ take 11 (drop from (filter_map (rows_spec.entry_from least rows.now) (ranks.calls_into [] rows.now))) }
+    requires { places.InRows rows.now }
+    ensures { result.items ≡ take 11 (drop from (filter_map (spec.entry_from least rows.now) (spec.calls_of rows.now))) }
 {
     let mut entries = ArrayVec::new();
     let mut skip = from;
-    let mut bound = None;
-    for _ in 0..rows.len() {
+    let mut rest = rows;
+    while let Some(first) = rest.first() {
         if entries.is_full() {
             return entries;
         }
-        let Some(dest) = lowest_above(rows, &bound) else {
-            return entries;
-        };
-        add_entry(&mut entries, &mut skip, entry_to(rows, least, &dest));
-        bound = Some(dest);
+        add_entry(&mut entries, &mut skip, entry_of(least, first));
+        rest = behind(rest);
     }
     entries
 }
@@ -51,19 +47,50 @@ fn add_entry(entries: &mut ArrayVec<Entry, MAX_ENTRIES>, skip: &mut usize, found
     }
 }
 
-/// What is broadcast of a destination: its best route, where that is locked or has rounds enough left.
-fn entry_to(rows: &[Route], least: u8, dest: &Call) -> Option<Entry>
-    ensures { result ≡ rows_spec.entry_from least rows.now dest.now }
+/// All entries that the rows give to broadcast, in call order.
+pub(crate) fn all_entries_of(
+    alloc: Global,
+    rows: &[Route],
+    least: u8,
+) -> Result<Vec<Entry>, AllocError>
+    requires { places.InRows rows.now }
+    ensures { IfOk result (λ entries. entries.items ≡ filter_map (spec.entry_from least rows.now) (spec.calls_of rows.now)) }
 {
-    match best_of(rows, dest).first() {
-        Some(route) if is_fresh(least, route) => Some(Entry {
-            dest: *dest,
-            alias: route.alias,
-            best: route.neighbour,
-            quality: route.quality,
-        }),
-        _ => None,
+    let mut entries = Vec::new(alloc);
+    let mut rest = rows;
+    while let Some(first) = rest.first() {
+        push_entry(&mut entries, entry_of(least, first))?;
+        rest = behind(rest);
     }
+    Ok(entries)
+}
+
+/// Adds an entry, where there is one.
+fn push_entry(entries: &mut Vec<Entry>, found: Option<Entry>) -> Result<(), AllocError>
+    ensures { OnOk result ((later : List Entry) → entries.new.items ++ later ≡ entries.old.items ++ cons_option found later) }
+{
+    match found {
+        Some(entry) => {
+            entries.push(entry)?;
+            Ok(())
+        }
+        None => Ok(()),
+    }
+}
+
+/// What is broadcast of a destination with this first route, where that is locked or has rounds enough left.
+fn entry_of(least: u8, route: &Route) -> Option<Entry>
+    ensures { result ≡ broadcast.entry_by least route.now.dest (Some route.now) }
+{
+    if !is_fresh(least, route) {
+        return None;
+    }
+    Some(Entry {
+        dest: route.dest,
+        alias: route.alias,
+        best: route.neighbour,
+        quality: route.quality,
+    })
 }
 
 /// Whether the route is broadcast: it is locked, or has at least that many rounds left.

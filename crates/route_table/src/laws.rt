@@ -2,6 +2,13 @@
 
 ghost use Rattle.route_table.specs.Laws as law;
 
+/// A table has the usable routes, no two of one destination and neighbour, each before those behind it.
+pub fn table()
+    ensures once { law.NoPairTwice }
+    ensures order { law.TableIsInOrder }
+    ensures rearranged { law.TableIsRearranged }
+{}
+
 /// All routes to a destination are its usable routes in another order, each before those behind it.
 pub fn ranking()
     ensures ranked { law.AreRanked }

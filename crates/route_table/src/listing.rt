@@ -1,77 +1,91 @@
-ghost use Rattle.std.specs.Prelude.{◌≡◌, None, [], IfOk, OnOk, slice_get};
+//! The destinations of a table, in call order.
+ghost use Rattle.std.specs.Prelude.{◌≡◌, ◌<◌, ◌≤◌, length, IfOk, slice_get, flat_map};
+ghost use Rattle.std.specs.List.{prefix_len};
 ghost use Rattle.route_table.specs.Places as places;
-ghost use Rattle.route_table.specs.Ranks as ranks;
 ghost use Rattle.route_table.specs.Rows as spec;
+ghost use Rattle.route_table.specs.Table as table;
 
+use crate::ranking::BEST;
 use crate::route::Route;
 use ax_address::Call;
-use std::alloc::{AllocError, AllocFailed, Global};
+use std::alloc::{AllocError, Global};
 
-/// The destinations of the rows, in call order, each once.
+/// How many rows from the front on lead to the destination.
+fn run_to(rows: &[Route], dest: &Call) -> usize
+    ensures run { result ≡ prefix_len (table.is_to dest.now) rows.now }
+    ensures within { result ≤ length rows.now }
+{
+    for (at, row) in rows.iter().enumerate() {
+        if row.dest != *dest {
+            return at;
+        }
+    }
+    rows.len()
+}
+
+/// The rows behind those that lead where the first one does.
+pub(crate) fn behind(rows: &[Route]) -> &[Route]
+    ensures rest { result.now ≡ spec.behind rows.now }
+    ensures shorter { 1 ≤ length rows.now → length result.now < length rows.now }
+{
+    match rows {
+        [] => rows,
+        [first, others @ ..] => &others[run_to(others, &first.dest)..],
+    }
+}
+
+/// The best three of the rows from the front on that lead where the first one does.
+fn best_of_first(rows: &[Route]) -> &[Route]
+    ensures { result.now ≡ spec.best_of_first rows.now }
+{
+    match rows.first() {
+        Some(first) => {
+            let few = &rows[..rows.len().min(BEST)];
+            &rows[..run_to(few, &first.dest)]
+        }
+        None => rows,
+    }
+}
+
+/// The destinations of rows in order, each once.
 pub(crate) fn destinations_of(alloc: Global, rows: &[Route]) -> Result<Vec<Call>, AllocError>
-    ensures { IfOk result (λ calls. calls.items ≡ ranks.calls_into [] rows.now) }
+    ensures { IfOk result (λ calls. calls.items ≡ spec.calls_of rows.now) }
 {
     let mut calls = Vec::new(alloc);
-    for row in rows {
-        add_call(&mut calls, row.dest)?;
+    let mut rest = rows;
+    while let Some(first) = rest.first() {
+        calls.push(first.dest)?;
+        rest = behind(rest);
     }
     Ok(calls)
 }
 
-/// Puts the call at its place among calls in order, where it isn't there.
-fn add_call(calls: &mut Vec<Call>, call: Call) -> Result<(), AllocFailed<Call>>
-    requires { places.InOrder calls.old.items }
-    ensures { OnOk result (calls.new.items ≡ ranks.with_call call calls.old.items) }
-{
-    match calls.binary_search(&call) {
-        Ok(_) => Ok(()),
-        Err(at) => {
-            calls.insert(at, call)?;
-            Ok(())
-        }
-    }
-}
-
 /// The destination of that number, in call order.
 pub(crate) fn destination_of(rows: &[Route], nth: usize) -> Option<Call>
-    ensures { result ≡ slice_get (ranks.calls_into [] rows.now) nth }
+    ensures { result ≡ slice_get (spec.calls_of rows.now) nth }
 {
-    let mut call = lowest_above(rows, &None)?;
-    for _ in 0..nth {
-        call = lowest_above(rows, &Some(call))?;
-    }
-    Some(call)
-}
-
-/// The lowest destination of the rows above a bound.
-pub(crate) fn lowest_above(rows: &[Route], bound: &Option<Call>) -> Option<Call>
-    ensures { result ≡ spec.lowest_from bound.now None rows.now }
-{
-    let mut best = None;
-    for row in rows {
-        if is_above(bound, &row.dest) && is_below(&row.dest, &best) {
-            best = Some(row.dest);
+    let mut skip = nth;
+    let mut rest = rows;
+    while let Some(first) = rest.first() {
+        if skip == 0 {
+            return Some(first.dest);
         }
+        skip -= 1;
+        rest = behind(rest);
     }
-    best
+    None
 }
 
-/// Whether the call is above the bound, where there is one.
-fn is_above(bound: &Option<Call>, call: &Call) -> bool
-    ensures { result ≡ spec.is_above bound.now call.now }
+/// The best three rows of each destination.
+pub(crate) fn best_of_each(alloc: Global, rows: &[Route]) -> Result<Vec<Route>, AllocError>
+    requires { places.InRows rows.now }
+    ensures { IfOk result (λ best. best.items ≡ flat_map (spec.best_of rows.now) (spec.calls_of rows.now)) }
 {
-    match bound {
-        Some(bound) => bound.cmp(call).is_lt(),
-        None => true,
+    let mut best = Vec::new(alloc);
+    let mut rest = rows;
+    while !rest.is_empty() {
+        best.extend_from_slice(best_of_first(rest))?;
+        rest = behind(rest);
     }
-}
-
-/// Whether the call is below the best so far, where there is one.
-fn is_below(call: &Call, best: &Option<Call>) -> bool
-    ensures { result ≡ spec.is_below call.now best.now }
-{
-    match best {
-        Some(best) => call.cmp(best).is_lt(),
-        None => true,
-    }
+    Ok(best)
 }

@@ -1,13 +1,14 @@
+//! The reports that a broadcast stands for (NET/ROM, Appendix B).
 ghost use Rattle.std.specs.Prelude.{◌≡◌, ◌≤◌, length};
 ghost use Rattle.route_table.specs.Log as log;
 ghost use Rattle.route_table.specs.Rows as rows;
 
 use crate::route::Route;
 use arrayvec::ArrayVec;
-use ax_address::{Alias, Call, Entry};
+use ax_address::{Alias, Call, Entry, MAX_ENTRIES};
 
-/// The reports of a broadcast: one of the neighbour itself, and one for each of eleven entries.
-pub(crate) const MAX_REPORTS: usize = 12;
+/// The reports of a broadcast: one of the neighbour itself, and one for each entry.
+pub(crate) const MAX_REPORTS: usize = 1 + MAX_ENTRIES;
 
 /// The routes that a broadcast reports, each with a whole life before it.
 pub(crate) fn reports_of(

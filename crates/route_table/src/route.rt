@@ -1,3 +1,4 @@
+//! A route, the rules of a table, and why it refuses.
 use ax_address::{Alias, Call};
 use std::alloc::AllocError;
 

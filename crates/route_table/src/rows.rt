@@ -1,10 +1,13 @@
-ghost use Rattle.std.specs.Prelude.{◌≡◌, ◌≤◌, ◌++◌, [], ◌∷◌, length, map, filter, OnOk, OnErr};
-ghost use Rattle.std.specs.List.{list_any};
+//! The usable routes that a table keeps.
+ghost use Rattle.std.specs.Prelude.{◌≡◌, ◌≤◌, ◌<◌, ◌+◌, ◌-◌, ◌∷◌, [], map, filter, length, vec_len, vec_capacity, slice_index_or, true, Some, OnOk, OnErr};
+ghost use Rattle.route_table.specs.declared.route.Route.{Route};
+ghost use Rattle.route_table.specs.Places as places;
+ghost use Rattle.route_table.specs.Ranks as ranks;
 ghost use Rattle.route_table.specs.Rows as spec;
+ghost use Rattle.route_table.specs.Table as table;
 
-use crate::reports::MAX_REPORTS;
+use crate::ranking::{place_of, place_of_pair, stands_before};
 use crate::route::Route;
-use arrayvec::ArrayVec;
 use ax_address::Call;
 use std::alloc::AllocError;
 
@@ -14,107 +17,201 @@ fn is_same_pair(a: &Route, b: &Route) -> bool
     a.dest == b.dest && a.neighbour == b.neighbour
 }
 
-/// Whether one of the reports is of the route's pair.
-fn is_reported(reports: &[Route], route: &Route) -> bool
-    ensures { result ≡ list_any (spec.is_same_pair route.now) reports.now }
+fn is_good(minq: u8, report: &Route) -> bool
+    ensures { result ≡ table.is_good minq report.now }
 {
-    reports.iter().any(|report| is_same_pair(route, report))
+    minq <= report.quality
 }
 
-/// Whether the row stays beside these reports: a lock does, and what none of them replaces.
-fn stays(reports: &[Route], row: &Route) -> bool
-    ensures { result ≡ spec.stays reports.now row.now }
+/// Puts a route at its place. There is room for it.
+fn enter(rows: &mut Vec<Route>, route: &Route)
+    requires order { places.InRows rows.old.items }
+    requires room { vec_len rows.old < vec_capacity rows.old }
+    ensures items { rows.new.items ≡ ranks.placed route.now rows.old.items }
+    ensures len { vec_len rows.new ≡ vec_len rows.old + 1 }
+    ensures capacity { vec_capacity rows.old ≤ vec_capacity rows.new }
 {
-    row.count.is_none() || !is_reported(reports, row)
+    let at = place_of(rows, route);
+    let _ = rows.insert(at, *route);
 }
 
-fn is_lock_on(report: &Route, row: &Route) -> bool
-    ensures { result ≡ spec.is_lock_on report.now row.now }
+/// Takes in one report after another. There is room for a row of each.
+pub(crate) fn take_reports(rows: &mut Vec<Route>, minq: u8, reports: &[Route])
+    requires stand { places.Stand rows.old.items }
+    requires room { vec_len rows.old + length reports.now ≤ vec_capacity rows.old }
+    ensures items { rows.new.items ≡ spec.after_reports minq reports.now rows.old.items }
+    ensures stand { places.Stand rows.new.items }
 {
-    row.count.is_none() && is_same_pair(report, row)
+    for report in reports {
+        take_report(rows, minq, report);
+    }
 }
 
-/// Whether one of the rows is a lock of the report's pair.
-fn is_locked(rows: &[Route], report: &Route) -> bool
-    ensures { result ≡ list_any (spec.is_lock_on report.now) rows.now }
+/// Takes a report in, where no row is a lock of its pair: it stands in the place of what was of its pair, if it is good enough.
+fn take_report(rows: &mut Vec<Route>, minq: u8, report: &Route)
+    requires stand { places.Stand rows.old.items }
+    requires room { vec_len rows.old < vec_capacity rows.old }
+    ensures items { rows.new.items ≡ spec.with_report minq report.now rows.old.items }
+    ensures len { vec_len rows.new ≤ vec_len rows.old + 1 }
+    ensures capacity { vec_capacity rows.old ≤ vec_capacity rows.new }
 {
-    rows.iter().any(|row| is_lock_on(report, row))
-}
-
-/// Whether the report becomes a row: it is good enough, the last of its pair, and no row is a lock of that pair.
-fn is_new(minq: u8, rows: &[Route], report: &Route, later: &[Route]) -> bool
-    ensures { result ≡ spec.is_new minq rows.now report.now later.now }
-{
-    report.quality >= minq && !is_reported(later, report) && !is_locked(rows, report)
-}
-
-/// The reports that become rows.
-pub(crate) fn new_rows(
-    minq: u8,
-    rows: &[Route],
-    reports: &ArrayVec<Route, MAX_REPORTS>,
-) -> ArrayVec<Route, MAX_REPORTS>
-    ensures { result.items ≡ spec.new_rows minq rows.now reports.now.items }
-{
-    let mut new = ArrayVec::new();
-    let mut later = reports.as_slice();
-    while let [report, others @ ..] = later {
-        if is_new(minq, rows, report, others) {
-            new.push(*report);
+    match place_of_pair(rows, report) {
+        Some(at) => change(rows, minq, at, report),
+        None => {
+            if is_good(minq, report) {
+                enter(rows, report);
+            }
         }
-        later = others;
     }
-    new
 }
 
-/// How many rows stay beside these reports.
-pub(crate) fn count_staying(rows: &[Route], reports: &[Route]) -> usize
-    ensures value { result ≡ length (filter (spec.stays reports.now) rows.now) }
-    ensures bound { result ≤ length rows.now }
+/// Takes a report in, which is of the pair of the row at that place.
+fn change(rows: &mut Vec<Route>, minq: u8, at: usize, report: &Route)
+    requires stand { places.Stand rows.old.items }
+    requires pair { places.PairAt report.now rows.old.items (Some at) }
+    requires room { vec_len rows.old < vec_capacity rows.old }
+    ensures items { rows.new.items ≡ spec.with_report minq report.now rows.old.items }
+    ensures len { vec_len rows.new ≤ vec_len rows.old + 1 }
+    ensures capacity { vec_capacity rows.old ≤ vec_capacity rows.new }
 {
-    rows.iter().filter(|row| stays(reports, row)).count()
-}
-
-/// Puts the new rows in the place of those that the reports replace. Room is made first, so nothing changes on an `Err`.
-pub(crate) fn replace(
-    rows: &mut Vec<Route>,
-    reports: &[Route],
-    new: &[Route],
-) -> Result<(), AllocError>
-    ensures ok { OnOk result (rows.new.items ≡ filter (spec.stays reports.now) rows.old.items ++ new.now) }
-    ensures err { OnErr result (rows.new.items ≡ rows.old.items) }
-{
-    rows.reserve(new.len())?;
-    rows.retain(|row| stays(reports, row));
-    for row in new {
-        rows.push_reserved(*row);
+    let row = rows[at];
+    if row.count.is_none() {
+        return;
     }
-    Ok(())
+    if !is_good(minq, report) {
+        rows.remove(at);
+    } else if fits_at(rows, at, report) {
+        rows[at] = *report;
+    } else {
+        rows.remove(at);
+        enter(rows, report);
+    }
 }
 
-/// Whether the row stays beside a lock: only what is of the lock's pair goes.
-fn stays_beside(lock: &Route, row: &Route) -> bool
-    ensures { result ≡ spec.stays_beside lock.now row.now }
+/// Whether a route stands between the rows before and behind the one at that place.
+fn fits_at(rows: &[Route], at: usize, route: &Route) -> bool
+    requires { at < length rows.now }
+    ensures { result ≡ true → places.FitsAt route.now rows.now at }
 {
-    !is_same_pair(row, lock)
+    is_after(rows, at, route) && is_before(rows, at, route)
 }
 
-/// How many rows stay beside a lock.
-pub(crate) fn count_beside(rows: &[Route], lock: &Route) -> usize
-    ensures value { result ≡ length (filter (spec.stays_beside lock.now) rows.now) }
-    ensures bound { result ≤ length rows.now }
+fn is_after(rows: &[Route], at: usize, route: &Route) -> bool
+    requires { at < length rows.now }
+    ensures { result ≡ true → (d : Route) → 0 < at → ranks.stands_before (slice_index_or rows.now (at - 1) d) route.now ≡ true }
 {
-    rows.iter().filter(|row| stays_beside(lock, row)).count()
+    at == 0 || stands_before(&rows[at - 1], route)
+}
+
+fn is_before(rows: &[Route], at: usize, route: &Route) -> bool
+    requires { at < length rows.now }
+    ensures { result ≡ true → (d : Route) → at + 1 < length rows.now → ranks.stands_before route.now (slice_index_or rows.now (at + 1) d) ≡ true }
+{
+    match rows.get(at + 1) {
+        Some(next) => stands_before(route, next),
+        None => true,
+    }
+}
+
+/// How many rows there are after these reports.
+pub(crate) fn count_after(rows: &[Route], minq: u8, reports: &[Route]) -> usize
+    requires stand { places.Stand rows.now }
+    requires few { length rows.now ≤ 16384 }
+    requires reports { (length reports.now ≤ 12) × places.AreCounted reports.now }
+    ensures { result ≡ length (spec.after_reports minq reports.now rows.now) }
+{
+    let mut count = rows.len();
+    for (at, report) in reports.iter().enumerate() {
+        count = count_with(rows, minq, &reports[..at], report, count);
+    }
+    count
+}
+
+/// How many rows there are after a report more, where there were so many before it.
+fn count_with(rows: &[Route], minq: u8, earlier: &[Route], report: &Route, count: usize) -> usize
+    requires stand { places.Stand rows.now }
+    requires few { count ≤ 32768 }
+    requires earlier { places.AreCounted earlier.now }
+    requires value { count ≡ length (spec.after_reports minq earlier.now rows.now) }
+    ensures value { result ≡ length (spec.with_report minq report.now (spec.after_reports minq earlier.now rows.now)) }
+    ensures bound { result ≤ count + 1 }
+{
+    match place_of_pair(rows, report) {
+        Some(at) if rows[at].count.is_none() => count,
+        Some(_) => changed(
+            count,
+            is_held_after(minq, report, earlier, true),
+            is_good(minq, report),
+        ),
+        None => changed(
+            count,
+            is_held_after(minq, report, earlier, false),
+            is_good(minq, report),
+        ),
+    }
+}
+
+/// So many rows, where one of a pair was there or not, and now is there or not.
+fn changed(count: usize, was: bool, is: bool) -> usize
+    requires few { count ≤ 32768 }
+    ensures value { result ≡ spec.changed count was is }
+    ensures bound { result ≤ count + 1 }
+{
+    match (was, is) {
+        (true, false) => count.saturating_sub(1),
+        (false, true) => count + 1,
+        _ => count,
+    }
+}
+
+/// Whether a row of the route's pair is there after these reports.
+fn is_held_after(minq: u8, route: &Route, reports: &[Route], held: bool) -> bool
+    ensures { result ≡ spec.is_held_after minq route.now reports.now held }
+{
+    let mut held = held;
+    for report in reports {
+        held = is_held_with(minq, route, report, held);
+    }
+    held
+}
+
+/// Whether a row of the route's pair is there after one report.
+fn is_held_with(minq: u8, route: &Route, report: &Route, held: bool) -> bool
+    ensures { result ≡ spec.is_held_after minq route.now (report.now ∷ []) held }
+{
+    if is_same_pair(route, report) {
+        is_good(minq, report)
+    } else {
+        held
+    }
+}
+
+/// How many rows there are after a lock.
+pub(crate) fn count_with_lock(rows: &[Route], lock: &Route) -> usize
+    requires stand { places.Stand rows.now }
+    ensures value { result ≡ length (ranks.placed lock.now (spec.beside lock.now rows.now)) }
+    ensures bound { result ≤ length rows.now + 1 }
+{
+    match place_of_pair(rows, lock) {
+        Some(_) => rows.len(),
+        None => rows.len() + 1,
+    }
 }
 
 /// Puts a lock in the place of what is of its pair. Room is made first, so nothing changes on an `Err`.
-pub(crate) fn lock_in(rows: &mut Vec<Route>, lock: Route) -> Result<(), AllocError>
-    ensures ok { OnOk result (rows.new.items ≡ spec.rows_with_lock lock rows.old.items) }
+pub(crate) fn lock_in(rows: &mut Vec<Route>, lock: &Route) -> Result<(), AllocError>
+    requires stand { places.Stand rows.old.items }
+    ensures ok { OnOk result (rows.new.items ≡ ranks.placed lock.now (spec.beside lock.now rows.old.items)) }
     ensures err { OnErr result (rows.new.items ≡ rows.old.items) }
 {
     rows.reserve(1)?;
-    rows.retain(|row| stays_beside(&lock, row));
-    rows.push_reserved(lock);
+    match place_of_pair(rows, lock) {
+        Some(at) => {
+            rows.remove(at);
+            enter(rows, lock);
+        }
+        None => enter(rows, lock),
+    }
     Ok(())
 }
 

@@ -1,3 +1,4 @@
+//! The real streams' adapters over streams that fail.
 ghost use Rattle.std.specs.Prelude.{◌≤◌, IfOk};
 
 use super::{Reading, SystemClock, Writing};

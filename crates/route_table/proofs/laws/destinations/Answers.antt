@@ -1,4 +1,4 @@
-use Rattle.route_table.proofs.Rising.{destinations_rise}
+use Rattle.route_table.proofs.Groups.{destinations_rise}
 use Rattle.route_table.proofs.Listed.{destinations_exact}
 use Rattle.route_table.proofs.laws.destinations.Goals as goal
 

@@ -1,10 +1,9 @@
-use Rattle.std.proofs.Common.{◌≡◌, [], drop}
-use Rattle.route_table.specs.Ranks as ranks
-use Rattle.route_table.specs.Places as places
+use Rattle.std.proofs.Common.{◌≡◌, ◌++◌, length}
+use Rattle.route_table.specs.Rows as spec
 use Rattle.route_table.proofs.listing.destinations_of.Given as goal
 
-abbrev pub invariant-loop-row : goal.invariant-loop-row
-invariant-loop-row l = record {
-  told : ranks.calls_into l.calls.items (drop l.row-index l.rows) ≡ ranks.calls_into [] l.rows;
-  order : places.InOrder l.calls.items;
-}
+abbrev pub invariant-loop-first : goal.invariant-loop-first
+invariant-loop-first l = l.calls.items ++ spec.calls_of l.rest ≡ spec.calls_of l.rows
+
+abbrev pub decreases-loop-first : goal.decreases-loop-first
+decreases-loop-first l = length l.rest

@@ -26,7 +26,7 @@ loop-number-preserved c =
         notice = c.put_info.ensures.adds.notice ∙ kept.adds.notice;
         config = c.put_info.ensures.adds.config ∙ kept.adds.config;
       };
-      rest = c.put_info.ensures.rest ∙ ap (λ (k : Kept). record k { outs = c.put_info.new.self.outs.items }) kept.rest;
+      rest = c.put_info.ensures.rest ∙ ap (λ (k : Kept). record k { outs = (kept_of c.put_info.new.self).outs }) kept.rest;
     }
 
 pub put_info-requires-clause-waits : goal.put_info-requires-clause-waits

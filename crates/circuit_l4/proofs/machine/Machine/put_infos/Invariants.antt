@@ -10,5 +10,5 @@ invariant-loop-number l =
     record {
       does : Does (put_infos l.from (l.number - l.from)) l.fn.self l.self;
       adds : Adds (l.number - l.from) l.fn.self l.self;
-      rest : kept_of l.self ≡ record (kept_of l.fn.self) { outs = l.self.outs.items };
+      rest : kept_of l.self ≡ record (kept_of l.fn.self) { outs = (kept_of l.self).outs };
     }

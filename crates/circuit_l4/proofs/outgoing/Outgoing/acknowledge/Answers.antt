@@ -1,3 +1,4 @@
+use Rattle.std.proofs.Common.{◌∙◌}
 use Rattle.circuit_l4.proofs.Acknowledged.{still_kept, still_stands}
 use Rattle.circuit_l4.proofs.outgoing.Outgoing.acknowledge.Goals as goal
 
@@ -5,7 +6,7 @@ pub invariant_of-self : goal.invariant_of-self
 invariant_of-self c =
     let from = rw (← c.self.view_is) at c.requires.from in
     let to = rw (← c.self.view_is) at c.requires.to in
-    still_kept _ _ _ _ _ _ from to c.forget.ensures.forgets c.forget.ensures.queued c.self.invariant
+    record { outbox = still_kept _ _ _ _ from to c.forget.ensures.forgets c.self.invariant.outbox; room = c.forget.ensures.room ∙ c.self.invariant.room }
 
 pub returns-clause-does : goal.returns-clause-does
 returns-clause-does c s h =

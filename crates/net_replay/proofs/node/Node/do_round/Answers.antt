@@ -16,4 +16,4 @@ returns c = λ n h.
       rules = c.round.ensures.node.rules ∙ old.rules;
       log = c.round.ensures.stands n.station.log old.log;
     } in
-    (record { station = station; stream = h.stream }, record { entries = c.new.ensures.items; refusal = refl; frames = c.in_ok-frames.ensures (with_items n.station (logs.Round ∷ [])) station })
+    (record { station = station; stream = h.stream }, record { entries = c.new.ensures.items; refusal = refl; frames = λ on. c.in_ok-frames.ensures.frames on (with_items n.station (logs.Round ∷ [])) station; silent = λ off. c.in_ok-frames.ensures.silent off })

@@ -19,7 +19,7 @@ loop-byte-preserved c = λ stream stands.
     )
 
 pub returns : goal.returns
-returns c = λ n h.
+returns c = λ on_air n h.
     let i = c.loop-byte.invariant n.stream h.stream in
     let bytes = c.args.bytes.now in
     let all : take c.loop-byte.byte-index bytes ≡ bytes = take_all c.loop-byte.byte-index bytes c.loop-byte-test.false in
@@ -29,5 +29,5 @@ returns c = λ n h.
     let plain = items_plain n.station f.given in
     rw new (
       record { station = taken.0; stream = subst (λ bs. kiss.StandsFor c.loop-byte.self.deframer (n.stream ++ bs)) all i.0 },
-      record { entries = taken.1; refusal = sym plain.1; frames = c.new.ensures.items ∙ sym plain.0 },
+      record { entries = taken.1; refusal = sym plain.1; frames = λ on. c.new.ensures.items ∙ sym plain.0; silent = λ off. c.new.ensures.items },
     )

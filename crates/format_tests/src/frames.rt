@@ -1,0 +1,185 @@
+//! AX.25 frames in octets and as text.
+use ax_address::{Address, Call, Path};
+use ax_frame::{
+    Control, FrameBytes, FrameRefusal, FrameView, Full, Head, is_command, read_frame, read_head,
+    show_frame, write_frame,
+};
+use radio_base::{M8, M128, TextOut};
+use std::test::Fail;
+
+/// A command from N0CALL-7 to NODES: the addresses of a frame without repeaters.
+const HEAD: [u8; 14] = [
+    0x9C, 0x9E, 0x88, 0x8A, 0xA6, 0x40, 0xE0, 0x9C, 0x60, 0x86, 0x82, 0x98, 0x98, 0x6F,
+];
+
+const NODES: [u8; 9] = [0x03, 0xCF, 0xFF, 0x42, 0x4E, 0x4F, 0x44, 0x45, 0x20];
+
+/// The addresses of `HEAD`, and then these octets.
+fn behind_head(octets: &[u8]) -> FrameBytes {
+    let mut frame = FrameBytes::new();
+    let _ = frame.try_extend_from_slice(&HEAD);
+    let _ = frame.try_extend_from_slice(octets);
+    frame
+}
+
+#[test]
+fn control_fields_modulo_8(rt: HostRuntime) {
+    for (octet, control) in [
+        (0x2F, Control::Sabm { pf: false }),
+        (0x3F, Control::Sabm { pf: true }),
+        (0x6F, Control::Sabme { pf: false }),
+        (0x63, Control::Ua { pf: false }),
+        (0x0F, Control::Dm { pf: false }),
+        (0x41, Control::Rr { nr: 2, pf: false }),
+        (0x09, Control::Rej { nr: 0, pf: false }),
+        (0x4D, Control::Srej { nr: 2, pf: false }),
+    ] {
+        let frame = behind_head(&[octet]);
+        match read_frame::<M8>(frame.as_slice()) {
+            Ok(read) => assert!(rt; read.control == control, "{octet}"),
+            Err(_) => assert!(rt; false, "{octet}"),
+        }
+    }
+}
+
+#[test]
+fn information_modulo_8_and_128(rt: HostRuntime) {
+    let frame = behind_head(&[0xB6, 0xF0, 0x41]);
+    match read_frame::<M8>(frame.as_slice()) {
+        Ok(read) => {
+            assert!(rt;
+                read.control
+                    == Control::I {
+                        ns: 3,
+                        nr: 5,
+                        pf: true
+                    }
+            );
+            assert!(rt; read.pid == Some(0xF0));
+            assert!(rt; read.info == b"A".as_slice());
+        }
+        Err(_) => assert!(rt; false),
+    }
+    let frame = behind_head(&[0xFE, 0x00, 0xF0]);
+    match read_frame::<M128>(frame.as_slice()) {
+        Ok(read) => assert!(rt;
+            read.control
+                == Control::I {
+                    ns: 127,
+                    nr: 0,
+                    pf: false
+                }
+        ),
+        Err(_) => assert!(rt; false),
+    }
+    let frame = behind_head(&[0x01, 0x0B]);
+    match read_frame::<M128>(frame.as_slice()) {
+        Ok(read) => assert!(rt; read.control == Control::Rr { nr: 5, pf: true }),
+        Err(_) => assert!(rt; false),
+    }
+}
+
+#[test]
+fn the_first_octet_at_fault_is_named(rt: HostRuntime) {
+    for (octets, refusal) in [
+        ([0x41, 0x00].as_slice(), FrameRefusal::ExtraInfo { at: 15 }),
+        ([0x03].as_slice(), FrameRefusal::NoPid { at: 15 }),
+        ([0xFF].as_slice(), FrameRefusal::BadControl { at: 14 }),
+        ([].as_slice(), FrameRefusal::Short { at: 14 }),
+    ] {
+        let frame = behind_head(octets);
+        match read_frame::<M8>(frame.as_slice()) {
+            Ok(_) => assert!(rt; false),
+            Err(told) => assert!(rt; told == refusal, "{told:?}"),
+        }
+    }
+}
+
+#[test]
+fn addresses_at_fault(rt: HostRuntime) {
+    let mut octets = HEAD;
+    octets[6] = 0xE1;
+    assert!(rt; matches!(read_head(&octets), Err(FrameRefusal::BadCall { at: 6 })));
+    octets = HEAD;
+    octets[8] = 0x40;
+    assert!(rt; matches!(read_head(&octets), Err(FrameRefusal::BadCall { at: 9 })));
+    assert!(rt; matches!(read_head(&HEAD[..13]), Err(FrameRefusal::Short { at: 13 })));
+}
+
+/// A head with so many repeaters.
+fn relayed(count: usize) -> Option<Head> {
+    let address = |text: &[u8], bit7: bool| {
+        let call = Call::read(text).ok()?;
+        Some(Address {
+            call,
+            bit7,
+            reserved: 3,
+        })
+    };
+    let mut path = Path::new();
+    for _ in 0..count {
+        let _ = path.try_push(address(b"N0CCC", true)?);
+    }
+    Some(Head {
+        dest: address(b"N0BBB", true)?,
+        source: address(b"N0AAA", false)?,
+        path,
+    })
+}
+
+#[test]
+fn eight_repeaters_are_written_and_read(rt: HostRuntime) -> Result<(), Fail> {
+    let head = relayed(8).ok_or("calls")?;
+    let mut out = FrameBytes::new();
+    let written = write_frame::<M8>(&head, &Control::Disc { pf: true }, None, &[], &mut out);
+    assert!(rt; written.is_ok());
+    assert_eq!(rt; out.len(), 71);
+    match read_frame::<M8>(out.as_slice()) {
+        Ok(read) => assert!(rt; read.head == head),
+        Err(_) => assert!(rt; false),
+    }
+    // The extension bit of the eighth repeater is taken away.
+    let mut octets = [0; 71];
+    octets.copy_from_slice(out.as_slice());
+    octets[69] &= 0xFE;
+    assert!(rt; matches!(read_head(&octets), Err(FrameRefusal::TooManyRepeaters)));
+    Ok(())
+}
+
+#[test]
+fn a_frame_has_at_most_1023_octets(rt: HostRuntime) -> Result<(), Fail> {
+    let head = relayed(0).ok_or("calls")?;
+    let ui = Control::Ui { pf: false };
+    let info = [0x55; 1008];
+    let mut out = FrameBytes::new();
+    assert!(rt; write_frame::<M8>(&head, &ui, Some(0xF0), &info[..1007], &mut out).is_ok());
+    assert_eq!(rt; out.len(), 1023);
+    assert!(rt; write_frame::<M8>(&head, &ui, Some(0xF0), &info, &mut out) == Err(Full));
+    assert_eq!(rt; out.len(), 1023);
+    Ok(())
+}
+
+#[test]
+fn frames_are_shown(rt: HostRuntime) -> Result<(), Fail> {
+    let mut text = TextOut::new(rt.alloc());
+    let frame = behind_head(&NODES);
+    match read_frame::<M8>(frame.as_slice()) {
+        Ok(read) => assert!(rt; show_frame(&read, &mut text).is_ok()),
+        Err(_) => assert!(rt; false),
+    }
+    let view = FrameView {
+        head: relayed(1).ok_or("calls")?,
+        control: Control::I {
+            ns: 1,
+            nr: 2,
+            pf: true,
+        },
+        pid: Some(0x0A),
+        info: b"hello",
+    };
+    assert!(rt; show_frame(&view, &mut text).is_ok());
+    let shown =
+        b"N0CALL-7>NODES cmd UI pf=0 pid=CF len=7N0AAA>N0BBB,N0CCC* cmd I ns=1 nr=2 pf=1 pid=0A len=5";
+    assert!(rt; text.bytes() == shown.as_slice());
+    Ok(())
+}

@@ -1,0 +1,24 @@
+//! Tests of the crates that turn octets and texts into values and back: worked rows, other programs' octets, printed text, and each allocating
+//! call with memory enough.
+//!
+//! They stand here and not in those crates, since a crate with tests is proved twice.
+#![tactic(auto)]
+
+#[cfg(test)]
+mod addresses;
+#[cfg(test)]
+mod broadcasts;
+#[cfg(test)]
+mod fragments;
+#[cfg(test)]
+mod frames;
+#[cfg(test)]
+mod kiss;
+#[cfg(test)]
+mod numbers;
+#[cfg(test)]
+mod repeaters;
+#[cfg(test)]
+mod segments;
+#[cfg(test)]
+mod streams;

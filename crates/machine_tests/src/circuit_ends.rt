@@ -1,0 +1,331 @@
+//! Ends of circuits: worked runs, every notice, text past the room of the ring.
+use arrayvec::ArrayVec;
+use ax_address::Call;
+use circuit_l4::{
+    End, EndConfig, EndNotice, EndPhase, Flags, MAX_TEXT, Pair, QUEUE_MAX, Transport, WriteRefusal,
+};
+use l3_datagram::Message;
+use radio_base::{M256, Modulus, Moment, NoMemory};
+use std::alloc::Global;
+use std::process::Abort;
+use std::test::Fail;
+
+const CONFIG: EndConfig = EndConfig {
+    window: 4,
+    timeout: 1000,
+    retries: 2,
+    busy: 60_000,
+    inactive: 900_000,
+};
+
+const NOW: Moment = Moment(0);
+
+const OWN: Pair = Pair { index: 1, ident: 2 };
+
+const PARTNER: Pair = Pair { index: 3, ident: 4 };
+
+/// An end whose request has gone out.
+fn connecting(rt: &impl Abort, alloc: Global) -> Result<End, NoMemory> {
+    let (user, node) = (Call::default(), Call::default());
+    let mut end = End::requester(alloc, OWN, user, node, CONFIG, NOW)?;
+    let request = Transport::Request {
+        pair: OWN,
+        window: 4,
+        user,
+        node,
+    };
+    expect_out(rt, &mut end, request);
+    Ok(end)
+}
+
+/// An end that is Up, with a window of 4.
+fn up(rt: &impl Abort, alloc: Global) -> Result<End, NoMemory> {
+    let mut end = End::responder(alloc, OWN, PARTNER, 4, CONFIG, NOW)?;
+    expect_opened(rt, &mut end, 4);
+    Ok(end)
+}
+
+/// The end accepts with this window, and is Up.
+fn expect_opened(rt: &impl Abort, end: &mut End, window: u8) {
+    let (to, own) = (PARTNER, OWN);
+    assert!(rt; end.notice() == Some(EndNotice::Opened { window }));
+    expect_out(rt, end, Transport::Accept { to, own, window });
+    assert_eq!(rt; end.facts().phase, EndPhase::Up);
+    assert_eq!(rt; end.facts().window, window);
+}
+
+/// This goes out, and nothing else.
+fn expect_out(rt: &impl Abort, end: &mut End, transport: Transport) {
+    assert!(rt; end.next_out() == Some((transport, None)));
+    assert!(rt; end.next_out() == None);
+}
+
+/// What was got is told, and nothing else goes out.
+fn expect_told(rt: &impl Abort, end: &mut End, rx: u8, choke: bool) {
+    let flags = Flags {
+        choke,
+        ..Flags::default()
+    };
+    let to = PARTNER;
+    expect_out(rt, end, Transport::InfoAck { to, rx, flags });
+}
+
+/// The text of a message of the byte 7 goes out with this number, and nothing before it.
+fn expect_sent(rt: &impl Abort, end: &mut End, number: u8) {
+    let info = Transport::Info {
+        to: PARTNER,
+        tx: number,
+        rx: 0,
+        flags: Flags::default(),
+        text: text(&[7]),
+    };
+    assert!(rt; end.next_out() == Some((info, Some(number as u64))));
+}
+
+/// The end has ended with this notice, and puts out nothing more.
+fn expect_ended(rt: &impl Abort, end: &mut End, notice: EndNotice) {
+    assert!(rt; end.notice() == Some(notice));
+    assert!(rt; end.drained());
+    assert_eq!(rt; end.facts().phase, EndPhase::Ended);
+}
+
+fn text(bytes: &[u8]) -> ArrayVec<u8, 236> {
+    let mut text = ArrayVec::new();
+    let _ = text.try_extend_from_slice(bytes);
+    text
+}
+
+fn hear(rt: &impl Abort, end: &mut End, transport: Transport) {
+    assert!(rt; end.drained());
+    end.arrive(&transport, NOW);
+}
+
+fn hear_text(rt: &impl Abort, end: &mut End, tx: u8, bytes: &[u8], more: bool) {
+    let flags = Flags {
+        more,
+        ..Flags::default()
+    };
+    let info = Transport::Info {
+        to: OWN,
+        tx,
+        rx: 0,
+        flags,
+        text: text(bytes),
+    };
+    hear(rt, end, info);
+}
+
+fn write(rt: &impl Abort, end: &mut End, message: &[u8]) -> Result<(), WriteRefusal> {
+    assert!(rt; end.drained());
+    end.write(message, NOW)
+}
+
+fn close(rt: &impl Abort, end: &mut End) {
+    assert!(rt; end.drained());
+    end.close(NOW);
+}
+
+fn tick(rt: &impl Abort, end: &mut End, at: u64) {
+    assert!(rt; end.drained());
+    end.tick(Moment(at));
+}
+
+fn take(rt: &impl Abort, end: &mut End, out: &mut Message) -> bool {
+    assert!(rt; end.drained());
+    end.take(out, NOW)
+}
+
+#[test]
+fn the_window_is_at_most_the_own_one_and_at_least_one(rt: HostRuntime) -> Result<(), Fail> {
+    let config = EndConfig {
+        window: 127,
+        ..CONFIG
+    };
+    for (proposed, window) in [(255, 127), (0, 1)] {
+        let mut end = End::responder(rt.alloc(), OWN, PARTNER, proposed, config, NOW)?;
+        expect_opened(&rt, &mut end, window);
+    }
+    Ok(())
+}
+
+#[test]
+fn when_a_message_is_refused(rt: HostRuntime) -> Result<(), Fail> {
+    let mut end = connecting(&rt, rt.alloc())?;
+    assert!(rt; write(&rt, &mut end, &[7]) == Err(WriteRefusal::NotUp));
+
+    let mut end = up(&rt, rt.alloc())?;
+    assert!(rt; write(&rt, &mut end, &[]) == Err(WriteRefusal::Empty));
+    assert!(rt; write(&rt, &mut end, &[7; 8193]) == Err(WriteRefusal::TooLong));
+    for _ in 0..8 {
+        assert!(rt; write(&rt, &mut end, &[7; 8192]) == Ok(()));
+        for _ in 0..4 {
+            let _ = end.next_out();
+        }
+    }
+    assert!(rt; write(&rt, &mut end, &[7]) == Err(WriteRefusal::QueueFull));
+    assert_eq!(rt; end.facts().queued, QUEUE_MAX);
+    close(&rt, &mut end);
+    assert!(rt; write(&rt, &mut end, &[7]) == Err(WriteRefusal::Closing));
+    Ok(())
+}
+
+#[test]
+fn an_acknowledgement_of_what_is_not_out_changes_no_count(rt: HostRuntime) -> Result<(), Fail> {
+    let mut end = up(&rt, rt.alloc())?;
+    for number in 0..4 {
+        assert!(rt; write(&rt, &mut end, &[7]) == Ok(()));
+        expect_sent(&rt, &mut end, number);
+    }
+    let before = end.facts();
+    let (to, flags) = (OWN, Flags::default());
+    hear(&rt, &mut end, Transport::InfoAck { to, rx: 5, flags });
+    assert!(rt; end.facts() == before);
+    hear(&rt, &mut end, Transport::InfoAck { to, rx: 4, flags });
+    assert_eq!(rt; end.facts().acked, 4);
+    assert_eq!(rt; end.facts().queued, 0);
+    Ok(())
+}
+
+#[test]
+fn numbers_go_on_past_255(rt: HostRuntime) -> Result<(), Fail> {
+    let mut end = up(&rt, rt.alloc())?;
+    for number in 0..=255 {
+        hear_text(&rt, &mut end, number, &[7], false);
+        expect_told(&rt, &mut end, number.wrapping_add(1), false);
+    }
+    hear_text(&rt, &mut end, 0, &[7], false);
+    expect_told(&rt, &mut end, 1, false);
+    assert_eq!(rt; end.facts().received, 257);
+    Ok(())
+}
+
+#[test]
+fn what_the_other_end_answers(rt: HostRuntime) -> Result<(), Fail> {
+    let mut end = connecting(&rt, rt.alloc())?;
+    let accept = Transport::Accept {
+        to: OWN,
+        own: PARTNER,
+        window: 3,
+    };
+    hear(&rt, &mut end, accept);
+    assert!(rt; end.notice() == Some(EndNotice::Opened { window: 3 }));
+    close(&rt, &mut end);
+    expect_out(&rt, &mut end, Transport::Disconnect { to: PARTNER });
+    assert_eq!(rt; end.facts().phase, EndPhase::Closing);
+    hear(&rt, &mut end, Transport::Disconnected { to: OWN });
+    expect_ended(&rt, &mut end, EndNotice::Closed);
+
+    let mut end = connecting(&rt, rt.alloc())?;
+    hear(&rt, &mut end, Transport::Refuse { to: OWN });
+    expect_ended(&rt, &mut end, EndNotice::Refused);
+
+    let mut end = up(&rt, rt.alloc())?;
+    hear(&rt, &mut end, Transport::Disconnect { to: OWN });
+    expect_out(&rt, &mut end, Transport::Disconnected { to: PARTNER });
+    expect_ended(&rt, &mut end, EndNotice::ClosedByPartner);
+    Ok(())
+}
+
+#[test]
+fn the_third_expiry_without_an_answer_ends_it(rt: HostRuntime) -> Result<(), Fail> {
+    let mut end = up(&rt, rt.alloc())?;
+    assert!(rt; write(&rt, &mut end, &[7]) == Ok(()));
+    expect_sent(&rt, &mut end, 0);
+    for at in [1000, 2000] {
+        tick(&rt, &mut end, at);
+        expect_sent(&rt, &mut end, 0);
+    }
+    tick(&rt, &mut end, 3000);
+    expect_ended(&rt, &mut end, EndNotice::FailedRetries);
+    Ok(())
+}
+
+#[test]
+fn too_long_a_message_and_too_long_a_silence_end_it(rt: HostRuntime) -> Result<(), Fail> {
+    let mut end = up(&rt, rt.alloc())?;
+    for number in 0..34 {
+        hear_text(&rt, &mut end, number, &[7; MAX_TEXT], true);
+        expect_told(&rt, &mut end, number + 1, false);
+    }
+    hear_text(&rt, &mut end, 34, &[7; MAX_TEXT], true);
+    expect_ended(&rt, &mut end, EndNotice::FailedOversize);
+
+    let mut end = up(&rt, rt.alloc())?;
+    tick(&rt, &mut end, 899_999);
+    assert!(rt; end.drained());
+    tick(&rt, &mut end, 900_000);
+    expect_ended(&rt, &mut end, EndNotice::FailedInactive);
+    Ok(())
+}
+
+#[test]
+fn a_busy_end_takes_no_text_until_a_message_is_taken(rt: HostRuntime) -> Result<(), Fail> {
+    let mut end = up(&rt, rt.alloc())?;
+    let mut out = Message::new();
+    assert!(rt; !take(&rt, &mut end, &mut out));
+    for number in 0..69 {
+        hear_text(&rt, &mut end, number, &[number; MAX_TEXT], false);
+        expect_told(&rt, &mut end, number + 1, false);
+    }
+    hear_text(&rt, &mut end, 69, &[69; 100], false);
+    expect_told(&rt, &mut end, 70, true);
+    assert_eq!(rt; end.facts().waiting, 16_384);
+    hear_text(&rt, &mut end, 70, &[70], false);
+    expect_told(&rt, &mut end, 70, true);
+    assert_eq!(rt; end.facts().received, 70);
+
+    assert!(rt; take(&rt, &mut end, &mut out));
+    assert!(rt; out.as_slice() == [0; MAX_TEXT].as_slice());
+    expect_told(&rt, &mut end, 70, false);
+    hear_text(&rt, &mut end, 70, &[70], false);
+    expect_told(&rt, &mut end, 71, false);
+    Ok(())
+}
+
+/// A message that has other bytes at each place of a fragment.
+fn long_message() -> [u8; 8191] {
+    let mut bytes = [0; 8191];
+    for at in 0..8191usize {
+        bytes[at] = (at % 251) as u8;
+    }
+    bytes
+}
+
+/// The fragments of a message go out, the first with this number.
+fn expect_fragments(rt: &impl Abort, end: &mut End, message: &[u8], first: u64) {
+    for (nth, piece) in message.chunks(MAX_TEXT).enumerate() {
+        let number = first.wrapping_add(nth as u64);
+        let flags = Flags {
+            more: piece.len() == MAX_TEXT,
+            ..Flags::default()
+        };
+        let info = Transport::Info {
+            to: PARTNER,
+            tx: M256::wire(number),
+            rx: 0,
+            flags,
+            text: text(piece),
+        };
+        assert!(rt; end.next_out() == Some((info, Some(number))));
+    }
+}
+
+#[test]
+fn text_goes_out_as_it_was_written_past_65536_bytes(rt: HostRuntime) -> Result<(), Fail> {
+    let config = EndConfig {
+        window: 127,
+        ..CONFIG
+    };
+    let mut end = End::responder(rt.alloc(), OWN, PARTNER, 127, config, NOW)?;
+    expect_opened(&rt, &mut end, 127);
+    let message = long_message();
+    for nth in 0..20u64 {
+        assert!(rt; write(&rt, &mut end, &message) == Ok(()));
+        expect_fragments(&rt, &mut end, &message, 35 * nth);
+        let (to, rx, flags) = (OWN, M256::wire(35 * nth + 34), Flags::default());
+        hear(&rt, &mut end, Transport::InfoAck { to, rx, flags });
+    }
+    assert_eq!(rt; end.facts().acked, 699);
+    assert_eq!(rt; end.facts().queued, 8191);
+    Ok(())
+}

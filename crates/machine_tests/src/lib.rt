@@ -1,0 +1,18 @@
+//! Tests of the machines: the routing table, links, routers and ends of circuits. Worked rows, runs of two machines joined by hand, and each
+//! allocating call with memory enough and at its limits.
+//!
+//! They stand here and not in those crates, since a crate with tests is proved twice.
+#![tactic(auto)]
+
+#[cfg(test)]
+mod circuit_ends;
+#[cfg(test)]
+mod links;
+#[cfg(test)]
+mod routers;
+#[cfg(test)]
+mod routes;
+#[cfg(test)]
+mod seeded_routes;
+#[cfg(test)]
+mod transports;
