@@ -19,9 +19,11 @@ fn text_has_decimals_and_capital_digits(rt: HostRuntime) -> Result<(), Fail> {
     );
     let mut more = TextOut::new(rt.alloc());
     more.text("a ")?;
-    more.append(&out)?;
+    more.append(out)?;
+    let mut empty = TextOut::new(rt.alloc());
+    empty.append(more)?;
     assert_eq!(rt;
-        more.bytes(),
+        empty.bytes(),
         b"a pid=CF len=0 18446744073709551615 0A".as_slice()
     );
     Ok(())

@@ -2,9 +2,9 @@
 
 ghost use Rattle.std.specs.Prelude.{◌≤◌, ◌<◌};
 
-use route_table::{LockRefusal, Route, RouteRules, RouteTable};
 use arrayvec::ArrayVec;
 use ax_address::{Alias, Call, Entry};
+use route_table::{LockRefusal, Route, RouteRules, RouteTable};
 use std::alloc::Global;
 use std::test::Fail;
 

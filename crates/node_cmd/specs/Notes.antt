@@ -4,7 +4,7 @@ use Rattle.std.specs.Fmt.{decimal}
 use Rattle.net_replay.specs.declared.reasons.What.{What}
 use Rattle.net_replay.specs.Reasons.{word_for}
 
--- all commands with their words, of which `replay` is built so far
+-- all commands with their words, of which `replay` and `frames` are built so far
 abbrev pub usage_note : List ℕ
 usage_note = codes "usage: replay | node call=CALL alias=ALIAS [key=value] | frames modulo=8|128 | soak seed=N\n"
 

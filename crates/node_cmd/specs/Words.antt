@@ -2,12 +2,22 @@
 use Rattle.std.specs.Prelude.{ℕ, ◌≡◌, List, [], ◌∷◌, map, codes, String, string_bytes}
 use Rattle.std.specs.declared.alloc.Global.{Global}
 use Rattle.node_cmd.specs.declared.words.Command.{Command}
-use Rattle.node_cmd.specs.declared.words.Command.TheVariants.{Replay, FramesModulo8, FramesModulo128}
+use Rattle.node_cmd.specs.declared.words.Command.TheVariants.{Replay, Frames}
+use Rattle.node_cmd.specs.declared.words.FrameModulus.{FrameModulus}
+use Rattle.node_cmd.specs.declared.words.FrameModulus.TheVariants as modulo
+
+abbrev pub modulo_word : FrameModulus → List ℕ
+modulo_word modulo.M8 = codes "modulo=8"
+modulo_word modulo.M128 = codes "modulo=128"
+
+-- how many sequence numbers there are
+abbrev pub size_of : FrameModulus → ℕ
+size_of modulo.M8 = 8
+size_of modulo.M128 = 128
 
 abbrev pub words_for : Command → List (List ℕ)
 words_for Replay = codes "replay" ∷ []
-words_for FramesModulo8 = codes "frames" ∷ codes "modulo=8" ∷ []
-words_for FramesModulo128 = codes "frames" ∷ codes "modulo=128" ∷ []
+words_for (Frames m) = codes "frames" ∷ modulo_word m ∷ []
 
 -- the words ask for the command
 abbrev pub AskFor : List (String Global) → Command → Type 0

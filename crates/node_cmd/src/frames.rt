@@ -1,13 +1,14 @@
 //! The command `frames`.
-ghost use Rattle.std.specs.Prelude.{◌≡◌, ◌≢◌, ◌⊎◌, ◌++◌, ◌≤◌, ◌<◌, List, ℕ, length, take, OnOk, IfOk, IfErr};
+ghost use Rattle.std.specs.Prelude.{◌≡◌, ◌++◌, ◌≤◌, ◌<◌, List, ℕ, length, take, OnOk, IfOk, IfErr};
 ghost use Rattle.std.specs.Io.KnownBytes.{Appends};
-ghost use Rattle.radio_base.specs.Causes.{Rose};
 ghost use Rattle.kiss_framing.specs.Deframing.{StandsFor};
 ghost use Rattle.ax_frame.specs.Controls.{IsLinkModulus};
 ghost use Rattle.node_cmd.specs.Listing.{AddsLines};
 ghost use Rattle.node_cmd.specs.Writing.{Says};
 ghost use Rattle.node_cmd.specs.StatusNotes.{HasNote, IsSilent};
-ghost use Rattle.node_cmd.specs.Frames.{ListsAll, ListsWhatWasRead, ListsEarlierReads, ListsUntilTooLong, ListsSome, WhyUnlisted, PieceUnlisted, TellsStream, TellsLongStream};
+ghost use Rattle.node_cmd.specs.Told.{told};
+ghost use Rattle.node_cmd.specs.Run.{FramesEnd};
+ghost use Rattle.node_cmd.specs.Frames.{ListsAll, WhyUnlisted, PieceUnlisted};
 
 use crate::listing::add_item;
 use crate::notes::{READ_FAULT, TOO_LONG, say};
@@ -141,30 +142,10 @@ pub fn frames_of_stream<M: Modulus, S: Source, K: Sink, N: Sink>(
 ) -> Status
     requires { IsLinkModulus M.SIZE }
 
-    // Where it is done, the whole stream was read, and the bytes written are its lines. A stream that isn't
-    // too long is done but for faults and want of memory.
-    ensures done { result ≡ Status.Done → ListsAll M.SIZE (S.left source.old) (S.left source.new) (K.written sink.old) (K.written sink.new) }
-    ensures complete { TellsStream (S.left source.old) → ¬ Rose (S.faults source.old) (S.faults source.new) → ¬ Rose (K.faults sink.old) (K.faults sink.new) → (result ≡ Status.Done) ⊎ (result ≡ Status.NoMemory) }
-
-    // A read fault comes only where the source's count rose; the lines of the earlier reads were written.
-    ensures read_fault { result ≡ Status.ReadFault → Rose (S.faults source.old) (S.faults source.new) }
-    ensures read_lines { result ≡ Status.ReadFault → ListsWhatWasRead M.SIZE (S.left source.old) (S.left source.new) (K.written sink.old) (K.written sink.new) }
-    ensures read_same { result ≢ Status.ReadFault → S.faults source.new ≡ S.faults source.old }
-
-    // It is too long where a read brings byte 2^32; exactly the lines of the earlier reads were written.
-    ensures too_long { result ≡ Status.TooLong → ListsUntilTooLong M.SIZE (S.left source.old) (S.left source.new) (S.reads source.old) (S.reads source.new) (K.written sink.old) (K.written sink.new) }
-    ensures too_long_comes { TellsLongStream (S.left source.old) → ¬ Rose (S.faults source.old) (S.faults source.new) → ¬ Rose (K.faults sink.old) (K.faults sink.new) → (result ≡ Status.TooLong) ⊎ (result ≡ Status.NoMemory) }
-
-    // A write fault comes only where the sink's count rose, behind a front of the lines of what was read.
-    ensures write_fault { result ≡ Status.WriteFault → Rose (K.faults sink.old) (K.faults sink.new) }
-    ensures write_front { result ≡ Status.WriteFault → ListsSome M.SIZE (S.left source.old) (S.left source.new) (K.written sink.old) (K.written sink.new) }
-    ensures write_same { result ≢ Status.WriteFault → K.faults sink.new ≡ K.faults sink.old }
-
-    // Where memory runs out, exactly the lines of the reads before the last were written.
-    ensures no_memory { result ≡ Status.NoMemory → ListsEarlierReads M.SIZE (S.left source.old) (S.left source.new) (S.reads source.old) (S.reads source.new) (K.written sink.old) (K.written sink.new) }
-
-    // Its words were right, no line can be bad, and it can't be late.
-    ensures others { (result ≢ Status.Usage) × (result ≢ Status.BadFile) × (result ≢ Status.TooLate) }
+    // How it ends: the lines written are those of the stream, and each status has its reason.
+    ensures ends { FramesEnd M.SIZE
+        (told (S.left source.old) (S.reads source.old) (S.faults source.old) (K.written sink.old) (K.faults sink.old) (N.written notes.old) (N.faults notes.old))
+        (told (S.left source.new) (S.reads source.new) (S.faults source.new) (K.written sink.new) (K.faults sink.new) (N.written notes.new) (N.faults notes.new)) result }
 
     // Nothing else is noted.
     ensures noted { HasNote result (Says (N.written notes.old) (N.written notes.new) (N.faults notes.old) (N.faults notes.new)) }

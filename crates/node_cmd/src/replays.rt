@@ -1,15 +1,16 @@
 //! The command `replay`.
-ghost use Rattle.std.specs.Prelude.{◌≡◌, ◌≢◌, ◌≤◌, ◌⊎◌, length, Ok, IfOk, IfErr};
-ghost use Rattle.radio_base.specs.Causes.{Rose};
+ghost use Rattle.std.specs.Prelude.{◌≡◌, ◌≢◌, ◌≤◌, length, Ok, IfOk, IfErr};
 ghost use Rattle.net_replay.specs.Networks.{network_of};
 ghost use Rattle.net_replay.specs.Plan.{Plan};
 ghost use Rattle.net_replay.specs.Traces.{IsTraceOf};
 ghost use Rattle.net_replay.specs.World.{World, world};
 ghost use Rattle.net_replay.specs.Reports.{report_text};
-ghost use Rattle.node_cmd.specs.Reading.{ReadsFew, ReadsTooMuch, max_file};
+ghost use Rattle.node_cmd.specs.Reading.{max_file};
 ghost use Rattle.node_cmd.specs.Writing.{Says};
 ghost use Rattle.node_cmd.specs.StatusNotes.{HasNote, IsSilent};
-ghost use Rattle.node_cmd.specs.Replays.{ReadsNetwork, ReadsBadFile, WritesReport, WritesFront, AirsFew, AirsTooMany, NotReported, TellsTooMuch, TellsTooManyFrames, TellsBadFile, TellsNetwork};
+ghost use Rattle.node_cmd.specs.Told.{told};
+ghost use Rattle.node_cmd.specs.Run.{ReplayEnds};
+ghost use Rattle.node_cmd.specs.Replays.{AirsFew, NotReported};
 ghost use Rattle.node_cmd.specs.declared.replays.ReportRefusal.TheVariants as Refusal;
 
 use crate::notes::{READ_FAULT, TOO_LONG, bad_line_note, say};
@@ -41,35 +42,10 @@ pub fn replay_file<S: Source, K: Sink, N: Sink>(
     sink: &mut K,
     notes: &mut N,
 ) -> Status
-    // A read fault comes only where the source's count rose, before a file was too long. Elsewhere the
-    // count stays.
-    ensures read_fault { result ≡ Status.ReadFault → Rose (S.faults source.old) (S.faults source.new) }
-    ensures read_few { result ≡ Status.ReadFault → ReadsFew (S.left source.old) (S.left source.new) }
-    ensures read_same { result ≢ Status.ReadFault → S.faults source.new ≡ S.faults source.old }
-
-    // It is too long exactly where one more byte was read than a file may have, or where a good file would
-    // put one more frame in the air than may be there.
-    ensures too_long { result ≡ Status.TooLong → ReadsTooMuch (S.left source.old) (S.left source.new) ⊎ ReadsNetwork (S.left source.old) (S.left source.new) AirsTooMany }
-    ensures too_long_comes { TellsTooMuch (S.left source.old) ⊎ TellsTooManyFrames (S.left source.old) → ¬ Rose (S.faults source.old) (S.faults source.new) → (result ≡ Status.TooLong) ⊎ (result ≡ Status.NoMemory) }
-
-    // A file is bad exactly where it was read to its end and has a first bad line, which the note names.
-    ensures bad_file { result ≡ Status.BadFile → ReadsBadFile (S.left source.old) (S.left source.new) (Says (N.written notes.old) (N.written notes.new) (N.faults notes.old) (N.faults notes.new)) }
-    ensures bad_file_comes { TellsBadFile (S.left source.old) → ¬ Rose (S.faults source.old) (S.faults source.new) → (result ≡ Status.BadFile) ⊎ (result ≡ Status.NoMemory) }
-
-    // A write fault comes only where the sink's count rose, behind a front of the report. Elsewhere the
-    // count stays.
-    ensures write_fault { result ≡ Status.WriteFault → Rose (K.faults sink.old) (K.faults sink.new) }
-    ensures write_front { result ≡ Status.WriteFault → ReadsNetwork (S.left source.old) (S.left source.new) (WritesFront (K.written sink.old) (K.written sink.new)) }
-    ensures write_same { result ≢ Status.WriteFault → K.faults sink.new ≡ K.faults sink.old }
-
-    // Where it is done, the bytes read are a network's file, and the bytes written are its report. A good
-    // file is done but for faults and want of memory.
-    ensures done { result ≡ Status.Done → ReadsNetwork (S.left source.old) (S.left source.new) (WritesReport (K.written sink.old) (K.written sink.new)) }
-    ensures complete { TellsNetwork (S.left source.old) → ¬ Rose (S.faults source.old) (S.faults source.new) → ¬ Rose (K.faults sink.old) (K.faults sink.new) → (result ≡ Status.Done) ⊎ (result ≡ Status.NoMemory) }
-
-    // Its words were right, and it can't be late.
-    ensures words { result ≢ Status.Usage }
-    ensures late { result ≢ Status.TooLate }
+    // How it ends: the report is that of the file, and each status has its reason.
+    ensures ends { ReplayEnds
+        (told (S.left source.old) (S.reads source.old) (S.faults source.old) (K.written sink.old) (K.faults sink.old) (N.written notes.old) (N.faults notes.old))
+        (told (S.left source.new) (S.reads source.new) (S.faults source.new) (K.written sink.new) (K.faults sink.new) (N.written notes.new) (N.faults notes.new)) result }
 
     // What isn't said above to be written isn't, and nothing else is noted.
     ensures unwritten { result ≢ Status.Done → result ≢ Status.WriteFault → sink.new ≡ sink.old }

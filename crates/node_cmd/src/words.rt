@@ -8,10 +8,17 @@ ghost use Rattle.node_cmd.specs.Words.{AskFor};
 pub enum Command {
     /// `replay`
     Replay,
-    /// `frames modulo=8`
-    FramesModulo8,
-    /// `frames modulo=128`
-    FramesModulo128,
+    /// `frames modulo=8`, `frames modulo=128`
+    Frames { modulo: FrameModulus },
+}
+
+/// The modulus of the sequence numbers in the frames of a stream, which no frame tells (AX.25 2.2, section 4.2.1).
+#[derive(Clone, Copy, Debug, PartialEq, Eq)]
+pub enum FrameModulus {
+    /// `modulo=8`
+    M8,
+    /// `modulo=128`
+    M128,
 }
 
 /// The command that the words ask for.
@@ -22,10 +29,14 @@ pub fn command_of(words: &[String]) -> Option<Command>
     match words {
         [word] if is_replay(word.as_bytes()) => Some(Command::Replay),
         [word, modulo] if is_frames(word.as_bytes()) && is_modulo8(modulo.as_bytes()) => {
-            Some(Command::FramesModulo8)
+            Some(Command::Frames {
+                modulo: FrameModulus::M8,
+            })
         }
         [word, modulo] if is_frames(word.as_bytes()) && is_modulo128(modulo.as_bytes()) => {
-            Some(Command::FramesModulo128)
+            Some(Command::Frames {
+                modulo: FrameModulus::M128,
+            })
         }
         _ => None,
     }
