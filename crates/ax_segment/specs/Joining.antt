@@ -49,6 +49,13 @@ abbrev pub held_of : Held → Option (ℕ × ℕ × ℕ)
 held_of Nothing = None
 held_of (Part pid bytes to_come) = Some (pid, length bytes, to_come)
 
+-- the PID and the number of bytes of a message that is whole
+abbrev pub whole_of : Answer → Option (ℕ × ℕ)
+whole_of (Whole pid message) = Some (pid, length message)
+whole_of More = None
+whole_of Short = None
+whole_of (Broken expected found) = None
+
 -- what is held after these segments, and what they come to, in order
 abbrev pub held_after : Held → List (List ℕ) → Held
 held_after held [] = held

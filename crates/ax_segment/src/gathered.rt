@@ -1,6 +1,5 @@
 //! The bytes of a message that is being joined.
 ghost use Rattle.std.specs.Prelude.{◌≡◌, ◌<◌, ◌≤◌, OnErr, IfOk, IsTrue};
-ghost use Rattle.ax_segment.specs.Gathering.{held_at, answer_at};
 ghost use Rattle.ax_segment.specs.Joining.{Nothing, join_step, begun_by, continued_by, counted};
 
 use crate::FIRST_BIT;
@@ -24,9 +23,12 @@ pub(crate) struct Gathered {
     pub(crate) bytes: Vec<u8>,
     /// How many segments are still to come. At 0 nothing is held, whatever `bytes` has.
     pub(crate) to_come: u8,
+    ghost to_come_fits: { to_come < 128 },
 }
 
 impl Gathered {
+    ghost use Rattle.ax_segment.specs.Gathering.{held_at, answer_at};
+
     pub(crate) fn new(alloc: Global) -> Gathered
         ensures { result.to_come ≡ 0 }
     {
@@ -105,6 +107,7 @@ impl Gathered {
 
     /// So many segments are still to come behind what has come.
     fn count(&mut self, to_come: u8) -> Taken
+        requires { to_come < 128 }
         ensures { (held_at self.new, answer_at result self.new) ≡ counted self.old.pid self.old.bytes.items to_come }
     {
         self.to_come = to_come;

@@ -1,9 +1,10 @@
 //! Segments are joined to messages.
-ghost use Rattle.std.specs.Prelude.{◌≡◌, IfOk};
-ghost use Rattle.ax_segment.specs.Joining.{Nothing, join_step, held_of};
+ghost use Rattle.std.specs.Prelude.{◌≡◌, ◌≤◌, IfOk, IfSome};
+ghost use Rattle.ax_segment.specs.Joining.{Nothing, join_step, held_of, whole_of};
 ghost use Rattle.ax_segment.specs.Pushing.{StepsTo, answer_of};
 
 use crate::gathered::{Gathered, Taken};
+use crate::whole::whole_by;
 use radio_base::NoMemory;
 use std::alloc::Global;
 use std::marker::Model;
@@ -57,8 +58,10 @@ impl Joiner {
     }
 
     /// The PID, the number of bytes and the count of segments still to come of what is held: none where nothing is held.
+    /// The count is 1 to 127.
     pub fn held(&self) -> Option<(u8, usize, u8)>
-        ensures { result ≡ held_of self.now }
+        ensures held { result ≡ held_of self.now }
+        ensures count { IfSome result (λ h. (1 ≤ h.2) × (h.2 ≤ 127)) }
     {
         if self.gathered.to_come == 0 {
             None
@@ -69,6 +72,14 @@ impl Joiner {
                 self.gathered.to_come,
             ))
         }
+    }
+
+    /// The PID and the number of bytes of the message that a segment would make whole if it came next: none where it would
+    /// make none whole. Nothing is taken in.
+    pub fn whole_by(&self, segment: &[u8]) -> Option<(u8, usize)>
+        ensures { result ≡ whole_of (join_step self.now segment.now).1 }
+    {
+        whole_by(&self.gathered, segment)
     }
 
     /// Takes in the next segment. Where memory ran out, what is held stays as it was.

@@ -10,6 +10,7 @@ mod gathered;
 mod joiner;
 pub mod laws;
 mod split;
+mod whole;
 
 pub use joiner::{Joined, Joiner};
 pub use split::{Split, SplitRefusal};

@@ -1,5 +1,5 @@
 -- What comes up came, and what is sent was offered.
-use Rattle.std.proofs.Common.{◌≡◌, ℕ, zero, suc, ◌==◌, Bool, true, false, nat_eq, nat_le, List, [], ◌∷◌, ◌++◌, length, map, drop, Option, Some, None, slice_get, refl, ap, sym, ◌∙◌, subst, if◌then◌else◌, ◌&&◌, replicate, inl, inr}
+use Rattle.std.proofs.Common.{◌≡◌, ℕ, zero, suc, ◌==◌, Bool, true, false, nat_eq, nat_le, List, [], ◌∷◌, ◌++◌, length, map, drop, Option, Some, None, slice_get, refl, ap, sym, ◌∙◌, subst, if◌then◌else◌, ◌&&◌, replicate, inl, inr, is_some}
 use Rattle.std.specs.Prelude.{◌⊎◌}
 use Rattle.ax_link.specs.declared.plain.LinkConfig.{LinkConfig}
 use Rattle.std.specs.Cmp.Lexicographic.{pointwise, same_text}
@@ -29,10 +29,12 @@ use Rattle.l3_datagram.specs.CarrierCall.{Datagram}
 use Rattle.l3_datagram.specs.declared.carrier.Offered.TheVariants.{Taken, Dropped}
 use Rattle.ax_frame.specs.declared.head.Head.{Head}
 use Rattle.link_table.specs.Calls as calls
-use Rattle.link_table.specs.Frames.{all_sent, fitting, head_to, is_numbered, most_octets, netrom, octets_of, segment, Sent, sent, sent_by}
+use Rattle.link_table.specs.Frames.{all_sent, fitting, head_to, is_numbered, most_octets, netrom, octets_of, Sent, sent, sent_by, segmented}
 use Rattle.link_table.specs.Laws.{Brings, Carries, CarriesOn, FrameHolds, LinkHolds, ParcelCame, goes_to}
 use Rattle.link_table.specs.Table.{Linked, Pending, Table, path_to, link_with, with_link, without}
-use Rattle.link_table.specs.Works.{Work, arrived, is_down, handed_up, most_taken, put_out, settled, stepped, taken, told}
+use Rattle.link_table.proofs.Lifting.{untexted}
+use Rattle.link_table.specs.Texts as texts
+use Rattle.link_table.specs.Works.{Work, arrived, first_taken, is_down, handed_up, most_taken, put_out, settled, stepped, taken, told}
 
 both_true : (a b : Bool) → (a && b) ≡ true → (a ≡ true) × (b ≡ true)
 both_true true true h = (refl, refl)
@@ -115,7 +117,7 @@ module _ (law : PayloadsStay) (bounds_stay : BoundsStay) (settings_stay : Settin
       )
 
   handed_carries : (p : Payload) (w : Work) → Has (came w.linked.peer) p → WorkCarries w → WorkCarries (handed_up p w)
-  handed_carries p w a x = by (p.pid == netrom) refl (p.pid == segment)
+  handed_carries p w a x = by (p.pid == netrom) refl (p.pid == segmented)
     where
       by : (b : Bool) → (p.pid == netrom) ≡ b → (c : Bool) → WorkCarries
           (if b
@@ -132,13 +134,22 @@ module _ (law : PayloadsStay) (bounds_stay : BoundsStay) (settings_stay : Settin
 
   settled_carries : (n : ℕ) (own : Callsign) (now : ℕ) (w : Work) → WorkCarries w → WorkCarries (settled n own now w)
   settled_carries zero own now w x = x
-  settled_carries (suc n) own now w x = by (slice_get w.linked.link.inbox 0) refl (λ p y. settled_carries n own now (taken own now p w) y)
+  settled_carries (suc n) own now w x = by (first_taken w) refl (λ p y. settled_carries n own now (taken own now p w) y)
     where
-      by : (r : Option Payload) → slice_get w.linked.link.inbox 0 ≡ r → ((p : Payload) → WorkCarries (taken own now p w) → WorkCarries (settled n own now (taken own now p w))) →
+      by : (r : Option Payload) → first_taken w ≡ r → ((p : Payload) → WorkCarries (taken own now p w) → WorkCarries (settled n own now (taken own now p w))) →
           WorkCarries (elim r as (λ y. Work) [ None ↦ w | Some p ↦ settled n own now (taken own now p w) ])
       by None e rest = x
       by (Some p) e rest =
-          rest p (handed_carries p (stepped own Take now w) (first_has (came w.linked.peer) w.linked.link.inbox p x.0.payloads.inbox e) (stepped_carries own Take now w tt x))
+          rest p (handed_carries p (stepped own Take now w) (first_has (came w.linked.peer) w.linked.link.inbox p x.0.payloads.inbox (untexted w.linked.joiner (slice_get w.linked.link.inbox 0) p e)) (stepped_carries own Take now w tt x))
+
+  text_carries : (own : Callsign) (now : ℕ) (w : Work) → WorkCarries w → WorkCarries (texts.text_taken own now w)
+  text_carries own now w x = by (slice_get w.linked.link.inbox 0) refl
+    where
+      by : (r : Option Payload) → slice_get w.linked.link.inbox 0 ≡ r → WorkCarries (elim r as (λ y. Work) [ None ↦ w | Some p ↦ settled most_taken own now (taken own now p w) ])
+      by None e = x
+      by (Some p) e =
+          settled_carries most_taken own now (taken own now p w)
+          (handed_carries p (stepped own Take now w) (first_has (came w.linked.peer) w.linked.link.inbox p x.0.payloads.inbox e) (stepped_carries own Take now w tt x))
 
   arrived_carries : (own : Callsign) (f : Frame) (now : ℕ) (w : Work) → HasIf (came w.linked.peer) f.payload → WorkCarries w → WorkCarries (arrived own f now w)
   arrived_carries own f now w b x =
@@ -374,6 +385,13 @@ module _ (law : PayloadsStay) (bounds_stay : BoundsStay) (settings_stay : Settin
       by true = offer_link_carries to d now t a x
       by false = offer_ui_carries to d t a x
 
+  text_taken_carries : (peer : Callsign) (now : ℕ) (t : Table) → Carries offered came sizes t → Carries offered came sizes (texts.take_text peer now t)
+  text_taken_carries peer now t x = by (is_some (texts.text_with peer t))
+    where
+      by : (b : Bool) → Carries offered came sizes (if b then calls.at_link peer (texts.text_taken t.own now) t else t)
+      by true = at_link_carries peer (texts.text_taken t.own now) t (λ w e y. text_carries t.own now w y) x
+      by false = x
+
   pub carries_on : CarriesOn offered came sizes
   carries_on =
       record {
@@ -381,6 +399,7 @@ module _ (law : PayloadsStay) (bounds_stay : BoundsStay) (settings_stay : Settin
         ticks = λ t now x. ticks (map (λ l. l.peer) t.links) now t x;
         closes = λ t peer now x. at_link_carries peer (stepped t.own Close now) t (λ w e y. stepped_carries t.own Close now w tt y) x;
         breaks = λ t peer x. ended_carries peer (Failed ∷ []) t x;
+        takes = λ t peer now x. text_taken_carries peer now t x;
         offers = λ t to d now a x. offer_carries to d now t a x;
         collects = λ t x. record { modulus = x.modulus; size = x.size; links = x.links; waiting = all_drop (ParcelCame offered came sizes) t.pending.waiting x.waiting; frames = x.frames };
         tells_lost = λ t x. record { modulus = x.modulus; size = x.size; links = x.links; waiting = x.waiting; frames = x.frames };

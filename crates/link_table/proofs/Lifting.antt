@@ -13,9 +13,9 @@ use Rattle.link_table.specs.declared.route.Route.{Route}
 use Rattle.link_table.specs.declared.pending.Pending.{Pending}
 use Rattle.link_table.specs.declared.written.Written.{Written}
 use Rattle.link_table.specs.Fetching.{written}
-use Rattle.link_table.specs.Frames.{all_sent, fitting, netrom, segment, Sent, sent_by}
+use Rattle.link_table.specs.Frames.{Sent, all_sent, fitting, netrom, sent_by, segmented}
 use Rattle.link_table.specs.Standing.{GoesQuietly, Goes, HandsUp, Lifted, WorkStands, gone_out}
-use Rattle.link_table.specs.Works.{Work, arrived, is_down, handed_up, most_taken, settled, stepped, taken}
+use Rattle.link_table.specs.Works.{Work, arrived, first_taken, handed_up, is_down, is_text, most_taken, settled, stepped, taken, unless_text}
 
 -- the oldest frame of a link has gone out, and the others are still to go
 pub one_out : (size : ℕ) (route : Route) (out : LinkOut) (old new : Held) (fs fs2 : List Written) → slice_get old.outs 0 ≡ Some out → new.outs ≡ drop 1 old.outs →
@@ -75,7 +75,7 @@ lifts size route i now old mid new j j2 k k2 does l w stands =
 -- a payload that was taken is handed up
 pub hands : (size : ℕ) (route : Route) (p : Payload) (h : Held) (j j2 : Joined) (k k2 : Pending) → HandsUp p route j j2 k k2 →
     Goes size route (handed_up p) h h j j2 k k2
-hands size route p h j j2 k k2 u w s = by (p.pid == netrom) (p.pid == segment) u.joiner u.waiting
+hands size route p h j j2 k k2 u w s = by (p.pid == netrom) (p.pid == segmented) u.joiner u.waiting
   where
     by : (b c : Bool) → j2 ≡ (if b then j else if c then (join_step j p.info.items).0 else j) →
         k2.waiting.items ≡ (if b then k.waiting.items ++ (route.peer, p.info) ∷ [] else k.waiting.items) →
@@ -117,6 +117,15 @@ pub takes_one : (size : ℕ) (route : Route) (now : ℕ) (p q : Payload) (old mi
 takes_one size route now p q old mid new j j2 j3 k k2 k3 e does l u w s =
     hands size route p new j2 j3 k2 k3 (subst (λ x. HandsUp x route j2 j3 k2 k3) e u) (stepped route.own Take now w) (lifts size route Take now old mid new j j2 k k2 does l w s)
 
+-- what may be taken at once is the oldest payload
+pub untexted : (j : Joined) (x : Option Payload) (p : Payload) → unless_text j x ≡ Some p → x ≡ Some p
+untexted j None p e = absurd (cc e)
+untexted j (Some q) p e = by (is_text j q) e
+  where
+    by : (b : Bool) → (if b then None else Some q) ≡ Some p → Some q ≡ Some p
+    by true r = absurd (cc r)
+    by false r = r
+
 -- so many payloads may still be taken
 abbrev pub Left : ℕ → ℕ → Route → ℕ → Held → Held → Joined → Joined → Pending → Pending → Type 0
 Left n size route now old new j j2 k k2 =
@@ -127,26 +136,29 @@ module _ (size : ℕ) (route : Route) (now : ℕ) (old new : Held) (j j2 : Joine
   inbox_of : (w : Work) → WorkStands size new route j2 k2 w → w.linked.link.inbox ≡ new.inbox
   inbox_of w s = ap (λ (x : State). x.inbox) s.link.keeps.is
 
-  none_left : (n : ℕ) (w : Work) → slice_get w.linked.link.inbox 0 ≡ None → settled n route.own now w ≡ w
+  joiner_of : (w : Work) → WorkStands size new route j2 k2 w → first_taken w ≡ unless_text j2 (slice_get new.inbox 0)
+  joiner_of w s = ap (λ (x : Joined). unless_text x (slice_get w.linked.link.inbox 0)) s.joiner ∙ ap (λ xs. unless_text j2 (slice_get xs 0)) (inbox_of w s)
+
+  none_left : (n : ℕ) (w : Work) → first_taken w ≡ None → settled n route.own now w ≡ w
   none_left zero w e = refl
   none_left (suc n) w e = ap (λ x. elim x as (λ y. Work) [ None ↦ w | Some z ↦ settled n route.own now (taken route.own now z w) ]) e
 
-  pub left_none : (n : ℕ) → Left n size route now old new j j2 k k2 → slice_get new.inbox 0 ≡ None → Goes size route (settled most_taken route.own now) old new j j2 k k2
+  pub left_none : (n : ℕ) → Left n size route now old new j j2 k k2 → unless_text j2 (slice_get new.inbox 0) ≡ None → Goes size route (settled most_taken route.own now) old new j j2 k k2
   left_none n left e w s =
       let r = left w s in
-      subst (WorkStands size new route j2 k2) (sym (none_left n r.0 (ap (λ xs. slice_get xs 0) (inbox_of r.0 r.1) ∙ e)) ∙ r.2) r.1
+      subst (WorkStands size new route j2 k2) (sym (none_left n r.0 (joiner_of r.0 r.1 ∙ e)) ∙ r.2) r.1
 
   pub left_end : (n : ℕ) → n ≡ 0 → Left n size route now old new j j2 k k2 → Goes size route (settled most_taken route.own now) old new j j2 k k2
   left_end n e left w s =
       let r = left w s in
       subst (WorkStands size new route j2 k2) (subst (λ m. settled m route.own now r.0 ≡ settled most_taken route.own now w) e r.2) r.1
 
-  pub left_one : (n m : ℕ) (p : Payload) (new2 : Held) (j3 : Joined) (k3 : Pending) → n ≡ suc m → Left n size route now old new j j2 k k2 → slice_get new.inbox 0 ≡ Some p →
+  pub left_one : (n m : ℕ) (p : Payload) (new2 : Held) (j3 : Joined) (k3 : Pending) → n ≡ suc m → Left n size route now old new j j2 k k2 → unless_text j2 (slice_get new.inbox 0) ≡ Some p →
       Goes size route (taken route.own now p) new new2 j2 j3 k2 k3 → Left m size route now old new2 j j3 k k3
   left_one n m p new2 j3 k3 e left q goes w s =
       let r = left w s in
       let one : settled (suc m) route.own now r.0 ≡ settled m route.own now (taken route.own now p r.0) =
-      ap (λ x. elim x as (λ y. Work) [ None ↦ r.0 | Some z ↦ settled m route.own now (taken route.own now z r.0) ]) (ap (λ xs. slice_get xs 0) (inbox_of r.0 r.1) ∙ q) in
+      ap (λ x. elim x as (λ y. Work) [ None ↦ r.0 | Some z ↦ settled m route.own now (taken route.own now z r.0) ]) (joiner_of r.0 r.1 ∙ q) in
       (taken route.own now p r.0, goes r.0 r.1, sym one ∙ subst (λ i. settled i route.own now r.0 ≡ settled most_taken route.own now w) e r.2)
 
 pub none_waits : (x : Option Payload) → is_some x ≡ false → x ≡ None

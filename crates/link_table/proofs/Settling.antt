@@ -15,10 +15,11 @@ use Rattle.ax_link.specs.Opening.{opening, rules_new}
 use Rattle.l3_datagram.specs.CarrierCall.{Datagram}
 use Rattle.l3_datagram.specs.declared.carrier.Offered.TheVariants.{Taken, Dropped}
 use Rattle.link_table.specs.Calls as calls
-use Rattle.link_table.specs.Frames.{netrom, segment}
+use Rattle.link_table.specs.Frames.{netrom, segmented}
 use Rattle.link_table.specs.Laws.{NewLinkTakes, SettledAll}
 use Rattle.link_table.specs.Table.{Linked, Table, link_with, path_to, with_link}
-use Rattle.link_table.specs.Works.{Work, handed_up, most_taken, settled, stepped, taken}
+use Rattle.link_table.proofs.Lifting.{untexted}
+use Rattle.link_table.specs.Works.{first_taken, unless_text, Work, handed_up, most_taken, settled, stepped, taken}
 
 -- how many places are filled
 abbrev count : List (Option Payload) → ℕ
@@ -81,7 +82,7 @@ take_weight now s p q = by (is_up s.phase && busy s)
     by false = lighter
 
 handed_link : (p : Payload) (w : Work) → (handed_up p w).linked.link ≡ w.linked.link
-handed_link p w = by (p.pid == netrom) (p.pid == segment)
+handed_link p w = by (p.pid == netrom) (p.pid == segmented)
   where
     by : (b c : Bool) → (if b
         then record w { pending = record w.pending { waiting = w.pending.waiting ++ (w.linked.peer, p.info) ∷ [] } }
@@ -92,25 +93,24 @@ handed_link p w = by (p.pid == netrom) (p.pid == segment)
     by false true = refl
     by false false = refl
 
-empty : (xs : List Payload) → slice_get xs 0 ≡ None → xs ≡ []
-empty [] q = refl
-empty (x ∷ xs) q = absurd (cc q)
-
 no_weight : (xs : List Payload) (n : ℕ) → length xs + n ≤ 0 → xs ≡ []
 no_weight [] n l = refl
 no_weight (x ∷ xs) n l = absurd (omega (arith, l))
 
-settles : (n : ℕ) (own : Callsign) (now : ℕ) (w : Work) → weight w.linked.link ≤ n → (settled n own now w).linked.link.inbox ≡ []
-settles zero own now w l = no_weight w.linked.link.inbox (count w.linked.link.early) l
-settles (suc n) own now w l = by (slice_get w.linked.link.inbox 0) refl (λ p m. settles n own now (taken own now p w) m)
+none_taken : (w : Work) → w.linked.link.inbox ≡ [] → first_taken w ≡ None
+none_taken w e = ap (λ xs. unless_text w.linked.joiner (slice_get xs 0)) e
+
+settles : (n : ℕ) (own : Callsign) (now : ℕ) (w : Work) → weight w.linked.link ≤ n → first_taken (settled n own now w) ≡ None
+settles zero own now w l = none_taken w (no_weight w.linked.link.inbox (count w.linked.link.early) l)
+settles (suc n) own now w l = by (first_taken w) refl (λ p m. settles n own now (taken own now p w) m)
   where
-    by : (r : Option Payload) → slice_get w.linked.link.inbox 0 ≡ r →
-        ((p : Payload) → weight (taken own now p w).linked.link ≤ n → (settled n own now (taken own now p w)).linked.link.inbox ≡ []) →
-        (elim r as (λ y. Work) [ None ↦ w | Some p ↦ settled n own now (taken own now p w) ]).linked.link.inbox ≡ []
-    by None q rest = empty w.linked.link.inbox q
+    by : (r : Option Payload) → first_taken w ≡ r →
+        ((p : Payload) → weight (taken own now p w).linked.link ≤ n → first_taken (settled n own now (taken own now p w)) ≡ None) →
+        first_taken (elim r as (λ y. Work) [ None ↦ w | Some p ↦ settled n own now (taken own now p w) ]) ≡ None
+    by None q rest = q
     by (Some p) q rest =
         let same : weight (taken own now p w).linked.link ≡ weight (step w.linked.link Take now).link = ap weight (handed_link p (stepped own Take now w)) in
-        rest p (omega (arith, l, same, take_weight now w.linked.link p q))
+        rest p (omega (arith, l, same, take_weight now w.linked.link p (untexted w.linked.joiner (slice_get w.linked.link.inbox 0) p q)))
 
 places_few : (b : Bool) (s : State) → Bounded (stock s) → s.rules.size ≤ 128 → (if b then s.rules.window else 0) ≤ 127
 places_few true s b m = omega (arith, b.window, m)

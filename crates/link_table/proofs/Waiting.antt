@@ -1,5 +1,5 @@
 -- What is added to the datagrams that wait.
-use Rattle.std.proofs.Common.{◌≡◌, ℕ, zero, suc, ◌==◌, ◌&&◌, Bool, true, false, nat_le, List, [], ◌∷◌, ◌++◌, length, map, Option, Some, None, slice_get, refl, ap, sym, ◌∙◌, subst, if◌then◌else◌, append_assoc, append-nil}
+use Rattle.std.proofs.Common.{◌≡◌, ℕ, zero, suc, ◌==◌, ◌&&◌, Bool, true, false, nat_le, List, [], ◌∷◌, ◌++◌, length, map, Option, Some, None, refl, ap, sym, ◌∙◌, subst, if◌then◌else◌, append_assoc, append-nil, is_some, slice_get}
 use Rattle.std.specs.List.{AllByRecursion}
 use Rattle.radio_base.specs.declared.payload.Payload.{Payload}
 use Rattle.ax_address.specs.Callsign.{Callsign}
@@ -16,10 +16,11 @@ use Rattle.ax_segment.specs.Joining.{join_step}
 use Rattle.l3_datagram.specs.CarrierCall.{Datagram, Parcel}
 use Rattle.l3_datagram.specs.declared.carrier.Offered.TheVariants.{Taken, Dropped}
 use Rattle.link_table.specs.Calls as calls
-use Rattle.link_table.specs.Frames.{netrom, segment}
+use Rattle.link_table.specs.Frames.{netrom, segmented}
 use Rattle.link_table.specs.Laws.{OnlyFramesBring}
 use Rattle.link_table.specs.Table.{Linked, Table, link_with, path_to, without}
-use Rattle.link_table.specs.Works.{Work, arrived, is_down, handed_up, most_taken, settled, stepped, taken, told}
+use Rattle.link_table.specs.Texts as texts
+use Rattle.link_table.specs.Works.{Work, arrived, first_taken, is_down, handed_up, most_taken, settled, stepped, taken, told}
 use Rattle.link_table.proofs.Carrier.{same_call-true}
 
 -- pairs with this call were added
@@ -37,7 +38,7 @@ next : (peer : Callsign) (a b c : List Parcel) → Adds peer a b → Adds peer b
 next peer a b c x y = (x.0 ++ y.0, y.1 ∙ ap (λ zs. zs ++ y.0) x.1 ∙ append_assoc a x.0 y.0, all_snoc peer x.0 y.0 x.2 y.2)
 
 handed_adds : (p : Payload) (w : Work) → Adds w.linked.peer w.pending.waiting (handed_up p w).pending.waiting
-handed_adds p w = by (p.pid == netrom) (p.pid == segment)
+handed_adds p w = by (p.pid == netrom) (p.pid == segmented)
   where
     by : (b c : Bool) → Adds w.linked.peer w.pending.waiting (if b
         then record w { pending = record w.pending { waiting = w.pending.waiting ++ (w.linked.peer, p.info) ∷ [] } }
@@ -49,7 +50,7 @@ handed_adds p w = by (p.pid == netrom) (p.pid == segment)
     by false false = nothing w.linked.peer w.pending.waiting
 
 handed_peer : (p : Payload) (w : Work) → (handed_up p w).linked.peer ≡ w.linked.peer
-handed_peer p w = by (p.pid == netrom) (p.pid == segment)
+handed_peer p w = by (p.pid == netrom) (p.pid == segmented)
   where
     by : (b c : Bool) → (if b
         then record w { pending = record w.pending { waiting = w.pending.waiting ++ (w.linked.peer, p.info) ∷ [] } }
@@ -62,7 +63,7 @@ handed_peer p w = by (p.pid == netrom) (p.pid == segment)
 
 settled_adds : (n : ℕ) (own peer : Callsign) (now : ℕ) (w : Work) → w.linked.peer ≡ peer → Adds peer w.pending.waiting (settled n own now w).pending.waiting
 settled_adds zero own peer now w e = nothing peer w.pending.waiting
-settled_adds (suc n) own peer now w e = by (slice_get w.linked.link.inbox 0) (λ p q. settled_adds n own peer now (taken own now p w) q)
+settled_adds (suc n) own peer now w e = by (first_taken w) (λ p q. settled_adds n own peer now (taken own now p w) q)
   where
     by : (r : Option Payload) → ((p : Payload) → (taken own now p w).linked.peer ≡ peer → Adds peer (taken own now p w).pending.waiting (settled n own now (taken own now p w)).pending.waiting) →
         Adds peer w.pending.waiting (elim r as (λ y. Work) [ None ↦ w | Some p ↦ settled n own now (taken own now p w) ]).pending.waiting
@@ -71,6 +72,16 @@ settled_adds (suc n) own peer now w e = by (slice_get w.linked.link.inbox 0) (λ
         let s : Work = stepped own Take now w in
         next peer w.pending.waiting (taken own now p w).pending.waiting (settled n own now (taken own now p w)).pending.waiting
         (subst (λ k. Adds k s.pending.waiting (handed_up p s).pending.waiting) e (handed_adds p s)) (rest p (handed_peer p s ∙ e))
+
+text_adds : (own peer : Callsign) (now : ℕ) (w : Work) → w.linked.peer ≡ peer → Adds peer w.pending.waiting (texts.text_taken own now w).pending.waiting
+text_adds own peer now w e = by (slice_get w.linked.link.inbox 0)
+  where
+    by : (r : Option Payload) → Adds peer w.pending.waiting (elim r as (λ y. Work) [ None ↦ w | Some p ↦ settled most_taken own now (taken own now p w) ]).pending.waiting
+    by None = nothing peer w.pending.waiting
+    by (Some p) =
+        let s : Work = stepped own Take now w in
+        next peer w.pending.waiting (taken own now p w).pending.waiting (settled most_taken own now (taken own now p w)).pending.waiting
+        (subst (λ k. Adds k s.pending.waiting (handed_up p s).pending.waiting) e (handed_adds p s)) (settled_adds most_taken own peer now (taken own now p w) (handed_peer p s ∙ e))
 
 arrived_adds : (own peer : Callsign) (f : Frame) (now : ℕ) (w : Work) → w.linked.peer ≡ peer → Adds peer w.pending.waiting (arrived own f now w).pending.waiting
 arrived_adds own peer f now w e = by (is_down s.linked.link.phase)
@@ -97,6 +108,18 @@ to_link_adds f now t = by (link_with (calls.source f) t.links) refl
         [ None ↦ t | Some l ↦ calls.kept (calls.source f) (arrived t.own (calls.link_frame l.link.rules.size f) now (record { linked = l; pending = t.pending })) t ]).pending.waiting
     by None e = nothing (calls.source f) t.pending.waiting
     by (Some l) e = arrived_adds t.own (calls.source f) (calls.link_frame l.link.rules.size f) now (record { linked = l; pending = t.pending }) (sym (peer_found (calls.source f) t.links l e))
+
+take_adds : (peer : Callsign) (now : ℕ) (t : Table) → Adds peer t.pending.waiting (texts.take_text peer now t).pending.waiting
+take_adds peer now t = at (is_some (texts.text_with peer t))
+  where
+    by : (r : Option Linked) → link_with peer t.links ≡ r →
+        Adds peer t.pending.waiting (elim r as (λ y. Table) [ None ↦ t | Some l ↦ calls.kept peer (texts.text_taken t.own now (record { linked = l; pending = t.pending })) t ]).pending.waiting
+    by None e = nothing peer t.pending.waiting
+    by (Some l) e = text_adds t.own peer now (record { linked = l; pending = t.pending }) (sym (peer_found peer t.links l e))
+
+    at : (b : Bool) → Adds peer t.pending.waiting (if b then calls.at_link peer (texts.text_taken t.own now) t else t).pending.waiting
+    at true = by (link_with peer t.links) refl
+    at false = nothing peer t.pending.waiting
 
 -- ---- what adds nothing
 
@@ -235,6 +258,7 @@ pub only_frames_bring : OnlyFramesBring
 only_frames_bring =
     record {
       arrives = λ t f now. kind_adds (is_command f.head) f.control f now t;
+      takes = λ t peer now. take_adds peer now t;
       ticks = λ t now. ticks_keep (map (λ l. l.peer) t.links) now t;
       closes = λ t peer now. at_link_keeps peer (stepped t.own Close now) t (λ w. refl);
       breaks = λ t peer. ended_keeps peer (Failed ∷ []) t;

@@ -11,13 +11,15 @@ use Rattle.ax_frame.specs.Frames.{Frame as AirFrame, frame, frame_octets, head}
 use Rattle.ax_link.specs.Kinds.{control_of, info_of, pid_of}
 use Rattle.ax_link.specs.State.{Frame}
 
--- the PID of what NET/ROM sends, and that of text (AX.25 2.2, section 3.4)
+-- the PIDs (AX.25 2.2, section 3.4) of what NET/ROM sends, of text, and of a segment of a longer message
 abbrev pub netrom : ℕ
 netrom = 0xCF
 
--- the PID of a segment (AX.25 2.2, section 3.4)
-abbrev pub segment : ℕ
-segment = 0x08
+abbrev pub plain_text : ℕ
+plain_text = 0xF0
+
+abbrev pub segmented : ℕ
+segmented = 0x08
 
 -- the most octets of a frame that is put out
 abbrev pub most_octets : ℕ

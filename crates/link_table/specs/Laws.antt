@@ -1,5 +1,5 @@
 -- What holds of every table of links.
-use Rattle.std.specs.Prelude.{ℕ, ◌≡◌, ◌≤◌, ◌==◌, ◌||◌, ◌⊎◌, not, nat_le, Bool, true, false, List, [], ◌++◌, length, Option, None, Some}
+use Rattle.std.specs.Prelude.{ℕ, ◌≡◌, ◌≤◌, ◌==◌, ◌||◌, ◌⊎◌, not, nat_le, Bool, true, false, List, ◌++◌, length, None, Some}
 use Rattle.std.specs.List.{AllByRecursion}
 use Rattle.radio_base.specs.declared.payload.Payload.{Payload}
 use Rattle.ax_address.specs.Callsign.{Callsign}
@@ -12,7 +12,8 @@ use Rattle.l3_datagram.specs.declared.carrier.Offered.TheVariants.{Taken}
 use Rattle.link_table.specs.Calls.{arrive, break_link, close, collected, fetched, lost_told, most_links, noticed, offer, packed, set_up_size, source, tick}
 use Rattle.link_table.specs.Frames.{Sent, is_numbered, netrom}
 use Rattle.link_table.specs.Table.{Linked, Table, link_with}
-use Rattle.link_table.specs.Works.{Work, most_taken, settled}
+use Rattle.link_table.specs.Texts.{take_text}
+use Rattle.link_table.specs.Works.{Work, first_taken, most_taken, settled}
 
 -- Three properties are any. The first two are of pairs of call and payload: the one is asked of what is offered, by the peer
 -- to which, the other of what comes, by the neighbour from which. The third is of moduli.
@@ -58,6 +59,7 @@ module _ (offered came : Callsign → Payload → Bool) (sizes : ℕ → Bool) w
     pub ticks : (t : Table) (now : ℕ) → Carries t → Carries (tick now t)
     pub closes : (t : Table) (peer : Callsign) (now : ℕ) → Carries t → Carries (close peer now t)
     pub breaks : (t : Table) (peer : Callsign) → Carries t → Carries (break_link peer t)
+    pub takes : (t : Table) (peer : Callsign) (now : ℕ) → Carries t → Carries (take_text peer now t)
     pub offers : (t : Table) (to : Callsign) (d : Datagram) (now : ℕ) → Has (offered to) (packed d) → Carries t → Carries (offer to d now t).table
     pub collects : (t : Table) → Carries t → Carries (collected t)
     pub tells_lost : (t : Table) → Carries t → Carries (lost_told t)
@@ -67,11 +69,11 @@ module _ (offered came : Callsign → Payload → Bool) (sizes : ℕ → Bool) w
 abbrev pub CarriesWhatWasOffered : Type 0
 CarriesWhatWasOffered = (offered came : Callsign → Payload → Bool) (sizes : ℕ → Bool) → CarriesOn offered came sizes
 
--- of a link within its bounds nothing is left in the inbox once payload by payload was taken
+-- of a link within its bounds nothing is left in the inbox, or a text stands first, once payload by payload was taken
 abbrev pub SettledAll : Type 0
 SettledAll =
     (own : Callsign) (now : ℕ) (w : Work) → Bounded (stock w.linked.link) → w.linked.link.rules.size ≤ 128 →
-    (settled most_taken own now w).linked.link.inbox ≡ []
+    first_taken (settled most_taken own now w) ≡ None
 
 -- a datagram for a new link is taken, where fewer than 64 stand
 abbrev pub NewLinkTakes : Type 0
@@ -79,10 +81,13 @@ NewLinkTakes =
     (to : Callsign) (d : Datagram) (now : ℕ) (t : Table) → link_with to t.links ≡ None → nat_le most_links (length t.links) ≡ false →
     (offer to d now t).answer ≡ Taken
 
--- Only a frame that comes adds to what waits, and only pairs with its source. No other call but `collect` changes it.
+-- Only a frame that comes and a text that is taken add to what waits, and only pairs with the frame's source or the text's
+-- peer. No other call but `collect` changes it.
 pub record OnlyFramesBring : Type 0 where
   pub arrives : (t : Table) (f : AirFrame) (now : ℕ) →
       (added : List Parcel) × ((arrive f now t).pending.waiting ≡ t.pending.waiting ++ added) × AllByRecursion (λ p. p.0 ≡ source f) added
+  pub takes : (t : Table) (peer : Callsign) (now : ℕ) →
+      (added : List Parcel) × ((take_text peer now t).pending.waiting ≡ t.pending.waiting ++ added) × AllByRecursion (λ p. p.0 ≡ peer) added
   pub ticks : (t : Table) (now : ℕ) → (tick now t).pending.waiting ≡ t.pending.waiting
   pub closes : (t : Table) (peer : Callsign) (now : ℕ) → (close peer now t).pending.waiting ≡ t.pending.waiting
   pub breaks : (t : Table) (peer : Callsign) → (break_link peer t).pending.waiting ≡ t.pending.waiting

@@ -1,13 +1,13 @@
 -- What the code keeps of a table of links, and for which tables it stands.
-use Rattle.std.specs.Prelude.{◌≡◌, ℕ, ◌≤◌, ◌==◌, Bool, true, false, if◌then◌else◌, List, [], ◌∷◌, ◌++◌, length, map, Result, Ok, Err, Option, None, Some}
+use Rattle.std.specs.Prelude.{is_some, ◌≡◌, ℕ, ◌≤◌, ◌==◌, Bool, true, false, if◌then◌else◌, List, [], ◌∷◌, ◌++◌, length, map, Result, Ok, Err, Option, None, Some, min, ◌-◌, slice_get, not, ◌&&◌}
 use Rattle.std.specs.Option.{option_to_list}
 use Rattle.ax_address.specs.Callsign.{Callsign}
 use Rattle.ax_link.specs.declared.plain.LinkConfig.{LinkConfig}
 use Rattle.ax_link.specs.declared.plain.LinkNotice.{LinkNotice}
 use Rattle.ax_link.specs.Opening.{IsDrained}
 use Rattle.ax_link.specs.Standing.{Held, StandsFor, frame_of}
-use Rattle.ax_link.specs.State.{State}
-use Rattle.ax_link.specs.Table.{Input, Send, step, takes}
+use Rattle.ax_link.specs.State.{State, count_end}
+use Rattle.ax_link.specs.Table.{may_close, Input, Send, step, takes}
 use Rattle.l3_datagram.specs.declared.carrier.Offered.{Offered}
 use Rattle.l3_datagram.specs.declared.carrier.Offered.TheVariants.{Taken, Dropped}
 use Rattle.ax_segment.specs.Joining.{Held as Joined, join_step}
@@ -27,10 +27,11 @@ use Rattle.std.proofs.Common.{refl, subst, sym}
 use Rattle.l3_datagram.specs.CarrierCall.{CarrierCall}
 use Rattle.link_table.specs.Carrying.{AllAnswer, after_call, after_calls}
 use Rattle.link_table.specs.Fetching.{PendingStands, written}
-use Rattle.link_table.specs.Frames.{all_sent, netrom, segment}
+use Rattle.link_table.specs.Frames.{all_sent, netrom, segmented}
 use Rattle.link_table.specs.Table.{Linked, Table, Via}
 use Rattle.ax_address.specs.CallOrder.{same_call}
 use Rattle.std.specs.Map.{lookup, remove_entry}
+use Rattle.link_table.specs.Texts.{first_text}
 use Rattle.link_table.specs.Works.{Work, is_down, joiner_after, lost_by}
 
 abbrev pub size_of : LinkOf → ℕ
@@ -69,7 +70,7 @@ pub record Lifted (size : ℕ) (route : Route) (old new : Held) (j j2 : Joined) 
 
 -- a payload that was taken: what is held of a message in segments, and what waits, by its PID
 abbrev pub joined_with : Payload → Joined → Joined
-joined_with p j = if p.pid == netrom then j else if p.pid == segment then (join_step j p.info.items).0 else j
+joined_with p j = if p.pid == netrom then j else if p.pid == segmented then (join_step j p.info.items).0 else j
 
 abbrev pub waiting_with : Callsign → Payload → List Parcel → List Parcel
 waiting_with peer p ws = if p.pid == netrom then ws ++ (peer, p.info) ∷ [] else ws
@@ -133,6 +134,33 @@ CoreGoes part old new = (t : Table) → CoreStands old t → CoreStands new (par
 pub record Rests (c : HeldLinks) : Type 0 where
   pub drained : AllDrained c.links.entries
   pub few : length c.links.entries ≤ most_links
+
+-- the text that waits at a link
+abbrev pub text_in : Entry → Option (List ℕ)
+text_in e = first_text e.joiner (slice_get (held_of e.link).inbox 0)
+
+abbrev pub text_of_entry : Option Entry → Option (List ℕ)
+text_of_entry None = None
+text_of_entry (Some e) = text_in e
+
+abbrev pub text_at : Callsign → List (Callsign × Entry) → Option (List ℕ)
+text_at peer es = text_of_entry (lookup (same_call peer) es)
+
+-- the peers at whose link a text waits
+abbrev pub text_keys : List (Callsign × Entry) → List Callsign
+text_keys [] = []
+text_keys (e ∷ es) = if is_some (text_in e.1) then e.0 ∷ text_keys es else text_keys es
+
+-- how many payloads a link would still accept, by what is kept of it
+abbrev pub room_in : Held → ℕ
+room_in h = if may_close h.phase && not h.closing then min (128 - length h.queue) (count_end - h.acked - length h.queue) else 0
+
+abbrev pub room_of_entry : Option Entry → ℕ
+room_of_entry None = 0
+room_of_entry (Some e) = room_in (held_of e.link)
+
+abbrev pub room_at : Callsign → List (Callsign × Entry) → ℕ
+room_at peer es = room_of_entry (lookup (same_call peer) es)
 
 -- whether the link with a peer is Down
 abbrev pub down_by : Option Entry → Bool
@@ -256,3 +284,8 @@ NotNoMemory (Ok _) = Unit {0}
 NotNoMemory (Err NoMemory) = ⊥
 NotNoMemory (Err TooLong) = Unit {0}
 NotNoMemory (Err Full) = Unit {0}
+
+-- the text that was handed out, where one was
+abbrev pub text_given : Bool → List ℕ → Option (List ℕ)
+text_given true out = Some out
+text_given false out = None

@@ -1,5 +1,5 @@
 -- A step of one link, and what comes of it at the node.
-use Rattle.std.specs.Prelude.{ℕ, zero, suc, ◌==◌, Bool, true, false, if◌then◌else◌, List, [], ◌∷◌, ◌++◌, map, slice_get, None, Some}
+use Rattle.std.specs.Prelude.{ℕ, zero, suc, ◌==◌, Bool, true, false, if◌then◌else◌, List, [], ◌∷◌, ◌++◌, map, slice_get, None, Some, ◌&&◌, nat_le, length, Option}
 use Rattle.radio_base.specs.declared.payload.Payload.{Payload}
 use Rattle.ax_address.specs.Callsign.{Callsign}
 use Rattle.ax_link.specs.declared.plain.LinkNotice.{LinkNotice}
@@ -8,8 +8,8 @@ use Rattle.ax_link.specs.declared.plain.LinkPhase.{LinkPhase}
 use Rattle.ax_link.specs.declared.plain.LinkPhase.TheVariants.{Down, SettingUp, Up, Releasing}
 use Rattle.ax_link.specs.State.{Frame, Going}
 use Rattle.ax_link.specs.Table.{Input, Arrive, Take, step}
-use Rattle.ax_segment.specs.Joining.{Held, Nothing, join_step}
-use Rattle.link_table.specs.Frames.{all_sent, netrom, segment, Sent}
+use Rattle.ax_segment.specs.Joining.{Held, Nothing, join_step, whole_of}
+use Rattle.link_table.specs.Frames.{Sent, netrom, plain_text, segmented, all_sent}
 use Rattle.link_table.specs.Table.{Linked, Pending}
 
 -- a link, and what waits to be fetched
@@ -52,18 +52,37 @@ abbrev pub handed_up : Payload → Work → Work
 handed_up p w =
     if p.pid == netrom
     then record w { pending = record w.pending { waiting = w.pending.waiting ++ (w.linked.peer, p.info) ∷ [] } }
-    else if p.pid == segment
+    else if p.pid == segmented
     then record w { linked = record w.linked { joiner = (join_step w.linked.joiner p.info.items).0 } }
     else w
 
 abbrev pub taken : Callsign → ℕ → Payload → Work → Work
 taken own now p w = handed_up p (stepped own Take now w)
 
--- payload by payload is taken, as long as one is there and fewer than so many were
+-- whether a message is a text, by its PID and number of bytes
+abbrev pub text_by : Option (ℕ × ℕ) → Bool
+text_by None = false
+text_by (Some m) = (m.0 == plain_text) && (nat_le 1 m.1 && nat_le m.1 8192)
+
+-- whether a payload is a text, or a segment at which the joiner would give one
+abbrev pub is_text : Held → Payload → Bool
+is_text joiner p =
+    if p.pid == plain_text then nat_le 1 (length p.info.items)
+    else if p.pid == segmented then text_by (whole_of (join_step joiner p.info.items).1)
+    else false
+
+-- the payload that may be taken at once: the oldest one, unless it is a text
+abbrev pub unless_text : Held → Option Payload → Option Payload
+unless_text joiner None = None
+unless_text joiner (Some p) = if is_text joiner p then None else Some p
+
+abbrev pub first_taken : Work → Option Payload
+first_taken w = unless_text w.linked.joiner (slice_get w.linked.link.inbox 0)
+
+-- payload by payload is taken, as long as one is there that is no text and fewer than so many were
 abbrev pub settled : ℕ → Callsign → ℕ → Work → Work
 settled zero own now w = w
-settled (suc n) own now w =
-    elim (slice_get w.linked.link.inbox 0) as (λ x. Work) [ None ↦ w | Some p ↦ settled n own now (taken own now p w) ]
+settled (suc n) own now w = elim (first_taken w) as (λ x. Work) [ None ↦ w | Some p ↦ settled n own now (taken own now p w) ]
 
 -- more than an inbox and the places for early payloads hold
 abbrev pub most_taken : ℕ

@@ -1,5 +1,5 @@
-//! A link of the table.
-ghost use Rattle.std.specs.Prelude.{◌≡◌, ◌≤◌, ◌==◌, ℕ, List, None, Some, OnOk, IfOk, not};
+//! A link of the table: each of its steps, by its modulus (AX.25 2.2, section 6).
+ghost use Rattle.std.specs.Prelude.{◌≡◌, is_some, true, ◌≤◌, ◌==◌, ℕ, List, None, Some, OnOk, IfOk, not};
 ghost use Rattle.ax_link.specs.State.{count_end};
 ghost use Rattle.ax_frame.specs.FrameText.{is_command};
 ghost use Rattle.ax_link.specs.Kinds.{frame_in};
@@ -11,11 +11,11 @@ ghost use Rattle.link_table.specs.Works as works;
 
 use crate::pending::{Frames, Pending};
 use crate::route::Route;
-use crate::{LinkOf, offers, work};
+use crate::{LinkOf, offers, texts, work};
 use ax_frame::FrameView;
 use ax_link::{Link, LinkConfig};
 use ax_segment::Joiner;
-use l3_datagram::Offered;
+use l3_datagram::{Message, Offered};
 use radio_base::{Moment, NoMemory, Payload};
 use std::alloc::Global;
 
@@ -28,7 +28,8 @@ pub(crate) struct Entry {
 }
 
 impl Entry {
-    ghost use Rattle.link_table.specs.Standing.{EntryGoes, held_of, size_of, width};
+    ghost use Rattle.link_table.specs.Standing.{EntryGoes, held_of, room_in, size_of, text_in, width};
+    ghost use Rattle.link_table.specs.Texts.{text_taken};
 
     /// A link that is Down.
     pub(crate) fn new(
@@ -96,6 +97,49 @@ impl Entry {
             LinkOf::Wide(link) => {
                 work::arrive(link, &self.route, &mut self.joiner, pending, frame, now)?;
                 Ok(())
+            }
+        }
+    }
+
+    /// Whether a text waits at the link.
+    pub(crate) fn text_waits(&self) -> bool
+        ensures { result ≡ is_some (text_in self.now) }
+    {
+        match &self.link {
+            LinkOf::Eight(link) => texts::text_waits(link, &self.joiner),
+            LinkOf::Wide(link) => texts::text_waits(link, &self.joiner),
+        }
+    }
+
+    /// How many payloads the link would still accept.
+    pub(crate) fn room(&self) -> usize
+        ensures { result ≡ room_in (held_of self.now.link) }
+    {
+        match &self.link {
+            LinkOf::Eight(link) => texts::room(link),
+            LinkOf::Wide(link) => texts::room(link),
+        }
+    }
+
+    /// Takes the text that waits at the link.
+    pub(crate) fn take_text(
+        &mut self,
+        pending: &mut Pending,
+        out: &mut Message,
+        now: Moment,
+    ) -> Result<(), NoMemory>
+        requires drained { IsDrained (held_of self.old.link) }
+        requires waits { is_some (text_in self.old) ≡ true }
+        ensures drained { OnOk result (IsDrained (held_of self.new.link)) }
+        ensures text { OnOk result (text_in self.old ≡ Some out.new.items) }
+        ensures goes { OnOk result (EntryGoes (text_taken self.old.route.own now.0) self.old self.new pending.old pending.new) }
+    {
+        match &mut self.link {
+            LinkOf::Eight(link) => {
+                texts::take_text(link, &self.route, &mut self.joiner, pending, out, now)
+            }
+            LinkOf::Wide(link) => {
+                texts::take_text(link, &self.route, &mut self.joiner, pending, out, now)
             }
         }
     }

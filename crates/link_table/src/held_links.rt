@@ -1,4 +1,4 @@
-//! The links of a node, whether or not memory has run out.
+//! The links of a node, whether or not memory has run out: frames that come, ticks, and links that end (AX.25 2.2, section 6).
 ghost use Rattle.std.specs.Prelude.{◌≡◌, ◌≤◌, ◌<◌, ℕ, List, None, Some, OnOk, IfOk, if◌then◌else◌, map, length, is_some, true, ◌∷◌, []};
 ghost use Rattle.ax_link.specs.State.{count_end};
 ghost use Rattle.indexmap.specs.IndexMap.{shift_remove_entry, keys};
@@ -13,8 +13,7 @@ ghost use Rattle.link_table.specs.Calls as calls;
 use crate::MAX_LINKS;
 use crate::answers::{answer, refusal, way_back};
 use crate::entry::Entry;
-use crate::offers::packed;
-use crate::pending::{Pending, put};
+use crate::pending::Pending;
 use crate::route::{Route, copy_of};
 use crate::work::note;
 use arrayvec::ArrayVec;
@@ -22,8 +21,8 @@ use ax_address::{Call, Path};
 use ax_frame::{Control, FrameView, is_command};
 use ax_link::{LinkConfig, LinkNotice};
 use indexmap::IndexMap;
-use l3_datagram::{Datagram, MAX_DATAGRAM, Offered};
-use radio_base::{M8, Moment, NETROM_PID, NoMemory};
+use l3_datagram::{Datagram, MAX_DATAGRAM};
+use radio_base::{Moment, NETROM_PID, NoMemory};
 use std::alloc::Global;
 
 #[derive(Drop)]
@@ -65,7 +64,7 @@ impl HeldLinks {
     }
 
     /// A link that is Down leaves at once.
-    fn drop_if_down(&mut self, peer: &Call)
+    pub(crate) fn drop_if_down(&mut self, peer: &Call)
         ensures rest { self.new ≡ record self.old { links = self.new.links } }
         ensures left { self.new.links.entries ≡ down_left peer.now self.old.links.entries }
     {
@@ -75,7 +74,7 @@ impl HeldLinks {
     }
 
     /// The repeaters to a peer.
-    fn path_to(&self, peer: &Call) -> Path
+    pub(crate) fn path_to(&self, peer: &Call) -> Path
         ensures { result ≡ path_to peer.now self.now.paths.entries }
     {
         match self.paths.get(peer) {
@@ -85,7 +84,7 @@ impl HeldLinks {
     }
 
     /// One link more, which is Down.
-    fn make(&mut self, wide: bool, route: Route) -> Result<(), NoMemory>
+    pub(crate) fn make(&mut self, wide: bool, route: Route) -> Result<(), NoMemory>
         requires rests { Rests self.old }
         requires none { lookup (same_call route.peer) self.old.links.entries ≡ None }
         requires room { length self.old.links.entries < calls.most_links }
@@ -332,116 +331,6 @@ impl HeldLinks {
         }
         self.drop_if_down(peer);
         Ok(())
-    }
-
-    fn offer_ui(&mut self, to: &Call, datagram: &Datagram) -> Result<(), NoMemory>
-        ensures goes { OnOk result (CoreGoes (calls.offer_ui to.now datagram.now) self.old self.new) }
-        ensures links { self.new.links ≡ self.old.links }
-        ensures waiting { self.new.pending.waiting ≡ self.old.pending.waiting }
-        ensures lost { self.new.pending.lost ≡ self.old.pending.lost }
-    {
-        let route = Route {
-            own: self.own,
-            peer: *to,
-            path: self.path_to(to),
-        };
-        put::<M8>(
-            &mut self.pending.frames,
-            &route.head(true),
-            &Control::Ui { pf: false },
-            Some(NETROM_PID),
-            datagram.as_slice(),
-        )
-    }
-
-    fn set_up_link(&mut self, to: &Call, now: Moment) -> Result<(), NoMemory>
-        requires { Rests self.old }
-        ensures rests { OnOk result (Rests self.new) }
-        ensures goes { OnOk result (CoreGoes (λ t. calls.at_link to.now (works.stepped t.own table.Set_up now.0) t) self.old self.new) }
-        ensures waiting { self.new.pending.waiting ≡ self.old.pending.waiting }
-        ensures lost { self.new.pending.lost ≡ self.old.pending.lost }
-    {
-        match self.links.get_mut(to) {
-            Some(entry) => {
-                entry.set_up(&mut self.pending.frames, now)?;
-                Ok(())
-            }
-            None => Ok(()),
-        }
-    }
-
-    fn send(&mut self, to: &Call, datagram: &Datagram, now: Moment) -> Result<Offered, NoMemory>
-        requires { Rests self.old }
-        ensures rests { OnOk result (Rests self.new) }
-        ensures offers { IfOk result (λ answer. (t : Table) → CoreStands self.old t →
-            (answer ≡ (calls.offer_standing to.now datagram.now now.0 t).answer) × CoreStands self.new (calls.offer_standing to.now datagram.now now.0 t).table) }
-        ensures waiting { self.new.pending.waiting ≡ self.old.pending.waiting }
-        ensures lost { self.new.pending.lost ≡ self.old.pending.lost }
-    {
-        let payload = packed(datagram);
-        match self.links.get_mut(to) {
-            Some(entry) => {
-                let offered = entry.send(&mut self.pending.frames, &payload, now)?;
-                Ok(offered)
-            }
-            None => Ok(Offered::Dropped),
-        }
-    }
-
-    pub(crate) fn offer(
-        &mut self,
-        to: &Call,
-        datagram: &Datagram,
-        now: Moment,
-    ) -> Result<Offered, NoMemory>
-        requires { Rests self.old }
-        ensures rests { OnOk result (Rests self.new) }
-        ensures offers { IfOk result (λ answer. (t : Table) → CoreStands self.old t →
-            (answer ≡ (calls.offer to.now datagram.now now.0 t).answer) × CoreStands self.new (calls.offer to.now datagram.now now.0 t).table) }
-        ensures waiting { self.new.pending.waiting ≡ self.old.pending.waiting }
-        ensures lost { self.new.pending.lost ≡ self.old.pending.lost }
-    {
-        if !self.by_links {
-            self.offer_ui(to, datagram)?;
-            return Ok(Offered::Taken);
-        }
-        if self.links.contains_key(to) {
-            let offered = self.send(to, datagram, now)?;
-            return Ok(offered);
-        }
-        if self.links.len() >= MAX_LINKS {
-            return Ok(Offered::Dropped);
-        }
-        let offered = self.offer_new(to, datagram, now)?;
-        Ok(offered)
-    }
-
-    /// Offers a datagram to a link that is made for it.
-    fn offer_new(
-        &mut self,
-        to: &Call,
-        datagram: &Datagram,
-        now: Moment,
-    ) -> Result<Offered, NoMemory>
-        requires rests { Rests self.old }
-        requires none { lookup (same_call to.now) self.old.links.entries ≡ None }
-        requires room { length self.old.links.entries < calls.most_links }
-        ensures rests { OnOk result (Rests self.new) }
-        ensures offers { IfOk result (λ answer. (t : Table) → CoreStands self.old t →
-            (answer ≡ (calls.offer_standing to.now datagram.now now.0 (calls.opened_to to.now now.0 t)).answer)
-            × CoreStands self.new (calls.offer_standing to.now datagram.now now.0 (calls.opened_to to.now now.0 t)).table) }
-        ensures waiting { self.new.pending.waiting ≡ self.old.pending.waiting }
-        ensures lost { self.new.pending.lost ≡ self.old.pending.lost }
-    {
-        let route = Route {
-            own: self.own,
-            peer: *to,
-            path: self.path_to(to),
-        };
-        self.make(self.wide, route)?;
-        self.set_up_link(to, now)?;
-        let offered = self.send(to, datagram, now)?;
-        Ok(offered)
     }
 
     pub(crate) fn set_path(&mut self, peer: &Call, path: &Path) -> Result<(), NoMemory>

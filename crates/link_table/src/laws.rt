@@ -1,6 +1,9 @@
 //! What the definitions promise by themselves.
+ghost use Rattle.std.specs.Prelude.{◌≡◌};
 ghost use Rattle.link_table.specs.Calls.{AnsweredAsDown};
 ghost use Rattle.link_table.specs.Laws.{CarriesWhatWasOffered, NewLinkTakes, OnlyFramesBring, SettledAll};
+
+use crate::{MAX_LINKS, MAX_ORIGINATED, MAX_PATHS};
 
 /// Where no link stands, a command that sets none up is answered as by a link that is Down.
 pub fn answered_as_down()
@@ -8,7 +11,8 @@ pub fn answered_as_down()
 {}
 
 /// Each datagram that waits came in a frame from its neighbour, and each frame with the PID of NET/ROM carries a datagram
-/// that was offered to the peer to which it goes: every call keeps it.
+/// that was offered to the peer to which it goes: every call keeps it. Where the links of the node and the set-ups that come
+/// are of one modulus, all links stay of it, and so is each frame with sequence numbers that goes out.
 pub fn carried()
     ensures { CarriesWhatWasOffered }
 {
@@ -16,7 +20,7 @@ pub fn carried()
     ax_link::laws::link_safe();
 }
 
-/// After a frame nothing is left in the inbox.
+/// After a frame nothing is left in the inbox, or a text stands first there.
 pub fn settled_all()
     ensures { SettledAll }
 {}
@@ -26,7 +30,15 @@ pub fn new_link_takes()
     ensures { NewLinkTakes }
 {}
 
-/// Only a frame that comes adds to the datagrams that wait, and only pairs with its source.
+/// Only a frame that comes and a text that is taken add to the datagrams that wait, and only pairs with the frame's source or
+/// the text's peer.
 pub fn only_frames_bring()
     ensures { OnlyFramesBring }
+{}
+
+/// The most links of a node, the most peers with repeaters of their own, and the most repeaters to one.
+pub fn numbers()
+    ensures links { MAX_LINKS ≡ 64 }
+    ensures paths { MAX_PATHS ≡ 16 }
+    ensures repeaters { MAX_ORIGINATED ≡ 2 }
 {}

@@ -6,11 +6,14 @@ mod entry;
 mod held_links;
 pub mod laws;
 mod link_of;
+mod offer_calls;
 mod offers;
 mod path_refusal;
 mod pending;
 mod route;
 mod table;
+mod text_calls;
+mod texts;
 mod work;
 mod written;
 

@@ -1,24 +1,32 @@
+//! The table of links, and what it is to a router: a carrier of datagrams (AX.25 2.2, section 6; NET/ROM, Appendix B).
 ghost use Rattle.std.specs.Prelude.{◌≡◌, ◌≤◌, ◌<◌, ◌↔◌, ℕ, List, [], ◌∷◌, Bool, true, false, None, Some, OnOk, OnErr, IfOk, IsOk, IsErr, IsErrOf, IsTrue, slice_get, drop, length};
 ghost use Rattle.ax_link.specs.State.{count_end};
 ghost use Rattle.l3_datagram.specs.CarrierCall.{Offer};
 ghost use Rattle.link_table.specs.Table.{Table};
 ghost use Rattle.link_table.specs.Calls as calls;
+ghost use Rattle.link_table.specs.Texts as texts;
 
 use crate::held_links::HeldLinks;
 use crate::pending::Pending;
 use crate::{LinkOf, MAX_ORIGINATED, MAX_PATHS, PathRefusal, Written};
+use arrayvec::ArrayVec;
 use ax_address::{Call, Path};
 use ax_frame::FrameView;
 use ax_link::{LinkConfig, LinkNotice};
 use indexmap::IndexMap;
-use l3_datagram::{Carrier, Datagram, Offered};
+use l3_datagram::{Carrier, Datagram, Message, Offered};
 use radio_base::{Moment, NoMemory};
 use std::alloc::Global;
 use std::marker::Model;
 
 /// A node's links by peer, as a carrier of datagrams.
 ///
-/// Once it has answered NoMemory it is spent, and answers that ever after.
+/// How to drive it: hand each frame to the node's own call to `arrive`, and the time to `tick` as often as timers should be
+/// seen. A router offers its datagrams (`Carrier::offer`) and collects those that came and the peers that are lost. After each
+/// call fetch what it left, in any order: frames from `next_out` until none is left, `notice` likewise. Where `texts` names
+/// a peer, its text waits for `take_text`, and holds back what came behind it over that link. Nothing is done between calls.
+///
+/// Once it has answered NoMemory it is spent: it answers that ever after, and changes nothing any more.
 #[derive(Drop)]
 pub struct LinkTable {
     core: HeldLinks,
@@ -37,14 +45,16 @@ impl Model for LinkTable {
 }
 
 impl LinkTable {
-    ghost use Rattle.link_table.specs.Standing.{LentStands, NotNoMemory, TableGoes, TableStands, width};
+    ghost use Rattle.link_table.specs.Standing.{LentStands, NotNoMemory, TableGoes, TableStands, text_given, width};
     ghost use Rattle.link_table.specs.Table.{link_with};
     ghost use Rattle.link_table.specs.Fetching.{written};
     ghost use Rattle.ax_frame.specs.Frames.{view};
     ghost use Rattle.std.specs.Option.{option_copied, option_map};
     ghost use Rattle.link_table.specs.declared.path_refusal.PathRefusal.TheVariants as refusals;
 
-    /// A table without links, of the node `own`.
+    /// A table without links, of the node `own`. With `links`, datagrams go over links, else each in a UI frame; links that
+    /// the node itself sets up are of modulo 128 where `modulo128` says so, else of modulo 8. The times of `config` are at
+    /// most 2^62 ms.
     pub fn new(
         alloc: Global,
         own: Call,
@@ -72,7 +82,8 @@ impl LinkTable {
         })
     }
 
-    /// Sets the repeaters over which the node reaches a peer.
+    /// Sets the repeaters over which the node reaches a peer, in the place of those before. It is refused, in this order:
+    /// `TooLong` where there are more than two, `Full` where 16 other peers have some. A refusal but `NoMemory` changes nothing.
     pub fn set_path(&mut self, peer: &Call, path: &Path) -> Result<(), PathRefusal>
         ensures goes { OnOk result (TableGoes (calls.with_path peer.now path.now) self.old self.new) }
         ensures answer { NotNoMemory result → (t : Table) → TableStands self.old t → result ≡ calls.path_answer peer.now path.now t }
@@ -97,7 +108,7 @@ impl LinkTable {
         Ok(())
     }
 
-    /// Whether the link with a peer is of modulo 128.
+    /// Whether the link with a peer is of modulo 128: frames from it are read by that modulus. False where none stands.
     pub fn is_128(&self, peer: &Call) -> bool
         ensures { (t : Table) → TableStands self.now t → result ≡ calls.is_128 peer.now t }
     {
@@ -107,7 +118,7 @@ impl LinkTable {
         }
     }
 
-    /// The link with a peer.
+    /// The link with a peer: none where none stands.
     pub fn link(&self, peer: &Call) -> Option<&LinkOf>
         ensures { (t : Table) → TableStands self.now t → LentStands (option_copied result) (link_with peer.now t.links) }
     {
@@ -117,7 +128,7 @@ impl LinkTable {
         }
     }
 
-    /// Takes in a frame to this node.
+    /// Takes in a frame to this node, whatever it is. It has to be read by the modulus that `is_128` tells of its source.
     pub fn arrive(&mut self, frame: &FrameView<'_>, now: Moment) -> Result<(), NoMemory>
         ensures goes { OnOk result (TableGoes (calls.arrive (view frame.now) now.0) self.old self.new) }
         ensures memory { IsErr result ↔ IsTrue self.new.spent }
@@ -132,7 +143,7 @@ impl LinkTable {
         Ok(())
     }
 
-    /// Time has passed.
+    /// Time has passed: each link looks at its timers, in the order in which the links were made.
     pub fn tick(&mut self, now: Moment) -> Result<(), NoMemory>
         ensures goes { OnOk result (TableGoes (calls.tick now.0) self.old self.new) }
         ensures memory { IsErr result ↔ IsTrue self.new.spent }
@@ -147,7 +158,7 @@ impl LinkTable {
         Ok(())
     }
 
-    /// Releases the link with a peer once all is acknowledged.
+    /// Releases the link with a peer once all is acknowledged. Nothing where no link stands.
     pub fn close(&mut self, peer: &Call, now: Moment) -> Result<(), NoMemory>
         ensures goes { OnOk result (TableGoes (calls.close peer.now now.0) self.old self.new) }
         ensures memory { IsErr result ↔ IsTrue self.new.spent }
@@ -162,7 +173,7 @@ impl LinkTable {
         Ok(())
     }
 
-    /// The link with a peer is lost, and nothing is sent.
+    /// The link with a peer is lost, and nothing is sent: it ends with Failed. Nothing where no link stands.
     pub fn break_link(&mut self, peer: &Call) -> Result<(), NoMemory>
         ensures goes { OnOk result (TableGoes (calls.break_link peer.now) self.old self.new) }
         ensures memory { IsErr result ↔ IsTrue self.new.spent }
@@ -177,6 +188,48 @@ impl LinkTable {
         Ok(())
     }
 
+    /// The peers at whose link a text waits, in the order of the links. A table that is spent tells of none.
+    pub fn texts(&self) -> ArrayVec<Call, 64>
+        ensures { (t : Table) → TableStands self.now t → result.items ≡ texts.text_peers t.links }
+    {
+        if self.spent {
+            return ArrayVec::new();
+        }
+        self.core.texts()
+    }
+
+    /// How many payloads the link with a peer would still accept: 0 where no link stands that accepts any.
+    pub fn room(&self, peer: &Call) -> usize
+        ensures { (t : Table) → TableStands self.now t → result ≡ texts.room peer.now t }
+    {
+        self.core.room(peer)
+    }
+
+    /// Takes the text that waits at the link with a peer, and says whether one did. Where none did, `out` stays as it was.
+    pub fn take_text(
+        &mut self,
+        peer: &Call,
+        out: &mut Message,
+        now: Moment,
+    ) -> Result<bool, NoMemory>
+        ensures goes { OnOk result (TableGoes (texts.take_text peer.now now.0) self.old self.new) }
+        ensures answer { IfOk result (λ taken. (t : Table) → TableStands self.old t → text_given taken out.new.items ≡ texts.text_with peer.now t) }
+        ensures out { IfOk result (λ taken. taken ≡ false → out.new ≡ out.old) }
+        ensures memory { IsErr result ↔ IsTrue self.new.spent }
+        ensures spent { IsTrue self.old.spent → self.new ≡ self.old }
+    {
+        if self.spent {
+            return Err(NoMemory);
+        }
+        if !self.core.text_waits(peer) {
+            return Ok(false);
+        }
+        self.spent = true;
+        self.core.take_text(peer, out, now)?;
+        self.spent = false;
+        Ok(true)
+    }
+
     /// The next frame that waits to be sent, and how its octets were written: the oldest one. None where no frame waits.
     pub fn next_out(&mut self) -> Option<Written>
         ensures answer { (t : Table) → TableStands self.old t → result ≡ option_map written (slice_get t.pending.frames 0) }
@@ -185,7 +238,7 @@ impl LinkTable {
         self.core.pending.frames.pop_front()
     }
 
-    /// The next notice of a link.
+    /// The next notice, the oldest one, with the peer of its link. None where none waits.
     pub fn notice(&mut self) -> Option<(Call, LinkNotice)>
         ensures answer { (t : Table) → TableStands self.old t → result ≡ slice_get t.pending.notices 0 }
         ensures rest { TableGoes calls.noticed self.old self.new }

@@ -17,6 +17,7 @@ ghost use Rattle.link_table.specs.Works as works;
 
 use crate::pending::{Frames, Pending, put};
 use crate::route::Route;
+use crate::texts::is_text;
 use ax_address::Call;
 use ax_frame::{FrameView, is_command};
 use ax_link::{Link, LinkNotice, LinkOut, LinkPhase};
@@ -96,7 +97,7 @@ pub(crate) fn note(notice: LinkNotice, peer: &Call, pending: &mut Pending) -> Re
 }
 
 /// What comes of a step of the link.
-fn lift<M: Modulus>(
+pub(crate) fn lift<M: Modulus>(
     link: &mut Link<M>,
     route: &Route,
     joiner: &mut Joiner,
@@ -160,18 +161,26 @@ fn take_one<M: Modulus>(
     }
 }
 
-/// Whether a payload waits to be taken.
-fn waits<M: Modulus>(link: &Link<M>) -> bool
-    ensures { result ≡ is_some (slice_get link.now.inbox 0) }
+/// Whether a payload may be taken at once: one waits, and the oldest is no text.
+fn goes_up<M: Modulus>(link: &Link<M>, joiner: &Joiner) -> bool
+    ensures { result ≡ is_some (works.unless_text joiner.now (slice_get link.now.inbox 0)) }
 {
-    link.first().is_some()
+    match link.first() {
+        Some(payload) => {
+            if is_text(joiner, payload) {
+                return false;
+            }
+            true
+        }
+        None => false,
+    }
 }
 
 /// More payloads than an inbox and the places for early ones hold.
 const MOST_TAKEN: usize = 192;
 
-/// Takes payload by payload, as long as one is there.
-fn settle<M: Modulus>(
+/// Takes payload by payload, as long as one is there that is no text.
+pub(crate) fn settle<M: Modulus>(
     link: &mut Link<M>,
     route: &Route,
     joiner: &mut Joiner,
@@ -184,7 +193,7 @@ fn settle<M: Modulus>(
     ensures goes { OnOk result (Goes M.SIZE route.now (works.settled works.most_taken route.now.own now.0) link.old link.new joiner.old joiner.new pending.old pending.new) }
 {
     for turn in 0..MOST_TAKEN {
-        if !waits(link) {
+        if !goes_up(link, joiner) {
             return Ok(());
         }
         take_one(link, route, joiner, pending, now)?;

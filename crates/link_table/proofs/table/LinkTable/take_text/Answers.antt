@@ -1,0 +1,24 @@
+use Rattle.std.proofs.Common.{◌∙◌, sym, subst}
+use Rattle.link_table.specs.Standing.{TableStands, shown, text_at}
+use Rattle.link_table.specs.Texts as texts
+use Rattle.link_table.proofs.TextLifting.{no_text, text_same, took, took_none, took_table}
+use Rattle.link_table.proofs.table.LinkTable.take_text.Goals as goal
+
+pub returns-then-not-text_waits-clause-goes : goal.returns-then-not-text_waits-clause-goes
+returns-then-not-text_waits-clause-goes c = rw (← c.self.view_is) (λ t s.
+    subst (TableStands (shown c.self.inside.core c.self.inside.spent))
+    (sym (took_none c.self.inside.core c.args.peer.now c.args.now.0 c.text_waits.result t s.links c.text_waits.ensures c.if-not-text_waits.true)) s)
+
+pub returns-then-not-text_waits-clause-answer : goal.returns-then-not-text_waits-clause-answer
+returns-then-not-text_waits-clause-answer c = rw (← c.self.view_is) (λ t s.
+    no_text (text_at c.args.peer.now c.self.inside.core.links.entries) c.text_waits.result c.text_waits.ensures c.if-not-text_waits.true
+    ∙ sym (text_same c.self.inside.core.own c.args.peer.now c.self.inside.core.links.entries t s.links))
+
+pub returns-clause-goes : goal.returns-clause-goes
+returns-clause-goes c = rw (← c.self.view_is) (
+    took_table c.self.inside.core c.take_text.new.self c.self.inside.spent (texts.take_text c.args.peer.now c.args.now.0)
+    (took c.self.inside.core c.take_text.new.self c.args.peer.now c.args.now.0 c.text_waits.result c.text_waits.ensures c.if-not-text_waits.false c.in_ok-take_text.ensures.goes))
+
+pub returns-clause-answer : goal.returns-clause-answer
+returns-clause-answer c = rw (← c.self.view_is) (λ t s.
+    sym (text_same c.self.inside.core.own c.args.peer.now c.self.inside.core.links.entries t s.links ∙ c.in_ok-take_text.ensures.text))

@@ -1,0 +1,132 @@
+//! Datagrams that are offered to the links of a node (NET/ROM, Appendix B).
+ghost use Rattle.std.specs.Prelude.{◌≡◌, ◌≤◌, ◌<◌, ℕ, None, Some, OnOk, IfOk, if◌then◌else◌, length, is_some};
+ghost use Rattle.std.specs.Map.{lookup};
+ghost use Rattle.ax_address.specs.CallOrder.{same_call};
+ghost use Rattle.ax_link.specs.Table as table;
+ghost use Rattle.link_table.specs.Works as works;
+ghost use Rattle.link_table.specs.Calls as calls;
+
+use crate::MAX_LINKS;
+use crate::held_links::HeldLinks;
+use crate::offers::packed;
+use crate::pending::put;
+use crate::route::Route;
+use ax_address::Call;
+use ax_frame::Control;
+use l3_datagram::{Datagram, Offered};
+use radio_base::{M8, Moment, NETROM_PID, NoMemory};
+
+impl HeldLinks {
+    ghost use Rattle.link_table.specs.Table.{Table};
+    ghost use Rattle.link_table.specs.Standing.{CoreGoes, CoreStands, Rests};
+
+    fn offer_ui(&mut self, to: &Call, datagram: &Datagram) -> Result<(), NoMemory>
+        ensures goes { OnOk result (CoreGoes (calls.offer_ui to.now datagram.now) self.old self.new) }
+        ensures links { self.new.links ≡ self.old.links }
+        ensures waiting { self.new.pending.waiting ≡ self.old.pending.waiting }
+        ensures lost { self.new.pending.lost ≡ self.old.pending.lost }
+    {
+        let route = Route {
+            own: self.own,
+            peer: *to,
+            path: self.path_to(to),
+        };
+        put::<M8>(
+            &mut self.pending.frames,
+            &route.head(true),
+            &Control::Ui { pf: false },
+            Some(NETROM_PID),
+            datagram.as_slice(),
+        )
+    }
+
+    fn set_up_link(&mut self, to: &Call, now: Moment) -> Result<(), NoMemory>
+        requires { Rests self.old }
+        ensures rests { OnOk result (Rests self.new) }
+        ensures goes { OnOk result (CoreGoes (λ t. calls.at_link to.now (works.stepped t.own table.Set_up now.0) t) self.old self.new) }
+        ensures waiting { self.new.pending.waiting ≡ self.old.pending.waiting }
+        ensures lost { self.new.pending.lost ≡ self.old.pending.lost }
+    {
+        match self.links.get_mut(to) {
+            Some(entry) => {
+                entry.set_up(&mut self.pending.frames, now)?;
+                Ok(())
+            }
+            None => Ok(()),
+        }
+    }
+
+    fn send(&mut self, to: &Call, datagram: &Datagram, now: Moment) -> Result<Offered, NoMemory>
+        requires { Rests self.old }
+        ensures rests { OnOk result (Rests self.new) }
+        ensures offers { IfOk result (λ answer. (t : Table) → CoreStands self.old t →
+            (answer ≡ (calls.offer_standing to.now datagram.now now.0 t).answer) × CoreStands self.new (calls.offer_standing to.now datagram.now now.0 t).table) }
+        ensures waiting { self.new.pending.waiting ≡ self.old.pending.waiting }
+        ensures lost { self.new.pending.lost ≡ self.old.pending.lost }
+    {
+        let payload = packed(datagram);
+        match self.links.get_mut(to) {
+            Some(entry) => {
+                let offered = entry.send(&mut self.pending.frames, &payload, now)?;
+                Ok(offered)
+            }
+            None => Ok(Offered::Dropped),
+        }
+    }
+
+    pub(crate) fn offer(
+        &mut self,
+        to: &Call,
+        datagram: &Datagram,
+        now: Moment,
+    ) -> Result<Offered, NoMemory>
+        requires { Rests self.old }
+        ensures rests { OnOk result (Rests self.new) }
+        ensures offers { IfOk result (λ answer. (t : Table) → CoreStands self.old t →
+            (answer ≡ (calls.offer to.now datagram.now now.0 t).answer) × CoreStands self.new (calls.offer to.now datagram.now now.0 t).table) }
+        ensures waiting { self.new.pending.waiting ≡ self.old.pending.waiting }
+        ensures lost { self.new.pending.lost ≡ self.old.pending.lost }
+    {
+        if !self.by_links {
+            self.offer_ui(to, datagram)?;
+            return Ok(Offered::Taken);
+        }
+        if self.links.contains_key(to) {
+            let offered = self.send(to, datagram, now)?;
+            return Ok(offered);
+        }
+        if self.links.len() >= MAX_LINKS {
+            return Ok(Offered::Dropped);
+        }
+        let offered = self.offer_new(to, datagram, now)?;
+        Ok(offered)
+    }
+
+    /// Offers a datagram to a link that is made for it.
+    fn offer_new(
+        &mut self,
+        to: &Call,
+        datagram: &Datagram,
+        now: Moment,
+    ) -> Result<Offered, NoMemory>
+        requires rests { Rests self.old }
+        requires none { lookup (same_call to.now) self.old.links.entries ≡ None }
+        requires room { length self.old.links.entries < calls.most_links }
+        ensures rests { OnOk result (Rests self.new) }
+        ensures offers { IfOk result (λ answer. (t : Table) → CoreStands self.old t →
+            (answer ≡ (calls.offer_standing to.now datagram.now now.0 (calls.opened_to to.now now.0 t)).answer)
+            × CoreStands self.new (calls.offer_standing to.now datagram.now now.0 (calls.opened_to to.now now.0 t)).table) }
+        ensures waiting { self.new.pending.waiting ≡ self.old.pending.waiting }
+        ensures lost { self.new.pending.lost ≡ self.old.pending.lost }
+    {
+        let route = Route {
+            own: self.own,
+            peer: *to,
+            path: self.path_to(to),
+        };
+        self.make(self.wide, route)?;
+        self.set_up_link(to, now)?;
+        let offered = self.send(to, datagram, now)?;
+        Ok(offered)
+    }
+}
