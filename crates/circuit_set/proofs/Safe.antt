@@ -1,0 +1,85 @@
+-- At each moment of a timely run Safe holds.
+use Rattle.std.specs.Prelude.{◌≡◌, ℕ, zero, suc, ◌+◌, ◌≤◌, ◌↔◌, List, [], ◌∷◌, slice_get, Contains, Option, Some, None, refl}
+use Rattle.std.proofs.Common.{sym, ◌∙◌, ap, subst, arith}
+use Rattle.circuit_l4.specs.declared.plain.EndNotice.TheVariants.{FailedRetries}
+use Rattle.circuit_l4.specs.EndState.{State}
+use Rattle.circuit_l4.specs.EndLaws.{lived}
+use Rattle.circuit_l4.proofs.EndRetries.{fails_after_retries}
+use Rattle.circuit_set.specs.Circuits.{SafeTo}
+use Rattle.circuit_set.specs.Sets.{Holder, SetState, end_of}
+use Rattle.circuit_set.specs.Books.{Name, partner}
+use Rattle.circuit_set.specs.Runs.{AreStarts, CircuitsSafe, IsStart, Net, Safe, SafeWith, PartnersStay, WindowsFit, begins, end_at, end_in, net_run, told_to}
+use Rattle.circuit_set.proofs.Lonely.{alone_safe}
+use Rattle.circuit_set.proofs.Lookups.{InEnds}
+use Rattle.circuit_set.proofs.Whole.{safe_of}
+use Rattle.circuit_set.proofs.Invariant.{PairInv, AloneOk, CircuitOk, EndInv, Kept, Lived, SetInv, side_of}
+use Rattle.circuit_set.proofs.Opens.{run_kept, later_stays}
+
+starts_at : (ss : List SetState) (n : ℕ) (s : SetState) → AreStarts ss → slice_get ss n ≡ Some s → IsStart s
+starts_at [] n s a e = cc
+starts_at (x ∷ ss) zero s a e = let same : x ≡ s = cc in subst IsStart same a.0
+starts_at (x ∷ ss) (suc n) s a e = starts_at ss n s a.1 e
+
+none_case : (ss : List SetState) (x : Name) (o : Option SetState) → AreStarts ss → slice_get ss x.node ≡ o → end_in o x.id ≡ None
+none_case ss x None a e = refl
+none_case ss x (Some s) a e = ap (λ hs. end_of x.id hs) (starts_at ss x.node s a e).none
+
+set_inv : (s : SetState) → IsStart s → SetInv s
+set_inv s a = record {
+  own = a.own;
+  user = a.user;
+  some = a.config.some;
+  most = let low : s.config.window ≤ 127 = a.config.window in omega arith;
+  number = a.first;
+  zero = ap (λ hs. end_of 0 hs) a.none;
+  one = λ h i. absurd (subst (λ hs. InEnds h hs) a.none i);
+  fresh = λ id l. ap (λ hs. end_of id hs) a.none;
+}
+
+pub start_kept : (sets : List SetState) → AreStarts sets → Kept (begins sets)
+start_kept sets a = record {
+  past = [];
+  noted = tt;
+  placed = λ p i. absurd i;
+  tops = λ p i. absurd i;
+  senders = λ z n e. cc;
+  owners = λ p i. absurd i;
+  hearers = λ z e. refl;
+  made = λ z e. cc;
+  ends = λ x h e. let none : end_at (begins sets) x ≡ None = none_case sets x (slice_get sets x.node) a refl in let bad : None ≡ Some h = sym none ∙ e in cc;
+  pairs = λ x y e. cc;
+  sets = λ n s e. set_inv s (starts_at sets n s a e);
+}
+
+circuit_case : (net : Net) (k : Kept net) (x : Name) (h : Holder) → EndInv net k.past x h → (o : Option Name) → partner net.book x ≡ o → SafeWith net x h o
+circuit_case net k x h i None e =
+    let a : AloneOk net.book k.past x h.end = i.alone e in
+    let r = alone_safe a.window (side_of net.book k.past x h.end) (a.kept a.window a.fits) in
+    record { received = r.0; acked = r.1 }
+circuit_case net k x h i (Some y) e =
+    let q : CircuitOk net k.past x y h.end = i.paired y e in
+    let safe : SafeTo (side_of net.book k.past x h.end) (side_of net.book k.past y q.end.end) = safe_of q.window (side_of net.book k.past x h.end) (side_of net.book k.past y q.end.end) q.kept in
+    (q.end, q.there, record { received = safe.received; acked = safe.acked; closed = safe.closed })
+
+pub safe_now : (net : Net) → Kept net → Safe net
+safe_now net k x h e =
+    let i : EndInv net k.past x h = k.ends x h e in
+    let l : Lived h.end (told_to net.book.made x) = i.lives in
+    record {
+      circuit = circuit_case net k x h i (partner net.book x) refl;
+      retries =
+          subst (λ ns. Contains ns FailedRetries ↔ (h.end.expiries ≡ h.end.config.retries + 1)) l.notes_are
+          (subst (λ (s : State). Contains (lived l.first l.inputs).notes FailedRetries ↔ (s.expiries ≡ s.config.retries + 1)) l.end (fails_after_retries l.first l.new l.inputs));
+    }
+
+pub circuits_safe : CircuitsSafe
+circuits_safe sets starts steps later are timely fresh = safe_now (net_run (begins sets) steps) (run_kept (begins sets) steps later (start_kept sets starts) are timely)
+
+pub windows_fit : WindowsFit
+windows_fit w some most = omega arith
+
+pub partners_stay : PartnersStay
+partners_stay sets starts steps later are timely x y e =
+    let k : Kept (net_run (begins sets) steps) = run_kept (begins sets) steps later (start_kept sets starts) are timely in
+    let p : PairInv (net_run (begins sets) steps) x y = k.pairs x y e in
+    (later_stays (begins sets) steps later (start_kept sets starts) are timely x y e, p.back, p.apart)

@@ -1,0 +1,10 @@
+pub mod Lines
+pub mod Pairs
+pub mod Heaps
+pub mod Ways
+pub mod Circuits
+pub mod Outs
+pub mod Laws
+pub mod Sets
+pub mod Books
+pub mod Runs

@@ -1,0 +1,147 @@
+-- A run of sets at nodes, in which any datagram whatever may arrive and any node may start again, and Safe.
+use Rattle.std.specs.Prelude.{◌≡◌, ◌≢◌, ℕ, ◌+◌, ◌-◌, ◌*◌, ◌≤◌, ◌⊎◌, ◌↔◌, if◌then◌else◌, List, [], ◌∷◌, ◌++◌, take, slice_get, slice_set, Contains, Option, Some, None}
+use Rattle.ax_address.specs.Callsign.{Callsign, IsCallsign}
+use Rattle.circuit_l4.specs.declared.plain.EndNotice.{EndNotice}
+use Rattle.circuit_l4.specs.declared.plain.EndNotice.TheVariants.{Opened, Closed, ClosedByPartner, FailedRetries}
+use Rattle.circuit_l4.specs.EndState.{State}
+use Rattle.circuit_l4.specs.EndOpening.{IsConfig}
+use Rattle.circuit_set.specs.Heaps.{wholes}
+use Rattle.circuit_set.specs.Circuits.{IsBeginning}
+use Rattle.circuit_set.specs.Pairs.{IsPair}
+use Rattle.circuit_set.specs.Sets.{Act, Connect, Restart, Holder, SetState, Told, end_of, set_step}
+use Rattle.circuit_set.specs.Books.{Book, Event, Fresh, MadeNote, Name, Timely, empty, noted_all, partner, same_name, was_asked}
+
+pub record Net : Type 0 where
+  pub sets : List SetState
+  pub book : Book
+
+-- a step of the set at a node
+pub record Step : Type 0 where
+  pub node : ℕ
+  pub act : Act
+
+abbrev pub events_at : ℕ → Callsign → List Told → List Event
+events_at node own [] = []
+events_at node own (t ∷ ts) = record { node = node; own = own; told = t } ∷ events_at node own ts
+
+abbrev pub told_at : List SetState → ℕ → Option SetState → Act → List Event
+told_at sets node None act = []
+told_at sets node (Some s) act = events_at node s.own (set_step s act).told
+
+abbrev pub sets_at : List SetState → ℕ → Option SetState → Act → List SetState
+sets_at sets node None act = sets
+sets_at sets node (Some s) act = slice_set sets node (set_step s act).set
+
+abbrev pub net_step : Net → Step → Net
+net_step net st = record {
+  sets = sets_at net.sets st.node (slice_get net.sets st.node) st.act;
+  book = noted_all net.book (told_at net.sets st.node (slice_get net.sets st.node) st.act);
+}
+
+abbrev pub net_run : Net → List Step → Net
+net_run net [] = net
+net_run net (st ∷ sts) = net_run (net_step net st) sts
+
+-- what is told, step by step
+abbrev pub events_of : List SetState → List Step → List Event
+events_of sets [] = []
+events_of sets (st ∷ sts) =
+    told_at sets st.node (slice_get sets st.node) st.act ++ events_of (sets_at sets st.node (slice_get sets st.node) st.act) sts
+
+abbrev pub begins : List SetState → Net
+begins sets = record { sets = sets; book = empty }
+
+-- ---- the start ----
+pub record IsStart (s : SetState) : Type 0 where
+  pub own : IsCallsign s.own.letters s.own.ssid
+  pub user : IsCallsign s.user.letters s.user.ssid
+  pub config : IsConfig s.config
+  pub pair : IsPair s.next
+  pub first : 1 ≤ s.number
+  pub none : s.ends ≡ []
+
+abbrev pub AreStarts : List SetState → Type 0
+AreStarts [] = Unit {0}
+AreStarts (s ∷ ss) = IsStart s × AreStarts ss
+
+-- a circuit is asked for at a call, and a node starts again at a pair
+abbrev pub IsAct : Act → Type 0
+IsAct (Connect dest now) = IsCallsign dest.letters dest.ssid
+IsAct (Restart pair more) = IsPair pair
+IsAct _ = Unit {0}
+
+abbrev pub AreSteps : List Step → Type 0
+AreSteps [] = Unit {0}
+AreSteps (st ∷ sts) = IsAct st.act × AreSteps sts
+
+-- ---- Safe ----
+abbrev pub end_in : Option SetState → ℕ → Option Holder
+end_in None id = None
+end_in (Some s) id = end_of id s.ends
+
+-- the end of this name
+abbrev pub end_at : Net → Name → Option Holder
+end_at net x = end_in (slice_get net.sets x.node) x.id
+
+abbrev pub told_to : List MadeNote → Name → List EndNotice
+told_to [] x = []
+told_to (m ∷ ms) x = if same_name m.who x then m.told else told_to ms x
+
+-- (a) to (c): what x wrote and its partner y received
+pub record SafeBetween (x y : State) (to_x to_y : List EndNotice) : Type 0 where
+  pub received : IsBeginning y.receiving.received x.sending.wrote
+  pub acked : IsBeginning (take (wholes x.sending.wrote x.sending.acked) x.sending.wrote) y.receiving.received
+  pub closed : Contains to_x Closed ⊎ Contains to_y ClosedByPartner → y.receiving.received ≡ x.sending.wrote
+
+pub record SafeAlone (x : State) : Type 0 where
+  pub received : x.receiving.received ≡ []
+  pub acked : x.sending.acked ≡ 0
+
+abbrev pub SafeWith : Net → Name → Holder → Option Name → Type 0
+SafeWith net x h None = SafeAlone h.end
+SafeWith net x h (Some y) =
+    (k : Holder) × (end_at net y ≡ Some k) × SafeBetween h.end k.end (told_to net.book.made x) (told_to net.book.made y)
+
+pub record SafeEnd (net : Net) (x : Name) (h : Holder) : Type 0 where
+  pub circuit : SafeWith net x h (partner net.book x)
+  pub retries : Contains (told_to net.book.made x) FailedRetries ↔ (h.end.expiries ≡ h.end.config.retries + 1)
+
+abbrev pub Safe : Net → Type 0
+Safe net = (x : Name) (h : Holder) → end_at net x ≡ Some h → SafeEnd net x h
+
+-- the window that is told at an opening
+abbrev pub opened_window : List EndNotice → Option ℕ
+opened_window [] = None
+opened_window (Opened window ∷ ns) = Some window
+opened_window (n ∷ ns) = opened_window ns
+
+abbrev pub allowance : Option ℕ → ℕ
+allowance None = 0
+allowance (Some window) = 256 - 2 * window
+
+abbrev pub partner_allowance : Book → Option Name → ℕ
+partner_allowance b None = 0
+partner_allowance b (Some y) = allowance (opened_window (told_to b.made y))
+
+-- how many overtakers are too many: by the window of that end of the circuit which a request has opened
+abbrev pub allowed : Book → Name → ℕ
+allowed b x = if was_asked b.made x then allowance (opened_window (told_to b.made x)) else partner_allowance b (partner b x)
+
+-- at each moment of each run that is timely and fresh
+abbrev pub CircuitsSafe : Type 0
+CircuitsSafe =
+    (sets : List SetState) → AreStarts sets → (steps later : List Step) → AreSteps (steps ++ later)
+    → Timely allowed empty (events_of sets (steps ++ later)) → Fresh empty (events_of sets (steps ++ later))
+    → Safe (net_run (begins sets) steps)
+
+-- a partner stays, and partners are two ends of which each is the other's
+abbrev pub PartnersStay : Type 0
+PartnersStay =
+    (sets : List SetState) → AreStarts sets → (steps later : List Step) → AreSteps (steps ++ later)
+    → Timely allowed empty (events_of sets (steps ++ later))
+    → (x y : Name) → partner (net_run (begins sets) steps).book x ≡ Some y
+    → (partner (net_run (begins sets) (steps ++ later)).book x ≡ Some y) × (partner (net_run (begins sets) steps).book y ≡ Some x) × (x ≢ y)
+
+-- the windows that an end may have fit their allowance
+abbrev pub WindowsFit : Type 0
+WindowsFit = (w : ℕ) → 1 ≤ w → w ≤ 127 → 2 * w + allowance (Some w) ≤ 256

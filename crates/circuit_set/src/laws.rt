@@ -1,0 +1,54 @@
+//! What is promised of circuits over every schedule, and the parts on which it stands.
+ghost use Rattle.std.specs.Prelude.{◌≡◌, ℕ, ◌+◌, ◌*◌, ◌≤◌, ◌<◌, ◌%◌};
+ghost use Rattle.circuit_set.specs.Lines.{Line, Infos, over, at_place};
+ghost use Rattle.circuit_set.specs.Laws.{OneCircuitSafe};
+ghost use Rattle.circuit_set.specs.Pairs.{PairsDiffer};
+ghost use Rattle.circuit_set.specs.Runs.{CircuitsSafe, PartnersStay, WindowsFit};
+
+/// At each moment of every run of several nodes' ends, in which any datagram whatever may come to any node and any node may
+/// start again, and which is timely and fresh (`Timely` and `Fresh` in `specs/Books.antt`): each end that has a partner has
+/// received a beginning of what its partner wrote, with every message that is acknowledged in it, and all of it after an orderly
+/// close; an end that has none has received nothing; and an end is told that its retries are used up exactly where they are.
+pub fn circuits_safe()
+    ensures { CircuitsSafe }
+{}
+
+/// In a timely run an end keeps its partner once it has one, and partners are two ends of which each is the other's: so no two
+/// ends have the same partner.
+pub fn partners_stay()
+    ensures { PartnersStay }
+{}
+
+/// From whatever pair a node starts: among the first 48,960 pairs that it gives then none stands twice, however its ends come and
+/// go.
+pub fn pairs_differ()
+    ensures { PairsDiffer }
+{}
+
+/// Of each window from 1 to 127: twice the window and the allowance for overtakers are at most 256 together, as many as there are
+/// numbers on the air.
+pub fn windows_fit()
+    ensures { WindowsFit }
+{}
+
+/// The same as `circuits_safe` of one circuit alone, for every window and every allowance that fit: from its opening on come
+/// calls of both ends at any moments, and, again and in any order, anything that the partner has ever put out; each that is
+/// heeded has fewer overtakers than are allowed.
+pub fn one_circuit_safe()
+    ensures { OneCircuitSafe }
+{}
+
+/// In one direction of a circuit of window `w`, where fewer than `a` overtakers are allowed: the place of a text in the
+/// receiver's window is the number that was sent. The text has number `n`, `top` texts had been sent by the end of the step in
+/// which it went out, and `x` is its place.
+pub fn info_place()
+    ensures { (w a n top x : ℕ) (l : Line) → 2 * w + a ≤ 256 → Infos w l → l.acked ≤ l.got →
+        n < top → top ≤ n + w → top ≤ l.sent → over top l < a → at_place (n % 256) l.got w x → x ≡ n }
+{}
+
+/// The same of an acknowledgement: the count that is taken is the one that was got. Its sender had got `h` texts and `top` had
+/// been sent to it by the end of the step in which it went out, and `x` is its place.
+pub fn ack_place()
+    ensures { (w a h top x : ℕ) (l : Line) → 2 * w + a ≤ 256 → Infos w l → l.acked ≤ l.got →
+        h ≤ l.got → top ≤ h + w → over top l < a → l.acked ≤ x → x ≤ l.sent → x % 256 ≡ h % 256 → x ≡ h }
+{}
