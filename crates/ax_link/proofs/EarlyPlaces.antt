@@ -3,10 +3,10 @@ use Rattle.std.proofs.Common.{◌≡◌, ℕ, zero, suc, ◌+◌, ◌-◌, ◌%�
 use Rattle.std.proofs.lemmas.Bool.Decides.{nat_tests}
 use Rattle.radio_base.specs.declared.payload.Payload.{Payload}
 use Rattle.ax_link.specs.declared.kind.Kind.TheVariants.{Srej}
-use Rattle.ax_link.specs.State.{Frame, State, Going, top}
-use Rattle.ax_link.specs.Moves.{asks_of, move_on, next_early, put, take_next}
-use Rattle.ax_link.specs.Standing.{Held, KeepsGoing, going_of, state_of}
-use Rattle.ax_link.specs.Stations.{asked_for, is_filled, next_taken, with_early}
+use Rattle.ax_link.specs.State.{Frame, State, Effect, top}
+use Rattle.ax_link.specs.Moves.{asks_of, follow_by, next_early, emit, take_next}
+use Rattle.ax_link.specs.Standing.{LinkView, KeepsEffect, effect_of, state_of}
+use Rattle.ax_link.specs.Stations.{ask_for_each, is_filled, take_next_payload, with_early}
 use Rattle.ax_link.proofs.Standings.{itself, standing}
 
 -- ---- places ----
@@ -50,52 +50,52 @@ asks_step size n (suc many) =
     ap (λ (fs : List Frame). record { command = false; kind = Srej (n % size) false; payload = None } ∷ fs)
     (subst (λ (m : ℕ). asks_of size (suc n) (suc many) ≡ asks_of size (suc n) many ++ record { command = false; kind = Srej (m % size) false; payload = None } ∷ []) m (asks_step size (suc n) many))
 
-one_more : (size from many number : ℕ) (g : Going) → g.link.rules.size ≡ size → number ≡ from + many →
-    put false (Srej (number % size) false) (asked_for from many g) ≡ asked_for from (suc many) g
+one_more : (size from many number : ℕ) (g : Effect) → g.link.rules.size ≡ size → number ≡ from + many →
+    emit false (Srej (number % size) false) (ask_for_each from many g) ≡ ask_for_each from (suc many) g
 one_more size from many number g z e = rw (e, ← z, asks_step g.link.rules.size from many) (ap (λ (fs : List Frame). record g { outs = fs }) (append_assoc g.outs _ _))
 
 -- one more is asked for
-pub one_more_asked : (size from number : ℕ) (old mid later : Held) → from ≤ number →
-    ((g : Going) → KeepsGoing size old g → KeepsGoing size mid (asked_for from (number - from) g)) →
-    ((g : Going) → KeepsGoing size mid g → KeepsGoing size later (put false (Srej (number % size) false) g)) →
-    (g : Going) → KeepsGoing size old g → KeepsGoing size later (asked_for from (number + 1 - from) g)
+pub one_more_asked : (size from number : ℕ) (old mid later : LinkView) → from ≤ number →
+    ((g : Effect) → KeepsEffect size old g → KeepsEffect size mid (ask_for_each from (number - from) g)) →
+    ((g : Effect) → KeepsEffect size mid g → KeepsEffect size later (emit false (Srej (number % size) false) g)) →
+    (g : Effect) → KeepsEffect size old g → KeepsEffect size later (ask_for_each from (number + 1 - from) g)
 one_more_asked size from number old mid later l before does =
-    standing size old later (asked_for from (number + 1 - from)) (λ kept gots a b.
-    let g : Going = going_of size old kept gots in
+    standing size old later (ask_for_each from (number + 1 - from)) (λ kept received a b.
+    let g : Effect = effect_of size old kept received in
     let n : number + 1 - from ≡ suc (number - from) = omega (arith, l) in
-    rw n (subst (KeepsGoing size later) (one_more size from (number - from) number g refl (omega (arith, l))) (does _ (before g (itself size old kept gots a b)))))
+    rw n (subst (KeepsEffect size later) (one_more size from (number - from) number g refl (omega (arith, l))) (does _ (before g (itself size old kept received a b)))))
 
 -- ---- moving on ----
 -- what is kept stands for a step that will be this one, once at most k early payloads have followed
-pub record Goes (size : ℕ) (h : Held) (k : ℕ) (goal : Going) : Type 0 where
-  pub at : Going
-  pub stands : KeepsGoing size h at
-  pub goes : record at { link = move_on k at.link } ≡ goal
+pub record Goes (size : ℕ) (h : LinkView) (k : ℕ) (goal : Effect) : Type 0 where
+  pub at : Effect
+  pub stands : KeepsEffect size h at
+  pub goes : record at { link = follow_by k at.link } ≡ goal
 
-move_some : (k : ℕ) (s : State) (p : Payload) → Some p ≡ next_early s → move_on (suc k) s ≡ move_on k (take_next p s)
-move_some k s p e = ap (λ (x : Option Payload). elim x as (λ y. State) [ None ↦ s | Some q ↦ move_on k (take_next q s) ]) (sym e)
+move_some : (k : ℕ) (s : State) (p : Payload) → Some p ≡ next_early s → follow_by (suc k) s ≡ follow_by k (take_next p s)
+move_some k s p e = ap (λ (x : Option Payload). elim x as (λ y. State) [ None ↦ s | Some q ↦ follow_by k (take_next q s) ]) (sym e)
 
-move_none : (k : ℕ) (s : State) → None ≡ next_early s → move_on k s ≡ s
+move_none : (k : ℕ) (s : State) → None ≡ next_early s → follow_by k s ≡ s
 move_none zero s e = refl
-move_none (suc k) s e = ap (λ (x : Option Payload). elim x as (λ y. State) [ None ↦ s | Some q ↦ move_on k (take_next q s) ]) (sym e)
+move_none (suc k) s e = ap (λ (x : Option Payload). elim x as (λ y. State) [ None ↦ s | Some q ↦ follow_by k (take_next q s) ]) (sym e)
 
 -- one has followed
-pub goes_on : (size k rest : ℕ) (h later : Held) (p : Payload) (goal : Going) → k ≡ suc rest →
-    ((before gots : List Payload) → length gots ≡ h.got → Some p ≡ next_early (state_of size h before gots)) →
-    ((g : Going) → KeepsGoing size h g → KeepsGoing size later (next_taken p g)) →
+pub goes_on : (size k rest : ℕ) (h later : LinkView) (p : Payload) (goal : Effect) → k ≡ suc rest →
+    ((before received : List Payload) → length received ≡ h.got → Some p ≡ next_early (state_of size h before received)) →
+    ((g : Effect) → KeepsEffect size h g → KeepsEffect size later (take_next_payload p g)) →
     Goes size h k goal → Goes size later rest goal
 goes_on size k rest h later p goal e next does w =
-    let n : Some p ≡ next_early w.at.link = next w.stands.before w.stands.gots w.stands.got ∙ ap (λ (x : Going). next_early x.link) (sym w.stands.is) in
+    let n : Some p ≡ next_early w.at.link = next w.stands.before w.stands.received w.stands.got ∙ ap (λ (x : Effect). next_early x.link) (sym w.stands.is) in
     record {
-      at = next_taken p w.at;
+      at = take_next_payload p w.at;
       stands = does w.at w.stands;
-      goes = ap (λ (x : State). record w.at { link = x }) (sym (move_some rest w.at.link p n)) ∙ (ap (λ (m : ℕ). record w.at { link = move_on m w.at.link }) (sym e) ∙ w.goes);
+      goes = ap (λ (x : State). record w.at { link = x }) (sym (move_some rest w.at.link p n)) ∙ (ap (λ (m : ℕ). record w.at { link = follow_by m w.at.link }) (sym e) ∙ w.goes);
     }
 
 -- none follows
-pub goes_no_further : (size k : ℕ) (h : Held) (goal : Going) →
-    ((before gots : List Payload) → length gots ≡ h.got → None ≡ next_early (state_of size h before gots)) →
-    Goes size h k goal → KeepsGoing size h goal
+pub goes_no_further : (size k : ℕ) (h : LinkView) (goal : Effect) →
+    ((before received : List Payload) → length received ≡ h.got → None ≡ next_early (state_of size h before received)) →
+    Goes size h k goal → KeepsEffect size h goal
 goes_no_further size k h goal next w =
-    let n : None ≡ next_early w.at.link = next w.stands.before w.stands.gots w.stands.got ∙ ap (λ (x : Going). next_early x.link) (sym w.stands.is) in
-    subst (KeepsGoing size h) (ap (λ (x : State). record w.at { link = x }) (sym (move_none k w.at.link n)) ∙ w.goes) w.stands
+    let n : None ≡ next_early w.at.link = next w.stands.before w.stands.received w.stands.got ∙ ap (λ (x : Effect). next_early x.link) (sym w.stands.is) in
+    subst (KeepsEffect size h) (ap (λ (x : State). record w.at { link = x }) (sym (move_none k w.at.link n)) ∙ w.goes) w.stands

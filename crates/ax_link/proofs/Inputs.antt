@@ -1,10 +1,10 @@
 -- The other inputs of an end in Up keep the two ways.
 use Rattle.std.proofs.Common.{ℕ, suc, ◌+◌, List, [], ◌∷◌, ◌++◌, length, drop, Option, Some, None, refl, ap, sym, ◌∙◌, arith, max, true, false, ◌&&◌, subst, append_assoc, append-nil, nat_le, nat_eq, if◌then◌else◌, length-append}
 use mathlib.Core.List.{IsPrefix}
-use Rattle.ax_link.specs.Moves.{put, note, to_phase, rr, fill, finish, start_poll, moved}
+use Rattle.ax_link.specs.Moves.{emit, note, to_phase, rr, fill, finish, start_poll, follow}
 use Rattle.ax_link.specs.declared.kind.Kind.TheVariants.{Disc, Dm, SetUp}
-use Rattle.ax_link.specs.State.{State, Frame, Going, begin, is_up, busy, t1_runs, judged}
-use Rattle.ax_link.specs.Table.{Send, Close, Take, takes, may_close, step_at, ticked, expire, retry_in, fail_in}
+use Rattle.ax_link.specs.State.{State, Frame, Effect, begin, is_up, busy, t1_runs, update_t1}
+use Rattle.ax_link.specs.Table.{Send, Close, Take, takes, may_close, step_at, tick, expire, retry_in, fail_in}
 use Rattle.ax_link.specs.declared.plain.LinkNotice.TheVariants.{Failed}
 use Rattle.ax_link.specs.declared.plain.LinkPhase.TheVariants.{Down, SettingUp, Up, Releasing}
 use Rattle.ax_link.specs.declared.plain.LinkPhase.{LinkPhase}
@@ -27,8 +27,8 @@ both_given : (me other : Core) (to_me to_other : List Frame) (p : Payload) → B
 both_given me other to_me to_other p b = record {
   out = record {
     fits = record { size = b.out.fits.size; window = b.out.fits.window; both = b.out.fits.both };
-    begun = prefix_more other.gots me.given (p ∷ []) b.out.begun;
-    early = early_given me.given (p ∷ []) (length other.gots) other.early b.out.early;
+    begun = prefix_more other.received me.given (p ∷ []) b.out.begun;
+    early = early_given me.given (p ∷ []) (length other.received) other.early b.out.early;
     texts = texts_given me.given (p ∷ []) me.rules.size me.rules.window me.sent (texts_of to_other) (reach other) b.out.texts;
     acks = b.out.acks;
     window = b.out.window;
@@ -55,31 +55,31 @@ fine_close now s other to_me to_other b =
 
 pub fine_take : (now : ℕ) (s : State) (other : Core) (to_me to_other : List Frame) → Both (core s) other to_me to_other → Fine (step_at now s Take) other to_me to_other
 fine_take now s other to_me to_other b =
-    fine_if (is_up s.phase && busy s) (put false (rr (moved (record s { inbox = drop 1 s.inbox })) false) (begin (moved (record s { inbox = drop 1 s.inbox })))) (begin (record s { inbox = drop 1 s.inbox })) other to_me to_other
-    (fine_rr false false (begin (moved (record s { inbox = drop 1 s.inbox }))) other to_me to_other
-    (fine_begin (moved (record s { inbox = drop 1 s.inbox })) other to_me to_other (both_moved (length s.early) (record s { inbox = drop 1 s.inbox }) other to_me to_other b)))
+    fine_if (is_up s.phase && busy s) (emit false (rr (follow (record s { inbox = drop 1 s.inbox })) false) (begin (follow (record s { inbox = drop 1 s.inbox })))) (begin (record s { inbox = drop 1 s.inbox })) other to_me to_other
+    (fine_rr false false (begin (follow (record s { inbox = drop 1 s.inbox }))) other to_me to_other
+    (fine_begin (follow (record s { inbox = drop 1 s.inbox })) other to_me to_other (both_moved (length s.early) (record s { inbox = drop 1 s.inbox }) other to_me to_other b)))
     (fine_begin s other to_me to_other b)
 
-fine_poll : (now : ℕ) (g : Going) (other : Core) (to_me to_other : List Frame) → Fine g other to_me to_other → Fine (start_poll now g) other to_me to_other
-fine_poll now g other to_me to_other b = fine_rr true true (record g { link = judged now g.link (record g.link { polling = true }) }) other to_me to_other b
+fine_poll : (now : ℕ) (g : Effect) (other : Core) (to_me to_other : List Frame) → Fine g other to_me to_other → Fine (start_poll now g) other to_me to_other
+fine_poll now g other to_me to_other b = fine_rr true true (record g { link = update_t1 now g.link (record g.link { polling = true }) }) other to_me to_other b
 
-fine_retry : (ph : LinkPhase) (now : ℕ) (g : Going) (other : Core) (to_me to_other : List Frame) → Fine g other to_me to_other → Fine (retry_in ph now g) other to_me to_other
+fine_retry : (ph : LinkPhase) (now : ℕ) (g : Effect) (other : Core) (to_me to_other : List Frame) → Fine g other to_me to_other → Fine (retry_in ph now g) other to_me to_other
 fine_retry Down now g other to_me to_other b = b
 fine_retry SettingUp now g other to_me to_other b = fine_other true (SetUp true) g other to_me to_other refl refl b
 fine_retry Up now g other to_me to_other b = fine_poll now g other to_me to_other b
 fine_retry Releasing now g other to_me to_other b = fine_other true (Disc true) g other to_me to_other refl refl b
 
-fine_fail : (ph : LinkPhase) (now : ℕ) (g : Going) (other : Core) (to_me to_other : List Frame) → Fine g other to_me to_other → Fine (note Failed (to_phase now Down (fail_in ph g))) other to_me to_other
+fine_fail : (ph : LinkPhase) (now : ℕ) (g : Effect) (other : Core) (to_me to_other : List Frame) → Fine g other to_me to_other → Fine (note Failed (to_phase now Down (fail_in ph g))) other to_me to_other
 fine_fail Down now g other to_me to_other b = b
 fine_fail SettingUp now g other to_me to_other b = b
 fine_fail Up now g other to_me to_other b = fine_other false (Dm false) g other to_me to_other refl refl b
 fine_fail Releasing now g other to_me to_other b = b
 
-pub fine_tick : (now : ℕ) (g : Going) (other : Core) (to_me to_other : List Frame) → Fine g other to_me to_other → Fine (ticked now g) other to_me to_other
+pub fine_tick : (now : ℕ) (g : Effect) (other : Core) (to_me to_other : List Frame) → Fine g other to_me to_other → Fine (tick now g) other to_me to_other
 fine_tick now g other to_me to_other b =
-    fine_if (t1_runs g.link) (if nat_le g.link.t1_at now then expire now g else g) (if is_up g.link.phase && nat_le (max g.link.heard g.link.stopped + g.link.rules.t3) now then start_poll now g else g) other to_me to_other
+    fine_if (t1_runs g.link) (if nat_le g.link.t1_at now then expire now g else g) (if is_up g.link.phase && nat_le (max g.link.last_arrival g.link.t1_stopped_at + g.link.rules.t3) now then start_poll now g else g) other to_me to_other
     (fine_if (nat_le g.link.t1_at now) (expire now g) g other to_me to_other
     (fine_if (nat_eq g.link.tries g.link.rules.retries) (note Failed (to_phase now Down (fail_in g.link.phase g))) (retry_in g.link.phase now (record g { link = record g.link { tries = suc g.link.tries } })) other to_me to_other
     (fine_fail g.link.phase now g other to_me to_other b)
     (fine_retry g.link.phase now (record g { link = record g.link { tries = suc g.link.tries } }) other to_me to_other b)) b)
-    (fine_if (is_up g.link.phase && nat_le (max g.link.heard g.link.stopped + g.link.rules.t3) now) (start_poll now g) g other to_me to_other (fine_poll now g other to_me to_other b) b)
+    (fine_if (is_up g.link.phase && nat_le (max g.link.last_arrival g.link.t1_stopped_at + g.link.rules.t3) now) (start_poll now g) g other to_me to_other (fine_poll now g other to_me to_other b) b)

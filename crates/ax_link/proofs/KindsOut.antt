@@ -8,15 +8,15 @@ use Rattle.ax_link.specs.declared.plain.LinkPhase.{LinkPhase}
 use Rattle.ax_link.specs.declared.plain.LinkPhase.TheVariants.{Down, SettingUp, Up, Releasing}
 use Rattle.ax_link.specs.Bounds.{Bounded, stock}
 use Rattle.ax_link.specs.Laws.{KindsGoOut, may_go_out}
-use Rattle.ax_link.specs.State.{Frame, State, Going, begin, count_end, is_up}
+use Rattle.ax_link.specs.State.{Frame, State, Effect, begin, count_end, is_up}
 use Rattle.ax_link.specs.Moves.{fill, fill_count, frames_of, supply}
-use Rattle.ax_link.specs.Table.{Input, Set_up, Send, Arrive, Tick, Close, Take, step, accepted, arrive_down, arrive_releasing, arrive_setting, failed, opened, refused_if, retried, takes}
+use Rattle.ax_link.specs.Table.{Input, Set_up, Send, Arrive, Tick, Close, Take, step, accept, arrive_down, arrive_releasing, arrive_setting, fail, come_up, refuse_if, retry, takes}
 use Rattle.ax_link.proofs.PutOut.{IsPut, IsPutOut, every, every_put}
 
 abbrev AllGo : LinkPhase → List Frame → Type 0
 AllGo phase fs = AllByRecursion (λ f. may_go_out phase f.kind ≡ true) fs
 
-go_if : (phase : LinkPhase) (b : Bool) (g h : Going) → AllGo phase g.outs → AllGo phase h.outs → AllGo phase (if b then g else h).outs
+go_if : (phase : LinkPhase) (b : Bool) (g h : Effect) → AllGo phase g.outs → AllGo phase h.outs → AllGo phase (if b then g else h).outs
 go_if phase true g h x y = x
 go_if phase false g h x y = y
 
@@ -26,7 +26,7 @@ both_go phase (f ∷ fs) gs x y = (x.0, both_go phase fs gs x.1 y)
 
 -- ---- Down
 
-refused_go : (asked pf : Bool) (s : State) → AllGo Down (refused_if asked pf (begin s)).outs
+refused_go : (asked pf : Bool) (s : State) → AllGo Down (refuse_if asked pf (begin s)).outs
 refused_go true pf s = (refl, tt)
 refused_go false pf s = tt
 
@@ -51,16 +51,16 @@ frames_go : (size got : ℕ) (given : List Payload) (n many : ℕ) → AllGo Set
 frames_go size got given n zero = tt
 frames_go size got given n (suc many) = (refl, frames_go size got given (suc n) many)
 
-supply_goes : (now : ℕ) (h : Going) → AllGo SettingUp h.outs → AllGo SettingUp (supply now h).outs
+supply_goes : (now : ℕ) (h : Effect) → AllGo SettingUp h.outs → AllGo SettingUp (supply now h).outs
 supply_goes now h a =
-    let g : Going = fill now h in
+    let g : Effect = fill now h in
     let s : State = h.link in
-    let x : AllGo SettingUp g.outs = both_go SettingUp h.outs _ a (frames_go s.rules.size (length s.gots) s.given s.sent (fill_count s)) in
+    let x : AllGo SettingUp g.outs = both_go SettingUp h.outs _ a (frames_go s.rules.size (length s.received) s.given s.sent (fill_count s)) in
     go_if SettingUp (is_up g.link.phase && g.link.closing && nat_eq g.link.acked (length g.link.given)) _ g
     (both_go SettingUp g.outs (record { command = true; kind = kind.Disc true; payload = None } ∷ []) x (refl, tt)) x
 
 setting_goes : (now : ℕ) (k : Kind) (s : State) → AllGo SettingUp (arrive_setting now k (begin s)).outs
-setting_goes now (kind.Ua true) s = supply_goes now (opened now (begin s)) tt
+setting_goes now (kind.Ua true) s = supply_goes now (come_up now (begin s)) tt
 setting_goes now (kind.Ua false) s = tt
 setting_goes now (kind.Dm true) s = tt
 setting_goes now (kind.Dm false) s = tt
@@ -125,31 +125,31 @@ up_goes size (f ∷ fs) x = (put_goes size f.command f.kind f.payload x.0, up_go
 by_phase : (phase : LinkPhase) (s : State) (i : Input) (now : ℕ) → Bounded (stock s) → AllGo phase (step (record s { phase = phase }) i now).outs
 by_phase Down s Set_up now b = (refl, tt)
 by_phase Down s (Send p) now b = tt
-by_phase Down s (Arrive f) now b = down_go (min now count_end) f.command f.kind (record s { phase = Down; heard = min now count_end })
+by_phase Down s (Arrive f) now b = down_go (min now count_end) f.command f.kind (record s { phase = Down; last_arrival = min now count_end })
 by_phase Down s Tick now b = tt
 by_phase Down s Close now b = tt
 by_phase Down s Take now b = tt
 by_phase SettingUp s Set_up now b = tt
 by_phase SettingUp s (Send p) now b =
     let t : State = record s { phase = SettingUp } in
-    go_if SettingUp (takes t) (accepted (min now count_end) p (begin t)) (begin t) tt tt
-by_phase SettingUp s (Arrive f) now b = setting_goes (min now count_end) f.kind (record s { phase = SettingUp; heard = min now count_end })
+    go_if SettingUp (takes t) (accept (min now count_end) p (begin t)) (begin t) tt tt
+by_phase SettingUp s (Arrive f) now b = setting_goes (min now count_end) f.kind (record s { phase = SettingUp; last_arrival = min now count_end })
 by_phase SettingUp s Tick now b =
     let t : State = record s { phase = SettingUp } in
     let m : ℕ = min now count_end in
     go_if SettingUp (nat_le s.t1_at m) _ (begin t)
-    (go_if SettingUp (nat_eq s.tries s.rules.retries) (failed m (begin t)) (retried m (begin t)) tt (refl, tt)) tt
+    (go_if SettingUp (nat_eq s.tries s.rules.retries) (fail m (begin t)) (retry m (begin t)) tt (refl, tt)) tt
 by_phase SettingUp s Close now b = tt
 by_phase SettingUp s Take now b = tt
 by_phase Up s i now b = up_goes _ (step (record s { phase = Up }) i now).outs (every_put (record s { phase = Up }) i now b)
 by_phase Releasing s Set_up now b = tt
 by_phase Releasing s (Send p) now b = tt
-by_phase Releasing s (Arrive f) now b = releasing_goes (min now count_end) f.kind (record s { phase = Releasing; heard = min now count_end })
+by_phase Releasing s (Arrive f) now b = releasing_goes (min now count_end) f.kind (record s { phase = Releasing; last_arrival = min now count_end })
 by_phase Releasing s Tick now b =
     let t : State = record s { phase = Releasing } in
     let m : ℕ = min now count_end in
     go_if Releasing (nat_le s.t1_at m) _ (begin t)
-    (go_if Releasing (nat_eq s.tries s.rules.retries) (failed m (begin t)) (retried m (begin t)) tt (refl, tt)) tt
+    (go_if Releasing (nat_eq s.tries s.rules.retries) (fail m (begin t)) (retry m (begin t)) tt (refl, tt)) tt
 by_phase Releasing s Close now b = tt
 by_phase Releasing s Take now b = tt
 

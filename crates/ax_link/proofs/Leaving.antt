@@ -17,15 +17,15 @@ both_step now l Tick other tl tl2 to_other u e k b = fine_tick now (begin l) oth
 both_step now l Close other tl tl2 to_other u e k b = fine_close now l other tl2 to_other (subst (λ q. Both (core l) other q to_other) e b)
 both_step now l Take other tl tl2 to_other u e k b = fine_take now l other tl2 to_other (subst (λ q. Both (core l) other q to_other) e b)
 both_step now l (Arrive f) other tl tl2 to_other u e k b =
-    subst (λ ph. Fine (arrive_in ph now f (begin (record l { heard = now }))) other tl2 to_other) (sym u)
-    (fine_up now f.command f.kind f.payload (begin (record l { heard = now })) other tl2 to_other k (fine_begin l other (f ∷ tl2) to_other (subst (λ q. Both (core l) other q to_other) e b)))
+    subst (λ ph. Fine (arrive_in ph now f (begin (record l { last_arrival = now }))) other tl2 to_other) (sym u)
+    (fine_up now f.command f.kind f.payload (begin (record l { last_arrival = now })) other tl2 to_other k (fine_begin l other (f ∷ tl2) to_other (subst (λ q. Both (core l) other q to_other) e b)))
 
 -- ---- frames of no account ----
 -- only the texts and the acknowledgements on the way are of account
 pub both_same : (me other : Core) (x x2 y y2 : List Frame) → texts_of x ≡ texts_of x2 → acks_of x ≡ acks_of x2 → texts_of y ≡ texts_of y2 → acks_of y ≡ acks_of y2 → Both me other x y → Both me other x2 y2
 both_same me other x x2 y y2 tx ax ty ay b = record {
-  out = way_acks me other y2 x x2 (way_texts me other y x y2 b.out (subst (λ k. TextsFine me.given me.rules.size me.rules.window me.sent k (reach other)) ty b.out.texts)) (subst (λ k. AcksFine me.rules.size (length other.gots) k me.acked) ax b.out.acks);
-  back = way_acks other me x2 y y2 (way_texts other me x y x2 b.back (subst (λ k. TextsFine other.given other.rules.size other.rules.window other.sent k (reach me)) tx b.back.texts)) (subst (λ k. AcksFine other.rules.size (length me.gots) k other.acked) ay b.back.acks);
+  out = way_acks me other y2 x x2 (way_texts me other y x y2 b.out (subst (λ k. TextsFine me.given me.rules.size me.rules.window me.sent k (reach other)) ty b.out.texts)) (subst (λ k. AcksFine me.rules.size (length other.received) k me.acked) ax b.out.acks);
+  back = way_acks other me x2 y y2 (way_texts other me x y x2 b.back (subst (λ k. TextsFine other.given other.rules.size other.rules.window other.sent k (reach me)) tx b.back.texts)) (subst (λ k. AcksFine other.rules.size (length me.received) k other.acked) ay b.back.acks);
 }
 
 -- both lists say the same

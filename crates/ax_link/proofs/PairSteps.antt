@@ -1,10 +1,10 @@
 -- pair_step, for the left end; pair_swap gives the right one.
 use Rattle.std.proofs.Common.{◌≡◌, ℕ, suc, ◌≤◌, List, [], ◌∷◌, ◌++◌, length, Option, refl, sym, arith, true, false, Bool, subst, inl, inr, ◌⊎◌, append-nil, drop, if◌then◌else◌, ◌&&◌, nat_eq, nat_le}
-use Rattle.ax_link.specs.Moves.{supply, fill, finish, put, timed, to_phase, note}
+use Rattle.ax_link.specs.Moves.{supply, fill, finish, emit, emit_timed, to_phase, note}
 use Rattle.ax_link.specs.declared.kind.Kind.{Kind}
 use Rattle.ax_link.specs.declared.kind.Kind.TheVariants.{I, Rr, Rnr, Rej, Srej, Disc, Dm, Ua, Frmr, SetUp, OtherSetUp, Xid, Other}
-use Rattle.ax_link.specs.State.{State, Frame, Going, begin, high, is_up}
-use Rattle.ax_link.specs.Table.{Input, Send, Arrive, Tick, Close, Take, Set_up, step_at, arrive_in, arrive_up, opened, arrive_setting, takes}
+use Rattle.ax_link.specs.State.{State, Frame, Effect, begin, high, is_up}
+use Rattle.ax_link.specs.Table.{Input, Send, Arrive, Tick, Close, Take, Set_up, step_at, arrive_in, arrive_up, come_up, arrive_setting, takes}
 use Rattle.ax_link.specs.declared.plain.LinkNotice.TheVariants.{Failed}
 use Rattle.ax_link.specs.declared.plain.LinkPhase.TheVariants.{Down, SettingUp, Up, Releasing}
 use Rattle.ax_link.specs.declared.plain.LinkPhase.{LinkPhase}
@@ -19,8 +19,8 @@ use Rattle.ax_link.proofs.Pairs.{pair_up, pair_call, pair_arrive, pair_swap}
 -- what step_at puts out where an end stays Up, without a UA with F
 q_arrive : (now : ℕ) (l : State) (f : Frame) → l.phase ≡ Up → (step_at now l (Arrive f)).link.phase ≡ Up → NoRestart f.kind → Quiet (step_at now l (Arrive f))
 q_arrive now l f u v k =
-    let w : (arrive_up now f.command f.kind f.payload (begin (record l { heard = now }))).link.phase ≡ Up = subst (λ ph. (arrive_in ph now f (begin (record l { heard = now }))).link.phase ≡ Up) u v in
-    subst (λ ph. Quiet (arrive_in ph now f (begin (record l { heard = now })))) (sym u) (q_up now f.command f.kind f.payload (begin (record l { heard = now })) k w refl)
+    let w : (arrive_up now f.command f.kind f.payload (begin (record l { last_arrival = now }))).link.phase ≡ Up = subst (λ ph. (arrive_in ph now f (begin (record l { last_arrival = now }))).link.phase ≡ Up) u v in
+    subst (λ ph. Quiet (arrive_in ph now f (begin (record l { last_arrival = now })))) (sym u) (q_up now f.command f.kind f.payload (begin (record l { last_arrival = now })) k w refl)
 
 -- set_up at an end that is Up does nothing
 pub idle_set_up : (now : ℕ) (l : State) → l.phase ≡ Up → step_at now l Set_up ≡ begin l
@@ -45,7 +45,7 @@ step_arrive now l r f tl tr u v k p = pair_arrive now l r f tl tr u v (q_arrive 
 
 -- ---- an end that is SettingUp ----
 -- it stays so, and counts nothing
-setting_keep : (g : Going) (r : State) (tl tr : List Frame) → g.link.phase ≡ SettingUp → r.phase ≡ Up → (g.link.acked ≡ 0) × (g.link.sent ≡ 0) × (high g.link ≡ 0) → opens_count tl ≤ 1 → Both (core g.link) (core r) (after_ua tl) (tr ++ g.outs) → PairSound g.link r tl (tr ++ g.outs)
+setting_keep : (g : Effect) (r : State) (tl tr : List Frame) → g.link.phase ≡ SettingUp → r.phase ≡ Up → (g.link.acked ≡ 0) × (g.link.sent ≡ 0) × (high g.link ≡ 0) → opens_count tl ≤ 1 → Both (core g.link) (core r) (after_ua tl) (tr ++ g.outs) → PairSound g.link r tl (tr ++ g.outs)
 setting_keep g r tl tr v w z o b = record {
   joined = subst (λ k. Joined k r.phase) (sym v) (subst (λ k. Joined SettingUp k) (sym w) tt);
   left_new = subst (λ k. SettingFine k g.link tl) (sym v) (z.0, z.1, z.2, o);
@@ -55,7 +55,7 @@ setting_keep g r tl tr v w z o b = record {
 }
 
 -- it has become Up
-setting_opened : (g : Going) (r : State) (tl tr : List Frame) → g.link.phase ≡ Up → r.phase ≡ Up → Both (core g.link) (core r) tl (tr ++ g.outs) → PairSound g.link r tl (tr ++ g.outs)
+setting_opened : (g : Effect) (r : State) (tl tr : List Frame) → g.link.phase ≡ Up → r.phase ≡ Up → Both (core g.link) (core r) tl (tr ++ g.outs) → PairSound g.link r tl (tr ++ g.outs)
 setting_opened g r tl tr v w b = record {
   joined = subst (λ k. Joined k r.phase) (sym v) (subst (λ k. Joined Up k) (sym w) tt);
   left_new = subst (λ k. SettingFine k g.link tl) (sym v) tt;
@@ -65,7 +65,7 @@ setting_opened g r tl tr v w b = record {
 }
 
 -- Fill and Finish lead from Up to Up or Releasing
-finish_phase_by : (c : Bool) (g h : Going) → g.link.phase ≡ Releasing → h.link.phase ≡ Up → ((if c then g else h).link.phase ≡ SettingUp) → ⊥
+finish_phase_by : (c : Bool) (g h : Effect) → g.link.phase ≡ Releasing → h.link.phase ≡ Up → ((if c then g else h).link.phase ≡ SettingUp) → ⊥
 finish_phase_by true g h a b v = absurd (cc (a, v))
 finish_phase_by false g h a b v = absurd (cc (b, v))
 
@@ -79,7 +79,7 @@ not_down_setting e = absurd (cc e)
 abbrev pub Stays : State → State → List Frame → List Frame → Type 0
 Stays l r tl tr = ((l.acked ≡ 0) × (l.sent ≡ 0) × (high l ≡ 0)) × (opens_count tl ≤ 1) × Both (core l) (core r) (after_ua tl) tr
 
-setting_idle : (g : Going) (r : State) (tl tr : List Frame) → g.link.phase ≡ SettingUp → r.phase ≡ Up → g.outs ≡ [] → Stays g.link r tl tr → PairSound g.link r tl (tr ++ g.outs)
+setting_idle : (g : Effect) (r : State) (tl tr : List Frame) → g.link.phase ≡ SettingUp → r.phase ≡ Up → g.outs ≡ [] → Stays g.link r tl tr → PairSound g.link r tl (tr ++ g.outs)
 setting_idle g r tl tr v w e s = setting_keep g r tl tr v w s.0 s.1 (subst (λ k. Both (core g.link) (core r) (after_ua tl) (tr ++ k)) (sym e) (subst (Both (core g.link) (core r) (after_ua tl)) (sym (append-nil tr)) s.2))
 
 -- a frame at an end that is SettingUp: l is the end, with its phase written out; stays is said of the rest of the queue where the frame doesn't open
@@ -87,10 +87,10 @@ setting_arrive : (now : ℕ) (command : Bool) (c : Kind) (p : Option Payload) (l
     ((arrive_setting now c (begin (record l { phase = SettingUp }))).link.phase ≡ SettingUp) ⊎ ((arrive_setting now c (begin (record l { phase = SettingUp }))).link.phase ≡ Up) →
     (opens c ≡ false → Stays l r tl tr) → (opens c ≡ true → Both (core l) (core r) tl tr) →
     PairSound (arrive_setting now c (begin (record l { phase = SettingUp }))).link r tl (tr ++ (arrive_setting now c (begin (record l { phase = SettingUp }))).outs)
-setting_arrive now command (Ua true) p l r tl tr w n (inl v) s o = absurd (finish_phase_by (is_up (fill now (opened now (begin (record l { phase = SettingUp })))).link.phase && (fill now (opened now (begin (record l { phase = SettingUp })))).link.closing && nat_eq (fill now (opened now (begin (record l { phase = SettingUp })))).link.acked (length (fill now (opened now (begin (record l { phase = SettingUp })))).link.given)) (timed now true (Disc true) (to_phase now Releasing (record (fill now (opened now (begin (record l { phase = SettingUp })))) { link = record (fill now (opened now (begin (record l { phase = SettingUp })))).link { tries = 0 } }))) (fill now (opened now (begin (record l { phase = SettingUp })))) refl refl v)
+setting_arrive now command (Ua true) p l r tl tr w n (inl v) s o = absurd (finish_phase_by (is_up (fill now (come_up now (begin (record l { phase = SettingUp })))).link.phase && (fill now (come_up now (begin (record l { phase = SettingUp })))).link.closing && nat_eq (fill now (come_up now (begin (record l { phase = SettingUp })))).link.acked (length (fill now (come_up now (begin (record l { phase = SettingUp })))).link.given)) (emit_timed now true (Disc true) (to_phase now Releasing (record (fill now (come_up now (begin (record l { phase = SettingUp })))) { link = record (fill now (come_up now (begin (record l { phase = SettingUp })))).link { tries = 0 } }))) (fill now (come_up now (begin (record l { phase = SettingUp })))) refl refl v)
 setting_arrive now command (Ua true) p l r tl tr w n (inr v) s o =
-    setting_opened (supply now (opened now (begin (record l { phase = SettingUp })))) r tl tr v w
-    (fine_supply now (opened now (begin (record l { phase = SettingUp }))) (core r) tl tr (fine_begin l (core r) tl tr (o refl)))
+    setting_opened (supply now (come_up now (begin (record l { phase = SettingUp })))) r tl tr v w
+    (fine_supply now (come_up now (begin (record l { phase = SettingUp }))) (core r) tl tr (fine_begin l (core r) tl tr (o refl)))
 setting_arrive now command (Ua false) p l r tl tr w n v s o = setting_idle (begin (record l { phase = SettingUp })) r tl tr refl w refl (s refl)
 setting_arrive now command (Dm true) p l r tl tr w n (inl v) s o = absurd (not_down_setting v)
 setting_arrive now command (Dm true) p l r tl tr w n (inr v) s o = absurd (not_down v)
@@ -98,7 +98,7 @@ setting_arrive now command (Dm false) p l r tl tr w n v s o = setting_idle (begi
 setting_arrive now command (SetUp pf) p l r tl tr w n v s o = absurd n
 setting_arrive now command (Disc pf) p l r tl tr w n v s o =
     let k = s refl in
-    setting_keep (put false (Dm pf) (begin (record l { phase = SettingUp }))) r tl tr refl w k.0 k.1
+    setting_keep (emit false (Dm pf) (begin (record l { phase = SettingUp }))) r tl tr refl w k.0 k.1
     (fine_other false (Dm pf) (begin l) (core r) (after_ua tl) tr refl refl (fine_begin l (core r) (after_ua tl) tr k.2))
 setting_arrive now command (I ns nr pf) p l r tl tr w n v s o = setting_idle (begin (record l { phase = SettingUp })) r tl tr refl w refl (s refl)
 setting_arrive now command (Rr nr pf) p l r tl tr w n v s o = setting_idle (begin (record l { phase = SettingUp })) r tl tr refl w refl (s refl)
@@ -114,7 +114,7 @@ setting_arrive now command Other p l r tl tr w n v s o = setting_idle (begin (re
 setting_not_up : SettingUp ≡ Up → ⊥
 setting_not_up e = absurd (cc e)
 
-pub keeps_of : (now : ℕ) (command : Bool) (c : Kind) (p : Option Payload) (g : Going) → NoSetUp c → (arrive_up now command c p g).link.phase ≡ Up → NoRestart c
+pub keeps_of : (now : ℕ) (command : Bool) (c : Kind) (p : Option Payload) (g : Effect) → NoSetUp c → (arrive_up now command c p g).link.phase ≡ Up → NoRestart c
 keeps_of now command (SetUp pf) p g n v = absurd n
 keeps_of now command (Frmr pf) p g n v = absurd (setting_not_up v)
 keeps_of now command (I ns nr pf) p g n v = tt
@@ -147,9 +147,9 @@ setting_send_by true now x l z = (refl, z.0, omega (arith, z.1), z.2)
 setting_send_by false now x l z = (refl, z.0, z.1, z.2)
 
 setting_tick_by : (c d : Bool) (now : ℕ) (l r : State) (tl tr : List Frame) → r.phase ≡ Up → Stays l r tl tr →
-    NoSetUps (if c then (if d then note Failed (to_phase now Down (begin (record l { phase = SettingUp }))) else timed now true (SetUp true) (begin (record l { phase = SettingUp; tries = suc l.tries }))) else begin (record l { phase = SettingUp })).outs →
-    ((if c then (if d then note Failed (to_phase now Down (begin (record l { phase = SettingUp }))) else timed now true (SetUp true) (begin (record l { phase = SettingUp; tries = suc l.tries }))) else begin (record l { phase = SettingUp })).link.phase ≡ SettingUp) ⊎ ((if c then (if d then note Failed (to_phase now Down (begin (record l { phase = SettingUp }))) else timed now true (SetUp true) (begin (record l { phase = SettingUp; tries = suc l.tries }))) else begin (record l { phase = SettingUp })).link.phase ≡ Up) →
-    PairSound (if c then (if d then note Failed (to_phase now Down (begin (record l { phase = SettingUp }))) else timed now true (SetUp true) (begin (record l { phase = SettingUp; tries = suc l.tries }))) else begin (record l { phase = SettingUp })).link r tl (tr ++ (if c then (if d then note Failed (to_phase now Down (begin (record l { phase = SettingUp }))) else timed now true (SetUp true) (begin (record l { phase = SettingUp; tries = suc l.tries }))) else begin (record l { phase = SettingUp })).outs)
+    NoSetUps (if c then (if d then note Failed (to_phase now Down (begin (record l { phase = SettingUp }))) else emit_timed now true (SetUp true) (begin (record l { phase = SettingUp; tries = suc l.tries }))) else begin (record l { phase = SettingUp })).outs →
+    ((if c then (if d then note Failed (to_phase now Down (begin (record l { phase = SettingUp }))) else emit_timed now true (SetUp true) (begin (record l { phase = SettingUp; tries = suc l.tries }))) else begin (record l { phase = SettingUp })).link.phase ≡ SettingUp) ⊎ ((if c then (if d then note Failed (to_phase now Down (begin (record l { phase = SettingUp }))) else emit_timed now true (SetUp true) (begin (record l { phase = SettingUp; tries = suc l.tries }))) else begin (record l { phase = SettingUp })).link.phase ≡ Up) →
+    PairSound (if c then (if d then note Failed (to_phase now Down (begin (record l { phase = SettingUp }))) else emit_timed now true (SetUp true) (begin (record l { phase = SettingUp; tries = suc l.tries }))) else begin (record l { phase = SettingUp })).link r tl (tr ++ (if c then (if d then note Failed (to_phase now Down (begin (record l { phase = SettingUp }))) else emit_timed now true (SetUp true) (begin (record l { phase = SettingUp; tries = suc l.tries }))) else begin (record l { phase = SettingUp })).outs)
 setting_tick_by true true now l r tl tr w s n (inl v) = absurd (not_down_setting v)
 setting_tick_by true true now l r tl tr w s n (inr v) = absurd (not_down v)
 setting_tick_by true false now l r tl tr w s n v = absurd n.0
@@ -194,7 +194,7 @@ step_setting : (now : ℕ) (l r : State) (i : Input) (tl tl2 tr : List Frame) �
     PairSound (step_at now (record l { phase = SettingUp }) i).link r tl2 (tr ++ (step_at now (record l { phase = SettingUp }) i).outs)
 step_setting now l r (Arrive f) tl tl2 tr u e n o v p =
     let q = setting_pair l r (f ∷ tl2) tr u (subst (λ k. PairSound l r k tr) e p) in
-    setting_arrive now f.command f.kind f.payload (record l { heard = now }) r tl2 tr q.0 n v
+    setting_arrive now f.command f.kind f.payload (record l { last_arrival = now }) r tl2 tr q.0 n v
     (λ k. (q.1, open_new (opens f.kind) (opens_count tl2) k q.2, stays_rest_by (opens f.kind) (core l) (core r) tl2 tr k q.3))
     (λ k. opens_rest_by (opens f.kind) (core l) (core r) tl2 tr k q.3)
 step_setting now l r (Send x) tl tl2 tr u e n o v p = let q = setting_pair l r tl2 tr u (subst (λ k. PairSound l r k tr) e p) in setting_call now (Send x) l r tl2 tr q.0 tt (q.1, q.2, q.3) o v
@@ -205,7 +205,7 @@ step_setting now l r Set_up tl tl2 tr u e n o v p = let q = setting_pair l r tl2
 
 step_up : (now : ℕ) (l r : State) (i : Input) (tl tl2 tr : List Frame) → l.phase ≡ Up → Queue i tl tl2 → NoSetUpIn i → (step_at now l i).link.phase ≡ Up → PairSound l r tl tr → PairSound (step_at now l i).link r tl2 (tr ++ (step_at now l i).outs)
 step_up now l r (Arrive f) tl tl2 tr u e n v p =
-    step_arrive now l r f tl2 tr u v (keeps_of now f.command f.kind f.payload (begin (record l { heard = now })) n (subst (λ ph. (arrive_in ph now f (begin (record l { heard = now }))).link.phase ≡ Up) u v)) (subst (λ k. PairSound l r k tr) e p)
+    step_arrive now l r f tl2 tr u v (keeps_of now f.command f.kind f.payload (begin (record l { last_arrival = now })) n (subst (λ ph. (arrive_in ph now f (begin (record l { last_arrival = now }))).link.phase ≡ Up) u v)) (subst (λ k. PairSound l r k tr) e p)
 step_up now l r (Send x) tl tl2 tr u e n v p = step_call now l r (Send x) tl2 tr u v tt (subst (λ k. PairSound l r k tr) e p)
 step_up now l r Close tl tl2 tr u e n v p = step_call now l r Close tl2 tr u v tt (subst (λ k. PairSound l r k tr) e p)
 step_up now l r Take tl tl2 tr u e n v p = step_call now l r Take tl2 tr u v tt (subst (λ k. PairSound l r k tr) e p)

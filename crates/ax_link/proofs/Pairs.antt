@@ -2,7 +2,7 @@
 use Rattle.std.proofs.Common.{◌≡◌, ℕ, suc, ◌+◌, ◌≤◌, List, [], ◌∷◌, ◌++◌, length, Option, Some, None, refl, ap, sym, arith, max, true, false, Bool, subst, if◌then◌else◌}
 use Rattle.std.proofs.lemmas.Bool.Decides.{nat_tests}
 use mathlib.Core.List.{IsPrefix}
-use Rattle.ax_link.specs.State.{State, Frame, Going, begin, high, top}
+use Rattle.ax_link.specs.State.{State, Frame, Effect, begin, high, top}
 use Rattle.ax_link.specs.Table.{Input, Send, Arrive, Tick, Close, Take, Set_up, step_at, arrive_in}
 use Rattle.ax_link.specs.declared.plain.LinkPhase.TheVariants.{Down, SettingUp, Up, Releasing}
 use Rattle.ax_link.specs.declared.plain.LinkPhase.{LinkPhase}
@@ -34,13 +34,13 @@ acks_back size got (r ∷ rs) ss low p = acks_back size got rs ss low (acks_unde
 pub both_front : (me other : Core) (to_me xs ys : List Frame) → Both me other to_me (xs ++ ys) → Both me other to_me xs
 both_front me other to_me xs ys b = record {
   out = way_texts me other (xs ++ ys) to_me xs b.out (texts_front me.given me.rules.size me.rules.window me.sent (texts_of xs) (texts_of ys) (reach other) (subst (λ k. TextsFine me.given me.rules.size me.rules.window me.sent k (reach other)) (texts_append xs ys) b.out.texts));
-  back = way_acks other me to_me (xs ++ ys) xs b.back (acks_front other.rules.size (length me.gots) (acks_of xs) (acks_of ys) other.acked (subst (λ k. AcksFine other.rules.size (length me.gots) k other.acked) (acks_append xs ys) b.back.acks));
+  back = way_acks other me to_me (xs ++ ys) xs b.back (acks_front other.rules.size (length me.received) (acks_of xs) (acks_of ys) other.acked (subst (λ k. AcksFine other.rules.size (length me.received) k other.acked) (acks_append xs ys) b.back.acks));
 }
 
 pub both_back : (me other : Core) (to_me xs ys : List Frame) → Both me other to_me (xs ++ ys) → Both me other to_me ys
 both_back me other to_me xs ys b = record {
   out = way_texts me other (xs ++ ys) to_me ys b.out (texts_back me.given me.rules.size me.rules.window me.sent (texts_of xs) (texts_of ys) (reach other) (subst (λ k. TextsFine me.given me.rules.size me.rules.window me.sent k (reach other)) (texts_append xs ys) b.out.texts));
-  back = way_acks other me to_me (xs ++ ys) ys b.back (acks_back other.rules.size (length me.gots) (acks_of xs) (acks_of ys) other.acked (subst (λ k. AcksFine other.rules.size (length me.gots) k other.acked) (acks_append xs ys) b.back.acks));
+  back = way_acks other me to_me (xs ++ ys) ys b.back (acks_back other.rules.size (length me.received) (acks_of xs) (acks_of ys) other.acked (subst (λ k. AcksFine other.rules.size (length me.received) k other.acked) (acks_append xs ys) b.back.acks));
 }
 
 pub both_swap : (a b : Core) (x y : List Frame) → Both a b x y → Both b a y x
@@ -94,7 +94,7 @@ up_counted : (ph : LinkPhase) (fs : List Frame) → ph ≡ Up → counted ph fs 
 up_counted ph fs e = ap (λ k. counted k fs) e
 
 -- the left end was Up and is Up: from what the step gives
-pub pair_up : (l r : State) (g : Going) (tl tl2 tr : List Frame) → l.phase ≡ Up → g.link.phase ≡ Up → opens_count g.outs ≡ 0 →
+pub pair_up : (l r : State) (g : Effect) (tl tl2 tr : List Frame) → l.phase ≡ Up → g.link.phase ≡ Up → opens_count g.outs ≡ 0 →
     PairSound l r tl tr → (Both (core l) (core r) tl (counted r.phase tr) → Fine g (core r) tl2 (counted r.phase tr)) → PairSound g.link r tl2 (tr ++ g.outs)
 pair_up l r g tl tl2 tr u v q p step =
     let before : Both (core l) (core r) tl (counted r.phase tr) = subst (λ k. Both (core l) (core r) k (counted r.phase tr)) (up_counted l.phase tl u) (record { out = p.rightward; back = p.leftward }) in
@@ -126,8 +126,8 @@ pair_call now l r (Arrive f) tl tr u v q c p = absurd c
 -- the oldest frame arrives at an end that is Up and stays Up
 pub pair_arrive : (now : ℕ) (l r : State) (f : Frame) (tl tr : List Frame) → l.phase ≡ Up → (step_at now l (Arrive f)).link.phase ≡ Up → opens_count (step_at now l (Arrive f)).outs ≡ 0 → NoRestart f.kind → PairSound l r (f ∷ tl) tr → PairSound (step_at now l (Arrive f)).link r tl (tr ++ (step_at now l (Arrive f)).outs)
 pair_arrive now l r f tl tr u v q c p = pair_up l r (step_at now l (Arrive f)) (f ∷ tl) tl tr u v q p
-    (λ b. subst (λ ph. Fine (arrive_in ph now f (begin (record l { heard = now }))) (core r) tl (counted r.phase tr)) (sym u)
-    (fine_up now f.command f.kind f.payload (begin (record l { heard = now })) (core r) tl (counted r.phase tr) c (fine_begin l (core r) (f ∷ tl) (counted r.phase tr) b)))
+    (λ b. subst (λ ph. Fine (arrive_in ph now f (begin (record l { last_arrival = now }))) (core r) tl (counted r.phase tr)) (sym u)
+    (fine_up now f.command f.kind f.payload (begin (record l { last_arrival = now })) (core r) tl (counted r.phase tr) c (fine_begin l (core r) (f ∷ tl) (counted r.phase tr) b)))
 
 pub both_lost_first : (me other : Core) (f : Frame) (to_me to_other : List Frame) → Both me other (f ∷ to_me) to_other → Both me other to_me to_other
 both_lost_first me other f to_me to_other b = both_swap other me to_other to_me (both_back other me to_other (f ∷ []) to_me (both_swap me other (f ∷ to_me) to_other b))
@@ -188,8 +188,8 @@ prefix_none : (xs ys : List Payload) → length xs ≡ 0 → IsPrefix xs ys
 prefix_none [] ys e = (ys, refl)
 prefix_none (x ∷ xs) ys e = absurd (omega (arith, e))
 
-new_prefix : (s : State) (xs : List Payload) → high s ≡ 0 → IsPrefix s.gots xs
-new_prefix s xs e = prefix_none s.gots xs (omega (arith, e))
+new_prefix : (s : State) (xs : List Payload) → high s ≡ 0 → IsPrefix s.received xs
+new_prefix s xs e = prefix_none s.received xs (omega (arith, e))
 
 new_early : (given : List Payload) (base : ℕ) (e : List (Option Payload)) → top e ≡ 0 → EarlyFine given base e
 new_early given base [] z = tt
@@ -201,9 +201,9 @@ pub new_way : (a b : State) (forth back : List Frame) → Fits (core a) (core b)
 new_way a b forth back f m n t k = record {
   fits = f;
   begun = new_prefix b a.given n.high;
-  early = new_early a.given (length b.gots) b.early (omega (arith, n.high));
+  early = new_early a.given (length b.received) b.early (omega (arith, n.high));
   texts = subst (λ ts. TextsFine a.given a.rules.size a.rules.window a.sent ts (high b)) (sym t) (omega (arith, n.high));
-  acks = subst (λ rs. AcksFine a.rules.size (length b.gots) rs a.acked) (sym k) (omega (arith, m.acked));
+  acks = subst (λ rs. AcksFine a.rules.size (length b.received) rs a.acked) (sym k) (omega (arith, m.acked));
   window = omega (arith, m.sent);
   room = omega (arith, m.sent);
 }
@@ -223,6 +223,6 @@ pair_start l r tl tr u v f g m n o t1 a1 t2 a2 =
     }
 
 -- what a sound pair gives
-pub pair_safe : (l r : State) (tl tr : List Frame) → PairSound l r tl tr → IsPrefix r.gots l.given × IsPrefix l.gots r.given × (l.acked ≤ length r.gots) × (r.acked ≤ length l.gots)
+pub pair_safe : (l r : State) (tl tr : List Frame) → PairSound l r tl tr → IsPrefix r.received l.given × IsPrefix l.received r.given × (l.acked ≤ length r.received) × (r.acked ≤ length l.received)
 pair_safe l r tl tr p =
     (p.rightward.begun, p.leftward.begun, (way_order (core l) (core r) (counted r.phase tr) (counted l.phase tl) p.rightward).0, (way_order (core r) (core l) (counted l.phase tl) (counted r.phase tr) p.leftward).0)

@@ -70,14 +70,14 @@ both_up w s l r = record { set_ups = s; left = λ e. l; right = λ e. r }
 one : 1 + 0 ≤ 1
 one = omega arith
 
-pub carries : (p : Payload) → CleanRun (two_new false) (carrying p) × ((run (two_new false) (carrying p)).right.link.gots ≡ p ∷ []) × ((run (two_new false) (carrying p)).left.link.acked ≡ 1)
+pub carries : (p : Payload) → CleanRun (two_new false) (carrying p) × ((run (two_new false) (carrying p)).right.link.received ≡ p ∷ []) × ((run (two_new false) (carrying p)).left.link.acked ≡ 1)
 carries p = (
   (not_up _ (omega arith) refl refl, (not_up _ one refl refl, (right_up _ one refl refl, (both_up _ one refl refl, (both_up _ one refl refl, (both_up _ one refl refl, both_up _ one refl refl)))))),
   refl,
   refl,
 )
 
-pub carries_early : (p q : Payload) → CleanRun (two_new true) (losing p q) × ((run (two_new true) (losing p q)).right.link.gots ≡ p ∷ q ∷ []) × ((run (two_new true) (losing p q)).left.link.acked ≡ 2)
+pub carries_early : (p q : Payload) → CleanRun (two_new true) (losing p q) × ((run (two_new true) (losing p q)).right.link.received ≡ p ∷ q ∷ []) × ((run (two_new true) (losing p q)).left.link.acked ≡ 2)
 carries_early p q = (
   (
     not_up _ (omega arith) refl refl,

@@ -6,8 +6,8 @@ use Rattle.ax_link.specs.declared.kind.Kind.TheVariants.{I, Rr, Rnr, Rej, Srej, 
 use Rattle.ax_link.specs.declared.plain.LinkNotice.TheVariants.{Failed}
 use Rattle.ax_link.specs.declared.plain.LinkPhase.{LinkPhase}
 use Rattle.ax_link.specs.declared.plain.LinkPhase.TheVariants.{Down, SettingUp, Up, Releasing}
-use Rattle.ax_link.specs.Moves.{note, to_phase, timed, fill}
-use Rattle.ax_link.specs.State.{State, Frame, Going, begin, high, places, top}
+use Rattle.ax_link.specs.Moves.{note, to_phase, emit_timed, fill}
+use Rattle.ax_link.specs.State.{State, Frame, Effect, begin, high, places, top}
 use Rattle.ax_link.specs.Table.{Input, Set_up, Send, Arrive, Tick, Close, Take, step_at, arrive_in, arrive_down, takes}
 use Rattle.ax_link.specs.Pair.{Core, core, Fits, IsNew, NoSetUps, after_ua, texts_of, acks_of}
 use Rattle.ax_link.specs.Runs.{set_ups_in}
@@ -16,21 +16,21 @@ use Rattle.ax_link.proofs.PairSteps.{NoArrival}
 use Rattle.ax_link.proofs.RunStates.{NotUp, setting, IsSetUp, SetUpsOnly, Starting, Holds, only_count, only_more, empty, top_none, fits_left, fits_right}
 
 -- ---- a call before any end is Up ----
-pub record Early (l : State) (g : Going) : Type 0 where
+pub record Early (l : State) (g : Effect) : Type 0 where
   pub phase : NotUp g.link.phase
   pub new : IsNew g.link
   pub rules : g.link.rules ≡ l.rules
   pub only : SetUpsOnly g.outs
   pub count : setting g.link.phase ≤ setting l.phase + length g.outs
 
-pub early_new : (l : State) (g : Going) → IsNew l → g.link.acked ≡ l.acked → g.link.sent ≡ l.sent → high g.link ≡ high l → IsNew g.link
+pub early_new : (l : State) (g : Effect) → IsNew l → g.link.acked ≡ l.acked → g.link.sent ≡ l.sent → high g.link ≡ high l → IsNew g.link
 early_new l g n a s h = record { acked = a ∙ n.acked; sent = s ∙ n.sent; high = h ∙ n.high }
 
 -- nothing but what the law doesn't read changes
-pub early_same : (l : State) (g : Going) → NotUp l.phase → IsNew l → core g.link ≡ core l → g.link.phase ≡ l.phase → g.outs ≡ [] → Early l g
+pub early_same : (l : State) (g : Effect) → NotUp l.phase → IsNew l → core g.link ≡ core l → g.link.phase ≡ l.phase → g.outs ≡ [] → Early l g
 early_same l g u n e p o = record {
   phase = subst NotUp (sym p) u;
-  new = early_new l g n (ap (λ (k : Core). k.acked) e) (ap (λ (k : Core). k.sent) e) (ap (λ (k : Core). length k.gots + top k.early) e);
+  new = early_new l g n (ap (λ (k : Core). k.acked) e) (ap (λ (k : Core). k.sent) e) (ap (λ (k : Core). length k.received + top k.early) e);
   rules = ap (λ (k : Core). k.rules) e;
   only = subst SetUpsOnly (sym o) tt;
   count = subst (λ k. setting k ≤ setting l.phase + length g.outs) (sym p) (omega arith);
@@ -45,7 +45,7 @@ early_down now Close l n k = early_same (record l { phase = Down }) (begin (reco
 early_down now Take l n k = early_same (record l { phase = Down }) (begin (record l { phase = Down; inbox = drop 1 l.inbox })) tt (record { acked = n.acked; sent = n.sent; high = n.high }) refl refl refl
 
 pub early_tick : (c d : Bool) (now : ℕ) (l : State) → IsNew l →
-    Early (record l { phase = SettingUp }) (if c then (if d then note Failed (to_phase now Down (begin (record l { phase = SettingUp }))) else timed now true (SetUp true) (begin (record l { phase = SettingUp; tries = suc l.tries }))) else begin (record l { phase = SettingUp }))
+    Early (record l { phase = SettingUp }) (if c then (if d then note Failed (to_phase now Down (begin (record l { phase = SettingUp }))) else emit_timed now true (SetUp true) (begin (record l { phase = SettingUp; tries = suc l.tries }))) else begin (record l { phase = SettingUp }))
 early_tick true true now l n = record { phase = tt; new = record { acked = n.acked; sent = n.sent; high = n.high }; rules = refl; only = tt; count = omega arith }
 early_tick true false now l n = record { phase = tt; new = record { acked = n.acked; sent = n.sent; high = n.high }; rules = refl; only = (tt, tt); count = omega arith }
 early_tick false d now l n = record { phase = tt; new = record { acked = n.acked; sent = n.sent; high = n.high }; rules = refl; only = tt; count = omega arith }
@@ -99,7 +99,7 @@ behind_opens true = refl
 behind_opens false = refl
 
 -- an end has just opened; nothing but its answer is under way
-pub open_in : (ph : LinkPhase) (g : Going) (pf : Bool) (r : State) (a b : ℕ) → r.phase ≡ ph → NotUp ph → g.link.phase ≡ Up → IsNew g.link → IsNew r →
+pub open_in : (ph : LinkPhase) (g : Effect) (pf : Bool) (r : State) (a b : ℕ) → r.phase ≡ ph → NotUp ph → g.link.phase ≡ Up → IsNew g.link → IsNew r →
     Fits (core g.link) (core r) → Fits (core r) (core g.link) → g.outs ≡ record { command = false; kind = Ua pf; payload = None } ∷ [] → 1 ≤ a + b → Holds g.link r [] g.outs a b
 open_in Down g pf r a b e u v n m f h o t = inr (inr (inl (record {
   up = v;
@@ -151,7 +151,7 @@ starting_arrival now f l r tl tr a b s c w =
     let x : tl ≡ [] = empty tl (omega (arith, w.left_coming, c)) in
     let y : tr ≡ [] = empty tr (omega (arith, w.left_coming, w.right_coming, c)) in
     let h : Holds (step_at now l (Arrive f)).link r [] (step_at now l (Arrive f)).outs (a + s) b =
-    arrival_in l.phase f.kind f.command f.payload now (record l { heard = now }) r (a + s) b w.left_only.0 w.left_phase (omega (arith, w.left_setting, w.left_coming, c)) w.right_phase w.right_new
-    (fits_left (core l) (core (record l { heard = now })) (core r) refl w.rightward) (fits_right (core r) (core l) (core (record l { heard = now })) refl w.leftward) (omega (arith, w.left_coming)) in
+    arrival_in l.phase f.kind f.command f.payload now (record l { last_arrival = now }) r (a + s) b w.left_only.0 w.left_phase (omega (arith, w.left_setting, w.left_coming, c)) w.right_phase w.right_new
+    (fits_left (core l) (core (record l { last_arrival = now })) (core r) refl w.rightward) (fits_right (core r) (core l) (core (record l { last_arrival = now })) refl w.leftward) (omega (arith, w.left_coming)) in
     subst (λ q. Holds (step_at now l (Arrive f)).link r q (tr ++ (step_at now l (Arrive f)).outs) (a + s) b) (sym x)
     (subst (λ q. Holds (step_at now l (Arrive f)).link r [] (q ++ (step_at now l (Arrive f)).outs) (a + s) b) (sym y) h)

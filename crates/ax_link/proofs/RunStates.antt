@@ -4,7 +4,7 @@ use Rattle.ax_link.specs.declared.kind.Kind.{Kind}
 use Rattle.ax_link.specs.declared.kind.Kind.TheVariants.{I, Rr, Rnr, Rej, Srej, Disc, Dm, Ua, Frmr, SetUp, OtherSetUp, Xid, Other}
 use Rattle.ax_link.specs.declared.plain.LinkPhase.{LinkPhase}
 use Rattle.ax_link.specs.declared.plain.LinkPhase.TheVariants.{Down, SettingUp, Up, Releasing}
-use Rattle.ax_link.specs.State.{State, Frame, Going, top}
+use Rattle.ax_link.specs.State.{State, Frame, Effect, top}
 use Rattle.ax_link.specs.Pair.{Both, Core, core, Fits, IsNew, PairSound, NoSetUp, NoSetUps}
 use Rattle.ax_link.specs.Runs.{set_ups_in, sets_up, told_opened}
 
@@ -64,7 +64,7 @@ abbrev pub Holds : State → State → List Frame → List Frame → ℕ → ℕ
 Holds l r tl tr a b = Starting l r tl tr a b ⊎ (Joint l r tl tr a b ⊎ (Lonely l r tl tr a b ⊎ Lonely r l tr tl b a))
 
 -- what a clean step keeps
-pub record Kept (l : State) (g : Going) : Type 0 where
+pub record Kept (l : State) (g : Effect) : Type 0 where
   pub up : l.phase ≡ Up → g.link.phase ≡ Up
   pub told : told_opened g.notes ≡ true → g.link.phase ≡ Up
 

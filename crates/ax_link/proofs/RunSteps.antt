@@ -6,9 +6,9 @@ use Rattle.ax_link.specs.declared.kind.Kind.TheVariants.{I, Rr, Rnr, Rej, Srej, 
 use Rattle.ax_link.specs.declared.plain.LinkNotice.TheVariants.{Failed}
 use Rattle.ax_link.specs.declared.plain.LinkPhase.{LinkPhase}
 use Rattle.ax_link.specs.declared.plain.LinkPhase.TheVariants.{Down, SettingUp, Up, Releasing}
-use Rattle.ax_link.specs.Moves.{note, to_phase, timed, fill, supply, release}
-use Rattle.ax_link.specs.State.{State, Frame, Going, begin, is_up}
-use Rattle.ax_link.specs.Table.{refused_if, Input, Set_up, Send, Arrive, Tick, Close, Take, step_at, arrive_in, arrive_down, arrive_setting, opened, takes}
+use Rattle.ax_link.specs.Moves.{note, to_phase, emit_timed, fill, supply, release}
+use Rattle.ax_link.specs.State.{State, Frame, Effect, begin, is_up}
+use Rattle.ax_link.specs.Table.{refuse_if, Input, Set_up, Send, Arrive, Tick, Close, Take, step_at, arrive_in, arrive_down, arrive_setting, come_up, takes}
 use Rattle.ax_link.specs.Pair.{Both, Joined, NoRestartIn, Core, core, Queue, InScope, NoSetUp, NoSetUps, NoSetUpIn, after_ua, texts_of, acks_of}
 use Rattle.ax_link.specs.Runs.{set_ups_in, told_opened}
 use Rattle.ax_link.proofs.Steps.{texts_append, acks_append}
@@ -19,24 +19,24 @@ use Rattle.ax_link.proofs.RunStates.{Joint, Lonely, Holds, Kept, none_more, none
 
 -- ---- a step of an end that takes part ----
 -- an end that is SettingUp gives up
-pub record GivesUp (s : Core) (g : Going) : Type 0 where
+pub record GivesUp (s : Core) (g : Effect) : Type 0 where
   pub phase : g.link.phase ≡ Down
   pub same : core g.link ≡ s
   pub outs : g.outs ≡ []
 
-abbrev pub Turns : Core → Going → Type 0
+abbrev pub Turns : Core → Effect → Type 0
 Turns s g = (g.link.phase ≡ SettingUp) ⊎ ((g.link.phase ≡ Up) ⊎ GivesUp s g)
 
-pub told_by : (c : Bool) (g h : Going) → told_opened g.notes ≡ true → told_opened h.notes ≡ true → told_opened (if c then g else h).notes ≡ true
+pub told_by : (c : Bool) (g h : Effect) → told_opened g.notes ≡ true → told_opened h.notes ≡ true → told_opened (if c then g else h).notes ≡ true
 told_by true g h x y = x
 told_by false g h x y = y
 
-pub told_supply : (now : ℕ) (g : Going) → told_opened g.notes ≡ true → told_opened (supply now g).notes ≡ true
+pub told_supply : (now : ℕ) (g : Effect) → told_opened g.notes ≡ true → told_opened (supply now g).notes ≡ true
 told_supply now g e = told_by (is_up (fill now g).link.phase && (fill now g).link.closing && nat_eq (fill now g).link.acked (length (fill now g).link.given)) (release now (fill now g)) (fill now g) e e
 
 pub turns_arrive : (now : ℕ) (c : Kind) (l : State) → (told_opened (arrive_setting now c (begin (record l { phase = SettingUp }))).notes ≡ true → (arrive_setting now c (begin (record l { phase = SettingUp }))).link.phase ≡ Up) →
     Turns (core l) (arrive_setting now c (begin (record l { phase = SettingUp })))
-turns_arrive now (Ua true) l t = inr (inl (t (told_supply now (opened now (begin (record l { phase = SettingUp }))) refl)))
+turns_arrive now (Ua true) l t = inr (inl (t (told_supply now (come_up now (begin (record l { phase = SettingUp }))) refl)))
 turns_arrive now (Ua false) l t = inl refl
 turns_arrive now (Dm true) l t = inr (inr (record { phase = refl; same = refl; outs = refl }))
 turns_arrive now (Dm false) l t = inl refl
@@ -53,7 +53,7 @@ turns_arrive now (Xid pf) l t = inl refl
 turns_arrive now Other l t = inl refl
 
 pub turns_tick : (c d : Bool) (now : ℕ) (l : State) →
-    Turns (core l) (if c then (if d then note Failed (to_phase now Down (begin (record l { phase = SettingUp }))) else timed now true (SetUp true) (begin (record l { phase = SettingUp; tries = suc l.tries }))) else begin (record l { phase = SettingUp }))
+    Turns (core l) (if c then (if d then note Failed (to_phase now Down (begin (record l { phase = SettingUp }))) else emit_timed now true (SetUp true) (begin (record l { phase = SettingUp; tries = suc l.tries }))) else begin (record l { phase = SettingUp }))
 turns_tick true true now l = inr (inr (record { phase = refl; same = refl; outs = refl }))
 turns_tick true false now l = inl refl
 turns_tick false d now l = inl refl
@@ -65,7 +65,7 @@ turns_send false now x l = refl
 
 pub turns : (now : ℕ) (i : Input) (l : State) → (told_opened (step_at now (record l { phase = SettingUp }) i).notes ≡ true → (step_at now (record l { phase = SettingUp }) i).link.phase ≡ Up) →
     Turns (core l) (step_at now (record l { phase = SettingUp }) i)
-turns now (Arrive f) l t = turns_arrive now f.kind (record l { heard = now }) t
+turns now (Arrive f) l t = turns_arrive now f.kind (record l { last_arrival = now }) t
 turns now Set_up l t = inl refl
 turns now (Send x) l t = inl (turns_send (takes (record l { phase = SettingUp })) now x l)
 turns now Tick l t = turns_tick (nat_le l.t1_at now) (nat_eq l.tries l.rules.retries) now l
@@ -104,7 +104,7 @@ joint_stays now i l r tl tl2 tr a b e c k s w =
     }
 
 -- the end that is SettingUp gives up: the other is left alone
-pub joint_ends : (g : Going) (l r : State) (tl tl2 tr : List Frame) (a a2 b : ℕ) → l.phase ≡ SettingUp → GivesUp (core l) g → NoSetUps tl2 → 1 ≤ a2 + b → Joint l r tl tr a b →
+pub joint_ends : (g : Effect) (l r : State) (tl tl2 tr : List Frame) (a a2 b : ℕ) → l.phase ≡ SettingUp → GivesUp (core l) g → NoSetUps tl2 → 1 ≤ a2 + b → Joint l r tl tr a b →
     Lonely r g.link (tr ++ g.outs) tl2 b a2
 joint_ends g l r tl tl2 tr a a2 b u v n t w =
     let p = setting_pair l r tl tr u w.sound in
@@ -138,7 +138,7 @@ joint_in Releasing now i l r tl tl2 tr a b u e c k w = absurd (joined_releasing 
 
 -- ---- an end that is left alone ----
 pub restart_none : (now : ℕ) (l : State) (i : Input) → l.phase ≡ Up → (step_at now l i).link.phase ≡ Up → NoSetUpIn i → NoRestartIn i
-restart_none now l (Arrive f) u v n = keeps_of now f.command f.kind f.payload (begin (record l { heard = now })) n (subst (λ ph. (arrive_in ph now f (begin (record l { heard = now }))).link.phase ≡ Up) u v)
+restart_none now l (Arrive f) u v n = keeps_of now f.command f.kind f.payload (begin (record l { last_arrival = now })) n (subst (λ ph. (arrive_in ph now f (begin (record l { last_arrival = now }))).link.phase ≡ Up) u v)
 restart_none now l Set_up u v n = tt
 restart_none now l (Send x) u v n = tt
 restart_none now l Tick u v n = tt
@@ -161,13 +161,13 @@ lonely_up now i l r tl tl2 tr a b e c k w =
     }
 
 -- an end that is Down and isn't set up stays so; at most it refuses
-pub record Rests (s : Core) (g : Going) : Type 0 where
+pub record Rests (s : Core) (g : Effect) : Type 0 where
   pub phase : g.link.phase ≡ Down
   pub same : core g.link ≡ s
   pub texts : texts_of g.outs ≡ []
   pub acks : acks_of g.outs ≡ []
 
-pub rests_refused : (b pf : Bool) (l : State) → Rests (core l) (refused_if b pf (begin (record l { phase = Down })))
+pub rests_refused : (b pf : Bool) (l : State) → Rests (core l) (refuse_if b pf (begin (record l { phase = Down })))
 rests_refused true pf l = record { phase = refl; same = refl; texts = refl; acks = refl }
 rests_refused false pf l = record { phase = refl; same = refl; texts = refl; acks = refl }
 
@@ -187,7 +187,7 @@ rests_arrive now command (Frmr pf) l n = record { phase = refl; same = refl; tex
 rests_arrive now command Other l n = record { phase = refl; same = refl; texts = refl; acks = refl }
 
 pub rests : (now : ℕ) (i : Input) (l : State) → NoSetUpIn i → NoSetUps (step_at now (record l { phase = Down }) i).outs → Rests (core l) (step_at now (record l { phase = Down }) i)
-rests now (Arrive f) l n o = rests_arrive now f.command f.kind (record l { heard = now }) n
+rests now (Arrive f) l n o = rests_arrive now f.command f.kind (record l { last_arrival = now }) n
 rests now Set_up l n o = absurd o.0
 rests now (Send x) l n o = record { phase = refl; same = refl; texts = refl; acks = refl }
 rests now Tick l n o = record { phase = refl; same = refl; texts = refl; acks = refl }

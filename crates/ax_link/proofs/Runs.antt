@@ -3,10 +3,10 @@ use Rattle.std.proofs.Common.{◌≡◌, ℕ, ◌+◌, ◌≤◌, Bool, true, fa
 use Rattle.radio_base.specs.declared.modulus.TheConstants.{COUNT_MAX}
 use Rattle.ax_link.specs.declared.plain.LinkPhase.{LinkPhase}
 use Rattle.ax_link.specs.declared.plain.LinkPhase.TheVariants.{Down, Up}
-use Rattle.ax_link.specs.State.{State, Frame, Going, is_up}
+use Rattle.ax_link.specs.State.{State, Frame, Effect, is_up}
 use Rattle.ax_link.specs.Table.{Input, Set_up, Send, Arrive, Tick, Close, Take, step_at}
 use Rattle.ax_link.specs.Pair.{Both, core, Queue, counted}
-use Rattle.ax_link.specs.Runs.{Clean, CleanRun, End, Ends, Event, Calls, Comes, Lost, Safe, Side, Left, Right, Starts, after, arrives, at_left, happens, loses, run, set_ups_in, steps, swapped, told_opened}
+use Rattle.ax_link.specs.Runs.{Clean, CleanRun, End, Ends, Event, Calls, Comes, Lost, Safe, Side, Left, Right, Starts, after, arrives, at_left, happens, loses, run, set_ups_in, steps, swap, told_opened}
 use Rattle.ax_link.proofs.Steps.{way_order}
 use Rattle.ax_link.proofs.Pairs.{pair_lost, pair_swap, new_way, both_swap, both_lost_first}
 use Rattle.ax_link.proofs.PairSteps.{not_down}
@@ -75,10 +75,10 @@ pub record Always (w : Ends) : Type 0 where
   pub left : Marked w.left
   pub right : Marked w.right
 
-pub other_always : (w : Ends) → Always w → Always (swapped w)
+pub other_always : (w : Ends) → Always w → Always (swap w)
 other_always w v = record { holds = other_holds w.left.link w.right.link w.left.coming w.right.coming w.left.set_ups w.right.set_ups v.holds; left = v.right; right = v.left }
 
-pub other_clean : (w : Ends) → Clean (swapped w) → Clean w
+pub other_clean : (w : Ends) → Clean (swap w) → Clean w
 other_clean w c = record { set_ups = omega (arith, c.set_ups); left = c.right; right = c.left }
 
 pub or_first : (a b : Bool) → a ≡ true → (a || b) ≡ true
@@ -90,13 +90,13 @@ or_second true b e = refl
 or_second false b e = e
 
 -- what a step of the left end shows, where it is clean
-pub kept_by : (e : End) (g : Going) (coming : List Frame) → Marked e → ((after e g coming).was_up ≡ true → g.link.phase ≡ Up) → Kept e.link g
+pub kept_by : (e : End) (g : Effect) (coming : List Frame) → Marked e → ((after e g coming).was_up ≡ true → g.link.phase ≡ Up) → Kept e.link g
 kept_by e g coming m c = record {
   up = λ u. c (or_first e.was_up (is_up g.link.phase || told_opened g.notes) (m u));
   told = λ t. c (or_second e.was_up (is_up g.link.phase || told_opened g.notes) (or_second (is_up g.link.phase) (told_opened g.notes) t));
 }
 
-pub marked_after : (e : End) (g : Going) (coming : List Frame) → Marked (after e g coming)
+pub marked_after : (e : End) (g : Effect) (coming : List Frame) → Marked (after e g coming)
 marked_after e g coming u = or_second e.was_up (is_up g.link.phase || told_opened g.notes) (or_first (is_up g.link.phase) (told_opened g.notes) (ap is_up u))
 
 pub step_always : (now : ℕ) (i : Input) (w : Ends) (coming : List Frame) → Queue i w.left.coming coming → Always w → Clean (steps w (step_at now w.left.link i) coming) → Always (steps w (step_at now w.left.link i) coming)
@@ -130,7 +130,7 @@ left_always w Lost v c = loses_always w w.left.coming refl v
 
 pub happens_always : (w : Ends) (s : Side) (e : Event) → Always w → Clean (happens w s e) → Always (happens w s e)
 happens_always w Left e v c = left_always w e v c
-happens_always w Right e v c = other_always (at_left (swapped w) e) (left_always (swapped w) e (other_always w v) (other_clean (at_left (swapped w) e) c))
+happens_always w Right e v c = other_always (at_left (swap w) e) (left_always (swap w) e (other_always w v) (other_clean (at_left (swap w) e) c))
 
 pub clean_first : (w : Ends) (es : List (Side × Event)) → CleanRun w es → Clean w
 clean_first w [] c = c

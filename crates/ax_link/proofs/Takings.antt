@@ -1,7 +1,7 @@
 -- What is taken in a clean run.
 use Rattle.std.proofs.Common.{◌<◌, ℕ, List, [], ◌∷◌, ◌++◌, sym, ap, ◌∙◌, append_assoc}
 use mathlib.Core.List.{IsPrefix, IsSuffix}
-use Rattle.ax_link.specs.Runs.{Calls, Comes, Ends, EndsBounded, Event, Left, Lost, Right, Safe, Side, TakenIn, TakenSafe, arrives, at_left, called, happens, loses, new_ends, run, swapped}
+use Rattle.ax_link.specs.Runs.{Calls, Comes, Ends, EndsBounded, Event, Left, Lost, Right, Safe, Side, TakenIn, TakenSafe, arrives, at_left, called, happens, loses, new_ends, run, swap}
 use Rattle.ax_link.specs.State.{Frame, Rules, State}
 use Rattle.ax_link.specs.Table.{Input, Set_up, Send, Arrive, Tick, Close, Take}
 use Rattle.ax_link.proofs.PutOut.{bounds_stay, emptied}
@@ -27,21 +27,21 @@ left_bounds w (Calls i now) b = called_bounds w i now b
 left_bounds w (Comes now) b = arrives_bounds w now w.left.coming b
 left_bounds w Lost b = loses_bounds w w.left.coming b
 
-swapped_bounds : (w : Ends) → EndsBounded w → EndsBounded (swapped w)
+swapped_bounds : (w : Ends) → EndsBounded w → EndsBounded (swap w)
 swapped_bounds w b = record { left = b.right; right = b.left }
 
 happens_bounds : (w : Ends) (side : Side) (e : Event) → EndsBounded w → EndsBounded (happens w side e)
 happens_bounds w Left e b = left_bounds w e b
-happens_bounds w Right e b = swapped_bounds (at_left (swapped w) e) (left_bounds (swapped w) e (swapped_bounds w b))
+happens_bounds w Right e b = swapped_bounds (at_left (swap w) e) (left_bounds (swap w) e (swapped_bounds w b))
 
 pub run_bounds : (w : Ends) (events : List (Side × Event)) → EndsBounded w → EndsBounded (run w events)
 run_bounds w [] b = b
 run_bounds w (e ∷ es) b = run_bounds (happens w e.0 e.1) es (happens_bounds w e.0 e.1 b)
 
-taken_in : (from to : State) → IsPrefix to.gots from.given → IsSuffix to.inbox to.gots → TakenIn from to
+taken_in : (from to : State) → IsPrefix to.received from.given → IsSuffix to.inbox to.received → TakenIn from to
 taken_in from to begun untaken =
     record {
-      taken = untaken.0;
+      take_plain = untaken.0;
       rest = untaken.1;
       begun = (to.inbox ++ begun.0, sym (append_assoc untaken.0 to.inbox begun.0) ∙ ap (λ xs. xs ++ begun.0) untaken.1 ∙ begun.1);
     }

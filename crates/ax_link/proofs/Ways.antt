@@ -151,16 +151,16 @@ top_set (Some y ∷ e) zero x = omega arith
 top_set (None ∷ e) (suc i) x = top_both (top (slice_set e i (Some x))) (top e) i (top_set e i x)
 top_set (Some y ∷ e) (suc i) x = omega (arith, top_set e i x)
 
-pub high_take : (p : Payload) (s : State) → high (take_next p s) ≡ max (high s) (suc (length s.gots))
-high_take p s = omega (arith, top_next s.early, length-append s.gots (p ∷ []))
+pub high_take : (p : Payload) (s : State) → high (take_next p s) ≡ max (high s) (suc (length s.received))
+high_take p s = omega (arith, top_next s.early, length-append s.received (p ∷ []))
 
 -- what an end holds of what was given
-pub record Held (given : List Payload) (s : State) : Type 0 where
-  pub begun : IsPrefix s.gots given
-  pub early : EarlyFine given (length s.gots) s.early
+pub record LinkView (given : List Payload) (s : State) : Type 0 where
+  pub begun : IsPrefix s.received given
+  pub early : EarlyFine given (length s.received) s.early
 
-pub held_take : (given : List Payload) (p : Payload) (s : State) → Held given s → slice_get given (length s.gots) ≡ Some p → Held given (take_next p s)
+pub held_take : (given : List Payload) (p : Payload) (s : State) → LinkView given s → slice_get given (length s.received) ≡ Some p → LinkView given (take_next p s)
 held_take given p s h g = record {
-  begun = prefix_next s.gots given p h.begun g;
-  early = subst (λ n. EarlyFine given n (drop 1 (s.early ++ None ∷ []))) (omega (arith, length-append s.gots (p ∷ []))) (early_next given (length s.gots) s.early h.early);
+  begun = prefix_next s.received given p h.begun g;
+  early = subst (λ n. EarlyFine given n (drop 1 (s.early ++ None ∷ []))) (omega (arith, length-append s.received (p ∷ []))) (early_next given (length s.received) s.early h.early);
 }

@@ -9,7 +9,7 @@ use Rattle.ax_link.specs.declared.plain.LinkNotice.TheVariants.{Opened, Reset, C
 use Rattle.ax_link.specs.declared.plain.LinkPhase.{LinkPhase}
 use Rattle.ax_link.specs.declared.plain.LinkPhase.TheVariants.{Down, SettingUp, Up, Releasing}
 use Rattle.ax_link.specs.Bounds.{Bounded, stock}
-use Rattle.ax_link.specs.PutOut.{Brings, HasIf, HavePayloads}
+use Rattle.ax_link.specs.Outputs.{Brings, HasIf, HavePayloads}
 use Rattle.ax_link.specs.State.{State, count_end, t1_runs}
 use Rattle.ax_link.specs.Table.{Input, Set_up, Send, Arrive, Tick, Close, Take, step}
 use Rattle.radio_base.specs.declared.payload.Payload.{Payload}

@@ -4,7 +4,7 @@ pub mod Laws
 pub mod Moves
 pub mod Opening
 pub mod Pair
-pub mod PutOut
+pub mod Outputs
 pub mod Runs
 pub mod Standing
 pub mod State

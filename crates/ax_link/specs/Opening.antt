@@ -7,7 +7,7 @@ use Rattle.ax_link.specs.declared.plain.SendRefusal.{SendRefusal}
 use Rattle.ax_link.specs.declared.plain.SendRefusal.TheVariants.{NotUp, QueueFull, Exhausted}
 use Rattle.ax_link.specs.State.{Rules, State, count_end, places}
 use Rattle.ax_link.specs.Table.{may_close}
-use Rattle.ax_link.specs.Standing.{Held}
+use Rattle.ax_link.specs.Standing.{LinkView}
 
 -- how many payloads may be under way: one less than there are numbers, with SREJ half as many as there are numbers
 abbrev pub window_most : ℕ → Bool → ℕ
@@ -25,7 +25,7 @@ answer_by refused full ended =
     if refused then Err NotUp else if full then Err QueueFull else if ended then Err Exhausted else taken_in
 
 -- whether a payload is accepted
-abbrev pub send_answer : Held → Result (Unit {0}) SendRefusal
+abbrev pub send_answer : LinkView → Result (Unit {0}) SendRefusal
 send_answer h =
     answer_by (not (may_close h.phase) || h.closing) (nat_le 128 (length h.queue)) (nat_le count_end (h.acked + length h.queue))
 
@@ -42,24 +42,24 @@ opening rules =
       given = [];
       acked = 0;
       sent = 0;
-      gots = [];
+      received = [];
       early = replicate (places rules) None;
       inbox = [];
       tries = 0;
       polling = false;
       peer_busy = false;
-      asked = false;
+      rej_sent = false;
       closing = false;
       t1_at = 0;
-      heard = 0;
-      stopped = 0;
+      last_arrival = 0;
+      t1_stopped_at = 0;
     }
 
 -- no frame and no notice waits
-pub record IsDrained (h : Held) : Type 0 where
+pub record IsDrained (h : LinkView) : Type 0 where
   pub outs : h.outs ≡ []
   pub notice : h.notice ≡ None
 
 -- what a link tells of itself
-abbrev pub facts_of : Held → LinkFacts
+abbrev pub facts_of : LinkView → LinkFacts
 facts_of h = record { phase = h.phase; acked = h.acked; sent = h.sent; got = h.got; held = length h.queue; inbox = length h.inbox; closing = h.closing }

@@ -3,7 +3,7 @@ use Rattle.std.specs.Prelude.{◌≡◌, ℕ, suc, ◌+◌, ◌<◌, ◌≤◌, 
 use mathlib.Core.List.{IsPrefix}
 use Rattle.ax_link.specs.declared.kind.Kind.{Kind}
 use Rattle.ax_link.specs.declared.kind.Kind.TheVariants.{I, Rr, Rnr, Rej, Srej, Ua, SetUp, Frmr}
-use Rattle.ax_link.specs.State.{Rules, State, Frame, Going, high, top}
+use Rattle.ax_link.specs.State.{Rules, State, Frame, Effect, high, top}
 use Rattle.ax_link.specs.Table.{Input, Arrive}
 use Rattle.ax_link.specs.declared.plain.LinkPhase.TheVariants.{Down, SettingUp, Up, Releasing}
 use Rattle.ax_link.specs.declared.plain.LinkPhase.{LinkPhase}
@@ -69,14 +69,14 @@ pub record Core : Type 0 where
   pub given : List Payload
   pub acked : ℕ
   pub sent : ℕ
-  pub gots : List Payload
+  pub received : List Payload
   pub early : List (Option Payload)
 
 abbrev pub core : State → Core
-core s = record { rules = s.rules; given = s.given; acked = s.acked; sent = s.sent; gots = s.gots; early = s.early }
+core s = record { rules = s.rules; given = s.given; acked = s.acked; sent = s.sent; received = s.received; early = s.early }
 
 abbrev pub reach : Core → ℕ
-reach s = length s.gots + top s.early
+reach s = length s.received + top s.early
 
 -- the windows fit the numbers
 pub record Fits (a b : Core) : Type 0 where
@@ -87,10 +87,10 @@ pub record Fits (a b : Core) : Type 0 where
 -- payloads from a to b
 pub record Way (a b : Core) (forth back : List Frame) : Type 0 where
   pub fits : Fits a b
-  pub begun : IsPrefix b.gots a.given
-  pub early : EarlyFine a.given (length b.gots) b.early
+  pub begun : IsPrefix b.received a.given
+  pub early : EarlyFine a.given (length b.received) b.early
   pub texts : TextsFine a.given a.rules.size a.rules.window a.sent (texts_of forth) (reach b)
-  pub acks : AcksFine a.rules.size (length b.gots) (acks_of back) a.acked
+  pub acks : AcksFine a.rules.size (length b.received) (acks_of back) a.acked
   pub window : a.sent ≤ a.acked + a.rules.window
   pub room : a.sent ≤ length a.given
 
@@ -149,7 +149,7 @@ Queue (Arrive f) before after = before ≡ f ∷ after
 Queue _ before after = before ≡ after
 
 -- the steps of which the law speaks
-pub record InScope (l : State) (i : Input) (g : Going) : Type 0 where
+pub record InScope (l : State) (i : Input) (g : Effect) : Type 0 where
   pub put_out : NoSetUps g.outs
   pub comes : NoSetUpIn i
   pub up : l.phase ≡ Up → g.link.phase ≡ Up

@@ -8,7 +8,7 @@ use Rattle.ax_link.specs.declared.plain.LinkNotice.{LinkNotice}
 use Rattle.ax_link.specs.declared.plain.LinkNotice.TheVariants.{Opened}
 use Rattle.ax_link.specs.declared.plain.LinkPhase.TheVariants.{Down, Up}
 use Rattle.radio_base.specs.declared.payload.Payload.{Payload}
-use Rattle.ax_link.specs.State.{Rules, State, Frame, Going, is_up}
+use Rattle.ax_link.specs.State.{Rules, State, Frame, Effect, is_up}
 use Rattle.ax_link.specs.Table.{Input, Set_up, Send, Arrive, Tick, Close, Take, step}
 use Rattle.ax_link.specs.Pair.{Fits, IsNew, core}
 use Rattle.ax_link.specs.Bounds.{Bounded, stock}
@@ -25,8 +25,8 @@ pub record Ends : Type 0 where
   pub left : End
   pub right : End
 
-abbrev pub swapped : Ends → Ends
-swapped w = record { left = w.right; right = w.left }
+abbrev pub swap : Ends → Ends
+swap w = record { left = w.right; right = w.left }
 
 abbrev pub sets_up : Kind → Bool
 sets_up (SetUp pf) = true
@@ -46,7 +46,7 @@ told_opened [] = false
 told_opened (n ∷ ns) = opens_here n || told_opened ns
 
 -- an end after a step, with what is still coming
-abbrev pub after : End → Going → List Frame → End
+abbrev pub after : End → Effect → List Frame → End
 after e g coming =
     record {
       link = g.link;
@@ -56,7 +56,7 @@ after e g coming =
     }
 
 -- a step of the left end: what it puts out is under way to the right end, behind what is there
-abbrev pub steps : Ends → Going → List Frame → Ends
+abbrev pub steps : Ends → Effect → List Frame → Ends
 steps w g coming = record { left = after w.left g coming; right = record w.right { coming = w.right.coming ++ g.outs } }
 
 -- a call or a tick at the left end. A frame never comes from anywhere but the other end
@@ -95,7 +95,7 @@ pub data Side : Type 0 where
 
 abbrev pub happens : Ends → Side → Event → Ends
 happens w Left e = at_left w e
-happens w Right e = swapped (at_left (swapped w) e)
+happens w Right e = swap (at_left (swap w) e)
 
 abbrev pub run : Ends → List (Side × Event) → Ends
 run w [] = w
@@ -151,9 +151,9 @@ CleanRun w (e ∷ es) = Clean w × CleanRun (happens w e.0 e.1) es
 
 -- what was got at an end and taken, which is all but what the inbox holds, is a beginning of what was given to the other
 pub record TakenIn (from to : State) : Type 0 where
-  pub taken : List Payload
-  pub rest : taken ++ to.inbox ≡ to.gots
-  pub begun : IsPrefix taken from.given
+  pub take_plain : List Payload
+  pub rest : take_plain ++ to.inbox ≡ to.received
+  pub begun : IsPrefix take_plain from.given
 
 pub record TakenSafe (w : Ends) : Type 0 where
   pub right : TakenIn w.left.link w.right.link
@@ -166,7 +166,7 @@ pub record EndsBounded (w : Ends) : Type 0 where
 
 -- each end has got a beginning of what was given to the other, and counts as acknowledged no more than the other has got
 pub record Safe (w : Ends) : Type 0 where
-  pub right_got : IsPrefix w.right.link.gots w.left.link.given
-  pub left_got : IsPrefix w.left.link.gots w.right.link.given
-  pub left_acked : w.left.link.acked ≤ length w.right.link.gots
-  pub right_acked : w.right.link.acked ≤ length w.left.link.gots
+  pub right_got : IsPrefix w.right.link.received w.left.link.given
+  pub left_got : IsPrefix w.left.link.received w.right.link.given
+  pub left_acked : w.left.link.acked ≤ length w.right.link.received
+  pub right_acked : w.right.link.acked ≤ length w.left.link.received

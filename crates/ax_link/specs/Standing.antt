@@ -7,10 +7,10 @@ use Rattle.ax_link.specs.declared.plain.LinkNotice.{LinkNotice}
 use Rattle.ax_link.specs.declared.plain.LinkOut.{LinkOut}
 use Rattle.ax_link.specs.Bounds.{Bounded, stock}
 use Rattle.ax_link.specs.Kinds.{kind_of}
-use Rattle.ax_link.specs.State.{Frame, Rules, State, Going, t1_runs}
+use Rattle.ax_link.specs.State.{Frame, Rules, State, Effect, t1_runs}
 
 -- what is kept: of the payloads that were accepted those that aren't acknowledged, and of what came what wasn't taken
-pub record Held : Type 0 where
+pub record LinkView : Type 0 where
   pub window : ℕ
   pub t1 : ℕ
   pub t3 : ℕ
@@ -26,11 +26,11 @@ pub record Held : Type 0 where
   pub tries : ℕ
   pub polling : Bool
   pub peer_busy : Bool
-  pub asked : Bool
+  pub rej_sent : Bool
   pub closing : Bool
   pub t1_at : ℕ
-  pub heard : ℕ
-  pub stopped : ℕ
+  pub last_arrival : ℕ
+  pub t1_stopped_at : ℕ
   pub outs : List LinkOut
   pub notice : Option LinkNotice
 
@@ -38,68 +38,68 @@ pub record Held : Type 0 where
 abbrev pub frame_of : ℕ → LinkOut → Frame
 frame_of size out = record { command = out.command; kind = kind_of size out.command out.control; payload = out.payload }
 
-abbrev pub rules_of : ℕ → Held → Rules
+abbrev pub rules_of : ℕ → LinkView → Rules
 rules_of size h = record { size = size; window = h.window; srej = h.srej; t1 = h.t1; t3 = h.t3; retries = h.retries }
 
 -- the state in which these payloads were acknowledged, and these were got
-abbrev pub state_of : ℕ → Held → List Payload → List Payload → State
-state_of size h before gots =
+abbrev pub state_of : ℕ → LinkView → List Payload → List Payload → State
+state_of size h before received =
     record {
       rules = rules_of size h;
       phase = h.phase;
       given = before ++ h.queue;
       acked = h.acked;
       sent = h.sent;
-      gots = gots;
+      received = received;
       early = h.early;
       inbox = h.inbox;
       tries = h.tries;
       polling = h.polling;
       peer_busy = h.peer_busy;
-      asked = h.asked;
+      rej_sent = h.rej_sent;
       closing = h.closing;
       t1_at = h.t1_at;
-      heard = h.heard;
-      stopped = h.stopped;
+      last_arrival = h.last_arrival;
+      t1_stopped_at = h.t1_stopped_at;
     }
 
 -- the same, with the frames and the notice that wait
-abbrev pub going_of : ℕ → Held → List Payload → List Payload → Going
-going_of size h before gots =
-    record { link = state_of size h before gots; outs = map (frame_of size) h.outs; notes = option_to_list h.notice }
+abbrev pub effect_of : ℕ → LinkView → List Payload → List Payload → Effect
+effect_of size h before received =
+    record { link = state_of size h before received; outs = map (frame_of size) h.outs; notes = option_to_list h.notice }
 
 -- what is kept is that of a state, but for what was forgotten: the payloads that were acknowledged, and those that were got
-pub record Keeps (size : ℕ) (h : Held) (s : State) : Type 0 where
+pub record Keeps (size : ℕ) (h : LinkView) (s : State) : Type 0 where
   pub before : List Payload
-  pub gots : List Payload
+  pub received : List Payload
   pub acked : length before ≡ h.acked
-  pub got : length gots ≡ h.got
-  pub is : s ≡ state_of size h before gots
+  pub got : length received ≡ h.got
+  pub is : s ≡ state_of size h before received
 
 -- the same of a step under way
-pub record KeepsGoing (size : ℕ) (h : Held) (g : Going) : Type 0 where
+pub record KeepsEffect (size : ℕ) (h : LinkView) (g : Effect) : Type 0 where
   pub before : List Payload
-  pub gots : List Payload
+  pub received : List Payload
   pub acked : length before ≡ h.acked
-  pub got : length gots ≡ h.got
-  pub is : g ≡ going_of size h before gots
+  pub got : length received ≡ h.got
+  pub is : g ≡ effect_of size h before received
 
 -- what is kept stands for a state within its bounds that differs from it in nothing but what was forgotten
-pub record StandsFor (size : ℕ) (h : Held) (s : State) : Type 0 where
+pub record StandsFor (size : ℕ) (h : LinkView) (s : State) : Type 0 where
   pub keeps : Keeps size h s
   pub bounds : Bounded (stock s)
 
 -- the same of a step that was done, with the frames and the notice that wait
-pub record Stands (size : ℕ) (h : Held) (g : Going) : Type 0 where
-  pub keeps : KeepsGoing size h g
+pub record Stands (size : ℕ) (h : LinkView) (g : Effect) : Type 0 where
+  pub keeps : KeepsEffect size h g
   pub bounds : Bounded (stock g.link)
 
 -- whether T1 runs
-abbrev pub runs : Held → Bool
+abbrev pub runs : LinkView → Bool
 runs h = t1_runs (state_of 0 h [] [])
 
 -- a call adds at most so many frames to those that wait, and leaves the window and the notice
-pub record Adds (k : ℕ) (old new : Held) : Type 0 where
+pub record Adds (k : ℕ) (old new : LinkView) : Type 0 where
   pub window : new.window ≡ old.window
   pub outs : length new.outs ≤ length old.outs + k
   pub notice : new.notice ≡ old.notice

@@ -36,25 +36,25 @@ pub record State : Type 0 where
   pub given : List Payload  -- what was accepted for the other station since the link was Down or reset
   pub acked : ℕ  -- how many of them the other station has
   pub sent : ℕ  -- how many were put out
-  pub gots : List Payload  -- what was got from it; their number is the next one expected
+  pub received : List Payload  -- what was got from it; their number is the next one expected
   pub early : List (Option Payload)  -- what came before its turn; the first place is for the next one expected
   pub inbox : List Payload  -- what was got and not taken
   pub tries : ℕ
   pub polling : Bool
   pub peer_busy : Bool
-  pub asked : Bool  -- a REJ was put out and not answered
+  pub rej_sent : Bool  -- a REJ was put out and not answered
   pub closing : Bool
   pub t1_at : ℕ  -- when T1 comes, while it runs
-  pub heard : ℕ  -- the last arrival
-  pub stopped : ℕ  -- when T1 last stopped, 0 where it never did
+  pub last_arrival : ℕ  -- the last arrival
+  pub t1_stopped_at : ℕ  -- when T1 last stopped, 0 where it never did
 
 -- a step under way: the state, the frames that it puts out and the notices that it gives, in order
-pub record Going : Type 0 where
+pub record Effect : Type 0 where
   pub link : State
   pub outs : List Frame
   pub notes : List LinkNotice
 
-abbrev pub begin : State → Going
+abbrev pub begin : State → Effect
 begin s = record { link = s; outs = []; notes = [] }
 
 -- a number as it stands on the air
@@ -73,7 +73,7 @@ top (Some p ∷ early) = suc (top early)
 
 -- one more than the highest number that is known
 abbrev pub high : State → ℕ
-high s = length s.gots + top s.early
+high s = length s.received + top s.early
 
 -- where N(R) stands among what is put out and not acknowledged
 abbrev pub ack_place : State → ℕ → Option ℕ
@@ -96,16 +96,16 @@ abbrev pub t1_runs : State → Bool
 t1_runs s = runs_in s.phase s
 
 -- after a change from old: T1 begins to run, or has stopped
-abbrev pub judged : ℕ → State → State → State
-judged now old s = record s {
+abbrev pub update_t1 : ℕ → State → State → State
+update_t1 now old s = record s {
   t1_at = if not (t1_runs old) && t1_runs s then now + s.rules.t1 else s.t1_at;
-  stopped = if t1_runs old && not (t1_runs s) then now else s.stopped;
+  t1_stopped_at = if t1_runs old && not (t1_runs s) then now else s.t1_stopped_at;
 }
 
 -- T1 begins anew
-abbrev pub restamped : ℕ → State → State
-restamped now s = record s { t1_at = now + s.rules.t1 }
+abbrev pub restart_t1 : ℕ → State → State
+restart_t1 now s = record s { t1_at = now + s.rules.t1 }
 
 -- T3 comes so long after the last arrival and after T1's last stop, whichever is later
 abbrev pub t3_at : State → ℕ
-t3_at s = max s.heard s.stopped + s.rules.t3
+t3_at s = max s.last_arrival s.t1_stopped_at + s.rules.t3

@@ -31,7 +31,7 @@ impl<M: Modulus> Station<M> {
     ghost use Rattle.ax_link.specs.Moves as moves;
     ghost use Rattle.ax_link.specs.Table as table;
     ghost use Rattle.ax_link.specs.Standing.{Adds, state_of};
-    ghost use Rattle.ax_link.specs.Stations.{Does, arrived, held_of, taken, text_again};
+    ghost use Rattle.ax_link.specs.Stations.{Does, arrive, view_of, take_plain, text_again};
 
     pub(crate) fn arrive(
         &mut self,
@@ -45,10 +45,10 @@ impl<M: Modulus> Station<M> {
         requires outs { self.old.outs.items ≡ [] }
         requires notice { self.old.notice ≡ None }
         requires size { self.old.window < M.SIZE }
-        ensures does { Does M.SIZE (arrived now (frame_in M.SIZE command control.now pid info.now)) self.old self.new }
+        ensures does { Does M.SIZE (arrive now (frame_in M.SIZE command control.now pid info.now)) self.old self.new }
         ensures window { self.new.window ≡ self.old.window }
     {
-        self.heard = now;
+        self.last_arrival = now;
         let kind = Kind::of::<M>(command, control);
         match self.phase {
             LinkPhase::Down => self.arrive_down(command, kind, now),
@@ -69,7 +69,7 @@ impl<M: Modulus> Station<M> {
             Kind::SetUp { pf } => {
                 self.reset(now);
                 self.to_phase(LinkPhase::Up, now);
-                self.put(false, Control::Ua { pf });
+                self.emit(false, Control::Ua { pf });
                 self.note(LinkNotice::Opened);
             }
             Kind::Disc { pf } | Kind::Xid { pf } => self.refuse_if(command, pf),
@@ -82,13 +82,13 @@ impl<M: Modulus> Station<M> {
         }
     }
 
-    fn refuse_if(&mut self, asked: bool, pf: bool)
+    fn refuse_if(&mut self, polled: bool, pf: bool)
         requires { length self.old.outs.items + 1 ≤ 2 * self.old.window + 4 }
-        ensures does { Does M.SIZE (table.refused_if asked pf) self.old self.new }
+        ensures does { Does M.SIZE (table.refuse_if polled pf) self.old self.new }
         ensures window { self.new.window ≡ self.old.window }
     {
-        if asked {
-            self.put(false, Control::Dm { pf });
+        if polled {
+            self.emit(false, Control::Dm { pf });
         }
     }
 
@@ -109,8 +109,8 @@ impl<M: Modulus> Station<M> {
                 self.to_phase(LinkPhase::Down, now);
                 self.note(LinkNotice::Refused);
             }
-            Kind::SetUp { pf } => self.put(false, Control::Ua { pf }),
-            Kind::Disc { pf } => self.put(false, Control::Dm { pf }),
+            Kind::SetUp { pf } => self.emit(false, Control::Ua { pf }),
+            Kind::Disc { pf } => self.emit(false, Control::Dm { pf }),
             _ => {}
         }
     }
@@ -134,11 +134,11 @@ impl<M: Modulus> Station<M> {
             Kind::Srej { nr, pf } => self.on_selective_reject(pf, nr, now),
             Kind::SetUp { pf } => {
                 self.reset(now);
-                self.put(false, Control::Ua { pf });
+                self.emit(false, Control::Ua { pf });
                 self.note(LinkNotice::Reset);
             }
             Kind::Disc { pf } => {
-                self.put(false, Control::Ua { pf });
+                self.emit(false, Control::Ua { pf });
                 self.to_phase(LinkPhase::Down, now);
                 self.note(LinkNotice::Closed);
             }
@@ -151,7 +151,7 @@ impl<M: Modulus> Station<M> {
                 self.note(LinkNotice::Reset);
                 self.to_phase(LinkPhase::SettingUp, now);
                 let control = self.set_up_command();
-                self.put_timed(control, now);
+                self.emit_timed(control, now);
             }
             _ => {}
         }
@@ -169,16 +169,16 @@ impl<M: Modulus> Station<M> {
                 self.to_phase(LinkPhase::Down, now);
                 self.note(LinkNotice::Closed);
             }
-            Kind::Disc { pf } => self.put(false, Control::Ua { pf }),
-            Kind::SetUp { pf } | Kind::OtherSetUp { pf } => self.put(false, Control::Dm { pf }),
+            Kind::Disc { pf } => self.emit(false, Control::Ua { pf }),
+            Kind::SetUp { pf } | Kind::OtherSetUp { pf } => self.emit(false, Control::Dm { pf }),
             _ => {}
         }
     }
 
     /// Where an acknowledgement stands among what was put out.
-    fn acknowledged_by(&self, nr: u8) -> Option<u64>
+    fn ack_place(&self, nr: u8) -> Option<u64>
         requires { self.now.window < M.SIZE }
-        ensures exact { (before gots : List Payload) → result ≡ state.ack_place (state_of M.SIZE (held_of self.now) before gots) nr }
+        ensures exact { (before received : List Payload) → result ≡ state.ack_place (state_of M.SIZE (view_of self.now) before received) nr }
         ensures bounds { IfSome result (λ below. (self.now.acked ≤ below) × (below ≤ self.now.sent)) }
     {
         if (nr as u64) < M::SIZE {
@@ -205,12 +205,12 @@ impl<M: Modulus> Station<M> {
         ensures notice { self.new.notice ≡ self.old.notice }
         ensures window { self.new.window ≡ self.old.window }
     {
-        if let Some(below) = self.acknowledged_by(nr) {
-            self.supervised(command, peer_busy, reject, pf, below, now);
+        if let Some(below) = self.ack_place(nr) {
+            self.supervisory_at(command, peer_busy, reject, pf, below, now);
         }
     }
 
-    fn supervised(
+    fn supervisory_at(
         &mut self,
         command: bool,
         peer_busy: bool,
@@ -223,7 +223,7 @@ impl<M: Modulus> Station<M> {
         requires outs { self.old.outs.items ≡ [] }
         requires from { self.old.acked ≤ below }
         requires to { below ≤ self.old.sent }
-        ensures does { Does M.SIZE (moves.supervised now command peer_busy reject pf below) self.old self.new }
+        ensures does { Does M.SIZE (moves.supervisory_at now command peer_busy reject pf below) self.old self.new }
         ensures notice { self.new.notice ≡ self.old.notice }
         ensures window { self.new.window ≡ self.old.window }
     {
@@ -237,8 +237,8 @@ impl<M: Modulus> Station<M> {
     /// A command with the poll bit asks for an answer.
     fn answer_command(&mut self, command: bool, pf: bool)
         requires { length self.old.outs.items + 1 ≤ 2 * self.old.window + 4 }
-        ensures does { Does M.SIZE (moves.answered (command && pf)) self.old self.new }
-        ensures adds { Adds 1 (held_of self.old) (held_of self.new) }
+        ensures does { Does M.SIZE (moves.answer_poll (command && pf)) self.old self.new }
+        ensures adds { Adds 1 (view_of self.old) (view_of self.new) }
     {
         if command {
             self.answer_poll(pf);
@@ -249,8 +249,8 @@ impl<M: Modulus> Station<M> {
     fn supply_again(&mut self, command: bool, pf: bool, reject: bool, now: u64)
         requires now { now ≤ COUNT_MAX }
         requires room { length self.old.outs.items + self.old.window ≤ 2 * self.old.window + 4 }
-        ensures does { Does M.SIZE (moves.resupplied now (not command && pf) reject) self.old self.new }
-        ensures adds { Adds self.old.window (held_of self.old) (held_of self.new) }
+        ensures does { Does M.SIZE (moves.supply_again now (not command && pf) reject) self.old self.new }
+        ensures adds { Adds self.old.window (view_of self.old) (view_of self.new) }
     {
         if !command && pf && self.polling {
             self.end_poll(now);
@@ -284,8 +284,8 @@ impl<M: Modulus> Station<M> {
         ensures notice { self.new.notice ≡ self.old.notice }
         ensures window { self.new.window ≡ self.old.window }
     {
-        if let Some(below) = self.acknowledged_by(nr) {
-            self.selected(below, now);
+        if let Some(below) = self.ack_place(nr) {
+            self.srej_at(below, now);
         }
     }
 
@@ -297,7 +297,7 @@ impl<M: Modulus> Station<M> {
         ensures window { self.new.window ≡ self.old.window }
     {
         if let Some(number) = self.asked_for_by(nr) {
-            self.put_texts(number, 1);
+            self.emit_texts(number, 1);
         }
     }
 
@@ -314,12 +314,12 @@ impl<M: Modulus> Station<M> {
         }
     }
 
-    fn selected(&mut self, below: u64, now: u64)
+    fn srej_at(&mut self, below: u64, now: u64)
         requires now { now ≤ COUNT_MAX }
         requires outs { self.old.outs.items ≡ [] }
         requires from { self.old.acked ≤ below }
         requires to { below ≤ self.old.sent }
-        ensures does { Does M.SIZE (moves.selected now below) self.old self.new }
+        ensures does { Does M.SIZE (moves.srej_at now below) self.old self.new }
         ensures notice { self.new.notice ≡ self.old.notice }
         ensures window { self.new.window ≡ self.old.window }
     {
@@ -335,9 +335,9 @@ impl<M: Modulus> Station<M> {
         requires from { self.old.acked ≤ number }
         requires to { number ≤ self.old.sent }
         ensures does { Does M.SIZE (text_again number) self.old self.new }
-        ensures adds { Adds 1 (held_of self.old) (held_of self.new) }
+        ensures adds { Adds 1 (view_of self.old) (view_of self.new) }
     {
-        self.put_texts(number, (self.sent - number).min(1));
+        self.emit_texts(number, (self.sent - number).min(1));
     }
 
     fn on_text(&mut self, ns: u8, nr: u8, pf: bool, payload: Payload, now: u64)
@@ -348,18 +348,18 @@ impl<M: Modulus> Station<M> {
         ensures notice { self.new.notice ≡ self.old.notice }
         ensures window { self.new.window ≡ self.old.window }
     {
-        if let Some(below) = self.acknowledged_by(nr) {
-            self.informed(ns, pf, payload, below, now);
+        if let Some(below) = self.ack_place(nr) {
+            self.i_at(ns, pf, payload, below, now);
         }
     }
 
-    fn informed(&mut self, ns: u8, pf: bool, payload: Payload, below: u64, now: u64)
+    fn i_at(&mut self, ns: u8, pf: bool, payload: Payload, below: u64, now: u64)
         requires now { now ≤ COUNT_MAX }
         requires outs { self.old.outs.items ≡ [] }
         requires size { self.old.window < M.SIZE }
         requires from { self.old.acked ≤ below }
         requires to { below ≤ self.old.sent }
-        ensures does { Does M.SIZE (moves.informed now pf ns payload below) self.old self.new }
+        ensures does { Does M.SIZE (moves.i_at now pf ns payload below) self.old self.new }
         ensures notice { self.new.notice ≡ self.old.notice }
         ensures window { self.new.window ≡ self.old.window }
     {

@@ -36,13 +36,13 @@ impl<M: Modulus> Station<M> {
     ghost use Rattle.ax_link.specs.Table as table;
     ghost use Rattle.ax_link.specs.Opening.{send_answer};
     ghost use Rattle.ax_link.specs.Standing.{Adds, Keeps};
-    ghost use Rattle.ax_link.specs.Stations.{Does, begun, closed_if, held_of, queued};
+    ghost use Rattle.ax_link.specs.Stations.{Does, begun, close, view_of, enqueue};
 
     pub(crate) fn new(alloc: Global, config: LinkConfig) -> Result<Station<M>, NoMemory>
         requires t1 { config.t1 ≤ COUNT_MAX }
         requires t3 { config.t3 ≤ COUNT_MAX }
-        ensures opening { IfOk result (λ st. Keeps M.SIZE (held_of st) (opening (rules_new M.SIZE config))) }
-        ensures drained { IfOk result (λ st. IsDrained (held_of st)) }
+        ensures opening { IfOk result (λ st. Keeps M.SIZE (view_of st) (opening (rules_new M.SIZE config))) }
+        ensures drained { IfOk result (λ st. IsDrained (view_of st)) }
         ensures window { IfOk result (λ st. st.window ≡ window_used M.SIZE config.srej config.window) }
     {
         let window = window_of::<M>(config);
@@ -68,11 +68,11 @@ impl<M: Modulus> Station<M> {
             tries: 0,
             polling: false,
             peer_busy: false,
-            asked: false,
+            rej_sent: false,
             closing: false,
             t1_at: 0,
-            heard: 0,
-            stopped: 0,
+            last_arrival: 0,
+            t1_stopped_at: 0,
             outs,
             notice: None,
             modulus: PhantomData,
@@ -89,16 +89,16 @@ impl<M: Modulus> Station<M> {
             self.reset(now);
             self.to_phase(LinkPhase::SettingUp, now);
             let control = self.set_up_command();
-            self.put_timed(control, now);
+            self.emit_timed(control, now);
         }
     }
 
     pub(crate) fn send(&mut self, payload: Payload, now: u64) -> Result<(), SendRefusal>
         requires now { now ≤ COUNT_MAX }
         requires outs { self.old.outs.items ≡ [] }
-        ensures answer { result ≡ send_answer (held_of self.old) }
-        ensures does { OnOk result (Does M.SIZE (table.accepted now payload) self.old self.new) }
-        ensures err { OnErr result (held_of self.new ≡ held_of self.old) }
+        ensures answer { result ≡ send_answer (view_of self.old) }
+        ensures does { OnOk result (Does M.SIZE (table.accept now payload) self.old self.new) }
+        ensures err { OnErr result (view_of self.new ≡ view_of self.old) }
         ensures window { self.new.window ≡ self.old.window }
     {
         if !self.may_close() || self.closing {
@@ -119,7 +119,7 @@ impl<M: Modulus> Station<M> {
         requires outs { self.old.outs.items ≡ [] }
         requires room { length self.old.queue.items < 128 }
         requires numbers { self.old.acked + length self.old.queue.items < COUNT_MAX }
-        ensures does { Does M.SIZE (table.accepted now payload) self.old self.new }
+        ensures does { Does M.SIZE (table.accept now payload) self.old self.new }
         ensures window { self.new.window ≡ self.old.window }
     {
         self.enqueue(payload);
@@ -129,8 +129,8 @@ impl<M: Modulus> Station<M> {
     fn enqueue(&mut self, payload: Payload)
         requires room { length self.old.queue.items < 128 }
         requires numbers { self.old.acked + length self.old.queue.items < COUNT_MAX }
-        ensures does { Does M.SIZE (queued payload) self.old self.new }
-        ensures adds { Adds 0 (held_of self.old) (held_of self.new) }
+        ensures does { Does M.SIZE (enqueue payload) self.old self.new }
+        ensures adds { Adds 0 (view_of self.old) (view_of self.new) }
     {
         push(&mut self.queue, payload);
     }
@@ -144,7 +144,7 @@ impl<M: Modulus> Station<M> {
     pub(crate) fn close(&mut self, now: u64)
         requires now { now ≤ COUNT_MAX }
         requires outs { self.old.outs.items ≡ [] }
-        ensures does { Does M.SIZE (closed_if now) self.old self.new }
+        ensures does { Does M.SIZE (close now) self.old self.new }
         ensures window { self.new.window ≡ self.old.window }
     {
         if self.may_close() {
@@ -155,7 +155,7 @@ impl<M: Modulus> Station<M> {
     fn close_in_turn(&mut self, now: u64)
         requires now { now ≤ COUNT_MAX }
         requires outs { self.old.outs.items ≡ [] }
-        ensures does { Does M.SIZE (table.closed now) self.old self.new }
+        ensures does { Does M.SIZE (table.close_in_turn now) self.old self.new }
         ensures window { self.new.window ≡ self.old.window }
     {
         self.closing = true;
@@ -164,7 +164,7 @@ impl<M: Modulus> Station<M> {
 
     pub(crate) fn take(&mut self) -> Option<Payload>
         requires outs { self.old.outs.items ≡ [] }
-        ensures does { Does M.SIZE table.taken_out self.old self.new }
+        ensures does { Does M.SIZE table.take_first self.old self.new }
         ensures payload { result ≡ slice_get self.old.inbox.items 0 }
         ensures window { self.new.window ≡ self.old.window }
     {
@@ -179,11 +179,11 @@ impl<M: Modulus> Station<M> {
     /// The end was busy: early payloads follow, and the other station is told.
     fn resume(&mut self)
         requires { length self.old.outs.items + 1 ≤ 2 * self.old.window + 4 }
-        ensures does { Does M.SIZE moves.resumed self.old self.new }
-        ensures adds { Adds 1 (held_of self.old) (held_of self.new) }
+        ensures does { Does M.SIZE moves.resume self.old self.new }
+        ensures adds { Adds 1 (view_of self.old) (view_of self.new) }
     {
         self.move_on();
-        self.tell_ready(false);
+        self.emit_rr(false);
     }
 
     fn is_up_and_busy(&self) -> bool

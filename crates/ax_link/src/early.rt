@@ -62,14 +62,14 @@ impl<M: Modulus> Station<M> {
     ghost use Rattle.ax_link.specs.declared.kind.Kind.TheVariants as Kind;
     ghost use Rattle.ax_link.specs.Moves as moves;
     ghost use Rattle.ax_link.specs.Standing.{Adds, state_of};
-    ghost use Rattle.ax_link.specs.Stations.{Does, asked_for, held_of, kept_early, missing_asked, moved_on, next_taken};
+    ghost use Rattle.ax_link.specs.Stations.{Does, ask_for_each, view_of, keep_early, ask_for_missing, move_on, take_next_payload};
 
     /// Takes the next payload: what came early is one place nearer.
     pub(crate) fn take_next(&mut self, payload: Payload)
         requires busy { length self.old.inbox.items < 64 }
         requires more { self.old.got < COUNT_MAX }
-        ensures does { Does M.SIZE (next_taken payload) self.old self.new }
-        ensures adds { Adds 0 (held_of self.old) (held_of self.new) }
+        ensures does { Does M.SIZE (take_next_payload payload) self.old self.new }
+        ensures adds { Adds 0 (view_of self.old) (view_of self.new) }
     {
         push(&mut self.inbox, payload);
         self.got += 1;
@@ -79,8 +79,8 @@ impl<M: Modulus> Station<M> {
 
     /// The early payload that is next, where it may be taken.
     fn next_early(&self) -> Option<Payload>
-        ensures exact { (before gots : List Payload) → length gots ≡ self.now.got →
-            result ≡ moves.next_early (state_of M.SIZE (held_of self.now) before gots) }
+        ensures exact { (before received : List Payload) → length received ≡ self.now.got →
+            result ≡ moves.next_early (state_of M.SIZE (view_of self.now) before received) }
         ensures room { IfSome result (λ _. (length self.now.inbox.items < 64) × (self.now.got < COUNT_MAX)) }
     {
         if self.is_busy() || self.got >= COUNT_MAX {
@@ -94,8 +94,8 @@ impl<M: Modulus> Station<M> {
 
     /// Early payloads follow while they are next and the inbox isn't full.
     pub(crate) fn move_on(&mut self)
-        ensures does { Does M.SIZE moved_on self.old self.new }
-        ensures adds { Adds 0 (held_of self.old) (held_of self.new) }
+        ensures does { Does M.SIZE move_on self.old self.new }
+        ensures adds { Adds 0 (view_of self.old) (view_of self.new) }
     {
         for done in 0..self.early.len() {
             match self.next_early() {
@@ -107,8 +107,8 @@ impl<M: Modulus> Station<M> {
 
     /// 1 more than the highest number that is known.
     fn high(&self) -> u64
-        ensures exact { (before gots : List Payload) → length gots ≡ self.now.got →
-            result ≡ state.high (state_of M.SIZE (held_of self.now) before gots) }
+        ensures exact { (before received : List Payload) → length received ≡ self.now.got →
+            result ≡ state.high (state_of M.SIZE (view_of self.now) before received) }
         ensures low { self.now.got ≤ result }
         ensures most { result ≤ self.now.got + self.now.window }
     {
@@ -131,20 +131,20 @@ impl<M: Modulus> Station<M> {
     /// Asks for this payload alone.
     fn ask_for(&mut self, number: u64)
         requires { length self.old.outs.items < 2 * self.old.window + 4 }
-        ensures does { Does M.SIZE (moves.put false (Kind.Srej (number % M.SIZE) false)) self.old self.new }
-        ensures adds { Adds 1 (held_of self.old) (held_of self.new) }
+        ensures does { Does M.SIZE (moves.emit false (Kind.Srej (number % M.SIZE) false)) self.old self.new }
+        ensures adds { Adds 1 (view_of self.old) (view_of self.new) }
         ensures got { self.new.got ≡ self.old.got }
     {
         let nr = M::wire(number);
-        self.put(false, Control::Srej { nr, pf: false });
+        self.emit(false, Control::Srej { nr, pf: false });
     }
 
     /// Asks for `many` payloads from this number on.
     fn ask_for_each(&mut self, from: u64, many: u64)
         requires room { length self.old.outs.items + many ≤ 2 * self.old.window + 4 }
         requires within { from + many ≤ self.old.got + self.old.window }
-        ensures does { Does M.SIZE (asked_for from many) self.old self.new }
-        ensures adds { Adds many (held_of self.old) (held_of self.new) }
+        ensures does { Does M.SIZE (ask_for_each from many) self.old self.new }
+        ensures adds { Adds many (view_of self.old) (view_of self.new) }
         ensures got { self.new.got ≡ self.old.got }
     {
         for number in from..from + many {
@@ -156,8 +156,8 @@ impl<M: Modulus> Station<M> {
     fn ask_for_missing(&mut self, number: u64)
         requires room { length self.old.outs.items + self.old.window ≤ 2 * self.old.window + 4 }
         requires below { number < self.old.got + self.old.window }
-        ensures does { Does M.SIZE (missing_asked number) self.old self.new }
-        ensures adds { Adds (self.old.window - 1) (held_of self.old) (held_of self.new) }
+        ensures does { Does M.SIZE (ask_for_missing number) self.old self.new }
+        ensures adds { Adds (self.old.window - 1) (view_of self.old) (view_of self.new) }
         ensures got { self.new.got ≡ self.old.got }
     {
         let high = self.high();
@@ -167,8 +167,8 @@ impl<M: Modulus> Station<M> {
     /// Keeps the payload of this number, where none is kept in its place.
     fn keep_early(&mut self, number: u64, payload: Payload)
         requires { self.old.got ≤ number }
-        ensures does { Does M.SIZE (kept_early number payload) self.old self.new }
-        ensures adds { Adds 0 (held_of self.old) (held_of self.new) }
+        ensures does { Does M.SIZE (keep_early number payload) self.old self.new }
+        ensures adds { Adds 0 (view_of self.old) (view_of self.new) }
     {
         keep(&mut self.early, (number - self.got) as usize, payload);
     }
@@ -179,7 +179,7 @@ impl<M: Modulus> Station<M> {
         requires from { self.old.got ≤ number }
         requires below { number < self.old.got + self.old.window }
         ensures does { Does M.SIZE (moves.text_later pf number payload) self.old self.new }
-        ensures adds { Adds self.old.window (held_of self.old) (held_of self.new) }
+        ensures adds { Adds self.old.window (view_of self.old) (view_of self.new) }
     {
         self.ask_for_missing(number);
         self.keep_early(number, payload);

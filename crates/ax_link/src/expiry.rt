@@ -10,21 +10,21 @@ use radio_base::Modulus;
 impl<M: Modulus> Station<M> {
     ghost use Rattle.ax_link.specs.Table as table;
     ghost use Rattle.ax_link.specs.Standing.{Adds};
-    ghost use Rattle.ax_link.specs.Stations.{Does, asked_once_more, end_told, held_of};
+    ghost use Rattle.ax_link.specs.Stations.{Does, ask_once_more, tell_end, view_of};
 
     /// Time has passed.
     pub(crate) fn tick(&mut self, now: u64)
         requires now { now ≤ COUNT_MAX }
         requires outs { self.old.outs.items ≡ [] }
         requires notice { self.old.notice ≡ None }
-        ensures does { Does M.SIZE (table.ticked now) self.old self.new }
+        ensures does { Does M.SIZE (table.tick now) self.old self.new }
         ensures window { self.new.window ≡ self.old.window }
     {
         if self.t1_runs() {
             if self.t1_at <= now {
                 self.expire(now);
             }
-        } else if self.is_up() && self.heard.max(self.stopped) + self.t3 <= now {
+        } else if self.is_up() && self.last_arrival.max(self.t1_stopped_at) + self.t3 <= now {
             self.start_poll(now);
         }
     }
@@ -48,7 +48,7 @@ impl<M: Modulus> Station<M> {
         requires now { now ≤ COUNT_MAX }
         requires outs { self.old.outs.items ≡ [] }
         requires notice { self.old.notice ≡ None }
-        ensures does { Does M.SIZE (table.failed now) self.old self.new }
+        ensures does { Does M.SIZE (table.fail now) self.old self.new }
         ensures window { self.new.window ≡ self.old.window }
     {
         self.tell_end();
@@ -59,11 +59,11 @@ impl<M: Modulus> Station<M> {
     /// The other station is told that an open link ends.
     fn tell_end(&mut self)
         requires { self.old.outs.items ≡ [] }
-        ensures does { Does M.SIZE end_told self.old self.new }
-        ensures adds { Adds 1 (held_of self.old) (held_of self.new) }
+        ensures does { Does M.SIZE tell_end self.old self.new }
+        ensures adds { Adds 1 (view_of self.old) (view_of self.new) }
     {
         match self.phase {
-            LinkPhase::Up => self.put(false, Control::Dm { pf: false }),
+            LinkPhase::Up => self.emit(false, Control::Dm { pf: false }),
             LinkPhase::Down | LinkPhase::SettingUp | LinkPhase::Releasing => {}
         }
     }
@@ -73,7 +73,7 @@ impl<M: Modulus> Station<M> {
         requires now { now ≤ COUNT_MAX }
         requires outs { self.old.outs.items ≡ [] }
         requires tries { self.old.tries < self.old.retries }
-        ensures does { Does M.SIZE (table.retried now) self.old self.new }
+        ensures does { Does M.SIZE (table.retry now) self.old self.new }
         ensures window { self.new.window ≡ self.old.window }
     {
         self.tries += 1;
@@ -83,17 +83,17 @@ impl<M: Modulus> Station<M> {
     fn ask_once_more(&mut self, now: u64)
         requires now { now ≤ COUNT_MAX }
         requires outs { self.old.outs.items ≡ [] }
-        ensures does { Does M.SIZE (asked_once_more now) self.old self.new }
+        ensures does { Does M.SIZE (ask_once_more now) self.old self.new }
         ensures window { self.new.window ≡ self.old.window }
     {
         match self.phase {
             LinkPhase::Down => {}
             LinkPhase::SettingUp => {
                 let control = self.set_up_command();
-                self.put_timed(control, now);
+                self.emit_timed(control, now);
             }
             LinkPhase::Up => self.start_poll(now),
-            LinkPhase::Releasing => self.put_timed(Control::Disc { pf: true }, now),
+            LinkPhase::Releasing => self.emit_timed(Control::Disc { pf: true }, now),
         }
     }
 }

@@ -46,7 +46,7 @@ pub fn pair_start()
 /// than the other has got.
 pub fn pair_safe()
     ensures safe { (l r : State) (to_l to_r : List Frame) → PairSound l r to_l to_r →
-        IsPrefix r.gots l.given × IsPrefix l.gots r.given × (l.acked ≤ length r.gots) × (r.acked ≤ length l.gots) }
+        IsPrefix r.received l.given × IsPrefix l.received r.given × (l.acked ≤ length r.received) × (r.acked ≤ length l.received) }
 {}
 
 /// A step of an end that is Up keeps the payloads and the acknowledgements of both ways sound, whether the end stays
@@ -83,9 +83,9 @@ pub fn link_safe()
     ensures new { (size : ℕ) (a b : LinkConfig) → (size ≡ 8) ⊎ (size ≡ 128) → a.srej ≡ b.srej →
         Starts (new_ends (rules_new size a) (rules_new size b)) }
     ensures met { (p : Payload) → CleanRun (two_new false) (carrying p) ×
-        ((run (two_new false) (carrying p)).right.link.gots ≡ p ∷ []) × ((run (two_new false) (carrying p)).left.link.acked ≡ 1) }
+        ((run (two_new false) (carrying p)).right.link.received ≡ p ∷ []) × ((run (two_new false) (carrying p)).left.link.acked ≡ 1) }
     ensures early { (p q : Payload) → CleanRun (two_new true) (losing p q) ×
-        ((run (two_new true) (losing p q)).right.link.gots ≡ p ∷ q ∷ []) × ((run (two_new true) (losing p q)).left.link.acked ≡ 2) }
+        ((run (two_new true) (losing p q)).right.link.received ≡ p ∷ q ∷ []) × ((run (two_new true) (losing p q)).left.link.acked ≡ 2) }
     ensures taken { (w : Ends) (events : List (Side × Event)) → Starts w → EndsBounded w → CleanRun w events → TakenSafe (run w events) }
     ensures bounded { (size : ℕ) (a b : LinkConfig) → (size ≡ 8) ⊎ (size ≡ 128) → a.srej ≡ b.srej →
         EndsBounded (new_ends (rules_new size a) (rules_new size b)) }

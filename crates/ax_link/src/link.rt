@@ -5,7 +5,7 @@ ghost use Rattle.ax_link.specs.Kinds.{frame_in};
 ghost use Rattle.ax_link.specs.State.{State, count_end};
 ghost use Rattle.ax_link.specs.Table as table;
 ghost use Rattle.ax_link.specs.Standing.{Stands, StandsFor};
-ghost use Rattle.ax_link.specs.PutOut.{CanBeSent};
+ghost use Rattle.ax_link.specs.Outputs.{CanBeSent};
 ghost use Rattle.ax_link.specs.Opening.{IsDrained, facts_of, opening, rules_new, send_answer};
 
 use crate::moves::copy_of;
@@ -32,18 +32,18 @@ pub struct Link<M: Modulus> {
 
 impl<M: Modulus> Model for Link<M> {
     ghost use Rattle.std.specs.Prelude.{◌<◌};
-    ghost use Rattle.ax_link.specs.Standing.{Held};
+    ghost use Rattle.ax_link.specs.Standing.{LinkView};
 
-    ghost Value = { Held };
+    ghost Value = { LinkView };
 
-    ghost use Rattle.ax_link.specs.Stations.{held_of};
+    ghost use Rattle.ax_link.specs.Stations.{view_of};
 
-    ghost view = { λ l. held_of l.station };
+    ghost view = { λ l. view_of l.station };
 
-    ghost use Rattle.ax_link.specs.PutOut.{AllPut};
+    ghost use Rattle.ax_link.specs.Outputs.{AllCanBeSent};
 
     // The window fits the modulus, and each frame that waits can be written.
-    ghost invariant = { λ l. (l.station.window < M.SIZE) × AllPut M.SIZE l.station.outs.items };
+    ghost invariant = { λ l. (l.station.window < M.SIZE) × AllCanBeSent M.SIZE l.station.outs.items };
 }
 
 impl<M: Modulus> Link<M> {

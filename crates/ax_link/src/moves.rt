@@ -35,7 +35,7 @@ impl<M: Modulus> Station<M> {
     ghost use Rattle.radio_base.specs.declared.payload.Payload.{Payload};
     ghost use Rattle.ax_link.specs.Moves as moves;
     ghost use Rattle.ax_link.specs.Standing.{Adds, state_of};
-    ghost use Rattle.ax_link.specs.Stations.{Does, PutsTexts, held_of, texts_out, told_ready};
+    ghost use Rattle.ax_link.specs.Stations.{Does, EmitsTexts, view_of, texts_out, emit_rr};
 
     /// The payload of this number, where it waits.
     fn text_of(&self, number: u64) -> Option<Payload>
@@ -49,12 +49,12 @@ impl<M: Modulus> Station<M> {
     }
 
     /// Puts out the payload of this number.
-    fn put_text(&mut self, number: u64)
+    fn emit_text(&mut self, number: u64)
         requires waits { self.old.acked ≤ number }
         requires given { number < self.old.acked + length self.old.queue.items }
         requires room { length self.old.outs.items < 2 * self.old.window + 4 }
-        ensures puts { PutsTexts M.SIZE number 1 (held_of self.old) (held_of self.new) }
-        ensures adds { Adds 1 (held_of self.old) (held_of self.new) }
+        ensures puts { EmitsTexts M.SIZE number 1 (view_of self.old) (view_of self.new) }
+        ensures adds { Adds 1 (view_of self.old) (view_of self.new) }
     {
         let control = Control::I {
             ns: M::wire(number),
@@ -71,44 +71,44 @@ impl<M: Modulus> Station<M> {
     }
 
     /// Puts out `many` payloads from this number on.
-    pub(crate) fn put_texts(&mut self, from: u64, many: u64)
+    pub(crate) fn emit_texts(&mut self, from: u64, many: u64)
         requires waits { self.old.acked ≤ from }
         requires given { from + many ≤ self.old.acked + length self.old.queue.items }
         requires room { length self.old.outs.items + many ≤ 2 * self.old.window + 4 }
-        ensures puts { PutsTexts M.SIZE from many (held_of self.old) (held_of self.new) }
+        ensures puts { EmitsTexts M.SIZE from many (view_of self.old) (view_of self.new) }
         ensures does { Does M.SIZE (texts_out from many) self.old self.new }
-        ensures adds { Adds many (held_of self.old) (held_of self.new) }
+        ensures adds { Adds many (view_of self.old) (view_of self.new) }
     {
         for number in from..from + many {
-            self.put_text(number);
+            self.emit_text(number);
         }
     }
 
     /// Tells where this end stands, as a response.
-    pub(crate) fn tell_ready(&mut self, pf: bool)
+    pub(crate) fn emit_rr(&mut self, pf: bool)
         requires { length self.old.outs.items + 1 ≤ 2 * self.old.window + 4 }
-        ensures does { Does M.SIZE (told_ready pf) self.old self.new }
-        ensures adds { Adds 1 (held_of self.old) (held_of self.new) }
+        ensures does { Does M.SIZE (emit_rr pf) self.old self.new }
+        ensures adds { Adds 1 (view_of self.old) (view_of self.new) }
     {
         let control = self.ready(pf);
-        self.put(false, control);
+        self.emit(false, control);
     }
 
     /// A poll asks for an answer.
     pub(crate) fn answer_poll(&mut self, poll: bool)
         requires { length self.old.outs.items + 1 ≤ 2 * self.old.window + 4 }
-        ensures does { Does M.SIZE (moves.answered poll) self.old self.new }
-        ensures adds { Adds 1 (held_of self.old) (held_of self.new) }
+        ensures does { Does M.SIZE (moves.answer_poll poll) self.old self.new }
+        ensures adds { Adds 1 (view_of self.old) (view_of self.new) }
     {
         if poll {
-            self.tell_ready(true);
+            self.emit_rr(true);
         }
     }
 
     /// How many payloads may be put out.
     pub(crate) fn fill_count(&self) -> u64
-        ensures exact { (before gots : List Payload) → length before ≡ self.now.acked →
-            result ≡ moves.fill_count (state_of M.SIZE (held_of self.now) before gots) }
+        ensures exact { (before received : List Payload) → length before ≡ self.now.acked →
+            result ≡ moves.fill_count (state_of M.SIZE (view_of self.now) before received) }
         ensures window { self.now.sent + result ≤ self.now.acked + self.now.window }
         ensures given { self.now.sent + result ≤ self.now.acked + length self.now.queue.items }
     {
@@ -126,13 +126,13 @@ impl<M: Modulus> Station<M> {
         requires now { now ≤ COUNT_MAX }
         requires room { length self.old.outs.items + self.old.window ≤ 2 * self.old.window + 4 }
         ensures does { Does M.SIZE (moves.fill now) self.old self.new }
-        ensures adds { Adds self.old.window (held_of self.old) (held_of self.new) }
+        ensures adds { Adds self.old.window (view_of self.old) (view_of self.new) }
     {
         let many = self.fill_count();
         let ran = self.t1_runs();
-        self.put_texts(self.sent, many);
+        self.emit_texts(self.sent, many);
         self.sent += many;
-        self.judge(ran, now);
+        self.update_t1(ran, now);
     }
 
     /// A link that is to be closed is released once all is acknowledged.
@@ -140,7 +140,7 @@ impl<M: Modulus> Station<M> {
         requires now { now ≤ COUNT_MAX }
         requires room { length self.old.outs.items + 1 ≤ 2 * self.old.window + 4 }
         ensures does { Does M.SIZE (moves.finish now) self.old self.new }
-        ensures adds { Adds 1 (held_of self.old) (held_of self.new) }
+        ensures adds { Adds 1 (view_of self.old) (view_of self.new) }
     {
         if self.is_up() && self.closing && self.all_acknowledged() {
             self.release(now);
@@ -158,18 +158,18 @@ impl<M: Modulus> Station<M> {
         requires now { now ≤ COUNT_MAX }
         requires room { length self.old.outs.items + 1 ≤ 2 * self.old.window + 4 }
         ensures does { Does M.SIZE (moves.release now) self.old self.new }
-        ensures adds { Adds 1 (held_of self.old) (held_of self.new) }
+        ensures adds { Adds 1 (view_of self.old) (view_of self.new) }
     {
         self.tries = 0;
         self.to_phase(LinkPhase::Releasing, now);
-        self.put_timed(Control::Disc { pf: true }, now);
+        self.emit_timed(Control::Disc { pf: true }, now);
     }
 
     pub(crate) fn fill_and_finish(&mut self, now: u64)
         requires now { now ≤ COUNT_MAX }
         requires room { length self.old.outs.items + self.old.window + 1 ≤ 2 * self.old.window + 4 }
         ensures does { Does M.SIZE (moves.supply now) self.old self.new }
-        ensures adds { Adds (self.old.window + 1) (held_of self.old) (held_of self.new) }
+        ensures adds { Adds (self.old.window + 1) (view_of self.old) (view_of self.new) }
     {
         self.fill(now);
         self.finish(now);
@@ -180,9 +180,9 @@ impl<M: Modulus> Station<M> {
         requires now { now ≤ COUNT_MAX }
         requires room { length self.old.outs.items + self.old.window ≤ 2 * self.old.window + 4 }
         ensures does { Does M.SIZE (moves.again now) self.old self.new }
-        ensures adds { Adds self.old.window (held_of self.old) (held_of self.new) }
+        ensures adds { Adds self.old.window (view_of self.old) (view_of self.new) }
     {
-        self.put_texts(self.acked, self.sent - self.acked);
+        self.emit_texts(self.acked, self.sent - self.acked);
         self.t1_at = now + self.t1;
     }
 
@@ -191,7 +191,7 @@ impl<M: Modulus> Station<M> {
         requires now { now ≤ COUNT_MAX }
         requires below { below ≤ self.old.sent }
         ensures does { Does M.SIZE (moves.acknowledge now below) self.old self.new }
-        ensures adds { Adds 0 (held_of self.old) (held_of self.new) }
+        ensures adds { Adds 0 (view_of self.old) (view_of self.new) }
         ensures acked { self.old.acked ≤ below → self.new.acked ≡ below }
         ensures sent { self.new.sent ≡ self.old.sent }
     {
@@ -200,7 +200,7 @@ impl<M: Modulus> Station<M> {
             drop_front(&mut self.queue, below - self.acked);
             self.acked = below;
             self.tries = 0;
-            self.judge(ran, now);
+            self.update_t1(ran, now);
             self.t1_at = now + self.t1;
         }
     }
@@ -209,11 +209,11 @@ impl<M: Modulus> Station<M> {
     pub(crate) fn hold(&mut self, peer_busy: bool, now: u64)
         requires { now ≤ COUNT_MAX }
         ensures does { Does M.SIZE (moves.hold now peer_busy) self.old self.new }
-        ensures adds { Adds 0 (held_of self.old) (held_of self.new) }
+        ensures adds { Adds 0 (view_of self.old) (view_of self.new) }
     {
         let ran = self.t1_runs();
         self.peer_busy = peer_busy;
-        self.judge(ran, now);
+        self.update_t1(ran, now);
     }
 
     /// Asks the other station where it stands.
@@ -221,34 +221,34 @@ impl<M: Modulus> Station<M> {
         requires now { now ≤ COUNT_MAX }
         requires room { length self.old.outs.items + 1 ≤ 2 * self.old.window + 4 }
         ensures does { Does M.SIZE (moves.start_poll now) self.old self.new }
-        ensures adds { Adds 1 (held_of self.old) (held_of self.new) }
+        ensures adds { Adds 1 (view_of self.old) (view_of self.new) }
     {
         self.await_final(now);
         let control = self.ready(true);
-        self.put_timed(control, now);
+        self.emit_timed(control, now);
     }
 
     /// A response with the final bit is awaited.
     fn await_final(&mut self, now: u64)
         requires { now ≤ COUNT_MAX }
-        ensures does { Does M.SIZE (moves.polled now) self.old self.new }
-        ensures adds { Adds 0 (held_of self.old) (held_of self.new) }
+        ensures does { Does M.SIZE (moves.await_final now) self.old self.new }
+        ensures adds { Adds 0 (view_of self.old) (view_of self.new) }
     {
         let ran = self.t1_runs();
         self.polling = true;
-        self.judge(ran, now);
+        self.update_t1(ran, now);
     }
 
     pub(crate) fn end_poll(&mut self, now: u64)
         requires { now ≤ COUNT_MAX }
         ensures does { Does M.SIZE (moves.end_poll now) self.old self.new }
-        ensures adds { Adds 0 (held_of self.old) (held_of self.new) }
+        ensures adds { Adds 0 (view_of self.old) (view_of self.new) }
         ensures acked { self.new.acked ≡ self.old.acked }
         ensures sent { self.new.sent ≡ self.old.sent }
     {
         let ran = self.t1_runs();
         self.polling = false;
         self.tries = 0;
-        self.judge(ran, now);
+        self.update_t1(ran, now);
     }
 }

@@ -34,11 +34,11 @@ pub(crate) struct Station<M> {
     pub(crate) tries: u8,
     pub(crate) polling: bool,
     pub(crate) peer_busy: bool,
-    pub(crate) asked: bool,
+    pub(crate) rej_sent: bool,
     pub(crate) closing: bool,
     pub(crate) t1_at: u64,
-    pub(crate) heard: u64,
-    pub(crate) stopped: u64,
+    pub(crate) last_arrival: u64,
+    pub(crate) t1_stopped_at: u64,
     pub(crate) outs: HeapCircularBuffer<LinkOut>,
     pub(crate) notice: Option<LinkNotice>,
     pub(crate) modulus: PhantomData<M>,
@@ -59,8 +59,8 @@ pub(crate) struct Station<M> {
     ghost outs_room: { outs.capacity ≡ 2 * window + 4 },
     ghost t1_fits: { t1 ≤ COUNT_MAX },
     ghost t3_fits: { t3 ≤ COUNT_MAX },
-    ghost heard_fits: { heard ≤ COUNT_MAX },
-    ghost stopped_fits: { stopped ≤ COUNT_MAX },
+    ghost heard_fits: { last_arrival ≤ COUNT_MAX },
+    ghost stopped_fits: { t1_stopped_at ≤ COUNT_MAX },
     ghost tries_fit: { tries ≤ retries },
 }
 
@@ -79,7 +79,7 @@ impl<M: Modulus> Station<M> {
     ghost use Rattle.ax_link.specs.State.{is_up};
     ghost use Rattle.ax_link.specs.Moves as moves;
     ghost use Rattle.ax_link.specs.Standing.{Adds, runs, state_of};
-    ghost use Rattle.ax_link.specs.Stations.{Does, held_of, judged_held};
+    ghost use Rattle.ax_link.specs.Stations.{Does, view_of, view_with_t1};
 
     pub(crate) fn is_busy(&self) -> bool
         ensures { result ≡ nat_le 64 (length self.now.inbox.items) }
@@ -94,7 +94,7 @@ impl<M: Modulus> Station<M> {
     }
 
     pub(crate) fn t1_runs(&self) -> bool
-        ensures { result ≡ runs (held_of self.now) }
+        ensures { result ≡ runs (view_of self.now) }
     {
         match self.phase {
             LinkPhase::Down => false,
@@ -105,8 +105,8 @@ impl<M: Modulus> Station<M> {
 
     /// RR, or RNR where the link is busy.
     pub(crate) fn ready(&self, pf: bool) -> Control
-        ensures { (before gots : List Payload) → length gots ≡ self.now.got → (command : Bool) →
-            kind_of M.SIZE command result ≡ moves.rr (state_of M.SIZE (held_of self.now) before gots) pf }
+        ensures { (before received : List Payload) → length received ≡ self.now.got → (command : Bool) →
+            kind_of M.SIZE command result ≡ moves.rr (state_of M.SIZE (view_of self.now) before received) pf }
     {
         let nr = M::wire(self.got);
         if self.is_busy() {
@@ -128,23 +128,23 @@ impl<M: Modulus> Station<M> {
     }
 
     /// After a change: T1 begins to run, or has stopped. `ran` is whether it ran before.
-    pub(crate) fn judge(&mut self, ran: bool, now: u64)
+    pub(crate) fn update_t1(&mut self, ran: bool, now: u64)
         requires { now ≤ COUNT_MAX }
-        ensures { held_of self.new ≡ judged_held now ran (held_of self.old) }
+        ensures { view_of self.new ≡ view_with_t1 now ran (view_of self.old) }
     {
         let runs = self.t1_runs();
         if !ran && runs {
             self.t1_at = now + self.t1;
         }
         if ran && !runs {
-            self.stopped = now;
+            self.t1_stopped_at = now;
         }
     }
 
-    pub(crate) fn put(&mut self, command: bool, control: Control)
+    pub(crate) fn emit(&mut self, command: bool, control: Control)
         requires { length self.old.outs.items < 2 * self.old.window + 4 }
-        ensures does { Does M.SIZE (moves.put command (kind_of M.SIZE command control)) self.old self.new }
-        ensures adds { Adds 1 (held_of self.old) (held_of self.new) }
+        ensures does { Does M.SIZE (moves.emit command (kind_of M.SIZE command control)) self.old self.new }
+        ensures adds { Adds 1 (view_of self.old) (view_of self.new) }
         ensures got { self.new.got ≡ self.old.got }
     {
         let out = LinkOut {
@@ -156,24 +156,24 @@ impl<M: Modulus> Station<M> {
     }
 
     /// Puts out a frame whose answer T1 awaits.
-    pub(crate) fn put_timed(&mut self, control: Control, now: u64)
+    pub(crate) fn emit_timed(&mut self, control: Control, now: u64)
         requires now { now ≤ COUNT_MAX }
         requires room { length self.old.outs.items < 2 * self.old.window + 4 }
-        ensures does { Does M.SIZE (moves.timed now true (kind_of M.SIZE true control)) self.old self.new }
-        ensures adds { Adds 1 (held_of self.old) (held_of self.new) }
+        ensures does { Does M.SIZE (moves.emit_timed now true (kind_of M.SIZE true control)) self.old self.new }
+        ensures adds { Adds 1 (view_of self.old) (view_of self.new) }
     {
-        self.put(true, control);
+        self.emit(true, control);
         self.t1_at = now + self.t1;
     }
 
     pub(crate) fn to_phase(&mut self, phase: LinkPhase, now: u64)
         requires { now ≤ COUNT_MAX }
         ensures does { Does M.SIZE (moves.to_phase now phase) self.old self.new }
-        ensures adds { Adds 0 (held_of self.old) (held_of self.new) }
+        ensures adds { Adds 0 (view_of self.old) (view_of self.new) }
     {
         let ran = self.t1_runs();
         self.phase = phase;
-        self.judge(ran, now);
+        self.update_t1(ran, now);
     }
 
     pub(crate) fn note(&mut self, notice: LinkNotice)
@@ -189,7 +189,7 @@ impl<M: Modulus> Station<M> {
     pub(crate) fn reset(&mut self, now: u64)
         requires { now ≤ COUNT_MAX }
         ensures does { Does M.SIZE (moves.reset now) self.old self.new }
-        ensures adds { Adds 0 (held_of self.old) (held_of self.new) }
+        ensures adds { Adds 0 (view_of self.old) (view_of self.new) }
     {
         let ran = self.t1_runs();
         self.queue.clear();
@@ -201,7 +201,7 @@ impl<M: Modulus> Station<M> {
         self.tries = 0;
         self.polling = false;
         self.peer_busy = false;
-        self.asked = false;
-        self.judge(ran, now);
+        self.rej_sent = false;
+        self.update_t1(ran, now);
     }
 }

@@ -14,21 +14,21 @@ impl<M: Modulus> Station<M> {
     ghost use Rattle.ax_link.specs.Moves as moves;
     ghost use Rattle.ax_link.specs.Table as table;
     ghost use Rattle.ax_link.specs.Standing.{Adds, state_of};
-    ghost use Rattle.ax_link.specs.Stations.{Does, held_of, taken, text_next};
+    ghost use Rattle.ax_link.specs.Stations.{Does, view_of, take_plain, text_next};
 
     /// A payload has come with this number on the air.
     pub(crate) fn text(&mut self, pf: bool, ns: u8, payload: Payload)
         requires room { length self.old.outs.items + self.old.window ≤ 2 * self.old.window + 4 }
         requires size { self.old.window < M.SIZE }
         ensures does { Does M.SIZE (moves.text pf ns payload) self.old self.new }
-        ensures adds { Adds self.old.window (held_of self.old) (held_of self.new) }
+        ensures adds { Adds self.old.window (view_of self.old) (view_of self.new) }
     {
         if self.got >= COUNT_MAX {
             return;
         }
         if self.is_busy() {
             let nr = M::wire(self.got);
-            self.put(false, Control::Rnr { nr, pf });
+            self.emit(false, Control::Rnr { nr, pf });
         } else if self.srej {
             self.text_in_window(pf, ns, payload);
         } else {
@@ -43,11 +43,11 @@ impl<M: Modulus> Station<M> {
         requires busy { length self.old.inbox.items < 64 }
         requires more { self.old.got < COUNT_MAX }
         ensures does { Does M.SIZE (moves.text_srej pf ns payload) self.old self.new }
-        ensures adds { Adds self.old.window (held_of self.old) (held_of self.new) }
+        ensures adds { Adds self.old.window (view_of self.old) (view_of self.new) }
     {
         match self.in_window(ns) {
             Some(number) => self.text_at(pf, number, payload),
-            None => self.tell_ready(pf),
+            None => self.emit_rr(pf),
         }
     }
 
@@ -58,7 +58,7 @@ impl<M: Modulus> Station<M> {
         requires from { self.old.got ≤ number }
         requires below { number < self.old.got + self.old.window }
         ensures does { Does M.SIZE (moves.text_at pf number payload) self.old self.new }
-        ensures adds { Adds self.old.window (held_of self.old) (held_of self.new) }
+        ensures adds { Adds self.old.window (view_of self.old) (view_of self.new) }
     {
         if self.got < number {
             self.text_later(pf, number, payload);
@@ -73,11 +73,11 @@ impl<M: Modulus> Station<M> {
         requires busy { length self.old.inbox.items < 64 }
         requires more { self.old.got < COUNT_MAX }
         ensures does { Does M.SIZE (text_next pf payload) self.old self.new }
-        ensures adds { Adds 1 (held_of self.old) (held_of self.new) }
+        ensures adds { Adds 1 (view_of self.old) (view_of self.new) }
     {
         self.take_next(payload);
         self.move_on();
-        self.answer_taken(pf);
+        self.answer_text(pf);
     }
 
     /// Without single payloads being asked for, only the next one is taken.
@@ -86,11 +86,11 @@ impl<M: Modulus> Station<M> {
         requires busy { length self.old.inbox.items < 64 }
         requires more { self.old.got < COUNT_MAX }
         ensures does { Does M.SIZE (moves.text_plain pf ns payload) self.old self.new }
-        ensures adds { Adds 1 (held_of self.old) (held_of self.new) }
+        ensures adds { Adds 1 (view_of self.old) (view_of self.new) }
     {
         if ns == M::wire(self.got) {
             self.take_in(payload);
-            self.answer_taken(pf);
+            self.answer_text(pf);
         } else {
             self.ask_again(pf);
         }
@@ -99,21 +99,21 @@ impl<M: Modulus> Station<M> {
     fn take_in(&mut self, payload: Payload)
         requires busy { length self.old.inbox.items < 64 }
         requires more { self.old.got < COUNT_MAX }
-        ensures does { Does M.SIZE (taken payload) self.old self.new }
-        ensures adds { Adds 0 (held_of self.old) (held_of self.new) }
+        ensures does { Does M.SIZE (take_plain payload) self.old self.new }
+        ensures adds { Adds 0 (view_of self.old) (view_of self.new) }
     {
         self.take_next(payload);
-        self.asked = false;
+        self.rej_sent = false;
     }
 
     /// Answers a payload that was taken, unless a payload goes out that carries the answer.
-    fn answer_taken(&mut self, pf: bool)
+    fn answer_text(&mut self, pf: bool)
         requires { length self.old.outs.items + 1 ≤ 2 * self.old.window + 4 }
-        ensures does { Does M.SIZE (moves.answer_taken pf) self.old self.new }
-        ensures adds { Adds 1 (held_of self.old) (held_of self.new) }
+        ensures does { Does M.SIZE (moves.answer_text pf) self.old self.new }
+        ensures adds { Adds 1 (view_of self.old) (view_of self.new) }
     {
         if pf || self.is_busy() || self.fill_count() == 0 {
-            self.tell_ready(pf);
+            self.emit_rr(pf);
         }
     }
 
@@ -121,9 +121,9 @@ impl<M: Modulus> Station<M> {
     fn ask_again(&mut self, pf: bool)
         requires { length self.old.outs.items + 1 ≤ 2 * self.old.window + 4 }
         ensures does { Does M.SIZE (moves.ask_again pf) self.old self.new }
-        ensures adds { Adds 1 (held_of self.old) (held_of self.new) }
+        ensures adds { Adds 1 (view_of self.old) (view_of self.new) }
     {
-        if !self.asked {
+        if !self.rej_sent {
             self.ask(pf);
         } else {
             self.answer_poll(pf);
@@ -133,10 +133,10 @@ impl<M: Modulus> Station<M> {
     fn ask(&mut self, pf: bool)
         requires { length self.old.outs.items + 1 ≤ 2 * self.old.window + 4 }
         ensures does { Does M.SIZE (moves.ask pf) self.old self.new }
-        ensures adds { Adds 1 (held_of self.old) (held_of self.new) }
+        ensures adds { Adds 1 (view_of self.old) (view_of self.new) }
     {
-        self.asked = true;
+        self.rej_sent = true;
         let nr = M::wire(self.got);
-        self.put(false, Control::Rej { nr, pf });
+        self.emit(false, Control::Rej { nr, pf });
     }
 }

@@ -64,7 +64,7 @@ written_again (Request pair window user node) octets byte h =
     rw (of_user, at_node, ← s.proposed) (ap (λ xs. xs ++ n) (pair_first pair octets 1 (get_or octets 5 0 ∷ u) h.0.whole h.0.is_for))
 written_again (Accept to own window) octets byte h =
     let s = h.1 in
-    alike to (pair_at 0 octets) own.index (get_or octets 2 0) own.ident (get_or octets 3 0) 2 2 (window ∷ []) (get_or octets 5 0 ∷ []) (sym h.0.is_for) (ap (λ (p : Pair). p.index) (sym s.by)) (ap (λ (p : Pair). p.ident) (sym s.by)) refl (ap (λ w. w ∷ []) (sym s.agreed))
+    alike to (pair_at 0 octets) own.index (get_or octets 2 0) own.ident (get_or octets 3 0) 2 2 (window ∷ []) (get_or octets 5 0 ∷ []) (sym h.0.is_for) (ap (λ (p : Pair). p.index) (sym s.by)) (ap (λ (p : Pair). p.ident) (sym s.by)) refl (ap (λ w. w ∷ []) (sym s.common_window))
     ∙ ap (λ xs. take 4 xs ++ 2 ∷ get_or octets 5 0 ∷ []) (sym (laid octets h.0.whole))
 written_again (Refuse to) octets byte h = pair_first to octets 130 (0 ∷ []) h.0.whole h.0.is_for
 written_again (Disconnect to) octets byte h = pair_first to octets 3 [] h.whole h.is_for

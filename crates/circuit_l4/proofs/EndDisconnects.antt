@@ -16,12 +16,12 @@ use Rattle.circuit_l4.specs.declared.plain.EndNotice.TheVariants.{Opened, Refuse
 use Rattle.circuit_l4.specs.declared.machine.Role.{Role}
 use Rattle.circuit_l4.specs.declared.machine.Role.TheVariants.{Requester, Responder}
 use Rattle.circuit_l4.specs.declared.texts.Owed.{Owed}
-use Rattle.circuit_l4.specs.EndState.{Going, Out, State, begin, info, info_ack, infos, is_up}
-use Rattle.circuit_l4.specs.EndMoves.{acknowledged, again, answered, answered_all, awaited, awaited_if_out, changed, closing_begun, ended, fill, fill_count, finish, has_come, is_done, note, on_info, on_info_ack, put, put_owed, supply, told_got}
-use Rattle.circuit_l4.specs.EndTable.{Input, Write, Arrive, Tick, Close, Take, accepted, agreed, arrive_in, ask, closed, closed_in_turn, due_in, expired, expiry_counted, heard, is_due, may_close, opened, released, resumed, retried, retry_in, step, step_at, taken, taken_from, ticked, write_answer, wrote}
-use Rattle.circuit_l4.specs.EndLaws.{Asks, Accepts, DisconnectsWhenAcknowledged, IsNew, followed_by, lived}
+use Rattle.circuit_l4.specs.EndState.{Effect, Out, State, begin, info, info_ack, infos, is_up}
+use Rattle.circuit_l4.specs.EndMoves.{acknowledge, again, answer, answer_all, wait, wait_if_out, on_state, begin_to_close, end_with, fill, fill_count, finish, with_receiving, is_done, note, on_info, on_info_ack, emit, emit_owed, supply, emit_ack}
+use Rattle.circuit_l4.specs.EndTable.{Input, Write, Arrive, Tick, Close, Take, on_accept, common_window, arrive_in, ask_by, close, close_in_turn, due_in, expire, count_expiry, note_activity, is_due, may_close, come_up, release, resume_by, retry, retry_in, step, step_at, take_first, take_from, tick, write_answer, write}
+use Rattle.circuit_l4.specs.EndLaws.{Asks, Accepts, DisconnectsWhenAcknowledged, IsNew, followed_by, after_inputs}
 use Rattle.circuit_l4.specs.Sending.{total, written}
-use Rattle.circuit_l4.specs.Receiving.{Appended, Came, busy, came, first_taken, inbox, moved_on}
+use Rattle.circuit_l4.specs.Receiving.{Appended, Receipt, busy, receive, without_first, inbox, moved_on}
 use Rattle.circuit_l4.proofs.EndParts.{either_going, itself, keeps-acknowledged, keeps-awaited_if_out, keeps-counted_out}
 
 abbrev AllAcknowledged : State → Type 0
@@ -35,20 +35,20 @@ Closes s = s.phase ≡ Closing → AllAcknowledged s
 abbrev NoRequest : List Out → Type 0
 NoRequest outs = (to : Pair) (number : Option ℕ) → Contains outs (Disconnect to, number) → ⊥
 
-abbrev Sound : Going → Type 0
+abbrev Sound : Effect → Type 0
 Sound g = Closes g.end × ((to : Pair) (number : Option ℕ) → Contains g.outs (Disconnect to, number) → AllAcknowledged g.end)
 
 -- a step of an end that is Up, so far
-abbrev StaysUp : Going → Type 0
+abbrev StaysUp : Effect → Type 0
 StaysUp g = (g.end.phase ≡ Up) × NoRequest g.outs
 
 up-closes : (s : State) → s.phase ≡ Up → Closes s
 up-closes s e c = let two : Up ≡ Closing = sym e ∙ c in absurd (cc two)
 
-no_request : (g : Going) → Closes g.end → NoRequest g.outs → Sound g
+no_request : (g : Effect) → Closes g.end → NoRequest g.outs → Sound g
 no_request g c none = (c, λ to number w. absurd (none to number w))
 
-up-sound : (g : Going) → StaysUp g → Sound g
+up-sound : (g : Effect) → StaysUp g → Sound g
 up-sound g up = no_request g (up-closes g.end up.0) up.1
 
 -- ---- what is put out ----
@@ -73,7 +73,7 @@ no_request-infos : (s : State) (n many : ℕ) → NoRequest (infos s n many)
 no_request-infos s n zero = nothing
 no_request-infos s n (suc many) = both _ _ (no_request-info s n (slice_get _ n)) (no_request-infos s (suc n) many)
 
-more_infos : (g : Going) (n many : ℕ) → NoRequest g.outs → NoRequest (g.outs ++ infos g.end n many)
+more_infos : (g : Effect) (n many : ℕ) → NoRequest g.outs → NoRequest (g.outs ++ infos g.end n many)
 more_infos g n many none = both g.outs (infos g.end n many) none (no_request-infos g.end n many)
 
 -- ---- the parts of a step ----
@@ -82,64 +82,64 @@ last true true c h = h
 last true false c h = absurd (cc h)
 last false b c h = absurd (cc h)
 
-finished : (done : Bool) (now : ℕ) (g : Going) → is_done g.end ≡ done → Sound g → Sound (if done then closing_begun now g else g)
+finished : (done : Bool) (now : ℕ) (g : Effect) → is_done g.end ≡ done → Sound g → Sound (if done then begin_to_close now g else g)
 finished true now g e h =
     let test : nat_eq g.end.sending.acked (total g.end.sending) ≡ true = last (is_up g.end.phase) g.end.closing _ e in
     let all : AllAcknowledged g.end = grind (arith, nat_tests) in
     (λ c. all, λ to number w. all)
 finished false now g e h = h
 
-finishes : (now : ℕ) (g : Going) → Sound g → Sound (finish now g)
+finishes : (now : ℕ) (g : Effect) → Sound g → Sound (finish now g)
 finishes now g h = finished (is_done g.end) now g refl h
 
-fills : (now : ℕ) (g : Going) → StaysUp g → StaysUp (fill now g)
+fills : (now : ℕ) (g : Effect) → StaysUp g → StaysUp (fill now g)
 fills now g up = ((keeps-counted_out g.end now (fill_count g.end)).0 ∙ up.0, more_infos g _ _ up.1)
 
-supplies : (now : ℕ) (g : Going) → StaysUp g → Sound (supply now g)
+supplies : (now : ℕ) (g : Effect) → StaysUp g → Sound (supply now g)
 supplies now g up = finishes now (fill now g) (up-sound (fill now g) (fills now g up))
 
-pays : (owed : Owed) (g : Going) → StaysUp g → StaysUp (put_owed owed g)
+pays : (owed : Owed) (g : Effect) → StaysUp g → StaysUp (emit_owed owed g)
 pays owed g up = (up.0, more_infos g owed.from owed.many up.1)
 
-tells_got : (nak : Bool) (g : Going) → NoRequest g.outs → NoRequest (told_got nak g).outs
+tells_got : (nak : Bool) (g : Effect) → NoRequest g.outs → NoRequest (emit_ack nak g).outs
 tells_got nak g none = one_more g.outs (info_ack g.end nak) none (λ to e. absurd (cc e))
 
-answers : (now : ℕ) (nak : Bool) (owed : Owed) (g : Going) → StaysUp g → Sound (answered_all now nak owed g)
+answers : (now : ℕ) (nak : Bool) (owed : Owed) (g : Effect) → StaysUp g → Sound (answer_all now nak owed g)
 answers now nak owed g up =
-    let a = answered nak owed g in
-    let stays : StaysUp a = either_going StaysUp (nak || nat_eq (owed.many + fill_count g.end) 0) (told_got nak g) g (up.0, tells_got nak g up.1) up in
-    supplies now (put_owed owed a) (pays owed a stays)
+    let a = answer nak owed g in
+    let stays : StaysUp a = either_going StaysUp (nak || nat_eq (owed.many + fill_count g.end) 0) (emit_ack nak g) g (up.0, tells_got nak g up.1) up in
+    supplies now (emit_owed owed a) (pays owed a stays)
 
 -- an end that has ended isn't Closing
-ends : (why : EndNotice) (g : Going) → NoRequest g.outs → Sound (ended why g)
-ends why g none = no_request (ended why g) (λ c. absurd (cc c)) none
+ends : (why : EndNotice) (g : Effect) → NoRequest g.outs → Sound (end_with why g)
+ends why g none = no_request (end_with why g) (λ c. absurd (cc c)) none
 
-texts : (now : ℕ) (owed : Owed) (c : Came) (fits : Bool) (g : Going) → StaysUp g →
-    Sound (if fits then answered_all now c.nak owed (has_come c.half g) else ended FailedOversize (has_come c.half g))
-texts now owed c true g up = answers now c.nak owed (has_come c.half g) up
-texts now owed c false g up = ends FailedOversize (has_come c.half g) up.1
+texts : (now : ℕ) (owed : Owed) (c : Receipt) (fits : Bool) (g : Effect) → StaysUp g →
+    Sound (if fits then answer_all now c.nak owed (with_receiving c.half g) else end_with FailedOversize (with_receiving c.half g))
+texts now owed c true g up = answers now c.nak owed (with_receiving c.half g) up
+texts now owed c false g up = ends FailedOversize (with_receiving c.half g) up.1
 
-info_comes : (now tx rx : ℕ) (flags : Flags) (piece : Piece) (s : State) → s.phase ≡ Up → Sound (on_info now tx rx flags piece (heard now (begin s)))
+info_comes : (now tx rx : ℕ) (flags : Flags) (piece : Piece) (s : State) → s.phase ≡ Up → Sound (on_info now tx rx flags piece (note_activity now (begin s)))
 info_comes now tx rx flags piece s up =
-    let g = heard now (begin s) in
-    let a = acknowledged now rx flags g.end in
-    let c = came a.end.window tx piece a.end.receiving in
+    let g = note_activity now (begin s) in
+    let a = acknowledge now rx flags g.end in
+    let c = receive a.end.window tx piece a.end.receiving in
     texts now a.owed c c.fits (record g { end = a.end }) ((keeps-acknowledged g.end now rx flags).0 ∙ up, nothing)
 
-ack_comes : (now rx : ℕ) (flags : Flags) (s : State) → s.phase ≡ Up → Sound (on_info_ack now rx flags (heard now (begin s)))
+ack_comes : (now rx : ℕ) (flags : Flags) (s : State) → s.phase ≡ Up → Sound (on_info_ack now rx flags (note_activity now (begin s)))
 ack_comes now rx flags s up =
-    let g = heard now (begin s) in
-    let a = acknowledged now rx flags g.end in
-    let h : Going = record g { end = a.end } in
-    supplies now (put_owed a.owed h) (pays a.owed h ((keeps-acknowledged g.end now rx flags).0 ∙ up, nothing))
+    let g = note_activity now (begin s) in
+    let a = acknowledge now rx flags g.end in
+    let h : Effect = record g { end = a.end } in
+    supplies now (emit_owed a.owed h) (pays a.owed h ((keeps-acknowledged g.end now rx flags).0 ∙ up, nothing))
 
-accept_comes : (now : ℕ) (to : Pair) (window : ℕ) (s : State) → Sound (accepted now to window (begin s))
+accept_comes : (now : ℕ) (to : Pair) (window : ℕ) (s : State) → Sound (on_accept now to window (begin s))
 accept_comes now to window s =
-    let g = note (Opened (agreed s.config.window window)) (changed (opened now to window) (begin s)) in
+    let g = note (Opened (common_window s.config.window window)) (on_state (come_up now to window) (begin s)) in
     finishes now g (up-sound g (refl, nothing))
 
-partner_closes : (s : State) → Sound (ended ClosedByPartner (put (Disconnected s.to) (begin s)))
-partner_closes s = ends ClosedByPartner (put (Disconnected s.to) (begin s)) (one (Disconnected s.to) None (λ to e. absurd (cc e)))
+partner_closes : (s : State) → Sound (end_with ClosedByPartner (emit (Disconnected s.to) (begin s)))
+partner_closes s = ends ClosedByPartner (emit (Disconnected s.to) (begin s)) (one (Disconnected s.to) None (λ to e. absurd (cc e)))
 
 arrives : (p : EndPhase) (now : ℕ) (t : Transport) (s : State) → s.phase ≡ p → Closes s → Sound (arrive_in p now t (begin s))
 arrives Connecting now (Accept to own window) s e c = accept_comes now own window s
@@ -156,49 +156,49 @@ arrives Ended now t s e c = no_request (begin s) c nothing
 
 -- ---- expiries ----
 -- a try more
-abbrev again_later : ℕ → Going → Going
-again_later now g = changed (λ s. awaited now (record s { tries = suc s.tries })) g
+abbrev again_later : ℕ → Effect → Effect
+again_later now g = on_state (λ s. wait now (record s { tries = suc s.tries })) g
 
-asks : (r : Role) (now : ℕ) (g : Going) → Closes g.end → NoRequest g.outs → Sound (again_later now (ask r g))
+asks : (r : Role) (now : ℕ) (g : Effect) → Closes g.end → NoRequest g.outs → Sound (again_later now (ask_by r g))
 asks (Requester user node) now g c none =
-    no_request (again_later now (ask (Requester user node) g)) c (one_more g.outs (Request g.end.pair g.end.config.window user node) none (λ to e. absurd (cc e)))
+    no_request (again_later now (ask_by (Requester user node) g)) c (one_more g.outs (Request g.end.pair g.end.config.window user node) none (λ to e. absurd (cc e)))
 asks Responder now g c none = no_request (again_later now g) c none
 
-tries_again : (p : EndPhase) (now : ℕ) (g : Going) → g.end.phase ≡ p → Closes g.end → NoRequest g.outs → Sound (again_later now (retry_in p g))
+tries_again : (p : EndPhase) (now : ℕ) (g : Effect) → g.end.phase ≡ p → Closes g.end → NoRequest g.outs → Sound (again_later now (retry_in p g))
 tries_again Connecting now g e c none = asks g.end.role now g c none
 tries_again Up now g e c none = no_request (again_later now (again g)) c (more_infos g _ _ none)
 tries_again Closing now g e c none = (c, λ to number w. c e)
 tries_again Ended now g e c none = no_request (again_later now g) c none
 
-expires : (now : ℕ) (s : State) → Closes s → Sound (expired now (begin s))
+expires : (now : ℕ) (s : State) → Closes s → Sound (expire now (begin s))
 expires now s c =
-    let g = expiry_counted (begin s) in
-    either_going Sound (nat_eq s.tries s.config.retries) (ended FailedRetries g) (retried now g)
+    let g = count_expiry (begin s) in
+    either_going Sound (nat_eq s.tries s.config.retries) (end_with FailedRetries g) (retry now g)
     (ends FailedRetries g nothing) (tries_again s.phase now g refl c nothing)
 
-releases : (now : ℕ) (s : State) → s.phase ≡ Up → Sound (released now (begin s))
+releases : (now : ℕ) (s : State) → s.phase ≡ Up → Sound (release now (begin s))
 releases now s up =
-    let g = changed (λ s. record s { held = false; due = None }) (begin s) in
-    let f : Going = fill now (again g) in
+    let g = on_state (λ s. record s { choked = false; answer_due = None }) (begin s) in
+    let f : Effect = fill now (again g) in
     let stays : StaysUp f = fills now (again g) (up, more_infos g _ _ nothing) in
-    up-sound (changed (awaited_if_out now) f) ((keeps-awaited_if_out f.end f.end now (itself f.end)).0 ∙ stays.0, stays.1)
+    up-sound (on_state (wait_if_out now) f) ((keeps-awaited_if_out f.end f.end now (itself f.end)).0 ∙ stays.0, stays.1)
 
 falls_due : (p : EndPhase) (now : ℕ) (s : State) → s.phase ≡ p → Closes s → Sound (due_in p now (begin s))
 falls_due Connecting now s e c = expires now s c
-falls_due Up now s e c = either_going Sound s.held (released now (begin s)) (expired now (begin s)) (releases now s e) (expires now s c)
+falls_due Up now s e c = either_going Sound s.choked (release now (begin s)) (expire now (begin s)) (releases now s e) (expires now s c)
 falls_due Closing now s e c = expires now s c
 falls_due Ended now s e c = no_request (begin s) c nothing
 
-ticks : (now : ℕ) (s : State) → Closes s → Sound (ticked now (begin s))
+ticks : (now : ℕ) (s : State) → Closes s → Sound (tick now (begin s))
 ticks now s c =
     let g = begin s in
-    let due : Going = if is_due s.due now then due_in s.phase now g else g in
-    either_going Sound (is_up s.phase && nat_le (s.quiet + s.config.inactive) now) (ended FailedInactive g) due
+    let due : Effect = if is_due s.answer_due now then due_in s.phase now g else g in
+    either_going Sound (is_up s.phase && nat_le (s.last_active + s.config.inactive) now) (end_with FailedInactive g) due
     (ends FailedInactive g nothing)
-    (either_going Sound (is_due s.due now) (due_in s.phase now g) g (falls_due s.phase now s refl c) (no_request g c nothing))
+    (either_going Sound (is_due s.answer_due now) (due_in s.phase now g) g (falls_due s.phase now s refl c) (no_request g c nothing))
 
 -- ---- calls ----
-refused : (ok : Bool) (g h : Going) → ok ≡ false → Sound h → Sound (if ok then g else h)
+refused : (ok : Bool) (g h : Effect) → ok ≡ false → Sound h → Sound (if ok then g else h)
 refused true g h e k = absurd (cc e)
 refused false g h e k = k
 
@@ -208,37 +208,37 @@ not_up s message e = rw e refl
 
 not_written : (now : ℕ) (message : List ℕ) (s : State) → is_up s.phase ≡ false → Closes s → Sound (step_at now (begin s) (Write message))
 not_written now message s e c =
-    refused (is_ok (write_answer s message)) (wrote now message (begin s)) (begin s) (not_up s message e) (no_request (begin s) c nothing)
+    refused (is_ok (write_answer s message)) (write now message (begin s)) (begin s) (not_up s message e) (no_request (begin s) c nothing)
 
 writes : (p : EndPhase) (now : ℕ) (message : List ℕ) (s : State) → s.phase ≡ p → Closes s → Sound (step_at now (begin s) (Write message))
 writes Up now message s e c =
-    let g = changed (λ s. record s { quiet = now; sending = written message s.sending }) (begin s) in
+    let g = on_state (λ s. record s { last_active = now; sending = written message s.sending }) (begin s) in
     either_going Sound (is_ok (write_answer s message)) (fill now g) (begin s)
     (up-sound (fill now g) (fills now g (e, nothing))) (no_request (begin s) c nothing)
 writes Connecting now message s e c = not_written now message s (ap is_up e) c
 writes Closing now message s e c = not_written now message s (ap is_up e) c
 writes Ended now message s e c = not_written now message s (ap is_up e) c
 
-closes : (now : ℕ) (s : State) → Closes s → Sound (closed now (begin s))
+closes : (now : ℕ) (s : State) → Closes s → Sound (close now (begin s))
 closes now s c =
-    let g = changed (λ s. record s { closing = true }) (begin s) in
-    either_going Sound (may_close s.phase) (closed_in_turn now (begin s)) (begin s)
+    let g = on_state (λ s. record s { closing = true }) (begin s) in
+    either_going Sound (may_close s.phase) (close_in_turn now (begin s)) (begin s)
     (finishes now g (no_request g c nothing)) (no_request (begin s) c nothing)
 
-resumes : (a : Appended) (fits : Bool) (s : State) → Closes s → Sound (resumed (record { half = a.half; fits = fits }) (begin s))
+resumes : (a : Appended) (fits : Bool) (s : State) → Closes s → Sound (resume_by (record { half = a.half; fits = fits }) (begin s))
 resumes a true s c =
-    let g = has_come a.half (begin s) in
-    no_request (told_got false g) c (tells_got false g nothing)
-resumes a false s c = ends FailedOversize (has_come a.half (begin s)) nothing
+    let g = with_receiving a.half (begin s) in
+    no_request (emit_ack false g) c (tells_got false g nothing)
+resumes a false s c = ends FailedOversize (with_receiving a.half (begin s)) nothing
 
-takes : (s : State) → Closes s → Sound (taken (begin s))
+takes : (s : State) → Closes s → Sound (take_first (begin s))
 takes s c =
     let g = begin s in
-    let r = first_taken s.receiving in
+    let r = without_first s.receiving in
     let a = moved_on r in
-    either_going Sound (nat_lt 0 (length (inbox s.receiving))) (taken_from r g) g
-    (either_going Sound (is_up s.phase && busy s.receiving && not (busy r)) (resumed a g) (has_come r g)
-    (resumes a a.fits s c) (no_request (has_come r g) c nothing)) (no_request g c nothing)
+    either_going Sound (nat_lt 0 (length (inbox s.receiving))) (take_from r g) g
+    (either_going Sound (is_up s.phase && busy s.receiving && not (busy r)) (resume_by a g) (with_receiving r g)
+    (resumes a a.fits s c) (no_request (with_receiving r g) c nothing)) (no_request g c nothing)
 
 -- ---- a life ----
 steps : (now : ℕ) (s : State) (i : Input) → Closes s → Sound (step_at now (begin s) i)
@@ -248,14 +248,14 @@ steps now s Tick c = ticks now s c
 steps now s Close c = closes now s c
 steps now s Take c = takes s c
 
-lives : (g : Going) (inputs : List (Input × ℕ)) → Closes g.end → Closes (lived g inputs).end
+lives : (g : Effect) (inputs : List (Input × ℕ)) → Closes g.end → Closes (after_inputs g inputs).end
 lives g [] c = c
 lives g (i ∷ inputs) c = lives (followed_by g (step g.end i.0 i.1)) inputs (steps (min i.1 COUNT_MAX) g.end i.0 c).0
 
-begins : (g : Going) → IsNew g → Closes g.end
+begins : (g : Effect) → IsNew g → Closes g.end
 begins _ (Asks pair user node config now) c = absurd (cc c)
 begins _ (Accepts pair partner proposed config now) c = absurd (cc c)
 
 pub disconnects_when_acknowledged : DisconnectsWhenAcknowledged
 disconnects_when_acknowledged g new inputs input now =
-    (steps (min now COUNT_MAX) (lived g inputs).end input (lives g inputs (begins g new))).1
+    (steps (min now COUNT_MAX) (after_inputs g inputs).end input (lives g inputs (begins g new))).1

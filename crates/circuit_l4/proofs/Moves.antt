@@ -52,12 +52,12 @@ pub one_left : (places many done : ℕ) → many ≡ places → done < many → 
 one_left places many done e h = omega arith
 
 -- one has followed
-pub goes_on : (i j : Inbox) (k rest : ℕ) (p : Piece) (goal : Appended) → k ≡ suc rest →
+pub resume : (i j : Inbox) (k rest : ℕ) (p : Piece) (goal : Appended) → k ≡ suc rest →
     ((r : Receiving) → IsReceiving i r → Some p ≡ next_early r) →
     ((r : Receiving) → IsReceiving i r → IsReceiving j (append p.text.items p.more r).half) →
     ((r : Receiving) → IsReceiving i r → Ok tt ≡ moved_answer (append p.text.items p.more r)) →
     Goes i k goal → Goes j rest goal
-goes_on i j k rest p goal e next does answer w =
+resume i j k rest p goal e next does answer w =
     let a : Appended = append p.text.items p.more w.at in
     record {
       at = a.half;

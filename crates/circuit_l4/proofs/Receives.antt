@@ -7,7 +7,7 @@ use Rattle.circular_buffer.specs.Buffer.{Buffer, buffer, keep_last}
 use Rattle.circuit_reassembly.specs.Gathering.{Answer, More, Whole, Too_long, gather_step}
 use Rattle.circuit_l4.specs.declared.piece.Piece.{Piece}
 use Rattle.circuit_l4.specs.Sending.{bytes_of}
-use Rattle.circuit_l4.specs.Receiving.{Receiving, append, appended, first_taken, inbox, with_message}
+use Rattle.circuit_l4.specs.Receiving.{Receiving, append, appended, without_first, inbox, with_message}
 use Rattle.circuit_l4.specs.declared.incoming.Incoming.TheInside.{Inside}
 use Rattle.circuit_l4.specs.Halves.{Inbox, IsReceiving, Takes, whole_answer, with_answer}
 use Rattle.circuit_l4.specs.Queued.{Queue}
@@ -15,7 +15,7 @@ use Rattle.circuit_l4.specs.Inboxes.{IsInbox, inbox_of}
 
 -- ---- taking ----
 -- the first message was taken
-pub takes_first : (i : Inbox) (r : Receiving) → IsReceiving i r → nat_lt 0 (length i.messages) ≡ true → IsReceiving (record i { messages = drop 1 i.messages }) (first_taken r)
+pub takes_first : (i : Inbox) (r : Receiving) → IsReceiving i r → nat_lt 0 (length i.messages) ≡ true → IsReceiving (record i { messages = drop 1 i.messages }) (without_first r)
 takes_first i r h some =
     let long : length (inbox r) ≡ length r.received - r.taken = length-drop r.taken r.received in
     let same : length i.messages ≡ length (inbox r) = ap length h.messages in
@@ -26,7 +26,7 @@ takes_first i r h some =
       messages = ap (λ ms. drop 1 ms) h.messages ∙ drop-drop 1 r.taken r.received;
       count = h.count;
       taken = grind (arith, nat_tests, long, same, some);
-      asked = h.asked;
+      nak_sent_for = h.nak_sent_for;
     }
 
 -- ---- the next fragment ----
@@ -46,7 +46,7 @@ after a s whole n =
       inbox = record a.inbox { messages = with_answer s.1 a.inbox.messages };
       received = a.received + bool_byte whole;
       waiting = a.waiting + n;
-      asked = a.asked;
+      nak_sent_for = a.nak_sent_for;
     }
 
 -- the next fragment was appended to what was gathered, and it fitted
@@ -79,7 +79,7 @@ appends_so a r (held, More) false n h e =
       messages = h.messages;
       count = omega (arith, h.count);
       taken = h.taken;
-      asked = h.asked;
+      nak_sent_for = h.nak_sent_for;
     }
 appends_so a r (held, Whole m) whole n h e =
     record {
@@ -89,7 +89,7 @@ appends_so a r (held, Whole m) whole n h e =
       messages = ap (λ ms. with_message m ms) h.messages ∙ sym (kept_behind m r.received r.taken h.taken);
       count = omega (arith, h.count, counted m r.received whole e);
       taken = omega (arith, h.taken, longer m r.received);
-      asked = h.asked;
+      nak_sent_for = h.nak_sent_for;
     }
 appends_so a r (held, Too_long) whole n h e = absurd (cc e)
 
@@ -145,9 +145,9 @@ pub fitted : (a : Inside) (now text : List ℕ) (more whole : Bool) (early : Buf
     IsInbox a → Takes (inbox_of a) → now ≡ text → length now ≤ 236 →
     early ≡ buffer (keep_last a.early.capacity (a.early.items ++ None ∷ [])) a.early.capacity → held ≡ (gather_step a.gather now more).0 →
     messages ≡ record a.inbox { messages = with_answer (gather_step a.gather now more).1 a.inbox.messages } → many ≡ bool_byte whole → whole_answer (gather_step a.gather now more).1 ≡ Ok whole →
-    Fitted a (record { got = a.got + 1; early = early; gather = held; inbox = messages; received = a.received + many; waiting = a.waiting + length now; asked = a.asked }) text more
+    Fitted a (record { got = a.got + 1; early = early; gather = held; inbox = messages; received = a.received + many; waiting = a.waiting + length now; nak_sent_for = a.nak_sent_for }) text more
 fitted a now text more whole early held messages many h t same fits e g m n answer =
-    let b : Inside = record { got = a.got + 1; early = early; gather = held; inbox = messages; received = a.received + many; waiting = a.waiting + length now; asked = a.asked } in
+    let b : Inside = record { got = a.got + 1; early = early; gather = held; inbox = messages; received = a.received + many; waiting = a.waiting + length now; nak_sent_for = a.nak_sent_for } in
     let leaves = first_leaves a.early.items a.early.capacity h.places in
     let does : Appends a b now more whole = record { is = rw (e, leaves, g, m, n) refl; fits = answer } in
     record {

@@ -133,9 +133,9 @@ pub record GoesOn (it rest bytes : List ℕ) (n start left count : ℕ) : Type 0
   pub others : Left rest bytes (start + n)
   pub same : slice_get (fragments_from it bytes start) left ≡ slice_get (fragments_from rest bytes (start + n)) (left - count)
 
-pub goes_on : (it rest bytes : List ℕ) (n start left count : ℕ) → it ≡ n ∷ rest → count ≡ fragments_in n → count ≤ left → Left it bytes start →
+pub resume : (it rest bytes : List ℕ) (n start left count : ℕ) → it ≡ n ∷ rest → count ≡ fragments_in n → count ≤ left → Left it bytes start →
     GoesOn it rest bytes n start left count
-goes_on it rest bytes n start left count e c more h =
+resume it rest bytes n start left count e c more h =
     let first = subst (λ (ns : List ℕ). Left ns bytes start) e h in
     record {
       others = next_left n rest bytes start first;

@@ -44,9 +44,9 @@ requested : (octets : List ℕ) (window : ℕ) (user node : Callsign) → octet_
 unfolding request_at
 requested octets window user node w u n = rw (w, u, n) refl
 
-accepted : (octets : List ℕ) (window : ℕ) → octet_at 5 octets ≡ Ok window → accept_at octets ≡ Ok (Accept (pair_at 0 octets) (pair_at 2 octets) window)
+on_accept : (octets : List ℕ) (window : ℕ) → octet_at 5 octets ≡ Ok window → accept_at octets ≡ Ok (Accept (pair_at 0 octets) (pair_at 2 octets) window)
 unfolding accept_at
-accepted octets window w = rw w refl
+on_accept octets window w = rw w refl
 
 pub spelled_is_read : SpelledNetCallIsRead → SpelledTransportIsRead
 spelled_is_read read (Request pair window user node) octets h =
@@ -58,9 +58,9 @@ spelled_is_read read (Request pair window user node) octets h =
     begun 1 pair octets _ h.0 (rw h.0.has_code (there ∙ ap (λ (p : Pair). Ok (Request p window user node)) h.0.is_for))
 spelled_is_read read (Accept to own window) octets h =
     let s = h.1 in
-    let window_there : octet_at 5 octets ≡ Ok window = octet_there 5 octets (omega (arith, s.whole)) ∙ ap Ok s.agreed in
-    let there = accepted octets window window_there in
-    begun 2 to octets _ h.0 (rw (h.0.has_code, s.accepted) (there ∙ (ap (λ (p : Pair). Ok (Accept p (pair_at 2 octets) window)) h.0.is_for ∙ ap (λ (p : Pair). Ok (Accept to p window)) s.by)))
+    let window_there : octet_at 5 octets ≡ Ok window = octet_there 5 octets (omega (arith, s.whole)) ∙ ap Ok s.common_window in
+    let there = on_accept octets window window_there in
+    begun 2 to octets _ h.0 (rw (h.0.has_code, s.on_accept) (there ∙ (ap (λ (p : Pair). Ok (Accept p (pair_at 2 octets) window)) h.0.is_for ∙ ap (λ (p : Pair). Ok (Accept to p window)) s.by)))
 spelled_is_read read (Refuse to) octets h = begun 2 to octets _ h.0 (rw (h.0.has_code, h.1) (ap (λ (p : Pair). Ok (Refuse p)) h.0.is_for))
 spelled_is_read read (Disconnect to) octets h = begun 3 to octets _ h (rw h.has_code (ap (λ (p : Pair). Ok (Disconnect p)) h.is_for))
 spelled_is_read read (Disconnected to) octets h = begun 4 to octets _ h (rw h.has_code (ap (λ (p : Pair). Ok (Disconnected p)) h.is_for))
@@ -162,7 +162,7 @@ written_spells written (Request pair window user node) h =
       },
     )
 written_spells written (Accept to own window) h =
-    (begins 2 2 own.index own.ident to (window ∷ []) refl (omega arith), record { whole = omega arith; accepted = refl; by = refl; agreed = refl })
+    (begins 2 2 own.index own.ident to (window ∷ []) refl (omega arith), record { whole = omega arith; on_accept = refl; by = refl; common_window = refl })
 written_spells written (Refuse to) h = (begins 2 130 0 0 to (0 ∷ []) refl (omega arith), refl)
 written_spells written (Disconnect to) h = begins 3 3 0 0 to [] refl (omega arith)
 written_spells written (Disconnected to) h = begins 4 4 0 0 to [] refl (omega arith)

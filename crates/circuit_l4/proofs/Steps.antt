@@ -3,15 +3,15 @@ use Rattle.std.proofs.Common.{◌≡◌, ℕ, ◌-◌, ◌<◌, Bool, true, fals
 use Rattle.std.proofs.lemmas.List.{nil_from_length}
 use Rattle.circuit_l4.specs.declared.plain.EndNotice.{EndNotice}
 use Rattle.circuit_l4.specs.declared.plain.WriteRefusal.{WriteRefusal}
-use Rattle.circuit_l4.specs.EndState.{Going, State, begin}
-use Rattle.circuit_l4.specs.EndTable.{write_answer, wrote}
-use Rattle.circuit_l4.specs.EndStanding.{IsDrained, Kept, Stands, StandsFor}
+use Rattle.circuit_l4.specs.EndState.{Effect, State, begin}
+use Rattle.circuit_l4.specs.EndTable.{write_answer, write}
+use Rattle.circuit_l4.specs.EndStanding.{IsDrained, EndView, Stands, StandsFor}
 use Rattle.circuit_l4.specs.Outputs.{outs_of}
 use Rattle.circuit_l4.specs.declared.output.Output.{Output}
 use Rattle.circuit_l4.proofs.Waiting.{emptied, none_out}
 
 -- a step begins where nothing waits
-pub begins : (k : Kept) (s : State) → IsDrained k → StandsFor k s → Stands k (begin s)
+pub begins : (k : EndView) (s : State) → IsDrained k → StandsFor k s → Stands k (begin s)
 begins k s drained h =
     record {
       written = h.written;
@@ -23,30 +23,30 @@ begins k s drained h =
     }
 
 -- a part that is done from what is kept is a step
-pub stepped : (k later : Kept) (now moment : ℕ) (part : ℕ → Going → Going) → IsDrained k → now ≡ moment →
-    ((g : Going) → Stands k g → Stands later (part now g)) →
+pub stepped : (k later : EndView) (now moment : ℕ) (part : ℕ → Effect → Effect) → IsDrained k → now ≡ moment →
+    ((g : Effect) → Stands k g → Stands later (part now g)) →
     (s : State) → StandsFor k s → Stands later (part moment (begin s))
 stepped k later now moment part drained e does s h = subst (λ n. Stands later (part n (begin s))) e (does (begin s) (begins k s drained h))
 
 -- where the answer is Ok, the machine takes the message
-pub accepts : (k later : Kept) (now moment : ℕ) (message : List ℕ) (r : Result (Unit {0}) WriteRefusal) → IsDrained k → now ≡ moment → r ≡ Ok tt →
+pub accepts : (k later : EndView) (now moment : ℕ) (message : List ℕ) (r : Result (Unit {0}) WriteRefusal) → IsDrained k → now ≡ moment → r ≡ Ok tt →
     ((s : State) → StandsFor k s → r ≡ write_answer s message) →
-    ((g : Going) → Stands k g → Stands later (wrote now message g)) →
-    (s : State) → StandsFor k s → Stands later (if is_ok (write_answer s message) then wrote moment message (begin s) else begin s)
+    ((g : Effect) → Stands k g → Stands later (write now message g)) →
+    (s : State) → StandsFor k s → Stands later (if is_ok (write_answer s message) then write moment message (begin s) else begin s)
 accepts k later now moment message r drained e is answer does s h =
-    subst (λ (ok : Bool). Stands later (if ok then wrote moment message (begin s) else begin s)) (ap is_ok (sym is ∙ answer s h))
-    (stepped k later now moment (λ n g. wrote n message g) drained e does s h)
+    subst (λ (ok : Bool). Stands later (if ok then write moment message (begin s) else begin s)) (ap is_ok (sym is ∙ answer s h))
+    (stepped k later now moment (λ n g. write n message g) drained e does s h)
 
 pub on_ok : (r : Result (Unit {0}) WriteRefusal) (P Q : Type 0) → (r ≡ Ok tt → P → Q) → OnOk r P → OnOk r Q
 on_ok (Ok tt) P Q f p = f refl p
 on_ok (Err e) P Q f p = tt
 
 -- where nothing goes out, nothing waits
-pub idle : (k : Kept) (outputs : List Output) → k.outs ≡ outs_of k.outgoing.queue (k.outgoing.acked - k.outgoing.done) outputs → IsDrained k → outputs ≡ []
+pub idle : (k : EndView) (outputs : List Output) → k.outs ≡ outs_of k.outgoing.queue (k.outgoing.acked - k.outgoing.done) outputs → IsDrained k → outputs ≡ []
 idle k outputs e h = emptied _ _ outputs (sym e ∙ h.outs)
 
 -- no output waits, so nothing does where there is no notice
-pub drained : (k : Kept) (outputs : List Output) (notice : Option EndNotice) (none : Bool) → k.outs ≡ outs_of k.outgoing.queue (k.outgoing.acked - k.outgoing.done) outputs →
+pub drained : (k : EndView) (outputs : List Output) (notice : Option EndNotice) (none : Bool) → k.outs ≡ outs_of k.outgoing.queue (k.outgoing.acked - k.outgoing.done) outputs →
     length outputs ≡ 0 → k.notice ≡ notice → is_some notice ≡ not none → (IsTrue none → IsDrained k) × (IsDrained k → IsTrue none)
 drained k outputs None true e z n h =
     let nothing : k.outs ≡ [] = rw (e, nil_from_length outputs z) (none_out k.outgoing.queue (k.outgoing.acked - k.outgoing.done)) in
@@ -56,6 +56,6 @@ drained k outputs (Some notice) true e z n h = absurd (cc h)
 drained k outputs (Some notice) false e z n h = (λ t. absurd (cc t), λ d. absurd (cc (n, d.notice)))
 
 -- an output waits
-pub waits : (k : Kept) (outputs : List Output) (none : Bool) → k.outs ≡ outs_of k.outgoing.queue (k.outgoing.acked - k.outgoing.done) outputs →
+pub waits : (k : EndView) (outputs : List Output) (none : Bool) → k.outs ≡ outs_of k.outgoing.queue (k.outgoing.acked - k.outgoing.done) outputs →
     0 < length outputs → none ≡ false → (IsTrue none → IsDrained k) × (IsDrained k → IsTrue none)
 waits k outputs none e some h = (λ t. absurd (cc (h, t)), λ d. absurd (omega (arith, some, ap length (idle k outputs e d))))

@@ -12,10 +12,10 @@ use Rattle.circuit_l4.specs.declared.output.Output.TheVariants.{Info}
 use Rattle.circuit_l4.specs.Sending.{Sending, fragments, fragments_of_all}
 use Rattle.circuit_l4.specs.Receiving.{Receiving, busy}
 use Rattle.circuit_l4.specs.Halves.{IsSending, Outbox, fragment_in}
-use Rattle.circuit_l4.specs.EndState.{Going, State, info}
-use Rattle.circuit_l4.specs.EndMoves.{put_infos}
-use Rattle.circuit_l4.specs.EndStanding.{Kept, Stands, going_of}
-use Rattle.circuit_l4.specs.EndCalls.{puts}
+use Rattle.circuit_l4.specs.EndState.{Effect, State, info}
+use Rattle.circuit_l4.specs.EndMoves.{emit_infos}
+use Rattle.circuit_l4.specs.EndStanding.{EndView, Stands, effect_of}
+use Rattle.circuit_l4.specs.EndCalls.{emits}
 use Rattle.circuit_l4.specs.Outputs.{out_of, outs_of, with_text}
 use Rattle.circuit_l4.proofs.Acknowledged.{all-append}
 use Rattle.circuit_l4.proofs.Queues.{keep_all}
@@ -63,8 +63,8 @@ pub waits_too : (queue : List (List ℕ)) (first : ℕ) (outputs : List Output) 
 waits_too queue first outputs o room h =
     ap (outs_of queue first) (keep_all (outputs ++ o ∷ []) room (rw (length-append outputs (o ∷ [])) (omega (arith, h)))) ∙ more_out queue first outputs o
 
-pub puts_stand : (k later : Kept) (o : Output) → later ≡ record k { outs = k.outs ++ out_of k.outgoing.queue (k.outgoing.acked - k.outgoing.done) o ∷ [] } →
-    (g : Going) → Stands k g → Stands later (puts k.outgoing o g)
+pub puts_stand : (k later : EndView) (o : Output) → later ≡ record k { outs = k.outs ++ out_of k.outgoing.queue (k.outgoing.acked - k.outgoing.done) o ∷ [] } →
+    (g : Effect) → Stands k g → Stands later (emits k.outgoing o g)
 puts_stand k later o e g h =
     rw e
     (record {
@@ -73,7 +73,7 @@ puts_stand k later o e g h =
       expiries = h.expiries;
       sending = h.sending;
       receiving = h.receiving;
-      is = ap (puts k.outgoing o) h.is;
+      is = ap (emits k.outgoing o) h.is;
     })
 
 -- ---- a fragment waits ----
@@ -90,20 +90,20 @@ as_info : (s : State) (n rx : ℕ) (choke : Bool) (x : Option Fragment) (f : Fra
     with_text s.to n rx choke (unwrap_or x ([], false)) ∷ [] ≡ info s n x
 as_info s n rx choke x f e a b = rw (e, a, b) refl
 
-pub info_waits : (k : Kept) (s : Sending) (r : Receiving) (n number rx : ℕ) (choke : Bool) → IsSending k.outgoing s → k.outgoing.acked ≤ number → number < k.outgoing.total →
-    rx ≡ r.got % 256 → choke ≡ busy r → puts k.outgoing (Info k.to number rx choke) (going_of k s r n) ≡ put_infos number 1 (going_of k s r n)
+pub info_waits : (k : EndView) (s : Sending) (r : Receiving) (n number rx : ℕ) (choke : Bool) → IsSending k.outgoing s → k.outgoing.acked ≤ number → number < k.outgoing.total →
+    rx ≡ r.got % 256 → choke ≡ busy r → emits k.outgoing (Info k.to number rx choke) (effect_of k s r n) ≡ emit_infos number 1 (effect_of k s r n)
 info_waits k s r n number rx choke h from to a b =
     let there : number < length (fragments s) = omega (arith, h.total, to) in
     let none : Fragment = ([], false) in
     let same = found_behind k.outgoing s number from h in
-    let out = as_info (going_of k s r n).end number rx choke (slice_get (fragments s) number) _ (slice_get-get_or (fragments s) number none there) a b in
-    ap (λ outs. record (going_of k s r n) { outs = k.outs ++ outs })
-    (ap (λ x. with_text k.to number rx choke (unwrap_or x ([], false)) ∷ []) same ∙ out ∙ sym (append-nil (info (going_of k s r n).end number (slice_get (fragments s) number))))
+    let out = as_info (effect_of k s r n).end number rx choke (slice_get (fragments s) number) _ (slice_get-get_or (fragments s) number none there) a b in
+    ap (λ outs. record (effect_of k s r n) { outs = k.outs ++ outs })
+    (ap (λ x. with_text k.to number rx choke (unwrap_or x ([], false)) ∷ []) same ∙ out ∙ sym (append-nil (info (effect_of k s r n).end number (slice_get (fragments s) number))))
 
-pub none_waits : (k : Kept) (s : Sending) (r : Receiving) (n number : ℕ) → IsSending k.outgoing s → k.outgoing.total ≤ number → going_of k s r n ≡ put_infos number 1 (going_of k s r n)
+pub none_waits : (k : EndView) (s : Sending) (r : Receiving) (n number : ℕ) → IsSending k.outgoing s → k.outgoing.total ≤ number → effect_of k s r n ≡ emit_infos number 1 (effect_of k s r n)
 none_waits k s r n number h past =
     let none : slice_get (fragments s) number ≡ None = slice_get_past (fragments s) number (omega (arith, h.total, past)) in
-    rw none (ap (λ outs. record (going_of k s r n) { outs = outs }) (sym (append-nil k.outs)))
+    rw none (ap (λ outs. record (effect_of k s r n) { outs = outs }) (sym (append-nil k.outs)))
 
 -- ---- a fragment is fetched ----
 pub fetched : (r : Option Piece) (x : Option Fragment) (p : Piece) → option_map fragment_in r ≡ x → fragment_in p ≡ ([], false) → fragment_in (unwrap_or r p) ≡ unwrap_or x ([], false)

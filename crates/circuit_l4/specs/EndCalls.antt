@@ -10,13 +10,13 @@ use Rattle.circuit_l4.specs.declared.texts.Owed.{Owed}
 use Rattle.circuit_l4.specs.declared.transport.Pair.{Pair}
 use Rattle.circuit_l4.specs.Sending.{bytes_of}
 use Rattle.circuit_l4.specs.Halves.{Outbox}
-use Rattle.circuit_l4.specs.EndState.{Going}
-use Rattle.circuit_l4.specs.EndStanding.{Stands, kept_of}
+use Rattle.circuit_l4.specs.EndState.{Effect}
+use Rattle.circuit_l4.specs.EndStanding.{Stands, view_of}
 use Rattle.circuit_l4.specs.Outputs.{out_of}
 
 -- a call does this part of a step
-abbrev pub Does : (Going → Going) → Machine → Machine → Type 0
-Does part old new = (g : Going) → Stands (kept_of old) g → Stands (kept_of new) (part g)
+abbrev pub Does : (Effect → Effect) → Machine → Machine → Type 0
+Does part old new = (g : Effect) → Stands (view_of old) g → Stands (view_of new) (part g)
 
 -- a call adds at most so many outputs to those that wait, and leaves the notice and the configuration
 pub record Adds (k : ℕ) (old new : Machine) : Type 0 where
@@ -30,8 +30,8 @@ pub record IsOwed (owed : Owed) (m : Machine) : Type 0 where
   pub to : owed.from + owed.many ≤ m.outgoing.sent
 
 -- something waits to be put out
-abbrev pub puts : Outbox → Output → Going → Going
-puts o output g = record g { outs = g.outs ++ out_of o.queue (o.acked - o.done) output ∷ [] }
+abbrev pub emits : Outbox → Output → Effect → Effect
+emits o output g = record g { outs = g.outs ++ out_of o.queue (o.acked - o.done) output ∷ [] }
 
 -- what asks for a circuit; a responder has no such thing
 abbrev pub request_by : Role → Pair → ℕ → Option Output

@@ -5,22 +5,22 @@ use Rattle.circuit_l4.specs.declared.transport.Pair.{Pair}
 use Rattle.circuit_l4.specs.declared.transport.Transport.TheVariants.{Disconnect}
 use Rattle.circuit_l4.specs.declared.plain.EndConfig.{EndConfig}
 use Rattle.circuit_l4.specs.declared.plain.EndNotice.TheVariants.{FailedRetries, FailedOversize, FailedInactive}
-use Rattle.circuit_l4.specs.EndState.{Going, State}
+use Rattle.circuit_l4.specs.EndState.{Effect, State}
 use Rattle.circuit_l4.specs.EndTable.{Input, step}
 use Rattle.circuit_l4.specs.EndOpening.{requesting, responding}
 use Rattle.circuit_l4.specs.Sending.{total}
 
 -- a step more: what it puts out and the notices that it gives stand behind the earlier ones
-abbrev pub followed_by : Going → Going → Going
+abbrev pub followed_by : Effect → Effect → Effect
 followed_by g h = record { end = h.end; outs = g.outs ++ h.outs; notes = g.notes ++ h.notes }
 
 -- an end that was given these inputs, each at its moment, with all that it ever put out and told
-abbrev pub lived : Going → List (Input × ℕ) → Going
-lived g [] = g
-lived g (i ∷ inputs) = lived (followed_by g (step g.end i.0 i.1)) inputs
+abbrev pub after_inputs : Effect → List (Input × ℕ) → Effect
+after_inputs g [] = g
+after_inputs g (i ∷ inputs) = after_inputs (followed_by g (step g.end i.0 i.1)) inputs
 
 -- an end at its making
-pub data IsNew : Going → Type 0 where
+pub data IsNew : Effect → Type 0 where
   Asks : (pair : Pair) (user node : Callsign) (config : EndConfig) (now : ℕ) → IsNew (requesting pair user node config now)
   Accepts : (pair partner : Pair) (proposed : ℕ) (config : EndConfig) (now : ℕ) → IsNew (responding pair partner proposed config now)
 
@@ -28,8 +28,8 @@ pub data IsNew : Going → Type 0 where
 -- acknowledgement came, or it began to close
 abbrev pub FailsAfterRetries : Type 0
 FailsAfterRetries =
-    (g : Going) → IsNew g → (inputs : List (Input × ℕ)) →
-    Contains (lived g inputs).notes FailedRetries ↔ ((lived g inputs).end.expiries ≡ (lived g inputs).end.config.retries + 1)
+    (g : Effect) → IsNew g → (inputs : List (Input × ℕ)) →
+    Contains (after_inputs g inputs).notes FailedRetries ↔ ((after_inputs g inputs).end.expiries ≡ (after_inputs g inputs).end.config.retries + 1)
 
 -- a step by which the circuit fails puts out nothing
 abbrev pub FailingPutsOutNothing : Type 0
@@ -41,6 +41,6 @@ FailingPutsOutNothing =
 -- an end puts out a disconnect request only in a step after which all that was ever written is acknowledged
 abbrev pub DisconnectsWhenAcknowledged : Type 0
 DisconnectsWhenAcknowledged =
-    (g : Going) → IsNew g → (inputs : List (Input × ℕ)) (input : Input) (now : ℕ) (to : Pair) (number : Option ℕ) →
-    let after = step (lived g inputs).end input now in
+    (g : Effect) → IsNew g → (inputs : List (Input × ℕ)) (input : Input) (now : ℕ) (to : Pair) (number : Option ℕ) →
+    let after = step (after_inputs g inputs).end input now in
     Contains after.outs (Disconnect to, number) → after.end.sending.acked ≡ total after.end.sending

@@ -11,9 +11,9 @@ use Rattle.circuit_l4.specs.declared.calls.Beginning.{Beginning}
 use Rattle.circuit_l4.specs.declared.machine.Role.TheVariants.{Requester, Responder}
 use Rattle.circuit_l4.specs.Sending.{Sending, unacknowledged}
 use Rattle.circuit_l4.specs.Receiving.{Receiving, waiting}
-use Rattle.circuit_l4.specs.EndState.{State, Going, begin}
-use Rattle.circuit_l4.specs.EndMoves.{put, note, awaited}
-use Rattle.circuit_l4.specs.EndTable.{agreed, ask}
+use Rattle.circuit_l4.specs.EndState.{State, Effect, begin}
+use Rattle.circuit_l4.specs.EndMoves.{emit, note, wait}
+use Rattle.circuit_l4.specs.EndTable.{common_window, ask_by}
 
 -- the settings that an end takes
 pub record IsConfig (config : EndConfig) : Type 0 where
@@ -28,7 +28,7 @@ abbrev pub unwritten : Sending
 unwritten = record { wrote = []; acked = 0; sent = 0 }
 
 abbrev pub unheard : ℕ → Receiving
-unheard window = record { got = 0; early = replicate window None; gathered = []; received = []; taken = 0; asked = None }
+unheard window = record { got = 0; early = replicate window None; gathered = []; received = []; taken = 0; nak_sent_for = None }
 
 -- an end that has known nothing yet
 abbrev pub new : Beginning → EndConfig → ℕ → State
@@ -42,28 +42,28 @@ new b config now =
       window = b.window;
       sending = unwritten;
       receiving = unheard config.window;
-      held = false;
+      choked = false;
       closing = false;
       tries = 0;
       expiries = 0;
-      due = None;
-      quiet = now;
+      answer_due = None;
+      last_active = now;
     }
 
 abbrev pub unknown_pair : Pair
 unknown_pair = record { index = 0; ident = 0 }
 
 -- a requester asks the other end for a circuit
-abbrev pub requesting : Pair → Callsign → Callsign → EndConfig → ℕ → Going
+abbrev pub requesting : Pair → Callsign → Callsign → EndConfig → ℕ → Effect
 requesting pair user node config now =
     let b : Beginning = record { role = Requester user node; pair = pair; to = unknown_pair; phase = Connecting; window = config.window } in
-    ask b.role (begin (awaited now (new b config now)))
+    ask_by b.role (begin (wait now (new b config now)))
 
 -- a responder accepts at once
-abbrev pub responding : Pair → Pair → ℕ → EndConfig → ℕ → Going
+abbrev pub responding : Pair → Pair → ℕ → EndConfig → ℕ → Effect
 responding pair partner proposed config now =
-    let b : Beginning = record { role = Responder; pair = pair; to = partner; phase = Up; window = agreed config.window proposed } in
-    note (Opened b.window) (put (Accept partner pair b.window) (begin (new b config now)))
+    let b : Beginning = record { role = Responder; pair = pair; to = partner; phase = Up; window = common_window config.window proposed } in
+    note (Opened b.window) (emit (Accept partner pair b.window) (begin (new b config now)))
 
 -- what an end tells of itself
 abbrev pub facts_of : State → EndFacts

@@ -8,14 +8,14 @@ use Rattle.circuit_l4.specs.declared.transport.Pair.{Pair}
 use Rattle.circuit_l4.specs.declared.plain.EndConfig.{EndConfig}
 use Rattle.circuit_l4.specs.declared.plain.EndPhase.{EndPhase}
 use Rattle.circuit_l4.specs.declared.plain.EndNotice.{EndNotice}
-use Rattle.circuit_l4.specs.EndState.{Going, Out, State}
+use Rattle.circuit_l4.specs.EndState.{Effect, Out, State}
 use Rattle.circuit_l4.specs.Sending.{Sending}
 use Rattle.circuit_l4.specs.Receiving.{Receiving}
 use Rattle.circuit_l4.specs.Outputs.{outs_of}
 use Rattle.circuit_l4.specs.Halves.{Inbox, IsReceiving, IsSending, Outbox}
 
 -- what is kept; what waits to be put out is as it goes out
-pub record Kept : Type 0 where
+pub record EndView : Type 0 where
   pub role : Role
   pub pair : Pair
   pub to : Pair
@@ -24,16 +24,16 @@ pub record Kept : Type 0 where
   pub window : ℕ
   pub outgoing : Outbox
   pub incoming : Inbox
-  pub held : Bool
+  pub choked : Bool
   pub closing : Bool
   pub tries : ℕ
-  pub due : Option ℕ
-  pub quiet : ℕ
+  pub answer_due : Option ℕ
+  pub last_active : ℕ
   pub outs : List Out
   pub notice : Option EndNotice
 
-abbrev pub kept_of : Machine → Kept
-kept_of m =
+abbrev pub view_of : Machine → EndView
+view_of m =
     record {
       role = m.role;
       pair = m.pair;
@@ -43,17 +43,17 @@ kept_of m =
       window = m.window;
       outgoing = m.outgoing;
       incoming = m.incoming;
-      held = m.held;
+      choked = m.choked;
       closing = m.closing;
       tries = m.tries;
-      due = m.due;
-      quiet = m.quiet;
+      answer_due = m.answer_due;
+      last_active = m.last_active;
       outs = outs_of m.outgoing.queue (m.outgoing.acked - m.outgoing.done) m.outs.items;
       notice = m.notice;
     }
 
 -- the state in which these are the halves, and so many expiries counted
-abbrev pub state_of : Kept → Sending → Receiving → ℕ → State
+abbrev pub state_of : EndView → Sending → Receiving → ℕ → State
 state_of m sending receiving expiries =
     record {
       role = m.role;
@@ -64,20 +64,20 @@ state_of m sending receiving expiries =
       window = m.window;
       sending = sending;
       receiving = receiving;
-      held = m.held;
+      choked = m.choked;
       closing = m.closing;
       tries = m.tries;
       expiries = expiries;
-      due = m.due;
-      quiet = m.quiet;
+      answer_due = m.answer_due;
+      last_active = m.last_active;
     }
 
 -- the same, with the outputs and the notice that wait
-abbrev pub going_of : Kept → Sending → Receiving → ℕ → Going
-going_of m sending receiving expiries =
+abbrev pub effect_of : EndView → Sending → Receiving → ℕ → Effect
+effect_of m sending receiving expiries =
     record { end = state_of m sending receiving expiries; outs = m.outs; notes = option_to_list m.notice }
 
-pub record StandsFor (m : Kept) (s : State) : Type 0 where
+pub record StandsFor (m : EndView) (s : State) : Type 0 where
   pub written : Sending
   pub came : Receiving
   pub expiries : ℕ
@@ -86,15 +86,15 @@ pub record StandsFor (m : Kept) (s : State) : Type 0 where
   pub is : s ≡ state_of m written came expiries
 
 -- the same of a step under way
-pub record Stands (m : Kept) (g : Going) : Type 0 where
+pub record Stands (m : EndView) (g : Effect) : Type 0 where
   pub written : Sending
   pub came : Receiving
   pub expiries : ℕ
   pub sending : IsSending m.outgoing written
   pub receiving : IsReceiving m.incoming came
-  pub is : g ≡ going_of m written came expiries
+  pub is : g ≡ effect_of m written came expiries
 
 -- no output and no notice waits
-pub record IsDrained (m : Kept) : Type 0 where
+pub record IsDrained (m : EndView) : Type 0 where
   pub outs : m.outs ≡ []
   pub notice : m.notice ≡ None

@@ -21,24 +21,24 @@ pub record State : Type 0 where
   pub window : ℕ  -- how many fragments may be under way
   pub sending : Sending
   pub receiving : Receiving
-  pub held : Bool  -- the other end takes no text for now
+  pub choked : Bool  -- the other end takes no text for now
   pub closing : Bool
   pub tries : ℕ
   pub expiries : ℕ  -- how many expiries counted since the end was made, an acknowledgement came, or it began to close
-  pub due : Option ℕ  -- when an answer is waited for no longer
-  pub quiet : ℕ  -- when it was opened, last written to, or last heard text or an acknowledgement
+  pub answer_due : Option ℕ  -- when an answer is waited for no longer
+  pub last_active : ℕ  -- when it was opened, last written to, or last heard text or an acknowledgement
 
 -- what is put out, with the number of the fragment that it carries
 abbrev pub Out : Type 0
 Out = Transport × Option ℕ
 
 -- a step under way: the state, what it puts out and the notices that it gives, in order
-pub record Going : Type 0 where
+pub record Effect : Type 0 where
   pub end : State
   pub outs : List Out
   pub notes : List EndNotice
 
-abbrev pub begin : State → Going
+abbrev pub begin : State → Effect
 begin s = record { end = s; outs = []; notes = [] }
 
 abbrev pub is_up : EndPhase → Bool

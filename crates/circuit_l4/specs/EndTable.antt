@@ -14,114 +14,114 @@ use Rattle.circuit_l4.specs.declared.plain.WriteRefusal.{WriteRefusal}
 use Rattle.circuit_l4.specs.declared.plain.WriteRefusal.TheVariants as refusal
 use Rattle.circuit_l4.specs.declared.machine.Role.{Role}
 use Rattle.circuit_l4.specs.declared.machine.Role.TheVariants.{Requester, Responder}
-use Rattle.circuit_l4.specs.EndState.{State, Going, begin, is_up}
-use Rattle.circuit_l4.specs.EndMoves.{put, told_got, note, ended, changed, has_come, awaited, awaited_if_out, fill, finish, again, on_info, on_info_ack}
+use Rattle.circuit_l4.specs.EndState.{State, Effect, begin, is_up}
+use Rattle.circuit_l4.specs.EndMoves.{emit, emit_ack, note, end_with, on_state, with_receiving, wait, wait_if_out, fill, finish, again, on_info, on_info_ack}
 use Rattle.circuit_l4.specs.Sending.{total, unacknowledged, written}
-use Rattle.circuit_l4.specs.Receiving.{Appended, Receiving, busy, first_taken, inbox, moved_on}
+use Rattle.circuit_l4.specs.Receiving.{Appended, Receiving, busy, without_first, inbox, moved_on}
 
 -- the window that both ends take: that of the other end, at most the own one, and at least 1
-abbrev pub agreed : ℕ → ℕ → ℕ
-agreed own other = max 1 (min other own)
+abbrev pub common_window : ℕ → ℕ → ℕ
+common_window own other = max 1 (min other own)
 
 -- the request of a requester; a responder has none
-abbrev pub ask : Role → Going → Going
-ask (Requester user node) g = put (Request g.end.pair g.end.config.window user node) g
-ask Responder g = g
+abbrev pub ask_by : Role → Effect → Effect
+ask_by (Requester user node) g = emit (Request g.end.pair g.end.config.window user node) g
+ask_by Responder g = g
 
-abbrev pub opened : ℕ → Pair → ℕ → State → State
-opened now to window s = record s { to = to; window = agreed s.config.window window; phase = Up; due = None; quiet = now }
+abbrev pub come_up : ℕ → Pair → ℕ → State → State
+come_up now to window s = record s { to = to; window = common_window s.config.window window; phase = Up; answer_due = None; last_active = now }
 
-abbrev pub accepted : ℕ → Pair → ℕ → Going → Going
-accepted now to window g =
-    finish now (note (Opened (agreed g.end.config.window window)) (changed (opened now to window) g))
+abbrev pub on_accept : ℕ → Pair → ℕ → Effect → Effect
+on_accept now to window g =
+    finish now (note (Opened (common_window g.end.config.window window)) (on_state (come_up now to window) g))
 
-abbrev pub arrive_connecting : ℕ → Transport → Going → Going
-arrive_connecting now (Accept to own window) g = accepted now own window g
-arrive_connecting now (Refuse to) g = ended Refused g
+abbrev pub arrive_connecting : ℕ → Transport → Effect → Effect
+arrive_connecting now (Accept to own window) g = on_accept now own window g
+arrive_connecting now (Refuse to) g = end_with Refused g
 arrive_connecting now _ g = g
 
-abbrev pub heard : ℕ → Going → Going
-heard now g = changed (λ s. record s { quiet = now }) g
+abbrev pub note_activity : ℕ → Effect → Effect
+note_activity now g = on_state (λ s. record s { last_active = now }) g
 
-abbrev pub closed_by_partner : Going → Going
-closed_by_partner g = ended ClosedByPartner (put (Disconnected g.end.to) g)
+abbrev pub closed_by_partner : Effect → Effect
+closed_by_partner g = end_with ClosedByPartner (emit (Disconnected g.end.to) g)
 
-abbrev pub hear_info : ℕ → ℕ → ℕ → Flags → Piece → Going → Going
-hear_info now tx rx flags piece g = on_info now tx rx flags piece (heard now g)
+abbrev pub hear_info : ℕ → ℕ → ℕ → Flags → Piece → Effect → Effect
+hear_info now tx rx flags piece g = on_info now tx rx flags piece (note_activity now g)
 
-abbrev pub hear_info_ack : ℕ → ℕ → Flags → Going → Going
-hear_info_ack now rx flags g = on_info_ack now rx flags (heard now g)
+abbrev pub hear_info_ack : ℕ → ℕ → Flags → Effect → Effect
+hear_info_ack now rx flags g = on_info_ack now rx flags (note_activity now g)
 
-abbrev pub arrive_up : ℕ → Transport → Going → Going
+abbrev pub arrive_up : ℕ → Transport → Effect → Effect
 arrive_up now (Info to tx rx flags text) g = hear_info now tx rx flags (record { text = text; more = flags.more }) g
 arrive_up now (InfoAck to rx flags) g = hear_info_ack now rx flags g
 arrive_up now (Disconnect to) g = closed_by_partner g
 arrive_up now _ g = g
 
-abbrev pub arrive_closing : Transport → Going → Going
+abbrev pub arrive_closing : Transport → Effect → Effect
 arrive_closing (Disconnect to) g = closed_by_partner g
-arrive_closing (Disconnected to) g = ended Closed g
+arrive_closing (Disconnected to) g = end_with Closed g
 arrive_closing _ g = g
 
-abbrev pub arrive_in : EndPhase → ℕ → Transport → Going → Going
+abbrev pub arrive_in : EndPhase → ℕ → Transport → Effect → Effect
 arrive_in Connecting now t g = arrive_connecting now t g
 arrive_in Up now t g = arrive_up now t g
 arrive_in Closing now t g = arrive_closing t g
 arrive_in Ended now t g = g
 
 -- a transport has come
-abbrev pub arrived : ℕ → Transport → Going → Going
-arrived now t g = arrive_in g.end.phase now t g
+abbrev pub arrive : ℕ → Transport → Effect → Effect
+arrive now t g = arrive_in g.end.phase now t g
 
-abbrev pub asked : Going → Going
-asked g = ask g.end.role g
+abbrev pub ask : Effect → Effect
+ask g = ask_by g.end.role g
 
 -- what is put out once more
-abbrev pub retry_in : EndPhase → Going → Going
-retry_in Connecting g = asked g
+abbrev pub retry_in : EndPhase → Effect → Effect
+retry_in Connecting g = ask g
 retry_in Up g = again g
-retry_in Closing g = put (Disconnect g.end.to) g
+retry_in Closing g = emit (Disconnect g.end.to) g
 retry_in Ended g = g
 
-abbrev pub asked_once_more : Going → Going
-asked_once_more g = retry_in g.end.phase g
+abbrev pub ask_once_more : Effect → Effect
+ask_once_more g = retry_in g.end.phase g
 
-abbrev pub retried : ℕ → Going → Going
-retried now g = changed (λ s. awaited now (record s { tries = suc s.tries })) (asked_once_more g)
+abbrev pub retry : ℕ → Effect → Effect
+retry now g = on_state (λ s. wait now (record s { tries = suc s.tries })) (ask_once_more g)
 
-abbrev pub expiry_counted : Going → Going
-expiry_counted g = changed (λ s. record s { expiries = suc s.expiries }) g
+abbrev pub count_expiry : Effect → Effect
+count_expiry g = on_state (λ s. record s { expiries = suc s.expiries }) g
 
 -- an answer hasn't come: it is waited for once more, or no longer
-abbrev pub expired : ℕ → Going → Going
-expired now g =
-    if nat_eq g.end.tries g.end.config.retries then ended FailedRetries (expiry_counted g) else retried now (expiry_counted g)
+abbrev pub expire : ℕ → Effect → Effect
+expire now g =
+    if nat_eq g.end.tries g.end.config.retries then end_with FailedRetries (count_expiry g) else retry now (count_expiry g)
 
 -- an end that was held long enough goes on. Its expiry doesn't count
-abbrev pub released : ℕ → Going → Going
-released now g = changed (awaited_if_out now) (fill now (again (changed (λ s. record s { held = false; due = None }) g)))
+abbrev pub release : ℕ → Effect → Effect
+release now g = on_state (wait_if_out now) (fill now (again (on_state (λ s. record s { choked = false; answer_due = None }) g)))
 
-abbrev pub fell_due_up : ℕ → Going → Going
-fell_due_up now g = if g.end.held then released now g else expired now g
+abbrev pub fall_due_up : ℕ → Effect → Effect
+fall_due_up now g = if g.end.choked then release now g else expire now g
 
-abbrev pub due_in : EndPhase → ℕ → Going → Going
-due_in Connecting now g = expired now g
-due_in Up now g = fell_due_up now g
-due_in Closing now g = expired now g
+abbrev pub due_in : EndPhase → ℕ → Effect → Effect
+due_in Connecting now g = expire now g
+due_in Up now g = fall_due_up now g
+due_in Closing now g = expire now g
 due_in Ended now g = g
 
 -- no answer came in time
-abbrev pub fell_due : ℕ → Going → Going
-fell_due now g = due_in g.end.phase now g
+abbrev pub fall_due : ℕ → Effect → Effect
+fall_due now g = due_in g.end.phase now g
 
 abbrev pub is_due : Option ℕ → ℕ → Bool
 is_due None now = false
 is_due (Some at) now = nat_le at now
 
-abbrev pub ticked : ℕ → Going → Going
-ticked now g =
-    if is_up g.end.phase && nat_le (g.end.quiet + g.end.config.inactive) now then ended FailedInactive g
-    else if is_due g.end.due now then fell_due now g
+abbrev pub tick : ℕ → Effect → Effect
+tick now g =
+    if is_up g.end.phase && nat_le (g.end.last_active + g.end.config.inactive) now then end_with FailedInactive g
+    else if is_due g.end.answer_due now then fall_due now g
     else g
 
 abbrev pub may_close : EndPhase → Bool
@@ -130,11 +130,11 @@ may_close Up = true
 may_close Closing = false
 may_close Ended = false
 
-abbrev pub closed_in_turn : ℕ → Going → Going
-closed_in_turn now g = finish now (changed (λ s. record s { closing = true }) g)
+abbrev pub close_in_turn : ℕ → Effect → Effect
+close_in_turn now g = finish now (on_state (λ s. record s { closing = true }) g)
 
-abbrev pub closed : ℕ → Going → Going
-closed now g = if may_close g.end.phase then closed_in_turn now g else g
+abbrev pub close : ℕ → Effect → Effect
+close now g = if may_close g.end.phase then close_in_turn now g else g
 
 -- whether a message is accepted
 abbrev pub write_answer : State → List ℕ → Result (Unit {0}) WriteRefusal
@@ -148,26 +148,26 @@ write_answer s message =
     else Ok tt
 
 -- a message is written
-abbrev pub wrote : ℕ → List ℕ → Going → Going
-wrote now message g = fill now (changed (λ s. record s { quiet = now; sending = written message s.sending }) g)
+abbrev pub write : ℕ → List ℕ → Effect → Effect
+write now message g = fill now (on_state (λ s. record s { last_active = now; sending = written message s.sending }) g)
 
 -- early fragments have followed, and the other end is told
-abbrev pub resumed : Appended → Going → Going
-resumed a g = if a.fits then told_got false (has_come a.half g) else ended FailedOversize (has_come a.half g)
+abbrev pub resume_by : Appended → Effect → Effect
+resume_by a g = if a.fits then emit_ack false (with_receiving a.half g) else end_with FailedOversize (with_receiving a.half g)
 
 -- an end that was busy goes on
-abbrev pub goes_on : Going → Going
-goes_on g = resumed (moved_on g.end.receiving) g
+abbrev pub resume : Effect → Effect
+resume g = resume_by (moved_on g.end.receiving) g
 
 -- the first message leaves; an end that was busy, and no longer is, goes on
-abbrev pub taken_from : Receiving → Going → Going
-taken_from r g =
-    if is_up g.end.phase && busy g.end.receiving && not (busy r) then goes_on (has_come r g)
-    else has_come r g
+abbrev pub take_from : Receiving → Effect → Effect
+take_from r g =
+    if is_up g.end.phase && busy g.end.receiving && not (busy r) then resume (with_receiving r g)
+    else with_receiving r g
 
-abbrev pub taken : Going → Going
-taken g =
-    if nat_lt 0 (length (inbox g.end.receiving)) then taken_from (first_taken g.end.receiving) g else g
+abbrev pub take_first : Effect → Effect
+take_first g =
+    if nat_lt 0 (length (inbox g.end.receiving)) then take_from (without_first g.end.receiving) g else g
 
 pub data Input : Type 0 where
   Write : List ℕ → Input  -- a message, where it is accepted
@@ -176,13 +176,13 @@ pub data Input : Type 0 where
   Close : Input
   Take : Input
 
-abbrev pub step_at : ℕ → Going → Input → Going
-step_at now g (Write message) = if is_ok (write_answer g.end message) then wrote now message g else g
-step_at now g (Arrive t) = arrived now t g
-step_at now g Tick = ticked now g
-step_at now g Close = closed now g
-step_at now g Take = taken g
+abbrev pub step_at : ℕ → Effect → Input → Effect
+step_at now g (Write message) = if is_ok (write_answer g.end message) then write now message g else g
+step_at now g (Arrive t) = arrive now t g
+step_at now g Tick = tick now g
+step_at now g Close = close now g
+step_at now g Take = take_first g
 
 -- a moment above 2^62 milliseconds counts as 2^62
-abbrev pub step : State → Input → ℕ → Going
+abbrev pub step : State → Input → ℕ → Effect
 step s input now = step_at (min now (2 ^ 62)) (begin s) input

@@ -5,7 +5,7 @@ use Rattle.circuit_reassembly.specs.Gathering.{Answer, More, Whole, Too_long}
 use Rattle.circuit_reassembly.specs.declared.gather.Oversize.{Oversize}
 use Rattle.circuit_l4.specs.declared.piece.Piece.{Piece}
 use Rattle.circuit_l4.specs.Sending.{Sending, bytes_of, fragments_of_all, total}
-use Rattle.circuit_l4.specs.Receiving.{Receiving, Appended, Came, inbox, first_taken, with_message}
+use Rattle.circuit_l4.specs.Receiving.{Receiving, Appended, Receipt, inbox, without_first, with_message}
 
 -- of what was written: the messages that aren't wholly acknowledged
 pub record Outbox : Type 0 where
@@ -33,7 +33,7 @@ pub record Inbox : Type 0 where
   pub gathered : List ℕ
   pub messages : List (List ℕ)
   pub received : ℕ  -- how many messages ever came whole
-  pub asked : Option ℕ
+  pub nak_sent_for : Option ℕ
 
 -- it stands for each half in which messages were taken before
 pub record IsReceiving (i : Inbox) (r : Receiving) : Type 0 where
@@ -43,7 +43,7 @@ pub record IsReceiving (i : Inbox) (r : Receiving) : Type 0 where
   pub messages : i.messages ≡ inbox r
   pub count : i.received ≡ length r.received
   pub taken : r.taken ≤ length r.received
-  pub asked : i.asked ≡ r.asked
+  pub nak_sent_for : i.nak_sent_for ≡ r.nak_sent_for
 
 -- the bytes that came and weren't taken
 abbrev pub waiting_in : Inbox → ℕ
@@ -59,8 +59,8 @@ abbrev pub fragment_in : Piece → Fragment
 fragment_in p = (p.text.items, p.more)
 
 -- the answer to a fragment that came: whether the next one expected has to be asked for, or that its message is too long
-abbrev pub came_answer : Came → Result Bool Oversize
-came_answer c = if c.fits then Ok c.nak else Err (record {})
+abbrev pub receipt_answer : Receipt → Result Bool Oversize
+receipt_answer c = if c.fits then Ok c.nak else Err (record {})
 
 abbrev pub moved_answer : Appended → Result (Unit {0}) Oversize
 moved_answer a = if a.fits then Ok tt else Err (record {})
@@ -79,9 +79,9 @@ whole_answer (Whole (b ∷ bs)) = Ok true
 whole_answer Too_long = Err (record {})
 
 -- the half once a message was taken, or none
-abbrev pub took : Bool → Receiving → Receiving
-took true r = first_taken r
-took false r = r
+abbrev pub take_message : Bool → Receiving → Receiving
+take_message true r = without_first r
+take_message false r = r
 
 -- the first message, or what stands there
 abbrev pub first_or : List ℕ → List (List ℕ) → List ℕ

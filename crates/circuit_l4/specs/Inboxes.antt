@@ -12,7 +12,7 @@ inbox_of i =
       gathered = i.gather;
       messages = i.inbox.messages;
       received = i.received;
-      asked = i.asked;
+      nak_sent_for = i.nak_sent_for;
     }
 
 -- what always holds of them: every place for an early fragment is there, and so many bytes wait

@@ -12,7 +12,7 @@ pub record Receiving : Type 0 where
   pub gathered : List ℕ  -- the bytes of a message of which more is to come
   pub received : List (List ℕ)  -- the messages that ever came whole
   pub taken : ℕ  -- how many of them were taken
-  pub asked : Option ℕ  -- the last number that was asked for by a negative acknowledgement
+  pub nak_sent_for : Option ℕ  -- the last number that was asked for by a negative acknowledgement
 
 -- the messages that weren't taken
 abbrev pub inbox : Receiving → List (List ℕ)
@@ -75,12 +75,12 @@ abbrev pub append_next : List ℕ → Bool → Receiving → Appended
 append_next text more r = let a = append text more r in if a.fits then moved_on a.half else a
 
 -- what becomes of a fragment: the half after it, whether a negative acknowledgement is owed, and whether it fitted
-pub record Came : Type 0 where
+pub record Receipt : Type 0 where
   pub half : Receiving
   pub nak : Bool
   pub fits : Bool
 
-abbrev pub ignored : Receiving → Came
+abbrev pub ignored : Receiving → Receipt
 ignored r = record { half = r; nak = false; fits = true }
 
 abbrev pub is_free : Option (Option Piece) → Bool
@@ -97,26 +97,26 @@ is_asked None n = false
 is_asked (Some a) n = nat_eq a n
 
 -- fragment number n comes before its turn: the next one expected is asked for, once
-abbrev pub came_early : ℕ → Piece → Receiving → Came
-came_early n piece r =
+abbrev pub receive_early : ℕ → Piece → Receiving → Receipt
+receive_early n piece r =
     record {
-      half = record r { early = keep (n - r.got) piece r.early; asked = Some r.got };
-      nak = not (is_asked r.asked r.got);
+      half = record r { early = keep (n - r.got) piece r.early; nak_sent_for = Some r.got };
+      nak = not (is_asked r.nak_sent_for r.got);
       fits = true;
     }
 
-abbrev pub came_next : Piece → Receiving → Came
-came_next piece r = let a = append_next piece.text.items piece.more r in record { half = a.half; nak = false; fits = a.fits }
+abbrev pub receive_next : Piece → Receiving → Receipt
+receive_next piece r = let a = append_next piece.text.items piece.more r in record { half = a.half; nak = false; fits = a.fits }
 
-abbrev pub came_at : ℕ → Piece → Receiving → Came
-came_at n piece r = if nat_lt r.got n then came_early n piece r else came_next piece r
+abbrev pub receive_at : ℕ → Piece → Receiving → Receipt
+receive_at n piece r = if nat_lt r.got n then receive_early n piece r else receive_next piece r
 
 -- a fragment comes with the number tx on the air: it is one of the window, or nothing is done
-abbrev pub came : ℕ → ℕ → Piece → Receiving → Came
-came window tx piece r =
+abbrev pub receive : ℕ → ℕ → Piece → Receiving → Receipt
+receive window tx piece r =
     if busy r || nat_le (2 ^ 62) r.got then ignored r
-    else elim (place_of 256 tx r.got window) as (λ x. Came) [ None ↦ ignored r | Some n ↦ came_at n piece r ]
+    else elim (place_of 256 tx r.got window) as (λ x. Receipt) [ None ↦ ignored r | Some n ↦ receive_at n piece r ]
 
 -- the first message is taken
-abbrev pub first_taken : Receiving → Receiving
-first_taken r = record r { taken = r.taken + 1 }
+abbrev pub without_first : Receiving → Receiving
+without_first r = record r { taken = r.taken + 1 }

@@ -39,9 +39,9 @@ pub record SpellsRequest (window : ℕ) (user node : Callsign) (octets : List �
 -- what stands behind the window says nothing
 pub record SpellsAccept (own : Pair) (window : ℕ) (octets : List ℕ) : Type 0 where
   pub whole : 6 ≤ length octets
-  pub accepted : choke octets ≡ false
+  pub on_accept : choke octets ≡ false
   pub by : pair_at 2 octets ≡ own
-  pub agreed : slice_index octets 5 ≡ window
+  pub common_window : slice_index octets 5 ≡ window
 
 pub record SpellsInfo (tx rx : ℕ) (flags : Flags) (text octets : List ℕ) : Type 0 where
   pub number : slice_index octets 2 ≡ tx

@@ -11,21 +11,21 @@ use crate::transport::{Flags, Pair, Transport};
 use radio_base::COUNT_MAX;
 
 /// The window that both ends take: that of the other end, at most the own one, and at least 1.
-pub(crate) fn agreed(own: u8, other: u8) -> u8
-    ensures { result ≡ table.agreed own other }
+pub(crate) fn common_window(own: u8, other: u8) -> u8
+    ensures { result ≡ table.common_window own other }
 {
     other.min(own).max(1)
 }
 
 impl Machine {
     ghost use Rattle.circuit_l4.specs.EndCalls.{Does};
-    ghost use Rattle.circuit_l4.specs.EndTable.{arrived};
+    ghost use Rattle.circuit_l4.specs.EndTable.{arrive};
 
     pub(crate) fn arrive(&mut self, transport: &Transport, now: u64)
         requires now { now ≤ COUNT_MAX }
         requires outs { self.old.outs.items ≡ [] }
         requires notice { self.old.notice ≡ None }
-        ensures does { Does (arrived now transport.now) self.old self.new }
+        ensures does { Does (arrive now transport.now) self.old self.new }
         ensures config { self.new.config ≡ self.old.config }
     {
         match self.phase {
@@ -44,24 +44,24 @@ impl Machine {
         ensures config { self.new.config ≡ self.old.config }
     {
         match transport {
-            Transport::Accept { to: _, own, window } => self.accepted(*own, *window, now),
+            Transport::Accept { to: _, own, window } => self.on_accept(*own, *window, now),
             Transport::Refuse { to: _ } => self.end(EndNotice::Refused),
             _ => {}
         }
     }
 
-    fn accepted(&mut self, own: Pair, window: u8, now: u64)
+    fn on_accept(&mut self, own: Pair, window: u8, now: u64)
         requires now { now ≤ COUNT_MAX }
         requires outs { self.old.outs.items ≡ [] }
         requires notice { self.old.notice ≡ None }
-        ensures does { Does (table.accepted now own window) self.old self.new }
+        ensures does { Does (table.on_accept now own window) self.old self.new }
         ensures config { self.new.config ≡ self.old.config }
     {
         self.to = own;
-        self.window = agreed(self.config.window, window);
+        self.window = common_window(self.config.window, window);
         self.phase = EndPhase::Up;
-        self.due = None;
-        self.quiet = now;
+        self.answer_due = None;
+        self.last_active = now;
         self.note(EndNotice::Opened {
             window: self.window,
         });
@@ -96,7 +96,7 @@ impl Machine {
         ensures does { Does (table.hear_info now tx rx flags piece) self.old self.new }
         ensures config { self.new.config ≡ self.old.config }
     {
-        self.quiet = now;
+        self.last_active = now;
         self.on_info(tx, rx, flags, piece, now);
     }
 
@@ -106,7 +106,7 @@ impl Machine {
         ensures does { Does (table.hear_info_ack now rx flags) self.old self.new }
         ensures config { self.new.config ≡ self.old.config }
     {
-        self.quiet = now;
+        self.last_active = now;
         self.on_info_ack(rx, flags, now);
     }
 
@@ -129,7 +129,7 @@ impl Machine {
         ensures does { Does table.closed_by_partner self.old self.new }
         ensures config { self.new.config ≡ self.old.config }
     {
-        self.put(Output::Disconnected { to: self.to });
+        self.emit(Output::Disconnected { to: self.to });
         self.end(EndNotice::ClosedByPartner);
     }
 }

@@ -30,8 +30,8 @@ impl Machine {
     ghost use Rattle.circuit_l4.specs.EndOpening as opening;
     ghost use Rattle.circuit_l4.specs.EndOpening.{IsConfig};
     ghost use Rattle.circuit_l4.specs.EndCalls.{Adds, Does, MayWrite};
-    ghost use Rattle.circuit_l4.specs.EndStanding.{IsDrained, StandsFor, kept_of};
-    ghost use Rattle.circuit_l4.specs.EndTable.{goes_on};
+    ghost use Rattle.circuit_l4.specs.EndStanding.{IsDrained, StandsFor, view_of};
+    ghost use Rattle.circuit_l4.specs.EndTable.{resume};
     ghost use Rattle.circuit_l4.specs.Halves.{IsReceiving, first_or};
     ghost use Rattle.circuit_l4.specs.Receiving.{Receiving, busy};
 
@@ -45,8 +45,8 @@ impl Machine {
         requires now { now ≤ COUNT_MAX }
         requires window { beginning.window ≤ config.window }
         requires config { IsConfig config }
-        ensures opening { IfOk result (λ m. StandsFor (kept_of m) (opening.new beginning config now)) }
-        ensures drained { IfOk result (λ m. IsDrained (kept_of m)) }
+        ensures opening { IfOk result (λ m. StandsFor (view_of m) (opening.new beginning config now)) }
+        ensures drained { IfOk result (λ m. IsDrained (view_of m)) }
         ensures outs { IfOk result (λ m. m.outs.items ≡ []) }
         ensures config { IfOk result (λ m. m.config ≡ config) }
     {
@@ -62,11 +62,11 @@ impl Machine {
             window: beginning.window,
             outgoing,
             incoming,
-            held: false,
+            choked: false,
             closing: false,
             tries: 0,
-            due: None,
-            quiet: now,
+            answer_due: None,
+            last_active: now,
             outs,
             notice: None,
         })
@@ -74,7 +74,7 @@ impl Machine {
 
     /// Whether a message is accepted.
     fn write_answer(&self, message: &[u8]) -> Result<(), WriteRefusal>
-        ensures exact { (s : State) → StandsFor (kept_of self.now) s → result ≡ table.write_answer s message.now }
+        ensures exact { (s : State) → StandsFor (view_of self.now) s → result ≡ table.write_answer s message.now }
         ensures room { OnOk result (MayWrite message.now self.now.outgoing) }
     {
         if !self.is_up() {
@@ -101,9 +101,9 @@ impl Machine {
     pub(crate) fn write(&mut self, message: &[u8], now: u64) -> Result<(), WriteRefusal>
         requires now { now ≤ COUNT_MAX }
         requires outs { self.old.outs.items ≡ [] }
-        ensures answer { (s : State) → StandsFor (kept_of self.old) s → result ≡ table.write_answer s message.now }
-        ensures does { OnOk result (Does (table.wrote now message.now) self.old self.new) }
-        ensures err { OnErr result (kept_of self.new ≡ kept_of self.old) }
+        ensures answer { (s : State) → StandsFor (view_of self.old) s → result ≡ table.write_answer s message.now }
+        ensures does { OnOk result (Does (table.write now message.now) self.old self.new) }
+        ensures err { OnErr result (view_of self.new ≡ view_of self.old) }
         ensures config { self.new.config ≡ self.old.config }
     {
         self.write_answer(message)?;
@@ -116,18 +116,18 @@ impl Machine {
         requires now { now ≤ COUNT_MAX }
         requires outs { self.old.outs.items ≡ [] }
         requires message { MayWrite message.now self.old.outgoing }
-        ensures does { Does (table.wrote now message.now) self.old self.new }
+        ensures does { Does (table.write now message.now) self.old self.new }
         ensures config { self.new.config ≡ self.old.config }
     {
         self.outgoing.write(message);
-        self.quiet = now;
+        self.last_active = now;
         self.fill(now);
     }
 
     pub(crate) fn close(&mut self, now: u64)
         requires now { now ≤ COUNT_MAX }
         requires outs { self.old.outs.items ≡ [] }
-        ensures does { Does (table.closed now) self.old self.new }
+        ensures does { Does (table.close now) self.old self.new }
         ensures config { self.new.config ≡ self.old.config }
     {
         if self.may_close() {
@@ -144,7 +144,7 @@ impl Machine {
     fn close_in_turn(&mut self, now: u64)
         requires now { now ≤ COUNT_MAX }
         requires outs { self.old.outs.items ≡ [] }
-        ensures does { Does (table.closed_in_turn now) self.old self.new }
+        ensures does { Does (table.close_in_turn now) self.old self.new }
         ensures config { self.new.config ≡ self.old.config }
     {
         self.closing = true;
@@ -154,7 +154,7 @@ impl Machine {
     pub(crate) fn take(&mut self, out: &mut Message) -> bool
         requires outs { self.old.outs.items ≡ [] }
         requires notice { self.old.notice ≡ None }
-        ensures does { Does table.taken self.old self.new }
+        ensures does { Does table.take_first self.old self.new }
         ensures message { out.new.items ≡ first_or out.old.items self.old.incoming.messages }
         ensures answer { result ≡ nat_lt 0 (length self.old.incoming.messages) }
         ensures config { self.new.config ≡ self.old.config }
@@ -179,11 +179,11 @@ impl Machine {
     fn resume(&mut self)
         requires outs { self.old.outs.items ≡ [] }
         requires notice { self.old.notice ≡ None }
-        ensures does { Does goes_on self.old self.new }
+        ensures does { Does resume self.old self.new }
         ensures config { self.new.config ≡ self.old.config }
     {
         match self.incoming.move_on() {
-            Ok(()) => self.tell_got(false),
+            Ok(()) => self.emit_ack(false),
             Err(Oversize) => self.end(EndNotice::FailedOversize),
         }
     }

@@ -8,7 +8,7 @@ ghost use Rattle.circuit_l4.specs.EndStanding.{IsDrained, Stands, StandsFor};
 ghost use Rattle.circuit_l4.specs.Halves.{first_or};
 ghost use Rattle.circuit_l4.specs.Receiving.{inbox};
 
-use crate::arrivals::agreed;
+use crate::arrivals::common_window;
 use crate::calls::Beginning;
 use crate::machine::{Machine, Role};
 use crate::output::Output;
@@ -36,13 +36,13 @@ pub struct End {
 }
 
 impl Model for End {
-    ghost use Rattle.circuit_l4.specs.EndStanding.{Kept};
+    ghost use Rattle.circuit_l4.specs.EndStanding.{EndView};
 
-    ghost Value = { Kept };
+    ghost Value = { EndView };
 
-    ghost use Rattle.circuit_l4.specs.EndStanding.{kept_of};
+    ghost use Rattle.circuit_l4.specs.EndStanding.{view_of};
 
-    ghost view = { λ e. kept_of e.machine };
+    ghost view = { λ e. view_of e.machine };
 }
 
 impl End {
@@ -85,7 +85,7 @@ impl End {
         requires { IsConfig config }
         ensures opening { IfOk result (λ end. Stands end (opening.responding pair partner proposed config (min now.0 (2 ^ 62)))) }
     {
-        let window = agreed(config.window, proposed);
+        let window = common_window(config.window, proposed);
         let beginning = Beginning {
             role: Role::Responder,
             pair,
@@ -94,7 +94,7 @@ impl End {
             window,
         };
         let mut machine = Machine::new(alloc, beginning, config, moment(now))?;
-        machine.put(Output::Accept {
+        machine.emit(Output::Accept {
             to: partner,
             own: pair,
             window,

@@ -9,18 +9,18 @@ use crate::plain::{EndNotice, EndPhase};
 impl Machine {
     ghost use Rattle.circuit_l4.specs.EndTable as table;
     ghost use Rattle.circuit_l4.specs.EndCalls.{Adds, Does, request_by};
-    ghost use Rattle.circuit_l4.specs.EndStanding.{kept_of};
-    ghost use Rattle.circuit_l4.specs.EndTable.{asked, asked_once_more, fell_due, fell_due_up};
+    ghost use Rattle.circuit_l4.specs.EndStanding.{view_of};
+    ghost use Rattle.circuit_l4.specs.EndTable.{ask, ask_once_more, fall_due, fall_due_up};
 
     /// Time has passed.
     pub(crate) fn tick(&mut self, now: u64)
         requires now { now ≤ COUNT_MAX }
         requires outs { self.old.outs.items ≡ [] }
         requires notice { self.old.notice ≡ None }
-        ensures does { Does (table.ticked now) self.old self.new }
+        ensures does { Does (table.tick now) self.old self.new }
         ensures config { self.new.config ≡ self.old.config }
     {
-        if self.is_up() && self.quiet + self.config.inactive <= now {
+        if self.is_up() && self.last_active + self.config.inactive <= now {
             self.end(EndNotice::FailedInactive);
         } else if self.is_due(now) {
             self.fall_due(now);
@@ -28,9 +28,9 @@ impl Machine {
     }
 
     fn is_due(&self, now: u64) -> bool
-        ensures { result ≡ table.is_due self.now.due now }
+        ensures { result ≡ table.is_due self.now.answer_due now }
     {
-        match self.due {
+        match self.answer_due {
             Some(at) => at <= now,
             None => false,
         }
@@ -40,7 +40,7 @@ impl Machine {
         requires now { now ≤ COUNT_MAX }
         requires outs { self.old.outs.items ≡ [] }
         requires notice { self.old.notice ≡ None }
-        ensures does { Does (fell_due now) self.old self.new }
+        ensures does { Does (fall_due now) self.old self.new }
         ensures config { self.new.config ≡ self.old.config }
     {
         match self.phase {
@@ -54,10 +54,10 @@ impl Machine {
         requires now { now ≤ COUNT_MAX }
         requires outs { self.old.outs.items ≡ [] }
         requires notice { self.old.notice ≡ None }
-        ensures does { Does (fell_due_up now) self.old self.new }
+        ensures does { Does (fall_due_up now) self.old self.new }
         ensures config { self.new.config ≡ self.old.config }
     {
-        if self.held {
+        if self.choked {
             self.release(now);
         } else {
             self.expire(now);
@@ -68,11 +68,11 @@ impl Machine {
     fn release(&mut self, now: u64)
         requires now { now ≤ COUNT_MAX }
         requires outs { self.old.outs.items ≡ [] }
-        ensures does { Does (table.released now) self.old self.new }
+        ensures does { Does (table.release now) self.old self.new }
         ensures config { self.new.config ≡ self.old.config }
     {
-        self.held = false;
-        self.due = None;
+        self.choked = false;
+        self.answer_due = None;
         self.again();
         self.fill(now);
         self.wait_if_out(now);
@@ -83,7 +83,7 @@ impl Machine {
         requires now { now ≤ COUNT_MAX }
         requires outs { self.old.outs.items ≡ [] }
         requires notice { self.old.notice ≡ None }
-        ensures does { Does (table.expired now) self.old self.new }
+        ensures does { Does (table.expire now) self.old self.new }
         ensures config { self.new.config ≡ self.old.config }
     {
         if self.tries == self.config.retries {
@@ -97,7 +97,7 @@ impl Machine {
         requires now { now ≤ COUNT_MAX }
         requires outs { self.old.outs.items ≡ [] }
         requires tries { self.old.tries < self.old.config.retries }
-        ensures does { Does (table.retried now) self.old self.new }
+        ensures does { Does (table.retry now) self.old self.new }
         ensures config { self.new.config ≡ self.old.config }
     {
         self.ask_once_more();
@@ -107,14 +107,14 @@ impl Machine {
 
     fn ask_once_more(&mut self)
         requires { self.old.outs.items ≡ [] }
-        ensures does { Does asked_once_more self.old self.new }
+        ensures does { Does ask_once_more self.old self.new }
         ensures adds { Adds (self.old.config.window + 1) self.old self.new }
         ensures tries { self.new.tries ≡ self.old.tries }
     {
         match self.phase {
             EndPhase::Connecting => self.ask(),
             EndPhase::Up => self.again(),
-            EndPhase::Closing => self.put(Output::Disconnect { to: self.to }),
+            EndPhase::Closing => self.emit(Output::Disconnect { to: self.to }),
             EndPhase::Ended => {}
         }
     }
@@ -137,12 +137,12 @@ impl Machine {
     /// Asks the other end for a circuit.
     pub(crate) fn ask(&mut self)
         requires { length self.old.outs.items < 2 * self.old.config.window + 2 }
-        ensures does { Does asked self.old self.new }
+        ensures does { Does ask self.old self.new }
         ensures adds { Adds 1 self.old self.new }
-        ensures rest { kept_of self.new ≡ record (kept_of self.old) { outs = (kept_of self.new).outs } }
+        ensures rest { view_of self.new ≡ record (view_of self.old) { outs = (view_of self.new).outs } }
     {
         if let Some(request) = self.request() {
-            self.put(request);
+            self.emit(request);
         }
     }
 }

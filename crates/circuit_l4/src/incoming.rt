@@ -5,7 +5,7 @@ ghost use Rattle.circuit_reassembly.specs.Gathering.{gather_step};
 ghost use Rattle.circuit_l4.specs.Sending.{bytes_of};
 ghost use Rattle.circuit_l4.specs.Receiving as spec;
 ghost use Rattle.circuit_l4.specs.Receiving.{Receiving};
-ghost use Rattle.circuit_l4.specs.Halves.{IsReceiving, Takes, came_answer, first_or, moved_answer, took, whole_answer, with_answer};
+ghost use Rattle.circuit_l4.specs.Halves.{IsReceiving, Takes, receipt_answer, first_or, moved_answer, take_message, whole_answer, with_answer};
 
 use crate::messages::Messages;
 use crate::piece::{BUSY_AT, Piece, piece_of};
@@ -35,7 +35,7 @@ pub(crate) struct Incoming {
     /// How many bytes are in the inbox and gathered.
     waiting: usize,
     /// The last number that was asked for.
-    asked: Option<u64>,
+    nak_sent_for: Option<u64>,
 }
 
 impl Model for Incoming {
@@ -53,7 +53,7 @@ impl Model for Incoming {
 impl Incoming {
     /// Nothing has come. Takes all the memory that is ever needed.
     pub(crate) fn new(alloc: Global, window: u8) -> Result<Incoming, NoMemory>
-        ensures { IfOk result (λ i. i ≡ record { got = 0; early = replicate window None; gathered = []; messages = []; received = 0; asked = None }) }
+        ensures { IfOk result (λ i. i ≡ record { got = 0; early = replicate window None; gathered = []; messages = []; received = 0; nak_sent_for = None }) }
     {
         Ok(Incoming {
             got: 0,
@@ -62,7 +62,7 @@ impl Incoming {
             inbox: Messages::new(alloc, ROOM)?,
             received: 0,
             waiting: 0,
-            asked: None,
+            nak_sent_for: None,
         })
     }
 
@@ -102,55 +102,55 @@ impl Incoming {
     }
 
     /// A fragment has come with this number on the air. Answers whether the next one expected has to be asked for.
-    pub(crate) fn come(&mut self, window: u64, tx: u8, piece: Piece) -> Result<bool, Oversize>
+    pub(crate) fn receive(&mut self, window: u64, tx: u8, piece: Piece) -> Result<bool, Oversize>
         requires window { window ≤ length self.old.early }
         requires numbers { window ≤ 256 }
-        ensures does { (r : Receiving) → IsReceiving self.old r → IsReceiving self.new (spec.came window tx piece r).half }
-        ensures answer { (r : Receiving) → IsReceiving self.old r → result ≡ came_answer (spec.came window tx piece r) }
+        ensures does { (r : Receiving) → IsReceiving self.old r → IsReceiving self.new (spec.receive window tx piece r).half }
+        ensures answer { (r : Receiving) → IsReceiving self.old r → result ≡ receipt_answer (spec.receive window tx piece r) }
         ensures places { length self.new.early ≡ length self.old.early }
     {
         if !self.takes() {
             return Ok(false);
         }
         match M256::place(tx, self.got, window) {
-            Some(number) => self.come_at(number, piece),
+            Some(number) => self.receive_at(number, piece),
             None => Ok(false),
         }
     }
 
     /// The fragment of this number has come.
-    fn come_at(&mut self, number: u64, piece: Piece) -> Result<bool, Oversize>
+    fn receive_at(&mut self, number: u64, piece: Piece) -> Result<bool, Oversize>
         requires takes { Takes self.old }
         requires from { self.old.got ≤ number }
-        ensures does { (r : Receiving) → IsReceiving self.old r → IsReceiving self.new (spec.came_at number piece r).half }
-        ensures answer { (r : Receiving) → IsReceiving self.old r → result ≡ came_answer (spec.came_at number piece r) }
+        ensures does { (r : Receiving) → IsReceiving self.old r → IsReceiving self.new (spec.receive_at number piece r).half }
+        ensures answer { (r : Receiving) → IsReceiving self.old r → result ≡ receipt_answer (spec.receive_at number piece r) }
         ensures places { length self.new.early ≡ length self.old.early }
     {
         if self.got < number {
-            Ok(self.come_early(number, piece))
+            Ok(self.receive_early(number, piece))
         } else {
-            self.come_next(piece)
+            self.receive_next(piece)
         }
     }
 
     /// A fragment has come before its turn: the next one expected is asked for, once.
-    fn come_early(&mut self, number: u64, piece: Piece) -> bool
+    fn receive_early(&mut self, number: u64, piece: Piece) -> bool
         requires { self.old.got ≤ number }
-        ensures does { (r : Receiving) → IsReceiving self.old r → IsReceiving self.new (spec.came_early number piece r).half }
-        ensures answer { (r : Receiving) → IsReceiving self.old r → result ≡ (spec.came_early number piece r).nak }
+        ensures does { (r : Receiving) → IsReceiving self.old r → IsReceiving self.new (spec.receive_early number piece r).half }
+        ensures answer { (r : Receiving) → IsReceiving self.old r → result ≡ (spec.receive_early number piece r).nak }
         ensures places { length self.new.early ≡ length self.old.early }
     {
         keep(&mut self.early, (number - self.got) as usize, piece);
-        let asks = self.asked != Some(self.got);
-        self.asked = Some(self.got);
+        let asks = self.nak_sent_for != Some(self.got);
+        self.nak_sent_for = Some(self.got);
         asks
     }
 
     /// The next fragment has come.
-    fn come_next(&mut self, piece: Piece) -> Result<bool, Oversize>
+    fn receive_next(&mut self, piece: Piece) -> Result<bool, Oversize>
         requires { Takes self.old }
-        ensures does { (r : Receiving) → IsReceiving self.old r → IsReceiving self.new (spec.came_next piece r).half }
-        ensures answer { (r : Receiving) → IsReceiving self.old r → result ≡ came_answer (spec.came_next piece r) }
+        ensures does { (r : Receiving) → IsReceiving self.old r → IsReceiving self.new (spec.receive_next piece r).half }
+        ensures answer { (r : Receiving) → IsReceiving self.old r → result ≡ receipt_answer (spec.receive_next piece r) }
         ensures places { length self.new.early ≡ length self.old.early }
     {
         self.append(&piece)?;
@@ -206,7 +206,7 @@ impl Incoming {
 
     /// Takes the first message; false where none waits, and `out` is as it was then.
     pub(crate) fn take(&mut self, out: &mut Message) -> bool
-        ensures does { (r : Receiving) → IsReceiving self.old r → IsReceiving self.new (took result r) }
+        ensures does { (r : Receiving) → IsReceiving self.old r → IsReceiving self.new (take_message result r) }
         ensures message { out.new.items ≡ first_or out.old.items self.old.messages }
         ensures answer { result ≡ nat_lt 0 (length self.old.messages) }
         ensures places { length self.new.early ≡ length self.old.early }

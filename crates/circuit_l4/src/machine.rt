@@ -33,13 +33,13 @@ pub(crate) struct Machine {
     pub(crate) outgoing: Outgoing,
     pub(crate) incoming: Incoming,
     /// The other end takes no text for now.
-    pub(crate) held: bool,
+    pub(crate) choked: bool,
     pub(crate) closing: bool,
     pub(crate) tries: u8,
     /// When an answer is awaited no longer.
-    pub(crate) due: Option<u64>,
+    pub(crate) answer_due: Option<u64>,
     /// When it was opened, last written to, or last heard text or an acknowledgement.
-    pub(crate) quiet: u64,
+    pub(crate) last_active: u64,
     pub(crate) outs: HeapCircularBuffer<Output>,
     pub(crate) notice: Option<EndNotice>,
     ghost acked_is_sent: { outgoing.acked ≤ outgoing.sent },
@@ -55,7 +55,7 @@ pub(crate) struct Machine {
     ghost timeout_fits: { config.timeout ≤ COUNT_MAX },
     ghost busy_fits: { config.busy ≤ COUNT_MAX },
     ghost inactive_fits: { config.inactive ≤ COUNT_MAX },
-    ghost quiet_fits: { quiet ≤ COUNT_MAX },
+    ghost last_active_fits: { last_active ≤ COUNT_MAX },
     ghost tries_fit: { tries ≤ config.retries },
     ghost retries_fit: { config.retries < 256 },
 }
@@ -63,8 +63,8 @@ pub(crate) struct Machine {
 impl Machine {
     ghost use Rattle.circuit_l4.specs.EndState as state;
     ghost use Rattle.circuit_l4.specs.EndMoves as moves;
-    ghost use Rattle.circuit_l4.specs.EndCalls.{Adds, Does, puts};
-    ghost use Rattle.circuit_l4.specs.EndStanding.{kept_of};
+    ghost use Rattle.circuit_l4.specs.EndCalls.{Adds, Does, emits};
+    ghost use Rattle.circuit_l4.specs.EndStanding.{view_of};
 
     pub(crate) fn is_up(&self) -> bool
         ensures { result ≡ state.is_up self.now.phase }
@@ -73,19 +73,19 @@ impl Machine {
     }
 
     /// Something waits to be put out.
-    pub(crate) fn put(&mut self, output: Output)
+    pub(crate) fn emit(&mut self, output: Output)
         requires { length self.old.outs.items < 2 * self.old.config.window + 2 }
-        ensures does { Does (puts self.old.outgoing output) self.old self.new }
+        ensures does { Does (emits self.old.outgoing output) self.old self.new }
         ensures adds { Adds 1 self.old self.new }
-        ensures rest { kept_of self.new ≡ record (kept_of self.old) { outs = (kept_of self.new).outs } }
+        ensures rest { view_of self.new ≡ record (view_of self.old) { outs = (view_of self.new).outs } }
     {
         let _ = self.outs.push_back(output);
     }
 
     /// The next transport that goes out.
     pub(crate) fn next_out(&mut self) -> Option<Out>
-        ensures value { result ≡ slice_get (kept_of self.old).outs 0 }
-        ensures rest { kept_of self.new ≡ record (kept_of self.old) { outs = drop 1 (kept_of self.old).outs } }
+        ensures value { result ≡ slice_get (view_of self.old).outs 0 }
+        ensures rest { view_of self.new ≡ record (view_of self.old) { outs = drop 1 (view_of self.old).outs } }
     {
         match self.outs.pop_front() {
             Some(output) => Some(output.fetch(&self.outgoing)),
@@ -94,12 +94,12 @@ impl Machine {
     }
 
     /// Puts out the fragment of this number, where it waits.
-    fn put_info(&mut self, number: u64)
+    fn emit_info(&mut self, number: u64)
         requires waits { self.old.outgoing.acked ≤ number }
         requires room { length self.old.outs.items < 2 * self.old.config.window + 2 }
-        ensures does { Does (moves.put_infos number 1) self.old self.new }
+        ensures does { Does (moves.emit_infos number 1) self.old self.new }
         ensures adds { Adds 1 self.old self.new }
-        ensures rest { kept_of self.new ≡ record (kept_of self.old) { outs = (kept_of self.new).outs } }
+        ensures rest { view_of self.new ≡ record (view_of self.old) { outs = (view_of self.new).outs } }
     {
         if number < self.outgoing.total() {
             let info = Output::Info {
@@ -108,30 +108,30 @@ impl Machine {
                 rx: M256::wire(self.incoming.got()),
                 choke: self.incoming.is_busy(),
             };
-            self.put(info);
+            self.emit(info);
         }
     }
 
     /// Puts out the fragments of many numbers from this one on.
-    pub(crate) fn put_infos(&mut self, from: u64, many: u64)
+    pub(crate) fn emit_infos(&mut self, from: u64, many: u64)
         requires waits { self.old.outgoing.acked ≤ from }
         requires numbers { from + many ≤ COUNT_MAX }
         requires room { length self.old.outs.items + many ≤ 2 * self.old.config.window + 2 }
-        ensures does { Does (moves.put_infos from many) self.old self.new }
+        ensures does { Does (moves.emit_infos from many) self.old self.new }
         ensures adds { Adds many self.old self.new }
-        ensures rest { kept_of self.new ≡ record (kept_of self.old) { outs = (kept_of self.new).outs } }
+        ensures rest { view_of self.new ≡ record (view_of self.old) { outs = (view_of self.new).outs } }
     {
         for number in from..from + many {
-            self.put_info(number);
+            self.emit_info(number);
         }
     }
 
     /// Tells what was got.
-    pub(crate) fn tell_got(&mut self, nak: bool)
+    pub(crate) fn emit_ack(&mut self, nak: bool)
         requires { length self.old.outs.items < 2 * self.old.config.window + 2 }
-        ensures does { Does (moves.told_got nak) self.old self.new }
+        ensures does { Does (moves.emit_ack nak) self.old self.new }
         ensures adds { Adds 1 self.old self.new }
-        ensures rest { kept_of self.new ≡ record (kept_of self.old) { outs = (kept_of self.new).outs } }
+        ensures rest { view_of self.new ≡ record (view_of self.old) { outs = (view_of self.new).outs } }
     {
         let flags = Flags {
             choke: self.incoming.is_busy(),
@@ -143,7 +143,7 @@ impl Machine {
             rx: M256::wire(self.incoming.got()),
             flags,
         };
-        self.put(info_ack);
+        self.emit(info_ack);
     }
 
     pub(crate) fn note(&mut self, notice: EndNotice)
@@ -157,7 +157,7 @@ impl Machine {
 
     pub(crate) fn end(&mut self, notice: EndNotice)
         requires { self.old.notice ≡ None }
-        ensures does { Does (moves.ended notice) self.old self.new }
+        ensures does { Does (moves.end_with notice) self.old self.new }
         ensures outs { self.new.outs ≡ self.old.outs }
         ensures config { self.new.config ≡ self.old.config }
     {
@@ -168,24 +168,24 @@ impl Machine {
     /// An answer is awaited from now on.
     pub(crate) fn wait(&mut self, now: u64)
         requires { now ≤ COUNT_MAX }
-        ensures does { Does (moves.changed (moves.awaited now)) self.old self.new }
-        ensures rest { kept_of self.new ≡ record (kept_of self.old) { due = Some (now + self.old.config.timeout) } }
+        ensures does { Does (moves.on_state (moves.wait now)) self.old self.new }
+        ensures rest { view_of self.new ≡ record (view_of self.old) { answer_due = Some (now + self.old.config.timeout) } }
         ensures outs { self.new.outs ≡ self.old.outs }
     {
-        self.due = Some(now + self.config.timeout);
+        self.answer_due = Some(now + self.config.timeout);
     }
 
     /// An answer is awaited while text is out.
     pub(crate) fn wait_if_out(&mut self, now: u64)
         requires { now ≤ COUNT_MAX }
-        ensures does { Does (moves.changed (moves.awaited_if_out now)) self.old self.new }
+        ensures does { Does (moves.on_state (moves.wait_if_out now)) self.old self.new }
         ensures adds { Adds 0 self.old self.new }
-        ensures rest { kept_of self.new ≡ record (kept_of self.old) { due = self.new.due } }
+        ensures rest { view_of self.new ≡ record (view_of self.old) { answer_due = self.new.answer_due } }
     {
         if self.outgoing.acked() < self.outgoing.sent() {
             self.wait(now);
         } else {
-            self.due = None;
+            self.answer_due = None;
         }
     }
 }

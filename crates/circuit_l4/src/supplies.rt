@@ -9,7 +9,7 @@ use crate::plain::EndPhase;
 impl Machine {
     ghost use Rattle.circuit_l4.specs.EndMoves as moves;
     ghost use Rattle.circuit_l4.specs.EndCalls.{Adds, Does};
-    ghost use Rattle.circuit_l4.specs.EndStanding.{kept_of, state_of};
+    ghost use Rattle.circuit_l4.specs.EndStanding.{view_of, state_of};
     ghost use Rattle.circuit_l4.specs.Halves.{IsSending};
     ghost use Rattle.circuit_l4.specs.Sending.{Sending};
     ghost use Rattle.circuit_l4.specs.Receiving.{Receiving};
@@ -17,11 +17,11 @@ impl Machine {
     /// How many fragments may be put out.
     pub(crate) fn fill_count(&self) -> u64
         ensures exact { (s : Sending) (r : Receiving) (expiries : ℕ) → IsSending self.now.outgoing s →
-            result ≡ moves.fill_count (state_of (kept_of self.now) s r expiries) }
+            result ≡ moves.fill_count (state_of (view_of self.now) s r expiries) }
         ensures window { self.now.outgoing.sent + result ≤ self.now.outgoing.acked + self.now.config.window }
         ensures written { self.now.outgoing.sent + result ≤ self.now.outgoing.total }
     {
-        if self.is_up() && !self.held {
+        if self.is_up() && !self.choked {
             let sent = self.outgoing.sent();
             let room = (self.outgoing.acked() + self.window as u64).saturating_sub(sent);
             room.min(self.outgoing.total() - sent)
@@ -39,7 +39,7 @@ impl Machine {
     {
         let many = self.fill_count();
         let sent = self.outgoing.sent();
-        self.put_infos(sent, many);
+        self.emit_infos(sent, many);
         self.count_out(many, now);
     }
 
@@ -48,11 +48,11 @@ impl Machine {
         requires now { now ≤ COUNT_MAX }
         requires window { self.old.outgoing.sent + many ≤ self.old.outgoing.acked + self.old.config.window }
         requires written { self.old.outgoing.sent + many ≤ self.old.outgoing.total }
-        ensures does { Does (moves.changed (moves.counted_out now many)) self.old self.new }
+        ensures does { Does (moves.on_state (moves.count_out now many)) self.old self.new }
         ensures adds { Adds 0 self.old self.new }
     {
         self.outgoing.put_out(many);
-        if many > 0 && self.due.is_none() {
+        if many > 0 && self.answer_due.is_none() {
             self.wait(now);
         }
     }
@@ -71,7 +71,7 @@ impl Machine {
 
     fn is_done(&self) -> bool
         ensures { (s : Sending) (r : Receiving) (expiries : ℕ) → IsSending self.now.outgoing s →
-            result ≡ moves.is_done (state_of (kept_of self.now) s r expiries) }
+            result ≡ moves.is_done (state_of (view_of self.now) s r expiries) }
     {
         self.is_up() && self.closing && self.outgoing.acked() == self.outgoing.total()
     }
@@ -79,12 +79,12 @@ impl Machine {
     fn begin_to_close(&mut self, now: u64)
         requires now { now ≤ COUNT_MAX }
         requires room { length self.old.outs.items + 1 ≤ 2 * self.old.config.window + 2 }
-        ensures does { Does (moves.closing_begun now) self.old self.new }
+        ensures does { Does (moves.begin_to_close now) self.old self.new }
         ensures adds { Adds 1 self.old self.new }
     {
-        self.put(Output::Disconnect { to: self.to });
+        self.emit(Output::Disconnect { to: self.to });
         self.phase = EndPhase::Closing;
-        self.held = false;
+        self.choked = false;
         self.tries = 0;
         self.wait(now);
     }
@@ -104,10 +104,10 @@ impl Machine {
         requires { length self.old.outs.items + self.old.config.window ≤ 2 * self.old.config.window + 2 }
         ensures does { Does moves.again self.old self.new }
         ensures adds { Adds self.old.config.window self.old self.new }
-        ensures rest { kept_of self.new ≡ record (kept_of self.old) { outs = (kept_of self.new).outs } }
+        ensures rest { view_of self.new ≡ record (view_of self.old) { outs = (view_of self.new).outs } }
     {
         let acked = self.outgoing.acked();
         let sent = self.outgoing.sent();
-        self.put_infos(acked, sent - acked);
+        self.emit_infos(acked, sent - acked);
     }
 }

@@ -18,13 +18,13 @@ pub struct Owed {
 
 impl Machine {
     ghost use Rattle.radio_base.specs.Modulus.{place_of};
-    ghost use Rattle.circuit_l4.specs.EndState.{Going};
+    ghost use Rattle.circuit_l4.specs.EndState.{Effect};
     ghost use Rattle.circuit_l4.specs.EndMoves as moves;
     ghost use Rattle.circuit_l4.specs.EndCalls.{Adds, Does, IsOwed};
-    ghost use Rattle.circuit_l4.specs.EndStanding.{Stands, kept_of, state_of};
-    ghost use Rattle.circuit_l4.specs.Halves.{IsSending, came_answer};
+    ghost use Rattle.circuit_l4.specs.EndStanding.{Stands, view_of, state_of};
+    ghost use Rattle.circuit_l4.specs.Halves.{IsSending, receipt_answer};
     ghost use Rattle.circuit_l4.specs.Sending.{Sending};
-    ghost use Rattle.circuit_l4.specs.Receiving.{Receiving, came};
+    ghost use Rattle.circuit_l4.specs.Receiving.{Receiving, receive};
 
     /// An acknowledgement for itself.
     pub(crate) fn on_info_ack(&mut self, rx: u8, flags: Flags, now: u64)
@@ -34,7 +34,7 @@ impl Machine {
         ensures config { self.new.config ≡ self.old.config }
     {
         let owed = self.acknowledge(rx, flags, now);
-        self.put_owed(owed);
+        self.emit_owed(owed);
         self.fill_and_finish(now);
     }
 
@@ -47,21 +47,21 @@ impl Machine {
         ensures config { self.new.config ≡ self.old.config }
     {
         let owed = self.acknowledge(rx, flags, now);
-        match self.come(tx, piece) {
+        match self.receive(tx, piece) {
             Ok(asks) => self.answer_all(asks, owed, now),
             Err(Oversize) => self.end(EndNotice::FailedOversize),
         }
     }
 
     /// The text of a message has come. Answers whether a negative acknowledgement is owed.
-    fn come(&mut self, tx: u8, piece: Piece) -> Result<bool, Oversize>
-        ensures does { (g : Going) → Stands (kept_of self.old) g →
-            Stands (kept_of self.new) (moves.has_come (came g.end.window tx piece g.end.receiving).half g)
-            × (result ≡ came_answer (came g.end.window tx piece g.end.receiving)) }
+    fn receive(&mut self, tx: u8, piece: Piece) -> Result<bool, Oversize>
+        ensures does { (g : Effect) → Stands (view_of self.old) g →
+            Stands (view_of self.new) (moves.with_receiving (receive g.end.window tx piece g.end.receiving).half g)
+            × (result ≡ receipt_answer (receive g.end.window tx piece g.end.receiving)) }
         ensures adds { Adds 0 self.old self.new }
         ensures outgoing { self.new.outgoing ≡ self.old.outgoing }
     {
-        self.incoming.come(self.window as u64, tx, piece)
+        self.incoming.receive(self.window as u64, tx, piece)
     }
 
     /// A text that fits its message is answered, and all goes out that has to.
@@ -69,11 +69,11 @@ impl Machine {
         requires now { now ≤ COUNT_MAX }
         requires outs { self.old.outs.items ≡ [] }
         requires owed { IsOwed owed self.old }
-        ensures does { Does (moves.answered_all now nak owed) self.old self.new }
+        ensures does { Does (moves.answer_all now nak owed) self.old self.new }
         ensures config { self.new.config ≡ self.old.config }
     {
         self.answer(nak, owed);
-        self.put_owed(owed);
+        self.emit_owed(owed);
         self.fill_and_finish(now);
     }
 
@@ -81,9 +81,9 @@ impl Machine {
     fn acknowledge(&mut self, rx: u8, flags: Flags, now: u64) -> Owed
         requires now { now ≤ COUNT_MAX }
         requires outs { self.old.outs.items ≡ [] }
-        ensures does { (g : Going) → Stands (kept_of self.old) g →
-            Stands (kept_of self.new) (moves.changed (λ s. (moves.acknowledged now rx flags s).end) g)
-            × (result ≡ (moves.acknowledged now rx flags g.end).owed) }
+        ensures does { (g : Effect) → Stands (view_of self.old) g →
+            Stands (view_of self.new) (moves.on_state (λ s. (moves.acknowledge now rx flags s).end) g)
+            × (result ≡ (moves.acknowledge now rx flags g.end).owed) }
         ensures adds { Adds 0 self.old self.new }
         ensures owed { IsOwed result self.new }
     {
@@ -108,9 +108,9 @@ impl Machine {
         requires from { self.old.outgoing.acked ≤ below }
         requires to { below ≤ self.old.outgoing.sent }
         requires outs { self.old.outs.items ≡ [] }
-        ensures does { (g : Going) → Stands (kept_of self.old) g →
-            Stands (kept_of self.new) (moves.changed (λ s. (moves.acknowledged_at now flags below s).end) g)
-            × (result ≡ (moves.acknowledged_at now flags below g.end).owed) }
+        ensures does { (g : Effect) → Stands (view_of self.old) g →
+            Stands (view_of self.new) (moves.on_state (λ s. (moves.acknowledge_at now flags below s).end) g)
+            × (result ≡ (moves.acknowledge_at now flags below g.end).owed) }
         ensures adds { Adds 0 self.old self.new }
         ensures owed { IsOwed result self.new }
     {
@@ -126,7 +126,7 @@ impl Machine {
         requires from { self.old.outgoing.acked ≤ below }
         requires to { below ≤ self.old.outgoing.sent }
         requires outs { self.old.outs.items ≡ [] }
-        ensures does { Does (moves.changed (moves.advanced now below)) self.old self.new }
+        ensures does { Does (moves.on_state (moves.advance now below)) self.old self.new }
         ensures adds { Adds 0 self.old self.new }
         ensures acked { self.new.outgoing.acked ≡ below }
         ensures sent { self.new.outgoing.sent ≡ self.old.outgoing.sent }
@@ -140,7 +140,7 @@ impl Machine {
 
     fn nothing_owed(&self) -> Owed
         ensures exact { (s : Sending) (r : Receiving) (expiries : ℕ) → IsSending self.now.outgoing s →
-            result ≡ moves.nothing_owed (state_of (kept_of self.now) s r expiries) }
+            result ≡ moves.nothing_owed (state_of (view_of self.now) s r expiries) }
         ensures owed { IsOwed result self.now }
     {
         Owed {
@@ -153,12 +153,12 @@ impl Machine {
         requires from { self.now.outgoing.acked ≤ below }
         requires to { below ≤ self.now.outgoing.sent }
         ensures exact { (s : Sending) (r : Receiving) (expiries : ℕ) → IsSending self.now.outgoing s →
-            result ≡ moves.owed_by flags below (state_of (kept_of self.now) s r expiries) }
+            result ≡ moves.owed_by flags below (state_of (view_of self.now) s r expiries) }
         ensures owed { IsOwed result self.now }
     {
         if flags.choke {
             self.nothing_owed()
-        } else if self.held {
+        } else if self.choked {
             let from = self.outgoing.acked();
             Owed {
                 from,
@@ -177,38 +177,38 @@ impl Machine {
     /// Whether the other end takes no text for now.
     fn hold(&mut self, choke: bool, now: u64)
         requires { now ≤ COUNT_MAX }
-        ensures does { Does (moves.changed (moves.choked now choke)) self.old self.new }
+        ensures does { Does (moves.on_state (moves.hold now choke)) self.old self.new }
         ensures adds { Adds 0 self.old self.new }
         ensures outgoing { self.new.outgoing ≡ self.old.outgoing }
     {
         if choke {
-            self.held = true;
-            self.due = Some(now + self.config.busy);
-        } else if self.held {
-            self.held = false;
+            self.choked = true;
+            self.answer_due = Some(now + self.config.busy);
+        } else if self.choked {
+            self.choked = false;
             self.wait_if_out(now);
         }
     }
 
-    fn put_owed(&mut self, owed: Owed)
+    fn emit_owed(&mut self, owed: Owed)
         requires owed { IsOwed owed self.old }
         requires room { length self.old.outs.items + self.old.config.window ≤ 2 * self.old.config.window + 2 }
-        ensures does { Does (moves.put_owed owed) self.old self.new }
+        ensures does { Does (moves.emit_owed owed) self.old self.new }
         ensures adds { Adds self.old.config.window self.old self.new }
     {
-        self.put_infos(owed.from, owed.many);
+        self.emit_infos(owed.from, owed.many);
     }
 
     /// Text is answered by what was got, unless text that carries it goes out.
     fn answer(&mut self, nak: bool, owed: Owed)
         requires owed { IsOwed owed self.old }
         requires room { length self.old.outs.items + 1 ≤ 2 * self.old.config.window + 2 }
-        ensures does { Does (moves.answered nak owed) self.old self.new }
+        ensures does { Does (moves.answer nak owed) self.old self.new }
         ensures adds { Adds 1 self.old self.new }
-        ensures rest { kept_of self.new ≡ record (kept_of self.old) { outs = (kept_of self.new).outs } }
+        ensures rest { view_of self.new ≡ record (view_of self.old) { outs = (view_of self.new).outs } }
     {
         if nak || self.is_silent(owed) {
-            self.tell_got(nak);
+            self.emit_ack(nak);
         }
     }
 
@@ -216,7 +216,7 @@ impl Machine {
     fn is_silent(&self, owed: Owed) -> bool
         requires { IsOwed owed self.now }
         ensures { (s : Sending) (r : Receiving) (expiries : ℕ) → IsSending self.now.outgoing s →
-            result ≡ moves.is_silent owed (state_of (kept_of self.now) s r expiries) }
+            result ≡ moves.is_silent owed (state_of (view_of self.now) s r expiries) }
     {
         owed.many + self.fill_count() == 0
     }

@@ -8,8 +8,8 @@ use Rattle.circuit_l4.specs.declared.transport.Transport.TheVariants.{Request, A
 use Rattle.circuit_l4.specs.declared.plain.EndNotice.{EndNotice}
 use Rattle.circuit_l4.specs.declared.machine.Role.TheVariants.{Responder}
 use Rattle.circuit_l4.specs.Reading.{transport_at}
-use Rattle.circuit_l4.specs.EndState.{Going, State, begin}
-use Rattle.circuit_l4.specs.EndLaws.{followed_by, lived}
+use Rattle.circuit_l4.specs.EndState.{Effect, State, begin}
+use Rattle.circuit_l4.specs.EndLaws.{followed_by, after_inputs}
 use Rattle.circuit_l4.specs.EndTable.{Input, Arrive, Write, Tick, Close, Take, step}
 use Rattle.circuit_set.specs.Lines.{Elem, count_from}
 use Rattle.circuit_set.specs.Circuits.{ComesInTime, Flight, IsCall, PairOk, Side, comes, hear, heard_it, heeds, hear_text, now_at}
@@ -33,7 +33,7 @@ use Rattle.circuit_set.proofs.Invariant.{AloneOk, CircuitOk, EndInv, Kept, Lived
 use Rattle.circuit_set.proofs.Moved.{moved}
 
 -- ---- a life goes on ----
-lived_on : (g : Going) (inputs : List (Input × ℕ)) (i : Input) (now : ℕ) → lived g (inputs ++ (i, now) ∷ []) ≡ followed_by (lived g inputs) (step (lived g inputs).end i now)
+lived_on : (g : Effect) (inputs : List (Input × ℕ)) (i : Input) (now : ℕ) → after_inputs g (inputs ++ (i, now) ∷ []) ≡ followed_by (after_inputs g inputs) (step (after_inputs g inputs).end i now)
 lived_on g [] i now = refl
 lived_on g (j ∷ inputs) i now = lived_on (followed_by g (step g.end j.0 j.1)) inputs i now
 
@@ -42,9 +42,9 @@ lives_on e notes i now l = record {
   first = l.first;
   new = l.new;
   inputs = l.inputs ++ (i, now) ∷ [];
-  end = ap (λ (g : Going). g.end) (lived_on l.first l.inputs i now) ∙ ap (λ s. (step s i now).end) l.end;
+  end = ap (λ (g : Effect). g.end) (lived_on l.first l.inputs i now) ∙ ap (λ s. (step s i now).end) l.end;
   notes_are =
-      ap (λ (g : Going). g.notes) (lived_on l.first l.inputs i now) ∙ ap (λ ns. ns ++ (step (lived l.first l.inputs).end i now).notes) l.notes_are
+      ap (λ (g : Effect). g.notes) (lived_on l.first l.inputs i now) ∙ ap (λ ns. ns ++ (step (after_inputs l.first l.inputs).end i now).notes) l.notes_are
       ∙ ap (λ s. notes ++ (step s i now).notes) l.end;
 }
 
@@ -77,7 +77,7 @@ module _ (net : Net) (k : Kept net) (n : ℕ) (s : SetState) (h : Holder) (here 
   inv = k.ends x h (ap (λ o. end_in o h.id) here ∙ there)
 
   -- a step in which nothing was heeded
-  pub quiet_move : (g : Going) → g.end.role ≡ h.end.role → g.end.config ≡ h.end.config → Asks h.end g.outs → h.end.sending.sent ≤ g.end.sending.sent → Lived g.end (told_to net.book.made x ++ g.notes)
+  pub quiet_move : (g : Effect) → g.end.role ≡ h.end.role → g.end.config ≡ h.end.config → Asks h.end g.outs → h.end.sending.sent ≤ g.end.sending.sent → Lived g.end (told_to net.book.made x ++ g.notes)
       → ((w : ℕ) (o : Side) → (h.end.role ≡ Responder → h.end.window ≡ w) → PairOk w (side_of net.book k.past x h.end) o → PairOk w (now_at (side_of net.book k.past x h.end) o g (heard_of x net.book.heard)) o)
       → Move net k.past x h g net.book
   quiet_move g role config asks grows lives keeps = record {
@@ -118,7 +118,7 @@ module _ (net : Net) (k : Kept net) (n : ℕ) (s : SetState) (h : Holder) (here 
       (λ w o r p. unheeded h.end.phase t w (min now COUNT_MAX) (side_of net.book k.past x h.end) o refl e p)
 
   -- the whole step
-  pub goes : (g : Going) → Move net k.past x h g net.book → Kept (record { sets = slice_set net.sets n (goes_to s h [] g).set; book = noted_all net.book (events_at n s.own (goes_to s h [] g).told) })
+  pub goes : (g : Effect) → Move net k.past x h g net.book → Kept (record { sets = slice_set net.sets n (goes_to s h [] g).set; book = noted_all net.book (events_at n s.own (goes_to s h [] g).told) })
   goes g m = moved net k n s h g net.book (noted_all net.book (events_at n s.own (told_by s h g))) (is_over g.end) here there m (told_noted s n s.own h g net.book)
 
 -- ---- what is heeded ----

@@ -5,7 +5,7 @@ use Rattle.std.proofs.lemmas.Bool.Decides.{nat_tests}
 use Rattle.ax_address.specs.Callsign.{Callsign, IsCallsign}
 use Rattle.circuit_l4.specs.declared.transport.Pair.{Pair}
 use Rattle.circuit_l4.specs.declared.machine.Role.TheVariants.{Responder}
-use Rattle.circuit_l4.specs.EndState.{Going, State}
+use Rattle.circuit_l4.specs.EndState.{Effect, State}
 use Rattle.circuit_set.specs.Lines.{Elem}
 use Rattle.circuit_set.specs.Circuits.{PairOk, tag_on}
 use Rattle.circuit_set.specs.Sets.{Holder, SetState, datagram_to, end_of}
@@ -33,7 +33,7 @@ pub record AskedBy (net : Net) (x : Name) (e : State) : Type 0 where
   pub of_y : FitsIn e window
 
 -- a new end, before its first step
-pub record IsMade (net : Net) (s : SetState) (at : Callsign) (opener : Option Pair) (from : Option Name) (g : Going) : Type 0 where
+pub record IsMade (net : Net) (s : SetState) (at : Callsign) (opener : Option Pair) (from : Option Name) (g : Effect) : Type 0 where
   pub new : (w other : ℕ) → FitsIn g.end w → New w (record { e = g.end; outs = tag_on g.end.receiving.got g.end.sending.sent other g.outs []; heard = []; notes = g.notes })
   pub window : ℕ
   pub fits : FitsIn g.end window
@@ -75,7 +75,7 @@ apart_case i j false e h = refl
 number_apart : (i j : ℕ) → (i ≡ j → ⊥) → nat_eq i j ≡ false
 number_apart i j h = apart_case i j (nat_eq i j) refl h
 
-module _ (net : Net) (k : Kept net) (n : ℕ) (s : SetState) (at : Callsign) (asked : Option Pair) (pair next : Pair) (from : Option Name) (g : Going) (c : Book) (over : Bool)
+module _ (net : Net) (k : Kept net) (n : ℕ) (s : SetState) (at : Callsign) (asked : Option Pair) (pair next : Pair) (from : Option Name) (g : Effect) (c : Book) (over : Bool)
     (here : slice_get net.sets n ≡ Some s) (m : IsMade net s at asked from g)
     (noted_so : BookAfter (record { node = n; id = s.number }) (datagram_to s at) g.outs g.notes
     (record { places = suc net.book.places; made = note_of (record { node = n; id = s.number }) s.own pair from ∷ net.book.made; sent = net.book.sent; heard = net.book.heard }) c) where

@@ -7,8 +7,8 @@ use Rattle.circuit_l4.specs.declared.transport.Transport.TheVariants.{Request, A
 use Rattle.circuit_l4.specs.declared.plain.EndConfig.{EndConfig}
 use Rattle.circuit_l4.specs.declared.plain.EndNotice.{EndNotice}
 use Rattle.circuit_l4.specs.declared.machine.Role.TheVariants.{Responder}
-use Rattle.circuit_l4.specs.EndState.{Going, Out, State}
-use Rattle.circuit_l4.specs.EndTable.{agreed}
+use Rattle.circuit_l4.specs.EndState.{Effect, Out, State}
+use Rattle.circuit_l4.specs.EndTable.{common_window}
 use Rattle.circuit_set.specs.Lines.{Elem}
 use Rattle.circuit_set.specs.Circuits.{Facts, Flight, PairOk, Side, now_at, tag_on}
 use Rattle.circuit_set.specs.Sets.{Holder, SetState, datagram_to, end_of, with_end}
@@ -59,7 +59,7 @@ ask_by s t (Disconnected to) o e f a = a
 ask_by s t (Refuse to) o e f a = a
 
 -- the net after the step
-module _ (net : Net) (k : Kept net) (n : ℕ) (s : SetState) (h : Holder) (g : Going) (b : Book) (c : Book) (over : Bool) (here : slice_get net.sets n ≡ Some s) (there : end_of h.id s.ends ≡ Some h)
+module _ (net : Net) (k : Kept net) (n : ℕ) (s : SetState) (h : Holder) (g : Effect) (b : Book) (c : Book) (over : Bool) (here : slice_get net.sets n ≡ Some s) (there : end_of h.id s.ends ≡ Some h)
     (m : Move net k.past (record { node = n; id = h.id }) h g b) (noted_so : BookAfter (record { node = n; id = h.id }) (datagram_to s h.at) g.outs g.notes b c) where
   abbrev x : Name
   x = record { node = n; id = h.id }
@@ -200,7 +200,7 @@ module _ (net : Net) (k : Kept net) (n : ℕ) (s : SetState) (h : Holder) (g : G
   fits_back : (w v : ℕ) → PairOk v (side_of c past x g.end) (nobody v) → FitsIn h.end v → FitsIn g.end w → FitsIn h.end w
   fits_back w v p old new = record {
     some = new.some;
-    own = ap (λ (k : EndConfig). agreed k.window w) (sym m.config) ∙ new.own;
+    own = ap (λ (k : EndConfig). common_window k.window w) (sym m.config) ∙ new.own;
     is = λ r. old.is r ∙ sym (p.end_mine.answers (m.role ∙ r)) ∙ new.is (m.role ∙ r);
   }
 
@@ -212,7 +212,7 @@ module _ (net : Net) (k : Kept net) (n : ℕ) (s : SetState) (h : Holder) (g : G
       record {
         none_heard = ap (λ hs. heard_of x hs) noted_so.heard ∙ (m.alone none).0;
         window = a.window;
-        fits = record { some = a.fits.some; own = ap (λ (k : EndConfig). agreed k.window a.window) m.config ∙ a.fits.own; is = λ r. p.end_mine.answers r };
+        fits = record { some = a.fits.some; own = ap (λ (k : EndConfig). common_window k.window a.window) m.config ∙ a.fits.own; is = λ r. p.end_mine.answers r };
         kept = λ w fits. alone_here w none (fits_back w a.window p a.fits fits);
       }
 

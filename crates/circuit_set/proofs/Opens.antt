@@ -16,9 +16,9 @@ use Rattle.circuit_l4.specs.declared.plain.EndNotice.TheVariants.{Opened, Closed
 use Rattle.circuit_l4.specs.declared.machine.Role.TheVariants.{Requester, Responder}
 use Rattle.circuit_l4.specs.Transports.{pair_at}
 use Rattle.circuit_l4.specs.Reading.{transport_at}
-use Rattle.circuit_l4.specs.EndState.{Going, begin}
+use Rattle.circuit_l4.specs.EndState.{Effect, begin}
 use Rattle.circuit_l4.specs.EndLaws.{Accepts, Asks as NewAsks}
-use Rattle.circuit_l4.specs.EndTable.{Arrive, agreed, step}
+use Rattle.circuit_l4.specs.EndTable.{Arrive, common_window, step}
 use Rattle.circuit_l4.specs.EndOpening.{requesting, responding}
 use Rattle.circuit_set.specs.Circuits.{heeds}
 use Rattle.circuit_set.specs.Pairs.{following}
@@ -79,7 +79,7 @@ responder_made : (net : Net) (s : SetState) (own pair : Pair) (origin : Callsign
     → ((x : Name) → from ≡ Some x → AskedBy net x (responding own pair window s.config now).end) → IsMade net s origin (Some pair) from (responding own pair window s.config now)
 responder_made net s own pair origin window now from inv call asked =
     let some : 1 ≤ s.config.window = inv.some in
-    let v : ℕ = agreed s.config.window window in
+    let v : ℕ = common_window s.config.window window in
     record {
       new = λ w other fits. record {
         unwritten_yet = refl;
@@ -185,7 +185,7 @@ asked_for net k s own pair to window now user node d inv read x e =
     let some : 1 ≤ j.0.end.config.window = o.some in
     let own_some : 1 ≤ s.config.window = inv.some in
     let own_most : s.config.window ≤ 127 = inv.most in
-    let w : ℕ = agreed s.config.window window in
+    let w : ℕ = common_window s.config.window window in
     let role : j.0.end.role ≡ Requester user node = ask.0 in
     record {
       end = j.0;
@@ -225,7 +225,7 @@ module _ (net : Net) (k : Kept net) (n : ℕ) (s : SetState) (here : slice_get n
       Timely allowed net.book (events_at n s.own done.told)
       → Kept (record { sets = slice_set net.sets n done.set; book = noted_all net.book (events_at n s.own done.told) }) × Stays net.book (noted_all net.book (events_at n s.own done.told))
 
-  told_stays : (b : Book) (h : Holder) (g : Going) → Stays b (noted_all b (events_at n s.own (told_by s h g)))
+  told_stays : (b : Book) (h : Holder) (g : Effect) → Stays b (noted_all b (events_at n s.own (told_by s h g)))
   told_stays b h g x y e = ap (λ ms. partner_in ms x) (told_noted s n s.own h g b).made ∙ same_partners (record { node = n; id = h.id }) x g.notes b.made ∙ e
 
   same_net : (ss : List SetState) → ss ≡ net.sets → Kept (record { sets = ss; book = net.book })
@@ -252,7 +252,7 @@ module _ (net : Net) (k : Kept net) (n : ℕ) (s : SetState) (here : slice_get n
       either_done K (not h.gone && has_ended h.end.phase) _ (untold s)
       (λ time. (moved net k n s h (begin h.end) net.book b true here there (acts.discard_move net k n s h here there) (record { sent = refl; made = refl; heard = refl; places = omega arith }), λ x y e. e)) untold_so
 
-  new_end : (at : Callsign) (asked : Option Pair) (request : Option (List ℕ)) (g : Going) → IsMade net s at asked (requester net.book request) g → K (made s at asked request g)
+  new_end : (at : Callsign) (asked : Option Pair) (request : Option (List ℕ)) (g : Effect) → IsMade net s at asked (requester net.book request) g → K (made s at asked request g)
   new_end at asked request g m time =
       let y : Name = record { node = n; id = s.number } in
       let b : Book = record { places = suc net.book.places; made = record { who = y; own = s.own; pair = new_pair s; partner = requester net.book request; told = [] } ∷ net.book.made; sent = net.book.sent; heard = net.book.heard } in

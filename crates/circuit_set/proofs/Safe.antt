@@ -3,7 +3,7 @@ use Rattle.std.specs.Prelude.{◌≡◌, ℕ, zero, suc, ◌+◌, ◌≤◌, ◌
 use Rattle.std.proofs.Common.{sym, ◌∙◌, ap, subst, arith}
 use Rattle.circuit_l4.specs.declared.plain.EndNotice.TheVariants.{FailedRetries}
 use Rattle.circuit_l4.specs.EndState.{State}
-use Rattle.circuit_l4.specs.EndLaws.{lived}
+use Rattle.circuit_l4.specs.EndLaws.{after_inputs}
 use Rattle.circuit_l4.proofs.EndRetries.{fails_after_retries}
 use Rattle.circuit_set.specs.Circuits.{SafeTo}
 use Rattle.circuit_set.specs.Sets.{Holder, SetState, end_of}
@@ -69,7 +69,7 @@ safe_now net k x h e =
       circuit = circuit_case net k x h i (partner net.book x) refl;
       retries =
           subst (λ ns. Contains ns FailedRetries ↔ (h.end.expiries ≡ h.end.config.retries + 1)) l.notes_are
-          (subst (λ (s : State). Contains (lived l.first l.inputs).notes FailedRetries ↔ (s.expiries ≡ s.config.retries + 1)) l.end (fails_after_retries l.first l.new l.inputs));
+          (subst (λ (s : State). Contains (after_inputs l.first l.inputs).notes FailedRetries ↔ (s.expiries ≡ s.config.retries + 1)) l.end (fails_after_retries l.first l.new l.inputs));
     }
 
 pub circuits_safe : CircuitsSafe

@@ -15,8 +15,8 @@ use Rattle.circuit_l4.specs.declared.plain.EndNotice.{EndNotice}
 use Rattle.circuit_l4.specs.declared.plain.EndNotice.TheVariants.{Closed, ClosedByPartner}
 use Rattle.circuit_l4.specs.declared.texts.Owed.{Owed}
 use Rattle.circuit_l4.specs.declared.machine.Role.{Role}
-use Rattle.circuit_l4.specs.EndState.{Going, Out, State, info, info_ack, infos, is_up}
-use Rattle.circuit_l4.specs.EndMoves.{Acknowledged, acknowledged, acknowledged_by, advanced, again, awaited, awaited_if_out, choked, closing_begun, fill, fill_count, finish, is_done, owed_by, put_infos, put_out, supply, told_got}
+use Rattle.circuit_l4.specs.EndState.{Effect, Out, State, info, info_ack, infos, is_up}
+use Rattle.circuit_l4.specs.EndMoves.{Acknowledgement, acknowledge, acknowledge_by, advance, again, wait, wait_if_out, hold, begin_to_close, fill, fill_count, finish, is_done, owed_by, emit_infos, put_out, supply, emit_ack}
 use Rattle.circuit_l4.specs.Sending.{Sending, fragments, total}
 use Rattle.circuit_l4.specs.Receiving.{Receiving}
 use Rattle.circuit_set.specs.Lines.{at_place}
@@ -28,12 +28,12 @@ pub either : (P : State → Type 0) (b : Bool) (s t : State) → P s → P t →
 either P true s t h k = h
 either P false s t h k = k
 
-pub either_going : (P : Going → Type 0) (b : Bool) (g h : Going) → P g → P h → P (if b then g else h)
+pub either_going : (P : Effect → Type 0) (b : Bool) (g h : Effect) → P g → P h → P (if b then g else h)
 either_going P true g h p q = p
 either_going P false g h p q = q
 
 -- what no law reads may change: when an answer is due
-waits : (P : State → Type 0) (s : State) (now : ℕ) (due : Option ℕ) → P (awaited now s) → P s → P (elim due as (λ d. State) [ None ↦ awaited now s | Some d ↦ s ])
+waits : (P : State → Type 0) (s : State) (now : ℕ) (due : Option ℕ) → P (wait now s) → P s → P (elim due as (λ d. State) [ None ↦ wait now s | Some d ↦ s ])
 waits P s now None h k = h
 waits P s now (Some d) h k = k
 
@@ -128,11 +128,11 @@ pub record OnUp (w : ℕ) (s : State) (h : ℕ) (wrote : List (List ℕ)) (half 
   pub fits : k.sent ≤ k.acked + w
   pub right : AllOut k r.got Up outs
 
-abbrev pub on_up : ℕ → State → ℕ → List (List ℕ) → Receiving → Going → Type 0
+abbrev pub on_up : ℕ → State → ℕ → List (List ℕ) → Receiving → Effect → Type 0
 on_up w s h wrote half g = OnUp w s h wrote half (names g.end) g.end.phase g.end.sending g.end.receiving g.outs g.notes
 
 -- the same with more put out
-pub on_more : (w : ℕ) (s : State) (h : ℕ) (wrote : List (List ℕ)) (half : Receiving) (g : Going) (os : List Out) → on_up w s h wrote half g → AllOut g.end.sending g.end.receiving.got Up os
+pub on_more : (w : ℕ) (s : State) (h : ℕ) (wrote : List (List ℕ)) (half : Receiving) (g : Effect) (os : List Out) → on_up w s h wrote half g → AllOut g.end.sending g.end.receiving.got Up os
     → on_up w s h wrote half (record g { outs = g.outs ++ os })
 on_more w s h wrote half g os o p = record {
   quiet = o.quiet;
@@ -150,14 +150,14 @@ on_more w s h wrote half g os o p = record {
   right = all_out_append g.end.sending g.end.receiving.got Up g.outs os o.right p;
 }
 
-pub on_told : (w : ℕ) (s : State) (h : ℕ) (wrote : List (List ℕ)) (half : Receiving) (nak : Bool) (g : Going) → on_up w s h wrote half g → on_up w s h wrote half (told_got nak g)
+pub on_told : (w : ℕ) (s : State) (h : ℕ) (wrote : List (List ℕ)) (half : Receiving) (nak : Bool) (g : Effect) → on_up w s h wrote half g → on_up w s h wrote half (emit_ack nak g)
 on_told w s h wrote half nak g o = on_more w s h wrote half g ((info_ack g.end nak, None) ∷ []) o (refl, tt)
 
-pub on_infos : (w : ℕ) (s : State) (h : ℕ) (wrote : List (List ℕ)) (half : Receiving) (n many : ℕ) (g : Going) → on_up w s h wrote half g → g.end.sending.acked ≤ n → n + many ≤ g.end.sending.sent
-    → on_up w s h wrote half (put_infos n many g)
+pub on_infos : (w : ℕ) (s : State) (h : ℕ) (wrote : List (List ℕ)) (half : Receiving) (n many : ℕ) (g : Effect) → on_up w s h wrote half g → g.end.sending.acked ≤ n → n + many ≤ g.end.sending.sent
+    → on_up w s h wrote half (emit_infos n many g)
 on_infos w s h wrote half n many g o low high = on_more w s h wrote half g (infos g.end n many) o (infos_ok many g.end g.end.sending n refl low high o.written)
 
-pub on_again : (w : ℕ) (s : State) (h : ℕ) (wrote : List (List ℕ)) (half : Receiving) (g : Going) → on_up w s h wrote half g → on_up w s h wrote half (again g)
+pub on_again : (w : ℕ) (s : State) (h : ℕ) (wrote : List (List ℕ)) (half : Receiving) (g : Effect) → on_up w s h wrote half g → on_up w s h wrote half (again g)
 on_again w s h wrote half g o =
     let below : g.end.sending.acked ≤ g.end.sending.sent = o.within in
     on_infos w s h wrote half g.end.sending.acked (g.end.sending.sent - g.end.sending.acked) g o (omega arith) (omega arith)
@@ -167,7 +167,7 @@ fill_bound : (acked sent window total : ℕ) (b : Bool) (many : ℕ) → many �
 fill_bound acked sent window total true many e p q = (omega arith, omega arith)
 fill_bound acked sent window total false many e p q = (omega arith, omega arith)
 
-pub on_fill : (w : ℕ) (s : State) (h : ℕ) (wrote : List (List ℕ)) (half : Receiving) (now : ℕ) (g : Going) → on_up w s h wrote half g → on_up w s h wrote half (fill now g)
+pub on_fill : (w : ℕ) (s : State) (h : ℕ) (wrote : List (List ℕ)) (half : Receiving) (now : ℕ) (g : Effect) → on_up w s h wrote half g → on_up w s h wrote half (fill now g)
 on_fill w s h wrote half now g o =
     let k : Sending = g.end.sending in
     let many : ℕ = fill_count g.end in
@@ -175,7 +175,7 @@ on_fill w s h wrote half now g o =
     let is_w : s.window ≡ w = o.wide in
     let p : k.sent ≤ k.acked + w = o.fits in
     let room : (k.sent + many ≤ k.acked + g.end.window) × (k.sent + many ≤ total k)
-    = fill_bound k.acked k.sent g.end.window (total k) (is_up g.end.phase && not g.end.held) many refl (omega arith) o.written in
+    = fill_bound k.acked k.sent g.end.window (total k) (is_up g.end.phase && not g.end.choked) many refl (omega arith) o.written in
     let fits : k.sent + many ≤ k.acked + g.end.window = room.0 in
     let written : k.sent + many ≤ total k = room.1 in
     let a : k.acked ≤ k.sent = o.within in
@@ -201,11 +201,11 @@ on_fill w s h wrote half now g o =
     } in
     let P : State → Type 0 = λ (t : State). OnUp w s h wrote half (names t) t.phase t.sending t.receiving (g.outs ++ infos g.end k.sent many) g.notes in
     let filled : State = put_out many g.end in
-    either P (nat_lt 0 many) (elim filled.due as (λ d. State) [ None ↦ awaited now filled | Some d ↦ filled ]) filled (waits P filled now filled.due done done) done
+    either P (nat_lt 0 many) (elim filled.answer_due as (λ d. State) [ None ↦ wait now filled | Some d ↦ filled ]) filled (waits P filled now filled.answer_due done done) done
 
 -- ---- the acknowledgement ----
-pub on_due : (P : State → Type 0) (b : Bool) (now : ℕ) (t : State) → P (awaited now t) → P (record t { due = None }) → P (if b then awaited now t else record t { due = None })
-on_due P b now t h k = either P b (awaited now t) (record t { due = None }) h k
+pub on_due : (P : State → Type 0) (b : Bool) (now : ℕ) (t : State) → P (wait now t) → P (record t { answer_due = None }) → P (if b then wait now t else record t { answer_due = None })
+on_due P b now t h k = either P b (wait now t) (record t { answer_due = None }) h k
 
 -- what the acknowledgement part leaves: h is what came acknowledged, where it was taken
 pub record AckedTo (s : State) (h : ℕ) (named : Named) (phase : EndPhase) (k : Sending) (r : Receiving) : Type 0 where
@@ -220,18 +220,18 @@ abbrev pub acked_to : State → ℕ → State → Type 0
 acked_to s h t = AckedTo s h (names t) t.phase t.sending t.receiving
 
 advanced_case : (s : State) (now x : ℕ) (b : Bool) → nat_lt s.sending.acked x ≡ b → s.sending.acked ≤ x
-    → acked_to s x (if b then awaited_if_out now (record s { sending = record s.sending { acked = x }; tries = 0; expiries = 0 }) else s)
+    → acked_to s x (if b then wait_if_out now (record s { sending = record s.sending { acked = x }; tries = 0; expiries = 0 }) else s)
 advanced_case s now x true e low =
     let t : State = record s { sending = record s.sending { acked = x }; tries = 0; expiries = 0 } in
     let done : acked_to s x t = record { same = refl; in_phase = refl; half = refl; wrote = refl; sent = refl; acked = refl } in
     on_due (acked_to s x) (nat_lt t.sending.acked t.sending.sent) now t done done
 advanced_case s now x false e low = record { same = refl; in_phase = refl; half = refl; wrote = refl; sent = refl; acked = grind (arith, nat_tests) }
 
-choked_keeps : (s : State) (x now : ℕ) (choke : Bool) (t : State) → acked_to s x t → acked_to s x (choked now choke t)
+choked_keeps : (s : State) (x now : ℕ) (choke : Bool) (t : State) → acked_to s x t → acked_to s x (hold now choke t)
 choked_keeps s x now true t o = o
 choked_keeps s x now false t o =
-    either (acked_to s x) t.held (awaited_if_out now (record t { held = false })) t
-    (on_due (acked_to s x) (nat_lt t.sending.acked t.sending.sent) now (record t { held = false }) o o) o
+    either (acked_to s x) t.choked (wait_if_out now (record t { choked = false })) t
+    (on_due (acked_to s x) (nat_lt t.sending.acked t.sending.sent) now (record t { choked = false }) o o) o
 
 -- what is owed is among what is out
 pub record IsOut (owed : Owed) (k : Sending) : Type 0 where
@@ -251,7 +251,7 @@ owed_case x acked sent false false false e p owed q =
     let a : owed.from ≡ acked = ap (λ (o : Owed). o.from) q in let b : owed.many ≡ 0 = ap (λ (o : Owed). o.many) q in (omega arith, omega arith)
 
 -- the acknowledgement part: what was acknowledged, or its place
-pub record AckPart (s : State) (h : ℕ) (a : Acknowledged) : Type 0 where
+pub record AckPart (s : State) (h : ℕ) (a : Acknowledgement) : Type 0 where
   pub acked : ℕ
   pub is : (acked ≡ s.sending.acked) ⊎ (acked ≡ h)
   pub grows : s.sending.acked ≤ acked
@@ -261,7 +261,7 @@ pub record AckPart (s : State) (h : ℕ) (a : Acknowledged) : Type 0 where
   pub to : a.owed.from + a.owed.many ≤ s.sending.sent
 
 ack_case : (s : State) (now rx h : ℕ) (flags : Flags) (o : Option ℕ) → place_of 256 rx s.sending.acked (suc (s.sending.sent - s.sending.acked)) ≡ o
-    → s.sending.acked ≤ s.sending.sent → ((x : ℕ) → s.sending.acked ≤ x → x ≤ s.sending.sent → x % 256 ≡ rx → x ≡ h) → AckPart s h (acknowledged_by now flags o s)
+    → s.sending.acked ≤ s.sending.sent → ((x : ℕ) → s.sending.acked ≤ x → x ≤ s.sending.sent → x % 256 ≡ rx → x ≡ h) → AckPart s h (acknowledge_by now flags o s)
 ack_case s now rx h flags None q below is = record {
   acked = s.sending.acked;
   is = inl refl;
@@ -275,12 +275,12 @@ ack_case s now rx h flags (Some x) q below is =
     let at_x : at_place rx s.sending.acked (suc (s.sending.sent - s.sending.acked)) x = place_is rx s.sending.acked (suc (s.sending.sent - s.sending.acked)) x q in
     let low : s.sending.acked ≤ x = at_x.0 in
     let high : x < s.sending.acked + suc (s.sending.sent - s.sending.acked) = at_x.1 in
-    let t : State = advanced now x s in
+    let t : State = advance now x s in
     let adv : acked_to s x t = advanced_case s now x (nat_lt s.sending.acked x) refl low in
     let sent : t.sending.sent ≡ s.sending.sent = adv.sent in
     let acked : t.sending.acked ≡ x = adv.acked in
     let owed : (t.sending.acked ≤ (owed_by flags x t).from) × ((owed_by flags x t).from + (owed_by flags x t).many ≤ t.sending.sent)
-    = owed_case x t.sending.acked t.sending.sent flags.choke t.held flags.nak acked (omega arith) (owed_by flags x t) refl in
+    = owed_case x t.sending.acked t.sending.sent flags.choke t.choked flags.nak acked (omega arith) (owed_by flags x t) refl in
     let o_from : t.sending.acked ≤ (owed_by flags x t).from = owed.0 in
     let o_to : (owed_by flags x t).from + (owed_by flags x t).many ≤ t.sending.sent = owed.1 in
     record {
@@ -294,7 +294,7 @@ ack_case s now rx h flags (Some x) q below is =
     }
 
 pub ack_part : (s : State) (now rx h : ℕ) (flags : Flags) → s.sending.acked ≤ s.sending.sent
-    → ((x : ℕ) → s.sending.acked ≤ x → x ≤ s.sending.sent → x % 256 ≡ rx → x ≡ h) → AckPart s h (acknowledged now rx flags s)
+    → ((x : ℕ) → s.sending.acked ≤ x → x ≤ s.sending.sent → x % 256 ≡ rx → x ≡ h) → AckPart s h (acknowledge now rx flags s)
 ack_part s now rx h flags below is =
     ack_case s now rx h flags (place_of 256 rx s.sending.acked (suc (s.sending.sent - s.sending.acked))) refl below is
 
@@ -315,10 +315,10 @@ pub record OnEnd (w : ℕ) (s : State) (h : ℕ) (wrote : List (List ℕ)) (half
   pub fits : k.sent ≤ k.acked + w
   pub right : AllOut k r.got phase outs
 
-abbrev pub on_end : ℕ → State → ℕ → List (List ℕ) → Receiving → Going → Type 0
+abbrev pub on_end : ℕ → State → ℕ → List (List ℕ) → Receiving → Effect → Type 0
 on_end w s h wrote half g = OnEnd w s h wrote half (names g.end) g.end.phase g.end.sending g.end.receiving g.outs g.notes
 
-pub up_ends : (w : ℕ) (s : State) (h : ℕ) (wrote : List (List ℕ)) (half : Receiving) (g : Going) → on_up w s h wrote half g → on_end w s h wrote half g
+pub up_ends : (w : ℕ) (s : State) (h : ℕ) (wrote : List (List ℕ)) (half : Receiving) (g : Effect) → on_up w s h wrote half g → on_end w s h wrote half g
 up_ends w s h wrote half g o = record {
   quiet = o.quiet;
   half_is = o.half_is;
@@ -340,8 +340,8 @@ last_true true true c h = h
 last_true true false c h = absurd (cc h)
 last_true false b c h = absurd (cc h)
 
-finish_case : (w : ℕ) (s : State) (h : ℕ) (wrote : List (List ℕ)) (half : Receiving) (now : ℕ) (g : Going) (b : Bool) → is_done g.end ≡ b → on_up w s h wrote half g
-    → on_end w s h wrote half (if b then closing_begun now g else g)
+finish_case : (w : ℕ) (s : State) (h : ℕ) (wrote : List (List ℕ)) (half : Receiving) (now : ℕ) (g : Effect) (b : Bool) → is_done g.end ≡ b → on_up w s h wrote half g
+    → on_end w s h wrote half (if b then begin_to_close now g else g)
 finish_case w s h wrote half now g true e o =
     let test : nat_eq g.end.sending.acked (total g.end.sending) ≡ true = last_true (is_up g.end.phase) g.end.closing (nat_eq g.end.sending.acked (total g.end.sending)) e in
     let all : g.end.sending.acked ≡ total g.end.sending = grind (arith, nat_tests) in
@@ -362,8 +362,8 @@ finish_case w s h wrote half now g true e o =
     }
 finish_case w s h wrote half now g false e o = up_ends w s h wrote half g o
 
-pub on_finish : (w : ℕ) (s : State) (h : ℕ) (wrote : List (List ℕ)) (half : Receiving) (now : ℕ) (g : Going) → on_up w s h wrote half g → on_end w s h wrote half (finish now g)
+pub on_finish : (w : ℕ) (s : State) (h : ℕ) (wrote : List (List ℕ)) (half : Receiving) (now : ℕ) (g : Effect) → on_up w s h wrote half g → on_end w s h wrote half (finish now g)
 on_finish w s h wrote half now g o = finish_case w s h wrote half now g (is_done g.end) refl o
 
-pub on_supply : (w : ℕ) (s : State) (h : ℕ) (wrote : List (List ℕ)) (half : Receiving) (now : ℕ) (g : Going) → on_up w s h wrote half g → on_end w s h wrote half (supply now g)
+pub on_supply : (w : ℕ) (s : State) (h : ℕ) (wrote : List (List ℕ)) (half : Receiving) (now : ℕ) (g : Effect) → on_up w s h wrote half g → on_end w s h wrote half (supply now g)
 on_supply w s h wrote half now g o = on_finish w s h wrote half now (fill now g) (on_fill w s h wrote half now g o)

@@ -13,7 +13,7 @@ use Rattle.circuit_l4.specs.declared.plain.EndPhase.TheVariants.{Connecting, Up,
 use Rattle.circuit_l4.specs.declared.plain.EndNotice.TheVariants.{Opened, Closed, ClosedByPartner}
 use Rattle.circuit_l4.specs.declared.machine.Role.TheVariants.{Responder}
 use Rattle.circuit_l4.specs.EndState.{begin}
-use Rattle.circuit_l4.specs.EndTable.{Input, Write, Arrive, Tick, Close, Take, agreed, arrive_in}
+use Rattle.circuit_l4.specs.EndTable.{Input, Write, Arrive, Tick, Close, Take, common_window, arrive_in}
 use Rattle.circuit_l4.specs.EndOpening.{unheard, unwritten}
 use Rattle.circuit_l4.specs.Sending.{Sending, fragments_of_all, total}
 use Rattle.circuit_l4.specs.Receiving.{Receiving}
@@ -137,9 +137,9 @@ no_note : (P : Type 0) → Contains [] Closed → P
 no_note P h = let below : h.0 < 0 = h.1 in absurd (omega arith)
 
 pub opened_ok : (pair partner : Pair) (user node : Callsign) (config own : EndConfig) (asked now : ℕ) → 1 ≤ config.window → 1 ≤ own.window
-    → PairOk (agreed own.window config.window) (opened pair partner user node config own asked now).left (opened pair partner user node config own asked now).right
+    → PairOk (common_window own.window config.window) (opened pair partner user node config own asked now).left (opened pair partner user node config own asked now).right
 opened_ok pair partner user node config own asked now some more =
-    let w : ℕ = agreed own.window config.window in
+    let w : ℕ = common_window own.window config.window in
     record {
       out = new_direction w own.window;
       back = new_direction w config.window;
@@ -197,10 +197,10 @@ safe_of w x y k =
     }
 
 pub circuit_safe : (pair partner : Pair) (user node : Callsign) (config own : EndConfig) (asked now a : ℕ) (es : List Event) → 1 ≤ config.window → 1 ≤ own.window
-    → 2 * agreed own.window config.window + a ≤ 256 → InTimeAll a es (opened pair partner user node config own asked now)
+    → 2 * common_window own.window config.window + a ≤ 256 → InTimeAll a es (opened pair partner user node config own asked now)
     → let c : Circuit = run es (opened pair partner user node config own asked now) in SafeTo c.left c.right × SafeTo c.right c.left
 circuit_safe pair partner user node config own asked now a es some more fit time =
-    let w : ℕ = agreed own.window config.window in
+    let w : ℕ = common_window own.window config.window in
     let c : Circuit = run es (opened pair partner user node config own asked now) in
     let k : PairOk w c.left c.right = run_ok es w a (opened pair partner user node config own asked now) fit (opened_ok pair partner user node config own asked now some more) time in
     (safe_of w c.left c.right k, safe_of w c.right c.left (turned w c.left c.right k))

@@ -10,8 +10,8 @@ use Rattle.circuit_l4.specs.declared.plain.EndPhase.TheVariants.{Connecting, Up,
 use Rattle.circuit_l4.specs.declared.plain.EndNotice.{EndNotice}
 use Rattle.circuit_l4.specs.declared.plain.EndNotice.TheVariants.{Closed, ClosedByPartner}
 use Rattle.circuit_l4.specs.declared.machine.Role.TheVariants.{Responder}
-use Rattle.circuit_l4.specs.EndState.{State, Going, Out, is_up}
-use Rattle.circuit_l4.specs.EndTable.{Input, Arrive, agreed, step}
+use Rattle.circuit_l4.specs.EndState.{State, Effect, Out, is_up}
+use Rattle.circuit_l4.specs.EndTable.{Input, Arrive, common_window, step}
 use Rattle.circuit_l4.specs.EndOpening.{requesting, responding}
 use Rattle.circuit_l4.specs.Sending.{fragments, total}
 use Rattle.circuit_set.specs.Lines.{InfoMark, AckMark, count_from}
@@ -38,7 +38,7 @@ tag_on upto own other [] fs = fs
 tag_on upto own other (o ∷ os) fs = tag_on upto own other os (record { out = o.0; number = o.1; upto = upto; own = own; other = other } ∷ fs)
 
 -- a side whose end has come to this, and the numbers heeded by then
-abbrev pub now_at : Side → Side → Going → List ℕ → Side
+abbrev pub now_at : Side → Side → Effect → List ℕ → Side
 now_at me other g heard = record {
   e = g.end;
   outs = tag_on g.end.receiving.got g.end.sending.sent other.e.sending.sent g.outs me.outs;
@@ -187,7 +187,7 @@ pub record EndOk (w : ℕ) (e : State) : Type 0 where
   pub up : is_up e.phase ≡ true → e.window ≡ w
   pub answers : e.role ≡ Responder → e.window ≡ w
   pub idle : e.phase ≡ Connecting → e.sending.wrote ≡ []
-  pub fits : agreed e.config.window w ≡ w
+  pub fits : common_window e.config.window w ≡ w
   pub good : AreMessages e.sending.wrote
 
 -- what is kept of a circuit, seen from one side
@@ -203,7 +203,7 @@ pub record PairOk (w : ℕ) (x y : Side) : Type 0 where
 
 -- ---- the opening ----
 -- a side at its making
-abbrev pub begun : Going → Side
+abbrev pub begun : Effect → Side
 begun g = record { e = g.end; outs = tag_on 0 0 0 g.outs []; heard = []; notes = g.notes }
 
 -- a requester and the responder that its request has made: each with its pair, its settings and its moment

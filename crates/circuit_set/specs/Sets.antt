@@ -18,7 +18,7 @@ use Rattle.circuit_l4.specs.declared.plain.EndPhase.TheVariants.{Connecting, Up,
 use Rattle.circuit_l4.specs.declared.plain.EndNotice.{EndNotice}
 use Rattle.circuit_l4.specs.Reading.{transport_at}
 use Rattle.circuit_l4.specs.Transports.{transport_octets}
-use Rattle.circuit_l4.specs.EndState.{Going, Out, State}
+use Rattle.circuit_l4.specs.EndState.{Effect, Out, State}
 use Rattle.circuit_l4.specs.EndTable.{Input, Write, Arrive, Tick, Close, Take, step}
 use Rattle.circuit_l4.specs.EndOpening.{facts_of, requesting, responding}
 use Rattle.circuit_l4.specs.Receiving.{inbox}
@@ -98,13 +98,13 @@ abbrev pub is_over : State → Bool
 is_over e = has_ended e.phase && nat_eq (length (inbox e.receiving)) 0
 
 -- what an end tells that has come to g
-abbrev pub told_by : SetState → Holder → Going → List Told
+abbrev pub told_by : SetState → Holder → Effect → List Told
 told_by s h g = sents s h.id h.at g.outs ++ notices h.id g.notes ++ (if is_over g.end then Gone h.id (facts_of g.end) ∷ [] else [])
 
-abbrev pub settled : Holder → Going → Holder
+abbrev pub settled : Holder → Effect → Holder
 settled h g = record h { end = g.end; gone = is_over g.end }
 
-abbrev pub goes_to : SetState → Holder → List Told → Going → SetDone
+abbrev pub goes_to : SetState → Holder → List Told → Effect → SetDone
 goes_to s h first g = record { set = record s { ends = with_end (settled h g) s.ends }; told = first ++ told_by s h g }
 
 -- ---- a new end ----
@@ -114,10 +114,10 @@ new_pair s = next_free 255 (held_pairs s.ends) s.next
 abbrev pub is_full : SetState → Bool
 is_full s = nat_le 64 (length (held_pairs s.ends)) || nat_lt COUNT_MAX s.number
 
-abbrev pub holder_of : SetState → Callsign → Option Pair → Going → Holder
+abbrev pub holder_of : SetState → Callsign → Option Pair → Effect → Holder
 holder_of s at asked g = record { id = s.number; at = at; asked = asked; end = g.end; gone = is_over g.end }
 
-abbrev pub made : SetState → Callsign → Option Pair → Option (List ℕ) → Going → SetDone
+abbrev pub made : SetState → Callsign → Option Pair → Option (List ℕ) → Effect → SetDone
 made s at asked request g =
     let h : Holder = holder_of s at asked g in
     record {
@@ -145,7 +145,7 @@ opened_by origin pair h = asked_with h.asked pair && same_call h.at origin
 abbrev pub named_by : Callsign → Pair → Holder → Bool
 named_by origin pair h = same_pair h.end.pair pair && same_call h.at origin
 
-abbrev pub accept_again : State → Going
+abbrev pub accept_again : State → Effect
 accept_again e = record { end = e; outs = (Accept e.to e.pair e.window, None) ∷ []; notes = [] }
 
 abbrev pub requested : SetState → Callsign → List ℕ → Pair → ℕ → ℕ → SetDone

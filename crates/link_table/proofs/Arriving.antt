@@ -20,7 +20,7 @@ use Rattle.link_table.specs.declared.entry.Entry.{Entry}
 use Rattle.link_table.specs.declared.held_links.HeldLinks.{HeldLinks}
 use Rattle.link_table.specs.declared.link_of.LinkOf.{LinkOf}
 use Rattle.link_table.specs.declared.link_of.LinkOf.TheVariants.{Eight, Wide}
-use Rattle.link_table.specs.Calls.{answered, answered_down, back, ended, made, most_links, no_set_up, refusal_of, refused_by, set_up, set_up_new, sets_up, source, to_link}
+use Rattle.link_table.specs.Calls.{answer, answer_down, back, end, made, most_links, no_set_up, refusal_of, refused_by, set_up, set_up_new, sets_up, source, to_link}
 use Rattle.link_table.specs.Frames.{all_sent, fitting, head_to, sent}
 use Rattle.link_table.specs.Standing.{CoreGoes, CoreStands, is_wide, size_of, wide_at, wide_by, width}
 use Rattle.link_table.specs.Table.{Table}
@@ -57,16 +57,16 @@ module _ (own peer : Callsign) (path : ArrayVec Address) (rules : Rules) (now : 
 -- ---- set-up commands
 
 pub new_full : (c c2 : HeldLinks) (size : ℕ) (pf : Bool) (f : AirFrame) (now : ℕ) → most_links ≤ length c.links.entries →
-    CoreGoes (answered f (control.Dm pf) []) c c2 → CoreGoes (set_up_new size pf f now) c c2
+    CoreGoes (answer f (control.Dm pf) []) c c2 → CoreGoes (set_up_new size pf f now) c c2
 new_full c c2 size pf f now l goes t s =
     let full : nat_le most_links (length t.links) ≡ true = ap (nat_le most_links) (sym (same_length c.own c.links.entries t.links s.links)) ∙ grind (arith, nat_tests, l) in
-    subst (CoreStands c2) (sym (ap (λ b. if b then answered f (control.Dm pf) [] t else to_link f now (made (source f) size (back f) t)) full)) (goes t s)
+    subst (CoreStands c2) (sym (ap (λ b. if b then answer f (control.Dm pf) [] t else to_link f now (made (source f) size (back f) t)) full)) (goes t s)
 
 pub new_made : (c c2 c3 : HeldLinks) (size : ℕ) (pf : Bool) (f : AirFrame) (now : ℕ) → length c.links.entries < most_links →
     CoreGoes (made (source f) size (back f)) c c2 → CoreGoes (to_link f now) c2 c3 → CoreGoes (set_up_new size pf f now) c c3
 new_made c c2 c3 size pf f now l first next t s =
     let room : nat_le most_links (length t.links) ≡ false = ap (nat_le most_links) (sym (same_length c.own c.links.entries t.links s.links)) ∙ grind (arith, nat_tests, l) in
-    subst (CoreStands c3) (sym (ap (λ b. if b then answered f (control.Dm pf) [] t else to_link f now (made (source f) size (back f) t)) room))
+    subst (CoreStands c3) (sym (ap (λ b. if b then answer f (control.Dm pf) [] t else to_link f now (made (source f) size (back f) t)) room))
     (next (made (source f) size (back f) t) (first t s))
 
 wide_none : (x : Option Entry) → wide_by x ≡ None → x ≡ None
@@ -88,7 +88,7 @@ pub set_up_absent : (c c2 : HeldLinks) (size : ℕ) (pf : Bool) (f : AirFrame) (
     CoreGoes (set_up_new size pf f now) c c2 → CoreGoes (set_up size pf f now) c c2
 set_up_absent c c2 size pf f now e goes t s =
     subst (CoreStands c2)
-    (sym (ap (λ x. elim x as (λ y. Table) [ None ↦ set_up_new size pf f now t | Some l ↦ if l.link.rules.size == size then to_link f now t else set_up_new size pf f now (ended (source f) (Closed ∷ []) t) ])
+    (sym (ap (λ x. elim x as (λ y. Table) [ None ↦ set_up_new size pf f now t | Some l ↦ if l.link.rules.size == size then to_link f now t else set_up_new size pf f now (end (source f) (Closed ∷ []) t) ])
     (none_found c.own (source f) c.links.entries t.links s.links (wide_absent c (source f) e))))
     (goes t s)
 
@@ -99,12 +99,12 @@ sizes true false = refl
 sizes false true = refl
 
 standing_is : (c : HeldLinks) (wide of_link : Bool) (pf : Bool) (f : AirFrame) (now : ℕ) (same : Bool) → Some of_link ≡ wide_at (source f) c.links.entries → (width of_link == width wide) ≡ same →
-    (t : Table) → CoreStands c t → set_up (width wide) pf f now t ≡ (if same then to_link f now t else set_up_new (width wide) pf f now (ended (source f) (Closed ∷ []) t))
+    (t : Table) → CoreStands c t → set_up (width wide) pf f now t ≡ (if same then to_link f now t else set_up_new (width wide) pf f now (end (source f) (Closed ∷ []) t))
 standing_is c wide of_link pf f now same e test t s =
     let x = wide_some _ of_link (sym e) in
     let y : Found c.own (source f) x.0 t.links = found c.own (source f) c.links.entries t.links x.0 s.links x.1 in
     let size : y.link.link.rules.size ≡ width of_link = ap (λ (z : State). z.rules.size) y.stands.link.keeps.is ∙ size_by x.0.link ∙ ap width x.2 in
-    let by : Bool → Table = λ b. if b then to_link f now t else set_up_new (width wide) pf f now (ended (source f) (Closed ∷ []) t) in
+    let by : Bool → Table = λ b. if b then to_link f now t else set_up_new (width wide) pf f now (end (source f) (Closed ∷ []) t) in
     ap (λ z. elim z as (λ q. Table) [ None ↦ set_up_new (width wide) pf f now t | Some l ↦ by (l.link.rules.size == width wide) ]) y.with
     ∙ ap (λ n. by (n == width wide)) size ∙ ap by test
 
@@ -114,10 +114,10 @@ set_up_same c c2 wide of_link pf f now e q goes t s =
     subst (CoreStands c2) (sym (standing_is c wide of_link pf f now true e (sizes of_link wide ∙ q) t s)) (goes t s)
 
 pub set_up_other : (c c2 c3 : HeldLinks) (wide of_link : Bool) (pf : Bool) (f : AirFrame) (now : ℕ) → Some of_link ≡ wide_at (source f) c.links.entries → beq of_link wide ≡ false →
-    CoreGoes (ended (source f) (Closed ∷ [])) c c2 → CoreGoes (set_up_new (width wide) pf f now) c2 c3 → CoreGoes (set_up (width wide) pf f now) c c3
+    CoreGoes (end (source f) (Closed ∷ [])) c c2 → CoreGoes (set_up_new (width wide) pf f now) c2 c3 → CoreGoes (set_up (width wide) pf f now) c c3
 set_up_other c c2 c3 wide of_link pf f now e q first next t s =
     subst (CoreStands c3) (sym (standing_is c wide of_link pf f now false e (sizes of_link wide ∙ q) t s))
-    (next (ended (source f) (Closed ∷ []) t) (first t s))
+    (next (end (source f) (Closed ∷ []) t) (first t s))
 
 -- ---- all other frames
 
@@ -126,12 +126,12 @@ pub stands_there : (c c2 : HeldLinks) (f : AirFrame) (now : ℕ) (b : Bool) → 
 stands_there c c2 f now b e q goes t s =
     let x = entry_looks _ (sym e ∙ q) in
     let y : Found c.own (source f) x.0 t.links = found c.own (source f) c.links.entries t.links x.0 s.links x.1 in
-    subst (CoreStands c2) (sym (ap (λ z. elim z as (λ w. Table) [ None ↦ if is_command f.head then answered_down f t else t | Some l ↦ to_link f now t ]) y.with)) (goes t s)
+    subst (CoreStands c2) (sym (ap (λ z. elim z as (λ w. Table) [ None ↦ if is_command f.head then answer_down f t else t | Some l ↦ to_link f now t ]) y.with)) (goes t s)
 
 pub none_there : (c c2 : HeldLinks) (f : AirFrame) (now : ℕ) (b command : Bool) → b ≡ is_some (lookup (same_call (source f)) c.links.entries) → b ≡ false → command ≡ is_command f.head →
-    CoreGoes (λ t. if command then answered_down f t else t) c c2 → CoreGoes (no_set_up f now) c c2
+    CoreGoes (λ t. if command then answer_down f t else t) c c2 → CoreGoes (no_set_up f now) c c2
 none_there c c2 f now b command e q k goes t s =
     subst (CoreStands c2)
-    (sym (ap (λ z. elim z as (λ w. Table) [ None ↦ if is_command f.head then answered_down f t else t | Some l ↦ to_link f now t ]) (none_found c.own (source f) c.links.entries t.links s.links (some_looks _ (sym e ∙ q)))
-    ∙ ap (λ d. if d then answered_down f t else t) (sym k)))
+    (sym (ap (λ z. elim z as (λ w. Table) [ None ↦ if is_command f.head then answer_down f t else t | Some l ↦ to_link f now t ]) (none_found c.own (source f) c.links.entries t.links s.links (some_looks _ (sym e ∙ q)))
+    ∙ ap (λ d. if d then answer_down f t else t) (sym k)))
     (goes t s)

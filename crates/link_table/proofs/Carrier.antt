@@ -18,8 +18,8 @@ use Rattle.ax_link.specs.Kinds.{info_of, payload_of, pid_of}
 use Rattle.ax_link.specs.Opening.{opening, rules_new}
 use Rattle.ax_link.specs.Bounds.{Bounded, stock}
 use Rattle.ax_link.specs.Laws.{BoundsStay, PayloadsStay, SettingsStay}
-use Rattle.ax_link.specs.PutOut.{Has, HasIf, HavePayloads}
-use Rattle.ax_link.specs.PutOut as put
+use Rattle.ax_link.specs.Outputs.{Has, HasIf, HavePayloads}
+use Rattle.ax_link.specs.Outputs as put
 use Rattle.ax_link.specs.State.{Frame, Rules}
 use Rattle.ax_link.specs.Table.{Arrive, Close, Input, Send, Set_up, Take, Tick, step, takes}
 use Rattle.ax_link.specs.declared.plain.LinkNotice.{LinkNotice}
@@ -34,7 +34,7 @@ use Rattle.link_table.specs.Laws.{Brings, Carries, CarriesOn, FrameHolds, LinkHo
 use Rattle.link_table.specs.Table.{Linked, Pending, Table, path_to, link_with, with_link, without}
 use Rattle.link_table.proofs.Lifting.{untexted}
 use Rattle.link_table.specs.Texts as texts
-use Rattle.link_table.specs.Works.{Work, arrived, first_taken, is_down, handed_up, most_taken, put_out, settled, stepped, taken, told}
+use Rattle.link_table.specs.Works.{Work, arrive_at_link, first_to_take, is_down, hand_up, most_taken, emit, settle, step_link, take_payload, tell}
 
 both_true : (a b : Bool) → (a && b) ≡ true → (a ≡ true) × (b ≡ true)
 both_true true true h = (refl, refl)
@@ -100,7 +100,7 @@ module _ (law : PayloadsStay) (bounds_stay : BoundsStay) (settings_stay : Settin
 
   -- ---- one link
 
-  pub stepped_carries : (own : Callsign) (i : Input) (now : ℕ) (w : Work) → put.Brings (goes_to offered came sizes w.linked.peer) (came w.linked.peer) i → WorkCarries w → WorkCarries (stepped own i now w)
+  pub stepped_carries : (own : Callsign) (i : Input) (now : ℕ) (w : Work) → put.Brings (goes_to offered came sizes w.linked.peer) (came w.linked.peer) i → WorkCarries w → WorkCarries (step_link own i now w)
   stepped_carries own i now w b x =
       let r = law (goes_to offered came sizes w.linked.peer) (came w.linked.peer) w.linked.link i now x.0.bounds b x.0.payloads in
       let fs : List Sent = all_sent w.linked.link.rules.size own w.linked.peer w.linked.path (step w.linked.link i now).outs in (
@@ -116,7 +116,7 @@ module _ (law : PayloadsStay) (bounds_stay : BoundsStay) (settings_stay : Settin
         ),
       )
 
-  handed_carries : (p : Payload) (w : Work) → Has (came w.linked.peer) p → WorkCarries w → WorkCarries (handed_up p w)
+  handed_carries : (p : Payload) (w : Work) → Has (came w.linked.peer) p → WorkCarries w → WorkCarries (hand_up p w)
   handed_carries p w a x = by (p.pid == netrom) refl (p.pid == segmented)
     where
       by : (b : Bool) → (p.pid == netrom) ≡ b → (c : Bool) → WorkCarries
@@ -127,37 +127,37 @@ module _ (law : PayloadsStay) (bounds_stay : BoundsStay) (settings_stay : Settin
           else w)
       by true e c =
           let pid : p.pid ≡ netrom = eqb-true p.pid netrom e in
-          let same : p ≡ calls.packed p.info = (λ j. record { pid = pid j; info = p.info }) in
+          let same : p ≡ calls.pack p.info = (λ j. record { pid = pid j; info = p.info }) in
           (x.0, (all_snoc (ParcelCame offered came sizes) w.pending.waiting ((w.linked.peer, p.info) ∷ []) x.1.0 (subst (Has (came w.linked.peer)) same a, tt), x.1.1))
       by false e true = (record { bounds = x.0.bounds; payloads = x.0.payloads; size = x.0.size }, x.1)
       by false e false = x
 
-  settled_carries : (n : ℕ) (own : Callsign) (now : ℕ) (w : Work) → WorkCarries w → WorkCarries (settled n own now w)
+  settled_carries : (n : ℕ) (own : Callsign) (now : ℕ) (w : Work) → WorkCarries w → WorkCarries (settle n own now w)
   settled_carries zero own now w x = x
-  settled_carries (suc n) own now w x = by (first_taken w) refl (λ p y. settled_carries n own now (taken own now p w) y)
+  settled_carries (suc n) own now w x = by (first_to_take w) refl (λ p y. settled_carries n own now (take_payload own now p w) y)
     where
-      by : (r : Option Payload) → first_taken w ≡ r → ((p : Payload) → WorkCarries (taken own now p w) → WorkCarries (settled n own now (taken own now p w))) →
-          WorkCarries (elim r as (λ y. Work) [ None ↦ w | Some p ↦ settled n own now (taken own now p w) ])
+      by : (r : Option Payload) → first_to_take w ≡ r → ((p : Payload) → WorkCarries (take_payload own now p w) → WorkCarries (settle n own now (take_payload own now p w))) →
+          WorkCarries (elim r as (λ y. Work) [ None ↦ w | Some p ↦ settle n own now (take_payload own now p w) ])
       by None e rest = x
       by (Some p) e rest =
-          rest p (handed_carries p (stepped own Take now w) (first_has (came w.linked.peer) w.linked.link.inbox p x.0.payloads.inbox (untexted w.linked.joiner (slice_get w.linked.link.inbox 0) p e)) (stepped_carries own Take now w tt x))
+          rest p (handed_carries p (step_link own Take now w) (first_has (came w.linked.peer) w.linked.link.inbox p x.0.payloads.inbox (untexted w.linked.joiner (slice_get w.linked.link.inbox 0) p e)) (stepped_carries own Take now w tt x))
 
-  text_carries : (own : Callsign) (now : ℕ) (w : Work) → WorkCarries w → WorkCarries (texts.text_taken own now w)
+  text_carries : (own : Callsign) (now : ℕ) (w : Work) → WorkCarries w → WorkCarries (texts.take_text_of own now w)
   text_carries own now w x = by (slice_get w.linked.link.inbox 0) refl
     where
-      by : (r : Option Payload) → slice_get w.linked.link.inbox 0 ≡ r → WorkCarries (elim r as (λ y. Work) [ None ↦ w | Some p ↦ settled most_taken own now (taken own now p w) ])
+      by : (r : Option Payload) → slice_get w.linked.link.inbox 0 ≡ r → WorkCarries (elim r as (λ y. Work) [ None ↦ w | Some p ↦ settle most_taken own now (take_payload own now p w) ])
       by None e = x
       by (Some p) e =
-          settled_carries most_taken own now (taken own now p w)
-          (handed_carries p (stepped own Take now w) (first_has (came w.linked.peer) w.linked.link.inbox p x.0.payloads.inbox e) (stepped_carries own Take now w tt x))
+          settled_carries most_taken own now (take_payload own now p w)
+          (handed_carries p (step_link own Take now w) (first_has (came w.linked.peer) w.linked.link.inbox p x.0.payloads.inbox e) (stepped_carries own Take now w tt x))
 
-  arrived_carries : (own : Callsign) (f : Frame) (now : ℕ) (w : Work) → HasIf (came w.linked.peer) f.payload → WorkCarries w → WorkCarries (arrived own f now w)
+  arrived_carries : (own : Callsign) (f : Frame) (now : ℕ) (w : Work) → HasIf (came w.linked.peer) f.payload → WorkCarries w → WorkCarries (arrive_at_link own f now w)
   arrived_carries own f now w b x =
-      let s : Work = stepped own (Arrive f) now w in
+      let s : Work = step_link own (Arrive f) now w in
       let y : WorkCarries s = stepped_carries own (Arrive f) now w b x in
       by s y (is_down s.linked.link.phase)
     where
-      by : (s : Work) → WorkCarries s → (b : Bool) → WorkCarries (if b then s else settled most_taken own now s)
+      by : (s : Work) → WorkCarries s → (b : Bool) → WorkCarries (if b then s else settle most_taken own now s)
       by s y true = y
       by s y false = settled_carries most_taken own now s y
 
@@ -196,17 +196,17 @@ module _ (law : PayloadsStay) (bounds_stay : BoundsStay) (settings_stay : Settin
       kept_by w y true = record { modulus = x.modulus; size = x.size; links = all_without peer t.links x.links; waiting = y.1.0; frames = y.1.1 }
       kept_by w y false = record { modulus = x.modulus; size = x.size; links = all_with peer t.links w.linked x.links y.0; waiting = y.1.0; frames = y.1.1 }
 
-      by : (r : Option Linked) → link_with peer t.links ≡ r → Carries offered came sizes (elim r as (λ y. Table) [ None ↦ t | Some l ↦ calls.kept peer (part (record { linked = l; pending = t.pending })) t ])
+      by : (r : Option Linked) → link_with peer t.links ≡ r → Carries offered came sizes (elim r as (λ y. Table) [ None ↦ t | Some l ↦ calls.keep peer (part (record { linked = l; pending = t.pending })) t ])
       by None e = x
       by (Some l) e =
           let y = links_of peer t.links l x.links e in
           let w : Work = record { linked = l; pending = t.pending } in
           kept_by (part w) (does w y.1 (y.0, (x.waiting, x.frames))) (is_down (part w).linked.link.phase)
 
-  ended_carries : (peer : Callsign) (notes : List LinkNotice) (t : Table) → Carries offered came sizes t → Carries offered came sizes (calls.ended peer notes t)
+  ended_carries : (peer : Callsign) (notes : List LinkNotice) (t : Table) → Carries offered came sizes t → Carries offered came sizes (calls.end peer notes t)
   ended_carries peer notes t x = by (link_with peer t.links)
     where
-      by : (r : Option Linked) → Carries offered came sizes (elim r as (λ y. Table) [ None ↦ t | Some l ↦ record t { links = without peer t.links; pending = told peer notes t.pending } ])
+      by : (r : Option Linked) → Carries offered came sizes (elim r as (λ y. Table) [ None ↦ t | Some l ↦ record t { links = without peer t.links; pending = tell peer notes t.pending } ])
       by None = x
       by (Some l) = record { modulus = x.modulus; size = x.size; links = all_without peer t.links x.links; waiting = x.waiting; frames = x.frames }
 
@@ -217,7 +217,7 @@ module _ (law : PayloadsStay) (bounds_stay : BoundsStay) (settings_stay : Settin
       record { bounds = opening_bounded size t.config z.0; payloads = record { given = tt; gots = tt; inbox = tt; early = none_early (came peer) _ }; size = z.1 } in
       record { modulus = x.modulus; size = x.size; links = all_snoc (LinkHolds offered came sizes) t.links (l ∷ []) x.links (h, tt); waiting = x.waiting; frames = x.frames }
 
-  put_carries : (sents : List Sent) (t : Table) → AllByRecursion (FrameHolds offered came sizes) sents → Carries offered came sizes t → Carries offered came sizes (record t { pending = put_out sents t.pending })
+  put_carries : (sents : List Sent) (t : Table) → AllByRecursion (FrameHolds offered came sizes) sents → Carries offered came sizes t → Carries offered came sizes (record t { pending = emit sents t.pending })
   put_carries sents t a x = record { modulus = x.modulus; size = x.size; links = x.links; waiting = x.waiting; frames = all_snoc (FrameHolds offered came sizes) t.pending.frames sents x.frames a }
 
   -- ---- frames that come
@@ -231,13 +231,13 @@ module _ (law : PayloadsStay) (bounds_stay : BoundsStay) (settings_stay : Settin
 
   to_link_carries : (f : AirFrame) (now : ℕ) (t : Table) → Brings offered came sizes f → Carries offered came sizes t → Carries offered came sizes (calls.to_link f now t)
   to_link_carries f now t b x =
-      at_link_carries (calls.source f) (λ w. arrived t.own (calls.link_frame w.linked.link.rules.size f) now w) t
+      at_link_carries (calls.source f) (λ w. arrive_at_link t.own (calls.link_frame w.linked.link.rules.size f) now w) t
       (λ w e y. arrived_carries t.own (calls.link_frame w.linked.link.rules.size f) now w (brought f w.linked.peer b e) y) x
 
   no_pid : (size : ℕ) (h : Head) (c : Control) (info : List ℕ) → is_numbered c ≡ false → FrameHolds offered came sizes (sent size (frame h c None info))
   no_pid size h c info n = record { payload = λ q e i. absurd (cc e); size = λ k. absurd (cc (sym n ∙ k)) }
 
-  answered_carries : (f : AirFrame) (c : Control) (info : List ℕ) (t : Table) → is_numbered c ≡ false → Carries offered came sizes t → Carries offered came sizes (calls.answered f c info t)
+  answered_carries : (f : AirFrame) (c : Control) (info : List ℕ) (t : Table) → is_numbered c ≡ false → Carries offered came sizes t → Carries offered came sizes (calls.answer f c info t)
   answered_carries f c info t n x =
       put_carries (fitting (sent 8 (frame (head_to t.own (calls.source f) (calls.back f) false) c None info))) t
       (fits_sent (sent 8 (frame (head_to t.own (calls.source f) (calls.back f) false) c None info)) (no_pid 8 (head_to t.own (calls.source f) (calls.back f) false) c info n)) x
@@ -249,20 +249,20 @@ module _ (law : PayloadsStay) (bounds_stay : BoundsStay) (settings_stay : Settin
   new_carries : (size : ℕ) (pf : Bool) (f : AirFrame) (now : ℕ) (t : Table) → ((size ≡ 8) ⊎ (size ≡ 128)) × (sizes size ≡ true) → Brings offered came sizes f → Carries offered came sizes t → Carries offered came sizes (calls.set_up_new size pf f now t)
   new_carries size pf f now t z b x = by (nat_le calls.most_links (length t.links))
     where
-      by : (c : Bool) → Carries offered came sizes (if c then calls.answered f (control.Dm pf) [] t else calls.to_link f now (calls.made (calls.source f) size (calls.back f) t))
+      by : (c : Bool) → Carries offered came sizes (if c then calls.answer f (control.Dm pf) [] t else calls.to_link f now (calls.made (calls.source f) size (calls.back f) t))
       by true = answered_carries f (control.Dm pf) [] t refl x
       by false = to_link_carries f now (calls.made (calls.source f) size (calls.back f) t) b (made_carries (calls.source f) size (calls.back f) t z x)
 
   set_up_carries : (size : ℕ) (pf : Bool) (f : AirFrame) (now : ℕ) (t : Table) → ((size ≡ 8) ⊎ (size ≡ 128)) × (sizes size ≡ true) → Brings offered came sizes f → Carries offered came sizes t → Carries offered came sizes (calls.set_up size pf f now t)
   set_up_carries size pf f now t z b x = by (link_with (calls.source f) t.links)
     where
-      same : (c : Bool) → Carries offered came sizes (if c then calls.to_link f now t else calls.set_up_new size pf f now (calls.ended (calls.source f) (Closed ∷ []) t))
+      same : (c : Bool) → Carries offered came sizes (if c then calls.to_link f now t else calls.set_up_new size pf f now (calls.end (calls.source f) (Closed ∷ []) t))
       same true = to_link_carries f now t b x
-      same false = new_carries size pf f now (calls.ended (calls.source f) (Closed ∷ []) t) z b (ended_carries (calls.source f) (Closed ∷ []) t x)
+      same false = new_carries size pf f now (calls.end (calls.source f) (Closed ∷ []) t) z b (ended_carries (calls.source f) (Closed ∷ []) t x)
 
       by : (r : Option Linked) → Carries offered came sizes (elim r as (λ y. Table) [
         | None ↦ calls.set_up_new size pf f now t
-        | Some l ↦ if l.link.rules.size == size then calls.to_link f now t else calls.set_up_new size pf f now (calls.ended (calls.source f) (Closed ∷ []) t)
+        | Some l ↦ if l.link.rules.size == size then calls.to_link f now t else calls.set_up_new size pf f now (calls.end (calls.source f) (Closed ∷ []) t)
       ])
       by None = new_carries size pf f now t z b x
       by (Some l) = same (l.link.rules.size == size)
@@ -270,11 +270,11 @@ module _ (law : PayloadsStay) (bounds_stay : BoundsStay) (settings_stay : Settin
   other_carries : (f : AirFrame) (now : ℕ) (t : Table) → Brings offered came sizes f → Carries offered came sizes t → Carries offered came sizes (calls.no_set_up f now t)
   other_carries f now t b x = by (link_with (calls.source f) t.links)
     where
-      down : (c : Bool) → Carries offered came sizes (if c then calls.answered_down f t else t)
+      down : (c : Bool) → Carries offered came sizes (if c then calls.answer_down f t else t)
       down true = put_carries (calls.refused_by t.own (calls.source f) (calls.back f) (calls.refusal_of f.control)) t (refused_carries t.own (calls.source f) (calls.back f) (calls.refusal_of f.control)) x
       down false = x
 
-      by : (r : Option Linked) → Carries offered came sizes (elim r as (λ y. Table) [ None ↦ if is_command f.head then calls.answered_down f t else t | Some l ↦ calls.to_link f now t ])
+      by : (r : Option Linked) → Carries offered came sizes (elim r as (λ y. Table) [ None ↦ if is_command f.head then calls.answer_down f t else t | Some l ↦ calls.to_link f now t ])
       by None = down (is_command f.head)
       by (Some l) = to_link_carries f now t b x
 
@@ -285,8 +285,8 @@ module _ (law : PayloadsStay) (bounds_stay : BoundsStay) (settings_stay : Settin
       by : (c d : Bool) → (pid == netrom) ≡ c → nat_le (length f.info) 256 ≡ d → Carries offered came sizes
           (if c && d then record t { pending = record t.pending { waiting = t.pending.waiting ++ (calls.source f, record { items = f.info }) ∷ [] } } else t)
       by true true q r =
-          let is : payload_of f.pid f.info ≡ Some (calls.packed (record { items = f.info })) =
-          ap (λ k. payload_of k f.info) (e ∙ ap Some (eqb-true pid netrom q)) ∙ ap (λ z. if z then Some (calls.packed (record { items = f.info })) else None) r in
+          let is : payload_of f.pid f.info ≡ Some (calls.pack (record { items = f.info })) =
+          ap (λ k. payload_of k f.info) (e ∙ ap Some (eqb-true pid netrom q)) ∙ ap (λ z. if z then Some (calls.pack (record { items = f.info })) else None) r in
           record {
             modulus = x.modulus;
             size = x.size;
@@ -332,53 +332,53 @@ module _ (law : PayloadsStay) (bounds_stay : BoundsStay) (settings_stay : Settin
   ticks : (peers : List Callsign) (now : ℕ) (t : Table) → Carries offered came sizes t → Carries offered came sizes (calls.tick_each peers now t)
   ticks [] now t x = x
   ticks (p ∷ ps) now t x =
-      ticks ps now (calls.at_link p (stepped t.own Tick now) t) (at_link_carries p (stepped t.own Tick now) t (λ w e y. stepped_carries t.own Tick now w tt y) x)
+      ticks ps now (calls.at_link p (step_link t.own Tick now) t) (at_link_carries p (step_link t.own Tick now) t (λ w e y. stepped_carries t.own Tick now w tt y) x)
 
-  goes_offered : (to peer : Callsign) (d : Datagram) → Has (offered to) (calls.packed d) → same_call to peer ≡ true → Has (goes_to offered came sizes peer) (calls.packed d)
-  goes_offered to peer d a e = subst (λ (k : Callsign). Has (goes_to offered came sizes k) (calls.packed d)) (same_call-true to peer e) a
+  goes_offered : (to peer : Callsign) (d : Datagram) → Has (offered to) (calls.pack d) → same_call to peer ≡ true → Has (goes_to offered came sizes peer) (calls.pack d)
+  goes_offered to peer d a e = subst (λ (k : Callsign). Has (goes_to offered came sizes k) (calls.pack d)) (same_call-true to peer e) a
 
-  standing_carries : (to : Callsign) (d : Datagram) (now : ℕ) (t : Table) → Has (offered to) (calls.packed d) → Carries offered came sizes t → Carries offered came sizes (calls.offer_standing to d now t).table
+  standing_carries : (to : Callsign) (d : Datagram) (now : ℕ) (t : Table) → Has (offered to) (calls.pack d) → Carries offered came sizes t → Carries offered came sizes (calls.offer_standing to d now t).table
   standing_carries to d now t a x = by (link_with to t.links)
     where
       yes : calls.Offering
-      yes = record { answer = Taken; table = calls.at_link to (stepped t.own (Send (calls.packed d)) now) t }
+      yes = record { answer = Taken; table = calls.at_link to (step_link t.own (Send (calls.pack d)) now) t }
 
       no : calls.Offering
       no = record { answer = Dropped; table = t }
 
       takes_by : (b : Bool) → Carries offered came sizes (if b then yes else no).table
-      takes_by true = at_link_carries to (stepped t.own (Send (calls.packed d)) now) t (λ w e y. stepped_carries t.own (Send (calls.packed d)) now w (goes_offered to w.linked.peer d a e) y) x
+      takes_by true = at_link_carries to (step_link t.own (Send (calls.pack d)) now) t (λ w e y. stepped_carries t.own (Send (calls.pack d)) now w (goes_offered to w.linked.peer d a e) y) x
       takes_by false = x
 
       by : (r : Option Linked) → Carries offered came sizes (elim r as (λ y. calls.Offering) [ None ↦ no | Some l ↦ if takes l.link then yes else no ]).table
       by None = x
       by (Some l) = takes_by (takes l.link)
 
-  opened_carries : (to : Callsign) (now : ℕ) (t : Table) → Carries offered came sizes t → Carries offered came sizes (calls.opened_to to now t)
+  opened_carries : (to : Callsign) (now : ℕ) (t : Table) → Carries offered came sizes t → Carries offered came sizes (calls.set_up_link to now t)
   opened_carries to now t x =
       let m : Table = calls.made to t.size (path_to to t.paths) t in
-      at_link_carries to (stepped t.own Set_up now) m (λ w e y. stepped_carries t.own Set_up now w tt y) (made_carries to t.size (path_to to t.paths) t (x.modulus, x.size) x)
+      at_link_carries to (step_link t.own Set_up now) m (λ w e y. stepped_carries t.own Set_up now w tt y) (made_carries to t.size (path_to to t.paths) t (x.modulus, x.size) x)
 
-  offer_link_carries : (to : Callsign) (d : Datagram) (now : ℕ) (t : Table) → Has (offered to) (calls.packed d) → Carries offered came sizes t → Carries offered came sizes (calls.offer_link to d now t).table
+  offer_link_carries : (to : Callsign) (d : Datagram) (now : ℕ) (t : Table) → Has (offered to) (calls.pack d) → Carries offered came sizes t → Carries offered came sizes (calls.offer_link to d now t).table
   offer_link_carries to d now t a x = by (link_with to t.links)
     where
-      full : (b : Bool) → Carries offered came sizes (if b then record { answer = Dropped; table = t } else calls.offer_standing to d now (calls.opened_to to now t)).table
+      full : (b : Bool) → Carries offered came sizes (if b then record { answer = Dropped; table = t } else calls.offer_standing to d now (calls.set_up_link to now t)).table
       full true = x
-      full false = standing_carries to d now (calls.opened_to to now t) a (opened_carries to now t x)
+      full false = standing_carries to d now (calls.set_up_link to now t) a (opened_carries to now t x)
 
       by : (r : Option Linked) → Carries offered came sizes (elim r as (λ y. calls.Offering) [
-        | None ↦ if nat_le calls.most_links (length t.links) then record { answer = Dropped; table = t } else calls.offer_standing to d now (calls.opened_to to now t)
+        | None ↦ if nat_le calls.most_links (length t.links) then record { answer = Dropped; table = t } else calls.offer_standing to d now (calls.set_up_link to now t)
         | Some l ↦ calls.offer_standing to d now t
       ]).table
       by None = full (nat_le calls.most_links (length t.links))
       by (Some l) = standing_carries to d now t a x
 
-  offer_ui_carries : (to : Callsign) (d : Datagram) (t : Table) → Has (offered to) (calls.packed d) → Carries offered came sizes t → Carries offered came sizes (calls.offer_ui to d t)
+  offer_ui_carries : (to : Callsign) (d : Datagram) (t : Table) → Has (offered to) (calls.pack d) → Carries offered came sizes t → Carries offered came sizes (calls.offer_ui to d t)
   offer_ui_carries to d t a x =
       let s : Sent = sent 8 (frame (head_to t.own to (path_to to t.paths) true) (control.Ui false) (Some netrom) d.items) in
-      put_carries (fitting s) t (fits_sent s (record { payload = λ q e i. carried_by to (Some (calls.packed d)) a q e i; size = λ k. absurd (cc k) })) x
+      put_carries (fitting s) t (fits_sent s (record { payload = λ q e i. carried_by to (Some (calls.pack d)) a q e i; size = λ k. absurd (cc k) })) x
 
-  offer_carries : (to : Callsign) (d : Datagram) (now : ℕ) (t : Table) → Has (offered to) (calls.packed d) → Carries offered came sizes t → Carries offered came sizes (calls.offer to d now t).table
+  offer_carries : (to : Callsign) (d : Datagram) (now : ℕ) (t : Table) → Has (offered to) (calls.pack d) → Carries offered came sizes t → Carries offered came sizes (calls.offer to d now t).table
   offer_carries to d now t a x = by t.by_links
     where
       by : (b : Bool) → Carries offered came sizes (if b then calls.offer_link to d now t else record { answer = Taken; table = calls.offer_ui to d t }).table
@@ -388,8 +388,8 @@ module _ (law : PayloadsStay) (bounds_stay : BoundsStay) (settings_stay : Settin
   text_taken_carries : (peer : Callsign) (now : ℕ) (t : Table) → Carries offered came sizes t → Carries offered came sizes (texts.take_text peer now t)
   text_taken_carries peer now t x = by (is_some (texts.text_with peer t))
     where
-      by : (b : Bool) → Carries offered came sizes (if b then calls.at_link peer (texts.text_taken t.own now) t else t)
-      by true = at_link_carries peer (texts.text_taken t.own now) t (λ w e y. text_carries t.own now w y) x
+      by : (b : Bool) → Carries offered came sizes (if b then calls.at_link peer (texts.take_text_of t.own now) t else t)
+      by true = at_link_carries peer (texts.take_text_of t.own now) t (λ w e y. text_carries t.own now w y) x
       by false = x
 
   pub carries_on : CarriesOn offered came sizes
@@ -397,7 +397,7 @@ module _ (law : PayloadsStay) (bounds_stay : BoundsStay) (settings_stay : Settin
       record {
         arrives = λ t f now b x. kind_carries (is_command f.head) f.control f now t refl b x;
         ticks = λ t now x. ticks (map (λ l. l.peer) t.links) now t x;
-        closes = λ t peer now x. at_link_carries peer (stepped t.own Close now) t (λ w e y. stepped_carries t.own Close now w tt y) x;
+        closes = λ t peer now x. at_link_carries peer (step_link t.own Close now) t (λ w e y. stepped_carries t.own Close now w tt y) x;
         breaks = λ t peer x. ended_carries peer (Failed ∷ []) t x;
         takes = λ t peer now x. text_taken_carries peer now t x;
         offers = λ t to d now a x. offer_carries to d now t a x;

@@ -5,8 +5,8 @@ use Rattle.std.proofs.lemmas.List.{map-append}
 use Rattle.radio_base.specs.declared.payload.Payload.{Payload}
 use Rattle.ax_link.specs.declared.plain.LinkOut.{LinkOut}
 use Rattle.ax_link.specs.Opening.{IsDrained}
-use Rattle.ax_link.specs.Standing.{Held, Stands, StandsFor, frame_of}
-use Rattle.ax_link.specs.State.{Frame, Going, State}
+use Rattle.ax_link.specs.Standing.{LinkView, Stands, StandsFor, frame_of}
+use Rattle.ax_link.specs.State.{Frame, Effect, State}
 use Rattle.ax_link.specs.Table.{Arrive, Input, Take, step}
 use Rattle.ax_segment.specs.Joining.{Held as Joined, join_step}
 use Rattle.link_table.specs.declared.route.Route.{Route}
@@ -15,10 +15,10 @@ use Rattle.link_table.specs.declared.written.Written.{Written}
 use Rattle.link_table.specs.Fetching.{written}
 use Rattle.link_table.specs.Frames.{Sent, all_sent, fitting, netrom, sent_by, segmented}
 use Rattle.link_table.specs.Standing.{GoesQuietly, Goes, HandsUp, Lifted, WorkStands, gone_out}
-use Rattle.link_table.specs.Works.{Work, arrived, first_taken, handed_up, is_down, is_text, most_taken, settled, stepped, taken, unless_text}
+use Rattle.link_table.specs.Works.{Work, arrive_at_link, first_to_take, hand_up, is_down, is_text, most_taken, settle, step_link, take_payload, unless_text}
 
 -- the oldest frame of a link has gone out, and the others are still to go
-pub one_out : (size : ℕ) (route : Route) (out : LinkOut) (old new : Held) (fs fs2 : List Written) → slice_get old.outs 0 ≡ Some out → new.outs ≡ drop 1 old.outs →
+pub one_out : (size : ℕ) (route : Route) (out : LinkOut) (old new : LinkView) (fs fs2 : List Written) → slice_get old.outs 0 ≡ Some out → new.outs ≡ drop 1 old.outs →
     fs2 ≡ fs ++ map written (fitting (sent_by size route.own route.peer route.path (frame_of size out))) → fs2 ++ gone_out size route new ≡ fs ++ gone_out size route old
 one_out size route out old new fs fs2 first rest one =
     ap (λ (xs : List LinkOut). fs2 ++ gone xs) rest ∙ ap (λ ys. ys ++ gone (drop 1 old.outs)) one ∙ by old.outs first
@@ -38,29 +38,29 @@ one_out size route out old new fs fs2 first rest one =
         ∙ ap (λ ys. fs ++ ys) (sym (map-append written (sent_one x) (all_sent size route.own route.peer route.path (map (frame_of size) xs))))
 
 -- all but the frames stays
-pub outs_alone : (old mid new : Held) → mid ≡ record old { outs = mid.outs } → new ≡ record mid { outs = drop 1 mid.outs } → new ≡ record old { outs = new.outs }
+pub outs_alone : (old mid new : LinkView) → mid ≡ record old { outs = mid.outs } → new ≡ record mid { outs = drop 1 mid.outs } → new ≡ record old { outs = new.outs }
 outs_alone old mid new first next =
-    next ∙ ap (λ (h : Held). record h { outs = drop 1 mid.outs }) first ∙ ap (λ xs. record old { outs = xs }) (sym (ap (λ (h : Held). h.outs) next))
+    next ∙ ap (λ (h : LinkView). record h { outs = drop 1 mid.outs }) first ∙ ap (λ xs. record old { outs = xs }) (sym (ap (λ (h : LinkView). h.outs) next))
 
 -- nothing waits then
-pub lifted_drained : (size : ℕ) (route : Route) (old new : Held) (j j2 : Joined) (k k2 : Pending) → Lifted size route old new j j2 k k2 → IsDrained new
-lifted_drained size route old new j j2 k k2 l = record { outs = ap (λ (h : Held). h.outs) l.link; notice = ap (λ (h : Held). h.notice) l.link }
+pub lifted_drained : (size : ℕ) (route : Route) (old new : LinkView) (j j2 : Joined) (k k2 : Pending) → Lifted size route old new j j2 k k2 → IsDrained new
+lifted_drained size route old new j j2 k k2 l = record { outs = ap (λ (h : LinkView). h.outs) l.link; notice = ap (λ (h : LinkView). h.notice) l.link }
 
 -- a step of the link and what comes of it are a step of the work
-pub lifts : (size : ℕ) (route : Route) (i : Input) (now : ℕ) (old mid new : Held) (j j2 : Joined) (k k2 : Pending) →
+pub lifts : (size : ℕ) (route : Route) (i : Input) (now : ℕ) (old mid new : LinkView) (j j2 : Joined) (k k2 : Pending) →
     ((s : State) → StandsFor size old s → Stands size mid (step s i now)) → Lifted size route mid new j j2 k k2 →
-    Goes size route (stepped route.own i now) old new j j2 k k2
+    Goes size route (step_link route.own i now) old new j j2 k k2
 lifts size route i now old mid new j j2 k k2 does l w stands =
     let s = does w.linked.link stands.link in
-    let g : Going = step w.linked.link i now in
-    let notes : g.notes ≡ option_to_list mid.notice = ap (λ (x : Going). x.notes) s.keeps.is in
-    let outs : g.outs ≡ map (frame_of size) mid.outs = ap (λ (x : Going). x.outs) s.keeps.is in
+    let g : Effect = step w.linked.link i now in
+    let notes : g.notes ≡ option_to_list mid.notice = ap (λ (x : Effect). x.notes) s.keeps.is in
+    let outs : g.outs ≡ map (frame_of size) mid.outs = ap (λ (x : Effect). x.outs) s.keeps.is in
     let before : w.linked.link.rules.size ≡ size = ap (λ (x : State). x.rules.size) stands.link.keeps.is in
     record {
       peer = stands.peer;
       path = stands.path;
       link = record {
-        keeps = record { before = s.keeps.before; gots = s.keeps.gots; acked = rw l.link s.keeps.acked; got = rw l.link s.keeps.got; is = rw l.link (ap (λ (x : Going). x.link) s.keeps.is) };
+        keeps = record { before = s.keeps.before; gots = s.keeps.gots; acked = rw l.link s.keeps.acked; got = rw l.link s.keeps.got; is = rw l.link (ap (λ (x : Effect). x.link) s.keeps.is) };
         bounds = s.bounds;
       };
       joiner = rw (notes, stands.joiner) (sym l.joiner);
@@ -73,8 +73,8 @@ lifts size route i now old mid new j j2 k k2 does l w stands =
     }
 
 -- a payload that was taken is handed up
-pub hands : (size : ℕ) (route : Route) (p : Payload) (h : Held) (j j2 : Joined) (k k2 : Pending) → HandsUp p route j j2 k k2 →
-    Goes size route (handed_up p) h h j j2 k k2
+pub hands : (size : ℕ) (route : Route) (p : Payload) (h : LinkView) (j j2 : Joined) (k k2 : Pending) → HandsUp p route j j2 k k2 →
+    Goes size route (hand_up p) h h j j2 k k2
 hands size route p h j j2 k k2 u w s = by (p.pid == netrom) (p.pid == segmented) u.joiner u.waiting
   where
     by : (b c : Bool) → j2 ≡ (if b then j else if c then (join_step j p.info.items).0 else j) →
@@ -111,11 +111,11 @@ hands size route p h j j2 k k2 u w s = by (p.pid == netrom) (p.pid == segmented)
         }
 
 -- the oldest payload is taken and handed up
-pub takes_one : (size : ℕ) (route : Route) (now : ℕ) (p q : Payload) (old mid new : Held) (j j2 j3 : Joined) (k k2 k3 : Pending) → q ≡ p →
+pub takes_one : (size : ℕ) (route : Route) (now : ℕ) (p q : Payload) (old mid new : LinkView) (j j2 j3 : Joined) (k k2 k3 : Pending) → q ≡ p →
     ((s : State) → StandsFor size old s → Stands size mid (step s Take now)) → Lifted size route mid new j j2 k k2 → HandsUp q route j2 j3 k2 k3 →
-    Goes size route (taken route.own now p) old new j j3 k k3
+    Goes size route (take_payload route.own now p) old new j j3 k k3
 takes_one size route now p q old mid new j j2 j3 k k2 k3 e does l u w s =
-    hands size route p new j2 j3 k2 k3 (subst (λ x. HandsUp x route j2 j3 k2 k3) e u) (stepped route.own Take now w) (lifts size route Take now old mid new j j2 k k2 does l w s)
+    hands size route p new j2 j3 k2 k3 (subst (λ x. HandsUp x route j2 j3 k2 k3) e u) (step_link route.own Take now w) (lifts size route Take now old mid new j j2 k k2 does l w s)
 
 -- what may be taken at once is the oldest payload
 pub untexted : (j : Joined) (x : Option Payload) (p : Payload) → unless_text j x ≡ Some p → x ≡ Some p
@@ -127,39 +127,39 @@ untexted j (Some q) p e = by (is_text j q) e
     by false r = r
 
 -- so many payloads may still be taken
-abbrev pub Left : ℕ → ℕ → Route → ℕ → Held → Held → Joined → Joined → Pending → Pending → Type 0
+abbrev pub Left : ℕ → ℕ → Route → ℕ → LinkView → LinkView → Joined → Joined → Pending → Pending → Type 0
 Left n size route now old new j j2 k k2 =
     (w : Work) → WorkStands size old route j k w →
-    (w2 : Work) × WorkStands size new route j2 k2 w2 × (settled n route.own now w2 ≡ settled most_taken route.own now w)
+    (w2 : Work) × WorkStands size new route j2 k2 w2 × (settle n route.own now w2 ≡ settle most_taken route.own now w)
 
-module _ (size : ℕ) (route : Route) (now : ℕ) (old new : Held) (j j2 : Joined) (k k2 : Pending) where
+module _ (size : ℕ) (route : Route) (now : ℕ) (old new : LinkView) (j j2 : Joined) (k k2 : Pending) where
   inbox_of : (w : Work) → WorkStands size new route j2 k2 w → w.linked.link.inbox ≡ new.inbox
   inbox_of w s = ap (λ (x : State). x.inbox) s.link.keeps.is
 
-  joiner_of : (w : Work) → WorkStands size new route j2 k2 w → first_taken w ≡ unless_text j2 (slice_get new.inbox 0)
+  joiner_of : (w : Work) → WorkStands size new route j2 k2 w → first_to_take w ≡ unless_text j2 (slice_get new.inbox 0)
   joiner_of w s = ap (λ (x : Joined). unless_text x (slice_get w.linked.link.inbox 0)) s.joiner ∙ ap (λ xs. unless_text j2 (slice_get xs 0)) (inbox_of w s)
 
-  none_left : (n : ℕ) (w : Work) → first_taken w ≡ None → settled n route.own now w ≡ w
+  none_left : (n : ℕ) (w : Work) → first_to_take w ≡ None → settle n route.own now w ≡ w
   none_left zero w e = refl
-  none_left (suc n) w e = ap (λ x. elim x as (λ y. Work) [ None ↦ w | Some z ↦ settled n route.own now (taken route.own now z w) ]) e
+  none_left (suc n) w e = ap (λ x. elim x as (λ y. Work) [ None ↦ w | Some z ↦ settle n route.own now (take_payload route.own now z w) ]) e
 
-  pub left_none : (n : ℕ) → Left n size route now old new j j2 k k2 → unless_text j2 (slice_get new.inbox 0) ≡ None → Goes size route (settled most_taken route.own now) old new j j2 k k2
+  pub left_none : (n : ℕ) → Left n size route now old new j j2 k k2 → unless_text j2 (slice_get new.inbox 0) ≡ None → Goes size route (settle most_taken route.own now) old new j j2 k k2
   left_none n left e w s =
       let r = left w s in
       subst (WorkStands size new route j2 k2) (sym (none_left n r.0 (joiner_of r.0 r.1 ∙ e)) ∙ r.2) r.1
 
-  pub left_end : (n : ℕ) → n ≡ 0 → Left n size route now old new j j2 k k2 → Goes size route (settled most_taken route.own now) old new j j2 k k2
+  pub left_end : (n : ℕ) → n ≡ 0 → Left n size route now old new j j2 k k2 → Goes size route (settle most_taken route.own now) old new j j2 k k2
   left_end n e left w s =
       let r = left w s in
-      subst (WorkStands size new route j2 k2) (subst (λ m. settled m route.own now r.0 ≡ settled most_taken route.own now w) e r.2) r.1
+      subst (WorkStands size new route j2 k2) (subst (λ m. settle m route.own now r.0 ≡ settle most_taken route.own now w) e r.2) r.1
 
-  pub left_one : (n m : ℕ) (p : Payload) (new2 : Held) (j3 : Joined) (k3 : Pending) → n ≡ suc m → Left n size route now old new j j2 k k2 → unless_text j2 (slice_get new.inbox 0) ≡ Some p →
-      Goes size route (taken route.own now p) new new2 j2 j3 k2 k3 → Left m size route now old new2 j j3 k k3
+  pub left_one : (n m : ℕ) (p : Payload) (new2 : LinkView) (j3 : Joined) (k3 : Pending) → n ≡ suc m → Left n size route now old new j j2 k k2 → unless_text j2 (slice_get new.inbox 0) ≡ Some p →
+      Goes size route (take_payload route.own now p) new new2 j2 j3 k2 k3 → Left m size route now old new2 j j3 k k3
   left_one n m p new2 j3 k3 e left q goes w s =
       let r = left w s in
-      let one : settled (suc m) route.own now r.0 ≡ settled m route.own now (taken route.own now p r.0) =
-      ap (λ x. elim x as (λ y. Work) [ None ↦ r.0 | Some z ↦ settled m route.own now (taken route.own now z r.0) ]) (joiner_of r.0 r.1 ∙ q) in
-      (taken route.own now p r.0, goes r.0 r.1, sym one ∙ subst (λ i. settled i route.own now r.0 ≡ settled most_taken route.own now w) e r.2)
+      let one : settle (suc m) route.own now r.0 ≡ settle m route.own now (take_payload route.own now p r.0) =
+      ap (λ x. elim x as (λ y. Work) [ None ↦ r.0 | Some z ↦ settle m route.own now (take_payload route.own now z r.0) ]) (joiner_of r.0 r.1 ∙ q) in
+      (take_payload route.own now p r.0, goes r.0 r.1, sym one ∙ subst (λ i. settle i route.own now r.0 ≡ settle most_taken route.own now w) e r.2)
 
 pub none_waits : (x : Option Payload) → is_some x ≡ false → x ≡ None
 none_waits None e = refl
@@ -173,38 +173,38 @@ pub some_first : (xs : List Payload) (p : Payload) → slice_get xs 0 ≡ Some p
 some_first [] p e = absurd (cc e)
 some_first (x ∷ xs) p e = omega arith
 
-module _ (size : ℕ) (route : Route) (f : Frame) (now : ℕ) (old new : Held) (j j2 : Joined) (k k2 : Pending) where
+module _ (size : ℕ) (route : Route) (f : Frame) (now : ℕ) (old new : LinkView) (j j2 : Joined) (k k2 : Pending) where
   phase_is : (w : Work) → WorkStands size new route j2 k2 w → is_down w.linked.link.phase ≡ is_down new.phase
   phase_is w s = ap (λ (x : State). is_down x.phase) s.link.keeps.is
 
   -- a frame has come, and the link has ended
-  pub arrives_down : Goes size route (stepped route.own (Arrive f) now) old new j j2 k k2 → is_down new.phase ≡ true → Goes size route (arrived route.own f now) old new j j2 k k2
+  pub arrives_down : Goes size route (step_link route.own (Arrive f) now) old new j j2 k k2 → is_down new.phase ≡ true → Goes size route (arrive_at_link route.own f now) old new j j2 k k2
   arrives_down goes e w s =
-      let s2 : Work = stepped route.own (Arrive f) now w in
+      let s2 : Work = step_link route.own (Arrive f) now w in
       let r = goes w s in
-      subst (WorkStands size new route j2 k2) (sym (ap (λ b. if b then s2 else settled most_taken route.own now s2) (phase_is s2 r ∙ e))) r
+      subst (WorkStands size new route j2 k2) (sym (ap (λ b. if b then s2 else settle most_taken route.own now s2) (phase_is s2 r ∙ e))) r
 
   -- or it stands, and what it brought is taken
-  pub arrives_on : (new2 : Held) (j3 : Joined) (k3 : Pending) → Goes size route (stepped route.own (Arrive f) now) old new j j2 k k2 → is_down new.phase ≡ false →
-      Goes size route (settled most_taken route.own now) new new2 j2 j3 k2 k3 → Goes size route (arrived route.own f now) old new2 j j3 k k3
+  pub arrives_on : (new2 : LinkView) (j3 : Joined) (k3 : Pending) → Goes size route (step_link route.own (Arrive f) now) old new j j2 k k2 → is_down new.phase ≡ false →
+      Goes size route (settle most_taken route.own now) new new2 j2 j3 k2 k3 → Goes size route (arrive_at_link route.own f now) old new2 j j3 k k3
   arrives_on new2 j3 k3 goes e more w s =
-      let s2 : Work = stepped route.own (Arrive f) now w in
+      let s2 : Work = step_link route.own (Arrive f) now w in
       let r = goes w s in
-      subst (WorkStands size new2 route j3 k3) (sym (ap (λ b. if b then s2 else settled most_taken route.own now s2) (phase_is s2 r ∙ e))) (more s2 r)
+      subst (WorkStands size new2 route j3 k3) (sym (ap (λ b. if b then s2 else settle most_taken route.own now s2) (phase_is s2 r ∙ e))) (more s2 r)
 
 -- ---- steps that tell nothing
 
-pub quietly : (size : ℕ) (route : Route) (i : Input) (now : ℕ) (old mid new : Held) (fs fs2 : List Written) →
+pub quietly : (size : ℕ) (route : Route) (i : Input) (now : ℕ) (old mid new : LinkView) (fs fs2 : List Written) →
     ((s : State) → StandsFor size old s → Stands size mid (step s i now)) → mid.notice ≡ None → new ≡ record mid { outs = [] } →
     fs2 ≡ fs ++ gone_out size route mid → GoesQuietly size route i now old new fs fs2
 quietly size route i now old mid new fs fs2 does quiet e out s stands =
     let x = does s stands in
-    let outs : (step s i now).outs ≡ map (frame_of size) mid.outs = ap (λ (g : Going). g.outs) x.keeps.is in
+    let outs : (step s i now).outs ≡ map (frame_of size) mid.outs = ap (λ (g : Effect). g.outs) x.keeps.is in
     record {
       link = record {
-        keeps = record { before = x.keeps.before; gots = x.keeps.gots; acked = rw e x.keeps.acked; got = rw e x.keeps.got; is = rw e (ap (λ (g : Going). g.link) x.keeps.is) };
+        keeps = record { before = x.keeps.before; gots = x.keeps.gots; acked = rw e x.keeps.acked; got = rw e x.keeps.got; is = rw e (ap (λ (g : Effect). g.link) x.keeps.is) };
         bounds = x.bounds;
       };
       frames = rw (out, outs) refl;
-      notes = ap (λ (g : Going). g.notes) x.keeps.is ∙ ap option_to_list quiet;
+      notes = ap (λ (g : Effect). g.notes) x.keeps.is ∙ ap option_to_list quiet;
     }

@@ -14,7 +14,7 @@ use Rattle.link_table.specs.declared.entry.Entry.{Entry}
 use Rattle.link_table.specs.declared.held_links.HeldLinks.{HeldLinks}
 use Rattle.link_table.specs.declared.pending.Pending.{Pending}
 use Rattle.link_table.specs.Fetching.{PendingStands, written}
-use Rattle.link_table.specs.Calls.{Offering, at_link, ended, link_frame, made, kept, offer, offer_link, offer_standing, offer_ui, opened_to, packed, most_links, tick, tick_each}
+use Rattle.link_table.specs.Calls.{Offering, at_link, end, link_frame, made, keep, offer, offer_link, offer_standing, offer_ui, set_up_link, pack, most_links, tick, tick_each}
 use Rattle.ax_segment.specs.Joining.{Nothing}
 use Rattle.link_table.specs.declared.route.Route.{Route}
 use Rattle.ax_link.specs.State.{count_end}
@@ -23,14 +23,14 @@ use Rattle.std.proofs.lemmas.List.{map-append}
 use Rattle.ax_link.specs.declared.plain.LinkPhase.{LinkPhase}
 use Rattle.ax_link.specs.declared.plain.LinkPhase.TheVariants.{Down, SettingUp, Up, Releasing}
 use Rattle.ax_link.specs.State.{State, begin}
-use Rattle.ax_link.specs.Table.{Input, Send, Set_up, Tick, accepted, may_close, set_up_in, step, takes}
-use Rattle.ax_link.specs.Standing.{Held, StandsFor}
+use Rattle.ax_link.specs.Table.{Input, Send, Set_up, Tick, accept, may_close, set_up_in, step, takes}
+use Rattle.ax_link.specs.Standing.{LinkView, StandsFor}
 use Rattle.l3_datagram.specs.CarrierCall.{Datagram}
 use Rattle.l3_datagram.specs.declared.carrier.Offered.{Offered}
 use Rattle.l3_datagram.specs.declared.carrier.Offered.TheVariants.{Taken, Dropped}
-use Rattle.link_table.specs.Standing.{width, GoesQuietly, Offers, SameEntry, CoreGoes, AllDrained, CoreStands, EntryGoes, LinkStands, LinksStand, Rests, WorkStands, down_at, down_by, down_left, held_of, size_of}
+use Rattle.link_table.specs.Standing.{width, GoesQuietly, Offers, SameEntry, CoreGoes, AllDrained, CoreStands, EntryGoes, LinkStands, LinksStand, Rests, WorkStands, down_at, down_by, drop_if_down, held_of, size_of}
 use Rattle.link_table.specs.Table.{Linked, Table, path_to, link_with, with_link, without}
-use Rattle.link_table.specs.Works.{Work, arrived, is_down, joiner_after, lost_by, put_out, stepped, told}
+use Rattle.link_table.specs.Works.{Work, arrive_at_link, is_down, joiner_after, lost_by, emit, step_link, tell}
 
 module _ (own peer : Callsign) where
   -- the link that the map has stands for the one that the table has
@@ -169,7 +169,7 @@ pub at_no_link : (c c2 : HeldLinks) (peer : Callsign) (part : Callsign → Work 
     (t : Table) → CoreStands c t → CoreStands c2 (at_link peer (part t.own) t)
 at_no_link c c2 peer part none n entries pending t s =
     subst (CoreStands c2)
-    (sym (ap (λ x. elim x as (λ y. Table) [ None ↦ t | Some l ↦ kept peer (part t.own (record { linked = l; pending = t.pending })) t ]) (none_found c.own peer c.links.entries t.links s.links none)))
+    (sym (ap (λ x. elim x as (λ y. Table) [ None ↦ t | Some l ↦ keep peer (part t.own (record { linked = l; pending = t.pending })) t ]) (none_found c.own peer c.links.entries t.links s.links none)))
     (record {
       own = s.own ∙ sym n.own;
       by_links = s.by_links ∙ sym n.by_links;
@@ -184,7 +184,7 @@ at_no_link c c2 peer part none n entries pending t s =
 pub at_link_stands : (c c2 : HeldLinks) (peer : Callsign) (e e2 : Entry) (kept2 : Pending) (part : Callsign → Work → Work) →
     lookup (same_call peer) c.links.entries ≡ Some e → EntryGoes (part e.route.own) e e2 c.pending kept2 → c2.pending ≡ kept2 →
     SameNode c c2 →
-    c2.links.entries ≡ down_left peer (set_value (same_call peer) c.links.entries e2) →
+    c2.links.entries ≡ drop_if_down peer (set_value (same_call peer) c.links.entries e2) →
     (t : Table) → CoreStands c t → CoreStands c2 (at_link peer (part t.own) t)
 at_link_stands c c2 peer e e2 kept2 part there goes same_pending n entries t s =
     let f : Found c.own peer e t.links = found c.own peer c.links.entries t.links e s.links there in
@@ -207,7 +207,7 @@ at_link_stands c c2 peer e e2 kept2 part there goes same_pending n entries t s =
     set c.own peer c.links.entries t.links e2 w2.linked s.links (λ e3 q g. let same : e3 ≡ e = cc (sym q ∙ there) in one g.key (subst (λ (y : Entry). y.route.peer ≡ g.key) same g.stands.peer)) in
     let phase : is_down w2.linked.link.phase ≡ is_down (held_of e2.link).phase = ap (λ (x : State). is_down x.phase) after.link.keeps.is in
     subst (CoreStands c2)
-    (sym (ap (λ x. elim x as (λ y. Table) [ None ↦ t | Some l ↦ kept peer (part t.own (record { linked = l; pending = t.pending })) t ]) f.with))
+    (sym (ap (λ x. elim x as (λ y. Table) [ None ↦ t | Some l ↦ keep peer (part t.own (record { linked = l; pending = t.pending })) t ]) f.with))
     (record {
       own = s.own ∙ sym n.own;
       by_links = s.by_links ∙ sym n.by_links;
@@ -226,7 +226,7 @@ at_link_stands c c2 peer e e2 kept2 part there goes same_pending n entries t s =
 
 -- and nothing waits at any link
 pub rests_at : (c c2 : HeldLinks) (peer : Callsign) (e2 : Entry) → Rests c → IsDrained (held_of e2.link) →
-    c2.links.entries ≡ down_left peer (set_value (same_call peer) c.links.entries e2) → Rests c2
+    c2.links.entries ≡ drop_if_down peer (set_value (same_call peer) c.links.entries e2) → Rests c2
 rests_at c c2 peer e2 r d entries =
     let es : List (Callsign × Entry) = set_value (same_call peer) c.links.entries e2 in
     let x = left_rests es (down_at peer es) (drained_set peer c.links.entries e2 r.drained d) (subst (λ n. n ≤ most_links) (sym (few_set peer c.links.entries e2)) r.few) in
@@ -253,10 +253,10 @@ pub ticks_first : (ps : List Callsign) (now : ℕ) (c : HeldLinks) → ps ≡ ke
 ticks_first ps now c e t s = (t, s, ap (λ qs. tick_each qs now t) (e ∙ keys_stand c.own c.links.entries t.links s.links))
 
 pub ticks_one : (ps qs : List Callsign) (p : Callsign) (now : ℕ) (old new new2 : HeldLinks) → ps ≡ p ∷ qs → TicksLeft ps now old new →
-    CoreGoes (λ t. at_link p (stepped t.own Tick now) t) new new2 → TicksLeft qs now old new2
+    CoreGoes (λ t. at_link p (step_link t.own Tick now) t) new new2 → TicksLeft qs now old new2
 ticks_one ps qs p now old new new2 e left goes t s =
     let r = left t s in
-    (at_link p (stepped r.0.own Tick now) r.0, goes r.0 r.1, subst (λ xs. tick_each xs now r.0 ≡ tick now t) e r.2)
+    (at_link p (step_link r.0.own Tick now) r.0, goes r.0 r.1, subst (λ xs. tick_each xs now r.0 ≡ tick now t) e r.2)
 
 pub ticks_end : (ps : List Callsign) (now : ℕ) (old new : HeldLinks) → ps ≡ [] → TicksLeft ps now old new → CoreGoes (tick now) old new
 ticks_end ps now old new e left t s =
@@ -317,7 +317,7 @@ append_none (x ∷ xs) = ap (λ ys. x ∷ ys) (append_none xs)
 pub entry_quietly : (i : Input) (now : ℕ) (e e2 : Entry) (k k2 : Pending) → SameEntry e e2 →
     GoesQuietly (size_of e.link) e.route i now (held_of e.link) (held_of e2.link) k.frames.items k2.frames.items →
     k2.waiting.items ≡ k.waiting.items → k2.lost.items ≡ k.lost.items → k2.notices.items ≡ k.notices.items →
-    EntryGoes (stepped e.route.own i now) e e2 k k2
+    EntryGoes (step_link e.route.own i now) e e2 k k2
 entry_quietly i now e e2 k k2 same goes waiting lost notices =
     record {
       route = same.route;
@@ -341,7 +341,7 @@ entry_quietly i now e e2 k k2 same goes waiting lost notices =
 
 -- an entry that isn't Down stays
 pub not_down_left : (peer : Callsign) (es : List (Callsign × Entry)) (e w : Entry) → lookup (same_call peer) es ≡ Some e → is_down (held_of w.link).phase ≡ false →
-    set_value (same_call peer) es w ≡ down_left peer (set_value (same_call peer) es w)
+    set_value (same_call peer) es w ≡ drop_if_down peer (set_value (same_call peer) es w)
 not_down_left peer es e w q d = sym (ap (λ b. if b then remove_entry (same_call peer) (set_value (same_call peer) es w) else set_value (same_call peer) es w) (down_set peer es e w q ∙ d))
 
 set_up_phase : (phase : LinkPhase) (now : ℕ) (s : State) → s.phase ≡ phase → is_down (set_up_in phase now (begin s)).link.phase ≡ false
@@ -361,7 +361,7 @@ takes_phase Releasing b e = absurd (cc e)
 
 pub send_stays : (now : ℕ) (p : Payload) (s : State) → takes s ≡ true → is_down (step s (Send p) now).link.phase ≡ false
 send_stays now p s e =
-    ap (λ b. is_down (if b then accepted (min now count_end) p (begin s) else begin s).link.phase) e ∙ takes_phase s.phase _ e
+    ap (λ b. is_down (if b then accept (min now count_end) p (begin s) else begin s).link.phase) e ∙ takes_phase s.phase _ e
 
 -- a step that tells nothing and leaves the link standing
 pub quiet_at : (c c2 : HeldLinks) (peer : Callsign) (e e2 : Entry) (i : Input) (now : ℕ) →
@@ -370,12 +370,12 @@ pub quiet_at : (c c2 : HeldLinks) (peer : Callsign) (e e2 : Entry) (i : Input) (
     c2.pending.waiting.items ≡ c.pending.waiting.items → c2.pending.lost.items ≡ c.pending.lost.items → c2.pending.notices.items ≡ c.pending.notices.items →
     SameNode c c2 → c2.links.entries ≡ set_value (same_call peer) c.links.entries e2 →
     (t : Table) → CoreStands c t → ((l : Linked) → link_with peer t.links ≡ Some l → is_down (step l.link i now).link.phase ≡ false) →
-    CoreStands c2 (at_link peer (stepped t.own i now) t)
+    CoreStands c2 (at_link peer (step_link t.own i now) t)
 quiet_at c c2 peer e e2 i now there same goes waiting lost notices n entries t s stays =
     let f : Found c.own peer e t.links = found c.own peer c.links.entries t.links e s.links there in
     let q = goes f.link.link f.stands.link in
     let up : is_down (held_of e2.link).phase ≡ false = sym (ap (λ (x : State). is_down x.phase) q.link.keeps.is) ∙ stays f.link f.with in
-    at_link_stands c c2 peer e e2 c2.pending (λ own. stepped own i now) there (entry_quietly i now e e2 c.pending c2.pending same goes waiting lost notices) refl n
+    at_link_stands c c2 peer e e2 c2.pending (λ own. step_link own i now) there (entry_quietly i now e e2 c.pending c2.pending same goes waiting lost notices) refl n
     (entries ∙ not_down_left peer c.links.entries e e2 there up) t s
 
 pub rests_set : (c c2 : HeldLinks) (peer : Callsign) (e2 : Entry) → Rests c → IsDrained (held_of e2.link) →
@@ -397,24 +397,24 @@ with_same peer (m ∷ ls) l q = by (same_call peer m.peer) q (λ r. with_same pe
 -- a payload was offered to the link that stands
 pub offer_at : (c c2 : HeldLinks) (peer : Callsign) (e e2 : Entry) (d : Datagram) (now : ℕ) (answer : Offered) →
     lookup (same_call peer) c.links.entries ≡ Some e → SameEntry e e2 →
-    Offers (size_of e.link) e.route (packed d) now (held_of e.link) (held_of e2.link) c.pending.frames.items c2.pending.frames.items answer →
+    Offers (size_of e.link) e.route (pack d) now (held_of e.link) (held_of e2.link) c.pending.frames.items c2.pending.frames.items answer →
     c2.pending.waiting.items ≡ c.pending.waiting.items → c2.pending.lost.items ≡ c.pending.lost.items → c2.pending.notices.items ≡ c.pending.notices.items →
     SameNode c c2 → c2.links.entries ≡ set_value (same_call peer) c.links.entries e2 →
     (t : Table) → CoreStands c t → (answer ≡ (offer_standing peer d now t).answer) × CoreStands c2 (offer_standing peer d now t).table
 offer_at c c2 peer e e2 d now Taken there same offers waiting lost notices n entries t s =
     let f : Found c.own peer e t.links = found c.own peer c.links.entries t.links e s.links there in
-    let yes : Offering = record { answer = Taken; table = at_link peer (stepped t.own (Send (packed d)) now) t } in
+    let yes : Offering = record { answer = Taken; table = at_link peer (step_link t.own (Send (pack d)) now) t } in
     let no : Offering = record { answer = Dropped; table = t } in
     let is : offer_standing peer d now t ≡ yes =
     ap (λ x. elim x as (λ y. Offering) [ None ↦ no | Some l ↦ if takes l.link then yes else no ]) f.with ∙ ap (λ b. if b then yes else no) (offers.0 f.link.link f.stands.link) in
     subst (λ (o : Offering). (Taken ≡ o.answer) × CoreStands c2 o.table) (sym is) (
       refl,
-      quiet_at c c2 peer e e2 (Send (packed d)) now there same offers.1 waiting lost notices n entries t s
-          (λ l q. let one : f.link ≡ l = cc (sym f.with ∙ q) in send_stays now (packed d) l.link (subst (λ (x : Linked). takes x.link ≡ true) one (offers.0 f.link.link f.stands.link))),
+      quiet_at c c2 peer e e2 (Send (pack d)) now there same offers.1 waiting lost notices n entries t s
+          (λ l q. let one : f.link ≡ l = cc (sym f.with ∙ q) in send_stays now (pack d) l.link (subst (λ (x : Linked). takes x.link ≡ true) one (offers.0 f.link.link f.stands.link))),
     )
 offer_at c c2 peer e e2 d now Dropped there same offers waiting lost notices n entries t s =
     let f : Found c.own peer e t.links = found c.own peer c.links.entries t.links e s.links there in
-    let yes : Offering = record { answer = Taken; table = at_link peer (stepped t.own (Send (packed d)) now) t } in
+    let yes : Offering = record { answer = Taken; table = at_link peer (step_link t.own (Send (pack d)) now) t } in
     let no : Offering = record { answer = Dropped; table = t } in
     let is : offer_standing peer d now t ≡ no =
     ap (λ x. elim x as (λ y. Offering) [ None ↦ no | Some l ↦ if takes l.link then yes else no ]) f.with ∙ ap (λ b. if b then yes else no) (offers.0 f.link.link f.stands.link) in
@@ -424,7 +424,7 @@ offer_at c c2 peer e e2 d now Dropped there same offers waiting lost notices n e
       peer = ap (λ (r : Route). r.peer) same.route ∙ q;
       is = f.stands.is ∙ sym f.stands.peer ∙ q;
       path = f.stands.path ∙ sym (ap (λ (r : Route). r.path) same.route);
-      link = subst (λ m. StandsFor m (held_of e2.link) f.link.link) (sym same.size) (subst (λ (h : Held). StandsFor (size_of e.link) h f.link.link) (sym offers.1) f.stands.link);
+      link = subst (λ m. StandsFor m (held_of e2.link) f.link.link) (sym same.size) (subst (λ (h : LinkView). StandsFor (size_of e.link) h f.link.link) (sym offers.1) f.stands.link);
       joiner = f.stands.joiner ∙ sym same.joiner;
     } in
     let links : LinksStand c.own (set_value (same_call peer) c.links.entries e2) t.links =
@@ -447,7 +447,7 @@ offer_at c c2 peer e e2 d now Dropped there same offers waiting lost notices n e
 pub offer_at_none : (c c2 : HeldLinks) (peer : Callsign) (d : Datagram) (now : ℕ) → lookup (same_call peer) c.links.entries ≡ None →
     CoreGoes (λ t. t) c c2 → (t : Table) → CoreStands c t → (Dropped ≡ (offer_standing peer d now t).answer) × CoreStands c2 (offer_standing peer d now t).table
 offer_at_none c c2 peer d now none goes t s =
-    let yes : Offering = record { answer = Taken; table = at_link peer (stepped t.own (Send (packed d)) now) t } in
+    let yes : Offering = record { answer = Taken; table = at_link peer (step_link t.own (Send (pack d)) now) t } in
     let no : Offering = record { answer = Dropped; table = t } in
     subst (λ (o : Offering). (Dropped ≡ o.answer) × CoreStands c2 o.table)
     (sym (ap (λ x. elim x as (λ y. Offering) [ None ↦ no | Some l ↦ if takes l.link then yes else no ]) (none_found c.own peer c.links.entries t.links s.links none)))
@@ -474,12 +474,12 @@ same_length own (e ∷ es) (l ∷ ls) s = ap suc (same_length own es ls s.1)
 
 -- a new link, set up
 pub opens : (c c2 c3 : HeldLinks) (to : Callsign) (path : ArrayVec Address) (now : ℕ) → path ≡ path_to to c.paths.entries →
-    CoreGoes (made to (width c.wide) path) c c2 → CoreGoes (λ t. at_link to (stepped t.own Set_up now) t) c2 c3 → CoreGoes (opened_to to now) c c3
+    CoreGoes (made to (width c.wide) path) c c2 → CoreGoes (λ t. at_link to (step_link t.own Set_up now) t) c2 c3 → CoreGoes (set_up_link to now) c c3
 opens c c2 c3 to path now e first next t s =
     let size : width c.wide ≡ t.size = sym s.size in
     let over : path ≡ path_to to t.paths = e ∙ ap (path_to to) (sym s.paths) in
-    subst (λ n. CoreStands c3 (at_link to (stepped t.own Set_up now) (made to n (path_to to t.paths) t))) size
-    (subst (λ (p : ArrayVec Address). CoreStands c3 (at_link to (stepped t.own Set_up now) (made to (width c.wide) p t))) over
+    subst (λ n. CoreStands c3 (at_link to (step_link t.own Set_up now) (made to n (path_to to t.paths) t))) size
+    (subst (λ (p : ArrayVec Address). CoreStands c3 (at_link to (step_link t.own Set_up now) (made to (width c.wide) p t))) over
     (next (made to (width c.wide) path t) (first t s)))
 
 pub some_looks : (x : Option Entry) → is_some x ≡ false → x ≡ None
@@ -500,15 +500,15 @@ pub offers_standing : (c c2 : HeldLinks) (to : Callsign) (d : Datagram) (now : �
 offers_standing c c2 to d now answer b e f offers t s =
     let x = entry_looks _ (sym e ∙ f) in
     let y : Found c.own to x.0 t.links = found c.own to c.links.entries t.links x.0 s.links x.1 in
-    let no : Offering = if nat_le most_links (length t.links) then record { answer = Dropped; table = t } else offer_standing to d now (opened_to to now t) in
+    let no : Offering = if nat_le most_links (length t.links) then record { answer = Dropped; table = t } else offer_standing to d now (set_up_link to now t) in
     subst (λ (o : Offering). (answer ≡ o.answer) × CoreStands c2 o.table)
     (sym (ap (λ z. elim z as (λ y. Offering) [ None ↦ no | Some l ↦ offer_standing to d now t ]) y.with)) (offers t s)
 
 offer_link_none : (c : HeldLinks) (to : Callsign) (d : Datagram) (now : ℕ) (full : Bool) (t : Table) → CoreStands c t → lookup (same_call to) c.links.entries ≡ None →
     nat_le most_links (length c.links.entries) ≡ full →
-    offer_link to d now t ≡ (if full then record { answer = Dropped; table = t } else offer_standing to d now (opened_to to now t))
+    offer_link to d now t ≡ (if full then record { answer = Dropped; table = t } else offer_standing to d now (set_up_link to now t))
 offer_link_none c to d now full t s none e =
-    let no : Bool → Offering = λ b. if b then record { answer = Dropped; table = t } else offer_standing to d now (opened_to to now t) in
+    let no : Bool → Offering = λ b. if b then record { answer = Dropped; table = t } else offer_standing to d now (set_up_link to now t) in
     ap (λ z. elim z as (λ y. Offering) [ None ↦ no (nat_le most_links (length t.links)) | Some l ↦ offer_standing to d now t ]) (none_found c.own to c.links.entries t.links s.links none)
     ∙ ap no (ap (nat_le most_links) (sym (same_length c.own c.links.entries t.links s.links)) ∙ e)
 
@@ -518,7 +518,7 @@ offers_full c to d now none l t s =
     subst (λ (o : Offering). (Dropped ≡ o.answer) × CoreStands c o.table) (sym (offer_link_none c to d now true t s none (grind (arith, nat_tests, l)))) (refl, s)
 
 pub offers_new : (c c2 : HeldLinks) (to : Callsign) (d : Datagram) (now : ℕ) (answer : Offered) → lookup (same_call to) c.links.entries ≡ None → length c.links.entries < most_links →
-    ((t : Table) → CoreStands c t → (answer ≡ (offer_standing to d now (opened_to to now t)).answer) × CoreStands c2 (offer_standing to d now (opened_to to now t)).table) →
+    ((t : Table) → CoreStands c t → (answer ≡ (offer_standing to d now (set_up_link to now t)).answer) × CoreStands c2 (offer_standing to d now (set_up_link to now t)).table) →
     (t : Table) → CoreStands c t → (answer ≡ (offer_link to d now t).answer) × CoreStands c2 (offer_link to d now t).table
 offers_new c c2 to d now answer none l offers t s =
     subst (λ (o : Offering). (answer ≡ o.answer) × CoreStands c2 o.table) (sym (offer_link_none c to d now false t s none (grind (arith, nat_tests, l)))) (offers t s)
@@ -558,12 +558,12 @@ rests_removed c c2 peer r q =
 pub ends : (c c2 : HeldLinks) (peer : Callsign) (notices : List LinkNotice) (b : Bool) → b ≡ is_some (lookup (same_call peer) c.links.entries) → b ≡ true → SameNode c c2 →
     c2.links.entries ≡ remove_entry (same_call peer) c.links.entries → c2.pending.waiting.items ≡ c.pending.waiting.items →
     c2.pending.lost.items ≡ c.pending.lost.items ++ lost_by peer notices → c2.pending.notices.items ≡ c.pending.notices.items ++ map (λ n. (peer, n)) notices →
-    c2.pending.frames.items ≡ c.pending.frames.items → CoreGoes (ended peer notices) c c2
+    c2.pending.frames.items ≡ c.pending.frames.items → CoreGoes (end peer notices) c c2
 ends c c2 peer ns b e f n entries waiting lost notices frames t s =
     let x = entry_looks _ (sym e ∙ f) in
     let y : Found c.own peer x.0 t.links = found c.own peer c.links.entries t.links x.0 s.links x.1 in
     subst (CoreStands c2)
-    (sym (ap (λ z. elim z as (λ q. Table) [ None ↦ t | Some l ↦ record t { links = without peer t.links; pending = told peer ns t.pending } ]) y.with))
+    (sym (ap (λ z. elim z as (λ q. Table) [ None ↦ t | Some l ↦ record t { links = without peer t.links; pending = tell peer ns t.pending } ]) y.with))
     (record {
       own = s.own ∙ sym n.own;
       by_links = s.by_links ∙ sym n.by_links;
@@ -580,30 +580,30 @@ ends c c2 peer ns b e f n entries waiting lost notices frames t s =
     })
 
 pub ends_none : (c c2 : HeldLinks) (peer : Callsign) (notices : List LinkNotice) (b : Bool) → b ≡ is_some (lookup (same_call peer) c.links.entries) → b ≡ false → SameNode c c2 →
-    c2.links.entries ≡ remove_entry (same_call peer) c.links.entries → c2.pending ≡ c.pending → CoreGoes (ended peer notices) c c2
+    c2.links.entries ≡ remove_entry (same_call peer) c.links.entries → c2.pending ≡ c.pending → CoreGoes (end peer notices) c c2
 ends_none c c2 peer ns b e f n entries pending t s =
     let none : lookup (same_call peer) c.links.entries ≡ None = some_looks _ (sym e ∙ f) in
     subst (CoreStands c2)
-    (sym (ap (λ z. elim z as (λ q. Table) [ None ↦ t | Some l ↦ record t { links = without peer t.links; pending = told peer ns t.pending } ]) (none_found c.own peer c.links.entries t.links s.links none)))
+    (sym (ap (λ z. elim z as (λ q. Table) [ None ↦ t | Some l ↦ record t { links = without peer t.links; pending = tell peer ns t.pending } ]) (none_found c.own peer c.links.entries t.links s.links none)))
     (unchanged c c2 n (entries ∙ removed_absent peer c.links.entries none) pending t s)
 
 -- ---- a frame to the link with its source
 
-pub sized : (f : AirFrame) (now : ℕ) (e e2 : Entry) (k k2 : Pending) → EntryGoes (arrived e.route.own (link_frame (size_of e.link) f) now) e e2 k k2 →
-    EntryGoes (λ w. arrived e.route.own (link_frame w.linked.link.rules.size f) now w) e e2 k k2
+pub sized : (f : AirFrame) (now : ℕ) (e e2 : Entry) (k k2 : Pending) → EntryGoes (arrive_at_link e.route.own (link_frame (size_of e.link) f) now) e e2 k k2 →
+    EntryGoes (λ w. arrive_at_link e.route.own (link_frame w.linked.link.rules.size f) now w) e e2 k k2
 sized f now e e2 k k2 g =
     record {
       route = g.route;
       size = g.size;
       goes = λ w s.
           let is : size_of e.link ≡ w.linked.link.rules.size = sym (ap (λ (x : State). x.rules.size) s.link.keeps.is) in
-          subst (λ n. WorkStands (size_of e.link) (held_of e2.link) e.route e2.joiner k2 (arrived e.route.own (link_frame n f) now w)) is (g.goes w s);
+          subst (λ n. WorkStands (size_of e.link) (held_of e2.link) e.route e2.joiner k2 (arrive_at_link e.route.own (link_frame n f) now w)) is (g.goes w s);
     }
 
 -- what the node itself puts out
 pub puts_out : (c c2 : HeldLinks) (sents : Callsign → List Sent) → SameNode c c2 → c2.links.entries ≡ c.links.entries → c2.pending.waiting.items ≡ c.pending.waiting.items →
     c2.pending.lost.items ≡ c.pending.lost.items → c2.pending.notices.items ≡ c.pending.notices.items →
-    c2.pending.frames.items ≡ c.pending.frames.items ++ map written (sents c.own) → CoreGoes (λ t. record t { pending = put_out (sents t.own) t.pending }) c c2
+    c2.pending.frames.items ≡ c.pending.frames.items ++ map written (sents c.own) → CoreGoes (λ t. record t { pending = emit (sents t.own) t.pending }) c c2
 puts_out c c2 sents n entries waiting lost notices frames t s =
     record {
       own = s.own ∙ sym n.own;

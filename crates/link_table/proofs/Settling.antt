@@ -7,7 +7,7 @@ use Rattle.ax_link.specs.State.{count_end}
 use Rattle.radio_base.specs.declared.payload.Payload.{Payload}
 use Rattle.ax_address.specs.Callsign.{Callsign}
 use Rattle.ax_address.specs.CallOrder.{same_call}
-use Rattle.ax_link.specs.Moves.{first_early, move_on, next_early, resumed, take_next}
+use Rattle.ax_link.specs.Moves.{first_early, follow_by, next_early, resume, take_next}
 use Rattle.ax_link.specs.State.{State, begin, busy, is_up}
 use Rattle.ax_link.specs.Table.{Send, Set_up, Take, step, takes}
 use Rattle.ax_segment.specs.Joining.{Nothing, join_step}
@@ -19,7 +19,7 @@ use Rattle.link_table.specs.Frames.{netrom, segmented}
 use Rattle.link_table.specs.Laws.{NewLinkTakes, SettledAll}
 use Rattle.link_table.specs.Table.{Linked, Table, link_with, path_to, with_link}
 use Rattle.link_table.proofs.Lifting.{untexted}
-use Rattle.link_table.specs.Works.{first_taken, unless_text, Work, handed_up, most_taken, settled, stepped, taken}
+use Rattle.link_table.specs.Works.{first_to_take, unless_text, Work, hand_up, most_taken, settle, step_link, take_payload}
 
 -- how many places are filled
 abbrev count : List (Option Payload) → ℕ
@@ -55,12 +55,12 @@ next_weight s p q =
     let n : length (s.inbox ++ p ∷ []) ≡ length s.inbox + 1 = length-append s.inbox (p ∷ []) in
     omega (arith, c, n)
 
-move_weight : (k : ℕ) (s : State) → weight (move_on k s) ≡ weight s
+move_weight : (k : ℕ) (s : State) → weight (follow_by k s) ≡ weight s
 move_weight zero s = refl
 move_weight (suc k) s = by (next_early s) refl (λ p. move_weight k (take_next p s))
   where
-    by : (r : Option Payload) → next_early s ≡ r → ((p : Payload) → weight (move_on k (take_next p s)) ≡ weight (take_next p s)) →
-        weight (elim r as (λ y. State) [ None ↦ s | Some p ↦ move_on k (take_next p s) ]) ≡ weight s
+    by : (r : Option Payload) → next_early s ≡ r → ((p : Payload) → weight (follow_by k (take_next p s)) ≡ weight (take_next p s)) →
+        weight (elim r as (λ y. State) [ None ↦ s | Some p ↦ follow_by k (take_next p s) ]) ≡ weight s
     by None q rest = refl
     by (Some p) q rest = rest p ∙ next_weight s p q
 
@@ -77,11 +77,11 @@ take_weight now s p q = by (is_up s.phase && busy s)
     lighter : suc (weight rest) ≡ weight s
     lighter = let l = less s.inbox p q in omega (arith, l)
 
-    by : (b : Bool) → suc (weight (if b then resumed (begin rest) else begin rest).link) ≡ weight s
+    by : (b : Bool) → suc (weight (if b then resume (begin rest) else begin rest).link) ≡ weight s
     by true = ap suc (move_weight (length rest.early) rest) ∙ lighter
     by false = lighter
 
-handed_link : (p : Payload) (w : Work) → (handed_up p w).linked.link ≡ w.linked.link
+handed_link : (p : Payload) (w : Work) → (hand_up p w).linked.link ≡ w.linked.link
 handed_link p w = by (p.pid == netrom) (p.pid == segmented)
   where
     by : (b c : Bool) → (if b
@@ -97,19 +97,19 @@ no_weight : (xs : List Payload) (n : ℕ) → length xs + n ≤ 0 → xs ≡ []
 no_weight [] n l = refl
 no_weight (x ∷ xs) n l = absurd (omega (arith, l))
 
-none_taken : (w : Work) → w.linked.link.inbox ≡ [] → first_taken w ≡ None
+none_taken : (w : Work) → w.linked.link.inbox ≡ [] → first_to_take w ≡ None
 none_taken w e = ap (λ xs. unless_text w.linked.joiner (slice_get xs 0)) e
 
-settles : (n : ℕ) (own : Callsign) (now : ℕ) (w : Work) → weight w.linked.link ≤ n → first_taken (settled n own now w) ≡ None
+settles : (n : ℕ) (own : Callsign) (now : ℕ) (w : Work) → weight w.linked.link ≤ n → first_to_take (settle n own now w) ≡ None
 settles zero own now w l = none_taken w (no_weight w.linked.link.inbox (count w.linked.link.early) l)
-settles (suc n) own now w l = by (first_taken w) refl (λ p m. settles n own now (taken own now p w) m)
+settles (suc n) own now w l = by (first_to_take w) refl (λ p m. settles n own now (take_payload own now p w) m)
   where
-    by : (r : Option Payload) → first_taken w ≡ r →
-        ((p : Payload) → weight (taken own now p w).linked.link ≤ n → first_taken (settled n own now (taken own now p w)) ≡ None) →
-        first_taken (elim r as (λ y. Work) [ None ↦ w | Some p ↦ settled n own now (taken own now p w) ]) ≡ None
+    by : (r : Option Payload) → first_to_take w ≡ r →
+        ((p : Payload) → weight (take_payload own now p w).linked.link ≤ n → first_to_take (settle n own now (take_payload own now p w)) ≡ None) →
+        first_to_take (elim r as (λ y. Work) [ None ↦ w | Some p ↦ settle n own now (take_payload own now p w) ]) ≡ None
     by None q rest = q
     by (Some p) q rest =
-        let same : weight (taken own now p w).linked.link ≡ weight (step w.linked.link Take now).link = ap weight (handed_link p (stepped own Take now w)) in
+        let same : weight (take_payload own now p w).linked.link ≡ weight (step w.linked.link Take now).link = ap weight (handed_link p (step_link own Take now w)) in
         rest p (omega (arith, l, same, take_weight now w.linked.link p (untexted w.linked.joiner (slice_get w.linked.link.inbox 0) p q)))
 
 places_few : (b : Bool) (s : State) → Bounded (stock s) → s.rules.size ≤ 128 → (if b then s.rules.window else 0) ≤ 127
@@ -150,19 +150,19 @@ found_with peer (m ∷ ls) l l2 s q = by (same_call peer m.peer) refl (λ r. fou
     by true e rest r = ap (λ b. if b then Some l2 else link_with peer ls) s
     by false e rest r = ap (λ b. if b then Some m else link_with peer (with_link peer l2 ls)) e ∙ rest r
 
-new_takes : (to : Callsign) (d : Datagram) (now : ℕ) (t : Table) → link_with to t.links ≡ None → (calls.offer_standing to d now (calls.opened_to to now t)).answer ≡ Taken
+new_takes : (to : Callsign) (d : Datagram) (now : ℕ) (t : Table) → link_with to t.links ≡ None → (calls.offer_standing to d now (calls.set_up_link to now t)).answer ≡ Taken
 new_takes to d now t q =
     let made : Table = calls.made to t.size (path_to to t.paths) t in
     let l : Linked = record { peer = to; link = opening (rules_new t.size t.config); path = path_to to t.paths; joiner = Nothing } in
-    let w : Work = stepped t.own Set_up now (record { linked = l; pending = t.pending }) in
+    let w : Work = step_link t.own Set_up now (record { linked = l; pending = t.pending }) in
     let there : link_with to made.links ≡ Some l = found_last to t.links l (call_refl to) q in
-    let opened : calls.opened_to to now t ≡ record made { links = with_link to w.linked made.links; pending = w.pending } =
-    ap (λ x. elim x as (λ y. Table) [ None ↦ made | Some m ↦ calls.kept to (stepped t.own Set_up now (record { linked = m; pending = t.pending })) made ]) there in
-    let found : link_with to (calls.opened_to to now t).links ≡ Some w.linked =
+    let opened : calls.set_up_link to now t ≡ record made { links = with_link to w.linked made.links; pending = w.pending } =
+    ap (λ x. elim x as (λ y. Table) [ None ↦ made | Some m ↦ calls.keep to (step_link t.own Set_up now (record { linked = m; pending = t.pending })) made ]) there in
+    let found : link_with to (calls.set_up_link to now t).links ≡ Some w.linked =
     ap (λ (x : Table). link_with to x.links) opened ∙ found_with to made.links l w.linked (call_refl to) there in
     ap (λ x. (elim x as (λ y. calls.Offering) [
-      | None ↦ record { answer = Dropped; table = calls.opened_to to now t }
-      | Some m ↦ if takes m.link then record { answer = Taken; table = calls.at_link to (stepped (calls.opened_to to now t).own (Send (calls.packed d)) now) (calls.opened_to to now t) } else record { answer = Dropped; table = calls.opened_to to now t }
+      | None ↦ record { answer = Dropped; table = calls.set_up_link to now t }
+      | Some m ↦ if takes m.link then record { answer = Taken; table = calls.at_link to (step_link (calls.set_up_link to now t).own (Send (calls.pack d)) now) (calls.set_up_link to now t) } else record { answer = Dropped; table = calls.set_up_link to now t }
     ]).answer) found
 
 pub new_link_takes : NewLinkTakes
@@ -171,6 +171,6 @@ new_link_takes to d now t q room = by t.by_links
     by : (b : Bool) → (if b then calls.offer_link to d now t else record { answer = Taken; table = calls.offer_ui to d t }).answer ≡ Taken
     by false = refl
     by true =
-        let no : Bool → calls.Offering = λ b. if b then record { answer = Dropped; table = t } else calls.offer_standing to d now (calls.opened_to to now t) in
+        let no : Bool → calls.Offering = λ b. if b then record { answer = Dropped; table = t } else calls.offer_standing to d now (calls.set_up_link to now t) in
         ap (λ x. (elim x as (λ y. calls.Offering) [ None ↦ no (nat_le calls.most_links (length t.links)) | Some l ↦ calls.offer_standing to d now t ]).answer) q
         ∙ ap (λ b. (no b).answer) room ∙ new_takes to d now t q

@@ -6,7 +6,7 @@ use Rattle.std.proofs.lemmas.Bool.{eqb-true}
 use Rattle.radio_base.specs.declared.payload.Payload.{Payload}
 use Rattle.ax_address.specs.Callsign.{Callsign}
 use Rattle.ax_address.specs.CallOrder.{same_call}
-use Rattle.ax_link.specs.Standing.{Held, Stands, StandsFor}
+use Rattle.ax_link.specs.Standing.{LinkView, Stands, StandsFor}
 use Rattle.ax_link.specs.State.{State, count_end}
 use Rattle.ax_link.specs.Table.{Take, may_close, step}
 use Rattle.ax_segment.specs.Joining.{Held as Joined, join_step, whole_of}
@@ -19,7 +19,7 @@ use Rattle.link_table.specs.Standing.{CoreGoes, CoreStands, Goes, HandsUp, Lifte
 use Rattle.link_table.specs.Calls.{at_link}
 use Rattle.link_table.specs.Table.{Linked, Table}
 use Rattle.link_table.specs.Texts as texts
-use Rattle.link_table.specs.Works.{Work, is_text, joiner_after, most_taken, settled, taken, text_by}
+use Rattle.link_table.specs.Works.{Work, is_text, joiner_after, most_taken, settle, take_payload, text_by}
 use Rattle.link_table.proofs.Lifting.{takes_one}
 use Rattle.link_table.proofs.Tables.{to_table}
 use Rattle.link_table.proofs.Links.{Found, found, none_found}
@@ -44,19 +44,19 @@ was_text j p = by (is_text j p)
     by true q = refl
     by false q = absurd (cc q)
 
-pub text_goes : (size : ℕ) (route : Route) (now : ℕ) (p : Payload) (old mid new new2 : Held) (j j2 j3 j4 : Joined) (k k2 k3 : Pending) →
+pub text_goes : (size : ℕ) (route : Route) (now : ℕ) (p : Payload) (old mid new new2 : LinkView) (j j2 j3 j4 : Joined) (k k2 k3 : Pending) →
     slice_get old.inbox 0 ≡ Some p → is_some (texts.first_text j (slice_get old.inbox 0)) ≡ true →
     ((s : State) → StandsFor size old s → Stands size mid (step s Take now)) → mid.notice ≡ None → Lifted size route mid new j j2 k k2 →
-    j3 ≡ joined_with p j2 → Goes size route (settled most_taken route.own now) new new2 j3 j4 k2 k3 →
-    Goes size route (texts.text_taken route.own now) old new2 j j4 k k3
+    j3 ≡ joined_with p j2 → Goes size route (settle most_taken route.own now) new new2 j3 j4 k2 k3 →
+    Goes size route (texts.take_text_of route.own now) old new2 j j4 k k3
 text_goes size route now p old mid new new2 j j2 j3 j4 k k2 k3 first waits does quiet l e more w s =
     let same : j2 ≡ j = l.joiner ∙ ap (λ n. joiner_after (option_to_list n) j) quiet in
     let is : is_text j2 p ≡ true = ap (λ x. is_text x p) same ∙ was_text j p (ap (λ x. is_some (texts.first_text j x)) (sym first) ∙ waits) in
-    let one : Goes size route (taken route.own now p) old new j j3 k k2 = takes_one size route now p p old mid new j j2 j3 k k2 k2 refl does l (text_handed route p j2 j3 k2 is e) in
+    let one : Goes size route (take_payload route.own now p) old new j j3 k k2 = takes_one size route now p p old mid new j j2 j3 k k2 k2 refl does l (text_handed route p j2 j3 k2 is e) in
     let there : slice_get w.linked.link.inbox 0 ≡ Some p = ap (λ (x : State). slice_get x.inbox 0) s.link.keeps.is ∙ first in
     subst (WorkStands size new2 route j4 k3)
-    (sym (ap (λ x. elim x as (λ y. Work) [ None ↦ w | Some q ↦ settled most_taken route.own now (taken route.own now q w) ]) there))
-    (more (taken route.own now p w) (one w s))
+    (sym (ap (λ x. elim x as (λ y. Work) [ None ↦ w | Some q ↦ settle most_taken route.own now (take_payload route.own now q w) ]) there))
+    (more (take_payload route.own now p w) (one w s))
 
 -- ---- what waits at a link, as the map and as the table have it
 
@@ -73,7 +73,7 @@ text_same own peer es t s = by (lookup (same_call peer) es) refl
         ap with_text f.with ∙ ap (λ j. texts.first_text j (slice_get f.link.link.inbox 0)) f.stands.joiner
         ∙ ap (λ (x : State). texts.first_text y.joiner (slice_get x.inbox 0)) f.stands.link.keeps.is ∙ sym (ap text_of_entry e)
 
-room_stands : (size : ℕ) (h : Held) (s : State) → StandsFor size h s → texts.room_of s ≡ room_in h
+room_stands : (size : ℕ) (h : LinkView) (s : State) → StandsFor size h s → texts.room_of s ≡ room_in h
 room_stands size h s st = ap texts.room_of st.keeps.is ∙ by (may_close h.phase && not h.closing)
   where
     n : ℕ
@@ -107,14 +107,14 @@ room_same own peer es t s = by (lookup (same_call peer) es) refl
 -- ---- the text that waits is taken, where one does
 
 pub took : (c c2 : HeldLinks) (peer : Callsign) (now : ℕ) (b : Bool) → b ≡ is_some (text_at peer c.links.entries) → b ≡ true →
-    CoreGoes (λ t. at_link peer (texts.text_taken t.own now) t) c c2 → CoreGoes (texts.take_text peer now) c c2
+    CoreGoes (λ t. at_link peer (texts.take_text_of t.own now) t) c c2 → CoreGoes (texts.take_text peer now) c c2
 took c c2 peer now b e q goes t s =
-    subst (CoreStands c2) (sym (ap (λ d. if d then at_link peer (texts.text_taken t.own now) t else t) (ap is_some (text_same c.own peer c.links.entries t s.links) ∙ sym e ∙ q))) (goes t s)
+    subst (CoreStands c2) (sym (ap (λ d. if d then at_link peer (texts.take_text_of t.own now) t else t) (ap is_some (text_same c.own peer c.links.entries t s.links) ∙ sym e ∙ q))) (goes t s)
 
 pub took_none : (c : HeldLinks) (peer : Callsign) (now : ℕ) (b : Bool) (t : Table) → LinksStand c.own c.links.entries t.links → b ≡ is_some (text_at peer c.links.entries) → b ≡ false →
     texts.take_text peer now t ≡ t
 took_none c peer now b t s e q =
-    ap (λ d. if d then at_link peer (texts.text_taken t.own now) t else t) (ap is_some (text_same c.own peer c.links.entries t s) ∙ sym e ∙ q)
+    ap (λ d. if d then at_link peer (texts.take_text_of t.own now) t else t) (ap is_some (text_same c.own peer c.links.entries t s) ∙ sym e ∙ q)
 
 pub no_text : (x : Option (List ℕ)) (b : Bool) → b ≡ is_some x → b ≡ false → None ≡ x
 no_text None b e q = refl

@@ -20,7 +20,7 @@ use Rattle.link_table.specs.Frames.{netrom, segmented}
 use Rattle.link_table.specs.Laws.{OnlyFramesBring}
 use Rattle.link_table.specs.Table.{Linked, Table, link_with, path_to, without}
 use Rattle.link_table.specs.Texts as texts
-use Rattle.link_table.specs.Works.{Work, arrived, first_taken, is_down, handed_up, most_taken, settled, stepped, taken, told}
+use Rattle.link_table.specs.Works.{Work, arrive_at_link, first_to_take, is_down, hand_up, most_taken, settle, step_link, take_payload, tell}
 use Rattle.link_table.proofs.Carrier.{same_call-true}
 
 -- pairs with this call were added
@@ -37,7 +37,7 @@ all_snoc peer (x ∷ xs) ys a b = (a.0, all_snoc peer xs ys a.1 b)
 next : (peer : Callsign) (a b c : List Parcel) → Adds peer a b → Adds peer b c → Adds peer a c
 next peer a b c x y = (x.0 ++ y.0, y.1 ∙ ap (λ zs. zs ++ y.0) x.1 ∙ append_assoc a x.0 y.0, all_snoc peer x.0 y.0 x.2 y.2)
 
-handed_adds : (p : Payload) (w : Work) → Adds w.linked.peer w.pending.waiting (handed_up p w).pending.waiting
+handed_adds : (p : Payload) (w : Work) → Adds w.linked.peer w.pending.waiting (hand_up p w).pending.waiting
 handed_adds p w = by (p.pid == netrom) (p.pid == segmented)
   where
     by : (b c : Bool) → Adds w.linked.peer w.pending.waiting (if b
@@ -49,7 +49,7 @@ handed_adds p w = by (p.pid == netrom) (p.pid == segmented)
     by false true = nothing w.linked.peer w.pending.waiting
     by false false = nothing w.linked.peer w.pending.waiting
 
-handed_peer : (p : Payload) (w : Work) → (handed_up p w).linked.peer ≡ w.linked.peer
+handed_peer : (p : Payload) (w : Work) → (hand_up p w).linked.peer ≡ w.linked.peer
 handed_peer p w = by (p.pid == netrom) (p.pid == segmented)
   where
     by : (b c : Bool) → (if b
@@ -61,35 +61,35 @@ handed_peer p w = by (p.pid == netrom) (p.pid == segmented)
     by false true = refl
     by false false = refl
 
-settled_adds : (n : ℕ) (own peer : Callsign) (now : ℕ) (w : Work) → w.linked.peer ≡ peer → Adds peer w.pending.waiting (settled n own now w).pending.waiting
+settled_adds : (n : ℕ) (own peer : Callsign) (now : ℕ) (w : Work) → w.linked.peer ≡ peer → Adds peer w.pending.waiting (settle n own now w).pending.waiting
 settled_adds zero own peer now w e = nothing peer w.pending.waiting
-settled_adds (suc n) own peer now w e = by (first_taken w) (λ p q. settled_adds n own peer now (taken own now p w) q)
+settled_adds (suc n) own peer now w e = by (first_to_take w) (λ p q. settled_adds n own peer now (take_payload own now p w) q)
   where
-    by : (r : Option Payload) → ((p : Payload) → (taken own now p w).linked.peer ≡ peer → Adds peer (taken own now p w).pending.waiting (settled n own now (taken own now p w)).pending.waiting) →
-        Adds peer w.pending.waiting (elim r as (λ y. Work) [ None ↦ w | Some p ↦ settled n own now (taken own now p w) ]).pending.waiting
+    by : (r : Option Payload) → ((p : Payload) → (take_payload own now p w).linked.peer ≡ peer → Adds peer (take_payload own now p w).pending.waiting (settle n own now (take_payload own now p w)).pending.waiting) →
+        Adds peer w.pending.waiting (elim r as (λ y. Work) [ None ↦ w | Some p ↦ settle n own now (take_payload own now p w) ]).pending.waiting
     by None rest = nothing peer w.pending.waiting
     by (Some p) rest =
-        let s : Work = stepped own Take now w in
-        next peer w.pending.waiting (taken own now p w).pending.waiting (settled n own now (taken own now p w)).pending.waiting
-        (subst (λ k. Adds k s.pending.waiting (handed_up p s).pending.waiting) e (handed_adds p s)) (rest p (handed_peer p s ∙ e))
+        let s : Work = step_link own Take now w in
+        next peer w.pending.waiting (take_payload own now p w).pending.waiting (settle n own now (take_payload own now p w)).pending.waiting
+        (subst (λ k. Adds k s.pending.waiting (hand_up p s).pending.waiting) e (handed_adds p s)) (rest p (handed_peer p s ∙ e))
 
-text_adds : (own peer : Callsign) (now : ℕ) (w : Work) → w.linked.peer ≡ peer → Adds peer w.pending.waiting (texts.text_taken own now w).pending.waiting
+text_adds : (own peer : Callsign) (now : ℕ) (w : Work) → w.linked.peer ≡ peer → Adds peer w.pending.waiting (texts.take_text_of own now w).pending.waiting
 text_adds own peer now w e = by (slice_get w.linked.link.inbox 0)
   where
-    by : (r : Option Payload) → Adds peer w.pending.waiting (elim r as (λ y. Work) [ None ↦ w | Some p ↦ settled most_taken own now (taken own now p w) ]).pending.waiting
+    by : (r : Option Payload) → Adds peer w.pending.waiting (elim r as (λ y. Work) [ None ↦ w | Some p ↦ settle most_taken own now (take_payload own now p w) ]).pending.waiting
     by None = nothing peer w.pending.waiting
     by (Some p) =
-        let s : Work = stepped own Take now w in
-        next peer w.pending.waiting (taken own now p w).pending.waiting (settled most_taken own now (taken own now p w)).pending.waiting
-        (subst (λ k. Adds k s.pending.waiting (handed_up p s).pending.waiting) e (handed_adds p s)) (settled_adds most_taken own peer now (taken own now p w) (handed_peer p s ∙ e))
+        let s : Work = step_link own Take now w in
+        next peer w.pending.waiting (take_payload own now p w).pending.waiting (settle most_taken own now (take_payload own now p w)).pending.waiting
+        (subst (λ k. Adds k s.pending.waiting (hand_up p s).pending.waiting) e (handed_adds p s)) (settled_adds most_taken own peer now (take_payload own now p w) (handed_peer p s ∙ e))
 
-arrived_adds : (own peer : Callsign) (f : Frame) (now : ℕ) (w : Work) → w.linked.peer ≡ peer → Adds peer w.pending.waiting (arrived own f now w).pending.waiting
+arrived_adds : (own peer : Callsign) (f : Frame) (now : ℕ) (w : Work) → w.linked.peer ≡ peer → Adds peer w.pending.waiting (arrive_at_link own f now w).pending.waiting
 arrived_adds own peer f now w e = by (is_down s.linked.link.phase)
   where
     s : Work
-    s = stepped own (Arrive f) now w
+    s = step_link own (Arrive f) now w
 
-    by : (b : Bool) → Adds peer w.pending.waiting (if b then s else settled most_taken own now s).pending.waiting
+    by : (b : Bool) → Adds peer w.pending.waiting (if b then s else settle most_taken own now s).pending.waiting
     by true = nothing peer w.pending.waiting
     by false = settled_adds most_taken own peer now s e
 
@@ -105,7 +105,7 @@ to_link_adds : (f : AirFrame) (now : ℕ) (t : Table) → Adds (calls.source f) 
 to_link_adds f now t = by (link_with (calls.source f) t.links) refl
   where
     by : (r : Option Linked) → link_with (calls.source f) t.links ≡ r → Adds (calls.source f) t.pending.waiting (elim r as (λ y. Table)
-        [ None ↦ t | Some l ↦ calls.kept (calls.source f) (arrived t.own (calls.link_frame l.link.rules.size f) now (record { linked = l; pending = t.pending })) t ]).pending.waiting
+        [ None ↦ t | Some l ↦ calls.keep (calls.source f) (arrive_at_link t.own (calls.link_frame l.link.rules.size f) now (record { linked = l; pending = t.pending })) t ]).pending.waiting
     by None e = nothing (calls.source f) t.pending.waiting
     by (Some l) e = arrived_adds t.own (calls.source f) (calls.link_frame l.link.rules.size f) now (record { linked = l; pending = t.pending }) (sym (peer_found (calls.source f) t.links l e))
 
@@ -113,11 +113,11 @@ take_adds : (peer : Callsign) (now : ℕ) (t : Table) → Adds peer t.pending.wa
 take_adds peer now t = at (is_some (texts.text_with peer t))
   where
     by : (r : Option Linked) → link_with peer t.links ≡ r →
-        Adds peer t.pending.waiting (elim r as (λ y. Table) [ None ↦ t | Some l ↦ calls.kept peer (texts.text_taken t.own now (record { linked = l; pending = t.pending })) t ]).pending.waiting
+        Adds peer t.pending.waiting (elim r as (λ y. Table) [ None ↦ t | Some l ↦ calls.keep peer (texts.take_text_of t.own now (record { linked = l; pending = t.pending })) t ]).pending.waiting
     by None e = nothing peer t.pending.waiting
     by (Some l) e = text_adds t.own peer now (record { linked = l; pending = t.pending }) (sym (peer_found peer t.links l e))
 
-    at : (b : Bool) → Adds peer t.pending.waiting (if b then calls.at_link peer (texts.text_taken t.own now) t else t).pending.waiting
+    at : (b : Bool) → Adds peer t.pending.waiting (if b then calls.at_link peer (texts.take_text_of t.own now) t else t).pending.waiting
     at true = by (link_with peer t.links) refl
     at false = nothing peer t.pending.waiting
 
@@ -126,21 +126,21 @@ take_adds peer now t = at (is_some (texts.text_with peer t))
 at_link_keeps : (peer : Callsign) (part : Work → Work) (t : Table) → ((w : Work) → (part w).pending.waiting ≡ w.pending.waiting) → (calls.at_link peer part t).pending.waiting ≡ t.pending.waiting
 at_link_keeps peer part t k = by (link_with peer t.links)
   where
-    by : (r : Option Linked) → (elim r as (λ y. Table) [ None ↦ t | Some l ↦ calls.kept peer (part (record { linked = l; pending = t.pending })) t ]).pending.waiting ≡ t.pending.waiting
+    by : (r : Option Linked) → (elim r as (λ y. Table) [ None ↦ t | Some l ↦ calls.keep peer (part (record { linked = l; pending = t.pending })) t ]).pending.waiting ≡ t.pending.waiting
     by None = refl
     by (Some l) = k (record { linked = l; pending = t.pending })
 
-ended_keeps : (peer : Callsign) (notes : List LinkNotice) (t : Table) → (calls.ended peer notes t).pending.waiting ≡ t.pending.waiting
+ended_keeps : (peer : Callsign) (notes : List LinkNotice) (t : Table) → (calls.end peer notes t).pending.waiting ≡ t.pending.waiting
 ended_keeps peer notes t = by (link_with peer t.links)
   where
-    by : (r : Option Linked) → (elim r as (λ y. Table) [ None ↦ t | Some l ↦ record t { links = without peer t.links; pending = told peer notes t.pending } ]).pending.waiting ≡ t.pending.waiting
+    by : (r : Option Linked) → (elim r as (λ y. Table) [ None ↦ t | Some l ↦ record t { links = without peer t.links; pending = tell peer notes t.pending } ]).pending.waiting ≡ t.pending.waiting
     by None = refl
     by (Some l) = refl
 
 new_adds : (size : ℕ) (pf : Bool) (f : AirFrame) (now : ℕ) (t : Table) → Adds (calls.source f) t.pending.waiting (calls.set_up_new size pf f now t).pending.waiting
 new_adds size pf f now t = by (nat_le calls.most_links (length t.links))
   where
-    by : (c : Bool) → Adds (calls.source f) t.pending.waiting (if c then calls.answered f (control.Dm pf) [] t else calls.to_link f now (calls.made (calls.source f) size (calls.back f) t)).pending.waiting
+    by : (c : Bool) → Adds (calls.source f) t.pending.waiting (if c then calls.answer f (control.Dm pf) [] t else calls.to_link f now (calls.made (calls.source f) size (calls.back f) t)).pending.waiting
     by true = nothing (calls.source f) t.pending.waiting
     by false = to_link_adds f now (calls.made (calls.source f) size (calls.back f) t)
 
@@ -148,7 +148,7 @@ set_up_adds : (size : ℕ) (pf : Bool) (f : AirFrame) (now : ℕ) (t : Table) �
 set_up_adds size pf f now t = by (link_with (calls.source f) t.links)
   where
     e : Table
-    e = calls.ended (calls.source f) (Closed ∷ []) t
+    e = calls.end (calls.source f) (Closed ∷ []) t
 
     same : (c : Bool) → Adds (calls.source f) t.pending.waiting (if c then calls.to_link f now t else calls.set_up_new size pf f now e).pending.waiting
     same true = to_link_adds f now t
@@ -162,11 +162,11 @@ set_up_adds size pf f now t = by (link_with (calls.source f) t.links)
 other_adds : (f : AirFrame) (now : ℕ) (t : Table) → Adds (calls.source f) t.pending.waiting (calls.no_set_up f now t).pending.waiting
 other_adds f now t = by (link_with (calls.source f) t.links)
   where
-    down : (c : Bool) → Adds (calls.source f) t.pending.waiting (if c then calls.answered_down f t else t).pending.waiting
+    down : (c : Bool) → Adds (calls.source f) t.pending.waiting (if c then calls.answer_down f t else t).pending.waiting
     down true = nothing (calls.source f) t.pending.waiting
     down false = nothing (calls.source f) t.pending.waiting
 
-    by : (r : Option Linked) → Adds (calls.source f) t.pending.waiting (elim r as (λ y. Table) [ None ↦ if is_command f.head then calls.answered_down f t else t | Some l ↦ calls.to_link f now t ]).pending.waiting
+    by : (r : Option Linked) → Adds (calls.source f) t.pending.waiting (elim r as (λ y. Table) [ None ↦ if is_command f.head then calls.answer_down f t else t | Some l ↦ calls.to_link f now t ]).pending.waiting
     by None = down (is_command f.head)
     by (Some l) = to_link_adds f now t
 
@@ -211,19 +211,19 @@ kind_adds false (control.Test pf) f now t = other_adds f now t
 
 ticks_keep : (peers : List Callsign) (now : ℕ) (t : Table) → (calls.tick_each peers now t).pending.waiting ≡ t.pending.waiting
 ticks_keep [] now t = refl
-ticks_keep (p ∷ ps) now t = ticks_keep ps now (calls.at_link p (stepped t.own Tick now) t) ∙ at_link_keeps p (stepped t.own Tick now) t (λ w. refl)
+ticks_keep (p ∷ ps) now t = ticks_keep ps now (calls.at_link p (step_link t.own Tick now) t) ∙ at_link_keeps p (step_link t.own Tick now) t (λ w. refl)
 
 standing_keeps : (to : Callsign) (d : Datagram) (now : ℕ) (t : Table) → (calls.offer_standing to d now t).table.pending.waiting ≡ t.pending.waiting
 standing_keeps to d now t = by (link_with to t.links)
   where
     yes : calls.Offering
-    yes = record { answer = Taken; table = calls.at_link to (stepped t.own (Send (calls.packed d)) now) t }
+    yes = record { answer = Taken; table = calls.at_link to (step_link t.own (Send (calls.pack d)) now) t }
 
     no : calls.Offering
     no = record { answer = Dropped; table = t }
 
     takes_by : (b : Bool) → (if b then yes else no).table.pending.waiting ≡ t.pending.waiting
-    takes_by true = at_link_keeps to (stepped t.own (Send (calls.packed d)) now) t (λ w. refl)
+    takes_by true = at_link_keeps to (step_link t.own (Send (calls.pack d)) now) t (λ w. refl)
     takes_by false = refl
 
     by : (r : Option Linked) → (elim r as (λ y. calls.Offering) [ None ↦ no | Some l ↦ if takes l.link then yes else no ]).table.pending.waiting ≡ t.pending.waiting
@@ -236,12 +236,12 @@ link_keeps to d now t = by (link_with to t.links)
     m : Table
     m = calls.made to t.size (path_to to t.paths) t
 
-    full : (b : Bool) → (if b then record { answer = Dropped; table = t } else calls.offer_standing to d now (calls.opened_to to now t)).table.pending.waiting ≡ t.pending.waiting
+    full : (b : Bool) → (if b then record { answer = Dropped; table = t } else calls.offer_standing to d now (calls.set_up_link to now t)).table.pending.waiting ≡ t.pending.waiting
     full true = refl
-    full false = standing_keeps to d now (calls.opened_to to now t) ∙ at_link_keeps to (stepped t.own Set_up now) m (λ w. refl)
+    full false = standing_keeps to d now (calls.set_up_link to now t) ∙ at_link_keeps to (step_link t.own Set_up now) m (λ w. refl)
 
     by : (r : Option Linked) → (elim r as (λ y. calls.Offering) [
-      | None ↦ if nat_le calls.most_links (length t.links) then record { answer = Dropped; table = t } else calls.offer_standing to d now (calls.opened_to to now t)
+      | None ↦ if nat_le calls.most_links (length t.links) then record { answer = Dropped; table = t } else calls.offer_standing to d now (calls.set_up_link to now t)
       | Some l ↦ calls.offer_standing to d now t
     ]).table.pending.waiting ≡ t.pending.waiting
     by None = full (nat_le calls.most_links (length t.links))
@@ -260,7 +260,7 @@ only_frames_bring =
       arrives = λ t f now. kind_adds (is_command f.head) f.control f now t;
       takes = λ t peer now. take_adds peer now t;
       ticks = λ t now. ticks_keep (map (λ l. l.peer) t.links) now t;
-      closes = λ t peer now. at_link_keeps peer (stepped t.own Close now) t (λ w. refl);
+      closes = λ t peer now. at_link_keeps peer (step_link t.own Close now) t (λ w. refl);
       breaks = λ t peer. ended_keeps peer (Failed ∷ []) t;
       offers = λ t to d now. offer_keeps to d now t;
     }

@@ -27,15 +27,15 @@ use Rattle.l3_datagram.specs.declared.carrier.Offered.{Offered}
 use Rattle.l3_datagram.specs.declared.carrier.Offered.TheVariants.{Taken, Dropped}
 use Rattle.link_table.specs.Frames.{Sent, netrom, sent, fitting, head_to, all_sent}
 use Rattle.link_table.specs.Table.{Table, link_with, with_link, without, path_to}
-use Rattle.link_table.specs.Works.{Work, arrived, is_down, put_out, stepped, told}
+use Rattle.link_table.specs.Works.{Work, arrive_at_link, is_down, emit, step_link, tell}
 
 -- the most links of a node
 abbrev pub most_links : ℕ
 most_links = 64
 
 -- the table after work at the link with a peer: a link that is Down leaves at once
-abbrev pub kept : Callsign → Work → Table → Table
-kept peer w t =
+abbrev pub keep : Callsign → Work → Table → Table
+keep peer w t =
     record t {
       links = if is_down w.linked.link.phase then without peer t.links else with_link peer w.linked t.links;
       pending = w.pending;
@@ -45,13 +45,13 @@ kept peer w t =
 abbrev pub at_link : Callsign → (Work → Work) → Table → Table
 at_link peer part t =
     elim (link_with peer t.links) as (λ x. Table)
-    [ None ↦ t | Some l ↦ kept peer (part (record { linked = l; pending = t.pending })) t ]
+    [ None ↦ t | Some l ↦ keep peer (part (record { linked = l; pending = t.pending })) t ]
 
 -- a link that ends without a frame
-abbrev pub ended : Callsign → List LinkNotice → Table → Table
-ended peer notes t =
+abbrev pub end : Callsign → List LinkNotice → Table → Table
+end peer notes t =
     elim (link_with peer t.links) as (λ x. Table)
-    [ None ↦ t | Some l ↦ record t { links = without peer t.links; pending = told peer notes t.pending } ]
+    [ None ↦ t | Some l ↦ record t { links = without peer t.links; pending = tell peer notes t.pending } ]
 
 -- one link more, which is Down
 abbrev pub made : Callsign → ℕ → ArrayVec Address → Table → Table
@@ -67,8 +67,8 @@ abbrev pub source : AirFrame → Callsign
 source f = f.head.source.call
 
 -- an answer of the node itself goes over the way back
-abbrev pub answered : AirFrame → Control → List ℕ → Table → Table
-answered f c info t = record t { pending = put_out (fitting (sent 8 (frame (head_to t.own (source f) (back f) false) c None info))) t.pending }
+abbrev pub answer : AirFrame → Control → List ℕ → Table → Table
+answer f c info t = record t { pending = emit (fitting (sent 8 (frame (head_to t.own (source f) (back f) false) c None info))) t.pending }
 
 -- the frame, as a link of this modulus takes it
 abbrev pub link_frame : ℕ → AirFrame → Frame
@@ -76,7 +76,7 @@ link_frame size f = frame_in size (is_command f.head) f.control f.pid f.info
 
 -- the frame goes to the link with its source, by that link's modulus
 abbrev pub to_link : AirFrame → ℕ → Table → Table
-to_link f now t = at_link (source f) (λ w. arrived t.own (link_frame w.linked.link.rules.size f) now w) t
+to_link f now t = at_link (source f) (λ w. arrive_at_link t.own (link_frame w.linked.link.rules.size f) now w) t
 
 -- the P/F bit of the DM with which a station without a link answers a command, where it answers
 abbrev pub refusal_of : Control → Option Bool
@@ -94,14 +94,14 @@ refused_by own peer path None = []
 refused_by own peer path (Some pf) = fitting (sent 8 (frame (head_to own peer path false) (control.Dm pf) None []))
 
 -- where no link stands, a command is answered as by a link that is Down, as the law of `answered_as_down` says
-abbrev pub answered_down : AirFrame → Table → Table
-answered_down f t = record t { pending = put_out (refused_by t.own (source f) (back f) (refusal_of f.control)) t.pending }
+abbrev pub answer_down : AirFrame → Table → Table
+answer_down f t = record t { pending = emit (refused_by t.own (source f) (back f) (refusal_of f.control)) t.pending }
 
 -- a set-up command where no link stands makes a new one, for which there has to be room
 abbrev pub set_up_new : ℕ → Bool → AirFrame → ℕ → Table → Table
 set_up_new size pf f now t =
     if nat_le most_links (length t.links)
-    then answered f (control.Dm pf) [] t
+    then answer f (control.Dm pf) [] t
     else to_link f now (made (source f) size (back f) t)
 
 -- a set-up command of this modulus. One of the other modulus ends the link first
@@ -109,12 +109,12 @@ abbrev pub set_up : ℕ → Bool → AirFrame → ℕ → Table → Table
 set_up size pf f now t =
     elim (link_with (source f) t.links) as (λ x. Table) [
       | None ↦ set_up_new size pf f now t
-      | Some l ↦ if l.link.rules.size == size then to_link f now t else set_up_new size pf f now (ended (source f) (Closed ∷ []) t)
+      | Some l ↦ if l.link.rules.size == size then to_link f now t else set_up_new size pf f now (end (source f) (Closed ∷ []) t)
     ]
 
 abbrev pub no_set_up : AirFrame → ℕ → Table → Table
 no_set_up f now t =
-    elim (link_with (source f) t.links) as (λ x. Table) [ None ↦ if is_command f.head then answered_down f t else t | Some l ↦ to_link f now t ]
+    elim (link_with (source f) t.links) as (λ x. Table) [ None ↦ if is_command f.head then answer_down f t else t | Some l ↦ to_link f now t ]
 
 -- a datagram in a UI frame
 abbrev pub ui : AirFrame → Option ℕ → Table → Table
@@ -127,7 +127,7 @@ ui f (Some pid) t =
 -- a frame to this node, by its kind
 abbrev pub arrive_kind : Bool → Control → AirFrame → ℕ → Table → Table
 arrive_kind command (control.Ui pf) f now t = ui f f.pid t
-arrive_kind true (control.Test pf) f now t = answered f (control.Test pf) f.info t
+arrive_kind true (control.Test pf) f now t = answer f (control.Test pf) f.info t
 arrive_kind true (control.Sabm pf) f now t = set_up 8 pf f now t
 arrive_kind true (control.Sabme pf) f now t = set_up 128 pf f now t
 arrive_kind command _ f now t = no_set_up f now t
@@ -140,16 +140,16 @@ arrive f now t = arrive_kind (is_command f.head) f.control f now t
 -- time has passed at the links with these peers, one after another
 abbrev pub tick_each : List Callsign → ℕ → Table → Table
 tick_each [] now t = t
-tick_each (peer ∷ peers) now t = tick_each peers now (at_link peer (stepped t.own Tick now) t)
+tick_each (peer ∷ peers) now t = tick_each peers now (at_link peer (step_link t.own Tick now) t)
 
 abbrev pub tick : ℕ → Table → Table
 tick now t = tick_each (map (λ l. l.peer) t.links) now t
 
 abbrev pub close : Callsign → ℕ → Table → Table
-close peer now t = at_link peer (stepped t.own Close now) t
+close peer now t = at_link peer (step_link t.own Close now) t
 
 abbrev pub break_link : Callsign → Table → Table
-break_link peer t = ended peer (Failed ∷ []) t
+break_link peer t = end peer (Failed ∷ []) t
 
 -- ---- datagrams that are offered
 
@@ -158,12 +158,12 @@ pub record Offering : Type 0 where
   pub answer : Offered
   pub table : Table
 
-abbrev pub packed : Datagram → Payload
-packed d = record { pid = netrom; info = d }
+abbrev pub pack : Datagram → Payload
+pack d = record { pid = netrom; info = d }
 
 abbrev pub offer_ui : Callsign → Datagram → Table → Table
 offer_ui to d t =
-    record t { pending = put_out (fitting (sent 8 (frame (head_to t.own to (path_to to t.paths) true) (control.Ui false) (Some netrom) d.items))) t.pending }
+    record t { pending = emit (fitting (sent 8 (frame (head_to t.own to (path_to to t.paths) true) (control.Ui false) (Some netrom) d.items))) t.pending }
 
 -- to the link that stands: it decides
 abbrev pub offer_standing : Callsign → Datagram → ℕ → Table → Offering
@@ -171,18 +171,18 @@ offer_standing to d now t =
     elim (link_with to t.links) as (λ x. Offering) [
       | None ↦ record { answer = Dropped; table = t }
       | Some l ↦ if takes l.link
-          then record { answer = Taken; table = at_link to (stepped t.own (Send (packed d)) now) t }
+          then record { answer = Taken; table = at_link to (step_link t.own (Send (pack d)) now) t }
           else record { answer = Dropped; table = t }
     ]
 
 -- a new link, for which there has to be room, is set up first
-abbrev pub opened_to : Callsign → ℕ → Table → Table
-opened_to to now t = at_link to (stepped t.own Set_up now) (made to t.size (path_to to t.paths) t)
+abbrev pub set_up_link : Callsign → ℕ → Table → Table
+set_up_link to now t = at_link to (step_link t.own Set_up now) (made to t.size (path_to to t.paths) t)
 
 abbrev pub offer_link : Callsign → Datagram → ℕ → Table → Offering
 offer_link to d now t =
     elim (link_with to t.links) as (λ x. Offering) [
-      | None ↦ if nat_le most_links (length t.links) then record { answer = Dropped; table = t } else offer_standing to d now (opened_to to now t)
+      | None ↦ if nat_le most_links (length t.links) then record { answer = Dropped; table = t } else offer_standing to d now (set_up_link to now t)
       | Some l ↦ offer_standing to d now t
     ]
 
@@ -191,17 +191,17 @@ offer to d now t = if t.by_links then offer_link to d now t else record { answer
 
 -- ---- what is fetched
 
-abbrev pub collected : Table → Table
-collected t = record t { pending = record t.pending { waiting = drop 1 t.pending.waiting } }
+abbrev pub collect : Table → Table
+collect t = record t { pending = record t.pending { waiting = drop 1 t.pending.waiting } }
 
-abbrev pub lost_told : Table → Table
-lost_told t = record t { pending = record t.pending { lost = drop 1 t.pending.lost } }
+abbrev pub tell_lost : Table → Table
+tell_lost t = record t { pending = record t.pending { lost = drop 1 t.pending.lost } }
 
-abbrev pub noticed : Table → Table
-noticed t = record t { pending = record t.pending { notices = drop 1 t.pending.notices } }
+abbrev pub notice : Table → Table
+notice t = record t { pending = record t.pending { notices = drop 1 t.pending.notices } }
 
-abbrev pub fetched : Table → Table
-fetched t = record t { pending = record t.pending { frames = drop 1 t.pending.frames } }
+abbrev pub fetch : Table → Table
+fetch t = record t { pending = record t.pending { frames = drop 1 t.pending.frames } }
 
 -- ---- paths
 

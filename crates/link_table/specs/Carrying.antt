@@ -2,7 +2,7 @@
 use Rattle.std.specs.Prelude.{◌≡◌, List, [], ◌∷◌, slice_get}
 use Rattle.l3_datagram.specs.CarrierCall.{CarrierCall, Offer, Collect, Fail}
 use Rattle.link_table.specs.Table.{Table}
-use Rattle.link_table.specs.Calls.{collected, lost_told, offer}
+use Rattle.link_table.specs.Calls.{collect, tell_lost, offer}
 
 -- the call has this answer
 abbrev pub Answers : Table → CarrierCall → Type 0
@@ -13,8 +13,8 @@ Answers t (Fail answer) = answer ≡ slice_get t.pending.lost 0
 -- after the call
 abbrev pub after_call : CarrierCall → Table → Table
 after_call (Offer to datagram now answer) t = (offer to datagram now t).table
-after_call (Collect answer) t = collected t
-after_call (Fail answer) t = lost_told t
+after_call (Collect answer) t = collect t
+after_call (Fail answer) t = tell_lost t
 
 abbrev pub AllAnswer : Table → List CarrierCall → Type 0
 AllAnswer t [] = Unit {0}

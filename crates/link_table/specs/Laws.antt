@@ -6,14 +6,14 @@ use Rattle.ax_address.specs.Callsign.{Callsign}
 use Rattle.ax_frame.specs.Frames.{Frame as AirFrame}
 use Rattle.ax_link.specs.Kinds.{payload_of}
 use Rattle.ax_link.specs.Bounds.{Bounded, stock}
-use Rattle.ax_link.specs.PutOut.{Has, HavePayloads}
+use Rattle.ax_link.specs.Outputs.{Has, HavePayloads}
 use Rattle.l3_datagram.specs.CarrierCall.{Datagram, Parcel}
 use Rattle.l3_datagram.specs.declared.carrier.Offered.TheVariants.{Taken}
-use Rattle.link_table.specs.Calls.{arrive, break_link, close, collected, fetched, lost_told, most_links, noticed, offer, packed, set_up_size, source, tick}
+use Rattle.link_table.specs.Calls.{arrive, break_link, close, collect, fetch, tell_lost, most_links, notice, offer, pack, set_up_size, source, tick}
 use Rattle.link_table.specs.Frames.{Sent, is_numbered, netrom}
 use Rattle.link_table.specs.Table.{Linked, Table, link_with}
 use Rattle.link_table.specs.Texts.{take_text}
-use Rattle.link_table.specs.Works.{Work, first_taken, most_taken, settled}
+use Rattle.link_table.specs.Works.{Work, first_to_take, most_taken, settle}
 
 -- Three properties are any. The first two are of pairs of call and payload: the one is asked of what is offered, by the peer
 -- to which, the other of what comes, by the neighbour from which. The third is of moduli.
@@ -33,7 +33,7 @@ module _ (offered came : Callsign → Payload → Bool) (sizes : ℕ → Bool) w
     pub size : IsOne l.link.rules.size
 
   abbrev pub ParcelCame : Parcel → Type 0
-  ParcelCame p = Has (came p.0) (packed p.1)
+  ParcelCame p = Has (came p.0) (pack p.1)
 
   -- a frame with the PID of NET/ROM carries what was offered to the peer to which it goes; one with numbers is of such a modulus
   pub record FrameHolds (s : Sent) : Type 0 where
@@ -60,11 +60,11 @@ module _ (offered came : Callsign → Payload → Bool) (sizes : ℕ → Bool) w
     pub closes : (t : Table) (peer : Callsign) (now : ℕ) → Carries t → Carries (close peer now t)
     pub breaks : (t : Table) (peer : Callsign) → Carries t → Carries (break_link peer t)
     pub takes : (t : Table) (peer : Callsign) (now : ℕ) → Carries t → Carries (take_text peer now t)
-    pub offers : (t : Table) (to : Callsign) (d : Datagram) (now : ℕ) → Has (offered to) (packed d) → Carries t → Carries (offer to d now t).table
-    pub collects : (t : Table) → Carries t → Carries (collected t)
-    pub tells_lost : (t : Table) → Carries t → Carries (lost_told t)
-    pub notices : (t : Table) → Carries t → Carries (noticed t)
-    pub fetches : (t : Table) → Carries t → Carries (fetched t)
+    pub offers : (t : Table) (to : Callsign) (d : Datagram) (now : ℕ) → Has (offered to) (pack d) → Carries t → Carries (offer to d now t).table
+    pub collects : (t : Table) → Carries t → Carries (collect t)
+    pub tells_lost : (t : Table) → Carries t → Carries (tell_lost t)
+    pub notices : (t : Table) → Carries t → Carries (notice t)
+    pub fetches : (t : Table) → Carries t → Carries (fetch t)
 
 abbrev pub CarriesWhatWasOffered : Type 0
 CarriesWhatWasOffered = (offered came : Callsign → Payload → Bool) (sizes : ℕ → Bool) → CarriesOn offered came sizes
@@ -73,7 +73,7 @@ CarriesWhatWasOffered = (offered came : Callsign → Payload → Bool) (sizes : 
 abbrev pub SettledAll : Type 0
 SettledAll =
     (own : Callsign) (now : ℕ) (w : Work) → Bounded (stock w.linked.link) → w.linked.link.rules.size ≤ 128 →
-    first_taken (settled most_taken own now w) ≡ None
+    first_to_take (settle most_taken own now w) ≡ None
 
 -- a datagram for a new link is taken, where fewer than 64 stand
 abbrev pub NewLinkTakes : Type 0

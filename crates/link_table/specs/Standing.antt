@@ -5,7 +5,7 @@ use Rattle.ax_address.specs.Callsign.{Callsign}
 use Rattle.ax_link.specs.declared.plain.LinkConfig.{LinkConfig}
 use Rattle.ax_link.specs.declared.plain.LinkNotice.{LinkNotice}
 use Rattle.ax_link.specs.Opening.{IsDrained}
-use Rattle.ax_link.specs.Standing.{Held, StandsFor, frame_of}
+use Rattle.ax_link.specs.Standing.{LinkView, StandsFor, frame_of}
 use Rattle.ax_link.specs.State.{State, count_end}
 use Rattle.ax_link.specs.Table.{may_close, Input, Send, step, takes}
 use Rattle.l3_datagram.specs.declared.carrier.Offered.{Offered}
@@ -38,35 +38,35 @@ abbrev pub size_of : LinkOf → ℕ
 size_of (Eight l) = 8
 size_of (Wide l) = 128
 
-abbrev pub held_of : LinkOf → Held
+abbrev pub held_of : LinkOf → LinkView
 held_of (Eight l) = l
 held_of (Wide l) = l
 
 -- a link as it is kept, with over what its frames go, its joiner and what waits to be fetched
-pub record WorkStands (size : ℕ) (h : Held) (route : Route) (j : Joined) (kept : Pending) (w : Work) : Type 0 where
+pub record WorkStands (size : ℕ) (h : LinkView) (route : Route) (j : Joined) (keep : Pending) (w : Work) : Type 0 where
   pub peer : w.linked.peer ≡ route.peer
   pub path : w.linked.path ≡ route.path
   pub link : StandsFor size h w.linked.link
   pub joiner : w.linked.joiner ≡ j
-  pub pending : PendingStands kept w.pending
+  pub pending : PendingStands keep w.pending
 
 -- what was kept goes over to what is kept as the work does
-abbrev pub Goes : ℕ → Route → (Work → Work) → Held → Held → Joined → Joined → Pending → Pending → Type 0
-Goes size route part old new joiner joiner2 kept kept2 =
-    (w : Work) → WorkStands size old route joiner kept w → WorkStands size new route joiner2 kept2 (part w)
+abbrev pub Goes : ℕ → Route → (Work → Work) → LinkView → LinkView → Joined → Joined → Pending → Pending → Type 0
+Goes size route part old new joiner joiner2 keep kept2 =
+    (w : Work) → WorkStands size old route joiner keep w → WorkStands size new route joiner2 kept2 (part w)
 
 -- the frames of a link have gone out
-abbrev pub gone_out : ℕ → Route → Held → List Written
+abbrev pub gone_out : ℕ → Route → LinkView → List Written
 gone_out size route h = map written (all_sent size route.own route.peer route.path (map (frame_of size) h.outs))
 
 -- what comes of a step of a link, by what waited after it
-pub record Lifted (size : ℕ) (route : Route) (old new : Held) (j j2 : Joined) (kept kept2 : Pending) : Type 0 where
+pub record Lifted (size : ℕ) (route : Route) (old new : LinkView) (j j2 : Joined) (keep kept2 : Pending) : Type 0 where
   pub link : new ≡ record old { outs = []; notice = None }
   pub joiner : j2 ≡ joiner_after (option_to_list old.notice) j
-  pub waiting : kept2.waiting.items ≡ kept.waiting.items
-  pub lost : kept2.lost.items ≡ kept.lost.items ++ lost_by route.peer (option_to_list old.notice)
-  pub notices : kept2.notices.items ≡ kept.notices.items ++ map (λ n. (route.peer, n)) (option_to_list old.notice)
-  pub frames : kept2.frames.items ≡ kept.frames.items ++ gone_out size route old
+  pub waiting : kept2.waiting.items ≡ keep.waiting.items
+  pub lost : kept2.lost.items ≡ keep.lost.items ++ lost_by route.peer (option_to_list old.notice)
+  pub notices : kept2.notices.items ≡ keep.notices.items ++ map (λ n. (route.peer, n)) (option_to_list old.notice)
+  pub frames : kept2.frames.items ≡ keep.frames.items ++ gone_out size route old
 
 -- a payload that was taken: what is held of a message in segments, and what waits, by its PID
 abbrev pub joined_with : Payload → Joined → Joined
@@ -75,25 +75,25 @@ joined_with p j = if p.pid == netrom then j else if p.pid == segmented then (joi
 abbrev pub waiting_with : Callsign → Payload → List Parcel → List Parcel
 waiting_with peer p ws = if p.pid == netrom then ws ++ (peer, p.info) ∷ [] else ws
 
-pub record HandsUp (p : Payload) (route : Route) (j j2 : Joined) (kept kept2 : Pending) : Type 0 where
+pub record HandsUp (p : Payload) (route : Route) (j j2 : Joined) (keep kept2 : Pending) : Type 0 where
   pub joiner : j2 ≡ joined_with p j
-  pub waiting : kept2.waiting.items ≡ waiting_with route.peer p kept.waiting.items
-  pub lost : kept2.lost.items ≡ kept.lost.items
-  pub notices : kept2.notices.items ≡ kept.notices.items
-  pub frames : kept2.frames.items ≡ kept.frames.items
+  pub waiting : kept2.waiting.items ≡ waiting_with route.peer p keep.waiting.items
+  pub lost : kept2.lost.items ≡ keep.lost.items
+  pub notices : kept2.notices.items ≡ keep.notices.items
+  pub frames : kept2.frames.items ≡ keep.frames.items
 
 abbrev pub EntryStands : Entry → Pending → Work → Type 0
-EntryStands e kept w = WorkStands (size_of e.link) (held_of e.link) e.route e.joiner kept w
+EntryStands e keep w = WorkStands (size_of e.link) (held_of e.link) e.route e.joiner keep w
 
 -- the modulus, by whether it is the greater one
 abbrev pub width : Bool → ℕ
 width wide = if wide then 128 else 8
 
 -- what was kept of an entry goes over to what is kept as the work does; the entry stays at its route and modulus
-pub record EntryGoes (part : Work → Work) (old new : Entry) (kept kept2 : Pending) : Type 0 where
+pub record EntryGoes (part : Work → Work) (old new : Entry) (keep kept2 : Pending) : Type 0 where
   pub route : new.route ≡ old.route
   pub size : size_of new.link ≡ size_of old.link
-  pub goes : Goes (size_of old.link) old.route part (held_of old.link) (held_of new.link) old.joiner new.joiner kept kept2
+  pub goes : Goes (size_of old.link) old.route part (held_of old.link) (held_of new.link) old.joiner new.joiner keep kept2
 
 -- a link of the table
 pub record LinkStands (node key : Callsign) (e : Entry) (l : Linked) : Type 0 where
@@ -152,7 +152,7 @@ text_keys [] = []
 text_keys (e ∷ es) = if is_some (text_in e.1) then e.0 ∷ text_keys es else text_keys es
 
 -- how many payloads a link would still accept, by what is kept of it
-abbrev pub room_in : Held → ℕ
+abbrev pub room_in : LinkView → ℕ
 room_in h = if may_close h.phase && not h.closing then min (128 - length h.queue) (count_end - h.acked - length h.queue) else 0
 
 abbrev pub room_of_entry : Option Entry → ℕ
@@ -170,8 +170,8 @@ down_by (Some e) = is_down (held_of e.link).phase
 abbrev pub down_at : Callsign → List (Callsign × Entry) → Bool
 down_at peer es = down_by (lookup (same_call peer) es)
 
-abbrev pub down_left : Callsign → List (Callsign × Entry) → List (Callsign × Entry)
-down_left peer es = if down_at peer es then remove_entry (same_call peer) es else es
+abbrev pub drop_if_down : Callsign → List (Callsign × Entry) → List (Callsign × Entry)
+drop_if_down peer es = if down_at peer es then remove_entry (same_call peer) es else es
 
 -- what contracts see of a table of links
 pub record Kept : Type 0 where
@@ -240,16 +240,16 @@ more_made a b c cs more first next t s =
     (all_answer t cs more x.0 y.0, subst (TableStands c) (sym (after_more t cs more)) y.1)
 
 -- frames that were kept go over to those that are kept as the step of the link puts out; it tells nothing
-pub record Quietly (size : ℕ) (route : Route) (i : Input) (now : ℕ) (s : State) (new : Held) (fs fs2 : List Written) : Type 0 where
+pub record Quietly (size : ℕ) (route : Route) (i : Input) (now : ℕ) (s : State) (new : LinkView) (fs fs2 : List Written) : Type 0 where
   pub link : StandsFor size new (step s i now).link
   pub frames : fs2 ≡ fs ++ map written (all_sent size route.own route.peer route.path (step s i now).outs)
   pub notes : (step s i now).notes ≡ []
 
-abbrev pub GoesQuietly : ℕ → Route → Input → ℕ → Held → Held → List Written → List Written → Type 0
+abbrev pub GoesQuietly : ℕ → Route → Input → ℕ → LinkView → LinkView → List Written → List Written → Type 0
 GoesQuietly size route i now old new fs fs2 = (s : State) → StandsFor size old s → Quietly size route i now s new fs fs2
 
 -- a payload is offered to a link: it is taken, or nothing is changed
-abbrev pub Offers : ℕ → Route → Payload → ℕ → Held → Held → List Written → List Written → Offered → Type 0
+abbrev pub Offers : ℕ → Route → Payload → ℕ → LinkView → LinkView → List Written → List Written → Offered → Type 0
 Offers size route p now old new fs fs2 Taken = ((s : State) → StandsFor size old s → takes s ≡ true) × GoesQuietly size route (Send p) now old new fs fs2
 Offers size route p now old new fs fs2 Dropped = ((s : State) → StandsFor size old s → takes s ≡ false) × (new ≡ old) × (fs2 ≡ fs)
 

@@ -8,7 +8,7 @@ use Rattle.ax_segment.specs.Joining.{Answer, Held, More, Whole, Short, Broken, j
 use Rattle.link_table.specs.Calls.{at_link}
 use Rattle.link_table.specs.Frames.{plain_text}
 use Rattle.link_table.specs.Table.{Linked, Table, link_with}
-use Rattle.link_table.specs.Works.{Work, is_text, most_taken, settled, taken}
+use Rattle.link_table.specs.Works.{Work, is_text, most_taken, settle, take_payload}
 
 -- the bytes of a message that is whole
 abbrev pub message_of : Answer → List ℕ
@@ -30,9 +30,9 @@ abbrev pub text_at : Linked → Option (List ℕ)
 text_at l = first_text l.joiner (slice_get l.link.inbox 0)
 
 -- the oldest payload is taken, and then what waited behind it, up to the next text
-abbrev pub text_taken : Callsign → ℕ → Work → Work
-text_taken own now w =
-    elim (slice_get w.linked.link.inbox 0) as (λ x. Work) [ None ↦ w | Some p ↦ settled most_taken own now (taken own now p w) ]
+abbrev pub take_text_of : Callsign → ℕ → Work → Work
+take_text_of own now w =
+    elim (slice_get w.linked.link.inbox 0) as (λ x. Work) [ None ↦ w | Some p ↦ settle most_taken own now (take_payload own now p w) ]
 
 -- the peers at whose link a text waits, in the order of the links
 abbrev pub text_peers : List Linked → List Callsign
@@ -45,7 +45,7 @@ text_with peer t = elim (link_with peer t.links) as (λ x. Option (List ℕ)) [ 
 
 -- it is taken, where one waits
 abbrev pub take_text : Callsign → ℕ → Table → Table
-take_text peer now t = if is_some (text_with peer t) then at_link peer (text_taken t.own now) t else t
+take_text peer now t = if is_some (text_with peer t) then at_link peer (take_text_of t.own now) t else t
 
 -- how many payloads a link would still accept
 abbrev pub room_of : State → ℕ

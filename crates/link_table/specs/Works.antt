@@ -6,7 +6,7 @@ use Rattle.ax_link.specs.declared.plain.LinkNotice.{LinkNotice}
 use Rattle.ax_link.specs.declared.plain.LinkNotice.TheVariants.{Reset, Refused, Failed}
 use Rattle.ax_link.specs.declared.plain.LinkPhase.{LinkPhase}
 use Rattle.ax_link.specs.declared.plain.LinkPhase.TheVariants.{Down, SettingUp, Up, Releasing}
-use Rattle.ax_link.specs.State.{Frame, Going}
+use Rattle.ax_link.specs.State.{Frame, Effect}
 use Rattle.ax_link.specs.Table.{Input, Arrive, Take, step}
 use Rattle.ax_segment.specs.Joining.{Held, Nothing, join_step, whole_of}
 use Rattle.link_table.specs.Frames.{Sent, netrom, plain_text, segmented, all_sent}
@@ -30,34 +30,34 @@ lost_by peer (Failed ∷ notes) = peer ∷ lost_by peer notes
 lost_by peer (Refused ∷ notes) = peer ∷ lost_by peer notes
 lost_by peer (n ∷ notes) = lost_by peer notes
 
-abbrev pub told : Callsign → List LinkNotice → Pending → Pending
-told peer notes p = record p { notices = p.notices ++ map (λ n. (peer, n)) notes; lost = p.lost ++ lost_by peer notes }
+abbrev pub tell : Callsign → List LinkNotice → Pending → Pending
+tell peer notes p = record p { notices = p.notices ++ map (λ n. (peer, n)) notes; lost = p.lost ++ lost_by peer notes }
 
-abbrev pub put_out : List Sent → Pending → Pending
-put_out sents p = record p { frames = p.frames ++ sents }
+abbrev pub emit : List Sent → Pending → Pending
+emit sents p = record p { frames = p.frames ++ sents }
 
 -- what comes of a step of the link: its frames go out over its path, and its notices are told
-abbrev pub lifted : Callsign → Going → Work → Work
-lifted own g w =
+abbrev pub lift : Callsign → Effect → Work → Work
+lift own g w =
     record {
       linked = record w.linked { link = g.link; joiner = joiner_after g.notes w.linked.joiner };
-      pending = told w.linked.peer g.notes (put_out (all_sent w.linked.link.rules.size own w.linked.peer w.linked.path g.outs) w.pending);
+      pending = tell w.linked.peer g.notes (emit (all_sent w.linked.link.rules.size own w.linked.peer w.linked.path g.outs) w.pending);
     }
 
-abbrev pub stepped : Callsign → Input → ℕ → Work → Work
-stepped own i now w = lifted own (step w.linked.link i now) w
+abbrev pub step_link : Callsign → Input → ℕ → Work → Work
+step_link own i now w = lift own (step w.linked.link i now) w
 
 -- a payload that was taken from the link: a datagram comes up, a segment goes to the joiner, and all else is dropped
-abbrev pub handed_up : Payload → Work → Work
-handed_up p w =
+abbrev pub hand_up : Payload → Work → Work
+hand_up p w =
     if p.pid == netrom
     then record w { pending = record w.pending { waiting = w.pending.waiting ++ (w.linked.peer, p.info) ∷ [] } }
     else if p.pid == segmented
     then record w { linked = record w.linked { joiner = (join_step w.linked.joiner p.info.items).0 } }
     else w
 
-abbrev pub taken : Callsign → ℕ → Payload → Work → Work
-taken own now p w = handed_up p (stepped own Take now w)
+abbrev pub take_payload : Callsign → ℕ → Payload → Work → Work
+take_payload own now p w = hand_up p (step_link own Take now w)
 
 -- whether a message is a text, by its PID and number of bytes
 abbrev pub text_by : Option (ℕ × ℕ) → Bool
@@ -76,13 +76,13 @@ abbrev pub unless_text : Held → Option Payload → Option Payload
 unless_text joiner None = None
 unless_text joiner (Some p) = if is_text joiner p then None else Some p
 
-abbrev pub first_taken : Work → Option Payload
-first_taken w = unless_text w.linked.joiner (slice_get w.linked.link.inbox 0)
+abbrev pub first_to_take : Work → Option Payload
+first_to_take w = unless_text w.linked.joiner (slice_get w.linked.link.inbox 0)
 
 -- payload by payload is taken, as long as one is there that is no text and fewer than so many were
-abbrev pub settled : ℕ → Callsign → ℕ → Work → Work
-settled zero own now w = w
-settled (suc n) own now w = elim (first_taken w) as (λ x. Work) [ None ↦ w | Some p ↦ settled n own now (taken own now p w) ]
+abbrev pub settle : ℕ → Callsign → ℕ → Work → Work
+settle zero own now w = w
+settle (suc n) own now w = elim (first_to_take w) as (λ x. Work) [ None ↦ w | Some p ↦ settle n own now (take_payload own now p w) ]
 
 -- more than an inbox and the places for early payloads hold
 abbrev pub most_taken : ℕ
@@ -95,7 +95,7 @@ is_down Up = false
 is_down Releasing = false
 
 -- a frame has come: what it brought is taken at once, unless the link has ended
-abbrev pub arrived : Callsign → Frame → ℕ → Work → Work
-arrived own f now w =
-    let s : Work = stepped own (Arrive f) now w in
-    if is_down s.linked.link.phase then s else settled most_taken own now s
+abbrev pub arrive_at_link : Callsign → Frame → ℕ → Work → Work
+arrive_at_link own f now w =
+    let s : Work = step_link own (Arrive f) now w in
+    if is_down s.linked.link.phase then s else settle most_taken own now s

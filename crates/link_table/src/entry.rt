@@ -29,7 +29,7 @@ pub(crate) struct Entry {
 
 impl Entry {
     ghost use Rattle.link_table.specs.Standing.{EntryGoes, held_of, room_in, size_of, text_in, width};
-    ghost use Rattle.link_table.specs.Texts.{text_taken};
+    ghost use Rattle.link_table.specs.Texts.{take_text_of};
 
     /// A link that is Down.
     pub(crate) fn new(
@@ -87,7 +87,7 @@ impl Entry {
     ) -> Result<(), NoMemory>
         requires drained { IsDrained (held_of self.old.link) }
         ensures drained { OnOk result (IsDrained (held_of self.new.link)) }
-        ensures goes { OnOk result (EntryGoes (works.arrived self.old.route.own (frame_in (size_of self.old.link) (is_command frame.now.head) frame.now.control frame.now.pid frame.now.info.now) now.0) self.old self.new pending.old pending.new) }
+        ensures goes { OnOk result (EntryGoes (works.arrive_at_link self.old.route.own (frame_in (size_of self.old.link) (is_command frame.now.head) frame.now.control frame.now.pid frame.now.info.now) now.0) self.old self.new pending.old pending.new) }
     {
         match &mut self.link {
             LinkOf::Eight(link) => {
@@ -132,7 +132,7 @@ impl Entry {
         requires waits { is_some (text_in self.old) ≡ true }
         ensures drained { OnOk result (IsDrained (held_of self.new.link)) }
         ensures text { OnOk result (text_in self.old ≡ Some out.new.items) }
-        ensures goes { OnOk result (EntryGoes (text_taken self.old.route.own now.0) self.old self.new pending.old pending.new) }
+        ensures goes { OnOk result (EntryGoes (take_text_of self.old.route.own now.0) self.old self.new pending.old pending.new) }
     {
         match &mut self.link {
             LinkOf::Eight(link) => {
@@ -147,7 +147,7 @@ impl Entry {
     pub(crate) fn tick(&mut self, pending: &mut Pending, now: Moment) -> Result<(), NoMemory>
         requires drained { IsDrained (held_of self.old.link) }
         ensures drained { OnOk result (IsDrained (held_of self.new.link)) }
-        ensures goes { OnOk result (EntryGoes (works.stepped self.old.route.own table.Tick now.0) self.old self.new pending.old pending.new) }
+        ensures goes { OnOk result (EntryGoes (works.step_link self.old.route.own table.Tick now.0) self.old self.new pending.old pending.new) }
     {
         match &mut self.link {
             LinkOf::Eight(link) => { work::tick(link, &self.route, &mut self.joiner, pending, now) }
@@ -158,7 +158,7 @@ impl Entry {
     pub(crate) fn close(&mut self, pending: &mut Pending, now: Moment) -> Result<(), NoMemory>
         requires drained { IsDrained (held_of self.old.link) }
         ensures drained { OnOk result (IsDrained (held_of self.new.link)) }
-        ensures goes { OnOk result (EntryGoes (works.stepped self.old.route.own table.Close now.0) self.old self.new pending.old pending.new) }
+        ensures goes { OnOk result (EntryGoes (works.step_link self.old.route.own table.Close now.0) self.old self.new pending.old pending.new) }
     {
         match &mut self.link {
             LinkOf::Eight(link) => {

@@ -41,7 +41,7 @@ pub(crate) struct HeldLinks {
 
 impl HeldLinks {
     ghost use Rattle.link_table.specs.Table.{Table, path_to};
-    ghost use Rattle.link_table.specs.Standing.{CoreGoes, CoreStands, Rests, down_at, down_left, wide_at, width};
+    ghost use Rattle.link_table.specs.Standing.{CoreGoes, CoreStands, Rests, down_at, drop_if_down, wide_at, width};
 
     /// Whether the link with a peer is of modulo 128: none where no link stands.
     fn width(&self, peer: &Call) -> Option<bool>
@@ -66,7 +66,7 @@ impl HeldLinks {
     /// A link that is Down leaves at once.
     pub(crate) fn drop_if_down(&mut self, peer: &Call)
         ensures rest { self.new ≡ record self.old { links = self.new.links } }
-        ensures left { self.new.links.entries ≡ down_left peer.now self.old.links.entries }
+        ensures left { self.new.links.entries ≡ drop_if_down peer.now self.old.links.entries }
     {
         if self.is_down(peer) {
             let _ = self.links.shift_remove(peer);
@@ -104,7 +104,7 @@ impl HeldLinks {
     pub(crate) fn end(&mut self, peer: &Call, notice: LinkNotice) -> Result<(), NoMemory>
         requires { Rests self.old }
         ensures rests { OnOk result (Rests self.new) }
-        ensures goes { OnOk result (CoreGoes (calls.ended peer.now (notice ∷ [])) self.old self.new) }
+        ensures goes { OnOk result (CoreGoes (calls.end peer.now (notice ∷ [])) self.old self.new) }
         ensures gone { OnOk result (lookup (same_call peer.now) self.new.links.entries ≡ None) }
         ensures same { OnOk result (self.new ≡ record self.old { links = self.new.links; pending = self.new.pending }) }
     {
@@ -145,7 +145,7 @@ impl HeldLinks {
         info: &[u8],
     ) -> Result<(), NoMemory>
         requires { HasParts 8 control.now None info.now }
-        ensures goes { OnOk result (CoreGoes (calls.answered (view frame.now) control.now info.now) self.old self.new) }
+        ensures goes { OnOk result (CoreGoes (calls.answer (view frame.now) control.now info.now) self.old self.new) }
         ensures links { self.new.links ≡ self.old.links }
     {
         answer(&mut self.pending.frames, &self.own, frame, control, info)?;
@@ -225,7 +225,7 @@ impl HeldLinks {
 
     /// Where no link stands, a command is answered as by a link that is Down.
     fn answer_down(&mut self, frame: &FrameView<'_>) -> Result<(), NoMemory>
-        ensures goes { OnOk result (CoreGoes (calls.answered_down (view frame.now)) self.old self.new) }
+        ensures goes { OnOk result (CoreGoes (calls.answer_down (view frame.now)) self.old self.new) }
         ensures links { self.new.links ≡ self.old.links }
     {
         match refusal(&frame.control) {
@@ -298,7 +298,7 @@ impl HeldLinks {
     fn tick_link(&mut self, peer: &Call, now: Moment) -> Result<(), NoMemory>
         requires { Rests self.old }
         ensures rests { OnOk result (Rests self.new) }
-        ensures goes { OnOk result (CoreGoes (λ t. calls.at_link peer.now (works.stepped t.own table.Tick now.0) t) self.old self.new) }
+        ensures goes { OnOk result (CoreGoes (λ t. calls.at_link peer.now (works.step_link t.own table.Tick now.0) t) self.old self.new) }
     {
         match self.links.get_mut(peer) {
             Some(entry) => entry.tick(&mut self.pending, now)?,

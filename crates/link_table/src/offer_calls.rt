@@ -8,7 +8,7 @@ ghost use Rattle.link_table.specs.Calls as calls;
 
 use crate::MAX_LINKS;
 use crate::held_links::HeldLinks;
-use crate::offers::packed;
+use crate::offers::pack;
 use crate::pending::put;
 use crate::route::Route;
 use ax_address::Call;
@@ -43,7 +43,7 @@ impl HeldLinks {
     fn set_up_link(&mut self, to: &Call, now: Moment) -> Result<(), NoMemory>
         requires { Rests self.old }
         ensures rests { OnOk result (Rests self.new) }
-        ensures goes { OnOk result (CoreGoes (λ t. calls.at_link to.now (works.stepped t.own table.Set_up now.0) t) self.old self.new) }
+        ensures goes { OnOk result (CoreGoes (λ t. calls.at_link to.now (works.step_link t.own table.Set_up now.0) t) self.old self.new) }
         ensures waiting { self.new.pending.waiting ≡ self.old.pending.waiting }
         ensures lost { self.new.pending.lost ≡ self.old.pending.lost }
     {
@@ -64,7 +64,7 @@ impl HeldLinks {
         ensures waiting { self.new.pending.waiting ≡ self.old.pending.waiting }
         ensures lost { self.new.pending.lost ≡ self.old.pending.lost }
     {
-        let payload = packed(datagram);
+        let payload = pack(datagram);
         match self.links.get_mut(to) {
             Some(entry) => {
                 let offered = entry.send(&mut self.pending.frames, &payload, now)?;
@@ -114,8 +114,8 @@ impl HeldLinks {
         requires room { length self.old.links.entries < calls.most_links }
         ensures rests { OnOk result (Rests self.new) }
         ensures offers { IfOk result (λ answer. (t : Table) → CoreStands self.old t →
-            (answer ≡ (calls.offer_standing to.now datagram.now now.0 (calls.opened_to to.now now.0 t)).answer)
-            × CoreStands self.new (calls.offer_standing to.now datagram.now now.0 (calls.opened_to to.now now.0 t)).table) }
+            (answer ≡ (calls.offer_standing to.now datagram.now now.0 (calls.set_up_link to.now now.0 t)).answer)
+            × CoreStands self.new (calls.offer_standing to.now datagram.now now.0 (calls.set_up_link to.now now.0 t)).table) }
         ensures waiting { self.new.pending.waiting ≡ self.old.pending.waiting }
         ensures lost { self.new.pending.lost ≡ self.old.pending.lost }
     {

@@ -233,7 +233,7 @@ impl LinkTable {
     /// The next frame that waits to be sent, and how its octets were written: the oldest one. None where no frame waits.
     pub fn next_out(&mut self) -> Option<Written>
         ensures answer { (t : Table) → TableStands self.old t → result ≡ option_map written (slice_get t.pending.frames 0) }
-        ensures rest { TableGoes calls.fetched self.old self.new }
+        ensures rest { TableGoes calls.fetch self.old self.new }
     {
         self.core.pending.frames.pop_front()
     }
@@ -241,7 +241,7 @@ impl LinkTable {
     /// The next notice, the oldest one, with the peer of its link. None where none waits.
     pub fn notice(&mut self) -> Option<(Call, LinkNotice)>
         ensures answer { (t : Table) → TableStands self.old t → result ≡ slice_get t.pending.notices 0 }
-        ensures rest { TableGoes calls.noticed self.old self.new }
+        ensures rest { TableGoes calls.notice self.old self.new }
     {
         self.core.pending.notices.pop_front()
     }

@@ -14,7 +14,7 @@ impl HeldLinks {
     ghost use Rattle.link_table.specs.declared.entry.Entry.{Entry};
     ghost use Rattle.link_table.specs.Calls.{at_link};
     ghost use Rattle.link_table.specs.Standing.{CoreGoes, Rests, room_at, text_at, text_keys};
-    ghost use Rattle.link_table.specs.Texts.{text_taken};
+    ghost use Rattle.link_table.specs.Texts.{take_text_of};
 
     /// Whether a text waits at the link with a peer.
     pub(crate) fn text_waits(&self, peer: &Call) -> bool
@@ -70,7 +70,7 @@ impl HeldLinks {
         requires waits { is_some (text_at peer.now self.old.links.entries) ≡ true }
         ensures rests { OnOk result (Rests self.new) }
         ensures text { OnOk result (text_at peer.now self.old.links.entries ≡ Some out.new.items) }
-        ensures goes { OnOk result (CoreGoes (λ t. at_link peer.now (text_taken t.own now.0) t) self.old self.new) }
+        ensures goes { OnOk result (CoreGoes (λ t. at_link peer.now (take_text_of t.own now.0) t) self.old self.new) }
     {
         match self.links.get_mut(peer) {
             Some(entry) => entry.take_text(&mut self.pending, out, now)?,

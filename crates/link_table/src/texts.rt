@@ -70,7 +70,7 @@ pub(crate) fn take_text<M: Modulus>(
     requires waits { is_some (texts.first_text joiner.old (slice_get link.old.inbox 0)) ≡ true }
     ensures drained { OnOk result (IsDrained link.new) }
     ensures text { OnOk result (texts.first_text joiner.old (slice_get link.old.inbox 0) ≡ Some out.new.items) }
-    ensures goes { OnOk result (Goes M.SIZE route.now (texts.text_taken route.now.own now.0) link.old link.new joiner.old joiner.new pending.old pending.new) }
+    ensures goes { OnOk result (Goes M.SIZE route.now (texts.take_text_of route.now.own now.0) link.old link.new joiner.old joiner.new pending.old pending.new) }
 {
     match link.take(now) {
         None => Ok(()),

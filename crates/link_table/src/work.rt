@@ -6,7 +6,7 @@ ghost use Rattle.ax_frame.specs.Controls.{IsLinkModulus};
 ghost use Rattle.ax_frame.specs.FrameText.{is_command};
 ghost use Rattle.ax_link.specs.Kinds.{frame_in};
 ghost use Rattle.ax_link.specs.Opening.{IsDrained};
-ghost use Rattle.ax_link.specs.PutOut.{CanBeSent};
+ghost use Rattle.ax_link.specs.Outputs.{CanBeSent};
 ghost use Rattle.ax_link.specs.Standing.{frame_of};
 ghost use Rattle.ax_link.specs.Table as table;
 ghost use Rattle.ax_segment.specs.Joining.{join_step};
@@ -25,7 +25,7 @@ use ax_segment::Joiner;
 use radio_base::{Modulus, Moment, NETROM_PID, NoMemory, Payload, SEGMENT_PID};
 
 /// Puts out one frame of a link.
-fn put_out<M: Modulus>(frames: &mut Frames, route: &Route, out: &LinkOut) -> Result<(), NoMemory>
+fn emit<M: Modulus>(frames: &mut Frames, route: &Route, out: &LinkOut) -> Result<(), NoMemory>
     requires modulus { IsLinkModulus M.SIZE }
     requires can_be_sent { CanBeSent M.SIZE out.now }
     ensures { OnOk result (frames.new.items ≡ frames.old.items ++ map written (fitting (sent_by M.SIZE route.now.own route.now.peer route.now.path (frame_of M.SIZE out.now)))) }
@@ -44,7 +44,7 @@ fn put_out<M: Modulus>(frames: &mut Frames, route: &Route, out: &LinkOut) -> Res
 }
 
 /// Puts out all frames of a link.
-pub(crate) fn put_frames<M: Modulus>(
+pub(crate) fn emit_frames<M: Modulus>(
     link: &mut Link<M>,
     route: &Route,
     frames: &mut Frames,
@@ -54,7 +54,7 @@ pub(crate) fn put_frames<M: Modulus>(
     ensures frames { OnOk result (frames.new.items ≡ frames.old.items ++ gone_out M.SIZE route.now link.old) }
 {
     while let Some(out) = link.next_out() {
-        put_out::<M>(frames, route, &out)?;
+        emit::<M>(frames, route, &out)?;
     }
     Ok(())
 }
@@ -106,7 +106,7 @@ pub(crate) fn lift<M: Modulus>(
     requires modulus { IsLinkModulus M.SIZE }
     ensures { OnOk result (Lifted M.SIZE route.now link.old link.new joiner.old joiner.new pending.old pending.new) }
 {
-    put_frames(link, route, &mut pending.frames)?;
+    emit_frames(link, route, &mut pending.frames)?;
     tell(link, route, joiner, pending)?;
     Ok(())
 }
@@ -149,7 +149,7 @@ fn take_one<M: Modulus>(
     requires some { 0 < length link.old.inbox }
     ensures drained { OnOk result (IsDrained link.new) }
     ensures goes { (p : Payload) → slice_get link.old.inbox 0 ≡ Some p →
-        OnOk result (Goes M.SIZE route.now (works.taken route.now.own now.0 p) link.old link.new joiner.old joiner.new pending.old pending.new) }
+        OnOk result (Goes M.SIZE route.now (works.take_payload route.now.own now.0 p) link.old link.new joiner.old joiner.new pending.old pending.new) }
 {
     match link.take(now) {
         None => Ok(()),
@@ -190,7 +190,7 @@ pub(crate) fn settle<M: Modulus>(
     requires modulus { IsLinkModulus M.SIZE }
     requires drained { IsDrained link.old }
     ensures drained { OnOk result (IsDrained link.new) }
-    ensures goes { OnOk result (Goes M.SIZE route.now (works.settled works.most_taken route.now.own now.0) link.old link.new joiner.old joiner.new pending.old pending.new) }
+    ensures goes { OnOk result (Goes M.SIZE route.now (works.settle works.most_taken route.now.own now.0) link.old link.new joiner.old joiner.new pending.old pending.new) }
 {
     for turn in 0..MOST_TAKEN {
         if !goes_up(link, joiner) {
@@ -219,7 +219,7 @@ pub(crate) fn arrive<M: Modulus>(
     requires modulus { IsLinkModulus M.SIZE }
     requires drained { IsDrained link.old }
     ensures drained { OnOk result (IsDrained link.new) }
-    ensures goes { OnOk result (Goes M.SIZE route.now (works.arrived route.now.own (frame_in M.SIZE (is_command frame.now.head) frame.now.control frame.now.pid frame.now.info.now) now.0) link.old link.new joiner.old joiner.new pending.old pending.new) }
+    ensures goes { OnOk result (Goes M.SIZE route.now (works.arrive_at_link route.now.own (frame_in M.SIZE (is_command frame.now.head) frame.now.control frame.now.pid frame.now.info.now) now.0) link.old link.new joiner.old joiner.new pending.old pending.new) }
 {
     link.arrive(
         is_command(&frame.head),
@@ -245,7 +245,7 @@ pub(crate) fn tick<M: Modulus>(
     requires modulus { IsLinkModulus M.SIZE }
     requires drained { IsDrained link.old }
     ensures drained { OnOk result (IsDrained link.new) }
-    ensures goes { OnOk result (Goes M.SIZE route.now (works.stepped route.now.own table.Tick now.0) link.old link.new joiner.old joiner.new pending.old pending.new) }
+    ensures goes { OnOk result (Goes M.SIZE route.now (works.step_link route.now.own table.Tick now.0) link.old link.new joiner.old joiner.new pending.old pending.new) }
 {
     link.tick(now);
     lift(link, route, joiner, pending)?;
@@ -262,7 +262,7 @@ pub(crate) fn close<M: Modulus>(
     requires modulus { IsLinkModulus M.SIZE }
     requires drained { IsDrained link.old }
     ensures drained { OnOk result (IsDrained link.new) }
-    ensures goes { OnOk result (Goes M.SIZE route.now (works.stepped route.now.own table.Close now.0) link.old link.new joiner.old joiner.new pending.old pending.new) }
+    ensures goes { OnOk result (Goes M.SIZE route.now (works.step_link route.now.own table.Close now.0) link.old link.new joiner.old joiner.new pending.old pending.new) }
 {
     link.close(now);
     lift(link, route, joiner, pending)?;

@@ -4,12 +4,12 @@ use Rattle.std.specs.Prelude.{Option, Some, None, slice_get}
 use Rattle.std.specs.List.{range_with_len}
 use Rattle.std.proofs.lemmas.List.{length-append}
 use Rattle.nodes_broadcast.specs.Nodes.{view}
-use Rattle.net_replay.specs.declared.acts.Act.{Act}
-use Rattle.net_replay.specs.declared.acts.Act.TheVariants as acts
+use Rattle.net_replay.specs.declared.acts.Instruction.{Instruction}
+use Rattle.net_replay.specs.declared.acts.Instruction.TheVariants as acts
 use Rattle.net_replay.specs.declared.air.Aired.{Aired}
 use Rattle.net_replay.specs.declared.channels.Channel.{Channel}
 use Rattle.net_replay.specs.declared.network.NumberedAct.{NumberedAct}
-use Rattle.net_replay.specs.declared.reasons.Why.{Why}
+use Rattle.net_replay.specs.declared.reasons.LineRefusal.{LineRefusal}
 use Rattle.net_replay.specs.Air.{in_air, hearers, frame_of, oldest, delivery_fault, lost_fault}
 use Rattle.net_replay.specs.Nodes.{NodeState, Input, Bytes, Round, Failure, Lock, reacts, broadcast_octets}
 use Rattle.net_replay.specs.World.{World, node_in, aired, reached, reaches, goes_to, settles, delivers, spreads, flows, cuts, shows, unless_refused, does, after_acts, kiss_bytes}
@@ -59,7 +59,7 @@ cuts_grows : (count : ℕ) (w : World) → length w.air ≤ length (cuts count w
 cuts_grows zero w = omega arith
 cuts_grows (suc count) w = cuts_from_grows count w (oldest w.air) (cuts_grows count)
 
-unless_grows : (line : ℕ) (why : Option Why) (done w : World) → length w.air ≤ length done.air → length w.air ≤ length (unless_refused line why done w).air
+unless_grows : (line : ℕ) (why : Option LineRefusal) (done w : World) → length w.air ≤ length done.air → length w.air ≤ length (unless_refused line why done w).air
 unless_grows line None done w h = h
 unless_grows line (Some why) done w h = omega arith
 
@@ -71,7 +71,7 @@ shows_grows : (line : ℕ) (w : World) (n : Option NodeState) → length w.air �
 shows_grows line w None = omega arith
 shows_grows line w (Some n) = omega arith
 
-pub does_grows : (channels : List Channel) (line : ℕ) (act : Act) (w : World) → length w.air ≤ length (does channels line act w).air
+pub does_grows : (channels : List Channel) (line : ℕ) (act : Instruction) (w : World) → length w.air ≤ length (does channels line act w).air
 does_grows channels line (acts.Heard node call nodes) w = reached_grows channels line node (Bytes (kiss_bytes (broadcast_octets call (view nodes)))) w
 does_grows channels line (acts.Lock node dest alias neighbour quality) w = reached_grows channels line node (Lock dest alias neighbour quality) w
 does_grows channels line (acts.Round node) w = reached_grows channels line node Round w

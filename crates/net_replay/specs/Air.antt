@@ -3,8 +3,8 @@ use Rattle.std.specs.Prelude.{ℕ, zero, suc, ◌-◌, List, [], ◌∷◌, filt
 use Rattle.std.specs.List.{AllByRecursion, list_any, range_with_len}
 use Rattle.net_replay.specs.declared.air.Aired.{Aired}
 use Rattle.net_replay.specs.declared.channels.Channel.{Channel}
-use Rattle.net_replay.specs.declared.reasons.Why.{Why}
-use Rattle.net_replay.specs.declared.reasons.Why.TheVariants.{NoFrame, Settled, NotSettled, NoChannel}
+use Rattle.net_replay.specs.declared.reasons.LineRefusal.{LineRefusal}
+use Rattle.net_replay.specs.declared.reasons.LineRefusal.TheVariants.{NoFrame, Settled, NotSettled, NoChannel}
 
 -- ---- channels
 
@@ -56,25 +56,25 @@ settled_at zero (f ∷ fs) = settled f ∷ fs
 settled_at (suc at) (f ∷ fs) = f ∷ settled_at at fs
 
 -- why a frame that has to be settled, or unsettled, isn't
-abbrev pub wrong_state : Bool → Aired → Option Why
+abbrev pub wrong_state : Bool → Aired → Option LineRefusal
 wrong_state true f = if f.settled then None else Some NotSettled
 wrong_state false f = if f.settled then Some Settled else None
 
-abbrev pub or_else : Option Why → Option Why → Option Why
+abbrev pub or_else : Option LineRefusal → Option LineRefusal → Option LineRefusal
 or_else (Some why) other = Some why
 or_else None other = other
 
 -- why such a frame can't be found
-abbrev pub lost_fault : Bool → Option Aired → Option Why
+abbrev pub lost_fault : Bool → Option Aired → Option LineRefusal
 lost_fault settled None = Some NoFrame
 lost_fault settled (Some f) = wrong_state settled f
 
 -- why the node can't hear a frame
-abbrev pub unheard : List Channel → ℕ → Option Aired → Option Why
+abbrev pub unheard : List Channel → ℕ → Option Aired → Option LineRefusal
 unheard channels node None = Some NoFrame
 unheard channels node (Some f) = if can_hear channels f.sender node then None else Some NoChannel
 
 -- why a frame that has to be settled, or unsettled, can't go to a node: it isn't there, isn't so, or the node is its sender or
 -- shares no channel with it
-abbrev pub delivery_fault : List Channel → ℕ → Bool → Option Aired → Option Why
+abbrev pub delivery_fault : List Channel → ℕ → Bool → Option Aired → Option LineRefusal
 delivery_fault channels node settled f = or_else (lost_fault settled f) (unheard channels node f)

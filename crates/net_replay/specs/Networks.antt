@@ -6,7 +6,7 @@ use Rattle.net_replay.specs.declared.reasons.What.TheVariants.{Many}
 use Rattle.net_replay.specs.declared.reasons.NetworkRefusal.{NetworkRefusal}
 use Rattle.net_replay.specs.declared.reasons.NetworkRefusal.TheVariants.{BadLine, NoMemory}
 use Rattle.net_replay.specs.declared.line.Line.{Line}
-use Rattle.net_replay.specs.declared.line.Line.TheVariants.{Node, Channel, Set, Act}
+use Rattle.net_replay.specs.declared.line.Line.TheVariants.{Node, Channel, Set, Instruction}
 use Rattle.net_replay.specs.Plan.{Plan}
 use Rattle.net_replay.specs.Lines.{line_at}
 
@@ -18,7 +18,7 @@ abbrev pub with_line : ℕ → Line → Plan → Plan
 with_line n (Node declaration) plan = record plan { declared = plan.declared ++ declaration ∷ [] }
 with_line n (Channel channel) plan = record plan { channels = plan.channels ++ channel ∷ [] }
 with_line n (Set setting) plan = record plan { settings = plan.settings ++ setting ∷ [] }
-with_line n (Act act) plan = record plan { acts = plan.acts ++ record { line = n; act = act } ∷ [] }
+with_line n (Instruction act) plan = record plan { acts = plan.acts ++ record { line = n; act = act } ∷ [] }
 
 -- a bad line's number, and why it is bad
 abbrev pub Bad : Type 0

@@ -25,8 +25,8 @@ use Rattle.route_table.specs.Table.{usable}
 use Rattle.route_table.specs.Broadcast.{to_broadcast}
 use Rattle.net_replay.specs.declared.events.NodeEntry.{NodeEntry}
 use Rattle.net_replay.specs.declared.events.NodeEntry.TheVariants.{Overflow}
-use Rattle.net_replay.specs.declared.reasons.Why.{Why}
-use Rattle.net_replay.specs.declared.reasons.Why.TheVariants as whys
+use Rattle.net_replay.specs.declared.reasons.LineRefusal.{LineRefusal}
+use Rattle.net_replay.specs.declared.reasons.LineRefusal.TheVariants as whys
 
 -- a node above its KISS bytes: its number and names, what it goes by, and all that bears on its routes
 pub record StationState : Type 0 where
@@ -53,7 +53,7 @@ pub data Input : Type 0 where
 pub record Reaction (S : Type 0) : Type 0 where
   pub after : S
   pub entries : List NodeEntry
-  pub refusal : Option Why
+  pub refusal : Option LineRefusal
   pub frames : List (List ℕ)
 
 -- nothing is told or put out
@@ -65,7 +65,7 @@ abbrev pub tells : {S : Type 0} → S → NodeEntry → Reaction S
 tells s entry = record { after = s; entries = entry ∷ []; refusal = None; frames = [] }
 
 -- an act isn't done
-abbrev pub refuses : {S : Type 0} → S → Why → Reaction S
+abbrev pub refuses : {S : Type 0} → S → LineRefusal → Reaction S
 refuses s why = record { after = s; entries = []; refusal = Some why; frames = [] }
 
 -- ---- the log

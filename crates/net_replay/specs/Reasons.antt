@@ -1,8 +1,8 @@
 -- The word by which a reason is shown. Own profile.
 use Rattle.std.specs.Prelude.{ℕ, List, codes}
 use Rattle.net_replay.specs.declared.reasons.What.{What}
-use Rattle.net_replay.specs.declared.reasons.Why.{Why}
-use Rattle.net_replay.specs.declared.reasons.Why.TheVariants as whys
+use Rattle.net_replay.specs.declared.reasons.LineRefusal.{LineRefusal}
+use Rattle.net_replay.specs.declared.reasons.LineRefusal.TheVariants as whys
 use Rattle.net_replay.specs.declared.reasons.What.TheVariants.{Many, Char, Word, NotBuilt, Late, Count, Number, Call, Alias, Node, Twice, Key, Value}
 
 abbrev pub word_for : What → List ℕ
@@ -21,7 +21,7 @@ word_for Key = codes "key"
 word_for Value = codes "value"
 
 -- and why an act wasn't done
-abbrev pub word_for_why : Why → List ℕ
+abbrev pub word_for_why : LineRefusal → List ℕ
 word_for_why whys.Own = codes "own"
 word_for_why whys.TooLow = codes "too low"
 word_for_why whys.TableFull = codes "table full"

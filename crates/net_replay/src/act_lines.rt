@@ -3,7 +3,7 @@ ghost use Rattle.std.specs.Prelude.{◌≡◌};
 ghost use Rattle.net_replay.specs.Words.{texts};
 ghost use Rattle.net_replay.specs.Lines as lines;
 
-use crate::acts::Act;
+use crate::acts::Instruction;
 use crate::line::Line;
 use crate::network::Network;
 use crate::reading::{alias, call, count, frame, node, octet};
@@ -37,7 +37,7 @@ fn lock(
     let alias = alias(nick)?;
     let neighbour = call(neighbour)?;
     let quality = octet(quality)?;
-    Ok(Line::Act(Act::Lock {
+    Ok(Line::Instruction(Instruction::Lock {
         node,
         dest,
         alias,
@@ -62,7 +62,7 @@ fn failure(before: &Network, number: &[u8], name: &[u8]) -> Result<Line, What>
 {
     let node = node(before.declared(), number)?;
     let call = call(name)?;
-    Ok(Line::Act(Act::LinkFail { node, call }))
+    Ok(Line::Instruction(Instruction::LinkFail { node, call }))
 }
 
 /// The number of a declared node, and nothing else.
@@ -120,7 +120,7 @@ pub fn round_line(before: &Network, words: &[&[u8]]) -> Result<Line, What>
     ensures { result ≡ lines.round_line before.now (texts words.now) }
 {
     let node = node_alone(before, words)?;
-    Ok(Line::Act(Act::Round { node }))
+    Ok(Line::Instruction(Instruction::Round { node }))
 }
 
 /// `show N`
@@ -129,7 +129,7 @@ pub fn show_line(before: &Network, words: &[&[u8]]) -> Result<Line, What>
     ensures { result ≡ lines.show_line before.now (texts words.now) }
 {
     let node = node_alone(before, words)?;
-    Ok(Line::Act(Act::Show { node }))
+    Ok(Line::Instruction(Instruction::Show { node }))
 }
 
 /// `deliver K N`
@@ -138,7 +138,7 @@ pub fn deliver_line(before: &Network, words: &[&[u8]]) -> Result<Line, What>
     ensures { result ≡ lines.deliver_line before.now (texts words.now) }
 {
     let (frame, node) = frame_and_node(before, words)?;
-    Ok(Line::Act(Act::Deliver { frame, node }))
+    Ok(Line::Instruction(Instruction::Deliver { frame, node }))
 }
 
 /// `again K N`
@@ -147,7 +147,7 @@ pub fn again_line(before: &Network, words: &[&[u8]]) -> Result<Line, What>
     ensures { result ≡ lines.again_line before.now (texts words.now) }
 {
     let (frame, node) = frame_and_node(before, words)?;
-    Ok(Line::Act(Act::Again { frame, node }))
+    Ok(Line::Instruction(Instruction::Again { frame, node }))
 }
 
 /// `lose K`
@@ -156,7 +156,7 @@ pub fn lose_line(words: &[&[u8]]) -> Result<Line, What>
     ensures { result ≡ lines.lose_line (texts words.now) }
 {
     let frame = frame_alone(words)?;
-    Ok(Line::Act(Act::Lose { frame }))
+    Ok(Line::Instruction(Instruction::Lose { frame }))
 }
 
 /// `flow COUNT`
@@ -165,7 +165,7 @@ pub fn flow_line(words: &[&[u8]]) -> Result<Line, What>
     ensures { result ≡ lines.flow_line (texts words.now) }
 {
     let count = count_alone(words)?;
-    Ok(Line::Act(Act::Flow { count }))
+    Ok(Line::Instruction(Instruction::Flow { count }))
 }
 
 /// `cut COUNT`
@@ -174,5 +174,5 @@ pub fn cut_line(words: &[&[u8]]) -> Result<Line, What>
     ensures { result ≡ lines.cut_line (texts words.now) }
 {
     let count = count_alone(words)?;
-    Ok(Line::Act(Act::Cut { count }))
+    Ok(Line::Instruction(Instruction::Cut { count }))
 }

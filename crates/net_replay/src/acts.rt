@@ -4,7 +4,7 @@ use nodes_broadcast::Nodes;
 
 /// What happens in a network, one act a line.
 #[derive(Debug, Drop)]
-pub enum Act {
+pub enum Instruction {
     /// The node hears a broadcast of `call`.
     Heard {
         node: u8,

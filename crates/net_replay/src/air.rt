@@ -6,7 +6,7 @@ ghost use Rattle.net_replay.specs.Air as airs;
 
 use crate::channels::{Channel, can_hear};
 use crate::limits::MAX_FRAMES;
-use crate::reasons::{ReplayRefusal, Why};
+use crate::reasons::{ReplayRefusal, LineRefusal};
 use std::alloc::{AllocError, Global};
 use std::marker::Model;
 
@@ -103,11 +103,11 @@ impl Air {
     }
 
     /// Why the frame of that number, from 1, which has to be settled or unsettled, isn't so.
-    pub fn lost_fault(&self, number: u32, settled: bool) -> Option<Why>
+    pub fn lost_fault(&self, number: u32, settled: bool) -> Option<LineRefusal>
         ensures { result ≡ lost_fault settled (frame_of self.now number) }
     {
         match self.frames.get(place_of_frame(number)) {
-            None => Some(Why::NoFrame),
+            None => Some(LineRefusal::NoFrame),
             Some(frame) => wrong_state(frame, settled),
         }
     }
@@ -119,11 +119,11 @@ impl Air {
         number: u32,
         settled: bool,
         node: u8,
-    ) -> Option<Why>
+    ) -> Option<LineRefusal>
         ensures { result ≡ delivery_fault channels.now node settled (frame_of self.now number) }
     {
         match self.frames.get(place_of_frame(number)) {
-            None => Some(Why::NoFrame),
+            None => Some(LineRefusal::NoFrame),
             Some(frame) => frame_fault(channels, frame, settled, node),
         }
     }
@@ -195,25 +195,25 @@ fn open_from(frames: &[Aired], from: usize) -> usize
 }
 
 /// Why a frame that has to be settled, or unsettled, isn't.
-fn wrong_state(frame: &Aired, settled: bool) -> Option<Why>
+fn wrong_state(frame: &Aired, settled: bool) -> Option<LineRefusal>
     ensures { result ≡ airs.wrong_state settled frame.now }
 {
     if frame.settled == settled {
         None
     } else if settled {
-        Some(Why::NotSettled)
+        Some(LineRefusal::NotSettled)
     } else {
-        Some(Why::Settled)
+        Some(LineRefusal::Settled)
     }
 }
 
 /// Why a frame that has to be settled, or unsettled, can't go to the node.
-fn frame_fault(channels: &[Channel], frame: &Aired, settled: bool, node: u8) -> Option<Why>
+fn frame_fault(channels: &[Channel], frame: &Aired, settled: bool, node: u8) -> Option<LineRefusal>
     ensures { result ≡ airs.delivery_fault channels.now node settled (Some frame.now) }
 {
     match wrong_state(frame, settled) {
         Some(why) => Some(why),
         None if can_hear(channels, frame.sender, node) => None,
-        None => Some(Why::NoChannel),
+        None => Some(LineRefusal::NoChannel),
     }
 }

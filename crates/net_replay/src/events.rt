@@ -1,5 +1,5 @@
 //! What there is to tell of a replay.
-use crate::reasons::Why;
+use crate::reasons::LineRefusal;
 use ax_address::{Alias, Call};
 use route_table::Route;
 use std::marker::Model;
@@ -82,7 +82,7 @@ pub enum Event {
     /// A node's table was shown.
     Shown { table: Table },
     /// An act wasn't done.
-    Refused { why: Why },
+    Refused { why: LineRefusal },
 }
 
 /// An event with the number of the line at which it came, from 1.

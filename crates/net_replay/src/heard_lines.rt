@@ -4,7 +4,7 @@ ghost use Rattle.ax_address.specs.declared.Entry.{Entry};
 ghost use Rattle.net_replay.specs.Words.{texts};
 ghost use Rattle.net_replay.specs.Lines as lines;
 
-use crate::acts::Act;
+use crate::acts::Instruction;
 use crate::line::Line;
 use crate::network::Network;
 use crate::reading::{alias, call, needs, node, octet};
@@ -39,7 +39,7 @@ fn broadcast(
     let alias = alias(nick)?;
     let entries = entries_of(rest)?;
     let nodes = Nodes { alias, entries };
-    Ok(Line::Act(Act::Heard { node, call, nodes }))
+    Ok(Line::Instruction(Instruction::Heard { node, call, nodes }))
 }
 
 /// Four words to an entry, and at most eleven entries.

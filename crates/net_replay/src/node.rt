@@ -10,7 +10,7 @@ use crate::air::Octets;
 use crate::declarations::Declaration;
 use crate::events::NodeEntry;
 use crate::keys::Setting;
-use crate::reasons::Why;
+use crate::reasons::LineRefusal;
 use crate::station::Station;
 use ax_address::{Alias, Call};
 use kiss_framing::{Deframer, KissItem};
@@ -46,7 +46,7 @@ pub enum Input<'a> {
 #[derive(Drop)]
 pub struct Outputs {
     pub entries: Vec<NodeEntry>,
-    pub refusal: Option<Why>,
+    pub refusal: Option<LineRefusal>,
     pub frames: Vec<Octets>,
 }
 

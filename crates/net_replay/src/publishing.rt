@@ -10,7 +10,7 @@ use crate::air::{Air, Octets};
 use crate::channels::Channel;
 use crate::events::{Event, NodeEntry, NumberedEvent};
 use crate::node::Outputs;
-use crate::reasons::{ReplayRefusal, Why};
+use crate::reasons::{ReplayRefusal, LineRefusal};
 use std::alloc::AllocError;
 
 /// Tells what a node hands out, and puts its frames in the air.
@@ -54,7 +54,7 @@ fn tell_entries(
 fn tell_refusal(
     events: &mut Vec<NumberedEvent>,
     line: u32,
-    refusal: Option<Why>,
+    refusal: Option<LineRefusal>,
 ) -> Result<(), AllocError>
     ensures { OnOk result (events.new.items ≡ events.old.items ++ map (world.tell line) (world.refusal_event refusal)) }
 {

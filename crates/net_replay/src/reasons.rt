@@ -62,7 +62,7 @@ impl fmt::Display for What {
 
 /// Why an act of a network wasn't done.
 #[derive(Clone, Copy, Debug, PartialEq, Eq)]
-pub enum Why {
+pub enum LineRefusal {
     /// A route to the node itself.
     Own,
     /// A route of a quality below the least that the node uses.
@@ -79,7 +79,7 @@ pub enum Why {
     NotSettled,
 }
 
-impl fmt::Display for Why {
+impl fmt::Display for LineRefusal {
     ghost use Rattle.std.specs.Prelude.{Some};
     ghost use Rattle.net_replay.specs.Reasons.{word_for_why};
 
@@ -87,13 +87,13 @@ impl fmt::Display for Why {
 
     fn fmt<W: fmt::Write>(&self, f: &mut fmt::Formatter<W>) -> fmt::Result {
         f.write_str(match self {
-            Why::Own => "own",
-            Why::TooLow => "too low",
-            Why::TableFull => "table full",
-            Why::NoFrame => "no frame",
-            Why::NoChannel => "no channel",
-            Why::Settled => "settled",
-            Why::NotSettled => "not settled",
+            LineRefusal::Own => "own",
+            LineRefusal::TooLow => "too low",
+            LineRefusal::TableFull => "table full",
+            LineRefusal::NoFrame => "no frame",
+            LineRefusal::NoChannel => "no channel",
+            LineRefusal::Settled => "settled",
+            LineRefusal::NotSettled => "not settled",
         })
     }
 }

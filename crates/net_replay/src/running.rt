@@ -1,12 +1,12 @@
 //! A replay while it runs: one act after another.
 ghost use Rattle.std.specs.Prelude.{◌∷◌, [], filter, slice_get};
-ghost use Rattle.net_replay.specs.declared.acts.Act.TheVariants as acts;
+ghost use Rattle.net_replay.specs.declared.acts.Instruction.TheVariants as acts;
 ghost use Rattle.net_replay.specs.Air.{can_hear, hearers};
 ghost use Rattle.net_replay.specs.Nodes as nodes;
 ghost use Rattle.net_replay.specs.Traces.{GoesOn, Runs, left, input_of};
 ghost use Rattle.net_replay.specs.World as world;
 
-use crate::acts::Act;
+use crate::acts::Instruction;
 use crate::air::{Air, place_of_frame};
 use crate::broadcasts::{broadcast_frame, kiss_bytes};
 use crate::channels::{Channel, can_hear, is_on_air};
@@ -48,17 +48,17 @@ impl Running {
         alloc: Global,
         channels: &[Channel],
         line: u32,
-        act: &Act,
+        act: &Instruction,
     ) -> Result<(), ReplayRefusal>
         ensures { Runs (left self.old) (left self.new) (world.does channels.now line act.now) result }
     {
         match act {
-            Act::Heard { node, call, nodes } => {
+            Instruction::Heard { node, call, nodes } => {
                 let bytes = kiss_bytes(broadcast_frame(call, nodes).as_slice());
                 let input = Input::Bytes(bytes.as_slice());
                 self.hand(alloc, channels, line, *node, &input)
             }
-            Act::Lock {
+            Instruction::Lock {
                 node,
                 dest,
                 alias,
@@ -73,16 +73,16 @@ impl Running {
                 };
                 self.hand(alloc, channels, line, *node, &input)
             }
-            Act::Round { node } => self.hand(alloc, channels, line, *node, &Input::Round),
-            Act::LinkFail { node, call } => {
+            Instruction::Round { node } => self.hand(alloc, channels, line, *node, &Input::Round),
+            Instruction::LinkFail { node, call } => {
                 self.hand(alloc, channels, line, *node, &Input::Failure(*call))
             }
-            Act::Show { node } => self.show(alloc, line, *node),
-            Act::Deliver { frame, node } => self.deliver(alloc, channels, line, *frame, *node),
-            Act::Again { frame, node } => self.repeat(alloc, channels, line, *frame, *node),
-            Act::Lose { frame } => self.lose(line, *frame),
-            Act::Flow { count } => self.flow(alloc, channels, line, *count),
-            Act::Cut { count } => {
+            Instruction::Show { node } => self.show(alloc, line, *node),
+            Instruction::Deliver { frame, node } => self.deliver(alloc, channels, line, *frame, *node),
+            Instruction::Again { frame, node } => self.repeat(alloc, channels, line, *frame, *node),
+            Instruction::Lose { frame } => self.lose(line, *frame),
+            Instruction::Flow { count } => self.flow(alloc, channels, line, *count),
+            Instruction::Cut { count } => {
                 self.cut(*count);
                 Ok(())
             }

@@ -13,7 +13,7 @@ use crate::broadcasts::{broadcast_frame, is_broadcast};
 use crate::declarations::Declaration;
 use crate::events::{NodeEntry, Table};
 use crate::keys::{Key, Setting};
-use crate::reasons::Why;
+use crate::reasons::LineRefusal;
 use crate::settings::value_of;
 use arrayvec::ArrayVec;
 use ax_address::{Alias, Call, Entry, MAX_ENTRIES};
@@ -133,15 +133,15 @@ impl Station {
         alias: &Alias,
         neighbour: &Call,
         quality: u8,
-    ) -> Result<Option<Why>, NoMemory>
+    ) -> Result<Option<LineRefusal>, NoMemory>
         ensures { IfOk result (λ why. (s : StationState) → HoldsLog self.old s
             → HoldsLog self.new (nodes.locks s dest.now alias.now neighbour.now quality).after × (why ≡ (nodes.locks s dest.now alias.now neighbour.now quality).refusal)) }
     {
         match self.table.lock(dest, alias, neighbour, quality) {
             Ok(()) => Ok(None),
-            Err(LockRefusal::Own) => Ok(Some(Why::Own)),
-            Err(LockRefusal::TooLow) => Ok(Some(Why::TooLow)),
-            Err(LockRefusal::TableFull { .. }) => Ok(Some(Why::TableFull)),
+            Err(LockRefusal::Own) => Ok(Some(LineRefusal::Own)),
+            Err(LockRefusal::TooLow) => Ok(Some(LineRefusal::TooLow)),
+            Err(LockRefusal::TableFull { .. }) => Ok(Some(LineRefusal::TableFull)),
             Err(LockRefusal::NoMemory) => Err(NoMemory),
         }
     }

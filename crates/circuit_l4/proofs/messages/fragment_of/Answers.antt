@@ -1,5 +1,5 @@
 use Rattle.std.proofs.Common.{Some, ap, arith, sym, ◌∙◌}
-use Rattle.circuit_l4.proofs.Rings.{fits, goes_on, is_here}
+use Rattle.circuit_l4.proofs.Rings.{fits, resume, is_here}
 use Rattle.circuit_l4.proofs.messages.fragment_of.Goals as goal
 
 pub returns-then-left-count : goal.returns-then-left-count
@@ -14,5 +14,5 @@ overflow_add-start c = let held = fits _ _ _ _ _ c.in-Some.ensures.steps c.loop-
 pub loop-len-preserved : goal.loop-len-preserved
 loop-len-preserved c =
     let on =
-    goes_on _ _ _ _ _ _ _ c.in-Some.ensures.steps c.fragment_count-count.ensures.value (omega (arith, c.if-left-count.false)) c.loop-len.invariant.left in
+    resume _ _ _ _ _ _ _ c.in-Some.ensures.steps c.fragment_count-count.ensures.value (omega (arith, c.if-left-count.false)) c.loop-len.invariant.left in
     record { left = on.others; same = c.loop-len.invariant.same ∙ on.same }

@@ -1,4 +1,4 @@
-use Rattle.ax_link.specs.Stations.{held_of, closed_if}
+use Rattle.ax_link.specs.Stations.{view_of, close}
 use Rattle.ax_link.specs.Table as table
 use Rattle.ax_link.proofs.PutOut.{all_put, within}
 use Rattle.ax_link.proofs.CallSteps.{stepped}
@@ -8,12 +8,12 @@ pub returns : goal.returns
 returns g c = record {
   does =
       rw (← c.self.view_is)
-      (within g.M.Modulus.SIZE (held_of c.self.inside.station) _ table.Close c.args.now.0
-      (stepped g.M.Modulus.SIZE (held_of c.self.inside.station) _ _ _ closed_if (rw (← c.self.view_is) at c.requires) c.moment.ensures c.close.ensures.does));
+      (within g.M.Modulus.SIZE (view_of c.self.inside.station) _ table.Close c.args.now.0
+      (stepped g.M.Modulus.SIZE (view_of c.self.inside.station) _ _ _ close (rw (← c.self.view_is) at c.requires) c.moment.ensures c.close.ensures.does));
 }
 
 pub invariant_of-self : goal.invariant_of-self
 invariant_of-self g c = (
   rw c.close.ensures.window c.self.invariant.0,
-  all_put g.M.Modulus.SIZE c.self.inside.station (held_of c.close.new.self) table.Close c.args.now.0 c.self.invariant.0 (rw (← c.self.view_is) at ((returns g c).does)),
+  all_put g.M.Modulus.SIZE c.self.inside.station (view_of c.close.new.self) table.Close c.args.now.0 c.self.invariant.0 (rw (← c.self.view_is) at ((returns g c).does)),
 )

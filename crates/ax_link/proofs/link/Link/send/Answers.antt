@@ -1,7 +1,7 @@
 use Rattle.std.proofs.Common.{ap, is_ok, subst, sym, ◌∙◌}
-use Rattle.ax_link.specs.PutOut.{AllPut}
-use Rattle.ax_link.specs.Standing.{Held}
-use Rattle.ax_link.specs.Stations.{held_of}
+use Rattle.ax_link.specs.Outputs.{AllCanBeSent}
+use Rattle.ax_link.specs.Standing.{LinkView}
+use Rattle.ax_link.specs.Stations.{view_of}
 use Rattle.ax_link.specs.Table as table
 use Rattle.ax_link.proofs.PutOut.{all_put, either, on_err_then, on_ok_then, quiet, quiet_send, within}
 use Rattle.ax_link.proofs.CallSteps.{accepts, on_ok, takes_is}
@@ -11,17 +11,17 @@ pub returns-clause-does : goal.returns-clause-does
 returns-clause-does g c =
     rw (← c.self.view_is, ← c.copy_of.ensures)
     (on_ok c.send.result _ _
-    (λ is does. within g.M.Modulus.SIZE (held_of c.self.inside.station) _ (table.Send _) c.args.now.0
-    (accepts g.M.Modulus.SIZE (held_of c.self.inside.station) _ _ _ _ (rw (← c.self.view_is) at c.requires) c.moment.ensures (sym c.send.ensures.answer ∙ is) does))
+    (λ is does. within g.M.Modulus.SIZE (view_of c.self.inside.station) _ (table.Send _) c.args.now.0
+    (accepts g.M.Modulus.SIZE (view_of c.self.inside.station) _ _ _ _ (rw (← c.self.view_is) at c.requires) c.moment.ensures (sym c.send.ensures.answer ∙ is) does))
     c.send.ensures.does)
 
 pub returns-clause-takes : goal.returns-clause-takes
-returns-clause-takes g c = rw (← c.self.view_is) (λ s stands. ap is_ok c.send.ensures.answer ∙ takes_is g.M.Modulus.SIZE (held_of c.self.inside.station) s stands.keeps)
+returns-clause-takes g c = rw (← c.self.view_is) (λ s stands. ap is_ok c.send.ensures.answer ∙ takes_is g.M.Modulus.SIZE (view_of c.self.inside.station) s stands.keeps)
 
 pub returns-clause-quiet : goal.returns-clause-quiet
 returns-clause-quiet g c =
     on_ok_then c.send.result _ _
-    (quiet g.M.Modulus.SIZE c.self.inside.station (held_of c.send.new.self) (table.Send c.args.payload.now) c.args.now.0 c.self.invariant.0 (quiet_send c.args.now.0 c.args.payload.now))
+    (quiet g.M.Modulus.SIZE c.self.inside.station (view_of c.send.new.self) (table.Send c.args.payload.now) c.args.now.0 c.self.invariant.0 (quiet_send c.args.now.0 c.args.payload.now))
     (rw (← c.self.view_is) at (returns-clause-does g c))
 
 pub invariant_of-self : goal.invariant_of-self
@@ -29,9 +29,9 @@ invariant_of-self g c = (
   rw c.send.ensures.window c.self.invariant.0,
   either c.send.result _
       (on_ok_then c.send.result _ _
-      (all_put g.M.Modulus.SIZE c.self.inside.station (held_of c.send.new.self) (table.Send c.args.payload.now) c.args.now.0 c.self.invariant.0)
+      (all_put g.M.Modulus.SIZE c.self.inside.station (view_of c.send.new.self) (table.Send c.args.payload.now) c.args.now.0 c.self.invariant.0)
       (rw (← c.self.view_is) at (returns-clause-does g c)))
       (on_err_then c.send.result _ _
-      (λ e. subst (λ (h : Held). AllPut g.M.Modulus.SIZE h.outs) (sym e) c.self.invariant.1)
+      (λ e. subst (λ (h : LinkView). AllCanBeSent g.M.Modulus.SIZE h.outs) (sym e) c.self.invariant.1)
       c.send.ensures.err),
 )

@@ -1,4 +1,4 @@
-use Rattle.ax_link.specs.Stations.{held_of, begun}
+use Rattle.ax_link.specs.Stations.{view_of, begun}
 use Rattle.ax_link.specs.Table as table
 use Rattle.ax_link.proofs.PutOut.{all_put, quiet, quiet_set_up, within}
 use Rattle.ax_link.proofs.CallSteps.{stepped}
@@ -7,14 +7,14 @@ use Rattle.ax_link.proofs.link.Link.set_up.Goals as goal
 pub returns-clause-does : goal.returns-clause-does
 returns-clause-does g c =
     rw (← c.self.view_is)
-    (within g.M.Modulus.SIZE (held_of c.self.inside.station) _ table.Set_up c.args.now.0
-    (stepped g.M.Modulus.SIZE (held_of c.self.inside.station) _ _ _ begun (rw (← c.self.view_is) at c.requires) c.moment.ensures c.set_up.ensures.does))
+    (within g.M.Modulus.SIZE (view_of c.self.inside.station) _ table.Set_up c.args.now.0
+    (stepped g.M.Modulus.SIZE (view_of c.self.inside.station) _ _ _ begun (rw (← c.self.view_is) at c.requires) c.moment.ensures c.set_up.ensures.does))
 
 pub invariant_of-self : goal.invariant_of-self
 invariant_of-self g c = (
   rw c.set_up.ensures.window c.self.invariant.0,
-  all_put g.M.Modulus.SIZE c.self.inside.station (held_of c.set_up.new.self) table.Set_up c.args.now.0 c.self.invariant.0 (rw (← c.self.view_is) at (returns-clause-does g c)),
+  all_put g.M.Modulus.SIZE c.self.inside.station (view_of c.set_up.new.self) table.Set_up c.args.now.0 c.self.invariant.0 (rw (← c.self.view_is) at (returns-clause-does g c)),
 )
 
 pub returns-clause-quiet : goal.returns-clause-quiet
-returns-clause-quiet g c = quiet g.M.Modulus.SIZE c.self.inside.station (held_of c.set_up.new.self) table.Set_up c.args.now.0 c.self.invariant.0 (quiet_set_up c.args.now.0) (rw (← c.self.view_is) at (returns-clause-does g c))
+returns-clause-quiet g c = quiet g.M.Modulus.SIZE c.self.inside.station (view_of c.set_up.new.self) table.Set_up c.args.now.0 c.self.invariant.0 (quiet_set_up c.args.now.0) (rw (← c.self.view_is) at (returns-clause-does g c))

@@ -1,5 +1,5 @@
-use Rattle.ax_link.specs.Table.{ticked}
-use Rattle.ax_link.specs.Stations.{held_of}
+use Rattle.ax_link.specs.Table.{tick}
+use Rattle.ax_link.specs.Stations.{view_of}
 use Rattle.ax_link.specs.Table as table
 use Rattle.ax_link.proofs.PutOut.{all_put, within}
 use Rattle.ax_link.proofs.CallSteps.{stepped}
@@ -9,12 +9,12 @@ pub returns : goal.returns
 returns g c = record {
   does =
       rw (← c.self.view_is)
-      (within g.M.Modulus.SIZE (held_of c.self.inside.station) _ table.Tick c.args.now.0
-      (stepped g.M.Modulus.SIZE (held_of c.self.inside.station) _ _ _ ticked (rw (← c.self.view_is) at c.requires) c.moment.ensures c.tick.ensures.does));
+      (within g.M.Modulus.SIZE (view_of c.self.inside.station) _ table.Tick c.args.now.0
+      (stepped g.M.Modulus.SIZE (view_of c.self.inside.station) _ _ _ tick (rw (← c.self.view_is) at c.requires) c.moment.ensures c.tick.ensures.does));
 }
 
 pub invariant_of-self : goal.invariant_of-self
 invariant_of-self g c = (
   rw c.tick.ensures.window c.self.invariant.0,
-  all_put g.M.Modulus.SIZE c.self.inside.station (held_of c.tick.new.self) table.Tick c.args.now.0 c.self.invariant.0 (rw (← c.self.view_is) at ((returns g c).does)),
+  all_put g.M.Modulus.SIZE c.self.inside.station (view_of c.tick.new.self) table.Tick c.args.now.0 c.self.invariant.0 (rw (← c.self.view_is) at ((returns g c).does)),
 )

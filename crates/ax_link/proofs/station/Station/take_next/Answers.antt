@@ -1,8 +1,8 @@
 use Rattle.std.proofs.Common.{refl}
-use Rattle.ax_link.specs.Stations.{held_of}
+use Rattle.ax_link.specs.Stations.{view_of}
 use Rattle.ax_link.proofs.Standings.{takes_next}
 use Rattle.ax_link.proofs.station.Station.take_next.Goals as goal
 
 pub returns-clause-does : goal.returns-clause-does
 returns-clause-does g c =
-    takes_next g.M.Modulus.SIZE (held_of c.args.self.now) _ c.args.payload _ c.args.self.now.early_places (rw (c.push.ensures, c.push_back.ensures.items) refl)
+    takes_next g.M.Modulus.SIZE (view_of c.args.self.now) _ c.args.payload _ c.args.self.now.early_places (rw (c.push.ensures, c.push_back.ensures.items) refl)

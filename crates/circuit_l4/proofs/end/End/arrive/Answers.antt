@@ -1,7 +1,7 @@
 use Rattle.std.proofs.Common.{refl, ap, arith}
 use Rattle.circuit_l4.specs.declared.plain.EndConfig.{EndConfig}
-use Rattle.circuit_l4.specs.EndStanding.{Kept, kept_of}
-use Rattle.circuit_l4.specs.EndTable.{arrived}
+use Rattle.circuit_l4.specs.EndStanding.{EndView, view_of}
+use Rattle.circuit_l4.specs.EndTable.{arrive}
 use Rattle.circuit_l4.proofs.Steps.{idle, stepped}
 use Rattle.circuit_l4.proofs.Waiting.{few_out}
 use Rattle.circuit_l4.proofs.end.End.arrive.Goals as goal
@@ -9,13 +9,13 @@ use Rattle.circuit_l4.proofs.end.End.arrive.Goals as goal
 pub returns-clause-does : goal.returns-clause-does
 returns-clause-does c =
     rw (← c.self.view_is)
-    (stepped (kept_of c.self.inside.machine) _ _ _ (λ now g. arrived now c.args.transport.now g) (rw (← c.self.view_is) at c.requires) c.moment.ensures c.arrive.ensures.does)
+    (stepped (view_of c.self.inside.machine) _ _ _ (λ now g. arrive now c.args.transport.now g) (rw (← c.self.view_is) at c.requires) c.moment.ensures c.arrive.ensures.does)
 
 pub arrive-requires-clause-outs : goal.arrive-requires-clause-outs
-arrive-requires-clause-outs c = idle (kept_of c.self.inside.machine) c.self.inside.machine.outs.items refl (rw (← c.self.view_is) at c.requires)
+arrive-requires-clause-outs c = idle (view_of c.self.inside.machine) c.self.inside.machine.outs.items refl (rw (← c.self.view_is) at c.requires)
 
 pub returns-clause-few : goal.returns-clause-few
 returns-clause-few c =
     let window = ap (λ (config : EndConfig). config.window) c.arrive.ensures.config in
-    let own = ap (λ (k : Kept). k.config.window) c.self.view_is in
+    let own = ap (λ (k : EndView). k.config.window) c.self.view_is in
     few_out _ _ _ _ (omega (arith, window, own, c.arrive.new.self.outs_fit))

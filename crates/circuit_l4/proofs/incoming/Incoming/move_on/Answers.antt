@@ -1,6 +1,6 @@
 use Rattle.std.proofs.Common.{length, ap, sym, ◌∙◌}
 use Rattle.circuit_l4.specs.Halves.{Inbox}
-use Rattle.circuit_l4.proofs.Moves.{an_error, goes_no_further, goes_on, goes_wrong, one_left}
+use Rattle.circuit_l4.proofs.Moves.{an_error, goes_no_further, resume, goes_wrong, one_left}
 use Rattle.circuit_l4.proofs.incoming.Incoming.move_on.Goals as goal
 
 pub returns-in_err-append-in-Some-clause-does : goal.returns-in_err-append-in-Some-clause-does
@@ -30,6 +30,6 @@ loop-done-preserved c =
     let kept = c.loop-done.invariant in
     let left = one_left _ _ _ (c.len-done-end.ensures.len ∙ ap (λ (i : Inbox). length i.early) c.self.view_is) c.loop-done-test.true in
     record {
-      goes = λ r h. goes_on _ _ _ _ _ _ left c.in-Some.ensures.exact c.append.ensures.does (λ r is. sym c.in_ok-append-in-Some.was ∙ c.append.ensures.answer r is) (kept.goes r h);
+      goes = λ r h. resume _ _ _ _ _ _ left c.in-Some.ensures.exact c.append.ensures.does (λ r is. sym c.in_ok-append-in-Some.was ∙ c.append.ensures.answer r is) (kept.goes r h);
       places = c.append.ensures.places ∙ kept.places;
     }

@@ -1,20 +1,20 @@
 use Rattle.std.proofs.Common.{◌≡◌, ◌-◌, List}
 use Rattle.circuit_l4.specs.Sending.{written}
 use Rattle.circuit_l4.specs.EndState.{Out}
-use Rattle.circuit_l4.specs.EndTable.{wrote}
+use Rattle.circuit_l4.specs.EndTable.{write}
 use Rattle.circuit_l4.specs.Halves.{Outbox}
 use Rattle.circuit_l4.specs.Outputs.{outs_of}
-use Rattle.circuit_l4.specs.EndStanding.{Kept, kept_of}
+use Rattle.circuit_l4.specs.EndStanding.{EndView, view_of}
 use Rattle.circuit_l4.proofs.Standings.{itself, standing}
 use Rattle.circuit_l4.proofs.Waiting.{same_none}
 use Rattle.circuit_l4.proofs.machine.Machine.accept.Goals as goal
 
 pub returns-clause-does : goal.returns-clause-does
 returns-clause-does c =
-    let k : Kept = kept_of c.args.self.now in
+    let k : EndView = view_of c.args.self.now in
     let o : Outbox = c.write.new.self in
     let outs : List Out = outs_of o.queue (o.acked - o.done) c.args.self.now.outs.items in
     let same : k.outs ≡ outs = same_none _ _ _ _ c.args.self.now.outs.items c.requires.outs in
-    standing k _ (wrote c.args.now c.args.message.now) (λ s r n a b.
+    standing k _ (write c.args.now c.args.message.now) (λ s r n a b.
     rw same
-    (c.fill.ensures.does _ (itself (record k { quiet = c.args.now; outgoing = o; outs = outs }) (written c.args.message.now s) r n (c.write.ensures.does s a) b)))
+    (c.fill.ensures.does _ (itself (record k { last_active = c.args.now; outgoing = o; outs = outs }) (written c.args.message.now s) r n (c.write.ensures.does s a) b)))

@@ -4,8 +4,8 @@ use Rattle.circuit_l4.proofs.machine.Machine.acknowledge_at.Goals as goal
 
 pub returns-clause-does : goal.returns-clause-does
 returns-clause-does c = λ g h.
-    let advanced = c.advance.ensures.does g h in (
-      c.hold.ensures.does _ advanced,
-      c.owed_by-owed.ensures.exact advanced.written advanced.came advanced.expiries advanced.sending
-          ∙ sym (ap (λ x. owed_by c.args.flags c.args.below x.end) advanced.is),
+    let advance = c.advance.ensures.does g h in (
+      c.hold.ensures.does _ advance,
+      c.owed_by-owed.ensures.exact advance.written advance.came advance.expiries advance.sending
+          ∙ sym (ap (λ x. owed_by c.args.flags c.args.below x.end) advance.is),
     )

@@ -1,12 +1,12 @@
 use Rattle.std.proofs.Common.{ap}
-use Rattle.circuit_l4.specs.EndStanding.{Kept}
+use Rattle.circuit_l4.specs.EndStanding.{EndView}
 use Rattle.circuit_l4.proofs.machine.Machine.ask_once_more.Goals as goal
 
 pub returns-in-Connecting-clause-tries : goal.returns-in-Connecting-clause-tries
-returns-in-Connecting-clause-tries c = ap (λ (k : Kept). k.tries) c.ask.ensures.rest
+returns-in-Connecting-clause-tries c = ap (λ (k : EndView). k.tries) c.ask.ensures.rest
 
 pub returns-in-Up-clause-tries : goal.returns-in-Up-clause-tries
-returns-in-Up-clause-tries c = ap (λ (k : Kept). k.tries) c.again.ensures.rest
+returns-in-Up-clause-tries c = ap (λ (k : EndView). k.tries) c.again.ensures.rest
 
 pub returns-in-Closing-clause-tries : goal.returns-in-Closing-clause-tries
-returns-in-Closing-clause-tries c = ap (λ (k : Kept). k.tries) c.put.ensures.rest
+returns-in-Closing-clause-tries c = ap (λ (k : EndView). k.tries) c.emit.ensures.rest

@@ -1,10 +1,10 @@
 use Rattle.std.proofs.Common.{true, refl}
-use Rattle.circuit_l4.specs.EndMoves.{changed}
-use Rattle.circuit_l4.specs.EndStanding.{Kept, kept_of}
+use Rattle.circuit_l4.specs.EndMoves.{on_state}
+use Rattle.circuit_l4.specs.EndStanding.{EndView, view_of}
 use Rattle.circuit_l4.proofs.Standings.{changes}
 use Rattle.circuit_l4.proofs.machine.Machine.close_in_turn.Goals as goal
 
 pub returns-clause-does : goal.returns-clause-does
 returns-clause-does c = λ g h.
-    let k : Kept = kept_of c.args.self.now in
-    c.finish.ensures.does _ (changes k (record k { closing = true }) (changed (λ x. record x { closing = true })) (λ n. n) refl refl (λ _ _ _. refl) g h)
+    let k : EndView = view_of c.args.self.now in
+    c.finish.ensures.does _ (changes k (record k { closing = true }) (on_state (λ x. record x { closing = true })) (λ n. n) refl refl (λ _ _ _. refl) g h)

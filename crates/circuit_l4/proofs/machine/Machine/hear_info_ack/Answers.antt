@@ -1,10 +1,10 @@
 use Rattle.std.proofs.Common.{refl}
-use Rattle.circuit_l4.specs.EndTable.{heard}
-use Rattle.circuit_l4.specs.EndStanding.{Kept, kept_of}
+use Rattle.circuit_l4.specs.EndTable.{note_activity}
+use Rattle.circuit_l4.specs.EndStanding.{EndView, view_of}
 use Rattle.circuit_l4.proofs.Standings.{changes}
 use Rattle.circuit_l4.proofs.machine.Machine.hear_info_ack.Goals as goal
 
 pub returns-clause-does : goal.returns-clause-does
 returns-clause-does c = λ g h.
-    let k : Kept = kept_of c.args.self.now in
-    c.on_info_ack.ensures.does _ (changes k (record k { quiet = c.args.now }) (heard c.args.now) (λ n. n) refl refl (λ _ _ _. refl) g h)
+    let k : EndView = view_of c.args.self.now in
+    c.on_info_ack.ensures.does _ (changes k (record k { last_active = c.args.now }) (note_activity c.args.now) (λ n. n) refl refl (λ _ _ _. refl) g h)

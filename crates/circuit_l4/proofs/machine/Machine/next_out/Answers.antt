@@ -5,7 +5,7 @@ use Rattle.circuit_l4.specs.declared.output.Output.{Output}
 use Rattle.circuit_l4.specs.EndState.{Out}
 use Rattle.circuit_l4.specs.Halves.{Outbox}
 use Rattle.circuit_l4.specs.Outputs.{out_of, outs_of}
-use Rattle.circuit_l4.specs.EndStanding.{kept_of}
+use Rattle.circuit_l4.specs.EndStanding.{view_of}
 use Rattle.circuit_l4.proofs.Waiting.{next_out, others_out}
 use Rattle.circuit_l4.proofs.machine.Machine.next_out.Goals as goal
 
@@ -19,7 +19,7 @@ returns-in-Some-clause-value c =
 pub returns-in-Some-clause-rest : goal.returns-in-Some-clause-rest
 returns-in-Some-clause-rest c =
     let o : Outbox = c.args.self.now.outgoing in
-    ap (λ (outs : List Out). record (kept_of c.args.self.now) { outs = outs })
+    ap (λ (outs : List Out). record (view_of c.args.self.now) { outs = outs })
     (ap (λ (b : Buffer Output). outs_of o.queue (o.acked - o.done) b.items) c.pop_front.ensures.items ∙ sym (others_out o.queue (o.acked - o.done) c.args.self.now.outs.items))
 
 pub returns-in-None-clause-value : goal.returns-in-None-clause-value
@@ -31,5 +31,5 @@ returns-in-None-clause-value c =
 pub returns-in-None-clause-rest : goal.returns-in-None-clause-rest
 returns-in-None-clause-rest c =
     let o : Outbox = c.args.self.now.outgoing in
-    ap (λ (outs : List Out). record (kept_of c.args.self.now) { outs = outs })
+    ap (λ (outs : List Out). record (view_of c.args.self.now) { outs = outs })
     (ap (λ (b : Buffer Output). outs_of o.queue (o.acked - o.done) b.items) c.pop_front.ensures.items ∙ sym (others_out o.queue (o.acked - o.done) c.args.self.now.outs.items))

@@ -1,11 +1,11 @@
 use Rattle.std.proofs.Common.{None, false, refl}
-use Rattle.circuit_l4.specs.EndMoves.{changed}
-use Rattle.circuit_l4.specs.EndStanding.{Kept, kept_of}
+use Rattle.circuit_l4.specs.EndMoves.{on_state}
+use Rattle.circuit_l4.specs.EndStanding.{EndView, view_of}
 use Rattle.circuit_l4.proofs.Standings.{changes}
 use Rattle.circuit_l4.proofs.machine.Machine.release.Goals as goal
 
 pub returns-clause-does : goal.returns-clause-does
 returns-clause-does c = λ g h.
-    let k : Kept = kept_of c.args.self.now in
+    let k : EndView = view_of c.args.self.now in
     c.wait_if_out.ensures.does _ (c.fill.ensures.does _ (c.again.ensures.does _
-    (changes k (record k { held = false; due = None }) (changed (λ x. record x { held = false; due = None })) (λ n. n) refl refl (λ _ _ _. refl) g h)))
+    (changes k (record k { choked = false; answer_due = None }) (on_state (λ x. record x { choked = false; answer_due = None })) (λ n. n) refl refl (λ _ _ _. refl) g h)))

@@ -18,5 +18,5 @@ returns-in_ok-set_up-in-Some-clause-goes c = λ t s.
 
 pub returns-in-None-clause-goes : goal.returns-in-None-clause-goes
 returns-in-None-clause-goes c = λ t s.
-    at_no_link c.args.self.now _ c.args.to.now (λ own. works.stepped own table.Set_up c.args.now.0) (sym c.in-None.ensures.value)
+    at_no_link c.args.self.now _ c.args.to.now (λ own. works.step_link own table.Set_up c.args.now.0) (sym c.in-None.ensures.value)
     (record { own = refl; by_links = refl; wide = refl; config = refl; paths = refl }) (ap (λ m. m.entries) c.get_mut.follows.holds-at-none) refl t s

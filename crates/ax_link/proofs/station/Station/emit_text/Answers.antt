@@ -1,6 +1,6 @@
 use Rattle.std.proofs.Common.{refl}
 use Rattle.ax_link.proofs.Standings.{text_goes}
-use Rattle.ax_link.proofs.station.Station.put_text.Goals as goal
+use Rattle.ax_link.proofs.station.Station.emit_text.Goals as goal
 
 pub returns-clause-puts : goal.returns-clause-puts
 returns-clause-puts g c =

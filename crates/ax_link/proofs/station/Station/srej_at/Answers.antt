@@ -1,4 +1,4 @@
-use Rattle.ax_link.proofs.station.Station.selected.Goals as goal
+use Rattle.ax_link.proofs.station.Station.srej_at.Goals as goal
 
 pub returns-clause-does : goal.returns-clause-does
 returns-clause-does g c = λ part stands.

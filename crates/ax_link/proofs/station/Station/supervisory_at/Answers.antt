@@ -1,4 +1,4 @@
-use Rattle.ax_link.proofs.station.Station.supervised.Goals as goal
+use Rattle.ax_link.proofs.station.Station.supervisory_at.Goals as goal
 
 pub returns-clause-does : goal.returns-clause-does
 returns-clause-does g c = λ part stands.

@@ -20,7 +20,7 @@ HasIf test (Some p) = Has test p
 -- all that was given has the one property, and all that came has the other
 pub record HavePayloads (test test_came : Payload → Bool) (s : Stock) : Type 0 where
   pub given : AllByRecursion (Has test) s.given
-  pub gots : AllByRecursion (Has test_came) s.gots
+  pub received : AllByRecursion (Has test_came) s.received
   pub inbox : AllByRecursion (Has test_came) s.inbox
   pub early : AllByRecursion (HasIf test_came) s.early
 
@@ -39,5 +39,5 @@ pub record CanBeSent (size : ℕ) (out : LinkOut) : Type 0 where
   pub control : control_of size (kind_of size out.command out.control) ≡ out.control
   pub parts : HasParts size out.control (pid_of out.payload) (info_of out.payload)
 
-abbrev pub AllPut : ℕ → List LinkOut → Type 0
-AllPut size outs = AllByRecursion (CanBeSent size) outs
+abbrev pub AllCanBeSent : ℕ → List LinkOut → Type 0
+AllCanBeSent size outs = AllByRecursion (CanBeSent size) outs
