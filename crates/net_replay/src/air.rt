@@ -6,7 +6,7 @@ ghost use Rattle.net_replay.specs.Air as airs;
 
 use crate::channels::{Channel, can_hear};
 use crate::limits::MAX_FRAMES;
-use crate::reasons::{ReplayRefusal, LineRefusal};
+use crate::reasons::{LineRefusal, ReplayRefusal};
 use std::alloc::{AllocError, Global};
 use std::marker::Model;
 

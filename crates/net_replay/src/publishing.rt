@@ -10,7 +10,7 @@ use crate::air::{Air, Octets};
 use crate::channels::Channel;
 use crate::events::{Event, NodeEntry, NumberedEvent};
 use crate::node::Outputs;
-use crate::reasons::{ReplayRefusal, LineRefusal};
+use crate::reasons::{LineRefusal, ReplayRefusal};
 use std::alloc::AllocError;
 
 /// Tells what a node hands out, and puts its frames in the air.

@@ -78,7 +78,9 @@ impl Running {
                 self.hand(alloc, channels, line, *node, &Input::Failure(*call))
             }
             Instruction::Show { node } => self.show(alloc, line, *node),
-            Instruction::Deliver { frame, node } => self.deliver(alloc, channels, line, *frame, *node),
+            Instruction::Deliver { frame, node } => self.deliver(
+                alloc, channels, line, *frame, *node,
+            ),
             Instruction::Again { frame, node } => self.repeat(alloc, channels, line, *frame, *node),
             Instruction::Lose { frame } => self.lose(line, *frame),
             Instruction::Flow { count } => self.flow(alloc, channels, line, *count),
