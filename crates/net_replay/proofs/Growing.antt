@@ -4,13 +4,14 @@ use Rattle.std.specs.Prelude.{Option, Some, None, slice_get}
 use Rattle.std.specs.List.{range_with_len}
 use Rattle.std.proofs.lemmas.List.{length-append}
 use Rattle.nodes_broadcast.specs.Nodes.{view}
-use Rattle.net_replay.specs.declared.acts.Instruction.{Instruction}
-use Rattle.net_replay.specs.declared.acts.Instruction.TheVariants as acts
+use Rattle.network_file.specs.declared.plan.acts.Instruction.{Instruction}
+use Rattle.network_file.specs.declared.plan.acts.Instruction.TheVariants as acts
 use Rattle.net_replay.specs.declared.air.Aired.{Aired}
-use Rattle.net_replay.specs.declared.channels.Channel.{Channel}
-use Rattle.net_replay.specs.declared.network.NumberedAct.{NumberedAct}
+use Rattle.network_file.specs.declared.plan.channels.Channel.{Channel}
+use Rattle.network_file.specs.declared.network.NumberedAct.{NumberedAct}
 use Rattle.net_replay.specs.declared.reasons.LineRefusal.{LineRefusal}
-use Rattle.net_replay.specs.Air.{in_air, hearers, frame_of, oldest, delivery_fault, lost_fault}
+use Rattle.network_file.specs.Channels.{hearers}
+use Rattle.net_replay.specs.Air.{in_air, frame_of, oldest, delivery_fault, lost_fault}
 use Rattle.net_replay.specs.Nodes.{NodeState, Input, Bytes, Round, Failure, Lock, reacts, broadcast_octets}
 use Rattle.net_replay.specs.World.{World, node_in, aired, reached, reaches, goes_to, settles, delivers, spreads, flows, cuts, shows, unless_refused, does, after_acts, kiss_bytes}
 use Rattle.net_replay.proofs.Oldest.{length-settled_at}

@@ -1,21 +1,19 @@
 //! A replay while it runs: one act after another.
 ghost use Rattle.std.specs.Prelude.{◌∷◌, [], filter, slice_get};
-ghost use Rattle.net_replay.specs.declared.acts.Instruction.TheVariants as acts;
-ghost use Rattle.net_replay.specs.Air.{can_hear, hearers};
+ghost use Rattle.network_file.specs.declared.plan.acts.Instruction.TheVariants as acts;
+ghost use Rattle.network_file.specs.Channels.{can_hear, hearers};
 ghost use Rattle.net_replay.specs.Nodes as nodes;
 ghost use Rattle.net_replay.specs.Traces.{GoesOn, Runs, left, input_of};
 ghost use Rattle.net_replay.specs.World as world;
 
-use crate::acts::Instruction;
 use crate::air::{Air, place_of_frame};
 use crate::broadcasts::{broadcast_frame, kiss_bytes};
-use crate::channels::{Channel, can_hear, is_on_air};
 use crate::events::{Event, NumberedEvent};
 use crate::finding::{node_of, react_at};
-use crate::network::NumberedAct;
 use crate::node::{Input, Node};
 use crate::publishing::publish;
 use crate::reasons::ReplayRefusal;
+use network_file::{Channel, Instruction, NumberedAct, can_hear, is_on_air};
 use std::alloc::Global;
 
 /// A replay while it runs: the nodes by number, the frames in the air, and the events so far.

@@ -1,0 +1,114 @@
+//! The words of a line, by the rules of their places.
+ghost use Rattle.std.specs.Prelude.{◌≡◌, ◌≤◌, IfOk};
+ghost use Rattle.network_file.specs.Lines as lines;
+ghost use Rattle.network_file.specs.Places as places;
+
+use crate::limits::{MAX_COUNT, MAX_NODES};
+use crate::plan::declarations::{Declaration, has_call, has_node};
+use crate::reasons::What;
+use crate::words::{is_number, number_of};
+use ax_address::{Alias, Call};
+
+/// What is wrong, where the test fails.
+pub fn needs(holds: bool, what: What) -> Result<(), What>
+    ensures { result ≡ places.needs holds what }
+{
+    if holds { Ok(()) } else { Err(what) }
+}
+
+/// A number from `least` to `most`.
+pub fn number(least: u32, most: u32, word: &[u8]) -> Result<u32, What>
+    ensures { result ≡ places.number_at least most word.now }
+{
+    number_of(least, most, word).ok_or(What::Number)
+}
+
+/// A number from 0 to 255.
+pub fn octet(word: &[u8]) -> Result<u8, What>
+    ensures { result ≡ places.number_at 0 255 word.now }
+{
+    let value = number(0, 255, word)?;
+    Ok(value as u8)
+}
+
+/// The number of a frame, from 1.
+pub fn frame(word: &[u8]) -> Result<u32, What>
+    ensures { result ≡ lines.frame_at word.now }
+{
+    number(1, u32::MAX, word)
+}
+
+/// How many frames, at most.
+pub fn count(word: &[u8]) -> Result<u32, What>
+    ensures { result ≡ lines.count_at word.now }
+{
+    number(1, MAX_COUNT, word)
+}
+
+/// A number of any size, which has to be from `least` to `most`.
+#[tactic(auto, unfolding(crate::specs::Places::value_at))]
+pub fn value(least: u32, most: u32, word: &[u8]) -> Result<u32, What>
+    ensures value { result ≡ places.value_at least most word.now }
+    ensures in_range { IfOk result (λ v. (least ≤ v) × (v ≤ most)) }
+{
+    needs(is_number(word), What::Number)?;
+    number_of(least, most, word).ok_or(What::Value)
+}
+
+/// The number of a node, declared or not.
+fn node_number(word: &[u8]) -> Result<u8, What>
+    ensures { result ≡ places.number_at 1 16 word.now }
+{
+    let value = number(1, MAX_NODES as u32, word)?;
+    Ok(value as u8)
+}
+
+/// The number of a declared node.
+#[tactic(auto, unfolding(crate::specs::Places::node_at))]
+pub fn node(declared: &[Declaration], word: &[u8]) -> Result<u8, What>
+    ensures { result ≡ places.node_at declared.now word.now }
+{
+    let node = node_number(word)?;
+    needs(has_node(declared, node), What::Node)?;
+    Ok(node)
+}
+
+/// The number of a node that isn't declared yet.
+#[tactic(auto, unfolding(crate::specs::Places::new_node_at))]
+pub fn new_node(declared: &[Declaration], word: &[u8]) -> Result<u8, What>
+    ensures { result ≡ places.new_node_at declared.now word.now }
+{
+    let node = node_number(word)?;
+    needs(!has_node(declared, node), What::Twice)?;
+    Ok(node)
+}
+
+/// A call.
+pub fn call(word: &[u8]) -> Result<Call, What>
+    ensures { result ≡ places.call_at word.now }
+{
+    match Call::read(word) {
+        Ok(call) => Ok(call),
+        Err(_) => Err(What::Call),
+    }
+}
+
+/// A call that no declared node has yet.
+#[tactic(auto, unfolding(crate::specs::Places::new_call_at))]
+pub fn new_call(declared: &[Declaration], word: &[u8]) -> Result<Call, What>
+    ensures { result ≡ places.new_call_at declared.now word.now }
+{
+    let call = call(word)?;
+    needs(!has_call(declared, &call), What::Twice)?;
+    Ok(call)
+}
+
+/// An alias.
+pub fn alias(word: &[u8]) -> Result<Alias, What>
+    ensures { result ≡ places.alias_at word.now }
+{
+    match Alias::read(word) {
+        Ok(alias) => Ok(alias),
+        Err(_) => Err(What::Alias),
+    }
+}
