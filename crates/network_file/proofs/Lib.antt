@@ -1,3 +1,3 @@
 pub mod Numbers
 pub mod Cuts
-pub mod KeyPlaces
+pub mod KeyRanges

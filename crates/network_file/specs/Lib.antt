@@ -3,6 +3,7 @@ pub mod Words
 pub mod Keys
 pub mod Settings
 pub mod Channels
+pub mod Vias
 pub mod Places
 pub mod Plan
 pub mod Lines

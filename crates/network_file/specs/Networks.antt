@@ -1,24 +1,26 @@
 -- The network of a file: what its lines say, one after another, or the first bad line and why. Own profile.
-use Rattle.std.specs.Prelude.{ℕ, suc, ◌≡◌, List, [], ◌∷◌, ◌++◌, length, Result, Ok, Err, Bool, ◌||◌, ◌==◌, nat_lt, if◌then◌else◌, slice_index}
+use Rattle.std.specs.Prelude.{ℕ, suc, ◌≡◌, List, [], ◌∷◌, ◌++◌, length, Option, Some, None, Result, Ok, Err, Bool, ◌||◌, ◌==◌, nat_lt, if◌then◌else◌, slice_index}
 use Rattle.std.specs.Str.Lines.{lines}
 use Rattle.network_file.specs.declared.reasons.What.{What}
 use Rattle.network_file.specs.declared.reasons.What.TheVariants.{Many}
 use Rattle.network_file.specs.declared.reasons.NetworkRefusal.{NetworkRefusal}
 use Rattle.network_file.specs.declared.reasons.NetworkRefusal.TheVariants.{BadLine, NoMemory}
 use Rattle.network_file.specs.declared.lines.Line.{Line}
-use Rattle.network_file.specs.declared.lines.Line.TheVariants.{Node, Channel, Set, Instruction}
+use Rattle.network_file.specs.declared.lines.Line.TheVariants.{Version, Node, Channel, Set, Via, Instruction}
 use Rattle.network_file.specs.Plan.{Plan}
 use Rattle.network_file.specs.Lines.{line_at}
 
 abbrev pub nothing : Plan
-nothing = record { declared = []; channels = []; settings = []; acts = [] }
+nothing = record { version = None; declared = []; channels = []; settings = []; vias = []; instructions = [] }
 
 -- a plan with what line number n says
 abbrev pub with_line : ℕ → Line → Plan → Plan
+with_line n (Version version) plan = record plan { version = Some version }
 with_line n (Node declaration) plan = record plan { declared = plan.declared ++ declaration ∷ [] }
 with_line n (Channel channel) plan = record plan { channels = plan.channels ++ channel ∷ [] }
 with_line n (Set setting) plan = record plan { settings = plan.settings ++ setting ∷ [] }
-with_line n (Instruction act) plan = record plan { acts = plan.acts ++ record { line = n; act = act } ∷ [] }
+with_line n (Via via) plan = record plan { vias = plan.vias ++ via ∷ [] }
+with_line n (Instruction instruction) plan = record plan { instructions = plan.instructions ++ record { line = n; instruction = instruction } ∷ [] }
 
 -- a bad line's number, and why it is bad
 abbrev pub Bad : Type 0

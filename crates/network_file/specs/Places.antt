@@ -1,5 +1,5 @@
 -- What a word has to be in its place of a line, and what it then stands for. Own profile.
-use Rattle.std.specs.Prelude.{ℕ, List, Option, Some, None, Result, Ok, Err, Bool, true, false, ◌==◌, not}
+use Rattle.std.specs.Prelude.{ℕ, List, Option, Some, None, Result, Ok, Err, Bool, true, false, ◌==◌, not, nat_lt}
 use Rattle.std.specs.List.{list_any}
 use Rattle.ax_address.specs.Callsign.{Callsign}
 use Rattle.ax_address.specs.CallOrder.{same_call}
@@ -9,6 +9,8 @@ use Rattle.ax_address.specs.declared.alias.Alias.{Alias}
 use Rattle.network_file.specs.declared.reasons.What.{What}
 use Rattle.network_file.specs.declared.reasons.What.TheVariants as whats
 use Rattle.network_file.specs.declared.plan.declarations.Declaration.{Declaration}
+use Rattle.network_file.specs.declared.plan.vias.Via.{Via}
+use Rattle.network_file.specs.Vias.{has_via, via_count}
 use Rattle.network_file.specs.Words.{is_number, number_of}
 
 infixl 10 ◌>>=◌
@@ -29,6 +31,10 @@ known what None = Err what
 -- a number from least to most
 abbrev pub number_at : ℕ → ℕ → List ℕ → Result ℕ What
 number_at least most word = known whats.Number (number_of least most word)
+
+-- the number of a frame or of an end
+abbrev pub nth_at : List ℕ → Result ℕ What
+nth_at word = number_at 1 4294967295 word
 
 -- a number of any size, which has to be from least to most
 unfoldable pub value_at : ℕ → ℕ → List ℕ → Result ℕ What
@@ -65,6 +71,14 @@ unfoldable pub new_call_at : List Declaration → List ℕ → Result Callsign W
 new_call_at declared word = do
   c ← call_at word
   u ← needs (not (has_call declared c)) whats.Twice
+  Ok c
+
+-- a call to which the node has no way over repeaters yet, of at most sixteen
+unfoldable pub new_peer_at : List Via → ℕ → List ℕ → Result Callsign What
+new_peer_at vias node word = do
+  c ← call_at word
+  u ← needs (not (has_via vias node c)) whats.Twice
+  w ← needs (nat_lt (via_count vias node) 16) whats.Value
   Ok c
 
 abbrev pub alias_at : List ℕ → Result Alias What

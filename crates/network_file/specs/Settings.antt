@@ -1,11 +1,17 @@
 -- What the keys are set to. Own profile.
 use Rattle.std.specs.Prelude.{ℕ, List, find, unwrap_or, Option, Bool, ◌&&◌, ◌==◌}
 use Rattle.std.specs.Option.{option_map}
+use denote.Enum.Bare.{sameb}
+use Rattle.network_file.specs.contracts.plan.keys.Key.{the_type}
 use Rattle.network_file.specs.declared.plan.keys.Key.{Key}
-use Rattle.network_file.specs.Keys.{Assignment, place_of, default_of}
+use Rattle.network_file.specs.Keys.{Assignment, default_of}
+
+-- `==` on keys
+abbrev pub same_key : Key → Key → Bool
+same_key = sameb the_type
 
 abbrev pub is_of : ℕ → Key → Assignment → Bool
-is_of node key s = (s.node == node) && (place_of s.key == place_of key)
+is_of node key s = (s.node == node) && same_key s.key key
 
 -- what the key is set to for the node, if it is
 abbrev pub set_to : List Assignment → ℕ → Key → Option ℕ

@@ -15,6 +15,28 @@ is_text line = list_all (λ b. nat_le 32 b && nat_le b 126) line
 abbrev pub words_of : List ℕ → List (List ℕ)
 words_of line = filter (λ w. not (length w == 0)) (slice_split (λ b. b == 32) line)
 
+-- a line without the spaces at its front
+abbrev pub after_spaces : List ℕ → List ℕ
+after_spaces [] = []
+after_spaces (b ∷ bs) = if b == 32 then after_spaces bs else b ∷ bs
+
+-- a line from its first space on
+abbrev pub after_word : List ℕ → List ℕ
+after_word [] = []
+after_word (b ∷ bs) = if b == 32 then b ∷ bs else after_word bs
+
+-- what stands after the first word: nothing, or a space and what follows
+unfoldable pub past_word : List ℕ → List ℕ
+past_word line = after_word (after_spaces line)
+
+abbrev pub after_space : List ℕ → Option (List ℕ)
+after_space [] = None
+after_space (space ∷ text) = Some text
+
+-- TEXT of a `say` line: what stands after its third word and the one space after that, if that space is there
+unfoldable pub said_text : List ℕ → Option (List ℕ)
+said_text line = after_space (past_word (past_word (past_word line)))
+
 abbrev pub is_digit : ℕ → Bool
 is_digit b = nat_le 48 b && nat_le b 57
 

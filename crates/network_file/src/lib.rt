@@ -13,10 +13,12 @@ mod reasons;
 mod words;
 
 pub use limits::MAX_NODES;
-pub use network::{Network, NumberedAct, read_network};
-pub use plan::acts::Instruction;
+pub use network::{Network, NumberedInstruction, read_network};
 pub use plan::channels::{Channel, can_hear, is_on_air};
 pub use plan::declarations::Declaration;
+pub use plan::instructions::Instruction;
 pub use plan::keys::{Key, Setting};
 pub use plan::settings::value_of;
+pub use plan::text::Text;
+pub use plan::vias::Via;
 pub use reasons::{NetworkRefusal, What};

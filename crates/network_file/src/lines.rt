@@ -1,26 +1,27 @@
-//! The kinds of lines, and the line that words say.
-ghost use Rattle.std.specs.Prelude.{◌≡◌, IfOk, nat_eq};
-ghost use Rattle.std.specs.List.{list_any};
-ghost use Rattle.std.specs.Cmp.Lexicographic.{pointwise};
-ghost use Rattle.network_file.specs.Words.{texts, words_of};
+//! What a line says: its kind is named by its first word.
+ghost use Rattle.std.specs.Prelude.{◌≡◌, IfOk};
 ghost use Rattle.network_file.specs.Lines as lines;
+ghost use Rattle.network_file.specs.Words.{texts, words_of};
 
-pub mod acting;
+pub mod circuits;
 pub mod declaring;
+pub mod frames;
 pub mod heard;
+pub mod nodes;
 
-use crate::lines::acting::{
-    again_line, cut_line, deliver_line, flow_line, linkfail_line, lock_line, lose_line, round_line,
-    show_line,
-};
-use crate::lines::declaring::{channel_line, node_line, set_line};
+use crate::lines::circuits::{burst_line, close_line, open_line, say_line, take_line};
+use crate::lines::declaring::{channel_line, node_line, set_line, version_line, via_line};
+use crate::lines::frames::{again_line, cut_line, deliver_line, flow_line, lose_line};
 use crate::lines::heard::heard_line;
+use crate::lines::nodes::{
+    linkfail_line, lock_line, restart_line, round_line, show_line, tick_line,
+};
 use crate::network::Network;
-use crate::places::needs;
-use crate::plan::acts::Instruction;
 use crate::plan::channels::Channel;
 use crate::plan::declarations::Declaration;
+use crate::plan::instructions::Instruction;
 use crate::plan::keys::Setting;
+use crate::plan::vias::Via;
 use crate::reasons::What;
 use crate::words::{is_text, words_of};
 use std::alloc::{AllocError, Global};
@@ -28,31 +29,16 @@ use std::alloc::{AllocError, Global};
 /// What a line says.
 #[derive(Debug, Drop)]
 pub enum Line {
+    /// The version of the file.
+    Version(u8),
     Node(Declaration),
     Channel(Channel),
     Set(Setting),
+    Via(Via),
     Instruction(Instruction),
 }
 
-/// The kinds of lines, by their first word.
-#[derive(Clone, Copy, Debug, PartialEq, Eq)]
-pub enum Kind {
-    Node,
-    Channel,
-    Set,
-    Lock,
-    Heard,
-    Round,
-    LinkFail,
-    Show,
-    Deliver,
-    Again,
-    Lose,
-    Flow,
-    Cut,
-}
-
-/// What a line says behind the lines before it, or the first thing that is wrong with it.
+/// What a line says after the lines before it, or the first thing that is wrong with it.
 pub fn read_line(
     alloc: Global,
     before: &Network,
@@ -61,107 +47,126 @@ pub fn read_line(
     ensures { IfOk result (λ said. said ≡ lines.line_at before.now line.now) }
 {
     let words = words_of(alloc, line)?;
-    Ok(line_of_text(before, line, &words))
+    line_of_text(alloc, before, line, &words)
 }
 
 #[tactic(auto, unfolding(crate::specs::Lines::line_at))]
-fn line_of_text(before: &Network, line: &[u8], words: &[&[u8]]) -> Result<Line, What>
+fn line_of_text(
+    alloc: Global,
+    before: &Network,
+    line: &[u8],
+    words: &[&[u8]],
+) -> Result<Result<Line, What>, AllocError>
     requires { texts words.now ≡ words_of line.now }
-    ensures { result ≡ lines.line_at before.now line.now }
+    ensures { IfOk result (λ said. said ≡ lines.line_at before.now line.now) }
 {
-    needs(is_text(line), What::Char)?;
-    line_of(before, words)
+    if !is_text(line) {
+        return Ok(Err(What::Char));
+    }
+    line_of(alloc, before, line, words)
 }
 
-#[tactic(auto, unfolding(crate::specs::Lines::line_of))]
-fn line_of(before: &Network, words: &[&[u8]]) -> Result<Line, What>
-    ensures { result ≡ lines.line_of before.now (texts words.now) }
+fn line_of(
+    alloc: Global,
+    before: &Network,
+    line: &[u8],
+    words: &[&[u8]],
+) -> Result<Result<Line, What>, AllocError>
+    ensures { IfOk result (λ said. said ≡ lines.line_of before.now line.now (texts words.now)) }
 {
     match words {
-        [] => Err(What::Word),
+        [] => Ok(Err(What::Word)),
         [first, rest @ ..] => {
-            let kind = kind_of(first)?;
-            needs(!is_declaring(kind) || before.acts().is_empty(), What::Late)?;
-            line_of_kind(kind, before, rest)
+            if *first == b"say".as_slice() {
+                say_line(alloc, before, line, rest)
+            } else {
+                Ok(declaring_kind(before, first, rest))
+            }
         }
     }
 }
 
-fn kind_of(word: &[u8]) -> Result<Kind, What>
-    ensures { result ≡ lines.kind_at word.now }
+/// The line of a kind that declares, or else of one that doesn't.
+fn declaring_kind(before: &Network, word: &[u8], words: &[&[u8]]) -> Result<Line, What>
+    ensures { result ≡ lines.line_by lines.all_kinds before.now word.now (texts words.now) }
 {
-    if word == b"node".as_slice() {
-        Ok(Kind::Node)
+    if word == b"version".as_slice() {
+        in_time(before.is_untouched(), version_line(words))
+    } else if word == b"node".as_slice() {
+        in_time(before.may_declare(), node_line(before, words))
     } else if word == b"channel".as_slice() {
-        Ok(Kind::Channel)
+        in_time(before.may_declare(), channel_line(before, words))
     } else if word == b"set".as_slice() {
-        Ok(Kind::Set)
+        in_time(before.may_declare(), set_line(before, words))
+    } else if word == b"via".as_slice() {
+        in_time(before.may_declare(), via_line(before, words))
+    } else {
+        node_kind(before, word, words)
+    }
+}
+
+/// What a declaring line says, unless it comes too late.
+fn in_time(is_in_time: bool, said: Result<Line, What>) -> Result<Line, What>
+    ensures { result ≡ lines.in_time is_in_time said }
+{
+    if is_in_time { said } else { Err(What::Late) }
+}
+
+/// The line of a kind that speaks of nodes or of time, or else of the ends of circuits.
+fn node_kind(before: &Network, word: &[u8], words: &[&[u8]]) -> Result<Line, What>
+    ensures { result ≡ lines.line_by lines.node_kinds before.now word.now (texts words.now) }
+{
+    if word == b"heard".as_slice() {
+        heard_line(before, words)
     } else if word == b"lock".as_slice() {
-        Ok(Kind::Lock)
-    } else if word == b"heard".as_slice() {
-        Ok(Kind::Heard)
+        lock_line(before, words)
     } else if word == b"round".as_slice() {
-        Ok(Kind::Round)
+        round_line(before, words)
     } else if word == b"linkfail".as_slice() {
-        Ok(Kind::LinkFail)
+        linkfail_line(before, words)
     } else if word == b"show".as_slice() {
-        Ok(Kind::Show)
-    } else if word == b"deliver".as_slice() {
-        Ok(Kind::Deliver)
+        show_line(before, words)
+    } else if word == b"tick".as_slice() {
+        tick_line(words)
+    } else if before.version() >= 2 && word == b"restart".as_slice() {
+        restart_line(before, words)
+    } else {
+        end_kind(before, word, words)
+    }
+}
+
+/// The line of a kind that speaks of the ends of circuits, or else of frames in the air.
+fn end_kind(before: &Network, word: &[u8], words: &[&[u8]]) -> Result<Line, What>
+    ensures { result ≡ lines.line_by lines.end_kinds before.now word.now (texts words.now) }
+{
+    if word == b"open".as_slice() {
+        open_line(before, words)
+    } else if word == b"burst".as_slice() {
+        burst_line(before, words)
+    } else if word == b"take".as_slice() {
+        take_line(before, words)
+    } else if word == b"close".as_slice() {
+        close_line(before, words)
+    } else {
+        frame_kind(before, word, words)
+    }
+}
+
+/// The line of a kind that speaks of frames in the air.
+fn frame_kind(before: &Network, word: &[u8], words: &[&[u8]]) -> Result<Line, What>
+    ensures { result ≡ lines.line_by lines.frame_kinds before.now word.now (texts words.now) }
+{
+    if word == b"deliver".as_slice() {
+        deliver_line(before, words)
     } else if word == b"again".as_slice() {
-        Ok(Kind::Again)
+        again_line(before, words)
     } else if word == b"lose".as_slice() {
-        Ok(Kind::Lose)
+        lose_line(words)
     } else if word == b"flow".as_slice() {
-        Ok(Kind::Flow)
+        flow_line(words)
     } else if word == b"cut".as_slice() {
-        Ok(Kind::Cut)
-    } else if is_later_kind(word) {
-        Err(What::NotBuilt)
+        cut_line(words)
     } else {
         Err(What::Word)
-    }
-}
-
-/// A kind of line that this version doesn't know yet.
-fn is_later_kind(word: &[u8]) -> bool
-    ensures { result ≡ list_any (pointwise nat_eq word.now) lines.later_kinds }
-{
-    word == b"via".as_slice()
-        || word == b"tick".as_slice()
-        || word == b"open".as_slice()
-        || word == b"say".as_slice()
-        || word == b"burst".as_slice()
-        || word == b"take".as_slice()
-        || word == b"close".as_slice()
-}
-
-/// The line is one of those that stand before all others.
-fn is_declaring(kind: Kind) -> bool
-    ensures { result ≡ lines.is_declaring kind }
-{
-    match kind {
-        Kind::Node | Kind::Channel | Kind::Set => true,
-        _ => false,
-    }
-}
-
-fn line_of_kind(kind: Kind, before: &Network, words: &[&[u8]]) -> Result<Line, What>
-    ensures { result ≡ lines.line_of_kind kind before.now (texts words.now) }
-{
-    match kind {
-        Kind::Node => node_line(before, words),
-        Kind::Channel => channel_line(before, words),
-        Kind::Set => set_line(before, words),
-        Kind::Lock => lock_line(before, words),
-        Kind::Heard => heard_line(before, words),
-        Kind::Round => round_line(before, words),
-        Kind::LinkFail => linkfail_line(before, words),
-        Kind::Show => show_line(before, words),
-        Kind::Deliver => deliver_line(before, words),
-        Kind::Again => again_line(before, words),
-        Kind::Lose => lose_line(words),
-        Kind::Flow => flow_line(words),
-        Kind::Cut => cut_line(words),
     }
 }

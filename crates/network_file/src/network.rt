@@ -5,29 +5,32 @@ ghost use Rattle.network_file.specs.Networks as networks;
 
 use crate::limits::MAX_LINES;
 use crate::lines::{Line, read_line};
-use crate::plan::acts::Instruction;
 use crate::plan::channels::Channel;
 use crate::plan::declarations::Declaration;
+use crate::plan::instructions::Instruction;
 use crate::plan::keys::Setting;
+use crate::plan::vias::Via;
 use crate::reasons::{NetworkRefusal, What};
 use crate::words::first_line;
 use std::alloc::{AllocError, Global};
 use std::marker::Model;
 
-/// An act with the number of its line, from 1.
+/// An instruction with the number of its line, from 1.
 #[derive(Debug, Drop)]
-pub struct NumberedAct {
+pub struct NumberedInstruction {
     pub line: u32,
-    pub act: Instruction,
+    pub instruction: Instruction,
 }
 
-/// What a network file lays down: its declarations and its acts, each in the order of the file.
+/// What a network file lays down: its declarations and its instructions, each in the order of the file.
 #[derive(Debug, Drop)]
 pub struct Network {
+    version: Option<u8>,
     declared: Vec<Declaration>,
     channels: Vec<Channel>,
     settings: Vec<Setting>,
-    acts: Vec<NumberedAct>,
+    vias: Vec<Via>,
+    instructions: Vec<NumberedInstruction>,
 }
 
 impl Model for Network {
@@ -35,25 +38,35 @@ impl Model for Network {
 
     ghost Value = { Plan };
 
-    ghost view = { λ n. record { declared = n.declared.items; channels = n.channels.items; settings = n.settings.items; acts = n.acts.items } };
+    ghost view = { λ n. record { version = n.version; declared = n.declared.items; channels = n.channels.items; settings = n.settings.items; vias = n.vias.items; instructions = n.instructions.items } };
 }
 
 impl Network {
     ghost use Rattle.std.specs.Prelude.{◌≡◌, [], OnOk, OnErr};
     ghost use Rattle.network_file.specs.Networks.{nothing, with_line};
+    ghost use Rattle.network_file.specs.Plan.{version_of, is_untouched, may_declare};
 
     fn new(alloc: Global) -> Network
         ensures { result ≡ nothing }
     {
         Network {
+            version: None,
             declared: Vec::new(alloc),
             channels: Vec::new(alloc),
             settings: Vec::new(alloc),
-            acts: Vec::new(alloc),
+            vias: Vec::new(alloc),
+            instructions: Vec::new(alloc),
         }
     }
 
-    /// The declared nodes.
+    /// The version of the file, 1 to 3: 1 where it doesn't name it.
+    pub fn version(&self) -> u8
+        ensures { result ≡ version_of self.now }
+    {
+        self.version.unwrap_or(1)
+    }
+
+    /// The declared nodes, in the order of their lines.
     pub fn declared(&self) -> &[Declaration]
         ensures { result.now ≡ self.now.declared }
     {
@@ -74,11 +87,32 @@ impl Network {
         &self.settings
     }
 
-    /// The acts.
-    pub fn acts(&self) -> &[NumberedAct]
-        ensures { result.now ≡ self.now.acts }
+    /// The ways over repeaters.
+    pub fn vias(&self) -> &[Via]
+        ensures { result.now ≡ self.now.vias }
     {
-        &self.acts
+        &self.vias
+    }
+
+    /// The instructions, in the order of their lines.
+    pub fn instructions(&self) -> &[NumberedInstruction]
+        ensures { result.now ≡ self.now.instructions }
+    {
+        &self.instructions
+    }
+
+    /// No line has said anything yet.
+    pub(crate) fn is_untouched(&self) -> bool
+        ensures { result ≡ is_untouched self.now }
+    {
+        self.version.is_none() && self.declared.is_empty() && self.instructions.is_empty()
+    }
+
+    /// Declarations may still come.
+    pub(crate) fn may_declare(&self) -> bool
+        ensures { result ≡ may_declare self.now }
+    {
+        self.instructions.is_empty()
     }
 
     /// Adds what a line says.
@@ -87,6 +121,10 @@ impl Network {
         ensures err { OnErr result (self.new ≡ self.old) }
     {
         match line {
+            Line::Version(version) => {
+                self.version = Some(version);
+                Ok(())
+            }
             Line::Node(declaration) => {
                 self.declared.push(declaration)?;
                 Ok(())
@@ -99,8 +137,15 @@ impl Network {
                 self.settings.push(setting)?;
                 Ok(())
             }
-            Line::Instruction(act) => {
-                self.acts.push(NumberedAct { line: number, act })?;
+            Line::Via(via) => {
+                self.vias.push(via)?;
+                Ok(())
+            }
+            Line::Instruction(instruction) => {
+                self.instructions.push(NumberedInstruction {
+                    line: number,
+                    instruction,
+                })?;
                 Ok(())
             }
         }

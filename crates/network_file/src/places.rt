@@ -1,10 +1,10 @@
 //! The words of a line, by the rules of their places.
 ghost use Rattle.std.specs.Prelude.{◌≡◌, ◌≤◌, IfOk};
-ghost use Rattle.network_file.specs.Lines as lines;
 ghost use Rattle.network_file.specs.Places as places;
 
-use crate::limits::{MAX_COUNT, MAX_NODES};
+use crate::limits::{MAX_BURST, MAX_COUNT, MAX_NODES, MAX_TICK, MAX_VIAS};
 use crate::plan::declarations::{Declaration, has_call, has_node};
+use crate::plan::vias::{Via, has_via, via_count};
 use crate::reasons::What;
 use crate::words::{is_number, number_of};
 use ax_address::{Alias, Call};
@@ -31,18 +31,40 @@ pub fn octet(word: &[u8]) -> Result<u8, What>
     Ok(value as u8)
 }
 
-/// The number of a frame, from 1.
-pub fn frame(word: &[u8]) -> Result<u32, What>
-    ensures { result ≡ lines.frame_at word.now }
+/// A part of a pair, from 1 to 255.
+pub fn pair_part(word: &[u8]) -> Result<u8, What>
+    ensures { result ≡ places.number_at 1 255 word.now }
+{
+    let value = number(1, 255, word)?;
+    Ok(value as u8)
+}
+
+/// The number of a frame or of an end, from 1.
+pub fn nth(word: &[u8]) -> Result<u32, What>
+    ensures { result ≡ places.nth_at word.now }
 {
     number(1, u32::MAX, word)
 }
 
 /// How many frames, at most.
-pub fn count(word: &[u8]) -> Result<u32, What>
-    ensures { result ≡ lines.count_at word.now }
+pub fn frame_count(word: &[u8]) -> Result<u32, What>
+    ensures { result ≡ places.number_at 1 100000 word.now }
 {
     number(1, MAX_COUNT, word)
+}
+
+/// How many texts.
+pub fn text_count(word: &[u8]) -> Result<u32, What>
+    ensures { result ≡ places.number_at 1 10000 word.now }
+{
+    number(1, MAX_BURST, word)
+}
+
+/// A time in milliseconds.
+pub fn time(word: &[u8]) -> Result<u32, What>
+    ensures { result ≡ places.number_at 1 86400000 word.now }
+{
+    number(1, MAX_TICK, word)
 }
 
 /// A number of any size, which has to be from `least` to `most`.
@@ -100,6 +122,17 @@ pub fn new_call(declared: &[Declaration], word: &[u8]) -> Result<Call, What>
 {
     let call = call(word)?;
     needs(!has_call(declared, &call), What::Twice)?;
+    Ok(call)
+}
+
+/// A call to which the node has no way over repeaters yet.
+#[tactic(auto, unfolding(crate::specs::Places::new_peer_at))]
+pub fn new_peer(vias: &[Via], node: u8, word: &[u8]) -> Result<Call, What>
+    ensures { result ≡ places.new_peer_at vias.now node word.now }
+{
+    let call = call(word)?;
+    needs(!has_via(vias, node, &call), What::Twice)?;
+    needs(via_count(vias, node) < MAX_VIAS, What::Value)?;
     Ok(call)
 }
 

@@ -12,9 +12,9 @@ pub enum What {
     Char,
     /// The first word is no kind of line.
     Word,
-    /// The kind of line, or the key, is one that this version doesn't know yet.
+    /// The key is `prompt`, which isn't built yet.
     NotBuilt,
-    /// A declaration behind a line that is none.
+    /// A declaration after a line that is none, or a version line that isn't the first.
     Late,
     /// The line has too many words for its kind, or too few.
     Count,
@@ -30,7 +30,7 @@ pub enum What {
     Twice,
     /// A word is no key.
     Key,
-    /// A number that the key doesn't allow.
+    /// A number that the key doesn't allow, a version that isn't known, or a node's seventeenth way over repeaters.
     Value,
 }
 

@@ -1,5 +1,5 @@
 //! Lines, and their words.
-ghost use Rattle.std.specs.Prelude.{◌≡◌, ◌<◌, ◌≤◌, ◌==◌, ◌∷◌, ◌^◌, length, nat_le, map, not, Some, None, IfSome, IfOk, if◌then◌else◌};
+ghost use Rattle.std.specs.Prelude.{◌≡◌, ◌<◌, ◌≤◌, ◌==◌, ◌∷◌, ◌^◌, length, nat_le, map, not, Some, None, IfSome, IfOk, MatchOption, if◌then◌else◌};
 ghost use Rattle.std.specs.List.{list_all, position, slice_split};
 ghost use Rattle.std.specs.Str.Lines.{lines, strip_carriage_return};
 ghost use Rattle.network_file.specs.Words as words;
@@ -62,6 +62,47 @@ fn pieces_of(alloc: Global, line: &[u8]) -> Result<Vec<&[u8]>, AllocError>
     ensures { IfOk result (λ v. words.texts v.items ≡ slice_split (λ b. b == 32) line.now) }
 {
     line.split(|b| *b == b' ').collect(alloc)
+}
+
+/// TEXT of a `say` line: what stands after its third word and the one space after that, if that space is there.
+#[tactic(auto, unfolding(crate::specs::Words::said_text))]
+pub fn said_text(line: &[u8]) -> Option<&[u8]>
+    ensures { MatchOption result (words.said_text line.now ≡ None) (λ text. words.said_text line.now ≡ Some text.now) }
+{
+    match past_word(past_word(past_word(line))) {
+        [] => None,
+        [_, text @ ..] => Some(text),
+    }
+}
+
+/// What stands after the first word: nothing, or a space and what follows.
+#[tactic(auto, unfolding(crate::specs::Words::past_word))]
+fn past_word(line: &[u8]) -> &[u8]
+    ensures { result.now ≡ words.past_word line.now }
+{
+    after_word(after_spaces(line))
+}
+
+/// The line without the spaces at its front.
+fn after_spaces(line: &[u8]) -> &[u8]
+    ensures { result.now ≡ words.after_spaces line.now }
+{
+    let mut rest = line;
+    while !rest.is_empty() && rest[0] == b' ' {
+        rest = &rest[1..];
+    }
+    rest
+}
+
+/// The line from its first space on.
+fn after_word(line: &[u8]) -> &[u8]
+    ensures { result.now ≡ words.after_word line.now }
+{
+    let mut rest = line;
+    while !rest.is_empty() && rest[0] != b' ' {
+        rest = &rest[1..];
+    }
+    rest
 }
 
 fn is_digit(b: u8) -> bool

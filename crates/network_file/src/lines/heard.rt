@@ -2,12 +2,12 @@
 ghost use Rattle.std.specs.Prelude.{◌≡◌, ◌≤◌, ◌+◌, ◌*◌, ◌++◌, List, length, Ok, Err, IsTrue, MatchResult};
 ghost use Rattle.ax_address.specs.declared.Entry.{Entry};
 ghost use Rattle.network_file.specs.Words.{texts};
-ghost use Rattle.network_file.specs.Lines as lines;
+ghost use Rattle.network_file.specs.Lines.Heard as lines;
 
 use crate::lines::Line;
 use crate::network::Network;
 use crate::places::{alias, call, needs, node, octet};
-use crate::plan::acts::Instruction;
+use crate::plan::instructions::Instruction;
 use crate::reasons::What;
 use arrayvec::ArrayVec;
 use ax_address::{Entry, MAX_ENTRIES};
@@ -23,7 +23,7 @@ pub fn heard_line(before: &Network, words: &[&[u8]]) -> Result<Line, What>
     }
 }
 
-#[tactic(auto, unfolding(crate::specs::Lines::broadcast_at))]
+#[tactic(auto, unfolding(crate::specs::Lines::Heard::broadcast_at))]
 fn broadcast(
     before: &Network,
     number: &[u8],
@@ -76,7 +76,7 @@ fn add_entries(entries: &mut ArrayVec<Entry, MAX_ENTRIES>, words: &[&[u8]]) -> R
     }
 }
 
-#[tactic(auto, unfolding(crate::specs::Lines::entry_at))]
+#[tactic(auto, unfolding(crate::specs::Lines::Heard::entry_at))]
 fn entry_of(dest: &[u8], nick: &[u8], best: &[u8], quality: &[u8]) -> Result<Entry, What>
     ensures { result ≡ lines.entry_at dest.now nick.now best.now quality.now }
 {

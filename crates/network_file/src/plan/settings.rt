@@ -22,11 +22,11 @@ fn is_of(setting: &Setting, node: u8, key: Key) -> bool
     ensures value { result ≡ set.is_of node key setting.now }
     ensures key { IsTrue result → setting.now.key ≡ key }
 {
-    setting.node == node && setting.key.place() == key.place()
+    setting.node == node && setting.key == key
 }
 
 /// What the key is set to for the node, or else its default.
-#[tactic(auto, using(crate::proofs::KeyPlaces::default_in_range))]
+#[tactic(auto, using(crate::proofs::KeyRanges::default_in_range))]
 pub fn value_of(settings: &[Setting], node: u8, key: Key) -> u32
     ensures value { result ≡ set.value_of settings.now node key }
     ensures least { keys.least_of key ≤ result }
