@@ -13,6 +13,8 @@ mod frames;
 #[cfg(test)]
 mod kiss;
 #[cfg(test)]
+mod network_files;
+#[cfg(test)]
 mod numbers;
 #[cfg(test)]
 mod repeaters;
