@@ -1,0 +1,5 @@
+pub mod Lists
+pub mod Events
+pub mod Verdicts
+pub mod Ends
+pub mod Sendings
