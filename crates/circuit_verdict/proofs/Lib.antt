@@ -6,3 +6,5 @@ pub mod Making
 pub mod Messages
 pub mod Heard
 pub mod Likenesses
+pub mod Returns
+pub mod Judged

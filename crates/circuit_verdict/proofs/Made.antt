@@ -3,7 +3,9 @@ use Rattle.std.proofs.Common.{◌≡◌, ℕ, refl, ap, arith, sym, ◌∙◌, L
 use Rattle.std.specs.Prelude.{Bool, true, false, not, ◌&&◌, ◌||◌, cond, if◌then◌else◌, nat_eq, Option, Some, None, is_some}
 use Rattle.ax_address.specs.Callsign.{Callsign}
 use Rattle.circuit_l4.specs.declared.transport.Pair.{Pair}
+use Rattle.circuit_l4.specs.declared.plain.EndNotice.{EndNotice}
 use Rattle.circuit_set.specs.Sets.{same_pair}
+use Rattle.circuit_set.specs.Runs.{opened_window, told_to}
 use Rattle.circuit_set.specs.Books.{MadeNote, Name, first_name, is_some_name, is_unknown, partner_in, same_name, was_asked, any_ends}
 use Rattle.circuit_verdict.specs.declared.ends.EndNote.{EndNote}
 use Rattle.circuit_verdict.specs.Ends.{fresh_note, given_in, is_going, is_made, joined, made_note, note_in, note_is_going, note_of, with_facing}
@@ -94,3 +96,15 @@ pub facing_pushed : (end r x : Name) (old mid new : Name → List Name)
 facing_pushed end r x old mid new first second =
     second x ∙ at_own (same_name r x) r x end mid refl
     ∙ ap (λ (xs : List Name). if same_name r x then xs ++ end ∷ [] else xs) (first x ∙ at_own (same_name end x) end x r old refl)
+
+untold_by : (b c : Bool) (told rest : List EndNotice) → b || c ≡ false → (c ≡ false → rest ≡ []) → (if b then told else rest) ≡ []
+untold_by true c told rest e none = absurd (cc e)
+untold_by false c told rest e none = none e
+
+untold : (ms : List MadeNote) (x : Name) → is_made ms x ≡ false → told_to ms x ≡ []
+untold [] x e = refl
+untold (m ∷ ms) x e = untold_by (same_name m.who x) (is_made ms x) m.told (told_to ms x) e (λ f. untold ms x f)
+
+-- nor was a window told to it
+pub unopened : (ms : List MadeNote) (x : Name) → note_in ms x ≡ None → opened_window (told_to ms x) ≡ None
+unopened ms x e = rw (untold ms x (unmade_by (is_made ms x) (note_of ms x) e)) refl

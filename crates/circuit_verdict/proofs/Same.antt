@@ -48,3 +48,6 @@ pair_same p q e =
 pub any_same : {X : Type 0} (f g : X → Bool) → ((x : X) → f x ≡ g x) → (xs : List X) → list_any f xs ≡ list_any g xs
 any_same f g same [] = refl
 any_same f g same (x ∷ xs) = rw (same x, any_same f g same xs) refl
+
+pub pair_is : (p : Pair) → same_pair p p ≡ true
+pair_is p = rw (nat_is p.index, nat_is p.ident) refl

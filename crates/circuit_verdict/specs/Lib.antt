@@ -3,3 +3,4 @@ pub mod Events
 pub mod Verdicts
 pub mod Ends
 pub mod Sendings
+pub mod Judging

@@ -6,6 +6,7 @@ ghost use Rattle.ax_address.specs.CallOrder.{same_call};
 ghost use Rattle.circuit_l4.specs.declared.transport.Pair.{Pair as SeenPair};
 ghost use Rattle.circuit_set.specs.Sets.{same_pair};
 ghost use Rattle.circuit_set.specs.Books as books;
+ghost use Rattle.circuit_set.specs.Runs.{opened_window, told_to};
 ghost use Rattle.circuit_verdict.specs.Ends as made;
 ghost use Rattle.circuit_verdict.specs.Lists.{list_in};
 
@@ -69,11 +70,14 @@ impl Ends {
         }
     }
 
-    /// What is kept of an end, where it was made.
-    pub(crate) fn note(&self, end: &Name) -> Option<EndNote>
-        ensures { (ms : List books.MadeNote) (lost : List books.Name) → made.EndsStand self.now ms lost → result ≡ made.note_in ms end.now }
+    /// The window that was told at the opening of an end, if it was.
+    pub(crate) fn window(&self, end: &Name) -> Option<u8>
+        ensures { (ms : List books.MadeNote) (lost : List books.Name) → made.EndsStand self.now ms lost → result ≡ opened_window (told_to ms end.now) }
     {
-        self.notes.get(end).copied()
+        match self.notes.get(end) {
+            Some(note) => note.window,
+            None => None,
+        }
     }
 
     /// The partner of an end, if it has one.
@@ -176,7 +180,7 @@ impl Ends {
     }
 
     /// Whether a request has opened an end.
-    fn was_asked(&self, end: &Name) -> bool
+    pub(crate) fn was_asked(&self, end: &Name) -> bool
         ensures { (ms : List books.MadeNote) → ((x : books.Name) → get books.same_name self.now.notes x ≡ made.note_in ms x)
             → result ≡ books.was_asked ms end.now }
     {
