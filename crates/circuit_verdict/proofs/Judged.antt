@@ -1,6 +1,6 @@
 -- How an event is judged by what is kept.
 use Rattle.std.proofs.Common.{◌≡◌, ◌≤◌, ◌<◌, ◌∙◌, ℕ, suc, refl, sym, ap, arith, List, [], ◌∷◌}
-use Rattle.std.specs.Prelude.{Bool, true, false, ◌&&◌, Option, Some, None, is_some, if◌then◌else◌}
+use Rattle.std.specs.Prelude.{Bool, true, false, ◌&&◌, ◌||◌, Option, Some, None, is_some, if◌then◌else◌}
 use Rattle.std.specs.Option.{option_copied}
 use Rattle.std.specs.Borrow.{Bor}
 use Rattle.ax_address.specs.Callsign.{Callsign}
@@ -67,16 +67,18 @@ last_none false = refl
 sent_is : (b : books.Book) (x : Name) (d : List ℕ) (found : Option Sending) → found ≡ sending_in (latest_in b.sent x d) → has_sent b.sent x d ≡ is_some found
 sent_is b x d found e = sent_found b.sent x d ∙ some_sending (latest_in b.sent x d) ∙ ap is_some (sym e)
 
-pub not_joined : (b : books.Book) (x y : Name) (d : List ℕ) → partner b x ≡ Some y → if_asked b d (Some x) ≡ None
-not_joined b x y d e = rw (e, last_none (has_sent b.sent x d)) refl
+pub not_joined : (b : books.Book) (x : Name) (d : List ℕ) (o : Option Name) → o ≡ partner b x → is_some o ≡ true → None ≡ if_asked b d (Some x)
+not_joined b x d None e f = absurd (cc f)
+not_joined b x d (Some y) e f = rw (sym e, last_none (has_sent b.sent x d)) refl
 
 joins_by : (c : Bool) (x : Name) → (if c && true then Some x else None) ≡ (if c then Some x else None)
 joins_by true x = refl
 joins_by false x = refl
 
-pub joins : (b : books.Book) (x : Name) (d : List ℕ) (found : Option Sending) → partner b x ≡ None → found ≡ sending_in (latest_in b.sent x d)
-    → if_asked b d (Some x) ≡ (if is_some found then Some x else None)
-joins b x d found e f = rw (e, sent_is b x d found f) (joins_by (is_some found) x)
+pub joins : (b : books.Book) (x : Name) (d : List ℕ) (o : Option Name) (found : Option Sending) → o ≡ partner b x → is_some o ≡ false
+    → found ≡ sending_in (latest_in b.sent x d) → (if is_some found then Some x else None) ≡ if_asked b d (Some x)
+joins b x d None found e f g = rw (sym e, sent_is b x d found g) (sym (joins_by (is_some found) x))
+joins b x d (Some y) found e f g = absurd (cc f)
 
 -- ---- what an end has heeded ----
 some_same : {A : Type 0} (x y : A) → Some x ≡ Some y → x ≡ y
@@ -122,7 +124,8 @@ pub heard_is : (b : books.Book) (x p : Name) (d : List ℕ) (v : Sending) → pa
     → heard_sending x (latest b x d) b.heard ≡ heard_number x v.number b.heard
 heard_is b x p d v e f =
     let k = found b p d v f in
-    rw (e, k.latest, k.is) refl
+    let of_number : Sending → List HeardNote = λ w. heard_number x w.number b.heard in
+    rw (e, k.latest) (ap of_number (sym k.is))
 
 -- ---- each kind of event ----
 pub judged_made : (a : Allowance) (b : books.Book) (lost : List Name) (node : ℕ) (own : Callsign) (id : ℕ) (pair : Pair) (at : Callsign) (request : Option (List ℕ)) (why : Option LateWhy) (new : Book)

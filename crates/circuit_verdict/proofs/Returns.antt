@@ -173,6 +173,8 @@ faced_fails b lost node pair e rule =
     let going = going_from b.made u third.0 in
     let m = going.note in
     let kept : is_lost lost m.who ≡ false = rw going.who (not_true (is_lost lost u) third.1) in
-    let elsewhere : m.who.node ≢ node = rw (going.who, ← given.at) (apart u.node q.who.node (not_true (nat_eq u.node q.who.node) second.0)) in
+    let other : u.node ≢ q.who.node = apart u.node q.who.node (not_true (nat_eq u.node q.who.node) second.0) in
+    let node_of : Name → ℕ = λ x. x.node in
+    let elsewhere : m.who.node ≢ node = λ same. other (sym (ap node_of going.who) ∙ same ∙ sym given.at) in
     let partner : partner_in b.made m.who ≡ Some q.who = rw going.who (is_name (partner_in b.made u) q.who first.1) in
     rule m q going.held given.held going.going kept elsewhere partner given.at given.by
