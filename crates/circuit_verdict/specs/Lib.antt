@@ -4,3 +4,4 @@ pub mod Verdicts
 pub mod Ends
 pub mod Sendings
 pub mod Judging
+pub mod Standing

@@ -40,3 +40,7 @@ pub record IsFirstLate (a : Allowance) (ns : List Numbered) (late : Late) : Type
 pub record IsVerdict (a : Allowance) (ns : List Numbered) (answer : Option Late) : Type 0 where
   pub none : answer ≡ None ↔ (Timely (allowance_of a) empty (events_of ns) × Fresh empty (events_of ns))
   pub first : (late : Late) → answer ≡ Some late → IsFirstLate a ns late
+
+abbrev pub late_of : ℕ → Option LateWhy → Option Late
+late_of line None = None
+late_of line (Some why) = Some (record { line = line; why = why })

@@ -89,7 +89,8 @@ impl Book {
                 self.ends.lose(Name { node, id })?;
                 Ok(None)
             }
-            Told::Gone { .. } | Told::Restarted { .. } => Ok(None),
+            Told::Gone { .. } => Ok(None),
+            Told::Restarted { .. } => Ok(None),
         }
     }
 

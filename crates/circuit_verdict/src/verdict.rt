@@ -1,4 +1,9 @@
 //! The verdict on a list of events.
+ghost use Rattle.std.specs.Prelude.{◌≡◌, ◌++◌, ◌∷◌, [], List, Option, Some, None, Err, OnOk, OnErr, IfOk};
+ghost use Rattle.circuit_verdict.specs.declared.event.Numbered.{Numbered as SeenNumbered};
+ghost use Rattle.circuit_verdict.specs.Verdicts.{IsVerdict, late_of};
+ghost use Rattle.circuit_verdict.specs.Standing.{allowance_in};
+
 use crate::book::Book;
 use crate::event::{Event, Numbered};
 use radio_base::NoMemory;
@@ -39,8 +44,13 @@ pub struct Verdict {
 }
 
 impl Verdict {
+    ghost use Rattle.circuit_verdict.specs.Standing.{IsSpent, StandsFor};
+
     /// No event was told yet.
-    pub fn new(alloc: Global, allowance: Allowance) -> Verdict {
+    pub fn new(alloc: Global, allowance: Allowance) -> Verdict
+        ensures start { StandsFor result [] }
+        ensures allowance { allowance_in result ≡ allowance }
+    {
         Verdict {
             allowance,
             book: Book::new(alloc),
@@ -49,8 +59,14 @@ impl Verdict {
         }
     }
 
-    /// Takes the next event in, which stands at this line. After NoMemory each later call answers it.
-    pub fn heed(&mut self, event: &Event<'_>, line: u32) -> Result<(), NoMemory> {
+    /// Takes the next event in, which a line of this number has brought. After NoMemory each later call answers it.
+    pub fn heed(&mut self, event: &Event<'_>, line: u32) -> Result<(), NoMemory>
+        ensures goes_on { OnOk result ((events : List SeenNumbered) → StandsFor self.old events
+            → StandsFor self.new (events ++ record { line = line; event = event.now } ∷ [])) }
+        ensures same { allowance_in self.new ≡ allowance_in self.old }
+        ensures spent { OnErr result (IsSpent self.new) }
+        ensures stays { IsSpent self.old → (result ≡ Err (record {})) × IsSpent self.new }
+    {
         if self.spent {
             return Err(NoMemory);
         }
@@ -59,23 +75,36 @@ impl Verdict {
         }
         self.spent = true;
         let why = self.book.take_in(event, self.allowance)?;
-        self.late = why.map(|why| Late { line, why });
+        self.late = late_at(line, why);
         self.spent = false;
         Ok(())
     }
 
-    /// The first event that came too late, if there is one.
-    pub fn late(&self) -> Option<Late> {
+    /// The first event that came too late, if there is one: none exactly where all events so far are timely and fresh.
+    pub fn late(&self) -> Option<Late>
+        ensures { (events : List SeenNumbered) → StandsFor self.now events → IsVerdict (allowance_in self.now) events result }
+    {
         self.late
     }
 }
 
-/// The first event of a list that came too late, if there is one.
+fn late_at(line: u32, why: Option<LateWhy>) -> Option<Late>
+    ensures { result ≡ late_of line why }
+{
+    match why {
+        Some(why) => Some(Late { line, why }),
+        None => None,
+    }
+}
+
+/// The first event of a list that came too late, if there is one: none exactly where the list is timely and fresh.
 pub fn too_late(
     alloc: Global,
     allowance: Allowance,
     events: &[Numbered<'_>],
-) -> Result<Option<Late>, NoMemory> {
+) -> Result<Option<Late>, NoMemory>
+    ensures { IfOk result (λ late. IsVerdict allowance events.now late) }
+{
     let mut verdict = Verdict::new(alloc, allowance);
     for numbered in events {
         verdict.heed(&numbered.event, numbered.line)?;
