@@ -8,3 +8,4 @@ pub mod Heard
 pub mod Likenesses
 pub mod Returns
 pub mod Judged
+pub mod Runs
