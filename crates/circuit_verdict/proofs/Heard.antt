@@ -1,11 +1,12 @@
 -- Overtakers, counted among what was heeded, and the same counted among the messages that were sent.
-use Rattle.std.proofs.Common.{◌≡◌, ◌≤◌, ◌<◌, ◌+◌, ◌∙◌, ℕ, zero, suc, refl, sym, ap, arith, length, List, [], ◌∷◌, ◌++◌}
+use Rattle.std.proofs.Common.{◌≡◌, ◌+◌, ◌∙◌, ℕ, refl, sym, ap, arith, length, List, [], ◌∷◌, ◌++◌}
 use Rattle.std.specs.Prelude.{Bool, true, false, not, cond, ◌&&◌, ◌||◌, if◌then◌else◌, nat_eq, nat_lt, filter, Option, Some, None}
 use Rattle.std.proofs.lemmas.Bool.Decides.{nat_tests}
-use Rattle.circuit_set.specs.Books.{HeardNote, Name, SentNote, first_place, has, is_heard, is_number, overtakers, overtakes, same_name, sends}
+use Rattle.circuit_set.specs.Books.{HeardNote, Name, SentNote, first_place, has, is_heard, is_number, overtakers, same_name, sends}
 use Rattle.circuit_verdict.specs.declared.sendings.Message.{Message}
 use Rattle.circuit_verdict.specs.Sendings.{HearsOnce, first_sent, heard_after, messages_in, with_message}
 use Rattle.circuit_verdict.proofs.Same.{name_same, name_is, name_turned, nat_same, nat_is}
+use Rattle.circuit_verdict.proofs.Tests.{and_false}
 
 abbrev one : Bool → ℕ
 one b = if b then 1 else 0
@@ -33,13 +34,9 @@ among_none : (p : Message → Bool) (ms : List Message) → ((m : Message) → p
 among_none p [] none = refl
 among_none p (m ∷ ms) none = among_more p m ms ∙ rw (none m, among_none p ms none) refl
 
-none_last : (b : Bool) → b && false ≡ false
-none_last true = refl
-none_last false = refl
-
 either_by : (q p r : Bool) → (q ≡ true → p ≡ false) → one ((q || p) && r) ≡ one (q && r) + one (p && r)
 either_by true p true apart = rw (apart refl) refl
-either_by true p false apart = rw (none_last p) refl
+either_by true p false apart = rw (and_false p) refl
 either_by false p r apart = omega arith
 
 -- of two tests of which no message passes both
@@ -97,14 +94,14 @@ own_other false y k n place first ss e before =
 own_by : (b : Bool) (y : Name) (k n place first : ℕ) (ss : List SentNote) → nat_eq k n ≡ b
     → among (after n place) (messages_in ss y) ≡ one (nat_lt place (first_place y n ss))
     → among (after n place) (if not (has y k ss) then messages_in ss y ++ first_sent k first ∷ [] else messages_in ss y)
-        ≡ one (nat_lt place (if has y n ss then first_place y n ss else (if b then first else 0)))
+    ≡ one (nat_lt place (if has y n ss then first_place y n ss else (if b then first else 0)))
 own_by true y k n place first ss e before = rw (nat_same k n e) (own_same (has y n ss) y n place first ss refl before)
 own_by false y k n place first ss e before = own_other (has y k ss) y k n place first ss e before
 
 with_by : (c : Bool) (who y : Name) (k n place first : ℕ) (ss : List SentNote) → same_name who y ≡ c
     → among (after n place) (messages_in ss y) ≡ one (nat_lt place (first_place y n ss))
     → among (after n place) (with_message who (Some k) first ss y (messages_in ss y))
-        ≡ one (nat_lt place (if has y n ss then first_place y n ss else (if c && nat_eq k n then first else 0)))
+    ≡ one (nat_lt place (if has y n ss then first_place y n ss else (if c && nat_eq k n then first else 0)))
 with_by true who y k n place first ss e before = rw (name_same who y e, name_is y) (own_by (nat_eq k n) y k n place first ss refl before)
 with_by false who y k n place first ss e before =
     rw e (before ∙ ap (λ (p : ℕ). one (nat_lt place p)) (kept (has y n ss) (first_place y n ss) (λ f. unplaced y n ss f)))
@@ -112,9 +109,9 @@ with_by false who y k n place first ss e before =
 step_by : (o : Option ℕ) (who y : Name) (n place first : ℕ) (ss : List SentNote)
     → among (after n place) (messages_in ss y) ≡ one (nat_lt place (first_place y n ss))
     → among (after n place) (with_message who o first ss y (messages_in ss y))
-        ≡ one (nat_lt place (if has y n ss then first_place y n ss else (if same_name who y && is_number o n then first else 0)))
+    ≡ one (nat_lt place (if has y n ss then first_place y n ss else (if same_name who y && is_number o n then first else 0)))
 step_by None who y n place first ss before =
-    rw (none_last (same_name who y)) (before ∙ ap (λ (p : ℕ). one (nat_lt place p)) (kept (has y n ss) (first_place y n ss) (λ f. unplaced y n ss f)))
+    rw (and_false (same_name who y)) (before ∙ ap (λ (p : ℕ). one (nat_lt place p)) (kept (has y n ss) (first_place y n ss) (λ f. unplaced y n ss f)))
 step_by (Some k) who y n place first ss before = with_by (same_name who y) who y k n place first ss refl before
 
 one_number : (y : Name) (n place : ℕ) (ss : List SentNote) → among (after n place) (messages_in ss y) ≡ one (nat_lt place (first_place y n ss))
@@ -128,11 +125,11 @@ heard_later x place hs m = is_heard x m.number hs && nat_lt place m.first
 counted_by : (c : Bool) (h : HeardNote) (hs : List HeardNote) (ss : List SentNote) (y x : Name) (place : ℕ) → same_name h.who x ≡ c → is_heard h.who h.number hs ≡ false
     → heard_after ss hs y x place ≡ among (heard_later x place hs) (messages_in ss y)
     → one (c && nat_lt place (first_place y h.number ss)) + heard_after ss hs y x place
-        ≡ among (λ (m : Message). ((c && nat_eq m.number h.number) || is_heard x m.number hs) && nat_lt place m.first) (messages_in ss y)
+    ≡ among (λ (m : Message). ((c && nat_eq m.number h.number) || is_heard x m.number hs) && nat_lt place m.first) (messages_in ss y)
 counted_by true h hs ss y x place e new before =
     let new_to_x : is_heard x h.number hs ≡ false = rw (name_same h.who x e) at new in
     let both = among_either (λ (m : Message). nat_eq m.number h.number) (λ (m : Message). is_heard x m.number hs) (λ (m : Message). nat_lt place m.first) (messages_in ss y)
-        (λ m q. rw (nat_same m.number h.number q) new_to_x) in
+    (λ m q. rw (nat_same m.number h.number q) new_to_x) in
     let here = one_number y h.number place ss in
     omega (arith, both, here, before)
 counted_by false h hs ss y x place e new before = omega (arith, before)

@@ -15,7 +15,8 @@ use Rattle.circuit_verdict.specs.declared.verdict.Allowance.{Allowance}
 use Rattle.circuit_verdict.specs.declared.verdict.LateWhy.{LateWhy}
 use Rattle.circuit_verdict.specs.declared.verdict.LateWhy.TheVariants.{Overtaken, Returned}
 use Rattle.circuit_verdict.specs.Sendings.{IsInOrder, SendingsStand, sending_in, sending_of}
-use Rattle.circuit_verdict.specs.Judging.{Judges, JudgesHeeded, JudgesMade, PartsStand}
+use Rattle.circuit_verdict.specs.Judging.{Judges, JudgesHeeded, JudgesMade}
+use Rattle.circuit_verdict.proofs.Tests.{and_false}
 
 -- ---- later events ----
 order_later : (p q : ℕ) (ss : List SentNote) → p ≤ q → IsInOrder p ss → IsInOrder q ss
@@ -60,16 +61,12 @@ some_sending : (o : Option SentNote) → is_some o ≡ is_some (sending_in o)
 some_sending None = refl
 some_sending (Some s) = refl
 
-last_none : (b : Bool) → b && false ≡ false
-last_none true = refl
-last_none false = refl
-
 sent_is : (b : books.Book) (x : Name) (d : List ℕ) (found : Option Sending) → found ≡ sending_in (latest_in b.sent x d) → has_sent b.sent x d ≡ is_some found
 sent_is b x d found e = sent_found b.sent x d ∙ some_sending (latest_in b.sent x d) ∙ ap is_some (sym e)
 
 pub not_joined : (b : books.Book) (x : Name) (d : List ℕ) (o : Option Name) → o ≡ partner b x → is_some o ≡ true → None ≡ if_asked b d (Some x)
 not_joined b x d None e f = absurd (cc f)
-not_joined b x d (Some y) e f = rw (sym e, last_none (has_sent b.sent x d)) refl
+not_joined b x d (Some y) e f = rw (sym e, and_false (has_sent b.sent x d)) refl
 
 joins_by : (c : Bool) (x : Name) → (if c && true then Some x else None) ≡ (if c then Some x else None)
 joins_by true x = refl

@@ -1,3 +1,4 @@
+pub mod Tests
 pub mod Same
 pub mod Made
 pub mod Notices

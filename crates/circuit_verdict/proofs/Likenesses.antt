@@ -1,6 +1,6 @@
 -- Copies are equal in all but their time to live.
-use Rattle.std.proofs.Common.{◌≡◌, ◌≤◌, ◌<◌, ◌+◌, ◌∙◌, ℕ, zero, suc, refl, sym, ap, arith, length, length-take-le, take, drop, List, [], ◌∷◌, ◌++◌}
-use Rattle.std.specs.Prelude.{Bool, true, false, not, cond, ◌&&◌, if◌then◌else◌, nat_eq, nat_le, nat_lt, Option, Some, None}
+use Rattle.std.proofs.Common.{◌≡◌, ◌≤◌, ◌<◌, ◌∙◌, ℕ, refl, sym, arith, length, length-take-le, take, drop, List, [], ◌∷◌, ◌++◌}
+use Rattle.std.specs.Prelude.{Bool, true, false, cond, ◌&&◌, if◌then◌else◌, nat_eq, nat_le, Option, Some, None}
 use Rattle.std.proofs.lemmas.Bool.Decides.{nat_tests}
 use Rattle.std.specs.Ordering.{is_eq, nat_cmp, ordering_then}
 use Rattle.std.specs.declared.cmp.Ordering.{Ordering}
@@ -12,6 +12,7 @@ use Rattle.circuit_verdict.specs.declared.sendings.Likeness.{Likeness}
 use Rattle.circuit_verdict.specs.declared.sendings.Sending.{Sending}
 use Rattle.circuit_verdict.specs.Sendings.{core, latest_like, likeness_cmp, name_cmp, sending_in, sending_of}
 use Rattle.circuit_verdict.proofs.Same.{nat_turned}
+use Rattle.circuit_verdict.proofs.Tests.{and_false, and_true, and_and}
 
 -- ---- equal in order is equal ----
 then_by : (o p : Ordering) → is_eq (ordering_then o p) ≡ is_eq o && is_eq p
@@ -37,29 +38,17 @@ likeness_by a b =
     ∙ rw (name_by a.who b.who, bytes_by a.octets.items b.octets.items) refl
 
 -- ---- without the time to live ----
-and_twice : (a b c : Bool) → a && (b && c) ≡ (a && b) && c
-and_twice true b c = refl
-and_twice false b c = refl
-
 parts_by : (a b c d : List ℕ) → length a ≡ length c → pointwise nat_eq (a ++ b) (c ++ d) ≡ pointwise nat_eq a c && pointwise nat_eq b d
 parts_by [] b [] d e = refl
 parts_by [] b (y ∷ c) d e = absurd (omega (arith, e))
 parts_by (x ∷ a) b [] d e = absurd (omega (arith, e))
-parts_by (x ∷ a) b (y ∷ c) d e = rw (parts_by a b c d (omega (arith, e))) (and_twice (nat_eq x y) (pointwise nat_eq a c) (pointwise nat_eq b d))
+parts_by (x ∷ a) b (y ∷ c) d e = rw (parts_by a b c d (omega (arith, e))) (and_and (nat_eq x y) (pointwise nat_eq a c) (pointwise nat_eq b d))
 
 turned_by : (xs ys : List ℕ) → pointwise nat_eq xs ys ≡ pointwise nat_eq ys xs
 turned_by [] [] = refl
 turned_by [] (y ∷ ys) = refl
 turned_by (x ∷ xs) [] = refl
 turned_by (x ∷ xs) (y ∷ ys) = rw (nat_turned x y, turned_by xs ys) refl
-
-last_none : (b : Bool) → b && false ≡ false
-last_none true = refl
-last_none false = refl
-
-last_all : (b : Bool) → b && true ≡ b
-last_all true = refl
-last_all false = refl
 
 whole : (d : List ℕ) → HEAD_SIZE ≤ length d → nat_le HEAD_SIZE (length d) ≡ true
 whole d p = grind (arith, nat_tests, p)
@@ -81,9 +70,9 @@ core_by d e p q =
 
 copy_by : (h : Bool) (d e : List ℕ) → HEAD_SIZE ≤ length d → nat_le HEAD_SIZE (length e) ≡ h
     → h && pointwise nat_eq (core e) (core d)
-        ≡ pointwise nat_eq (take TTL_AT d) (take TTL_AT e) && pointwise nat_eq (drop HEAD_SIZE d) (drop HEAD_SIZE e) && nat_le HEAD_SIZE (length d) && h
-copy_by true d e p q = rw (whole d p) (core_by d e p (at_least e q) ∙ sym (last_all _ ∙ last_all _))
-copy_by false d e p q = sym (last_none _)
+    ≡ pointwise nat_eq (take TTL_AT d) (take TTL_AT e) && pointwise nat_eq (drop HEAD_SIZE d) (drop HEAD_SIZE e) && nat_le HEAD_SIZE (length d) && h
+copy_by true d e p q = rw (whole d p) (core_by d e p (at_least e q) ∙ sym (and_true _ ∙ and_true _))
+copy_by false d e p q = sym (and_false _)
 
 copy_is : (d e : List ℕ) → HEAD_SIZE ≤ length d → nat_le HEAD_SIZE (length e) && pointwise nat_eq (core e) (core d) ≡ is_copy d e
 copy_is d e p = copy_by (nat_le HEAD_SIZE (length e)) d e p refl
@@ -98,14 +87,14 @@ latest_found (s ∷ ss) y d p =
     rw (copy_is d s.datagram p, latest_found ss y d p) (sending_by (same_name s.who y && is_copy d s.datagram) s (latest_in ss y d))
 
 no_copy : (d e : List ℕ) → length d < HEAD_SIZE → is_copy d e ≡ false
-no_copy d e p = rw (cut_short d p, last_none (pointwise nat_eq (take TTL_AT d) (take TTL_AT e) && pointwise nat_eq (drop HEAD_SIZE d) (drop HEAD_SIZE e))) refl
+no_copy d e p = rw (cut_short d p, and_false (pointwise nat_eq (take TTL_AT d) (take TTL_AT e) && pointwise nat_eq (drop HEAD_SIZE d) (drop HEAD_SIZE e))) refl
 
 pub latest_short : (ss : List SentNote) (y : Name) (d : List ℕ) → length d < HEAD_SIZE → latest_in ss y d ≡ None
 latest_short [] y d p = refl
-latest_short (s ∷ ss) y d p = rw (no_copy d s.datagram p, last_none (same_name s.who y)) (latest_short ss y d p)
+latest_short (s ∷ ss) y d p = rw (no_copy d s.datagram p, and_false (same_name s.who y)) (latest_short ss y d p)
 
 -- one more sending
 pub latest_noted : (key k : Likeness) (who : Name) (d : List ℕ) (v : Sending) (ss : List SentNote) → key.who ≡ who → key.octets.items ≡ core d → HEAD_SIZE ≤ length d
     → cond (is_eq (likeness_cmp key k)) (Some v) (latest_like ss k.who k.octets.items)
-        ≡ latest_like (record { who = who; place = v.place; number = v.number; datagram = d } ∷ ss) k.who k.octets.items
+    ≡ latest_like (record { who = who; place = v.place; number = v.number; datagram = d } ∷ ss) k.who k.octets.items
 latest_noted key k who d v ss e f p = rw (likeness_by key k, e, f, whole d p) refl

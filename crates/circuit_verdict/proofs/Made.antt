@@ -1,5 +1,5 @@
 -- What one more end makes of what is read off the notes.
-use Rattle.std.proofs.Common.{◌≡◌, ℕ, refl, ap, arith, sym, ◌∙◌, List, [], ◌∷◌, ◌++◌}
+use Rattle.std.proofs.Common.{◌≡◌, ℕ, refl, ap, sym, ◌∙◌, List, [], ◌∷◌, ◌++◌}
 use Rattle.std.specs.Prelude.{Bool, true, false, not, ◌&&◌, ◌||◌, cond, if◌then◌else◌, nat_eq, Option, Some, None, is_some}
 use Rattle.ax_address.specs.Callsign.{Callsign}
 use Rattle.circuit_l4.specs.declared.transport.Pair.{Pair}
@@ -9,7 +9,8 @@ use Rattle.circuit_set.specs.Runs.{opened_window, told_to}
 use Rattle.circuit_set.specs.Books.{MadeNote, Name, first_name, is_some_name, is_unknown, partner_in, same_name, was_asked, any_ends}
 use Rattle.circuit_verdict.specs.declared.ends.EndNote.{EndNote}
 use Rattle.circuit_verdict.specs.Ends.{fresh_note, given_in, is_going, is_made, joined, made_note, note_in, note_is_going, note_of, with_facing}
-use Rattle.circuit_verdict.proofs.Same.{name_same, nat_same, pair_same, both_true}
+use Rattle.circuit_verdict.proofs.Same.{name_same, nat_same, pair_same}
+use Rattle.circuit_verdict.proofs.Tests.{both_true, not_not}
 
 -- none but an end that was made was opened by a request, and none but one that was made is going
 without : (b c a rest : Bool) → b || c ≡ false → (c ≡ false → rest ≡ false) → (b && a) || rest ≡ false
@@ -24,12 +25,8 @@ pub not_going : (ms : List MadeNote) (x : Name) → is_made ms x ≡ false → i
 not_going [] x e = refl
 not_going (m ∷ ms) x e = without (same_name m.who x) (is_made ms x) (not (any_ends m.told)) (is_going ms x) e (λ f. not_going ms x f)
 
-twice_not : (b : Bool) → not (not b) ≡ b
-twice_not true = refl
-twice_not false = refl
-
 going_by : (made : Bool) (n : EndNote) (g : Bool) → n.ended ≡ not g → (made ≡ false → g ≡ false) → note_is_going (if made then Some n else None) ≡ g
-going_by true n g e none = ap not e ∙ twice_not g
+going_by true n g e none = ap not e ∙ not_not g
 going_by false n g e none = sym (none refl)
 
 pub going_kept : (ms : List MadeNote) (x : Name) → note_is_going (note_in ms x) ≡ is_going ms x
@@ -50,7 +47,7 @@ note_made x y own pair r ms = note_made_by (same_name x y) x y own pair r ms ref
 
 joined_by : (b : Bool) (r : Option Name) (p : Option Name) (x y : Name)
     → (elim r as (λ s. Option Name) [ None ↦ p | Some z ↦ if same_name z y then Some x else (if b then Some z else p) ])
-        ≡ (if is_some_name r y then Some x else first_name (if b then r else None) p)
+    ≡ (if is_some_name r y then Some x else first_name (if b then r else None) p)
 joined_by true None p x y = refl
 joined_by false None p x y = refl
 joined_by true (Some z) p x y = refl

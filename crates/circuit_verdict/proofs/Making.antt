@@ -1,16 +1,15 @@
 -- One more end is made: what is kept then stands for the notes with that of the end.
-use Rattle.std.proofs.Common.{◌≡◌, ◌∙◌, sym, ap, refl, ℕ, List, [], ◌∷◌, ◌++◌}
-use Rattle.std.specs.Prelude.{Bool, ◌&&◌, cond, nat_eq, Option, Some, None, is_some}
+use Rattle.std.proofs.Common.{◌≡◌, ◌∙◌, ap, refl, ℕ, List, [], ◌∷◌, ◌++◌}
+use Rattle.std.specs.Prelude.{◌&&◌, cond, nat_eq, Option, Some, is_some}
 use Rattle.indexmap.specs.IndexMap.{get}
-use Rattle.indexmap.specs.IndexSet.{contains}
 use Rattle.ax_address.specs.Callsign.{Callsign}
 use Rattle.ax_address.specs.CallOrder.{same_call}
 use Rattle.circuit_l4.specs.declared.transport.Pair.{Pair}
 use Rattle.circuit_set.specs.Sets.{same_pair}
-use Rattle.circuit_set.specs.Books.{MadeNote, Name, made_last, partner_in, same_name}
+use Rattle.circuit_set.specs.Books.{MadeNote, Name, same_name}
 use Rattle.circuit_verdict.specs.declared.ends.Ends.{Ends}
 use Rattle.circuit_verdict.specs.Lists.{list_in}
-use Rattle.circuit_verdict.specs.Ends.{EndsStand, facing_in, fresh_note, given_in, joined, key_of, made_note, note_in, same_call_pair, same_node_pair, with_facing}
+use Rattle.circuit_verdict.specs.Ends.{EndsStand, fresh_note, joined, key_of, made_note, note_in, same_call_pair, same_node_pair, with_facing}
 use Rattle.circuit_verdict.proofs.Made.{given_made, note_made, partner_made}
 
 -- from before to given, noted and joined
@@ -20,7 +19,7 @@ pub record Makes (before given noted joined_then : Ends) (end : Name) (own : Cal
       ≡ cond (same_call own call && same_pair pair p) (Some end) (get same_call_pair before.last_made (record { own = call; pair = key_of p }))
   pub lists : (node : ℕ) (p : Pair) → list_in (get same_node_pair given.given.lists (record { node = node; pair = key_of p }))
       ≡ cond (nat_eq end.node node && same_pair pair p) (list_in (get same_node_pair before.given.lists (record { node = end.node; pair = key_of pair })) ++ end ∷ [])
-          (list_in (get same_node_pair before.given.lists (record { node = node; pair = key_of p })))
+      (list_in (get same_node_pair before.given.lists (record { node = node; pair = key_of p })))
   pub notes : noted ≡ record given { notes = noted.notes }
   pub noting : (ms : List MadeNote) → ((x : Name) → get same_name given.notes x ≡ note_in ms x)
       → (x : Name) → get same_name noted.notes x ≡ cond (same_name end x) (Some (fresh_note (is_some r) ms end)) (note_in ms x)

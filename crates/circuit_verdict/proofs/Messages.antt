@@ -1,5 +1,5 @@
 -- The information messages of an end stand in the order of their first sendings.
-use Rattle.std.proofs.Common.{◌≡◌, ◌≤◌, ◌<◌, ◌+◌, ◌-◌, ◌∙◌, ℕ, zero, suc, refl, sym, ap, arith, length, drop, List, [], ◌∷◌, ◌++◌}
+use Rattle.std.proofs.Common.{◌≡◌, ◌≤◌, ◌<◌, ◌-◌, ℕ, zero, suc, refl, ap, arith, length, drop, List, [], ◌∷◌, ◌++◌}
 use Rattle.std.specs.Prelude.{Bool, true, false, not, cond, ◌&&◌, if◌then◌else◌, nat_lt, filter, Option, Some, None, slice_index_or}
 use Rattle.std.proofs.lemmas.List.Sorted.{IsNonDecreasingBy-push}
 use Rattle.circuit_set.specs.Books.{Name, SentNote, has, same_name}

@@ -1,17 +1,16 @@
 -- What one more notice makes of what is read off the notes.
-use Rattle.std.proofs.Common.{◌≡◌, ℕ, refl, ap, arith, sym, ◌∙◌, List, [], ◌∷◌, ◌++◌}
-use Rattle.std.specs.Prelude.{Bool, true, false, not, ◌&&◌, ◌||◌, cond, if◌then◌else◌, nat_eq, Option, Some, None}
+use Rattle.std.proofs.Common.{◌≡◌, ℕ, refl, ap, sym, ◌∙◌, List, [], ◌∷◌, ◌++◌}
+use Rattle.std.specs.Prelude.{Bool, true, false, not, ◌&&◌, ◌||◌, cond, if◌then◌else◌, Option, Some, None}
 use Rattle.ax_address.specs.Callsign.{Callsign}
-use Rattle.ax_address.specs.CallOrder.{same_call}
 use Rattle.circuit_l4.specs.declared.transport.Pair.{Pair}
 use Rattle.circuit_l4.specs.declared.plain.EndNotice.{EndNotice}
 use Rattle.circuit_l4.specs.declared.plain.EndNotice.TheVariants.{Opened, Refused, Closed, ClosedByPartner, FailedRetries, FailedOversize, FailedInactive}
-use Rattle.circuit_set.specs.Sets.{same_pair}
-use Rattle.circuit_set.specs.Books.{MadeNote, Name, any_ends, ends_it, first_name, is_some_name, is_unknown, made_last, partner_in, same_name, was_asked, with_notice}
+use Rattle.circuit_set.specs.Books.{MadeNote, Name, any_ends, ends_it, made_last, partner_in, same_name, was_asked, with_notice}
 use Rattle.circuit_set.specs.Runs.{opened_window, told_to}
 use Rattle.circuit_verdict.specs.declared.ends.EndNote.{EndNote}
-use Rattle.circuit_verdict.specs.Ends.{facing_in, first_window, given_in, is_going, is_made, note_in, note_of, noticed, noticed_in, with_facing}
-use Rattle.circuit_verdict.proofs.Same.{name_same, name_is}
+use Rattle.circuit_verdict.specs.Ends.{facing_in, first_window, given_in, is_going, is_made, note_in, noticed, noticed_in, with_facing}
+use Rattle.circuit_verdict.proofs.Same.{name_same}
+use Rattle.circuit_verdict.proofs.Tests.{and_false, or_false, or_or}
 
 -- one note, which is that of the end or not
 abbrev one : Bool → EndNotice → MadeNote → MadeNote
@@ -69,26 +68,14 @@ asked_noticed [] y n x = refl
 asked_noticed (m ∷ ms) y n x = asked_by (same_name m.who y) n m ms (with_notice y n ms) x (asked_noticed ms y n x)
 
 -- ---- whether an end is going ----
-or_none : (b : Bool) → b || false ≡ b
-or_none true = refl
-or_none false = refl
-
-or_twice : (a b c : Bool) → a || (b || c) ≡ (a || b) || c
-or_twice true b c = refl
-or_twice false b c = refl
-
 ends_more : (ns : List EndNotice) (n : EndNotice) → any_ends (ns ++ n ∷ []) ≡ any_ends ns || ends_it n
-ends_more [] n = or_none (ends_it n)
-ends_more (k ∷ ns) n = rw (ends_more ns n) (or_twice (ends_it k) (any_ends ns) (ends_it n))
-
-last_none : (g : Bool) → g && false ≡ false
-last_none true = refl
-last_none false = refl
+ends_more [] n = or_false (ends_it n)
+ends_more (k ∷ ns) n = rw (ends_more ns n) (or_or (ends_it k) (any_ends ns) (ends_it n))
 
 both_go : (a e g : Bool) → not (a || e) || (g && not e) ≡ (not a || g) && not e
 both_go true true g = refl
 both_go true false g = refl
-both_go false true g = last_none g
+both_go false true g = and_false g
 both_go false false g = refl
 
 going_here_by : (b : Bool) (n : EndNotice) (m : MadeNote) (ms ns : List MadeNote) (x : Name) → same_name m.who x ≡ b → is_going ns x ≡ is_going ms x && not (ends_it n)
@@ -172,19 +159,19 @@ note asked ended window = record { asked = asked; ended = ended; window = window
 noticed_by : (n : EndNotice) (asked g : Bool) (w : Option ℕ) → note asked (not (g && not (ends_it n))) (window_then w n) ≡ noticed n (note asked (not g) w)
 noticed_by (Opened v) asked true w = refl
 noticed_by (Opened v) asked false w = refl
-noticed_by Refused asked g w = rw (last_none g) refl
-noticed_by Closed asked g w = rw (last_none g) refl
-noticed_by ClosedByPartner asked g w = rw (last_none g) refl
-noticed_by FailedRetries asked g w = rw (last_none g) refl
-noticed_by FailedOversize asked g w = rw (last_none g) refl
-noticed_by FailedInactive asked g w = rw (last_none g) refl
+noticed_by Refused asked g w = rw (and_false g) refl
+noticed_by Closed asked g w = rw (and_false g) refl
+noticed_by ClosedByPartner asked g w = rw (and_false g) refl
+noticed_by FailedRetries asked g w = rw (and_false g) refl
+noticed_by FailedOversize asked g w = rw (and_false g) refl
+noticed_by FailedInactive asked g w = rw (and_false g) refl
 
 note_here_by : (made : Bool) (ms : List MadeNote) (n : EndNotice) (x : Name) → is_made ms x ≡ made
     → note_in (with_notice x n ms) x ≡ noticed_in n (note_in ms x)
 note_here_by true ms n x e =
     let told : told_to (with_notice x n ms) x ≡ told_to ms x ++ n ∷ [] = told_here ms n x ∙ rw e refl in
     rw (made_noticed ms x n x, e, asked_noticed ms x n x, going_here ms n x, told, window_more (told_to ms x) n)
-        (ap Some (noticed_by n (was_asked ms x) (is_going ms x) (opened_window (told_to ms x))))
+    (ap Some (noticed_by n (was_asked ms x) (is_going ms x) (opened_window (told_to ms x))))
 note_here_by false ms n x e = rw (made_noticed ms x n x, e) refl
 
 note_noticed_by : (b : Bool) (ms : List MadeNote) (y : Name) (n : EndNotice) (x : Name) → same_name y x ≡ b

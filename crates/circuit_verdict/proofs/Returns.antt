@@ -8,29 +8,10 @@ use Rattle.circuit_l4.specs.declared.transport.Pair.{Pair}
 use Rattle.circuit_set.specs.Sets.{same_pair}
 use Rattle.circuit_set.specs.Books.{Book, MadeNote, Name, NoOther, any_ends, first_name, is_lost, is_some_name, partner_in, same_name}
 use Rattle.circuit_verdict.specs.Ends.{faces, facing_in, given_in, has_open_partner, is_faced, is_going, is_open, with_facing}
-use Rattle.circuit_verdict.proofs.Same.{both_true, name_is, name_same, nat_is, nat_same, pair_is, pair_same}
+use Rattle.circuit_verdict.proofs.Same.{name_is, name_same, nat_is, nat_same, pair_is, pair_same}
+use Rattle.circuit_verdict.proofs.Tests.{or_false, both_true, one_true, first_true, second_true, not_true}
 
 -- ---- tests ----
-or_right : (a b : Bool) → b ≡ true → a || b ≡ true
-or_right true b e = refl
-or_right false b e = e
-
-or_left : (a b : Bool) → a ≡ true → a || b ≡ true
-or_left true b e = refl
-or_left false b e = absurd (cc e)
-
-one_of : (a b : Bool) → a || b ≡ true → (a ≡ true) ⊎ (b ≡ true)
-one_of true b e = inl refl
-one_of false b e = inr e
-
-only : (b : Bool) → b || false ≡ true → b ≡ true
-only true e = refl
-only false e = absurd (cc e)
-
-not_true : (b : Bool) → not b ≡ true → b ≡ false
-not_true true e = absurd (cc e)
-not_true false e = refl
-
 unequal : (a b : ℕ) → a ≢ b → nat_eq a b ≡ false
 unequal a b e = grind (arith, nat_tests, e)
 
@@ -44,7 +25,7 @@ at_later y x xs c = (suc c.0, omega (arith, c.1), c.2)
 going_at : (ms : List MadeNote) (m : MadeNote) (k : ℕ) → k < length ms → slice_index_or ms k m ≡ m → any_ends m.told ≡ false → is_going ms m.who ≡ true
 going_at [] m k p e f = absurd (omega (arith, p))
 going_at (n ∷ ms) m zero p e f = rw (e, name_is m.who, f) refl
-going_at (n ∷ ms) m (suc k) p e f = or_right (same_name n.who m.who && not (any_ends n.told)) (is_going ms m.who) (going_at ms m k (omega (arith, p)) e f)
+going_at (n ∷ ms) m (suc k) p e f = second_true (same_name n.who m.who && not (any_ends n.told)) (is_going ms m.who) (going_at ms m k (omega (arith, p)) e f)
 
 pub record Going (ms : List MadeNote) (x : Name) : Type 0 where
   pub note : MadeNote
@@ -58,7 +39,7 @@ going_later n ms x g = record { note = g.note; held = at_later n g.note ms g.hel
 going_from : (ms : List MadeNote) (x : Name) → is_going ms x ≡ true → Going ms x
 going_from [] x e = absurd (cc e)
 going_from (n ∷ ms) x e =
-    elim (one_of (same_name n.who x && not (any_ends n.told)) (is_going ms x) e) [
+    elim (one_true (same_name n.who x && not (any_ends n.told)) (is_going ms x) e) [
       | inl f ↦
           let both = both_true (same_name n.who x) (not (any_ends n.told)) f in
           record { note = n; held = (0, omega arith, refl); who = name_same n.who x both.0; going = not_true (any_ends n.told) both.1 }
@@ -70,11 +51,11 @@ push_any : (f : Name → Bool) (xs : List Name) (x : Name) → list_any f (xs ++
 push_any f xs x = list_any-append f xs (x ∷ [])
 
 pushed_old : (f : Name → Bool) (b : Bool) (xs : List Name) (x : Name) → list_any f xs ≡ true → list_any f (if b then xs ++ x ∷ [] else xs) ≡ true
-pushed_old f true xs x e = push_any f xs x ∙ or_left (list_any f xs) (f x || false) e
+pushed_old f true xs x e = push_any f xs x ∙ first_true (list_any f xs) (f x || false) e
 pushed_old f false xs x e = e
 
 pushed_new : (f : Name → Bool) (xs : List Name) (x : Name) → f x ≡ true → list_any f (xs ++ x ∷ []) ≡ true
-pushed_new f xs x e = push_any f xs x ∙ or_right (list_any f xs) (f x || false) (or_left (f x) false e)
+pushed_new f xs x e = push_any f xs x ∙ second_true (list_any f xs) (f x || false) (first_true (f x) false e)
 
 given_at : (f : Name → Bool) (ms : List MadeNote) (q : MadeNote) (k : ℕ) → k < length ms → slice_index_or ms k q ≡ q → f q.who ≡ true
     → list_any f (given_in ms q.who.node q.pair) ≡ true
@@ -97,11 +78,11 @@ given_by : (c : Bool) (f : Name → Bool) (n : MadeNote) (ms : List MadeNote) (n
     → (list_any f (given_in ms node pair) ≡ true → Given f ms node pair)
     → list_any f (if c then given_in ms node pair ++ n.who ∷ [] else given_in ms node pair) ≡ true → Given f (n ∷ ms) node pair
 given_by true f n ms node pair c old e =
-    elim (one_of (list_any f (given_in ms node pair)) (f n.who || false) (sym (push_any f (given_in ms node pair) n.who) ∙ e)) [
+    elim (one_true (list_any f (given_in ms node pair)) (f n.who || false) (sym (push_any f (given_in ms node pair) n.who) ∙ e)) [
       | inl g ↦ given_later f n ms node pair (old g)
       | inr g ↦
           let both = both_true (nat_eq n.who.node node) (same_pair n.pair pair) c in
-          record { note = n; held = (0, omega arith, refl); passes = only (f n.who) g; at = nat_same n.who.node node both.0; by = pair_same n.pair pair both.1 }
+          record { note = n; held = (0, omega arith, refl); passes = sym (or_false (f n.who)) ∙ g; at = nat_same n.who.node node both.0; by = pair_same n.pair pair both.1 }
     ]
 given_by false f n ms node pair c old e = given_later f n ms node pair (old e)
 
@@ -141,7 +122,7 @@ facing_at f (m ∷ ms) u v g e = facing_by m.partner f m.who u v (partner_in ms 
 
 any_from : (f : Name → Bool) (xs : List Name) → list_any f xs ≡ true → (x : Name) × (f x ≡ true)
 any_from f [] e = absurd (cc e)
-any_from f (x ∷ xs) e = elim (one_of (f x) (list_any f xs) e) [ inl g ↦ (x, g) | inr g ↦ any_from f xs g ]
+any_from f (x ∷ xs) e = elim (one_true (f x) (list_any f xs) e) [ inl g ↦ (x, g) | inr g ↦ any_from f xs g ]
 
 -- ---- the rule ----
 is_name : (o : Option Name) (v : Name) → is_some_name o v ≡ true → o ≡ Some v

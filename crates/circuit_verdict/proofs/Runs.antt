@@ -1,6 +1,6 @@
 -- Events one after another.
-use Rattle.std.proofs.Common.{◌≡◌, ◌+◌, ◌∙◌, ℕ, suc, refl, sym, ap, arith, append_assoc, List, [], ◌∷◌, ◌++◌}
-use Rattle.std.specs.Prelude.{Bool, true, false, ◌↔◌, Option, Some, None, is_some}
+use Rattle.std.proofs.Common.{◌≡◌, ◌+◌, ◌∙◌, ℕ, suc, refl, ap, arith, append_assoc, List, [], ◌∷◌, ◌++◌}
+use Rattle.std.specs.Prelude.{true, false, Option, Some, None, is_some}
 use Rattle.ax_address.specs.Callsign.{Callsign}
 use Rattle.circuit_set.specs.Sets.{Told, Made, Sent, Heeded, Notice, Gone, Restarted, Lost}
 use Rattle.circuit_set.specs.Books as books
@@ -13,7 +13,7 @@ use Rattle.circuit_verdict.specs.declared.verdict.Late.{Late}
 use Rattle.circuit_verdict.specs.declared.verdict.LateWhy.{LateWhy}
 use Rattle.circuit_verdict.specs.declared.verdict.LateWhy.TheVariants.{Overtaken, Returned}
 use Rattle.circuit_verdict.specs.Events.{event_of, events_of}
-use Rattle.circuit_verdict.specs.Judging.{BookStands, Judges, Noted}
+use Rattle.circuit_verdict.specs.Judging.{BookStands, Judges}
 use Rattle.circuit_verdict.specs.Standing.{Follows, InTime}
 use Rattle.circuit_verdict.specs.Verdicts.{FailsAt, IsFirstLate, IsVerdict, allowance_of, late_of, lost_in}
 
@@ -72,8 +72,8 @@ late_fails a ns late l timely fresh =
     let timely_there : Timely (allowance_of a) empty (events_of l.before ++ event_of l.at.event ∷ events_of l.after) = rw (← split) timely in
     let fresh_there : FreshFrom empty [] (events_of l.before ++ event_of l.at.event ∷ events_of l.after) = rw (← split) fresh in
     fails_by a (noted_all empty (events_of l.before)) (lost_in [] (events_of l.before)) (event_of l.at.event) late.why l.fails
-        (timely_at (allowance_of a) empty (events_of l.before) (events_of l.after) (event_of l.at.event) timely_there)
-        (fresh_at empty [] (events_of l.before) (events_of l.after) (event_of l.at.event) fresh_there)
+    (timely_at (allowance_of a) empty (events_of l.before) (events_of l.after) (event_of l.at.event) timely_there)
+    (fresh_at empty [] (events_of l.before) (events_of l.after) (event_of l.at.event) fresh_there)
 
 -- ---- what a verdict stands for ----
 pub stays_late : (a : Allowance) (o : Option Late) (k : Book) (ns : List Numbered) (n : Numbered) → is_some o ≡ true → Follows a o k ns → Follows a o k (ns ++ n ∷ [])
@@ -98,7 +98,7 @@ judged_by a line e None old new ns k j places =
     let next = event_of e in
     let n : Numbered = record { line = line; event = e } in
     let stands : BookStands new (noted (noted_all empty es) next) (lost_with (lost_in [] es) next.node next.told) =
-        record { places = places ∙ let one = one_place (noted_all empty es) next.node next.own next.told in omega (arith, one); parts = j.parts } in
+    record { places = places ∙ let one = one_place (noted_all empty es) next.node next.own next.told in omega (arith, one); parts = j.parts } in
     record {
       timely = rw (events_more ns n) (timely_more (allowance_of a) empty es next k.timely j.timely);
       fresh = rw (events_more ns n) (fresh_more empty [] es next k.fresh j.fresh);

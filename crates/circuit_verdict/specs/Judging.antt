@@ -1,10 +1,8 @@
 -- What is kept stands for a book and the ends that were lost, and how an event is judged by it.
-use Rattle.std.specs.Prelude.{◌≡◌, ℕ, List, Option, Some, None}
+use Rattle.std.specs.Prelude.{◌≡◌, List, Option, Some, None}
 use Rattle.circuit_set.specs.Books as books
 use Rattle.circuit_set.specs.Books.{Event, Name, FreshTold, TimelyTold, lost_with, noted}
 use Rattle.circuit_verdict.specs.declared.book.Book.{Book}
-use Rattle.circuit_verdict.specs.declared.ends.Ends.{Ends}
-use Rattle.circuit_verdict.specs.declared.sendings.Sendings.{Sendings}
 use Rattle.circuit_verdict.specs.declared.verdict.Allowance.{Allowance}
 use Rattle.circuit_verdict.specs.declared.verdict.LateWhy.{LateWhy}
 use Rattle.circuit_verdict.specs.declared.verdict.LateWhy.TheVariants.{Overtaken, Returned}

@@ -68,7 +68,10 @@ impl Book {
         let node = event.node;
         match event.told {
             Told::Made {
-                id, pair, request, ..
+                id,
+                pair,
+                request,
+                ..
             } => self.made(&Name { node, id }, &event.own, &pair, request),
             Told::Sent {
                 id,

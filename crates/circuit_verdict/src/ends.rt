@@ -113,7 +113,10 @@ impl Ends {
     fn has_open_partner(&self, end: &Name) -> bool
         ensures { result ≡ made.keeps_open_partner self.now end.now }
     {
-        self.facing.of(end).iter().any(|other| self.faces(end, other))
+        self.facing
+            .of(end)
+            .iter()
+            .any(|other| self.faces(end, other))
     }
 
     /// Whether an end is the partner of this other one, which is of another node and has neither ended nor been lost.
@@ -156,7 +159,7 @@ impl Ends {
             ≡ cond (same_call own.now call && same_pair pair.now p) (Some end.now) (get made.same_call_pair self.old.last_made (record { own = call; pair = made.key_of p }))) }
         ensures given { OnOk result ((node : ℕ) (p : SeenPair) → list_in (get made.same_node_pair self.new.given.lists (record { node = node; pair = made.key_of p }))
             ≡ cond (nat_eq end.now.node node && same_pair pair.now p) (list_in (get made.same_node_pair self.old.given.lists (record { node = end.now.node; pair = made.key_of pair.now })) ++ end.now ∷ [])
-                (list_in (get made.same_node_pair self.old.given.lists (record { node = node; pair = made.key_of p })))) }
+            (list_in (get made.same_node_pair self.old.given.lists (record { node = node; pair = made.key_of p })))) }
     {
         self.last_made.insert(CallPair::of(own, pair), *end)?;
         self.given.push(NodePair::of(end.node(), pair), *end)?;

@@ -20,15 +20,29 @@ pub enum Told<'a> {
         datagram: &'a [u8],
     },
     /// An end has taken in a datagram of its partner's node.
-    Heeded { id: u64, datagram: &'a [u8] },
+    Heeded {
+        id: u64,
+        datagram: &'a [u8],
+    },
     /// What has become of a circuit.
-    Notice { id: u64, notice: EndNotice },
+    Notice {
+        id: u64,
+        notice: EndNotice,
+    },
     /// An end is held no longer.
-    Gone { id: u64, facts: EndFacts },
+    Gone {
+        id: u64,
+        facts: EndFacts,
+    },
     /// The node starts again, at this pair.
-    Restarted { pair: Pair },
+    Restarted {
+        pair: Pair,
+    },
     /// The node has lost an end, since it starts again.
-    Lost { id: u64, facts: EndFacts },
+    Lost {
+        id: u64,
+        facts: EndFacts,
+    },
 }
 
 /// What is told at a node, which is named by its place among the nodes and by its call.

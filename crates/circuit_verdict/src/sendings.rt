@@ -79,7 +79,12 @@ impl Sendings {
     }
 
     /// An end has sent a datagram, later than all before.
-    pub(crate) fn send(&mut self, who: &Name, datagram: &[u8], sending: Sending) -> Result<(), NoMemory>
+    pub(crate) fn send(
+        &mut self,
+        who: &Name,
+        datagram: &[u8],
+        sending: Sending,
+    ) -> Result<(), NoMemory>
         ensures { OnOk result ((ss : List books.SentNote) (hs : List books.HeardNote) → sends.SendingsStand self.old sending.place ss hs
             → sends.SendingsStand self.new (suc sending.place) (record { who = who.now; place = sending.place; number = sending.number; datagram = datagram.now } ∷ ss) hs) }
     {
@@ -92,7 +97,7 @@ impl Sendings {
         ensures rest { self.new ≡ record self.old { latest = self.new.latest } }
         ensures latest { OnOk result ((ss : List books.SentNote) → ((k : SeenLikeness) → ordered.get sends.likeness_cmp self.old.latest k ≡ sends.latest_like ss k.who k.octets.items)
             → (k : SeenLikeness) → ordered.get sends.likeness_cmp self.new.latest k
-                ≡ sends.latest_like (record { who = who.now; place = sending.place; number = sending.number; datagram = datagram.now } ∷ ss) k.who k.octets.items) }
+            ≡ sends.latest_like (record { who = who.now; place = sending.place; number = sending.number; datagram = datagram.now } ∷ ss) k.who k.octets.items) }
     {
         if datagram.len() < HEAD_SIZE {
             return Ok(());
@@ -107,7 +112,7 @@ impl Sendings {
         ensures rest { self.new ≡ record self.old { messages = self.new.messages; sent = self.new.sent } }
         ensures messages { OnOk result ((ss : List books.SentNote) → ((x : books.Name) (n : ℕ) → contains sends.same_message self.old.sent (sends.message_name x n) ≡ books.has x n ss)
             → (x : books.Name) → list_in (get books.same_name self.new.messages.lists x)
-                ≡ sends.with_message who.now sending.number sending.place ss x (list_in (get books.same_name self.old.messages.lists x))) }
+            ≡ sends.with_message who.now sending.number sending.place ss x (list_in (get books.same_name self.old.messages.lists x))) }
         ensures sent { OnOk result ((x : books.Name) (n : ℕ) → contains sends.same_message self.new.sent (sends.message_name x n)
             ≡ books.same_name who.now x && books.is_number sending.number n || contains sends.same_message self.old.sent (sends.message_name x n)) }
     {
@@ -121,7 +126,7 @@ impl Sendings {
         ensures rest { self.new ≡ record self.old { messages = self.new.messages; sent = self.new.sent } }
         ensures messages { OnOk result ((ss : List books.SentNote) → ((x : books.Name) (n : ℕ) → contains sends.same_message self.old.sent (sends.message_name x n) ≡ books.has x n ss)
             → (x : books.Name) → list_in (get books.same_name self.new.messages.lists x)
-                ≡ sends.with_message who.now (Some number) place ss x (list_in (get books.same_name self.old.messages.lists x))) }
+            ≡ sends.with_message who.now (Some number) place ss x (list_in (get books.same_name self.old.messages.lists x))) }
         ensures sent { OnOk result ((x : books.Name) (n : ℕ) → contains sends.same_message self.new.sent (sends.message_name x n)
             ≡ books.same_name who.now x && nat_eq number n || contains sends.same_message self.old.sent (sends.message_name x n)) }
     {

@@ -52,6 +52,16 @@ fn message(node: u64, number: u8, ttl: u8) -> Datagram {
     datagram(node, ttl, &[1, 1, number, 0, 5, number])
 }
 
+/// A node loses its first end, starts again, and makes its second end, with this pair.
+fn restarted(alloc: Global, pair: Pair) -> Result<Option<Late>, NoMemory> {
+    let mut line = 0;
+    let mut verdict = opened(alloc, &mut line, Allowance::Fixed, 4)?;
+    tell(&mut verdict, &mut line, 2, Told::Lost { id: 1, facts: FACTS })?;
+    tell(&mut verdict, &mut line, 2, Told::Restarted { pair })?;
+    made(&mut verdict, &mut line, 2, 2, pair, None)?;
+    Ok(verdict.late())
+}
+
 /// This is told at a node, at the line after the last one.
 fn tell(verdict: &mut Verdict, line: &mut u32, node: u64, told: Told<'_>) -> Result<(), NoMemory> {
     *line = line.saturating_add(1);
@@ -169,5 +179,46 @@ fn a_window_of_127_allows_for_one_overtaker(rt: HostRuntime) -> Result<(), Fail>
     let alloc = rt.alloc();
     assert_eq!(&rt; overtaken(alloc, Allowance::OfWindow, 127, 1)?, None);
     assert_eq!(&rt; overtaken(alloc, Allowance::OfWindow, 127, 2)?, Some(Late { line: 14, why: OVERTAKEN }));
+    Ok(())
+}
+
+#[test]
+fn a_pair_that_an_open_end_still_knows_comes_back(rt: HostRuntime) -> Result<(), Fail> {
+    let alloc = rt.alloc();
+    assert_eq!(&rt; restarted(alloc, FIRST)?, Some(Late { line: 10, why: RETURNED }));
+    assert_eq!(&rt; restarted(alloc, SECOND)?, None);
+    Ok(())
+}
+
+#[test]
+fn a_connect_request_that_has_opened_an_end_comes_back(rt: HostRuntime) -> Result<(), Fail> {
+    let alloc = rt.alloc();
+    let mut line = 0;
+    let mut verdict = opened(alloc, &mut line, Allowance::Fixed, 4)?;
+    notice(&mut verdict, &mut line, 1, EndNotice::FailedRetries)?;
+    notice(&mut verdict, &mut line, 2, EndNotice::FailedRetries)?;
+    assert_eq!(&rt; verdict.late(), None);
+    let request = request(1);
+    made(&mut verdict, &mut line, 2, 2, SECOND, Some(request.as_slice()))?;
+    assert_eq!(&rt; verdict.late(), Some(Late { line: 10, why: RETURNED }));
+    Ok(())
+}
+
+#[test]
+fn a_list_is_judged_at_once(rt: HostRuntime) -> Result<(), Fail> {
+    let alloc = rt.alloc();
+    let request = request(1);
+    let datagram = request.as_slice();
+    let own = call_of(1);
+    let asks = Told::Made { id: 1, pair: FIRST, partner: call_of(2), request: None };
+    let sends = Told::Sent { id: 1, number: None, datagram };
+    let heeds = Told::Heeded { id: 1, datagram };
+    let events = [
+        Numbered { line: 3, event: Event { node: 1, own, told: asks } },
+        Numbered { line: 3, event: Event { node: 1, own, told: sends } },
+        Numbered { line: 5, event: Event { node: 1, own, told: heeds } },
+    ];
+    assert_eq!(&rt; too_late(alloc, Allowance::Fixed, &events[..2])?, None);
+    assert_eq!(&rt; too_late(alloc, Allowance::Fixed, &events)?, Some(Late { line: 5, why: OVERTAKEN }));
     Ok(())
 }

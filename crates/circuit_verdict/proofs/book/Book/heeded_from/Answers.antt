@@ -1,4 +1,4 @@
-use Rattle.std.proofs.Common.{◌≡◌, ◌≤◌, ◌<◌, ◌∙◌, sym, ap, rules, arith}
+use Rattle.std.proofs.Common.{◌≤◌, ◌<◌, ◌∙◌, sym, arith}
 use Rattle.circuit_set.specs.Books.{overtakers}
 use Rattle.circuit_verdict.specs.Verdicts.{allowance_of}
 use Rattle.circuit_verdict.proofs.Judged.{heard_is, in_time, none_sent, sendings_later, too_many}
@@ -23,9 +23,10 @@ returns c b lost s joined own =
     let allowed = c.allowed.ensures b lost s joined in
     let few : overtakers c.args.partner.now c.args.end.now c.in-Some.latest.place b.sent b.heard < allowance_of c.args.allowance b c.args.end.now = rw (← counted, ← allowed) (omega arith) in
     let found = sym c.in-Some.is ∙ c.in_ok-latest.ensures b.places b.sent b.heard s.sendings in
-    let heard = c.in_ok-hear.ensures b lost s in
-    (in_time (allowance_of c.args.allowance) b c.args.end.now c.args.partner.now c.args.datagram.now c.in-Some.latest joined found few,
-        record {
-          ends = heard.ends;
-          sendings = rw (heard_is b c.args.end.now c.args.partner.now c.args.datagram.now c.in-Some.latest joined found) (sendings_later _ _ _ _ heard.sendings);
-        })
+    let heard = c.in_ok-hear.ensures b lost s in (
+      in_time (allowance_of c.args.allowance) b c.args.end.now c.args.partner.now c.args.datagram.now c.in-Some.latest joined found few,
+      record {
+        ends = heard.ends;
+        sendings = rw (heard_is b c.args.end.now c.args.partner.now c.args.datagram.now c.in-Some.latest joined found) (sendings_later _ _ _ _ heard.sendings);
+      },
+    )

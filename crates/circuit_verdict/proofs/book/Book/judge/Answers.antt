@@ -1,4 +1,3 @@
-use Rattle.std.proofs.Common.{◌≡◌, ◌∙◌, sym, ap, rules, arith}
 use Rattle.std.specs.Option.{option_copied}
 use Rattle.std.proofs.lemmas.Result.{IfOk-weaker}
 use Rattle.circuit_verdict.proofs.Judged.{judged_heeded, judged_made, sendings_later}
@@ -8,18 +7,18 @@ pub returns-in-Made : goal.returns-in-Made
 returns-in-Made c =
     IfOk-weaker c.made.result _ _
     (λ why told b lost s.
-        rw c.in-Made.is
-            (judged_made c.args.allowance b lost c.args.event.now.node c.args.event.now.own c.in-Made.id c.in-Made.pair c.in-Made.partner (option_copied c.in-Made.request) why
-                c.made.new.self (told b lost s.parts c.in-Made.partner)))
+    rw c.in-Made.is
+    (judged_made c.args.allowance b lost c.args.event.now.node c.args.event.now.own c.in-Made.id c.in-Made.pair c.in-Made.partner (option_copied c.in-Made.request) why
+    c.made.new.self (told b lost s.parts c.in-Made.partner)))
     c.made.ensures
 
 pub returns-in-Heeded : goal.returns-in-Heeded
 returns-in-Heeded c =
     IfOk-weaker c.heeded.result _ _
     (λ why told b lost s.
-        rw c.in-Heeded.is
-            (judged_heeded c.args.allowance b lost c.args.event.now.node c.args.event.now.own c.in-Heeded.id c.in-Heeded.datagram.now why
-                c.heeded.new.self (told b lost s.parts c.args.event.now.own)))
+    rw c.in-Heeded.is
+    (judged_heeded c.args.allowance b lost c.args.event.now.node c.args.event.now.own c.in-Heeded.id c.in-Heeded.datagram.now why
+    c.heeded.new.self (told b lost s.parts c.args.event.now.own)))
     c.heeded.ensures
 
 pub returns-in-Notice : goal.returns-in-Notice

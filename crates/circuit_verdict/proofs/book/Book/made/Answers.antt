@@ -1,4 +1,4 @@
-use Rattle.std.proofs.Common.{◌≡◌, ◌∙◌, sym, ap, rules, arith}
+use Rattle.std.proofs.Common.{◌≡◌, ◌∙◌, sym, rules}
 use Rattle.std.specs.Prelude.{◌&&◌, is_some, true, false}
 use Rattle.std.specs.Option.{option_copied}
 use Rattle.circuit_set.specs.Books.{is_unknown}
@@ -20,9 +20,10 @@ pub returns : goal.returns
 returns c b lost s at =
     let has : is_some (option_copied c.args.request) && is_unknown c.in_ok-requester.requester ≡ false = rw (copied_some c.args.request) (search rules) in
     let found = c.in_ok-requester.ensures b lost s in
-    let free = rw c.node.ensures at (sym (c.is_faced.ensures b.made lost s.ends) ∙ c.if-is_faced.false) in
-    ((having b (option_copied c.args.request) c.in_ok-requester.requester found has, unfaced b lost c.args.end.now.node c.args.pair.now free),
-        record {
-          ends = rw (← found) (c.in_ok-make.ensures b.made lost s.ends);
-          sendings = sendings_later _ _ _ _ s.sendings;
-        })
+    let free = rw c.node.ensures at (sym (c.is_faced.ensures b.made lost s.ends) ∙ c.if-is_faced.false) in (
+      (having b (option_copied c.args.request) c.in_ok-requester.requester found has, unfaced b lost c.args.end.now.node c.args.pair.now free),
+      record {
+        ends = rw (← found) (c.in_ok-make.ensures b.made lost s.ends);
+        sendings = sendings_later _ _ _ _ s.sendings;
+      },
+    )

@@ -1,4 +1,4 @@
-use Rattle.std.proofs.Common.{◌≡◌, ◌∙◌, sym, ap, rules, arith}
+use Rattle.std.proofs.Common.{◌≡◌, ◌∙◌, sym, rules}
 use Rattle.std.specs.Prelude.{Some, None, is_some, true, false}
 use Rattle.circuit_verdict.proofs.Judged.{joins, not_joined}
 use Rattle.circuit_verdict.proofs.book.Book.unless_joined.Goals as goal

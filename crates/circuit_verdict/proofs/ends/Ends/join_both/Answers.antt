@@ -1,4 +1,3 @@
-use Rattle.std.proofs.Common.{List}
 use Rattle.indexmap.specs.IndexMap.{get}
 use Rattle.circuit_set.specs.Books.{Name, same_name}
 use Rattle.circuit_verdict.specs.Lists.{list_in}

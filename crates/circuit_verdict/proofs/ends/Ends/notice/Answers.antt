@@ -1,4 +1,4 @@
-use Rattle.std.proofs.Common.{◌≡◌, ◌∙◌, sym, ap, rules}
+use Rattle.std.proofs.Common.{◌∙◌}
 use Rattle.circuit_verdict.proofs.Notices.{note_noticed, partner_noticed, last_noticed, given_noticed, facing_noticed}
 use Rattle.circuit_verdict.proofs.ends.Ends.notice.Goals as goal
 

@@ -1,4 +1,4 @@
-use Rattle.std.proofs.Common.{◌≡◌, ◌∙◌, ◌-◌, sym, ap, refl, rules, arith, length, drop, take_all, length-drop}
+use Rattle.std.proofs.Common.{◌≡◌, ◌∙◌, ◌-◌, sym, ap, arith, length, drop, take_all, length-drop}
 use Rattle.circuit_set.specs.Books.{is_heard}
 use Rattle.indexmap.specs.IndexSet.{contains}
 use Rattle.circuit_verdict.specs.Sendings.{Rises, message_name, messages_in, same_message}
@@ -18,7 +18,7 @@ returns-clause-exact c last ss hs s =
     let heard = rw (take_all (length ms - later) (drop later ms) (omega (arith, length-drop later ms))) at c.heard_among.ensures.exact in
     heard
     ∙ among_same (λ (m : Message). contains same_message c.args.self.now.heard (message_name x m.number)) (λ (m : Message). is_heard x m.number hs) (drop later ms)
-        (λ m. s.heard x m.number)
+    (λ m. s.heard x m.number)
     ∙ sym (behind (λ (m : Message). is_heard x m.number hs) c.args.place later ms (λ i d p q. told.before rises i d p) (told.after rises))
     ∙ ap (among (heard_later x c.args.place hs)) messages
     ∙ sym (heard_counted hs ss c.args.sender.now x c.args.place s.once)

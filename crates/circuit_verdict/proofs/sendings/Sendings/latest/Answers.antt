@@ -1,4 +1,4 @@
-use Rattle.std.proofs.Common.{◌≡◌, ◌∙◌, sym, ap, refl, rules, arith}
+use Rattle.std.proofs.Common.{◌≡◌, ◌∙◌, refl, rules, arith}
 use Rattle.std.specs.BTreeMap.{get}
 use Rattle.circuit_verdict.specs.Sendings.{likeness_cmp}
 use Rattle.circuit_verdict.proofs.Likenesses.{latest_found, latest_short}

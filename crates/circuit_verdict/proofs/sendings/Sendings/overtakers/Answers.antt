@@ -1,4 +1,4 @@
-use Rattle.std.proofs.Common.{◌≡◌, ◌∙◌, sym, ap, refl, rules, arith}
+use Rattle.std.proofs.Common.{◌∙◌, sym, arith}
 use Rattle.circuit_verdict.proofs.Same.{name_same}
 use Rattle.circuit_verdict.proofs.Heard.{overtakers_same, overtakers_apart}
 use Rattle.circuit_verdict.proofs.sendings.Sendings.overtakers.Goals as goal

@@ -1,4 +1,4 @@
-use Rattle.std.proofs.Common.{◌≡◌, ◌∙◌, sym, ap, refl, rules, arith}
+use Rattle.std.proofs.Common.{◌∙◌, ap, refl, arith}
 use Rattle.circuit_verdict.specs.declared.sendings.Sendings.{Sendings}
 use Rattle.circuit_verdict.proofs.sendings.Sendings.send.Goals as goal
 
