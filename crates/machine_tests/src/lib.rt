@@ -16,3 +16,5 @@ mod routes;
 mod seeded_routes;
 #[cfg(test)]
 mod transports;
+#[cfg(test)]
+mod verdicts;
