@@ -31,3 +31,13 @@ pub mod Unheeded
 pub mod Acts
 pub mod Opens
 pub mod Safe
+pub mod Silent
+pub mod Taken
+pub mod Meeting
+pub mod Holding
+pub mod Moving
+pub mod Telling
+pub mod Searching
+pub mod Arriving
+pub mod Making
+pub mod Ticking

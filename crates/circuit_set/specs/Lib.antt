@@ -8,3 +8,5 @@ pub mod Laws
 pub mod Sets
 pub mod Books
 pub mod Runs
+pub mod Pumps
+pub mod Standing

@@ -1,0 +1,13 @@
+use Rattle.std.proofs.Common.{subst, None, Some}
+use Rattle.circuit_set.specs.Standing.{FirstLoud}
+use Rattle.circuit_set.proofs.Searching.{gives_first, gives_none}
+use Rattle.circuit_set.proofs.held_ends.HeldEnds.next.Goals as goal
+
+pub returns-in-None-clause-gives : goal.returns-in-None-clause-gives
+returns-in-None-clause-gives c = λ s told st.
+    gives_none c.args.self.now s told st (subst (λ r. FirstLoud r c.args.self.now.ends.entries) c.in-None.is (subst (FirstLoud c.first_untold.result) c.as_slice.ensures.entries c.first_untold.ensures.first))
+
+pub returns-in-Some-clause-gives : goal.returns-in-Some-clause-gives
+returns-in-Some-clause-gives c = λ s told st.
+    gives_first c.args.self.now c.next_of.new.self s told c.in-Some.id c.next_of.result c.next_of.ensures.same st
+    (subst (λ r. FirstLoud r c.args.self.now.ends.entries) c.in-Some.is (subst (FirstLoud c.first_untold.result) c.as_slice.ensures.entries c.first_untold.ensures.first)) c.next_of.ensures.next
