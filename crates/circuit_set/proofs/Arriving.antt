@@ -23,7 +23,6 @@ use Rattle.circuit_set.specs.declared.held_ends.HeldEnds.{HeldEnds}
 use Rattle.circuit_set.specs.Circuits.{heeds}
 use Rattle.circuit_set.specs.Sets as sets
 use Rattle.circuit_set.specs.Sets.{SetDone, SetState, Told, arrives_at, end_of, first_open, goes_to, handed, named_by}
-use Rattle.circuit_set.specs.Pumps.{Of}
 use Rattle.circuit_set.specs.Standing.{FirstFit, Gives, Hands, HeldStands, SameNode, counted, of_holder}
 use Rattle.circuit_set.proofs.Sends.{Named, either_going, names}
 use Rattle.circuit_set.proofs.Names.{step_same}
@@ -60,7 +59,7 @@ module _ (c c2 : HeldEnds) (id : ℕ) (t : Transport) (now : ℕ) (b : Bool) (sa
     pub stands : HeldStands c2 moved.set moved.told
 
   hand_some : (k : Holder) → lookup (nat_eq id) c.ends.entries ≡ Some k → Hands id (Some k) t now b c.ends.entries c2.ends.entries → Handed
-  hand_some k found (e2, hears, does, left) =
+  hand_some k found (e2, hears, does, left, few) =
       let f : Found c c2 id k e2 k.taken same found left s st = find c c2 id k e2 k.taken same found left s st in
       let x : State = f.g.end in
       let w : sets.Holder = of_holder id k f.g in
@@ -83,7 +82,7 @@ module _ (c c2 : HeldEnds) (id : ℕ) (t : Transport) (now : ℕ) (b : Bool) (sa
 
   module _ (d : ArrayVec ℕ) (number : h.id ≡ id) (hands : Hands id (lookup (nat_eq id) c.ends.entries) t now b c.ends.entries c2.ends.entries) where
     heard_case : (v : Bool) → v ≡ true → Gives (goes_to s h (if v then sets.Heeded h.id d.items ∷ [] else []) (step h.end (Arrive t) now)) (Some (untold.Event (event.Heeded id d))) c2
-    heard_case true e = (sets.Heeded h.id d.items, moved.told, refl, ap (λ n. Of (sets.Heeded n d.items)) (sym number), (hand_goes hands).stands)
+    heard_case true e = (sets.Heeded h.id d.items, moved.told, refl, ap (λ n. Some (sets.Heeded n d.items)) (sym number), (hand_goes hands).stands)
     heard_case false e = absurd (cc e)
 
     pub gives_heard : b ≡ true → Gives (handed s h d.items t now) (Some (untold.Event (event.Heeded id d))) c2

@@ -10,7 +10,8 @@ use Rattle.circuit_l4.specs.EndStanding.{EndView, Stands, StandsFor}
 use Rattle.circuit_set.specs.declared.holder.Holder.{Holder}
 use Rattle.circuit_set.specs.Sets as sets
 use Rattle.circuit_set.specs.Sets.{Told, end_of, with_end}
-use Rattle.circuit_set.specs.Standing.{FirstLoud, Held, Here, IsSilent, Keeps, Past, is_empty}
+use Rattle.circuit_set.specs.Pumps.{is_empty}
+use Rattle.circuit_set.specs.Standing.{FirstLoud, Held, Here, IsSilent, Keeps, Past}
 
 pub stood : (m : EndView) (g : Effect) → Stands m g → StandsFor m g.end
 stood m g s = record { written = s.written; came = s.came; expiries = s.expiries; sending = s.sending; receiving = s.receiving; is = ap (λ (g : Effect). g.end) s.is }

@@ -41,3 +41,5 @@ pub mod Searching
 pub mod Arriving
 pub mod Making
 pub mod Ticking
+pub mod Counting
+pub mod ByInputs

@@ -16,7 +16,6 @@ use Rattle.circuit_set.specs.Sets as sets
 use Rattle.circuit_set.specs.declared.event.SetEvent.TheVariants as event
 use Rattle.circuit_set.specs.declared.holder.Untold.TheVariants as untold
 use Rattle.circuit_set.specs.Sets.{SetState, Told, end_of, with_end, held_pairs, is_over, notices, told_by}
-use Rattle.circuit_set.specs.Pumps.{Of}
 use Rattle.arrayvec.specs.ArrayVec.{ArrayVec}
 use Rattle.circuit_l4.specs.EndOpening.{facts_of, requesting, responding}
 use Rattle.circuit_l4.specs.declared.plain.EndConfig.{EndConfig}
@@ -206,8 +205,8 @@ module _ (c c2 : HeldEnds) (k : Holder) (x : Holds k c c2) (s : SetState) (st : 
   pub made_aloud : (q : Pair) (d : ArrayVec ℕ) → k.unannounced ≡ false → k.asked ≡ Some q → (id : ℕ) → id ≡ c.number
       → Gives (sets.made s k.at (Some q) (Some d.items) g) (Some (untold.Event (event.Made id k.pair k.at (Some d)))) c2
   made_aloud q d u a id e =
-      let same : Of (sets.Made id k.pair k.at (Some d.items)) ≡ Of (sets.Made s.number (sets.new_pair s) k.at (Some d.items)) =
-          ap (λ (n : ℕ). Of (sets.Made n k.pair k.at (Some d.items))) (e ∙ sym st.number) ∙ ap (λ (p : Pair). Of (sets.Made s.number p k.at (Some d.items))) pair in
+      let same : Some (sets.Made id k.pair k.at (Some d.items)) ≡ Some (sets.Made s.number (sets.new_pair s) k.at (Some d.items)) =
+          ap (λ (n : ℕ). Some (sets.Made n k.pair k.at (Some d.items))) (e ∙ sym st.number) ∙ ap (λ (p : Pair). Some (sets.Made s.number p k.at (Some d.items))) pair in
       let held : HeldStands c2 (sets.made s k.at k.asked (Some d.items) g).set (told_by s h g) = subst (λ ts. HeldStands c2 (sets.made s k.at k.asked (Some d.items) g).set ts) (ap untold_first u) (made_held (Some d.items)) in
       (sets.Made s.number (sets.new_pair s) k.at (Some d.items), told_by s (sets.holder_of s k.at (Some q) g) g, refl, same,
       subst (λ (o : Option Pair). HeldStands c2 (sets.made s k.at o (Some d.items) g).set (told_by s (sets.holder_of s k.at o g) g)) a held)
@@ -279,7 +278,7 @@ again_case c id k found q w s g stands pair taken met quiet_k window h is st a s
         (subst (λ ts. Held s.own s.ttl s.number 0 (set_value (nat_eq id) c.ends.entries k) (with_end h2 s.ends) ts) empty put) in
     let to : g.end.to ≡ q = (subst (λ o. MetBy o g.end) (asked_is k.asked q (ap (λ (z : sets.Holder). sets.asked_with z.asked q) (sym is) ∙ asked)) met).1 in
     let told : told_by s y (sets.accept_again g.end) ≡ sets.Sent id None (sets.datagram_to s k.at (Accept g.end.to g.end.pair g.end.window)) ∷ [] = again_told s y quiet_k.stays in
-    let same : Of (sets.Sent id None (sets.datagram_to s k.at (Accept q k.pair w))) ≡ Of (sets.Sent id None (sets.datagram_to s k.at (Accept g.end.to g.end.pair g.end.window))) =
+    let same : Some (sets.Sent id None (sets.datagram_to s k.at (Accept q k.pair w))) ≡ Some (sets.Sent id None (sets.datagram_to s k.at (Accept g.end.to g.end.pair g.end.window))) =
         rw (to, pair, window) refl in
     subst (λ (z : sets.Holder). Gives (sets.goes_to s z [] (sets.accept_again z.end)) (Some (untold.Out id None k.at (Accept q k.pair w))) c) (sym is)
     (sets.Sent id None (sets.datagram_to s k.at (Accept g.end.to g.end.pair g.end.window)), [], told, same,

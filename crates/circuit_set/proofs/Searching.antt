@@ -1,5 +1,5 @@
 -- What is found among the ends that are held, and what follows for the machine.
-use Rattle.std.specs.Prelude.{◌≡◌, ℕ, suc, ◌≤◌, ◌⊎◌, Bool, true, false, not, ◌||◌, ◌&&◌, nat_eq, if◌then◌else◌, List, [], ◌∷◌, ◌++◌, Option, Some, None, refl, is_none, is_some}
+use Rattle.std.specs.Prelude.{◌≡◌, ℕ, suc, ◌≤◌, length, ◌⊎◌, Bool, true, false, not, ◌||◌, ◌&&◌, nat_eq, if◌then◌else◌, List, [], ◌∷◌, ◌++◌, Option, Some, None, refl, is_none, is_some}
 use Rattle.std.proofs.Common.{sym, ◌∙◌, ap, subst, inl, inr, arith, cond}
 use Rattle.std.specs.Map.{lookup, set_value, remove_entry}
 use Rattle.ax_address.specs.Callsign.{Callsign}
@@ -14,8 +14,8 @@ use Rattle.circuit_l4.specs.EndState.{State}
 use Rattle.circuit_l4.specs.EndStanding.{EndView, Stands, StandsFor}
 use Rattle.circuit_l4.specs.EndTable.{Arrive, step}
 use Rattle.std.proofs.lemmas.Bool.Decides.{nat_tests}
-use Rattle.circuit_set.specs.Pumps.{Of}
-use Rattle.circuit_set.specs.Standing.{FirstFit, Fits, Hands, Here, Past, FirstLoud, Gives, Held, HeldStands, Keeps, Leaves, NextOf, SameNode, Tells, is_empty, is_last, is_last_of, left_of, told_of}
+use Rattle.circuit_set.specs.Pumps.{is_empty}
+use Rattle.circuit_set.specs.Standing.{FirstFit, Fits, Hands, Here, Past, FirstLoud, Gives, Held, HeldStands, Keeps, Leaves, NextOf, SameNode, Tells, is_last, left_of, told_of}
 use Rattle.circuit_set.proofs.Holding.{At, Loudest, hushed, loudest, some_is}
 
 starts : (xs ys : List Told) → is_empty xs ≡ false → false ≡ is_empty (xs ++ ys)
@@ -47,7 +47,7 @@ module _ (c c2 : HeldEnds) (s : SetState) (told : List Told) (id : ℕ) (same : 
   is : told ≡ a.mine ++ a.theirs
   is = a.all ∙ ap (λ (b : List Told). b ++ a.mine ++ a.theirs) l.first
 
-  gives_last : (u : Untold) (k2 : Holder) (t : Told) (rest : List Told) (b : Bool) → a.mine ≡ t ∷ rest → told_of s.own s.ttl u ≡ Of t → is_last u ≡ b
+  gives_last : (u : Untold) (k2 : Holder) (t : Told) (rest : List Told) (b : Bool) → a.mine ≡ t ∷ rest → told_of s.own s.ttl u ≡ Some t → is_last u ≡ b
       → Leaves s.own s.ttl id a.h k2 rest b → c2.ends.entries ≡ left_of id b c.ends.entries k2
       → Gives (record { set = s; told = told }) (Some u) c2
   gives_last u k2 t rest true m e last leaves left =
@@ -62,15 +62,11 @@ module _ (c c2 : HeldEnds) (s : SetState) (told : List Told) (id : ℕ) (same : 
           subst (λ es. Held s.own s.ttl s.number 0 es s.ends (rest ++ a.theirs)) (sym left) (subst (λ (b : List Told). Held s.own s.ttl s.number 0 (set_value (nat_eq id) c.ends.entries k2) s.ends (b ++ rest ++ a.theirs)) l.first h) in
       (t, rest ++ a.theirs, all, e, stands_with c c2 s told (rest ++ a.theirs) same st h2)
 
-  gives_by : (r : Option Untold) (k2 : Holder) → Tells s.own s.ttl id a.h r k2 a.mine → c2.ends.entries ≡ left_of id (is_last_of r) c.ends.entries k2
-      → Gives (record { set = s; told = told }) r c2
-  gives_by None k2 tells left = let some : is_empty a.mine ≡ false = l.some in absurd (cc (ap is_empty (sym tells.0) ∙ some))
-  gives_by (Some u) k2 (t, rest, m, e, leaves) left = gives_last u k2 t rest (is_last u) m e refl leaves left
-
   pub gives_next : (r : Option Untold) → NextOf id (lookup (nat_eq id) c.ends.entries) r c.ends.entries c2.ends.entries → Gives (record { set = s; told = told }) r c2
   gives_next r n =
       let x : NextOf id (Some a.k) r c.ends.entries c2.ends.entries = subst (λ o. NextOf id o r c.ends.entries c2.ends.entries) a.found n in
-      gives_by r x.0 (x.1 s.own s.ttl a.h a.mine a.keeps) x.2
+      let y : Tells s.own s.ttl id a.h x.0 x.1 a.mine = x.3.tells s.own s.ttl a.h a.mine a.keeps l.some in
+      subst (λ (o : Option Untold). Gives (record { set = s; told = told }) o c2) (sym x.2) (gives_last x.0 x.1 y.0 y.1 (is_last x.0) y.2 y.3 refl y.4 x.4)
 
 pub gives_first : (c c2 : HeldEnds) (s : SetState) (told : List Told) (id : ℕ) (r : Option Untold) → SameNode c c2 → HeldStands c s told → FirstLoud (Some id) c.ends.entries
     → NextOf id (lookup (nat_eq id) c.ends.entries) r c.ends.entries c2.ends.entries → Gives (record { set = s; told = told }) r c2
@@ -88,8 +84,8 @@ flip (Some x) false e = refl
 
 pub hands_some : (id : ℕ) (o : Option Holder) (k : Holder) (t : Transport) (now : ℕ) (heeded : Bool) (old new : List (ℕ × Holder)) (e2 : EndView) → Some k ≡ o
     → ((x : State) → StandsFor k.end x → heeded ≡ heeds x.phase t) → ((x : State) → StandsFor k.end x → Stands e2 (step x (Arrive t) now))
-    → new ≡ set_value (nat_eq id) old (record k { end = e2 }) → Hands id o t now heeded old new
-hands_some id o k t now heeded old new e2 found hears does left = subst (λ o. Hands id o t now heeded old new) found (e2, hears, does, left)
+    → new ≡ set_value (nat_eq id) old (record k { end = e2 }) → length e2.outs ≤ 256 → Hands id o t now heeded old new
+hands_some id o k t now heeded old new e2 found hears does left few = subst (λ o. Hands id o t now heeded old new) found (e2, hears, does, left, few)
 
 -- ---- an end that a datagram names ----
 not_open : (g e t : Bool) → g ≡ true → (not g && not e && t) ≡ false

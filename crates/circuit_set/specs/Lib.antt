@@ -9,4 +9,7 @@ pub mod Sets
 pub mod Books
 pub mod Runs
 pub mod Pumps
+pub mod Inputs
 pub mod Standing
+pub mod CircuitSets
+pub mod SetTurns

@@ -1,6 +1,6 @@
 -- What a node's code holds of its ends, and which states of their machine it stands for: the machine keeps ends that are gone, too, and
 -- tells at once what the code fetches from its ends one after another.
-use Rattle.std.specs.Prelude.{◌≡◌, ℕ, zero, suc, min, ◌+◌, ◌^◌, ◌-◌, ◌≤◌, ◌⊎◌, Bool, true, false, ◌||◌, ◌&&◌, if◌then◌else◌, List, [], ◌∷◌, ◌++◌, length, slice_get, nat_eq, nat_lt, Option, Some, None, Result, Ok, Err}
+use Rattle.std.specs.Prelude.{◌≡◌, ℕ, zero, suc, min, ◌+◌, ◌*◌, ◌^◌, ◌-◌, ◌≤◌, ◌⊎◌, Bool, true, false, ◌||◌, ◌&&◌, if◌then◌else◌, List, [], ◌∷◌, ◌++◌, length, slice_get, nat_eq, nat_lt, Option, Some, None, is_some, Result, Ok, Err}
 use Rattle.std.specs.Option.{option_map}
 use Rattle.std.specs.Map.{remove_entry, set_value}
 use Rattle.ax_address.specs.Callsign.{Callsign}
@@ -35,7 +35,7 @@ use Rattle.circuit_set.specs.Pairs.{following}
 use Rattle.circuit_set.specs.Sets as sets
 use Rattle.circuit_set.specs.Sets.{SetState, Told, is_over, notices}
 use Rattle.circuit_set.specs.Circuits.{heeds}
-use Rattle.circuit_set.specs.Pumps.{SetTold, Of, Dropped, Lost}
+use Rattle.circuit_set.specs.Pumps.{SetTold, Of, Dropped, Lost, is_empty}
 
 -- ---- what is told ----
 abbrev pub seen : SetEvent → SetTold
@@ -55,9 +55,19 @@ abbrev pub sents_by : Callsign → ℕ → ℕ → Callsign → List Out → Lis
 sents_by own ttl id to [] = []
 sents_by own ttl id to (o ∷ os) = sets.Sent id o.1 (datagram_by own ttl to o.0) ∷ sents_by own ttl id to os
 
-abbrev pub told_of : Callsign → ℕ → Untold → SetTold
-told_of own ttl (untold.Event e) = seen e
-told_of own ttl (untold.Out id number to t) = Of (sets.Sent id number (datagram_by own ttl to t))
+-- what stands for this in the machine: a sending is one that was put out, and isn't told before
+abbrev pub told_by_end : SetEvent → Option Told
+told_by_end (event.Made id pair partner request) = Some (sets.Made id pair partner (option_map (λ d. d.items) request))
+told_by_end (event.Heeded id datagram) = Some (sets.Heeded id datagram.items)
+told_by_end (event.Notice id notice) = Some (sets.Notice id notice)
+told_by_end (event.Gone id facts) = Some (sets.Gone id facts)
+told_by_end (event.Sent id number datagram) = None
+told_by_end (event.Dropped routed) = None
+told_by_end (event.Lost call) = None
+
+abbrev pub told_of : Callsign → ℕ → Untold → Option Told
+told_of own ttl (untold.Event e) = told_by_end e
+told_of own ttl (untold.Out id number to t) = Some (sets.Sent id number (datagram_by own ttl to t))
 
 -- ---- one end ----
 abbrev pub if_so : Bool → Told → List Told
@@ -104,10 +114,6 @@ pub record Keeps (own : Callsign) (ttl id : ℕ) (k : Holder) (h : sets.Holder) 
   pub met : MetBy k.asked going.end
   pub untold : told ≡ untold_of own ttl id k going
 
-abbrev pub is_empty : List Told → Bool
-is_empty [] = true
-is_empty (t ∷ ts) = false
-
 -- it is told that an end is gone: the last that is told of it
 abbrev pub is_last : Untold → Bool
 is_last (untold.Event (event.Gone id facts)) = true
@@ -118,11 +124,10 @@ abbrev pub Leaves : Callsign → ℕ → ℕ → sets.Holder → Holder → List
 Leaves own ttl id h k rest true = (rest ≡ []) × (h.gone ≡ true)
 Leaves own ttl id h k rest false = Keeps own ttl id k h rest
 
--- the first thing that is untold of an end is told, or nothing is untold
-abbrev pub Tells : Callsign → ℕ → ℕ → sets.Holder → Option Untold → Holder → List Told → Type 0
-Tells own ttl id h None k told = (told ≡ []) × Keeps own ttl id k h []
-Tells own ttl id h (Some u) k told =
-    (t : Told) × (rest : List Told) × (told ≡ t ∷ rest) × (told_of own ttl u ≡ Of t) × Leaves own ttl id h k rest (is_last u)
+-- the first thing that is untold of an end is told
+abbrev pub Tells : Callsign → ℕ → ℕ → sets.Holder → Untold → Holder → List Told → Type 0
+Tells own ttl id h u k told =
+    (t : Told) × (rest : List Told) × (told ≡ t ∷ rest) × (told_of own ttl u ≡ Some t) × Leaves own ttl id h k rest (is_last u)
 
 -- ---- all ends ----
 -- an end that is gone, and of which all is told
@@ -220,37 +225,59 @@ abbrev pub FirstFit : (sets.Holder → Bool) → Option ℕ → List (ℕ × Hol
 FirstFit test r [] = r ≡ None
 FirstFit test r (e ∷ es) = ((r ≡ Some e.0) × Fits test e.1 true) ⊎ (Fits test e.1 false × FirstFit test r es)
 
+-- ---- how much is untold ----
+-- by what the code holds: an end itself counts, since it is told once that it is gone
+abbrev pub untold_at : Holder → ℕ
+untold_at k = 1 + (if k.unannounced then 1 else 0) + 2 * length k.end.outs + (if is_some k.end.notice then 1 else 0)
+
+abbrev pub untold_in : List (ℕ × Holder) → ℕ
+untold_in [] = 0
+untold_in (e ∷ es) = untold_at e.1 + untold_in es
+
+-- a sending may come to nothing, which is told next
+abbrev pub cost : Untold → ℕ
+cost (untold.Event e) = 1
+cost (untold.Out id number to t) = 2
+
+-- by as much it has fallen as was told
+abbrev pub FallsBy : Option Untold → ℕ → ℕ → Type 0
+FallsBy None old new = new ≡ old
+FallsBy (Some u) old new = cost u + new ≤ old
+
+-- a datagram brings less than 900
+abbrev pub Brings : ℕ → ℕ → Type 0
+Brings old new = new ≤ old + 900
+
+-- what of an end is untold once this was told of it: it is held no longer once it has told that it is gone
+abbrev pub left_at : Untold → Holder → ℕ
+left_at u k = if is_last u then 0 else untold_at k
+
 -- ---- what is told first ----
 -- the first thing is told of what the set tells, and the rest is left untold; or there is nothing
 abbrev pub Gives : sets.SetDone → Option Untold → HeldEnds → Type 0
 Gives d None c = (d.told ≡ []) × HeldStands c d.set []
 Gives d (Some u) c =
-    (t : Told) × (rest : List Told) × (d.told ≡ t ∷ rest) × (told_of d.set.own d.set.ttl u ≡ Of t) × HeldStands c d.set rest
+    (t : Told) × (rest : List Told) × (d.told ≡ t ∷ rest) × (told_of d.set.own d.set.ttl u ≡ Some t) × HeldStands c d.set rest
 
 -- the ends once this was told of the one with a number, which has come to k
 abbrev pub left_of : ℕ → Bool → List (ℕ × Holder) → Holder → List (ℕ × Holder)
 left_of id true es k = remove_entry (nat_eq id) (set_value (nat_eq id) es k)
 left_of id false es k = set_value (nat_eq id) es k
 
-abbrev pub is_last_of : Option Untold → Bool
-is_last_of None = false
-is_last_of (Some u) = is_last u
+-- an end that has something to tell tells this, and comes to another one
+pub record TellsFirst (id : ℕ) (k : Holder) (u : Untold) (k2 : Holder) : Type 0 where
+  pub tells : (own : Callsign) (ttl : ℕ) (h : sets.Holder) (told : List Told) → Keeps own ttl id k h told → is_empty told ≡ false → Tells own ttl id h u k2 told
+  pub falls : cost u + left_at u k2 ≤ untold_at k
 
--- the end with a number tells what it tells first, where it is held, and has come to another one
+-- so does the end with a number, where it is held
 abbrev pub ToldBy : ℕ → Option Holder → Option Untold → List (ℕ × Holder) → List (ℕ × Holder) → Type 0
 ToldBy id None r old new = (r ≡ None) × (new ≡ old)
-ToldBy id (Some k) r old new =
-    (k2 : Holder)
-    × ((own : Callsign) (ttl : ℕ) (h : sets.Holder) (told : List Told) → Keeps own ttl id k h told → Tells own ttl id h r k2 told)
-    × (new ≡ set_value (nat_eq id) old k2)
+ToldBy id (Some k) r old new = (u : Untold) × (k2 : Holder) × (r ≡ Some u) × TellsFirst id k u k2 × (new ≡ set_value (nat_eq id) old k2)
 
 -- the same, and it is held no longer once it has told that it is gone
 abbrev pub NextOf : ℕ → Option Holder → Option Untold → List (ℕ × Holder) → List (ℕ × Holder) → Type 0
 NextOf id None r old new = (r ≡ None) × (new ≡ old)
-NextOf id (Some k) r old new =
-    (k2 : Holder)
-    × ((own : Callsign) (ttl : ℕ) (h : sets.Holder) (told : List Told) → Keeps own ttl id k h told → Tells own ttl id h r k2 told)
-    × (new ≡ left_of id (is_last_of r) old k2)
+NextOf id (Some k) r old new = (u : Untold) × (k2 : Holder) × (r ≡ Some u) × TellsFirst id k u k2 × (new ≡ left_of id (is_last u) old k2)
 
 -- a transport is handed to the end with a number, where it is held
 abbrev pub Hands : ℕ → Option Holder → Transport → ℕ → Bool → List (ℕ × Holder) → List (ℕ × Holder) → Type 0
@@ -260,6 +287,7 @@ Hands id (Some k) t now heeded old new =
     × ((x : State) → StandsFor k.end x → heeded ≡ heeds x.phase t)
     × ((x : State) → StandsFor k.end x → Stands e2 (end.step x (end.Arrive t) now))
     × (new ≡ set_value (nat_eq id) old (record k { end = e2 }))
+    × (length e2.outs ≤ 256)
 
 -- ---- new ends ----
 -- the pairs of the ends that are held
@@ -286,10 +314,13 @@ abbrev pub Ticks : ℕ → Holder → Holder → Type 0
 Ticks now k k2 =
     (e2 : EndView) × (k2 ≡ record k { end = e2 }) × ((x : State) → StandsFor k.end x → Stands e2 (end.step x end.Tick now))
 
--- so has the one in this place, and all others stay
+-- so has the one in this place, if there is one, and all others stay
+abbrev pub TicksAt : ℕ → ℕ → Option (ℕ × Holder) → List (ℕ × Holder) → List (ℕ × Holder) → Type 0
+TicksAt nth now None old new = new ≡ old
+TicksAt nth now (Some e) old new = (k2 : Holder) × Ticks now e.1 k2 × (new ≡ set_value_at old nth k2)
+
 abbrev pub TicksNth : ℕ → ℕ → List (ℕ × Holder) → List (ℕ × Holder) → Type 0
-TicksNth nth now old new = (e : ℕ × Holder) → slice_get old nth ≡ Some e →
-    (k2 : Holder) × Ticks now e.1 k2 × (new ≡ set_value_at old nth k2)
+TicksNth nth now old new = TicksAt nth now (slice_get old nth) old new
 
 -- the first so many of them have come to others as by a tick, and the rest stays
 abbrev pub TicksTo : ℕ → ℕ → List (ℕ × Holder) → List (ℕ × Holder) → Type 0

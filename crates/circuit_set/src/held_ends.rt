@@ -35,9 +35,10 @@ pub(crate) struct HeldEnds {
 }
 
 impl HeldEnds {
-    ghost use Rattle.circuit_set.specs.Pumps.{ticked};
+    ghost use Rattle.circuit_set.specs.Pumps.{is_empty};
+    ghost use Rattle.circuit_set.specs.Inputs.{ticked};
     ghost use Rattle.circuit_set.specs.Sets.{SetState, Told};
-    ghost use Rattle.circuit_set.specs.Standing.{Gives, Goes, Holds, RestsAt, TicksNth, Hands, HeldStands, NextOf, ToldBy, is_empty, Rests, SameNode, close_answer, discard_answer, message_at, take_answer, write_answer};
+    ghost use Rattle.circuit_set.specs.Standing.{Gives, Goes, Holds, RestsAt, TicksNth, Hands, HeldStands, NextOf, ToldBy, Rests, TicksTo, Brings, FallsBy, untold_in, SameNode, close_answer, discard_answer, message_at, take_answer, write_answer};
 
     fn new_pair(&self) -> Pair
         ensures { (s : SetState) → HeldStands self.now s [] → result ≡ sets.new_pair s }
@@ -90,6 +91,7 @@ impl HeldEnds {
     ) -> Result<Untold, NoMemory>
         requires { self.old.number ≤ COUNT_MAX }
         ensures gives { IfOk result (λ told. (s : SetState) → HeldStands self.old s [] → Gives (sets.responds s origin datagram.items asked window now.0) (Some told) self.new) }
+        ensures few { IfOk result (λ told. Brings (untold_in self.old.ends.entries) (untold_in self.new.ends.entries)) }
     {
         let pair = self.new_pair();
         let end = End::responder(self.alloc, pair, asked, window, self.config, now)?;
@@ -133,6 +135,7 @@ impl HeldEnds {
     ) -> Result<Untold, NoMemory>
         ensures gives { IfOk result (λ told. (s : SetState) → HeldStands self.old s [] →
             Gives (sets.requested_anew s origin datagram.items pair window now.0) (Some told) self.new) }
+        ensures few { IfOk result (λ told. Brings (untold_in self.old.ends.entries) (untold_in self.new.ends.entries)) }
     {
         if self.is_full() {
             return Ok(Untold::Out {
@@ -155,8 +158,11 @@ impl HeldEnds {
         window: u8,
         now: Moment,
     ) -> Result<Option<Untold>, NoMemory>
+        requires { Rests self.old.ends.entries }
         ensures gives { IfOk result (λ told. (s : SetState) → HeldStands self.old s [] →
             Gives (sets.requested s origin datagram.items pair window now.0) told self.new) }
+        ensures rests { IfOk result (λ told. told ≡ None → Rests self.new.ends.entries) }
+        ensures few { IfOk result (λ told. Brings (untold_in self.old.ends.entries) (untold_in self.new.ends.entries)) }
     {
         match opened_by(&self.ends.as_slice(), &origin, pair) {
             Some(id) => Ok(self.accept_again(id, pair)),
@@ -195,6 +201,8 @@ impl HeldEnds {
         ensures same { SameNode self.old self.new }
         ensures gives { (s : SetState) (h : sets.Holder) → HeldStands self.old s [] → sets.end_of id s.ends ≡ Some h → h.gone ≡ false → h.id ≡ id →
             Gives (sets.handed s h datagram.items transport.now now.0) result self.new }
+        ensures rests { result ≡ None → Rests self.new.ends.entries }
+        ensures few { Brings (untold_in self.old.ends.entries) (untold_in self.new.ends.entries) }
     {
         if self.hand(id, transport, now) {
             return Some(Untold::Event(SetEvent::Heeded { id, datagram }));
@@ -214,6 +222,8 @@ impl HeldEnds {
         requires { Rests self.old.ends.entries }
         ensures same { SameNode self.old self.new }
         ensures gives { (s : SetState) → HeldStands self.old s [] → Gives (sets.arrives_at s origin.now datagram.items to transport.now now.0) result self.new }
+        ensures rests { result ≡ None → Rests self.new.ends.entries }
+        ensures few { Brings (untold_in self.old.ends.entries) (untold_in self.new.ends.entries) }
     {
         match named_by(&self.ends.as_slice(), origin, to) {
             Some(id) => self.arrives_at(id, datagram, transport, now),
@@ -232,6 +242,8 @@ impl HeldEnds {
         requires { Rests self.old.ends.entries }
         ensures gives { IfOk result (λ told. (s : SetState) → HeldStands self.old s [] →
             Gives (sets.received s origin datagram.items transport.now now.0) told self.new) }
+        ensures rests { IfOk result (λ told. told ≡ None → Rests self.new.ends.entries) }
+        ensures few { IfOk result (λ told. Brings (untold_in self.old.ends.entries) (untold_in self.new.ends.entries)) }
     {
         match transport {
             Transport::Request {
@@ -295,6 +307,14 @@ impl HeldEnds {
         }
     }
 
+    /// Whether an end of this number is held.
+    pub(crate) fn known(&self, id: u64) -> Result<(), NoEnd> {
+        if self.ends.contains_key(&id) {
+            return Ok(());
+        }
+        Err(NoEnd)
+    }
+
     pub(crate) fn close(&mut self, id: u64, now: Moment) -> Result<(), NoEnd>
         requires { Rests self.old.ends.entries }
         ensures answer { (s : SetState) → HeldStands self.old s [] → result ≡ close_answer (sets.end_of id s.ends) }
@@ -343,7 +363,7 @@ impl HeldEnds {
     pub(crate) fn tick(&mut self, now: Moment)
         requires { Rests self.old.ends.entries }
         ensures same { SameNode self.old self.new }
-        ensures goes { (s : SetState) → HeldStands self.old s [] → HeldStands self.new (ticked s now.0).set (ticked s now.0).told }
+        ensures goes { (s : SetState) → HeldStands self.old s [] → HeldStands self.new (ticked now.0 s).set (ticked now.0 s).told }
     {
         for nth in 0..self.ends.len() {
             self.tick_nth(nth, now);
@@ -364,7 +384,7 @@ impl HeldEnds {
         ensures same { SameNode self.old self.new }
     {
         match self.ends.get_mut(&id) {
-            Some(holder) => holder.next(id),
+            Some(holder) => Some(holder.next(id)),
             None => None,
         }
     }
@@ -384,14 +404,16 @@ impl HeldEnds {
         ensures next { NextOf id (lookup (nat_eq id) self.old.ends.entries) result self.old.ends.entries self.new.ends.entries }
         ensures same { SameNode self.old self.new }
     {
-        let told = self.told_by(id);
+        let told = self.told_by(id)?;
         self.leave(id, is_last(&told));
-        told
+        Some(told)
     }
 
     /// What is told next, of the first end that has something to tell.
     pub(crate) fn next(&mut self) -> Option<Untold>
         ensures gives { (s : SetState) (told : List Told) → HeldStands self.old s told → Gives (record { set = s; told = told }) result self.new }
+        ensures rests { result ≡ None → Rests self.new.ends.entries }
+        ensures falls { FallsBy result (untold_in self.old.ends.entries) (untold_in self.new.ends.entries) }
         ensures same { SameNode self.old self.new }
     {
         match first_untold(&self.ends.as_slice()) {

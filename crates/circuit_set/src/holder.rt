@@ -1,5 +1,5 @@
 //! An end that a node holds.
-ghost use Rattle.std.specs.Prelude.{◌≡◌, ◌||◌, ◌&&◌, not, true, false, Some, None, ℕ, List, nat_lt, length};
+ghost use Rattle.std.specs.Prelude.{◌≡◌, ◌+◌, ◌≤◌, false, ◌||◌, ◌&&◌, not, true, Some, None, ℕ, List, nat_lt, length};
 ghost use Rattle.ax_address.specs.Callsign.{Callsign};
 ghost use Rattle.ax_address.specs.CallOrder.{same_call};
 ghost use Rattle.circuit_l4.specs.EndState.{State};
@@ -9,7 +9,9 @@ ghost use Rattle.circuit_l4.specs.Halves.{first_or};
 ghost use Rattle.circuit_l4.specs.Receiving.{inbox};
 ghost use Rattle.circuit_set.specs.Sets as sets;
 ghost use Rattle.circuit_set.specs.Sets.{Told};
-ghost use Rattle.circuit_set.specs.Standing.{Fits, IsSilent, Keeps, Tells, counted, is_last_of};
+ghost use Rattle.circuit_set.specs.Pumps.{is_empty};
+ghost use Rattle.circuit_set.specs.Standing as last;
+ghost use Rattle.circuit_set.specs.Standing.{Fits, IsSilent, Keeps, Tells, cost, counted, left_at, untold_at};
 
 use crate::SetEvent;
 use ax_address::Call;
@@ -31,10 +33,10 @@ pub(crate) enum Untold {
 }
 
 /// Whether this is the last that an end tells: that it is gone.
-pub(crate) fn is_last(told: &Option<Untold>) -> bool
-    ensures { result ≡ is_last_of told.now }
+pub(crate) fn is_last(told: &Untold) -> bool
+    ensures { result ≡ last.is_last told.now }
 {
-    matches!(told, Some(Untold::Event(SetEvent::Gone { id: _, facts: _ })))
+    matches!(told, Untold::Event(SetEvent::Gone { id: _, facts: _ }))
 }
 
 /// An end, and what no call of it tells.
@@ -158,35 +160,34 @@ impl Holder {
         self.end.drained() && !self.is_gone()
     }
 
-    /// What it tells next: that it was made, what it puts out, its notice, that it is gone, in this order.
-    pub(crate) fn next(&mut self, id: u64) -> Option<Untold>
-        ensures { (own : Callsign) (ttl : ℕ) (h : sets.Holder) (told : List Told) → Keeps own ttl id self.old h told →
-            Tells own ttl id h result self.new told }
+    /// What it tells next, where it has something to tell: that it was made, what it puts out, its notice, that it is gone, in this
+    /// order.
+    pub(crate) fn next(&mut self, id: u64) -> Untold
+        ensures tells { (own : Callsign) (ttl : ℕ) (h : sets.Holder) (told : List Told) → Keeps own ttl id self.old h told →
+            is_empty told ≡ false → Tells own ttl id h result self.new told }
+        ensures falls { cost result + left_at result self.new ≤ untold_at self.old }
     {
         if self.unannounced {
             self.unannounced = false;
-            return Some(Untold::Event(SetEvent::Made {
+            return Untold::Event(SetEvent::Made {
                 id,
                 pair: self.pair,
                 partner: self.at,
                 request: None,
-            }));
+            });
         }
         if let Some((transport, number)) = self.end.next_out() {
-            return Some(Untold::Out {
+            return Untold::Out {
                 id,
                 number,
                 to: self.at,
                 transport,
-            });
+            };
         }
         if let Some(notice) = self.end.notice() {
-            return Some(Untold::Event(SetEvent::Notice { id, notice }));
+            return Untold::Event(SetEvent::Notice { id, notice });
         }
-        if self.is_gone() {
-            let facts = self.end.facts();
-            return Some(Untold::Event(SetEvent::Gone { id, facts }));
-        }
-        None
+        let facts = self.end.facts();
+        Untold::Event(SetEvent::Gone { id, facts })
     }
 }

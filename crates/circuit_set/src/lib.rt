@@ -1,6 +1,7 @@
 //! The circuits of a node, and what holds of circuits over every schedule.
 #![tactic(auto)]
 
+mod asked;
 mod event;
 mod finding;
 mod heeding;
