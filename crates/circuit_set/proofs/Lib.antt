@@ -42,4 +42,9 @@ pub mod Arriving
 pub mod Making
 pub mod Ticking
 pub mod Counting
+pub mod Pumping
+pub mod Owning
+pub mod Turning
+pub mod Asking
+pub mod Looping
 pub mod ByInputs

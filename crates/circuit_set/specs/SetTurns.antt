@@ -1,5 +1,5 @@
 -- What the inner functions of a set do, of which a call of `pump` is made.
-use Rattle.std.specs.Prelude.{◌≡◌, ℕ, ◌+◌, ◌<◌, List, [], ◌∷◌, ◌++◌, length, map, Option, Some, None}
+use Rattle.std.specs.Prelude.{◌≡◌, ℕ, ◌+◌, ◌<◌, ◌≤◌, List, [], ◌∷◌, ◌++◌, length, map, Option, Some, None, is_some, true}
 use Rattle.ax_address.specs.Callsign.{Callsign}
 use Rattle.route_table.specs.Log.{Item}
 use Rattle.route_table.specs.Held.{StandsFor}
@@ -16,9 +16,9 @@ use Rattle.circuit_set.specs.declared.holder.Untold.{Untold}
 use Rattle.circuit_set.specs.declared.asked.Asked.{Asked}
 use Rattle.circuit_set.specs.declared.asked.Asked.TheVariants.{Told as Heard, Silent, Idle}
 use Rattle.circuit_set.specs.Sets.{SetState, Told}
-use Rattle.circuit_set.specs.Pumps.{Pumped, asks, at_rest, ends_with, heard_as, hears_lost, silent, takes, tells_first, tells_on, turned}
-use Rattle.circuit_set.specs.Standing.{told_of}
-use Rattle.circuit_set.specs.CircuitSets.{Circuits, DoesPump, SetStands}
+use Rattle.circuit_set.specs.Pumps.{Pumped, after_calls, asks, at_rest, ends_with, heard_as, hears_lost, silent, takes, tells_first, tells_on, turned}
+use Rattle.circuit_set.specs.Standing.{Rests, told_of}
+use Rattle.circuit_set.specs.CircuitSets.{Circuits, DoesPump, SetStands, untold_by}
 
 -- what is told after a sending that came to nothing
 abbrev pub came_to_nothing : Sending → Option Routed
@@ -36,6 +36,11 @@ abbrev pub event_of : Asked → Option SetEvent
 event_of (Heard event) = Some event
 event_of Silent = None
 event_of Idle = None
+
+-- a lost neighbour is told
+abbrev pub TellsLost : Routed → Option SetEvent → Type 0
+TellsLost (routed.Lost call) told = is_some told ≡ true
+TellsLost _ told = Unit {0}
 
 -- it is silent where a datagram waited and no neighbour was lost, and idle where there was neither
 abbrev pub IsAsked : List Callsign → List Parcel → Asked → Type 0
@@ -79,3 +84,24 @@ module _ {C : Type 0} (made : C → List CarrierCall → C → Type 0) where
       × (map (λ p. p.0) parcels ≡ waiting)
       × ((log : List Item) (s : SetState) → StandsFor old.router.table log → SetStands old (at_rest s)
       → DoesPump made old new log result (asks (next_hop old.router.table.rules log) now s lost parcels))
+
+  -- Nothing was told since the old set, from which these parcels were taken: whatever comes then, the call goes on from here.
+  pub record Onward (old mid : Circuits C) (log : List Item) (now : ℕ) (s : SetState) (lost : List Callsign) (done : List (Parcel × Offered)) : Type 0 where
+    pub state : SetState
+    pub calls : List CarrierCall
+    pub stands : SetStands mid (at_rest state)
+    pub table : StandsFor mid.router.table log
+    pub called : made old.router.carrier calls mid.router.carrier
+    pub goes : (rest : List (Parcel × Offered)) → asks (next_hop old.router.table.rules log) now s lost (done ++ rest)
+        ≡ after_calls calls (asks (next_hop old.router.table.rules log) now state lost rest)
+
+  pub record SoFar (lost : C → List Callsign) (waiting : C → List Parcel) (old mid : Circuits C) (now : ℕ) : Type 0 where
+    pub done : List (Parcel × Offered)
+    pub taken : waiting old.router.carrier ≡ map (λ p. p.0) done ++ waiting mid.router.carrier
+    pub lost_stay : lost mid.router.carrier ≡ lost old.router.carrier
+    pub onward : (log : List Item) (s : SetState) → StandsFor old.router.table log → SetStands old (at_rest s) → Onward old mid log now s (lost old.router.carrier) done
+    pub rests : Rests mid.held.ends.entries
+    pub told : mid.lost ≡ None
+    pub router : SameRouter old.router mid.router
+    pub spent : mid.spent ≡ old.spent
+    pub less : untold_by (lost mid.router.carrier) (waiting mid.router.carrier) mid ≤ untold_by (lost old.router.carrier) (waiting old.router.carrier) old

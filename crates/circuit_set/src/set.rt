@@ -95,7 +95,7 @@ impl<C: Carrier> CircuitSet<C> {
     ghost use Rattle.route_table.specs.Log.{Item};
     ghost use Rattle.route_table.specs.Held.{StandsFor};
     ghost use Rattle.route_table.specs.Table.{next_hop};
-    ghost use Rattle.l3_datagram.specs.Datagrams.{datagram_with};
+    ghost use Rattle.l3_datagram.specs.Datagrams.{SpellsDatagram, datagram_with};
     ghost use Rattle.l3_datagram.specs.Routers.{IsFor, MineIsFor, SameRouter, waiting_left};
     ghost use Rattle.l3_datagram.specs.contracts.router.Router.{the_row as router_row};
     ghost use Rattle.circuit_set.specs.contracts.set.CircuitSet.{the_row};
@@ -108,7 +108,7 @@ impl<C: Carrier> CircuitSet<C> {
     ghost use Rattle.circuit_set.specs.Inputs.{connect_answer, ticks};
     ghost use Rattle.circuit_set.specs.Standing.{Brings, Rests, close_answer, cost, discard_answer, message_at, take_answer, untold_in, write_answer};
     ghost use Rattle.circuit_set.specs.CircuitSets.{Circuits, Falls, Goes, GoesBy, IsDrained, LentStands, Pumps, SetStands, facts_at, held_ids, partner_at};
-    ghost use Rattle.circuit_set.specs.SetTurns.{Asks, AsksOnce, IsAsked, SameLists, TakesIn, Tells, event_of};
+    ghost use Rattle.circuit_set.specs.SetTurns.{Asks, AsksOnce, IsAsked, SameLists, TakesIn, Tells, TellsLost, event_of};
 
     /// Asks for a circuit with a node, and gives the number of the end that is made for it.
     pub fn connect(&mut self, node: &Call, now: Moment) -> Result<u64, ConnectRefusal>
@@ -226,7 +226,8 @@ impl<C: Carrier> CircuitSet<C> {
     /// The datagram in which a transport goes to a node.
     fn datagram(&self, to: &Call, transport: &[u8]) -> Datagram
         requires { length transport.now ≤ 241 }
-        ensures { result ≡ datagram_with (record { origin = self.now.router.own; dest = to.now; ttl = self.now.router.ttl }) transport.now }
+        ensures exact { result ≡ datagram_with (record { origin = self.now.router.own; dest = to.now; ttl = self.now.router.ttl }) transport.now }
+        ensures spelled { SpellsDatagram (record { origin = self.now.router.own; dest = to.now; ttl = self.now.router.ttl }) transport.now result.items }
     {
         let head = DatagramHead {
             origin: self.router.own(),
@@ -283,6 +284,7 @@ impl<C: Carrier> CircuitSet<C> {
         requires rests { Rests self.old.held.ends.entries }
         requires lost { self.old.lost ≡ None }
         ensures takes { IfOk result (TakesIn C.made self.old self.new routed now.0) }
+        ensures loud { IfOk result (TellsLost routed) }
         ensures rests { IfOk result (λ told. told ≡ None → Rests self.new.held.ends.entries × (self.new.lost ≡ None)) }
         ensures few { OnOk result (Brings (untold_in self.old.held.ends.entries) (untold_in self.new.held.ends.entries)) }
         ensures lists { OnOk result (SameLists C.lost C.waiting self.old self.new) }
