@@ -47,4 +47,5 @@ pub mod Owning
 pub mod Turning
 pub mod Asking
 pub mod Looping
+pub mod GoingOn
 pub mod ByInputs

@@ -126,7 +126,7 @@ abbrev pub answered : List Parcel → Offered → List (Parcel × Offered)
 answered [] answer = []
 answered (p ∷ ps) answer = (p, answer) ∷ all_taken ps
 
-firsts-taken : (ps : List Parcel) → firsts (all_taken ps) ≡ ps
+pub firsts-taken : (ps : List Parcel) → firsts (all_taken ps) ≡ ps
 firsts-taken [] = refl
 firsts-taken (p ∷ ps) = ap (λ xs. p ∷ xs) (firsts-taken ps)
 
