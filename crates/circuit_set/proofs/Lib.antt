@@ -48,4 +48,5 @@ pub mod Turning
 pub mod Asking
 pub mod Looping
 pub mod GoingOn
+pub mod Looking
 pub mod ByInputs

@@ -17,7 +17,7 @@ use Rattle.circuit_set.specs.declared.held_ends.HeldEnds.{HeldEnds}
 use Rattle.circuit_set.specs.Sets.{Act, Holder, SetState}
 use Rattle.circuit_set.specs.Pumps.{Pumped, Waiting, at_rest, pumped}
 use Rattle.circuit_set.specs.Inputs.{acts}
-use Rattle.circuit_set.specs.Standing.{HeldStands, Rests, seen, untold_in}
+use Rattle.circuit_set.specs.Standing.{HeldStands, Rests, SameNode, seen, untold_in}
 
 -- what contracts see of a set
 pub record Circuits (C : Type 0) : Type 0 where
@@ -46,6 +46,16 @@ pub record Goes {C : Type 0} (old new : Circuits C) (to : SetState → Waiting) 
 
 abbrev pub GoesBy : {C : Type 0} → Act → Circuits C → Circuits C → Type 0
 GoesBy a old new = Goes old new (λ s. acts a (at_rest s))
+
+-- All that a refusal leaves: the set stands for what it stood for. (How much room its map has isn't said.)
+pub record IsUnchanged {C : Type 0} (old new : Circuits C) : Type 0 where
+  pub router : new.router ≡ old.router
+  pub lost : new.lost ≡ old.lost
+  pub spent : new.spent ≡ old.spent
+  pub node : SameNode old.held new.held
+  pub ends : new.held.ends.entries ≡ old.held.ends.entries
+  pub stands : (w : Waiting) → SetStands old w → SetStands new w
+  pub drained : IsDrained old → IsDrained new
 
 -- ---- a call of `pump` ----
 module _ {C : Type 0} (made : C → List CarrierCall → C → Type 0) where

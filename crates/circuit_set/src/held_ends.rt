@@ -1,5 +1,5 @@
 //! The ends that a node holds, by number.
-ghost use Rattle.std.specs.Prelude.{◌≡◌, ◌≤◌, ◌<◌, ℕ, true, false, List, [], ◌∷◌, Some, None, nat_eq, is_some, if◌then◌else◌, OnOk, IfOk, OnErr, IsOk, length};
+ghost use Rattle.std.specs.Prelude.{◌≡◌, ◌≤◌, ◌<◌, ℕ, true, false, List, [], ◌∷◌, Some, None, nat_eq, is_some, if◌then◌else◌, OnOk, IfOk, OnErr, IsErrOf, IsOk, length};
 ghost use Rattle.std.specs.Map.{lookup, remove_entry};
 ghost use Rattle.radio_base.specs.declared.modulus.TheConstants.{COUNT_MAX};
 ghost use Rattle.circuit_l4.specs.EndOpening.{IsConfig};
@@ -37,6 +37,7 @@ pub(crate) struct HeldEnds {
 impl HeldEnds {
     ghost use Rattle.circuit_set.specs.Pumps.{is_empty};
     ghost use Rattle.circuit_set.specs.Inputs.{ticked};
+    ghost use Rattle.circuit_set.specs.declared.event.SetRefusal.TheVariants as refusals;
     ghost use Rattle.circuit_set.specs.Sets.{SetState, Told};
     ghost use Rattle.circuit_set.specs.Standing.{Gives, Goes, Holds, RestsAt, TicksNth, Hands, HeldStands, NextOf, ToldBy, Rests, TicksTo, Brings, FallsBy, untold_in, SameNode, close_answer, discard_answer, message_at, take_answer, write_answer};
 
@@ -281,6 +282,7 @@ impl HeldEnds {
     pub(crate) fn write(&mut self, id: u64, message: &[u8], now: Moment) -> Result<(), SetRefusal>
         requires { Rests self.old.ends.entries }
         ensures answer { (s : SetState) → HeldStands self.old s [] → result ≡ write_answer (sets.end_of id s.ends) message.now }
+        ensures memory { IsErrOf result refusals.NoMemory → ⊥ }
         ensures same { SameNode self.old self.new }
         ensures err { OnErr result (self.new.ends.entries ≡ self.old.ends.entries) }
         ensures goes { OnOk result (Goes (sets.Calls id (sets.Writes message.now) now.0) self.old self.new) }

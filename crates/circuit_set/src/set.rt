@@ -107,7 +107,7 @@ impl<C: Carrier> CircuitSet<C> {
     ghost use Rattle.circuit_set.specs.Pumps.{Waiting, at_rest, is_drained};
     ghost use Rattle.circuit_set.specs.Inputs.{connect_answer, ticks};
     ghost use Rattle.circuit_set.specs.Standing.{Brings, Rests, close_answer, cost, discard_answer, message_at, take_answer, untold_in, write_answer};
-    ghost use Rattle.circuit_set.specs.CircuitSets.{Circuits, Falls, Goes, GoesBy, IsDrained, LentStands, Pumps, SetStands, facts_at, held_ids, partner_at};
+    ghost use Rattle.circuit_set.specs.CircuitSets.{Circuits, Falls, Goes, GoesBy, IsDrained, IsUnchanged, LentStands, Pumps, SetStands, facts_at, held_ids, partner_at};
     ghost use Rattle.circuit_set.specs.SetTurns.{Asks, AsksOnce, IsAsked, SameLists, TakesIn, Tells, TellsLost, event_of};
 
     /// Asks for a circuit with a node, and gives the number of the end that is made for it.
@@ -345,7 +345,7 @@ impl<C: Carrier> CircuitSet<C> {
         requires { IsDrained self.old }
         ensures answer { (s : SetState) → SetStands self.old (at_rest s) → result ≡ write_answer (sets.end_of id s.ends) message.now }
         ensures goes { OnOk result (GoesBy (sets.Calls id (sets.Writes message.now) now.0) self.old self.new) }
-        ensures err { OnErr result (self.new ≡ self.old) }
+        ensures err { OnErr result (IsUnchanged self.old self.new) }
         ensures memory { IsErrOf result refusals.NoMemory ↔ IsTrue self.old.spent }
     {
         if self.spent {
@@ -385,7 +385,7 @@ impl<C: Carrier> CircuitSet<C> {
         requires { IsDrained self.old }
         ensures answer { (s : SetState) → SetStands self.old (at_rest s) → result ≡ discard_answer (sets.end_of id s.ends) }
         ensures goes { OnOk result (GoesBy (sets.Discard id) self.old self.new) }
-        ensures err { OnErr result (self.new ≡ self.old) }
+        ensures err { OnErr result (IsUnchanged self.old self.new) }
     {
         self.held.discard(id)
     }

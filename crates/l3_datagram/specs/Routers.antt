@@ -9,7 +9,7 @@ use Rattle.l3_datagram.specs.declared.carrier.Offered.{Offered}
 use Rattle.l3_datagram.specs.declared.datagram.DatagramHead.{DatagramHead}
 use Rattle.l3_datagram.specs.Datagrams.{head_at}
 use Rattle.l3_datagram.specs.declared.routed.Routed.{Routed}
-use Rattle.l3_datagram.specs.declared.routed.Routed.TheVariants.{Mine}
+use Rattle.l3_datagram.specs.declared.routed.Routed.TheVariants.{Lost, Mine}
 use Rattle.l3_datagram.specs.declared.routed.Sending.{Sending}
 use Rattle.l3_datagram.specs.CarrierCall.{CarrierCall, Datagram, Parcel}
 use Rattle.l3_datagram.specs.Hops.{Way, way, told_of, offers_of, Pumping, pumping, Sent, sending_to}
@@ -88,6 +88,11 @@ MineIsFor own _ = Unit {0}
 abbrev pub HandsUp : Callsign → Option Routed → Type 0
 HandsUp own None = Unit {0}
 HandsUp own (Some routed) = MineIsFor own routed
+
+-- a lost neighbour is told first
+abbrev pub TellsLost : List Callsign → Option Routed → Type 0
+TellsLost [] told = Unit {0}
+TellsLost (neighbour ∷ _) told = told ≡ Some (Lost neighbour)
 
 -- the call, the hops and the rules of the table stay
 pub record SameRouter {C : Type 0} (old new : Routing C) : Type 0 where

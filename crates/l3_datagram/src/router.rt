@@ -34,7 +34,7 @@ impl<C> Model for Router<C> {
 }
 
 impl<C: Carrier> Router<C> {
-    ghost use Rattle.l3_datagram.specs.Routers.{Routing, Routes, Pumps, Sends, SameRouter, HandsUp, MineIsFor, NoneWhereEmpty, waiting_left};
+    ghost use Rattle.l3_datagram.specs.Routers.{Routing, Routes, Pumps, Sends, SameRouter, HandsUp, MineIsFor, NoneWhereEmpty, TellsLost, waiting_left};
     ghost use Rattle.l3_datagram.specs.CarrierCall.{Offer};
     ghost use Rattle.l3_datagram.specs.Datagrams.{datagram_with};
     ghost use Rattle.l3_datagram.specs.contracts.router.Router.{the_row};
@@ -89,6 +89,7 @@ impl<C: Carrier> Router<C> {
     pub fn pump(&mut self, now: Moment) -> Result<Option<Routed>, NoMemory>
         ensures pumps { IfOk result (Pumps C.made self.old self.new (C.lost self.old.carrier) (C.waiting self.old.carrier) now.0) }
         ensures mine { IfOk result (HandsUp self.old.own) }
+        ensures first { IfOk result (TellsLost (C.lost self.old.carrier)) }
         ensures none { IfOk result (NoneWhereEmpty (C.lost self.old.carrier) (C.waiting self.old.carrier)) }
         ensures lost { IfOk result (λ _. C.lost self.new.carrier ≡ drop 1 (C.lost self.old.carrier)) }
         ensures waiting { IfOk result (λ _. C.waiting self.new.carrier ≡ waiting_left (C.lost self.old.carrier) (C.waiting self.old.carrier)) }
