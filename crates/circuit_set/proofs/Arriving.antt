@@ -1,7 +1,7 @@
 -- A transport that is handed to an end is a step of the machine of ends.
-use Rattle.std.specs.Prelude.{◌≡◌, ℕ, suc, min, ◌≤◌, Bool, true, false, not, nat_eq, if◌then◌else◌, List, [], ◌∷◌, ◌++◌, Option, Some, None, refl}
-use Rattle.std.proofs.Common.{sym, ◌∙◌, ap, subst, arith}
-use Rattle.std.specs.Map.{lookup, set_value}
+use Rattle.std.specs.Prelude.{◌≡◌, ℕ, min, Bool, true, false, nat_eq, if◌then◌else◌, List, [], ◌∷◌, Option, Some, None, refl}
+use Rattle.std.proofs.Common.{sym, ◌∙◌, ap, subst}
+use Rattle.std.specs.Map.{lookup}
 use Rattle.radio_base.specs.declared.modulus.TheConstants.{COUNT_MAX}
 use Rattle.ax_address.specs.Callsign.{Callsign}
 use Rattle.arrayvec.specs.ArrayVec.{ArrayVec}
@@ -13,7 +13,7 @@ use Rattle.circuit_l4.specs.declared.plain.EndPhase.TheVariants.{Connecting, Up,
 use Rattle.circuit_l4.specs.declared.plain.EndNotice.TheVariants.{Opened}
 use Rattle.circuit_l4.specs.EndMoves.{on_state, begin_to_close, is_done, note}
 use Rattle.circuit_l4.specs.EndState.{Effect, State, begin}
-use Rattle.circuit_l4.specs.EndStanding.{EndView, Stands, StandsFor}
+use Rattle.circuit_l4.specs.EndStanding.{StandsFor}
 use Rattle.circuit_l4.specs.EndTable.{Arrive, common_window, arrive_in, come_up, step}
 use Rattle.circuit_set.specs.declared.event.SetEvent.TheVariants as event
 use Rattle.circuit_set.specs.declared.holder.Holder.{Holder}
@@ -24,7 +24,7 @@ use Rattle.circuit_set.specs.Circuits.{heeds}
 use Rattle.circuit_set.specs.Sets as sets
 use Rattle.circuit_set.specs.Sets.{SetDone, SetState, Told, arrives_at, end_of, first_open, goes_to, handed, named_by}
 use Rattle.circuit_set.specs.Standing.{FirstFit, Gives, Hands, HeldStands, SameNode, counted, of_holder}
-use Rattle.circuit_set.proofs.Sends.{Named, either_going, names}
+use Rattle.circuit_set.proofs.Sends.{Named, either_going}
 use Rattle.circuit_set.proofs.Names.{step_same}
 use Rattle.circuit_set.proofs.Taken.{taken_same}
 use Rattle.circuit_set.proofs.Meeting.{asked_step}
@@ -67,7 +67,7 @@ module _ (c c2 : HeldEnds) (id : ℕ) (t : Transport) (now : ℕ) (b : Bool) (sa
       let e : w ≡ h = cc z in
       let stands : StandsFor k.end x = stood k.end f.g f.stands in
       let done : HeldStands c2 (goes_to s w [] (step x (Arrive t) now)).set (goes_to s w [] (step x (Arrive t) now)).told =
-          f.to (step x (Arrive t) now) (does x stands) (arrive_pair x t now ∙ f.pair) (f.taken ∙ ap counted (sym (taken_same x (Arrive t) now tt))) (asked_step k.asked x (Arrive t) now f.met) in
+      f.to (step x (Arrive t) now) (does x stands) (arrive_pair x t now ∙ f.pair) (f.taken ∙ ap counted (sym (taken_same x (Arrive t) now tt))) (asked_step k.asked x (Arrive t) now f.met) in
       record {
         hears = hears x stands ∙ ap (λ (y : sets.Holder). heeds y.end.phase t) e;
         stands = subst (λ (y : sets.Holder). HeldStands c2 (goes_to s y [] (step y.end (Arrive t) now)).set (goes_to s y [] (step y.end (Arrive t) now)).told) e done;
@@ -104,7 +104,7 @@ arrives_none c s origin d to t now st f =
     none_case c s d t now st (first_open (named_by origin to) s.ends) none
   where
     none_case : (c : HeldEnds) (s : SetState) (d : List ℕ) (t : Transport) (now : ℕ) → HeldStands c s [] → (o : Option sets.Holder) → o ≡ None
-        → Gives (elim o as (λ x. SetDone) [ | Some h ↦ handed s h d t now | None ↦ sets.untold s ]) None c
+        → Gives (elim o as (λ x. SetDone) [ Some h ↦ handed s h d t now | None ↦ sets.untold s ]) None c
     none_case c s d t now st None e = (refl, st)
     none_case c s d t now st (Some h) e = absurd (cc e)
 
@@ -115,6 +115,6 @@ arrives_some c c2 s origin d to t now id r st f gives =
     some_case (first_open (named_by origin to) s.ends) x.h x.first (gives x.h x.end x.held x.number)
   where
     some_case : (o : Option sets.Holder) (h : sets.Holder) → o ≡ Some h → Gives (handed s h d t now) r c2
-        → Gives (elim o as (λ x. SetDone) [ | Some h ↦ handed s h d t now | None ↦ sets.untold s ]) r c2
+        → Gives (elim o as (λ x. SetDone) [ Some h ↦ handed s h d t now | None ↦ sets.untold s ]) r c2
     some_case None h e g = absurd (cc e)
     some_case (Some y) h e g = let same : h ≡ y = cc (sym e) in subst (λ (y : sets.Holder). Gives (handed s y d t now) r c2) same g

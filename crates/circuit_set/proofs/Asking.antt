@@ -1,8 +1,7 @@
 -- The router is asked once, and again until something is told.
-use Rattle.std.specs.Prelude.{◌≡◌, ℕ, zero, suc, ◌+◌, ◌*◌, ◌-◌, ◌<◌, ◌≤◌, Bool, true, false, if◌then◌else◌, List, [], ◌∷◌, ◌++◌, drop, length, map, Option, Some, None, is_some, refl}
-use Rattle.std.specs.Option.{option_map}
-use Rattle.std.proofs.Common.{sym, ◌∙◌, ap, subst, arith}
-use Rattle.std.proofs.lemmas.List.{append-nil, append_assoc}
+use Rattle.std.specs.Prelude.{◌≡◌, ℕ, List, [], ◌∷◌, ◌++◌, Option, Some, None, refl}
+use Rattle.std.proofs.Common.{sym, ◌∙◌, ap, subst}
+use Rattle.std.proofs.lemmas.List.{append-nil}
 use Rattle.ax_address.specs.Callsign.{Callsign}
 use Rattle.route_table.specs.Log.{Item, Failure}
 use Rattle.route_table.specs.Held.{StandsFor}
@@ -12,19 +11,16 @@ use Rattle.l3_datagram.specs.declared.carrier.Offered.{Offered}
 use Rattle.l3_datagram.specs.declared.carrier.Offered.TheVariants as offered
 use Rattle.l3_datagram.specs.declared.routed.Routed.{Routed}
 use Rattle.l3_datagram.specs.declared.routed.Routed.TheVariants as routed
-use Rattle.l3_datagram.specs.CarrierCall.{CarrierCall, Collect, Datagram, Fail, Parcel}
+use Rattle.l3_datagram.specs.CarrierCall.{CarrierCall, Collect, Fail, Parcel}
 use Rattle.l3_datagram.specs.Hops.{Way, Ends, GoesOn, forwarded_by, offers_of, pumping, told_of, way}
 use Rattle.l3_datagram.specs.Routers as routers
 use Rattle.l3_datagram.specs.Routers.{NoneWhereEmpty, Routing, SameRouter, waiting_left}
-use Rattle.circuit_set.specs.declared.asked.Asked.{Asked}
 use Rattle.circuit_set.specs.declared.event.SetEvent.{SetEvent}
-use Rattle.circuit_set.specs.Sets.{SetState, Told}
-use Rattle.circuit_set.specs.Pumps.{Of, Pumped, Turn, Turned, after_calls, asks, at_rest, ends_with, heard_as, hears_by, hears_lost, offer_of, outcome, silent, speaks, takes, takes_all, tells_on}
-use Rattle.circuit_set.specs.Pumps.{Lost, Dropped}
-use Rattle.circuit_set.specs.Standing.{seen}
+use Rattle.circuit_set.specs.Sets.{SetState}
+use Rattle.circuit_set.specs.Pumps.{Pumped, Turn, Turned, after_calls, at_rest, ends_with, heard_as, hears_by, hears_lost, offer_of, outcome, speaks, takes, tells_on}
+use Rattle.circuit_set.specs.Pumps.{Lost}
 use Rattle.circuit_set.specs.CircuitSets.{Circuits, DoesPump, SetStands}
 use Rattle.circuit_set.specs.SetTurns.{asks_once}
-use Rattle.circuit_set.proofs.Pumping.{with_router}
 
 -- the answer to what was offered: by the router, but where a datagram was for this node
 abbrev pub pick : Routed → Offered → Offered → Offered
@@ -87,8 +83,8 @@ module _ {C : Type 0} (made : C → List CarrierCall → C → Type 0) (more_mad
       → routers.DoesPump made old.router r1 log None (pumping old.router.own nh lost waiting now a) → DoesPump made old mid log None (asks_once nh now s lost waiting a)
   asks_none a lost waiting e f does =
       let at : routers.DoesPump made old.router r1 log None (pumping old.router.own nh [] [] now a) =
-          subst (λ (l : List Callsign). routers.DoesPump made old.router r1 log None (pumping old.router.own nh l [] now a)) e
-          (subst (λ (w : List Parcel). routers.DoesPump made old.router r1 log None (pumping old.router.own nh lost w now a)) f does) in
+      subst (λ (l : List Callsign). routers.DoesPump made old.router r1 log None (pumping old.router.own nh l [] now a)) e
+      (subst (λ (w : List Parcel). routers.DoesPump made old.router r1 log None (pumping old.router.own nh lost w now a)) f does) in
       let done : DoesPump made old mid log None (asks_once nh now s [] [] a) = record { told = refl; calls = at.calls; table = at.table; stands = mid_stands } in
       subst (λ (l : List Callsign). DoesPump made old mid log None (asks_once nh now s l waiting a)) (sym e)
       (subst (λ (w : List Parcel). DoesPump made old mid log None (asks_once nh now s [] w a)) (sym f) done)
@@ -100,7 +96,7 @@ module _ {C : Type 0} (made : C → List CarrierCall → C → Type 0) (more_mad
   asks_lost n r b e is called x =
       let nh2 : Callsign → Option Callsign = next_hop r1.table.rules (log ++ Failure n ∷ []) in
       let y : DoesPump made mid new (log ++ Failure n ∷ []) e (ends_with [] (speaks (Lost n) (at_rest s))) =
-          subst (λ (q : Routed). DoesPump made mid new (log ++ Failure n ∷ []) e (tells_on nh2 now (heard_as now (at_rest s) q) b)) is x in
+      subst (λ (q : Routed). DoesPump made mid new (log ++ Failure n ∷ []) e (tells_on nh2 now (heard_as now (at_rest s) q) b)) is x in
       record {
         told = y.told;
         calls = more_made old.router.carrier r1.carrier new.router.carrier (Fail (Some n) ∷ []) [] called y.calls;
@@ -115,7 +111,7 @@ module _ {C : Type 0} (made : C → List CarrierCall → C → Type 0) (more_mad
       → DoesPump made old new log e (takes nh now s p (pick r a b))
   asks_parcel p r a b e is called x =
       let y : DoesPump made mid new log e (tells_on nh now (heard_as now (at_rest s) r) b) =
-          subst (λ (rules : RouteRules). DoesPump made mid new log e (tells_on (nh_of rules) now (heard_as now (at_rest s) r) b)) same.node.rules x in
+      subst (λ (rules : RouteRules). DoesPump made mid new log e (tells_on (nh_of rules) now (heard_as now (at_rest s) r) b)) same.node.rules x in
       let calls : List CarrierCall = Fail None ∷ Collect (Some p) ∷ offers_of (way s.own nh p.1) now a in
       let all : DoesPump made old new log e (after_calls calls (tells_on nh now (heard_as now (at_rest s) r) b)) = record {
         told = y.told;
@@ -139,5 +135,5 @@ module _ {C : Type 0} (made : C → List CarrierCall → C → Type 0) (more_mad
       let is : r ≡ told_of (way old.router.own nh p.1) a = cc z in
       let is2 : r ≡ told_of (way s.own nh p.1) a = is ∙ ap (λ (o : Callsign). told_of (way o nh p.1) a) (sym st.own) in
       let called : made old.router.carrier (Fail None ∷ Collect (Some p) ∷ offers_of (way s.own nh p.1) now a) r1.carrier =
-          subst (λ (o : Callsign). made old.router.carrier (Fail None ∷ Collect (Some p) ∷ offers_of (way o nh p.1) now a) r1.carrier) (sym st.own) does.calls in
+      subst (λ (o : Callsign). made old.router.carrier (Fail None ∷ Collect (Some p) ∷ offers_of (way o nh p.1) now a) r1.carrier) (sym st.own) does.calls in
       asks_parcel p r a b e is2 called (x log (subst (λ (l : List Item). StandsFor r1.table l) (append-nil log) does.table))

@@ -1,6 +1,5 @@
 -- A call of `pump`: what is untold, or what comes of the router.
-use Rattle.std.specs.Prelude.{◌≡◌, ℕ, Bool, true, false, List, [], ◌∷◌, ◌++◌, map, Option, Some, None, Result, Ok, Err, IfOk, refl}
-use Rattle.std.specs.Option.{option_map}
+use Rattle.std.specs.Prelude.{◌≡◌, ℕ, List, [], ◌∷◌, Option, Some, None, Result, Ok, Err, IfOk, refl}
 use Rattle.std.proofs.Common.{sym, ◌∙◌, ap, subst}
 use Rattle.std.proofs.lemmas.List.{append-nil}
 use Rattle.radio_base.specs.declared.errors.NoMemory.{NoMemory}
@@ -17,8 +16,8 @@ use Rattle.circuit_set.specs.declared.event.SetEvent.TheVariants as event
 use Rattle.circuit_set.specs.declared.held_ends.HeldEnds.{HeldEnds}
 use Rattle.circuit_set.specs.declared.holder.Untold.{Untold}
 use Rattle.circuit_set.specs.Sets.{SetState, Told}
-use Rattle.circuit_set.specs.Pumps.{Dropped, Pumped, Waiting, asks, at_rest, ends_with, pumped, tells_first, turned}
-use Rattle.circuit_set.specs.Standing.{Gives, HeldStands, told_of}
+use Rattle.circuit_set.specs.Pumps.{Dropped, Pumped, asks, at_rest, ends_with, pumped, tells_first, turned}
+use Rattle.circuit_set.specs.Standing.{Gives, HeldStands}
 use Rattle.circuit_set.specs.CircuitSets.{Circuits, DoesPump, Pumps, SetStands}
 use Rattle.circuit_set.specs.SetTurns.{Asks, Tells}
 use Rattle.circuit_set.proofs.Looping.{all_taken, firsts-taken}

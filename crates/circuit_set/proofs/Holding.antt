@@ -1,5 +1,5 @@
 -- Ends by number, as the map has them and as the machine has them.
-use Rattle.std.specs.Prelude.{◌≡◌, ◌≢◌, ℕ, suc, ◌≤◌, ◌<◌, ◌⊎◌, Bool, true, false, ◌||◌, nat_eq, nat_le, if◌then◌else◌, List, [], ◌∷◌, ◌++◌, Option, Some, None, refl}
+use Rattle.std.specs.Prelude.{◌≡◌, ℕ, suc, ◌≤◌, ◌<◌, ◌⊎◌, Bool, true, false, nat_eq, if◌then◌else◌, List, [], ◌∷◌, ◌++◌, Option, Some, None, refl}
 use Rattle.std.proofs.Common.{sym, ◌∙◌, ap, subst, inl, inr, arith, cond}
 use Rattle.std.proofs.lemmas.Bool.Decides.{nat_tests}
 use Rattle.std.proofs.lemmas.List.{append_assoc}
@@ -111,7 +111,7 @@ module _ (own : Callsign) (ttl : ℕ) where
             simp (same, matches, later) both;
         keep = λ k2 mine2 keep2.
             let both : Tail hi lo (h ∷ hs) ((h.id, k2) ∷ rest) (mine2 ++ theirs) =
-                (low, inr (record { k = k2; rest = rest; mine = mine2; theirs = theirs; is = refl; both = refl; keeps = subst (λ n. Keeps own ttl n k2 h mine2) (sym number) keep2; others = others })) in
+            (low, inr (record { k = k2; rest = rest; mine = mine2; theirs = theirs; is = refl; both = refl; keeps = subst (λ n. Keeps own ttl n k2 h mine2) (sym number) keep2; others = others })) in
             simp same both;
         leave = λ w g.
             let both : Tail hi lo (h ∷ hs) rest theirs = (low, inl (record { gone = g; others = others })) in
@@ -146,12 +146,12 @@ module _ (own : Callsign) (ttl : ℕ) where
             simp (other, apart) both;
         keep = λ k2 mine2 keep2.
             let both : Tail hi lo (h ∷ hs) ((h.id, k) ∷ set_value (nat_eq id) rest k2) (((mine ++ a.before) ++ mine2) ++ a.theirs) =
-                (low, inr (record { k = k; rest = set_value (nat_eq id) rest k2; mine = mine; theirs = (a.before ++ mine2) ++ a.theirs; is = refl; both = sym (regroup mine a.before mine2 a.theirs); keeps = keep; others = a.keep k2 mine2 keep2 })) in
+            (low, inr (record { k = k; rest = set_value (nat_eq id) rest k2; mine = mine; theirs = (a.before ++ mine2) ++ a.theirs; is = refl; both = sym (regroup mine a.before mine2 a.theirs); keeps = keep; others = a.keep k2 mine2 keep2 })) in
             simp other both;
         leave = λ w g.
             let left : List (ℕ × Holder) = remove_entry (nat_eq id) (set_value (nat_eq id) rest w) in
             let both : Tail hi lo (h ∷ hs) ((h.id, k) ∷ left) ((mine ++ a.before) ++ a.theirs) =
-                (low, inr (record { k = k; rest = left; mine = mine; theirs = a.before ++ a.theirs; is = refl; both = append_assoc mine a.before a.theirs; keeps = keep; others = a.leave w g })) in
+            (low, inr (record { k = k; rest = left; mine = mine; theirs = a.before ++ a.theirs; is = refl; both = append_assoc mine a.before a.theirs; keeps = keep; others = a.leave w g })) in
             simp other both;
       }
 

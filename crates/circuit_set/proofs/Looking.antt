@@ -1,20 +1,18 @@
 -- What a set tells of its ends, and what a refusal leaves.
-use Rattle.std.specs.Prelude.{◌≡◌, ℕ, zero, suc, ◌≤◌, ◌⊎◌, Bool, true, false, nat_eq, if◌then◌else◌, List, [], ◌∷◌, ◌++◌, slice_get, Option, Some, None, Result, Ok, Err, OnErr, refl}
+use Rattle.std.specs.Prelude.{◌≡◌, ℕ, zero, suc, ◌⊎◌, true, false, nat_eq, List, [], ◌∷◌, ◌++◌, slice_get, Option, Some, None, Result, Ok, Err, OnErr, refl}
 use Rattle.std.specs.Option.{option_map}
 use Rattle.std.proofs.Common.{sym, ◌∙◌, ap, subst, inl, inr}
 use Rattle.std.specs.Map.{lookup}
 use Rattle.ax_address.specs.Callsign.{Callsign}
-use Rattle.l3_datagram.specs.declared.routed.Routed.{Routed}
-use Rattle.l3_datagram.specs.Routers.{Routing}
 use Rattle.circuit_l4.specs.declared.plain.EndFacts.{EndFacts}
 use Rattle.circuit_l4.specs.EndState.{Effect, State}
 use Rattle.circuit_l4.specs.EndOpening.{facts_of}
-use Rattle.circuit_l4.specs.EndStanding.{EndView, StandsFor}
+use Rattle.circuit_l4.specs.EndStanding.{StandsFor}
 use Rattle.circuit_set.specs.declared.holder.Holder.{Holder}
 use Rattle.circuit_set.specs.declared.held_ends.HeldEnds.{HeldEnds}
 use Rattle.circuit_set.specs.Sets as sets
 use Rattle.circuit_set.specs.Sets.{SetState, Told, end_of}
-use Rattle.circuit_set.specs.Pumps.{Waiting, at_rest}
+use Rattle.circuit_set.specs.Pumps.{at_rest}
 use Rattle.circuit_set.specs.Inputs.{ticked, ticks, ticks_of}
 use Rattle.circuit_set.specs.Standing.{Held, HeldStands, Here, Keeps, Past, Rests, SameNode, of_holder}
 use Rattle.circuit_set.specs.CircuitSets.{Circuits, Goes, IsDrained, IsUnchanged, LentStands, SetStands, facts_at, held_ids, partner_at}

@@ -1,6 +1,5 @@
 -- The router is asked again until something is told.
-use Rattle.std.specs.Prelude.{◌≡◌, ◌≢◌, ℕ, zero, suc, ◌+◌, ◌*◌, ◌<◌, ◌≤◌, Bool, true, false, ◌&&◌, if◌then◌else◌, List, [], ◌∷◌, ◌++◌, drop, length, map, Option, Some, None, is_none, is_some, Result, Ok, Err, refl}
-use Rattle.std.specs.Option.{option_map}
+use Rattle.std.specs.Prelude.{◌≡◌, ℕ, ◌+◌, ◌<◌, Bool, true, false, if◌then◌else◌, List, [], ◌∷◌, ◌++◌, drop, length, map, Option, Some, None, is_some, Result, Ok, Err, refl}
 use Rattle.std.proofs.Common.{sym, ◌∙◌, ap, subst, arith}
 use Rattle.std.proofs.lemmas.List.{append-nil, append_assoc}
 use Rattle.ax_address.specs.Callsign.{Callsign}
@@ -14,18 +13,17 @@ use Rattle.l3_datagram.specs.declared.datagram.DatagramHead.{DatagramHead}
 use Rattle.l3_datagram.specs.declared.datagram.DatagramRefusal.{DatagramRefusal}
 use Rattle.l3_datagram.specs.declared.routed.Routed.{Routed}
 use Rattle.l3_datagram.specs.declared.routed.Routed.TheVariants as routed
-use Rattle.l3_datagram.specs.CarrierCall.{CarrierCall, Collect, Fail, Parcel}
+use Rattle.l3_datagram.specs.CarrierCall.{CarrierCall, Parcel}
 use Rattle.l3_datagram.specs.Datagrams.{head_at}
 use Rattle.l3_datagram.specs.Hops.{Way, Ends, GoesOn, forwarded_by, way}
 use Rattle.l3_datagram.specs.Routers.{SameRouter, waiting_left}
-use Rattle.circuit_set.specs.declared.asked.Asked.{Asked}
 use Rattle.circuit_set.specs.declared.asked.Asked.TheVariants as asked
 use Rattle.circuit_set.specs.declared.event.SetEvent.{SetEvent}
 use Rattle.circuit_set.specs.Sets.{SetState, Told, Made, Sent, Heeded, Notice, Gone, Restarted, Lost}
-use Rattle.circuit_set.specs.Pumps.{Pumped, Turn, Turned, Waiting, after_calls, asks, at_rest, ends_with, heard_as, hears, hears_by, is_drained, is_empty, outcome, sent_by_head, sent_to, takes, takes_all, tells, tells_first, tells_of, tells_on, turned}
-use Rattle.circuit_set.specs.Standing.{Rests, seen}
+use Rattle.circuit_set.specs.Pumps.{Pumped, Turn, Turned, Waiting, after_calls, asks, at_rest, ends_with, heard_as, hears, hears_by, is_drained, outcome, sent_by_head, sent_to, takes, takes_all, tells, tells_first, turned}
+use Rattle.circuit_set.specs.Standing.{Rests}
 use Rattle.circuit_set.specs.CircuitSets.{Circuits, DoesPump, SetStands, untold_by}
-use Rattle.circuit_set.specs.SetTurns.{Asks, AsksOnce, IsAsked, Onward, SoFar, asks_once, event_of}
+use Rattle.circuit_set.specs.SetTurns.{Asks, AsksOnce, IsAsked, Onward, SoFar, asks_once}
 
 -- ---- a turn that tells nothing ----
 module _ (nh : Callsign → Option Callsign) where
@@ -70,8 +68,8 @@ module _ (nh : Callsign → Option Callsign) where
   quiet_case now u answer false d n i e = absurd (turn_speaks u.after.set u.after.untold u.after.lost answer d e)
 
   on_case : (now : ℕ) (u : Turned) (answer : Offered) (o : Option _) → u.told ≡ o → u.items ≡ []
-      → (elim o as (λ x. Pumped) [ | Some told ↦ ends_with [] u | None ↦ (if is_drained u.after then ends_with [] u else turned now (tells nh u.after) answer) ]).told ≡ None
-      → Silent (elim o as (λ x. Pumped) [ | Some told ↦ ends_with [] u | None ↦ (if is_drained u.after then ends_with [] u else turned now (tells nh u.after) answer) ])
+      → (elim o as (λ x. Pumped) [ Some told ↦ ends_with [] u | None ↦ (if is_drained u.after then ends_with [] u else turned now (tells nh u.after) answer) ]).told ≡ None
+      → Silent (elim o as (λ x. Pumped) [ Some told ↦ ends_with [] u | None ↦ (if is_drained u.after then ends_with [] u else turned now (tells nh u.after) answer) ])
   on_case now u answer (Some told) f i e = let z : Some told ≡ None = sym f ∙ e in absurd (cc z)
   on_case now u answer None f i e = quiet_case now u answer (is_drained u.after) refl f i e
 
@@ -169,9 +167,9 @@ module _ {C : Type 0} (made : C → List CarrierCall → C → Type 0) (none_mad
         → DoesPump made old new log e (asks (next_hop old.router.table.rules log) now s (lost old.router.carrier) (so.done ++ rest))
     ends new log s e rest o x =
         let y : DoesPump made mid new log e (asks (next_hop old.router.table.rules log) now o.state (lost mid.router.carrier) rest) =
-            subst (λ (rules : RouteRules). DoesPump made mid new log e (asks (next_hop rules log) now o.state (lost mid.router.carrier) rest)) so.router.node.rules x in
+        subst (λ (rules : RouteRules). DoesPump made mid new log e (asks (next_hop rules log) now o.state (lost mid.router.carrier) rest)) so.router.node.rules x in
         let z : DoesPump made mid new log e (asks (next_hop old.router.table.rules log) now o.state (lost old.router.carrier) rest) =
-            subst (λ (l : List Callsign). DoesPump made mid new log e (asks (next_hop old.router.table.rules log) now o.state l rest)) so.lost_stay y in
+        subst (λ (l : List Callsign). DoesPump made mid new log e (asks (next_hop old.router.table.rules log) now o.state l rest)) so.lost_stay y in
         let q : Pumped = asks (next_hop old.router.table.rules log) now o.state (lost old.router.carrier) rest in
         let all : DoesPump made old new log e (after_calls o.calls q) = record {
           told = z.told;

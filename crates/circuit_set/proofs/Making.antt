@@ -1,6 +1,6 @@
 -- New ends: their pairs, their numbers, and where they stand.
-use Rattle.std.specs.Prelude.{◌≡◌, ℕ, zero, suc, ◌+◌, min, ◌≤◌, ◌<◌, ◌⊎◌, Bool, true, false, not, ◌||◌, ◌&&◌, nat_eq, nat_le, nat_lt, if◌then◌else◌, List, [], ◌∷◌, ◌++◌, length, Option, Some, None, refl}
-use Rattle.std.proofs.Common.{sym, ◌∙◌, ap, subst, inl, inr, arith, cond}
+use Rattle.std.specs.Prelude.{◌≡◌, ℕ, suc, ◌+◌, min, ◌≤◌, ◌<◌, ◌⊎◌, Bool, true, false, ◌||◌, ◌&&◌, nat_eq, nat_le, nat_lt, if◌then◌else◌, List, [], ◌∷◌, ◌++◌, length, Option, Some, None, refl}
+use Rattle.std.proofs.Common.{sym, ◌∙◌, ap, subst, inl, inr, arith}
 use Rattle.std.proofs.lemmas.Bool.Decides.{nat_tests}
 use Rattle.std.proofs.lemmas.List.{append_assoc, append-nil}
 use Rattle.std.specs.Map.{lookup, set_value}
@@ -123,25 +123,28 @@ module _ (own : Callsign) (ttl : ℕ) where
     More hi lo es hs told = Held own ttl (suc hi) lo (es ++ (hi, k) ∷ []) (hs ++ n ∷ []) (told ++ mine)
 
     more_end : (hi lo : ℕ) → n.id ≡ hi → Keeps own ttl hi k n mine → lo ≤ hi → More hi lo [] [] []
-    more_end hi lo e keep low =
-        (subst (λ x. lo ≤ x) (sym e) low,
-        inr (record { k = k; rest = []; mine = mine; theirs = []; is = ap (λ x. (x, k) ∷ []) (sym e); both = sym (append-nil mine); keeps = subst (λ x. Keeps own ttl x k n mine) (sym e) keep; others = (refl, refl, omega (arith, e)) }))
+    more_end hi lo e keep low = (
+      subst (λ x. lo ≤ x) (sym e) low,
+      inr (record { k = k; rest = []; mine = mine; theirs = []; is = ap (λ x. (x, k) ∷ []) (sym e); both = sym (append-nil mine); keeps = subst (λ x. Keeps own ttl x k n mine) (sym e) keep; others = (refl, refl, omega (arith, e)) }),
+    )
 
     more_case : (hi lo : ℕ) (h : sets.Holder) (es : List (ℕ × Holder)) (hs : List sets.Holder) (told : List Told) → lo ≤ h.id
         → (Past (λ rest theirs. Held own ttl hi (suc h.id) rest hs theirs) h es told ⊎ Here own ttl (λ rest theirs. Held own ttl hi (suc h.id) rest hs theirs) h es told)
         → ((rest : List (ℕ × Holder)) (theirs : List Told) → Held own ttl hi (suc h.id) rest hs theirs → More hi (suc h.id) rest hs theirs) → More hi lo es (h ∷ hs) told
     more_case hi lo h es hs told low (inl p) later = (low, inl (record { gone = p.gone; others = later es told p.others }))
-    more_case hi lo h es hs told low (inr p) later =
-        (low, inr (record {
-          k = p.k;
-          rest = p.rest ++ (hi, k) ∷ [];
-          mine = p.mine;
-          theirs = p.theirs ++ mine;
-          is = ap (λ (xs : List (ℕ × Holder)). xs ++ (hi, k) ∷ []) p.is;
-          both = ap (λ (ts : List Told). ts ++ mine) p.both ∙ append_assoc p.mine p.theirs mine;
-          keeps = p.keeps;
-          others = later p.rest p.theirs p.others;
-        }))
+    more_case hi lo h es hs told low (inr p) later = (
+      low,
+      inr (record {
+        k = p.k;
+        rest = p.rest ++ (hi, k) ∷ [];
+        mine = p.mine;
+        theirs = p.theirs ++ mine;
+        is = ap (λ (xs : List (ℕ × Holder)). xs ++ (hi, k) ∷ []) p.is;
+        both = ap (λ (ts : List Told). ts ++ mine) p.both ∙ append_assoc p.mine p.theirs mine;
+        keeps = p.keeps;
+        others = later p.rest p.theirs p.others;
+      }),
+    )
 
     pub more : (hi lo : ℕ) (es : List (ℕ × Holder)) (hs : List sets.Holder) (told : List Told) → n.id ≡ hi → Keeps own ttl hi k n mine → Held own ttl hi lo es hs told → More hi lo es hs told
     more hi lo es [] told e keep s =
@@ -190,7 +193,7 @@ module _ (c c2 : HeldEnds) (k : Holder) (x : Holds k c c2) (s : SetState) (st : 
     number = ap (λ n. n + 1) st.number ∙ sym x.number;
     ends =
         let held : Held s.own s.ttl (suc s.number) 0 (c.ends.entries ++ (s.number, k) ∷ []) (s.ends ++ h ∷ []) (untold_first k.unannounced) =
-            more s.own s.ttl k h (untold_first k.unannounced) s.number 0 c.ends.entries s.ends [] refl keeps st.ends in
+        more s.own s.ttl k h (untold_first k.unannounced) s.number 0 c.ends.entries s.ends [] refl keeps st.ends in
         subst (λ n. Held s.own s.ttl n 0 c2.ends.entries (s.ends ++ h ∷ []) (untold_first k.unannounced)) (plus_one s.number)
         (subst (λ es. Held s.own s.ttl (suc s.number) 0 es (s.ends ++ h ∷ []) (untold_first k.unannounced)) (sym entries) held);
   }
@@ -206,10 +209,14 @@ module _ (c c2 : HeldEnds) (k : Holder) (x : Holds k c c2) (s : SetState) (st : 
       → Gives (sets.made s k.at (Some q) (Some d.items) g) (Some (untold.Event (event.Made id k.pair k.at (Some d)))) c2
   made_aloud q d u a id e =
       let same : Some (sets.Made id k.pair k.at (Some d.items)) ≡ Some (sets.Made s.number (sets.new_pair s) k.at (Some d.items)) =
-          ap (λ (n : ℕ). Some (sets.Made n k.pair k.at (Some d.items))) (e ∙ sym st.number) ∙ ap (λ (p : Pair). Some (sets.Made s.number p k.at (Some d.items))) pair in
-      let held : HeldStands c2 (sets.made s k.at k.asked (Some d.items) g).set (told_by s h g) = subst (λ ts. HeldStands c2 (sets.made s k.at k.asked (Some d.items) g).set ts) (ap untold_first u) (made_held (Some d.items)) in
-      (sets.Made s.number (sets.new_pair s) k.at (Some d.items), told_by s (sets.holder_of s k.at (Some q) g) g, refl, same,
-      subst (λ (o : Option Pair). HeldStands c2 (sets.made s k.at o (Some d.items) g).set (told_by s (sets.holder_of s k.at o g) g)) a held)
+      ap (λ (n : ℕ). Some (sets.Made n k.pair k.at (Some d.items))) (e ∙ sym st.number) ∙ ap (λ (p : Pair). Some (sets.Made s.number p k.at (Some d.items))) pair in
+      let held : HeldStands c2 (sets.made s k.at k.asked (Some d.items) g).set (told_by s h g) = subst (λ ts. HeldStands c2 (sets.made s k.at k.asked (Some d.items) g).set ts) (ap untold_first u) (made_held (Some d.items)) in (
+        sets.Made s.number (sets.new_pair s) k.at (Some d.items),
+        told_by s (sets.holder_of s k.at (Some q) g) g,
+        refl,
+        same,
+        subst (λ (o : Option Pair). HeldStands c2 (sets.made s k.at o (Some d.items) g).set (told_by s (sets.holder_of s k.at o g) g)) a held,
+      )
 
 abbrev as_requester : Pair → Callsign → EndView → Holder
 as_requester p node e = record { pair = p; at = node; asked = None; end = e; taken = 0; unannounced = true; discarded = false }
@@ -224,12 +231,12 @@ requests_held c c2 k e node now p is holds stands pair = λ s st.
     let g : Effect = requesting p c.user c.own c.config (min now COUNT_MAX) in
     let x : Holds (as_requester p node e) c c2 = subst (λ (y : Holder). Holds y c c2) is holds in
     let held : HeldStands c2 (sets.made s node None None g).set (sets.made s node None None g).told =
-        made_quietly c c2 (as_requester p node e) x s st g stands refl refl refl (pair s st) refl tt refl refl in
+    made_quietly c c2 (as_requester p node e) x s st g stands refl refl refl (pair s st) refl tt refl refl in
     let same : g ≡ requesting (sets.new_pair s) s.user s.own s.config (min now COUNT_MAX) =
-        ap (λ (q : Pair). requesting q c.user c.own c.config (min now COUNT_MAX)) (pair s st)
-        ∙ ap (λ (u : Callsign). requesting (sets.new_pair s) u c.own c.config (min now COUNT_MAX)) (sym st.user)
-        ∙ ap (λ (o : Callsign). requesting (sets.new_pair s) s.user o c.config (min now COUNT_MAX)) (sym st.own)
-        ∙ ap (λ (f : EndConfig). requesting (sets.new_pair s) s.user s.own f (min now COUNT_MAX)) (sym st.config) in
+    ap (λ (q : Pair). requesting q c.user c.own c.config (min now COUNT_MAX)) (pair s st)
+    ∙ ap (λ (u : Callsign). requesting (sets.new_pair s) u c.own c.config (min now COUNT_MAX)) (sym st.user)
+    ∙ ap (λ (o : Callsign). requesting (sets.new_pair s) s.user o c.config (min now COUNT_MAX)) (sym st.own)
+    ∙ ap (λ (f : EndConfig). requesting (sets.new_pair s) s.user s.own f (min now COUNT_MAX)) (sym st.config) in
     subst (λ (y : Effect). HeldStands c2 (sets.made s node None None y).set (sets.made s node None None y).told) same held
 
 pub responds_gives : (c c2 : HeldEnds) (k : Holder) (e : EndView) (origin : Callsign) (d : ArrayVec ℕ) (now window : ℕ) (p q : Pair) (id : ℕ) → k ≡ as_responder p origin q e → Holds k c c2 → id ≡ c.number
@@ -239,9 +246,9 @@ responds_gives c c2 k e origin d now window p q id is holds number stands pair =
     let g : Effect = responding p q window c.config (min now COUNT_MAX) in
     let x : Holds (as_responder p origin q e) c c2 = subst (λ (y : Holder). Holds y c c2) is holds in
     let gives : Gives (sets.made s origin (Some q) (Some d.items) g) (Some (untold.Event (event.Made id p origin (Some d)))) c2 =
-        made_aloud c c2 (as_responder p origin q e) x s st g stands refl refl refl (pair s st) refl (refl, refl) q d refl refl id number in
+    made_aloud c c2 (as_responder p origin q e) x s st g stands refl refl refl (pair s st) refl (refl, refl) q d refl refl id number in
     let same : g ≡ responding (sets.new_pair s) q window s.config (min now COUNT_MAX) =
-        ap (λ (r : Pair). responding r q window c.config (min now COUNT_MAX)) (pair s st) ∙ ap (λ (f : EndConfig). responding (sets.new_pair s) q window f (min now COUNT_MAX)) (sym st.config) in
+    ap (λ (r : Pair). responding r q window c.config (min now COUNT_MAX)) (pair s st) ∙ ap (λ (f : EndConfig). responding (sets.new_pair s) q window f (min now COUNT_MAX)) (sym st.config) in
     subst (λ (y : Effect). Gives (sets.made s origin (Some q) (Some d.items) y) (Some (untold.Event (event.Made id p origin (Some d)))) c2) same gives
 
 -- ---- the Accept again ----
@@ -274,15 +281,19 @@ again_case c id k found q w s g stands pair taken met quiet_k window h is st a s
     let put = a.put k h2 [] refl keep2 in
     let empty : a.before ++ [] ++ a.theirs ≡ [] = rw (none_before, none_after) refl in
     let held : Held s.own s.ttl s.number 0 c.ends.entries (with_end h2 s.ends) [] =
-        subst (λ es. Held s.own s.ttl s.number 0 es (with_end h2 s.ends) []) (set_back id c.ends.entries k found)
-        (subst (λ ts. Held s.own s.ttl s.number 0 (set_value (nat_eq id) c.ends.entries k) (with_end h2 s.ends) ts) empty put) in
+    subst (λ es. Held s.own s.ttl s.number 0 es (with_end h2 s.ends) []) (set_back id c.ends.entries k found)
+    (subst (λ ts. Held s.own s.ttl s.number 0 (set_value (nat_eq id) c.ends.entries k) (with_end h2 s.ends) ts) empty put) in
     let to : g.end.to ≡ q = (subst (λ o. MetBy o g.end) (asked_is k.asked q (ap (λ (z : sets.Holder). sets.asked_with z.asked q) (sym is) ∙ asked)) met).1 in
     let told : told_by s y (sets.accept_again g.end) ≡ sets.Sent id None (sets.datagram_to s k.at (Accept g.end.to g.end.pair g.end.window)) ∷ [] = again_told s y quiet_k.stays in
     let same : Some (sets.Sent id None (sets.datagram_to s k.at (Accept q k.pair w))) ≡ Some (sets.Sent id None (sets.datagram_to s k.at (Accept g.end.to g.end.pair g.end.window))) =
-        rw (to, pair, window) refl in
-    subst (λ (z : sets.Holder). Gives (sets.goes_to s z [] (sets.accept_again z.end)) (Some (untold.Out id None k.at (Accept q k.pair w))) c) (sym is)
-    (sets.Sent id None (sets.datagram_to s k.at (Accept g.end.to g.end.pair g.end.window)), [], told, same,
-    record { own = st.own; user = st.user; config = st.config; next = st.next; number = st.number; ends = held })
+    rw (to, pair, window) refl in
+    subst (λ (z : sets.Holder). Gives (sets.goes_to s z [] (sets.accept_again z.end)) (Some (untold.Out id None k.at (Accept q k.pair w))) c) (sym is) (
+      sets.Sent id None (sets.datagram_to s k.at (Accept g.end.to g.end.pair g.end.window)),
+      [],
+      told,
+      same,
+      record { own = st.own; user = st.user; config = st.config; next = st.next; number = st.number; ends = held },
+    )
 
 pub accepts_again : (c : HeldEnds) (id : ℕ) (k : Holder) → lookup (nat_eq id) c.ends.entries ≡ Some k → (q : Pair) (w : ℕ) → ((x : State) → StandsFor k.end x → w ≡ x.window)
     → (s : SetState) (h : sets.Holder) → HeldStands c s [] → end_of id s.ends ≡ Some h → h.gone ≡ false → sets.asked_with h.asked q ≡ true
@@ -324,7 +335,7 @@ requested_again c c2 s origin d pair window now id r st f gives =
     some_case (sets.first_open (sets.opened_by origin pair) s.ends) x.h x.first (gives x.h x.end x.held (both_true (sets.asked_with x.h.asked pair) (same_call x.h.at origin) x.passes).0)
   where
     some_case : (o : Option sets.Holder) (h : sets.Holder) → o ≡ Some h → Gives (sets.goes_to s h [] (sets.accept_again h.end)) r c2
-        → Gives (elim o as (λ x. sets.SetDone) [ | Some h ↦ sets.goes_to s h [] (sets.accept_again h.end) | None ↦ sets.requested_anew s origin d pair window now ]) r c2
+        → Gives (elim o as (λ x. sets.SetDone) [ Some h ↦ sets.goes_to s h [] (sets.accept_again h.end) | None ↦ sets.requested_anew s origin d pair window now ]) r c2
     some_case None h e g = absurd (cc e)
     some_case (Some y) h e g = let same : h ≡ y = cc (sym e) in subst (λ (y : sets.Holder). Gives (sets.goes_to s y [] (sets.accept_again y.end)) r c2) same g
 
@@ -334,6 +345,6 @@ requested_first c c2 s origin d pair window now r st f gives =
     none_case (sets.first_open (sets.opened_by origin pair) s.ends) (unfitting s.own s.ttl (sets.opened_by origin pair) s.number 0 c.ends.entries s.ends [] st.ends f)
   where
     none_case : (o : Option sets.Holder) → o ≡ None
-        → Gives (elim o as (λ x. sets.SetDone) [ | Some h ↦ sets.goes_to s h [] (sets.accept_again h.end) | None ↦ sets.requested_anew s origin d pair window now ]) r c2
+        → Gives (elim o as (λ x. sets.SetDone) [ Some h ↦ sets.goes_to s h [] (sets.accept_again h.end) | None ↦ sets.requested_anew s origin d pair window now ]) r c2
     none_case None e = gives
     none_case (Some h) e = absurd (cc e)

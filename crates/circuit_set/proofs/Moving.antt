@@ -1,8 +1,8 @@
 -- A call of one end is a step of the machine of ends.
-use Rattle.std.specs.Prelude.{◌≡◌, ◌≢◌, ℕ, suc, ◌≤◌, ◌<◌, ◌⊎◌, Bool, true, false, ◌||◌, nat_eq, nat_le, if◌then◌else◌, List, [], ◌∷◌, ◌++◌, length, nat_lt, Result, Ok, Err, Option, Some, None, refl}
-use Rattle.std.proofs.Common.{sym, ◌∙◌, ap, subst, inl, inr, arith, cond, rules}
-use Rattle.std.proofs.lemmas.List.{append_assoc, append-nil}
-use Rattle.std.specs.Map.{lookup, set_value, remove_entry}
+use Rattle.std.specs.Prelude.{◌≡◌, ℕ, Bool, true, false, ◌||◌, nat_eq, if◌then◌else◌, List, [], ◌∷◌, ◌++◌, length, nat_lt, Result, Ok, Err, Option, Some, None, refl}
+use Rattle.std.proofs.Common.{sym, ◌∙◌, ap, subst, cond}
+use Rattle.std.proofs.lemmas.List.{append-nil}
+use Rattle.std.specs.Map.{lookup, set_value}
 use Rattle.ax_address.specs.Callsign.{Callsign}
 use Rattle.circuit_l4.specs.EndState.{Effect, Out, State}
 use Rattle.circuit_l4.specs.EndStanding.{IsDrained, EndView, Stands, StandsFor}
@@ -12,7 +12,6 @@ use Rattle.circuit_l4.specs.EndTable as end
 use Rattle.circuit_l4.specs.Halves.{first_or}
 use Rattle.circuit_l4.specs.Receiving.{inbox}
 use Rattle.circuit_l4.specs.declared.plain.EndNotice.{EndNotice}
-use Rattle.circuit_l4.specs.declared.transport.Transport.{Transport}
 use Rattle.circuit_l4.specs.declared.plain.WriteRefusal.{WriteRefusal}
 use Rattle.circuit_set.specs.declared.event.SetRefusal.TheVariants as set_refusal
 use Rattle.circuit_set.specs.declared.event.DiscardRefusal.TheVariants as discard_refusal
@@ -343,7 +342,7 @@ discard_goes c c2 id k same found left ended = λ s st.
           (subst (λ ts. Held s.own s.ttl s.number 0 (set_value (nat_eq id) c.ends.entries k2) (with_end h2 s.ends) ts) both put);
     } in
     let is : record { set = record s { ends = with_end h2 s.ends }; told = told } ≡ sets.discarded s (end_of id s.ends) =
-        discarded_ended s h (not_gone id k g q) (sym (ended g.end (stood k.end g keeps.stands))) ∙ ap (λ (o : Option sets.Holder). sets.discarded s o) (sym (a.end ∙ ap Some keeps.is)) in
+    discarded_ended s h (not_gone id k g q) (sym (ended g.end (stood k.end g keeps.stands))) ∙ ap (λ (o : Option sets.Holder). sets.discarded s o) (sym (a.end ∙ ap Some keeps.is)) in
     subst (λ (d : SetDone). HeldStands c2 d.set d.told) is held
 
 pub never_missing : (c : HeldEnds) (id : ℕ) → lookup (nat_eq id) c.ends.entries ≡ None → (s : SetState) → HeldStands c s [] → (h : sets.Holder) → end_of id s.ends ≡ Some h → h.gone ≡ false → ⊥

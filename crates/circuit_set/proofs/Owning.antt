@@ -1,5 +1,5 @@
 -- The call of a node and its hops stay in each step of its ends.
-use Rattle.std.specs.Prelude.{◌≡◌, ℕ, Bool, true, false, not, ◌&&◌, ◌||◌, if◌then◌else◌, List, [], ◌∷◌, ◌++◌, drop, Option, Some, None, Result, Ok, Err, refl}
+use Rattle.std.specs.Prelude.{◌≡◌, ℕ, Bool, true, false, not, ◌&&◌, ◌||◌, if◌then◌else◌, List, [], ◌∷◌, drop, Option, Some, None, Result, Ok, Err, refl}
 use Rattle.std.proofs.Common.{◌∙◌}
 use Rattle.ax_address.specs.Callsign.{Callsign}
 use Rattle.ax_address.specs.CallOrder.{same_call}
@@ -13,7 +13,7 @@ use Rattle.circuit_l4.specs.declared.transport.TransportRefusal.{TransportRefusa
 use Rattle.circuit_l4.specs.Reading.{transport_at}
 use Rattle.circuit_l4.specs.EndTable.{step}
 use Rattle.circuit_l4.specs.EndOpening.{facts_of}
-use Rattle.circuit_set.specs.Sets.{Act, Call, Calls, Comes, Connect, Discard, Restart, Holder, SetDone, SetState, accept_again, called, connected, discarded, end_of, first_open, goes_to, handed, handed_up, has_ended, is_full, input_of, named_by, opened_by, with_end, Gone, Sent, datagram_to, read_as, received, requested_anew, requests, responds, set_step, untold}
+use Rattle.circuit_set.specs.Sets.{Act, Call, Calls, Comes, Connect, Discard, Restart, Holder, SetDone, SetState, accept_again, called, discarded, end_of, first_open, goes_to, handed, handed_up, has_ended, is_full, input_of, named_by, opened_by, with_end, Gone, Sent, datagram_to, read_as, received, requested_anew, requests, responds, set_step, untold}
 use Rattle.circuit_set.specs.Inputs.{runs}
 
 pub record SameOwn (s t : SetState) : Type 0 where
@@ -28,12 +28,12 @@ either s true c d x y = x
 either s false c d x y = y
 
 module _ (s : SetState) where
-  named : (d : List ℕ) (t : Transport) (now : ℕ) (o : Option Holder) → SameOwn s (elim o as (λ x. SetDone) [ | Some h ↦ handed s h d t now | None ↦ untold s ]).set
+  named : (d : List ℕ) (t : Transport) (now : ℕ) (o : Option Holder) → SameOwn s (elim o as (λ x. SetDone) [ Some h ↦ handed s h d t now | None ↦ untold s ]).set
   named d t now (Some h) = record { own = refl; ttl = refl }
   named d t now None = same s
 
   asked : (origin : Callsign) (d : List ℕ) (pair : Pair) (window now : ℕ) (o : Option Holder)
-      → SameOwn s (elim o as (λ x. SetDone) [ | Some h ↦ goes_to s h [] (accept_again h.end) | None ↦ requested_anew s origin d pair window now ]).set
+      → SameOwn s (elim o as (λ x. SetDone) [ Some h ↦ goes_to s h [] (accept_again h.end) | None ↦ requested_anew s origin d pair window now ]).set
   asked origin d pair window now (Some h) = record { own = refl; ttl = refl }
   asked origin d pair window now None = either s (is_full s) (record { set = s; told = Sent 0 None (datagram_to s origin (Refuse pair)) ∷ [] }) (responds s origin d pair window now) (same s) (record { own = refl; ttl = refl })
 

@@ -1,5 +1,5 @@
 -- The turns of which a call of `pump` is made.
-use Rattle.std.specs.Prelude.{◌≡◌, ℕ, ◌+◌, Bool, true, false, not, ◌||◌, if◌then◌else◌, List, [], ◌∷◌, ◌++◌, length, Option, Some, None, Result, Ok, Err, refl}
+use Rattle.std.specs.Prelude.{◌≡◌, ℕ, List, Option, Some, None, Result, Ok, Err, refl}
 use Rattle.std.proofs.Common.{sym, ◌∙◌, ap, subst}
 use Rattle.std.proofs.lemmas.List.{append-nil}
 use Rattle.ax_address.specs.Callsign.{Callsign}
@@ -20,7 +20,7 @@ use Rattle.circuit_l4.specs.Transports.{transport_octets}
 use Rattle.circuit_set.specs.declared.event.SetEvent.TheVariants as event
 use Rattle.circuit_set.specs.Sets as sets
 use Rattle.circuit_set.specs.Sets.{SetState, Told}
-use Rattle.circuit_set.specs.Pumps.{Waiting, dropped_by, sent_by_head, sent_to, tells_first, turned}
+use Rattle.circuit_set.specs.Pumps.{dropped_by, sent_by_head, sent_to, tells_first, turned}
 use Rattle.circuit_set.specs.Standing.{datagram_by}
 use Rattle.circuit_set.specs.CircuitSets.{Circuits, DoesPump, SetStands}
 use Rattle.circuit_set.specs.SetTurns.{came_to_nothing}
@@ -78,7 +78,7 @@ module _ {C : Type 0} (made : C → List CarrierCall → C → Type 0) (next_hop
   sends old r result answer log s id number d t rest now to transport st same table stands is head is_t does =
       let first : sets.Sent id number (datagram_by s.own s.ttl to transport) ≡ t = cc is_t in
       let octets : d.items ≡ datagram_by s.own s.ttl to transport =
-          ap (λ (x : Datagram). x.items) is ∙ ap (λ (o : Callsign). datagram_by o old.router.ttl to transport) (sym st.own) ∙ ap (λ n. datagram_by s.own n to transport) (sym st.ttl) in
+      ap (λ (x : Datagram). x.items) is ∙ ap (λ (o : Callsign). datagram_by o old.router.ttl to transport) (sym st.own) ∙ ap (λ n. datagram_by s.own n to transport) (sym st.ttl) in
       let all : sets.Sent id number d.items ≡ t = ap (λ ys. sets.Sent id number ys) octets ∙ first in
       subst (λ (y : Told). DoesPump made old (record old { router = r; lost = came_to_nothing result }) log (Some (event.Sent id number d)) (turned now (tells_first next_hop s y rest) answer)) all
       (head_case old r result answer log s id number d rest now (record { origin = old.router.own; dest = to; ttl = old.router.ttl }) (head_at d.items) head st same table stands does)
@@ -94,9 +94,9 @@ module _ {C : Type 0} (made : C → List CarrierCall → C → Type 0) (next_hop
       → DoesPump made old (record old { router = r; lost = lost }) log (Some (event.Sent id number d)) (turned now (tells_first next_hop s t rest) answer)
   sends_it old r result answer log s id number d t rest now to transport x y st same table stands ex ey is head is_t does lost none =
       let own : record { origin = r.own; dest = to; ttl = r.ttl } ≡ record { origin = old.router.own; dest = to; ttl = old.router.ttl } =
-          ap (λ (o : Callsign). (let h : DatagramHead = record { origin = o; dest = to; ttl = r.ttl } in h)) same.own ∙ ap (λ n. (let h : DatagramHead = record { origin = old.router.own; dest = to; ttl = n } in h)) same.ttl in
+      ap (λ (o : Callsign). (let h : DatagramHead = record { origin = o; dest = to; ttl = r.ttl } in h)) same.own ∙ ap (λ n. (let h : DatagramHead = record { origin = old.router.own; dest = to; ttl = n } in h)) same.ttl in
       let is2 : d ≡ datagram_with (record { origin = old.router.own; dest = to; ttl = old.router.ttl }) (transport_octets transport) =
-          is ∙ ap (λ (h : DatagramHead). datagram_with h y) own ∙ ap (datagram_with (record { origin = old.router.own; dest = to; ttl = old.router.ttl })) ey in
+      is ∙ ap (λ (h : DatagramHead). datagram_with h y) own ∙ ap (datagram_with (record { origin = old.router.own; dest = to; ttl = old.router.ttl })) ey in
       let handed : datagram_with (record { origin = old.router.own; dest = to; ttl = old.router.ttl }) x ≡ d = ap (datagram_with (record { origin = old.router.own; dest = to; ttl = old.router.ttl })) ex ∙ sym is2 in
       subst (λ (l : Option Routed). DoesPump made old (record old { router = r; lost = l }) log (Some (event.Sent id number d)) (turned now (tells_first next_hop s t rest) answer)) (sym none)
       (sends old r result answer log s id number d t rest now to transport st same table stands is2 (head ∙ ap Ok own) is_t

@@ -1,6 +1,6 @@
 -- What is found among the ends that are held, and what follows for the machine.
-use Rattle.std.specs.Prelude.{◌≡◌, ℕ, suc, ◌≤◌, length, ◌⊎◌, Bool, true, false, not, ◌||◌, ◌&&◌, nat_eq, if◌then◌else◌, List, [], ◌∷◌, ◌++◌, Option, Some, None, refl, is_none, is_some}
-use Rattle.std.proofs.Common.{sym, ◌∙◌, ap, subst, inl, inr, arith, cond}
+use Rattle.std.specs.Prelude.{◌≡◌, ℕ, suc, ◌≤◌, length, ◌⊎◌, Bool, true, false, not, ◌&&◌, nat_eq, List, [], ◌∷◌, ◌++◌, Option, Some, None, refl, is_none, is_some}
+use Rattle.std.proofs.Common.{sym, ◌∙◌, ap, subst, inl, inr, arith}
 use Rattle.std.specs.Map.{lookup, set_value, remove_entry}
 use Rattle.ax_address.specs.Callsign.{Callsign}
 use Rattle.circuit_set.specs.declared.holder.Holder.{Holder}
@@ -16,7 +16,7 @@ use Rattle.circuit_l4.specs.EndTable.{Arrive, step}
 use Rattle.std.proofs.lemmas.Bool.Decides.{nat_tests}
 use Rattle.circuit_set.specs.Pumps.{is_empty}
 use Rattle.circuit_set.specs.Standing.{FirstFit, Fits, Hands, Here, Past, FirstLoud, Gives, Held, HeldStands, Keeps, Leaves, NextOf, SameNode, Tells, is_last, left_of, told_of}
-use Rattle.circuit_set.proofs.Holding.{At, Loudest, hushed, loudest, some_is}
+use Rattle.circuit_set.proofs.Holding.{At, Loudest, hushed, loudest}
 
 starts : (xs ys : List Told) → is_empty xs ≡ false → false ≡ is_empty (xs ++ ys)
 starts [] ys e = absurd (cc e)
@@ -59,7 +59,7 @@ module _ (c c2 : HeldEnds) (s : SetState) (told : List Told) (id : ℕ) (same : 
       let h : Held s.own s.ttl s.number 0 (set_value (nat_eq id) c.ends.entries k2) s.ends (a.before ++ rest ++ a.theirs) = a.keep k2 rest leaves in
       let all : told ≡ t ∷ (rest ++ a.theirs) = is ∙ ap (λ ms. ms ++ a.theirs) m in
       let h2 : Held s.own s.ttl s.number 0 c2.ends.entries s.ends (rest ++ a.theirs) =
-          subst (λ es. Held s.own s.ttl s.number 0 es s.ends (rest ++ a.theirs)) (sym left) (subst (λ (b : List Told). Held s.own s.ttl s.number 0 (set_value (nat_eq id) c.ends.entries k2) s.ends (b ++ rest ++ a.theirs)) l.first h) in
+      subst (λ es. Held s.own s.ttl s.number 0 es s.ends (rest ++ a.theirs)) (sym left) (subst (λ (b : List Told). Held s.own s.ttl s.number 0 (set_value (nat_eq id) c.ends.entries k2) s.ends (b ++ rest ++ a.theirs)) l.first h) in
       (t, rest ++ a.theirs, all, e, stands_with c c2 s told (rest ++ a.theirs) same st h2)
 
   pub gives_next : (r : Option Untold) → NextOf id (lookup (nat_eq id) c.ends.entries) r c.ends.entries c2.ends.entries → Gives (record { set = s; told = told }) r c2

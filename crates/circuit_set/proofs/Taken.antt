@@ -1,6 +1,6 @@
 -- How many messages were taken at an end stays in each step but that by which one is taken.
 use Rattle.std.specs.Prelude.{◌≡◌, ℕ, suc, ◌+◌, min, Bool, true, false, not, ◌&&◌, ◌||◌, nat_eq, nat_lt, nat_le, ◌-◌, ◌^◌, zero, if◌then◌else◌, [], List, length, Option, None, Some, is_ok, refl}
-use Rattle.std.proofs.Common.{◌∙◌, sym, ap}
+use Rattle.std.proofs.Common.{◌∙◌}
 use Rattle.radio_base.specs.declared.modulus.TheConstants.{COUNT_MAX}
 use Rattle.radio_base.specs.Modulus.{place_of}
 use Rattle.circuit_l4.specs.declared.transport.Flags.{Flags}
@@ -17,7 +17,7 @@ use Rattle.circuit_l4.specs.EndState.{Effect, State, begin, is_up}
 use Rattle.circuit_l4.specs.EndMoves.{acknowledge, acknowledge_by, advance, again, answer, answer_all, wait, wait_if_out, on_state, hold, begin_to_close, end_with, fill, fill_count, finish, with_receiving, note, is_done, is_silent, on_info, on_info_ack, put_out, emit_owed, supply, emit_ack}
 use Rattle.circuit_l4.specs.EndTable.{common_window, come_up, Input, Write, Arrive, Tick, Close, Take, arrive_in, ask_by, close_in_turn, due_in, expire, count_expiry, note_activity, is_due, may_close, release, resume_by, retry, retry_in, step, step_at, take_from, write_answer, write}
 use Rattle.circuit_reassembly.specs.Gathering.{Answer, More, Whole, Too_long, gather_step}
-use Rattle.circuit_l4.specs.Receiving.{Appended, Receipt, Receiving, append, append_next, appended, busy, receive, receive_at, receive_early, receive_next, without_first, ignored, inbox, move_on, moved_on, next_early}
+use Rattle.circuit_l4.specs.Receiving.{Appended, Receipt, Receiving, append, appended, busy, receive, receive_at, receive_early, receive_next, without_first, ignored, inbox, move_on, moved_on, next_early}
 use Rattle.circuit_l4.specs.Sending.{written}
 use Rattle.std.proofs.Common.{arith}
 use Rattle.circuit_set.specs.Standing.{counted}

@@ -1,6 +1,6 @@
 -- What an end tells, one thing after another.
-use Rattle.std.specs.Prelude.{◌≡◌, ℕ, Bool, true, false, not, ◌||◌, if◌then◌else◌, List, [], ◌∷◌, ◌++◌, drop, slice_get, Option, Some, None, refl}
-use Rattle.std.proofs.Common.{sym, ◌∙◌, ap, subst, arith}
+use Rattle.std.specs.Prelude.{◌≡◌, ℕ, Bool, true, false, not, ◌||◌, List, [], ◌∷◌, drop, slice_get, Option, Some, None, refl}
+use Rattle.std.proofs.Common.{sym, ◌∙◌, ap, subst}
 use Rattle.std.specs.Option.{option_to_list}
 use Rattle.ax_address.specs.Callsign.{Callsign}
 use Rattle.circuit_l4.specs.declared.plain.EndNotice.{EndNotice}
@@ -14,7 +14,7 @@ use Rattle.circuit_set.specs.declared.holder.Holder.{Holder}
 use Rattle.circuit_set.specs.Sets as sets
 use Rattle.circuit_set.specs.Sets.{Told, is_over, notices}
 use Rattle.circuit_set.specs.Pumps.{is_empty}
-use Rattle.circuit_set.specs.Standing.{Keeps, datagram_by, if_so, sents_by, untold_of}
+use Rattle.circuit_set.specs.Standing.{Keeps, datagram_by, if_so, untold_of}
 
 outs_of_end : (m : EndView) (g : Effect) → Stands m g → g.outs ≡ m.outs
 outs_of_end m g s = ap (λ (x : Effect). x.outs) s.is

@@ -1,8 +1,8 @@
 -- A tick of all ends that are held.
-use Rattle.std.specs.Prelude.{◌≡◌, ℕ, zero, suc, ◌+◌, ◌≤◌, ◌<◌, ◌⊎◌, Bool, true, false, nat_eq, if◌then◌else◌, List, [], ◌∷◌, ◌++◌, length, slice_get, Option, Some, None, refl}
+use Rattle.std.specs.Prelude.{◌≡◌, ℕ, zero, suc, ◌≤◌, ◌<◌, ◌⊎◌, Bool, true, false, nat_eq, if◌then◌else◌, List, [], ◌∷◌, ◌++◌, length, slice_get, Option, Some, None, refl}
 use Rattle.std.proofs.Common.{sym, ◌∙◌, ap, subst, inl, inr, arith}
 use Rattle.std.proofs.lemmas.Bool.Decides.{nat_tests}
-use Rattle.std.proofs.lemmas.List.{append_assoc, append-nil}
+use Rattle.std.proofs.lemmas.List.{append_assoc}
 use Rattle.std.specs.Map.{values_of}
 use Rattle.indexmap.specs.IndexMap.{set_value_at}
 use Rattle.ax_address.specs.Callsign.{Callsign}
@@ -15,7 +15,7 @@ use Rattle.circuit_set.specs.declared.held_ends.HeldEnds.{HeldEnds}
 use Rattle.circuit_set.specs.Sets as sets
 use Rattle.circuit_set.specs.Sets.{Calls, SetDone, SetState, Told, called, end_of, goes_to, settled, told_by, with_end, untold}
 use Rattle.circuit_set.specs.Inputs.{runs, ticked, ticks_of}
-use Rattle.circuit_set.specs.Standing.{Held, HeldStands, Here, Keeps, Past, MetBy, Rests, RestsAt, SameNode, Ticks, TicksAt, TicksNth, TicksTo, counted, of_holder}
+use Rattle.circuit_set.specs.Standing.{Held, HeldStands, Here, Keeps, Past, MetBy, Rests, SameNode, Ticks, TicksAt, TicksNth, TicksTo, counted, of_holder}
 use Rattle.circuit_set.proofs.Taken.{taken_same}
 use Rattle.circuit_set.proofs.Meeting.{asked_step}
 use Rattle.circuit_set.proofs.Holding.{stood}
@@ -119,9 +119,9 @@ module _ (s : SetState) (now : ℕ) where
       let held : h.gone ≡ false = ap (λ (x : sets.Holder). x.gone) keep.is ∙ not_gone h.id k g q in
       let kept : Keeps s.own s.ttl h.id f.1 (settled y (step g.end Tick now)) (told_by s y (step g.end Tick now)) = tick_keeps h.id k f.1 g q keep.stands keep.pair keep.taken keep.met t in
       let kept2 : Keeps s.own s.ttl h.id f.1 (settled h (step h.end Tick now)) (told_by s h (step h.end Tick now)) =
-          subst (λ (x : sets.Holder). Keeps s.own s.ttl h.id f.1 (settled x (step x.end Tick now)) (told_by s x (step x.end Tick now))) (sym keep.is) kept in
+      subst (λ (x : sets.Holder). Keeps s.own s.ttl h.id f.1 (settled x (step x.end Tick now)) (told_by s x (step x.end Tick now))) (sym keep.is) kept in
       let all : Stay hi lo (f ∷ fs) (settled h (step h.end Tick now) ∷ ticked_ends now hs) (told_by s h (step h.end Tick now) ++ ticked_told s now hs) =
-          (low, inr (record { k = f.1; rest = fs; mine = told_by s h (step h.end Tick now); theirs = ticked_told s now hs; is = ap (λ n. (n, f.1) ∷ fs) number; both = refl; keeps = kept2; others = later })) in
+      (low, inr (record { k = f.1; rest = fs; mine = told_by s h (step h.end Tick now); theirs = ticked_told s now hs; is = ap (λ n. (n, f.1) ∷ fs) number; both = refl; keeps = kept2; others = later })) in
       simp held all
 
   abbrev Ticked : ℕ → ℕ → List sets.Holder → Type 0
@@ -215,7 +215,7 @@ module _ (s : SetState) (now : ℕ) where
       let second : called at (Some h) sets.Ticks now ≡ goes_to at h [] g = simp held refl in
       let third : goes_to at h [] g ≡ done_by (with_end (settled h g) (done ++ h ∷ hs)) (told_by s h g) = ap (λ ts. done_by (with_end (settled h g) (done ++ h ∷ hs)) ts) (same_told (done ++ h ∷ hs) h g) in
       let fourth : done_by (with_end (settled h g) (done ++ h ∷ hs)) (told_by s h g) ≡ done_by (done ++ settled h g ∷ hs) (told_by s h g) =
-          ap (λ xs. done_by xs (told_by s h g)) (put_in (settled h g) h done hs refl l r) in
+      ap (λ xs. done_by xs (told_by s h g)) (put_in (settled h g) h done hs refl l r) in
       first ∙ second ∙ third ∙ fourth
 
   abbrev runs_on : List sets.Act → SetDone → SetDone
@@ -239,8 +239,8 @@ module _ (s : SetState) (now : ℕ) where
       let h2 : sets.Holder = settled h g in
       let below : Lower (suc h.id) (done ++ h2 ∷ []) = lower_push (suc h.id) h2 done (omega arith) (lower_more lo (suc h.id) done (omega arith) l) in
       let rest : runs (ticks_of now hs) (with_ends (done ++ h2 ∷ hs)) ≡ done_by (done ++ h2 ∷ ticked_ends now hs) (ticked_told s now hs) =
-          ap (λ xs. runs (ticks_of now hs) (with_ends xs)) (push done h2 hs) ∙ later (done ++ h2 ∷ []) (suc h.id) below r
-          ∙ ap (λ xs. done_by xs (ticked_told s now hs)) (sym (push done h2 (ticked_ends now hs))) in
+      ap (λ xs. runs (ticks_of now hs) (with_ends xs)) (push done h2 hs) ∙ later (done ++ h2 ∷ []) (suc h.id) below r
+      ∙ ap (λ xs. done_by xs (ticked_told s now hs)) (sym (push done h2 (ticked_ends now hs))) in
       ap (λ (d : SetDone). runs_on (ticks_of now hs) d) (one_tick h done hs e (lower_more lo h.id done low l) r)
       ∙ ap (λ (q : SetDone). record { set = q.set; told = told_by s h g ++ q.told }) rest
 

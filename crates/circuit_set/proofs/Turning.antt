@@ -1,40 +1,32 @@
 -- What comes of the router, turn by turn.
-use Rattle.std.specs.Prelude.{◌≡◌, ℕ, zero, suc, ◌+◌, ◌-◌, ◌<◌, ◌≤◌, Bool, true, false, not, ◌||◌, if◌then◌else◌, List, [], ◌∷◌, ◌++◌, drop, take, length, map, Option, Some, None, is_some, Result, Ok, Err, refl}
+use Rattle.std.specs.Prelude.{◌≡◌, ℕ, ◌-◌, Bool, true, false, not, ◌||◌, if◌then◌else◌, List, [], ◌∷◌, drop, take, length, Option, Some, None, Result, Ok, Err, refl}
 use Rattle.std.specs.Option.{option_map}
 use Rattle.std.proofs.Common.{sym, ◌∙◌, ap, subst, arith}
 use Rattle.std.proofs.lemmas.List.{append-nil, length-drop, take_all}
 use Rattle.ax_address.specs.Callsign.{Callsign}
 use Rattle.ax_address.specs.CallOrder.{same_call}
-use Rattle.route_table.specs.Log.{Item, Failure}
+use Rattle.route_table.specs.Log.{Item}
 use Rattle.route_table.specs.Held.{StandsFor}
 use Rattle.route_table.specs.Table.{next_hop}
 use Rattle.l3_datagram.specs.declared.carrier.Offered.{Offered}
 use Rattle.l3_datagram.specs.declared.carrier.Offered.TheVariants as offered
 use Rattle.l3_datagram.specs.declared.datagram.DatagramHead.{DatagramHead}
 use Rattle.l3_datagram.specs.declared.datagram.DatagramRefusal.{DatagramRefusal}
-use Rattle.l3_datagram.specs.declared.routed.Routed.{Routed}
-use Rattle.l3_datagram.specs.declared.routed.Routed.TheVariants as routed
-use Rattle.l3_datagram.specs.CarrierCall.{CarrierCall, Collect, Datagram, Fail, Parcel}
+use Rattle.l3_datagram.specs.CarrierCall.{CarrierCall, Datagram}
 use Rattle.l3_datagram.specs.Datagrams.{head_at}
-use Rattle.l3_datagram.specs.Hops.{Way, Ends, GoesOn, offers_of, pumping, told_of, forwarded_by, way}
-use Rattle.l3_datagram.specs.Routers as routers
-use Rattle.l3_datagram.specs.Routers.{IsFor, Routing, SameRouter}
+use Rattle.l3_datagram.specs.Routers.{IsFor}
 use Rattle.circuit_l4.specs.declared.transport.Transport.{Transport}
 use Rattle.circuit_l4.specs.declared.transport.TransportRefusal.{TransportRefusal}
 use Rattle.circuit_l4.specs.Reading.{transport_at}
 use Rattle.circuit_set.specs.declared.event.SetEvent.{SetEvent}
 use Rattle.circuit_set.specs.declared.event.SetEvent.TheVariants as event
 use Rattle.circuit_set.specs.declared.held_ends.HeldEnds.{HeldEnds}
-use Rattle.circuit_set.specs.declared.holder.Untold.{Untold}
 use Rattle.circuit_set.specs.Sets as sets
 use Rattle.circuit_set.specs.Sets.{Comes, SetDone, SetState, Told, handed_up, read_as, received, set_step, untold}
-use Rattle.circuit_set.specs.Pumps.{Of, Pumped, SetTold, Turned, after_calls, at_rest, ends_with, heard_as, hears_by, offer_of, outcome, silent, speaks, takes, tells_first, tells_on, turned, with_done}
-use Rattle.circuit_set.specs.Pumps.{Dropped, Lost}
-use Rattle.circuit_set.specs.Standing.{Gives, HeldStands, seen, told_by_end, told_of as told_of_end}
+use Rattle.circuit_set.specs.Pumps.{Of, Turned, at_rest, ends_with, silent, tells_first, tells_on, turned, with_done}
+use Rattle.circuit_set.specs.Standing.{Gives, HeldStands, seen, told_by_end}
 use Rattle.circuit_set.specs.CircuitSets.{Circuits, DoesPump, SetStands}
-use Rattle.circuit_set.specs.SetTurns.{asks_once}
-use Rattle.circuit_set.proofs.Owning.{SameOwn, read}
-use Rattle.circuit_set.proofs.Pumping.{with_router}
+use Rattle.circuit_set.proofs.Owning.{SameOwn}
 
 module _ {C : Type 0} (made : C → List CarrierCall → C → Type 0) (none_made : (c : C) → made c [] c) where
   -- a turn that makes no call

@@ -1,13 +1,13 @@
 -- The calls of a set as inputs of its machine: each call is the inputs that it takes, and what it tells, with what is then untold,
 -- is what was untold and what those inputs tell, in their order.
-use Rattle.std.specs.Prelude.{◌≡◌, ℕ, ◌<◌, false, Bool, List, [], ◌∷◌, ◌++◌, if◌then◌else◌, Option, Some, None, is_none, Result, Ok, Err}
+use Rattle.std.specs.Prelude.{◌≡◌, ℕ, ◌<◌, List, [], ◌∷◌, ◌++◌, if◌then◌else◌, Option, Some, None, is_none, Result, Ok, Err}
 use Rattle.ax_address.specs.Callsign.{Callsign}
 use Rattle.ax_address.specs.CallOrder.{same_call}
 use Rattle.l3_datagram.specs.CarrierCall.{Parcel}
 use Rattle.l3_datagram.specs.declared.carrier.Offered.{Offered}
 use Rattle.circuit_set.specs.declared.event.ConnectRefusal.{ConnectRefusal}
 use Rattle.circuit_set.specs.declared.event.ConnectRefusal.TheVariants as refusal
-use Rattle.circuit_set.specs.Sets.{Act, Call, Calls, Connect, Discard, Holder, SetDone, SetState, Ticks, Told, is_full, set_step, untold}
+use Rattle.circuit_set.specs.Sets.{Act, Calls, Holder, SetDone, SetState, Ticks, Told, is_full, set_step, untold}
 use Rattle.circuit_set.specs.Pumps.{SetTold, Of, Dropped, Lost, Says, Offers, Turn, Turned, Waiting, pending, hears, hears_lost, tells, with_done}
 
 -- one input after another

@@ -273,9 +273,11 @@ impl HeldEnds {
                 flags: _,
                 text: _,
             } => Ok(self.arrives(&origin, datagram, *to, transport, now)),
-            Transport::InfoAck { to, rx: _, flags: _ } => {
-                Ok(self.arrives(&origin, datagram, *to, transport, now))
-            }
+            Transport::InfoAck {
+                to,
+                rx: _,
+                flags: _,
+            } => { Ok(self.arrives(&origin, datagram, *to, transport, now)) }
         }
     }
 

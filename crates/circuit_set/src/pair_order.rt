@@ -28,9 +28,7 @@ fn is_used(ends: &Slice<'_, u64, Holder>, pair: Pair) -> bool
     ensures { result ≡ order.is_used pair (pairs_of ends.now) }
 {
     match ends.split_first() {
-        Some(((_, holder), rest)) => {
-            holder.pair.index == pair.index || is_used(&rest, pair)
-        }
+        Some(((_, holder), rest)) => { holder.pair.index == pair.index || is_used(&rest, pair) }
         None => false,
     }
 }

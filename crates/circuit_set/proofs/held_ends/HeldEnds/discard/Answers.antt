@@ -1,4 +1,4 @@
-use Rattle.std.proofs.Common.{sym, ap, refl, ◌∙◌, true}
+use Rattle.std.proofs.Common.{sym, refl, ◌∙◌, true}
 use Rattle.circuit_set.proofs.Moving.{discard_ended, discard_goes, discard_open, no_discard, set_back}
 use Rattle.circuit_set.proofs.held_ends.HeldEnds.discard.Goals as goal
 

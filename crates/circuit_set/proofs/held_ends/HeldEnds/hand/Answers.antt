@@ -1,4 +1,4 @@
-use Rattle.std.proofs.Common.{◌∙◌, ap, subst, sym}
+use Rattle.std.proofs.Common.{◌∙◌, ap, sym}
 use Rattle.circuit_l4.specs.declared.plain.EndFacts.{EndFacts}
 use Rattle.circuit_set.specs.Circuits.{heeds}
 use Rattle.circuit_set.proofs.Searching.{hands_some}

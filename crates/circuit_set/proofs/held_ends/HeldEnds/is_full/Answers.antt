@@ -1,4 +1,3 @@
-use Rattle.std.proofs.Common.{◌∙◌, sym, ap, nat_le}
 use Rattle.circuit_set.proofs.Making.{full_else, full_then}
 use Rattle.circuit_set.proofs.held_ends.HeldEnds.is_full.Goals as goal
 

@@ -1,4 +1,4 @@
-use Rattle.std.proofs.Common.{subst, None, Some, ℕ, List}
+use Rattle.std.proofs.Common.{subst, ℕ, List}
 use Rattle.circuit_set.specs.declared.holder.Holder.{Holder}
 use Rattle.circuit_set.specs.Standing.{FirstLoud, Rests}
 use Rattle.circuit_set.proofs.Searching.{gives_first, gives_none}

@@ -1,11 +1,8 @@
-use Rattle.std.proofs.Common.{sym, ap, refl, ◌∙◌, Ok, Err}
+use Rattle.std.proofs.Common.{sym, ap, refl, ◌∙◌}
 use Rattle.std.proofs.Common.{nat_eq}
 use Rattle.std.specs.Map.{set_value}
-use Rattle.circuit_l4.specs.EndTable.{Take}
 use Rattle.circuit_set.specs.Sets as sets
 use Rattle.circuit_set.proofs.Moving.{call_goes, no_take, rests_at, no_message, call_of_none, some_message, some_take}
-use Rattle.circuit_set.specs.Standing.{counted}
-use Rattle.circuit_set.proofs.Taken.{taken_same}
 use Rattle.circuit_set.proofs.held_ends.HeldEnds.take.Goals as goal
 
 pub take-requires : goal.take-requires

@@ -1,4 +1,3 @@
-use Rattle.std.proofs.Common.{◌≡◌}
 use Rattle.circuit_set.specs.Standing.{SameNode, TicksTo}
 use Rattle.circuit_set.proofs.held_ends.HeldEnds.tick.Given as goal
 

@@ -1,5 +1,4 @@
-use Rattle.std.proofs.Common.{refl}
-use Rattle.circuit_set.proofs.Ticking.{no_value, rests_in, ticks_none, ticks_some, value_at}
+use Rattle.circuit_set.proofs.Ticking.{no_value, ticks_none, ticks_some, value_at}
 use Rattle.circuit_set.proofs.held_ends.HeldEnds.tick_nth.Goals as goal
 
 pub tick-requires : goal.tick-requires

@@ -1,4 +1,4 @@
-use Rattle.std.proofs.Common.{sym, ◌∙◌, Some}
+use Rattle.std.proofs.Common.{sym, ◌∙◌}
 use Rattle.circuit_set.proofs.Telling.{no_first, out, told_gone, told_notice}
 use Rattle.circuit_set.proofs.holder.Holder.next.Goals as goal
 

@@ -1,4 +1,4 @@
-use Rattle.std.proofs.Common.{◌≡◌, ◌∙◌, ◌+◌, true, nat_lt, length, sym, ap, arith}
+use Rattle.std.proofs.Common.{◌≡◌, ◌∙◌, ◌+◌, true, nat_lt, length, sym, ap}
 use Rattle.circuit_l4.specs.EndTable as table
 use Rattle.circuit_l4.specs.Receiving.{inbox}
 use Rattle.circuit_set.specs.Standing.{counted}

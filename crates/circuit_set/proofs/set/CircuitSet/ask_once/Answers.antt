@@ -1,8 +1,5 @@
-use Rattle.std.proofs.Common.{Option, None, subst, sym}
-use Rattle.l3_datagram.specs.Hops.{pumping}
-use Rattle.l3_datagram.specs.Routers as routers
+use Rattle.std.proofs.Common.{Option, subst, sym}
 use Rattle.route_table.specs.Table.{next_hop}
-use Rattle.l3_datagram.specs.declared.routed.Routed.{Routed}
 use Rattle.circuit_set.specs.declared.event.SetEvent.{SetEvent}
 use Rattle.circuit_set.specs.CircuitSets.{Circuits, DoesPump}
 use Rattle.circuit_set.specs.SetTurns.{asks_once}
@@ -24,7 +21,7 @@ returns-in_ok-told-in-Some-clause-asks g c =
           let lost = g.C.Carrier.lost c.self.inside.router.carrier in
           let waiting = g.C.Carrier.waiting c.self.inside.router.carrier in
           let done = asks_some made more old c.take_in.new.self c.pump.new.self log c.args.now.0 s st same lost waiting r pumps.0 takes.0 c.in_ok-told-in-Some.told (pumps.1 log stands)
-              (λ log2 st2. takes.1 log2 s st2 (mid_stands made more old c.take_in.new.self c.pump.new.self log c.args.now.0 s st same)) in
+          (λ log2 st2. takes.1 log2 s st2 (mid_stands made more old c.take_in.new.self c.pump.new.self log c.args.now.0 s st same)) in
           subst (λ (e : Option SetEvent). DoesPump made old c.take_in.new.self log e (asks_once (next_hop c.self.inside.router.table.rules log) c.args.now.0 s lost waiting (pick r pumps.0 takes.0))) (sym c.asked_by.ensures.event) done,
     )
 

@@ -1,4 +1,4 @@
-use Rattle.std.proofs.Common.{refl, ap, ◌∙◌}
+use Rattle.std.proofs.Common.{refl}
 use Rattle.circuit_set.proofs.Looping.{begins, goes_on, idles, tells_it}
 use Rattle.circuit_set.proofs.set.CircuitSet.ask_router.Goals as goal
 

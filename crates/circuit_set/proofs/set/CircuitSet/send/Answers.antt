@@ -1,4 +1,4 @@
-use Rattle.std.proofs.Common.{sym, ◌∙◌}
+use Rattle.std.proofs.Common.{◌∙◌}
 use Rattle.route_table.specs.Table.{next_hop}
 use Rattle.circuit_set.proofs.Pumping.{sends_it}
 use Rattle.circuit_set.proofs.set.CircuitSet.send.Goals as goal
