@@ -1,5 +1,6 @@
 //! Sets of circuit ends over carriers in memory: worked rows, and 300 messages over a path that loses, repeats and reorders.
 ghost use Rattle.std.specs.Prelude.{◌≤◌, ◌<◌};
+ghost use Rattle.circuit_l4.specs.EndOpening.{IsConfig};
 
 use arrayvec::ArrayVec;
 use ax_address::{Alias, Call};
@@ -37,7 +38,9 @@ fn set_with(
     own: &str,
     config: EndConfig,
     table: RouteTable,
-) -> Result<CircuitSet<PlainCarrier>, NoMemory> {
+) -> Result<CircuitSet<PlainCarrier>, NoMemory>
+    requires { IsConfig config }
+{
     let router = Router::new(alloc, call(own), table, PlainCarrier::new(alloc), 25);
     CircuitSet::new(alloc, router, call(own), config, FIRST, 1)
 }
@@ -48,7 +51,9 @@ fn set_of(
     own: &str,
     neighbour: &str,
     config: EndConfig,
-) -> Result<CircuitSet<PlainCarrier>, Fail> {
+) -> Result<CircuitSet<PlainCarrier>, Fail>
+    requires { IsConfig config }
+{
     let mut table = empty_table(alloc, own);
     let heard = table.heard(&call(neighbour), &Alias::default(), 192, &[]);
     heard.ok().ok_or("room")?;
@@ -103,19 +108,40 @@ fn carry(
 #[test]
 fn refusals(rt: HostRuntime) -> Result<(), Fail> {
     let mut lone = set_with(rt.alloc(), "N0AAA", CONFIG, empty_table(rt.alloc(), "N0AAA"))?;
+    assert!(rt; lone.drained());
     assert!(rt; lone.connect(&call("N0AAA"), NOW) == Err(ConnectRefusal::Own));
+    assert!(rt; lone.drained());
     assert!(rt; lone.connect(&call("N0BBB"), NOW) == Err(ConnectRefusal::NoRoute));
     let mut set = set_of(rt.alloc(), "N0AAA", "N0BBB", CONFIG)?;
+    assert!(rt; set.drained());
     let id = set.connect(&call("N0BBB"), NOW).ok().ok_or("room")?;
     assert_eq!(rt; id, 1);
     assert!(rt; !set.drained());
     pump_all(&rt, rt.alloc(), &mut set, NOW)?;
+    assert!(rt; set.drained());
     assert!(rt; set.discard(1) == Err(DiscardRefusal::NotEnded));
+    assert!(rt; set.drained());
     assert!(rt; set.discard(9) == Err(DiscardRefusal::NoEnd));
+    assert!(rt; set.drained());
     assert!(rt; set.close(9, NOW) == Err(NoEnd));
+    assert!(rt; set.drained());
     assert!(rt; set.write(9, b"x", NOW) == Err(SetRefusal::NoEnd));
     assert!(rt; set.held(0) == Some(1) && set.held(1) == None);
     assert!(rt; set.partner(1) == Some(call("N0BBB")) && set.partner(2) == None);
+    Ok(())
+}
+
+#[test]
+fn a_sending_without_a_route(rt: HostRuntime) -> Result<(), Fail> {
+    let mut set = set_of(rt.alloc(), "N0AAA", "N0BBB", CONFIG)?;
+    assert!(rt; set.drained());
+    set.connect(&call("N0BBB"), NOW).ok().ok_or("room")?;
+    // the route goes before the request is sent: that it was sent is told, and then what it came to
+    set.router_mut().table_mut().link_failed(&call("N0BBB"));
+    let events = pump_all(&rt, rt.alloc(), &mut set, NOW)?;
+    assert_eq!(rt; events.len(), 3);
+    assert!(rt; matches!(events.get(1), Some(SetEvent::Sent { id: 1, number: None, .. })));
+    assert!(rt; events.get(2) == Some(&SetEvent::Dropped(Routed::NoRoute)));
     Ok(())
 }
 
@@ -126,6 +152,7 @@ fn made_pair(
     set: &mut CircuitSet<PlainCarrier>,
     now: Moment,
 ) -> Result<Pair, Fail> {
+    assert!(rt; set.drained());
     set.connect(&call("N0BBB"), now).ok().ok_or("room")?;
     let events = pump_all(rt, alloc, set, now)?;
     match events.first() {
@@ -145,6 +172,7 @@ fn pairs_go_on(rt: HostRuntime) -> Result<(), Fail> {
         assert_eq!(rt; made_pair(&rt, rt.alloc(), &mut set, Moment(nth))?, pair(nth as u8));
     }
     // the first one's request isn't answered, so that it fails, and is gone once that is told
+    assert!(rt; set.drained());
     set.tick(Moment(1001))?;
     let events = pump_all(&rt, rt.alloc(), &mut set, Moment(1001))?;
     assert_eq!(rt; events.len(), 2);
@@ -159,9 +187,11 @@ fn sixty_four_ends(rt: HostRuntime) -> Result<(), Fail> {
     for _ in 0..64 {
         made_pair(&rt, rt.alloc(), &mut set, NOW)?;
     }
+    assert!(rt; set.drained());
     assert!(rt; set.connect(&call("N0BBB"), NOW) == Err(ConnectRefusal::Full));
     // a request that comes now is refused
     let mut other = set_of(rt.alloc(), "N0BBB", "N0AAA", CONFIG)?;
+    assert!(rt; other.drained());
     other.connect(&call("N0AAA"), NOW).ok().ok_or("room")?;
     pump_all(&rt, rt.alloc(), &mut other, NOW)?;
     set.router_mut().carrier_mut().fetch();
@@ -186,8 +216,10 @@ fn sixty_four_ends(rt: HostRuntime) -> Result<(), Fail> {
 fn an_accept_again(rt: HostRuntime) -> Result<(), Fail> {
     let mut a = set_of(rt.alloc(), "N0AAA", "N0BBB", CONFIG)?;
     let mut b = set_of(rt.alloc(), "N0BBB", "N0AAA", CONFIG)?;
+    assert!(rt; a.drained());
     a.connect(&call("N0BBB"), NOW).ok().ok_or("room")?;
     pump_all(&rt, rt.alloc(), &mut a, NOW)?;
+    assert!(rt; a.drained());
     a.tick(Moment(1000))?;
     pump_all(&rt, rt.alloc(), &mut a, Moment(1000))?;
     // the request has gone out twice: it opens one end, which accepts twice
@@ -268,28 +300,34 @@ fn three_hundred_messages(rt: HostRuntime) -> Result<(), Fail> {
     let mut seeded = Seeded { state: 7 };
     let (mut to_b, mut to_a) = (None, None);
     let (mut written, mut taken) = (0, 0);
+    assert!(rt; a.drained());
     a.connect(&call("N0BBB"), NOW).ok().ok_or("room")?;
     for round in 0..20_000 {
         let now = Moment(round * 100);
         pump_all(&rt, rt.alloc(), &mut a, now)?;
+        assert!(rt; a.drained());
         if written < 300 && a.write(1, message(written).as_slice(), now).is_ok() {
             written += 1;
             pump_all(&rt, rt.alloc(), &mut a, now)?;
         }
         if written == 300 {
+            assert!(rt; a.drained());
             let _ = a.close(1, now);
             pump_all(&rt, rt.alloc(), &mut a, now)?;
         }
         carry_badly(&mut seeded, &mut to_b, &mut a, &mut b)?;
         pump_all(&rt, rt.alloc(), &mut b, now)?;
         let mut out = Message::new();
+        assert!(rt; b.drained());
         if b.take(1, &mut out, now) == Ok(true) {
             assert!(rt; out.as_slice() == message(taken).as_slice());
             taken += 1;
             pump_all(&rt, rt.alloc(), &mut b, now)?;
         }
         carry_badly(&mut seeded, &mut to_a, &mut b, &mut a)?;
+        assert!(rt; a.drained());
         a.tick(now)?;
+        assert!(rt; b.drained());
         b.tick(now)?;
         if a.held(0) == None && b.held(0) == None {
             assert_eq!(rt; taken, 300);
