@@ -7,6 +7,8 @@
 #[cfg(test)]
 mod circuit_ends;
 #[cfg(test)]
+mod circuit_sets;
+#[cfg(test)]
 mod links;
 #[cfg(test)]
 mod routers;
