@@ -107,7 +107,12 @@ fn carry(
 
 #[test]
 fn refusals(rt: HostRuntime) -> Result<(), Fail> {
-    let mut lone = set_with(rt.alloc(), "N0AAA", CONFIG, empty_table(rt.alloc(), "N0AAA"))?;
+    let mut lone = set_with(
+        rt.alloc(),
+        "N0AAA",
+        CONFIG,
+        empty_table(rt.alloc(), "N0AAA"),
+    )?;
     assert!(rt; lone.drained());
     assert!(rt; lone.connect(&call("N0AAA"), NOW) == Err(ConnectRefusal::Own));
     assert!(rt; lone.drained());
@@ -140,7 +145,16 @@ fn a_sending_without_a_route(rt: HostRuntime) -> Result<(), Fail> {
     set.router_mut().table_mut().link_failed(&call("N0BBB"));
     let events = pump_all(&rt, rt.alloc(), &mut set, NOW)?;
     assert_eq!(rt; events.len(), 3);
-    assert!(rt; matches!(events.get(1), Some(SetEvent::Sent { id: 1, number: None, .. })));
+    assert!(rt;
+        matches!(
+            events.get(1),
+            Some(SetEvent::Sent {
+                id: 1,
+                number: None,
+                ..
+            })
+        )
+    );
     assert!(rt; events.get(2) == Some(&SetEvent::Dropped(Routed::NoRoute)));
     Ok(())
 }
@@ -169,7 +183,10 @@ fn pairs_go_on(rt: HostRuntime) -> Result<(), Fail> {
     };
     let mut set = set_of(rt.alloc(), "N0AAA", "N0BBB", config)?;
     for nth in 1..4 {
-        assert_eq!(rt; made_pair(&rt, rt.alloc(), &mut set, Moment(nth))?, pair(nth as u8));
+        assert_eq!(rt;
+            made_pair(&rt, rt.alloc(), &mut set, Moment(nth))?,
+            pair(nth as u8)
+        );
     }
     // the first one's request isn't answered, so that it fails, and is gone once that is told
     assert!(rt; set.drained());
@@ -177,7 +194,10 @@ fn pairs_go_on(rt: HostRuntime) -> Result<(), Fail> {
     let events = pump_all(&rt, rt.alloc(), &mut set, Moment(1001))?;
     assert_eq!(rt; events.len(), 2);
     assert!(rt; set.held(0) == Some(2));
-    assert_eq!(rt; made_pair(&rt, rt.alloc(), &mut set, Moment(1001))?, pair(4));
+    assert_eq!(rt;
+        made_pair(&rt, rt.alloc(), &mut set, Moment(1001))?,
+        pair(4)
+    );
     Ok(())
 }
 
@@ -200,7 +220,16 @@ fn sixty_four_ends(rt: HostRuntime) -> Result<(), Fail> {
     }
     carry(&mut other, &mut set)?;
     let told = set.pump(NOW)?;
-    assert!(rt; matches!(told, Some(SetEvent::Sent { id: 0, number: None, .. })));
+    assert!(rt;
+        matches!(
+            told,
+            Some(SetEvent::Sent {
+                id: 0,
+                number: None,
+                ..
+            })
+        )
+    );
     carry(&mut set, &mut other)?;
     let events = pump_all(&rt, rt.alloc(), &mut other, NOW)?;
     let refused = SetEvent::Notice {
@@ -233,7 +262,16 @@ fn an_accept_again(rt: HostRuntime) -> Result<(), Fail> {
         request: None,
     };
     assert!(rt; events.first() != Some(&made));
-    assert!(rt; matches!(events.get(3), Some(SetEvent::Sent { id: 1, number: None, .. })));
+    assert!(rt;
+        matches!(
+            events.get(3),
+            Some(SetEvent::Sent {
+                id: 1,
+                number: None,
+                ..
+            })
+        )
+    );
     assert!(rt; b.held(1) == None);
     Ok(())
 }
