@@ -26,6 +26,11 @@ def build_wursthatch():
     subprocess.run([os.path.join(TOP, "wursthatch"), "replay"], stdin=subprocess.DEVNULL, stdout=subprocess.DEVNULL, check=True)
 
 
+def build(crate, *words):
+    """Builds the program of a crate, which proves it, and runs it once with these words."""
+    subprocess.run(["rt", "run", "--", *words], cwd=os.path.join(TOP, "crates", crate), stdout=subprocess.DEVNULL, check=True)
+
+
 def run(command, path=os.devnull):
     """Seconds and peak KiB of one run over a file; the least that can be told is the memory of the measuring process."""
     told = subprocess.run([sys.executable, "-S", "-E", "-c", RUN, path, *command], capture_output=True, text=True)

@@ -1,10 +1,15 @@
-//! Drives the machines of a node without a network around them, for the scripts in `bench/`: `links MODULO PEERS COUNT` hands COUNT
-//! datagrams from one table of links to PEERS others, in turn, and prints how many came.
+//! Drives the machines of a node without a network around them, for the scripts in `bench/`, and prints how many came:
+//!
+//! - `links MODULO PEERS COUNT` hands COUNT datagrams from one table of links to PEERS others, in turn;
+//! - `circuits CIRCUITS COUNT` writes COUNT messages over CIRCUITS circuits of one node with another, in turn.
 #![tactic(auto)]
 
+mod circuits;
 mod links;
 mod words;
 
+use radio_base::NoMemory;
+use std::alloc::Global;
 use std::io;
 use std::process::ExitCode;
 use words::{Job, job_of};
@@ -18,22 +23,27 @@ const NO_MEMORY: u8 = 8;
 fn main(rt: HostRuntime) -> io::Result<ExitCode> {
     let alloc = rt.alloc();
     let words = words::given(&rt, alloc)?;
-    let Some(
-        Job {
-            modulo128,
-            peers,
-            count,
-        },
-    ) = job_of(&words)
-    else {
-        eprintln!(rt; "usage: links 8|128 PEERS COUNT")?;
+    let Some(job) = job_of(&words) else {
+        eprintln!(rt; "usage: links 8|128 PEERS COUNT | circuits CIRCUITS COUNT")?;
         return Ok(ExitCode::from(USAGE));
     };
-    match links::carried(alloc, modulo128, peers, count) {
+    match done(alloc, &job) {
         Ok(came) => {
-            println!(rt; "{came} of {count}")?;
+            println!(rt; "{came}")?;
             Ok(ExitCode::SUCCESS)
         }
         Err(_) => Ok(ExitCode::from(NO_MEMORY)),
+    }
+}
+
+/// Does a job. How many datagrams or messages came.
+fn done(alloc: Global, job: &Job) -> Result<u32, NoMemory> {
+    match job {
+        Job::Links {
+            modulo128,
+            peers,
+            count,
+        } => links::carried(alloc, *modulo128, *peers, *count),
+        Job::Circuits { circuits, count } => circuits::carried(alloc, *circuits, *count),
     }
 }

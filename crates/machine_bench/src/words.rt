@@ -3,13 +3,19 @@ use std::alloc::Global;
 use std::{env, io};
 
 /// What is to be done.
-pub struct Job {
-    /// The links are of modulo 128, else of modulo 8.
-    pub modulo128: bool,
-    /// How many tables of links the datagrams go to, 1 to 64.
-    pub peers: u8,
-    /// How many datagrams go.
-    pub count: u32,
+#[derive(Clone, Copy, Debug)]
+pub enum Job {
+    /// So many datagrams go over links of modulo 128 or 8 to so many tables of links, 1 to 64.
+    Links {
+        modulo128: bool,
+        peers: u8,
+        count: u32,
+    },
+    /// So many messages go over so many circuits, 1 to 64, of one node with another.
+    Circuits {
+        circuits: u8,
+        count: u32,
+    },
 }
 
 /// The words behind the program's name.
@@ -23,25 +29,33 @@ pub fn given(rt: &HostRuntime, alloc: Global) -> io::Result<Vec<String>> {
 
 /// The job that the words name.
 pub fn job_of(words: &[String]) -> Option<Job> {
-    let [name, modulo, peers, count] = words else {
-        return None;
-    };
-    if name.as_str() != "links" {
+    match words {
+        [name, modulo, peers, count] if name.as_str() == "links" => Some(Job::Links {
+            modulo128: modulo128_of(modulo)?,
+            peers: few_of(peers)?,
+            count: count.as_str().parse().ok()?,
+        }),
+        [name, circuits, count] if name.as_str() == "circuits" => Some(Job::Circuits {
+            circuits: few_of(circuits)?,
+            count: count.as_str().parse().ok()?,
+        }),
+        _ => None,
+    }
+}
+
+fn modulo128_of(word: &String) -> Option<bool> {
+    match word.as_str() {
+        "8" => Some(false),
+        "128" => Some(true),
+        _ => None,
+    }
+}
+
+/// A number from 1 to 64.
+fn few_of(word: &String) -> Option<u8> {
+    let few: u8 = word.as_str().parse().ok()?;
+    if few == 0 || few > 64 {
         return None;
     }
-    let modulo128 = match modulo.as_str() {
-        "8" => false,
-        "128" => true,
-        _ => return None,
-    };
-    let peers: u8 = peers.as_str().parse().ok()?;
-    let count: u32 = count.as_str().parse().ok()?;
-    if peers == 0 || peers > 64 {
-        return None;
-    }
-    Some(Job {
-        modulo128,
-        peers,
-        count,
-    })
+    Some(few)
 }
