@@ -26,28 +26,12 @@ use Rattle.circuit_set.specs.Sets.{SetDone, SetState, Told, arrives_at, end_of, 
 use Rattle.circuit_set.specs.Standing.{FirstFit, Gives, Hands, HeldStands, SameNode, counted, of_holder}
 use Rattle.circuit_set.proofs.Sends.{Named, either_going}
 use Rattle.circuit_set.proofs.Names.{step_same}
+use Rattle.circuit_set.proofs.Unheeded.{arrival_same}
 use Rattle.circuit_set.proofs.Taken.{taken_same}
 use Rattle.circuit_set.proofs.Meeting.{asked_step}
 use Rattle.circuit_set.proofs.Holding.{stood}
 use Rattle.circuit_set.proofs.Moving.{Found, find, missing_at}
 use Rattle.circuit_set.proofs.Searching.{Fitting, fitting, unfitting}
-
-pair_case : (p : EndPhase) (s : State) (now : ℕ) (to own : Pair) (window : ℕ) → (arrive_in p now (Accept to own window) (begin s)).end.pair ≡ s.pair
-pair_case Connecting s now to own window =
-    let g : Effect = note (Opened (common_window s.config.window window)) (on_state (come_up now own window) (begin s)) in
-    either_going (λ g. g.end.pair ≡ s.pair) (is_done g.end) (begin_to_close now g) g refl refl
-pair_case Up s now to own window = refl
-pair_case Closing s now to own window = refl
-pair_case Ended s now to own window = refl
-
-arrive_pair : (s : State) (t : Transport) (now : ℕ) → (step s (Arrive t) now).end.pair ≡ s.pair
-arrive_pair s (Accept to own window) now = pair_case s.phase s (min now COUNT_MAX) to own window
-arrive_pair s (Request pair window user node) now = ap (λ (n : Named). n.pair) (step_same s (Arrive (Request pair window user node)) now refl)
-arrive_pair s (Refuse to) now = ap (λ (n : Named). n.pair) (step_same s (Arrive (Refuse to)) now refl)
-arrive_pair s (Disconnect to) now = ap (λ (n : Named). n.pair) (step_same s (Arrive (Disconnect to)) now refl)
-arrive_pair s (Disconnected to) now = ap (λ (n : Named). n.pair) (step_same s (Arrive (Disconnected to)) now refl)
-arrive_pair s (Info to tx rx flags text) now = ap (λ (n : Named). n.pair) (step_same s (Arrive (Info to tx rx flags text)) now refl)
-arrive_pair s (InfoAck to rx flags) now = ap (λ (n : Named). n.pair) (step_same s (Arrive (InfoAck to rx flags)) now refl)
 
 module _ (c c2 : HeldEnds) (id : ℕ) (t : Transport) (now : ℕ) (b : Bool) (same : SameNode c c2) (s : SetState) (st : HeldStands c s []) (h : sets.Holder)
     (is : end_of id s.ends ≡ Some h) (held : h.gone ≡ false) where
@@ -67,7 +51,7 @@ module _ (c c2 : HeldEnds) (id : ℕ) (t : Transport) (now : ℕ) (b : Bool) (sa
       let e : w ≡ h = cc z in
       let stands : StandsFor k.end x = stood k.end f.g f.stands in
       let done : HeldStands c2 (goes_to s w [] (step x (Arrive t) now)).set (goes_to s w [] (step x (Arrive t) now)).told =
-      f.to (step x (Arrive t) now) (does x stands) (arrive_pair x t now ∙ f.pair) (f.taken ∙ ap counted (sym (taken_same x (Arrive t) now tt))) (asked_step k.asked x (Arrive t) now f.met) in
+      f.to (step x (Arrive t) now) (does x stands) ((arrival_same x t now).pair ∙ f.pair) (f.taken ∙ ap counted (sym (taken_same x (Arrive t) now tt))) (asked_step k.asked x (Arrive t) now f.met) in
       record {
         hears = hears x stands ∙ ap (λ (y : sets.Holder). heeds y.end.phase t) e;
         stands = subst (λ (y : sets.Holder). HeldStands c2 (goes_to s y [] (step y.end (Arrive t) now)).set (goes_to s y [] (step y.end (Arrive t) now)).told) e done;
