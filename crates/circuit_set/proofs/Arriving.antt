@@ -1,20 +1,14 @@
 -- A transport that is handed to an end is a step of the machine of ends.
-use Rattle.std.specs.Prelude.{◌≡◌, ℕ, min, Bool, true, false, nat_eq, if◌then◌else◌, List, [], ◌∷◌, Option, Some, None, refl}
+use Rattle.std.specs.Prelude.{◌≡◌, ℕ, Bool, true, false, nat_eq, if◌then◌else◌, List, [], ◌∷◌, Option, Some, None, refl}
 use Rattle.std.proofs.Common.{sym, ◌∙◌, ap, subst}
 use Rattle.std.specs.Map.{lookup}
-use Rattle.radio_base.specs.declared.modulus.TheConstants.{COUNT_MAX}
 use Rattle.ax_address.specs.Callsign.{Callsign}
 use Rattle.arrayvec.specs.ArrayVec.{ArrayVec}
 use Rattle.circuit_l4.specs.declared.transport.Pair.{Pair}
 use Rattle.circuit_l4.specs.declared.transport.Transport.{Transport}
-use Rattle.circuit_l4.specs.declared.transport.Transport.TheVariants.{Request, Accept, Refuse, Disconnect, Disconnected, Info, InfoAck}
-use Rattle.circuit_l4.specs.declared.plain.EndPhase.{EndPhase}
-use Rattle.circuit_l4.specs.declared.plain.EndPhase.TheVariants.{Connecting, Up, Closing, Ended}
-use Rattle.circuit_l4.specs.declared.plain.EndNotice.TheVariants.{Opened}
-use Rattle.circuit_l4.specs.EndMoves.{on_state, begin_to_close, is_done, note}
-use Rattle.circuit_l4.specs.EndState.{Effect, State, begin}
+use Rattle.circuit_l4.specs.EndState.{State}
 use Rattle.circuit_l4.specs.EndStanding.{StandsFor}
-use Rattle.circuit_l4.specs.EndTable.{Arrive, common_window, arrive_in, come_up, step}
+use Rattle.circuit_l4.specs.EndTable.{Arrive, step}
 use Rattle.circuit_set.specs.declared.event.SetEvent.TheVariants as event
 use Rattle.circuit_set.specs.declared.holder.Holder.{Holder}
 use Rattle.circuit_set.specs.declared.holder.Untold.{Untold}
@@ -24,8 +18,6 @@ use Rattle.circuit_set.specs.Circuits.{heeds}
 use Rattle.circuit_set.specs.Sets as sets
 use Rattle.circuit_set.specs.Sets.{SetDone, SetState, Told, arrives_at, end_of, first_open, goes_to, handed, named_by}
 use Rattle.circuit_set.specs.Standing.{FirstFit, Gives, Hands, HeldStands, SameNode, counted, of_holder}
-use Rattle.circuit_set.proofs.Sends.{Named, either_going}
-use Rattle.circuit_set.proofs.Names.{step_same}
 use Rattle.circuit_set.proofs.Unheeded.{arrival_same}
 use Rattle.circuit_set.proofs.Taken.{taken_same}
 use Rattle.circuit_set.proofs.Meeting.{asked_step}

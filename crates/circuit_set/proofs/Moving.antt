@@ -20,7 +20,7 @@ use Rattle.circuit_set.specs.declared.held_ends.HeldEnds.{HeldEnds}
 use Rattle.circuit_set.specs.Sets as sets
 use Rattle.circuit_set.specs.Sets.{Call, Writes, Ticks, Closes, Takes, untold, SetDone, SetState, Told, called, datagram_to, end_of, goes_to, input_of, is_over, notices, sents, settled, told_by, with_end}
 use Rattle.circuit_set.specs.Standing.{Goes, SameNode, Held, HeldStands, Keeps, Rests, MetBy, counted, by_write, close_answer, discard_answer, message_at, take_answer, write_answer, if_so, of_holder, sents_by, untold_of}
-use Rattle.circuit_set.proofs.Sends.{Named, names}
+use Rattle.circuit_set.proofs.Sends.{Named}
 use Rattle.circuit_set.proofs.Acts.{call_names}
 use Rattle.circuit_set.proofs.Meeting.{asked_step}
 use Rattle.circuit_set.proofs.Holding.{At, at, missing, some_is, stood}

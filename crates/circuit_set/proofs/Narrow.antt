@@ -1,5 +1,5 @@
 -- Where no own window is above 64, fewer than 128 overtakers are fewer than each circuit allows.
-use Rattle.std.specs.Prelude.{◌≡◌, ℕ, zero, suc, ◌+◌, ◌-◌, ◌*◌, min, ◌≤◌, ◌<◌, ◌⊎◌, Bool, true, false, nat_eq, not, ◌&&◌, ◌||◌, if◌then◌else◌, List, [], ◌∷◌, ◌++◌, drop, slice_get, slice_set, Option, Some, None, Result, Ok, Err, refl}
+use Rattle.std.specs.Prelude.{◌≡◌, ℕ, zero, suc, ◌-◌, ◌*◌, min, ◌≤◌, Bool, true, false, nat_eq, not, ◌&&◌, ◌||◌, if◌then◌else◌, List, [], ◌∷◌, ◌++◌, drop, slice_get, slice_set, Option, Some, None, Result, Ok, Err, refl}
 use Rattle.std.proofs.lemmas.Bool.Decides.{nat_tests}
 use Rattle.std.proofs.Common.{sym, ◌∙◌, ap, subst, inl, inr, arith}
 use Rattle.radio_base.specs.declared.modulus.TheConstants.{COUNT_MAX}
@@ -14,20 +14,15 @@ use Rattle.circuit_l4.specs.declared.transport.Transport.TheVariants.{Request, A
 use Rattle.circuit_l4.specs.declared.transport.TransportRefusal.{TransportRefusal}
 use Rattle.circuit_l4.specs.declared.plain.EndConfig.{EndConfig}
 use Rattle.circuit_l4.specs.declared.plain.EndNotice.{EndNotice}
-use Rattle.circuit_l4.specs.declared.plain.EndPhase.{EndPhase}
-use Rattle.circuit_l4.specs.declared.plain.EndPhase.TheVariants.{Connecting, Up, Closing, Ended}
-use Rattle.circuit_l4.specs.declared.plain.EndNotice.TheVariants.{Opened}
-use Rattle.circuit_l4.specs.EndMoves.{on_state, begin_to_close, is_done, note}
-use Rattle.circuit_l4.specs.EndState.{Effect, Out, State, begin}
-use Rattle.circuit_l4.specs.EndTable.{Arrive, arrive_in, come_up, common_window, step}
+use Rattle.circuit_l4.specs.EndState.{Effect, Out}
+use Rattle.circuit_l4.specs.EndTable.{Arrive, common_window, step}
 use Rattle.circuit_l4.specs.EndOpening.{facts_of, requesting, responding}
 use Rattle.circuit_l4.specs.Reading.{transport_at}
 use Rattle.circuit_set.specs.Circuits.{heeds}
 use Rattle.circuit_set.specs.Sets.{Act, Call, Calls, Comes, Connect, Discard, Restart, Holder, SetDone, SetState, Told, Made, Sent, Heeded, Notice, Gone, Restarted, Lost, accept_again, all_gone, called, datagram_to, discarded, end_of, first_open, goes_to, handed, handed_up, has_ended, holder_of, input_of, is_full, is_over, losses, made, named_by, new_pair, notices, opened_by, read_as, received, requested_anew, requests, responds, sents, set_step, settled, told_by, untold, with_end}
-use Rattle.circuit_set.specs.Books.{Book, Event, Name, SentNote, Timely, TimelyTo, TimelyTold, noted, noted_all, partner}
-use Rattle.circuit_set.specs.Runs.{AreNarrow, AreStarts, AreSteps, IsAct, NarrowIsTimely, Net, Step, allowed, begins, end_in, events_at, events_of, net_step, sets_at, told_at}
-use Rattle.circuit_set.proofs.Sends.{Named, either_going, names}
-use Rattle.circuit_set.proofs.Names.{step_same}
+use Rattle.circuit_set.specs.Books.{Book, Event, Name, Timely, TimelyTo, TimelyTold, noted, noted_all}
+use Rattle.circuit_set.specs.Runs.{AreNarrow, AreStarts, AreSteps, NarrowIsTimely, Net, Step, allowed, begins, end_in, events_at, events_of, net_step, sets_at, told_at}
+use Rattle.circuit_set.proofs.Sends.{Named}
 use Rattle.circuit_set.proofs.Lookups.{InEnds, in_changed, in_pushed, open_found, set_other, set_same}
 use Rattle.circuit_set.proofs.Invariant.{CircuitOk, EndInv, Kept, PairInv}
 use Rattle.circuit_set.proofs.Acts.{allow_is, call_names}
@@ -102,7 +97,7 @@ module _ (s : SetState) where
   heeds_first h d g true = end_unheeding s h g
   heeds_first h d g false = alone_of (told_by s h g) (end_unheeding s h g)
 
-  named_first : (d : List ℕ) (t : Transport) (now : ℕ) (o : Option Holder) → First (elim o as (λ x. SetDone) [ | Some h ↦ handed s h d t now | None ↦ untold s ])
+  named_first : (d : List ℕ) (t : Transport) (now : ℕ) (o : Option Holder) → First (elim o as (λ x. SetDone) [ Some h ↦ handed s h d t now | None ↦ untold s ])
   named_first d t now (Some h) = heeds_first h d (step h.end (Arrive t) now) (heeds h.end.phase t)
   named_first d t now None = tt
 
@@ -110,7 +105,7 @@ module _ (s : SetState) where
   made_first at asked request g = end_unheeding s (holder_of s at asked g) g
 
   asked_first : (origin : Callsign) (d : List ℕ) (pair : Pair) (window now : ℕ) (o : Option Holder)
-      → First (elim o as (λ x. SetDone) [ | Some h ↦ goes_to s h [] (accept_again h.end) | None ↦ requested_anew s origin d pair window now ])
+      → First (elim o as (λ x. SetDone) [ Some h ↦ goes_to s h [] (accept_again h.end) | None ↦ requested_anew s origin d pair window now ])
   asked_first origin d pair window now (Some h) = alone_of (told_by s h (accept_again h.end)) (end_unheeding s h (accept_again h.end))
   asked_first origin d pair window now None =
       either_told First (is_full s) (record { set = s; told = Sent 0 None (datagram_to s origin (Refuse pair)) ∷ [] }) (responds s origin d pair window now) tt
@@ -191,13 +186,13 @@ module _ (s : SetState) (n : NarrowSet s) where
   }
 
   named_narrow : (d : List ℕ) (to : Pair) (origin : Callsign) (t : Transport) (now : ℕ) (o : Option Holder) → first_open (named_by origin to) s.ends ≡ o
-      → Narrow (elim o as (λ x. SetDone) [ | Some h ↦ handed s h d t now | None ↦ untold s ])
+      → Narrow (elim o as (λ x. SetDone) [ Some h ↦ handed s h d t now | None ↦ untold s ])
   named_narrow d to origin t now (Some h) e =
       goes_narrow h (if heeds h.end.phase t then Heeded h.id d ∷ [] else []) (step h.end (Arrive t) now) (open_found (named_by origin to) h s.ends e).0 (arrival_same h.end t now).config
   named_narrow d to origin t now None e = n
 
   asked_narrow : (origin : Callsign) (d : List ℕ) (pair : Pair) (window now : ℕ) (o : Option Holder) → first_open (opened_by origin pair) s.ends ≡ o
-      → Narrow (elim o as (λ x. SetDone) [ | Some h ↦ goes_to s h [] (accept_again h.end) | None ↦ requested_anew s origin d pair window now ])
+      → Narrow (elim o as (λ x. SetDone) [ Some h ↦ goes_to s h [] (accept_again h.end) | None ↦ requested_anew s origin d pair window now ])
   asked_narrow origin d pair window now (Some h) e = goes_narrow h [] (accept_again h.end) (open_found (opened_by origin pair) h s.ends e).0 refl
   asked_narrow origin d pair window now None e =
       either_told Narrow (is_full s) (record { set = s; told = Sent 0 None (datagram_to s origin (Refuse pair)) ∷ [] }) (responds s origin d pair window now) n
