@@ -19,4 +19,4 @@ returns-in-Err-clause-does c = λ g h.
     let known : Effect = on_state (λ s. (acknowledge c.args.now c.args.rx c.args.flags s).end) g in
     let receipt : Receipt = receive known.end.window c.args.tx c.args.piece known.end.receiving in
     let comes = c.receive.ensures.does known (c.acknowledge-owed.ensures.does g h).0 in
-    texted_fails c.args.now _  receipt _ known (receipt_fails receipt c.in-Err.field-0 (sym comes.1 ∙ c.in-Err.is)) (c.end.ensures.does _ comes.0)
+    texted_fails c.args.now _ receipt _ known (receipt_fails receipt c.in-Err.field-0 (sym comes.1 ∙ c.in-Err.is)) (c.end.ensures.does _ comes.0)
