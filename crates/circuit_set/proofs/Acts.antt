@@ -57,7 +57,7 @@ set_self (x ∷ ss) zero s h = let e : x ≡ s = cc in ap (λ y. y ∷ ss) (sym 
 set_self (x ∷ ss) (suc n) s h = ap (λ ys. x ∷ ys) (set_self ss n s h)
 
 -- ---- a call of an end ----
-call_names : (s : State) (call : Call) (now : ℕ) → names (step s (input_of call) now).end ≡ names s
+pub call_names : (s : State) (call : Call) (now : ℕ) → names (step s (input_of call) now).end ≡ names s
 call_names s (Writes m) now = step_same s (Write m) now tt
 call_names s Ticks now = step_same s Tick now tt
 call_names s Closes now = step_same s Close now tt
@@ -187,6 +187,23 @@ was_sent y x ss (h ∷ hs) p q = (
   was_sent y x ss hs (λ i e. p i (was_case x h hs i (same_name h.who x) e)) (λ i e. q i (was_case y h hs i (same_name h.who y) e)),
 )
 
+-- an end that has met its partner
+module _ (net : Net) (k : Kept net) (me y : Name) (h : Holder) (mine : EndInv net k.past me h) (met : partner net.book me ≡ Some y) where
+  -- the allowance is that of the circuit's window
+  allow_case : (c : CircuitOk net k.past me y h.end) (b : Bool) → was_asked net.book.made me ≡ b → (if b then allowance (opened_window (told_to net.book.made me)) else partner_allowance net.book (partner net.book me)) ≡ 256 - 2 * c.window
+  allow_case c true e =
+      let role : h.end.role ≡ Responder = mine.asked e in
+      ap allowance (mine.opens role) ∙ ap (λ w. 256 - 2 * w) (c.kept.end_mine.answers role)
+  allow_case c false e = elim (partner_asked net.book.made me y met) [
+    | inl bad ↦ (let two : true ≡ false = sym bad ∙ e in cc)
+    | inr r ↦ (let o : EndInv net k.past y c.end = k.ends y c.end c.there in
+        let role : c.end.end.role ≡ Responder = o.asked r in
+        ap (λ q. partner_allowance net.book q) met ∙ ap allowance (o.opens role) ∙ ap (λ w. 256 - 2 * w) (c.kept.end_theirs.answers role))
+  ]
+
+  pub allow_is : (c : CircuitOk net k.past me y h.end) → allowed net.book me ≡ 256 - 2 * c.window
+  allow_is c = allow_case c (was_asked net.book.made me) refl
+
 module _ (net : Net) (k : Kept net) (n : ℕ) (s : SetState) (h : Holder) (here : slice_get net.sets n ≡ Some s) (there : end_of h.id s.ends ≡ Some h)
     (d : List ℕ) (t : Transport) (now : ℕ) (read : transport_at (drop 15 d) ≡ Ok t) (heeded : heeds h.end.phase t ≡ true) (time : TimelyTo allowed net.book (record { node = n; id = h.id }) d) where
   abbrev me : Name
@@ -240,21 +257,6 @@ module _ (net : Net) (k : Kept net) (n : ℕ) (s : SetState) (h : Holder) (here 
       let few : overtakers y me latest_one.place net.book.sent net.book.heard < allowed net.book me = time.4 in
       omega arith
 
-  -- the allowance is that of the circuit's window
-  allow_case : (c : CircuitOk net k.past me y h.end) (b : Bool) → was_asked net.book.made me ≡ b → (if b then allowance (opened_window (told_to net.book.made me)) else partner_allowance net.book (partner net.book me)) ≡ 256 - 2 * c.window
-  allow_case c true e =
-      let role : h.end.role ≡ Responder = my_inv.asked e in
-      ap allowance (my_inv.opens role) ∙ ap (λ w. 256 - 2 * w) (c.kept.end_mine.answers role)
-  allow_case c false e = elim (partner_asked net.book.made me y time.2) [
-    | inl bad ↦ (let two : true ≡ false = sym bad ∙ e in cc)
-    | inr r ↦ (let o : EndInv net k.past y c.end = k.ends y c.end c.there in
-        let role : c.end.end.role ≡ Responder = o.asked r in
-        ap (λ q. partner_allowance net.book q) time.2 ∙ ap allowance (o.opens role) ∙ ap (λ w. 256 - 2 * w) (c.kept.end_theirs.answers role))
-  ]
-
-  allow_is : (c : CircuitOk net k.past me y h.end) → allowed net.book me ≡ 256 - 2 * c.window
-  allow_is c = allow_case c (was_asked net.book.made me) refl
-
   -- the circuit heeds it
   circuit : (c : CircuitOk net k.past me y h.end) → PairOk c.window (now_at (side_of net.book k.past me h.end) (side_of net.book k.past y c.end.end) (step h.end (Arrive t) now) (heard_of me b1.heard)) (side_of net.book k.past y c.end.end)
   circuit c =
@@ -263,7 +265,7 @@ module _ (net : Net) (k : Kept net) (n : ℕ) (s : SetState) (h : Holder) (here 
       let f : Flight = found.past.flight in
       let a : ℕ = 256 - 2 * c.window in
       let low : c.window ≤ 127 = c.fits in
-      let is_allowed : allowed net.book me ≡ 256 - 2 * c.window = allow_is c in
+      let is_allowed : allowed net.book me ≡ 256 - 2 * c.window = allow_is net k me y h my_inv time.2 c in
       let few : count_from found.past.flight.own hs + count_from found.past.flight.other (heard_of y net.book.heard) < allowed net.book me = in_time in
       let fine : ComesInTime (256 - 2 * c.window) sx sy (slice_get sy.outs found.nth) = subst (λ o. ComesInTime (256 - 2 * c.window) sx sy o) (sym found.at) (λ q. subst (λ i. count_from found.past.flight.own hs + count_from found.past.flight.other (heard_of y net.book.heard) < i) is_allowed in_time) in
       let came : PairOk c.window (comes sx sy (slice_get sy.outs found.nth) now) sy = comes_ok c.window (256 - 2 * c.window) now sx sy found.nth (omega arith) c.kept fine in

@@ -1,20 +1,14 @@
 -- A transport that is handed to an end is a step of the machine of ends.
-use Rattle.std.specs.Prelude.{◌≡◌, ℕ, min, Bool, true, false, nat_eq, if◌then◌else◌, List, [], ◌∷◌, Option, Some, None, refl}
+use Rattle.std.specs.Prelude.{◌≡◌, ℕ, Bool, true, false, nat_eq, if◌then◌else◌, List, [], ◌∷◌, Option, Some, None, refl}
 use Rattle.std.proofs.Common.{sym, ◌∙◌, ap, subst}
 use Rattle.std.specs.Map.{lookup}
-use Rattle.radio_base.specs.declared.modulus.TheConstants.{COUNT_MAX}
 use Rattle.ax_address.specs.Callsign.{Callsign}
 use Rattle.arrayvec.specs.ArrayVec.{ArrayVec}
 use Rattle.circuit_l4.specs.declared.transport.Pair.{Pair}
 use Rattle.circuit_l4.specs.declared.transport.Transport.{Transport}
-use Rattle.circuit_l4.specs.declared.transport.Transport.TheVariants.{Request, Accept, Refuse, Disconnect, Disconnected, Info, InfoAck}
-use Rattle.circuit_l4.specs.declared.plain.EndPhase.{EndPhase}
-use Rattle.circuit_l4.specs.declared.plain.EndPhase.TheVariants.{Connecting, Up, Closing, Ended}
-use Rattle.circuit_l4.specs.declared.plain.EndNotice.TheVariants.{Opened}
-use Rattle.circuit_l4.specs.EndMoves.{on_state, begin_to_close, is_done, note}
-use Rattle.circuit_l4.specs.EndState.{Effect, State, begin}
+use Rattle.circuit_l4.specs.EndState.{State}
 use Rattle.circuit_l4.specs.EndStanding.{StandsFor}
-use Rattle.circuit_l4.specs.EndTable.{Arrive, common_window, arrive_in, come_up, step}
+use Rattle.circuit_l4.specs.EndTable.{Arrive, step}
 use Rattle.circuit_set.specs.declared.event.SetEvent.TheVariants as event
 use Rattle.circuit_set.specs.declared.holder.Holder.{Holder}
 use Rattle.circuit_set.specs.declared.holder.Untold.{Untold}
@@ -24,30 +18,12 @@ use Rattle.circuit_set.specs.Circuits.{heeds}
 use Rattle.circuit_set.specs.Sets as sets
 use Rattle.circuit_set.specs.Sets.{SetDone, SetState, Told, arrives_at, end_of, first_open, goes_to, handed, named_by}
 use Rattle.circuit_set.specs.Standing.{FirstFit, Gives, Hands, HeldStands, SameNode, counted, of_holder}
-use Rattle.circuit_set.proofs.Sends.{Named, either_going}
-use Rattle.circuit_set.proofs.Names.{step_same}
+use Rattle.circuit_set.proofs.Unheeded.{arrival_same}
 use Rattle.circuit_set.proofs.Taken.{taken_same}
 use Rattle.circuit_set.proofs.Meeting.{asked_step}
 use Rattle.circuit_set.proofs.Holding.{stood}
 use Rattle.circuit_set.proofs.Moving.{Found, find, missing_at}
 use Rattle.circuit_set.proofs.Searching.{Fitting, fitting, unfitting}
-
-pair_case : (p : EndPhase) (s : State) (now : ℕ) (to own : Pair) (window : ℕ) → (arrive_in p now (Accept to own window) (begin s)).end.pair ≡ s.pair
-pair_case Connecting s now to own window =
-    let g : Effect = note (Opened (common_window s.config.window window)) (on_state (come_up now own window) (begin s)) in
-    either_going (λ g. g.end.pair ≡ s.pair) (is_done g.end) (begin_to_close now g) g refl refl
-pair_case Up s now to own window = refl
-pair_case Closing s now to own window = refl
-pair_case Ended s now to own window = refl
-
-arrive_pair : (s : State) (t : Transport) (now : ℕ) → (step s (Arrive t) now).end.pair ≡ s.pair
-arrive_pair s (Accept to own window) now = pair_case s.phase s (min now COUNT_MAX) to own window
-arrive_pair s (Request pair window user node) now = ap (λ (n : Named). n.pair) (step_same s (Arrive (Request pair window user node)) now refl)
-arrive_pair s (Refuse to) now = ap (λ (n : Named). n.pair) (step_same s (Arrive (Refuse to)) now refl)
-arrive_pair s (Disconnect to) now = ap (λ (n : Named). n.pair) (step_same s (Arrive (Disconnect to)) now refl)
-arrive_pair s (Disconnected to) now = ap (λ (n : Named). n.pair) (step_same s (Arrive (Disconnected to)) now refl)
-arrive_pair s (Info to tx rx flags text) now = ap (λ (n : Named). n.pair) (step_same s (Arrive (Info to tx rx flags text)) now refl)
-arrive_pair s (InfoAck to rx flags) now = ap (λ (n : Named). n.pair) (step_same s (Arrive (InfoAck to rx flags)) now refl)
 
 module _ (c c2 : HeldEnds) (id : ℕ) (t : Transport) (now : ℕ) (b : Bool) (same : SameNode c c2) (s : SetState) (st : HeldStands c s []) (h : sets.Holder)
     (is : end_of id s.ends ≡ Some h) (held : h.gone ≡ false) where
@@ -67,7 +43,7 @@ module _ (c c2 : HeldEnds) (id : ℕ) (t : Transport) (now : ℕ) (b : Bool) (sa
       let e : w ≡ h = cc z in
       let stands : StandsFor k.end x = stood k.end f.g f.stands in
       let done : HeldStands c2 (goes_to s w [] (step x (Arrive t) now)).set (goes_to s w [] (step x (Arrive t) now)).told =
-      f.to (step x (Arrive t) now) (does x stands) (arrive_pair x t now ∙ f.pair) (f.taken ∙ ap counted (sym (taken_same x (Arrive t) now tt))) (asked_step k.asked x (Arrive t) now f.met) in
+      f.to (step x (Arrive t) now) (does x stands) ((arrival_same x t now).pair ∙ f.pair) (f.taken ∙ ap counted (sym (taken_same x (Arrive t) now tt))) (asked_step k.asked x (Arrive t) now f.met) in
       record {
         hears = hears x stands ∙ ap (λ (y : sets.Holder). heeds y.end.phase t) e;
         stands = subst (λ (y : sets.Holder). HeldStands c2 (goes_to s y [] (step y.end (Arrive t) now)).set (goes_to s y [] (step y.end (Arrive t) now)).told) e done;

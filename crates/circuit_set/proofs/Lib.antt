@@ -31,6 +31,7 @@ pub mod Unheeded
 pub mod Acts
 pub mod Opens
 pub mod Safe
+pub mod Narrow
 pub mod Silent
 pub mod Taken
 pub mod Meeting

@@ -1,5 +1,5 @@
 -- What a set tells of its ends, and what a refusal leaves.
-use Rattle.std.specs.Prelude.{◌≡◌, ℕ, zero, suc, ◌⊎◌, true, false, nat_eq, List, [], ◌∷◌, ◌++◌, slice_get, Option, Some, None, Result, Ok, Err, OnErr, refl}
+use Rattle.std.specs.Prelude.{◌≡◌, ℕ, zero, suc, ◌⊎◌, true, false, nat_eq, List, [], ◌∷◌, slice_get, Option, Some, None, Result, Ok, Err, OnErr, refl}
 use Rattle.std.specs.Option.{option_map}
 use Rattle.std.proofs.Common.{sym, ◌∙◌, ap, subst, inl, inr}
 use Rattle.std.specs.Map.{lookup}
@@ -17,7 +17,7 @@ use Rattle.circuit_set.specs.Inputs.{ticked, ticks, ticks_of}
 use Rattle.circuit_set.specs.Standing.{Held, HeldStands, Here, Keeps, Past, Rests, SameNode, of_holder}
 use Rattle.circuit_set.specs.CircuitSets.{Circuits, Goes, IsDrained, IsUnchanged, LentStands, SetStands, facts_at, held_ids, partner_at}
 use Rattle.circuit_set.proofs.Holding.{stood}
-use Rattle.circuit_set.proofs.Moving.{IsQuiet, Stood, missing_at, not_gone, quiet, stood_at}
+use Rattle.circuit_set.proofs.Moving.{IsQuiet, Stood, missing_at, not_gone, nothing, quiet, stood_at}
 use Rattle.circuit_set.proofs.Owning.{SameOwn, runs_own}
 
 -- ---- an end of a number ----
@@ -67,10 +67,6 @@ module _ {C : Type 0} (c : Circuits C) (id : ℕ) (s : SetState) (st : SetStands
 abbrev keys : List (ℕ × Holder) → List ℕ
 keys [] = []
 keys (e ∷ es) = e.0 ∷ keys es
-
-nothing : (x y : List Told) → [] ≡ x ++ y → (x ≡ []) × (y ≡ [])
-nothing [] y e = (refl, sym e)
-nothing (t ∷ x) y e = absurd (cc e)
 
 module _ (own : Callsign) (ttl : ℕ) where
   ids_here : (k : Holder) (h : sets.Holder) (hs : List sets.Holder) (ids : List ℕ) → Keeps own ttl h.id k h [] → held_ids hs ≡ ids → held_ids (h ∷ hs) ≡ h.id ∷ ids

@@ -26,11 +26,7 @@ use Rattle.circuit_set.proofs.Holding.{At, at, some_is, stood}
 use Rattle.circuit_set.proofs.Searching.{Fitting, fitting, unfitting}
 use Rattle.ax_address.specs.CallOrder.{same_call}
 use Rattle.circuit_set.specs.declared.holder.Untold.{Untold}
-use Rattle.circuit_set.proofs.Moving.{IsQuiet, not_gone, quiet, sents_is, set_back, so_is}
-
-nothing : (x y : List Told) → [] ≡ x ++ y → (x ≡ []) × (y ≡ [])
-nothing [] y e = (refl, sym e)
-nothing (t ∷ x) y e = absurd (cc e)
+use Rattle.circuit_set.proofs.Moving.{IsQuiet, not_gone, nothing, quiet, sents_is, set_back, so_is}
 
 module _ (own : Callsign) (ttl : ℕ) where
   pairs_here : (id : ℕ) (k : Holder) (h : sets.Holder) (hs : List sets.Holder) (ps : List Pair) → Keeps own ttl id k h [] → held_pairs hs ≡ ps → held_pairs (h ∷ hs) ≡ k.pair ∷ ps

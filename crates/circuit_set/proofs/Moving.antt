@@ -20,8 +20,8 @@ use Rattle.circuit_set.specs.declared.held_ends.HeldEnds.{HeldEnds}
 use Rattle.circuit_set.specs.Sets as sets
 use Rattle.circuit_set.specs.Sets.{Call, Writes, Ticks, Closes, Takes, untold, SetDone, SetState, Told, called, datagram_to, end_of, goes_to, input_of, is_over, notices, sents, settled, told_by, with_end}
 use Rattle.circuit_set.specs.Standing.{Goes, SameNode, Held, HeldStands, Keeps, Rests, MetBy, counted, by_write, close_answer, discard_answer, message_at, take_answer, write_answer, if_so, of_holder, sents_by, untold_of}
-use Rattle.circuit_set.proofs.Sends.{Named, names}
-use Rattle.circuit_set.proofs.Names.{step_same}
+use Rattle.circuit_set.proofs.Sends.{Named}
+use Rattle.circuit_set.proofs.Acts.{call_names}
 use Rattle.circuit_set.proofs.Meeting.{asked_step}
 use Rattle.circuit_set.proofs.Holding.{At, at, missing, some_is, stood}
 
@@ -33,7 +33,7 @@ pub so_is : (b : Bool) (t : Told) → if_so b t ≡ (if b then t ∷ [] else [])
 so_is true t = refl
 so_is false t = refl
 
-nothing : (x y : List Told) → [] ≡ x ++ y → (x ≡ []) × (y ≡ [])
+pub nothing : (x y : List Told) → [] ≡ x ++ y → (x ≡ []) × (y ≡ [])
 nothing [] y e = (refl, sym e)
 nothing (t ∷ x) y e = absurd (cc e)
 
@@ -161,12 +161,6 @@ module _ (c c2 : HeldEnds) (id : ℕ) (k : Holder) (e2 : EndView) (n : ℕ) (sam
                   (subst (λ ts. Held s.own s.ttl s.number 0 (set_value (nat_eq id) c.ends.entries (record k { end = e2; taken = n })) (with_end h2 s.ends) ts) told put);
             };
       }
-
-call_names : (s : State) (call : Call) (now : ℕ) → names (step s (input_of call) now).end ≡ names s
-call_names s (Writes m) now = step_same s (Write m) now tt
-call_names s Ticks now = step_same s Tick now tt
-call_names s Closes now = step_same s Close now tt
-call_names s Takes now = step_same s Take now tt
 
 pub call_pair : (s : State) (call : Call) (now : ℕ) → (step s (input_of call) now).end.pair ≡ s.pair
 call_pair s call now = ap (λ (n : Named). n.pair) (call_names s call now)

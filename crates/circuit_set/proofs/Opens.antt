@@ -356,22 +356,22 @@ step_case net st (Some s) k act e time = act_so net k st.node s e st.act act tim
 pub step_kept : (net : Net) (st : Step) → Kept net → IsAct st.act → Timely allowed net.book (told_at net.sets st.node (slice_get net.sets st.node) st.act) → Kept (net_step net st) × Stays net.book (net_step net st).book
 step_kept net st k act time = step_case net st (slice_get net.sets st.node) k act refl time
 
-timely_parts : (b : Book) (xs ys : List Event) → Timely allowed b (xs ++ ys) → Timely allowed b xs × Timely allowed (noted_all b xs) ys
-timely_parts b [] ys t = (tt, t)
-timely_parts b (x ∷ xs) ys t = let r = timely_parts (noted b x) xs ys t.1 in ((t.0, r.0), r.1)
+pub timely_parts : (allow : Book → Name → ℕ) (b : Book) (xs ys : List Event) → Timely allow b (xs ++ ys) → Timely allow b xs × Timely allow (noted_all b xs) ys
+timely_parts allow b [] ys t = (tt, t)
+timely_parts allow b (x ∷ xs) ys t = let r = timely_parts allow (noted b x) xs ys t.1 in ((t.0, r.0), r.1)
 
 pub run_kept : (net : Net) (steps later : List Step) → Kept net → AreSteps (steps ++ later) → Timely allowed net.book (events_of net.sets (steps ++ later)) → Kept (net_run net steps)
 run_kept net [] later k are time = k
 run_kept net (st ∷ sts) later k are time =
     let told : List Event = told_at net.sets st.node (slice_get net.sets st.node) st.act in
-    let parts = timely_parts net.book told (events_of (sets_at net.sets st.node (slice_get net.sets st.node) st.act) (sts ++ later)) time in
+    let parts = timely_parts allowed net.book told (events_of (sets_at net.sets st.node (slice_get net.sets st.node) st.act) (sts ++ later)) time in
     run_kept (net_step net st) sts later (step_kept net st k are.0 parts.0).0 are.1 parts.1
 
 pub run_stays : (net : Net) (steps : List Step) → Kept net → AreSteps steps → Timely allowed net.book (events_of net.sets steps) → (x y : Name) → partner net.book x ≡ Some y → partner (net_run net steps).book x ≡ Some y
 run_stays net [] k are time x y e = e
 run_stays net (st ∷ sts) k are time x y e =
     let told : List Event = told_at net.sets st.node (slice_get net.sets st.node) st.act in
-    let parts = timely_parts net.book told (events_of (sets_at net.sets st.node (slice_get net.sets st.node) st.act) sts) time in
+    let parts = timely_parts allowed net.book told (events_of (sets_at net.sets st.node (slice_get net.sets st.node) st.act) sts) time in
     let next = step_kept net st k are.0 parts.0 in
     run_stays (net_step net st) sts next.0 are.1 parts.1 x y (next.1 x y e)
 
@@ -381,5 +381,5 @@ pub later_stays : (net : Net) (steps later : List Step) → Kept net → AreStep
 later_stays net [] later k are time x y e = run_stays net later k are time x y e
 later_stays net (st ∷ sts) later k are time x y e =
     let told : List Event = told_at net.sets st.node (slice_get net.sets st.node) st.act in
-    let parts = timely_parts net.book told (events_of (sets_at net.sets st.node (slice_get net.sets st.node) st.act) (sts ++ later)) time in
+    let parts = timely_parts allowed net.book told (events_of (sets_at net.sets st.node (slice_get net.sets st.node) st.act) (sts ++ later)) time in
     later_stays (net_step net st) sts later (step_kept net st k are.0 parts.0).0 are.1 parts.1 x y e

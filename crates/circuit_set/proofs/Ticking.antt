@@ -19,11 +19,7 @@ use Rattle.circuit_set.specs.Standing.{Held, HeldStands, Here, Keeps, Past, MetB
 use Rattle.circuit_set.proofs.Taken.{taken_same}
 use Rattle.circuit_set.proofs.Meeting.{asked_step}
 use Rattle.circuit_set.proofs.Holding.{stood}
-use Rattle.circuit_set.proofs.Moving.{IsQuiet, call_pair, moved_keeps, not_gone, quiet, sents_is}
-
-nothing : (x y : List Told) → [] ≡ x ++ y → (x ≡ []) × (y ≡ [])
-nothing [] y e = (refl, sym e)
-nothing (t ∷ x) y e = absurd (cc e)
+use Rattle.circuit_set.proofs.Moving.{IsQuiet, call_pair, moved_keeps, not_gone, nothing, quiet, sents_is}
 
 pub same_node : (a b c : HeldEnds) → SameNode a b → SameNode b c → SameNode a c
 same_node a b c x y = record { own = y.own ∙ x.own; user = y.user ∙ x.user; config = y.config ∙ x.config; next = y.next ∙ x.next; number = y.number ∙ x.number }

@@ -145,3 +145,14 @@ PartnersStay =
 -- the windows that an end may have fit their allowance
 abbrev pub WindowsFit : Type 0
 WindowsFit = (w : ℕ) → 1 ≤ w → w ≤ 127 → 2 * w + allowance (Some w) ≤ 256
+
+-- No set's own window is above 64.
+abbrev pub AreNarrow : List SetState → Type 0
+AreNarrow [] = Unit {0}
+AreNarrow (s ∷ ss) = (s.config.window ≤ 64) × AreNarrow ss
+
+-- Then fewer than 128 overtakers are fewer than each circuit allows.
+abbrev pub NarrowIsTimely : Type 0
+NarrowIsTimely =
+    (sets : List SetState) → AreStarts sets → AreNarrow sets → (steps : List Step) → AreSteps steps
+    → Timely (λ b x. 128) empty (events_of sets steps) → Timely allowed empty (events_of sets steps)

@@ -4,7 +4,7 @@ ghost use Rattle.circuit_set.specs.Lines.{Line, Infos, over, at_place};
 ghost use Rattle.circuit_set.specs.Laws.{OneCircuitSafe};
 ghost use Rattle.circuit_set.specs.Pairs.{PairsDiffer};
 ghost use Rattle.circuit_set.specs.Inputs.{ActsGo, HearsGo, HearsLostGoes, TellsGo, TellsLess, TicksGo};
-ghost use Rattle.circuit_set.specs.Runs.{CircuitsSafe, PartnersStay, WindowsFit};
+ghost use Rattle.circuit_set.specs.Runs.{CircuitsSafe, NarrowIsTimely, PartnersStay, WindowsFit};
 
 /// At each moment of every run of several nodes' ends, in which any datagram whatever may come to any node and any node may
 /// start again, and which is timely and fresh (`Timely` and `Fresh` in `specs/Books.antt`): each end that has a partner has
@@ -18,6 +18,11 @@ pub fn circuits_safe()
 /// ends have the same partner.
 pub fn partners_stay()
     ensures { PartnersStay }
+{}
+
+/// Where no own window is above 64, a run in which all that is heeded has fewer than 128 overtakers is timely.
+pub fn narrow_is_timely()
+    ensures { NarrowIsTimely }
 {}
 
 /// From whatever pair a node starts: among the first 48,960 pairs that it gives then none stands twice, however its ends come and
