@@ -214,7 +214,7 @@ module _ (law : PayloadsStay) (bounds_stay : BoundsStay) (settings_stay : Settin
   made_carries peer size path t z x =
       let l : Linked = record { peer = peer; link = opening (rules_new size t.config); path = path; joiner = Nothing } in
       let h : LinkHolds offered came sizes l =
-      record { bounds = opening_bounded size t.config z.0; payloads = record { given = tt; gots = tt; inbox = tt; early = none_early (came peer) _ }; size = z.1 } in
+      record { bounds = opening_bounded size t.config z.0; payloads = record { given = tt; received = tt; inbox = tt; early = none_early (came peer) _ }; size = z.1 } in
       record { modulus = x.modulus; size = x.size; links = all_snoc (LinkHolds offered came sizes) t.links (l ∷ []) x.links (h, tt); waiting = x.waiting; frames = x.frames }
 
   put_carries : (sents : List Sent) (t : Table) → AllByRecursion (FrameHolds offered came sizes) sents → Carries offered came sizes t → Carries offered came sizes (record t { pending = emit sents t.pending })

@@ -7,6 +7,8 @@
 #[cfg(test)]
 mod circuit_ends;
 #[cfg(test)]
+mod circuit_sets;
+#[cfg(test)]
 mod links;
 #[cfg(test)]
 mod routers;
@@ -16,3 +18,5 @@ mod routes;
 mod seeded_routes;
 #[cfg(test)]
 mod transports;
+#[cfg(test)]
+mod verdicts;
