@@ -1,6 +1,6 @@
 -- Frames in the air. Own profile.
-use Rattle.std.specs.Prelude.{ℕ, zero, suc, ◌-◌, List, [], ◌∷◌, filter, position, slice_get, Bool, true, false, ◌≡◌, ◌&&◌, ◌==◌, not, Option, Some, None, if◌then◌else◌}
-use Rattle.std.specs.List.{AllByRecursion, list_any, range_with_len}
+use Rattle.std.specs.Prelude.{ℕ, zero, suc, ◌-◌, List, [], ◌∷◌, position, slice_get, Bool, true, false, ◌≡◌, not, Option, Some, None, if◌then◌else◌}
+use Rattle.std.specs.List.{AllByRecursion}
 use Rattle.net_replay.specs.declared.air.Aired.{Aired}
 use Rattle.network_file.specs.Channels.{can_hear}
 use Rattle.network_file.specs.declared.plan.channels.Channel.{Channel}

@@ -12,7 +12,7 @@ use Rattle.network_file.specs.Plan.{Plan}
 -- instructions on circuits, time and restarts aren't built yet
 abbrev pub is_built : Instruction → Bool
 is_built (Tick ms) = false
-is_built (Restart node index ident) = false
+is_built (Restart node pair) = false
 is_built (Open node dest) = false
 is_built (Say node nth text) = false
 is_built (Burst node nth count) = false

@@ -4,6 +4,7 @@ pub mod Keys
 pub mod Settings
 pub mod Channels
 pub mod Vias
+pub mod Pairs
 pub mod Places
 pub mod Plan
 pub mod Lines

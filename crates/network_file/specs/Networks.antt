@@ -1,5 +1,5 @@
 -- The network of a file: what its lines say, one after another, or the first bad line and why. Own profile.
-use Rattle.std.specs.Prelude.{ℕ, suc, ◌≡◌, List, [], ◌∷◌, ◌++◌, length, Option, Some, None, Result, Ok, Err, Bool, ◌||◌, ◌==◌, nat_lt, if◌then◌else◌, slice_index}
+use Rattle.std.specs.Prelude.{ℕ, suc, ◌≡◌, List, [], ◌∷◌, ◌++◌, length, Some, None, Result, Ok, Err, Bool, ◌||◌, ◌==◌, nat_lt, if◌then◌else◌, slice_index}
 use Rattle.std.specs.Str.Lines.{lines}
 use Rattle.network_file.specs.declared.reasons.What.{What}
 use Rattle.network_file.specs.declared.reasons.What.TheVariants.{Many}

@@ -18,6 +18,7 @@ pub use plan::channels::{Channel, can_hear, is_on_air};
 pub use plan::declarations::Declaration;
 pub use plan::instructions::Instruction;
 pub use plan::keys::{Key, Setting};
+pub use plan::pairs::FirstPair;
 pub use plan::settings::value_of;
 pub use plan::text::Text;
 pub use plan::vias::Via;

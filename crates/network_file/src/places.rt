@@ -33,7 +33,8 @@ pub fn octet(word: &[u8]) -> Result<u8, What>
 
 /// A part of a pair, from 1 to 255.
 pub fn pair_part(word: &[u8]) -> Result<u8, What>
-    ensures { result ≡ places.number_at 1 255 word.now }
+    ensures value { result ≡ places.number_at 1 255 word.now }
+    ensures least { IfOk result (λ part. 1 ≤ part) }
 {
     let value = number(1, 255, word)?;
     Ok(value as u8)

@@ -71,7 +71,7 @@ restart_at plan number index ident = do
   n ← node_at plan.declared number
   i ← number_at 1 255 index
   d ← number_at 1 255 ident
-  Ok (lines.Instruction (Restart n i d))
+  Ok (lines.Instruction (Restart n (record { index = i; ident = d })))
 
 abbrev pub restart_line : Plan → List (List ℕ) → Result Line What
 restart_line plan (number ∷ index ∷ ident ∷ []) = restart_at plan number index ident

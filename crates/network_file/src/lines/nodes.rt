@@ -7,6 +7,7 @@ use crate::lines::Line;
 use crate::network::Network;
 use crate::places::{alias, call, node, octet, pair_part, time};
 use crate::plan::instructions::Instruction;
+use crate::plan::pairs::FirstPair;
 use crate::reasons::What;
 use ax_address::Call;
 
@@ -138,5 +139,6 @@ fn restart(before: &Network, number: &[u8], index: &[u8], ident: &[u8]) -> Resul
     let node = node(before.declared(), number)?;
     let index = pair_part(index)?;
     let ident = pair_part(ident)?;
-    Ok(Line::Instruction(Instruction::Restart { node, index, ident }))
+    let pair = FirstPair::new(index, ident);
+    Ok(Line::Instruction(Instruction::Restart { node, pair }))
 }

@@ -1,4 +1,5 @@
 //! What happens in a network, one instruction a line.
+use crate::plan::pairs::FirstPair;
 use crate::plan::text::Text;
 use ax_address::{Alias, Call};
 use nodes_broadcast::Nodes;
@@ -40,12 +41,10 @@ pub enum Instruction {
     Tick {
         milliseconds: u32,
     },
-    /// The node loses its circuits, links, reports and locks, and starts again: the first pair that it gives has this
-    /// index and identifier, 1 to 255 each.
+    /// The node loses its circuits, links, reports and locks, and starts again: it gives this pair first.
     Restart {
         node: u8,
-        index: u8,
-        ident: u8,
+        pair: FirstPair,
     },
     /// The node asks for a circuit to the node `dest`.
     Open {
