@@ -1,6 +1,6 @@
 -- Texts that go over a link, payload by payload.
 use Rattle.std.proofs.Common.{◌≡◌, ℕ, zero, suc, ◌+◌, ◌-◌, ◌/◌, ◌≤◌, ◌<◌, ◌==◌, ◌&&◌, not, min, Bool, true, false, nat_lt, List, [], ◌∷◌, ◌++◌, append-nil, length, length-drop, take, take_all, drop, Option, Some, None, refl, ap, sym, ◌∙◌, subst, if◌then◌else◌, arith}
-use Rattle.std.specs.Prelude.{Result, Ok, Err}
+use Rattle.std.specs.Prelude.{Result, Ok, Err, OnOk, is_err}
 use Rattle.std.specs.Map.{lookup}
 use Rattle.std.proofs.lemmas.Bool.Decides.{nat_tests}
 use Rattle.radio_base.specs.declared.payload.Payload.{Payload}
@@ -168,3 +168,7 @@ answer_same own peer text es t s = by (lookup (same_call peer) es) refl
         ∙ ap (λ n. shape (sending.takes_texts link) n (length (sending.payloads_of (size_of y.link) text))) (sym room)
         ∙ ap (λ n. shape (sending.takes_texts link) (room_of link) (length (sending.payloads_of n text))) (sym size)
         ∙ sym (ap with_answer f.with)
+
+pub when_ok : {T E : Type 0} (r : Result T E) (P : Type 0) → OnOk r P → is_err r ≡ false → P
+when_ok (Ok x) P p e = p
+when_ok (Err x) P p e = absurd (cc e)
