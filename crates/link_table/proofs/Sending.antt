@@ -1,14 +1,17 @@
 -- Texts that go over a link, payload by payload.
-use Rattle.std.proofs.Common.{◌≡◌, ℕ, zero, suc, ◌+◌, ◌-◌, ◌/◌, ◌≤◌, ◌<◌, ◌==◌, ◌&&◌, not, min, Bool, true, false, nat_lt, List, [], ◌∷◌, ◌++◌, append-nil, length, length-drop, take, take_all, drop, Option, Some, None, refl, ap, sym, ◌∙◌, subst, if◌then◌else◌, arith}
+use Rattle.std.proofs.Common.{◌≡◌, ℕ, zero, suc, ◌+◌, ◌-◌, ◌/◌, ◌≤◌, ◌<◌, ◌==◌, ◌&&◌, not, min, Bool, true, false, nat_lt, List, [], ◌∷◌, ◌++◌, append-nil, append_assoc, length, length-append, length-drop, take, take_all, drop, Option, Some, None, refl, ap, sym, ◌∙◌, subst, if◌then◌else◌, arith}
 use Rattle.std.specs.Prelude.{Result, Ok, Err, OnOk, is_err}
 use Rattle.std.specs.Map.{lookup}
+use Rattle.std.specs.List.{concat}
 use Rattle.std.proofs.lemmas.Bool.Decides.{nat_tests}
+use Rattle.std.proofs.lemmas.List.{take-append-drop}
 use Rattle.radio_base.specs.declared.payload.Payload.{Payload}
 use Rattle.ax_address.specs.Callsign.{Callsign}
 use Rattle.ax_address.specs.CallOrder.{same_call}
 use Rattle.ax_link.specs.Standing.{LinkView, StandsFor}
 use Rattle.ax_link.specs.State.{State}
-use Rattle.ax_link.specs.Table.{Send, step, takes}
+use Rattle.ax_link.specs.State.{count_end}
+use Rattle.ax_link.specs.Table.{Send, may_close, step, takes}
 use Rattle.ax_segment.specs.Joining.{Held as Joined}
 use Rattle.ax_segment.specs.Segments.{counted_down, segments_of, with_first}
 use Rattle.ax_segment.specs.Segments as segments
@@ -24,6 +27,7 @@ use Rattle.link_table.specs.Standing.{Goes, LinksStand, WorkStands, answer_at, a
 use Rattle.link_table.specs.Table.{Linked, Table, link_with}
 use Rattle.link_table.specs.Texts.{room_of}
 use Rattle.link_table.specs.Works.{Work, step_link}
+use Rattle.link_table.specs.Laws.{PiecesAreTheText, TextsAreGiven}
 use Rattle.link_table.proofs.Links.{Found, found, none_found}
 use Rattle.link_table.proofs.TextLifting.{room_stands}
 
@@ -172,3 +176,72 @@ answer_same own peer text es t s = by (lookup (same_call peer) es) refl
 pub when_ok : {T E : Type 0} (r : Result T E) (P : Type 0) → OnOk r P → is_err r ≡ false → P
 when_ok (Ok x) P p e = p
 when_ok (Err x) P p e = absurd (cc e)
+
+-- ---- a text is given whole
+-- what a payload that is taken changes, and what it leaves
+pub record Accepted (s : State) (p : Payload) (later : State) : Type 0 where
+  pub given : later.given ≡ s.given ++ p ∷ []
+  pub phase : later.phase ≡ s.phase
+  pub closing : later.closing ≡ s.closing
+  pub acked : later.acked ≡ s.acked
+
+accepted : (s : State) (p : Payload) (now : ℕ) → takes s ≡ true → Accepted s p (step s (Send p) now).link
+accepted s p now e = rw e (record { given = refl; phase = refl; closing = refl; acked = refl })
+
+halves : (a b : Bool) → a && b ≡ true → (a ≡ true) × (b ≡ true)
+halves true true e = (refl, refl)
+halves true false e = absurd (cc e)
+halves false b e = absurd (cc e)
+
+room_is : (s : State) → sending.takes_texts s ≡ true → room_of s ≡ min (s.acked + 128 - length s.given) (count_end - length s.given)
+room_is s e = rw e refl
+
+takes_one : (s : State) → sending.takes_texts s ≡ true → 1 ≤ room_of s → takes s ≡ true
+takes_one s e some =
+    let room = room_is s e in
+    let both = halves (may_close s.phase) (not s.closing) e in
+    let held : length s.given < s.acked + 128 = omega (arith, room, some) in
+    let numbers : length s.given < count_end = omega (arith, room, some) in
+    let first : nat_lt (length s.given) (s.acked + 128) ≡ true = grind (arith, nat_tests, held) in
+    let second : nat_lt (length s.given) count_end ≡ true = grind (arith, nat_tests, numbers) in
+    rw (both.0, both.1, first, second) refl
+
+each_given : (own : Callsign) (ps : List Payload) (now : ℕ) (w : Work) → sending.takes_texts w.linked.link ≡ true → length ps ≤ room_of w.linked.link →
+    (sending.send_each own ps now w).linked.link.given ≡ w.linked.link.given ++ ps
+each_given own [] now w takes_them room = sym (append-nil w.linked.link.given)
+each_given own (p ∷ ps) now w takes_them room =
+    let s = w.linked.link in
+    let next : Work = step_link own (Send p) now w in
+    let one : Accepted s p next.linked.link = accepted s p now (takes_one s takes_them (omega (arith, room))) in
+    let still : sending.takes_texts next.linked.link ≡ true = rw (one.phase, one.closing) takes_them in
+    let before = room_is s takes_them in
+    let later = room_is next.linked.link still in
+    let longer : length next.linked.link.given ≡ length s.given + 1 = ap length one.given ∙ length-append s.given (p ∷ []) in
+    let acked = one.acked in
+    let left : length ps ≤ room_of next.linked.link = omega (arith, before, later, longer, acked, room) in
+    each_given own ps now next still left ∙ ap (λ (xs : List Payload). xs ++ ps) one.given ∙ append_assoc s.given (p ∷ []) ps
+
+abbrev answer_for : Bool → Bool → Bool → Result (Unit {0}) TextRefusal
+answer_for takes_them long full = if not takes_them then Err NoLink else if long then Err TooLong else if full then Err Full else Ok tt
+
+answer_by : (b c d : Bool) → answer_for b c d ≡ Ok tt → (b ≡ true) × (d ≡ false)
+answer_by true true d e = absurd (cc e)
+answer_by true false true e = absurd (cc e)
+answer_by true false false e = (refl, refl)
+answer_by false c d e = absurd (cc e)
+
+pub texts_are_given : TextsAreGiven
+texts_are_given own text now w e =
+    let s = w.linked.link in
+    let ps = sending.payloads_of s.rules.size text in
+    let told = answer_by (sending.takes_texts s) (nat_lt sending.most_text (length text)) (nat_lt (room_of s) (length ps)) e in
+    let room : length ps ≤ room_of s = grind (arith, nat_tests, told.1) in
+    each_given own ps now w told.0 room
+
+joined_pieces : (n : ℕ) (text : List ℕ) → concat (sending.pieces n text) ≡ text
+joined_pieces zero text = append-nil text
+joined_pieces (suc n) text = ap (λ (xs : List ℕ). take 256 text ++ xs) (joined_pieces n (drop 256 text)) ∙ take-append-drop 256 text
+
+pub pieces_are_the_text : PiecesAreTheText
+pieces_are_the_text [] = refl
+pieces_are_the_text (first ∷ others) = joined_pieces (length others / 256) (first ∷ others)
