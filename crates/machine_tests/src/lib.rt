@@ -7,6 +7,8 @@
 #[cfg(test)]
 mod circuit_ends;
 #[cfg(test)]
+mod circuit_sets;
+#[cfg(test)]
 mod link_tables;
 #[cfg(test)]
 mod links;
@@ -18,3 +20,5 @@ mod routes;
 mod seeded_routes;
 #[cfg(test)]
 mod transports;
+#[cfg(test)]
+mod verdicts;

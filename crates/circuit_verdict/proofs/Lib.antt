@@ -1,0 +1,12 @@
+pub mod Tests
+pub mod Same
+pub mod Made
+pub mod Notices
+pub mod Facing
+pub mod Making
+pub mod Messages
+pub mod Heard
+pub mod Likenesses
+pub mod Returns
+pub mod Judged
+pub mod Runs

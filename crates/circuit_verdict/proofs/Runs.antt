@@ -1,0 +1,137 @@
+-- Events one after another.
+use Rattle.std.proofs.Common.{◌≡◌, ◌+◌, ◌∙◌, ℕ, suc, refl, ap, arith, append_assoc, List, [], ◌∷◌, ◌++◌}
+use Rattle.std.specs.Prelude.{true, false, Option, Some, None, is_some}
+use Rattle.ax_address.specs.Callsign.{Callsign}
+use Rattle.circuit_set.specs.Sets.{Told, Made, Sent, Heeded, Notice, Gone, Restarted, Lost}
+use Rattle.circuit_set.specs.Books as books
+use Rattle.circuit_set.specs.Books.{Event, Fresh, FreshFrom, FreshTold, Name, Timely, TimelyTold, empty, lost_with, noted, noted_all}
+use Rattle.circuit_verdict.specs.declared.book.Book.{Book}
+use Rattle.circuit_verdict.specs.declared.event.Event.{Event as Coming}
+use Rattle.circuit_verdict.specs.declared.event.Numbered.{Numbered}
+use Rattle.circuit_verdict.specs.declared.verdict.Allowance.{Allowance}
+use Rattle.circuit_verdict.specs.declared.verdict.Late.{Late}
+use Rattle.circuit_verdict.specs.declared.verdict.LateWhy.{LateWhy}
+use Rattle.circuit_verdict.specs.declared.verdict.LateWhy.TheVariants.{Overtaken, Returned}
+use Rattle.circuit_verdict.specs.Events.{event_of, events_of}
+use Rattle.circuit_verdict.specs.Judging.{BookStands, Judges}
+use Rattle.circuit_verdict.specs.Standing.{Follows, InTime}
+use Rattle.circuit_verdict.specs.Verdicts.{FailsAt, IsFirstLate, IsVerdict, allowance_of, late_of, lost_in}
+
+-- ---- one more event ----
+timely_more : (allow : books.Book → Name → ℕ) (b : books.Book) (es : List Event) (e : Event) → Timely allow b es → TimelyTold allow (noted_all b es) e.node e.told → Timely allow b (es ++ e ∷ [])
+timely_more allow b [] e all here = (here, tt)
+timely_more allow b (k ∷ es) e all here = (all.0, timely_more allow (noted b k) es e all.1 here)
+
+fresh_more : (b : books.Book) (lost : List Name) (es : List Event) (e : Event) → FreshFrom b lost es → FreshTold (noted_all b es) (lost_in lost es) e.node e.told → FreshFrom b lost (es ++ e ∷ [])
+fresh_more b lost [] e all here = (here, tt)
+fresh_more b lost (k ∷ es) e all here = (all.0, fresh_more (noted b k) (lost_with lost k.node k.told) es e all.1 here)
+
+noted_more : (b : books.Book) (es : List Event) (e : Event) → noted_all b (es ++ e ∷ []) ≡ noted (noted_all b es) e
+noted_more b [] e = refl
+noted_more b (k ∷ es) e = noted_more (noted b k) es e
+
+lost_more : (lost : List Name) (es : List Event) (e : Event) → lost_in lost (es ++ e ∷ []) ≡ lost_with (lost_in lost es) e.node e.told
+lost_more lost [] e = refl
+lost_more lost (k ∷ es) e = lost_more (lost_with lost k.node k.told) es e
+
+events_more : (ns : List Numbered) (n : Numbered) → events_of (ns ++ n ∷ []) ≡ events_of ns ++ event_of n.event ∷ []
+events_more [] n = refl
+events_more (k ∷ ns) n = ap (λ (es : List Event). event_of k.event ∷ es) (events_more ns n)
+
+one_place : (b : books.Book) (node : ℕ) (own : Callsign) (t : Told) → (books.note_told b node own t).places ≡ suc b.places
+one_place b node own (Made id pair at request) = refl
+one_place b node own (Sent id number d) = refl
+one_place b node own (Heeded id d) = refl
+one_place b node own (Notice id n) = refl
+one_place b node own (Gone id facts) = refl
+one_place b node own (Restarted pair) = refl
+one_place b node own (Lost id facts) = refl
+
+-- ---- an event among others ----
+timely_at : (allow : books.Book → Name → ℕ) (b : books.Book) (es later : List Event) (e : Event) → Timely allow b (es ++ e ∷ later) → TimelyTold allow (noted_all b es) e.node e.told
+timely_at allow b [] later e all = all.0
+timely_at allow b (k ∷ es) later e all = timely_at allow (noted b k) es later e all.1
+
+fresh_at : (b : books.Book) (lost : List Name) (es later : List Event) (e : Event) → FreshFrom b lost (es ++ e ∷ later) → FreshTold (noted_all b es) (lost_in lost es) e.node e.told
+fresh_at b lost [] later e all = all.0
+fresh_at b lost (k ∷ es) later e all = fresh_at (noted b k) (lost_with lost k.node k.told) es later e all.1
+
+events_among : (ns later : List Numbered) (n : Numbered) → events_of (ns ++ n ∷ later) ≡ events_of ns ++ event_of n.event ∷ events_of later
+events_among [] later n = refl
+events_among (k ∷ ns) later n = ap (λ (es : List Event). event_of k.event ∷ es) (events_among ns later n)
+
+fails_by : (a : Allowance) (b : books.Book) (lost : List Name) (e : Event) (why : LateWhy) → FailsAt a b lost e why
+    → TimelyTold (allowance_of a) b e.node e.told → FreshTold b lost e.node e.told → ⊥
+fails_by a b lost e Overtaken fails timely fresh = fails timely
+fails_by a b lost e Returned fails timely fresh = fails fresh
+
+-- where one event is late, they aren't all timely and fresh
+late_fails : (a : Allowance) (ns : List Numbered) (late : Late) → IsFirstLate a ns late → Timely (allowance_of a) empty (events_of ns) → Fresh empty (events_of ns) → ⊥
+late_fails a ns late l timely fresh =
+    let split = ap events_of l.parts ∙ events_among l.before l.after l.at in
+    let timely_there : Timely (allowance_of a) empty (events_of l.before ++ event_of l.at.event ∷ events_of l.after) = rw (← split) timely in
+    let fresh_there : FreshFrom empty [] (events_of l.before ++ event_of l.at.event ∷ events_of l.after) = rw (← split) fresh in
+    fails_by a (noted_all empty (events_of l.before)) (lost_in [] (events_of l.before)) (event_of l.at.event) late.why l.fails
+    (timely_at (allowance_of a) empty (events_of l.before) (events_of l.after) (event_of l.at.event) timely_there)
+    (fresh_at empty [] (events_of l.before) (events_of l.after) (event_of l.at.event) fresh_there)
+
+-- ---- what a verdict stands for ----
+pub stays_late : (a : Allowance) (o : Option Late) (k : Book) (ns : List Numbered) (n : Numbered) → is_some o ≡ true → Follows a o k ns → Follows a o k (ns ++ n ∷ [])
+stays_late a None k ns n e f = absurd (cc e)
+stays_late a (Some late) k ns n e l = record {
+  before = l.before;
+  at = l.at;
+  after = l.after ++ n ∷ [];
+  parts = ap (λ (ms : List Numbered). ms ++ n ∷ []) l.parts ∙ append_assoc l.before (l.at ∷ l.after) (n ∷ []);
+  line = l.line;
+  timely = l.timely;
+  fresh = l.fresh;
+  fails = l.fails;
+}
+
+judged_by : (a : Allowance) (line : ℕ) (e : Coming) (why : Option LateWhy) (old new : Book) (ns : List Numbered) → InTime a old ns
+    → Judges a (noted_all empty (events_of ns)) (lost_in [] (events_of ns)) (event_of e) why new
+    → new.places ≡ (noted_all empty (events_of ns)).places + 1
+    → Follows a (late_of line why) new (ns ++ record { line = line; event = e } ∷ [])
+judged_by a line e None old new ns k j places =
+    let es = events_of ns in
+    let next = event_of e in
+    let n : Numbered = record { line = line; event = e } in
+    let stands : BookStands new (noted (noted_all empty es) next) (lost_with (lost_in [] es) next.node next.told) =
+    record { places = places ∙ let one = one_place (noted_all empty es) next.node next.own next.told in omega (arith, one); parts = j.parts } in
+    record {
+      timely = rw (events_more ns n) (timely_more (allowance_of a) empty es next k.timely j.timely);
+      fresh = rw (events_more ns n) (fresh_more empty [] es next k.fresh j.fresh);
+      book = rw (events_more ns n, noted_more empty es next, lost_more [] es next) stands;
+    }
+judged_by a line e (Some why) old new ns k j places = record {
+  before = ns;
+  at = record { line = line; event = e };
+  after = [];
+  parts = refl;
+  line = refl;
+  timely = k.timely;
+  fresh = k.fresh;
+  fails = j;
+}
+
+pub goes_on : (a : Allowance) (o : Option Late) (line : ℕ) (e : Coming) (why : Option LateWhy) (old new : Book) (ns : List Numbered) → is_some o ≡ false → Follows a o old ns
+    → ((b : books.Book) (lost : List Name) → BookStands old b lost → Judges a b lost (event_of e) why new × (new.places ≡ b.places + 1))
+    → Follows a (late_of line why) new (ns ++ record { line = line; event = e } ∷ [])
+goes_on a None line e why old new ns none k told =
+    let judged = told (noted_all empty (events_of ns)) (lost_in [] (events_of ns)) k.book in
+    judged_by a line e why old new ns k judged.0 judged.1
+goes_on a (Some late) line e why old new ns none k told = absurd (cc none)
+
+same_late : (l late : Late) → Some l ≡ Some late → l ≡ late
+same_late l late e = cc e
+
+pub verdict_is : (a : Allowance) (o : Option Late) (k : Book) (ns : List Numbered) → Follows a o k ns → IsVerdict a ns o
+verdict_is a None k ns f = record {
+  none = ((λ e. (f.timely, f.fresh)), (λ p. refl));
+  first = λ late e. absurd (cc e);
+}
+verdict_is a (Some l) k ns f = record {
+  none = ((λ e. absurd (cc e)), (λ p. absurd (late_fails a ns l f p.0 p.1)));
+  first = λ late e. rw (← same_late l late e) f;
+}

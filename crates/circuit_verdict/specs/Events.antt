@@ -1,0 +1,25 @@
+-- What is told here, as it stands in a run of sets.
+use Rattle.std.specs.Prelude.{List, [], ◌∷◌}
+use Rattle.std.specs.Option.{option_copied}
+use Rattle.circuit_set.specs.Sets as sets
+use Rattle.circuit_set.specs.Books as books
+use Rattle.circuit_verdict.specs.declared.event.Told.{Told}
+use Rattle.circuit_verdict.specs.declared.event.Told.TheVariants.{Made, Sent, Heeded, Notice, Gone, Restarted, Lost}
+use Rattle.circuit_verdict.specs.declared.event.Event.{Event}
+use Rattle.circuit_verdict.specs.declared.event.Numbered.{Numbered}
+
+abbrev pub told_of : Told → sets.Told
+told_of (Made id pair partner request) = sets.Made id pair partner (option_copied request)
+told_of (Sent id number datagram) = sets.Sent id number datagram.now
+told_of (Heeded id datagram) = sets.Heeded id datagram.now
+told_of (Notice id notice) = sets.Notice id notice
+told_of (Gone id facts) = sets.Gone id facts
+told_of (Restarted pair) = sets.Restarted pair
+told_of (Lost id facts) = sets.Lost id facts
+
+abbrev pub event_of : Event → books.Event
+event_of e = record { node = e.node; own = e.own; told = told_of e.told }
+
+abbrev pub events_of : List Numbered → List books.Event
+events_of [] = []
+events_of (n ∷ ns) = event_of n.event ∷ events_of ns

@@ -1,0 +1,7 @@
+pub mod Lists
+pub mod Events
+pub mod Verdicts
+pub mod Ends
+pub mod Sendings
+pub mod Judging
+pub mod Standing

@@ -1,0 +1,14 @@
+//! The verdict on what was told of circuits: the first event at which a datagram or a pair came back too late (this project's
+//! profile).
+#![tactic(auto)]
+
+mod book;
+mod ends;
+mod event;
+mod lists;
+mod names;
+mod sendings;
+mod verdict;
+
+pub use event::{Event, Numbered, Told};
+pub use verdict::{Allowance, Late, LateWhy, Verdict, too_late};

@@ -1,0 +1,113 @@
+//! The verdict on a list of events.
+ghost use Rattle.std.specs.Prelude.{◌≡◌, ◌++◌, ◌∷◌, [], List, Option, Some, None, Err, OnOk, OnErr, IfOk};
+ghost use Rattle.circuit_verdict.specs.declared.event.Numbered.{Numbered as SeenNumbered};
+ghost use Rattle.circuit_verdict.specs.Verdicts.{IsVerdict, late_of};
+ghost use Rattle.circuit_verdict.specs.Standing.{allowance_in};
+
+use crate::book::Book;
+use crate::event::{Event, Numbered};
+use radio_base::NoMemory;
+use std::alloc::Global;
+
+/// How many overtakers are too many (this project's profile).
+#[derive(Clone, Copy, Debug, PartialEq, Eq)]
+pub enum Allowance {
+    /// 128, whatever the window of the circuit.
+    Fixed,
+    /// 256 less twice the window of that end of the circuit which a request has opened.
+    OfWindow,
+}
+
+/// What came back too late.
+#[derive(Clone, Copy, Debug, PartialEq, Eq)]
+pub enum LateWhy {
+    /// A datagram: an end has heeded one that its partner hadn't sent, or that too many messages have overtaken.
+    Overtaken,
+    /// A pair: an end was opened without a partner, or has the pair by which an open end still knows another one.
+    Returned,
+}
+
+/// The first event that came too late.
+#[derive(Clone, Copy, Debug, PartialEq, Eq)]
+pub struct Late {
+    pub line: u32,
+    pub why: LateWhy,
+}
+
+/// The verdict on the events so far.
+#[derive(Drop)]
+pub struct Verdict {
+    allowance: Allowance,
+    book: Book,
+    late: Option<Late>,
+    spent: bool,
+}
+
+impl Verdict {
+    ghost use Rattle.circuit_verdict.specs.Standing.{IsSpent, StandsFor};
+
+    /// No event was told yet.
+    pub fn new(alloc: Global, allowance: Allowance) -> Verdict
+        ensures start { StandsFor result [] }
+        ensures allowance { allowance_in result ≡ allowance }
+    {
+        Verdict {
+            allowance,
+            book: Book::new(alloc),
+            late: None,
+            spent: false,
+        }
+    }
+
+    /// Takes the next event in, which a line of this number has brought. After NoMemory each later call answers it.
+    pub fn heed(&mut self, event: &Event<'_>, line: u32) -> Result<(), NoMemory>
+        ensures goes_on { OnOk result ((events : List SeenNumbered) → StandsFor self.old events
+            → StandsFor self.new (events ++ record { line = line; event = event.now } ∷ [])) }
+        ensures same { allowance_in self.new ≡ allowance_in self.old }
+        ensures spent { OnErr result (IsSpent self.new) }
+        ensures stays { IsSpent self.old → (result ≡ Err (record {})) × IsSpent self.new }
+    {
+        if self.spent {
+            return Err(NoMemory);
+        }
+        if self.late.is_some() {
+            return Ok(());
+        }
+        self.spent = true;
+        let why = self.book.take_in(event, self.allowance)?;
+        self.late = late_at(line, why);
+        self.spent = false;
+        Ok(())
+    }
+
+    /// The first event that came too late, if there is one: none exactly where all events so far are timely and fresh.
+    pub fn late(&self) -> Option<Late>
+        ensures { (events : List SeenNumbered) → StandsFor self.now events → IsVerdict (allowance_in self.now) events result }
+    {
+        self.late
+    }
+}
+
+fn late_at(line: u32, why: Option<LateWhy>) -> Option<Late>
+    ensures { result ≡ late_of line why }
+{
+    match why {
+        Some(why) => Some(Late { line, why }),
+        None => None,
+    }
+}
+
+/// The first event of a list that came too late, if there is one: none exactly where the list is timely and fresh.
+pub fn too_late(
+    alloc: Global,
+    allowance: Allowance,
+    events: &[Numbered<'_>],
+) -> Result<Option<Late>, NoMemory>
+    ensures { IfOk result (λ late. IsVerdict allowance events.now late) }
+{
+    let mut verdict = Verdict::new(alloc, allowance);
+    for numbered in events {
+        verdict.heed(&numbered.event, numbered.line)?;
+    }
+    Ok(verdict.late())
+}
