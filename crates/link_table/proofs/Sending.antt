@@ -1,5 +1,5 @@
 -- Texts that go over a link, payload by payload.
-use Rattle.std.proofs.Common.{◌≡◌, ℕ, zero, suc, ◌+◌, ◌-◌, ◌/◌, ◌≤◌, ◌<◌, ◌==◌, ◌&&◌, not, min, Bool, true, false, nat_lt, List, [], ◌∷◌, ◌++◌, append-nil, append_assoc, length, length-append, length-drop, take, take_all, drop, Option, Some, None, refl, ap, sym, ◌∙◌, subst, if◌then◌else◌, arith}
+use Rattle.std.proofs.Common.{◌≡◌, ℕ, zero, suc, ◌+◌, ◌-◌, ◌/◌, ◌≤◌, ◌<◌, ◌&&◌, not, min, Bool, true, false, nat_lt, List, [], ◌∷◌, ◌++◌, append-nil, append_assoc, length, length-append, length-drop, take, take_all, drop, Option, Some, None, refl, ap, sym, ◌∙◌, subst, if◌then◌else◌, arith}
 use Rattle.std.specs.Prelude.{Result, Ok, Err, OnOk, is_err}
 use Rattle.std.specs.Map.{lookup}
 use Rattle.std.specs.List.{concat}
@@ -8,7 +8,7 @@ use Rattle.std.proofs.lemmas.List.{take-append-drop}
 use Rattle.radio_base.specs.declared.payload.Payload.{Payload}
 use Rattle.ax_address.specs.Callsign.{Callsign}
 use Rattle.ax_address.specs.CallOrder.{same_call}
-use Rattle.ax_link.specs.Standing.{LinkView, StandsFor}
+use Rattle.ax_link.specs.Standing.{LinkView}
 use Rattle.ax_link.specs.State.{State}
 use Rattle.ax_link.specs.State.{count_end}
 use Rattle.ax_link.specs.Table.{Send, may_close, step, takes}
@@ -23,8 +23,8 @@ use Rattle.link_table.specs.declared.text_refusal.TextRefusal.{TextRefusal}
 use Rattle.link_table.specs.declared.text_refusal.TextRefusal.TheVariants.{NoLink, TooLong, Full}
 use Rattle.link_table.specs.Frames.{plain_text, segmented}
 use Rattle.link_table.specs.Sending as sending
-use Rattle.link_table.specs.Standing.{Goes, LinksStand, WorkStands, answer_at, answer_in, answer_of_entry, held_of, room_in, size_of}
-use Rattle.link_table.specs.Table.{Linked, Table, link_with}
+use Rattle.link_table.specs.Standing.{Goes, LinksStand, WorkStands, answer_at, answer_of_entry, held_of, room_in, size_of}
+use Rattle.link_table.specs.Table.{Linked, Table}
 use Rattle.link_table.specs.Texts.{room_of}
 use Rattle.link_table.specs.Works.{Work, step_link}
 use Rattle.link_table.specs.Laws.{PiecesAreTheText, TextsAreGiven}
@@ -103,7 +103,7 @@ cut_first text some = cut_by_length (nat_lt 256 (length text)) text refl some
 
 pub piece_first : (text : List ℕ) → 0 < length text
     → sending.payloads plain_text (sending.cut text)
-        ≡ sending.payload plain_text (take (min (length text) 256) text) ∷ sending.payloads plain_text (sending.cut (drop (min (length text) 256) text))
+    ≡ sending.payload plain_text (take (min (length text) 256) text) ∷ sending.payloads plain_text (sending.cut (drop (min (length text) 256) text))
 piece_first text some = ap (sending.payloads plain_text) (cut_first text some)
 
 pub length_payloads : (pid : ℕ) (infos : List (List ℕ)) → length (sending.payloads pid infos) ≡ length infos

@@ -1,5 +1,5 @@
 -- Texts that go over links: their pieces, where one is refused, and sending one (this project's profile).
-use Rattle.std.specs.Prelude.{ℕ, zero, suc, ◌/◌, ◌==◌, ◌&&◌, Bool, not, nat_lt, if◌then◌else◌, List, [], ◌∷◌, length, take, drop, Option, None, Some, Result, Ok, Err}
+use Rattle.std.specs.Prelude.{ℕ, zero, suc, ◌/◌, ◌==◌, ◌&&◌, Bool, not, nat_lt, if◌then◌else◌, List, [], ◌∷◌, length, take, drop, None, Some, Result, Ok, Err}
 use Rattle.radio_base.specs.declared.payload.Payload.{Payload}
 use Rattle.ax_address.specs.Callsign.{Callsign}
 use Rattle.ax_link.specs.State.{State}
@@ -9,7 +9,7 @@ use Rattle.link_table.specs.declared.text_refusal.TextRefusal.{TextRefusal}
 use Rattle.link_table.specs.declared.text_refusal.TextRefusal.TheVariants.{NoLink, TooLong, Full}
 use Rattle.link_table.specs.Calls.{at_link}
 use Rattle.link_table.specs.Frames.{plain_text, segmented}
-use Rattle.link_table.specs.Table.{Linked, Table, link_with}
+use Rattle.link_table.specs.Table.{Table, link_with}
 use Rattle.link_table.specs.Texts.{room_of}
 use Rattle.link_table.specs.Works.{Work, step_link}
 

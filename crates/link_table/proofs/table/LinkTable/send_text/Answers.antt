@@ -17,4 +17,4 @@ pub returns-clause-goes : goal.returns-clause-goes
 returns-clause-goes c = rw (← c.self.view_is) (
     took_table c.self.inside.core c.send_text.new.self c.self.inside.spent (sending.send_text c.args.peer.now c.args.text.now c.args.now.0)
     (when_ok c.send_text.result (CoreGoes (sending.send_text c.args.peer.now c.args.text.now c.args.now.0) c.self.inside.core c.send_text.new.self) c.send_text.ensures.goes
-        (sym c.is_err.ensures.value ∙ c.if-is_err.false)))
+    (sym c.is_err.ensures.value ∙ c.if-is_err.false)))
