@@ -133,6 +133,7 @@ impl End {
         requires { IsDrained self.old }
         ensures does { (s : State) → StandsFor self.old s → Stands self.new (table.step s (table.Arrive transport.now) now.0) }
         ensures few { length self.new.outs ≤ 2 * self.old.config.window + 2 }
+        ensures most { length self.new.outs ≤ 256 }
         ensures config { self.new.config ≡ self.old.config }
     {
         self.machine.arrive(transport, moment(now));

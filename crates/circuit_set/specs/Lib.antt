@@ -8,3 +8,8 @@ pub mod Laws
 pub mod Sets
 pub mod Books
 pub mod Runs
+pub mod Pumps
+pub mod Inputs
+pub mod Standing
+pub mod CircuitSets
+pub mod SetTurns

@@ -148,18 +148,32 @@ named_by origin pair h = same_pair h.end.pair pair && same_call h.at origin
 abbrev pub accept_again : State → Effect
 accept_again e = record { end = e; outs = (Accept e.to e.pair e.window, None) ∷ []; notes = [] }
 
+-- an end is made by a request that came from a node
+abbrev pub responds : SetState → Callsign → List ℕ → Pair → ℕ → ℕ → SetDone
+responds s origin d pair window now =
+    made s origin (Some pair) (Some d) (responding (new_pair s) pair window s.config (min now COUNT_MAX))
+
+-- it is refused where no end can be made
+abbrev pub requested_anew : SetState → Callsign → List ℕ → Pair → ℕ → ℕ → SetDone
+requested_anew s origin d pair window now =
+    if is_full s then record { set = s; told = Sent 0 None (datagram_to s origin (Refuse pair)) ∷ [] }
+    else responds s origin d pair window now
+
 abbrev pub requested : SetState → Callsign → List ℕ → Pair → ℕ → ℕ → SetDone
 requested s origin d pair window now =
     elim (first_open (opened_by origin pair) s.ends) as (λ x. SetDone) [
       | Some h ↦ goes_to s h [] (accept_again h.end)
-      | None ↦ (if is_full s then record { set = s; told = Sent 0 None (datagram_to s origin (Refuse pair)) ∷ [] }
-          else made s origin (Some pair) (Some d) (responding (new_pair s) pair window s.config (min now COUNT_MAX)))
+      | None ↦ requested_anew s origin d pair window now
     ]
+
+-- an end takes in a transport, in this datagram
+abbrev pub handed : SetState → Holder → List ℕ → Transport → ℕ → SetDone
+handed s h d t now = goes_to s h (if heeds h.end.phase t then Heeded h.id d ∷ [] else []) (step h.end (Arrive t) now)
 
 abbrev pub arrives_at : SetState → Callsign → List ℕ → Pair → Transport → ℕ → SetDone
 arrives_at s origin d to t now =
     elim (first_open (named_by origin to) s.ends) as (λ x. SetDone) [
-      | Some h ↦ goes_to s h (if heeds h.end.phase t then Heeded h.id d ∷ [] else []) (step h.end (Arrive t) now)
+      | Some h ↦ handed s h d t now
       | None ↦ untold s
     ]
 
@@ -206,10 +220,14 @@ pub data Act : Type 0 where
   Discard : (id : ℕ) → Act
   Restart : (pair : Pair) (more : ℕ) → Act
 
+-- an end is made that asks for a circuit with a node
+abbrev pub requests : SetState → Callsign → ℕ → SetDone
+requests s dest now = made s dest None None (requesting (new_pair s) s.user s.own s.config (min now COUNT_MAX))
+
 abbrev pub connected : SetState → Callsign → ℕ → SetDone
 connected s dest now =
     if same_call dest s.own || is_full s then untold s
-    else made s dest None None (requesting (new_pair s) s.user s.own s.config (min now COUNT_MAX))
+    else requests s dest now
 
 abbrev pub called : SetState → Option Holder → Call → ℕ → SetDone
 called s None call now = untold s

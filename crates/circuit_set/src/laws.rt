@@ -3,6 +3,7 @@ ghost use Rattle.std.specs.Prelude.{◌≡◌, ℕ, ◌+◌, ◌*◌, ◌≤◌,
 ghost use Rattle.circuit_set.specs.Lines.{Line, Infos, over, at_place};
 ghost use Rattle.circuit_set.specs.Laws.{OneCircuitSafe};
 ghost use Rattle.circuit_set.specs.Pairs.{PairsDiffer};
+ghost use Rattle.circuit_set.specs.Inputs.{ActsGo, HearsGo, HearsLostGoes, TellsGo, TellsLess, TicksGo};
 ghost use Rattle.circuit_set.specs.Runs.{CircuitsSafe, PartnersStay, WindowsFit};
 
 /// At each moment of every run of several nodes' ends, in which any datagram whatever may come to any node and any node may
@@ -51,4 +52,20 @@ pub fn info_place()
 pub fn ack_place()
     ensures { (w a h top x : ℕ) (l : Line) → 2 * w + a ≤ 256 → Infos w l → l.acked ≤ l.got →
         h ≤ l.got → top ≤ h + w → over top l < a → l.acked ≤ x → x ≤ l.sent → x % 256 ≡ h % 256 → x ≡ h }
+{}
+
+/// Each call of a set is inputs of its machine: what it tells, with what is then untold, is what was untold and what those inputs tell,
+/// in their order. An input that a user or the router gives is that input alone, a tick is one of each end that is held, and what is
+/// told takes none.
+pub fn calls_are_inputs()
+    ensures acts { ActsGo }
+    ensures ticks { TicksGo }
+    ensures tells { TellsGo }
+    ensures hears { HearsGo }
+    ensures lost { HearsLostGoes }
+{}
+
+/// What a set has to tell falls with each thing that it tells, whatever the carrier answers.
+pub fn telling_ends()
+    ensures { TellsLess }
 {}

@@ -1,11 +1,18 @@
-//! What holds of the circuits between nodes over every schedule: whatever is lost, repeated, reordered or made up, and whichever
-//! node starts again, as long as nothing that an end heeds comes back too late.
-//!
-//! The definitions stand in `specs/`. `Sets` has the machine of a node's ends, each of which is an end of `circuit_l4`; `Books`
-//! what is noted of all that happens, and what "too late" means of it; `Runs` the runs of such machines at several nodes, and what
-//! is safe. `laws` says what holds of them. `docs/circuits.md` says it in words.
-//!
-//! So far there are definitions and laws alone: no code here holds several ends yet.
+//! The circuits of a node, and what holds of circuits over every schedule.
 #![tactic(auto)]
 
+mod asked;
+mod event;
+mod finding;
+mod heeding;
+mod held_ends;
+mod holder;
 pub mod laws;
+mod pair_order;
+mod set;
+
+pub use event::{ConnectRefusal, DiscardRefusal, NoEnd, SetEvent, SetRefusal};
+pub use set::CircuitSet;
+
+/// The most ends that a node holds (this project's profile).
+pub const MAX_ENDS: usize = 64;

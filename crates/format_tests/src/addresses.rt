@@ -1,8 +1,5 @@
-//! Calls, aliases and addresses, in texts and octets.
-use ax_address::{
-    Address, AddressRefusal, Alias, AliasRefusal, Call, CallRefusal, address_fault, read_address,
-    read_net_call, write_address, write_net_call,
-};
+//! Calls and aliases in texts, and the beginning of an address.
+use ax_address::{Alias, AliasRefusal, Call, address_fault};
 use std::test::Fail;
 
 #[test]
@@ -16,22 +13,6 @@ fn calls_are_read_and_shown(rt: HostRuntime) {
         let call = Call::read(text.as_bytes()).ok().unwrap_or_default();
         assert_eq!(rt; call.show().as_str(), shown);
         assert_eq!(rt; call.ssid(), ssid);
-    }
-}
-
-#[test]
-fn the_first_octet_that_is_wrong_names_the_refusal(rt: HostRuntime) {
-    for (text, refusal) in [
-        ("", CallRefusal::Empty),
-        ("-1", CallRefusal::Empty),
-        ("n0call", CallRefusal::BadChar { at: 0 }),
-        ("N0 AAA-99", CallRefusal::BadChar { at: 2 }),
-        ("N0CALLX", CallRefusal::TooLong { at: 6 }),
-        ("N0CALL-16", CallRefusal::BadSsid { at: 7 }),
-        ("N0CALL-07", CallRefusal::BadSsid { at: 7 }),
-        ("N0CALL-", CallRefusal::BadSsid { at: 7 }),
-    ] {
-        assert!(rt; Call::read(text.as_bytes()) == Err(refusal), "{text}");
     }
 }
 
@@ -63,57 +44,6 @@ fn aliases_are_padded_and_shown(rt: HostRuntime) {
 }
 
 #[test]
-fn octets_of_a_source_address(rt: HostRuntime) -> Result<(), Fail> {
-    let octets = [0x9C, 0x60, 0x86, 0x82, 0x98, 0x98, 0x6F];
-    let address = Address {
-        call: Call::read(b"N0CALL-7").ok().ok_or("a call")?,
-        bit7: false,
-        reserved: 3,
-    };
-    assert!(rt; read_address(&octets) == Ok((address, true)));
-    assert_eq!(rt; write_address(&address, true), octets);
-    Ok(())
-}
-
-#[test]
-fn octets_at_fault(rt: HostRuntime) {
-    for (octets, refusal) in [
-        (
-            [0x9C, 0x40, 0x86, 0x82, 0x98, 0x98, 0x6F],
-            AddressRefusal::BadPadding { at: 2 },
-        ),
-        (
-            [0x9C, 0x40, 0x40, 0x41, 0x86, 0x98, 0x6F],
-            AddressRefusal::BadChar { at: 3 },
-        ),
-        (
-            [0x40, 0x9C, 0x86, 0x82, 0x98, 0x98, 0x6F],
-            AddressRefusal::BadChar { at: 0 },
-        ),
-        (
-            [0x9C, 0x60, 0x86, 0x82, 0x98, 0x99, 0x6F],
-            AddressRefusal::BadChar { at: 5 },
-        ),
-    ] {
-        assert!(rt; read_address(&octets) == Err(refusal));
-        assert!(rt; address_fault(&octets) == Some(refusal));
-    }
+fn a_beginning_without_fault(rt: HostRuntime) {
     assert!(rt; address_fault(&[0x9C, 0x60]) == None);
-}
-
-#[test]
-fn octets_of_a_call_in_a_datagram(rt: HostRuntime) -> Result<(), Fail> {
-    let call = Call::read(b"N0CALL-7").ok().ok_or("a call")?;
-    for last in [0x6E, 0x0E, 0xEF] {
-        assert!(rt; read_net_call(&[0x9C, 0x60, 0x86, 0x82, 0x98, 0x98, last]) == Ok(call));
-    }
-    assert!(rt;
-        read_net_call(&[0x9C, 0x40, 0x86, 0x82, 0x98, 0x98, 0x6E])
-            == Err(AddressRefusal::BadPadding { at: 2 })
-    );
-    assert_eq!(rt;
-        write_net_call(&call),
-        [0x9C, 0x60, 0x86, 0x82, 0x98, 0x98, 0x6E]
-    );
-    Ok(())
 }

@@ -4,7 +4,7 @@ use ax_frame::{
     Control, FrameBytes, FrameRefusal, FrameView, Full, Head, is_command, read_frame, read_head,
     show_frame, write_frame,
 };
-use radio_base::{M8, M128, TextOut};
+use radio_base::{M8, TextOut};
 use std::test::Fail;
 
 /// A command from N0CALL-7 to NODES: the addresses of a frame without repeaters.
@@ -20,79 +20,6 @@ fn behind_head(octets: &[u8]) -> FrameBytes {
     let _ = frame.try_extend_from_slice(&HEAD);
     let _ = frame.try_extend_from_slice(octets);
     frame
-}
-
-#[test]
-fn control_fields_modulo_8(rt: HostRuntime) {
-    for (octet, control) in [
-        (0x2F, Control::Sabm { pf: false }),
-        (0x3F, Control::Sabm { pf: true }),
-        (0x6F, Control::Sabme { pf: false }),
-        (0x63, Control::Ua { pf: false }),
-        (0x0F, Control::Dm { pf: false }),
-        (0x41, Control::Rr { nr: 2, pf: false }),
-        (0x09, Control::Rej { nr: 0, pf: false }),
-        (0x4D, Control::Srej { nr: 2, pf: false }),
-    ] {
-        let frame = behind_head(&[octet]);
-        match read_frame::<M8>(frame.as_slice()) {
-            Ok(read) => assert!(rt; read.control == control, "{octet}"),
-            Err(_) => assert!(rt; false, "{octet}"),
-        }
-    }
-}
-
-#[test]
-fn information_modulo_8_and_128(rt: HostRuntime) {
-    let frame = behind_head(&[0xB6, 0xF0, 0x41]);
-    match read_frame::<M8>(frame.as_slice()) {
-        Ok(read) => {
-            assert!(rt;
-                read.control
-                    == Control::I {
-                        ns: 3,
-                        nr: 5,
-                        pf: true
-                    }
-            );
-            assert!(rt; read.pid == Some(0xF0));
-            assert!(rt; read.info == b"A".as_slice());
-        }
-        Err(_) => assert!(rt; false),
-    }
-    let frame = behind_head(&[0xFE, 0x00, 0xF0]);
-    match read_frame::<M128>(frame.as_slice()) {
-        Ok(read) => assert!(rt;
-            read.control
-                == Control::I {
-                    ns: 127,
-                    nr: 0,
-                    pf: false
-                }
-        ),
-        Err(_) => assert!(rt; false),
-    }
-    let frame = behind_head(&[0x01, 0x0B]);
-    match read_frame::<M128>(frame.as_slice()) {
-        Ok(read) => assert!(rt; read.control == Control::Rr { nr: 5, pf: true }),
-        Err(_) => assert!(rt; false),
-    }
-}
-
-#[test]
-fn the_first_octet_at_fault_is_named(rt: HostRuntime) {
-    for (octets, refusal) in [
-        ([0x41, 0x00].as_slice(), FrameRefusal::ExtraInfo { at: 15 }),
-        ([0x03].as_slice(), FrameRefusal::NoPid { at: 15 }),
-        ([0xFF].as_slice(), FrameRefusal::BadControl { at: 14 }),
-        ([].as_slice(), FrameRefusal::Short { at: 14 }),
-    ] {
-        let frame = behind_head(octets);
-        match read_frame::<M8>(frame.as_slice()) {
-            Ok(_) => assert!(rt; false),
-            Err(told) => assert!(rt; told == refusal, "{told:?}"),
-        }
-    }
 }
 
 #[test]

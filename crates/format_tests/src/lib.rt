@@ -1,5 +1,5 @@
-//! Tests of the crates that turn octets and texts into values and back: worked rows, other programs' octets, printed text, and each allocating
-//! call with memory enough.
+//! Tests of the crates that turn octets and texts into values and back, beside the vectors of `radio_vectors`: what goes up to a limit, runs of
+//! several calls, printed text, and each allocating call with memory enough.
 //!
 //! They stand here and not in those crates, since a crate with tests is proved twice.
 #![tactic(auto)]
@@ -7,13 +7,13 @@
 #[cfg(test)]
 mod addresses;
 #[cfg(test)]
-mod broadcasts;
-#[cfg(test)]
 mod fragments;
 #[cfg(test)]
 mod frames;
 #[cfg(test)]
 mod kiss;
+#[cfg(test)]
+mod network_files;
 #[cfg(test)]
 mod numbers;
 #[cfg(test)]

@@ -1,11 +1,15 @@
 -- A router: a node's routing table over a carrier.
-use Rattle.std.specs.Prelude.{ℕ, ◌≡◌, ◌+◌, ◌<◌, List, [], ◌∷◌, ◌++◌, length, drop, Option, Some, None, Bool}
+use Rattle.std.specs.Prelude.{ℕ, ◌≡◌, ◌+◌, ◌<◌, ◌≤◌, List, [], ◌∷◌, ◌++◌, length, drop, Option, Some, None, Bool, true, false, Ok}
 use Rattle.ax_address.specs.Callsign.{Callsign}
+use Rattle.ax_address.specs.CallOrder.{same_call}
 use Rattle.route_table.specs.Log.{Item}
 use Rattle.route_table.specs.Table.{next_hop}
 use Rattle.route_table.specs.Held.{Held, StandsFor, SameNode}
 use Rattle.l3_datagram.specs.declared.carrier.Offered.{Offered}
+use Rattle.l3_datagram.specs.declared.datagram.DatagramHead.{DatagramHead}
+use Rattle.l3_datagram.specs.Datagrams.{head_at}
 use Rattle.l3_datagram.specs.declared.routed.Routed.{Routed}
+use Rattle.l3_datagram.specs.declared.routed.Routed.TheVariants.{Lost, Mine}
 use Rattle.l3_datagram.specs.declared.routed.Sending.{Sending}
 use Rattle.l3_datagram.specs.CarrierCall.{CarrierCall, Datagram, Parcel}
 use Rattle.l3_datagram.specs.Hops.{Way, way, told_of, offers_of, Pumping, pumping, Sent, sending_to}
@@ -67,6 +71,28 @@ waiting_left (neighbour ∷ _) waiting = waiting
 abbrev pub NoneWhereEmpty : List Callsign → List Parcel → Option Routed → Type 0
 NoneWhereEmpty lost waiting None = (lost ≡ []) × (waiting ≡ [])
 NoneWhereEmpty lost waiting (Some routed) = 0 < length lost + length waiting
+
+-- a datagram that is handed up could be read, came from another node, and is for this one
+pub record IsFor (own origin : Callsign) (d : Datagram) : Type 0 where
+  pub head : DatagramHead
+  pub read : head_at d.items ≡ Ok head
+  pub size : 15 ≤ length d.items
+  pub from : head.origin ≡ origin
+  pub other : same_call head.origin own ≡ false
+  pub mine : same_call head.dest own ≡ true
+
+abbrev pub MineIsFor : Callsign → Routed → Type 0
+MineIsFor own (Mine origin d) = IsFor own origin d
+MineIsFor own _ = Unit {0}
+
+abbrev pub HandsUp : Callsign → Option Routed → Type 0
+HandsUp own None = Unit {0}
+HandsUp own (Some routed) = MineIsFor own routed
+
+-- a lost neighbour is told first
+abbrev pub TellsLost : List Callsign → Option Routed → Type 0
+TellsLost [] told = Unit {0}
+TellsLost (neighbour ∷ _) told = told ≡ Some (Lost neighbour)
 
 -- the call, the hops and the rules of the table stay
 pub record SameRouter {C : Type 0} (old new : Routing C) : Type 0 where

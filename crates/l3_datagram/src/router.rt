@@ -34,7 +34,7 @@ impl<C> Model for Router<C> {
 }
 
 impl<C: Carrier> Router<C> {
-    ghost use Rattle.l3_datagram.specs.Routers.{Routing, Routes, Pumps, Sends, SameRouter, NoneWhereEmpty, waiting_left};
+    ghost use Rattle.l3_datagram.specs.Routers.{Routing, Routes, Pumps, Sends, SameRouter, HandsUp, MineIsFor, NoneWhereEmpty, TellsLost, waiting_left};
     ghost use Rattle.l3_datagram.specs.CarrierCall.{Offer};
     ghost use Rattle.l3_datagram.specs.Datagrams.{datagram_with};
     ghost use Rattle.l3_datagram.specs.contracts.router.Router.{the_row};
@@ -88,6 +88,8 @@ impl<C: Carrier> Router<C> {
     /// neither is there.
     pub fn pump(&mut self, now: Moment) -> Result<Option<Routed>, NoMemory>
         ensures pumps { IfOk result (Pumps C.made self.old self.new (C.lost self.old.carrier) (C.waiting self.old.carrier) now.0) }
+        ensures mine { IfOk result (HandsUp self.old.own) }
+        ensures first { IfOk result (TellsLost (C.lost self.old.carrier)) }
         ensures none { IfOk result (NoneWhereEmpty (C.lost self.old.carrier) (C.waiting self.old.carrier)) }
         ensures lost { IfOk result (λ _. C.lost self.new.carrier ≡ drop 1 (C.lost self.old.carrier)) }
         ensures waiting { IfOk result (λ _. C.waiting self.new.carrier ≡ waiting_left (C.lost self.old.carrier) (C.waiting self.old.carrier)) }
@@ -115,6 +117,7 @@ impl<C: Carrier> Router<C> {
     fn route(&mut self, datagram: Datagram, now: Moment) -> Result<Routed, NoMemory>
         requires { self.old.spent ≡ false }
         ensures routes { IfOk result (Routes C.made self.old self.new datagram now.0) }
+        ensures mine { IfOk result (MineIsFor self.old.own) }
         ensures lost { C.lost self.new.carrier ≡ C.lost self.old.carrier }
         ensures waiting { C.waiting self.new.carrier ≡ C.waiting self.old.carrier }
         ensures table { self.new.table ≡ self.old.table }

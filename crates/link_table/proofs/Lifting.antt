@@ -60,7 +60,7 @@ lifts size route i now old mid new j j2 k k2 does l w stands =
       peer = stands.peer;
       path = stands.path;
       link = record {
-        keeps = record { before = s.keeps.before; gots = s.keeps.gots; acked = rw l.link s.keeps.acked; got = rw l.link s.keeps.got; is = rw l.link (ap (λ (x : Effect). x.link) s.keeps.is) };
+        keeps = record { before = s.keeps.before; received = s.keeps.received; acked = rw l.link s.keeps.acked; got = rw l.link s.keeps.got; is = rw l.link (ap (λ (x : Effect). x.link) s.keeps.is) };
         bounds = s.bounds;
       };
       joiner = rw (notes, stands.joiner) (sym l.joiner);
@@ -202,7 +202,7 @@ quietly size route i now old mid new fs fs2 does quiet e out s stands =
     let outs : (step s i now).outs ≡ map (frame_of size) mid.outs = ap (λ (g : Effect). g.outs) x.keeps.is in
     record {
       link = record {
-        keeps = record { before = x.keeps.before; gots = x.keeps.gots; acked = rw e x.keeps.acked; got = rw e x.keeps.got; is = rw e (ap (λ (g : Effect). g.link) x.keeps.is) };
+        keeps = record { before = x.keeps.before; received = x.keeps.received; acked = rw e x.keeps.acked; got = rw e x.keeps.got; is = rw e (ap (λ (g : Effect). g.link) x.keeps.is) };
         bounds = x.bounds;
       };
       frames = rw (out, outs) refl;

@@ -51,7 +51,7 @@ next_first false e p q = q
 
 next_weight : (s : State) (p : Payload) → next_early s ≡ Some p → weight (take_next p s) ≡ weight s
 next_weight s p q =
-    let c = first_gone s.early p (next_first (busy s || nat_le count_end (length s.gots)) s.early p q) in
+    let c = first_gone s.early p (next_first (busy s || nat_le count_end (length s.received)) s.early p q) in
     let n : length (s.inbox ++ p ∷ []) ≡ length s.inbox + 1 = length-append s.inbox (p ∷ []) in
     omega (arith, c, n)
 

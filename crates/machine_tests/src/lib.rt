@@ -7,6 +7,10 @@
 #[cfg(test)]
 mod circuit_ends;
 #[cfg(test)]
+mod circuit_sets;
+#[cfg(test)]
+mod link_tables;
+#[cfg(test)]
 mod links;
 #[cfg(test)]
 mod routers;

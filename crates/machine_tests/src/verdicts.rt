@@ -5,8 +5,8 @@ use circuit_verdict::{Allowance, Event, Late, LateWhy, Numbered, Told, Verdict, 
 use l3_datagram::{Datagram, DatagramHead, write_datagram};
 use radio_base::NoMemory;
 use std::alloc::Global;
-use std::rt::HostRuntime;
 use std::process::Abort;
+use std::rt::HostRuntime;
 use std::test::Fail;
 
 const FIRST: Pair = Pair { index: 1, ident: 1 };
@@ -56,7 +56,15 @@ fn message(node: u64, number: u8, ttl: u8) -> Datagram {
 fn restarted(alloc: Global, pair: Pair) -> Result<Option<Late>, NoMemory> {
     let mut line = 0;
     let mut verdict = opened(alloc, &mut line, Allowance::Fixed, 4)?;
-    tell(&mut verdict, &mut line, 2, Told::Lost { id: 1, facts: FACTS })?;
+    tell(
+        &mut verdict,
+        &mut line,
+        2,
+        Told::Lost {
+            id: 1,
+            facts: FACTS,
+        },
+    )?;
     tell(&mut verdict, &mut line, 2, Told::Restarted { pair })?;
     made(&mut verdict, &mut line, 2, 2, pair, None)?;
     Ok(verdict.late())
@@ -170,7 +178,13 @@ fn a_copy_that_128_messages_have_overtaken_is_too_late(rt: HostRuntime) -> Resul
     let alloc = rt.alloc();
     assert_eq!(&rt; overtaken(alloc, Allowance::Fixed, 4, 127)?, None);
     let line = 9 + 2 * 128 + 1;
-    assert_eq!(&rt; overtaken(alloc, Allowance::Fixed, 4, 128)?, Some(Late { line, why: OVERTAKEN }));
+    assert_eq!(&rt;
+        overtaken(alloc, Allowance::Fixed, 4, 128)?,
+        Some(Late {
+            line,
+            why: OVERTAKEN
+        })
+    );
     Ok(())
 }
 
@@ -178,14 +192,26 @@ fn a_copy_that_128_messages_have_overtaken_is_too_late(rt: HostRuntime) -> Resul
 fn a_window_of_127_allows_for_one_overtaker(rt: HostRuntime) -> Result<(), Fail> {
     let alloc = rt.alloc();
     assert_eq!(&rt; overtaken(alloc, Allowance::OfWindow, 127, 1)?, None);
-    assert_eq!(&rt; overtaken(alloc, Allowance::OfWindow, 127, 2)?, Some(Late { line: 14, why: OVERTAKEN }));
+    assert_eq!(&rt;
+        overtaken(alloc, Allowance::OfWindow, 127, 2)?,
+        Some(Late {
+            line: 14,
+            why: OVERTAKEN
+        })
+    );
     Ok(())
 }
 
 #[test]
 fn a_pair_that_an_open_end_still_knows_comes_back(rt: HostRuntime) -> Result<(), Fail> {
     let alloc = rt.alloc();
-    assert_eq!(&rt; restarted(alloc, FIRST)?, Some(Late { line: 10, why: RETURNED }));
+    assert_eq!(&rt;
+        restarted(alloc, FIRST)?,
+        Some(Late {
+            line: 10,
+            why: RETURNED
+        })
+    );
     assert_eq!(&rt; restarted(alloc, SECOND)?, None);
     Ok(())
 }
@@ -199,8 +225,21 @@ fn a_connect_request_that_has_opened_an_end_comes_back(rt: HostRuntime) -> Resul
     notice(&mut verdict, &mut line, 2, EndNotice::FailedRetries)?;
     assert_eq!(&rt; verdict.late(), None);
     let request = request(1);
-    made(&mut verdict, &mut line, 2, 2, SECOND, Some(request.as_slice()))?;
-    assert_eq!(&rt; verdict.late(), Some(Late { line: 10, why: RETURNED }));
+    made(
+        &mut verdict,
+        &mut line,
+        2,
+        2,
+        SECOND,
+        Some(request.as_slice()),
+    )?;
+    assert_eq!(&rt;
+        verdict.late(),
+        Some(Late {
+            line: 10,
+            why: RETURNED
+        })
+    );
     Ok(())
 }
 
@@ -210,15 +249,51 @@ fn a_list_is_judged_at_once(rt: HostRuntime) -> Result<(), Fail> {
     let request = request(1);
     let datagram = request.as_slice();
     let own = call_of(1);
-    let asks = Told::Made { id: 1, pair: FIRST, partner: call_of(2), request: None };
-    let sends = Told::Sent { id: 1, number: None, datagram };
+    let asks = Told::Made {
+        id: 1,
+        pair: FIRST,
+        partner: call_of(2),
+        request: None,
+    };
+    let sends = Told::Sent {
+        id: 1,
+        number: None,
+        datagram,
+    };
     let heeds = Told::Heeded { id: 1, datagram };
     let events = [
-        Numbered { line: 3, event: Event { node: 1, own, told: asks } },
-        Numbered { line: 3, event: Event { node: 1, own, told: sends } },
-        Numbered { line: 5, event: Event { node: 1, own, told: heeds } },
+        Numbered {
+            line: 3,
+            event: Event {
+                node: 1,
+                own,
+                told: asks,
+            },
+        },
+        Numbered {
+            line: 3,
+            event: Event {
+                node: 1,
+                own,
+                told: sends,
+            },
+        },
+        Numbered {
+            line: 5,
+            event: Event {
+                node: 1,
+                own,
+                told: heeds,
+            },
+        },
     ];
     assert_eq!(&rt; too_late(alloc, Allowance::Fixed, &events[..2])?, None);
-    assert_eq!(&rt; too_late(alloc, Allowance::Fixed, &events)?, Some(Late { line: 5, why: OVERTAKEN }));
+    assert_eq!(&rt;
+        too_late(alloc, Allowance::Fixed, &events)?,
+        Some(Late {
+            line: 5,
+            why: OVERTAKEN
+        })
+    );
     Ok(())
 }

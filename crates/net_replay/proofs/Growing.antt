@@ -4,13 +4,14 @@ use Rattle.std.specs.Prelude.{Option, Some, None, slice_get}
 use Rattle.std.specs.List.{range_with_len}
 use Rattle.std.proofs.lemmas.List.{length-append}
 use Rattle.nodes_broadcast.specs.Nodes.{view}
-use Rattle.net_replay.specs.declared.acts.Instruction.{Instruction}
-use Rattle.net_replay.specs.declared.acts.Instruction.TheVariants as acts
+use Rattle.network_file.specs.declared.plan.instructions.Instruction.{Instruction}
+use Rattle.network_file.specs.declared.plan.instructions.Instruction.TheVariants as acts
 use Rattle.net_replay.specs.declared.air.Aired.{Aired}
-use Rattle.net_replay.specs.declared.channels.Channel.{Channel}
-use Rattle.net_replay.specs.declared.network.NumberedAct.{NumberedAct}
+use Rattle.network_file.specs.declared.plan.channels.Channel.{Channel}
+use Rattle.network_file.specs.declared.network.NumberedInstruction.{NumberedInstruction}
 use Rattle.net_replay.specs.declared.reasons.LineRefusal.{LineRefusal}
-use Rattle.net_replay.specs.Air.{in_air, hearers, frame_of, oldest, delivery_fault, lost_fault}
+use Rattle.network_file.specs.Channels.{hearers}
+use Rattle.net_replay.specs.Air.{in_air, frame_of, oldest, delivery_fault, lost_fault}
 use Rattle.net_replay.specs.Nodes.{NodeState, Input, Bytes, Round, Failure, Lock, reacts, broadcast_octets}
 use Rattle.net_replay.specs.World.{World, node_in, aired, reached, reaches, goes_to, settles, delivers, spreads, flows, cuts, shows, unless_refused, does, after_acts, kiss_bytes}
 use Rattle.net_replay.proofs.Oldest.{length-settled_at}
@@ -83,12 +84,13 @@ does_grows channels line (acts.Again number node) w = unless_grows line (deliver
 does_grows channels line (acts.Lose number) w = unless_grows line (lost_fault false (frame_of w.air number)) (settles (number - 1) w) w (omega (arith, length-settled_at w.air (number - 1)))
 does_grows channels line (acts.Flow count) w = flows_grows channels line count w
 does_grows channels line (acts.Cut count) w = cuts_grows count w
+does_grows channels line act w = omega arith
 
-pub after_acts_grows : (channels : List Channel) (ls : List NumberedAct) (w : World) → length w.air ≤ length (after_acts channels w ls).air
+pub after_acts_grows : (channels : List Channel) (ls : List NumberedInstruction) (w : World) → length w.air ≤ length (after_acts channels w ls).air
 after_acts_grows channels [] w = omega arith
 after_acts_grows channels (l ∷ ls) w =
-    let first = does_grows channels l.line l.act w in
-    let rest = after_acts_grows channels ls (does channels l.line l.act w) in
+    let first = does_grows channels l.line l.instruction w in
+    let rest = after_acts_grows channels ls (does channels l.line l.instruction w) in
     omega (arith, first, rest)
 
 -- ---- one step more

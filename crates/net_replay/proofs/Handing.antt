@@ -3,12 +3,13 @@ use Rattle.std.proofs.Common.{◌≡◌, ◌≤◌, ◌+◌, ◌++◌, ◌∙◌
 use Rattle.std.specs.Prelude.{Some, None}
 use Rattle.std.proofs.lemmas.List.{length-append, length-map, map-append}
 use Rattle.net_replay.specs.declared.air.Aired.{Aired}
-use Rattle.net_replay.specs.declared.channels.Channel.{Channel}
+use Rattle.network_file.specs.declared.plan.channels.Channel.{Channel}
 use Rattle.net_replay.specs.declared.node.Node.{Node}
 use Rattle.net_replay.specs.declared.node.Outputs.{Outputs}
 use Rattle.net_replay.specs.declared.reasons.ReplayRefusal.{ReplayRefusal}
 use Rattle.net_replay.specs.declared.reasons.ReplayRefusal.TheVariants.{FramesFull, NoMemory}
-use Rattle.net_replay.specs.Air.{in_air, is_on_air}
+use Rattle.network_file.specs.Channels.{is_on_air}
+use Rattle.net_replay.specs.Air.{in_air}
 use Rattle.net_replay.specs.Nodes.{NodeState, Input, Reaction, reacts}
 use Rattle.net_replay.specs.World.{World, aired, tell, events_of, refusal_event, air_events, reached}
 use Rattle.net_replay.specs.declared.events.Event.TheVariants.{Entry}

@@ -3,10 +3,10 @@ use Rattle.std.proofs.Common.{◌≡◌, ◌++◌, ◌+◌, ◌-◌, ◌<◌, �
 use Rattle.std.specs.Prelude.{◌≤◌, ◌==◌}
 use Rattle.std.proofs.lemmas.List.{take_all}
 use Rattle.std.proofs.lemmas.Bool.Decides.{nat_tests}
-use Rattle.net_replay.specs.declared.declarations.Declaration.{Declaration}
-use Rattle.net_replay.specs.Keys.{Assignment}
+use Rattle.network_file.specs.declared.plan.declarations.Declaration.{Declaration}
+use Rattle.network_file.specs.Keys.{Assignment}
 use Rattle.net_replay.specs.declared.node.Node.{Node}
-use Rattle.net_replay.specs.Plan.{Plan}
+use Rattle.network_file.specs.Plan.{Plan}
 use Rattle.net_replay.specs.Nodes.{NodeState}
 use Rattle.net_replay.specs.World.{started, started_from, start, has_number}
 use Rattle.net_replay.specs.Traces.{StandsFor, StandFor}

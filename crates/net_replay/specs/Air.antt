@@ -1,35 +1,11 @@
--- Frames in the air, and who hears whom. Own profile.
+-- Frames in the air. Own profile.
 use Rattle.std.specs.Prelude.{ℕ, zero, suc, ◌-◌, List, [], ◌∷◌, filter, position, slice_get, Bool, true, false, ◌≡◌, ◌&&◌, ◌==◌, not, Option, Some, None, if◌then◌else◌}
 use Rattle.std.specs.List.{AllByRecursion, list_any, range_with_len}
 use Rattle.net_replay.specs.declared.air.Aired.{Aired}
-use Rattle.net_replay.specs.declared.channels.Channel.{Channel}
+use Rattle.network_file.specs.Channels.{can_hear}
+use Rattle.network_file.specs.declared.plan.channels.Channel.{Channel}
 use Rattle.net_replay.specs.declared.reasons.LineRefusal.{LineRefusal}
 use Rattle.net_replay.specs.declared.reasons.LineRefusal.TheVariants.{NoFrame, Settled, NotSettled, NoChannel}
-
--- ---- channels
-
-abbrev pub has_member : List ℕ → ℕ → Bool
-has_member members node = list_any (λ m. m == node) members
-
-abbrev pub is_on : ℕ → Channel → Bool
-is_on node channel = has_member channel.nodes.items node
-
--- the node is on a channel
-abbrev pub is_on_air : List Channel → ℕ → Bool
-is_on_air channels node = list_any (is_on node) channels
-
-abbrev pub share_channel : List Channel → ℕ → ℕ → Bool
-share_channel channels sender node = list_any (λ channel. is_on sender channel && is_on node channel) channels
-
--- nodes hear each other where they are two and share a channel
-abbrev pub can_hear : List Channel → ℕ → ℕ → Bool
-can_hear channels sender node = not (sender == node) && share_channel channels sender node
-
--- the nodes that hear a sender, by number
-abbrev pub hearers : List Channel → ℕ → List ℕ
-hearers channels sender = filter (can_hear channels sender) (range_with_len 1 16)
-
--- ---- frames
 
 abbrev pub AllSettled : List Aired → Type 0
 AllSettled frames = AllByRecursion (λ (f : Aired). f.settled ≡ true) frames

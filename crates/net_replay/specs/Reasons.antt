@@ -1,26 +1,9 @@
 -- The word by which a reason is shown. Own profile.
 use Rattle.std.specs.Prelude.{ℕ, List, codes}
-use Rattle.net_replay.specs.declared.reasons.What.{What}
 use Rattle.net_replay.specs.declared.reasons.LineRefusal.{LineRefusal}
 use Rattle.net_replay.specs.declared.reasons.LineRefusal.TheVariants as whys
-use Rattle.net_replay.specs.declared.reasons.What.TheVariants.{Many, Char, Word, NotBuilt, Late, Count, Number, Call, Alias, Node, Twice, Key, Value}
 
-abbrev pub word_for : What → List ℕ
-word_for Many = codes "many"
-word_for Char = codes "char"
-word_for Word = codes "word"
-word_for NotBuilt = codes "not built"
-word_for Late = codes "late"
-word_for Count = codes "count"
-word_for Number = codes "number"
-word_for Call = codes "call"
-word_for Alias = codes "alias"
-word_for Node = codes "node"
-word_for Twice = codes "twice"
-word_for Key = codes "key"
-word_for Value = codes "value"
-
--- and why an act wasn't done
+-- why an act wasn't done
 abbrev pub word_for_why : LineRefusal → List ℕ
 word_for_why whys.Own = codes "own"
 word_for_why whys.TooLow = codes "too low"

@@ -4,9 +4,9 @@ ghost use Rattle.std.specs.List.{position_or_len};
 ghost use Rattle.net_replay.specs.declared.air.Aired.{Aired};
 ghost use Rattle.net_replay.specs.Air as airs;
 
-use crate::channels::{Channel, can_hear};
 use crate::limits::MAX_FRAMES;
 use crate::reasons::{LineRefusal, ReplayRefusal};
+use network_file::{Channel, can_hear};
 use std::alloc::{AllocError, Global};
 use std::marker::Model;
 

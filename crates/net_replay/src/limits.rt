@@ -1,8 +1,4 @@
-//! How large a network may be.
+//! How much a replay may bring.
 
-/// The most lines of a network file.
-pub const MAX_LINES: u32 = 20_000;
-/// The most nodes of a network: their numbers are from 1 to this one.
-pub const MAX_NODES: usize = 16;
 /// The most frames that may be in the air.
 pub const MAX_FRAMES: usize = 100_000;

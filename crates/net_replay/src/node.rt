@@ -7,13 +7,12 @@ ghost use Rattle.net_replay.specs.Traces.{StandsFor, Follows, Takes, Reacts, inp
 ghost use Rattle.net_replay.specs.World as world;
 
 use crate::air::Octets;
-use crate::declarations::Declaration;
 use crate::events::NodeEntry;
-use crate::keys::Setting;
 use crate::reasons::LineRefusal;
 use crate::station::Station;
 use ax_address::{Alias, Call};
 use kiss_framing::{Deframer, KissItem};
+use network_file::{Declaration, Setting};
 use radio_base::NoMemory;
 use std::alloc::Global;
 

@@ -1,16 +1,17 @@
 //! What a node hands out is told and put in the air.
 ghost use Rattle.std.specs.Prelude.{◌≡◌, ◌+◌, ◌++◌, ◌∷◌, [], map, length, OnOk, IfErr};
 ghost use Rattle.net_replay.specs.declared.events.Event.TheVariants as told;
-ghost use Rattle.net_replay.specs.Air.{in_air, is_on_air};
+ghost use Rattle.network_file.specs.Channels.{is_on_air};
+ghost use Rattle.net_replay.specs.Air.{in_air};
 ghost use Rattle.net_replay.specs.Nodes.{NodeState, Reaction};
 ghost use Rattle.net_replay.specs.Traces.{HandsOut, Publishes, IsRefusal};
 ghost use Rattle.net_replay.specs.World as world;
 
 use crate::air::{Air, Octets};
-use crate::channels::Channel;
 use crate::events::{Event, NodeEntry, NumberedEvent};
 use crate::node::Outputs;
 use crate::reasons::{LineRefusal, ReplayRefusal};
+use network_file::Channel;
 use std::alloc::AllocError;
 
 /// Tells what a node hands out, and puts its frames in the air.

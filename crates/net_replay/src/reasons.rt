@@ -1,64 +1,8 @@
-//! Why lines are bad or aren't done, and why files and replays are refused.
+//! Why an act isn't done, and why a replay is refused.
 use radio_base::NoMemory;
 use std::alloc::{AllocError, AllocFailed};
 use std::fmt;
 use thiserror::Error;
-
-/// Why a line of a network file is bad.
-#[derive(Clone, Copy, Debug, PartialEq, Eq)]
-pub enum What {
-    /// The line is the 20,001st.
-    Many,
-    /// A byte outside 0x20 to 0x7E.
-    Char,
-    /// The first word is no kind of line.
-    Word,
-    /// The kind of line, or the key, is one that this version doesn't know yet.
-    NotBuilt,
-    /// A declaration behind a line that is none.
-    Late,
-    /// The line has too many words for its kind, or too few.
-    Count,
-    /// A word isn't a decimal number in the range of its place.
-    Number,
-    /// A word isn't a call.
-    Call,
-    /// A word isn't an alias.
-    Alias,
-    /// A number of no declared node.
-    Node,
-    /// A node, a call or a key that was there before.
-    Twice,
-    /// A word is no key.
-    Key,
-    /// A number that the key doesn't allow.
-    Value,
-}
-
-impl fmt::Display for What {
-    ghost use Rattle.std.specs.Prelude.{Some};
-    ghost use Rattle.net_replay.specs.Reasons.{word_for};
-
-    ghost output = { λ what. Some (word_for what) };
-
-    fn fmt<W: fmt::Write>(&self, f: &mut fmt::Formatter<W>) -> fmt::Result {
-        f.write_str(match self {
-            What::Many => "many",
-            What::Char => "char",
-            What::Word => "word",
-            What::NotBuilt => "not built",
-            What::Late => "late",
-            What::Count => "count",
-            What::Number => "number",
-            What::Call => "call",
-            What::Alias => "alias",
-            What::Node => "node",
-            What::Twice => "twice",
-            What::Key => "key",
-            What::Value => "value",
-        })
-    }
-}
 
 /// Why an act of a network wasn't done.
 #[derive(Clone, Copy, Debug, PartialEq, Eq)]
@@ -95,38 +39,6 @@ impl fmt::Display for LineRefusal {
             LineRefusal::Settled => "settled",
             LineRefusal::NotSettled => "not settled",
         })
-    }
-}
-
-/// Why a network file wasn't read.
-#[derive(Clone, Copy, Debug, PartialEq, Eq, Error)]
-pub enum NetworkRefusal {
-    /// The first bad line, counted from 1.
-    #[error("line {line}: {what}")]
-    BadLine { line: u32, what: What },
-    #[error("out of memory")]
-    NoMemory,
-}
-
-impl From<AllocError> for NetworkRefusal {
-    ghost use Rattle.std.specs.Prelude.{◌≡◌};
-    ghost use Rattle.net_replay.specs.declared.reasons.NetworkRefusal.TheVariants.{NoMemory};
-
-    ghost from_gives = { λ _ e. e ≡ NoMemory };
-
-    fn from(_: AllocError) -> Self {
-        NetworkRefusal::NoMemory
-    }
-}
-
-impl<T: Drop> From<AllocFailed<T>> for NetworkRefusal {
-    ghost use Rattle.std.specs.Prelude.{◌≡◌};
-    ghost use Rattle.net_replay.specs.declared.reasons.NetworkRefusal.TheVariants.{NoMemory};
-
-    ghost from_gives = { λ _ e. e ≡ NoMemory };
-
-    fn from(_: AllocFailed<T>) -> Self {
-        NetworkRefusal::NoMemory
     }
 }
 

@@ -1,21 +1,19 @@
 //! A replay while it runs: one act after another.
 ghost use Rattle.std.specs.Prelude.{◌∷◌, [], filter, slice_get};
-ghost use Rattle.net_replay.specs.declared.acts.Instruction.TheVariants as acts;
-ghost use Rattle.net_replay.specs.Air.{can_hear, hearers};
+ghost use Rattle.network_file.specs.declared.plan.instructions.Instruction.TheVariants as acts;
+ghost use Rattle.network_file.specs.Channels.{can_hear, hearers};
 ghost use Rattle.net_replay.specs.Nodes as nodes;
 ghost use Rattle.net_replay.specs.Traces.{GoesOn, Runs, left, input_of};
 ghost use Rattle.net_replay.specs.World as world;
 
-use crate::acts::Instruction;
 use crate::air::{Air, place_of_frame};
 use crate::broadcasts::{broadcast_frame, kiss_bytes};
-use crate::channels::{Channel, can_hear, is_on_air};
 use crate::events::{Event, NumberedEvent};
 use crate::finding::{node_of, react_at};
-use crate::network::NumberedAct;
 use crate::node::{Input, Node};
 use crate::publishing::publish;
 use crate::reasons::ReplayRefusal;
+use network_file::{Channel, Instruction, NumberedInstruction, can_hear, is_on_air};
 use std::alloc::Global;
 
 /// A replay while it runs: the nodes by number, the frames in the air, and the events so far.
@@ -32,12 +30,12 @@ impl Running {
         &mut self,
         alloc: Global,
         channels: &[Channel],
-        acts: &[NumberedAct],
+        acts: &[NumberedInstruction],
     ) -> Result<(), ReplayRefusal>
         ensures { Runs (left self.old) (left self.new) (λ w. world.after_acts channels.now w acts.now) result }
     {
         for numbered in acts {
-            self.act(alloc, channels, numbered.line, &numbered.act)?;
+            self.act(alloc, channels, numbered.line, &numbered.instruction)?;
         }
         Ok(())
     }
@@ -88,6 +86,14 @@ impl Running {
                 self.cut(*count);
                 Ok(())
             }
+            // Not built yet: `read_network` refuses a file with such a line.
+            Instruction::Tick { .. }
+            | Instruction::Restart { .. }
+            | Instruction::Open { .. }
+            | Instruction::Say { .. }
+            | Instruction::Burst { .. }
+            | Instruction::Take { .. }
+            | Instruction::Close { .. } => Ok(()),
         }
     }
 

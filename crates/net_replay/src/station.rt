@@ -10,15 +10,13 @@ ghost use Rattle.net_replay.specs.World as world;
 
 use crate::air::Octets;
 use crate::broadcasts::{broadcast_frame, is_broadcast};
-use crate::declarations::Declaration;
 use crate::events::{NodeEntry, Table};
-use crate::keys::{Key, Setting};
 use crate::reasons::LineRefusal;
-use crate::settings::value_of;
 use arrayvec::ArrayVec;
 use ax_address::{Alias, Call, Entry, MAX_ENTRIES};
 use ax_frame::{FrameView, Head, read_frame, read_head};
 use digi_path::{DigiStep, step};
+use network_file::{Declaration, Key, Setting, value_of};
 use nodes_broadcast::{Nodes, read_nodes};
 use radio_base::{M8, NoMemory};
 use route_table::{HeardRefusal, LockRefusal, RouteRules, RouteTable};

@@ -1,8 +1,8 @@
 -- What is said where a command was refused.
 use Rattle.std.specs.Prelude.{ℕ, ◌++◌, List, codes}
 use Rattle.std.specs.Fmt.{decimal}
-use Rattle.net_replay.specs.declared.reasons.What.{What}
-use Rattle.net_replay.specs.Reasons.{word_for}
+use Rattle.network_file.specs.declared.reasons.What.{What}
+use Rattle.network_file.specs.Reasons.{word_for}
 
 -- all commands with their words, of which `replay` and `frames` are built so far
 abbrev pub usage_note : List ℕ

@@ -1,8 +1,9 @@
 -- What `replay` reads and writes.
 use Rattle.std.specs.Prelude.{ℕ, ◌≡◌, ◌<◌, ◌≤◌, List, length, Option, Result, Ok, Err, IsSomeAnd}
 use Rattle.std.specs.Io.KnownBytes.{Appends}
-use Rattle.net_replay.specs.Networks.{network_of, Bad}
-use Rattle.net_replay.specs.Plan.{Plan}
+use Rattle.network_file.specs.Networks.{Bad}
+use Rattle.net_replay.specs.Unbuilt.{network_of}
+use Rattle.network_file.specs.Plan.{Plan}
 use Rattle.net_replay.specs.Traces.{most_frames}
 use Rattle.net_replay.specs.World.{world}
 use Rattle.net_replay.specs.Reports.{report_text}

@@ -1,7 +1,7 @@
 //! The command `replay`.
 ghost use Rattle.std.specs.Prelude.{◌≡◌, ◌≢◌, ◌≤◌, length, Ok, IfOk, IfErr};
-ghost use Rattle.net_replay.specs.Networks.{network_of};
-ghost use Rattle.net_replay.specs.Plan.{Plan};
+ghost use Rattle.net_replay.specs.Unbuilt.{network_of};
+ghost use Rattle.network_file.specs.Plan.{Plan};
 ghost use Rattle.net_replay.specs.Traces.{IsTraceOf};
 ghost use Rattle.net_replay.specs.World.{World, world};
 ghost use Rattle.net_replay.specs.Reports.{report_text};

@@ -19,3 +19,6 @@ returns-clause-few c =
     let window = ap (λ (config : EndConfig). config.window) c.arrive.ensures.config in
     let own = ap (λ (k : EndView). k.config.window) c.self.view_is in
     few_out _ _ _ _ (omega (arith, window, own, c.arrive.new.self.outs_fit))
+
+pub returns-clause-most : goal.returns-clause-most
+returns-clause-most c = few_out _ _ _ _ (omega (arith, c.arrive.new.self.outs_fit, c.arrive.new.self.own_window_fits))

@@ -1,6 +1,6 @@
 use Rattle.std.proofs.Common.{◌≡◌, ◌-◌, ◌∙◌, sym, ap, false}
 use Rattle.std.specs.Prelude.{None, slice_get}
-use Rattle.net_replay.specs.declared.acts.Instruction.TheVariants as acts
+use Rattle.network_file.specs.declared.plan.instructions.Instruction.TheVariants as acts
 use Rattle.net_replay.specs.Air.{delivery_fault, frame_of}
 use Rattle.net_replay.specs.World.{World, delivers, settles, does, unless_refused}
 use Rattle.net_replay.specs.Traces.{left, course}

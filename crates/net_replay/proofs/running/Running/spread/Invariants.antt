@@ -1,6 +1,6 @@
 use Rattle.std.proofs.Common.{◌≡◌, ◌-◌, filter}
 use Rattle.std.specs.List.{range_with_len}
-use Rattle.net_replay.specs.Air.{can_hear, hearers}
+use Rattle.network_file.specs.Channels.{can_hear, hearers}
 use Rattle.net_replay.specs.World.{World, goes_to}
 use Rattle.net_replay.specs.Traces.{IsTraceOf, left}
 use Rattle.net_replay.proofs.running.Running.spread.Given as goal

@@ -1,0 +1,41 @@
+"""Time and peak memory of a command, for the scripts beside this file."""
+import os
+import subprocess
+import sys
+
+TOP = os.path.dirname(os.path.dirname(os.path.realpath(__file__)))
+
+# Runs a command in a small process of its own, since a child is charged with the memory of whoever starts it.
+RUN = """
+import os, subprocess, sys, time
+with open(sys.argv[1], "rb") as source:
+    begin = time.perf_counter()
+    child = subprocess.Popen(sys.argv[2:], stdin=source, stdout=subprocess.DEVNULL, stderr=subprocess.DEVNULL)
+    _, status, usage = os.wait4(child.pid, 0)
+    print(time.perf_counter() - begin, usage.ru_maxrss)
+sys.exit(status != 0)
+"""
+
+
+def program(crate):
+    """The built program of a crate."""
+    return os.path.join(TOP, "crates", crate, "out", crate)
+
+
+def build_wursthatch():
+    subprocess.run([os.path.join(TOP, "wursthatch"), "replay"], stdin=subprocess.DEVNULL, stdout=subprocess.DEVNULL, check=True)
+
+
+def run(command, path=os.devnull):
+    """Seconds and peak KiB of one run over a file; the least that can be told is the memory of the measuring process."""
+    told = subprocess.run([sys.executable, "-S", "-E", "-c", RUN, path, *command], capture_output=True, text=True)
+    if told.returncode != 0:
+        sys.exit(f"{command[0]} failed")
+    seconds, peak = told.stdout.split()
+    return float(seconds), int(peak)
+
+
+def shortest(command, path=os.devnull, times=3):
+    """The seconds of the shortest of some runs, and the largest peak."""
+    runs = [run(command, path) for _ in range(times)]
+    return min(runs)[0], max(one[1] for one in runs)

@@ -1,0 +1,14 @@
+use Rattle.circuit_set.proofs.Ticking.{no_value, ticks_none, ticks_some, value_at}
+use Rattle.circuit_set.proofs.held_ends.HeldEnds.tick_nth.Goals as goal
+
+pub tick-requires : goal.tick-requires
+tick-requires c = let at = value_at c.args.nth c.args.self.now.ends.entries c.in-Some.holder.now c.in-Some.ensures.value in c.requires (at.0, c.in-Some.holder.now) at.1
+
+pub returns-in-Some-clause-ticks : goal.returns-in-Some-clause-ticks
+returns-in-Some-clause-ticks c =
+    let k = c.in-Some.holder.now in
+    let at = value_at c.args.nth c.args.self.now.ends.entries k c.in-Some.ensures.value in
+    ticks_some c.args.nth c.args.now.0 at.0 k c.tick.new.self c.args.self.now.ends.entries at.1 c.tick.ensures.does
+
+pub returns-in_default-clause-ticks : goal.returns-in_default-clause-ticks
+returns-in_default-clause-ticks c = ticks_none c.args.nth c.args.now.0 c.args.self.now.ends.entries (no_value c.args.nth c.args.self.now.ends.entries c.in_default.ensures.value)

@@ -1,0 +1,39 @@
+use Rattle.std.proofs.Common.{sym, ap, refl, ◌∙◌, Ok, Err}
+use Rattle.std.proofs.Common.{nat_eq}
+use Rattle.std.specs.Map.{set_value}
+use Rattle.circuit_l4.specs.EndStanding.{EndView}
+use Rattle.circuit_l4.specs.EndTable.{Write}
+use Rattle.circuit_set.specs.Sets as sets
+use Rattle.circuit_set.proofs.Moving.{call_goes, no_write, rests_at, set_back, some_write}
+use Rattle.circuit_set.specs.Standing.{counted}
+use Rattle.circuit_set.proofs.Taken.{taken_same}
+use Rattle.circuit_set.proofs.held_ends.HeldEnds.write.Goals as goal
+
+pub write-requires : goal.write-requires
+write-requires c = rests_at c.args.id c.args.self.now.ends.entries c.in-Some.holder.now c.requires (sym c.in-Some.ensures.value)
+
+pub returns-in-Ok-clause-answer : goal.returns-in-Ok-clause-answer
+returns-in-Ok-clause-answer c = λ s st.
+    some_write c.args.self.now c.args.id s st c.in-Some.holder.now (sym c.in-Some.ensures.value) c.args.message.now (Ok tt) (λ x y. sym c.in-Ok.is ∙ c.write.ensures.answer x y)
+
+pub returns-in-Err-clause-answer : goal.returns-in-Err-clause-answer
+returns-in-Err-clause-answer c = λ s st.
+    some_write c.args.self.now c.args.id s st c.in-Some.holder.now (sym c.in-Some.ensures.value) c.args.message.now (Err c.in-Err.refusal) (λ x y. sym c.in-Err.is ∙ c.write.ensures.answer x y)
+
+pub returns-in-None-clause-answer : goal.returns-in-None-clause-answer
+returns-in-None-clause-answer c = λ s st. no_write c.args.self.now c.args.id s st (sym c.in-None.ensures.value) c.args.message.now
+
+pub returns-in-Ok-clause-goes : goal.returns-in-Ok-clause-goes
+returns-in-Ok-clause-goes c =
+    let k = c.in-Some.holder.now in
+    call_goes c.args.self.now _ c.args.id k c.write.new.self k.taken (sets.Writes c.args.message.now) c.args.now.0 (record { own = refl; user = refl; config = refl; next = refl; number = refl })
+    (sym c.in-Some.ensures.value) (c.get_mut.follows.holds (record k { end = c.write.new.self })).0 c.in-Ok.ensures.does
+    (λ x s e. e ∙ ap counted (sym (taken_same x (Write c.args.message.now) c.args.now.0 tt)))
+
+pub returns-in-Err-clause-err : goal.returns-in-Err-clause-err
+returns-in-Err-clause-err c =
+    let k = c.in-Some.holder.now in
+    let es = c.args.self.now.ends.entries in
+    (c.get_mut.follows.holds (record k { end = c.write.new.self })).0
+    ∙ ap (λ (e : EndView). set_value (nat_eq c.args.id) es (record k { end = e })) c.in-Err.ensures.err
+    ∙ set_back c.args.id es k (sym c.in-Some.ensures.value)

@@ -1,0 +1,8 @@
+use Rattle.circuit_set.specs.CircuitSets.{Circuits}
+use Rattle.circuit_set.proofs.Looking.{ticks_goes}
+use Rattle.circuit_set.proofs.set.CircuitSet.tick.Goals as goal
+
+pub returns-clause-goes : goal.returns-clause-goes
+returns-clause-goes g c =
+    let old : Circuits g.row.C.Denot = record { router = c.self.inside.router; held = c.self.inside.held; lost = c.self.inside.lost; spent = c.self.inside.spent } in
+    rw (← c.self.view_is) (ticks_goes old c.tick.new.self c.args.now.0 c.tick.ensures.goes)

@@ -1,0 +1,181 @@
+-- How a set is pumped, turn by turn: what is untold is told, one thing a turn, and what is sent is offered to the next hop when it
+-- is told; only where nothing is untold is the router asked, for one lost neighbour or one datagram. A call of `pump` is turns
+-- until something is told or nothing is left. Each call of the carrier stands here, in its order (this project's profile).
+use Rattle.std.specs.Prelude.{ℕ, ◌+◌, Bool, true, false, ◌&&◌, List, [], ◌∷◌, ◌++◌, if◌then◌else◌, Option, Some, None, is_none, Result, Ok, Err}
+use Rattle.ax_address.specs.Callsign.{Callsign}
+use Rattle.route_table.specs.Log.{Item, Failure}
+use Rattle.l3_datagram.specs.declared.carrier.Offered.{Offered}
+use Rattle.l3_datagram.specs.declared.carrier.Offered.TheVariants as offered
+use Rattle.l3_datagram.specs.declared.datagram.DatagramHead.{DatagramHead}
+use Rattle.l3_datagram.specs.declared.datagram.DatagramRefusal.{DatagramRefusal}
+use Rattle.l3_datagram.specs.declared.routed.Routed.{Routed}
+use Rattle.l3_datagram.specs.declared.routed.Routed.TheVariants as routed
+use Rattle.l3_datagram.specs.CarrierCall.{CarrierCall, Datagram, Parcel, Collect, Fail, Offer}
+use Rattle.l3_datagram.specs.Datagrams.{head_at}
+use Rattle.l3_datagram.specs.Hops.{Way, Ends, GoesOn, forwarded_by, way}
+use Rattle.circuit_set.specs.Sets.{SetDone, SetState, Told, Sent, Comes, set_step}
+
+-- a set between its calls: what is untold, and what a sending that was told came to, where it came to nothing
+pub record Waiting : Type 0 where
+  pub set : SetState
+  pub untold : List Told
+  pub lost : Option Routed
+
+-- nothing waits to be told but what lies at the router
+abbrev pub at_rest : SetState → Waiting
+at_rest s = record { set = s; untold = []; lost = None }
+
+-- its machine has come to this
+abbrev pub with_done : Waiting → SetDone → Waiting
+with_done w d = record { set = d.set; untold = w.untold ++ d.told; lost = w.lost }
+
+abbrev pub is_empty : List Told → Bool
+is_empty [] = true
+is_empty (t ∷ ts) = false
+
+abbrev pub is_drained : Waiting → Bool
+is_drained w = is_none w.lost && is_empty w.untold
+
+-- how much is untold: a sending may come to nothing, which is told next
+abbrev pub weight : Told → ℕ
+weight (Sent id number d) = 2
+weight _ = 1
+
+abbrev pub weights : List Told → ℕ
+weights [] = 0
+weights (t ∷ ts) = weight t + weights ts
+
+abbrev pub pending : Waiting → ℕ
+pending w = (if is_none w.lost then 0 else 1) + weights w.untold
+
+-- ---- turns ----
+-- what a turn tells
+pub data SetTold : Type 0 where
+  Of : Told → SetTold
+  Dropped : Routed → SetTold
+  Lost : Callsign → SetTold
+
+-- what a turn comes to: what is told, if anything is, the set then, and what the routing table takes in
+pub record Turned : Type 0 where
+  pub told : Option SetTold
+  pub after : Waiting
+  pub items : List Item
+
+-- a turn comes to this; or a datagram is offered to a neighbour, and it comes to what follows by the answer
+pub data Turn : Type 0 where
+  Says : Turned → Turn
+  Offers : (to : Callsign) (datagram : Datagram) (by : Offered → Turned) → Turn
+
+abbrev pub outcome : Turn → Offered → Turned
+outcome (Says t) answer = t
+outcome (Offers to d by) answer = by answer
+
+abbrev pub offer_of : Turn → ℕ → Offered → List CarrierCall
+offer_of (Says t) now answer = []
+offer_of (Offers to d by) now answer = Offer to d now answer ∷ []
+
+-- nothing is told
+abbrev pub silent : Waiting → Turned
+silent w = record { told = None; after = w; items = [] }
+
+-- this is told, and changes nothing
+abbrev pub speaks : SetTold → Waiting → Turned
+speaks told w = record { told = Some told; after = w; items = [] }
+
+-- what is told after a sending, by the answer of the carrier
+abbrev pub dropped_by : Offered → Option Routed
+dropped_by offered.Taken = None
+dropped_by offered.Dropped = Some routed.Dropped
+
+-- by what became of a datagram: what was for this node is taken in, and one that was forwarded isn't told
+abbrev pub heard_as : ℕ → Waiting → Routed → Turned
+heard_as now w (routed.Mine origin d) = silent (with_done w (set_step w.set (Comes d.items now)))
+heard_as now w routed.Forwarded = silent w
+heard_as now w (routed.Lost call) = speaks (Lost call) w
+heard_as now w r = speaks (Dropped r) w
+
+abbrev pub hears_by : ℕ → Waiting → Way → Turn
+hears_by now w (Ends told) = Says (heard_as now w told)
+hears_by now w (GoesOn neighbour d) = Offers neighbour d (λ answer. heard_as now w (forwarded_by answer))
+
+-- a neighbour was lost, so that the routing table knows of it
+abbrev pub hears_lost : Callsign → Waiting → Turned
+hears_lost neighbour w = record { told = Some (Lost neighbour); after = w; items = Failure neighbour ∷ [] }
+
+-- ---- calls ----
+-- what a call of `pump` comes to: what it tells, the set then, the calls of the carrier, and what the routing table takes in
+pub record Pumped : Type 0 where
+  pub told : Option SetTold
+  pub after : Waiting
+  pub calls : List CarrierCall
+  pub items : List Item
+
+-- the last turn, after these calls
+abbrev pub ends_with : List CarrierCall → Turned → Pumped
+ends_with calls t = record { told = t.told; after = t.after; calls = calls; items = t.items }
+
+abbrev pub after_calls : List CarrierCall → Pumped → Pumped
+after_calls calls p = record { told = p.told; after = p.after; calls = calls ++ p.calls; items = p.items }
+
+abbrev pub turned : ℕ → Turn → Offered → Pumped
+turned now t answer = ends_with (offer_of t now answer) (outcome t answer)
+
+module _ (next_hop : Callsign → Option Callsign) where
+  -- a datagram of this node goes to the next hop towards its destination
+  abbrev pub sent_to : SetState → Told → List ℕ → List Told → Option Callsign → Turn
+  sent_to s t d rest None = Says (record { told = Some (Of t); after = record { set = s; untold = rest; lost = Some routed.NoRoute }; items = [] })
+  sent_to s t d rest (Some hop) =
+      Offers hop (record { items = d }) (λ answer. record { told = Some (Of t); after = record { set = s; untold = rest; lost = dropped_by answer }; items = [] })
+
+  abbrev pub sent_by_head : SetState → Told → List ℕ → List Told → Result DatagramHead DatagramRefusal → Turn
+  sent_by_head s t d rest (Err e) = sent_to s t d rest None
+  sent_by_head s t d rest (Ok head) = sent_to s t d rest (next_hop head.dest)
+
+  -- the first thing that is untold is told
+  abbrev pub tells_first : SetState → Told → List Told → Turn
+  tells_first s (Sent id number d) rest = sent_by_head s (Sent id number d) d rest (head_at d)
+  tells_first s t rest = Says (record { told = Some (Of t); after = record { set = s; untold = rest; lost = None }; items = [] })
+
+  abbrev pub tells_of : SetState → List Told → Turn
+  tells_of s [] = Says (silent (at_rest s))
+  tells_of s (t ∷ rest) = tells_first s t rest
+
+  -- what a sending came to stands before all else that is untold
+  abbrev pub tells : Waiting → Turn
+  tells w = elim w.lost as (λ x. Turn) [
+    | Some r ↦ Says (record { told = Some (Dropped r); after = record { set = w.set; untold = w.untold; lost = None }; items = [] })
+    | None ↦ tells_of w.set w.untold
+  ]
+
+  -- a datagram that waits at the router is taken
+  abbrev pub hears : ℕ → Parcel → Waiting → Turn
+  hears now parcel w = hears_by now w (way w.set.own next_hop parcel.1)
+
+  -- what it has brought is told, the first of it
+  abbrev pub tells_on : ℕ → Turned → Offered → Pumped
+  tells_on now t answer = elim t.told as (λ x. Pumped) [
+    | Some told ↦ ends_with [] t
+    | None ↦ (if is_drained t.after then ends_with [] t else turned now (tells t.after) answer)
+  ]
+
+  -- both turns; `answer` is the carrier's, where it is offered a datagram
+  abbrev pub takes : ℕ → SetState → Parcel → Offered → Pumped
+  takes now s parcel answer =
+      let t : Turn = hears now parcel (at_rest s) in
+      after_calls (Fail None ∷ Collect (Some parcel) ∷ offer_of t now answer) (tells_on now (outcome t answer) answer)
+
+  -- one datagram after another is taken, until something is told
+  abbrev pub takes_all : ℕ → SetState → List (Parcel × Offered) → Pumped
+  takes_all now s [] = ends_with (Fail None ∷ Collect None ∷ []) (silent (at_rest s))
+  takes_all now s (p ∷ ps) =
+      let first : Pumped = takes now s p.0 p.1 in
+      elim first.told as (λ x. Pumped) [ Some told ↦ first | None ↦ after_calls first.calls (takes_all now first.after.set ps) ]
+
+  -- the router is asked, by the neighbours that are lost and the datagrams that wait, each with the carrier's answer in its turn
+  abbrev pub asks : ℕ → SetState → List Callsign → List (Parcel × Offered) → Pumped
+  asks now s [] waiting = takes_all now s waiting
+  asks now s (neighbour ∷ _) waiting = ends_with (Fail (Some neighbour) ∷ []) (hears_lost neighbour (at_rest s))
+
+  -- one call of `pump`
+  abbrev pub pumped : ℕ → Waiting → List Callsign → List (Parcel × Offered) → Offered → Pumped
+  pumped now w lost waiting answer = if is_drained w then asks now w.set lost waiting else turned now (tells w) answer

@@ -1,0 +1,456 @@
+//! The circuits of a node.
+ghost use Rattle.std.specs.Prelude.{◌≡◌, ◌≢◌, ◌≤◌, ◌+◌, ◌<◌, ◌↔◌, ℕ, List, None, Some, true, false, if◌then◌else◌, is_some, Option, OnOk, OnErr, IfOk, IsErr, IsErrOf, IsTrue, drop, length, slice_get};
+ghost use Rattle.std.specs.Option.{option_copied};
+ghost use Rattle.std.specs.Borrow.{Lends, sem};
+ghost use Rattle.radio_base.specs.declared.modulus.TheConstants.{COUNT_MAX};
+
+use crate::MAX_ENDS;
+use crate::asked::{Asked, asked_by, came_to_nothing};
+use crate::event::{ConnectRefusal, DiscardRefusal, NoEnd, SetEvent, SetRefusal};
+use crate::held_ends::HeldEnds;
+use crate::holder::Untold;
+use ax_address::Call;
+use circuit_l4::{End, EndConfig, EndFacts, Pair, Transport, read_transport, write_transport};
+use indexmap::IndexMap;
+use l3_datagram::{
+    Carrier, Datagram, DatagramHead, HEAD_SIZE, Message, Routed, Router, laws, write_datagram,
+};
+use radio_base::{COUNT_MAX, Moment, NoMemory};
+use std::alloc::Global;
+use std::marker::Model;
+
+/// A node's circuits over its router: a pure machine, which holds at most 64 ends.
+///
+/// Ends are numbered from `first` on, in the order in which they are made. Inputs are `connect`, `write`, `take`, `close`, `discard` and
+/// `tick`, each but `discard` with its moment; they want `drained()`. After each of them, and whenever something came to the router's carrier,
+/// `pump` is called until it answers None: it hands what the ends put out to the router, takes what came up, and tells what happened.
+///
+/// Once it has answered NoMemory it is spent, and answers that ever after.
+#[derive(Drop)]
+pub struct CircuitSet<C> {
+    router: Router<C>,
+    held: HeldEnds,
+    /// What the last sending came to, where it came to nothing.
+    lost: Option<Routed>,
+    spent: bool,
+}
+
+impl<C> Model for CircuitSet<C> {
+    ghost use Rattle.std.specs.Coded.{codes};
+    ghost use Rattle.indexmap.specs.Layout.{hash_map_code};
+    ghost use Rattle.circuit_set.specs.CircuitSets.{Circuits};
+
+    ghost Value = { Circuits C };
+
+    ghost coded = { Prim.hlevel (codes, hash_map_code) };
+
+    ghost view = { λ c. record { router = c.router; held = c.held; lost = c.lost; spent = c.spent } };
+}
+
+impl<C: Carrier + Drop> CircuitSet<C> {
+    ghost use Rattle.circuit_l4.specs.EndOpening.{IsConfig};
+    ghost use Rattle.circuit_set.specs.Pairs.{IsPair};
+    ghost use Rattle.circuit_set.specs.Pumps.{at_rest};
+    ghost use Rattle.circuit_set.specs.Sets.{started};
+    ghost use Rattle.circuit_set.specs.CircuitSets.{IsDrained, SetStands};
+
+    /// A set without ends, of the node of this router. Its circuits are asked for by `user`, the first pair is `pair`, and the
+    /// first number `first`: with the greatest one, 2^62 + 1, no end can be made.
+    pub fn new(
+        alloc: Global,
+        router: Router<C>,
+        user: Call,
+        config: EndConfig,
+        pair: Pair,
+        first: u64,
+    ) -> Result<CircuitSet<C>, NoMemory>
+        requires config { IsConfig config }
+        requires pair { IsPair pair }
+        requires first { 1 ≤ first }
+        requires last { first ≤ COUNT_MAX + 1 }
+        ensures stands { IfOk result (λ set. SetStands set (at_rest (started router.own router.ttl user config pair first))) }
+        ensures router { IfOk result (λ set. set.router ≡ router) }
+        ensures drained { IfOk result IsDrained }
+    {
+        let own = router.own();
+        let ends = IndexMap::with_capacity(alloc, MAX_ENDS)?;
+        Ok(CircuitSet {
+            router,
+            held: HeldEnds {
+                alloc,
+                own,
+                user,
+                config,
+                next: pair,
+                number: first,
+                ends,
+            },
+            lost: None,
+            spent: false,
+        })
+    }
+}
+
+impl<C: Carrier> CircuitSet<C> {
+    ghost use Rattle.route_table.specs.Log.{Item};
+    ghost use Rattle.route_table.specs.Held.{StandsFor};
+    ghost use Rattle.route_table.specs.Table.{next_hop};
+    ghost use Rattle.l3_datagram.specs.Datagrams.{SpellsDatagram, datagram_with};
+    ghost use Rattle.l3_datagram.specs.Routers.{IsFor, MineIsFor, SameRouter, waiting_left};
+    ghost use Rattle.l3_datagram.specs.contracts.router.Router.{the_row as router_row};
+    ghost use Rattle.circuit_set.specs.contracts.set.CircuitSet.{the_row};
+    ghost use Rattle.circuit_set.specs.declared.holder.Untold.TheVariants as untold;
+    ghost use Rattle.circuit_set.specs.declared.event.ConnectRefusal.TheVariants as connect_refusals;
+    ghost use Rattle.circuit_set.specs.declared.event.SetRefusal.TheVariants as refusals;
+    ghost use Rattle.circuit_set.specs.Sets as sets;
+    ghost use Rattle.circuit_set.specs.Sets.{SetState, Told};
+    ghost use Rattle.circuit_set.specs.Pumps.{Waiting, at_rest, is_drained};
+    ghost use Rattle.circuit_set.specs.Inputs.{connect_answer, ticks};
+    ghost use Rattle.circuit_set.specs.Standing.{Brings, Rests, close_answer, cost, discard_answer, message_at, take_answer, untold_in, write_answer};
+    ghost use Rattle.circuit_set.specs.CircuitSets.{Circuits, Falls, Goes, GoesBy, IsDrained, IsUnchanged, LentStands, Pumps, SetStands, facts_at, held_ids, partner_at};
+    ghost use Rattle.circuit_set.specs.SetTurns.{Asks, AsksOnce, IsAsked, SameLists, TakesIn, Tells, TellsLost, event_of};
+
+    /// Asks for a circuit with a node, and gives the number of the end that is made for it.
+    pub fn connect(&mut self, node: &Call, now: Moment) -> Result<u64, ConnectRefusal>
+        requires { IsDrained self.old }
+        ensures answer { self.new.spent ≡ false → (s : SetState) (log : List Item) → SetStands self.old (at_rest s) → StandsFor self.old.router.table log →
+            result ≡ connect_answer (next_hop self.old.router.table.rules log) node.now s }
+        ensures goes { OnOk result (GoesBy (sets.Connect node.now now.0) self.old self.new) }
+        ensures err { OnErr result (self.new.spent ≡ false → self.new ≡ self.old) }
+        ensures memory { IsErrOf result connect_refusals.NoMemory ↔ IsTrue self.new.spent }
+        ensures spent { IsTrue self.old.spent → self.new ≡ self.old }
+    {
+        if self.spent {
+            return Err(ConnectRefusal::NoMemory);
+        }
+        if *node == self.router.own() {
+            return Err(ConnectRefusal::Own);
+        }
+        if self.router.table().next_hop(node).is_none() {
+            return Err(ConnectRefusal::NoRoute);
+        }
+        if self.held.is_full() {
+            return Err(ConnectRefusal::Full);
+        }
+        match self.held.request(node, now) {
+            Ok(id) => Ok(id),
+            Err(NoMemory) => {
+                self.spent = true;
+                Err(ConnectRefusal::NoMemory)
+            }
+        }
+    }
+
+    /// Tells what happened next: None where nothing is untold, and nothing that lies at the router gives anything to tell.
+    pub fn pump(&mut self, now: Moment) -> Result<Option<SetEvent>, NoMemory>
+        ensures pumps { IfOk result (Pumps C.made self.old self.new (C.lost self.old.router.carrier) (C.waiting self.old.router.carrier) now.0) }
+        ensures drained { IfOk result (λ told. told ≡ None → IsDrained self.new) }
+        ensures falls { IfOk result (λ told. is_some told ≡ true → Falls C.lost C.waiting self.old self.new) }
+        ensures router { OnOk result (SameRouter self.old.router self.new.router) }
+        ensures memory { IsErr result ↔ IsTrue self.new.spent }
+        ensures spent { IsTrue self.old.spent → self.new ≡ self.old }
+    {
+        if self.spent {
+            return Err(NoMemory);
+        }
+        let told = self.go_on(now);
+        self.spent = told.is_err();
+        told
+    }
+
+    /// Tells what is untold, or else what comes of what lies at the router.
+    fn go_on(&mut self, now: Moment) -> Result<Option<SetEvent>, NoMemory>
+        ensures pumps { IfOk result (Pumps C.made self.old self.new (C.lost self.old.router.carrier) (C.waiting self.old.router.carrier) now.0) }
+        ensures drained { IfOk result (λ told. told ≡ None → Rests self.new.held.ends.entries × (self.new.lost ≡ None)) }
+        ensures falls { IfOk result (λ told. is_some told ≡ true → Falls C.lost C.waiting self.old self.new) }
+        ensures router { OnOk result (SameRouter self.old.router self.new.router) }
+        ensures spent { OnOk result (self.new.spent ≡ self.old.spent) }
+    {
+        if let Some(routed) = self.lost.take() {
+            return Ok(Some(SetEvent::Dropped(routed)));
+        }
+        match self.held.next() {
+            Some(untold) => {
+                let event = self.tell(untold, now)?;
+                Ok(Some(event))
+            }
+            None => self.ask_router(now),
+        }
+    }
+
+    /// Tells what is to be told next, and sends what is to be sent.
+    fn tell(&mut self, untold: Untold, now: Moment) -> Result<SetEvent, NoMemory>
+        requires { self.old.lost ≡ None }
+        ensures tells { IfOk result (Tells C.made self.old self.new untold now.0) }
+        ensures cost { OnOk result ((if is_some self.new.lost then 1 else 0) < cost untold) }
+        ensures lists { OnOk result (SameLists C.lost C.waiting self.old self.new) }
+        ensures held { self.new.held ≡ self.old.held }
+    {
+        match untold {
+            Untold::Event(event) => Ok(event),
+            Untold::Out {
+                id,
+                number,
+                to,
+                transport,
+            } => self.send(id, number, &to, &transport, now),
+        }
+    }
+
+    /// Sends a transport to a node. What that came to is told next, where it came to nothing.
+    fn send(
+        &mut self,
+        id: u64,
+        number: Option<u64>,
+        to: &Call,
+        transport: &Transport,
+        now: Moment,
+    ) -> Result<SetEvent, NoMemory>
+        ensures tells { IfOk result (Tells C.made self.old self.new (untold.Out id number to.now transport.now) now.0) }
+        ensures lists { OnOk result (SameLists C.lost C.waiting self.old self.new) }
+        ensures held { self.new.held ≡ self.old.held }
+    {
+        // By the laws of the spelling the datagram is read as it was written.
+        laws::datagram_spelling();
+        let octets = write_transport(transport);
+        let sending = self.router.send(to, octets.as_slice(), now)?;
+        self.lost = came_to_nothing(sending);
+        let datagram = self.datagram(to, octets.as_slice());
+        Ok(SetEvent::Sent {
+            id,
+            number,
+            datagram,
+        })
+    }
+
+    /// The datagram in which a transport goes to a node.
+    fn datagram(&self, to: &Call, transport: &[u8]) -> Datagram
+        requires { length transport.now ≤ 241 }
+        ensures exact { result ≡ datagram_with (record { origin = self.now.router.own; dest = to.now; ttl = self.now.router.ttl }) transport.now }
+        ensures spelled { SpellsDatagram (record { origin = self.now.router.own; dest = to.now; ttl = self.now.router.ttl }) transport.now result.items }
+    {
+        let head = DatagramHead {
+            origin: self.router.own(),
+            dest: *to,
+            ttl: self.router.ttl(),
+        };
+        write_datagram(&head, transport).unwrap_or_default()
+    }
+
+    /// Asks the router until it has brought something to tell, or has nothing more.
+    fn ask_router(&mut self, now: Moment) -> Result<Option<SetEvent>, NoMemory>
+        requires rests { Rests self.old.held.ends.entries }
+        requires lost { self.old.lost ≡ None }
+        ensures asks { IfOk result (Asks C.made self.old self.new (C.lost self.old.router.carrier) (C.waiting self.old.router.carrier) now.0) }
+        ensures drained { IfOk result (λ told. told ≡ None → Rests self.new.held.ends.entries × (self.new.lost ≡ None)) }
+        ensures falls { IfOk result (λ told. is_some told ≡ true → Falls C.lost C.waiting self.old self.new) }
+        ensures router { OnOk result (SameRouter self.old.router self.new.router) }
+        ensures spent { OnOk result (self.new.spent ≡ self.old.spent) }
+    {
+        loop {
+            match self.ask_once(now)? {
+                Asked::Told(event) => return Ok(Some(event)),
+                Asked::Silent => {}
+                Asked::Idle => return Ok(None),
+            }
+        }
+    }
+
+    /// Asks the router for one lost neighbour, or else for one datagram.
+    fn ask_once(&mut self, now: Moment) -> Result<Asked, NoMemory>
+        requires rests { Rests self.old.held.ends.entries }
+        requires lost { self.old.lost ≡ None }
+        ensures asks { IfOk result (AsksOnce C.made self.old self.new (C.lost self.old.router.carrier) (C.waiting self.old.router.carrier) now.0) }
+        ensures asked { IfOk result (IsAsked (C.lost self.old.router.carrier) (C.waiting self.old.router.carrier)) }
+        ensures rests { IfOk result (λ asked. event_of asked ≡ None → Rests self.new.held.ends.entries × (self.new.lost ≡ None)) }
+        ensures falls { IfOk result (λ asked. asked ≢ Asked.Idle → Falls C.lost C.waiting self.old self.new) }
+        ensures lost { OnOk result (C.lost self.new.router.carrier ≡ drop 1 (C.lost self.old.router.carrier)) }
+        ensures waiting { OnOk result (C.waiting self.new.router.carrier ≡ waiting_left (C.lost self.old.router.carrier) (C.waiting self.old.router.carrier)) }
+        ensures router { OnOk result (SameRouter self.old.router self.new.router) }
+        ensures spent { OnOk result (self.new.spent ≡ self.old.spent) }
+    {
+        match self.router.pump(now)? {
+            Some(routed) => {
+                let told = self.take_in(routed, now)?;
+                Ok(asked_by(told))
+            }
+            None => Ok(Asked::Idle),
+        }
+    }
+
+    /// Takes in what the router has answered, and tells the first thing that it brings.
+    fn take_in(&mut self, routed: Routed, now: Moment) -> Result<Option<SetEvent>, NoMemory>
+        requires mine { MineIsFor self.old.router.own routed }
+        requires rests { Rests self.old.held.ends.entries }
+        requires lost { self.old.lost ≡ None }
+        ensures takes { IfOk result (TakesIn C.made self.old self.new routed now.0) }
+        ensures loud { IfOk result (TellsLost routed) }
+        ensures rests { IfOk result (λ told. told ≡ None → Rests self.new.held.ends.entries × (self.new.lost ≡ None)) }
+        ensures few { OnOk result (Brings (untold_in self.old.held.ends.entries) (untold_in self.new.held.ends.entries)) }
+        ensures lists { OnOk result (SameLists C.lost C.waiting self.old self.new) }
+    {
+        match routed {
+            Routed::Mine { origin, datagram } => self.hand_up(origin, datagram, now),
+            Routed::Forwarded => Ok(None),
+            Routed::Lost(neighbour) => Ok(Some(SetEvent::Lost(neighbour))),
+            other => Ok(Some(SetEvent::Dropped(other))),
+        }
+    }
+
+    /// Takes in a datagram for this node.
+    fn hand_up(
+        &mut self,
+        origin: Call,
+        datagram: Datagram,
+        now: Moment,
+    ) -> Result<Option<SetEvent>, NoMemory>
+        requires mine { IsFor self.old.router.own origin datagram }
+        requires rests { Rests self.old.held.ends.entries }
+        requires lost { self.old.lost ≡ None }
+        ensures takes { IfOk result (TakesIn C.made self.old self.new (Routed.Mine origin datagram) now.0) }
+        ensures rests { IfOk result (λ told. told ≡ None → Rests self.new.held.ends.entries × (self.new.lost ≡ None)) }
+        ensures few { OnOk result (Brings (untold_in self.old.held.ends.entries) (untold_in self.new.held.ends.entries)) }
+        ensures lists { OnOk result (SameLists C.lost C.waiting self.old self.new) }
+    {
+        let transport = match read_transport(&datagram.as_slice()[HEAD_SIZE..]) {
+            Ok(transport) => transport,
+            Err(_) => return Ok(None),
+        };
+        match self.held.receive(origin, datagram, &transport, now)? {
+            Some(untold) => {
+                let event = self.tell(untold, now)?;
+                Ok(Some(event))
+            }
+            None => Ok(None),
+        }
+    }
+
+    /// Time has passed for all ends.
+    pub fn tick(&mut self, now: Moment) -> Result<(), NoMemory>
+        requires { IsDrained self.old }
+        ensures goes { OnOk result (Goes self.old self.new (λ s. ticks now.0 (at_rest s))) }
+        ensures memory { IsErr result ↔ IsTrue self.old.spent }
+        ensures err { OnErr result (self.new ≡ self.old) }
+    {
+        if self.spent {
+            return Err(NoMemory);
+        }
+        self.held.tick(now);
+        Ok(())
+    }
+
+    /// Writes a message for the partner of an end: `NoEnd` where no end of that number is held, else what the end answers. A refusal
+    /// changes nothing.
+    pub fn write(&mut self, id: u64, message: &[u8], now: Moment) -> Result<(), SetRefusal>
+        requires { IsDrained self.old }
+        ensures answer { (s : SetState) → SetStands self.old (at_rest s) → result ≡ write_answer (sets.end_of id s.ends) message.now }
+        ensures goes { OnOk result (GoesBy (sets.Calls id (sets.Writes message.now) now.0) self.old self.new) }
+        ensures err { OnErr result (IsUnchanged self.old self.new) }
+        ensures memory { IsErrOf result refusals.NoMemory ↔ IsTrue self.old.spent }
+    {
+        if self.spent {
+            return Err(SetRefusal::NoMemory);
+        }
+        self.held.write(id, message, now)
+    }
+
+    /// Takes the first message that has come to an end; false where none waits, and `out` stays as it was.
+    pub fn take(&mut self, id: u64, out: &mut Message, now: Moment) -> Result<bool, NoEnd>
+        requires { IsDrained self.old }
+        ensures answer { (s : SetState) → SetStands self.old (at_rest s) → result ≡ take_answer (sets.end_of id s.ends) }
+        ensures message { (s : SetState) → SetStands self.old (at_rest s) → out.new.items ≡ message_at out.old.items (sets.end_of id s.ends) }
+        ensures goes { GoesBy (sets.Calls id sets.Takes now.0) self.old self.new }
+    {
+        if self.spent {
+            self.held.known(id)?;
+            return Ok(false);
+        }
+        self.held.take(id, out, now)
+    }
+
+    /// Closes a circuit once all that was written is acknowledged.
+    pub fn close(&mut self, id: u64, now: Moment) -> Result<(), NoEnd>
+        requires { IsDrained self.old }
+        ensures answer { (s : SetState) → SetStands self.old (at_rest s) → result ≡ close_answer (sets.end_of id s.ends) }
+        ensures goes { GoesBy (sets.Calls id sets.Closes now.0) self.old self.new }
+    {
+        if self.spent {
+            return self.held.known(id);
+        }
+        self.held.close(id, now)
+    }
+
+    /// Holds an end that has ended no longer, whatever waits at it. A refusal changes nothing.
+    pub fn discard(&mut self, id: u64) -> Result<(), DiscardRefusal>
+        requires { IsDrained self.old }
+        ensures answer { (s : SetState) → SetStands self.old (at_rest s) → result ≡ discard_answer (sets.end_of id s.ends) }
+        ensures goes { OnOk result (GoesBy (sets.Discard id) self.old self.new) }
+        ensures err { OnErr result (IsUnchanged self.old self.new) }
+    {
+        self.held.discard(id)
+    }
+
+    /// What an end tells of itself: None where no end of that number is held.
+    pub fn facts(&self, id: u64) -> Option<EndFacts>
+        ensures { (s : SetState) → SetStands self.now (at_rest s) → result ≡ facts_at (sets.end_of id s.ends) }
+    {
+        match self.held.ends.get(&id) {
+            Some(holder) => Some(holder.end.facts()),
+            None => None,
+        }
+    }
+
+    /// The node of an end's partner.
+    pub fn partner(&self, id: u64) -> Option<Call>
+        ensures { (s : SetState) → SetStands self.now (at_rest s) → result ≡ partner_at (sets.end_of id s.ends) }
+    {
+        match self.held.ends.get(&id) {
+            Some(holder) => Some(holder.at),
+            None => None,
+        }
+    }
+
+    /// The end of a number.
+    pub fn end(&self, id: u64) -> Option<&End>
+        ensures { (s : SetState) → SetStands self.now (at_rest s) → LentStands (option_copied result) (sets.end_of id s.ends) }
+    {
+        match self.held.ends.get(&id) {
+            Some(holder) => Some(&holder.end),
+            None => None,
+        }
+    }
+
+    /// The number of the nth end that is held.
+    pub fn held(&self, nth: usize) -> Option<u64>
+        ensures { (s : SetState) → SetStands self.now (at_rest s) → result ≡ slice_get (held_ids s.ends) nth }
+    {
+        match self.held.ends.get_index(nth) {
+            Some((id, _)) => Some(*id),
+            None => None,
+        }
+    }
+
+    /// Whether nothing waits to be told but what lies at the router. So it is of a set that is spent.
+    pub fn drained(&self) -> bool
+        ensures exact { (w : Waiting) → SetStands self.now w → result ≡ is_drained w }
+        ensures rests { result ≡ true → IsDrained self.now }
+        ensures spent { IsTrue self.now.spent → result ≡ true }
+    {
+        self.spent || (self.lost.is_none() && self.held.is_quiet())
+    }
+
+    /// The router.
+    pub fn router(&self) -> &Router<C>
+        ensures { result.now ≡ self.now.router }
+    {
+        &self.router
+    }
+
+    /// The same, to be changed: what is left of it is the set's router then.
+    pub fn router_mut(&mut self) -> &mut Router<C>
+        ensures value { result.now ≡ self.old.router }
+        ensures* writes_back { sem 𝓛 (Lends (the_row C.row) (router_row C.row) self.entry result (λ w. record self.old { router = w })) }
+    {
+        &mut self.router
+    }
+}

@@ -1,7 +1,0 @@
-use Rattle.std.proofs.Common.{◌≡◌, drop}
-use Rattle.std.specs.Prelude.{find}
-use Rattle.net_replay.specs.Settings.{is_of}
-use Rattle.net_replay.proofs.settings.set_to.Given as goal
-
-abbrev pub invariant-loop-setting : goal.invariant-loop-setting
-invariant-loop-setting l = find (is_of l.node l.key) (drop l.setting-index l.settings) ≡ find (is_of l.node l.key) l.settings

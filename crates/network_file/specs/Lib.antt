@@ -1,0 +1,10 @@
+pub mod Reasons
+pub mod Words
+pub mod Keys
+pub mod Settings
+pub mod Channels
+pub mod Vias
+pub mod Places
+pub mod Plan
+pub mod Lines
+pub mod Networks

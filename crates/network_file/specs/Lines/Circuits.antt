@@ -1,0 +1,62 @@
+-- Lines that speak of circuits and their ends. Own profile.
+use Rattle.std.specs.Prelude.{ℕ, List, [], ◌∷◌, Result, Ok, Err}
+use Rattle.network_file.specs.declared.reasons.What.{What}
+use Rattle.network_file.specs.declared.reasons.What.TheVariants as whats
+use Rattle.network_file.specs.declared.lines.Line.{Line}
+use Rattle.network_file.specs.declared.lines.Line.TheVariants as lines
+use Rattle.network_file.specs.declared.plan.instructions.Instruction.TheVariants.{Open, Say, Burst, Take, Close}
+use Rattle.network_file.specs.Plan.{Plan}
+use Rattle.network_file.specs.Places.{◌>>=◌, known, number_at, nth_at, node_at}
+use Rattle.network_file.specs.Lines.Nodes.{node_and_call}
+use Rattle.network_file.specs.Words.{said_text}
+
+-- open N DEST
+unfoldable pub open_line : Plan → List (List ℕ) → Result Line What
+open_line plan words = do
+  way ← node_and_call plan words
+  Ok (lines.Instruction (Open way.0 way.1))
+
+-- N X: an end of a node
+unfoldable pub end_at : Plan → List ℕ → List ℕ → Result (ℕ × ℕ) What
+end_at plan number nth = do
+  n ← node_at plan.declared number
+  x ← nth_at nth
+  Ok (n, x)
+
+-- say N X TEXT: without the space that TEXT stands behind the line has too few words
+unfoldable pub say_at : Plan → List ℕ → List ℕ → List ℕ → Result Line What
+say_at plan line number nth = do
+  text ← known whats.Count (said_text line)
+  e ← end_at plan number nth
+  Ok (lines.Instruction (Say e.0 e.1 text))
+
+abbrev pub say_line : Plan → List ℕ → List (List ℕ) → Result Line What
+say_line plan line (number ∷ nth ∷ more) = say_at plan line number nth
+say_line plan line other = Err whats.Count
+
+-- burst N X COUNT
+unfoldable pub burst_at : Plan → List ℕ → List ℕ → List ℕ → Result Line What
+burst_at plan number nth count = do
+  e ← end_at plan number nth
+  c ← number_at 1 10000 count
+  Ok (lines.Instruction (Burst e.0 e.1 c))
+
+abbrev pub burst_line : Plan → List (List ℕ) → Result Line What
+burst_line plan (number ∷ nth ∷ count ∷ []) = burst_at plan number nth count
+burst_line plan other = Err whats.Count
+
+abbrev pub end_alone : Plan → List (List ℕ) → Result (ℕ × ℕ) What
+end_alone plan (number ∷ nth ∷ []) = end_at plan number nth
+end_alone plan other = Err whats.Count
+
+-- take N X
+unfoldable pub take_line : Plan → List (List ℕ) → Result Line What
+take_line plan words = do
+  e ← end_alone plan words
+  Ok (lines.Instruction (Take e.0 e.1))
+
+-- close N X
+unfoldable pub close_line : Plan → List (List ℕ) → Result Line What
+close_line plan words = do
+  e ← end_alone plan words
+  Ok (lines.Instruction (Close e.0 e.1))

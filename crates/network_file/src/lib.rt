@@ -1,0 +1,24 @@
+//! Network files: what each line says, and what is wrong with a bad one.
+//!
+//! A network file describes nodes and what happens to them, line by line. `read_network` reads it whole: the network,
+//! or the first bad line. `docs/network-file.md` has the rules in words; the definitions are in `specs/`.
+#![tactic(auto)]
+
+mod limits;
+mod lines;
+mod network;
+mod places;
+mod plan;
+mod reasons;
+mod words;
+
+pub use limits::MAX_NODES;
+pub use network::{Network, NumberedInstruction, read_network};
+pub use plan::channels::{Channel, can_hear, is_on_air};
+pub use plan::declarations::Declaration;
+pub use plan::instructions::Instruction;
+pub use plan::keys::{Key, Setting};
+pub use plan::settings::value_of;
+pub use plan::text::Text;
+pub use plan::vias::Via;
+pub use reasons::{NetworkRefusal, What};

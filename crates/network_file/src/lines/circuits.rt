@@ -1,0 +1,117 @@
+//! Lines that speak of circuits and their ends: `open`, `say`, `burst`, `take`, `close`.
+ghost use Rattle.std.specs.Prelude.{◌≡◌, IfOk};
+ghost use Rattle.network_file.specs.Lines.Circuits as lines;
+ghost use Rattle.network_file.specs.Words.{texts};
+
+use crate::lines::Line;
+use crate::lines::nodes::node_and_call;
+use crate::network::Network;
+use crate::places::{node, nth, text_count};
+use crate::plan::instructions::Instruction;
+use crate::plan::text::Text;
+use crate::reasons::What;
+use crate::words::said_text;
+use std::alloc::{AllocError, Global};
+
+/// `open N DEST`
+#[tactic(auto, unfolding(crate::specs::Lines::Circuits::open_line))]
+pub fn open_line(before: &Network, words: &[&[u8]]) -> Result<Line, What>
+    ensures { result ≡ lines.open_line before.now (texts words.now) }
+{
+    let (node, dest) = node_and_call(before, words)?;
+    Ok(Line::Instruction(Instruction::Open { node, dest }))
+}
+
+/// The number of a declared node, and that of one of its ends.
+#[tactic(auto, unfolding(crate::specs::Lines::Circuits::end_at))]
+fn end_of(before: &Network, number: &[u8], end: &[u8]) -> Result<(u8, u32), What>
+    ensures { result ≡ lines.end_at before.now number.now end.now }
+{
+    let node = node(before.declared(), number)?;
+    let end = nth(end)?;
+    Ok((node, end))
+}
+
+/// `say N X TEXT`: TEXT may be empty, and hold spaces
+pub fn say_line(
+    alloc: Global,
+    before: &Network,
+    line: &[u8],
+    words: &[&[u8]],
+) -> Result<Result<Line, What>, AllocError>
+    ensures { IfOk result (λ said. said ≡ lines.say_line before.now line.now (texts words.now)) }
+{
+    match words {
+        [number, end, ..] => say(alloc, before, line, number, end),
+        _ => Ok(Err(What::Count)),
+    }
+}
+
+#[tactic(auto, unfolding(crate::specs::Lines::Circuits::say_at))]
+fn say(
+    alloc: Global,
+    before: &Network,
+    line: &[u8],
+    number: &[u8],
+    end: &[u8],
+) -> Result<Result<Line, What>, AllocError>
+    ensures { IfOk result (λ said. said ≡ lines.say_at before.now line.now number.now end.now) }
+{
+    let Some(text) = said_text(line) else {
+        return Ok(Err(What::Count));
+    };
+    match end_of(before, number, end) {
+        Ok((node, end)) => {
+            let text = Text::new(alloc, text)?;
+            Ok(Ok(Line::Instruction(Instruction::Say { node, end, text })))
+        }
+        Err(what) => Ok(Err(what)),
+    }
+}
+
+/// `burst N X COUNT`
+pub fn burst_line(before: &Network, words: &[&[u8]]) -> Result<Line, What>
+    ensures { result ≡ lines.burst_line before.now (texts words.now) }
+{
+    match words {
+        [number, end, count] => burst(before, number, end, count),
+        _ => Err(What::Count),
+    }
+}
+
+#[tactic(auto, unfolding(crate::specs::Lines::Circuits::burst_at))]
+fn burst(before: &Network, number: &[u8], end: &[u8], count: &[u8]) -> Result<Line, What>
+    ensures { result ≡ lines.burst_at before.now number.now end.now count.now }
+{
+    let (node, end) = end_of(before, number, end)?;
+    let count = text_count(count)?;
+    Ok(Line::Instruction(Instruction::Burst { node, end, count }))
+}
+
+/// The number of a declared node, that of one of its ends, and nothing else.
+fn end_alone(before: &Network, words: &[&[u8]]) -> Result<(u8, u32), What>
+    ensures { result ≡ lines.end_alone before.now (texts words.now) }
+{
+    match words {
+        [number, end] => end_of(before, number, end),
+        _ => Err(What::Count),
+    }
+}
+
+/// `take N X`
+#[tactic(auto, unfolding(crate::specs::Lines::Circuits::take_line))]
+pub fn take_line(before: &Network, words: &[&[u8]]) -> Result<Line, What>
+    ensures { result ≡ lines.take_line before.now (texts words.now) }
+{
+    let (node, end) = end_alone(before, words)?;
+    Ok(Line::Instruction(Instruction::Take { node, end }))
+}
+
+/// `close N X`
+#[tactic(auto, unfolding(crate::specs::Lines::Circuits::close_line))]
+pub fn close_line(before: &Network, words: &[&[u8]]) -> Result<Line, What>
+    ensures { result ≡ lines.close_line before.now (texts words.now) }
+{
+    let (node, end) = end_alone(before, words)?;
+    Ok(Line::Instruction(Instruction::Close { node, end }))
+}

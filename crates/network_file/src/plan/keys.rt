@@ -1,0 +1,239 @@
+//! The keys of `set` lines.
+ghost use Rattle.std.specs.Prelude.{◌≡◌};
+ghost use Rattle.network_file.specs.Keys as keys;
+
+use crate::reasons::What;
+use std::marker::Model;
+
+/// What a `set` line may set of a node. Times are in milliseconds.
+#[derive(Clone, Copy, Debug, PartialEq, Eq)]
+pub enum Key {
+    /// `window`: how many fragments of a circuit may be sent and not acknowledged.
+    Window,
+    /// `timeout`: how long an end of a circuit waits for an acknowledgement.
+    Timeout,
+    /// `retries`: how often an end of a circuit tries again.
+    Retries,
+    /// `busy`: how long an end of a circuit holds back where its partner chokes.
+    Busy,
+    /// `inactive`: how long an end of a circuit stands on which nothing happens.
+    Inactive,
+    /// `ttl`: over how many hops a datagram goes at most.
+    TimeToLive,
+    /// `life`: how many rounds a report lives.
+    Life,
+    /// `least`: how many rounds a broadcast route has left at least.
+    Least,
+    /// `minq`: the least quality of a usable report.
+    MinimumQuality,
+    /// `quality`: the quality of the path to each neighbour.
+    PathQuality,
+    /// `links`: 1 where datagrams go over links, 0 where they go in UI frames.
+    Links,
+    /// `modulo`: the modulus of the links that the node sets up, 8 or 128.
+    Modulo,
+    /// `lwindow`: how many I frames of a link may be sent and not acknowledged (k); 0 is 4 at modulo 8 and 32 at modulo 128.
+    LinkWindow,
+    /// `srej`: 1 where a link asks for single frames again.
+    SelectiveReject,
+    /// `t1`: how long a link waits for an acknowledgement (T1).
+    T1,
+    /// `t3`: how long a link stands on which nothing comes before it asks (T3).
+    T3,
+    /// `lretries`: how often a link tries again (N2).
+    LinkRetries,
+    /// `interval`: how long a node waits between its rounds; 0 for none of its own.
+    Interval,
+}
+
+/// All keys.
+const KEYS: [Key; 18] = [
+    Key::Window,
+    Key::Timeout,
+    Key::Retries,
+    Key::Busy,
+    Key::Inactive,
+    Key::TimeToLive,
+    Key::Life,
+    Key::Least,
+    Key::MinimumQuality,
+    Key::PathQuality,
+    Key::Links,
+    Key::Modulo,
+    Key::LinkWindow,
+    Key::SelectiveReject,
+    Key::T1,
+    Key::T3,
+    Key::LinkRetries,
+    Key::Interval,
+];
+
+/// The word of a key, its least and its largest value, and the one where no line sets it.
+#[derive(Clone, Copy)]
+struct KeyRow {
+    word: &'static [u8],
+    least: u32,
+    most: u32,
+    default: u32,
+}
+
+/// One setting of a node: a value that the key allows.
+#[derive(Clone, Copy, Debug, PartialEq, Eq)]
+pub struct Setting {
+    pub(crate) node: u8,
+    pub(crate) key: Key,
+    pub(crate) value: u32,
+}
+
+impl Model for Setting {
+    ghost use Rattle.std.specs.Prelude.{◌≤◌};
+    ghost use Rattle.network_file.specs.Keys.{Assignment, least_of, most_of};
+
+    ghost Value = { Assignment };
+
+    ghost view = { λ s. record { node = s.node; key = s.key; value = s.value } };
+
+    ghost invariant = { λ s. (least_of s.key ≤ s.value) × (s.value ≤ most_of s.key) };
+
+    ghost inverse = { λ a. record { node = a.node; key = a.key; value = a.value } };
+}
+
+impl Setting {
+    ghost use Rattle.std.specs.Prelude.{◌≡◌, ◌≤◌};
+    ghost use Rattle.network_file.specs.Keys.{least_of, most_of};
+
+    /// The node's number, from 1 to 16.
+    pub fn node(&self) -> u8
+        ensures { result ≡ self.now.node }
+    {
+        self.node
+    }
+
+    /// What is set.
+    pub fn key(&self) -> Key
+        ensures { result ≡ self.now.key }
+    {
+        self.key
+    }
+
+    /// To what it is set: a value that the key allows.
+    pub fn value(&self) -> u32
+        ensures value { result ≡ self.now.value }
+        ensures least { least_of self.now.key ≤ result }
+        ensures most { result ≤ most_of self.now.key }
+    {
+        self.value
+    }
+}
+
+impl Key {
+    /// The key that the word names.
+    #[tactic(auto, unfolding(crate::specs::Keys::key_at))]
+    pub fn read(word: &[u8]) -> Result<Key, What>
+        ensures { result ≡ keys.key_at word.now }
+    {
+        match first_of(&KEYS, word) {
+            Some(key) => Ok(key),
+            None if word == b"prompt".as_slice() => Err(What::NotBuilt),
+            None => Err(What::Key),
+        }
+    }
+
+    /// The word by which files name the key.
+    pub fn word(self) -> &'static [u8]
+        ensures { result.now ≡ keys.word_of self }
+    {
+        self.row().word
+    }
+
+    /// The least value that the key allows.
+    pub fn least(self) -> u32
+        ensures { result ≡ keys.least_of self }
+    {
+        self.row().least
+    }
+
+    /// The largest value that the key allows.
+    pub fn most(self) -> u32
+        ensures { result ≡ keys.most_of self }
+    {
+        self.row().most
+    }
+
+    /// The value where no line sets one.
+    pub fn default_value(self) -> u32
+        ensures { result ≡ keys.default_of self }
+    {
+        self.row().default
+    }
+
+    /// A file of that version may set the key to a value in its range: before version 3 a window is at most 64, and a modulus is
+    /// 8 or 128.
+    pub(crate) fn takes(self, version: u8, value: u32) -> bool
+        ensures { result ≡ keys.takes version self value }
+    {
+        match self {
+            Key::Window => version >= 3 || value <= 64,
+            Key::Modulo => value == 8 || value == 128,
+            _ => true,
+        }
+    }
+
+    fn row(self) -> KeyRow
+        ensures word { result.word.now ≡ (keys.row_of self).word }
+        ensures least { result.least ≡ (keys.row_of self).least }
+        ensures most { result.most ≡ (keys.row_of self).most }
+        ensures default { result.default ≡ (keys.row_of self).default }
+    {
+        match self {
+            Key::Window => row(b"window", 1, 127, 4),
+            Key::Timeout => row(b"timeout", 1, 86_400_000, 60_000),
+            Key::Retries => row(b"retries", 1, 255, 3),
+            Key::Busy => row(b"busy", 1, 86_400_000, 180_000),
+            Key::Inactive => row(b"inactive", 1, 86_400_000, 900_000),
+            Key::TimeToLive => row(b"ttl", 1, 255, 25),
+            Key::Life => row(b"life", 1, 255, 6),
+            Key::Least => row(b"least", 1, 255, 5),
+            Key::MinimumQuality => row(b"minq", 1, 255, 1),
+            Key::PathQuality => row(b"quality", 0, 255, 192),
+            Key::Links => row(b"links", 0, 1, 1),
+            Key::Modulo => row(b"modulo", 8, 128, 8),
+            Key::LinkWindow => row(b"lwindow", 0, 127, 0),
+            Key::SelectiveReject => row(b"srej", 0, 1, 0),
+            Key::T1 => row(b"t1", 1, 86_400_000, 3_000),
+            Key::T3 => row(b"t3", 1, 86_400_000, 300_000),
+            Key::LinkRetries => row(b"lretries", 1, 255, 10),
+            Key::Interval => row(b"interval", 0, 86_400_000, 0),
+        }
+    }
+}
+
+fn row(word: &'static [u8], least: u32, most: u32, default: u32) -> KeyRow
+    ensures word { result.word.now ≡ word.now }
+    ensures least { result.least ≡ least }
+    ensures most { result.most ≡ most }
+    ensures default { result.default ≡ default }
+{
+    KeyRow {
+        word,
+        least,
+        most,
+        default,
+    }
+}
+
+/// The first of these keys that the word names.
+fn first_of(list: &[Key], word: &[u8]) -> Option<Key>
+    ensures { result ≡ keys.first_of word.now list.now }
+{
+    match list {
+        [] => None,
+        [key, others @ ..] => {
+            if key.word() == word {
+                Some(*key)
+            } else {
+                first_of(others, word)
+            }
+        }
+    }
+}

@@ -1,0 +1,39 @@
+//! The settings of nodes, and their defaults.
+ghost use Rattle.std.specs.Prelude.{◌≡◌, ◌≤◌, IsTrue, IfSome};
+ghost use Rattle.network_file.specs.Keys as keys;
+ghost use Rattle.network_file.specs.Settings as set;
+
+use crate::plan::keys::{Key, Setting};
+
+/// What the key is set to for the node, if it is.
+pub fn set_to(settings: &[Setting], node: u8, key: Key) -> Option<u32>
+    ensures value { result ≡ set.set_to settings.now node key }
+    ensures in_range { IfSome result (λ v. (keys.least_of key ≤ v) × (v ≤ keys.most_of key)) }
+{
+    for setting in settings {
+        if is_of(setting, node, key) {
+            return Some(setting.value);
+        }
+    }
+    None
+}
+
+fn is_of(setting: &Setting, node: u8, key: Key) -> bool
+    ensures value { result ≡ set.is_of node key setting.now }
+    ensures key { IsTrue result → setting.now.key ≡ key }
+{
+    setting.node == node && setting.key == key
+}
+
+/// What the key is set to for the node, or else its default.
+#[tactic(auto, using(crate::proofs::KeyRanges::default_in_range))]
+pub fn value_of(settings: &[Setting], node: u8, key: Key) -> u32
+    ensures value { result ≡ set.value_of settings.now node key }
+    ensures least { keys.least_of key ≤ result }
+    ensures most { result ≤ keys.most_of key }
+{
+    match set_to(settings, node, key) {
+        Some(value) => value,
+        None => key.default_value(),
+    }
+}
