@@ -29,10 +29,12 @@ use Rattle.l3_datagram.specs.CarrierCall.{Datagram}
 use Rattle.l3_datagram.specs.declared.carrier.Offered.TheVariants.{Taken, Dropped}
 use Rattle.ax_frame.specs.declared.head.Head.{Head}
 use Rattle.link_table.specs.Calls as calls
-use Rattle.link_table.specs.Frames.{all_sent, fitting, head_to, is_numbered, most_octets, netrom, octets_of, Sent, sent, sent_by, segmented}
+use Rattle.link_table.specs.Frames.{all_sent, fitting, head_to, is_numbered, most_octets, netrom, octets_of, plain_text, Sent, sent, sent_by, segmented}
 use Rattle.link_table.specs.Laws.{Brings, Carries, CarriesOn, FrameHolds, LinkHolds, ParcelCame, goes_to}
 use Rattle.link_table.specs.Table.{Linked, Pending, Table, path_to, link_with, with_link, without}
 use Rattle.link_table.proofs.Lifting.{untexted}
+use Rattle.ax_segment.specs.Segments.{segments_of}
+use Rattle.link_table.specs.Sending as sending
 use Rattle.link_table.specs.Texts as texts
 use Rattle.link_table.specs.Works.{Work, arrive_at_link, first_to_take, is_down, hand_up, most_taken, emit, settle, step_link, take_payload, tell}
 
@@ -392,6 +394,21 @@ module _ (law : PayloadsStay) (bounds_stay : BoundsStay) (settings_stay : Settin
       by true = at_link_carries peer (texts.take_text_of t.own now) t (λ w e y. text_carries t.own now w y) x
       by false = x
 
+  each_carries : (own : Callsign) (pid : ℕ) (infos : List (List ℕ)) (now : ℕ) (w : Work) → (pid == netrom) ≡ false → WorkCarries w →
+      WorkCarries (sending.send_each own (sending.payloads pid infos) now w)
+  each_carries own pid [] now w e x = x
+  each_carries own pid (i ∷ is) now w e x =
+      each_carries own pid is now (step_link own (Send (sending.payload pid i)) now w) e (stepped_carries own (Send (sending.payload pid i)) now w (rw e refl) x)
+
+  text_sent_carries : (peer : Callsign) (text : List ℕ) (now : ℕ) (t : Table) → Carries offered came sizes t → Carries offered came sizes (sending.send_text peer text now t)
+  text_sent_carries peer text now t x =
+      at_link_carries peer (sending.send_text_of t.own text now) t (λ w e y. by (sending.in_segments w.linked.link.rules.size text) w y) x
+    where
+      by : (b : Bool) (w : Work) → WorkCarries w →
+          WorkCarries (sending.send_each t.own (if b then sending.payloads segmented (segments_of plain_text text) else sending.payloads plain_text (sending.cut text)) now w)
+      by true w y = each_carries t.own segmented (segments_of plain_text text) now w refl y
+      by false w y = each_carries t.own plain_text (sending.cut text) now w refl y
+
   pub carries_on : CarriesOn offered came sizes
   carries_on =
       record {
@@ -400,6 +417,7 @@ module _ (law : PayloadsStay) (bounds_stay : BoundsStay) (settings_stay : Settin
         closes = λ t peer now x. at_link_carries peer (step_link t.own Close now) t (λ w e y. stepped_carries t.own Close now w tt y) x;
         breaks = λ t peer x. ended_carries peer (Failed ∷ []) t x;
         takes = λ t peer now x. text_taken_carries peer now t x;
+        sends = λ t peer text now x. text_sent_carries peer text now t x;
         offers = λ t to d now a x. offer_carries to d now t a x;
         collects = λ t x. record { modulus = x.modulus; size = x.size; links = x.links; waiting = all_drop (ParcelCame offered came sizes) t.pending.waiting x.waiting; frames = x.frames };
         tells_lost = λ t x. record { modulus = x.modulus; size = x.size; links = x.links; waiting = x.waiting; frames = x.frames };

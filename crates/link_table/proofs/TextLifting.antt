@@ -73,7 +73,7 @@ text_same own peer es t s = by (lookup (same_call peer) es) refl
         ap with_text f.with ∙ ap (λ j. texts.first_text j (slice_get f.link.link.inbox 0)) f.stands.joiner
         ∙ ap (λ (x : State). texts.first_text y.joiner (slice_get x.inbox 0)) f.stands.link.keeps.is ∙ sym (ap text_of_entry e)
 
-room_stands : (size : ℕ) (h : LinkView) (s : State) → StandsFor size h s → texts.room_of s ≡ room_in h
+pub room_stands : (size : ℕ) (h : LinkView) (s : State) → StandsFor size h s → texts.room_of s ≡ room_in h
 room_stands size h s st = ap texts.room_of st.keeps.is ∙ by (may_close h.phase && not h.closing)
   where
     n : ℕ

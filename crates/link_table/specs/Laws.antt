@@ -1,6 +1,6 @@
 -- What holds of every table of links.
-use Rattle.std.specs.Prelude.{ℕ, ◌≡◌, ◌≤◌, ◌==◌, ◌||◌, ◌⊎◌, not, nat_le, Bool, true, false, List, ◌++◌, length, None, Some}
-use Rattle.std.specs.List.{AllByRecursion}
+use Rattle.std.specs.Prelude.{ℕ, ◌≡◌, ◌≤◌, ◌==◌, ◌||◌, ◌⊎◌, not, nat_le, Bool, true, false, List, ◌++◌, length, None, Some, Ok}
+use Rattle.std.specs.List.{AllByRecursion, concat}
 use Rattle.radio_base.specs.declared.payload.Payload.{Payload}
 use Rattle.ax_address.specs.Callsign.{Callsign}
 use Rattle.ax_frame.specs.Frames.{Frame as AirFrame}
@@ -12,6 +12,7 @@ use Rattle.l3_datagram.specs.declared.carrier.Offered.TheVariants.{Taken}
 use Rattle.link_table.specs.Calls.{arrive, break_link, close, collect, fetch, tell_lost, most_links, notice, offer, pack, set_up_size, source, tick}
 use Rattle.link_table.specs.Frames.{Sent, is_numbered, netrom}
 use Rattle.link_table.specs.Table.{Linked, Table, link_with}
+use Rattle.link_table.specs.Sending.{answer_of, cut, payloads_of, send_text, send_text_of}
 use Rattle.link_table.specs.Texts.{take_text}
 use Rattle.link_table.specs.Works.{Work, first_to_take, most_taken, settle}
 
@@ -60,6 +61,7 @@ module _ (offered came : Callsign → Payload → Bool) (sizes : ℕ → Bool) w
     pub closes : (t : Table) (peer : Callsign) (now : ℕ) → Carries t → Carries (close peer now t)
     pub breaks : (t : Table) (peer : Callsign) → Carries t → Carries (break_link peer t)
     pub takes : (t : Table) (peer : Callsign) (now : ℕ) → Carries t → Carries (take_text peer now t)
+    pub sends : (t : Table) (peer : Callsign) (text : List ℕ) (now : ℕ) → Carries t → Carries (send_text peer text now t)
     pub offers : (t : Table) (to : Callsign) (d : Datagram) (now : ℕ) → Has (offered to) (pack d) → Carries t → Carries (offer to d now t).table
     pub collects : (t : Table) → Carries t → Carries (collect t)
     pub tells_lost : (t : Table) → Carries t → Carries (tell_lost t)
@@ -91,4 +93,15 @@ pub record OnlyFramesBring : Type 0 where
   pub ticks : (t : Table) (now : ℕ) → (tick now t).pending.waiting ≡ t.pending.waiting
   pub closes : (t : Table) (peer : Callsign) (now : ℕ) → (close peer now t).pending.waiting ≡ t.pending.waiting
   pub breaks : (t : Table) (peer : Callsign) → (break_link peer t).pending.waiting ≡ t.pending.waiting
+  pub sends : (t : Table) (peer : Callsign) (text : List ℕ) (now : ℕ) → (send_text peer text now t).pending.waiting ≡ t.pending.waiting
   pub offers : (t : Table) (to : Callsign) (d : Datagram) (now : ℕ) → (offer to d now t).table.pending.waiting ≡ t.pending.waiting
+
+-- a text that isn't refused is given to the link whole: payload by payload, in order, behind what the link was given before
+abbrev pub TextsAreGiven : Type 0
+TextsAreGiven =
+    (own : Callsign) (text : List ℕ) (now : ℕ) (w : Work) → answer_of text w.linked.link ≡ Ok tt →
+    (send_text_of own text now w).linked.link.given ≡ w.linked.link.given ++ payloads_of w.linked.link.rules.size text
+
+-- the pieces of a text are the text, cut
+abbrev pub PiecesAreTheText : Type 0
+PiecesAreTheText = (text : List ℕ) → concat (cut text) ≡ text

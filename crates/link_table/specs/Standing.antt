@@ -1,5 +1,5 @@
 -- What the code keeps of a table of links, and for which tables it stands.
-use Rattle.std.specs.Prelude.{is_some, ◌≡◌, ℕ, ◌≤◌, ◌==◌, Bool, true, false, if◌then◌else◌, List, [], ◌∷◌, ◌++◌, length, map, Result, Ok, Err, Option, None, Some, min, ◌-◌, slice_get, not, ◌&&◌}
+use Rattle.std.specs.Prelude.{is_some, ◌≡◌, ℕ, ◌≤◌, ◌==◌, Bool, true, false, if◌then◌else◌, List, [], ◌∷◌, ◌++◌, length, map, Result, Ok, Err, Option, None, Some, min, ◌-◌, slice_get, not, ◌&&◌, nat_lt}
 use Rattle.std.specs.Option.{option_to_list}
 use Rattle.ax_address.specs.Callsign.{Callsign}
 use Rattle.ax_link.specs.declared.plain.LinkConfig.{LinkConfig}
@@ -17,6 +17,8 @@ use Rattle.link_table.specs.declared.link_of.LinkOf.{LinkOf}
 use Rattle.link_table.specs.declared.link_of.LinkOf.TheVariants.{Eight, Wide}
 use Rattle.link_table.specs.declared.path_refusal.PathRefusal.{PathRefusal}
 use Rattle.link_table.specs.declared.path_refusal.PathRefusal.TheVariants.{TooLong, Full, NoMemory}
+use Rattle.link_table.specs.declared.text_refusal.TextRefusal.{TextRefusal}
+use Rattle.link_table.specs.declared.text_refusal.TextRefusal.TheVariants as TextRefusals
 use Rattle.link_table.specs.declared.route.Route.{Route}
 use Rattle.link_table.specs.declared.pending.Pending.{Pending}
 use Rattle.link_table.specs.declared.written.Written.{Written}
@@ -32,6 +34,7 @@ use Rattle.link_table.specs.Table.{Linked, Table, Via}
 use Rattle.ax_address.specs.CallOrder.{same_call}
 use Rattle.std.specs.Map.{lookup, remove_entry}
 use Rattle.link_table.specs.Texts.{first_text}
+use Rattle.link_table.specs.Sending.{most_text, payloads_of}
 use Rattle.link_table.specs.Works.{Work, is_down, joiner_after, lost_by}
 
 abbrev pub size_of : LinkOf → ℕ
@@ -289,3 +292,25 @@ NotNoMemory (Err Full) = Unit {0}
 abbrev pub text_given : Bool → List ℕ → Option (List ℕ)
 text_given true out = Some out
 text_given false out = None
+
+-- why a text isn't sent over a link, by what is kept of it
+abbrev pub answer_in : List ℕ → Entry → Result (Unit {0}) TextRefusal
+answer_in text e =
+    if not (may_close (held_of e.link).phase && not (held_of e.link).closing) then Err TextRefusals.NoLink
+    else if nat_lt most_text (length text) then Err TextRefusals.TooLong
+    else if nat_lt (room_in (held_of e.link)) (length (payloads_of (size_of e.link) text)) then Err TextRefusals.Full
+    else Ok tt
+
+abbrev pub answer_of_entry : List ℕ → Option Entry → Result (Unit {0}) TextRefusal
+answer_of_entry text None = Err TextRefusals.NoLink
+answer_of_entry text (Some e) = answer_in text e
+
+abbrev pub answer_at : Callsign → List ℕ → List (Callsign × Entry) → Result (Unit {0}) TextRefusal
+answer_at peer text es = answer_of_entry text (lookup (same_call peer) es)
+
+abbrev pub TextNotNoMemory : Result (Unit {0}) TextRefusal → Type 0
+TextNotNoMemory (Ok _) = Unit {0}
+TextNotNoMemory (Err TextRefusals.NoMemory) = ⊥
+TextNotNoMemory (Err TextRefusals.NoLink) = Unit {0}
+TextNotNoMemory (Err TextRefusals.TooLong) = Unit {0}
+TextNotNoMemory (Err TextRefusals.Full) = Unit {0}

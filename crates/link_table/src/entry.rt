@@ -1,5 +1,5 @@
 //! A link of the table: each of its steps, by its modulus (AX.25 2.2, section 6).
-ghost use Rattle.std.specs.Prelude.{◌≡◌, is_some, true, ◌≤◌, ◌==◌, ℕ, List, None, Some, OnOk, IfOk, not};
+ghost use Rattle.std.specs.Prelude.{◌≡◌, is_some, true, ◌≤◌, ◌==◌, ℕ, List, None, Some, OnOk, IfOk, not, length, ◌&&◌};
 ghost use Rattle.ax_link.specs.State.{count_end};
 ghost use Rattle.ax_frame.specs.FrameText.{is_command};
 ghost use Rattle.ax_link.specs.Kinds.{frame_in};
@@ -11,7 +11,8 @@ ghost use Rattle.link_table.specs.Works as works;
 
 use crate::pending::{Frames, Pending};
 use crate::route::Route;
-use crate::{LinkOf, offers, texts, work};
+use crate::texts::MAX_TEXT;
+use crate::{LinkOf, TextRefusal, offers, sends, texts, work};
 use ax_frame::FrameView;
 use ax_link::{Link, LinkConfig};
 use ax_segment::Joiner;
@@ -28,7 +29,8 @@ pub(crate) struct Entry {
 }
 
 impl Entry {
-    ghost use Rattle.link_table.specs.Standing.{EntryGoes, held_of, room_in, size_of, text_in, width};
+    ghost use Rattle.link_table.specs.Standing.{EntryGoes, answer_in, held_of, room_in, size_of, text_in, width};
+    ghost use Rattle.link_table.specs.Sending.{most_text, payloads_of, send_text_of};
     ghost use Rattle.link_table.specs.Texts.{take_text_of};
 
     /// A link that is Down.
@@ -140,6 +142,61 @@ impl Entry {
             }
             LinkOf::Wide(link) => {
                 texts::take_text(link, &self.route, &mut self.joiner, pending, out, now)
+            }
+        }
+    }
+
+    /// Why a text isn't sent over the link, if it isn't.
+    pub(crate) fn text_answer(&self, text: &[u8]) -> Result<(), TextRefusal>
+        ensures { result ≡ answer_in text.now self.now }
+    {
+        if !self.takes_texts() {
+            return Err(TextRefusal::NoLink);
+        }
+        if text.len() > MAX_TEXT {
+            return Err(TextRefusal::TooLong);
+        }
+        if self.room() < self.payload_count(text) {
+            return Err(TextRefusal::Full);
+        }
+        Ok(())
+    }
+
+    fn takes_texts(&self) -> bool
+        ensures { result ≡ table.may_close (held_of self.now.link).phase && not (held_of self.now.link).closing }
+    {
+        match &self.link {
+            LinkOf::Eight(link) => sends::takes_texts(link),
+            LinkOf::Wide(link) => sends::takes_texts(link),
+        }
+    }
+
+    fn payload_count(&self, text: &[u8]) -> usize
+        ensures { result ≡ length (payloads_of (size_of self.now.link) text.now) }
+    {
+        sends::payload_count(self.is_wide(), text)
+    }
+
+    /// Sends a text over the link: in segments where it is of modulo 128 and the text has over 256 bytes, else in pieces.
+    pub(crate) fn send_text(
+        &mut self,
+        pending: &mut Pending,
+        text: &[u8],
+        now: Moment,
+    ) -> Result<(), NoMemory>
+        requires drained { IsDrained (held_of self.old.link) }
+        requires few { length text.now ≤ most_text }
+        ensures drained { OnOk result (IsDrained (held_of self.new.link)) }
+        ensures goes { OnOk result (EntryGoes (send_text_of self.old.route.own text.now now.0) self.old self.new pending.old pending.new) }
+    {
+        match &mut self.link {
+            LinkOf::Eight(link) => {
+                sends::send_pieces(link, &self.route, &mut self.joiner, pending, text, now)?;
+                Ok(())
+            }
+            LinkOf::Wide(link) => {
+                sends::send_wide(link, &self.route, &mut self.joiner, pending, text, now)?;
+                Ok(())
             }
         }
     }

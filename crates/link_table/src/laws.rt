@@ -1,8 +1,9 @@
 //! What the definitions promise by themselves.
 ghost use Rattle.std.specs.Prelude.{◌≡◌};
 ghost use Rattle.link_table.specs.Calls.{AnsweredAsDown};
-ghost use Rattle.link_table.specs.Laws.{CarriesWhatWasOffered, NewLinkTakes, OnlyFramesBring, SettledAll};
+ghost use Rattle.link_table.specs.Laws.{CarriesWhatWasOffered, NewLinkTakes, OnlyFramesBring, PiecesAreTheText, SettledAll, TextsAreGiven};
 
+use crate::texts::MAX_TEXT;
 use crate::{MAX_LINKS, MAX_ORIGINATED, MAX_PATHS};
 
 /// Where no link stands, a command that sets none up is answered as by a link that is Down.
@@ -36,9 +37,20 @@ pub fn only_frames_bring()
     ensures { OnlyFramesBring }
 {}
 
-/// The most links of a node, the most peers with repeaters of their own, and the most repeaters to one.
+/// A text that isn't refused is given to the link whole, in payloads one behind the other.
+pub fn texts_are_given()
+    ensures { TextsAreGiven }
+{}
+
+/// The pieces of 256 bytes as which a text goes over a link of modulo 8 are the text.
+pub fn pieces_are_the_text()
+    ensures { PiecesAreTheText }
+{}
+
+/// The most links of a node, the most peers with repeaters of their own, the most repeaters to one, and the most bytes of a text.
 pub fn numbers()
     ensures links { MAX_LINKS ≡ 64 }
     ensures paths { MAX_PATHS ≡ 16 }
     ensures repeaters { MAX_ORIGINATED ≡ 2 }
+    ensures text { MAX_TEXT ≡ 8192 }
 {}

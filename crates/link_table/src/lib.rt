@@ -11,8 +11,11 @@ mod offers;
 mod path_refusal;
 mod pending;
 mod route;
+mod send_calls;
+mod sends;
 mod table;
 mod text_calls;
+mod text_refusal;
 mod texts;
 mod work;
 mod written;
@@ -20,6 +23,7 @@ mod written;
 pub use link_of::LinkOf;
 pub use path_refusal::PathRefusal;
 pub use table::LinkTable;
+pub use text_refusal::TextRefusal;
 pub use written::{Written, WrittenAs};
 
 /// The most links of a node (this project's profile).

@@ -4,11 +4,12 @@ ghost use Rattle.ax_link.specs.State.{count_end};
 ghost use Rattle.l3_datagram.specs.CarrierCall.{Offer};
 ghost use Rattle.link_table.specs.Table.{Table};
 ghost use Rattle.link_table.specs.Calls as calls;
+ghost use Rattle.link_table.specs.Sending as sending;
 ghost use Rattle.link_table.specs.Texts as texts;
 
 use crate::held_links::HeldLinks;
 use crate::pending::Pending;
-use crate::{LinkOf, MAX_ORIGINATED, MAX_PATHS, PathRefusal, Written};
+use crate::{LinkOf, MAX_ORIGINATED, MAX_PATHS, PathRefusal, TextRefusal, Written};
 use arrayvec::ArrayVec;
 use ax_address::{Call, Path};
 use ax_frame::FrameView;
@@ -45,12 +46,13 @@ impl Model for LinkTable {
 }
 
 impl LinkTable {
-    ghost use Rattle.link_table.specs.Standing.{LentStands, NotNoMemory, TableGoes, TableStands, text_given, width};
+    ghost use Rattle.link_table.specs.Standing.{LentStands, NotNoMemory, TableGoes, TableStands, TextNotNoMemory, text_given, width};
     ghost use Rattle.link_table.specs.Table.{link_with};
     ghost use Rattle.link_table.specs.Fetching.{written};
     ghost use Rattle.ax_frame.specs.Frames.{view};
     ghost use Rattle.std.specs.Option.{option_copied, option_map};
     ghost use Rattle.link_table.specs.declared.path_refusal.PathRefusal.TheVariants as refusals;
+    ghost use Rattle.link_table.specs.declared.text_refusal.TextRefusal.TheVariants as text_refusals;
 
     /// A table without links, of the node `own`. With `links`, datagrams go over links, else each in a UI frame; links that
     /// the node itself sets up are of modulo 128 where `modulo128` says so, else of modulo 8. The times of `config` are at
@@ -228,6 +230,30 @@ impl LinkTable {
         self.core.take_text(peer, out, now)?;
         self.spent = false;
         Ok(true)
+    }
+
+    /// Sends a text over the link with a peer, which has to stand: in one payload where it has at most 256 bytes; else in segments
+    /// over a link of modulo 128, and in pieces of 256 bytes over one of modulo 8. An empty text sends nothing. It is refused,
+    /// in this order: `NoLink`, `TooLong`, `Full`. A refusal but `NoMemory` changes nothing.
+    pub fn send_text(&mut self, peer: &Call, text: &[u8], now: Moment) -> Result<(), TextRefusal>
+        ensures goes { OnOk result (TableGoes (sending.send_text peer.now text.now now.0) self.old self.new) }
+        ensures answer { TextNotNoMemory result → (t : Table) → TableStands self.old t → result ≡ sending.text_answer peer.now text.now t }
+        ensures err { OnErr result (TextNotNoMemory result → self.new ≡ self.old) }
+        ensures memory { IsErrOf result text_refusals.NoMemory ↔ IsTrue self.new.spent }
+        ensures spent { IsTrue self.old.spent → self.new ≡ self.old }
+    {
+        if self.spent {
+            return Err(TextRefusal::NoMemory);
+        }
+        if let Err(refusal) = self.core.text_answer(peer, text) {
+            return Err(refusal);
+        }
+        self.spent = true;
+        if self.core.send_text(peer, text, now).is_err() {
+            return Err(TextRefusal::NoMemory);
+        }
+        self.spent = false;
+        Ok(())
     }
 
     /// The next frame that waits to be sent, and how its octets were written: the oldest one. None where no frame waits.

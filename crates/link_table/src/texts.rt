@@ -15,8 +15,8 @@ use ax_segment::{Joined, Joiner};
 use l3_datagram::Message;
 use radio_base::{COUNT_MAX, Modulus, Moment, NoMemory, Payload, SEGMENT_PID, TEXT_PID};
 
-/// The most bytes of a text that is joined from segments.
-const MAX_TEXT: usize = 8192;
+/// The most bytes of a text that is joined from segments, or sent.
+pub(crate) const MAX_TEXT: usize = 8192;
 
 /// Whether a payload is a text, or a segment at which the joiner would give one.
 pub(crate) fn is_text(joiner: &Joiner, payload: &Payload) -> bool

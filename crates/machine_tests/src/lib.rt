@@ -9,6 +9,8 @@ mod circuit_ends;
 #[cfg(test)]
 mod circuit_sets;
 #[cfg(test)]
+mod link_tables;
+#[cfg(test)]
 mod links;
 #[cfg(test)]
 mod routers;

@@ -1,0 +1,28 @@
+use Rattle.std.proofs.Common.{◌∙◌, ap, sym, refl}
+use Rattle.link_table.specs.declared.held_links.HeldLinks.{HeldLinks}
+use Rattle.link_table.specs.Standing.{drop_if_down}
+use Rattle.link_table.specs.Sending.{send_text_of}
+use Rattle.link_table.proofs.Links.{at_link_stands, at_no_link, drained_at, rests_at}
+use Rattle.link_table.proofs.held_links.HeldLinks.send_text.Goals as goal
+
+pub send_text-requires-clause-drained : goal.send_text-requires-clause-drained
+send_text-requires-clause-drained c = drained_at c.args.peer.now c.args.self.now.links.entries c.in-Some.entry.now c.requires.rests.drained (sym c.in-Some.ensures.value)
+
+pub returns-in-None-clause-goes : goal.returns-in-None-clause-goes
+returns-in-None-clause-goes c = λ t s.
+    at_no_link c.args.self.now _ c.args.peer.now (λ own. send_text_of own c.args.text.now c.args.now.0) (sym c.in-None.ensures.value)
+    (record { own = refl; by_links = refl; wide = refl; config = refl; paths = refl }) (ap (λ m. m.entries) c.get_mut.follows.holds-at-none) refl t s
+
+pub returns-clause-rests : goal.returns-clause-rests
+returns-clause-rests c =
+    rests_at c.args.self.now _ c.args.peer.now c.send_text.new.self c.requires.rests c.in_ok-send_text-in-Some.ensures.drained
+    (c.drop_if_down.ensures.left ∙ ap (drop_if_down c.args.peer.now) (c.get_mut.follows.holds c.send_text.new.self).0)
+
+pub returns-clause-goes : goal.returns-clause-goes
+returns-clause-goes c = λ t s.
+    let rest = c.drop_if_down.ensures.rest in
+    at_link_stands c.args.self.now c.drop_if_down.new.self c.args.peer.now c.in-Some.entry.now c.send_text.new.self c.send_text.new.pending
+    (λ own. send_text_of own c.args.text.now c.args.now.0)
+    (sym c.in-Some.ensures.value) c.in_ok-send_text-in-Some.ensures.goes (ap (λ (x : HeldLinks). x.pending) rest)
+    (record { own = ap (λ (x : HeldLinks). x.own) rest; by_links = ap (λ (x : HeldLinks). x.by_links) rest; wide = ap (λ (x : HeldLinks). x.wide) rest; config = ap (λ (x : HeldLinks). x.config) rest; paths = ap (λ (x : HeldLinks). x.paths.entries) rest })
+    (c.drop_if_down.ensures.left ∙ ap (drop_if_down c.args.peer.now) (c.get_mut.follows.holds c.send_text.new.self).0) t s
