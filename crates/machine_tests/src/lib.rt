@@ -1,13 +1,9 @@
-//! Tests of the machines: the routing table, links, routers and ends of circuits. Worked rows, runs of two machines joined by hand, and each
-//! allocating call with memory enough and at its limits.
+//! Tests of the machines below circuits: the routing table, routers, links and tables of links. Worked rows, runs of two machines joined by
+//! hand, and each allocating call with memory enough and at its limits.
 //!
 //! They stand here and not in those crates, since a crate with tests is proved twice.
 #![tactic(auto)]
 
-#[cfg(test)]
-mod circuit_ends;
-#[cfg(test)]
-mod circuit_sets;
 #[cfg(test)]
 mod link_tables;
 #[cfg(test)]
@@ -18,7 +14,3 @@ mod routers;
 mod routes;
 #[cfg(test)]
 mod seeded_routes;
-#[cfg(test)]
-mod transports;
-#[cfg(test)]
-mod verdicts;

@@ -295,12 +295,7 @@ fn exchange(
 const MOST: u64 = 1000;
 
 /// Offers the datagrams from this number on, as many as are taken, and says which is the next one then.
-fn offer_from(
-    table: &mut LinkTable,
-    to: &Call,
-    number: u64,
-    now: Moment,
-) -> Result<u64, NoMemory> {
+fn offer_from(table: &mut LinkTable, to: &Call, number: u64, now: Moment) -> Result<u64, NoMemory> {
     for next in number..MOST {
         if table.offer(to, &datagram(next), now)? == Offered::Dropped {
             return Ok(next);
@@ -336,8 +331,20 @@ struct Pair {
 fn pass(pair: &mut Pair) -> Result<(), NoMemory> {
     pair.now = pair.now.saturating_add(1000);
     let now = Moment(pair.now);
-    exchange(&mut pair.a, &call(b"N0AAA"), &mut pair.b, &mut pair.frames, now)?;
-    exchange(&mut pair.b, &call(b"N0BBB"), &mut pair.a, &mut pair.frames, now)?;
+    exchange(
+        &mut pair.a,
+        &call(b"N0AAA"),
+        &mut pair.b,
+        &mut pair.frames,
+        now,
+    )?;
+    exchange(
+        &mut pair.b,
+        &call(b"N0BBB"),
+        &mut pair.a,
+        &mut pair.frames,
+        now,
+    )?;
     pair.a.tick(now)?;
     pair.b.tick(now)
 }
@@ -417,7 +424,9 @@ fn carry(rt: &impl Abort, alloc: Global, wide: bool, texts: u64) -> Result<(), N
 }
 
 #[test]
-fn datagrams_and_texts_come_whole_over_lossy_links_of_modulo_8(rt: HostRuntime) -> Result<(), Fail> {
+fn datagrams_and_texts_come_whole_over_lossy_links_of_modulo_8(
+    rt: HostRuntime,
+) -> Result<(), Fail> {
     // A text goes in pieces of 256 bytes.
     carry(&rt, rt.alloc(), false, 32)?;
     Ok(())
