@@ -1,5 +1,5 @@
 -- Runs that show what "too late" bears: a text that is made up, and a node that starts again at a pair of its former ends.
-use Rattle.std.specs.Prelude.{◌≡◌, ℕ, ◌+◌, ◌-◌, ◌*◌, ◌≤◌, ◌%◌, false, List, [], ◌∷◌, ◌++◌}
+use Rattle.std.specs.Prelude.{◌≡◌, ℕ, ◌+◌, ◌-◌, ◌≤◌, ◌%◌, false, List, [], ◌∷◌}
 use Rattle.ax_address.specs.Callsign.{Callsign}
 use Rattle.l3_datagram.specs.Datagrams.{octets_with}
 use Rattle.circuit_l4.specs.declared.transport.Pair.{Pair}
