@@ -32,6 +32,7 @@ pub mod Acts
 pub mod Opens
 pub mod Safe
 pub mod Narrow
+pub mod Examples
 pub mod Silent
 pub mod Taken
 pub mod Meeting

@@ -8,6 +8,7 @@ pub mod Laws
 pub mod Sets
 pub mod Books
 pub mod Runs
+pub mod Examples
 pub mod Pumps
 pub mod Inputs
 pub mod Standing

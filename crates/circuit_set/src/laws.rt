@@ -4,6 +4,7 @@ ghost use Rattle.circuit_set.specs.Lines.{Line, Infos, over, at_place};
 ghost use Rattle.circuit_set.specs.Laws.{OneCircuitSafe};
 ghost use Rattle.circuit_set.specs.Pairs.{PairsDiffer};
 ghost use Rattle.circuit_set.specs.Inputs.{ActsGo, HearsGo, HearsLostGoes, TellsGo, TellsLess, TicksGo};
+ghost use Rattle.circuit_set.specs.Examples.{ForgedIsUnsafe, OneMoreIsTooMany, RestartIsStale};
 ghost use Rattle.circuit_set.specs.Runs.{CircuitsSafe, NarrowIsTimely, PartnersStay, WindowsFit};
 
 /// At each moment of every run of several nodes' ends, in which any datagram whatever may come to any node and any node may
@@ -20,6 +21,17 @@ pub fn partners_stay()
     ensures { PartnersStay }
 {}
 
+/// What the premises bear: an end may receive a text that nobody wrote where somebody makes it up, and such a run isn't timely.
+pub fn forged_is_unsafe()
+    ensures { ForgedIsUnsafe }
+{}
+
+/// A node that starts again at the pair of an end that it has lost may give that pair while another node's end still names it: such a run
+/// isn't fresh.
+pub fn restart_is_stale()
+    ensures { RestartIsStale }
+{}
+
 /// Where no own window is above 64, a run in which all that is heeded has fewer than 128 overtakers is timely.
 pub fn narrow_is_timely()
     ensures { NarrowIsTimely }
@@ -34,7 +46,10 @@ pub fn pairs_differ()
 /// Of each window from 1 to 127: twice the window and the allowance for overtakers are at most 256 together, as many as there are
 /// numbers on the air.
 pub fn windows_fit()
-    ensures { WindowsFit }
+    ensures fit { WindowsFit }
+
+    // With one overtaker more than that they don't.
+    ensures most { OneMoreIsTooMany }
 {}
 
 /// The same as `circuits_safe` of one circuit alone, for every window and every allowance that fit: from its opening on come

@@ -1,0 +1,64 @@
+-- Runs that show what the premises bear.
+use Rattle.std.specs.Prelude.{◌≡◌, ℕ, ◌≤◌, List, [], ◌∷◌, Option, Some, None, refl}
+use Rattle.std.proofs.Common.{sym, ◌∙◌, subst, arith, lit<}
+use Rattle.l3_datagram.specs.Datagrams.{head_at}
+use Rattle.circuit_l4.specs.declared.plain.EndNotice.TheVariants.{Opened}
+use Rattle.circuit_l4.specs.Reading as reading
+use Rattle.circuit_l4.specs.Reading.{transport_at}
+use Rattle.circuit_set.specs.Sets.{Holder}
+use Rattle.circuit_set.specs.Books.{Fresh, MadeNote, Name, Timely, empty, partner}
+use Rattle.circuit_set.specs.Runs.{Net, Safe, SafeAlone, SafeEnd, SafeWith, allowed, begins, end_at, events_of, net_run}
+use Rattle.circuit_set.specs.Examples.{ForgedIsUnsafe, OneMoreIsTooMany, RestartIsStale, again_at, forged, here, node, pair_of, there}
+
+abbrev first : Name
+first = record { node = 0; id = 1 }
+
+abbrev forged_net : Net
+forged_net = net_run (begins (node here ∷ [])) forged
+
+abbrev received_by : Option Holder → List (List ℕ)
+received_by None = []
+received_by (Some h) = h.end.receiving.received
+
+heard : received_by (end_at forged_net first) ≡ (88 ∷ []) ∷ []
+unfolding head_at transport_at reading.accept_at
+heard = refl
+
+alone : partner forged_net.book first ≡ None
+unfolding head_at transport_at reading.accept_at
+alone = refl
+
+unsafe_case : (o : Option Holder) → end_at forged_net first ≡ o → received_by o ≡ (88 ∷ []) ∷ [] → Safe forged_net → ⊥
+unsafe_case None e r safe = cc r
+unsafe_case (Some h) e r safe =
+    let s : SafeEnd forged_net first h = safe first h e in
+    let a : SafeAlone h.end = subst (λ (p : Option Name). SafeWith forged_net first h p) alone s.circuit in
+    let z : [] ≡ (88 ∷ []) ∷ [] = sym a.received ∙ r in
+    cc z
+
+late : Timely allowed empty (events_of (node here ∷ []) forged) → ⊥
+unfolding head_at transport_at reading.accept_at
+late t = let met = t.1.1.0.2 in cc met
+
+pub forged_is_unsafe : ForgedIsUnsafe
+forged_is_unsafe = record { late = late; unsafe = unsafe_case (end_at forged_net first) refl heard }
+
+pub one_more_is_too_many : OneMoreIsTooMany
+one_more_is_too_many acked low = omega arith
+
+timely : Timely allowed empty (events_of (node here ∷ node there ∷ []) (again_at 1))
+unfolding head_at transport_at reading.request_at
+timely = (tt, (tt, (tt, (tt, (tt, (tt, (tt, (tt, (tt, tt)))))))))
+
+apart : (n : ℕ) → n ≡ 0 → 1 ≤ n → ⊥
+apart n e l = omega arith
+
+stale : Fresh empty (events_of (node here ∷ node there ∷ []) (again_at 1)) → ⊥
+unfolding head_at transport_at reading.request_at
+stale f =
+    let other : MadeNote = record { who = record { node = 1; id = 1 }; own = there; pair = pair_of 1; partner = Some first; told = Opened 1 ∷ [] } in
+    let old : MadeNote = record { who = first; own = here; pair = pair_of 1; partner = None; told = [] } in
+    f.1.1.1.1.1.1.1.0.1 other old (0, lit< tt, refl) (1, lit< tt, refl) refl refl (λ e. apart 1 e (omega arith)) refl refl refl
+
+pub restart_is_stale : RestartIsStale
+restart_is_stale = record { timely = timely; stale = stale }

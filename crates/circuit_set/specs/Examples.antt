@@ -1,0 +1,63 @@
+-- Runs that show what "too late" bears: a text that is made up, and a node that starts again at a pair of its former ends.
+use Rattle.std.specs.Prelude.{◌≡◌, ℕ, ◌+◌, ◌-◌, ◌≤◌, ◌%◌, false, List, [], ◌∷◌}
+use Rattle.ax_address.specs.Callsign.{Callsign}
+use Rattle.l3_datagram.specs.Datagrams.{octets_with}
+use Rattle.circuit_l4.specs.declared.transport.Pair.{Pair}
+use Rattle.circuit_l4.specs.declared.transport.Transport.{Transport}
+use Rattle.circuit_l4.specs.declared.transport.Transport.TheVariants.{Request, Accept, Info}
+use Rattle.circuit_l4.specs.declared.plain.EndConfig.{EndConfig}
+use Rattle.circuit_l4.specs.Transports.{transport_octets}
+use Rattle.circuit_set.specs.Sets.{Comes, Connect, Restart, SetState, started}
+use Rattle.circuit_set.specs.Books.{Fresh, Timely, empty}
+use Rattle.circuit_set.specs.Runs.{Safe, Step, allowed, begins, events_of, net_run}
+
+-- N0AAA and N0BBB
+abbrev pub here : Callsign
+here = record { letters = 78 ∷ 48 ∷ 65 ∷ 65 ∷ 65 ∷ 32 ∷ []; ssid = 0 }
+
+abbrev pub there : Callsign
+there = record { letters = 78 ∷ 48 ∷ 66 ∷ 66 ∷ 66 ∷ 32 ∷ []; ssid = 0 }
+
+abbrev pub pair_of : ℕ → Pair
+pair_of index = record { index = index; ident = 1 }
+
+abbrev pub narrow : EndConfig
+narrow = record { window = 1; timeout = 1000; retries = 1; busy = 1000; inactive = 1000 }
+
+abbrev pub node : Callsign → SetState
+node own = started own 9 own narrow (pair_of 1) 1
+
+abbrev pub from : Callsign → Callsign → Transport → List ℕ
+from origin dest t = octets_with (record { origin = origin; dest = dest; ttl = 9 }) (transport_octets t)
+
+-- N0AAA asks for a circuit with N0BBB. Somebody accepts in the place of N0BBB, which isn't there, and sends a text "X".
+abbrev pub forged : List Step
+forged =
+    record { node = 0; act = Connect there 0 }
+    ∷ record { node = 0; act = Comes (from there here (Accept (pair_of 1) (pair_of 1) 1)) 0 }
+    ∷ record { node = 0; act = Comes (from there here (Info (pair_of 1) 0 0 (record { choke = false; nak = false; more = false }) (record { items = 88 ∷ [] }))) 0 }
+    ∷ []
+
+-- The run isn't timely, and isn't safe: the end has received what no partner wrote.
+pub record ForgedIsUnsafe : Type 0 where
+  pub late : Timely allowed empty (events_of (node here ∷ []) forged) → ⊥
+  pub unsafe : Safe (net_run (begins (node here ∷ [])) forged) → ⊥
+
+-- N0AAA asks for a circuit with N0BBB, whose end is opened by that. Then N0AAA starts again at this pair and asks once more.
+abbrev pub again_at : ℕ → List Step
+again_at index =
+    record { node = 0; act = Connect there 0 }
+    ∷ record { node = 1; act = Comes (from here there (Request (pair_of 1) 1 here here)) 0 }
+    ∷ record { node = 0; act = Restart (pair_of index) 0 }
+    ∷ record { node = 0; act = Connect there 0 }
+    ∷ []
+
+-- At the pair of the end that it has lost, which the other node's end still names, the run isn't fresh, though nothing is heeded.
+pub record RestartIsStale : Type 0 where
+  pub timely : Timely allowed empty (events_of (node here ∷ node there ∷ []) (again_at 1))
+  pub stale : Fresh empty (events_of (node here ∷ node there ∷ []) (again_at 1)) → ⊥
+
+-- With one overtaker more two counts would be one number on the air: at a window of 127 an acknowledgement may be of the count
+-- 129 below what was acknowledged and of the one 127 above it.
+abbrev pub OneMoreIsTooMany : Type 0
+OneMoreIsTooMany = (acked : ℕ) → 129 ≤ acked → (acked - 127 - 2) % 256 ≡ (acked + 127) % 256
