@@ -17,30 +17,22 @@ use Rattle.l3_datagram.specs.declared.carrier.Offered.TheVariants.{Taken, Droppe
 use Rattle.link_table.specs.Calls as calls
 use Rattle.link_table.specs.Frames.{netrom, segmented}
 use Rattle.link_table.specs.Laws.{NewLinkTakes, SettledAll}
+use Rattle.link_table.specs.Payloads.{filled, link_payloads}
 use Rattle.link_table.specs.Table.{Linked, Table, link_with, path_to, with_link}
 use Rattle.link_table.proofs.Lifting.{untexted}
 use Rattle.link_table.specs.Works.{first_to_take, unless_text, Work, hand_up, most_taken, settle, step_link, take_payload}
 
--- how many places are filled
-abbrev count : List (Option Payload) → ℕ
-count [] = 0
-count (None ∷ e) = count e
-count (Some p ∷ e) = suc (count e)
-
-abbrev weight : State → ℕ
-weight s = length s.inbox + count s.early
-
-count_none : (e : List (Option Payload)) → count (e ++ None ∷ []) ≡ count e
+count_none : (e : List (Option Payload)) → filled (e ++ None ∷ []) ≡ filled e
 count_none [] = refl
 count_none (None ∷ e) = count_none e
 count_none (Some p ∷ e) = ap suc (count_none e)
 
-count_few : (e : List (Option Payload)) → count e ≤ length e
+count_few : (e : List (Option Payload)) → filled e ≤ length e
 count_few [] = omega arith
 count_few (None ∷ e) = omega (arith, count_few e)
 count_few (Some p ∷ e) = omega (arith, count_few e)
 
-first_gone : (e : List (Option Payload)) (p : Payload) → first_early e ≡ Some p → suc (count (drop 1 (e ++ None ∷ []))) ≡ count e
+first_gone : (e : List (Option Payload)) (p : Payload) → first_early e ≡ Some p → suc (filled (drop 1 (e ++ None ∷ []))) ≡ filled e
 first_gone [] p q = absurd (cc q)
 first_gone (None ∷ e) p q = absurd (cc q)
 first_gone (Some x ∷ e) p q = ap suc (count_none e)
@@ -49,18 +41,18 @@ next_first : (b : Bool) (e : List (Option Payload)) (p : Payload) → (if b then
 next_first true e p q = absurd (cc q)
 next_first false e p q = q
 
-next_weight : (s : State) (p : Payload) → next_early s ≡ Some p → weight (take_next p s) ≡ weight s
+next_weight : (s : State) (p : Payload) → next_early s ≡ Some p → link_payloads (take_next p s) ≡ link_payloads s
 next_weight s p q =
     let c = first_gone s.early p (next_first (busy s || nat_le count_end (length s.received)) s.early p q) in
     let n : length (s.inbox ++ p ∷ []) ≡ length s.inbox + 1 = length-append s.inbox (p ∷ []) in
     omega (arith, c, n)
 
-move_weight : (k : ℕ) (s : State) → weight (follow_by k s) ≡ weight s
+move_weight : (k : ℕ) (s : State) → link_payloads (follow_by k s) ≡ link_payloads s
 move_weight zero s = refl
 move_weight (suc k) s = by (next_early s) refl (λ p. move_weight k (take_next p s))
   where
-    by : (r : Option Payload) → next_early s ≡ r → ((p : Payload) → weight (follow_by k (take_next p s)) ≡ weight (take_next p s)) →
-        weight (elim r as (λ y. State) [ None ↦ s | Some p ↦ follow_by k (take_next p s) ]) ≡ weight s
+    by : (r : Option Payload) → next_early s ≡ r → ((p : Payload) → link_payloads (follow_by k (take_next p s)) ≡ link_payloads (take_next p s)) →
+        link_payloads (elim r as (λ y. State) [ None ↦ s | Some p ↦ follow_by k (take_next p s) ]) ≡ link_payloads s
     by None q rest = refl
     by (Some p) q rest = rest p ∙ next_weight s p q
 
@@ -68,20 +60,20 @@ less : (xs : List Payload) (p : Payload) → slice_get xs 0 ≡ Some p → suc (
 less [] p q = absurd (cc q)
 less (x ∷ xs) p q = refl
 
-take_weight : (now : ℕ) (s : State) (p : Payload) → slice_get s.inbox 0 ≡ Some p → suc (weight (step s Take now).link) ≡ weight s
+pub take_weight : (now : ℕ) (s : State) (p : Payload) → slice_get s.inbox 0 ≡ Some p → suc (link_payloads (step s Take now).link) ≡ link_payloads s
 take_weight now s p q = by (is_up s.phase && busy s)
   where
     rest : State
     rest = record s { inbox = drop 1 s.inbox }
 
-    lighter : suc (weight rest) ≡ weight s
+    lighter : suc (link_payloads rest) ≡ link_payloads s
     lighter = let l = less s.inbox p q in omega (arith, l)
 
-    by : (b : Bool) → suc (weight (if b then resume (begin rest) else begin rest).link) ≡ weight s
+    by : (b : Bool) → suc (link_payloads (if b then resume (begin rest) else begin rest).link) ≡ link_payloads s
     by true = ap suc (move_weight (length rest.early) rest) ∙ lighter
     by false = lighter
 
-handed_link : (p : Payload) (w : Work) → (hand_up p w).linked.link ≡ w.linked.link
+pub handed_link : (p : Payload) (w : Work) → (hand_up p w).linked.link ≡ w.linked.link
 handed_link p w = by (p.pid == netrom) (p.pid == segmented)
   where
     by : (b c : Bool) → (if b
@@ -100,16 +92,16 @@ no_weight (x ∷ xs) n l = absurd (omega (arith, l))
 none_taken : (w : Work) → w.linked.link.inbox ≡ [] → first_to_take w ≡ None
 none_taken w e = ap (λ xs. unless_text w.linked.joiner (slice_get xs 0)) e
 
-settles : (n : ℕ) (own : Callsign) (now : ℕ) (w : Work) → weight w.linked.link ≤ n → first_to_take (settle n own now w) ≡ None
-settles zero own now w l = none_taken w (no_weight w.linked.link.inbox (count w.linked.link.early) l)
+settles : (n : ℕ) (own : Callsign) (now : ℕ) (w : Work) → link_payloads w.linked.link ≤ n → first_to_take (settle n own now w) ≡ None
+settles zero own now w l = none_taken w (no_weight w.linked.link.inbox (filled w.linked.link.early) l)
 settles (suc n) own now w l = by (first_to_take w) refl (λ p m. settles n own now (take_payload own now p w) m)
   where
     by : (r : Option Payload) → first_to_take w ≡ r →
-        ((p : Payload) → weight (take_payload own now p w).linked.link ≤ n → first_to_take (settle n own now (take_payload own now p w)) ≡ None) →
+        ((p : Payload) → link_payloads (take_payload own now p w).linked.link ≤ n → first_to_take (settle n own now (take_payload own now p w)) ≡ None) →
         first_to_take (elim r as (λ y. Work) [ None ↦ w | Some p ↦ settle n own now (take_payload own now p w) ]) ≡ None
     by None q rest = q
     by (Some p) q rest =
-        let same : weight (take_payload own now p w).linked.link ≡ weight (step w.linked.link Take now).link = ap weight (handed_link p (step_link own Take now w)) in
+        let same : link_payloads (take_payload own now p w).linked.link ≡ link_payloads (step w.linked.link Take now).link = ap link_payloads (handed_link p (step_link own Take now w)) in
         rest p (omega (arith, l, same, take_weight now w.linked.link p (untexted w.linked.joiner (slice_get w.linked.link.inbox 0) p q)))
 
 places_few : (b : Bool) (s : State) → Bounded (stock s) → s.rules.size ≤ 128 → (if b then s.rules.window else 0) ≤ 127
@@ -129,10 +121,10 @@ letters_refl : (xs : List ℕ) → pointwise nat_eq xs xs ≡ true
 letters_refl [] = refl
 letters_refl (x ∷ xs) = let e : nat_eq x x ≡ true = eq-eqb x x refl in rw e (letters_refl xs)
 
-call_refl : (a : Callsign) → same_call a a ≡ true
+pub call_refl : (a : Callsign) → same_call a a ≡ true
 call_refl a = let e : nat_eq a.ssid a.ssid ≡ true = eq-eqb a.ssid a.ssid refl in rw (letters_refl a.letters, e) refl
 
-found_last : (peer : Callsign) (ls : List Linked) (l : Linked) → same_call peer l.peer ≡ true → link_with peer ls ≡ None → link_with peer (ls ++ l ∷ []) ≡ Some l
+pub found_last : (peer : Callsign) (ls : List Linked) (l : Linked) → same_call peer l.peer ≡ true → link_with peer ls ≡ None → link_with peer (ls ++ l ∷ []) ≡ Some l
 found_last peer [] l s q = ap (λ b. if b then Some l else None) s
 found_last peer (m ∷ ls) l s q = by (same_call peer m.peer) q (λ r. found_last peer ls l s r)
   where

@@ -1,6 +1,7 @@
 //! What the definitions promise by themselves.
 ghost use Rattle.std.specs.Prelude.{◌≡◌};
 ghost use Rattle.link_table.specs.Calls.{AnsweredAsDown};
+ghost use Rattle.link_table.specs.Payloads.{CountsPayloads, OffersLeave, TakesLower};
 ghost use Rattle.link_table.specs.Laws.{CarriesWhatWasOffered, NewLinkTakes, OnlyFramesBring, PiecesAreTheText, SettledAll, TextsAreGiven};
 
 use crate::texts::MAX_TEXT;
@@ -29,6 +30,14 @@ pub fn settled_all()
 /// A datagram for a peer without a link is taken, where fewer than 64 links stand.
 pub fn new_link_takes()
     ensures { NewLinkTakes }
+{}
+
+/// An offer leaves all that waits for the node but frames, and all payloads that came. Taking a text that waits leaves fewer of
+/// them. What a table keeps has as many as each table of links for which it stands.
+pub fn payloads()
+    ensures offers { OffersLeave }
+    ensures takes { TakesLower }
+    ensures kept { CountsPayloads }
 {}
 
 /// Only a frame that comes and a text that is taken add to the datagrams that wait, and only pairs with the frame's source or

@@ -260,6 +260,8 @@ impl LinkTable {
     pub fn next_out(&mut self) -> Option<Written>
         ensures answer { (t : Table) → TableStands self.old t → result ≡ option_map written (slice_get t.pending.frames 0) }
         ensures rest { TableGoes calls.fetch self.old self.new }
+        ensures first { result ≡ slice_get self.old.frames 0 }
+        ensures left { self.new ≡ record self.old { frames = drop 1 self.old.frames } }
     {
         self.core.pending.frames.pop_front()
     }
@@ -268,6 +270,8 @@ impl LinkTable {
     pub fn notice(&mut self) -> Option<(Call, LinkNotice)>
         ensures answer { (t : Table) → TableStands self.old t → result ≡ slice_get t.pending.notices 0 }
         ensures rest { TableGoes calls.notice self.old self.new }
+        ensures first { result ≡ slice_get self.old.notices 0 }
+        ensures left { self.new ≡ record self.old { notices = drop 1 self.old.notices } }
     {
         self.core.pending.notices.pop_front()
     }
