@@ -1,11 +1,9 @@
-//! Tests of the machines below circuits: the routing table, routers, links and tables of links. Worked rows, runs of two machines joined by
+//! Tests of the machines below circuits: the routing table, routers and links. Worked rows, runs of two machines joined by
 //! hand, and each allocating call with memory enough and at its limits.
 //!
 //! They stand here and not in those crates, since a crate with tests is proved twice.
 #![tactic(auto)]
 
-#[cfg(test)]
-mod link_tables;
 #[cfg(test)]
 mod links;
 #[cfg(test)]
