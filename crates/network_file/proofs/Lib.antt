@@ -1,3 +1,4 @@
 pub mod Numbers
 pub mod Cuts
 pub mod KeyRanges
+pub mod Fitting

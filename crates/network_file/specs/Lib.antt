@@ -9,3 +9,4 @@ pub mod Places
 pub mod Plan
 pub mod Lines
 pub mod Networks
+pub mod Laws

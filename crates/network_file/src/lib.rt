@@ -4,6 +4,7 @@
 //! or the first bad line. `docs/network-file.md` has the rules in words; the definitions are in `specs/`.
 #![tactic(auto)]
 
+pub mod laws;
 mod limits;
 mod lines;
 mod network;
