@@ -48,7 +48,7 @@ lives_on e notes i now l = record {
       ∙ ap (λ s. notes ++ (step s i now).notes) l.end;
 }
 
-lives_same : (e : State) (notes : List EndNotice) → Lived e notes → Lived e (notes ++ [])
+pub lives_same : (e : State) (notes : List EndNotice) → Lived e notes → Lived e (notes ++ [])
 lives_same e notes l = subst (λ ns. Lived e ns) (sym (append-nil notes)) l
 
 pub set_self : (ss : List SetState) (n : ℕ) (s : SetState) → slice_get ss n ≡ Some s → slice_set ss n s ≡ ss
@@ -77,10 +77,10 @@ module _ (net : Net) (k : Kept net) (n : ℕ) (s : SetState) (h : Holder) (here 
   inv = k.ends x h (ap (λ o. end_in o h.id) here ∙ there)
 
   -- a step in which nothing was heeded
-  pub quiet_move : (g : Effect) → g.end.role ≡ h.end.role → g.end.config ≡ h.end.config → Asks h.end g.outs → h.end.sending.sent ≤ g.end.sending.sent → Lived g.end (told_to net.book.made x ++ g.notes)
+  pub quiet_move : (g : Effect) → g.end.role ≡ h.end.role → g.end.config ≡ h.end.config → g.end.pair ≡ h.end.pair → Asks h.end g.outs → h.end.sending.sent ≤ g.end.sending.sent → Lived g.end (told_to net.book.made x ++ g.notes)
       → ((w : ℕ) (o : Side) → (h.end.role ≡ Responder → h.end.window ≡ w) → PairOk w (side_of net.book k.past x h.end) o → PairOk w (now_at (side_of net.book k.past x h.end) o g (heard_of x net.book.heard)) o)
       → Move net k.past x h g net.book
-  quiet_move g role config asks grows lives keeps = record {
+  quiet_move g role config pair asks grows lives keeps = record {
     sent = refl;
     made = refl;
     places = omega arith;
@@ -88,6 +88,7 @@ module _ (net : Net) (k : Kept net) (n : ℕ) (s : SetState) (h : Holder) (here 
     heard_sent = λ y e i q. (k.pairs x y e).heard i q;
     role = role;
     config = config;
+    pair = pair;
     asks = asks;
     sent_grows = grows;
     lives = lives;
@@ -98,22 +99,22 @@ module _ (net : Net) (k : Kept net) (n : ℕ) (s : SetState) (h : Holder) (here 
   pub called_move : (call : Call) (now : ℕ) → Move net k.past x h (step h.end (input_of call) now) net.book
   called_move call now =
       let same : names (step h.end (input_of call) now).end ≡ names h.end = call_names h.end call now in
-      quiet_move (step h.end (input_of call) now) (ap (λ (m : Named). m.role) same) (ap (λ (m : Named). m.config) same) (step_asks h.end (input_of call) now) (step_grows h.end (input_of call) now)
+      quiet_move (step h.end (input_of call) now) (ap (λ (m : Named). m.role) same) (ap (λ (m : Named). m.config) same) (ap (λ (m : Named). m.pair) same) (step_asks h.end (input_of call) now) (step_grows h.end (input_of call) now)
       (lives_on h.end (told_to net.book.made x) (input_of call) now inv.lives)
       (λ w o r p. does_ok w (side_of net.book k.past x h.end) o (input_of call) now (call_is call) p)
 
   pub again_move : h.end.role ≡ Responder → Move net k.past x h (accept_again h.end) net.book
   again_move role =
-      quiet_move (accept_again h.end) refl refl (refl, tt) (omega arith) (lives_same h.end (told_to net.book.made x) inv.lives) (λ w o r p. accepts_ok w (side_of net.book k.past x h.end) o role p)
+      quiet_move (accept_again h.end) refl refl refl ((refl, refl), tt) (omega arith) (lives_same h.end (told_to net.book.made x) inv.lives) (λ w o r p. accepts_ok w (side_of net.book k.past x h.end) o role p)
 
   pub discard_move : Move net k.past x h (begin h.end) net.book
   discard_move =
-      quiet_move (begin h.end) refl refl tt (omega arith) (lives_same h.end (told_to net.book.made x) inv.lives) (λ w o r p. nothing_comes w (side_of net.book k.past x h.end) o p)
+      quiet_move (begin h.end) refl refl refl tt (omega arith) (lives_same h.end (told_to net.book.made x) inv.lives) (λ w o r p. nothing_comes w (side_of net.book k.past x h.end) o p)
 
   pub unheeded_move : (t : Transport) (now : ℕ) → heeds h.end.phase t ≡ false → Move net k.past x h (step h.end (Arrive t) now) net.book
   unheeded_move t now e =
       let same : SameEnd h.end (step h.end (Arrive t) now).end = arrival_same h.end t now in
-      quiet_move (step h.end (Arrive t) now) same.role same.config (step_asks h.end (Arrive t) now) (step_grows h.end (Arrive t) now)
+      quiet_move (step h.end (Arrive t) now) same.role same.config same.pair (step_asks h.end (Arrive t) now) (step_grows h.end (Arrive t) now)
       (lives_on h.end (told_to net.book.made x) (Arrive t) now inv.lives)
       (λ w o r p. unheeded h.end.phase t w (min now COUNT_MAX) (side_of net.book k.past x h.end) o refl e p)
 
@@ -131,7 +132,7 @@ hear_is e (Info to tx rx flags text) (Some n) hs a = refl
 hear_is e (Info to tx rx flags text) None hs a = refl
 hear_is e (Request pair window user node) o hs a = ap (λ p. hear_any p hs) (sym a.2)
 hear_is e (InfoAck to rx flags) o hs a = ap (λ p. hear_any p hs) (sym a)
-hear_is e (Accept to own window) o hs a = ap (λ p. hear_any p hs) (sym a)
+hear_is e (Accept to own window) o hs a = ap (λ p. hear_any p hs) (sym a.1)
 hear_is e (Disconnect to) o hs a = ap (λ p. hear_any p hs) (sym a)
 hear_is e (Disconnected to) o hs a = ap (λ p. hear_any p hs) (sym a)
 hear_is e (Refuse to) o hs a = ap (λ p. hear_any p hs) (sym a)
@@ -299,6 +300,7 @@ module _ (net : Net) (k : Kept net) (n : ℕ) (s : SetState) (h : Holder) (here 
         heard_sent = λ z e i q. subst (λ w. has w i net.book.sent ≡ true) (partner_one z e) (sent_one latest_one.number refl i (subst (λ xs. Elem i xs) now_heard q));
         role = same.role;
         config = same.config;
+        pair = same.pair;
         asks = step_asks h.end (Arrive t) now;
         sent_grows = step_grows h.end (Arrive t) now;
         lives = lives_on h.end (told_to net.book.made me) (Arrive t) now my_inv.lives;

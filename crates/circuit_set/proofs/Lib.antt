@@ -52,3 +52,13 @@ pub mod Looping
 pub mod GoingOn
 pub mod Looking
 pub mod ByInputs
+pub mod Ended
+pub mod Cases
+pub mod Given
+pub mod Unused
+pub mod Stepped
+pub mod Fair
+pub mod NewName
+pub mod NamesOne
+pub mod SendsTo
+pub mod Retries

@@ -49,14 +49,14 @@ pub same_or : (x z : Name) → (x ≡ z) ⊎ (x ≡ z → ⊥)
 same_or x z = same_or_case x z (same_name x z) refl
 
 -- a request of the same end
-ask_by : (s t : State) (r : Transport) (o : Option ℕ) → t.role ≡ s.role → t.config ≡ s.config → AskOf s r o → AskOf t r o
-ask_by s t (Info to tx rx flags text) o e f a = a
-ask_by s t (Request pair window user node) o e f a = (e ∙ a.0, a.1 ∙ sym (ap (λ (k : EndConfig). k.window) f), a.2)
-ask_by s t (InfoAck to rx flags) o e f a = a
-ask_by s t (Accept to own window) o e f a = a
-ask_by s t (Disconnect to) o e f a = a
-ask_by s t (Disconnected to) o e f a = a
-ask_by s t (Refuse to) o e f a = a
+ask_by : (s t : State) (r : Transport) (o : Option ℕ) → t.role ≡ s.role → t.config ≡ s.config → t.pair ≡ s.pair → AskOf s r o → AskOf t r o
+ask_by s t (Info to tx rx flags text) o e f p a = a
+ask_by s t (Request pair window user node) o e f p a = (e ∙ a.0, a.1 ∙ sym (ap (λ (k : EndConfig). k.window) f), a.2)
+ask_by s t (InfoAck to rx flags) o e f p a = a
+ask_by s t (Accept to own window) o e f p a = (a.0 ∙ sym p, a.1)
+ask_by s t (Disconnect to) o e f p a = a
+ask_by s t (Disconnected to) o e f p a = a
+ask_by s t (Refuse to) o e f p a = a
 
 -- the net after the step
 module _ (net : Net) (k : Kept net) (n : ℕ) (s : SetState) (h : Holder) (g : Effect) (b : Book) (c : Book) (over : Bool) (here : slice_get net.sets n ≡ Some s) (there : end_of h.id s.ends ≡ Some h)
@@ -224,7 +224,7 @@ module _ (net : Net) (k : Kept net) (n : ℕ) (s : SetState) (h : Holder) (g : E
       record { end = q.end; there = end_other y apart ∙ q.there; window = q.window; fits = q.fits; kept = paired_here y some q apart }
 
   ask_same : (r : Transport) (o : Option ℕ) → AskOf h.end r o → AskOf g.end r o
-  ask_same r o a = ask_by h.end g.end r o m.role m.config a
+  ask_same r o a = ask_by h.end g.end r o m.role m.config m.pair a
 
   all_asked : (os : List Out) → Asks h.end os → AllOf (λ r o. AskOf g.end r o) os
   all_asked [] a = tt

@@ -96,7 +96,7 @@ responder_made net s own pair origin window now from inv call asked =
       lives = record { first = responding own pair window s.config now; new = Accepts own pair window s.config now; inputs = []; end = refl; notes_are = refl };
       silent = (λ n e. cc, tt);
       spelled = (record { head = record { origin = s.own; dest = origin; ttl = s.ttl }; is = refl; origin = inv.own; dest = call; transport = tt }, tt);
-      asks = (refl, tt);
+      asks = ((refl, refl), tt);
       some = some;
       most = inv.most;
       at_call = call;

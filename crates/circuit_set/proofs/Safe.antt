@@ -15,12 +15,12 @@ use Rattle.circuit_set.proofs.Whole.{safe_of}
 use Rattle.circuit_set.proofs.Invariant.{PairInv, AloneOk, CircuitOk, EndInv, Kept, Lived, SetInv, side_of}
 use Rattle.circuit_set.proofs.Opens.{run_kept, later_stays}
 
-starts_at : (ss : List SetState) (n : ℕ) (s : SetState) → AreStarts ss → slice_get ss n ≡ Some s → IsStart s
+pub starts_at : (ss : List SetState) (n : ℕ) (s : SetState) → AreStarts ss → slice_get ss n ≡ Some s → IsStart s
 starts_at [] n s a e = cc
 starts_at (x ∷ ss) zero s a e = let same : x ≡ s = cc in subst IsStart same a.0
 starts_at (x ∷ ss) (suc n) s a e = starts_at ss n s a.1 e
 
-none_case : (ss : List SetState) (x : Name) (o : Option SetState) → AreStarts ss → slice_get ss x.node ≡ o → end_in o x.id ≡ None
+pub none_case : (ss : List SetState) (x : Name) (o : Option SetState) → AreStarts ss → slice_get ss x.node ≡ o → end_in o x.id ≡ None
 none_case ss x None a e = refl
 none_case ss x (Some s) a e = ap (λ hs. end_of x.id hs) (starts_at ss x.node s a e).none
 

@@ -14,3 +14,6 @@ pub mod Inputs
 pub mod Standing
 pub mod CircuitSets
 pub mod SetTurns
+pub mod Givings
+pub mod Naming
+pub mod Retries

@@ -3,6 +3,9 @@ ghost use Rattle.std.specs.Prelude.{◌≡◌, ℕ, ◌+◌, ◌*◌, ◌≤◌,
 ghost use Rattle.circuit_set.specs.Lines.{Line, Infos, over, at_place};
 ghost use Rattle.circuit_set.specs.Laws.{OneCircuitSafe};
 ghost use Rattle.circuit_set.specs.Pairs.{PairsDiffer};
+ghost use Rattle.circuit_set.specs.Givings.{MadeAreGiven, MadeDiffer};
+ghost use Rattle.circuit_set.specs.Naming.{PairNamesOne, RequestersSend};
+ghost use Rattle.circuit_set.specs.Retries.{RetriesAreTold};
 ghost use Rattle.circuit_set.specs.Inputs.{ActsGo, HearsGo, HearsLostGoes, TellsGo, TellsLess, TicksGo};
 ghost use Rattle.circuit_set.specs.Examples.{ForgedIsUnsafe, OneMoreIsTooMany, RestartIsStale};
 ghost use Rattle.circuit_set.specs.Runs.{CircuitsSafe, NarrowIsTimely, PartnersStay, WindowsFit};
@@ -19,6 +22,22 @@ pub fn circuits_safe()
 /// ends have the same partner.
 pub fn partners_stay()
     ensures { PartnersStay }
+{}
+
+/// At each moment of every run, timely or not, an end was told that its retries are used up exactly where they are.
+pub fn retries_are_told()
+    ensures { RetriesAreTold }
+{}
+
+/// In a timely run a requester's end that was told that its circuit is open has a partner, and sends to its partner's pair.
+pub fn requesters_send()
+    ensures { RequestersSend }
+{}
+
+/// At each moment of a fresh run, timely or not, no other end that a node holds has the pair by which an open end of another node names its
+/// partner there.
+pub fn pair_names_one()
+    ensures { PairNamesOne }
 {}
 
 /// What the premises bear: an end may receive a text that nobody wrote where somebody makes it up, and such a run isn't timely.
@@ -41,6 +60,14 @@ pub fn narrow_is_timely()
 /// go.
 pub fn pairs_differ()
     ensures { PairsDiffer }
+{}
+
+/// The pairs of the ends that a set tells of are those that its node gives, in their order, whatever the set was given before, and where it
+/// stands with its pairs then is where the node stands. So among the first 48,960 that it tells of once its node has started none stands
+/// twice.
+pub fn made_are_given()
+    ensures given { MadeAreGiven }
+    ensures differ { MadeDiffer }
 {}
 
 /// Of each window from 1 to 127: twice the window and the allowance for overtakers are at most 256 together, as many as there are

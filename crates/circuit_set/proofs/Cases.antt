@@ -1,0 +1,238 @@
+-- What an input of a set comes to, case by case, where its node doesn't start again.
+use Rattle.std.specs.Prelude.{◌≡◌, ℕ, ◌⊎◌, Bool, true, false, not, ◌&&◌, ◌||◌, nat_eq, min, if◌then◌else◌, List, [], ◌∷◌, ◌++◌, drop, Option, Some, None, Result, Ok, Err, refl}
+use Rattle.std.proofs.Common.{sym, ◌∙◌, ap, subst, inl, inr, arith}
+use Rattle.std.proofs.lemmas.Bool.Decides.{nat_tests}
+use Rattle.radio_base.specs.declared.modulus.TheConstants.{COUNT_MAX}
+use Rattle.ax_address.specs.Callsign.{Callsign}
+use Rattle.ax_address.specs.CallOrder.{same_call}
+use Rattle.l3_datagram.specs.declared.datagram.DatagramHead.{DatagramHead}
+use Rattle.l3_datagram.specs.declared.datagram.DatagramRefusal.{DatagramRefusal}
+use Rattle.l3_datagram.specs.Datagrams.{head_at}
+use Rattle.circuit_l4.specs.declared.transport.Pair.{Pair}
+use Rattle.circuit_l4.specs.declared.transport.Transport.{Transport}
+use Rattle.circuit_l4.specs.declared.transport.Transport.TheVariants.{Request, Accept, Refuse, Disconnect, Disconnected, Info, InfoAck}
+use Rattle.circuit_l4.specs.declared.transport.TransportRefusal.{TransportRefusal}
+use Rattle.circuit_l4.specs.Reading.{transport_at}
+use Rattle.circuit_l4.specs.declared.plain.EndNotice.{EndNotice}
+use Rattle.circuit_l4.specs.EndState.{Effect, State}
+use Rattle.circuit_l4.specs.EndLaws.{Accepts, Asks}
+use Rattle.circuit_l4.specs.EndTable.{Arrive, step}
+use Rattle.circuit_l4.specs.EndOpening.{facts_of, requesting, responding}
+use Rattle.circuit_set.specs.Circuits.{heeds}
+use Rattle.circuit_set.specs.Sets.{Act, Call, Writes, Ticks, Closes, Takes, Calls, Comes, Connect, Discard, Restart, Sent, Heeded, Gone, Holder, SetDone, SetState, accept_again, arrives_at, called, datagram_to, discarded, end_of, first_open, goes_to, handed, handed_up, has_ended, input_of, is_full, is_open, made, named_by, new_pair, opened_by, read_as, received, requested_anew, requests, responds, set_step, untold, with_end}
+use Rattle.circuit_set.specs.Books.{any_ends}
+use Rattle.circuit_set.specs.Givings.{IsUp}
+use Rattle.circuit_set.specs.Runs.{opened_window}
+use Rattle.circuit_set.proofs.Acts.{call_names, lives_on, lives_same}
+use Rattle.circuit_set.proofs.Ended.{Ends, SendsOn, accept_opens, step_ends, step_sends_on}
+use Rattle.circuit_set.proofs.Invariant.{Lived}
+use Rattle.circuit_set.proofs.Lookups.{InEnds, open_found}
+use Rattle.circuit_set.proofs.Names.{AcceptsNone}
+use Rattle.circuit_set.proofs.Sends.{Named}
+use Rattle.circuit_set.proofs.Unheeded.{SameEnd, arrival_same}
+
+-- ---- the numbers of ends ----
+-- none has this number
+abbrev pub Apart : ℕ → List Holder → Type 0
+Apart id [] = Unit {0}
+Apart id (h ∷ hs) = (nat_eq h.id id ≡ false) × Apart id hs
+
+abbrev pub Once : List Holder → Type 0
+Once [] = Unit {0}
+Once (h ∷ hs) = Apart h.id hs × Once hs
+
+apart_in : (id : ℕ) (h : Holder) (hs : List Holder) → Apart id hs → InEnds h hs → nat_eq h.id id ≡ false
+apart_in id h [] a i = absurd i
+apart_in id h (x ∷ xs) a (inl e) = subst (λ (k : Holder). nat_eq k.id id ≡ false) (sym e) a.0
+apart_in id h (x ∷ xs) a (inr i) = apart_in id h xs a.1 i
+
+turned : (m n : ℕ) → nat_eq m n ≡ false → nat_eq n m ≡ false
+turned m n e = grind (arith, nat_tests)
+
+itself : (n : ℕ) → nat_eq n n ≡ true
+itself n = grind (arith, nat_tests)
+
+-- an end of the set is found by its number
+pub found : (h : Holder) (hs : List Holder) → Once hs → InEnds h hs → end_of h.id hs ≡ Some h
+found h [] o i = absurd i
+found h (x ∷ xs) o (inl e) = subst (λ (k : Holder). end_of k.id (x ∷ xs) ≡ Some k) (sym e) (ap (λ b. if b then Some x else end_of x.id xs) (itself x.id))
+found h (x ∷ xs) o (inr i) = ap (λ b. if b then Some x else end_of h.id xs) (turned h.id x.id (apart_in x.id h xs o.0 i)) ∙ found h xs o.1 i
+
+number_case : (id : ℕ) (x h : Holder) (hs : List Holder) (b : Bool) → nat_eq x.id id ≡ b → (if b then Some x else end_of id hs) ≡ Some h → (end_of id hs ≡ Some h → h.id ≡ id) → h.id ≡ id
+number_case id x h hs true t e later = let same : x ≡ h = cc in let n : x.id ≡ id = grind (arith, nat_tests) in ap (λ (k : Holder). k.id) (sym same) ∙ n
+number_case id x h hs false t e later = later e
+
+pub number_of : (id : ℕ) (h : Holder) (hs : List Holder) → end_of id hs ≡ Some h → h.id ≡ id
+number_of id h [] e = cc
+number_of id h (x ∷ hs) e = number_case id x h hs (nat_eq x.id id) refl e (number_of id h hs)
+
+-- ---- what an end says ----
+accepts_none : (call : Call) → AcceptsNone (input_of call)
+accepts_none (Writes m) = tt
+accepts_none Ticks = tt
+accepts_none Closes = tt
+accepts_none Takes = tt
+
+-- it isn't opened, or it has heeded an Accept, and sends to the pair in it
+abbrev pub Says : Holder → Bool → List ℕ → Effect → Type 0
+Says h heeded d g = SendsOn h.end g ⊎ ((to own : Pair) × (window : ℕ) × (heeded ≡ true) × (transport_at (drop 15 d) ≡ Ok (Accept to own window)) × (g.end.to ≡ own))
+
+other_says : (h : Holder) (d : List ℕ) (t : Transport) (now : ℕ) → AcceptsNone (Arrive t) → Ends h.end (step h.end (Arrive t) now) × Says h (heeds h.end.phase t) d (step h.end (Arrive t) now)
+other_says h d t now a = (step_ends h.end (Arrive t) now a, inl (step_sends_on h.end (Arrive t) now a))
+
+arrival_says : (h : Holder) (d : List ℕ) (t : Transport) (now : ℕ) → transport_at (drop 15 d) ≡ Ok t → Ends h.end (step h.end (Arrive t) now) × Says h (heeds h.end.phase t) d (step h.end (Arrive t) now)
+arrival_says h d (Accept to own window) now read =
+    let o = accept_opens h.end to own window now in
+    (o.0, elim o.1 [ inl r ↦ inl r | inr r ↦ inr (to, own, window, ap (λ p. heeds p (Accept to own window)) r.0, read, r.1) ])
+arrival_says h d (Refuse to) now read = other_says h d (Refuse to) now refl
+arrival_says h d (Request pair window user node) now read = other_says h d (Request pair window user node) now refl
+arrival_says h d (Disconnect to) now read = other_says h d (Disconnect to) now refl
+arrival_says h d (Disconnected to) now read = other_says h d (Disconnected to) now refl
+arrival_says h d (Info to tx rx flags text) now read = other_says h d (Info to tx rx flags text) now refl
+arrival_says h d (InfoAck to rx flags) now read = other_says h d (InfoAck to rx flags) now refl
+
+-- it has come here by its inputs
+abbrev pub Lives : State → Effect → Type 0
+Lives e g = (ns : List EndNotice) → Lived e ns → Lived g.end (ns ++ g.notes)
+
+-- ---- the cases ----
+-- a request that has come is another node's
+abbrev pub IsForeign : SetState → Option (List ℕ) → Type 0
+IsForeign s None = Unit {0}
+IsForeign s (Some d) = (head : DatagramHead) × (head_at d ≡ Ok head) × (same_call head.origin s.own ≡ false)
+
+pub record IsNew (s : SetState) (asked : Option Pair) (request : Option (List ℕ)) (g : Effect) : Type 0 where
+  pub room : is_full s ≡ false
+  pub foreign : IsForeign s request
+  pub pair : g.end.pair ≡ new_pair s
+  pub lasts : has_ended g.end.phase ≡ false
+  pub told : any_ends g.notes ≡ false
+  pub asks : asked ≡ None → opened_window g.notes ≡ None
+  pub lives : Lived g.end g.notes
+
+pub record Cases (s : SetState) (P : SetDone → Type 0) : Type 0 where
+  pub rests : P (untold s)
+  pub refuses : (d : List ℕ) → P (record { set = s; told = Sent 0 None d ∷ [] })
+  pub moves : (h : Holder) (heeded : Bool) (d : List ℕ) (g : Effect) → end_of h.id s.ends ≡ Some h → h.gone ≡ false → SameEnd h.end g.end → Ends h.end g → Says h heeded d g → Lives h.end g
+      → P (goes_to s h (if heeded then Heeded h.id d ∷ [] else []) g)
+  pub leaves : (h : Holder) → end_of h.id s.ends ≡ Some h → h.gone ≡ false
+      → P (record { set = record s { ends = with_end (record h { gone = true }) s.ends }; told = Gone h.id (facts_of h.end) ∷ [] })
+  pub makes : (at : Callsign) (asked : Option Pair) (request : Option (List ℕ)) (g : Effect) → IsNew s asked request g → P (made s at asked request g)
+
+either_done : (P : SetDone → Type 0) (b : Bool) (x y : SetDone) → P x → P y → P (if b then x else y)
+either_done P true x y p q = p
+either_done P false x y p q = q
+
+and_parts : (a b : Bool) → (a && b) ≡ true → (a ≡ true) × (b ≡ true)
+and_parts true true e = (refl, refl)
+and_parts true false e = cc
+and_parts false b e = cc
+
+is_false : (a : Bool) → not a ≡ true → a ≡ false
+is_false true e = cc
+is_false false e = refl
+
+module _ (s : SetState) (one : (h : Holder) → InEnds h s.ends → end_of h.id s.ends ≡ Some h) (P : SetDone → Type 0) (k : Cases s P) where
+  -- ---- calls ----
+  call_case : (h : Holder) (call : Call) (now : ℕ) (b : Bool) → h.gone ≡ b → end_of h.id s.ends ≡ Some h → P (if b then untold s else goes_to s h [] (step h.end (input_of call) now))
+  call_case h call now true e there = k.rests
+  call_case h call now false e there =
+      let names = call_names h.end call now in
+      let same : SameEnd h.end (step h.end (input_of call) now).end = record { role = ap (λ (n : Named). n.role) names; pair = ap (λ (n : Named). n.pair) names; config = ap (λ (n : Named). n.config) names } in
+      k.moves h false [] (step h.end (input_of call) now) there e same (step_ends h.end (input_of call) now (accepts_none call)) (inl (step_sends_on h.end (input_of call) now (accepts_none call))) (λ ns l. lives_on h.end ns (input_of call) now l)
+
+  called_so : (id : ℕ) (call : Call) (now : ℕ) (o : Option Holder) → end_of id s.ends ≡ o → P (called s o call now)
+  called_so id call now None e = k.rests
+  called_so id call now (Some h) e = call_case h call now h.gone refl (ap (λ i. end_of i s.ends) (number_of id h s.ends e) ∙ e)
+
+  discard_case : (h : Holder) (b : Bool) → (not h.gone && has_ended h.end.phase) ≡ b → end_of h.id s.ends ≡ Some h
+      → P (if b then record { set = record s { ends = with_end (record h { gone = true }) s.ends }; told = Gone h.id (facts_of h.end) ∷ [] } else untold s)
+  discard_case h false e there = k.rests
+  discard_case h true e there = k.leaves h there (is_false h.gone (and_parts (not h.gone) (has_ended h.end.phase) e).0)
+
+  discard_so : (id : ℕ) (o : Option Holder) → end_of id s.ends ≡ o → P (discarded s o)
+  discard_so id None e = k.rests
+  discard_so id (Some h) e = discard_case h (not h.gone && has_ended h.end.phase) refl (ap (λ i. end_of i s.ends) (number_of id h s.ends e) ∙ e)
+
+  -- ---- what comes ----
+  open_one : (test : Holder → Bool) (h : Holder) → first_open test s.ends ≡ Some h → (end_of h.id s.ends ≡ Some h) × (h.gone ≡ false)
+  open_one test h e =
+      let f = open_found test h s.ends e in
+      let lasts : is_open h ≡ true = (and_parts (is_open h) (test h) f.1).0 in
+      (one h f.0, is_false h.gone (and_parts (not h.gone) (not (has_ended h.end.phase)) lasts).0)
+
+  arrives_case : (origin : Callsign) (d : List ℕ) (to : Pair) (t : Transport) (now : ℕ) (o : Option Holder) → transport_at (drop 15 d) ≡ Ok t → first_open (named_by origin to) s.ends ≡ o
+      → P (elim o as (λ x. SetDone) [ Some h ↦ handed s h d t now | None ↦ untold s ])
+  arrives_case origin d to t now None read e = k.rests
+  arrives_case origin d to t now (Some h) read e =
+      let f = open_one (named_by origin to) h e in
+      let says = arrival_says h d t now read in
+      k.moves h (heeds h.end.phase t) d (step h.end (Arrive t) now) f.0 f.1 (arrival_same h.end t now) says.0 says.1 (λ ns l. lives_on h.end ns (Arrive t) now l)
+
+  arrives_so : (origin : Callsign) (d : List ℕ) (to : Pair) (t : Transport) (now : ℕ) → transport_at (drop 15 d) ≡ Ok t → P (arrives_at s origin d to t now)
+  arrives_so origin d to t now read = arrives_case origin d to t now (first_open (named_by origin to) s.ends) read refl
+
+  anew_case : (origin : Callsign) (d : List ℕ) (pair : Pair) (window now : ℕ) (b : Bool) → is_full s ≡ b → IsForeign s (Some d)
+      → P (if b then record { set = s; told = Sent 0 None (datagram_to s origin (Refuse pair)) ∷ [] } else responds s origin d pair window now)
+  anew_case origin d pair window now true e f = k.refuses (datagram_to s origin (Refuse pair))
+  anew_case origin d pair window now false e f =
+      k.makes origin (Some pair) (Some d) (responding (new_pair s) pair window s.config (min now COUNT_MAX)) (record {
+        room = e;
+        foreign = f;
+        pair = refl;
+        lasts = refl;
+        told = refl;
+        asks = λ e. cc;
+        lives = record { first = responding (new_pair s) pair window s.config (min now COUNT_MAX); new = Accepts (new_pair s) pair window s.config (min now COUNT_MAX); inputs = []; end = refl; notes_are = refl };
+      })
+
+  requested_case : (origin : Callsign) (d : List ℕ) (pair : Pair) (window now : ℕ) (o : Option Holder) → first_open (opened_by origin pair) s.ends ≡ o → IsForeign s (Some d)
+      → P (elim o as (λ x. SetDone) [ Some h ↦ goes_to s h [] (accept_again h.end) | None ↦ requested_anew s origin d pair window now ])
+  requested_case origin d pair window now None e f = anew_case origin d pair window now (is_full s) refl f
+  requested_case origin d pair window now (Some h) e f =
+      let o = open_one (opened_by origin pair) h e in
+      k.moves h false [] (accept_again h.end) o.0 o.1 (record { role = refl; pair = refl; config = refl }) (record { told = λ e. cc; stays = λ e. e }) (inl (record { unopened = refl; to = refl })) (λ ns l. lives_same h.end ns l)
+
+  received_so : (origin : Callsign) (d : List ℕ) (t : Transport) (now : ℕ) → IsForeign s (Some d) → transport_at (drop 15 d) ≡ Ok t → P (received s origin d t now)
+  received_so origin d (Request pair window user node) now f read = requested_case origin d pair window now (first_open (opened_by origin pair) s.ends) refl f
+  received_so origin d (Accept to own window) now f read = arrives_so origin d to (Accept to own window) now read
+  received_so origin d (Refuse to) now f read = arrives_so origin d to (Refuse to) now read
+  received_so origin d (Disconnect to) now f read = arrives_so origin d to (Disconnect to) now read
+  received_so origin d (Disconnected to) now f read = arrives_so origin d to (Disconnected to) now read
+  received_so origin d (Info to tx rx flags text) now f read = arrives_so origin d to (Info to tx rx flags text) now read
+  received_so origin d (InfoAck to rx flags) now f read = arrives_so origin d to (InfoAck to rx flags) now read
+
+  read_so : (origin : Callsign) (d : List ℕ) (r : Result Transport TransportRefusal) (now : ℕ) → IsForeign s (Some d) → transport_at (drop 15 d) ≡ r → P (read_as s origin d r now)
+  read_so origin d (Err e) now f read = k.rests
+  read_so origin d (Ok t) now f read = received_so origin d t now f read
+
+  handed_case : (d : List ℕ) (head : DatagramHead) (now : ℕ) (a b : Bool) → head_at d ≡ Ok head → same_call head.origin s.own ≡ a
+      → P (if a || b then untold s else read_as s head.origin d (transport_at (drop 15 d)) now)
+  handed_case d head now true b e f = k.rests
+  handed_case d head now false true e f = k.rests
+  handed_case d head now false false e f = read_so head.origin d (transport_at (drop 15 d)) now (head, e, f) refl
+
+  handed_so : (d : List ℕ) (r : Result DatagramHead DatagramRefusal) (now : ℕ) → head_at d ≡ r → P (handed_up s d r now)
+  handed_so d (Err e) now h = k.rests
+  handed_so d (Ok head) now h = handed_case d head now (same_call head.origin s.own) (not (same_call head.dest s.own)) h refl
+
+  connected_case : (dest : Callsign) (now : ℕ) (a b : Bool) → is_full s ≡ b → P (if a || b then untold s else requests s dest now)
+  connected_case dest now true b e = k.rests
+  connected_case dest now false true e = k.rests
+  connected_case dest now false false e =
+      k.makes dest None None (requesting (new_pair s) s.user s.own s.config (min now COUNT_MAX)) (record {
+        room = e;
+        foreign = tt;
+        pair = refl;
+        lasts = refl;
+        told = refl;
+        asks = λ e. refl;
+        lives = record { first = requesting (new_pair s) s.user s.own s.config (min now COUNT_MAX); new = Asks (new_pair s) s.user s.own s.config (min now COUNT_MAX); inputs = []; end = refl; notes_are = refl };
+      })
+
+  pub step_cases : (a : Act) → IsUp a → P (set_step s a)
+  step_cases (Connect dest now) up = connected_case dest now (same_call dest s.own) (is_full s) refl
+  step_cases (Comes d now) up = handed_so d (head_at d) now refl
+  step_cases (Calls id call now) up = called_so id call now (end_of id s.ends) refl
+  step_cases (Discard id) up = discard_so id (end_of id s.ends) refl
+  step_cases (Restart pair more) up = absurd up
