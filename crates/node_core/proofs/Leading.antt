@@ -1,0 +1,82 @@
+-- What the code keeps after a call of `pump`.
+use Rattle.std.proofs.Common.{◌≡◌, ◌++◌, ◌∙◌, ℕ, sym, ap, subst, List, [], ◌∷◌, append-nil, map}
+use Rattle.std.specs.Prelude.{Option, Some, None}
+use Rattle.std.specs.Option.{option_map}
+use Rattle.circuit_set.specs.CircuitSets.{Circuits, DoesPump, Pumps}
+use Rattle.circuit_set.specs.Inputs.{TellsLess}
+use Rattle.circuit_set.specs.Pumps as pumps
+use Rattle.circuit_set.specs.Pumps.{Pumped, SetTold}
+use Rattle.circuit_set.specs.Standing.{seen}
+use Rattle.circuit_set.specs.declared.event.SetEvent.{SetEvent}
+use Rattle.l3_datagram.specs.CarrierCall.{Parcel}
+use Rattle.l3_datagram.specs.Routers.{SameRouter}
+use Rattle.l3_datagram.specs.declared.carrier.Offered.{Offered}
+use Rattle.link_table.specs.Carrying.{AllAnswer, after_calls}
+use Rattle.link_table.specs.Payloads.{OffersLeave, TakesLower}
+use Rattle.link_table.specs.Standing.{Kept, Made}
+use Rattle.route_table.specs.Table as routes
+use Rattle.node_core.specs.declared.station.Station.{Station}
+use Rattle.node_core.specs.Pumping.{pump, told_entries}
+use Rattle.node_core.specs.Standing.{Holds}
+use Rattle.node_core.specs.States.{Entry, Of_set, State, next_hop}
+use Rattle.node_core.proofs.Calls.{after_call, call_leads, pumped_on}
+
+-- the node after a call, before what was told is entered
+abbrev pub called : Pumped → State → State
+called q n = record n { links = after_calls q.calls n.links; set = q.after; log = n.log ++ q.items }
+
+pub record Called (now : ℕ) (s : Station) (new : Circuits Kept) (n : State) (result : Option SetEvent) : Type 0 where
+  pub q : Pumped
+  pub told : option_map seen result ≡ q.told
+  pub leads : pump now n ≡ pumped_on now q.told (after_call q n)
+  pub holds : Holds (record s { set = new }) (called q n)
+
+does : (now : ℕ) (s : Station) (new : Circuits Kept) (n : State) (result : Option SetEvent) (q : Pumped) → Holds s n → SameRouter s.set.router new.router
+    → DoesPump Made s.set new n.log result q → (AllAnswer n.links q.calls → pump now n ≡ pumped_on now q.told (after_call q n)) → Called now s new n result
+does now s new n result q h same d leads =
+    let made = d.calls n.links h.parts.links in
+    record {
+      q = q;
+      told = d.told;
+      leads = leads made.0;
+      holds = record {
+        parts = record {
+          links = made.1;
+          log = d.table;
+          rules = same.node.rules ∙ h.parts.rules;
+          own = same.node.own ∙ h.parts.own;
+          call = same.own ∙ h.parts.call;
+          set = d.stands;
+        };
+        names = record { alias = h.names.alias; path_quality = h.names.path_quality; interval = h.names.interval; fits = h.names.fits };
+        queues = record { own = h.queues.own; entries = h.queues.entries };
+        next_round = h.next_round;
+      };
+    }
+
+module _ (offers : OffersLeave) (takes : TakesLower) (less : TellsLess) where
+  pub was_called : (now : ℕ) (s : Station) (new : Circuits Kept) (n : State) (result : Option SetEvent) → Holds s n → SameRouter s.set.router new.router
+      → Pumps Made s.set new s.set.router.carrier.lost s.set.router.carrier.waiting now result → Called now s new n result
+  was_called now s new n result h same p =
+      let ps = p.0 in
+      let answer = p.1 in
+      let fits : map (λ (y : Parcel × Offered). y.0) ps ≡ n.links.pending.waiting = p.2 ∙ h.parts.links.waiting in
+      let q = pumps.pumped (next_hop n) now n.set n.links.pending.lost ps answer in
+      let d : DoesPump Made s.set new n.log result q =
+      subst (λ r. DoesPump Made s.set new n.log result (pumps.pumped (routes.next_hop r n.log) now n.set n.links.pending.lost ps answer)) h.parts.rules
+      (subst (λ lost. DoesPump Made s.set new n.log result (pumps.pumped (routes.next_hop s.set.router.table.rules n.log) now n.set lost ps answer)) h.parts.links.lost (p.3 n.log n.set h.parts.log h.parts.set)) in
+      does now s new n result q h same d (call_leads offers takes less now n ps answer fits)
+
+-- what was told is entered
+pub told_on : (now : ℕ) (n : State) (q : Pumped) (e : SetTold) → Some e ≡ q.told → pump now n ≡ pumped_on now q.told (after_call q n)
+    → pump now n ≡ pump now (record (called q n) { entries = n.entries ++ Of_set e ∷ [] })
+told_on now n q e told leads =
+    leads ∙ (ap (λ (o : Option SetTold). pumped_on now o (after_call q n)) (sym told)
+    ∙ ap (λ (o : Option SetTold). pump now (record (called q n) { entries = n.entries ++ told_entries o })) (sym told))
+
+-- nothing was told
+pub pumped_is : (now : ℕ) (n : State) (q : Pumped) → None ≡ q.told → pump now n ≡ pumped_on now q.told (after_call q n) → pump now n ≡ called q n
+pumped_is now n q told leads =
+    leads ∙ (ap (λ (o : Option SetTold). pumped_on now o (after_call q n)) (sym told)
+    ∙ (ap (λ (o : Option SetTold). record (called q n) { entries = n.entries ++ told_entries o }) (sym told)
+    ∙ ap (λ (es : List Entry). record (called q n) { entries = es }) (append-nil n.entries)))

@@ -1,0 +1,13 @@
+use Rattle.std.proofs.Common.{◌≡◌}
+use Rattle.circuit_set.specs.CircuitSets.{untold_by}
+use Rattle.node_core.specs.Pumping.{pump}
+use Rattle.node_core.specs.Standing.{Holds}
+use Rattle.node_core.specs.States.{State}
+use Rattle.node_core.proofs.station.Station.pump.Given as goal
+
+-- it stands for a node that is pumped to the same
+abbrev pub invariant-loop-event : goal.invariant-loop-event
+invariant-loop-event l = (n : State) → Holds l.fn.self n → (m : State) × Holds l.self m × (pump l.now.0 n ≡ pump l.now.0 m)
+
+abbrev pub decreases-loop-event : goal.decreases-loop-event
+decreases-loop-event l = untold_by l.self.set.router.carrier.lost l.self.set.router.carrier.waiting l.self.set

@@ -1,0 +1,87 @@
+-- What a user does at a node, before it settles. Own profile, but for what the layers' own definitions say.
+use Rattle.std.specs.Prelude.{ℕ, Bool, true, false, nat_lt, if◌then◌else◌, List, [], ◌∷◌, length, Result, Ok, Err}
+use Rattle.ax_address.specs.Callsign.{Callsign}
+use Rattle.ax_address.specs.CallOrder.{same_call}
+use Rattle.circuit_set.specs.declared.event.ConnectRefusal.{ConnectRefusal}
+use Rattle.circuit_set.specs.declared.event.NoEnd.{NoEnd}
+use Rattle.circuit_set.specs.declared.event.SetRefusal.{SetRefusal}
+use Rattle.circuit_set.specs.Inputs.{connect_answer}
+use Rattle.circuit_set.specs.Sets as sets
+use Rattle.circuit_set.specs.Standing.{close_answer, message_at, take_answer, write_answer}
+use Rattle.route_table.specs.Log as logs
+use Rattle.route_table.specs.Log.{Item}
+use Rattle.route_table.specs.Table.{usable}
+use Rattle.route_table.specs.declared.route.LockRefusal.TheVariants as locking
+use Rattle.node_core.specs.declared.acts.ActDone.{ActDone}
+use Rattle.node_core.specs.declared.acts.ActDone.TheVariants.{Done, Made, Took}
+use Rattle.node_core.specs.declared.acts.ActRefusal.{ActRefusal}
+use Rattle.node_core.specs.declared.acts.ActRefusal.TheVariants as refusal
+use Rattle.node_core.specs.declared.acts.UserAct.{UserAct}
+use Rattle.node_core.specs.declared.acts.UserAct.TheVariants.{Round, LinkFail, Lock, Connect, Write, Take, Close}
+use Rattle.node_core.specs.Circuits as circuits
+use Rattle.node_core.specs.Refusals.{connect_refusal, write_refusal}
+use Rattle.node_core.specs.Links.{break_link}
+use Rattle.node_core.specs.States.{State, at_links, at_set, next_hop, with_items}
+use Rattle.node_core.specs.Receiving.{has_room, live_with}
+use Rattle.node_core.specs.Rounds.{do_round}
+
+-- what an act comes to: the answer, and the node then
+pub record Answered : Type 0 where
+  pub answer : Result ActDone ActRefusal
+  pub node : State
+
+abbrev pub done : State → Answered
+done n = record { answer = Ok Done; node = n }
+
+-- a refused act changes nothing
+abbrev pub refuse : ActRefusal → State → Answered
+refuse why n = record { answer = Err why; node = n }
+
+-- the link with a neighbour is broken, where one stands, and its reports end
+abbrev pub fail_link : Callsign → State → State
+fail_link peer n = with_items (logs.Failure peer ∷ []) (at_links (break_link peer) n)
+
+-- a lock is refused of the node itself, of too low a quality, or where there is no room, in this order
+abbrev pub lock : Callsign → Item → ℕ → State → Answered
+lock dest item quality n =
+    if same_call dest n.settings.call then refuse (refusal.Lock locking.Own) n
+    else if nat_lt quality n.settings.rules.minq then refuse (refusal.Lock locking.TooLow) n
+    else if has_room (item ∷ []) n then done (with_items (item ∷ []) n)
+    else refuse (refusal.Lock (locking.TableFull (length (usable n.settings.rules n.log)) (live_with (item ∷ []) n))) n
+
+-- ---- circuits: what each call answers, and the circuits after it
+
+abbrev pub connect_by : Result ℕ ConnectRefusal → sets.Act → State → Answered
+connect_by (Ok id) act n = record { answer = Ok (Made id); node = at_set (circuits.acts act) n }
+connect_by (Err why) act n = refuse (connect_refusal why) n
+
+abbrev pub write_by : Result (Unit {0}) SetRefusal → sets.Act → State → Answered
+write_by (Ok _) act n = done (at_set (circuits.acts act) n)
+write_by (Err why) act n = refuse (write_refusal why) n
+
+-- the message that was taken. Where none waits, or no end of that number is held, the circuits stay as they are
+abbrev pub took : Result Bool NoEnd → List ℕ → Result ActDone ActRefusal
+took (Ok true) message = Ok (Took (record { items = message }))
+took (Ok false) message = Err refusal.Nothing
+took (Err why) message = Err refusal.NoEnd
+
+-- likewise where no end of that number is held
+abbrev pub closed : Result (Unit {0}) NoEnd → Result ActDone ActRefusal
+closed (Ok _) = Ok Done
+closed (Err why) = Err refusal.NoEnd
+
+abbrev pub do_act : ℕ → UserAct → State → Answered
+do_act now Round n = done (do_round n)
+do_act now (LinkFail peer) n = done (fail_link peer n)
+do_act now (Lock dest alias neighbour quality) n = lock dest (logs.Lock dest alias neighbour quality) quality n
+do_act now (Connect dest) n = connect_by (connect_answer (next_hop n) dest n.set.set) (sets.Connect dest now) n
+do_act now (Write id message) n =
+    write_by (write_answer (sets.end_of id n.set.set.ends) message.items) (sets.Calls id (sets.Writes message.items) now) n
+do_act now (Take id) n =
+    let end = sets.end_of id n.set.set.ends in
+    record { answer = took (take_answer end) (message_at [] end); node = at_set (circuits.acts (sets.Calls id sets.Takes now)) n }
+do_act now (Close id) n =
+    record {
+      answer = closed (close_answer (sets.end_of id n.set.set.ends));
+      node = at_set (circuits.acts (sets.Calls id sets.Closes now)) n;
+    }

@@ -1,0 +1,55 @@
+-- The links of a node, as the machine of `link_table` has them. Each step stands shut here: no goal about a node sees through it.
+use Rattle.std.specs.Prelude.{ℕ, Bool, is_some, List, [], map}
+use Rattle.ax_address.specs.Callsign.{Callsign}
+use Rattle.ax_frame.specs.Frames.{Frame}
+use Rattle.l3_datagram.specs.CarrierCall.{Datagram}
+use Rattle.l3_datagram.specs.declared.carrier.Offered.{Offered}
+use Rattle.link_table.specs.Calls as calls
+use Rattle.link_table.specs.Fetching as fetching
+use Rattle.link_table.specs.Payloads as kept
+use Rattle.link_table.specs.Table.{Table}
+use Rattle.link_table.specs.Texts as texts
+use Rattle.link_table.specs.declared.written.Written.{Written}
+
+unfoldable pub arrive : Frame → ℕ → Table → Table
+arrive f now t = calls.arrive f now t
+
+unfoldable pub tick_links : ℕ → Table → Table
+tick_links now t = calls.tick now t
+
+unfoldable pub break_link : Callsign → Table → Table
+break_link peer t = calls.break_link peer t
+
+unfoldable pub offer : Callsign → Datagram → ℕ → Table → Table
+offer to d now t = (calls.offer to d now t).table
+
+unfoldable pub offer_answer : Callsign → Datagram → ℕ → Table → Offered
+offer_answer to d now t = (calls.offer to d now t).answer
+
+unfoldable pub take_text : Callsign → ℕ → Table → Table
+take_text peer now t = texts.take_text peer now t
+
+-- the peers at whose link a text waits, in the order of the links
+unfoldable pub text_peers : Table → List Callsign
+text_peers t = texts.text_peers t.links
+
+unfoldable pub has_text : Callsign → Table → Bool
+has_text peer t = is_some (texts.text_with peer t)
+
+unfoldable pub is_128 : Callsign → Table → Bool
+is_128 peer t = calls.is_128 peer t
+
+-- how many payloads came over the links and weren't taken
+unfoldable pub payloads : Table → ℕ
+payloads t = kept.payloads t
+
+-- the frames that wait to be sent
+abbrev pub sent_frames : Table → List Written
+sent_frames t = map fetching.written t.pending.frames
+
+-- all frames were fetched, and all notices
+abbrev pub all_fetched : Table → Table
+all_fetched t = record t { pending = record t.pending { frames = [] } }
+
+abbrev pub all_noticed : Table → Table
+all_noticed t = record t { pending = record t.pending { notices = [] } }

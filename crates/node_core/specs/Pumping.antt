@@ -1,0 +1,60 @@
+-- The circuits are pumped until they have nothing to tell and nothing waits at the router. Own profile.
+use Rattle.std.specs.Prelude.{ℕ, zero, suc, ◌+◌, nat_lt, if◌then◌else◌, List, [], ◌∷◌, ◌++◌, length, Option, Some, None}
+use Rattle.ax_address.specs.Callsign.{Callsign}
+use Rattle.circuit_set.specs.Pumps.{SetTold, Turn, Turned, Says, Offers}
+use Rattle.l3_datagram.specs.CarrierCall.{Parcel}
+use Rattle.link_table.specs.Calls.{collect, tell_lost}
+use Rattle.node_core.specs.Circuits as circuits
+use Rattle.node_core.specs.Links.{offer, offer_answer}
+use Rattle.node_core.specs.States.{Entry, Of_set, State, at_links, next_hop}
+use Rattle.node_core.specs.Turns as turns
+use Rattle.node_core.specs.Turns.{settle}
+
+abbrev pub told_entries : Option SetTold → List Entry
+told_entries None = []
+told_entries (Some told) = Of_set told ∷ []
+
+-- after a turn of the circuits, with what it told
+abbrev pub with_turned : Turned → State → State
+with_turned t n = record n { set = t.after; log = n.log ++ t.items; entries = n.entries ++ told_entries t.told }
+
+-- what they hand down is offered to the links
+abbrev pub take_turn : ℕ → Turn → State → State
+take_turn now (Says t) n = with_turned t n
+take_turn now (Offers to d by) n = with_turned (by (offer_answer to d now n.links)) (at_links (offer to d now) n)
+
+-- the first that is untold is told
+abbrev pub tell_one : ℕ → State → State
+tell_one now n = take_turn now (circuits.tells (next_hop n) n.set) n
+
+abbrev pub pending : State → ℕ
+pending n = circuits.pending n.set
+
+abbrev pub tell_turn : ℕ → State → turns.Turn State
+tell_turn now n = record { did = nat_lt 0 (pending n); after = if nat_lt 0 (pending n) then tell_one now n else n }
+
+-- all that is untold is told
+abbrev pub tell_all : ℕ → State → State
+tell_all now n = settle (tell_turn now) pending n
+
+-- the router is asked once: for the first lost neighbour, or else the first datagram that waits
+abbrev pub ask_for : ℕ → List Callsign → List Parcel → State → State
+ask_for now (neighbour ∷ _) waiting n = with_turned (circuits.hears_lost neighbour n.set) (at_links tell_lost n)
+ask_for now [] (parcel ∷ _) n = take_turn now (circuits.hears (next_hop n) now parcel n.set) (at_links collect n)
+ask_for now [] [] n = n
+
+abbrev pub ask : ℕ → State → State
+ask now n = ask_for now n.links.pending.lost n.links.pending.waiting n
+
+-- so many times, each with all that there is to tell of it
+abbrev pub ask_times : ℕ → ℕ → State → State
+ask_times now zero n = n
+ask_times now (suc more) n = ask_times now more (tell_all now (ask now n))
+
+-- how much waits at the router. What is handed down adds nothing to it
+abbrev pub at_router : State → ℕ
+at_router n = length n.links.pending.lost + length n.links.pending.waiting
+
+-- all that is untold is told, and then the router is asked for each that waits there, and all is told that comes of it
+unfoldable pub pump : ℕ → State → State
+pump now n = ask_times now (at_router n) (tell_all now n)

@@ -1,0 +1,123 @@
+//! What a user does at a node.
+ghost use Rattle.std.specs.Prelude.{OnOk};
+ghost use Rattle.route_table.specs.Log as logs;
+ghost use Rattle.node_core.specs.Acts as acts;
+ghost use Rattle.node_core.specs.Inputs as inputs;
+
+use crate::station::Station;
+use crate::{ActDone, ActRefusal, UserAct};
+use ax_address::{Alias, Call};
+use l3_datagram::Message;
+use radio_base::{Moment, NoMemory};
+
+impl Station {
+    ghost use Rattle.node_core.specs.Standing.{Acts, Goes, IsAnswer, IsDrained, StandsTold};
+    ghost use Rattle.node_core.specs.declared.acts.UserAct.TheVariants as user;
+
+    /// Does an act, or tells why not, and all that follows an input.
+    pub(crate) fn act(&mut self, act: &UserAct, now: Moment) -> Result<ActDone, ActRefusal>
+        requires drained { IsDrained self.old }
+        requires stands { StandsTold self.old }
+        ensures acts { Acts (inputs.settled_act now.0 act.now) self.old self.new result }
+        ensures drained { IsAnswer result → IsDrained self.new }
+    {
+        let outcome = self.do_act(act, now);
+        if outcome == Err(ActRefusal::NoMemory) {
+            return outcome;
+        }
+        self.settle(now)?;
+        outcome
+    }
+
+    /// Does an act, or tells why not.
+    fn do_act(&mut self, act: &UserAct, now: Moment) -> Result<ActDone, ActRefusal>
+        requires { IsDrained self.old }
+        ensures { Acts (acts.do_act now.0 act.now) self.old self.new result }
+    {
+        match act {
+            UserAct::Round => {
+                self.do_round()?;
+                Ok(ActDone::Done)
+            }
+            UserAct::LinkFail(peer) => {
+                self.fail_link(peer)?;
+                Ok(ActDone::Done)
+            }
+            UserAct::Lock {
+                dest,
+                alias,
+                neighbour,
+                quality,
+            } => self.lock(dest, alias, neighbour, *quality),
+            UserAct::Connect(dest) => self.connect(dest, now),
+            UserAct::Write { id, message } => self.write(*id, message, now),
+            UserAct::Take { id } => self.take(*id, now),
+            UserAct::Close { id } => self.close(*id, now),
+        }
+    }
+
+    /// Breaks the link with a neighbour, where one stands, and ends the routes over it.
+    fn fail_link(&mut self, peer: &Call) -> Result<(), NoMemory>
+        ensures { OnOk result (Goes (acts.fail_link peer.now) self.old self.new) }
+    {
+        self.set.router_mut().carrier_mut().break_link(peer)?;
+        self.set.router_mut().table_mut().link_failed(peer);
+        Ok(())
+    }
+
+    /// Locks a route in.
+    fn lock(
+        &mut self,
+        dest: &Call,
+        alias: &Alias,
+        neighbour: &Call,
+        quality: u8,
+    ) -> Result<ActDone, ActRefusal>
+        ensures { Acts (acts.lock dest.now (logs.Lock dest.now alias.now neighbour.now quality) quality) self.old self.new result }
+    {
+        let table = self.set.router_mut().table_mut();
+        table.lock(dest, alias, neighbour, quality)?;
+        Ok(ActDone::Done)
+    }
+
+    /// Asks for a circuit with a node.
+    fn connect(&mut self, dest: &Call, now: Moment) -> Result<ActDone, ActRefusal>
+        requires { IsDrained self.old }
+        ensures { Acts (acts.do_act now.0 (user.Connect dest.now)) self.old self.new result }
+    {
+        let id = self.set.connect(dest, now)?;
+        Ok(ActDone::Made(id))
+    }
+
+    /// Writes a message for the partner of an end.
+    fn write(&mut self, id: u64, message: &Message, now: Moment) -> Result<ActDone, ActRefusal>
+        requires { IsDrained self.old }
+        ensures { Acts (acts.do_act now.0 (user.Write id message.now)) self.old self.new result }
+    {
+        self.set.write(id, message.as_slice(), now)?;
+        Ok(ActDone::Done)
+    }
+
+    /// Takes the first message that came to an end.
+    fn take(&mut self, id: u64, now: Moment) -> Result<ActDone, ActRefusal>
+        requires { IsDrained self.old }
+        ensures { Acts (acts.do_act now.0 (user.Take id)) self.old self.new result }
+    {
+        let mut message = Message::new();
+        let taken = self.set.take(id, &mut message, now)?;
+        if taken {
+            Ok(ActDone::Took(message))
+        } else {
+            Err(ActRefusal::Nothing)
+        }
+    }
+
+    /// Closes the circuit of an end.
+    fn close(&mut self, id: u64, now: Moment) -> Result<ActDone, ActRefusal>
+        requires { IsDrained self.old }
+        ensures { Acts (acts.do_act now.0 (user.Close id)) self.old self.new result }
+    {
+        self.set.close(id, now)?;
+        Ok(ActDone::Done)
+    }
+}

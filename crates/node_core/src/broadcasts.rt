@@ -1,0 +1,85 @@
+//! Broadcasts as frames (NET/ROM, Appendix B).
+ghost use Rattle.std.specs.Prelude.{◌≡◌, ◌≤◌, ◌*◌, length};
+ghost use Rattle.ax_frame.specs.Frames.{view as frame_of};
+ghost use Rattle.nodes_broadcast.specs.Nodes.{view};
+ghost use Rattle.node_core.specs.Broadcasts as broadcasts;
+
+use arrayvec::ArrayVec;
+use ax_address::{Address, Call, Entry, MAX_ENTRIES, Path};
+use ax_frame::{Control, FrameBytes, FrameView, Head, write_frame};
+use nodes_broadcast::{Nodes, write_nodes};
+use radio_base::{M8, NETROM_PID};
+
+/// The call to which broadcasts go.
+fn nodes_call() -> Call
+    ensures { result ≡ broadcasts.nodes_call }
+{
+    match Call::read(b"NODES") {
+        Ok(call) => call,
+        Err(_) => Call::default(),
+    }
+}
+
+/// A frame is a broadcast: UI to NODES with the PID of NET/ROM.
+pub(crate) fn is_broadcast(frame: &FrameView<'_>) -> bool
+    ensures { result ≡ broadcasts.is_broadcast (frame_of frame.now) }
+{
+    match frame.control {
+        Control::Ui { .. } => frame.pid == Some(NETROM_PID) && frame.head.dest.call == nodes_call(),
+        _ => false,
+    }
+}
+
+/// The address of a sender or receiver, with its C bit. This node writes the reserved bits 1.
+fn address_of(call: Call, bit7: bool) -> Address
+    ensures { result ≡ broadcasts.address_of call bit7 }
+{
+    Address {
+        call,
+        bit7,
+        reserved: 3,
+    }
+}
+
+/// A broadcast in octets: a UI command to NODES without repeaters.
+pub fn broadcast_frame(call: &Call, broadcast: &Nodes) -> FrameBytes
+    ensures { result.items ≡ broadcasts.broadcast_octets call.now (view broadcast.now) }
+{
+    let head = Head {
+        dest: address_of(nodes_call(), true),
+        source: address_of(*call, false),
+        path: Path::new(),
+    };
+    let info = write_nodes(broadcast);
+    let mut octets = FrameBytes::new();
+    let _ = write_frame::<M8>(
+        &head,
+        &Control::Ui { pf: false },
+        Some(NETROM_PID),
+        info.as_slice(),
+        &mut octets,
+    );
+    octets
+}
+
+/// How many frames these entries need: eleven entries a frame, and at least one frame.
+pub(crate) fn frame_count(entries: &[Entry]) -> usize
+    ensures { result ≡ broadcasts.frame_count entries.now }
+{
+    match entries {
+        [] => 1,
+        [_, others @ ..] => 1 + others.len() / MAX_ENTRIES,
+    }
+}
+
+/// The entries of a frame, by its number from 0.
+pub(crate) fn entries_of_frame(entries: &[Entry], nth: usize) -> ArrayVec<Entry, MAX_ENTRIES>
+    requires { 11 * nth ≤ length entries.now }
+    ensures { result.items ≡ broadcasts.entries_of_frame entries.now nth }
+{
+    let start = MAX_ENTRIES * nth;
+    let count = (entries.len() - start).min(MAX_ENTRIES);
+    let mut page = ArrayVec::new();
+    let _ = page.try_extend_from_slice(&entries[start..start + count]);
+    page
+}

@@ -1,0 +1,49 @@
+//! What the definitions promise by themselves.
+ghost use Rattle.circuit_set.specs.Inputs.{TellsLess};
+ghost use Rattle.link_table.specs.Payloads.{CountsPayloads, OffersLeave, TakesLower};
+ghost use Rattle.node_core.specs.Fetching.{FetchesAllEntries, FetchesAllFrames, FramesInOrder};
+ghost use Rattle.node_core.specs.Runs.{ActsRun, BytesRun, InputsAreSteps, TicksRun};
+ghost use Rattle.node_core.specs.Laws.{InputsSettle, NothingLeftAfterInputs};
+
+/// What follows an input is a turn, and where that did something a turn again, until one does nothing: what is left to do falls
+/// with each turn that does something. And after an input nothing is left to be done.
+pub fn settles()
+    ensures settles { InputsSettle }
+    ensures nothing { NothingLeftAfterInputs }
+{
+    parts();
+}
+
+/// Each input of a node that is at rest is inputs of its circuits, each of them one that a run of sets may have: its new entries tell what these
+/// inputs tell, in their order, and it is at rest again. Its own call stays, and ends are made with one number after another.
+pub fn inputs_are_circuit_runs()
+    ensures bytes { BytesRun }
+    ensures ticks { TicksRun }
+    ensures acts { ActsRun }
+{
+    settles();
+}
+
+/// Inputs of the set at one node are steps of a run of several nodes' sets: they tell what they tell of that set alone, and change no other.
+pub fn inputs_are_steps()
+    ensures { InputsAreSteps }
+{}
+
+/// Frames and entries are fetched in their order, and where as many were fetched as there were none is left, and nothing else has changed.
+pub fn fetching_empties()
+    ensures order { FramesInOrder }
+    ensures frames { FetchesAllFrames }
+    ensures entries { FetchesAllEntries }
+{}
+
+/// What it rests on: a datagram that is handed down brings nothing up, a text that is taken leaves fewer payloads, which the code
+/// counts alike, and each thing that the circuits tell leaves less untold.
+pub(crate) fn parts()
+    ensures offers { OffersLeave }
+    ensures takes { TakesLower }
+    ensures kept { CountsPayloads }
+    ensures less { TellsLess }
+{
+    link_table::laws::payloads();
+    circuit_set::laws::telling_ends();
+}

@@ -1,0 +1,22 @@
+//! A NET/ROM node over AX.25 links: a pure machine, which reads no clock, no file and no socket.
+//!
+//! KISS bytes, ticks and acts of its user come in; frames and entries of what happened go out.
+#![tactic(auto)]
+
+mod acting;
+mod acts;
+mod broadcasts;
+mod config;
+mod entry;
+pub mod laws;
+mod node;
+mod receiving;
+mod rounds;
+mod settling;
+mod station;
+
+pub use acts::{ActDone, ActRefusal, UserAct};
+pub use broadcasts::broadcast_frame;
+pub use config::NodeConfig;
+pub use entry::NodeEntry;
+pub use node::Node;

@@ -1,0 +1,238 @@
+//! A whole node.
+ghost use Rattle.std.specs.Prelude.{◌≡◌, ◌<◌, ◌≤◌, ◌↔◌, ◌++◌, ◌∷◌, [], ℕ, List, min, IfOk, IfSome, IfErr, OnOk, OnErr, IsErr, IsErrOf, IsTrue, slice_get, take};
+ghost use Rattle.std.specs.Option.{option_map};
+ghost use Rattle.ax_link.specs.State.{count_end};
+ghost use Rattle.link_table.specs.Calls as calls;
+ghost use Rattle.link_table.specs.Standing.{NotNoMemory};
+ghost use Rattle.node_core.specs.Configs.{IsConfig, new_node};
+ghost use Rattle.kiss_framing.specs.Deframing as kiss;
+ghost use Rattle.node_core.specs.Inputs as inputs;
+ghost use Rattle.node_core.specs.Kept.{Takes};
+ghost use Rattle.node_core.specs.Standing.{IsDrained, StandsForSome};
+ghost use Rattle.node_core.specs.States as states;
+ghost use Rattle.node_core.specs.States.{NodeState};
+
+use crate::station::Station;
+use crate::{ActDone, ActRefusal, NodeConfig, NodeEntry, UserAct, laws};
+use ax_address::{Call, Path};
+use circuit_l4::EndFacts;
+use circuit_set::CircuitSet;
+use kiss_framing::Deframer;
+use link_table::{LinkTable, PathRefusal, Written};
+use radio_base::{COUNT_MAX, Moment, NoMemory};
+use route_table::RouteTable;
+use std::alloc::Global;
+use std::marker::Model;
+
+/// A NET/ROM node over AX.25 links: a pure machine.
+///
+/// How to drive it: hand it the KISS bytes as they come, in pieces of any size (`kiss_bytes`), the time about once a second
+/// (`tick`), and what its user does (`act`), each with its moment in milliseconds. After each of them fetch the frames that
+/// are to be sent (`next_frame`) and what it has to tell (`trace_entry`), both until None.
+///
+/// Once it has answered NoMemory it is spent, and answers that ever after.
+#[derive(Drop)]
+pub struct Node {
+    deframer: Deframer,
+    station: Station,
+    spent: bool,
+}
+
+impl Model for Node {
+    ghost use Rattle.std.specs.Prelude.{◌≡◌, false};
+    ghost use Rattle.std.specs.Coded.{codes};
+    ghost use Rattle.indexmap.specs.Layout.{hash_map_code};
+    ghost use Rattle.node_core.specs.Kept.{IsSound, Kept, kept};
+
+    ghost Value = { Kept };
+
+    ghost coded = { Prim.hlevel (codes, hash_map_code) };
+
+    ghost view = { λ n. kept n.deframer n.station n.spent };
+
+    ghost invariant = { λ n. n.spent ≡ false → IsSound (kept n.deframer n.station n.spent) };
+}
+
+impl Node {
+    ghost use Rattle.circuit_set.specs.CircuitSets.{facts_at};
+    ghost use Rattle.circuit_set.specs.Sets as sets;
+    ghost use Rattle.node_core.specs.Standing.{IsAnswer, entry_of};
+    ghost use Rattle.node_core.specs.Kept.{NodeGoes, NodeStands, circuits_of, entries_left, frames_left};
+    ghost use Rattle.node_core.specs.declared.acts.ActRefusal.TheVariants as refusals;
+    ghost use Rattle.link_table.specs.declared.path_refusal.PathRefusal.TheVariants as path_refusals;
+
+    /// A node without links, circuits and routes. The conditions on its settings are those of its parts, and that `prompt` is
+    /// false.
+    pub fn new(alloc: Global, config: NodeConfig) -> Result<Node, NoMemory>
+        requires { IsConfig config }
+        ensures { IfOk result (λ node. NodeStands node (new_node config)) }
+    {
+        let station = Station::new(alloc, &config)?;
+        Ok(Node {
+            deframer: Deframer::new(),
+            station,
+            spent: false,
+        })
+    }
+
+    /// Sets the repeaters over which a peer is reached, in the place of those before. It is refused, in this order: `TooLong`
+    /// where there are more than two, `Full` where 16 other peers have some. A refusal but `NoMemory` changes nothing.
+    pub fn set_path(&mut self, peer: &Call, path: &Path) -> Result<(), PathRefusal>
+        ensures goes { OnOk result (NodeGoes (λ n. record n { station = states.at_links (calls.with_path peer.now path.now) n.station }) self.old self.new) }
+        ensures answer { NotNoMemory result → (n : NodeState) → NodeStands self.old n → result ≡ calls.path_answer peer.now path.now n.station.links }
+        ensures err { OnErr result (NotNoMemory result → self.new ≡ self.old) }
+        ensures memory { IsErrOf result path_refusals.NoMemory ↔ IsTrue self.new.spent }
+        ensures spent { IsTrue self.old.spent → self.new ≡ self.old }
+    {
+        if self.spent {
+            return Err(PathRefusal::NoMemory);
+        }
+        let outcome = self
+            .station
+            .set
+            .router_mut()
+            .carrier_mut()
+            .set_path(peer, path);
+        self.spent = outcome == Err(PathRefusal::NoMemory);
+        outcome
+    }
+
+    /// Takes in KISS bytes. Each item that they complete is one input.
+    pub fn kiss_bytes(&mut self, bytes: &[u8], now: Moment) -> Result<(), NoMemory>
+        ensures goes { OnOk result (NodeGoes (inputs.after_bytes now.0 bytes.now) self.old self.new) }
+        ensures memory { IsErr result ↔ IsTrue self.new.spent }
+        ensures spent { IsTrue self.old.spent → self.new ≡ self.old }
+    {
+        if self.spent {
+            return Err(NoMemory);
+        }
+        self.spent = true;
+        laws::settles();
+        take_bytes(&mut self.deframer, &mut self.station, bytes, moment(now))?;
+        self.spent = false;
+        Ok(())
+    }
+
+    /// Time has passed.
+    pub fn tick(&mut self, now: Moment) -> Result<(), NoMemory>
+        ensures goes { OnOk result (NodeGoes (inputs.after_tick now.0) self.old self.new) }
+        ensures memory { IsErr result ↔ IsTrue self.new.spent }
+        ensures spent { IsTrue self.old.spent → self.new ≡ self.old }
+    {
+        if self.spent {
+            return Err(NoMemory);
+        }
+        self.spent = true;
+        laws::settles();
+        let now = moment(now);
+        self.station.tick(now)?;
+        self.station.settle(now)?;
+        self.spent = false;
+        Ok(())
+    }
+
+    /// Does what the user wants, or tells why not.
+    pub fn act(&mut self, act: &UserAct, now: Moment) -> Result<ActDone, ActRefusal>
+        ensures answer { IsAnswer result → (n : NodeState) → NodeStands self.old n → result ≡ inputs.act_answer now.0 act.now n }
+        ensures goes { IsAnswer result → NodeGoes (inputs.after_act now.0 act.now) self.old self.new }
+        ensures memory { IsErrOf result refusals.NoMemory ↔ IsTrue self.new.spent }
+        ensures spent { IsTrue self.old.spent → self.new ≡ self.old }
+    {
+        if self.spent {
+            return Err(ActRefusal::NoMemory);
+        }
+        self.spent = true;
+        laws::settles();
+        let outcome = self.station.act(act, moment(now));
+        self.spent = outcome == Err(ActRefusal::NoMemory);
+        outcome
+    }
+
+    /// The next frame to be sent, and how its octets were written: the oldest one. None where none waits.
+    pub fn next_frame(&mut self) -> Option<Written>
+        ensures answer { (n : NodeState) → NodeStands self.old n → result ≡ slice_get (states.frames n.station) 0 }
+        ensures goes { NodeGoes (λ n. record n { station = states.fetch_frame n.station }) self.old self.new }
+        ensures left { IfSome result (λ _. frames_left self.new < frames_left self.old) }
+    {
+        self.station.next_frame()
+    }
+
+    /// The next thing that it has to tell, the oldest one. None where there is none.
+    pub fn trace_entry(&mut self) -> Option<NodeEntry>
+        ensures answer { (n : NodeState) → NodeStands self.old n → option_map entry_of result ≡ slice_get n.station.entries 0 }
+        ensures goes { NodeGoes (λ n. record n { station = states.fetch_entry n.station }) self.old self.new }
+        ensures left { IfSome result (λ _. entries_left self.new < entries_left self.old) }
+    {
+        self.station.entries.pop_front()
+    }
+
+    /// The routing table.
+    pub fn routes(&self) -> &RouteTable
+        ensures { result.now ≡ (circuits_of self.now).router.table }
+    {
+        self.station.set.router().table()
+    }
+
+    /// What an end tells of itself: none where no end of that number is held.
+    pub fn facts(&self, id: u64) -> Option<EndFacts>
+        ensures { (n : NodeState) → NodeStands self.now n → result ≡ facts_at (sets.end_of id n.station.set.set.ends) }
+    {
+        self.station.set.facts(id)
+    }
+
+    /// The circuits, and with them the router, its routing table and the links.
+    pub fn circuits(&self) -> &CircuitSet<LinkTable>
+        ensures { result.now ≡ circuits_of self.now }
+    {
+        &self.station.set
+    }
+}
+
+/// Takes in KISS bytes: each item that they complete is taken and settled before the next.
+fn take_bytes(
+    deframer: &mut Deframer,
+    station: &mut Station,
+    bytes: &[u8],
+    now: Moment,
+) -> Result<(), NoMemory>
+    requires { StandsForSome station.old }
+    ensures fed { OnOk result ((stream : List ℕ) → kiss.StandsFor deframer.old stream → kiss.StandsFor deframer.new (stream ++ bytes.now)) }
+    ensures taken { OnOk result ((stream : List ℕ) → kiss.StandsFor deframer.old stream → Takes now.0 station.old station.new stream bytes.now) }
+    ensures drained { OnOk result (IsDrained station.old → IsDrained station.new) }
+{
+    for byte in bytes {
+        take_byte(deframer, station, *byte, now)?;
+    }
+    Ok(())
+}
+
+/// Takes in a KISS byte, and the item that it ends, if it ends one.
+fn take_byte(
+    deframer: &mut Deframer,
+    station: &mut Station,
+    byte: u8,
+    now: Moment,
+) -> Result<(), NoMemory>
+    requires { StandsForSome station.old }
+    ensures fed { OnOk result ((stream : List ℕ) → kiss.StandsFor deframer.old stream → kiss.StandsFor deframer.new (stream ++ byte ∷ [])) }
+    ensures taken { OnOk result ((stream : List ℕ) → kiss.StandsFor deframer.old stream → Takes now.0 station.old station.new stream (byte ∷ [])) }
+    ensures drained { OnOk result (IsDrained station.old → IsDrained station.new) }
+    ensures some { OnOk result (StandsForSome station.new) }
+{
+    match deframer.feed(byte) {
+        Some(item) => {
+            station.take_item(&item, now)?;
+            station.settle(now)?;
+            Ok(())
+        }
+        None => Ok(()),
+    }
+}
+
+/// A moment above 2^62 ms counts as 2^62 ms.
+fn moment(now: Moment) -> Moment
+    ensures value { result.0 ≡ inputs.moment now.0 }
+    ensures most { result.0 ≤ count_end }
+{
+    Moment(now.0.min(COUNT_MAX))
+}

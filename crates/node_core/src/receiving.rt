@@ -1,0 +1,231 @@
+//! What comes in: KISS items, and the frames in them.
+ghost use Rattle.std.specs.Prelude.{◌≡◌, ◌≤◌, OnOk, bit_or, length, slice_index, slice_set, MatchResult, Ok, Err, if◌then◌else◌};
+ghost use Rattle.std.specs.List.{prefix_len};
+ghost use Rattle.ax_frame.specs.Frames.{view};
+ghost use Rattle.ax_frame.specs.Read.{read_at};
+ghost use Rattle.digi_path.specs.Paths.{action, has_repeated};
+ghost use Rattle.kiss_framing.specs.Feeding.{IsSmall};
+ghost use Rattle.nodes_broadcast.specs.Reading.{nodes_at};
+ghost use Rattle.route_table.specs.Log.{broadcast};
+ghost use Rattle.node_core.specs.Links as links;
+ghost use Rattle.node_core.specs.Receiving as receiving;
+ghost use Rattle.node_core.specs.States as states;
+ghost use Rattle.node_core.specs.States.{State};
+
+use crate::NodeEntry;
+use crate::broadcasts::is_broadcast;
+use crate::station::Station;
+use ax_address::{Address, Alias, Call, Entry};
+use ax_frame::{FrameBytes, FrameRefusal, FrameView, Head, read_frame, read_head};
+use digi_path::{DigiStep, step};
+use kiss_framing::KissItem;
+use link_table::{Written, WrittenAs};
+use nodes_broadcast::read_nodes;
+use radio_base::{M8, M128, Moment, NoMemory};
+use route_table::HeardRefusal;
+
+/// How many octets stand before the repeaters, and how many each address has.
+const REPEATERS_AT: usize = 14;
+
+const ADDRESS_LEN: usize = 7;
+/// The octet of a repeater's address, from 0, that has its H bit, and that bit.
+const LAST_OCTET: usize = 6;
+
+const H_BIT: u8 = 0x80;
+
+impl Station {
+    ghost use Rattle.node_core.specs.Standing.{Goes, Holds, item_of};
+
+    /// Takes in a KISS item: a node takes data on port 0.
+    pub(crate) fn take_item(&mut self, item: &KissItem<'_>, now: Moment) -> Result<(), NoMemory>
+        requires { IsSmall item.now }
+        ensures { OnOk result (Goes (receiving.take_item now.0 (item_of item.now)) self.old self.new) }
+    {
+        match item {
+            KissItem::Frame {
+                port: 0,
+                command: 0,
+                payload,
+            } => self.take_octets(payload, now),
+            _ => Ok(()),
+        }
+    }
+
+    /// Takes in a frame, in octets. One that can't be read is dropped.
+    fn take_octets(&mut self, octets: &[u8], now: Moment) -> Result<(), NoMemory>
+        requires { length octets.now ≤ 1023 }
+        ensures { OnOk result (Goes (receiving.take_octets now.0 octets.now) self.old self.new) }
+    {
+        match read_head(octets) {
+            Ok((head, _)) => {
+                self.take_from(&head, octets, now)?;
+                Ok(())
+            }
+            Err(_) => Ok(()),
+        }
+    }
+
+    /// Takes in a frame by its addresses. One of this node itself is dropped.
+    fn take_from(&mut self, head: &Head, octets: &[u8], now: Moment) -> Result<(), NoMemory>
+        requires { length octets.now ≤ 1023 }
+        ensures { OnOk result (Goes (receiving.take_from now.0 octets.now head.now) self.old self.new) }
+    {
+        let own = self.call();
+        if head.source.call == own {
+            return Ok(());
+        }
+        self.take_by_path(head, &own, octets, now)?;
+        Ok(())
+    }
+
+    /// Takes in a frame of another station by its path.
+    fn take_by_path(
+        &mut self,
+        head: &Head,
+        own: &Call,
+        octets: &[u8],
+        now: Moment,
+    ) -> Result<(), NoMemory>
+        requires { length octets.now ≤ 1023 }
+        ensures { OnOk result (Goes (receiving.take_by_path now.0 octets.now head.now (action head.now.path.items head.now.dest.call own.now)) self.old self.new) }
+    {
+        match step(&head.path, &head.dest.call, own) {
+            DigiStep::Repeat(_) => self.repeat(head.path.as_slice(), octets)?,
+            DigiStep::NotYet => {}
+            DigiStep::ForMe => self.take_heard(&head.source.call, true, octets, now)?,
+            DigiStep::Heard => self.take_heard(&head.source.call, false, octets, now)?,
+        }
+        Ok(())
+    }
+
+    /// Repeats a frame: the same octets, with the H bit of this node set.
+    fn repeat(&mut self, path: &[Address], octets: &[u8]) -> Result<(), NoMemory>
+        requires { length octets.now ≤ 1023 }
+        ensures { OnOk result (Goes (states.put (receiving.repeated_frame path.now octets.now)) self.old self.new) }
+    {
+        let octets = with_h_bit(octets, h_octet(path));
+        self.put(Written {
+            octets,
+            how: WrittenAs::AsItCame,
+        })?;
+        Ok(())
+    }
+
+    /// Takes in a frame that no repeater has to repeat any more, by the modulus of the link with its source.
+    fn take_heard(
+        &mut self,
+        source: &Call,
+        mine: bool,
+        octets: &[u8],
+        now: Moment,
+    ) -> Result<(), NoMemory>
+        ensures { OnOk result (Goes (λ n. receiving.take_frame now.0 mine (read_at (receiving.modulus_with source.now n) octets.now) n) self.old self.new) }
+    {
+        match read_by(self.is_128(source), octets) {
+            Ok(frame) => {
+                self.take_frame(&frame, mine, now)?;
+                Ok(())
+            }
+            Err(_) => Ok(()),
+        }
+    }
+
+    /// Whether the link with a peer is of modulo 128.
+    fn is_128(&self, peer: &Call) -> bool
+        ensures { (n : State) → Holds self.now n → result ≡ links.is_128 peer.now n.links }
+    {
+        self.set.router().carrier().is_128(peer)
+    }
+
+    /// A broadcast is heard, and another frame to this node goes to its links.
+    fn take_frame(&mut self, frame: &FrameView<'_>, mine: bool, now: Moment) -> Result<(), NoMemory>
+        ensures { OnOk result (Goes (receiving.take_frame now.0 mine (Ok (view frame.now))) self.old self.new) }
+    {
+        if is_broadcast(frame) {
+            self.take_broadcast(frame)?;
+        } else if mine {
+            self.arrive(frame, now)?;
+        }
+        Ok(())
+    }
+
+    /// Hands a frame to this node to its links.
+    fn arrive(&mut self, frame: &FrameView<'_>, now: Moment) -> Result<(), NoMemory>
+        ensures { OnOk result (Goes (states.at_links (links.arrive (view frame.now) now.0)) self.old self.new) }
+    {
+        self.set.router_mut().carrier_mut().arrive(frame, now)?;
+        Ok(())
+    }
+
+    /// Hears a broadcast; one that can't be read is dropped.
+    fn take_broadcast(&mut self, frame: &FrameView<'_>) -> Result<(), NoMemory>
+        ensures { OnOk result (Goes (receiving.hear frame.now.head.source.call (nodes_at frame.now.info.now)) self.old self.new) }
+    {
+        match read_nodes(frame.info) {
+            Ok(nodes) => {
+                let source = &frame.head.source.call;
+                self.hear(source, &nodes.alias, nodes.entries.as_slice())?;
+                Ok(())
+            }
+            Err(_) => Ok(()),
+        }
+    }
+
+    /// Takes in what a neighbour has broadcast, or tells that there is no room for it.
+    fn hear(&mut self, source: &Call, alias: &Alias, reported: &[Entry]) -> Result<(), NoMemory>
+        requires { length reported.now ≤ 11 }
+        ensures { OnOk result (Goes (λ n. receiving.take_in (broadcast n.settings.call source.now alias.now n.settings.path_quality reported.now) n) self.old self.new) }
+    {
+        let path_quality = self.path_quality;
+        let table = self.set.router_mut().table_mut();
+        match table.heard(source, alias, path_quality, reported) {
+            Ok(()) => Ok(()),
+            Err(HeardRefusal::TableFull { live, would_be }) => {
+                self.entries
+                    .push_back(NodeEntry::Overflow { live, would_be })?;
+                Ok(())
+            }
+            Err(HeardRefusal::NoMemory) => Err(NoMemory),
+        }
+    }
+}
+
+/// The octet with the H bit of the first repeater that hasn't repeated the frame.
+fn h_octet(path: &[Address]) -> usize
+    ensures { result ≡ receiving.h_octet (prefix_len has_repeated path.now) }
+{
+    REPEATERS_AT + ADDRESS_LEN * times_repeated(path) + LAST_OCTET
+}
+
+/// How many repeaters at the front have repeated the frame.
+fn times_repeated(path: &[Address]) -> usize
+    ensures value { result ≡ prefix_len has_repeated path.now }
+    ensures bound { result ≤ length path.now }
+{
+    path.iter().take_while(|repeater| repeater.bit7).count()
+}
+
+/// These octets, with the H bit set in one of them.
+fn with_h_bit(octets: &[u8], at: usize) -> FrameBytes
+    requires { length octets.now ≤ 1023 }
+    ensures { result.items ≡ slice_set octets.now at (bit_or (slice_index octets.now at) 0x80) }
+{
+    let mut repeated = FrameBytes::new();
+    let _ = repeated.try_extend_from_slice(octets);
+    if at < octets.len() {
+        repeated[at] = octets[at] | H_BIT;
+    }
+    repeated
+}
+
+/// The frame of these octets, with sequence numbers modulo 128 or modulo 8.
+fn read_by(is_128: bool, octets: &[u8]) -> Result<FrameView<'_>, FrameRefusal>
+    ensures { let size = (if is_128 then 128 else 8) in
+        MatchResult result (λ v. read_at size octets.now ≡ Ok (view v)) (λ e. read_at size octets.now ≡ Err e) }
+{
+    if is_128 {
+        read_frame::<M128>(octets)
+    } else {
+        read_frame::<M8>(octets)
+    }
+}

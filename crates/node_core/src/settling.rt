@@ -1,0 +1,123 @@
+//! What follows an input: the notices of the links are entered, the circuits are pumped, the texts of links are dropped; and
+//! again while any of these did something.
+ghost use Rattle.std.specs.Prelude.{◌≡◌, ◌<◌, IfOk, IfSome, OnOk, length, slice_get};
+ghost use Rattle.link_table.specs.Calls as calls;
+ghost use Rattle.node_core.specs.Links as links;
+ghost use Rattle.node_core.specs.Pumping as pumping;
+ghost use Rattle.node_core.specs.Settling as settling;
+ghost use Rattle.node_core.specs.States as states;
+ghost use Rattle.node_core.specs.States.{State};
+
+use crate::station::Station;
+use crate::{NodeEntry, laws};
+use ax_address::Call;
+use ax_link::LinkNotice;
+use l3_datagram::Message;
+use radio_base::{Moment, NoMemory};
+
+impl Station {
+    ghost use Rattle.node_core.specs.Standing.{Did, Goes, Holds, IsDrained, StandsForSome};
+
+    /// All that follows an input.
+    pub(crate) fn settle(&mut self, now: Moment) -> Result<(), NoMemory>
+        requires { StandsForSome self.old }
+        ensures goes { OnOk result (Goes (settling.after_input now.0) self.old self.new) }
+        ensures drained { OnOk result (IsDrained self.new) }
+    {
+        laws::parts();
+        if !self.turn(now)? {
+            return Ok(());
+        }
+        while self.turn(now)? {}
+        Ok(())
+    }
+
+    /// Each of the three parts once. Whether any of them did something.
+    fn turn(&mut self, now: Moment) -> Result<bool, NoMemory>
+        requires { StandsForSome self.old }
+        ensures did { IfOk result (Did (λ n. (settling.turn now.0 n).did) self.old) }
+        ensures goes { OnOk result (Goes (λ n. (settling.turn now.0 n).after) self.old self.new) }
+        ensures drained { OnOk result (IsDrained self.new) }
+    {
+        let noticed = self.enter_notices()?;
+        let told = self.pump(now)?;
+        let dropped = self.drop_texts(now)?;
+        Ok(noticed | told | dropped)
+    }
+
+    /// Enters what happened at the links. Whether anything did.
+    fn enter_notices(&mut self) -> Result<bool, NoMemory>
+        ensures did { IfOk result (Did (λ n. settling.has_some n.links.pending.notices) self.old) }
+        ensures goes { OnOk result (Goes settling.enter_notices self.old self.new) }
+    {
+        let before = self.entries.len();
+        while let Some(told) = self.next_notice() {
+            self.entries.push_back(NodeEntry::Link(told.0, told.1))?;
+        }
+        Ok(before < self.entries.len())
+    }
+
+    /// The next notice of its links.
+    fn next_notice(&mut self) -> Option<(Call, LinkNotice)>
+        ensures answer { (n : State) → Holds self.old n → result ≡ slice_get n.links.pending.notices 0 }
+        ensures goes { Goes (states.at_links calls.notice) self.old self.new }
+        ensures left { IfSome result (λ _. length self.new.set.router.carrier.notices < length self.old.set.router.carrier.notices) }
+        ensures same { self.new ≡ record self.old { set = self.new.set } }
+    {
+        self.set.router_mut().carrier_mut().notice()
+    }
+
+    /// Pumps the circuits until they tell nothing more. Whether they told anything.
+    fn pump(&mut self, now: Moment) -> Result<bool, NoMemory>
+        ensures did { IfOk result (Did (λ n. settling.has_told n (pumping.pump now.0 n)) self.old) }
+        ensures goes { OnOk result (Goes (pumping.pump now.0) self.old self.new) }
+        ensures drained { OnOk result (IsDrained self.new) }
+    {
+        laws::parts();
+        let before = self.entries.len();
+        while let Some(event) = self.set.pump(now)? {
+            self.entries.push_back(NodeEntry::Set(event))?;
+        }
+        Ok(before < self.entries.len())
+    }
+
+    /// Takes each text that waits at a link and drops it, link by link, since nobody reads it. Whether any waited.
+    fn drop_texts(&mut self, now: Moment) -> Result<bool, NoMemory>
+        requires { StandsForSome self.old }
+        ensures did { IfOk result (Did (λ n. (settling.drop_text now.0 n).did) self.old) }
+        ensures goes { OnOk result (Goes (settling.drop_texts now.0) self.old self.new) }
+        ensures drained { OnOk result (IsDrained self.old → IsDrained self.new) }
+    {
+        laws::parts();
+        if !self.drop_text(now)? {
+            return Ok(false);
+        }
+        while self.drop_text(now)? {}
+        Ok(true)
+    }
+
+    /// Takes the first text that waits at a link and drops it. Whether one waited.
+    fn drop_text(&mut self, now: Moment) -> Result<bool, NoMemory>
+        ensures did { IfOk result (Did (λ n. (settling.drop_text now.0 n).did) self.old) }
+        ensures goes { OnOk result (Goes (λ n. (settling.drop_text now.0 n).after) self.old self.new) }
+        ensures drained { OnOk result (IsDrained self.old → IsDrained self.new) }
+    {
+        match self.first_text() {
+            Some(peer) => {
+                let mut text = Message::new();
+                let links = self.set.router_mut().carrier_mut();
+                let taken = links.take_text(&peer, &mut text, now)?;
+                Ok(taken)
+            }
+            None => Ok(false),
+        }
+    }
+
+    /// The first peer at whose link a text waits.
+    #[tactic(auto, unfolding(crate::specs::Links::text_peers))]
+    fn first_text(&self) -> Option<Call>
+        ensures { (n : State) → Holds self.now n → result ≡ slice_get (links.text_peers n.links) 0 }
+    {
+        self.set.router().carrier().texts().first().copied()
+    }
+}
