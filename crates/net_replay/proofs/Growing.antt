@@ -1,120 +1,251 @@
 -- The frames in the air only become more.
-use Rattle.std.proofs.Common.{◌≡◌, ◌<◌, ◌≤◌, ◌+◌, ◌-◌, ℕ, zero, suc, refl, ap, List, [], ◌∷◌, length, map, filter, arith, Bool, true, false, cond}
-use Rattle.std.specs.Prelude.{Option, Some, None, slice_get}
-use Rattle.std.specs.List.{range_with_len}
+use Rattle.std.proofs.Common.{◌≡◌, ◌<◌, ◌≤◌, ◌+◌, ◌-◌, ◌++◌, ℕ, zero, suc, refl, ap, ◌∙◌, List, [], ◌∷◌, length, filter, arith, add-one, Bool, true, false, cond}
+use Rattle.std.specs.Prelude.{Option, Some, None, Result, Ok, Err, slice_get}
+use Rattle.std.specs.Fmt.{decimal}
+use Rattle.std.specs.List.{AllByRecursion, range_with_len}
 use Rattle.std.proofs.lemmas.List.{length-append}
 use Rattle.nodes_broadcast.specs.Nodes.{view}
-use Rattle.network_file.specs.declared.plan.instructions.Instruction.{Instruction}
-use Rattle.network_file.specs.declared.plan.instructions.Instruction.TheVariants as acts
-use Rattle.net_replay.specs.declared.air.Aired.{Aired}
-use Rattle.network_file.specs.declared.plan.channels.Channel.{Channel}
-use Rattle.network_file.specs.declared.network.NumberedInstruction.{NumberedInstruction}
-use Rattle.net_replay.specs.declared.reasons.LineRefusal.{LineRefusal}
+use Rattle.circuit_l4.specs.declared.transport.Pair.{Pair}
 use Rattle.network_file.specs.Channels.{hearers}
-use Rattle.net_replay.specs.Air.{in_air, frame_of, oldest, delivery_fault, lost_fault}
-use Rattle.net_replay.specs.Nodes.{NodeState, Input, Bytes, Round, Failure, Lock, reacts, broadcast_octets}
-use Rattle.net_replay.specs.World.{World, node_in, aired, reached, reaches, goes_to, settles, delivers, spreads, flows, cuts, shows, unless_refused, does, after_acts, kiss_bytes}
+use Rattle.network_file.specs.Plan.{Plan}
+use Rattle.network_file.specs.declared.network.NumberedInstruction.{NumberedInstruction}
+use Rattle.network_file.specs.declared.plan.channels.Channel.{Channel}
+use Rattle.network_file.specs.declared.plan.instructions.Instruction.{Instruction}
+use Rattle.network_file.specs.declared.plan.instructions.Instruction.TheVariants as instructions
+use Rattle.node_core.specs.Broadcasts.{broadcast_octets}
+use Rattle.node_core.specs.declared.acts.ActDone.{ActDone}
+use Rattle.node_core.specs.declared.acts.ActRefusal.{ActRefusal}
+use Rattle.node_core.specs.declared.acts.UserAct.{UserAct}
+use Rattle.node_core.specs.declared.acts.UserAct.TheVariants as acts
+use Rattle.net_replay.specs.declared.air.Aired.{Aired}
+use Rattle.net_replay.specs.declared.reasons.LineRefusal.{LineRefusal}
+use Rattle.net_replay.specs.Air.{delivery_fault, frame_of, lost_fault, oldest, settled_at}
+use Rattle.net_replay.specs.CircuitRuns.{IsLine}
+use Rattle.net_replay.specs.Events.{Delivered, Event, Wrote}
+use Rattle.net_replay.specs.Lines.{all_wrote, burst_by, burst_from, cut, deliver_all, deliver_at, deliver_of, do_act, do_line, do_lines, flow, hear, kiss_bytes, message_of, refusal_events, restart_of, said_of, settle, spread, spread_of, tick_from, tick_node, told_of, took_of, unless_refused, write}
+use Rattle.net_replay.specs.Refused.{of_act}
+use Rattle.net_replay.specs.Starting.{Placed}
+use Rattle.net_replay.specs.World.{Act, Bytes, Input, Time, World, aired, answer, place_of, put, put_of, reach, reaches, tell}
 use Rattle.net_replay.proofs.Oldest.{length-settled_at}
 
-reaches_grows : (channels : List Channel) (line node : ℕ) (input : Input) (w : World) (n : Option NodeState) → length w.air ≤ length (reaches channels line node input w n).air
-reaches_grows channels line node input w None = omega arith
-reaches_grows channels line node input w (Some n) = omega (arith, length-append w.air (map (in_air node) (aired channels node (reacts n input))))
+-- ---- the moves
 
-pub reached_grows : (channels : List Channel) (line node : ℕ) (input : Input) (w : World) → length w.air ≤ length (reached channels line node input w).air
-unfolding reached
-reached_grows channels line node input w = reaches_grows channels line node input w (node_in node w.nodes)
+reaches_stays : (line at : ℕ) (input : Input) (o : Option Placed) (w : World) → (reaches line at input o w).air ≡ w.air
+reaches_stays line at input None w = refl
+reaches_stays line at input (Some p) w = refl
 
-pub goes_to_grows : (channels : List Channel) (line : ℕ) (bytes nodes : List ℕ) (w : World) → length w.air ≤ length (goes_to channels line bytes nodes w).air
-goes_to_grows channels line bytes [] w = omega arith
-goes_to_grows channels line bytes (node ∷ more) w =
-    let first = reached_grows channels line node (Bytes bytes) w in
-    let rest = goes_to_grows channels line bytes more (reached channels line node (Bytes bytes) w) in
-    omega (arith, first, rest)
+pub reach_stays : (line at : ℕ) (input : Input) (w : World) → (reach line at input w).air ≡ w.air
+unfolding reach
+reach_stays line at input w = reaches_stays line at input (slice_get w.nodes at) w
 
-pub spreads_grows : (channels : List Channel) (line at : ℕ) (f : Option Aired) (w : World) → length w.air ≤ length (spreads channels line f (settles at w)).air
-spreads_grows channels line at None w = omega (arith, length-settled_at w.air at)
-spreads_grows channels line at (Some f) w = omega (arith, length-settled_at w.air at, goes_to_grows channels line (kiss_bytes f.octets) (hearers channels f.sender) (settles at w))
+put_of_grows : (channels : List Channel) (line at : ℕ) (came128 : Bool) (o : Option Placed) (w : World) → length w.air ≤ length (put_of channels line at came128 o w).air
+put_of_grows channels line at came128 None w = omega arith
+put_of_grows channels line at came128 (Some p) w = omega (arith, length-append w.air (aired channels came128 p))
 
-abbrev flows_from : List Channel → ℕ → ℕ → World → Option ℕ → World
-flows_from channels line count w o = elim o [ None ↦ w | Some at ↦ flows channels line count (spreads channels line (slice_get (settles at w).air at) (settles at w)) ]
+pub put_grows : (channels : List Channel) (line at : ℕ) (came128 : Bool) (w : World) → length w.air ≤ length (put channels line at came128 w).air
+unfolding put
+put_grows channels line at came128 w = put_of_grows channels line at came128 (slice_get w.nodes at) w
 
-flows_from_grows : (channels : List Channel) (line count : ℕ) (w : World) (o : Option ℕ) → ((v : World) → length v.air ≤ length (flows channels line count v).air) → length w.air ≤ length (flows_from channels line count w o).air
-flows_from_grows channels line count w None rest = omega arith
-flows_from_grows channels line count w (Some at) rest =
-    let first = spreads_grows channels line at (slice_get (settles at w).air at) w in
-    let more = rest (spreads channels line (slice_get (settles at w).air at) (settles at w)) in
+-- something reaches a node, something is told, and its frames are put in the air
+reach_put : (channels : List Channel) (line at : ℕ) (input : Input) (came128 : Bool) (w v : World) → v.air ≡ (reach line at input w).air
+    → length w.air ≤ length (put channels line at came128 v).air
+reach_put channels line at input came128 w v same =
+    let air : v.air ≡ w.air = same ∙ reach_stays line at input w in
+    let more = put_grows channels line at came128 v in
+    let count = ap (λ (air : List Aired). length air) air in
+    omega (arith, more, count)
+
+-- ---- lines at one node
+
+hear_grows : (channels : List Channel) (line number : ℕ) (bytes : List ℕ) (modulo128 : Bool) (w : World) → length w.air ≤ length (hear channels line number bytes modulo128 w).air
+hear_grows channels line number bytes modulo128 w =
+    reach_put channels line (place_of number w.nodes) (Bytes bytes) modulo128 w (reach line (place_of number w.nodes) (Bytes bytes) w) refl
+
+act_grows : (channels : List Channel) (line number : ℕ) (act : UserAct) (told : Result ActDone ActRefusal → List Event) (w : World)
+    → length w.air ≤ length (do_act channels line number act told w).air
+act_grows channels line number act told w = reach_put channels line (place_of number w.nodes) (Act act) false w _ refl
+
+pub tick_node_grows : (channels : List Channel) (line at : ℕ) (w : World) → length w.air ≤ length (tick_node channels line at w).air
+tick_node_grows channels line at w = reach_put channels line at Time false w (reach line at Time w) refl
+
+pub ticks_grow : (channels : List Channel) (line at count : ℕ) (w : World) → length w.air ≤ length (tick_from channels line at count w).air
+ticks_grow channels line at zero w = omega arith
+ticks_grow channels line at (suc count) w =
+    let first = tick_node_grows channels line at w in
+    let more = ticks_grow channels line (suc at) count (tick_node channels line at w) in
     omega (arith, first, more)
 
-pub flows_grows : (channels : List Channel) (line count : ℕ) (w : World) → length w.air ≤ length (flows channels line count w).air
-flows_grows channels line zero w = omega arith
-flows_grows channels line (suc count) w = flows_from_grows channels line count w (oldest w.air) (flows_grows channels line count)
+burst_by_grows : (channels : List Channel) (line at node end nth more : ℕ) (r : Result ActDone ActRefusal) (later : World → World) (w v : World)
+    → ((u : World) → length u.air ≤ length (later u).air) → v.air ≡ w.air → length w.air ≤ length (burst_by channels line at node end nth more r later v).air
+burst_by_grows channels line at node end nth more (Ok _) later w v grows same =
+    let u : World = tell line (all_wrote node end nth more) v in
+    let first = put_grows channels line at false u in
+    let rest = grows (put channels line at false u) in
+    let count = ap (λ (air : List Aired). length air) same in
+    omega (arith, first, rest, count)
+burst_by_grows channels line at node end nth more (Err why) later w v grows same =
+    let first = put_grows channels line at false (tell line (Wrote node end (nth - 1) ∷ refusal_events (of_act why)) v) in
+    let count = ap (λ (air : List Aired). length air) same in
+    omega (arith, first, count)
 
-abbrev cuts_from : ℕ → World → Option ℕ → World
-cuts_from count w o = elim o [ None ↦ w | Some at ↦ cuts count (settles at w) ]
+pub burst_grows : (channels : List Channel) (line at node end nth more : ℕ) (w : World) → length w.air ≤ length (burst_from channels line at node end nth more w).air
+unfolding burst_from
+burst_grows channels line at node end nth zero w = omega arith
+burst_grows channels line at node end nth (suc more) w =
+    let act : UserAct = write end (decimal nth) in
+    burst_by_grows channels line at node end nth more (answer at act w) (burst_from channels line at node end (nth + 1) more) w (reach line at (Act act) w)
+    (burst_grows channels line at node end (nth + 1) more) (reach_stays line at (Act act) w)
 
-cuts_from_grows : (count : ℕ) (w : World) (o : Option ℕ) → ((v : World) → length v.air ≤ length (cuts count v).air) → length w.air ≤ length (cuts_from count w o).air
-cuts_from_grows count w None rest = omega arith
-cuts_from_grows count w (Some at) rest = let more = rest (settles at w) in omega (arith, more, length-settled_at w.air at)
+restart_grows : (plan : Plan) (line at : ℕ) (pair : Pair) (o : Option Placed) (w : World) → length w.air ≤ length (restart_of plan line at pair o w).air
+restart_grows plan line at pair None w = omega arith
+restart_grows plan line at pair (Some p) w = omega arith
 
-cuts_grows : (count : ℕ) (w : World) → length w.air ≤ length (cuts count w).air
-cuts_grows zero w = omega arith
-cuts_grows (suc count) w = cuts_from_grows count w (oldest w.air) (cuts_grows count)
+-- ---- lines on frames
+
+deliver_of_grows : (channels : List Channel) (line at node : ℕ) (f : Option Aired) (w : World) → length w.air ≤ length (deliver_of channels line at node f w).air
+deliver_of_grows channels line at node None w = omega arith
+deliver_of_grows channels line at node (Some f) w = hear_grows channels line node (kiss_bytes f.octets) f.modulo128 (tell line (Delivered (at + 1) node ∷ []) w)
+
+pub deliver_grows : (channels : List Channel) (line at node : ℕ) (w : World) → length w.air ≤ length (deliver_at channels line at node w).air
+unfolding deliver_at
+deliver_grows channels line at node w = deliver_of_grows channels line at node (slice_get w.air at) w
+
+pub all_grows : (channels : List Channel) (line at : ℕ) (nodes : List ℕ) (w : World) → length w.air ≤ length (deliver_all channels line at nodes w).air
+all_grows channels line at [] w = omega arith
+all_grows channels line at (node ∷ more) w =
+    let first = deliver_grows channels line at node w in
+    let rest = all_grows channels line at more (deliver_at channels line at node w) in
+    omega (arith, first, rest)
+
+spread_of_grows : (channels : List Channel) (line at : ℕ) (f : Option Aired) (w : World) → length w.air ≤ length (spread_of channels line at f w).air
+spread_of_grows channels line at None w = omega arith
+spread_of_grows channels line at (Some f) w = all_grows channels line at (hearers channels f.sender) w
+
+-- the oldest is settled, and goes where it goes
+settle_spread : (channels : List Channel) (line at : ℕ) (w : World) → length w.air ≤ length (spread channels line at (settle at w)).air
+settle_spread channels line at w =
+    let more = spread_of_grows channels line at (slice_get (settled_at at w.air) at) (settle at w) in
+    omega (arith, length-settled_at w.air at, more)
+
+abbrev flow_from : List Channel → ℕ → ℕ → World → Option ℕ → World
+flow_from channels line count w o = elim o [ None ↦ w | Some at ↦ flow channels line count (spread channels line at (settle at w)) ]
+
+flow_from_grows : (channels : List Channel) (line count : ℕ) (w : World) (o : Option ℕ) → ((v : World) → length v.air ≤ length (flow channels line count v).air)
+    → length w.air ≤ length (flow_from channels line count w o).air
+flow_from_grows channels line count w None rest = omega arith
+flow_from_grows channels line count w (Some at) rest =
+    let first = settle_spread channels line at w in
+    let more = rest (spread channels line at (settle at w)) in
+    omega (arith, first, more)
+
+pub flow_grows : (channels : List Channel) (line count : ℕ) (w : World) → length w.air ≤ length (flow channels line count w).air
+unfolding flow
+flow_grows channels line zero w = omega arith
+flow_grows channels line (suc count) w = flow_from_grows channels line count w (oldest w.air) (flow_grows channels line count)
+
+abbrev cut_from : ℕ → World → Option ℕ → World
+cut_from count w o = elim o [ None ↦ w | Some at ↦ cut count (settle at w) ]
+
+cut_from_grows : (count : ℕ) (w : World) (o : Option ℕ) → ((v : World) → length v.air ≤ length (cut count v).air) → length w.air ≤ length (cut_from count w o).air
+cut_from_grows count w None rest = omega arith
+cut_from_grows count w (Some at) rest = let more = rest (settle at w) in omega (arith, more, length-settled_at w.air at)
+
+cut_grows : (count : ℕ) (w : World) → length w.air ≤ length (cut count w).air
+unfolding cut
+cut_grows zero w = omega arith
+cut_grows (suc count) w = cut_from_grows count w (oldest w.air) (cut_grows count)
 
 unless_grows : (line : ℕ) (why : Option LineRefusal) (done w : World) → length w.air ≤ length done.air → length w.air ≤ length (unless_refused line why done w).air
 unless_grows line None done w h = h
 unless_grows line (Some why) done w h = omega arith
 
-delivers_grows : (channels : List Channel) (line node : ℕ) (f : Option Aired) (w : World) → length w.air ≤ length (delivers channels line node f w).air
-delivers_grows channels line node None w = omega arith
-delivers_grows channels line node (Some f) w = reached_grows channels line node (Bytes (kiss_bytes f.octets)) w
+settle_deliver : (channels : List Channel) (line at node : ℕ) (w : World) → length w.air ≤ length (deliver_at channels line at node (settle at w)).air
+settle_deliver channels line at node w = let more = deliver_grows channels line at node (settle at w) in omega (arith, more, length-settled_at w.air at)
 
-shows_grows : (line : ℕ) (w : World) (n : Option NodeState) → length w.air ≤ length (shows line w n).air
-shows_grows line w None = omega arith
-shows_grows line w (Some n) = omega arith
+-- ---- each kind of line
 
-pub does_grows : (channels : List Channel) (line : ℕ) (act : Instruction) (w : World) → length w.air ≤ length (does channels line act w).air
-does_grows channels line (acts.Heard node call nodes) w = reached_grows channels line node (Bytes (kiss_bytes (broadcast_octets call (view nodes)))) w
-does_grows channels line (acts.Lock node dest alias neighbour quality) w = reached_grows channels line node (Lock dest alias neighbour quality) w
-does_grows channels line (acts.Round node) w = reached_grows channels line node Round w
-does_grows channels line (acts.LinkFail node call) w = reached_grows channels line node (Failure call) w
-does_grows channels line (acts.Show node) w = shows_grows line w (node_in node w.nodes)
-does_grows channels line (acts.Deliver number node) w =
-    unless_grows line (delivery_fault channels node false (frame_of w.air number)) _ w (let more = delivers_grows channels line node (frame_of (settles (number - 1) w).air number) (settles (number - 1) w) in omega (arith, more, length-settled_at w.air (number - 1)))
-does_grows channels line (acts.Again number node) w = unless_grows line (delivery_fault channels node true (frame_of w.air number)) _ w (delivers_grows channels line node (frame_of w.air number) w)
-does_grows channels line (acts.Lose number) w = unless_grows line (lost_fault false (frame_of w.air number)) (settles (number - 1) w) w (omega (arith, length-settled_at w.air (number - 1)))
-does_grows channels line (acts.Flow count) w = flows_grows channels line count w
-does_grows channels line (acts.Cut count) w = cuts_grows count w
-does_grows channels line act w = omega arith
+pub line_grows : (plan : Plan) (line : ℕ) (instruction : Instruction) (w : World) → length w.air ≤ length (do_line plan line instruction w).air
+line_grows plan line (instructions.Heard node call nodes) w = hear_grows plan.channels line node (kiss_bytes (broadcast_octets call (view nodes))) false w
+line_grows plan line (instructions.Lock node dest alias neighbour quality) w = act_grows plan.channels line node (acts.Lock dest alias neighbour quality) told_of w
+line_grows plan line (instructions.Round node) w = act_grows plan.channels line node acts.Round told_of w
+line_grows plan line (instructions.LinkFail node call) w = act_grows plan.channels line node (acts.LinkFail call) told_of w
+line_grows plan line (instructions.Show node) w = omega arith
+line_grows plan line (instructions.Tick milliseconds) w = ticks_grow plan.channels line 0 (length w.nodes) (record w { now = w.now + milliseconds })
+line_grows plan line (instructions.Restart node pair) w =
+    restart_grows plan line (place_of node w.nodes) (record { index = pair.index; ident = pair.ident }) (slice_get w.nodes (place_of node w.nodes)) w
+line_grows plan line (instructions.Open node dest) w = act_grows plan.channels line node (acts.Connect dest) told_of w
+line_grows plan line (instructions.Say node end text) w = act_grows plan.channels line node (write end (message_of text)) (said_of text) w
+line_grows plan line (instructions.Burst node end count) w = burst_grows plan.channels line (place_of node w.nodes) node end 1 count w
+line_grows plan line (instructions.Take node end) w = act_grows plan.channels line node (acts.Take end) (took_of node end) w
+line_grows plan line (instructions.Close node end) w = act_grows plan.channels line node (acts.Close end) told_of w
+line_grows plan line (instructions.Deliver frame node) w =
+    unless_grows line (delivery_fault plan.channels node false (frame_of w.air frame)) _ w (settle_deliver plan.channels line (frame - 1) node w)
+line_grows plan line (instructions.Again frame node) w =
+    unless_grows line (delivery_fault plan.channels node true (frame_of w.air frame)) _ w (deliver_grows plan.channels line (frame - 1) node w)
+line_grows plan line (instructions.Lose frame) w =
+    unless_grows line (lost_fault false (frame_of w.air frame)) (settle (frame - 1) w) w (omega (arith, length-settled_at w.air (frame - 1)))
+line_grows plan line (instructions.Flow count) w = flow_grows plan.channels line count w
+line_grows plan line (instructions.Cut count) w = cut_grows count w
 
-pub after_acts_grows : (channels : List Channel) (ls : List NumberedInstruction) (w : World) → length w.air ≤ length (after_acts channels w ls).air
-after_acts_grows channels [] w = omega arith
-after_acts_grows channels (l ∷ ls) w =
-    let first = does_grows channels l.line l.instruction w in
-    let rest = after_acts_grows channels ls (does channels l.line l.instruction w) in
+pub lines_grow : (plan : Plan) (ls : List NumberedInstruction) (w : World) → length w.air ≤ length (do_lines plan ls w).air
+lines_grow plan [] w = omega arith
+lines_grow plan (l ∷ ls) w =
+    let first = line_grows plan l.line l.instruction w in
+    let rest = lines_grow plan ls (do_line plan l.line l.instruction w) in
     omega (arith, first, rest)
 
 -- ---- one step more
 
-pub flows_one : (channels : List Channel) (line count at : ℕ) (w : World) → oldest w.air ≡ Some at → flows channels line (suc count) w ≡ flows channels line count (spreads channels line (slice_get (settles at w).air at) (settles at w))
-flows_one channels line count at w e = ap (flows_from channels line count w) e
+pub flow_one : (channels : List Channel) (line count at : ℕ) (w : World) → oldest w.air ≡ Some at
+    → flow channels line (suc count) w ≡ flow channels line count (spread channels line at (settle at w))
+unfolding flow
+flow_one channels line count at w e = ap (flow_from channels line count w) e
 
-pub flows_none : (channels : List Channel) (line count : ℕ) (w : World) → oldest w.air ≡ None → flows channels line count w ≡ w
-flows_none channels line zero w e = refl
-flows_none channels line (suc count) w e = ap (flows_from channels line count w) e
+pub flow_none : (channels : List Channel) (line count : ℕ) (w : World) → oldest w.air ≡ None → flow channels line count w ≡ w
+unfolding flow
+flow_none channels line zero w e = refl
+flow_none channels line (suc count) w e = ap (flow_from channels line count w) e
 
-pub cuts_one : (count at : ℕ) (w : World) → oldest w.air ≡ Some at → cuts (suc count) w ≡ cuts count (settles at w)
-cuts_one count at w e = ap (cuts_from count w) e
+pub cut_one : (count at : ℕ) (w : World) → oldest w.air ≡ Some at → cut (suc count) w ≡ cut count (settle at w)
+unfolding cut
+cut_one count at w e = ap (cut_from count w) e
 
-pub cuts_none : (count : ℕ) (w : World) → oldest w.air ≡ None → cuts count w ≡ w
-cuts_none zero w e = refl
-cuts_none (suc count) w e = ap (cuts_from count w) e
+pub cut_none : (count : ℕ) (w : World) → oldest w.air ≡ None → cut count w ≡ w
+unfolding cut
+cut_none zero w e = refl
+cut_none (suc count) w e = ap (cut_from count w) e
 
-goes_case : (channels : List Channel) (line n : ℕ) (bytes rest : List ℕ) (w : World) (b : Bool) → goes_to channels line bytes (cond b (n ∷ rest) rest) w ≡ goes_to channels line bytes rest (goes_to channels line bytes (cond b (n ∷ []) []) w)
-goes_case channels line n bytes rest w true = refl
-goes_case channels line n bytes rest w false = refl
+all_case : (channels : List Channel) (line at n : ℕ) (others : List ℕ) (w : World) (b : Bool)
+    → deliver_all channels line at (cond b (n ∷ others) others) w ≡ deliver_all channels line at others (deliver_all channels line at (cond b (n ∷ []) []) w)
+all_case channels line at n others w true = refl
+all_case channels line at n others w false = refl
 
-pub goes_to_next : (channels : List Channel) (line n : ℕ) (bytes : List ℕ) (p : ℕ → Bool) (w : World) → n < 17
-    → goes_to channels line bytes (filter p (range_with_len n (17 - n))) w ≡ goes_to channels line bytes (filter p (range_with_len (n + 1) (17 - (n + 1)))) (goes_to channels line bytes (filter p (n ∷ [])) w)
-goes_to_next channels line n bytes p w h =
+pub all_next : (channels : List Channel) (line at n : ℕ) (p : ℕ → Bool) (w : World) → n < 17
+    → deliver_all channels line at (filter p (range_with_len n (17 - n))) w
+    ≡ deliver_all channels line at (filter p (range_with_len (n + 1) (17 - (n + 1)))) (deliver_all channels line at (filter p (n ∷ [])) w)
+all_next channels line at n p w h =
     let left : 17 - n ≡ suc (17 - (n + 1)) = omega arith in
-    rw left (goes_case channels line n bytes (filter p (range_with_len (n + 1) (17 - (n + 1)))) w (p n))
+    rw left (all_case channels line at n (filter p (range_with_len (n + 1) (17 - (n + 1)))) w (p n))
+
+pub cut_end : (n : ℕ) (w : World) → n ≡ 0 → cut n w ≡ w
+unfolding cut
+cut_end n w e = ap (λ k. cut k w) e
+
+pub flow_end : (channels : List Channel) (line n : ℕ) (w : World) → n ≡ 0 → flow channels line n w ≡ w
+unfolding flow
+flow_end channels line n w e = ap (λ k. flow channels line k w) e
+
+pub burst_end : (channels : List Channel) (line at node end nth n : ℕ) (w : World) → n ≡ 0 → burst_from channels line at node end nth n w ≡ w
+unfolding burst_from
+burst_end channels line at node end nth n w e = ap (λ k. burst_from channels line at node end nth k w) e
+
+pub tick_next : (channels : List Channel) (line at count : ℕ) (w : World) → at < count
+    → tick_from channels line at (count - at) w ≡ tick_from channels line (at + 1) (count - (at + 1)) (tick_node channels line at w)
+tick_next channels line at count w h = let left : count - at ≡ suc (count - (at + 1)) = omega arith in rw (left, add-one) refl
+
+pub tick_end : (channels : List Channel) (line at n : ℕ) (w : World) → n ≡ 0 → tick_from channels line at n w ≡ w
+tick_end channels line at n w e = ap (λ k. tick_from channels line at k w) e
+
+pub line_behind : (ls : List NumberedInstruction) (l : NumberedInstruction) → AllByRecursion IsLine ls → IsLine l → AllByRecursion IsLine (ls ++ l ∷ [])
+line_behind [] l all one = (one, tt)
+line_behind (m ∷ ls) l all one = (all.0, line_behind ls l all.1 one)

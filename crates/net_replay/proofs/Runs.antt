@@ -1,37 +1,80 @@
 -- One thing done after another.
-use Rattle.std.proofs.Common.{◌≡◌, ◌≤◌, ◌∙◌, ap, sym, subst, length, ℕ, List}
-use Rattle.std.specs.Prelude.{Result, Ok, Err}
-use Rattle.net_replay.specs.declared.reasons.ReplayRefusal.{ReplayRefusal}
+use Rattle.std.proofs.Common.{◌≡◌, ◌≤◌, ◌∙◌, ℕ, List, length, arith, ap, sym, subst}
+use Rattle.std.specs.Prelude.{Result, Ok, Err, OnOk}
+use Rattle.radio_base.specs.declared.errors.NoMemory.{NoMemory}
 use Rattle.net_replay.specs.declared.air.Aired.{Aired}
-use Rattle.net_replay.specs.declared.events.NumberedEvent.{NumberedEvent}
-use Rattle.net_replay.specs.declared.node.Node.{Node}
+use Rattle.net_replay.specs.declared.reasons.ReplayRefusal.{ReplayRefusal}
+use Rattle.net_replay.specs.declared.reasons.ReplayRefusal.TheVariants as refusals
 use Rattle.net_replay.specs.Air.{settled_at}
-use Rattle.net_replay.specs.World.{World, settles}
-use Rattle.net_replay.specs.Traces.{Course, course, IsTraceOf, IsRefusal, GoesOn, Stops, Runs}
-use Rattle.net_replay.proofs.Handing.{refused_still}
+use Rattle.net_replay.specs.Lines.{settle}
+use Rattle.net_replay.specs.Running.{Course, GoesOn, Runs, Stands, Stops}
+use Rattle.net_replay.specs.Traces.{IsRefusal}
+use Rattle.net_replay.specs.World.{World}
+
+pub refused_still : (e : ReplayRefusal) (n m : ℕ) → n ≤ m → IsRefusal e n → IsRefusal e m
+refused_still refusals.FramesFull n m more h = omega arith
+refused_still refusals.NoMemory n m more h = tt
+
+pub refused_same : (e : ReplayRefusal) (v w : World) → v ≡ w → IsRefusal e (length v.air) → IsRefusal e (length w.air)
+refused_same e v w same h = subst (λ (u : World). IsRefusal e (length u.air)) same h
+
+-- want of memory stops everything
+pub no_memory : (old new : Course) (next : World → World) (r : Result (Unit {0}) ReplayRefusal) → r ≡ Err refusals.NoMemory → Runs old new next r
+no_memory old new next r e = subst (λ k. Runs old new next k) (sym e) (λ w t. tt)
+
+pub goes_then : (old mid new : Course) (first next : World → World) → GoesOn old mid first → GoesOn mid new next → GoesOn old new (λ w. next (first w))
+goes_then old mid new first next f g = λ w t. g (first w) (f w t)
 
 -- what runs after something that was done
-pub runs_then : (old mid new : Course) (first next : World → World) (r : Result (Unit {0}) ReplayRefusal) → GoesOn old mid first → Runs mid new next r → Runs old new (λ w. next (first w)) r
+pub runs_then : (old mid new : Course) (first next : World → World) (r : Result (Unit {0}) ReplayRefusal) → GoesOn old mid first → Runs mid new next r
+    → Runs old new (λ w. next (first w)) r
 runs_then old mid new first next (Ok done) f g = λ w t. g (first w) (f w t)
 runs_then old mid new first next (Err e) f g = λ w t. g (first w) (f w t)
 
 -- what comes to the same
-pub runs_as : (old new : Course) (f g : World → World) (r : Result (Unit {0}) ReplayRefusal) → ((w : World) → IsTraceOf old w → f w ≡ g w) → Runs old new f r → Runs old new g r
-runs_as old new f g (Ok done) same h = λ w t. subst (λ v. IsTraceOf new v) (same w t) (h w t)
+pub runs_as : (old new : Course) (f g : World → World) (r : Result (Unit {0}) ReplayRefusal) → ((w : World) → Stands old w → f w ≡ g w) → Runs old new f r
+    → Runs old new g r
+runs_as old new f g (Ok done) same h = λ w t. subst (λ v. Stands new v) (same w t) (h w t)
 runs_as old new f g (Err e) same h = λ w t. subst (λ (v : World). IsRefusal e (length v.air)) (same w t) (h w t)
 
--- what stopped on the way has stopped
-pub stops_then : (old mid : Course) (first next : World → World) (e : ReplayRefusal) → Stops old e first → ((w : World) → length (first w).air ≤ length (next (first w)).air) → Stops old e (λ w. next (first w))
-stops_then old mid first next e f grows = λ w t. refused_still e _ _ (grows w) (f w t)
+pub goes_as : (old new : Course) (f g : World → World) → ((w : World) → Stands old w → f w ≡ g w) → GoesOn old new f → GoesOn old new g
+goes_as old new f g same h = λ w t. subst (λ v. Stands new v) (same w t) (h w t)
+
+pub ok_as : (old new : Course) (f g : World → World) (r : Result (Unit {0}) NoMemory) → ((w : World) → Stands old w → f w ≡ g w) → OnOk r (GoesOn old new f)
+    → OnOk r (GoesOn old new g)
+ok_as old new f g (Ok done) same h = goes_as old new f g same h
+ok_as old new f g (Err e) same h = tt
+
+-- what was done has run
+pub done_runs : (old new : Course) (next : World → World) (r : Result (Unit {0}) ReplayRefusal) → r ≡ Ok tt → GoesOn old new next → Runs old new next r
+done_runs old new next r e h = subst (λ k. Runs old new next k) (sym e) h
 
 -- the answer of a call that stopped, handed on
-pub handed_on : (old new : Course) (next : World → World) (e : ReplayRefusal) (r : Result (Unit {0}) ReplayRefusal) → r ≡ Err e → Stops old e next → Runs old new next r
+pub handed_on : (old new : Course) (next : World → World) (e : ReplayRefusal) (r : Result (Unit {0}) ReplayRefusal) → r ≡ Err e → Stops old e next
+    → Runs old new next r
 handed_on old new next e r same h = subst (λ k. Runs old new next k) (sym same) h
 
 -- ---- frames settled
 
-pub same_air : (nodes : List Node) (air now : List Aired) (events : List NumberedEvent) (w : World) → IsTraceOf (course nodes air events) w → now ≡ air → IsTraceOf (course nodes now events) w
-same_air nodes air now events w t e = record { told = t.told; air = e ∙ t.air; nodes = t.nodes }
+abbrev pub with_air : Course → List Aired → Course
+with_air c air = record c { left = record c.left { air = air } }
 
-pub settled_air : (nodes : List Node) (air now : List Aired) (events : List NumberedEvent) (at : ℕ) → now ≡ settled_at at air → GoesOn (course nodes air events) (course nodes now events) (settles at)
-settled_air nodes air now events at e = λ w t. record { told = t.told; air = e ∙ ap (settled_at at) t.air; nodes = t.nodes }
+pub same_air : (c : Course) (air : List Aired) (w : World) → Stands c w → air ≡ c.left.air → Stands (with_air c air) w
+same_air c air w t e =
+    record {
+      trace = record { told = t.trace.told; air = e ∙ t.trace.air; declared = t.trace.declared; nodes = t.trace.nodes; ends = t.trace.ends };
+      now = t.now;
+    }
+
+pub settled_air : (c : Course) (air : List Aired) (at : ℕ) → air ≡ settled_at at c.left.air → GoesOn c (with_air c air) (settle at)
+settled_air c air at e = λ w t.
+    record {
+      trace = record {
+        told = t.trace.told;
+        air = e ∙ ap (settled_at at) t.trace.air;
+        declared = t.trace.declared;
+        nodes = t.trace.nodes;
+        ends = t.trace.ends;
+      };
+      now = t.now;
+    }

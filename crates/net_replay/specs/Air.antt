@@ -10,9 +10,13 @@ use Rattle.net_replay.specs.declared.reasons.LineRefusal.TheVariants.{NoFrame, S
 abbrev pub AllSettled : List Aired → Type 0
 AllSettled frames = AllByRecursion (λ (f : Aired). f.settled ≡ true) frames
 
--- a frame as it is put in the air
-abbrev pub in_air : ℕ → List ℕ → Aired
-in_air sender octets = record { sender = sender; octets = octets; settled = false }
+-- how many frames may be in the air
+abbrev pub most_frames : ℕ
+most_frames = 100000
+
+-- a frame as it is put in the air, written modulo 128, else modulo 8 or without
+abbrev pub in_air : ℕ → List ℕ → Bool → Aired
+in_air sender octets modulo128 = record { sender = sender; octets = octets; modulo128 = modulo128; settled = false }
 
 -- Frames are numbered from 1.
 abbrev pub frame_of : List Aired → ℕ → Option Aired

@@ -1,5 +1,5 @@
 -- The report of a network, line by line. Own profile.
-use Rattle.std.specs.Prelude.{ℕ, List, [], ◌++◌, flat_map, Option, Some, None, Result, Ok, Err, codes}
+use Rattle.std.specs.Prelude.{ℕ, List, [], ◌++◌, flat_map, Option, Some, None, Result, Ok, Err, codes, if◌then◌else◌}
 use Rattle.std.specs.Fmt.{decimal}
 use Rattle.ax_address.specs.Callsign as calls
 use Rattle.ax_address.specs.Alias as aliases
@@ -7,33 +7,37 @@ use Rattle.ax_frame.specs.declared.frame.FrameRefusal.{FrameRefusal}
 use Rattle.ax_frame.specs.Frames.{Frame}
 use Rattle.ax_frame.specs.FrameText.{frame_text}
 use Rattle.ax_frame.specs.Read.{read_at}
+use Rattle.circuit_verdict.specs.declared.verdict.Late.{Late}
+use Rattle.circuit_verdict.specs.declared.verdict.LateWhy.{LateWhy}
+use Rattle.circuit_verdict.specs.declared.verdict.LateWhy.TheVariants.{Overtaken, Returned}
 use Rattle.route_table.specs.declared.route.Route.{Route}
 use Rattle.net_replay.specs.declared.air.Aired.{Aired}
-use Rattle.net_replay.specs.declared.events.Event.{Event}
-use Rattle.net_replay.specs.declared.events.Event.TheVariants.{Entry, InAir, Shown, Refused}
-use Rattle.net_replay.specs.declared.events.NodeEntry.{NodeEntry}
-use Rattle.net_replay.specs.declared.events.NodeEntry.TheVariants.{Overflow}
-use Rattle.net_replay.specs.declared.events.NumberedEvent.{NumberedEvent}
+use Rattle.net_replay.specs.declared.ends.EndRecord.{EndRecord}
 use Rattle.net_replay.specs.Air.{frame_of}
+use Rattle.net_replay.specs.Ends.{ends_of}
+use Rattle.net_replay.specs.Events.{Event, Entry, InAir, Delivered, Shown, Took, Wrote, Restarted, Lost, Refused, NumberedEvent}
+use Rattle.net_replay.specs.Lines.{table_of}
 use Rattle.net_replay.specs.Reasons.{word_for_why}
+use Rattle.net_replay.specs.Starting.{Placed}
 use Rattle.net_replay.specs.Tables.{Table}
-use Rattle.net_replay.specs.World.{World, table_of}
-
--- overflow N LIVE WOULDBE
-abbrev pub entry_line : ℕ → NodeEntry → List ℕ
-entry_line node (Overflow live would_be) =
-    codes "overflow " ++ (decimal node ++ (codes " " ++ (decimal live ++ (codes " " ++ (decimal would_be ++ codes "\n")))))
+use Rattle.net_replay.specs.ToldEntries.{entry_text, last_texts}
+use Rattle.net_replay.specs.ToldLines.{restarted_line, took_line, wrote_line}
+use Rattle.net_replay.specs.World.{World}
 
 -- a frame that no octets are at fault of, as in the air none are
 abbrev pub text_of_frame : Result Frame FrameRefusal → List ℕ
 text_of_frame (Ok f) = frame_text f
 text_of_frame (Err e) = []
 
+-- sequence numbers are read as the frame was written
+abbrev pub modulus_of : Aired → ℕ
+modulus_of f = if f.modulo128 then 128 else 8
+
 -- air K N FRAME
 abbrev pub air_line : ℕ → Option Aired → List ℕ
 air_line number None = []
 air_line number (Some f) =
-    codes "air " ++ (decimal number ++ (codes " " ++ (decimal f.sender ++ (codes " " ++ (text_of_frame (read_at 8 f.octets) ++ codes "\n")))))
+    codes "air " ++ (decimal number ++ (codes " " ++ (decimal f.sender ++ (codes " " ++ (text_of_frame (read_at (modulus_of f) f.octets) ++ codes "\n")))))
 
 -- table N CALL ALIAS
 abbrev pub table_line : Table → List ℕ
@@ -59,16 +63,37 @@ table_text t = table_line t ++ flat_map route_line t.routes
 abbrev pub refused_line : ℕ → List ℕ → List ℕ
 refused_line line why = codes "refused " ++ (decimal line ++ (codes " " ++ (why ++ codes "\n")))
 
--- what is written of an event of a line
-abbrev pub event_text : List Aired → ℕ → Event → List ℕ
-event_text air line (Entry node entry) = entry_line node entry
-event_text air line (InAir number) = air_line number (frame_of air number)
-event_text air line (Shown table) = table_text table
-event_text air line (Refused why) = refused_line line (word_for_why why)
+-- what is written of an event of a line; these are the frames in the air, and the ends that each node ever made
+abbrev pub event_text : List Aired → (ℕ → List EndRecord) → ℕ → Event → List ℕ
+event_text air ends line (Entry node entry) = entry_text node (ends node) entry
+event_text air ends line (InAir number) = air_line number (frame_of air number)
+event_text air ends line (Delivered frame node) = []
+event_text air ends line (Shown table) = table_text table
+event_text air ends line (Took node end message) = took_line node end message
+event_text air ends line (Wrote node end count) = wrote_line node end count
+event_text air ends line (Restarted node pair) = restarted_line node
+event_text air ends line (Lost node end facts) = []
+event_text air ends line (Refused why) = refused_line line (word_for_why why)
 
-abbrev pub told_text : List Aired → NumberedEvent → List ℕ
-told_text air e = event_text air e.line e.event
+abbrev pub told_text : List Aired → (ℕ → List EndRecord) → NumberedEvent → List ℕ
+told_text air ends e = event_text air ends e.line e.event
 
--- what was told, the table of each node as it was left, and the verdict
-abbrev pub report_text : World → List ℕ
-report_text w = (flat_map (told_text w.air) w.told ++ flat_map (λ n. table_text (table_of n.station)) w.nodes) ++ codes "verdict done\n"
+-- a node as it was left: its table, and its ends
+abbrev pub node_text : (ℕ → List EndRecord) → Placed → List ℕ
+node_text ends p =
+    table_text (table_of p) ++ last_texts p.declared.node 1 (ends p.declared.node) p.state.station.set.set.ends
+
+abbrev pub late_word : LateWhy → List ℕ
+late_word Overtaken = codes "overtaken"
+late_word Returned = codes "returned"
+
+-- verdict done, or verdict late L WHY
+abbrev pub verdict_line : Option Late → List ℕ
+verdict_line None = codes "verdict done\n"
+verdict_line (Some late) = codes "verdict late " ++ (decimal late.line ++ (codes " " ++ (late_word late.why ++ codes "\n")))
+
+-- what was told, each node as it was left, and the verdict
+abbrev pub report_text : World → Option Late → List ℕ
+report_text w late =
+    (flat_map (told_text w.air (λ node. ends_of node w.told)) w.told ++ flat_map (node_text (λ node. ends_of node w.told)) w.nodes)
+    ++ verdict_line late

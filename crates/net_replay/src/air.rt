@@ -54,6 +54,8 @@ pub struct Aired {
     /// The node's number.
     pub sender: u8,
     pub octets: Octets,
+    /// It was written with sequence numbers modulo 128, else modulo 8 or without.
+    pub modulo128: bool,
     /// It has gone where it goes, or is lost.
     pub settled: bool,
 }
@@ -80,8 +82,7 @@ impl Model for Air {
 
 impl Air {
     ghost use Rattle.std.specs.Prelude.{◌≡◌, ◌≤◌, ◌<◌, ◌++◌, ◌∷◌, [], length, slice_get, OnOk, OnErr, IfErr, IfSome};
-    ghost use Rattle.net_replay.specs.Air.{in_air, oldest, settled_at, frame_of, lost_fault, delivery_fault};
-    ghost use Rattle.net_replay.specs.Traces.{most_frames};
+    ghost use Rattle.net_replay.specs.Air.{in_air, most_frames, oldest, settled_at, frame_of, lost_fault, delivery_fault};
     ghost use Rattle.net_replay.specs.declared.reasons.ReplayRefusal.TheVariants.{FramesFull};
 
     /// No frame is in the air.
@@ -129,8 +130,8 @@ impl Air {
     }
 
     /// Puts a frame in the air, as the last.
-    pub fn put(&mut self, sender: u8, octets: Octets) -> Result<(), ReplayRefusal>
-        ensures ok { OnOk result (self.new ≡ self.old ++ in_air sender octets ∷ []) }
+    pub fn put(&mut self, sender: u8, octets: Octets, modulo128: bool) -> Result<(), ReplayRefusal>
+        ensures ok { OnOk result (self.new ≡ self.old ++ in_air sender octets modulo128 ∷ []) }
         ensures room { OnOk result (length self.old < most_frames) }
         ensures full { result ≡ Err FramesFull → most_frames ≤ length self.old }
         ensures err { OnErr result (self.new ≡ self.old) }
@@ -141,6 +142,7 @@ impl Air {
         self.frames.push(Aired {
             sender,
             octets,
+            modulo128,
             settled: false,
         })?;
         Ok(())

@@ -1,15 +1,10 @@
 //! What there is to tell of a replay.
 use crate::reasons::LineRefusal;
 use ax_address::{Alias, Call};
+use circuit_l4::{EndFacts, Pair};
+use node_core::NodeEntry;
 use route_table::Route;
 use std::marker::Model;
-
-/// What a node has to tell of something that reached it.
-#[derive(Clone, Copy, Debug, PartialEq, Eq)]
-pub enum NodeEntry {
-    /// It refused a broadcast: it has `live` usable routes and would have had `would_be`, more than it may.
-    Overflow { live: usize, would_be: usize },
-}
 
 /// A node's table as it was when it was shown.
 #[derive(Debug, Drop)]
@@ -76,13 +71,50 @@ impl Table {
 #[derive(Debug, Drop)]
 pub enum Event {
     /// What the node of that number tells.
-    Entry { node: u8, entry: NodeEntry },
+    Entry {
+        node: u8,
+        entry: NodeEntry,
+    },
     /// The frame of that number, from 1, was put in the air.
-    InAir { frame: usize },
+    InAir {
+        frame: usize,
+    },
+    /// The frame of that number goes to the node.
+    Delivered {
+        frame: usize,
+        node: u8,
+    },
     /// A node's table was shown.
-    Shown { table: Table },
+    Shown {
+        table: Table,
+    },
+    /// This message was taken from an end.
+    Took {
+        node: u8,
+        end: u32,
+        message: Vec<u8>,
+    },
+    /// So many messages of a burst were written at an end.
+    Wrote {
+        node: u8,
+        end: u32,
+        count: u32,
+    },
+    /// The node was started anew.
+    Restarted {
+        node: u8,
+        pair: Pair,
+    },
+    /// A restart took an end away.
+    Lost {
+        node: u8,
+        end: u64,
+        facts: EndFacts,
+    },
     /// An act wasn't done.
-    Refused { why: LineRefusal },
+    Refused {
+        why: LineRefusal,
+    },
 }
 
 /// An event with the number of the line at which it came, from 1.

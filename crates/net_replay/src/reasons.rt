@@ -1,14 +1,36 @@
-//! Why an act isn't done, and why a replay is refused.
+//! Why an instruction isn't done, and why a replay is refused.
 use radio_base::NoMemory;
 use std::alloc::{AllocError, AllocFailed};
 use std::fmt;
 use thiserror::Error;
 
-/// Why an act of a network wasn't done.
+/// Why an instruction of a network wasn't done.
 #[derive(Clone, Copy, Debug, PartialEq, Eq)]
 pub enum LineRefusal {
-    /// A route to the node itself.
+    /// The node holds no end of that number.
+    NoEnd,
+    /// A session serves the end, or has asked for it.
+    Served,
+    /// No message waits at the end.
+    Nothing,
+    /// A circuit or a route to the node itself.
     Own,
+    /// No route leads to the node that is asked for.
+    NoRoute,
+    /// The node holds as many ends as it may.
+    Full,
+    /// The circuit isn't Up.
+    NotUp,
+    /// The circuit is to be closed.
+    Closing,
+    /// The text has no bytes.
+    Empty,
+    /// The text has more bytes than a message may.
+    TooLong,
+    /// More bytes would wait for their acknowledgement than may.
+    QueueFull,
+    /// The numbers of fragments have come to their end.
+    Exhausted,
     /// A route of a quality below the least that the node uses.
     TooLow,
     /// The node's table has no room for the route.
@@ -31,7 +53,18 @@ impl fmt::Display for LineRefusal {
 
     fn fmt<W: fmt::Write>(&self, f: &mut fmt::Formatter<W>) -> fmt::Result {
         f.write_str(match self {
+            LineRefusal::NoEnd => "no end",
+            LineRefusal::Served => "served",
+            LineRefusal::Nothing => "nothing",
             LineRefusal::Own => "own",
+            LineRefusal::NoRoute => "no route",
+            LineRefusal::Full => "full",
+            LineRefusal::NotUp => "not up",
+            LineRefusal::Closing => "closing",
+            LineRefusal::Empty => "empty",
+            LineRefusal::TooLong => "too long",
+            LineRefusal::QueueFull => "queue full",
+            LineRefusal::Exhausted => "exhausted",
             LineRefusal::TooLow => "too low",
             LineRefusal::TableFull => "table full",
             LineRefusal::NoFrame => "no frame",

@@ -1,20 +1,8 @@
 //! What network files come to: the report of worked ones.
-use net_replay::{NetworkRefusal, What, read_network, replay, report};
+use net_replay::{read_network, replay, report, too_late};
 use radio_base::TextOut;
 use std::alloc::Global;
 use std::test::Fail;
-
-#[test]
-fn a_line_that_a_replay_cannot_do_yet_is_not_built(rt: HostRuntime) {
-    let text = b"node 1 N0AAA A\nset 1 window 4\nvia 1 N0BBB N0CCC\nround 1\nopen 1 N0BBB\ntick 1";
-    match read_network(rt.alloc(), text) {
-        Err(refusal) => {
-            let what = What::NotBuilt;
-            assert_eq!(rt; refusal, NetworkRefusal::BadLine { line: 5, what });
-        }
-        Ok(_) => assert!(rt; false, "it was read"),
-    }
-}
 
 /// The report of a network.
 fn reported(alloc: Global, text: &[u8]) -> Result<TextOut, Fail> {
@@ -23,8 +11,9 @@ fn reported(alloc: Global, text: &[u8]) -> Result<TextOut, Fail> {
     }
     let network = read_network(alloc, text)?;
     let trace = replay(alloc, &network)?;
+    let late = too_late(alloc, &trace)?;
     let mut out = TextOut::new(alloc);
-    report(alloc, &trace, &mut out)?;
+    report(alloc, &trace, late, &mut out)?;
     Ok(out)
 }
 

@@ -1,24 +1,30 @@
 //! The command `replay`.
-ghost use Rattle.std.specs.Prelude.{◌≡◌, ◌≢◌, ◌≤◌, length, Ok, IfOk, IfErr};
-ghost use Rattle.net_replay.specs.Unbuilt.{network_of};
+ghost use Rattle.std.specs.Prelude.{◌≡◌, ◌≢◌, ◌≤◌, length, None, Ok, IfOk, IfErr};
+ghost use Rattle.network_file.specs.Networks.{network_of};
 ghost use Rattle.network_file.specs.Plan.{Plan};
-ghost use Rattle.net_replay.specs.Traces.{IsTraceOf};
-ghost use Rattle.net_replay.specs.World.{World, world};
-ghost use Rattle.net_replay.specs.Reports.{report_text};
+ghost use Rattle.net_replay.specs.CircuitRuns.{IsSound};
+ghost use Rattle.net_replay.specs.Circuits.{allowance_of};
+ghost use Rattle.net_replay.specs.Lines.{world};
+ghost use Rattle.net_replay.specs.Promises.{RetriesAreTold, SafeThroughout};
+ghost use Rattle.net_replay.specs.Traces.{IsTraceOf, allowance_in, left_of};
+ghost use Rattle.net_replay.specs.Air.{most_frames};
 ghost use Rattle.node_cmd.specs.Reading.{max_file};
 ghost use Rattle.node_cmd.specs.Writing.{Says};
 ghost use Rattle.node_cmd.specs.StatusNotes.{HasNote, IsSilent};
 ghost use Rattle.node_cmd.specs.Told.{told};
 ghost use Rattle.node_cmd.specs.Run.{ReplayEnds};
-ghost use Rattle.node_cmd.specs.Replays.{AirsFew, NotReported};
+ghost use Rattle.node_cmd.specs.Replays.{IsOutcome, NotReported};
+ghost use Rattle.node_cmd.specs.declared.ran.Ran.TheVariants as rans;
 ghost use Rattle.node_cmd.specs.declared.replays.ReportRefusal.TheVariants as Refusal;
 
 use crate::notes::{READ_FAULT, TOO_LONG, bad_line_note, say};
+use crate::ran::Ran;
 use crate::reading::{ReadRefusal, read_file};
 use crate::status::Status;
 use crate::writing::write_all;
 use net_replay::{
-    Network, NetworkRefusal, ReplayRefusal, Trace, What, read_network, replay, report,
+    Late, Network, NetworkRefusal, ReplayRefusal, Trace, What, read_network, replay, report,
+    too_late,
 };
 use radio_base::{Sink, Source, TextOut};
 use std::alloc::Global;
@@ -33,7 +39,15 @@ pub enum ReportRefusal {
     NoMemory,
 }
 
-/// Reads a network file from the source to its end, and writes the report of that network to the sink.
+/// What came of a network: what ran, the verdict on it, and the report.
+#[derive(Drop)]
+pub struct Outcome {
+    pub trace: Trace,
+    pub late: Option<Late>,
+    pub text: TextOut,
+}
+
+/// Reads a network file from the source to its end, writes the report of that network to the sink, and leaves what ran.
 ///
 /// The status says how it ended, and where the input or a line was refused the notes say why.
 pub fn replay_file<S: Source, K: Sink, N: Sink>(
@@ -41,14 +55,19 @@ pub fn replay_file<S: Source, K: Sink, N: Sink>(
     source: &mut S,
     sink: &mut K,
     notes: &mut N,
+    ran: &mut Ran,
 ) -> Status
+    requires { ran.old ≡ rans.Nothing }
+
     // How it ends: the report is that of the file, and each status has its reason.
     ensures ends { ReplayEnds
         (told (S.left source.old) (S.reads source.old) (S.faults source.old) (K.written sink.old) (K.faults sink.old) (N.written notes.old) (N.faults notes.old))
-        (told (S.left source.new) (S.reads source.new) (S.faults source.new) (K.written sink.new) (K.faults sink.new) (N.written notes.new) (N.faults notes.new)) result }
+        (told (S.left source.new) (S.reads source.new) (S.faults source.new) (K.written sink.new) (K.faults sink.new) (N.written notes.new) (N.faults notes.new))
+        ran.new result }
 
-    // What isn't said above to be written isn't, and nothing else is noted.
-    ensures unwritten { result ≢ Status.Done → result ≢ Status.WriteFault → sink.new ≡ sink.old }
+    // What isn't said above to be written or left isn't, and nothing else is noted.
+    ensures unwritten { result ≢ Status.Done → result ≢ Status.TooLate → result ≢ Status.WriteFault → sink.new ≡ sink.old }
+    ensures nothing { result ≢ Status.Done → result ≢ Status.TooLate → ran.new ≡ ran.old }
     ensures noted { HasNote result (Says (N.written notes.old) (N.written notes.new) (N.faults notes.old) (N.faults notes.new)) }
     ensures silent { IsSilent result → notes.new ≡ notes.old }
 {
@@ -64,8 +83,8 @@ pub fn replay_file<S: Source, K: Sink, N: Sink>(
         }
         Err(ReadRefusal::NoMemory) => return Status::NoMemory,
     };
-    let text = match report_of(alloc, &bytes) {
-        Ok(text) => text,
+    let Outcome { trace, late, text } = match outcome_of(alloc, &bytes) {
+        Ok(outcome) => outcome,
         Err(ReportRefusal::BadLine { line, what }) => match bad_line_note(alloc, line, what) {
             Ok(note) => {
                 say(notes, &note);
@@ -80,42 +99,54 @@ pub fn replay_file<S: Source, K: Sink, N: Sink>(
         Err(ReportRefusal::NoMemory) => return Status::NoMemory,
     };
     match write_all(sink, text.bytes()) {
-        Ok(()) => Status::Done,
+        Ok(()) => {
+            *ran = Ran::Replayed(trace);
+            match late {
+                None => Status::Done,
+                Some(_) => Status::TooLate,
+            }
+        }
         Err(_) => Status::WriteFault,
     }
 }
 
-/// The report of the network that a file spells.
-fn report_of(alloc: Global, bytes: &[u8]) -> Result<TextOut, ReportRefusal>
+/// What comes of the network that a file spells.
+fn outcome_of(alloc: Global, bytes: &[u8]) -> Result<Outcome, ReportRefusal>
     requires { length bytes.now ≤ max_file }
-    ensures ok { IfOk result (λ t. (network : Plan) × (network_of bytes.now ≡ Ok network) × AirsFew network × (t ≡ report_text (world network))) }
+    ensures ok { IfOk result (λ o. (network : Plan) × (network_of bytes.now ≡ Ok network) × IsOutcome o network × RetriesAreTold network × (o.late ≡ None → SafeThroughout network)) }
     ensures err { IfErr result (λ e. NotReported e (network_of bytes.now)) }
 {
+    net_replay::laws::in_time_is_safe();
+    net_replay::laws::retries_are_told();
     match read_network(alloc, bytes) {
-        Ok(network) => report_of_network(alloc, &network),
+        Ok(network) => outcome_of_network(alloc, &network),
         Err(NetworkRefusal::BadLine { line, what }) => Err(ReportRefusal::BadLine { line, what }),
         Err(NetworkRefusal::NoMemory) => Err(ReportRefusal::NoMemory),
     }
 }
 
-fn report_of_network(alloc: Global, network: &Network) -> Result<TextOut, ReportRefusal>
-    ensures ok { IfOk result (λ t. AirsFew network.now × (t ≡ report_text (world network.now))) }
+fn outcome_of_network(alloc: Global, network: &Network) -> Result<Outcome, ReportRefusal>
+    ensures ok { IfOk result (λ o. IsOutcome o network.now × IsSound network.now) }
     ensures err { IfErr result (λ e. NotReported e (Ok network.now)) }
 {
     match replay(alloc, network) {
-        Ok(trace) => report_of_trace(alloc, &trace),
+        Ok(trace) => outcome_of_trace(alloc, trace),
         Err(ReplayRefusal::FramesFull) => Err(ReportRefusal::TooManyFrames),
         Err(ReplayRefusal::NoMemory) => Err(ReportRefusal::NoMemory),
     }
 }
 
-fn report_of_trace(alloc: Global, trace: &Trace) -> Result<TextOut, ReportRefusal>
-    ensures ok { IfOk result (λ t. (w : World) → IsTraceOf trace.now w → t ≡ report_text w) }
+fn outcome_of_trace(alloc: Global, trace: Trace) -> Result<Outcome, ReportRefusal>
+    ensures ok { IfOk result (λ o. (plan : Plan) → allowance_in trace ≡ allowance_of plan → IsTraceOf (left_of trace) (world plan) → length (left_of trace).air ≤ most_frames → IsOutcome o plan) }
     ensures err { IfErr result (λ e. e ≡ Refusal.NoMemory) }
 {
-    let mut out = TextOut::new(alloc);
-    match report(alloc, trace, &mut out) {
-        Ok(()) => Ok(out),
+    let late = match too_late(alloc, &trace) {
+        Ok(late) => late,
+        Err(_) => return Err(ReportRefusal::NoMemory),
+    };
+    let mut text = TextOut::new(alloc);
+    match report(alloc, &trace, late, &mut text) {
+        Ok(()) => Ok(Outcome { trace, late, text }),
         Err(_) => Err(ReportRefusal::NoMemory),
     }
 }

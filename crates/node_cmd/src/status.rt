@@ -5,7 +5,7 @@ ghost use Rattle.node_cmd.specs.Statuses.{exit_status};
 /// How a command ended.
 #[derive(Clone, Copy, Debug, PartialEq, Eq)]
 pub enum Status {
-    /// All was done and written.
+    /// All was done and written, and nothing came back too late.
     Done,
     /// The words are no command's.
     Usage,
@@ -17,7 +17,7 @@ pub enum Status {
     WriteFault,
     /// The input is longer than is taken.
     TooLong,
-    /// A datagram or a circuit pair came back too late. No command that is built yet ends so.
+    /// All was done and written, and a datagram or a circuit pair came back too late.
     TooLate,
     /// Memory ran out.
     NoMemory,

@@ -1,4 +1,5 @@
 //! The whole program over streams in memory.
+use crate::ran::Ran;
 use crate::run::run;
 use crate::status::Status;
 use radio_base::{MemClock, MemSink, MemSource, NoMemory};
@@ -51,6 +52,7 @@ fn outcome_of(alloc: Global, case: &Case<'_>) -> Result<Outcome, NoMemory> {
         &mut written,
         &mut notes,
         &mut clock,
+        &mut Ran::Nothing,
     );
     Ok(Outcome {
         status,

@@ -1,0 +1,53 @@
+-- An act, what is told of its answer, and the frames that are put in the air.
+use Rattle.std.proofs.Common.{◌≡◌, ◌∙◌, ℕ, ap, sym, false, List}
+use Rattle.std.specs.Prelude.{Result, Ok, Err}
+use Rattle.std.specs.List.{position_or_len}
+use Rattle.network_file.specs.declared.plan.channels.Channel.{Channel}
+use Rattle.node_core.specs.declared.acts.ActDone.{ActDone}
+use Rattle.node_core.specs.declared.acts.ActDone.TheVariants as actions
+use Rattle.node_core.specs.declared.acts.ActRefusal.{ActRefusal}
+use Rattle.node_core.specs.declared.acts.UserAct.{UserAct}
+use Rattle.net_replay.specs.declared.reasons.LineRefusal.{LineRefusal}
+use Rattle.net_replay.specs.declared.reasons.ReplayRefusal.{ReplayRefusal}
+use Rattle.net_replay.specs.Events.{Event}
+use Rattle.net_replay.specs.Lines.{is_long, refusal_events, said_of, said_refusals, told_of, took_of}
+use Rattle.net_replay.specs.Running.{Course, GoesOn, IsAnswerTo, Runs, Stands, answer_events, said_answer, taken_events}
+use Rattle.net_replay.specs.Starting.{has_number}
+use Rattle.net_replay.specs.World.{Act, World, answer, place_of, put, reach, tell}
+use Rattle.net_replay.proofs.Placing.{place_is}
+use Rattle.net_replay.proofs.Runs.{goes_then, runs_as, runs_then}
+
+-- at the place of a number
+pub at_number : (old new : Course) (number at : ℕ) (f : ℕ → World → World) (r : Result (Unit {0}) ReplayRefusal)
+    → at ≡ position_or_len (has_number number) old.left.declared → Runs old new (f at) r → Runs old new (λ w. f (place_of number w.nodes) w) r
+at_number old new number at f r e h =
+    runs_as old new (f at) (λ w. f (place_of number w.nodes) w) r (λ w t. ap (λ k. f k w) (place_is old w number at e t)) h
+
+-- ---- what is told of an answer
+
+pub told_is : (a : Result ActDone LineRefusal) (r : Result ActDone ActRefusal) → IsAnswerTo a r → told_of r ≡ answer_events a
+told_is (Ok x) r h = ap told_of h
+told_is (Err why) r h = ap told_of h.1 ∙ ap refusal_events h.2
+
+pub took_is : (node end : ℕ) (a : Result ActDone LineRefusal) (r : Result ActDone ActRefusal) → IsAnswerTo a r → took_of node end r ≡ taken_events node end a
+took_is node end (Ok actions.Done) r h = ap (took_of node end) h
+took_is node end (Ok (actions.Made id)) r h = ap (took_of node end) h
+took_is node end (Ok (actions.Took message)) r h = ap (took_of node end) h
+took_is node end (Err why) r h = ap (took_of node end) h.1 ∙ ap refusal_events h.2
+
+pub said_is : (text : List ℕ) (a : Result ActDone LineRefusal) (r : Result ActDone ActRefusal) → IsAnswerTo a r → said_of text r ≡ answer_events (said_answer (is_long text) a)
+said_is text (Ok x) r h = ap (said_of text) h
+said_is text (Err why) r h = ap (said_of text) h.1 ∙ ap (λ o. refusal_events (said_refusals (is_long text) o)) h.2
+
+-- ---- the whole
+
+pub acted : (old reached told new : Course) (channels : List Channel) (line at : ℕ) (act : UserAct) (r : Result (Unit {0}) ReplayRefusal)
+    (says : Result ActDone ActRefusal → List Event) (events : List Event) → GoesOn old reached (reach line at (Act act))
+    → ((w : World) → Stands old w → says (answer at act w) ≡ events) → GoesOn reached told (tell line events) → Runs told new (put channels line at false) r
+    → Runs old new (λ w. put channels line at false (tell line (says (answer at act w)) (reach line at (Act act) w))) r
+acted old reached told new channels line at act r says events goes same tells runs =
+    runs_as old new (λ w. put channels line at false (tell line events (reach line at (Act act) w)))
+    (λ w. put channels line at false (tell line (says (answer at act w)) (reach line at (Act act) w))) r
+    (λ w t. ap (λ es. put channels line at false (tell line es (reach line at (Act act) w))) (sym (same w t)))
+    (runs_then old told new (λ w. tell line events (reach line at (Act act) w)) (put channels line at false) r
+    (goes_then old reached told (reach line at (Act act)) (tell line events) goes tells) runs)

@@ -1,0 +1,84 @@
+-- The entries of a node, told one after another.
+use Rattle.std.proofs.Common.{◌≡◌, ◌++◌, ◌∙◌, ℕ, refl, sym, ap, List, [], ◌∷◌, map, drop, append_assoc, append-nil}
+use Rattle.std.specs.Prelude.{Option, Some, None, slice_get, slice_set}
+use Rattle.node_core.specs.States as states
+use Rattle.node_core.specs.States.{NodeState}
+use Rattle.net_replay.specs.Events.{Entry, NumberedEvent}
+use Rattle.net_replay.specs.Running.{all_entries, all_entries_of, change, change_of, entry_events, fetched_entry, first_entry}
+use Rattle.net_replay.specs.Starting.{Placed}
+use Rattle.net_replay.specs.World.{Input, World, after, all_told, numbered, reach, reaches, tell}
+use Rattle.net_replay.proofs.Placing.{set_same, set_twice}
+
+-- ---- what reaches a node, and then its entries
+
+reach_case : (line at : ℕ) (input : Input) (w : World) (o : Option Placed) → slice_get w.nodes at ≡ o
+    → all_entries_of line at (slice_get (change_of at (after w.now input) o w).nodes at) (change_of at (after w.now input) o w) ≡ reaches line at input o w
+reach_case line at input w None e = ap (λ o. all_entries_of line at o w) e
+reach_case line at input w (Some p) e =
+    let n : NodeState = after w.now input p.state in
+    let q : Placed = record p { state = n } in
+    let v : World = record w { nodes = slice_set w.nodes at q } in
+    let told : Placed = record p { state = all_told n } in
+    ap (λ o. all_entries_of line at o v) (set_same w.nodes at p q e)
+    ∙ ap (λ (ns : List Placed). tell line (map (Entry p.declared.node) n.station.entries) (record w { nodes = ns })) (set_twice w.nodes at q told)
+
+pub reach_is : (line at : ℕ) (input : Input) (w : World) → all_entries line at (change at (after w.now input) w) ≡ reach line at input w
+unfolding all_entries change reach
+reach_is line at input w = reach_case line at input w (slice_get w.nodes at) refl
+
+-- ---- one entry
+
+one_told : (told : List NumberedEvent) (line node : ℕ) (e : states.Entry) (es : List states.Entry)
+    → (told ++ map (numbered line) (Entry node e ∷ [])) ++ map (numbered line) (map (Entry node) es) ≡ told ++ map (numbered line) (map (Entry node) (e ∷ es))
+one_told told line node e es = append_assoc told (map (numbered line) (Entry node e ∷ [])) (map (numbered line) (map (Entry node) es))
+
+entry_case : (line at : ℕ) (v : World) (e : states.Entry) (p : Placed) (es : List states.Entry) → slice_get v.nodes at ≡ Some p → p.state.station.entries ≡ es
+    → Some e ≡ slice_get es 0
+    → all_entries line at (tell line (entry_events e (slice_get (change_of at fetched_entry (Some p) v).nodes at)) (change_of at fetched_entry (Some p) v))
+    ≡ all_entries_of line at (Some p) v
+unfolding all_entries
+entry_case line at v e p [] is entries first = absurd (cc)
+entry_case line at v e p (f ∷ es) is entries first =
+    let same : e ≡ f = cc in
+    let q : Placed = record p { state = fetched_entry p.state } in
+    let u : World = record v { nodes = slice_set v.nodes at q } in
+    let got : slice_get u.nodes at ≡ Some q = set_same v.nodes at p q is in
+    let left : q.state.station.entries ≡ es = ap (λ (xs : List states.Entry). drop 1 xs) entries in
+    let told : Placed = record p { state = all_told p.state } in
+    ap (λ o. all_entries_of line at (slice_get u.nodes at) (tell line (entry_events e o) u)) got
+    ∙ (ap (λ o. all_entries_of line at o (tell line (Entry p.declared.node e ∷ []) u)) got
+    ∙ (ap (λ (xs : List states.Entry). tell line (map (Entry p.declared.node) xs) (tell line (Entry p.declared.node e ∷ []) (record v { nodes = slice_set u.nodes at told }))) left
+    ∙ (ap (λ (ns : List Placed). tell line (map (Entry p.declared.node) es) (tell line (Entry p.declared.node e ∷ []) (record v { nodes = ns }))) (set_twice v.nodes at q told)
+    ∙ (ap (λ (ts : List NumberedEvent). record v { nodes = slice_set v.nodes at told; told = ts }) (one_told v.told line p.declared.node e es)
+    ∙ ap (λ (xs : List states.Entry). tell line (map (Entry p.declared.node) xs) (record v { nodes = slice_set v.nodes at told })) (ap (λ k. k ∷ es) same ∙ sym entries)))))
+
+entry_of_option : (line at : ℕ) (v : World) (e : states.Entry) (o : Option Placed) → slice_get v.nodes at ≡ o → Some e ≡ first_entry o
+    → all_entries line at (tell line (entry_events e (slice_get (change_of at fetched_entry o v).nodes at)) (change_of at fetched_entry o v)) ≡ all_entries_of line at o v
+entry_of_option line at v e None is first = absurd (cc)
+entry_of_option line at v e (Some p) is first = entry_case line at v e p p.state.station.entries is refl first
+
+-- an entry that is fetched and told leaves the others to be told
+pub one_entry : (line at : ℕ) (v : World) (e : states.Entry) → Some e ≡ first_entry (slice_get v.nodes at)
+    → all_entries line at (tell line (entry_events e (slice_get (change at fetched_entry v).nodes at)) (change at fetched_entry v)) ≡ all_entries line at v
+unfolding all_entries change
+one_entry line at v e first = entry_of_option line at v e (slice_get v.nodes at) refl first
+
+-- ---- none is left
+
+none_case : (line at : ℕ) (v : World) (p : Placed) (es : List states.Entry) → p.state.station.entries ≡ es → None ≡ slice_get es 0
+    → change_of at fetched_entry (Some p) v ≡ all_entries_of line at (Some p) v
+none_case line at v p [] entries first =
+    let fetched : fetched_entry p.state ≡ all_told p.state =
+    ap (λ (xs : List states.Entry). record (p.state) { station = record (p.state.station) { entries = xs } }) (ap (λ (xs : List states.Entry). drop 1 xs) entries) in
+    ap (λ (n : NodeState). record v { nodes = slice_set v.nodes at (record p { state = n }) }) fetched
+    ∙ (ap (λ (ts : List NumberedEvent). record v { nodes = slice_set v.nodes at (record p { state = all_told p.state }); told = ts }) (sym (append-nil v.told))
+    ∙ ap (λ (xs : List states.Entry). tell line (map (Entry p.declared.node) xs) (record v { nodes = slice_set v.nodes at (record p { state = all_told p.state }) })) (sym entries))
+none_case line at v p (e ∷ es) entries first = absurd (cc)
+
+none_of_option : (line at : ℕ) (v : World) (o : Option Placed) → None ≡ first_entry o → change_of at fetched_entry o v ≡ all_entries_of line at o v
+none_of_option line at v None first = refl
+none_of_option line at v (Some p) first = none_case line at v p p.state.station.entries refl first
+
+pub no_entry : (line at : ℕ) (v : World) → None ≡ first_entry (slice_get v.nodes at) → change at fetched_entry v ≡ all_entries line at v
+unfolding all_entries change
+no_entry line at v first = none_of_option line at v (slice_get v.nodes at) first

@@ -1,0 +1,84 @@
+-- A network of which no datagram and no pair comes back too late is safe at each line.
+use Rattle.std.proofs.Common.{◌≡◌, ◌∙◌, ◌≤◌, ℕ, refl, sym, ap, subst, arith, List, [], ◌∷◌, ◌++◌, append_assoc, map, Bool, true, false, cond}
+use Rattle.std.specs.Prelude.{◌&&◌, ◌||◌, ◌==◌, nat_le, find, unwrap_or, Some}
+use Rattle.std.specs.Option.{option_map}
+use Rattle.std.specs.List.{AllByRecursion}
+use Rattle.circuit_set.specs.Books.{Fresh, Timely, empty}
+use Rattle.circuit_set.specs.Runs.{AreNarrow, AreStarts, AreSteps, CircuitsSafe, NarrowIsTimely, Step, allowed, events_of}
+use Rattle.circuit_verdict.specs.declared.event.Numbered.{Numbered}
+use Rattle.circuit_verdict.specs.Events as verdicts
+use Rattle.circuit_verdict.specs.declared.verdict.Allowance.TheVariants as verdicts_at
+use Rattle.circuit_verdict.specs.Verdicts as verdicts_on
+use Rattle.network_file.specs.declared.plan.declarations.Declaration.{Declaration}
+use Rattle.network_file.specs.declared.plan.keys.Key.{Key}
+use Rattle.network_file.specs.declared.plan.keys.Key.TheVariants.{Window}
+use Rattle.network_file.specs.Keys.{Assignment, takes}
+use Rattle.network_file.specs.Laws.{SettingsFit}
+use Rattle.network_file.specs.Plan.{Plan, version_of}
+use Rattle.network_file.specs.Settings.{is_of, same_key, value_of}
+use Rattle.net_replay.specs.CircuitRuns.{RunsThrough, WorldsAreRuns, first_sets, set_of}
+use Rattle.net_replay.specs.Circuits.{CircuitEvent, allowance_of, judged}
+use Rattle.net_replay.specs.Promises.{InTimeIsSafe}
+use Rattle.net_replay.specs.Starting.{by_number, new_placed}
+use Rattle.net_replay.proofs.Moving.{set_is}
+
+-- ---- before version 3 no window is above 64
+
+window_fits : (k : Key) (version value : ℕ) → same_key k Window ≡ true → takes version k value ≡ true → nat_le 3 version ≡ false → value ≤ 64
+window_fits Window version value s t v = let fits : nat_le value 64 ≡ true = sym (ap (λ b. b || nat_le value 64) v) ∙ t in grind (arith, fits)
+window_fits key version value s t v = absurd (cc s)
+
+both : (a b : Bool) → (a && b) ≡ true → b ≡ true
+both true b e = e
+both false b e = absurd (cc e)
+
+narrow_case : (b : Bool) (version node : ℕ) (s : Assignment) (ss : List Assignment) → is_of node Window s ≡ b → takes version s.key s.value ≡ true → nat_le 3 version ≡ false
+    → unwrap_or (option_map (λ (x : Assignment). x.value) (find (is_of node Window) ss)) 4 ≤ 64
+    → unwrap_or (option_map (λ (x : Assignment). x.value) (cond b (Some s) (find (is_of node Window) ss))) 4 ≤ 64
+narrow_case true version node s ss e t v rest = window_fits s.key version s.value (both (s.node == node) (same_key s.key Window) e) t v
+narrow_case false version node s ss e t v rest = rest
+
+narrow_in : (version node : ℕ) (ss : List Assignment) → AllByRecursion (λ (s : Assignment). takes version s.key s.value ≡ true) ss → nat_le 3 version ≡ false
+    → unwrap_or (option_map (λ (x : Assignment). x.value) (find (is_of node Window) ss)) 4 ≤ 64
+narrow_in version node [] all v = omega arith
+narrow_in version node (s ∷ ss) all v = narrow_case (is_of node Window s) version node s ss refl all.0 v (narrow_in version node ss all.1 v)
+
+are_narrow : (plan : Plan) (ds : List Declaration) → ((node : ℕ) → value_of plan.settings node Window ≤ 64) → AreNarrow (map set_of (map (new_placed plan) ds))
+are_narrow plan [] h = tt
+are_narrow plan (d ∷ ds) h =
+    (subst (λ x. x.config.window ≤ 64) (sym (set_is plan d (record { index = 1; ident = 1 }) 1)) (h d.node), are_narrow plan ds h)
+
+-- ---- what was judged is what was told
+
+told_are : (ns : List Numbered) → map (λ (e : CircuitEvent). e.event) (map judged ns) ≡ verdicts.events_of ns
+told_are [] = refl
+told_are (n ∷ ns) = ap (λ es. verdicts.event_of n.event ∷ es) (told_are ns)
+
+-- by the allowance of the file's version
+timely_case : (plan : Plan) (b : Bool) → nat_le 3 (version_of plan) ≡ b → (narrow : NarrowIsTimely) → AreStarts (first_sets plan) → (nat_le 3 (version_of plan) ≡ false → AreNarrow (first_sets plan))
+    → (steps : List Step) → AreSteps steps
+    → Timely (verdicts_on.allowance_of (allowance_of plan)) empty (events_of (first_sets plan) steps) → Timely allowed empty (events_of (first_sets plan) steps)
+timely_case plan true v narrow starts low steps are t =
+    subst (λ b. Timely (verdicts_on.allowance_of (cond b verdicts_at.OfWindow verdicts_at.Fixed)) empty (events_of (first_sets plan) steps)) v t
+timely_case plan false v narrow starts low steps are t =
+    narrow (first_sets plan) starts (low v) steps are (subst (λ b. Timely (verdicts_on.allowance_of (cond b verdicts_at.OfWindow verdicts_at.Fixed)) empty (events_of (first_sets plan) steps)) v t)
+
+pub in_time_is_safe : WorldsAreRuns → CircuitsSafe → NarrowIsTimely → SettingsFit → InTimeIsSafe
+in_time_is_safe runs safe narrow fit bytes plan e sound v done later is =
+    let r : RunsThrough plan done later = runs bytes plan e sound done later is in
+    let all : List Step = r.steps ++ r.then in
+    let told : verdicts.events_of v.events ≡ events_of (first_sets plan) all =
+    sym (told_are v.events) ∙ (ap (map (λ (x : CircuitEvent). x.event)) v.are ∙ r.all.told) in
+    let ok = v.verdict.none.0 refl in
+    let timely : Timely allowed empty (events_of (first_sets plan) all) =
+    timely_case plan (nat_le 3 (version_of plan)) refl narrow sound.starts
+    (λ low. are_narrow plan (by_number plan.declared 1 16) (λ node. narrow_in (version_of plan) node plan.settings (fit bytes plan e) low))
+    all r.all.are (subst (Timely (verdicts_on.allowance_of (allowance_of plan)) empty) told ok.0) in
+    let fresh : Fresh empty (events_of (first_sets plan) all) = subst (Fresh empty) told ok.1 in
+    record {
+      steps = r.steps;
+      run = r.is;
+      safe = λ before after s. (let whole : all ≡ before ++ (after ++ r.then) = ap (λ xs. xs ++ r.then) s ∙ append_assoc before after r.then in
+          safe (first_sets plan) sound.starts before (after ++ r.then) (subst AreSteps whole r.all.are)
+          (subst (λ xs. Timely allowed empty (events_of (first_sets plan) xs)) whole timely) (subst (λ xs. Fresh empty (events_of (first_sets plan) xs)) whole fresh));
+    }

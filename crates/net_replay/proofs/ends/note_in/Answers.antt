@@ -1,0 +1,26 @@
+use Rattle.std.proofs.Common.{◌≡◌, ◌<◌, ◌∙◌, ap, arith, length, ◌-◌, get_or}
+use Rattle.std.specs.Vec.{with_items}
+use Rattle.std.proofs.lemmas.List.{with_items_is}
+use Rattle.net_replay.specs.declared.ends.Outcome.TheVariants.{Lost}
+use Rattle.net_replay.specs.Ends.{note_entry, with_outcome}
+use Rattle.node_core.specs.Standing.{entry_of}
+use Rattle.net_replay.proofs.Noting.{noted}
+use Rattle.net_replay.proofs.ends.note_in.Goals as goal
+
+pub returns-in_ok-note_entry-in-Entry : goal.returns-in_ok-note_entry-in-Entry
+returns-in_ok-note_entry-in-Entry c =
+    let at = c.in-Entry.node in
+    let lists = c.args.lists.now in
+    let h : at < length lists = omega (arith, c.requires) in
+    rw c.in-Entry.is (λ node. noted lists at node c.note_entry.new.made c.index-lists-node.result (note_entry (entry_of c.in-Entry.entry)) h c.in_ok-note_entry-in-Entry.ensures)
+
+pub returns-in-Lost : goal.returns-in-Lost
+returns-in-Lost c =
+    let at = c.in-Lost.node in
+    let lists = c.args.lists.now in
+    let h : at < length lists = omega (arith, c.requires) in
+    let old = get_or lists at c.index-lists-node-in-Lost.result in
+    let same : length c.set_outcome.new.made ≡ old.len = c.set_outcome.auto.made ∙ c.deref_mut.ensures.len in
+    rw c.in-Lost.is
+    (λ node. noted lists at node (with_items old c.set_outcome.new.made) c.index-lists-node-in-Lost.result (with_outcome (Lost c.in-Lost.facts) (c.in-Lost.end - 1)) h
+    (with_items_is old c.set_outcome.new.made same ∙ (c.set_outcome.ensures ∙ ap (with_outcome (Lost c.in-Lost.facts) (c.in-Lost.end - 1)) c.deref_mut.ensures.value)))

@@ -1,0 +1,10 @@
+use Rattle.std.proofs.Common.{◌≡◌, drop, filter}
+use Rattle.node_core.specs.Kept.{NodeStands}
+use Rattle.node_core.specs.States.{NodeState}
+use Rattle.net_replay.specs.Starting.{is_via_of, with_vias}
+use Rattle.net_replay.proofs.stations.set_paths.Given as goal
+
+abbrev pub invariant-loop-via : goal.invariant-loop-via
+invariant-loop-via l = (n : NodeState) → NodeStands l.fn.node n
+    → (m : NodeState) × NodeStands l.node m
+    × (with_vias (filter (is_via_of l.number) (drop l.via-index l.vias)) m ≡ with_vias (filter (is_via_of l.number) l.vias) n)

@@ -1,0 +1,56 @@
+-- What was told of circuits in a network, and the verdict on it. Own profile.
+use Rattle.std.specs.Prelude.{◌≡◌, ℕ, List, [], ◌∷◌, ◌++◌, map, slice_get, nat_le, if◌then◌else◌, Option, Some, None}
+use Rattle.circuit_set.specs.Books as books
+use Rattle.circuit_set.specs.Pumps.{Of}
+use Rattle.circuit_set.specs.Sets as sets
+use Rattle.circuit_verdict.specs.declared.event.Numbered.{Numbered}
+use Rattle.circuit_verdict.specs.declared.verdict.Allowance.{Allowance}
+use Rattle.circuit_verdict.specs.declared.verdict.Allowance.TheVariants.{Fixed, OfWindow}
+use Rattle.circuit_verdict.specs.declared.verdict.Late.{Late}
+use Rattle.circuit_verdict.specs.Events as verdicts
+use Rattle.circuit_verdict.specs.Verdicts.{IsVerdict}
+use Rattle.network_file.specs.Plan.{Plan, version_of}
+use Rattle.node_core.specs.States as states
+use Rattle.net_replay.specs.Events.{Event, Entry, Lost, NumberedEvent, Restarted}
+use Rattle.net_replay.specs.Starting.{Placed}
+use Rattle.net_replay.specs.World.{World, place_of}
+
+-- what was told at a node's circuits, with the number of the line
+pub record CircuitEvent : Type 0 where
+  pub line : ℕ
+  pub event : books.Event
+
+-- a node is named by its place among the nodes
+abbrev pub at_node : ℕ → ℕ → Option Placed → sets.Told → List CircuitEvent
+at_node line at None told = []
+at_node line at (Some p) told = record { line = line; event = record { node = at; own = p.declared.call; told = told } } ∷ []
+
+abbrev pub told_at : List Placed → ℕ → ℕ → sets.Told → List CircuitEvent
+told_at nodes line number told = at_node line (place_of number nodes) (slice_get nodes (place_of number nodes)) told
+
+-- that a datagram came to nothing, that a neighbour was lost, and what isn't told of circuits at all, is none of it
+abbrev pub event_at : List Placed → ℕ → Event → List CircuitEvent
+event_at nodes line (Entry node (states.Of_set (Of told))) = told_at nodes line node told
+event_at nodes line (Restarted node pair) = told_at nodes line node (sets.Restarted pair)
+event_at nodes line (Lost node end facts) = told_at nodes line node (sets.Lost end facts)
+event_at nodes line event = []
+
+abbrev pub events_at : List Placed → List NumberedEvent → List CircuitEvent
+events_at nodes [] = []
+events_at nodes (e ∷ es) = event_at nodes e.line e.event ++ events_at nodes es
+
+abbrev pub circuit_events : World → List CircuitEvent
+circuit_events w = events_at w.nodes w.told
+
+-- files of version 3 and later allow as many overtakers as fit a circuit's window; those before fewer than 128
+abbrev pub allowance_of : Plan → Allowance
+allowance_of plan = if nat_le 3 (version_of plan) then OfWindow else Fixed
+
+abbrev pub judged : Numbered → CircuitEvent
+judged n = record { line = n.line; event = verdicts.event_of n.event }
+
+-- the verdict on what was told of circuits: none where it is timely and fresh, else the first line at which it isn't
+pub record IsVerdictOn (plan : Plan) (w : World) (late : Option Late) : Type 0 where
+  pub events : List Numbered
+  pub are : map judged events ≡ circuit_events w
+  pub verdict : IsVerdict (allowance_of plan) events late

@@ -1,0 +1,46 @@
+-- What there is to tell of a replay, as plain data. Own profile.
+use Rattle.std.specs.Prelude.{ℕ, List}
+use Rattle.circuit_l4.specs.declared.plain.EndFacts.{EndFacts}
+use Rattle.circuit_l4.specs.declared.transport.Pair.{Pair}
+use Rattle.node_core.specs.States as nodes
+use Rattle.node_core.specs.Standing.{entry_of}
+use Rattle.net_replay.specs.declared.events.Event as code
+use Rattle.net_replay.specs.declared.events.Event.TheVariants as codes
+use Rattle.net_replay.specs.declared.events.NumberedEvent as numbered
+use Rattle.net_replay.specs.declared.reasons.LineRefusal.{LineRefusal}
+use Rattle.net_replay.specs.Tables.{Table}
+
+-- What the node of a number tells; that a frame was put in the air, or goes to a node; a table that was shown; a message that
+-- was taken, and how many of a burst were written; that a node started again, and that this took an end away; and why an act
+-- wasn't done.
+pub data Event : Type 0 where
+  Entry : (node : ℕ) (entry : nodes.Entry) → Event
+  InAir : (frame : ℕ) → Event
+  Delivered : (frame node : ℕ) → Event
+  Shown : Table → Event
+  Took : (node end : ℕ) (message : List ℕ) → Event
+  Wrote : (node end count : ℕ) → Event
+  Restarted : (node : ℕ) (pair : Pair) → Event
+  Lost : (node end : ℕ) (facts : EndFacts) → Event
+  Refused : LineRefusal → Event
+
+-- with the number of the line at which it came, from 1
+pub record NumberedEvent : Type 0 where
+  pub line : ℕ
+  pub event : Event
+
+-- ---- the same as the code hands it out
+
+abbrev pub event_of : code.Event → Event
+event_of (codes.Entry node entry) = Entry node (entry_of entry)
+event_of (codes.InAir frame) = InAir frame
+event_of (codes.Delivered frame node) = Delivered frame node
+event_of (codes.Shown table) = Shown table
+event_of (codes.Took node end message) = Took node end message.items
+event_of (codes.Wrote node end count) = Wrote node end count
+event_of (codes.Restarted node pair) = Restarted node pair
+event_of (codes.Lost node end facts) = Lost node end facts
+event_of (codes.Refused why) = Refused why
+
+abbrev pub numbered_of : numbered.NumberedEvent → NumberedEvent
+numbered_of e = record { line = e.line; event = event_of e.event }

@@ -1,0 +1,22 @@
+-- What the writing of a report goes by; not for the reader of a contract.
+use Rattle.std.specs.Prelude.{ℕ, ◌≡◌, List, map}
+use Rattle.network_file.specs.declared.plan.declarations.Declaration.{Declaration}
+use Rattle.net_replay.specs.declared.ends.EndRecord.{EndRecord}
+use Rattle.net_replay.specs.declared.events.NumberedEvent.{NumberedEvent}
+use Rattle.net_replay.specs.Ends.{ends_at}
+use Rattle.net_replay.specs.Events.{numbered_of}
+use Rattle.net_replay.specs.Reports.{told_text}
+use Rattle.net_replay.specs.Starting.{Placed}
+use Rattle.net_replay.specs.Traces.{Left}
+
+-- the ends that the node of a number ever made, as they are kept
+abbrev pub ends_left : Left → ℕ → List EndRecord
+ends_left left node = ends_at node left.ends
+
+-- what is written of an event that is left
+abbrev pub text_left : Left → NumberedEvent → List ℕ
+text_left left e = told_text left.air (ends_left left) (numbered_of e)
+
+-- these nodes are declared so
+abbrev pub AreDeclared : List Declaration → List Placed → Type 0
+AreDeclared declared nodes = declared ≡ map (λ (p : Placed). p.declared) nodes

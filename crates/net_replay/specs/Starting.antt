@@ -1,0 +1,117 @@
+-- How the nodes of a network start. Own profile.
+use Rattle.std.specs.Prelude.{ℕ, zero, suc, Bool, false, ◌==◌, List, [], ◌∷◌, ◌++◌, map, filter, Result, Ok, Err}
+use Rattle.arrayvec.specs.ArrayVec.{ArrayVec}
+use Rattle.ax_address.specs.Callsign.{Callsign}
+use Rattle.ax_address.specs.declared.address.Address.{Address}
+use Rattle.ax_link.specs.declared.plain.LinkConfig.{LinkConfig}
+use Rattle.circuit_l4.specs.declared.plain.EndConfig.{EndConfig}
+use Rattle.circuit_l4.specs.declared.transport.Pair.{Pair}
+use Rattle.link_table.specs.Calls as links
+use Rattle.link_table.specs.declared.path_refusal.PathRefusal.{PathRefusal}
+use Rattle.network_file.specs.declared.plan.declarations.Declaration.{Declaration}
+use Rattle.network_file.specs.declared.plan.keys.Key.TheVariants.{Window, Timeout, Retries, Busy, Inactive, TimeToLive, Life, Least, MinimumQuality, PathQuality, Links, Modulo, LinkWindow, SelectiveReject, T1, T3, LinkRetries, Interval}
+use Rattle.network_file.specs.declared.plan.vias.Via.{Via}
+use Rattle.network_file.specs.Keys.{Assignment}
+use Rattle.network_file.specs.Plan.{Plan}
+use Rattle.network_file.specs.Settings.{value_of}
+use Rattle.node_core.specs.declared.config.NodeConfig.{NodeConfig}
+use Rattle.node_core.specs.Broadcasts.{address_of}
+use Rattle.route_table.specs.declared.route.RouteRules.{RouteRules}
+use Rattle.node_core.specs.Configs.{new_node}
+use Rattle.node_core.specs.States.{NodeState, at_links}
+
+-- ---- the settings of a node
+
+abbrev pub route_rules : List Assignment → ℕ → RouteRules
+route_rules settings node =
+    record { life = value_of settings node Life; least = value_of settings node Least; minq = value_of settings node MinimumQuality }
+
+abbrev pub end_config : List Assignment → ℕ → EndConfig
+end_config settings node =
+    record {
+      window = value_of settings node Window;
+      timeout = value_of settings node Timeout;
+      retries = value_of settings node Retries;
+      busy = value_of settings node Busy;
+      inactive = value_of settings node Inactive;
+    }
+
+abbrev pub link_config : List Assignment → ℕ → LinkConfig
+link_config settings node =
+    record {
+      window = value_of settings node LinkWindow;
+      srej = value_of settings node SelectiveReject == 1;
+      t1 = value_of settings node T1;
+      t3 = value_of settings node T3;
+      retries = value_of settings node LinkRetries;
+    }
+
+-- with the pair and the number of its first end
+abbrev pub config_of : List Assignment → Declaration → Pair → ℕ → NodeConfig
+config_of settings d pair first =
+    record {
+      call = d.call;
+      alias = d.alias;
+      routes = route_rules settings d.node;
+      quality = value_of settings d.node PathQuality;
+      ttl = value_of settings d.node TimeToLive;
+      ends = end_config settings d.node;
+      links = value_of settings d.node Links == 1;
+      modulo128 = value_of settings d.node Modulo == 128;
+      link = link_config settings d.node;
+      prompt = false;
+      interval = value_of settings d.node Interval;
+      pair = pair;
+      first = first;
+    }
+
+-- ---- a node as it starts
+
+-- a repeater that hasn't repeated yet, with the reserved bits 1
+abbrev pub repeater : Callsign → Address
+repeater call = address_of call false
+
+abbrev pub path_of : Via → ArrayVec Address
+path_of via = record { items = map repeater via.repeaters.items }
+
+-- a node reaches a peer over its repeaters; a way that it refuses isn't set, but a file names none of these
+abbrev pub with_via_by : Result (Unit {0}) PathRefusal → Via → NodeState → NodeState
+with_via_by (Ok _) via n = record n { station = at_links (links.with_path via.peer (path_of via)) n.station }
+with_via_by (Err why) via n = n
+
+abbrev pub with_via : Via → NodeState → NodeState
+with_via via n = with_via_by (links.path_answer via.peer (path_of via) n.station.links) via n
+
+abbrev pub with_vias : List Via → NodeState → NodeState
+with_vias [] n = n
+with_vias (via ∷ vias) n = with_vias vias (with_via via n)
+
+abbrev pub is_via_of : ℕ → Via → Bool
+is_via_of node via = via.node == node
+
+-- a node as it starts
+abbrev pub started : Plan → Declaration → Pair → ℕ → NodeState
+started plan d pair first = with_vias (filter (is_via_of d.node) plan.vias) (new_node (config_of plan.settings d pair first))
+
+-- ---- all nodes of a network
+
+-- a node of a network, and its state
+pub record Placed : Type 0 where
+  pub declared : Declaration
+  pub state : NodeState
+
+-- a node that starts for the first time gives the pair (1, 1) first, and numbers its ends from 1
+abbrev pub new_placed : Plan → Declaration → Placed
+new_placed plan d = record { declared = d; state = started plan d (record { index = 1; ident = 1 }) 1 }
+
+abbrev pub has_number : ℕ → Declaration → Bool
+has_number number d = d.node == number
+
+-- the declarations of so many numbers from `number` on
+unfoldable pub by_number : List Declaration → ℕ → ℕ → List Declaration
+by_number declared number zero = []
+by_number declared number (suc count) = filter (has_number number) declared ++ by_number declared (suc number) count
+
+-- the nodes of a network by number, from 1 to 16, as they start
+abbrev pub new_nodes : Plan → List Placed
+new_nodes plan = map (new_placed plan) (by_number plan.declared 1 16)

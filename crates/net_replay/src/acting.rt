@@ -1,0 +1,207 @@
+//! The lines at one node: what its user does, and its table; and time, which goes on at all of them.
+ghost use Rattle.std.specs.Prelude.{◌≡◌, ℕ, OnOk, IfOk, length, slice_get};
+ghost use Rattle.std.specs.Option.{option_map};
+ghost use Rattle.node_core.specs.declared.acts.UserAct.TheVariants as acts;
+ghost use Rattle.net_replay.specs.Lines as lines;
+ghost use Rattle.net_replay.specs.Running as running;
+ghost use Rattle.net_replay.specs.Running.{GoesOn, Runs, Stands, course};
+ghost use Rattle.net_replay.specs.World as worlds;
+
+use crate::events::{Event, Table};
+use crate::moves::World;
+use crate::reasons::{LineRefusal, ReplayRefusal};
+use crate::stations::shown;
+use l3_datagram::Message;
+use network_file::Channel;
+use node_core::{ActDone, UserAct};
+use radio_base::{Moment, NoMemory};
+
+impl World {
+    /// KISS bytes reach the node of that number, of a frame that was written modulo 128 or not.
+    pub fn hear(
+        &mut self,
+        channels: &[Channel],
+        line: u32,
+        number: u8,
+        bytes: &[u8],
+        modulo128: bool,
+    ) -> Result<(), ReplayRefusal>
+        ensures { Runs (course self.old) (course self.new) (lines.hear channels.now line number bytes.now modulo128) result }
+    {
+        let at = self.place_of(number);
+        self.bytes_reach(line, at, bytes)?;
+        self.put_in_air(channels, line, at, modulo128)
+    }
+
+    /// A node's user acts, or it is told why that isn't done.
+    pub fn act(
+        &mut self,
+        channels: &[Channel],
+        line: u32,
+        number: u8,
+        act: &UserAct,
+    ) -> Result<(), ReplayRefusal>
+        ensures { Runs (course self.old) (course self.new) (lines.do_act channels.now line number act.now lines.told_of) result }
+    {
+        let at = self.place_of(number);
+        let answer = self.act_reaches(line, at, act)?;
+        self.tell_answer(line, answer)?;
+        self.put_in_air(channels, line, at, false)
+    }
+
+    /// Tells why an act isn't done.
+    fn tell_answer(
+        &mut self,
+        line: u32,
+        answer: Result<ActDone, LineRefusal>,
+    ) -> Result<(), NoMemory>
+        ensures { OnOk result (GoesOn (course self.old) (course self.new) (worlds.tell line (running.answer_events answer))) }
+    {
+        match answer {
+            Ok(_) => Ok(()),
+            Err(why) => {
+                self.tell(line, Event::Refused { why })?;
+                Ok(())
+            }
+        }
+    }
+
+    /// A text is written at an end, as a message.
+    pub fn say(
+        &mut self,
+        channels: &[Channel],
+        line: u32,
+        number: u8,
+        end: u32,
+        text: &[u8],
+    ) -> Result<(), ReplayRefusal>
+        ensures { Runs (course self.old) (course self.new) (lines.do_act channels.now line number (lines.write end (lines.message_of text.now)) (lines.said_of text.now)) result }
+    {
+        let at = self.place_of(number);
+        let act = UserAct::Write {
+            id: end as u64,
+            message: message_of(text),
+        };
+        let answer = self.act_reaches(line, at, &act)?;
+        self.tell_answer(line, said(text, answer))?;
+        self.put_in_air(channels, line, at, false)
+    }
+
+    /// A message is taken from an end.
+    pub fn take(
+        &mut self,
+        channels: &[Channel],
+        line: u32,
+        number: u8,
+        end: u32,
+    ) -> Result<(), ReplayRefusal>
+        ensures { Runs (course self.old) (course self.new) (lines.do_act channels.now line number (acts.Take end) (lines.took_of number end)) result }
+    {
+        let at = self.place_of(number);
+        let answer = self.act_reaches(line, at, &UserAct::Take { id: end as u64 })?;
+        self.tell_taken(line, number, end, answer)?;
+        self.put_in_air(channels, line, at, false)
+    }
+
+    /// Tells the message that was taken, or why none was.
+    fn tell_taken(
+        &mut self,
+        line: u32,
+        node: u8,
+        end: u32,
+        answer: Result<ActDone, LineRefusal>,
+    ) -> Result<(), NoMemory>
+        ensures { OnOk result (GoesOn (course self.old) (course self.new) (worlds.tell line (running.taken_events node end answer))) }
+    {
+        match answer {
+            Ok(ActDone::Took(message)) => {
+                let message = message.as_slice().to_vec(self.alloc)?;
+                self.tell(line, Event::Took { node, end, message })?;
+                Ok(())
+            }
+            Ok(_) => Ok(()),
+            Err(why) => {
+                self.tell(line, Event::Refused { why })?;
+                Ok(())
+            }
+        }
+    }
+
+    /// The table of the node of that number is shown.
+    pub fn show(&mut self, line: u32, number: u8) -> Result<(), NoMemory>
+        ensures { OnOk result (GoesOn (course self.old) (course self.new) (lines.show line number)) }
+    {
+        let at = self.place_of(number);
+        match self.table_at(at)? {
+            Some(table) => {
+                self.tell(line, Event::Shown { table })?;
+                Ok(())
+            }
+            None => Ok(()),
+        }
+    }
+
+    /// The table of the node at a place, as it is shown.
+    fn table_at(&self, at: usize) -> Result<Option<Table>, NoMemory>
+        ensures { IfOk result (λ table. (w : worlds.World) → Stands (course self.now) w → table ≡ option_map lines.table_of (slice_get w.nodes at)) }
+    {
+        if at < self.nodes.len() {
+            if at < self.declared.len() {
+                let table = shown(self.alloc, &self.declared[at], &self.nodes[at])?;
+                Ok(Some(table))
+            } else {
+                Ok(None)
+            }
+        } else {
+            Ok(None)
+        }
+    }
+
+    /// Time goes on, and each node is told, by number.
+    pub fn tick(
+        &mut self,
+        channels: &[Channel],
+        line: u32,
+        milliseconds: u32,
+    ) -> Result<(), ReplayRefusal>
+        ensures { Runs (course self.old) (course self.new) (lines.tick channels.now line milliseconds) result }
+    {
+        self.time = Moment(self.time.0.saturating_add(milliseconds as u64));
+        self.tick_nodes(channels, line)
+    }
+
+    fn tick_nodes(&mut self, channels: &[Channel], line: u32) -> Result<(), ReplayRefusal>
+        ensures { Runs (course self.old) (course self.new) (λ w. lines.tick_from channels.now line 0 (length w.nodes) w) result }
+    {
+        for at in 0..self.nodes.len() {
+            self.tick_node(channels, line, at)?;
+        }
+        Ok(())
+    }
+
+    fn tick_node(&mut self, channels: &[Channel], line: u32, at: usize) -> Result<(), ReplayRefusal>
+        ensures { Runs (course self.old) (course self.new) (lines.tick_node channels.now line at) result }
+    {
+        self.time_reaches(line, at)?;
+        self.put_in_air(channels, line, at, false)
+    }
+}
+
+/// A text as a message: an empty one for a text of more than 8,192 bytes.
+fn message_of(text: &[u8]) -> Message
+    ensures { result ≡ record { items = lines.message_of text.now } }
+{
+    let mut message = Message::new();
+    let _ = message.try_extend_from_slice(text);
+    message
+}
+
+/// What is told of the writing of a text: one that was too long was handed on as an empty one.
+fn said(text: &[u8], answer: Result<ActDone, LineRefusal>) -> Result<ActDone, LineRefusal>
+    ensures { result ≡ running.said_answer (lines.is_long text.now) answer }
+{
+    match answer {
+        Err(LineRefusal::Empty) if text.len() > 8192 => Err(LineRefusal::TooLong),
+        other => other,
+    }
+}

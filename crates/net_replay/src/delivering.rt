@@ -1,0 +1,174 @@
+//! The lines on frames: they go to nodes, are lost, or go where they go by themselves.
+ghost use Rattle.std.specs.Prelude.{◌≡◌, ◌∷◌, [], OnOk, filter};
+ghost use Rattle.network_file.specs.Channels.{can_hear, hearers};
+ghost use Rattle.net_replay.specs.Lines as lines;
+ghost use Rattle.net_replay.specs.Running.{GoesOn, Runs, course};
+
+use crate::air::place_of_frame;
+use crate::events::Event;
+use crate::kiss::kiss_bytes;
+use crate::moves::World;
+use crate::reasons::ReplayRefusal;
+use network_file::{Channel, can_hear};
+use radio_base::NoMemory;
+
+impl World {
+    /// Settles an unsettled frame, which goes to a node, or tells why not.
+    pub fn deliver(
+        &mut self,
+        channels: &[Channel],
+        line: u32,
+        frame: u32,
+        node: u8,
+    ) -> Result<(), ReplayRefusal>
+        ensures { Runs (course self.old) (course self.new) (lines.deliver channels.now line frame node) result }
+    {
+        match self.air.delivery_fault(channels, frame, false, node) {
+            Some(why) => {
+                self.tell(line, Event::Refused { why })?;
+                Ok(())
+            }
+            None => {
+                let at = place_of_frame(frame);
+                self.air.settle(at);
+                self.deliver_at(channels, line, at, node)
+            }
+        }
+    }
+
+    /// A settled frame goes to a node again, or it is told why not.
+    pub fn repeat(
+        &mut self,
+        channels: &[Channel],
+        line: u32,
+        frame: u32,
+        node: u8,
+    ) -> Result<(), ReplayRefusal>
+        ensures { Runs (course self.old) (course self.new) (lines.repeat channels.now line frame node) result }
+    {
+        match self.air.delivery_fault(channels, frame, true, node) {
+            Some(why) => {
+                self.tell(line, Event::Refused { why })?;
+                Ok(())
+            }
+            None => self.deliver_at(channels, line, place_of_frame(frame), node),
+        }
+    }
+
+    /// Settles an unsettled frame, or tells why not.
+    pub fn lose(&mut self, line: u32, frame: u32) -> Result<(), NoMemory>
+        ensures { OnOk result (GoesOn (course self.old) (course self.new) (lines.lose line frame)) }
+    {
+        match self.air.lost_fault(frame, false) {
+            Some(why) => {
+                self.tell(line, Event::Refused { why })?;
+                Ok(())
+            }
+            None => {
+                self.air.settle(place_of_frame(frame));
+                Ok(())
+            }
+        }
+    }
+
+    /// The frame at a place goes to a node.
+    fn deliver_at(
+        &mut self,
+        channels: &[Channel],
+        line: u32,
+        at: usize,
+        node: u8,
+    ) -> Result<(), ReplayRefusal>
+        ensures { Runs (course self.old) (course self.new) (lines.deliver_at channels.now line at node) result }
+    {
+        match self.air.frames().get(at) {
+            Some(frame) => {
+                let bytes = kiss_bytes(frame.octets.as_slice());
+                let modulo128 = frame.modulo128;
+                let frame = at + 1;
+                self.tell(line, Event::Delivered { frame, node })?;
+                self.hear(channels, line, node, bytes.as_slice(), modulo128)
+            }
+            None => Ok(()),
+        }
+    }
+
+    /// So many times, the oldest unsettled frame is settled and goes to each node that hears its sender.
+    pub fn flow(&mut self, channels: &[Channel], line: u32, count: u32) -> Result<(), ReplayRefusal>
+        ensures { Runs (course self.old) (course self.new) (lines.flow channels.now line count) result }
+    {
+        for _ in 0..count {
+            let Some(at) = self.air.oldest() else {
+                return Ok(());
+            };
+            self.flow_once(channels, line, at)?;
+        }
+        Ok(())
+    }
+
+    /// Settles the frame at a place, which goes to each node that hears its sender.
+    fn flow_once(&mut self, channels: &[Channel], line: u32, at: usize) -> Result<(), ReplayRefusal>
+        ensures { Runs (course self.old) (course self.new) (λ w. lines.spread channels.now line at (lines.settle at w)) result }
+    {
+        self.air.settle(at);
+        self.spread(channels, line, at)
+    }
+
+    /// The frame at a place goes to each node that hears its sender.
+    fn spread(&mut self, channels: &[Channel], line: u32, at: usize) -> Result<(), ReplayRefusal>
+        ensures { Runs (course self.old) (course self.new) (lines.spread channels.now line at) result }
+    {
+        match self.air.frames().get(at) {
+            Some(frame) => {
+                let sender = frame.sender;
+                self.spread_from(channels, line, at, sender)
+            }
+            None => Ok(()),
+        }
+    }
+
+    fn spread_from(
+        &mut self,
+        channels: &[Channel],
+        line: u32,
+        at: usize,
+        sender: u8,
+    ) -> Result<(), ReplayRefusal>
+        ensures { Runs (course self.old) (course self.new) (lines.deliver_all channels.now line at (hearers channels.now sender)) result }
+    {
+        for number in 1..17u8 {
+            self.deliver_if_heard(channels, line, at, sender, number)?;
+        }
+        Ok(())
+    }
+
+    /// The frame at a place goes to the node of that number, if it hears the sender.
+    fn deliver_if_heard(
+        &mut self,
+        channels: &[Channel],
+        line: u32,
+        at: usize,
+        sender: u8,
+        number: u8,
+    ) -> Result<(), ReplayRefusal>
+        ensures { Runs (course self.old) (course self.new) (lines.deliver_all channels.now line at (filter (can_hear channels.now sender) (number ∷ []))) result }
+    {
+        if can_hear(channels, sender, number) {
+            self.deliver_at(channels, line, at, number)
+        } else {
+            Ok(())
+        }
+    }
+
+    /// So many times, settles the oldest unsettled frame.
+    pub fn cut(&mut self, count: u32)
+        ensures { GoesOn (course self.old) (course self.new) (lines.cut count) }
+    {
+        for _ in 0..count {
+            let Some(at) = self.air.oldest() else {
+                return;
+            };
+            self.air.settle(at);
+        }
+    }
+}

@@ -1,0 +1,138 @@
+//! The ends that nodes ever made, as a replay keeps them.
+ghost use Rattle.std.specs.Prelude.{◌≡◌, ◌<◌, ◌-◌, ℕ, [], IfOk, OnOk, length};
+ghost use Rattle.node_core.specs.Standing.{entry_of};
+ghost use Rattle.net_replay.specs.Ends as ends;
+ghost use Rattle.net_replay.specs.Events.{event_of};
+
+use crate::events::Event;
+use ax_address::Call;
+use circuit_l4::EndFacts;
+use circuit_set::SetEvent;
+use node_core::NodeEntry;
+use radio_base::NoMemory;
+use std::alloc::Global;
+use std::marker::Model;
+
+/// What has become of an end.
+#[derive(Clone, Copy, Debug, PartialEq, Eq)]
+pub enum Outcome {
+    /// It is still held.
+    Held,
+    /// It ended, and is gone.
+    Gone(EndFacts),
+    /// A restart of its node took it away.
+    Lost(EndFacts),
+}
+
+/// An end that a node made. Ends are numbered from 1 in the order of their making.
+#[derive(Clone, Copy, Debug, PartialEq, Eq)]
+pub struct EndRecord {
+    /// The partner's node.
+    pub partner: Call,
+    pub outcome: Outcome,
+}
+
+/// The ends that nodes ever made: a list for each number that a node can have.
+#[derive(Drop)]
+pub struct Ends {
+    lists: Vec<Vec<EndRecord>>,
+}
+
+impl Model for Ends {
+    ghost use Rattle.std.specs.Prelude.{◌≡◌, List, length};
+    ghost use Rattle.net_replay.specs.declared.ends.EndRecord.{EndRecord};
+    ghost use Rattle.net_replay.specs.Ends.{all_items};
+
+    ghost Value = { List (List EndRecord) };
+
+    ghost view = { λ e. all_items e.lists.items };
+
+    ghost invariant = { λ e. length e.lists.items ≡ 256 };
+}
+
+impl Ends {
+    ghost use Rattle.std.specs.Prelude.{◌≡◌, ℕ, [], IfOk, OnOk};
+    ghost use Rattle.net_replay.specs.Ends.{ends_at, note_event};
+    ghost use Rattle.net_replay.specs.Events.{event_of};
+
+    /// No node has made one.
+    pub fn new(alloc: Global) -> Result<Ends, NoMemory>
+        ensures { IfOk result (λ ends. (node : ℕ) → ends_at node ends ≡ []) }
+    {
+        let lists = empty_lists(alloc)?;
+        Ok(Ends { lists })
+    }
+
+    /// The ends of the node of that number, by number.
+    pub fn of_node(&self, node: u8) -> &[EndRecord]
+        ensures { result.now ≡ ends_at node self.now }
+    {
+        &self.lists[node as usize]
+    }
+
+    /// Keeps what an event tells of ends.
+    pub fn note(&mut self, event: &Event) -> Result<(), NoMemory>
+        ensures { OnOk result ((node : ℕ) → ends_at node self.new ≡ note_event node (event_of event.now) (ends_at node self.old)) }
+    {
+        note_in(&mut self.lists, event)?;
+        Ok(())
+    }
+}
+
+fn empty_lists(alloc: Global) -> Result<Vec<Vec<EndRecord>>, NoMemory>
+    ensures all { IfOk result (λ lists. length lists.items ≡ 256) }
+    ensures empty { IfOk result (λ lists. (node : ℕ) → ends.ends_at node (ends.all_items lists.items) ≡ []) }
+{
+    let mut lists = Vec::new(alloc);
+    for _ in 0..256usize {
+        lists.push(Vec::new(alloc))?;
+    }
+    Ok(lists)
+}
+
+fn note_in(lists: &mut [Vec<EndRecord>], event: &Event) -> Result<(), NoMemory>
+    requires { length lists.old ≡ 256 }
+    ensures { OnOk result ((node : ℕ) → ends.ends_at node (ends.all_items lists.new) ≡ ends.note_event node (event_of event.now) (ends.ends_at node (ends.all_items lists.old))) }
+{
+    match event {
+        Event::Entry { node, entry } => {
+            note_entry(&mut lists[*node as usize], entry)?;
+            Ok(())
+        }
+        Event::Lost { node, end, facts } => {
+            set_outcome(&mut lists[*node as usize], *end, Outcome::Lost(*facts));
+            Ok(())
+        }
+        _ => Ok(()),
+    }
+}
+
+/// Keeps an end that was made, and what became of one that is gone.
+fn note_entry(made: &mut Vec<EndRecord>, entry: &NodeEntry) -> Result<(), NoMemory>
+    ensures { OnOk result (made.new.items ≡ ends.note_entry (entry_of entry.now) made.old.items) }
+{
+    match entry {
+        NodeEntry::Set(SetEvent::Made { partner, .. }) => {
+            made.push(EndRecord {
+                partner: *partner,
+                outcome: Outcome::Held,
+            })?;
+            Ok(())
+        }
+        NodeEntry::Set(SetEvent::Gone { id, facts }) => {
+            set_outcome(made, *id, Outcome::Gone(*facts));
+            Ok(())
+        }
+        _ => Ok(()),
+    }
+}
+
+/// Sets what has become of the end of that number, from 1.
+fn set_outcome(made: &mut [EndRecord], id: u64, outcome: Outcome)
+    ensures { made.new ≡ ends.with_outcome outcome (id - 1) made.old }
+{
+    let at = id.saturating_sub(1) as usize;
+    if at < made.len() {
+        made[at].outcome = outcome;
+    }
+}

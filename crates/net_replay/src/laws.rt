@@ -1,0 +1,32 @@
+//! What is promised of every network.
+ghost use Rattle.net_replay.specs.CircuitRuns.{WorldsAreRuns};
+ghost use Rattle.net_replay.specs.Promises.{EachTellsRetries, InTimeIsSafe};
+
+/// What happens in a network is a run of its nodes' circuits: at each line they have come by some steps to what the world has of them, and what
+/// these steps told is what the world has told of circuits.
+pub fn worlds_are_circuit_runs()
+    ensures { WorldsAreRuns }
+{
+    node_core::laws::inputs_are_circuit_runs();
+    node_core::laws::inputs_are_steps();
+    network_file::laws::networks_fit();
+}
+
+/// Where no datagram and no pair comes back too late, each circuit user has received, at each line, exactly a beginning of its partner's
+/// messages, with every acknowledged one, and all of them after an orderly close.
+pub fn in_time_is_safe()
+    ensures { InTimeIsSafe }
+{
+    worlds_are_circuit_runs();
+    circuit_set::laws::circuits_safe();
+    circuit_set::laws::narrow_is_timely();
+    network_file::laws::networks_fit();
+}
+
+/// Whatever comes back too late: at each line, an end was told that its retries are used up exactly where they are.
+pub fn retries_are_told()
+    ensures { EachTellsRetries }
+{
+    worlds_are_circuit_runs();
+    circuit_set::laws::retries_are_told();
+}

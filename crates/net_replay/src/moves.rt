@@ -1,0 +1,235 @@
+//! The three moves of which every line is made: something reaches a node, events are told, a node's frames are put in the air.
+ghost use Rattle.std.specs.Prelude.{◌≡◌, ◌∷◌, [], ℕ, List, IfOk, IfSome, OnOk, length, slice_get, ◌<◌};
+ghost use Rattle.std.specs.List.{position_or_len};
+ghost use Rattle.std.specs.Option.{option_map};
+ghost use Rattle.node_core.specs.Standing.{entry_of};
+ghost use Rattle.net_replay.specs.Events.{event_of};
+ghost use Rattle.net_replay.specs.Running as running;
+ghost use Rattle.net_replay.specs.Running.{GoesOn, IsAnswerTo, Runs, Stands, course};
+ghost use Rattle.net_replay.specs.Starting.{has_number};
+ghost use Rattle.net_replay.specs.World as worlds;
+
+use crate::air::{Air, Octets};
+use crate::ends::Ends;
+use crate::events::{Event, NumberedEvent};
+use crate::places::place_of;
+use crate::reasons::{LineRefusal, ReplayRefusal};
+use crate::refused::of_act;
+use link_table::{Written, WrittenAs};
+use network_file::{Channel, Declaration, is_on_air};
+use node_core::{ActDone, Node, NodeEntry, UserAct};
+use radio_base::{Moment, NoMemory};
+use std::alloc::Global;
+
+/// A replay while it runs: the nodes by number, the time, the frames in the air, and the events so far.
+#[derive(Drop)]
+pub struct World {
+    pub alloc: Global,
+    pub declared: Vec<Declaration>,
+    pub nodes: Vec<Node>,
+    pub time: Moment,
+    pub air: Air,
+    pub ends: Ends,
+    pub events: Vec<NumberedEvent>,
+}
+
+impl World {
+    /// The place of the node of that number, or how many nodes there are.
+    pub fn place_of(&self, number: u8) -> usize
+        ensures { result ≡ position_or_len (has_number number) self.now.declared.items }
+    {
+        place_of(&self.declared, number)
+    }
+
+    /// KISS bytes reach the node at a place, and its entries are told. Its frames stay with it.
+    pub fn bytes_reach(&mut self, line: u32, at: usize, bytes: &[u8]) -> Result<(), NoMemory>
+        ensures { OnOk result (GoesOn (course self.old) (course self.new) (worlds.reach line at (worlds.Bytes bytes.now))) }
+    {
+        if at < self.nodes.len() {
+            self.nodes[at].kiss_bytes(bytes, self.time)?;
+            self.tell_entries(line, at)?;
+            Ok(())
+        } else {
+            Ok(())
+        }
+    }
+
+    /// The time reaches the node at a place, and its entries are told. Its frames stay with it.
+    pub fn time_reaches(&mut self, line: u32, at: usize) -> Result<(), NoMemory>
+        ensures { OnOk result (GoesOn (course self.old) (course self.new) (worlds.reach line at worlds.Time)) }
+    {
+        if at < self.nodes.len() {
+            self.nodes[at].tick(self.time)?;
+            self.tell_entries(line, at)?;
+            Ok(())
+        } else {
+            Ok(())
+        }
+    }
+
+    /// A user's act reaches the node at a place, and its entries are told: what was done, or why it wasn't. Its frames stay
+    /// with it.
+    pub fn act_reaches(
+        &mut self,
+        line: u32,
+        at: usize,
+        act: &UserAct,
+    ) -> Result<Result<ActDone, LineRefusal>, NoMemory>
+        ensures goes { OnOk result (GoesOn (course self.old) (course self.new) (worlds.reach line at (worlds.Act act.now))) }
+        ensures answer { IfOk result (λ answer. (w : worlds.World) → Stands (course self.old) w → IsAnswerTo answer (worlds.answer at act.now w)) }
+    {
+        if at < self.nodes.len() {
+            let answer = self.act_at(at, act)?;
+            self.tell_entries(line, at)?;
+            Ok(answer)
+        } else {
+            Ok(Ok(ActDone::Done))
+        }
+    }
+
+    /// A user's act reaches the node at a place.
+    fn act_at(&mut self, at: usize, act: &UserAct) -> Result<Result<ActDone, LineRefusal>, NoMemory>
+        requires { at < length self.old.nodes.items }
+        ensures goes { OnOk result ((w : worlds.World) → Stands (course self.old) w → Stands (course self.new) (running.change at (worlds.after w.now (worlds.Act act.now)) w)) }
+        ensures answer { IfOk result (λ answer. (w : worlds.World) → Stands (course self.old) w → IsAnswerTo answer (worlds.answer at act.now w)) }
+    {
+        match self.nodes[at].act(act, self.time) {
+            Ok(done) => Ok(Ok(done)),
+            Err(refusal) => match of_act(refusal) {
+                Some(why) => Ok(Err(why)),
+                None => Err(NoMemory),
+            },
+        }
+    }
+
+    /// Tells what the node at a place has to tell.
+    fn tell_entries(&mut self, line: u32, at: usize) -> Result<(), NoMemory>
+        ensures { OnOk result (GoesOn (course self.old) (course self.new) (running.all_entries line at)) }
+    {
+        while let Some(entry) = self.next_entry(at) {
+            self.tell_entry(line, at, entry)?;
+        }
+        Ok(())
+    }
+
+    /// Fetches the first thing that the node at a place has to tell.
+    fn next_entry(&mut self, at: usize) -> Option<NodeEntry>
+        ensures answer { (w : worlds.World) → Stands (course self.old) w → option_map entry_of result ≡ running.first_entry (slice_get w.nodes at) }
+        ensures goes { GoesOn (course self.old) (course self.new) (running.change at running.fetched_entry) }
+        ensures left { IfSome result (λ _. running.entries_at at self.new.nodes.items < running.entries_at at self.old.nodes.items) }
+    {
+        if at < self.nodes.len() {
+            self.nodes[at].trace_entry()
+        } else {
+            None
+        }
+    }
+
+    /// Tells an entry of the node at a place.
+    fn tell_entry(&mut self, line: u32, at: usize, entry: NodeEntry) -> Result<(), NoMemory>
+        ensures goes { OnOk result ((w : worlds.World) → Stands (course self.old) w → Stands (course self.new) (worlds.tell line (running.entry_events (entry_of entry) (slice_get w.nodes at)) w)) }
+        ensures nodes { self.new.nodes.items ≡ self.old.nodes.items }
+    {
+        match self.declared.get(at) {
+            Some(declared) => {
+                let node = declared.node;
+                self.tell(line, Event::Entry { node, entry })?;
+                Ok(())
+            }
+            None => Ok(()),
+        }
+    }
+
+    /// Tells an event.
+    pub fn tell(&mut self, line: u32, event: Event) -> Result<(), NoMemory>
+        ensures goes { OnOk result (GoesOn (course self.old) (course self.new) (worlds.tell line (event_of event ∷ []))) }
+        ensures nodes { self.new.nodes.items ≡ self.old.nodes.items }
+    {
+        self.ends.note(&event)?;
+        self.events.push(NumberedEvent { line, event })?;
+        Ok(())
+    }
+
+    /// Puts all frames of the node at a place in the air, where it is on a channel. A frame that is repeated was written as the
+    /// frame that came.
+    pub fn put_in_air(
+        &mut self,
+        channels: &[Channel],
+        line: u32,
+        at: usize,
+        came128: bool,
+    ) -> Result<(), ReplayRefusal>
+        ensures { Runs (course self.old) (course self.new) (worlds.put channels.now line at came128) result }
+    {
+        if at < self.declared.len() {
+            let node = self.declared[at].node;
+            self.put_frames(line, at, node, is_on_air(channels, node), came128)
+        } else {
+            Ok(())
+        }
+    }
+
+    fn put_frames(
+        &mut self,
+        line: u32,
+        at: usize,
+        node: u8,
+        on_air: bool,
+        came128: bool,
+    ) -> Result<(), ReplayRefusal>
+        ensures { Runs (course self.old) (course self.new) (running.put_by line at node on_air came128) result }
+    {
+        while let Some(written) = self.next_frame(at) {
+            self.put_frame(line, node, on_air, came128, &written)?;
+        }
+        Ok(())
+    }
+
+    /// Fetches the first frame that waits at the node at a place.
+    fn next_frame(&mut self, at: usize) -> Option<Written>
+        ensures answer { (w : worlds.World) → Stands (course self.old) w → result ≡ running.first_frame (slice_get w.nodes at) }
+        ensures goes { GoesOn (course self.old) (course self.new) (running.change at running.fetched_frame) }
+        ensures left { IfSome result (λ _. running.frames_at at self.new.nodes.items < running.frames_at at self.old.nodes.items) }
+    {
+        if at < self.nodes.len() {
+            self.nodes[at].next_frame()
+        } else {
+            None
+        }
+    }
+
+    /// Puts a frame of a node in the air, where the node is on a channel.
+    fn put_frame(
+        &mut self,
+        line: u32,
+        node: u8,
+        on_air: bool,
+        came128: bool,
+        written: &Written,
+    ) -> Result<(), ReplayRefusal>
+        ensures runs { Runs (course self.old) (course self.new) (running.airs line (running.aired_one on_air node came128 written.now)) result }
+        ensures nodes { self.new.nodes.items ≡ self.old.nodes.items }
+    {
+        if on_air {
+            let octets = Octets::new(self.alloc, written.octets.as_slice())?;
+            let modulo128 = is_modulo128(came128, written.how);
+            self.air.put(node, octets, modulo128)?;
+            let frame = self.air.frames().len();
+            self.tell(line, Event::InAir { frame })?;
+            Ok(())
+        } else {
+            Ok(())
+        }
+    }
+}
+
+/// How a frame was written; a repeated one as the frame that came.
+fn is_modulo128(came128: bool, how: WrittenAs) -> bool
+    ensures { result ≡ worlds.is_modulo128 came128 how }
+{
+    match how {
+        WrittenAs::Modulo8 => false,
+        WrittenAs::Modulo128 => true,
+        WrittenAs::AsItCame => came128,
+    }
+}

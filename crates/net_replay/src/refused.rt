@@ -1,0 +1,62 @@
+//! Why a node didn't do what a line asks for, as the line's refusal. Want of memory is none: the replay ends there.
+ghost use Rattle.std.specs.Prelude.{◌≡◌};
+ghost use Rattle.net_replay.specs.Refused as refused;
+
+use crate::reasons::LineRefusal;
+use circuit_l4::WriteRefusal;
+use circuit_set::ConnectRefusal;
+use node_core::ActRefusal;
+use route_table::LockRefusal;
+
+/// Why a node didn't act.
+pub fn of_act(refusal: ActRefusal) -> Option<LineRefusal>
+    ensures { result ≡ refused.of_act refusal }
+{
+    match refusal {
+        ActRefusal::NoEnd => Some(LineRefusal::NoEnd),
+        ActRefusal::Served => Some(LineRefusal::Served),
+        ActRefusal::Nothing => Some(LineRefusal::Nothing),
+        ActRefusal::Connect(refusal) => of_connect(refusal),
+        ActRefusal::Lock(refusal) => of_lock(refusal),
+        ActRefusal::Write(refusal) => Some(of_write(refusal)),
+        ActRefusal::NoMemory => None,
+    }
+}
+
+/// Why a circuit isn't asked for.
+fn of_connect(refusal: ConnectRefusal) -> Option<LineRefusal>
+    ensures { result ≡ refused.of_connect refusal }
+{
+    match refusal {
+        ConnectRefusal::Own => Some(LineRefusal::Own),
+        ConnectRefusal::NoRoute => Some(LineRefusal::NoRoute),
+        ConnectRefusal::Full => Some(LineRefusal::Full),
+        ConnectRefusal::NoMemory => None,
+    }
+}
+
+/// Why a route isn't locked in.
+fn of_lock(refusal: LockRefusal) -> Option<LineRefusal>
+    ensures { result ≡ refused.of_lock refusal }
+{
+    match refusal {
+        LockRefusal::Own => Some(LineRefusal::Own),
+        LockRefusal::TooLow => Some(LineRefusal::TooLow),
+        LockRefusal::TableFull { .. } => Some(LineRefusal::TableFull),
+        LockRefusal::NoMemory => None,
+    }
+}
+
+/// Why a message isn't written.
+fn of_write(refusal: WriteRefusal) -> LineRefusal
+    ensures { result ≡ refused.of_write refusal }
+{
+    match refusal {
+        WriteRefusal::NotUp => LineRefusal::NotUp,
+        WriteRefusal::Closing => LineRefusal::Closing,
+        WriteRefusal::Empty => LineRefusal::Empty,
+        WriteRefusal::TooLong => LineRefusal::TooLong,
+        WriteRefusal::QueueFull => LineRefusal::QueueFull,
+        WriteRefusal::Exhausted => LineRefusal::Exhausted,
+    }
+}

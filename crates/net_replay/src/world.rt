@@ -1,0 +1,138 @@
+//! What each line does: something reaches a node, events are told, a node's frames are put in the air.
+ghost use Rattle.std.specs.Prelude.{◌≡◌, ◌≤◌, ◌∷◌, [], OnOk, length, slice_get, filter};
+ghost use Rattle.circuit_set.specs.Pairs.{IsPair};
+ghost use Rattle.network_file.specs.Channels.{can_hear, hearers};
+ghost use Rattle.std.specs.List.{AllByRecursion};
+ghost use Rattle.net_replay.specs.CircuitRuns.{IsInstruction, IsLine};
+ghost use Rattle.net_replay.specs.Lines as lines;
+ghost use Rattle.net_replay.specs.Running.{GoesOn, Runs, course};
+ghost use Rattle.net_replay.specs.Running as running;
+ghost use Rattle.net_replay.specs.World as worlds;
+
+use crate::kiss::kiss_bytes;
+use crate::moves::World;
+use crate::reasons::ReplayRefusal;
+use crate::stations::is_callsign;
+use circuit_l4::Pair;
+use network_file::{Instruction, Network, NumberedInstruction};
+use node_core::{UserAct, broadcast_frame};
+
+impl World {
+    /// Does one instruction after another.
+    pub fn do_all(
+        &mut self,
+        network: &Network,
+        instructions: &[NumberedInstruction],
+    ) -> Result<(), ReplayRefusal>
+        ensures runs { Runs (course self.old) (course self.new) (lines.do_lines network.now instructions.now) result }
+        ensures sound { OnOk result (AllByRecursion IsLine instructions.now) }
+    {
+        for numbered in instructions {
+            is_instruction(&numbered.instruction);
+            self.do_line(network, numbered.line, &numbered.instruction)?;
+        }
+        Ok(())
+    }
+
+    /// Does what a line says.
+    fn do_line(
+        &mut self,
+        network: &Network,
+        line: u32,
+        instruction: &Instruction,
+    ) -> Result<(), ReplayRefusal>
+        ensures { Runs (course self.old) (course self.new) (lines.do_line network.now line instruction.now) result }
+    {
+        let channels = network.channels();
+        match instruction {
+            Instruction::Heard { node, call, nodes } => {
+                let octets = broadcast_frame(call, nodes);
+                let bytes = kiss_bytes(octets.as_slice());
+                self.hear(channels, line, *node, bytes.as_slice(), false)
+            }
+            Instruction::Lock {
+                node,
+                dest,
+                alias,
+                neighbour,
+                quality,
+            } => {
+                let act = UserAct::Lock {
+                    dest: *dest,
+                    alias: *alias,
+                    neighbour: *neighbour,
+                    quality: *quality,
+                };
+                self.act(channels, line, *node, &act)
+            }
+            Instruction::Round { node } => self.act(channels, line, *node, &UserAct::Round),
+            Instruction::LinkFail { node, call } => self.act(
+                channels,
+                line,
+                *node,
+                &UserAct::LinkFail(*call),
+            ),
+            Instruction::Show { node } => {
+                self.show(line, *node)?;
+                Ok(())
+            }
+            Instruction::Tick { milliseconds } => self.tick(channels, line, *milliseconds),
+            Instruction::Restart { node, pair } => {
+                let pair = Pair {
+                    index: pair.index(),
+                    ident: pair.ident(),
+                };
+                self.restart(network, line, *node, pair)?;
+                Ok(())
+            }
+            Instruction::Open { node, dest } => self.act(
+                channels,
+                line,
+                *node,
+                &UserAct::Connect(*dest),
+            ),
+            Instruction::Say { node, end, text } => self.say(
+                channels,
+                line,
+                *node,
+                *end,
+                text.as_slice(),
+            ),
+            Instruction::Burst { node, end, count } => self.burst(
+                channels, line, *node, *end, *count,
+            ),
+            Instruction::Take { node, end } => self.take(channels, line, *node, *end),
+            Instruction::Close { node, end } => self.act(
+                channels,
+                line,
+                *node,
+                &UserAct::Close { id: *end as u64 },
+            ),
+            Instruction::Deliver { frame, node } => self.deliver(channels, line, *frame, *node),
+            Instruction::Again { frame, node } => self.repeat(channels, line, *frame, *node),
+            Instruction::Lose { frame } => {
+                self.lose(line, *frame)?;
+                Ok(())
+            }
+            Instruction::Flow { count } => self.flow(channels, line, *count),
+            Instruction::Cut { count } => {
+                self.cut(*count);
+                Ok(())
+            }
+        }
+    }
+}
+
+/// What holds of every instruction: a circuit is asked for with a callsign, and a node starts again with a pair.
+fn is_instruction(instruction: &Instruction)
+    ensures { IsInstruction instruction.now }
+{
+    match instruction {
+        Instruction::Open { dest, .. } => is_callsign(dest),
+        Instruction::Restart { pair, .. } => {
+            let _ = pair.index();
+            let _ = pair.ident();
+        }
+        _ => {}
+    }
+}

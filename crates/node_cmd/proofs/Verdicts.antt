@@ -1,0 +1,52 @@
+-- A network has one verdict: where none is one, none other is.
+use Rattle.std.proofs.Common.{◌≡◌, ◌∙◌, ℕ, refl, sym, ap, subst, List, [], ◌∷◌, ◌++◌, append-nil, map}
+use Rattle.std.specs.Prelude.{IsSomeAnd, Option, Some, None, Ok}
+use Rattle.std.specs.Io.KnownBytes.{Consumes, IsAtEnd}
+use Rattle.circuit_set.specs.Books.{Fresh, Timely, empty}
+use Rattle.circuit_verdict.specs.declared.event.Numbered.{Numbered}
+use Rattle.circuit_verdict.specs.declared.verdict.Late.{Late}
+use Rattle.circuit_verdict.specs.Events as verdicts
+use Rattle.circuit_verdict.specs.Verdicts.{allowance_of}
+use Rattle.network_file.specs.Networks.{network_of}
+use Rattle.network_file.specs.Plan.{Plan}
+use Rattle.net_replay.specs.Circuits as circuits
+use Rattle.net_replay.specs.Circuits.{CircuitEvent, IsVerdictOn, judged}
+use Rattle.net_replay.specs.Lines.{world}
+use Rattle.net_replay.specs.World.{World}
+use Rattle.node_cmd.specs.Reading.{ReadsAll}
+use Rattle.node_cmd.specs.Replays.{TellsInTime, TellsLate}
+
+told_are : (ns : List Numbered) → map (λ (e : CircuitEvent). e.event) (map judged ns) ≡ verdicts.events_of ns
+told_are [] = refl
+told_are (n ∷ ns) = ap (λ es. verdicts.event_of n.event ∷ es) (told_are ns)
+
+pub one_verdict : (plan : Plan) (w : World) (late : Late) → IsVerdictOn plan w None → IsVerdictOn plan w (Some late) → ⊥
+one_verdict plan w late a b =
+    let same : verdicts.events_of a.events ≡ verdicts.events_of b.events =
+    sym (told_are a.events) ∙ (ap (map (λ (e : CircuitEvent). e.event)) (a.are ∙ sym b.are) ∙ told_are b.events) in
+    let ok = a.verdict.none.0 refl in
+    let none = b.verdict.none.1 (subst (Timely (allowance_of (circuits.allowance_of plan)) empty) same ok.0, subst (Fresh empty) same ok.1) in
+    absurd (cc none)
+
+-- a source that tells its bytes told those that were read to its end
+told_whole : (a b : Option (List ℕ)) (bytes : List ℕ) (P : List ℕ → Type 0) → Consumes a b bytes → IsAtEnd b → IsSomeAnd a P → P bytes
+told_whole None b bytes P c e t = absurd t
+told_whole (Some xs) None bytes P c e t = absurd c
+told_whole (Some xs) (Some ys) bytes P c e t = subst P (c ∙ (ap (λ zs. bytes ++ zs) e ∙ append-nil bytes)) t
+
+module _ (left left' : Option (List ℕ)) (bytes : List ℕ) (network : Plan) (all : ReadsAll left left' bytes) (read : network_of bytes ≡ Ok network) where
+  -- a source that tells a file in which something comes too late, where nothing does
+  pub none_late : IsVerdictOn network (world network) None → TellsLate left → ⊥
+  none_late verdict tells =
+      let t = told_whole left left' bytes _ all.taken all.ended tells in
+      let some : Ok network ≡ Ok t.1.0 = sym read ∙ t.1.1 in
+      let same : network ≡ t.1.0 = cc some in
+      one_verdict t.1.0 (world t.1.0) t.1.2.1.0 (subst (λ n. IsVerdictOn n (world n) None) same verdict) t.1.2.1.1
+
+  -- and one that tells a file in which nothing does, where something comes too late
+  pub late_none : (late : Late) → IsVerdictOn network (world network) (Some late) → TellsInTime left → ⊥
+  late_none late verdict tells =
+      let t = told_whole left left' bytes _ all.taken all.ended tells in
+      let some : Ok network ≡ Ok t.1.0 = sym read ∙ t.1.1 in
+      let same : network ≡ t.1.0 = cc some in
+      one_verdict t.1.0 (world t.1.0) late t.1.2.1 (subst (λ n. IsVerdictOn n (world n) (Some late)) same verdict)

@@ -1,0 +1,11 @@
+//! What a command leaves of what it ran.
+use net_replay::Trace;
+
+/// What was run.
+#[derive(Drop)]
+pub enum Ran {
+    /// Nothing.
+    Nothing,
+    /// A network.
+    Replayed(Trace),
+}
