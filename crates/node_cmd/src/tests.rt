@@ -8,24 +8,24 @@ use std::test::Fail;
 
 /// How a run ended, and what it left.
 #[derive(Drop)]
-struct Outcome {
-    status: Status,
-    written: MemSink,
-    notes: MemSink,
+pub(crate) struct Outcome {
+    pub(crate) status: Status,
+    pub(crate) written: MemSink,
+    pub(crate) notes: MemSink,
 }
 
 /// A run that reads and writes the given number of bytes at a time, and whose given reads and writes
 /// fail.
 #[derive(Drop)]
-struct Case<'a> {
-    words: &'a [&'a str],
-    file: &'a [u8],
-    piece: usize,
-    failing_reads: &'a [u64],
-    failing_writes: &'a [u64],
+pub(crate) struct Case<'a> {
+    pub(crate) words: &'a [&'a str],
+    pub(crate) file: &'a [u8],
+    pub(crate) piece: usize,
+    pub(crate) failing_reads: &'a [u64],
+    pub(crate) failing_writes: &'a [u64],
 }
 
-fn replay_of(file: &[u8]) -> Case<'_> {
+pub(crate) fn replay_of(file: &[u8]) -> Case<'_> {
     Case {
         words: &["replay"],
         file,
@@ -35,7 +35,7 @@ fn replay_of(file: &[u8]) -> Case<'_> {
     }
 }
 
-fn outcome_of(alloc: Global, case: &Case<'_>) -> Result<Outcome, NoMemory> {
+pub(crate) fn outcome_of(alloc: Global, case: &Case<'_>) -> Result<Outcome, NoMemory> {
     let mut words = Vec::new(alloc);
     for word in case.words {
         words.push(word.to_string(alloc)?)?;
@@ -181,7 +181,7 @@ const NODES: &[u8] =
 
 const NODES_LINE: &[u8] = b"port=0 N0CALL-7>NODES cmd UI pf=0 pid=CF len=7\n";
 
-fn frames_of(stream: &[u8]) -> Case<'_> {
+pub(crate) fn frames_of(stream: &[u8]) -> Case<'_> {
     Case {
         words: &["frames", "modulo=8"],
         file: stream,
