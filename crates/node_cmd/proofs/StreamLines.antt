@@ -1,16 +1,11 @@
 -- The lines of a stream, as its bytes come.
-use Rattle.std.proofs.Common.{◌≡◌, ◌++◌, ◌∙◌, ◌≤◌, ◌-◌, take, drop, take_all, length-drop, arith, ℕ, List, [], ◌∷◌, refl, sym, ap, append_assoc, append-nil, length, false}
-use Rattle.std.specs.Prelude.{Option, ◌≢◌, ◌==◌}
-use Rattle.std.proofs.lemmas.Bool.Decides.{nat_tests}
-use Rattle.radio_base.specs.Streams.{size_noted}
-use Rattle.std.specs.Io.KnownBytes.{Appends, Consumes}
-use Rattle.std.proofs.KnownBytes.{Appends-trans}
+use Rattle.std.proofs.Common.{◌≡◌, ◌++◌, ◌∙◌, ◌-◌, take, drop, take_all, length-drop, arith, ℕ, List, [], ◌∷◌, refl, sym, ap, subst, append_assoc, append-nil, length}
 use Rattle.kiss_framing.specs.Stream.{Item, items}
+use Rattle.node_cmd.specs.Frames.{ListsReads}
 use Rattle.node_cmd.specs.Listing.{Lists, AddsLines}
-use Rattle.node_cmd.specs.Writing.{AppendsFront}
-use Rattle.node_cmd.specs.declared.frames.ListRefusal.{ListRefusal}
-use Rattle.node_cmd.specs.declared.frames.ListRefusal.TheVariants.{ReadFault, WriteFault, TooLong, NoMemory}
-use Rattle.node_cmd.specs.Frames.{WritesLines, WritesSomeLines, IsLastRead, PieceUnlisted, WhyUnlisted, max_stream, most_read}
+use Rattle.node_cmd.specs.Streams.{Read, bytes_of, read_of}
+use Rattle.node_cmd.proofs.StreamReads.{bytes_of-more}
+use Rattle.std.proofs.lemmas.List.{append_cancel_left}
 
 -- a slice from a place on is all that stands there
 pub rest_of : (n : ℕ) (bytes : List ℕ) → take (length bytes - n) (drop n bytes) ≡ drop n bytes
@@ -34,43 +29,13 @@ adds-append size stream a b x y first second = (
 pub adds-nothing : (size : ℕ) (stream : List ℕ) → AddsLines size stream [] []
 adds-nothing size stream = ([], ap items (append-nil stream) ∙ sym (append-nil (items stream)), refl)
 
--- what was written of the stream so far, and then the lines that more bytes bring
-pub writes-more : (size : ℕ) (w w' w'' : Option (List ℕ)) (stream bytes more : List ℕ) → WritesLines size w w' stream → AddsLines size stream bytes more → Appends w' w'' more → WritesLines size w w'' (stream ++ bytes)
-writes-more size w w' w'' stream bytes more before adds after = (
-  before.0 ++ more,
-  rw adds.1 (lists-append size (items stream) adds.0 before.0 more before.1 adds.2),
-  Appends-trans _ _ _ _ _ before.2 after,
-)
+-- the lines of reads, and then those that one more brings
+pub lists-more : (size : ℕ) (reads : List Read) (bytes : List ℕ) (now : ℕ) (text more : List ℕ) → ListsReads size reads text → AddsLines size (bytes_of reads) bytes more → ListsReads size (reads ++ read_of bytes now ∷ []) (text ++ more)
+lists-more size reads bytes now text more before adds =
+    rw (bytes_of-more reads bytes now) (rw adds.1 (lists-append size (items (bytes_of reads)) adds.0 text more before adds.2))
 
--- the same, where only a front of these lines was written
-pub writes-some : (size : ℕ) (w w' w'' : Option (List ℕ)) (stream bytes more : List ℕ) → WritesLines size w w' stream → AddsLines size stream bytes more → AppendsFront w' w'' more → WritesSomeLines size w w'' (stream ++ bytes)
-writes-some size w w' w'' stream bytes more before adds after = (
-  before.0 ++ more,
-  rw adds.1 (lists-append size (items stream) adds.0 before.0 more before.1 adds.2),
-  record {
-    front = before.0 ++ after.front;
-    rest = after.rest;
-    whole = ap (λ xs. before.0 ++ xs) after.whole ∙ sym (append_assoc before.0 after.front after.rest);
-    written = Appends-trans _ _ _ _ _ before.2 after.written;
-  },
-)
-
--- why the last read's lines weren't written is why the stream wasn't listed
-pub piece_unlisted : (size : ℕ) (left left' sizes sizes' w w' w'' : Option (List ℕ)) (stream bytes : List ℕ) (reads reads' writes writes' writes'' : ℕ) (e : ListRefusal) → Consumes left left' (stream ++ bytes) → length stream ≤ max_stream → length (stream ++ bytes) ≤ max_stream → IsLastRead sizes sizes' bytes → WritesLines size w w' stream → reads' ≡ reads → writes' ≡ writes → PieceUnlisted size stream bytes w' w'' writes' writes'' e → WhyUnlisted size left left' sizes sizes' w w'' reads reads' writes writes'' e
-piece_unlisted size left left' sizes sizes' w w' w'' stream bytes reads reads' writes writes' writes'' WriteFault taken few fits last before rs ws why =
-    ((stream ++ bytes, record { taken = taken; fits = fits }, writes-some size w w' w'' stream bytes why.0.0 before why.0.1 why.0.2), rw (← ws) why.1, rs)
-piece_unlisted size left left' sizes sizes' w w' w'' stream bytes reads reads' writes writes' writes'' NoMemory taken few fits last before rs ws why =
-    (record { stream = stream; last = bytes; taken = taken; fits = few; read = last; lines = rw why.0 before }, rs, why.1 ∙ ws)
-piece_unlisted size left left' sizes sizes' w w' w'' stream bytes reads reads' writes writes' writes'' ReadFault taken few fits last before rs ws why = absurd why
-piece_unlisted size left left' sizes sizes' w w' w'' stream bytes reads reads' writes writes' writes'' TooLong taken few fits last before rs ws why = absurd why
-
--- a read of so many bytes was the last
-pub last_read : (sizes sizes' sizes'' : Option (List ℕ)) (earlier bytes : List ℕ) (n : ℕ) → Appends sizes sizes' earlier → Appends sizes' sizes'' (size_noted n) → n ≢ 0 → length bytes ≡ n → n ≤ most_read → IsLastRead sizes sizes'' bytes
-last_read sizes sizes' sizes'' earlier bytes n before noted some long few =
-    let one : size_noted n ≡ length bytes ∷ [] = rw long (let e : (n == 0) ≡ false = grind (arith, nat_tests) in rw e refl) in
-    record {
-      some = omega (arith, long);
-      few = omega (arith, long);
-      earlier = earlier;
-      told = Appends-trans _ _ _ _ _ before (rw one at noted);
-    }
+-- what was added is the one text behind the old one
+pub lists_taken : (size : ℕ) (reads : List Read) (bytes : List ℕ) (now : ℕ) (old new text more : List ℕ) → new ≡ old ++ more → ListsReads size reads text → (added : List ℕ) × AddsLines size (bytes_of reads) bytes added × (new ≡ old ++ added) → ListsReads size (reads ++ read_of bytes now ∷ []) (text ++ more)
+lists_taken size reads bytes now old new text more grown before adds =
+    let same : adds.0 ≡ more = append_cancel_left old adds.0 more (sym adds.2 ∙ grown) in
+    lists-more size reads bytes now text more before (subst (λ xs. AddsLines size (bytes_of reads) bytes xs) same adds.1)

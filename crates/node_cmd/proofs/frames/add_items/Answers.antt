@@ -12,6 +12,7 @@ loop-taken-preserved g c =
     let told = rw (rest_of taken bytes) at c.in_ok-taken.ensures in
     record {
       within = omega (arith, told.within, c.loop-taken.invariant.within, length-drop taken bytes);
+      grows = (c.loop-taken.invariant.grows.0 ++ told.grows.0, told.grows.1 ∙ (ap (λ xs. xs ++ told.grows.0) c.loop-taken.invariant.grows.1 ∙ append_assoc c.args.text.now c.loop-taken.invariant.grows.0 told.grows.0));
       told = λ stream stands.
           let i = c.loop-taken.invariant.told stream stands in
           let more = told.added (stream ++ front) i.0 in
