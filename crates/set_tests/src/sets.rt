@@ -1,0 +1,169 @@
+//! The circuits of two nodes, N0AAA and N0BBB, over carriers in memory.
+use crate::{rows, talk};
+use ax_address::{Alias, Call};
+use circuit_l4::{EndConfig, EndNotice, Pair};
+use circuit_set::{CircuitSet, ConnectRefusal, SetEvent};
+use l3_datagram::{PlainCarrier, Routed, Router};
+use radio_base::{Moment, NoMemory};
+use route_table::{RouteRules, RouteTable};
+use std::alloc::Global;
+use std::process::Abort;
+
+pub type Set = CircuitSet<PlainCarrier>;
+
+pub const NOW: Moment = Moment(0);
+
+const RULES: RouteRules = RouteRules {
+    life: 6,
+    least: 5,
+    minq: 1,
+};
+
+const CONFIG: EndConfig = EndConfig {
+    window: 4,
+    timeout: 1000,
+    retries: 200,
+    busy: 2000,
+    inactive: 900_000,
+};
+
+pub fn a_call() -> Call {
+    Call::read(b"N0AAA").unwrap_or_default()
+}
+
+pub fn b_call() -> Call {
+    Call::read(b"N0BBB").unwrap_or_default()
+}
+
+/// The nth pair after a start at (1, 1).
+pub fn pair(nth: u8) -> Pair {
+    Pair {
+        index: nth,
+        ident: 1,
+    }
+}
+
+/// What is tried on two nodes.
+#[derive(Clone, Copy)]
+pub enum Trial {
+    NobodyToAsk,
+    Refusals,
+    NoRouteAnyMore,
+    PairsGoOn,
+    SixtyFourEnds,
+    AcceptAgain,
+    ThreeHundredMessages,
+}
+
+/// Makes the sets of two nodes without routes, and tries this on them.
+pub fn on_two_nodes(rt: &impl Abort, alloc: Global, trial: Trial) -> Result<(), NoMemory> {
+    let retries = if matches!(trial, Trial::PairsGoOn) {
+        0
+    } else {
+        200
+    };
+    let mut a = set_of(alloc, a_call(), retries)?;
+    let mut b = set_of(alloc, b_call(), retries)?;
+    play(rt, trial, &mut a, &mut b)
+}
+
+fn set_of(alloc: Global, own: Call, retries: u8) -> Result<Set, NoMemory> {
+    let table = RouteTable::new(alloc, own, RULES);
+    let router = Router::new(alloc, own, table, PlainCarrier::new(alloc), 25);
+    let config = EndConfig { retries, ..CONFIG };
+    CircuitSet::new(alloc, router, own, config, Pair { index: 1, ident: 1 }, 1)
+}
+
+fn play(rt: &impl Abort, trial: Trial, a: &mut Set, b: &mut Set) -> Result<(), NoMemory> {
+    match trial {
+        Trial::NobodyToAsk => {
+            rows::nobody_to_ask(rt, a);
+            Ok(())
+        }
+        Trial::Refusals => rows::refusals(rt, a),
+        Trial::NoRouteAnyMore => rows::no_route_any_more(rt, a),
+        Trial::PairsGoOn => rows::pairs_go_on(rt, a),
+        Trial::SixtyFourEnds => rows::sixty_four_ends(rt, a, b),
+        Trial::AcceptAgain => rows::an_accept_again(rt, a, b),
+        Trial::ThreeHundredMessages => talk::three_hundred_messages(rt, a, b),
+    }
+}
+
+/// A node hears another one as its neighbour.
+pub fn hears(rt: &impl Abort, set: &mut Set, neighbour: &Call) {
+    let heard = set
+        .router_mut()
+        .table_mut()
+        .heard(neighbour, &Alias::default(), 192, &[]);
+    assert!(rt; heard == Ok(()));
+}
+
+/// What a set tells, as far as the tests look at it.
+#[derive(Clone, Copy, PartialEq, Eq)]
+pub enum Told {
+    Made(Pair),
+    /// The end of this number has sent something other than information; the number 0 is that of a refusal.
+    Sent(u64),
+    Notice(EndNotice),
+    /// What was sent last had no route.
+    NoRoute,
+    Gone(u64),
+    Other,
+}
+
+fn told_by(event: &SetEvent) -> Told {
+    match event {
+        SetEvent::Made { pair, .. } => Told::Made(*pair),
+        SetEvent::Sent {
+            id,
+            number: None,
+            ..
+        } => Told::Sent(*id),
+        SetEvent::Notice { notice, .. } => Told::Notice(*notice),
+        SetEvent::Dropped(Routed::NoRoute) => Told::NoRoute,
+        SetEvent::Gone { id, .. } => Told::Gone(*id),
+        _ => Told::Other,
+    }
+}
+
+fn pump(set: &mut Set, now: Moment) -> Result<Option<Told>, NoMemory> {
+    match set.pump(now)? {
+        Some(event) => Ok(Some(told_by(&event))),
+        None => Ok(None),
+    }
+}
+
+/// Tells all that there is to tell, which is this.
+pub fn expect(rt: &impl Abort, set: &mut Set, all: &[Told], now: Moment) -> Result<(), NoMemory> {
+    for told in all {
+        assert!(rt; pump(set, now)? == Some(*told));
+    }
+    assert!(rt; pump(set, now)?.is_none());
+    assert!(rt; set.drained());
+    Ok(())
+}
+
+/// Tells all that there is to tell.
+pub fn settle(rt: &impl Abort, set: &mut Set, now: Moment) -> Result<(), NoMemory> {
+    for _ in 0..1000 {
+        if pump(set, now)?.is_none() {
+            return Ok(());
+        }
+    }
+    rt.abort()
+}
+
+pub fn connect(
+    rt: &impl Abort,
+    set: &mut Set,
+    node: &Call,
+    now: Moment,
+) -> Result<u64, ConnectRefusal> {
+    assert!(rt; set.drained());
+    set.connect(node, now)
+}
+
+pub fn tick(rt: &impl Abort, set: &mut Set, now: Moment) -> Result<(), NoMemory> {
+    assert!(rt; set.drained());
+    set.tick(now)
+}
