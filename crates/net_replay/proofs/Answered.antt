@@ -1,17 +1,19 @@
 -- An act, what is told of its answer, and the frames that are put in the air.
-use Rattle.std.proofs.Common.{◌≡◌, ◌∙◌, ℕ, ap, sym, false, List}
-use Rattle.std.specs.Prelude.{Result, Ok, Err}
+use Rattle.std.proofs.Common.{◌≡◌, ◌∙◌, ℕ, ap, refl, sym, false, List}
+use Rattle.std.specs.Prelude.{Result, Ok, Some, None}
 use Rattle.std.specs.List.{position_or_len}
 use Rattle.network_file.specs.declared.plan.channels.Channel.{Channel}
 use Rattle.node_core.specs.declared.acts.ActDone.{ActDone}
 use Rattle.node_core.specs.declared.acts.ActDone.TheVariants as actions
 use Rattle.node_core.specs.declared.acts.ActRefusal.{ActRefusal}
 use Rattle.node_core.specs.declared.acts.UserAct.{UserAct}
+use Rattle.net_replay.specs.declared.answer.Answer.{Answer}
+use Rattle.net_replay.specs.declared.answer.Answer.TheVariants as answers
 use Rattle.net_replay.specs.declared.reasons.LineRefusal.{LineRefusal}
 use Rattle.net_replay.specs.declared.reasons.ReplayRefusal.{ReplayRefusal}
 use Rattle.net_replay.specs.Events.{Event}
 use Rattle.net_replay.specs.Lines.{is_long, refusal_events, said_of, said_refusals, told_of, took_of}
-use Rattle.net_replay.specs.Running.{Course, GoesOn, IsAnswerTo, Runs, Stands, answer_events, said_answer, taken_events}
+use Rattle.net_replay.specs.Running.{Course, GoesOn, IsAnswerTo, IsRefusedFor, Runs, Stands, answer_events, message_events, message_in, refusal_in, said_answer, taken_events}
 use Rattle.net_replay.specs.Starting.{has_number}
 use Rattle.net_replay.specs.World.{Act, World, answer, place_of, put, reach, tell}
 use Rattle.net_replay.proofs.Placing.{place_is}
@@ -25,19 +27,36 @@ at_number old new number at f r e h =
 
 -- ---- what is told of an answer
 
-pub told_is : (a : Result ActDone LineRefusal) (r : Result ActDone ActRefusal) → IsAnswerTo a r → told_of r ≡ answer_events a
-told_is (Ok x) r h = ap told_of h
-told_is (Err why) r h = ap told_of h.1 ∙ ap refusal_events h.2
+pub told_is : (a : Answer) (r : Result ActDone ActRefusal) → IsAnswerTo a r → told_of r ≡ answer_events a
+told_is answers.Done r h = ap told_of h.1
+told_is (answers.Took message) r h = ap told_of h.1
+told_is (answers.Refused why) r h = ap told_of h.1 ∙ ap refusal_events h.2
 
-pub took_is : (node end : ℕ) (a : Result ActDone LineRefusal) (r : Result ActDone ActRefusal) → IsAnswerTo a r → took_of node end r ≡ taken_events node end a
-took_is node end (Ok actions.Done) r h = ap (took_of node end) h
-took_is node end (Ok (actions.Made id)) r h = ap (took_of node end) h
-took_is node end (Ok (actions.Took message)) r h = ap (took_of node end) h
-took_is node end (Err why) r h = ap (took_of node end) h.1 ∙ ap refusal_events h.2
+took_done : (node end : ℕ) (done : ActDone) → took_of node end (Ok done) ≡ message_events node end (message_in done)
+took_done node end actions.Done = refl
+took_done node end (actions.Made id) = refl
+took_done node end (actions.Took message) = refl
 
-pub said_is : (text : List ℕ) (a : Result ActDone LineRefusal) (r : Result ActDone ActRefusal) → IsAnswerTo a r → said_of text r ≡ answer_events (said_answer (is_long text) a)
-said_is text (Ok x) r h = ap (said_of text) h
-said_is text (Err why) r h = ap (said_of text) h.1 ∙ ap (λ o. refusal_events (said_refusals (is_long text) o)) h.2
+pub took_is : (node end : ℕ) (a : Answer) (r : Result ActDone ActRefusal) → IsAnswerTo a r → took_of node end r ≡ taken_events node end a
+took_is node end answers.Done r h = ap (took_of node end) h.1 ∙ (took_done node end h.0 ∙ ap (message_events node end) h.2)
+took_is node end (answers.Took message) r h = ap (took_of node end) h.1 ∙ (took_done node end h.0 ∙ ap (message_events node end) h.2)
+took_is node end (answers.Refused why) r h = ap (took_of node end) h.1 ∙ ap refusal_events h.2
+
+pub said_is : (text : List ℕ) (a : Answer) (r : Result ActDone ActRefusal) → IsAnswerTo a r → said_of text r ≡ answer_events (said_answer (is_long text) a)
+said_is text answers.Done r h = ap (said_of text) h.1
+said_is text (answers.Took message) r h = ap (said_of text) h.1
+said_is text (answers.Refused why) r h = ap (said_of text) h.1 ∙ ap (λ o. refusal_events (said_refusals (is_long text) o)) h.2
+
+-- an act that isn't refused was done, and one that is was refused for that
+pub was_done : (a : Answer) (r : Result ActDone ActRefusal) → None ≡ refusal_in a → IsAnswerTo a r → (done : ActDone) × (r ≡ Ok done)
+was_done answers.Done r e h = (h.0, h.1)
+was_done (answers.Took message) r e h = (h.0, h.1)
+was_done (answers.Refused why) r e h = absurd (cc)
+
+pub was_refused : (a : Answer) (r : Result ActDone ActRefusal) (why : LineRefusal) → Some why ≡ refusal_in a → IsAnswerTo a r → IsRefusedFor why r
+was_refused answers.Done r why e h = absurd (cc)
+was_refused (answers.Took message) r why e h = absurd (cc)
+was_refused (answers.Refused other) r why e h = (h.0, h.1, h.2 ∙ sym e)
 
 -- ---- the whole
 

@@ -1,6 +1,6 @@
 -- The texts of a burst, one after another.
 use Rattle.std.proofs.Common.{◌≡◌, ◌+◌, ◌-◌, ◌∙◌, ℕ, suc, sym, ap, subst, List, [], ◌∷◌, length, false}
-use Rattle.std.specs.Prelude.{Ok, Err}
+use Rattle.std.specs.Prelude.{Ok}
 use Rattle.std.specs.Fmt.{decimal}
 use Rattle.network_file.specs.declared.plan.channels.Channel.{Channel}
 use Rattle.node_core.specs.declared.acts.ActDone.{ActDone}
@@ -9,7 +9,7 @@ use Rattle.net_replay.specs.declared.reasons.LineRefusal.{LineRefusal}
 use Rattle.net_replay.specs.declared.reasons.ReplayRefusal.{ReplayRefusal}
 use Rattle.net_replay.specs.Events.{Refused, Wrote}
 use Rattle.net_replay.specs.Lines.{all_wrote, burst_by, burst_from, refusal_events, write}
-use Rattle.net_replay.specs.Running.{IsAnswerTo}
+use Rattle.net_replay.specs.Running.{IsRefusedFor}
 use Rattle.net_replay.specs.Traces.{IsRefusal}
 use Rattle.net_replay.specs.World.{Act, World, answer, put, reach, tell}
 use Rattle.net_replay.proofs.Growing.{burst_grows}
@@ -30,13 +30,13 @@ abbrev pub refused : List Channel → ℕ → ℕ → ℕ → ℕ → ℕ → Li
 refused channels line at node end nth why w =
     put channels line at false (tell line (Refused why ∷ []) (tell line (Wrote node end (nth - 1) ∷ []) (reach line at (Act (text end nth)) w)))
 
-pub when_taken : (channels : List Channel) (line at node end nth more : ℕ) (x : ActDone) (w : World) → IsAnswerTo (Ok x) (answer at (text end nth) w)
+pub when_taken : (channels : List Channel) (line at node end nth more : ℕ) (x : ActDone) (w : World) → answer at (text end nth) w ≡ Ok x
     → burst_from channels line at node end nth (suc more) w ≡ burst_from channels line at node end (nth + 1) more (taken channels line at node end nth more w)
 unfolding burst_from
 when_taken channels line at node end nth more x w e =
     ap (λ r. burst_by channels line at node end nth more r (burst_from channels line at node end (nth + 1) more) (reach line at (Act (text end nth)) w)) e
 
-pub when_refused : (channels : List Channel) (line at node end nth more : ℕ) (why : LineRefusal) (w : World) → IsAnswerTo (Err why) (answer at (text end nth) w)
+pub when_refused : (channels : List Channel) (line at node end nth more : ℕ) (why : LineRefusal) (w : World) → IsRefusedFor why (answer at (text end nth) w)
     → burst_from channels line at node end nth (suc more) w ≡ refused channels line at node end nth why w
 unfolding burst_from
 when_refused channels line at node end nth more why w e =
@@ -47,14 +47,14 @@ when_refused channels line at node end nth more why w e =
 
 -- ---- stopped
 
-pub taken_stops : (channels : List Channel) (line at node end nth more : ℕ) (x : ActDone) (w : World) (e : ReplayRefusal) → IsAnswerTo (Ok x) (answer at (text end nth) w)
+pub taken_stops : (channels : List Channel) (line at node end nth more : ℕ) (x : ActDone) (w : World) (e : ReplayRefusal) → answer at (text end nth) w ≡ Ok x
     → IsRefusal e (length (taken channels line at node end nth more w).air) → IsRefusal e (length (burst_from channels line at node end nth (suc more) w).air)
 taken_stops channels line at node end nth more x w e is stop =
     let v : World = taken channels line at node end nth more w in
     subst (λ (u : World). IsRefusal e (length u.air)) (sym (when_taken channels line at node end nth more x w is))
     (refused_still e _ _ (burst_grows channels line at node end (nth + 1) more v) stop)
 
-pub refused_stops : (channels : List Channel) (line at node end nth more : ℕ) (why : LineRefusal) (w : World) (e : ReplayRefusal) → IsAnswerTo (Err why) (answer at (text end nth) w)
+pub refused_stops : (channels : List Channel) (line at node end nth more : ℕ) (why : LineRefusal) (w : World) (e : ReplayRefusal) → IsRefusedFor why (answer at (text end nth) w)
     → IsRefusal e (length (refused channels line at node end nth why w).air) → IsRefusal e (length (burst_from channels line at node end nth (suc more) w).air)
 refused_stops channels line at node end nth more why w e is stop =
     subst (λ (u : World). IsRefusal e (length u.air)) (sym (when_refused channels line at node end nth more why w is)) stop

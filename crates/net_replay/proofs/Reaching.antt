@@ -1,12 +1,8 @@
 -- Something reaches the node at a place.
 use Rattle.std.proofs.Common.{◌≡◌, ◌<◌, ◌≤◌, ◌∙◌, ◌++◌, ℕ, sym, ap, subst, length, get_or, set}
-use Rattle.std.specs.Prelude.{Some, None, min, slice_get, Result, Err}
+use Rattle.std.specs.Prelude.{None, min, slice_get, Result}
 use Rattle.node_core.specs.declared.acts.ActDone.{ActDone}
 use Rattle.node_core.specs.declared.acts.ActRefusal.{ActRefusal}
-use Rattle.node_core.specs.declared.acts.ActRefusal.TheVariants as refusals
-use Rattle.node_core.specs.Standing.{IsAnswer}
-use Rattle.net_replay.specs.declared.reasons.LineRefusal.{LineRefusal}
-use Rattle.net_replay.specs.Refused.{of_act}
 use Rattle.node_core.specs.declared.acts.UserAct.{UserAct}
 use Rattle.node_core.specs.Inputs.{act_answer, after_items, new_items, settled_act}
 use Rattle.node_core.specs.Kept.{Kept, NodeStands}
@@ -32,15 +28,6 @@ pub stepped : (c : Course) (w : World) (at : ℕ) (input : Input) (before n : Ke
 stepped c w at input before n h t here goes =
     changed c w at before n (after w.now input) h t here
     (λ s stands. subst (λ (m : NodeState). NodeStands n m) (same_after c.now w.now input s t.now) (goes s stands))
-
-pub is_answer : (refusal : ActRefusal) (why : LineRefusal) → Some why ≡ of_act refusal → IsAnswer (Err refusal)
-is_answer refusals.NoEnd why e = tt
-is_answer refusals.Served why e = tt
-is_answer refusals.Nothing why e = tt
-is_answer (refusals.Connect r) why e = tt
-is_answer (refusals.Lock r) why e = tt
-is_answer (refusals.Write r) why e = tt
-is_answer refusals.NoMemory why e = absurd (cc)
 
 pub reached : (old new : Course) (line at : ℕ) (input : Input) (before n : Kept) → at < length old.left.nodes → before ≡ get_or old.left.nodes at before
     → ((s : NodeState) → NodeStands before s → NodeStands n (after old.now input s))

@@ -1,5 +1,5 @@
 -- In each network an end is told that its retries are used up exactly where they are.
-use Rattle.std.proofs.Common.{◌≡◌, subst, List, [], ◌∷◌, ◌++◌}
+use Rattle.std.proofs.Common.{subst, List, [], ◌∷◌, ◌++◌}
 use Rattle.circuit_set.specs.Retries as sets
 use Rattle.circuit_set.specs.Runs.{AreSteps, Step}
 use Rattle.net_replay.specs.CircuitRuns.{RunsThrough, WorldsAreRuns, first_sets}

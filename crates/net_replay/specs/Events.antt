@@ -32,7 +32,7 @@ pub record NumberedEvent : Type 0 where
 -- ---- the same as the code hands it out
 
 abbrev pub event_of : code.Event → Event
-event_of (codes.Entry node entry) = Entry node (entry_of entry)
+event_of (codes.Entry node entry) = Entry node (entry_of entry.value)
 event_of (codes.InAir frame) = InAir frame
 event_of (codes.Delivered frame node) = Delivered frame node
 event_of (codes.Shown table) = Shown table

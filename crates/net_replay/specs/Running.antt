@@ -11,6 +11,8 @@ use Rattle.node_core.specs.States.{NodeState, fetch_entry, fetch_frame, frames}
 use Rattle.node_core.specs.States as states
 use Rattle.link_table.specs.declared.written.Written.{Written}
 use Rattle.net_replay.specs.declared.air.Aired.{Aired}
+use Rattle.net_replay.specs.declared.answer.Answer.{Answer}
+use Rattle.net_replay.specs.declared.answer.Answer.TheVariants as answers
 use Rattle.net_replay.specs.declared.moves.World as code
 use Rattle.net_replay.specs.declared.reasons.LineRefusal.{LineRefusal}
 use Rattle.net_replay.specs.declared.reasons.ReplayRefusal.{ReplayRefusal}
@@ -114,22 +116,42 @@ put_by line at node on_air came128 w = put_by_of line at node on_air came128 (sl
 
 -- ---- answers
 
--- what the code answers an act is the node's answer, or the line's refusal for it
-abbrev pub IsAnswerTo : Result ActDone LineRefusal → Result ActDone ActRefusal → Type 0
-IsAnswerTo (Ok x) answer = answer ≡ Ok x
-IsAnswerTo (Err why) answer = (refusal : ActRefusal) × (answer ≡ Err refusal) × (of_act refusal ≡ Some why)
+-- the message that was taken
+abbrev pub message_in : ActDone → Option (List ℕ)
+message_in actions.Done = None
+message_in (actions.Made id) = None
+message_in (actions.Took message) = Some message.items
 
-abbrev pub answer_events : Result ActDone LineRefusal → List Event
-answer_events (Ok _) = []
-answer_events (Err why) = refusal_events (Some why)
+abbrev pub message_events : ℕ → ℕ → Option (List ℕ) → List Event
+message_events node end None = []
+message_events node end (Some message) = Took node end message ∷ []
 
-abbrev pub taken_events : ℕ → ℕ → Result ActDone LineRefusal → List Event
-taken_events node end (Ok (actions.Took message)) = Took node end message.items ∷ []
-taken_events node end answer = answer_events answer
+-- what came of an act is what the node answered, or the line's refusal for it
+abbrev pub IsRefusedFor : LineRefusal → Result ActDone ActRefusal → Type 0
+IsRefusedFor why outcome = (refusal : ActRefusal) × (outcome ≡ Err refusal) × (of_act refusal ≡ Some why)
 
-abbrev pub said_answer : Bool → Result ActDone LineRefusal → Result ActDone LineRefusal
-said_answer long (Ok x) = Ok x
-said_answer long (Err why) = Err (said_refusal long why)
+abbrev pub IsAnswerTo : Answer → Result ActDone ActRefusal → Type 0
+IsAnswerTo answers.Done outcome = (done : ActDone) × (outcome ≡ Ok done) × (message_in done ≡ None)
+IsAnswerTo (answers.Took message) outcome = (done : ActDone) × (outcome ≡ Ok done) × (message_in done ≡ Some message.items)
+IsAnswerTo (answers.Refused why) outcome = IsRefusedFor why outcome
+
+abbrev pub refusal_in : Answer → Option LineRefusal
+refusal_in answers.Done = None
+refusal_in (answers.Took message) = None
+refusal_in (answers.Refused why) = Some why
+
+abbrev pub answer_events : Answer → List Event
+answer_events answer = refusal_events (refusal_in answer)
+
+abbrev pub taken_events : ℕ → ℕ → Answer → List Event
+taken_events node end answers.Done = []
+taken_events node end (answers.Took message) = Took node end message.items ∷ []
+taken_events node end (answers.Refused why) = refusal_events (Some why)
+
+abbrev pub said_answer : Bool → Answer → Answer
+said_answer long answers.Done = answers.Done
+said_answer long (answers.Took message) = answers.Took message
+said_answer long (answers.Refused why) = answers.Refused (said_refusal long why)
 
 -- ---- a text of a burst: the burst has come to its end, or what is left of it is left
 

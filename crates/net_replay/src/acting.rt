@@ -7,29 +7,29 @@ ghost use Rattle.net_replay.specs.Running as running;
 ghost use Rattle.net_replay.specs.Running.{GoesOn, Runs, Stands, course};
 ghost use Rattle.net_replay.specs.World as worlds;
 
+use crate::answer::Answer;
 use crate::events::{Event, Table};
 use crate::moves::World;
 use crate::reasons::{LineRefusal, ReplayRefusal};
 use crate::stations::shown;
 use l3_datagram::Message;
 use network_file::Channel;
-use node_core::{ActDone, UserAct};
+use node_core::UserAct;
 use radio_base::{Moment, NoMemory};
 
 impl World {
-    /// KISS bytes reach the node of that number, of a frame that was written modulo 128 or not.
+    /// The KISS bytes that are held reach the node of that number, of a frame that was written modulo 128 or not.
     pub fn hear(
         &mut self,
         channels: &[Channel],
         line: u32,
         number: u8,
-        bytes: &[u8],
         modulo128: bool,
     ) -> Result<(), ReplayRefusal>
-        ensures { Runs (course self.old) (course self.new) (lines.hear channels.now line number bytes.now modulo128) result }
+        ensures { Runs (course self.old) (course self.new) (lines.hear channels.now line number self.old.kiss.items modulo128) result }
     {
         let at = self.place_of(number);
-        self.bytes_reach(line, at, bytes)?;
+        self.kiss_reaches(line, at)?;
         self.put_in_air(channels, line, at, modulo128)
     }
 
@@ -45,21 +45,17 @@ impl World {
     {
         let at = self.place_of(number);
         let answer = self.act_reaches(line, at, act)?;
-        self.tell_answer(line, answer)?;
+        self.tell_answer(line, &answer)?;
         self.put_in_air(channels, line, at, false)
     }
 
     /// Tells why an act isn't done.
-    fn tell_answer(
-        &mut self,
-        line: u32,
-        answer: Result<ActDone, LineRefusal>,
-    ) -> Result<(), NoMemory>
-        ensures { OnOk result (GoesOn (course self.old) (course self.new) (worlds.tell line (running.answer_events answer))) }
+    fn tell_answer(&mut self, line: u32, answer: &Answer) -> Result<(), NoMemory>
+        ensures { OnOk result (GoesOn (course self.old) (course self.new) (worlds.tell line (running.answer_events answer.now))) }
     {
-        match answer {
-            Ok(_) => Ok(()),
-            Err(why) => {
+        match answer.refusal() {
+            None => Ok(()),
+            Some(why) => {
                 self.tell(line, Event::Refused { why })?;
                 Ok(())
             }
@@ -83,7 +79,7 @@ impl World {
             message: message_of(text),
         };
         let answer = self.act_reaches(line, at, &act)?;
-        self.tell_answer(line, said(text, answer))?;
+        self.tell_answer(line, &said(text, answer))?;
         self.put_in_air(channels, line, at, false)
     }
 
@@ -104,23 +100,16 @@ impl World {
     }
 
     /// Tells the message that was taken, or why none was.
-    fn tell_taken(
-        &mut self,
-        line: u32,
-        node: u8,
-        end: u32,
-        answer: Result<ActDone, LineRefusal>,
-    ) -> Result<(), NoMemory>
+    fn tell_taken(&mut self, line: u32, node: u8, end: u32, answer: Answer) -> Result<(), NoMemory>
         ensures { OnOk result (GoesOn (course self.old) (course self.new) (worlds.tell line (running.taken_events node end answer))) }
     {
         match answer {
-            Ok(ActDone::Took(message)) => {
-                let message = message.as_slice().to_vec(self.alloc)?;
+            Answer::Took(message) => {
                 self.tell(line, Event::Took { node, end, message })?;
                 Ok(())
             }
-            Ok(_) => Ok(()),
-            Err(why) => {
+            Answer::Done => Ok(()),
+            Answer::Refused(why) => {
                 self.tell(line, Event::Refused { why })?;
                 Ok(())
             }
@@ -197,11 +186,13 @@ fn message_of(text: &[u8]) -> Message
 }
 
 /// What is told of the writing of a text: one that was too long was handed on as an empty one.
-fn said(text: &[u8], answer: Result<ActDone, LineRefusal>) -> Result<ActDone, LineRefusal>
+fn said(text: &[u8], answer: Answer) -> Answer
     ensures { result ≡ running.said_answer (lines.is_long text.now) answer }
 {
     match answer {
-        Err(LineRefusal::Empty) if text.len() > 8192 => Err(LineRefusal::TooLong),
+        Answer::Refused(LineRefusal::Empty) if text.len() > 8192 => {
+            Answer::Refused(LineRefusal::TooLong)
+        }
         other => other,
     }
 }

@@ -6,12 +6,13 @@ ghost use Rattle.net_replay.specs.Running as running;
 ghost use Rattle.net_replay.specs.Running.{GoesOn, IsAnswerTo, Runs, Stands, Stops, course};
 ghost use Rattle.net_replay.specs.World as worlds;
 
+use crate::answer::Answer;
 use crate::events::Event;
 use crate::moves::World;
-use crate::reasons::{LineRefusal, ReplayRefusal};
+use crate::reasons::ReplayRefusal;
 use l3_datagram::Message;
 use network_file::Channel;
-use node_core::{ActDone, UserAct};
+use node_core::UserAct;
 use radio_base::NoMemory;
 use std::alloc::Global;
 
@@ -68,13 +69,13 @@ impl World {
         ensures err { IfErr result (λ e. Stops (course self.old) e (lines.burst_from channels.now line at node end nth (suc more))) }
     {
         let answer = self.write_nth(line, at, end, nth)?;
-        match answer {
-            Ok(_) => {
+        match answer.refusal() {
+            None => {
                 self.tell_written(line, node, end, nth, more)?;
                 self.put_in_air(channels, line, at, false)?;
                 Ok(false)
             }
-            Err(why) => {
+            Some(why) => {
                 let count = nth - 1;
                 self.tell(line, Event::Wrote { node, end, count })?;
                 self.tell(line, Event::Refused { why })?;
@@ -85,13 +86,7 @@ impl World {
     }
 
     /// Writes the decimal text of a number at an end.
-    fn write_nth(
-        &mut self,
-        line: u32,
-        at: usize,
-        end: u32,
-        nth: u32,
-    ) -> Result<Result<ActDone, LineRefusal>, NoMemory>
+    fn write_nth(&mut self, line: u32, at: usize, end: u32, nth: u32) -> Result<Answer, NoMemory>
         ensures goes { OnOk result (GoesOn (course self.old) (course self.new) (worlds.reach line at (worlds.Act (lines.write end (decimal nth))))) }
         ensures answer { IfOk result (λ answer. (w : worlds.World) → Stands (course self.old) w → IsAnswerTo answer (worlds.answer at (lines.write end (decimal nth)) w)) }
     {

@@ -6,7 +6,7 @@ ghost use Rattle.net_replay.specs.Running.{GoesOn, Runs, course};
 
 use crate::air::place_of_frame;
 use crate::events::Event;
-use crate::kiss::kiss_bytes;
+use crate::kiss::put_kiss;
 use crate::moves::World;
 use crate::reasons::ReplayRefusal;
 use network_file::{Channel, can_hear};
@@ -83,11 +83,11 @@ impl World {
     {
         match self.air.frames().get(at) {
             Some(frame) => {
-                let bytes = kiss_bytes(frame.octets.as_slice());
+                put_kiss(frame.octets.as_slice(), &mut self.kiss);
                 let modulo128 = frame.modulo128;
                 let frame = at + 1;
                 self.tell(line, Event::Delivered { frame, node })?;
-                self.hear(channels, line, node, bytes.as_slice(), modulo128)
+                self.hear(channels, line, node, modulo128)
             }
             None => Ok(()),
         }

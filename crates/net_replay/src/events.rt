@@ -73,7 +73,7 @@ pub enum Event {
     /// What the node of that number tells.
     Entry {
         node: u8,
-        entry: NodeEntry,
+        entry: Box<NodeEntry>,
     },
     /// The frame of that number, from 1, was put in the air.
     InAir {

@@ -4,9 +4,10 @@ ghost use Rattle.std.specs.Option.{option_copied, option_map};
 ghost use Rattle.circuit_set.specs.Sets as sets;
 ghost use Rattle.circuit_set.specs.Standing.{seen};
 ghost use Rattle.network_file.specs.Plan.{Plan};
+ghost use Rattle.node_core.specs.Standing.{entry_of};
 ghost use Rattle.net_replay.specs.Circuits as circuits;
 ghost use Rattle.net_replay.specs.Circuits.{IsVerdictOn, event_at, events_at, judged, told_at};
-ghost use Rattle.net_replay.specs.Events.{event_of, numbered_of};
+ghost use Rattle.net_replay.specs.Events.{Entry, event_of, numbered_of};
 ghost use Rattle.net_replay.specs.Judging.{Heeds, set_told_here, told_here};
 ghost use Rattle.net_replay.specs.Reporting.{AreDeclared};
 ghost use Rattle.net_replay.specs.Starting.{Placed};
@@ -78,10 +79,7 @@ fn heed(
 {
     let line = numbered.line;
     match &numbered.event {
-        Event::Entry {
-            node,
-            entry: NodeEntry::Set(event),
-        } => heed_set(&spot_of(declared, *node), verdict, line, event),
+        Event::Entry { node, entry } => heed_entry(declared, verdict, line, *node, entry),
         Event::Restarted { node, pair } => {
             let spot = spot_of(declared, *node);
             let event = CircuitEvent {
@@ -103,16 +101,29 @@ fn heed(
             };
             take_in(&spot, verdict, line, &event)
         }
-        Event::Entry {
-            entry: NodeEntry::Link(..) | NodeEntry::Overflow { .. },
-            ..
-        }
-        | Event::InAir { .. }
+        Event::InAir { .. }
         | Event::Delivered { .. }
         | Event::Shown { .. }
         | Event::Took { .. }
         | Event::Wrote { .. }
         | Event::Refused { .. } => Ok(()),
+    }
+}
+
+/// Takes in what an entry of the node of that number tells of circuits.
+fn heed_entry(
+    declared: &[Declaration],
+    verdict: &mut Verdict,
+    line: u32,
+    node: u8,
+    entry: &NodeEntry,
+) -> Result<(), NoMemory>
+    ensures { OnOk result ((nodes : List Placed) → AreDeclared declared.now nodes
+        → Heeds verdict.old verdict.new (event_at nodes line (Entry node (entry_of entry.now)))) }
+{
+    match entry {
+        NodeEntry::Set(event) => heed_set(&spot_of(declared, node), verdict, line, event),
+        NodeEntry::Link(..) | NodeEntry::Overflow { .. } => Ok(()),
     }
 }
 

@@ -10,14 +10,15 @@ ghost use Rattle.net_replay.specs.Starting.{has_number};
 ghost use Rattle.net_replay.specs.World as worlds;
 
 use crate::air::{Air, Octets};
+use crate::answer::{Answer, answer_of};
 use crate::ends::Ends;
 use crate::events::{Event, NumberedEvent};
+use crate::kiss::KissBytes;
 use crate::places::place_of;
-use crate::reasons::{LineRefusal, ReplayRefusal};
-use crate::refused::of_act;
+use crate::reasons::ReplayRefusal;
 use link_table::{Written, WrittenAs};
 use network_file::{Channel, Declaration, is_on_air};
-use node_core::{ActDone, Node, NodeEntry, UserAct};
+use node_core::{Node, NodeEntry, UserAct};
 use radio_base::{Moment, NoMemory};
 use std::alloc::Global;
 
@@ -31,6 +32,8 @@ pub struct World {
     pub air: Air,
     pub ends: Ends,
     pub events: Vec<NumberedEvent>,
+    /// The frame that reaches a node, as KISS bytes: the same room serves one frame after another.
+    pub kiss: KissBytes,
 }
 
 impl World {
@@ -41,12 +44,12 @@ impl World {
         place_of(&self.declared, number)
     }
 
-    /// KISS bytes reach the node at a place, and its entries are told. Its frames stay with it.
-    pub fn bytes_reach(&mut self, line: u32, at: usize, bytes: &[u8]) -> Result<(), NoMemory>
-        ensures { OnOk result (GoesOn (course self.old) (course self.new) (worlds.reach line at (worlds.Bytes bytes.now))) }
+    /// The KISS bytes that are held reach the node at a place, and its entries are told. Its frames stay with it.
+    pub fn kiss_reaches(&mut self, line: u32, at: usize) -> Result<(), NoMemory>
+        ensures { OnOk result (GoesOn (course self.old) (course self.new) (worlds.reach line at (worlds.Bytes self.old.kiss.items))) }
     {
         if at < self.nodes.len() {
-            self.nodes[at].kiss_bytes(bytes, self.time)?;
+            self.nodes[at].kiss_bytes(self.kiss.as_slice(), self.time)?;
             self.tell_entries(line, at)?;
             Ok(())
         } else {
@@ -69,12 +72,7 @@ impl World {
 
     /// A user's act reaches the node at a place, and its entries are told: what was done, or why it wasn't. Its frames stay
     /// with it.
-    pub fn act_reaches(
-        &mut self,
-        line: u32,
-        at: usize,
-        act: &UserAct,
-    ) -> Result<Result<ActDone, LineRefusal>, NoMemory>
+    pub fn act_reaches(&mut self, line: u32, at: usize, act: &UserAct) -> Result<Answer, NoMemory>
         ensures goes { OnOk result (GoesOn (course self.old) (course self.new) (worlds.reach line at (worlds.Act act.now))) }
         ensures answer { IfOk result (λ answer. (w : worlds.World) → Stands (course self.old) w → IsAnswerTo answer (worlds.answer at act.now w)) }
     {
@@ -83,23 +81,19 @@ impl World {
             self.tell_entries(line, at)?;
             Ok(answer)
         } else {
-            Ok(Ok(ActDone::Done))
+            Ok(Answer::Done)
         }
     }
 
     /// A user's act reaches the node at a place.
-    fn act_at(&mut self, at: usize, act: &UserAct) -> Result<Result<ActDone, LineRefusal>, NoMemory>
+    fn act_at(&mut self, at: usize, act: &UserAct) -> Result<Answer, NoMemory>
         requires { at < length self.old.nodes.items }
         ensures goes { OnOk result ((w : worlds.World) → Stands (course self.old) w → Stands (course self.new) (running.change at (worlds.after w.now (worlds.Act act.now)) w)) }
         ensures answer { IfOk result (λ answer. (w : worlds.World) → Stands (course self.old) w → IsAnswerTo answer (worlds.answer at act.now w)) }
     {
-        match self.nodes[at].act(act, self.time) {
-            Ok(done) => Ok(Ok(done)),
-            Err(refusal) => match of_act(refusal) {
-                Some(why) => Ok(Err(why)),
-                None => Err(NoMemory),
-            },
-        }
+        let outcome = self.nodes[at].act(act, self.time);
+        let answer = answer_of(self.alloc, &outcome)?;
+        Ok(answer)
     }
 
     /// Tells what the node at a place has to tell.
@@ -133,6 +127,7 @@ impl World {
         match self.declared.get(at) {
             Some(declared) => {
                 let node = declared.node;
+                let entry = Box::new(self.alloc, entry)?;
                 self.tell(line, Event::Entry { node, entry })?;
                 Ok(())
             }
@@ -144,6 +139,7 @@ impl World {
     pub fn tell(&mut self, line: u32, event: Event) -> Result<(), NoMemory>
         ensures goes { OnOk result (GoesOn (course self.old) (course self.new) (worlds.tell line (event_of event ∷ []))) }
         ensures nodes { self.new.nodes.items ≡ self.old.nodes.items }
+        ensures kiss { self.new.kiss.items ≡ self.old.kiss.items }
     {
         self.ends.note(&event)?;
         self.events.push(NumberedEvent { line, event })?;

@@ -9,7 +9,7 @@ ghost use Rattle.net_replay.specs.Running.{GoesOn, Runs, course};
 ghost use Rattle.net_replay.specs.Running as running;
 ghost use Rattle.net_replay.specs.World as worlds;
 
-use crate::kiss::kiss_bytes;
+use crate::kiss::put_kiss;
 use crate::moves::World;
 use crate::reasons::ReplayRefusal;
 use crate::stations::is_callsign;
@@ -47,8 +47,8 @@ impl World {
         match instruction {
             Instruction::Heard { node, call, nodes } => {
                 let octets = broadcast_frame(call, nodes);
-                let bytes = kiss_bytes(octets.as_slice());
-                self.hear(channels, line, *node, bytes.as_slice(), false)
+                put_kiss(octets.as_slice(), &mut self.kiss);
+                self.hear(channels, line, *node, false)
             }
             Instruction::Lock {
                 node,

@@ -3,6 +3,7 @@ use Rattle.std.specs.Vec.{with_items}
 use Rattle.std.proofs.lemmas.List.{with_items_is}
 use Rattle.net_replay.specs.declared.ends.Outcome.TheVariants.{Lost}
 use Rattle.net_replay.specs.Ends.{note_entry, with_outcome}
+use Rattle.node_core.specs.declared.entry.NodeEntry.{NodeEntry}
 use Rattle.node_core.specs.Standing.{entry_of}
 use Rattle.net_replay.proofs.Noting.{noted}
 use Rattle.net_replay.proofs.ends.note_in.Goals as goal
@@ -12,7 +13,8 @@ returns-in_ok-note_entry-in-Entry c =
     let at = c.in-Entry.node in
     let lists = c.args.lists.now in
     let h : at < length lists = omega (arith, c.requires) in
-    rw c.in-Entry.is (λ node. noted lists at node c.note_entry.new.made c.index-lists-node.result (note_entry (entry_of c.in-Entry.entry)) h c.in_ok-note_entry-in-Entry.ensures)
+    rw c.in-Entry.is (λ node. noted lists at node c.note_entry.new.made c.index-lists-node.result (note_entry (entry_of c.in-Entry.entry.value)) h
+    (c.in_ok-note_entry-in-Entry.ensures ∙ ap (λ (e : NodeEntry). note_entry (entry_of e) (get_or lists at c.index-lists-node.result).items) c.deref.ensures))
 
 pub returns-in-Lost : goal.returns-in-Lost
 returns-in-Lost c =

@@ -1,4 +1,5 @@
-use Rattle.std.proofs.Common.{◌≤◌, arith, length, subst}
+use Rattle.std.proofs.Common.{◌≤◌, arith, length, refl, subst}
+use Rattle.node_core.specs.declared.acts.ActDone.TheVariants.{Done}
 use Rattle.net_replay.specs.Running.{Stands, change, course}
 use Rattle.net_replay.specs.World.{Act, World, after}
 use Rattle.net_replay.proofs.Entering.{reach_is}
@@ -17,5 +18,5 @@ returns-else-at-len c =
     let h : length c.args.self.now.nodes.items ≤ c.args.at = omega (arith, c.if-at-len.false, c.len.ensures) in
     record {
       goes = stays old c.args.line c.args.at (Act c.args.act.now) h;
-      answer = λ w t. no_answer old c.args.at c.args.act.now w h t;
+      answer = λ w t. (Done, no_answer old c.args.at c.args.act.now w h t, refl);
     }

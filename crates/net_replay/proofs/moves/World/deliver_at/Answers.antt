@@ -9,8 +9,8 @@ returns-in_ok-tell-in-Some c =
     let h = c.in-Some.ensures.lookup in
     let f = c.in-Some.frame.now in
     let is = found c.frames.result.now c.args.self.now.air c.args.at f c.frames.ensures.value h.3.0 h.1 in
-    let bytes = c.as_slice-in-Some.ensures.value ∙ (c.kiss_bytes-bytes.ensures ∙ ap (λ (os : List ℕ). kiss_bytes os) c.as_slice.ensures.value) in
-    delivered (course c.args.self.now) (course c.tell.new.self) (course c.hear.new.self) c.args.channels.now c.args.line c.args.at c.args.node f c.as_slice-in-Some.result.now c.hear.result
+    let bytes = c.in_ok-tell-in-Some.ensures.kiss ∙ (c.put_kiss.ensures ∙ ap (λ (os : List ℕ). kiss_bytes os) c.as_slice.ensures.value) in
+    delivered (course c.args.self.now) (course c.tell.new.self) (course c.hear.new.self) c.args.channels.now c.args.line c.args.at c.args.node f c.tell.new.self.kiss.items c.hear.result
     is bytes c.in_ok-tell-in-Some.ensures.goes c.hear.ensures
 
 pub returns-in-None : goal.returns-in-None
