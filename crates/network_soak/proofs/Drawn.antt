@@ -1,5 +1,5 @@
 -- The drawn lines, one after another.
-use Rattle.std.proofs.Common.{◌≡◌, ◌∙◌, ◌<◌, ◌≤◌, ◌+◌, ◌-◌, ◌++◌, ℕ, suc, List, [], refl, sym, ap, append_assoc, append-nil, add-one, arith}
+use Rattle.std.proofs.Common.{◌≡◌, ◌∙◌, ◌<◌, ◌≤◌, ◌+◌, ◌-◌, ◌++◌, ℕ, suc, List, [], refl, sym, ap, append_assoc, append-nil, arith}
 use Rattle.network_soak.specs.Files.{drawn, drawn_text}
 
 -- as many as are left, of which there is one

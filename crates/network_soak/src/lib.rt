@@ -4,6 +4,7 @@
 
 mod draws;
 mod file;
+pub mod laws;
 mod lines;
 
 pub use file::soak_file;
