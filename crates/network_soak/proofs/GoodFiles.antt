@@ -1,10 +1,11 @@
 -- The file of each number is one of a network: its first lines, those that are drawn, and the last.
-use Rattle.std.proofs.Common.{◌≡◌, ◌+◌, ◌<◌, ◌≤◌, ◌∙◌, ℕ, zero, suc, List, [], ◌∷◌, ◌++◌, refl, ap, sym, subst, length, arith, Ok, Err, Bool, true, false, cond, append_assoc}
+use Rattle.std.proofs.Common.{◌≡◌, ◌+◌, ◌<◌, ◌≤◌, ◌∙◌, ◌*◌, ℕ, zero, suc, List, [], ◌∷◌, ◌++◌, refl, ap, sym, subst, length, arith, Ok, Err, Bool, true, false, cond, append_assoc, length-append}
 use Rattle.std.specs.Prelude.{codes, Result, ◌==◌, ◌||◌, filter, not}
 use Rattle.std.specs.Fmt.{decimal, digits}
 use Rattle.std.specs.List.{slice_split}
 use Rattle.std.specs.Str.Lines.{lines, lines_of_parts}
 use Rattle.std.proofs.lemmas.List.Splits.{length-slice_split}
+use Rattle.std.proofs.lemmas.Fmt.{length-decimal-le}
 use Rattle.ax_address.specs.CallReading.{call_at}
 use Rattle.network_file.specs.declared.lines.Line.TheVariants as line
 use Rattle.network_file.specs.declared.network.NumberedInstruction.{NumberedInstruction}
@@ -181,3 +182,50 @@ unfolding network_of soak_file
 file_is_good seed =
     let drawn = drawn_brings 300 1 seed 61 361 begun.instructions (omega arith) (omega arith) (omega arith) in
     (ended drawn.0, starts (drawn_text 1 300 seed ++ end_text) ∙ (drawn.1 end_text ∙ ends drawn.0))
+
+-- ---- how long a file is
+
+say_short : (node nth : ℕ) → node < 10 → nth < 1000 → length (say_line node nth) ≤ 64
+say_short node nth a b =
+    let n = length-decimal-le 1 node (omega arith) a (omega arith) in
+    let t = length-decimal-le 3 nth (omega arith) b (omega arith) in
+    simp length-append (omega arith)
+
+flow_short : (count : ℕ) → count < 1000 → length (flow_text count) ≤ 64
+flow_short count a =
+    let n = length-decimal-le 3 count (omega arith) a (omega arith) in
+    simp length-append (omega arith)
+
+drawn_short : (nth x : ℕ) → nth < 301 → length (drawn nth x).text ≤ 64
+drawn_short nth x h =
+    let kind = draw 4 (next x) in
+    let y = next (next x) in
+    pick (λ t. length t ≤ 64) (kind == 0) (kind == 1) (kind == 2)
+    (record { text = say_line (draw 6 x + 1) nth; after = y })
+    (record { text = flow_text (draw 20 y + 1); after = next y })
+    (record { text = codes "cut 1\n"; after = y })
+    (record { text = codes "tick 60000\n"; after = y })
+    (say_short (draw 6 x + 1) nth (omega arith) (omega arith)) (flow_short (draw 20 y + 1) (omega arith)) (omega arith) (omega arith)
+
+all_short : (more nth x : ℕ) → nth + more ≤ 301 → length (drawn_text nth more x) ≤ more * 64
+unfolding drawn_text
+all_short zero nth x h = omega arith
+all_short (suc more) nth x h =
+    let d = drawn nth x in
+    let here = drawn_short nth x (omega arith) in
+    let later = all_short more (nth + 1) d.after (omega arith) in
+    simp length-append (omega arith)
+
+first_length : length start_text ≡ 664
+unfolding start_text lines_of digits
+first_length = refl
+
+last_length : length end_text ≡ 84
+unfolding end_text lines_of digits
+last_length = refl
+
+pub file_is_short : (seed : ℕ) → length (soak_file seed) ≤ 1048576
+unfolding soak_file
+file_is_short seed =
+    let drawn = all_short 300 1 seed (omega arith) in
+    simp length-append (omega (arith, first_length, last_length))

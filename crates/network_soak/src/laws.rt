@@ -1,7 +1,8 @@
 //! What holds of the file of every number.
-ghost use Rattle.network_soak.specs.Laws.{AreNetworks};
+ghost use Rattle.network_soak.specs.Laws.{AreNetworks, AreShort};
 
-/// It is the file of a network: no line of it is bad.
+/// It is the file of a network: no line of it is bad, and it has no more bytes than a network file may have.
 pub fn soak_files_are_networks()
-    ensures { AreNetworks }
+    ensures networks { AreNetworks }
+    ensures short { AreShort }
 {}
