@@ -52,16 +52,16 @@ next_end number place id ends end facts held text next all e h is so_far =
     subst P (sym e) (λ told wrote. ends_on number place ends end facts held text next all h is told wrote so_far)
 
 -- the first node, and then the others
-pub nodes_joined : (declared : List Declaration) (nodes : List Kept) (d : Declaration) (n : Kept) (ends : ℕ → List EndRecord) (placed : List Placed) (text mid new : List ℕ)
+pub nodes_joined : {A : Type 0} (of : Placed → List A) (declared : List Declaration) (nodes : List Kept) (d : Declaration) (n : Kept) (placed : List Placed) (text mid new : List A)
     → 1 ≤ length declared → d ≡ get_or declared 0 d → 1 ≤ length nodes → n ≡ get_or nodes 0 n → AreDeclared declared placed → StandFor nodes placed
-    → ((p : Placed) → d ≡ p.declared → NodeStands n p.state → mid ≡ text ++ node_text ends p)
+    → ((p : Placed) → d ≡ p.declared → NodeStands n p.state → mid ≡ text ++ of p)
     → ((ps : List Placed) → AreDeclared (take (length declared - 1) (drop 1 declared)) ps → StandFor (take (length nodes - 1) (drop 1 nodes)) ps
-    → new ≡ mid ++ flat_map (node_text ends) ps)
-    → new ≡ text ++ flat_map (node_text ends) placed
-nodes_joined [] nodes d n ends placed text mid new some first some_nodes first_node e stand one rest = absurd (omega arith)
-nodes_joined (x ∷ xs) [] d n ends placed text mid new some first some_nodes first_node e stand one rest = absurd (omega arith)
-nodes_joined (x ∷ xs) (m ∷ ms) d n ends [] text mid new some first some_nodes first_node e stand one rest = absurd stand
-nodes_joined (x ∷ xs) (m ∷ ms) d n ends (p ∷ ps) text mid new some first some_nodes first_node e stand one rest =
+    → new ≡ mid ++ flat_map of ps)
+    → new ≡ text ++ flat_map of placed
+nodes_joined of [] nodes d n placed text mid new some first some_nodes first_node e stand one rest = absurd (omega arith)
+nodes_joined of (x ∷ xs) [] d n placed text mid new some first some_nodes first_node e stand one rest = absurd (omega arith)
+nodes_joined of (x ∷ xs) (m ∷ ms) d n [] text mid new some first some_nodes first_node e stand one rest = absurd stand
+nodes_joined of (x ∷ xs) (m ∷ ms) d n (p ∷ ps) text mid new some first some_nodes first_node e stand one rest =
     let same : x ≡ p.declared = cc in
     let others : xs ≡ map (λ (q : Placed). q.declared) ps = cc in
     let all : take (length (x ∷ xs) - 1) xs ≡ xs = take_all _ xs (omega arith) in
@@ -70,7 +70,7 @@ nodes_joined (x ∷ xs) (m ∷ ms) d n ends (p ∷ ps) text mid new some first s
     let rest_declared : AreDeclared (take (length (x ∷ xs) - 1) xs) ps = all ∙ others in
     let rest_stand : StandFor (take (length (m ∷ ms) - 1) ms) ps = subst (λ (ks : List Kept). StandFor ks ps) (sym all_nodes) stand.1 in
     rest ps rest_declared rest_stand
-    ∙ (ap (λ t. t ++ flat_map (node_text ends) ps) (one p (first ∙ same) here) ∙ append_assoc text (node_text ends p) (flat_map (node_text ends) ps))
+    ∙ (ap (λ t. t ++ flat_map of ps) (one p (first ∙ same) here) ∙ append_assoc text (of p) (flat_map of ps))
 
 -- no nodes
 pub none_declared : (placed : List Placed) (ends : ℕ → List EndRecord) (text : List ℕ) → AreDeclared [] placed → text ≡ text ++ flat_map (node_text ends) placed
@@ -83,7 +83,7 @@ none_standing (p ∷ ps) ends text stand = absurd stand
 
 -- ---- the report as a whole
 
-ends_same : (left : Left) (w : World) → IsTraceOf left w → ends_left left ≡ (λ node. ends_of node w.told)
+pub ends_same : (left : Left) (w : World) → IsTraceOf left w → ends_left left ≡ (λ node. ends_of node w.told)
 ends_same left w trace = λ i node. trace.ends node i
 
 told_same : (left : Left) (w : World) → IsTraceOf left w → flat_map (text_left left) left.events ≡ flat_map (told_text w.air (λ node. ends_of node w.told)) w.told
