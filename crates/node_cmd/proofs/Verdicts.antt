@@ -1,5 +1,5 @@
 -- A network has one verdict: where none is one, none other is.
-use Rattle.std.proofs.Common.{◌≡◌, ◌∙◌, ℕ, refl, sym, ap, subst, List, [], ◌∷◌, ◌++◌, append-nil, map}
+use Rattle.std.proofs.Common.{◌≡◌, ◌∙◌, ℕ, refl, sym, ap, subst, List, [], ◌∷◌, ◌++◌, append-nil, map, arith}
 use Rattle.std.specs.Prelude.{IsSomeAnd, Option, Some, None, Ok}
 use Rattle.std.specs.Io.KnownBytes.{Consumes, IsAtEnd}
 use Rattle.circuit_set.specs.Books.{Fresh, Timely, empty}
@@ -14,7 +14,7 @@ use Rattle.net_replay.specs.Circuits.{CircuitEvent, IsVerdictOn, judged}
 use Rattle.net_replay.specs.Lines.{world}
 use Rattle.net_replay.specs.World.{World}
 use Rattle.node_cmd.specs.Reading.{ReadsAll}
-use Rattle.node_cmd.specs.Replays.{TellsInTime, TellsLate}
+use Rattle.node_cmd.specs.Outcomes.{AirsFew, AirsTooMany, IsInTime, IsLate, IsNetwork}
 
 told_are : (ns : List Numbered) → map (λ (e : CircuitEvent). e.event) (map judged ns) ≡ verdicts.events_of ns
 told_are [] = refl
@@ -29,24 +29,29 @@ one_verdict plan w late a b =
     absurd (cc none)
 
 -- a source that tells its bytes told those that were read to its end
-told_whole : (a b : Option (List ℕ)) (bytes : List ℕ) (P : List ℕ → Type 0) → Consumes a b bytes → IsAtEnd b → IsSomeAnd a P → P bytes
+pub told_whole : (a b : Option (List ℕ)) (bytes : List ℕ) (P : List ℕ → Type 0) → Consumes a b bytes → IsAtEnd b → IsSomeAnd a P → P bytes
 told_whole None b bytes P c e t = absurd t
 told_whole (Some xs) None bytes P c e t = absurd c
 told_whole (Some xs) (Some ys) bytes P c e t = subst P (c ∙ (ap (λ zs. bytes ++ zs) e ∙ append-nil bytes)) t
 
-module _ (left left' : Option (List ℕ)) (bytes : List ℕ) (network : Plan) (all : ReadsAll left left' bytes) (read : network_of bytes ≡ Ok network) where
-  -- a source that tells a file in which something comes too late, where nothing does
-  pub none_late : IsVerdictOn network (world network) None → TellsLate left → ⊥
-  none_late verdict tells =
-      let t = told_whole left left' bytes _ all.taken all.ended tells in
-      let some : Ok network ≡ Ok t.1.0 = sym read ∙ t.1.1 in
-      let same : network ≡ t.1.0 = cc some in
-      one_verdict t.1.0 (world t.1.0) t.1.2.1.0 (subst (λ n. IsVerdictOn n (world n) None) same verdict) t.1.2.1.1
+-- and so has a file: there is nothing late in what has nothing late
+module _ (bytes : List ℕ) (network : Plan) (read : network_of bytes ≡ Ok network) where
+  pub none_late : IsVerdictOn network (world network) None → IsNetwork bytes IsLate → ⊥
+  none_late verdict other =
+      let some : Ok network ≡ Ok other.0 = sym read ∙ other.1 in
+      let same : network ≡ other.0 = cc some in
+      one_verdict other.0 (world other.0) other.2.1.0 (subst (λ n. IsVerdictOn n (world n) None) same verdict) other.2.1.1
 
-  -- and one that tells a file in which nothing does, where something comes too late
-  pub late_none : (late : Late) → IsVerdictOn network (world network) (Some late) → TellsInTime left → ⊥
-  late_none late verdict tells =
-      let t = told_whole left left' bytes _ all.taken all.ended tells in
-      let some : Ok network ≡ Ok t.1.0 = sym read ∙ t.1.1 in
-      let same : network ≡ t.1.0 = cc some in
-      one_verdict t.1.0 (world t.1.0) late t.1.2.1 (subst (λ n. IsVerdictOn n (world n) (Some late)) same verdict)
+  pub late_none : (late : Late) → IsVerdictOn network (world network) (Some late) → IsNetwork bytes IsInTime → ⊥
+  late_none late verdict other =
+      let some : Ok network ≡ Ok other.0 = sym read ∙ other.1 in
+      let same : network ≡ other.0 = cc some in
+      one_verdict other.0 (world other.0) late other.2.1 (subst (λ n. IsVerdictOn n (world n) (Some late)) same verdict)
+
+  -- as many frames as may be there, or more
+  pub few_many : AirsFew network → IsNetwork bytes AirsTooMany → ⊥
+  few_many few other =
+      let some : Ok network ≡ Ok other.0 = sym read ∙ other.1 in
+      let same : network ≡ other.0 = cc some in
+      let many : AirsTooMany network = subst AirsTooMany (sym same) other.2 in
+      omega arith

@@ -8,7 +8,7 @@ use net_replay::What;
 use radio_base::{NoMemory, Sink};
 use std::alloc::Global;
 
-/// All commands with their words, of which `replay` and `frames` are built so far.
+/// All commands with their words, of which `replay`, `frames` and `soak` are built so far.
 pub const USAGE: &str =
     "usage: replay | node call=CALL alias=ALIAS [key=value] | frames modulo=8|128 | soak seed=N\n";
 

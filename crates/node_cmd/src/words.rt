@@ -1,7 +1,10 @@
 //! The commands, and the words that ask for them.
-ghost use Rattle.std.specs.Prelude.{◌≡◌, IfSome, IfNone, IsTrue, ◌↔◌, codes};
+ghost use Rattle.std.specs.Prelude.{◌≡◌, ◌≢◌, ◌<◌, ◌^◌, ℕ, IfSome, IfNone, IsTrue, ◌↔◌, codes};
+ghost use Rattle.std.specs.Fmt.{decimal};
 ghost use Rattle.node_cmd.specs.declared.words.Command.{Command};
-ghost use Rattle.node_cmd.specs.Words.{AskFor};
+ghost use Rattle.node_cmd.specs.Words.{AskFor, seed_word};
+
+use itoa::Buffer;
 
 /// What the program can do.
 #[derive(Clone, Copy, Debug, PartialEq, Eq)]
@@ -10,6 +13,8 @@ pub enum Command {
     Replay,
     /// `frames modulo=8`, `frames modulo=128`
     Frames { modulo: FrameModulus },
+    /// `soak seed=N`
+    Soak { seed: u64 },
 }
 
 /// The modulus of the sequence numbers in the frames of a stream, which no frame tells (AX.25 2.2, section 4.2.1).
@@ -38,6 +43,10 @@ pub fn command_of(words: &[String]) -> Option<Command>
                 modulo: FrameModulus::M128,
             })
         }
+        [word, seed] if is_soak(word.as_bytes()) => match seed_of(seed.as_str()) {
+            Some(seed) => Some(Command::Soak { seed }),
+            None => None,
+        },
         _ => None,
     }
 }
@@ -54,6 +63,12 @@ fn is_frames(word: &[u8]) -> bool
     word == b"frames".as_slice()
 }
 
+fn is_soak(word: &[u8]) -> bool
+    ensures { IsTrue result ↔ (word.now ≡ codes "soak") }
+{
+    word == b"soak".as_slice()
+}
+
 fn is_modulo8(word: &[u8]) -> bool
     ensures { IsTrue result ↔ (word.now ≡ codes "modulo=8") }
 {
@@ -64,4 +79,32 @@ fn is_modulo128(word: &[u8]) -> bool
     ensures { IsTrue result ↔ (word.now ≡ codes "modulo=128") }
 {
     word == b"modulo=128".as_slice()
+}
+
+/// The seed that the word gives.
+fn seed_of(word: &str) -> Option<u64>
+    ensures found { IfSome result (λ seed. word.now ≡ seed_word seed) }
+    ensures none { IfNone result ((seed : ℕ) → seed < 2 ^ 64 → word.now ≢ seed_word seed) }
+{
+    match word.strip_prefix("seed=") {
+        Some(text) => number_of(text),
+        None => None,
+    }
+}
+
+/// The number of which the text is the one spelling: decimal, without a sign and without leading zeros.
+fn number_of(text: &str) -> Option<u64>
+    ensures found { IfSome result (λ n. text.now ≡ decimal n) }
+    ensures none { IfNone result ((n : ℕ) → n < 2 ^ 64 → text.now ≢ decimal n) }
+{
+    match text.parse::<u64>() {
+        Ok(n) if is_decimal(n, text) => Some(n),
+        _ => None,
+    }
+}
+
+fn is_decimal(n: u64, text: &str) -> bool
+    ensures { IsTrue result ↔ (text.now ≡ decimal n) }
+{
+    Buffer::new().format(n) == text
 }

@@ -1,0 +1,110 @@
+-- What a command that runs a network writes and leaves of it.
+use Rattle.std.specs.Prelude.{ℕ, ◌≡◌, ◌≢◌, ◌⊎◌, ◌<◌, ◌≤◌, List, length, Option, Some, None, Result, Ok, Err}
+use Rattle.std.specs.Io.KnownBytes.{Appends}
+use Rattle.radio_base.specs.Causes.{Rose}
+use Rattle.circuit_verdict.specs.declared.verdict.Late.{Late}
+use Rattle.network_file.specs.Networks.{Bad, network_of}
+use Rattle.network_file.specs.Plan.{Plan}
+use Rattle.net_replay.specs.Air.{most_frames}
+use Rattle.net_replay.specs.Circuits.{IsVerdictOn}
+use Rattle.net_replay.specs.Lines.{world}
+use Rattle.net_replay.specs.Promises.{RetriesAreTold, SafeThroughout}
+use Rattle.net_replay.specs.Reports.{report_text}
+use Rattle.net_replay.specs.Soaks.{soak_text}
+use Rattle.net_replay.specs.Traces.{IsTraceOf, left_of}
+use Rattle.net_replay.specs.World.{World}
+use Rattle.node_cmd.specs.declared.outcomes.Outcome.{Outcome}
+use Rattle.node_cmd.specs.declared.outcomes.Printed.{Printed}
+use Rattle.node_cmd.specs.declared.outcomes.Printed.TheVariants.{Report, SoakLine}
+use Rattle.node_cmd.specs.declared.outcomes.ReportRefusal.{ReportRefusal}
+use Rattle.node_cmd.specs.declared.outcomes.ReportRefusal.TheVariants.{BadLine, TooManyFrames, NoMemory}
+use Rattle.node_cmd.specs.declared.ran.Ran.{Ran}
+use Rattle.node_cmd.specs.declared.ran.Ran.TheVariants.{Nothing, Replayed}
+use Rattle.node_cmd.specs.declared.status.Status.{Status}
+use Rattle.node_cmd.specs.declared.status.Status.TheVariants as statuses
+use Rattle.node_cmd.specs.Notes.{bad_line_note}
+use Rattle.node_cmd.specs.Writing.{AppendsFront, Says}
+
+-- what is written of a network, with the verdict on it: its report, or the line on the soak of a number
+abbrev pub text_of : Printed → World → Option Late → List ℕ
+text_of Report w late = report_text w late
+text_of (SoakLine seed) w late = soak_text seed w late
+
+-- a file is one of a network of which P holds
+abbrev pub IsNetwork : List ℕ → (Plan → Type 0) → Type 0
+IsNetwork bytes P = (network : Plan) × (network_of bytes ≡ Ok network) × P network
+
+-- it has a first bad line, of whose note P holds
+abbrev pub IsBadFile : List ℕ → (List ℕ → Type 0) → Type 0
+IsBadFile bytes P = (bad : Bad) × (network_of bytes ≡ Err bad) × P (bad_line_note bad.0 bad.1)
+
+-- so many frames as a replay may have in the air, or more, are put there
+abbrev pub AirsFew : Plan → Type 0
+AirsFew network = length (world network).air ≤ most_frames
+
+abbrev pub AirsTooMany : Plan → Type 0
+AirsTooMany network = most_frames < length (world network).air
+
+-- it puts as many frames in the air as it may, and nothing comes back too late, or something
+abbrev pub IsInTime : Plan → Type 0
+IsInTime network = AirsFew network × IsVerdictOn network (world network) None
+
+abbrev pub IsLate : Plan → Type 0
+IsLate network = AirsFew network × ((late : Late) × IsVerdictOn network (world network) (Some late))
+
+-- why there is nothing to write of what was read: a bad line, too many frames, or want of memory
+abbrev pub NotReported : ReportRefusal → Result Plan Bad → Type 0
+NotReported (BadLine line what) read = read ≡ Err (line, what)
+NotReported TooManyFrames read = (network : Plan) × (read ≡ Ok network) × AirsTooMany network
+NotReported NoMemory read = Unit {0}
+
+-- what came of a network: its trace, the verdict and the text
+pub record IsOutcome (what : Printed) (o : Outcome) (network : Plan) : Type 0 where
+  pub few : AirsFew network
+  pub trace : IsTraceOf (left_of o.trace) (world network)
+  pub verdict : IsVerdictOn network (world network) o.late
+  pub text : o.text ≡ text_of what (world network) o.late
+
+-- the trace of a world is left
+abbrev pub Leaves : Ran → World → Type 0
+Leaves Nothing w = ⊥
+Leaves (Replayed trace) w = IsTraceOf (left_of trace) w
+
+-- the text of a network was written, with the verdict on it, what ran is left, and at each line every end past its retries was told so
+pub record Reports (what : Printed) (old new : Option (List ℕ)) (ran : Ran) (network : Plan) (late : Option Late) : Type 0 where
+  pub few : AirsFew network
+  pub verdict : IsVerdictOn network (world network) late
+  pub written : Appends old new (text_of what (world network) late)
+  pub left : Leaves ran (world network)
+  pub retries : RetriesAreTold network
+
+-- so it was, and nothing came back too late: at each line each circuit user has received exactly a beginning of what its partner
+-- wrote, with all that is acknowledged
+abbrev pub ReportsInTime : Printed → Option (List ℕ) → Option (List ℕ) → Ran → Plan → Type 0
+ReportsInTime what old new ran network = Reports what old new ran network None × SafeThroughout network
+
+-- so it was, and something came back too late
+abbrev pub ReportsLate : Printed → Option (List ℕ) → Option (List ℕ) → Ran → Plan → Type 0
+ReportsLate what old new ran network = (late : Late) × Reports what old new ran network (Some late)
+
+-- a front of the text of a network was written
+pub record WritesFront (what : Printed) (old new : Option (List ℕ)) (network : Plan) : Type 0 where
+  pub few : AirsFew network
+  pub late : Option Late
+  pub verdict : IsVerdictOn network (world network) late
+  pub written : AppendsFront old new (text_of what (world network) late)
+
+-- What is written and noted of the network of a file, as the two commands that run one share it; how each of them ends is said in `Run`.
+pub record NetworkEnds (what : Printed) (bytes : List ℕ) (written written' : Option (List ℕ)) (writes writes' : ℕ) (notes notes' : Option (List ℕ)) (note_faults note_faults' : ℕ) (ran : Ran) (status : Status) : Type 0 where
+  pub done : status ≡ statuses.Done → IsNetwork bytes (ReportsInTime what written written' ran)
+  pub late : status ≡ statuses.TooLate → IsNetwork bytes (ReportsLate what written written' ran)
+  pub done_comes : IsNetwork bytes IsInTime → ¬ Rose writes writes' → (status ≡ statuses.Done) ⊎ (status ≡ statuses.NoMemory)
+  pub late_comes : IsNetwork bytes IsLate → ¬ Rose writes writes' → (status ≡ statuses.TooLate) ⊎ (status ≡ statuses.NoMemory)
+  pub too_long : status ≡ statuses.TooLong → IsNetwork bytes AirsTooMany
+  pub too_long_comes : IsNetwork bytes AirsTooMany → (status ≡ statuses.TooLong) ⊎ (status ≡ statuses.NoMemory)
+  pub bad_file : status ≡ statuses.BadFile → IsBadFile bytes (Says notes notes' note_faults note_faults')
+  pub bad_file_comes : ((bad : Bad) × (network_of bytes ≡ Err bad)) → (status ≡ statuses.BadFile) ⊎ (status ≡ statuses.NoMemory)
+  pub write_fault : status ≡ statuses.WriteFault → Rose writes writes'
+  pub write_front : status ≡ statuses.WriteFault → IsNetwork bytes (WritesFront what written written')
+  pub write_same : status ≢ statuses.WriteFault → writes' ≡ writes
+  pub others : (status ≢ statuses.Usage) × (status ≢ statuses.ReadFault)

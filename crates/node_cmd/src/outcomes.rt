@@ -1,0 +1,165 @@
+//! What comes of a network: its run, the verdict on it, and the text that is written of it.
+ghost use Rattle.std.specs.Prelude.{◌≡◌, ◌≢◌, ◌≤◌, ◌++◌, length, None, Ok, OnOk, IfOk, IfErr};
+ghost use Rattle.network_file.specs.Networks.{network_of};
+ghost use Rattle.network_file.specs.Plan.{Plan};
+ghost use Rattle.net_replay.specs.Air.{most_frames};
+ghost use Rattle.net_replay.specs.CircuitRuns.{IsSound};
+ghost use Rattle.net_replay.specs.Circuits.{allowance_of};
+ghost use Rattle.net_replay.specs.Lines.{world};
+ghost use Rattle.net_replay.specs.Promises.{RetriesAreTold, SafeThroughout};
+ghost use Rattle.net_replay.specs.Traces.{IsTraceOf, allowance_in, left_of};
+ghost use Rattle.net_replay.specs.World.{World};
+ghost use Rattle.node_cmd.specs.Outcomes.{IsOutcome, NetworkEnds, NotReported, text_of};
+ghost use Rattle.node_cmd.specs.Reading.{max_file};
+ghost use Rattle.node_cmd.specs.StatusNotes.{HasNote, IsSilent};
+ghost use Rattle.node_cmd.specs.Writing.{Says};
+ghost use Rattle.node_cmd.specs.declared.outcomes.ReportRefusal.TheVariants as Refusal;
+ghost use Rattle.node_cmd.specs.declared.ran.Ran.TheVariants as rans;
+
+use crate::notes::{TOO_LONG, bad_line_note, say};
+use crate::ran::Ran;
+use crate::status::Status;
+use crate::writing::write_all;
+use net_replay::{
+    Late, Network, NetworkRefusal, ReplayRefusal, Trace, What, read_network, replay, report,
+    soak_line, too_late,
+};
+use radio_base::{NoMemory, Sink, TextOut};
+use std::alloc::Global;
+
+/// What is written of a network.
+#[derive(Clone, Copy, Debug, PartialEq, Eq)]
+pub enum Printed {
+    /// Its report.
+    Report,
+    /// The line on the soak of that number.
+    SoakLine { seed: u64 },
+}
+
+/// Why there is nothing to write.
+#[derive(Clone, Copy, Debug, PartialEq, Eq)]
+pub enum ReportRefusal {
+    /// The first bad line, counted from 1.
+    BadLine { line: u32, what: What },
+    /// A frame would be put in the air after the last that may be there.
+    TooManyFrames,
+    NoMemory,
+}
+
+/// What came of a network: what ran, the verdict on it, and what is written of it.
+#[derive(Drop)]
+pub struct Outcome {
+    pub trace: Trace,
+    pub late: Option<Late>,
+    pub text: TextOut,
+}
+
+/// Writes what is asked for of the network that a file spells, and leaves what ran.
+pub fn print_network<K: Sink, N: Sink>(
+    alloc: Global,
+    bytes: &[u8],
+    what: Printed,
+    sink: &mut K,
+    notes: &mut N,
+    ran: &mut Ran,
+) -> Status
+    requires short { length bytes.now ≤ max_file }
+    requires nothing { ran.old ≡ rans.Nothing }
+
+    // How it ends: the text is that of the file's network, and each status has its reason.
+    ensures ends { NetworkEnds what bytes.now (K.written sink.old) (K.written sink.new) (K.faults sink.old) (K.faults sink.new)
+        (N.written notes.old) (N.written notes.new) (N.faults notes.old) (N.faults notes.new) ran.new result }
+
+    // What isn't said above to be written or left isn't, and nothing else is noted.
+    ensures unwritten { result ≢ Status.Done → result ≢ Status.TooLate → result ≢ Status.WriteFault → sink.new ≡ sink.old }
+    ensures nothing { result ≢ Status.Done → result ≢ Status.TooLate → ran.new ≡ ran.old }
+    ensures noted { HasNote result (Says (N.written notes.old) (N.written notes.new) (N.faults notes.old) (N.faults notes.new)) }
+    ensures silent { IsSilent result → notes.new ≡ notes.old }
+{
+    let Outcome { trace, late, text } = match outcome_of(alloc, bytes, what) {
+        Ok(outcome) => outcome,
+        Err(ReportRefusal::BadLine { line, what }) => match bad_line_note(alloc, line, what) {
+            Ok(note) => {
+                say(notes, &note);
+                return Status::BadFile;
+            }
+            Err(_) => return Status::NoMemory,
+        },
+        Err(ReportRefusal::TooManyFrames) => {
+            say(notes, TOO_LONG);
+            return Status::TooLong;
+        }
+        Err(ReportRefusal::NoMemory) => return Status::NoMemory,
+    };
+    match write_all(sink, text.bytes()) {
+        Ok(()) => {
+            *ran = Ran::Replayed(trace);
+            match late {
+                None => Status::Done,
+                Some(_) => Status::TooLate,
+            }
+        }
+        Err(_) => Status::WriteFault,
+    }
+}
+
+/// What comes of the network that a file spells.
+fn outcome_of(alloc: Global, bytes: &[u8], what: Printed) -> Result<Outcome, ReportRefusal>
+    requires { length bytes.now ≤ max_file }
+    ensures ok { IfOk result (λ o. (network : Plan) × (network_of bytes.now ≡ Ok network) × IsOutcome what o network × RetriesAreTold network × (o.late ≡ None → SafeThroughout network)) }
+    ensures err { IfErr result (λ e. NotReported e (network_of bytes.now)) }
+{
+    net_replay::laws::in_time_is_safe();
+    net_replay::laws::retries_are_told();
+    match read_network(alloc, bytes) {
+        Ok(network) => outcome_of_network(alloc, &network, what),
+        Err(NetworkRefusal::BadLine { line, what }) => Err(ReportRefusal::BadLine { line, what }),
+        Err(NetworkRefusal::NoMemory) => Err(ReportRefusal::NoMemory),
+    }
+}
+
+fn outcome_of_network(
+    alloc: Global,
+    network: &Network,
+    what: Printed,
+) -> Result<Outcome, ReportRefusal>
+    ensures ok { IfOk result (λ o. IsOutcome what o network.now × IsSound network.now) }
+    ensures err { IfErr result (λ e. NotReported e (Ok network.now)) }
+{
+    match replay(alloc, network) {
+        Ok(trace) => outcome_of_trace(alloc, trace, what),
+        Err(ReplayRefusal::FramesFull) => Err(ReportRefusal::TooManyFrames),
+        Err(ReplayRefusal::NoMemory) => Err(ReportRefusal::NoMemory),
+    }
+}
+
+fn outcome_of_trace(alloc: Global, trace: Trace, what: Printed) -> Result<Outcome, ReportRefusal>
+    ensures ok { IfOk result (λ o. (plan : Plan) → allowance_in trace ≡ allowance_of plan → IsTraceOf (left_of trace) (world plan) → length (left_of trace).air ≤ most_frames → IsOutcome what o plan) }
+    ensures err { IfErr result (λ e. e ≡ Refusal.NoMemory) }
+{
+    let late = match too_late(alloc, &trace) {
+        Ok(late) => late,
+        Err(_) => return Err(ReportRefusal::NoMemory),
+    };
+    let mut text = TextOut::new(alloc);
+    match write_text(alloc, what, &trace, late, &mut text) {
+        Ok(()) => Ok(Outcome { trace, late, text }),
+        Err(_) => Err(ReportRefusal::NoMemory),
+    }
+}
+
+/// Appends what is asked for, with the verdict on it.
+fn write_text(
+    alloc: Global,
+    what: Printed,
+    trace: &Trace,
+    late: Option<Late>,
+    text: &mut TextOut,
+) -> Result<(), NoMemory>
+    ensures { OnOk result ((w : World) → IsTraceOf (left_of trace.now) w → text.new ≡ text.old ++ text_of what w late) }
+{
+    match what {
+        Printed::Report => report(alloc, trace, late, text),
+        Printed::SoakLine { seed } => soak_line(alloc, seed, trace, late, text),
+    }
+}
