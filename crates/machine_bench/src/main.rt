@@ -1,11 +1,14 @@
-//! Drives the machines of a node without a network around them, for the scripts in `bench/`, and prints how many came:
+//! Drives the machines of a node without a network around them, for the scripts in `bench/`, and prints how many came (for a node, how many
+//! frames went out):
 //!
 //! - `links MODULO PEERS COUNT` hands COUNT datagrams from one table of links to PEERS others, in turn;
-//! - `circuits CIRCUITS COUNT` writes COUNT messages over CIRCUITS circuits of one node with another, in turn.
+//! - `circuits CIRCUITS COUNT` writes COUNT messages over CIRCUITS circuits of one node with another, in turn;
+//! - `node HELD COUNT` hands COUNT frames to a node that holds HELD links and as many ends of circuits.
 #![tactic(auto)]
 
 mod circuits;
 mod links;
+mod node;
 mod words;
 
 use radio_base::NoMemory;
@@ -24,7 +27,9 @@ fn main(rt: HostRuntime) -> io::Result<ExitCode> {
     let alloc = rt.alloc();
     let words = words::given(&rt, alloc)?;
     let Some(job) = job_of(&words) else {
-        eprintln!(rt; "usage: links 8|128 PEERS COUNT | circuits CIRCUITS COUNT")?;
+        eprintln!(rt;
+            "usage: links 8|128 PEERS COUNT | circuits CIRCUITS COUNT | node HELD COUNT"
+        )?;
         return Ok(ExitCode::from(USAGE));
     };
     match done(alloc, &job) {
@@ -45,5 +50,6 @@ fn done(alloc: Global, job: &Job) -> Result<u32, NoMemory> {
             count,
         } => links::carried(alloc, *modulo128, *peers, *count),
         Job::Circuits { circuits, count } => circuits::carried(alloc, *circuits, *count),
+        Job::Node { held, count } => node::taken(alloc, *held, *count),
     }
 }

@@ -11,6 +11,11 @@ pub enum Job {
         peers: u8,
         count: u32,
     },
+    /// So many frames come to a node that holds so many links and ends of circuits, 0 to 64.
+    Node {
+        held: u8,
+        count: u32,
+    },
     /// So many messages go over so many circuits, 1 to 64, of one node with another.
     Circuits {
         circuits: u8,
@@ -39,6 +44,10 @@ pub fn job_of(words: &[String]) -> Option<Job> {
             circuits: few_of(circuits)?,
             count: count.as_str().parse().ok()?,
         }),
+        [name, held, count] if name.as_str() == "node" => Some(Job::Node {
+            held: most_64(held)?,
+            count: count.as_str().parse().ok()?,
+        }),
         _ => None,
     }
 }
@@ -53,8 +62,17 @@ fn modulo128_of(word: &String) -> Option<bool> {
 
 /// A number from 1 to 64.
 fn few_of(word: &String) -> Option<u8> {
+    let few = most_64(word)?;
+    if few == 0 {
+        return None;
+    }
+    Some(few)
+}
+
+/// A number from 0 to 64.
+fn most_64(word: &String) -> Option<u8> {
     let few: u8 = word.as_str().parse().ok()?;
-    if few == 0 || few > 64 {
+    if few > 64 {
         return None;
     }
     Some(few)
