@@ -1,5 +1,5 @@
 -- The line on a soak, from what a trace has.
-use Rattle.std.proofs.Common.{◌≡◌, ◌<◌, ◌≤◌, ◌+◌, ◌++◌, ◌∷◌, [], ◌∙◌, ℕ, suc, List, Bool, true, false, cond, ap, sym, subst, append_assoc, length, map, take, drop, get_or, drop-cons, arith}
+use Rattle.std.proofs.Common.{◌≡◌, ◌<◌, ◌≤◌, ◌+◌, ◌++◌, [], ◌∙◌, ℕ, suc, List, cond, ap, sym, subst, append_assoc, length, map, take, drop, get_or, drop-cons}
 use Rattle.std.specs.Prelude.{Option, count_by, flat_map}
 use Rattle.std.proofs.lemmas.List.{take_all}
 use Rattle.std.proofs.lemmas.List.Folds.{fold-map}
@@ -9,7 +9,6 @@ use Rattle.circuit_set.specs.Sets.{Holder, end_of}
 use Rattle.circuit_verdict.specs.declared.verdict.Late.{Late}
 use Rattle.net_replay.specs.declared.ends.EndRecord.{EndRecord}
 use Rattle.net_replay.specs.declared.events.NumberedEvent as code
-use Rattle.net_replay.specs.Ends.{ends_of}
 use Rattle.net_replay.specs.Events.{NumberedEvent, event_of, numbered_of}
 use Rattle.net_replay.specs.Reporting.{ends_left}
 use Rattle.net_replay.specs.Reports.{verdict_line}
