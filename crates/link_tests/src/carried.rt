@@ -1,10 +1,9 @@
 //! Two tables of links that carry datagrams and texts over a channel that loses frames.
-use crate::common::{CONFIG, call, datagram, hand, text};
+use crate::common::{Trial, a_call, b_call, datagram, hand, on_two_tables, text};
 use ax_address::Call;
 use l3_datagram::{Carrier, Message, Offered};
 use link_table::LinkTable;
 use radio_base::{Moment, NoMemory};
-use std::alloc::Global;
 use std::process::Abort;
 use std::rt::HostRuntime;
 use std::test::Fail;
@@ -57,51 +56,41 @@ fn collect_from(rt: &impl Abort, table: &mut LinkTable, from: &Call, number: u64
     MOST
 }
 
-/// Two tables, the frames that they have put out, and the time.
+/// How many frames both have put out, and the time.
 #[derive(Drop)]
-struct Pair {
-    a: LinkTable,
-    b: LinkTable,
+struct Course {
     frames: u64,
     now: u64,
 }
 
 /// A second goes by: what was put out goes over, and both see the time.
-fn pass(pair: &mut Pair) -> Result<(), NoMemory> {
-    pair.now = pair.now.saturating_add(1000);
-    let now = Moment(pair.now);
-    exchange(
-        &mut pair.a,
-        &call(b"N0AAA"),
-        &mut pair.b,
-        &mut pair.frames,
-        now,
-    )?;
-    exchange(
-        &mut pair.b,
-        &call(b"N0BBB"),
-        &mut pair.a,
-        &mut pair.frames,
-        now,
-    )?;
-    pair.a.tick(now)?;
-    pair.b.tick(now)
+fn pass(a: &mut LinkTable, b: &mut LinkTable, course: &mut Course) -> Result<(), NoMemory> {
+    course.now = course.now.saturating_add(1000);
+    let now = Moment(course.now);
+    exchange(a, &a_call(), b, &mut course.frames, now)?;
+    exchange(b, &b_call(), a, &mut course.frames, now)?;
+    a.tick(now)?;
+    b.tick(now)
 }
 
 /// Both offer 1,000 datagrams, and all come, in order.
-fn carry_datagrams(rt: &impl Abort, pair: &mut Pair) -> Result<(), NoMemory> {
-    let (a, b) = (call(b"N0AAA"), call(b"N0BBB"));
+fn carry_datagrams(
+    rt: &impl Abort,
+    a: &mut LinkTable,
+    b: &mut LinkTable,
+    course: &mut Course,
+) -> Result<(), NoMemory> {
     let (mut from_a, mut from_b, mut to_a, mut to_b) = (0, 0, 0, 0);
     for turn in 0..20_000 {
-        let now = Moment(pair.now);
-        from_a = offer_from(&mut pair.a, &b, from_a, now)?;
+        let now = Moment(course.now);
+        from_a = offer_from(a, &b_call(), from_a, now)?;
         // By then N0AAA's set-up has come: set-ups that cross are another matter.
         if turn >= 2 {
-            from_b = offer_from(&mut pair.b, &a, from_b, now)?;
+            from_b = offer_from(b, &a_call(), from_b, now)?;
         }
-        pass(pair)?;
-        to_b = collect_from(rt, &mut pair.b, &a, to_b);
-        to_a = collect_from(rt, &mut pair.a, &b, to_a);
+        pass(a, b, course)?;
+        to_b = collect_from(rt, b, &a_call(), to_b);
+        to_a = collect_from(rt, a, &b_call(), to_a);
         if to_a == MOST && to_b == MOST {
             return Ok(());
         }
@@ -127,19 +116,24 @@ fn take_texts(
 }
 
 /// Both send a text of 8,192 bytes, and both come, each as so many texts.
-fn carry_texts(rt: &impl Abort, pair: &mut Pair, count: u64) -> Result<(), NoMemory> {
-    let (a, b) = (call(b"N0AAA"), call(b"N0BBB"));
+fn carry_texts(
+    rt: &impl Abort,
+    a: &mut LinkTable,
+    b: &mut LinkTable,
+    course: &mut Course,
+    count: u64,
+) -> Result<(), NoMemory> {
     let sent = text(8192);
-    let now = Moment(pair.now);
-    assert!(rt; pair.a.send_text(&b, sent.as_slice(), now) == Ok(()));
-    assert!(rt; pair.b.send_text(&a, sent.as_slice(), now) == Ok(()));
+    let now = Moment(course.now);
+    assert!(rt; a.send_text(&b_call(), sent.as_slice(), now) == Ok(()));
+    assert!(rt; b.send_text(&a_call(), sent.as_slice(), now) == Ok(()));
     let (mut at_a, mut at_b) = (Message::new(), Message::new());
     let (mut texts_at_a, mut texts_at_b) = (0u64, 0u64);
     for _ in 0..1000 {
-        pass(pair)?;
-        let now = Moment(pair.now);
-        texts_at_a = texts_at_a.saturating_add(take_texts(&mut pair.a, &b, &mut at_a, now)?);
-        texts_at_b = texts_at_b.saturating_add(take_texts(&mut pair.b, &a, &mut at_b, now)?);
+        pass(a, b, course)?;
+        let now = Moment(course.now);
+        texts_at_a = texts_at_a.saturating_add(take_texts(a, &b_call(), &mut at_a, now)?);
+        texts_at_b = texts_at_b.saturating_add(take_texts(b, &a_call(), &mut at_b, now)?);
     }
     assert!(rt; at_a == sent);
     assert!(rt; at_b == sent);
@@ -149,17 +143,15 @@ fn carry_texts(rt: &impl Abort, pair: &mut Pair, count: u64) -> Result<(), NoMem
 }
 
 /// Two tables over a channel that loses each seventh frame.
-fn carry(rt: &impl Abort, alloc: Global, wide: bool, texts: u64) -> Result<(), NoMemory> {
-    let a = LinkTable::new(alloc, call(b"N0AAA"), true, wide, CONFIG)?;
-    let b = LinkTable::new(alloc, call(b"N0BBB"), true, wide, CONFIG)?;
-    let mut pair = Pair {
-        a,
-        b,
-        frames: 0,
-        now: 0,
-    };
-    carry_datagrams(rt, &mut pair)?;
-    carry_texts(rt, &mut pair, texts)
+pub fn carry(
+    rt: &impl Abort,
+    a: &mut LinkTable,
+    b: &mut LinkTable,
+    texts: u64,
+) -> Result<(), NoMemory> {
+    let mut course = Course { frames: 0, now: 0 };
+    carry_datagrams(rt, a, b, &mut course)?;
+    carry_texts(rt, a, b, &mut course, texts)
 }
 
 #[test]
@@ -167,7 +159,7 @@ fn datagrams_and_texts_come_whole_over_lossy_links_of_modulo_8(
     rt: HostRuntime,
 ) -> Result<(), Fail> {
     // A text goes in pieces of 256 bytes.
-    carry(&rt, rt.alloc(), false, 32)?;
+    on_two_tables(&rt, rt.alloc(), true, false, Trial::Lossy { texts: 32 })?;
     Ok(())
 }
 
@@ -176,6 +168,6 @@ fn datagrams_and_texts_come_whole_over_lossy_links_of_modulo_128(
     rt: HostRuntime,
 ) -> Result<(), Fail> {
     // A text goes in segments.
-    carry(&rt, rt.alloc(), true, 1)?;
+    on_two_tables(&rt, rt.alloc(), true, true, Trial::Lossy { texts: 1 })?;
     Ok(())
 }

@@ -1,12 +1,17 @@
 //! What the tests of tables of links share.
+use crate::{carried, rows, texts};
 use ax_address::Call;
 use ax_frame::read_frame;
 use ax_link::LinkConfig;
 use l3_datagram::{Datagram, Message};
 use link_table::{LinkTable, Written};
 use radio_base::{M8, M128, Moment, NoMemory};
+use std::alloc::Global;
+use std::process::Abort;
 
-pub const CONFIG: LinkConfig = LinkConfig {
+pub const NOW: Moment = Moment(0);
+
+const CONFIG: LinkConfig = LinkConfig {
     window: 0,
     srej: false,
     t1: 3000,
@@ -14,8 +19,63 @@ pub const CONFIG: LinkConfig = LinkConfig {
     retries: 10,
 };
 
+/// What is tried on two tables.
+#[derive(Clone, Copy)]
+pub enum Trial {
+    WithoutLinks,
+    OverALink,
+    SixtyFiveLinks,
+    Paths,
+    TextHoldsBack,
+    WhichTexts,
+    /// Over a channel that loses frames; a long text comes as so many.
+    Lossy { texts: u64 },
+}
+
+/// Makes tables of N0AAA and N0BBB, and tries this on them.
+pub fn on_two_tables(
+    rt: &impl Abort,
+    alloc: Global,
+    links: bool,
+    modulo128: bool,
+    trial: Trial,
+) -> Result<(), NoMemory> {
+    let mut a = LinkTable::new(alloc, a_call(), links, modulo128, CONFIG)?;
+    let mut b = LinkTable::new(alloc, b_call(), links, modulo128, CONFIG)?;
+    play(rt, alloc, trial, &mut a, &mut b)
+}
+
+fn play(
+    rt: &impl Abort,
+    alloc: Global,
+    trial: Trial,
+    a: &mut LinkTable,
+    b: &mut LinkTable,
+) -> Result<(), NoMemory> {
+    match trial {
+        Trial::WithoutLinks => rows::send_without_links(rt, alloc, a),
+        Trial::OverALink => rows::send_over_a_link(rt, alloc, a, b),
+        Trial::SixtyFiveLinks => rows::set_up_65_links(rt, alloc, a),
+        Trial::Paths => {
+            rows::set_paths(rt, a);
+            Ok(())
+        }
+        Trial::TextHoldsBack => texts::hold_back(rt, a),
+        Trial::WhichTexts => texts::send_texts(rt, a, b),
+        Trial::Lossy { texts } => carried::carry(rt, a, b, texts),
+    }
+}
+
 pub fn call(text: &[u8]) -> Call {
     Call::read(text).unwrap_or_default()
+}
+
+pub fn a_call() -> Call {
+    call(b"N0AAA")
+}
+
+pub fn b_call() -> Call {
+    call(b"N0BBB")
 }
 
 /// A datagram of 35 octets, the first two of which are this number.

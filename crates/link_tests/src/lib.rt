@@ -9,3 +9,5 @@ mod carried;
 mod common;
 #[cfg(test)]
 mod rows;
+#[cfg(test)]
+mod texts;

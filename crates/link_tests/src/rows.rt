@@ -1,87 +1,152 @@
-//! Worked rows of one table of links: frames, limits and texts.
-use crate::common::{CONFIG, call, datagram, hand, text};
+//! Worked rows of one table of links: frames, notices and limits.
+use crate::common::{NOW, Trial, a_call, b_call, call, datagram, hand, on_two_tables};
 use ax_address::{Address, Call, Path};
 use ax_frame::{Control, FrameView, Head, read_frame, show_frame};
 use ax_link::LinkNotice;
-use l3_datagram::{Carrier, Message, Offered};
-use link_table::{LinkTable, PathRefusal, TextRefusal};
-use radio_base::{M8, Moment, NoMemory, TextOut};
+use l3_datagram::{Carrier, Offered};
+use link_table::{LinkTable, PathRefusal};
+use radio_base::{M8, NoMemory, TextOut};
 use std::alloc::Global;
 use std::process::Abort;
 use std::rt::HostRuntime;
 use std::test::Fail;
 
-const NOW: Moment = Moment(0);
-
-/// A table without links, of modulo 8.
-fn table(alloc: Global, own: &[u8], links: bool) -> Result<LinkTable, NoMemory> {
-    LinkTable::new(alloc, call(own), links, false, CONFIG)
-}
-
-fn offer(rt: &impl Abort, table: &mut LinkTable, to: &[u8]) -> Result<(), NoMemory> {
-    let offered = table.offer(&call(to), &datagram(0), NOW)?;
-    assert_eq!(rt; offered, Offered::Taken);
+#[test]
+fn a_datagram_without_links_goes_in_a_ui_frame(rt: HostRuntime) -> Result<(), Fail> {
+    on_two_tables(&rt, rt.alloc(), false, false, Trial::WithoutLinks)?;
     Ok(())
 }
 
-/// The text of the next frame: empty where none waits.
-fn next(alloc: Global, table: &mut LinkTable) -> Result<TextOut, NoMemory> {
-    let mut out = TextOut::new(alloc);
-    if let Some(written) = table.next_out() {
-        if let Ok(frame) = read_frame::<M8>(written.octets.as_slice()) {
-            show_frame(&frame, &mut out)?;
-        }
-    }
-    Ok(out)
-}
-
-/// Hands the next frame of the one to the other.
-fn hand_on(from: &mut LinkTable, own: &[u8], to: &mut LinkTable) -> Result<(), NoMemory> {
-    match from.next_out() {
-        Some(written) => hand(&written, &call(own), to, NOW),
-        None => Ok(()),
-    }
-}
-
-fn expect_notice(rt: &impl Abort, table: &mut LinkTable, peer: &[u8], notice: LinkNotice) {
-    assert!(rt; table.notice() == Some((call(peer), notice)));
-}
-
-#[test]
-fn a_datagram_without_links_goes_in_a_ui_frame(rt: HostRuntime) -> Result<(), Fail> {
-    let mut a = table(rt.alloc(), b"N0AAA", false)?;
-    offer(&rt, &mut a, b"N0BBB")?;
-    let shown = next(rt.alloc(), &mut a)?;
-    assert!(rt; shown.bytes() == b"N0AAA>N0BBB cmd UI pf=0 pid=CF len=35".as_slice());
+pub fn send_without_links(
+    rt: &impl Abort,
+    alloc: Global,
+    a: &mut LinkTable,
+) -> Result<(), NoMemory> {
+    offer(rt, a)?;
+    expect_frame(rt, alloc, a, b"N0AAA>N0BBB cmd UI pf=0 pid=CF len=35")?;
     assert!(rt; a.next_out().is_none());
     Ok(())
 }
 
-/// N0AAA has a link with N0BBB, which is Up, and its first datagram has come.
-fn joined(rt: &impl Abort, alloc: Global) -> Result<(LinkTable, LinkTable), NoMemory> {
-    let mut a = table(alloc, b"N0AAA", true)?;
-    let mut b = table(alloc, b"N0BBB", true)?;
-    offer(rt, &mut a, b"N0BBB")?;
-    hand_on(&mut a, b"N0AAA", &mut b)?;
-    expect_notice(rt, &mut b, b"N0AAA", LinkNotice::Opened);
-    hand_on(&mut b, b"N0BBB", &mut a)?;
-    expect_notice(rt, &mut a, b"N0BBB", LinkNotice::Opened);
-    hand_on(&mut a, b"N0AAA", &mut b)?;
-    Ok((a, b))
+/// N0AAA offers a datagram for N0BBB.
+fn offer(rt: &impl Abort, a: &mut LinkTable) -> Result<(), NoMemory> {
+    assert!(rt; a.offer(&b_call(), &datagram(0), NOW)? == Offered::Taken);
+    Ok(())
+}
+
+/// The next frame is this one.
+fn expect_frame(
+    rt: &impl Abort,
+    alloc: Global,
+    table: &mut LinkTable,
+    text: &[u8],
+) -> Result<(), NoMemory> {
+    let mut out = TextOut::new(alloc);
+    show_next(table, &mut out)?;
+    assert!(rt; out.bytes() == text);
+    Ok(())
+}
+
+/// Shows the next frame, where one waits.
+fn show_next(table: &mut LinkTable, out: &mut TextOut) -> Result<(), NoMemory> {
+    let Some(written) = table.next_out() else {
+        return Ok(());
+    };
+    match read_frame::<M8>(written.octets.as_slice()) {
+        Ok(frame) => show_frame(&frame, out),
+        Err(_) => Ok(()),
+    }
 }
 
 #[test]
 fn a_datagram_goes_over_a_link(rt: HostRuntime) -> Result<(), Fail> {
-    let (mut a, mut b) = joined(&rt, rt.alloc())?;
-    assert!(rt; b.collect() == Some((call(b"N0AAA"), datagram(0))));
-    assert!(rt; b.collect().is_none());
-    let shown = next(rt.alloc(), &mut b)?;
-    assert!(rt; shown.bytes() == b"N0BBB>N0AAA res RR nr=1 pf=0".as_slice());
-    a.break_link(&call(b"N0BBB"))?;
-    expect_notice(&rt, &mut a, b"N0BBB", LinkNotice::Failed);
-    assert!(rt; a.failed() == Some(call(b"N0BBB")));
-    assert!(rt; a.link(&call(b"N0BBB")).is_none());
+    on_two_tables(&rt, rt.alloc(), true, false, Trial::OverALink)?;
     Ok(())
+}
+
+/// N0AAA's datagram sets a link up and goes over it, and then the link is broken.
+pub fn send_over_a_link(
+    rt: &impl Abort,
+    alloc: Global,
+    a: &mut LinkTable,
+    b: &mut LinkTable,
+) -> Result<(), NoMemory> {
+    join(rt, a, b)?;
+    assert!(rt; b.collect() == Some((a_call(), datagram(0))));
+    assert!(rt; b.collect().is_none());
+    expect_frame(rt, alloc, b, b"N0BBB>N0AAA res RR nr=1 pf=0")?;
+    a.break_link(&b_call())?;
+    expect_notice(rt, a, b_call(), LinkNotice::Failed);
+    assert!(rt; a.failed() == Some(b_call()));
+    assert!(rt; a.link(&b_call()).is_none());
+    Ok(())
+}
+
+/// N0AAA offers a datagram, and so gets a link with N0BBB, to which it goes.
+pub fn join(rt: &impl Abort, a: &mut LinkTable, b: &mut LinkTable) -> Result<(), NoMemory> {
+    offer(rt, a)?;
+    hand_on(a, a_call(), b)?;
+    expect_notice(rt, b, a_call(), LinkNotice::Opened);
+    hand_on(b, b_call(), a)?;
+    expect_notice(rt, a, b_call(), LinkNotice::Opened);
+    hand_on(a, a_call(), b)
+}
+
+/// Hands the next frame of the one to the other.
+fn hand_on(from: &mut LinkTable, own: Call, to: &mut LinkTable) -> Result<(), NoMemory> {
+    match from.next_out() {
+        Some(written) => hand(&written, &own, to, NOW),
+        None => Ok(()),
+    }
+}
+
+fn expect_notice(rt: &impl Abort, table: &mut LinkTable, peer: Call, notice: LinkNotice) {
+    assert!(rt; table.notice() == Some((peer, notice)));
+}
+
+#[test]
+fn the_65th_set_up_is_refused(rt: HostRuntime) -> Result<(), Fail> {
+    on_two_tables(&rt, rt.alloc(), true, false, Trial::SixtyFiveLinks)?;
+    Ok(())
+}
+
+pub fn set_up_65_links(rt: &impl Abort, alloc: Global, a: &mut LinkTable) -> Result<(), NoMemory> {
+    for n in 0..64 {
+        set_up(a, numbered(n))?;
+        let mut out = TextOut::new(alloc);
+        show_next(a, &mut out)?;
+        assert!(rt; out.bytes().ends_with(b" res UA pf=1"));
+    }
+    set_up(a, numbered(64))?;
+    expect_frame(rt, alloc, a, b"N0AAA>N0CM res DM pf=1")
+}
+
+/// A SABM with P of this station comes to N0AAA.
+pub fn set_up(a: &mut LinkTable, source: Call) -> Result<(), NoMemory> {
+    let frame = FrameView {
+        head: head(source),
+        control: Control::Sabm { pf: true },
+        pid: None,
+        info: &[],
+    };
+    a.arrive(&frame, NOW)
+}
+
+/// The head of a command of this station to N0AAA.
+pub fn head(source: Call) -> Head {
+    Head {
+        dest: address(a_call(), true),
+        source: address(source, false),
+        path: Path::new(),
+    }
+}
+
+fn address(call: Call, bit7: bool) -> Address {
+    Address {
+        call,
+        bit7,
+        reserved: 3,
+    }
 }
 
 /// A call of its own for each number below 676.
@@ -92,135 +157,26 @@ fn numbered(n: u64) -> Call {
     call(&[b'N', b'0', high, low])
 }
 
-fn head(source: Call) -> Head {
-    Head {
-        dest: Address {
-            call: call(b"N0AAA"),
-            bit7: true,
-            reserved: 3,
-        },
-        source: Address {
-            call: source,
-            bit7: false,
-            reserved: 3,
-        },
-        path: Path::new(),
-    }
-}
-
-/// A SABM with P of this station to N0AAA.
-fn set_up(table: &mut LinkTable, source: Call) -> Result<(), NoMemory> {
-    let frame = FrameView {
-        head: head(source),
-        control: Control::Sabm { pf: true },
-        pid: None,
-        info: &[],
-    };
-    table.arrive(&frame, NOW)
-}
-
 #[test]
-fn the_65th_set_up_is_refused(rt: HostRuntime) -> Result<(), Fail> {
-    let mut a = table(rt.alloc(), b"N0AAA", true)?;
-    for n in 0..64 {
-        set_up(&mut a, numbered(n))?;
-        let shown = next(rt.alloc(), &mut a)?;
-        assert!(rt; shown.bytes().ends_with(b" res UA pf=1"));
-    }
-    set_up(&mut a, numbered(64))?;
-    let shown = next(rt.alloc(), &mut a)?;
-    assert!(rt; shown.bytes() == b"N0AAA>N0CM res DM pf=1".as_slice());
+fn sixteen_paths_of_two_repeaters(rt: HostRuntime) -> Result<(), Fail> {
+    on_two_tables(&rt, rt.alloc(), false, false, Trial::Paths)?;
     Ok(())
 }
 
-/// So many repeaters.
-fn path(n: usize) -> Path {
-    let mut path = Path::new();
-    for _ in 0..n {
-        let repeater = Address {
-            call: call(b"N0RRR"),
-            bit7: false,
-            reserved: 3,
-        };
-        let _ = path.try_push(repeater);
-    }
-    path
-}
-
-#[test]
-fn sixteen_paths_of_two_repeaters(rt: HostRuntime) -> Result<(), Fail> {
-    let mut a = table(rt.alloc(), b"N0AAA", false)?;
+pub fn set_paths(rt: &impl Abort, a: &mut LinkTable) {
     assert!(rt; a.set_path(&numbered(0), &path(3)) == Err(PathRefusal::TooLong));
     for n in 0..16 {
         assert!(rt; a.set_path(&numbered(n), &path(2)) == Ok(()));
     }
     assert!(rt; a.set_path(&numbered(16), &path(2)) == Err(PathRefusal::Full));
     assert!(rt; a.set_path(&numbered(15), &path(1)) == Ok(()));
-    Ok(())
 }
 
-/// A frame of N0BBB with the number `ns` comes, and brings this.
-fn bring(table: &mut LinkTable, ns: u8, pid: u8, info: &[u8]) -> Result<(), NoMemory> {
-    let control = Control::I {
-        ns,
-        nr: 0,
-        pf: false,
-    };
-    let frame = FrameView {
-        head: head(call(b"N0BBB")),
-        control,
-        pid: Some(pid),
-        info,
-    };
-    table.arrive(&frame, NOW)
-}
-
-#[test]
-fn a_text_holds_back_what_came_behind_it(rt: HostRuntime) -> Result<(), Fail> {
-    let mut a = table(rt.alloc(), b"N0AAA", true)?;
-    let peer = call(b"N0BBB");
-    set_up(&mut a, peer)?;
-    bring(&mut a, 0, 0xCF, b"first")?;
-    bring(&mut a, 1, 0xF0, b"hello")?;
-    bring(&mut a, 2, 0xCF, b"second")?;
-    // One segment alone is a message of its own.
-    bring(&mut a, 3, 0x08, b"\x80\xF0joined")?;
-    bring(&mut a, 4, 0xCF, b"third")?;
-    assert!(rt; a.collect().is_some());
-    assert!(rt; a.collect().is_none());
-    assert!(rt; a.texts().as_slice() == [peer].as_slice());
-    let mut out = Message::new();
-    assert!(rt; a.take_text(&peer, &mut out, NOW)?);
-    assert!(rt; out.as_slice() == b"hello".as_slice());
-    assert!(rt; a.collect().is_some());
-    assert!(rt; a.collect().is_none());
-    assert!(rt; a.take_text(&peer, &mut out, NOW)?);
-    assert!(rt; out.as_slice() == b"joined".as_slice());
-    assert!(rt; a.collect().is_some());
-    assert!(rt; a.texts().is_empty());
-    assert!(rt; !a.take_text(&peer, &mut out, NOW)?);
-    Ok(())
-}
-
-#[test]
-fn which_texts_are_sent(rt: HostRuntime) -> Result<(), Fail> {
-    let (mut a, _b) = joined(&rt, rt.alloc())?;
-    let peer = call(b"N0BBB");
-    assert_eq!(&rt; a.room(&call(b"N0CCC")), 0);
-    assert_eq!(&rt; a.room(&peer), 127);
-    assert!(rt; a.send_text(&call(b"N0CCC"), b"hello", NOW) == Err(TextRefusal::NoLink));
-    assert!(rt; a.send_text(&peer, &[7; 8193], NOW) == Err(TextRefusal::TooLong));
-    assert!(rt; a.send_text(&peer, b"", NOW) == Ok(()));
-    assert_eq!(&rt; a.room(&peer), 127);
-    for _ in 0..3 {
-        assert!(rt; a.send_text(&peer, text(8192).as_slice(), NOW) == Ok(()));
+/// So many repeaters.
+fn path(n: usize) -> Path {
+    let mut path = Path::new();
+    for _ in 0..n {
+        let _ = path.try_push(address(call(b"N0RRR"), false));
     }
-    // 32 pieces each.
-    assert_eq!(&rt; a.room(&peer), 31);
-    assert!(rt; a.send_text(&peer, text(8192).as_slice(), NOW) == Err(TextRefusal::Full));
-    assert!(rt; a.send_text(&peer, text(7936).as_slice(), NOW) == Ok(()));
-    assert_eq!(&rt; a.room(&peer), 0);
-    a.close(&peer, NOW)?;
-    assert!(rt; a.send_text(&peer, b"hello", NOW) == Err(TextRefusal::NoLink));
-    Ok(())
+    path
 }
