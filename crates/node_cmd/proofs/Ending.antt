@@ -1,7 +1,6 @@
 -- How the two commands end that run a network, from how its file is printed.
-use Rattle.std.proofs.Common.{◌≡◌, ◌<◌, ◌≤◌, ◌⊎◌, inl, inr, ℕ, List, length, arith}
-use Rattle.std.specs.Prelude.{Option, Ok, Err}
-use Rattle.network_file.specs.Networks.{Bad, network_of}
+use Rattle.std.proofs.Common.{◌≡◌, inl, inr, ℕ, List, arith}
+use Rattle.std.specs.Prelude.{Option}
 use Rattle.network_file.specs.Plan.{Plan}
 use Rattle.network_soak.specs.Files.{soak_file}
 use Rattle.network_soak.specs.Laws.{AreNetworks}
@@ -9,7 +8,7 @@ use Rattle.node_cmd.specs.declared.outcomes.Printed.TheVariants.{Report, SoakLin
 use Rattle.node_cmd.specs.declared.ran.Ran.{Ran}
 use Rattle.node_cmd.specs.declared.status.Status.{Status}
 use Rattle.node_cmd.specs.Outcomes.{IsNetwork, NetworkEnds}
-use Rattle.node_cmd.specs.Reading.{ReadsAll, max_file}
+use Rattle.node_cmd.specs.Reading.{ReadsAll}
 use Rattle.node_cmd.specs.Replays.{Tells}
 use Rattle.node_cmd.specs.Run.{ReplayEnds, SoakEnds}
 use Rattle.node_cmd.specs.Told.{told}
