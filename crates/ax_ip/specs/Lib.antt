@@ -1,0 +1,9 @@
+pub mod Numbers
+pub mod Sums
+pub mod Packets
+pub mod Arps
+pub mod Routes
+pub mod Caches
+pub mod Contents
+pub mod Echoes
+pub mod Machine

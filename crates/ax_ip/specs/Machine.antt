@@ -1,0 +1,129 @@
+-- What a forwarder does with a frame, case by case in the order in which the cases are tried. (RFC 791, section 2.4; RFC 792,
+-- "Echo or Echo Reply Message"; RFC 826, Packet Reception; that a packet is dropped whose next hop is asked for is this project's profile.)
+use Rattle.std.specs.Prelude.{ℕ, ◌≡◌, List, [], ◌∷◌, ◌++◌, take, drop, Bool, true, false, ◌==◌, nat_le, not, Option, Some, None, Result, Ok, Err, if◌then◌else◌}
+use Rattle.ax_address.specs.Callsign.{Callsign}
+use Rattle.ax_frame.specs.Frames.{Frame}
+use Rattle.ax_ip.specs.declared.arp.ArpRefusal.{ArpRefusal}
+use Rattle.ax_ip.specs.declared.packet.PacketRefusal.{PacketRefusal}
+use Rattle.ax_ip.specs.declared.content.Content.{Content}
+use Rattle.ax_ip.specs.declared.content.Content.TheVariants as content
+use Rattle.ax_ip.specs.declared.forwarder.IpDone.{IpDone}
+use Rattle.ax_ip.specs.declared.forwarder.IpDone.TheVariants.{Forwarded, Echoed, Asked, Answered, Learned, Dropped}
+use Rattle.ax_ip.specs.declared.forwarder.IpWhy.{IpWhy}
+use Rattle.ax_ip.specs.declared.forwarder.IpWhy.TheVariants.{NotMine, Bad, Ours, Expired, NoRoute}
+use Rattle.ax_ip.specs.declared.forwarder.Forwarder.{Forwarder}
+use Rattle.ax_ip.specs.declared.out.IpOut.{IpOut}
+use Rattle.ax_ip.specs.Arps.{Arp, arp_at, arp_octets}
+use Rattle.ax_ip.specs.Caches.{Neighbour, call_of, learned}
+use Rattle.ax_ip.specs.Contents.{everyone, content_of}
+use Rattle.ax_ip.specs.Echoes.{is_request, reply, onward}
+use Rattle.ax_ip.specs.Packets.{PacketHead, packet_at}
+use Rattle.ax_ip.specs.Routes.{Route, longest, next_hop}
+
+-- its call, its address, its routes, and the neighbours that it knows, at most 64
+pub record State : Type 0 where
+  pub call : Callsign
+  pub address : ℕ
+  pub routes : List Route
+  pub cache : List Neighbour
+
+abbrev pub state : Forwarder → State
+state f = record { call = f.call; address = f.address; routes = f.routes.items; cache = f.cache.items }
+
+-- what it does, what it sends, and the neighbours that it knows then
+pub record Turn : Type 0 where
+  pub done : IpDone
+  pub out : Option IpOut
+  pub cache : List Neighbour
+
+-- the state behind a turn
+abbrev pub after : State → Turn → State
+after s t = record s { cache = t.cache }
+
+abbrev pub out_to : Callsign → ℕ → List ℕ → IpOut
+out_to to pid info = record { to = to; pid = pid; info = record { items = info } }
+
+abbrev pub packet_to : Callsign → List ℕ → IpOut
+packet_to to info = out_to to 0xCC info
+
+abbrev pub message_to : Callsign → Arp → IpOut
+message_to to arp = out_to to 0xCD (arp_octets arp)
+
+abbrev pub dropped : IpWhy → State → Turn
+dropped why s = record { done = Dropped why; out = None; cache = s.cache }
+
+abbrev pub sends : IpDone → IpOut → List Neighbour → Turn
+sends done out cache = record { done = done; out = Some out; cache = cache }
+
+-- the reply to a request, and the request for an address
+abbrev pub reply_to : State → Arp → Arp
+reply_to s arp = record { reply = true; sender = s.call; sender_ip = s.address; target = Some arp.sender; target_ip = arp.sender_ip }
+
+abbrev pub request_for : State → ℕ → Arp
+request_for s hop = record { reply = false; sender = s.call; sender_ip = s.address; target = None; target_ip = hop }
+
+-- a message to the own address: its sender is known from then on, and a request is answered
+abbrev pub heard : State → Arp → List Neighbour → Turn
+heard s arp cache =
+    if arp.reply
+    then record { done = Learned; out = None; cache = cache }
+    else sends Answered (message_to arp.sender (reply_to s arp)) cache
+
+abbrev pub message_turn : State → Arp → Turn
+message_turn s arp =
+    if arp.target_ip == s.address
+    then heard s arp (learned s.cache (record { address = arp.sender_ip; call = arp.sender }))
+    else dropped NotMine s
+
+abbrev pub arp_turn : State → Result Arp ArpRefusal → Turn
+arp_turn s (Err refusal) = dropped Bad s
+arp_turn s (Ok arp) = message_turn s arp
+
+-- a packet to the own address
+abbrev pub own_turn : State → Callsign → PacketHead → List ℕ → Turn
+own_turn s source h packet =
+    if is_request h packet
+    then sends Echoed (packet_to source (reply packet)) s.cache
+    else dropped Ours s
+
+-- a packet by a route: its next hop is known, or asked for
+abbrev pub to_call : State → PacketHead → List ℕ → ℕ → Option Callsign → Turn
+to_call s h packet hop (Some call) = sends Forwarded (packet_to call (onward h packet)) s.cache
+to_call s h packet hop None = sends Asked (message_to everyone (request_for s hop)) s.cache
+
+abbrev pub to_hop : State → PacketHead → List ℕ → ℕ → Turn
+to_hop s h packet hop = to_call s h packet hop (call_of hop s.cache)
+
+abbrev pub by_route : State → PacketHead → List ℕ → Option Route → Turn
+by_route s h packet (Some route) = to_hop s h packet (next_hop route h.dest)
+by_route s h packet None = dropped NoRoute s
+
+-- a packet to another address
+abbrev pub onward_turn : State → PacketHead → List ℕ → Turn
+onward_turn s h packet = if nat_le h.ttl 1 then dropped Expired s else by_route s h packet (longest h.dest s.routes)
+
+abbrev pub whole_turn : State → Callsign → PacketHead → List ℕ → Turn
+whole_turn s source h packet = if h.dest == s.address then own_turn s source h packet else onward_turn s h packet
+
+-- octets behind the packet are not looked at
+abbrev pub packet_turn : State → Callsign → List ℕ → Result PacketHead PacketRefusal → Turn
+packet_turn s source info (Err refusal) = dropped Bad s
+packet_turn s source info (Ok h) = whole_turn s source h (take h.total info)
+
+abbrev pub content_turn : State → Frame → Content → Turn
+content_turn s f content.Packet = packet_turn s f.head.source.call f.info (packet_at f.info)
+content_turn s f content.Arp = arp_turn s (arp_at f.info)
+content_turn s f content.Nothing = dropped NotMine s
+
+-- What a forwarder does with a frame.
+unfoldable pub turn : State → Frame → Turn
+turn s f = content_turn s f (content_of s.call f)
+
+-- what was done is the turn, and nothing else changed
+pub record Does (t : Turn) (answer : IpDone) (old new : Forwarder) : Type 0 where
+  pub done : answer ≡ t.done
+  pub out : new.out ≡ t.out
+  pub cache : new.cache.items ≡ t.cache
+  pub call : new.call ≡ old.call
+  pub address : new.address ≡ old.address
+  pub routes : new.routes ≡ old.routes

@@ -1,0 +1,114 @@
+//! A forwarder of packets: an IP gateway (RFC 791, section 2.4) with one address.
+ghost use Rattle.std.specs.Prelude.{◌≡◌, ◌++◌, ◌∷◌, [], None, OnOk, OnErr};
+ghost use Rattle.ax_frame.specs.Frames.{view as frame_of};
+ghost use Rattle.ax_ip.specs.Machine as machine;
+ghost use Rattle.ax_ip.specs.Routes as routes;
+
+use crate::cache::Cache;
+use crate::content::{Content, content_of};
+use crate::out::IpOut;
+use crate::route::Route;
+use crate::routes::{RouteRefusal, has_bits_past, stands};
+use arrayvec::ArrayVec;
+use ax_address::Call;
+use ax_frame::FrameView;
+
+/// What a forwarder did with a frame.
+#[derive(Clone, Copy, Debug, PartialEq, Eq)]
+pub enum IpDone {
+    /// A packet goes on.
+    Forwarded,
+    /// An echo request is answered.
+    Echoed,
+    /// The next hop of a packet isn't known: it is asked for, and the packet is dropped.
+    Asked,
+    /// A request of ARP is answered.
+    Answered,
+    /// A reply of ARP is heard.
+    Learned,
+    Dropped(IpWhy),
+}
+
+/// Why a forwarder dropped a frame.
+#[derive(Clone, Copy, Debug, PartialEq, Eq)]
+pub enum IpWhy {
+    /// It isn't for this station.
+    NotMine,
+    /// It carries no packet, or no message of ARP, though it says so.
+    Bad,
+    /// A packet for this station is no echo request.
+    Ours,
+    /// A packet's time to live ends here.
+    Expired,
+    /// No route leads to a packet's destination.
+    NoRoute,
+}
+
+/// A forwarder of packets, with at most 16 routes and 64 neighbours.
+#[derive(Drop)]
+pub struct Forwarder {
+    pub(crate) call: Call,
+    pub(crate) address: u32,
+    pub(crate) routes: ArrayVec<Route, 16>,
+    pub(crate) cache: Cache,
+    /// What the last frame left to send.
+    pub(crate) out: Option<IpOut>,
+}
+
+impl Forwarder {
+    /// A forwarder of this call and this address, with no routes and no neighbours.
+    pub fn new(call: Call, addr: u32) -> Forwarder
+        ensures state { machine.state result ≡ record { call = call; address = addr; routes = []; cache = [] } }
+        ensures out { result.out ≡ None }
+    {
+        Forwarder {
+            call,
+            address: addr,
+            routes: ArrayVec::new(),
+            cache: Cache::new(),
+            out: None,
+        }
+    }
+
+    /// Takes a route in.
+    pub fn route(&mut self, prefix: u32, len: u8, hop: u32) -> Result<(), RouteRefusal>
+        ensures exact { result ≡ routes.route_at prefix len self.old.routes.items }
+        ensures entered { OnOk result ((r : routes.Route) × routes.IsRoute prefix len hop r × (machine.state self.new ≡ record (machine.state self.old) { routes = self.old.routes.items ++ r ∷ [] })) }
+        ensures out { self.new.out ≡ self.old.out }
+        ensures err { OnErr result (self.new ≡ self.old) }
+    {
+        if len > 32 || has_bits_past(prefix, len) {
+            return Err(RouteRefusal::Bits);
+        }
+        if stands(self.routes.as_slice(), prefix, len) {
+            return Err(RouteRefusal::Twice);
+        }
+        if self.routes.is_full() {
+            return Err(RouteRefusal::Full);
+        }
+        self.routes.push(Route { prefix, len, hop });
+        Ok(())
+    }
+
+    /// Takes a frame in.
+    #[tactic(auto, unfolding(crate::specs::Machine::turn))]
+    pub fn arrive(&mut self, frame: &FrameView<'_>) -> IpDone
+        requires fetched { self.old.out ≡ None }
+        ensures turn { machine.Does (machine.turn (machine.state self.old) (frame_of frame.now)) result self.old self.new }
+    {
+        match content_of(frame, &self.call) {
+            Content::Packet => self.take_packet(&frame.head.source.call, frame.info),
+            Content::Arp => self.take_arp(frame.info),
+            Content::Nothing => IpDone::Dropped(IpWhy::NotMine),
+        }
+    }
+
+    /// What the last arrival left to send.
+    pub fn next_out(&mut self) -> Option<IpOut>
+        ensures out { result ≡ self.old.out }
+        ensures fetched { self.new.out ≡ None }
+        ensures same { machine.state self.new ≡ machine.state self.old }
+    {
+        self.out.take()
+    }
+}

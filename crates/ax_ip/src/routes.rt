@@ -1,0 +1,75 @@
+//! The routes of a forwarder.
+ghost use Rattle.std.specs.Prelude.{◌≡◌, ◌≤◌};
+ghost use Rattle.ax_ip.specs.Routes as spec;
+
+use crate::route::Route;
+
+/// Why a route isn't taken. What stands first comes first.
+#[derive(Clone, Copy, Debug, PartialEq, Eq)]
+pub enum RouteRefusal {
+    /// The prefix is to have more than 32 bits, or has a bit past its length set.
+    Bits,
+    /// A route with this prefix and this length stands.
+    Twice,
+    /// 16 routes stand.
+    Full,
+}
+
+/// Whether the prefix has a bit past its length.
+pub(crate) fn has_bits_past(prefix: u32, len: u8) -> bool
+    requires { len ≤ 32 }
+    ensures { result ≡ spec.has_bits_past prefix len }
+{
+    prefix as u64 % (1 << (32 - len)) != 0
+}
+
+/// Whether a route of this prefix stands.
+pub(crate) fn stands(routes: &[Route], prefix: u32, len: u8) -> bool
+    ensures { result ≡ spec.stands prefix len routes.now }
+{
+    match routes {
+        [] => false,
+        [first, rest @ ..] => (first.prefix == prefix && first.len == len)
+            || stands(rest, prefix, len),
+    }
+}
+
+/// Whether the address begins with the route's prefix.
+fn matches(route: &Route, dest: u32) -> bool
+    ensures { result ≡ spec.matches dest route.now }
+{
+    let past = 32 - route.len;
+    dest as u64 >> past == route.prefix as u64 >> past
+}
+
+/// The longest route to an address.
+pub(crate) fn longest(routes: &[Route], dest: u32) -> Option<Route>
+    ensures { result ≡ spec.longest dest routes.now }
+{
+    match routes {
+        [] => None,
+        [first, rest @ ..] => {
+            if matches(first, dest) {
+                Some(longer(first, longest(rest, dest)))
+            } else {
+                longest(rest, dest)
+            }
+        }
+    }
+}
+
+fn longer(first: &Route, other: Option<Route>) -> Route
+    ensures { result ≡ spec.longer first.now other }
+{
+    match other {
+        Some(other) if other.len > first.len => other,
+        _ => *first,
+    }
+}
+
+/// The address to which a packet by this route goes next.
+pub(crate) fn next_hop(route: &Route, dest: u32) -> u32
+    ensures { result ≡ spec.next_hop route.now dest }
+{
+    if route.hop == 0 { dest } else { route.hop }
+}
