@@ -1,5 +1,5 @@
 -- Sums of words.
-use Rattle.std.proofs.Common.{◌≡◌, ◌<◌, ◌≤◌, ◌+◌, ◌*◌, ◌%◌, ◌++◌, ◌∙◌, ℕ, refl, sym, ap, List, [], ◌∷◌, length, arith, append_assoc}
+use Rattle.std.proofs.Common.{◌≡◌, ◌<◌, ◌≤◌, ◌+◌, ◌%◌, ◌++◌, ◌∙◌, ℕ, sym, ap, List, [], ◌∷◌, length, arith, append_assoc}
 use Rattle.std.specs.Prelude.{◌&&◌, ◌==◌, nat_eq, nat_lt}
 use Rattle.std.proofs.lemmas.Bool.Decides.{nat_tests}
 use Rattle.ax_ip.specs.Sums.{word_sum, lacking}

@@ -1,6 +1,6 @@
 -- Messages of ARP: how they are laid out, what shows that octets are none, and what is written. (RFC 826, Packet format;
 -- the types and lengths of AX.25, and that a request has no target, are this project's profile.)
-use Rattle.std.specs.Prelude.{ℕ, ◌≡◌, ◌+◌, ◌≤◌, List, [], ◌∷◌, ◌++◌, length, take, drop, replicate, Bool, true, false, ◌&&◌, ◌==◌, nat_lt, not, Option, Some, None, is_some, Result, Ok, Err, if◌then◌else◌}
+use Rattle.std.specs.Prelude.{ℕ, ◌≡◌, ◌+◌, ◌<◌, ◌≤◌, ◌^◌, List, [], ◌∷◌, ◌++◌, length, take, drop, replicate, Bool, true, false, ◌&&◌, ◌==◌, nat_lt, not, Option, Some, None, is_some, Result, Ok, Err, if◌then◌else◌}
 use Rattle.ax_address.specs.Callsign.{Callsign, IsCallsign}
 use Rattle.ax_address.specs.NetCalls.{SpellsNetCall, net_call_at, net_call_octets}
 use Rattle.ax_address.specs.Octets.{place_of}
@@ -21,13 +21,17 @@ SpellsTarget true None octets = ⊥
 SpellsTarget false (Some target) octets = ⊥
 SpellsTarget false None octets = Unit {0}
 
--- The first 30 octets are the message.
-pub record SpellsArp (a : Arp) (octets : List ℕ) : Type 0 where
-  pub enough : 30 ≤ length octets
+-- hardware type 3 is AX.25, and 0xCC is IP as in a PID; a call has 7 octets and an address 4
+pub record HasKind (octets : List ℕ) : Type 0 where
   pub hardware : word octets 0 ≡ 3
   pub protocol : word octets 2 ≡ 0xCC
   pub hardware_len : octet octets 4 ≡ 7
   pub protocol_len : octet octets 5 ≡ 4
+
+-- The first 30 octets are the message.
+pub record SpellsArp (a : Arp) (octets : List ℕ) : Type 0 where
+  pub enough : 30 ≤ length octets
+  pub kind : HasKind octets
   pub operation : word octets 6 ≡ operation a.reply
   pub sender : SpellsNetCall a.sender (take 7 (drop 8 octets))
   pub sender_ip : long octets 15 ≡ a.sender_ip
@@ -90,7 +94,15 @@ arp_octets a =
     (0 ∷ 3 ∷ 0 ∷ 0xCC ∷ 7 ∷ 4 ∷ 0 ∷ operation a.reply ∷ []) ++ net_call_octets a.sender ++ long_octets a.sender_ip
     ++ target_octets a.reply a.target ++ long_octets a.target_ip
 
+-- a target that is there is a call
+abbrev pub IsTarget : Option Callsign → Type 0
+IsTarget (Some target) = IsCallsign target.letters target.ssid
+IsTarget None = Unit {0}
+
 -- a message has calls, addresses of 32 bits, and a target exactly where it is a reply
 pub record IsArp (a : Arp) : Type 0 where
   pub sender : IsCallsign a.sender.letters a.sender.ssid
-  pub target : is_some a.target ≡ a.reply
+  pub sender_ip : a.sender_ip < 2 ^ 32
+  pub target : IsTarget a.target
+  pub whole : is_some a.target ≡ a.reply
+  pub target_ip : a.target_ip < 2 ^ 32

@@ -7,3 +7,4 @@ pub mod Caches
 pub mod Contents
 pub mod Echoes
 pub mod Machine
+pub mod Laws

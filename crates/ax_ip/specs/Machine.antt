@@ -1,6 +1,6 @@
 -- What a forwarder does with a frame, case by case in the order in which the cases are tried. (RFC 791, section 2.4; RFC 792,
 -- "Echo or Echo Reply Message"; RFC 826, Packet Reception; that a packet is dropped whose next hop is asked for is this project's profile.)
-use Rattle.std.specs.Prelude.{ℕ, ◌≡◌, List, [], ◌∷◌, ◌++◌, take, drop, Bool, true, false, ◌==◌, nat_le, not, Option, Some, None, Result, Ok, Err, if◌then◌else◌}
+use Rattle.std.specs.Prelude.{ℕ, ◌≡◌, List, take, true, false, ◌==◌, nat_le, Option, Some, None, Result, Ok, Err, if◌then◌else◌}
 use Rattle.ax_address.specs.Callsign.{Callsign}
 use Rattle.ax_frame.specs.Frames.{Frame}
 use Rattle.ax_ip.specs.declared.arp.ArpRefusal.{ArpRefusal}

@@ -1,8 +1,10 @@
 //! Messages of ARP: who has an address (RFC 826; the types and lengths of AX.25 are this project's profile).
-ghost use Rattle.std.specs.Prelude.{◌≡◌, ◌+◌, ◌≤◌, ◌++◌, length, IfOk, MatchResult, Ok, Err};
+ghost use Rattle.std.specs.Prelude.{◌≡◌, ◌+◌, ◌≤◌, ◌++◌, length, is_some, IfOk, Ok, true};
 ghost use Rattle.ax_address.specs.NetCalls.{SpellsNetCall};
 ghost use Rattle.ax_ip.specs.Arps as arps;
+ghost use Rattle.ax_ip.specs.Numbers.{word};
 
+use crate::laws;
 use crate::numbers::{long, long_octets, push_octets, word};
 use arrayvec::ArrayVec;
 use ax_address::{Call, read_net_call, write_net_call};
@@ -32,8 +34,24 @@ pub enum ArpRefusal {
 }
 
 /// The message that the first 30 octets are, or why they are none.
-#[tactic(auto, unfolding(crate::specs::Arps::message_at))]
 pub fn read_arp(bytes: &[u8]) -> Result<Arp, ArpRefusal>
+    // What is read is laid out so.
+    ensures found { IfOk result (λ arp. arps.SpellsArp arp bytes.now) }
+
+    // What is laid out so is read.
+    ensures only { (arp : arps.Arp) → arps.SpellsArp arp bytes.now → result ≡ Ok arp }
+
+    // Which refusal it is.
+    ensures exact { result ≡ arps.arp_at bytes.now }
+{
+    // By the law of the spelling none that is laid out is refused.
+    laws::arp_spelling();
+    message_in(bytes)
+}
+
+#[tactic(auto, unfolding(crate::specs::Arps::message_at))]
+fn message_in(bytes: &[u8]) -> Result<Arp, ArpRefusal>
+    ensures found { IfOk result (λ arp. arps.SpellsArp arp bytes.now) }
     ensures exact { result ≡ arps.arp_at bytes.now }
 {
     if bytes.len() < 30 {
@@ -57,14 +75,16 @@ pub fn read_arp(bytes: &[u8]) -> Result<Arp, ArpRefusal>
 /// Hardware type 3 is AX.25, and 0xCC stands for IP as it does in a PID; a call has 7 octets and an address 4.
 fn is_ax25(bytes: &[u8]) -> bool
     requires { 30 ≤ length bytes.now }
-    ensures { result ≡ arps.is_ax25 bytes.now }
+    ensures exact { result ≡ arps.is_ax25 bytes.now }
+    ensures kind { result ≡ true → arps.HasKind bytes.now }
 {
     word(bytes, 0) == 3 && word(bytes, 2) == 0xCC && bytes[4] == 7 && bytes[5] == 4
 }
 
 fn is_reply(bytes: &[u8]) -> Result<bool, ArpRefusal>
     requires { 30 ≤ length bytes.now }
-    ensures { result ≡ arps.reply_at bytes.now }
+    ensures found { IfOk result (λ reply. word bytes.now 6 ≡ arps.operation reply) }
+    ensures exact { result ≡ arps.reply_at bytes.now }
 {
     match word(bytes, 6) {
         1 => Ok(false),
@@ -76,7 +96,8 @@ fn is_reply(bytes: &[u8]) -> Result<bool, ArpRefusal>
 /// The target of a reply; in a request its octets say nothing.
 fn target_of(reply: bool, octets: &[u8]) -> Result<Option<Call>, ArpRefusal>
     requires { length octets.now ≡ 7 }
-    ensures { result ≡ arps.target_at reply octets.now }
+    ensures found { IfOk result (λ target. arps.SpellsTarget reply target octets.now) }
+    ensures exact { result ≡ arps.target_at reply octets.now }
 {
     if reply {
         match call_of(octets, 19) {
@@ -92,7 +113,8 @@ fn target_of(reply: bool, octets: &[u8]) -> Result<Option<Call>, ArpRefusal>
 fn call_of(octets: &[u8], at: usize) -> Result<Call, ArpRefusal>
     requires whole { length octets.now ≡ 7 }
     requires place { at ≤ 30 }
-    ensures { result ≡ arps.call_at at octets.now }
+    ensures found { IfOk result (λ call. SpellsNetCall call octets.now) }
+    ensures exact { result ≡ arps.call_at at octets.now }
 {
     let mut seven = [0; 7];
     seven.copy_from_slice(octets);
@@ -104,9 +126,21 @@ fn call_of(octets: &[u8], at: usize) -> Result<Call, ArpRefusal>
     }
 }
 
-/// The octets of a message.
+/// The octets of a message: the target of a request is left out.
 pub fn write_arp(arp: &Arp) -> [u8; 30]
-    ensures { result ≡ arps.arp_octets arp.now }
+    ensures exact { result ≡ arps.arp_octets arp.now }
+
+    // What is written is read back, where the target is there exactly for a reply.
+    ensures read_back { is_some arp.now.target ≡ arp.now.reply → arps.arp_at result ≡ Ok arp.now }
+{
+    // By the law of the spelling what is written is read back.
+    laws::arp_spelling();
+    octets_of(arp)
+}
+
+fn octets_of(arp: &Arp) -> [u8; 30]
+    ensures exact { result ≡ arps.arp_octets arp.now }
+    ensures arp { is_some arp.now.target ≡ arp.now.reply → arps.IsArp arp.now }
 {
     let mut octets = ArrayVec::<u8, 30>::new();
     push_octets(
@@ -128,10 +162,17 @@ fn operation(reply: bool) -> u8
 
 /// The target of a reply, and zeros in a request.
 fn target_octets(arp: &Arp) -> [u8; 7]
-    ensures { result ≡ arps.target_octets arp.now.reply arp.now.target }
+    ensures exact { result ≡ arps.target_octets arp.now.reply arp.now.target }
+    ensures call { is_some arp.now.target ≡ arp.now.reply → arps.IsTarget arp.now.target }
 {
     match arp.target {
-        Some(target) if arp.reply => write_net_call(&target),
-        _ => [0; 7],
+        Some(target) => {
+            if arp.reply {
+                write_net_call(&target)
+            } else {
+                [0; 7]
+            }
+        }
+        None => [0; 7],
     }
 }

@@ -9,6 +9,7 @@ mod cache;
 mod content;
 mod echo;
 mod forwarder;
+pub mod laws;
 mod messages;
 mod numbers;
 mod onward;
