@@ -1,5 +1,6 @@
 //! Worked frames handed to a forwarder.
-use arrayvec::ArrayVec;
+ghost use Rattle.std.specs.Prelude.{◌≡◌, None, IfOk};
+
 use ax_address::{Address, Call, Path};
 use ax_frame::{Control, FrameView, Head};
 use ax_ip::{ARP_PID, Forwarder, IP_PID, IpDone, IpOut, IpWhy, RouteRefusal};
@@ -32,7 +33,9 @@ fn call(text: &str) -> Result<Call, Fail> {
     Ok(Call::read(text.as_bytes()).ok().ok_or("a call")?)
 }
 
-fn forwarder() -> Result<Forwarder, Fail> {
+fn forwarder() -> Result<Forwarder, Fail>
+    ensures { IfOk result (λ f. f.out ≡ None) }
+{
     Ok(Forwarder::new(call("N0AAA")?, OWN))
 }
 
@@ -44,8 +47,18 @@ fn address(text: &str) -> Result<Address, Fail> {
     })
 }
 
-/// What a forwarder does with a UI frame from N0BBB.
-fn arrive(forwarder: &mut Forwarder, dest: &str, pid: u8, info: &[u8]) -> Result<IpDone, Fail> {
+/// What a forwarder did with a frame, and what it then sent.
+#[derive(Drop)]
+struct Arrived {
+    done: IpDone,
+    out: Option<IpOut>,
+}
+
+/// Hands a UI frame from N0BBB to a forwarder.
+fn arrive(own: &mut Forwarder, dest: &str, pid: u8, info: &[u8]) -> Result<Arrived, Fail>
+    requires { own.old.out ≡ None }
+    ensures { own.new.out ≡ None }
+{
     let frame = FrameView {
         head: Head {
             dest: address(dest)?,
@@ -56,75 +69,106 @@ fn arrive(forwarder: &mut Forwarder, dest: &str, pid: u8, info: &[u8]) -> Result
         pid: Some(pid),
         info,
     };
-    Ok(forwarder.arrive(&frame))
+    let done = own.arrive(&frame);
+    Ok(Arrived {
+        done,
+        out: own.next_out(),
+    })
 }
 
-fn is_out(out: &Option<IpOut>, to: &str, pid: u8, info: &[u8]) -> Result<bool, Fail> {
+/// Whether this was done and this frame sent.
+fn is_sent(arrived: &Arrived, done: IpDone, to: &str, pid: u8, info: &[u8]) -> Result<bool, Fail> {
     let to = call(to)?;
-    Ok(match out {
-        Some(out) => out.to == to && out.pid == pid && out.info.as_slice() == info,
+    Ok(match &arrived.out {
+        Some(out) => arrived.done == done
+            && out.to == to
+            && out.pid == pid
+            && out.info.as_slice() == info,
         None => false,
     })
+}
+
+/// Whether it was dropped for this, and nothing sent.
+fn is_dropped(arrived: &Arrived, why: IpWhy) -> bool {
+    arrived.done == IpDone::Dropped(why) && arrived.out.is_none()
 }
 
 #[test]
 fn a_request_is_answered(rt: HostRuntime) -> Result<(), Fail> {
     let mut own = forwarder()?;
-    assert!(rt; arrive(&mut own, "QST", ARP_PID, REQUEST)? == IpDone::Answered);
-    assert!(rt; is_out(&own.next_out(), "N0BBB", ARP_PID, REPLY)?);
-    assert!(rt; own.next_out() == None);
+    let arrived = arrive(&mut own, "QST", ARP_PID, REQUEST)?;
+    assert!(rt; is_sent(&arrived, IpDone::Answered, "N0BBB", ARP_PID, REPLY)?);
     Ok(())
 }
 
 #[test]
 fn an_echo_request_is_echoed(rt: HostRuntime) -> Result<(), Fail> {
     let mut own = forwarder()?;
-    assert!(rt; arrive(&mut own, "N0AAA", IP_PID, ECHO)? == IpDone::Echoed);
-    assert!(rt; is_out(&own.next_out(), "N0BBB", IP_PID, ECHOED)?);
-    assert!(rt; arrive(&mut own, "QST", IP_PID, ECHO)? == IpDone::Dropped(IpWhy::NotMine));
+    let arrived = arrive(&mut own, "N0AAA", IP_PID, ECHO)?;
+    assert!(rt; is_sent(&arrived, IpDone::Echoed, "N0BBB", IP_PID, ECHOED)?);
+    assert!(rt; is_dropped(&arrive(&mut own, "QST", IP_PID, ECHO)?, IpWhy::NotMine));
+    Ok(())
+}
+
+/// A forwarder with a route to 44.0.1.0/24 by 44.0.0.2.
+fn routed() -> Result<Forwarder, Fail>
+    ensures { IfOk result (λ f. f.out ≡ None) }
+{
+    let mut own = forwarder()?;
+    let _ = own.route(0x2C000100, 24, 0x2C000002);
+    Ok(own)
+}
+
+#[test]
+fn a_packet_is_forwarded_once_its_next_hop_is_known(rt: HostRuntime) -> Result<(), Fail> {
+    let mut own = routed()?;
+    let asked = arrive(&mut own, "N0AAA", IP_PID, PACKET)?;
+    assert!(rt; is_sent(&asked, IpDone::Asked, "QST", ARP_PID, ASKED)?);
+    let answered = arrive(&mut own, "QST", ARP_PID, REQUEST)?;
+    assert!(rt; is_sent(&answered, IpDone::Answered, "N0BBB", ARP_PID, REPLY)?);
+    let forwarded = arrive(&mut own, "N0AAA", IP_PID, PACKET)?;
+    assert!(rt; is_sent(&forwarded, IpDone::Forwarded, "N0BBB", IP_PID, ONWARD)?);
     Ok(())
 }
 
 #[test]
-fn a_packet_is_forwarded(rt: HostRuntime) -> Result<(), Fail> {
-    let mut own = forwarder()?;
-    assert!(rt; arrive(&mut own, "N0AAA", IP_PID, PACKET)? == IpDone::Dropped(IpWhy::NoRoute));
-    assert!(rt; own.route(0x2C000100, 24, 0x2C000002) == Ok(()));
-    assert!(rt; arrive(&mut own, "N0AAA", IP_PID, PACKET)? == IpDone::Asked);
-    assert!(rt; is_out(&own.next_out(), "QST", ARP_PID, ASKED)?);
-    assert!(rt; arrive(&mut own, "QST", ARP_PID, REQUEST)? == IpDone::Answered);
-    assert!(rt; own.next_out() != None);
-    assert!(rt; arrive(&mut own, "N0AAA", IP_PID, PACKET)? == IpDone::Forwarded);
-    assert!(rt; is_out(&own.next_out(), "N0BBB", IP_PID, ONWARD)?);
-
+fn packets_are_dropped(rt: HostRuntime) -> Result<(), Fail> {
+    let mut own = routed()?;
     let mut last = *PACKET;
     last[8] = 1;
     last[10] = 0x60;
-    assert!(rt; arrive(&mut own, "N0AAA", IP_PID, &last)? == IpDone::Dropped(IpWhy::Expired));
+    assert!(rt; is_dropped(&arrive(&mut own, "N0AAA", IP_PID, &last)?, IpWhy::Expired));
     let mut wrong = *PACKET;
     wrong[11] = 0xD6;
-    assert!(rt; arrive(&mut own, "N0AAA", IP_PID, &wrong)? == IpDone::Dropped(IpWhy::Bad));
-    assert!(rt; own.next_out() == None);
+    assert!(rt; is_dropped(&arrive(&mut own, "N0AAA", IP_PID, &wrong)?, IpWhy::Bad));
+    let mut other = forwarder()?;
+    assert!(rt;
+        is_dropped(
+            &arrive(&mut other, "N0AAA", IP_PID, PACKET)?,
+            IpWhy::NoRoute
+        )
+    );
     Ok(())
 }
 
-/// Whom a forwarder asks for, that has a route to 44.0.0.0/8 and one to 44.0.1.0/24.
-fn asks_for_the_longer(own: &mut Forwarder) -> Result<bool, Fail> {
-    let asked = arrive(own, "N0AAA", IP_PID, PACKET)? == IpDone::Asked;
-    Ok(asked && is_out(&own.next_out(), "QST", ARP_PID, ASKED)?)
+/// Whether a forwarder asks for 44.0.0.2, to which its route to 44.0.1.0/24 leads.
+fn asks_by_the_longer(own: &mut Forwarder) -> Result<bool, Fail>
+    requires { own.old.out ≡ None }
+{
+    let arrived = arrive(own, "N0AAA", IP_PID, PACKET)?;
+    is_sent(&arrived, IpDone::Asked, "QST", ARP_PID, ASKED)
 }
 
 #[test]
 fn the_longer_route_is_taken_in_both_orders(rt: HostRuntime) -> Result<(), Fail> {
-    let mut own = forwarder()?;
+    let mut own = routed()?;
     assert!(rt; own.route(0x2C000000, 8, 0x2C000005) == Ok(()));
-    assert!(rt; own.route(0x2C000100, 24, 0x2C000002) == Ok(()));
-    assert!(rt; asks_for_the_longer(&mut own)?);
+    assert!(rt; asks_by_the_longer(&mut own)?);
 
     let mut other = forwarder()?;
-    assert!(rt; other.route(0x2C000100, 24, 0x2C000002) == Ok(()));
     assert!(rt; other.route(0x2C000000, 8, 0x2C000005) == Ok(()));
-    assert!(rt; asks_for_the_longer(&mut other)?);
+    assert!(rt; other.route(0x2C000100, 24, 0x2C000002) == Ok(()));
+    assert!(rt; asks_by_the_longer(&mut other)?);
     Ok(())
 }
 
