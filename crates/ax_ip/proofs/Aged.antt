@@ -4,7 +4,7 @@ use Rattle.std.specs.Prelude.{nat_lt, ◌&&◌, ◌==◌}
 use Rattle.std.proofs.lemmas.Bool.{eq-eqb}
 use Rattle.std.proofs.lemmas.Bool.Decides.{nat_tests}
 use Rattle.std.proofs.lemmas.List.{length-set, length-take, get_or-set_same, get_or-set_other, get_or-take}
-use Rattle.ax_ip.specs.Echoes.{onward, header_sum}
+use Rattle.ax_ip.specs.Onward.{onward, header_sum}
 use Rattle.ax_ip.specs.Laws.{OnwardIsPacket, OnwardIsTheSame}
 use Rattle.ax_ip.specs.Numbers.{octet, long}
 use Rattle.ax_ip.specs.Packets.{PacketHead, SpellsPacket}

@@ -15,7 +15,8 @@ use Rattle.ax_ip.specs.declared.packet.PacketRefusal.{PacketRefusal}
 use Rattle.ax_ip.specs.Arps.{Arp, arp_at}
 use Rattle.ax_ip.specs.Caches.{Neighbour, call_of}
 use Rattle.ax_ip.specs.Contents.{content_of}
-use Rattle.ax_ip.specs.Echoes.{is_request, reply, onward}
+use Rattle.ax_ip.specs.Echoes.{is_request, reply}
+use Rattle.ax_ip.specs.Onward.{onward}
 use Rattle.ax_ip.specs.Laws.{SendsOn, ForwardedIsSentOn, Forwards, AtMostItsTimeToLive}
 use Rattle.ax_ip.specs.Machine.{State, Turn, turn, packet_to, sends, arp_turn, own_turn, to_call, by_route, onward_turn, packet_turn, content_turn, dropped}
 use Rattle.ax_ip.specs.Numbers.{octet, word}

@@ -4,7 +4,7 @@ use Rattle.ax_address.specs.Callsign.{Callsign}
 use Rattle.ax_frame.specs.Frames.{Frame}
 use Rattle.ax_ip.specs.declared.forwarder.IpDone.TheVariants.{Forwarded}
 use Rattle.ax_ip.specs.Numbers.{octet}
-use Rattle.ax_ip.specs.Echoes.{onward}
+use Rattle.ax_ip.specs.Onward.{onward}
 use Rattle.ax_ip.specs.Machine.{State, Turn, turn, packet_to}
 use Rattle.ax_ip.specs.Packets.{PacketHead, SpellsPacket}
 use Rattle.ax_ip.specs.Routes.{Route, matches, longest}

@@ -6,5 +6,6 @@ pub mod Routes
 pub mod Caches
 pub mod Contents
 pub mod Echoes
+pub mod Onward
 pub mod Machine
 pub mod Laws

@@ -16,7 +16,8 @@ use Rattle.ax_ip.specs.declared.out.IpOut.{IpOut}
 use Rattle.ax_ip.specs.Arps.{Arp, arp_at, arp_octets}
 use Rattle.ax_ip.specs.Caches.{Neighbour, call_of, learned}
 use Rattle.ax_ip.specs.Contents.{everyone, content_of}
-use Rattle.ax_ip.specs.Echoes.{is_request, reply, onward}
+use Rattle.ax_ip.specs.Echoes.{is_request, reply}
+use Rattle.ax_ip.specs.Onward.{onward}
 use Rattle.ax_ip.specs.Packets.{PacketHead, packet_at}
 use Rattle.ax_ip.specs.Routes.{Route, longest, next_hop}
 

@@ -2,7 +2,7 @@
 ghost use Rattle.std.specs.Prelude.{◌≡◌, ◌+◌, ◌%◌, ◌<◌, ◌≤◌, ◌++◌, length};
 ghost use Rattle.ax_ip.specs.Packets.{PacketHead};
 ghost use Rattle.ax_ip.specs.Sums as sums;
-ghost use Rattle.ax_ip.specs.Echoes as echoes;
+ghost use Rattle.ax_ip.specs.Onward as packets;
 
 use crate::numbers::{push_octets, word_octets};
 use crate::out::Info;
@@ -15,7 +15,7 @@ pub(crate) fn onward(head: &PacketHead, packet: &[u8]) -> Info
     requires header { head.now.header ≤ length packet.now }
     requires few { length packet.now ≤ 256 }
     requires alive { 1 < head.now.ttl }
-    ensures { result.items ≡ echoes.onward head.now packet.now }
+    ensures { result.items ≡ packets.onward head.now packet.now }
 {
     let mut info = Info::new();
     push_octets(&mut info, packet);
@@ -29,7 +29,7 @@ fn age(packet: &mut [u8], head: &PacketHead)
     requires header { head.now.header ≤ length packet.old }
     requires few { length packet.old ≤ 256 }
     requires alive { 1 < head.now.ttl }
-    ensures { packet.new ≡ echoes.onward head.now packet.old }
+    ensures { packet.new ≡ packets.onward head.now packet.old }
 {
     packet[8] = head.ttl - 1;
     let sum = checksum(word_sum(&packet[..10]) + word_sum(&packet[12..head.header]));

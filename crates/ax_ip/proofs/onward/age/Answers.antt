@@ -1,5 +1,5 @@
 use Rattle.std.proofs.Common.{◌≡◌, ◌+◌, ◌-◌, ℕ, List, take, drop, get_or, set, refl}
-use Rattle.ax_ip.specs.Echoes.{with_header_sum}
+use Rattle.ax_ip.specs.Onward.{with_header_sum}
 use Rattle.ax_ip.specs.Numbers.{word_octets}
 use Rattle.ax_ip.specs.Sums.{lacking, word_sum}
 use Rattle.ax_ip.proofs.onward.age.Goals as goal
