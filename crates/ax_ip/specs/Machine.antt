@@ -31,6 +31,10 @@ pub record State : Type 0 where
 abbrev pub state : Forwarder → State
 state f = record { call = f.call; address = f.address; routes = f.routes.items; cache = f.cache.items }
 
+-- what the last frame left to send, until it is fetched
+abbrev pub waiting : Forwarder → Option IpOut
+waiting f = f.out
+
 -- what it does, what it sends, and the neighbours that it knows then
 pub record Turn : Type 0 where
   pub done : IpDone
@@ -123,7 +127,7 @@ turn s f = content_turn s f (content_of s.call f)
 -- what was done is the turn, and nothing else changed
 pub record Does (t : Turn) (answer : IpDone) (old new : Forwarder) : Type 0 where
   pub done : answer ≡ t.done
-  pub out : new.out ≡ t.out
+  pub out : waiting new ≡ t.out
   pub cache : new.cache.items ≡ t.cache
   pub call : new.call ≡ old.call
   pub address : new.address ≡ old.address

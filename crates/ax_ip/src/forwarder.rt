@@ -59,7 +59,7 @@ impl Forwarder {
     /// A forwarder of this call and this address, with no routes and no neighbours.
     pub fn new(call: Call, addr: u32) -> Forwarder
         ensures state { machine.state result ≡ record { call = call; address = addr; routes = []; cache = [] } }
-        ensures out { result.out ≡ None }
+        ensures out { machine.waiting result ≡ None }
     {
         Forwarder {
             call,
@@ -72,9 +72,9 @@ impl Forwarder {
 
     /// Takes a route in.
     pub fn route(&mut self, prefix: u32, len: u8, hop: u32) -> Result<(), RouteRefusal>
-        ensures exact { result ≡ routes.route_at prefix len self.old.routes.items }
-        ensures entered { OnOk result ((r : routes.Route) × routes.IsRoute prefix len hop r × (machine.state self.new ≡ record (machine.state self.old) { routes = self.old.routes.items ++ r ∷ [] })) }
-        ensures out { self.new.out ≡ self.old.out }
+        ensures exact { result ≡ routes.route_at prefix len (machine.state self.old).routes }
+        ensures entered { OnOk result ((r : routes.Route) × routes.IsRoute prefix len hop r × (machine.state self.new ≡ record (machine.state self.old) { routes = (machine.state self.old).routes ++ r ∷ [] })) }
+        ensures out { machine.waiting self.new ≡ machine.waiting self.old }
         ensures err { OnErr result (self.new ≡ self.old) }
     {
         if len > 32 || has_bits_past(prefix, len) {
@@ -93,7 +93,7 @@ impl Forwarder {
     /// Takes a frame in.
     #[tactic(auto, unfolding(crate::specs::Machine::turn))]
     pub fn arrive(&mut self, frame: &FrameView<'_>) -> IpDone
-        requires fetched { self.old.out ≡ None }
+        requires fetched { machine.waiting self.old ≡ None }
         ensures turn { machine.Does (machine.turn (machine.state self.old) (frame_of frame.now)) result self.old self.new }
     {
         match content_of(frame, &self.call) {
@@ -105,8 +105,8 @@ impl Forwarder {
 
     /// What the last arrival left to send.
     pub fn next_out(&mut self) -> Option<IpOut>
-        ensures out { result ≡ self.old.out }
-        ensures fetched { self.new.out ≡ None }
+        ensures out { result ≡ machine.waiting self.old }
+        ensures fetched { machine.waiting self.new ≡ None }
         ensures same { machine.state self.new ≡ machine.state self.old }
     {
         self.out.take()

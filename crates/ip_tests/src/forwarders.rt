@@ -1,5 +1,6 @@
 //! Worked frames handed to a forwarder.
 ghost use Rattle.std.specs.Prelude.{◌≡◌, None, IfOk};
+ghost use Rattle.ax_ip.specs.Machine.{waiting};
 
 use ax_address::{Address, Call, Path};
 use ax_frame::{Control, FrameView, Head};
@@ -34,7 +35,7 @@ fn call(text: &str) -> Result<Call, Fail> {
 }
 
 fn forwarder() -> Result<Forwarder, Fail>
-    ensures { IfOk result (λ f. f.out ≡ None) }
+    ensures { IfOk result (λ f. waiting f ≡ None) }
 {
     Ok(Forwarder::new(call("N0AAA")?, OWN))
 }
@@ -56,8 +57,8 @@ struct Arrived {
 
 /// Hands a UI frame from N0BBB to a forwarder.
 fn arrive(own: &mut Forwarder, dest: &str, pid: u8, info: &[u8]) -> Result<Arrived, Fail>
-    requires { own.old.out ≡ None }
-    ensures { own.new.out ≡ None }
+    requires { waiting own.old ≡ None }
+    ensures { waiting own.new ≡ None }
 {
     let frame = FrameView {
         head: Head {
@@ -112,7 +113,7 @@ fn an_echo_request_is_echoed(rt: HostRuntime) -> Result<(), Fail> {
 
 /// A forwarder with a route to 44.0.1.0/24 by 44.0.0.2.
 fn routed() -> Result<Forwarder, Fail>
-    ensures { IfOk result (λ f. f.out ≡ None) }
+    ensures { IfOk result (λ f. waiting f ≡ None) }
 {
     let mut own = forwarder()?;
     let _ = own.route(0x2C000100, 24, 0x2C000002);
@@ -153,7 +154,7 @@ fn packets_are_dropped(rt: HostRuntime) -> Result<(), Fail> {
 
 /// Whether a forwarder asks for 44.0.0.2, to which its route to 44.0.1.0/24 leads.
 fn asks_by_the_longer(own: &mut Forwarder) -> Result<bool, Fail>
-    requires { own.old.out ≡ None }
+    requires { waiting own.old ≡ None }
 {
     let arrived = arrive(own, "N0AAA", IP_PID, PACKET)?;
     is_sent(&arrived, IpDone::Asked, "QST", ARP_PID, ASKED)
