@@ -1,3 +1,4 @@
+pub mod NoneLeft
 pub mod Range
 pub mod Steps
 pub mod Gathers

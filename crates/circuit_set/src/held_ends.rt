@@ -165,7 +165,7 @@ impl HeldEnds {
         ensures rests { IfOk result (λ told. told ≡ None → Rests self.new.ends.entries) }
         ensures few { IfOk result (λ told. Brings (untold_in self.old.ends.entries) (untold_in self.new.ends.entries)) }
     {
-        match opened_by(&self.ends.as_slice(), &origin, pair) {
+        match opened_by(self.ends.as_slice(), &origin, pair) {
             Some(id) => Ok(self.accept_again(id, pair)),
             None => {
                 let told = self.requested_anew(origin, datagram, pair, window, now)?;
@@ -226,7 +226,7 @@ impl HeldEnds {
         ensures rests { result ≡ None → Rests self.new.ends.entries }
         ensures few { Brings (untold_in self.old.ends.entries) (untold_in self.new.ends.entries) }
     {
-        match named_by(&self.ends.as_slice(), origin, to) {
+        match named_by(self.ends.as_slice(), origin, to) {
             Some(id) => self.arrives_at(id, datagram, transport, now),
             None => None,
         }
@@ -379,7 +379,7 @@ impl HeldEnds {
         ensures exact { (s : SetState) (told : List Told) → HeldStands self.now s told → result ≡ is_empty told }
         ensures rests { result ≡ true → Rests self.now.ends.entries }
     {
-        first_untold(&self.ends.as_slice()).is_none()
+        first_untold(self.ends.as_slice()).is_none()
     }
 
     /// What the end with a number tells next.
@@ -420,7 +420,7 @@ impl HeldEnds {
         ensures falls { FallsBy result (untold_in self.old.ends.entries) (untold_in self.new.ends.entries) }
         ensures same { SameNode self.old self.new }
     {
-        match first_untold(&self.ends.as_slice()) {
+        match first_untold(self.ends.as_slice()) {
             Some(id) => self.next_of(id),
             None => None,
         }
