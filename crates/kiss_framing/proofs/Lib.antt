@@ -3,3 +3,4 @@ pub mod Pieces
 pub mod ReadBack
 pub mod Runs
 pub mod Steps
+pub mod PlainRuns

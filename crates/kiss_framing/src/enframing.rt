@@ -1,9 +1,10 @@
 //! A frame becomes KISS bytes.
-ghost use Rattle.std.specs.Prelude.{◌≡◌, ℕ, ◌≤◌, ◌+◌, ◌*◌, ◌<◌, List, ◌++◌, ◌∷◌, [], ◌↔◌, length, take, OnOk, OnErr, IsOk};
+ghost use Rattle.std.specs.Prelude.{◌≡◌, ℕ, ◌≤◌, ◌+◌, ◌*◌, ◌<◌, List, ◌++◌, ◌∷◌, [], ◌↔◌, length, take, OnOk, OnErr, IfOk, IsOk};
 ghost use Rattle.std.specs.List.{flat_map};
 ghost use Rattle.kiss_framing.specs.Enframing.{escape_of, octets_of, framed};
 ghost use Rattle.kiss_framing.specs.Stream.{Frame, items};
 
+use crate::piece::plain_run;
 use crate::{FEND, FESC, TFEND, TFESC};
 use arrayvec::ArrayVec;
 
@@ -59,10 +60,31 @@ fn push_payload<const CAP: usize>(payload: &[u8], out: &mut ArrayVec<u8, CAP>) -
     ensures front { OnErr result (take (length out.old.items) out.new.items ≡ out.old.items) }
     ensures full { OnErr result (CAP < length out.old.items + length (flat_map escape_of payload.now)) }
 {
-    for byte in payload {
-        push_escaped(*byte, out)?;
+    let mut taken = 0;
+    while taken < payload.len() {
+        taken += push_some(&payload[taken..], out)?;
     }
     Ok(())
+}
+
+/// Appends the octets of the first bytes: of those before the next `FEND` or `FESC`, or where that stands first of it alone. Answers with
+/// how many bytes these are.
+fn push_some<const CAP: usize>(payload: &[u8], out: &mut ArrayVec<u8, CAP>) -> Result<usize, Full>
+    requires { 0 < length payload.now }
+    ensures ok { IfOk result (λ count. out.new.items ≡ out.old.items ++ flat_map escape_of (take count payload.now)) }
+    ensures within { IfOk result (λ count. count ≤ length payload.now) }
+    ensures moves { IfOk result (λ count. 0 < count) }
+    ensures full { OnErr result (CAP < length out.old.items + length (flat_map escape_of payload.now)) }
+    ensures err { OnErr result (out.new ≡ out.old) }
+{
+    let run = plain_run(payload);
+    if run.is_empty() {
+        push_escaped(payload[0], out)?;
+        Ok(1)
+    } else {
+        push(run, out)?;
+        Ok(run.len())
+    }
 }
 
 fn push_escaped<const CAP: usize>(byte: u8, out: &mut ArrayVec<u8, CAP>) -> Result<(), Full>

@@ -195,7 +195,7 @@ impl Piece {
 }
 
 /// Bytes before the first `FEND` or `FESC`. Where it stands first, no search begins.
-fn plain_run(bytes: &[u8]) -> &[u8]
+pub(crate) fn plain_run(bytes: &[u8]) -> &[u8]
     ensures front { result.now ≡ take (length result.now) bytes.now }
     ensures within { length result.now ≤ length bytes.now }
     ensures plain { AllByRecursion IsPlain result.now }
