@@ -33,7 +33,6 @@ fn the_first_bad_word_of_the_first_bad_line_is_told(rt: HostRuntime) {
         ("node 1 N0AAA A\nnode 2 N0AAA-0 B", Some((2, What::Twice))),
         ("node 1 N0AAA A\nset 1 speed 9", Some((2, What::Key))),
         ("node 1 N0AAA A\nset 1 mail 1", Some((2, What::Key))),
-        ("node 1 N0AAA A\nset 1 prompt 1", Some((2, What::NotBuilt))),
         ("node 1 N0AAA A\nset 1 life 0", Some((2, What::Value))),
         (
             "node 1 N0AAA A\nset 1 life 99999999999999999999",

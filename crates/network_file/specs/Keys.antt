@@ -4,7 +4,7 @@ use Rattle.std.specs.Cmp.Lexicographic.{pointwise}
 use Rattle.network_file.specs.declared.reasons.What.{What}
 use Rattle.network_file.specs.declared.reasons.What.TheVariants as whats
 use Rattle.network_file.specs.declared.plan.keys.Key.{Key}
-use Rattle.network_file.specs.declared.plan.keys.Key.TheVariants.{Window, Timeout, Retries, Busy, Inactive, TimeToLive, Life, Least, MinimumQuality, PathQuality, Links, Modulo, LinkWindow, SelectiveReject, T1, T3, LinkRetries, Interval}
+use Rattle.network_file.specs.declared.plan.keys.Key.TheVariants.{Window, Timeout, Retries, Busy, Inactive, TimeToLive, Life, Least, MinimumQuality, PathQuality, Links, Modulo, LinkWindow, SelectiveReject, T1, T3, LinkRetries, Prompt, Interval}
 
 -- the word of a key, its least and its largest value, and the one where no line sets it
 pub record Row : Type 0 where
@@ -35,6 +35,7 @@ row_of SelectiveReject = row (codes "srej") 0 1 0
 row_of T1 = row (codes "t1") 1 86400000 3000
 row_of T3 = row (codes "t3") 1 86400000 300000
 row_of LinkRetries = row (codes "lretries") 1 255 10
+row_of Prompt = row (codes "prompt") 0 1 0
 row_of Interval = row (codes "interval") 0 86400000 0
 
 abbrev pub word_of : Key → List ℕ
@@ -58,20 +59,16 @@ takes version key value = true
 abbrev pub all_keys : List Key
 all_keys =
     Window ∷ Timeout ∷ Retries ∷ Busy ∷ Inactive ∷ TimeToLive ∷ Life ∷ Least ∷ MinimumQuality ∷ PathQuality
-    ∷ Links ∷ Modulo ∷ LinkWindow ∷ SelectiveReject ∷ T1 ∷ T3 ∷ LinkRetries ∷ Interval ∷ []
+    ∷ Links ∷ Modulo ∷ LinkWindow ∷ SelectiveReject ∷ T1 ∷ T3 ∷ LinkRetries ∷ Prompt ∷ Interval ∷ []
 
 -- the first of these keys that a word names
 abbrev pub first_of : List ℕ → List Key → Option Key
 first_of word [] = None
 first_of word (key ∷ keys) = if pointwise nat_eq (word_of key) word then Some key else first_of word keys
 
--- a word that names no key; `prompt` will, and isn't built yet
-abbrev pub no_key : List ℕ → What
-no_key word = if pointwise nat_eq word (codes "prompt") then whats.NotBuilt else whats.Key
-
 -- the key that a word names
 unfoldable pub key_at : List ℕ → Result Key What
-key_at word = elim (first_of word all_keys) [ Some key ↦ Ok key | None ↦ Err (no_key word) ]
+key_at word = elim (first_of word all_keys) [ Some key ↦ Ok key | None ↦ Err whats.Key ]
 
 -- a node's key set to a value
 pub record Assignment : Type 0 where

@@ -6,6 +6,8 @@ pub const MAX_LINES: u32 = 20_000;
 pub const MAX_NODES: usize = 16;
 /// The most peers that a node reaches over repeaters.
 pub const MAX_VIAS: usize = 16;
+/// How many keys there are.
+pub const MAX_KEYS: usize = 19;
 /// The most repeaters over which a node reaches a peer.
 pub const MAX_VIA_REPEATERS: usize = 2;
 /// The most frames of which a line may say how many.

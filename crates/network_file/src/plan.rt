@@ -3,6 +3,7 @@ pub mod channels;
 pub mod declarations;
 pub mod instructions;
 pub mod keys;
+pub mod live;
 pub mod pairs;
 pub mod settings;
 pub mod text;

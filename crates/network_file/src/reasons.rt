@@ -12,8 +12,6 @@ pub enum What {
     Char,
     /// The first word is no kind of line.
     Word,
-    /// The key is `prompt`, which isn't built yet.
-    NotBuilt,
     /// A declaration after a line that is none, or a version line that isn't the first.
     Late,
     /// The line has too many words for its kind, or too few.
@@ -45,7 +43,6 @@ impl fmt::Display for What {
             What::Many => "many",
             What::Char => "char",
             What::Word => "word",
-            What::NotBuilt => "not built",
             What::Late => "late",
             What::Count => "count",
             What::Number => "number",

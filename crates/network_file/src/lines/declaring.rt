@@ -160,7 +160,7 @@ fn are_repeaters(words: &[&[u8]]) -> bool
     !words.is_empty() && words.len() <= MAX_VIA_REPEATERS
 }
 
-fn repeaters_of(words: &[&[u8]]) -> Result<ArrayVec<Call, MAX_VIA_REPEATERS>, What>
+pub fn repeaters_of(words: &[&[u8]]) -> Result<ArrayVec<Call, MAX_VIA_REPEATERS>, What>
     requires { length words.now ≤ 2 }
     ensures { MatchResult result (λ v. lines.calls_at (texts words.now) ≡ Ok v.items) (λ e. lines.calls_at (texts words.now) ≡ Err e) }
 {

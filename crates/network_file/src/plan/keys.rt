@@ -42,12 +42,14 @@ pub enum Key {
     T3,
     /// `lretries`: how often a link tries again (N2).
     LinkRetries,
+    /// `prompt`: 1 where users are served at a prompt.
+    Prompt,
     /// `interval`: how long a node waits between its rounds; 0 for none of its own.
     Interval,
 }
 
 /// All keys.
-const KEYS: [Key; 18] = [
+const KEYS: [Key; 19] = [
     Key::Window,
     Key::Timeout,
     Key::Retries,
@@ -65,6 +67,7 @@ const KEYS: [Key; 18] = [
     Key::T1,
     Key::T3,
     Key::LinkRetries,
+    Key::Prompt,
     Key::Interval,
 ];
 
@@ -126,6 +129,17 @@ impl Setting {
     }
 }
 
+/// The default window: what an unused place of a buffer holds.
+impl Default for Setting {
+    fn default() -> Setting {
+        Setting {
+            node: 1,
+            key: Key::Window,
+            value: 4,
+        }
+    }
+}
+
 impl Key {
     /// The key that the word names.
     #[tactic(auto, unfolding(crate::specs::Keys::key_at))]
@@ -134,7 +148,6 @@ impl Key {
     {
         match first_of(&KEYS, word) {
             Some(key) => Ok(key),
-            None if word == b"prompt".as_slice() => Err(What::NotBuilt),
             None => Err(What::Key),
         }
     }
@@ -203,6 +216,7 @@ impl Key {
             Key::T1 => row(b"t1", 1, 86_400_000, 3_000),
             Key::T3 => row(b"t3", 1, 86_400_000, 300_000),
             Key::LinkRetries => row(b"lretries", 1, 255, 10),
+            Key::Prompt => row(b"prompt", 0, 1, 0),
             Key::Interval => row(b"interval", 0, 86_400_000, 0),
         }
     }

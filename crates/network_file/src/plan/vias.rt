@@ -7,7 +7,9 @@ use arrayvec::ArrayVec;
 use ax_address::Call;
 
 /// A node reaches a peer over one or two repeaters.
-#[derive(Debug, Drop)]
+///
+/// The default has none: what an unused place of a buffer holds.
+#[derive(Debug, Default, Drop)]
 pub struct Via {
     /// From 1 to 16.
     pub node: u8,
