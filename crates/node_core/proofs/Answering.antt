@@ -1,20 +1,13 @@
 -- An outcome that isn't NoMemory is an answer.
 use Rattle.std.proofs.Common.{◌≡◌, refl, false}
-use Rattle.std.specs.Prelude.{Bool, Result, Ok, Err}
-use Rattle.std.specs.Result.{result_eq}
-use Rattle.node_core.specs.contracts.acts.ActDonePartialEq.TheImpl as done
-use Rattle.node_core.specs.contracts.acts.ActRefusalPartialEq.TheImpl as refused
+use Rattle.std.specs.Prelude.{Result, Ok, Err}
 use Rattle.node_core.specs.declared.acts.ActDone.{ActDone}
 use Rattle.node_core.specs.declared.acts.ActRefusal.{ActRefusal}
 use Rattle.node_core.specs.declared.acts.ActRefusal.TheVariants as refusal
-use Rattle.node_core.specs.Standing.{IsAnswer}
+use Rattle.node_core.specs.Standing.{IsAnswer, wants_memory}
 
--- the code's test
-abbrev pub is_no_memory : Result ActDone ActRefusal → Bool
-is_no_memory r = result_eq done.eq-value.it refused.eq-value.it r (Err refusal.NoMemory)
-
--- It finds NoMemory alone.
-pub is_answer : (r : Result ActDone ActRefusal) → false ≡ is_no_memory r → IsAnswer r
+-- The code's test finds NoMemory alone.
+pub is_answer : (r : Result ActDone ActRefusal) → false ≡ wants_memory r → IsAnswer r
 is_answer (Ok _) f = tt
 is_answer (Err refusal.NoMemory) f = absurd (cc f)
 is_answer (Err refusal.NoEnd) f = tt
@@ -24,7 +17,7 @@ is_answer (Err (refusal.Connect why)) f = tt
 is_answer (Err (refusal.Lock why)) f = tt
 is_answer (Err (refusal.Write why)) f = tt
 
-pub answer_is : (r : Result ActDone ActRefusal) → IsAnswer r → is_no_memory r ≡ false
+pub answer_is : (r : Result ActDone ActRefusal) → IsAnswer r → wants_memory r ≡ false
 answer_is (Ok _) a = refl
 answer_is (Err refusal.NoMemory) a = absurd a
 answer_is (Err refusal.NoEnd) a = refl

@@ -25,12 +25,13 @@ use Rattle.node_core.specs.Circuits as circuits
 use Rattle.node_core.specs.Links.{offer, offer_answer}
 use Rattle.node_core.specs.Pumping.{ask, ask_for, at_router, pump, take_turn, tell_one, told_entries, with_turned}
 use Rattle.route_table.specs.Log.{Item}
+use Rattle.node_core.specs.Sessions.{hear_if}
 use Rattle.node_core.specs.States.{Entry, State, at_links, next_hop}
 use Rattle.node_core.proofs.Resting.{asks_on, pumped_nothing, tells_on}
 
 -- the node after a call
 abbrev pub after_call : Pumped → State → State
-after_call q n = record n { links = after_calls q.calls n.links; set = q.after; log = n.log ++ q.items; entries = n.entries ++ told_entries q.told }
+after_call q n = record n { links = after_calls q.calls n.links; set = q.after; log = n.log ++ q.items; entries = n.entries ++ told_entries q.told; sessions = hear_if n.settings.prompt q.told n.sessions }
 
 -- what is left to be pumped after it: nothing where nothing was told
 abbrev pub pumped_on : ℕ → Option SetTold → State → State
@@ -183,7 +184,7 @@ module _ (offers : OffersLeave) (takes : TakesLower) (less : TellsLess) where
 
   abbrev taken_to : ℕ → Parcel → Turn → Offered → State → Waiting → Option SetTold → State
   taken_to now parcel t answer n w told =
-      record n { links = after_calls (first_calls now parcel t answer) n.links; set = w; entries = n.entries ++ told_entries told }
+      record n { links = after_calls (first_calls now parcel t answer) n.links; set = w; entries = n.entries ++ told_entries told; sessions = hear_if n.settings.prompt told n.sessions }
 
   asked_is : (now : ℕ) (n : State) (s : SetState) (parcel : Parcel) (more : List Parcel) (answer : Offered) → n.links.pending.lost ≡ [] → parcel ∷ more ≡ n.links.pending.waiting
       → (let t = pumps.hears (next_hop n) now parcel (at_rest s) in AllAnswer n.links (first_calls now parcel t answer)
@@ -243,8 +244,9 @@ module _ (offers : OffersLeave) (takes : TakesLower) (less : TellsLess) where
       let a1 = front n.links calls (offer_of t2 now answer) a in
       let a2 = back n.links calls (offer_of t2 now answer) a in
       let m : State = record n { links = after_calls calls n.links; set = u.after } in
-      let entries : n.entries ++ told_entries u.told ≡ n.entries = ap (λ (o : Option SetTold). n.entries ++ told_entries o) told ∙ append-nil n.entries in
-      let asked : ask now (rested n s) ≡ m = asked_is now n s parcel (map (λ (y : Parcel × Offered). y.0) more) answer e f a1 ∙ ap (λ (es : List Entry). record m { entries = es }) entries in
+      let asked : ask now (rested n s) ≡ m =
+      asked_is now n s parcel (map (λ (y : Parcel × Offered). y.0) more) answer e f a1
+      ∙ (ap (taken_to now parcel t answer n u.after) told ∙ ap (λ (es : List Entry). record m { entries = es }) (append-nil n.entries)) in
       let over : after_call (turned now t2 answer) m ≡ tell_one now m = turn_over now t2 answer m a2 in
       let q = pumps.after_calls calls (turned now t2 answer) in
       let same : after_call (turned now t2 answer) m ≡ after_call q (rested n s) =
@@ -268,10 +270,10 @@ module _ (offers : OffersLeave) (takes : TakesLower) (less : TellsLess) where
       let a1 = front n.links calls r.calls a in
       let a2 = back n.links calls r.calls a in
       let m : State = record n { links = after_calls calls n.links } in
-      let entries : n.entries ++ told_entries u.told ≡ n.entries = ap (λ (o : Option SetTold). n.entries ++ told_entries o) told ∙ append-nil n.entries in
       let asked : ask now (rested n s) ≡ rested m u.after.set =
       asked_is now n s parcel (map (λ (y : Parcel × Offered). y.0) more) answer e f a1
-      ∙ (ap (λ (es : List Entry). record m { set = u.after; entries = es }) entries ∙ ap (λ (w : Waiting). record m { set = w }) (rest_of u.after none)) in
+      ∙ (ap (taken_to now parcel t answer n u.after) told
+      ∙ (ap (λ (es : List Entry). record m { set = u.after; entries = es }) (append-nil n.entries) ∙ ap (λ (w : Waiting). record m { set = w }) (rest_of u.after none))) in
       let lost : m.links.pending.lost ≡ [] = offered_lost now t answer (collect (tell_lost n.links)) ∙ ap (drop 1) e in
       let waits : map (λ (y : Parcel × Offered). y.0) more ≡ m.links.pending.waiting =
       ap (drop 1) f ∙ sym (offered_waiting now t answer (collect (tell_lost n.links))) in

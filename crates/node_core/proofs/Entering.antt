@@ -10,7 +10,8 @@ use Rattle.node_core.specs.declared.station.Station.{Station}
 use Rattle.node_core.specs.Links.{all_noticed}
 use Rattle.node_core.specs.Settling.{enter_notices, has_some}
 use Rattle.node_core.specs.Standing.{Holds, entry_of}
-use Rattle.node_core.specs.States.{Entry, Of_link, State, at_links, enter}
+use Rattle.node_core.specs.Sessions.{Session, hear_link, hear_links}
+use Rattle.node_core.specs.States.{Entry, Of_link, State, at_links, at_sessions, enter}
 
 first_entry : (es : List Entry) (peer : Callsign) (note : LinkNotice) (xs : List (Callsign × LinkNotice)) → Some (peer, note) ≡ slice_get xs 0
     → es ++ map (λ (x : Callsign × LinkNotice). Of_link x.0 x.1) xs ≡ (es ++ Of_link peer note ∷ []) ++ map (λ (x : Callsign × LinkNotice). Of_link x.0 x.1) (drop 1 xs)
@@ -20,10 +21,21 @@ first_entry es peer note (x ∷ xs) p =
     let entry : Of_link peer note ≡ Of_link x.0 x.1 = ap (λ (y : Callsign × LinkNotice). Of_link y.0 y.1) same in
     rw entry (sym (append_assoc es (Of_link x.0 x.1 ∷ []) (map (λ (y : Callsign × LinkNotice). Of_link y.0 y.1) xs)))
 
+first_heard : (ss : List Session) (peer : Callsign) (note : LinkNotice) (xs : List (Callsign × LinkNotice)) → Some (peer, note) ≡ slice_get xs 0
+    → hear_links xs ss ≡ hear_links (drop 1 xs) (hear_link peer note ss)
+first_heard ss peer note [] p = absurd (cc p)
+first_heard ss peer note (x ∷ xs) p =
+    let same : (peer, note) ≡ x = cc p in
+    ap (λ (y : Callsign × LinkNotice). hear_links xs (hear_link y.0 y.1 ss)) (sym same)
+
 -- the first notice may be entered before the others
 pub notice_moves : (peer : Callsign) (note : LinkNotice) (m : State) → Some (peer, note) ≡ slice_get m.links.pending.notices 0
-    → enter_notices m ≡ enter_notices (enter (Of_link peer note ∷ []) (at_links calls.notice m))
-notice_moves peer note m p = ap (λ (es : List Entry). record m { entries = es; links = all_noticed m.links }) (first_entry m.entries peer note m.links.pending.notices p)
+    → enter_notices m ≡ enter_notices (enter (Of_link peer note ∷ []) (at_sessions (hear_link peer note) (at_links calls.notice m)))
+notice_moves peer note m p =
+    ap (λ (es : List Entry). record m { entries = es; sessions = hear_links m.links.pending.notices m.sessions; links = all_noticed m.links })
+    (first_entry m.entries peer note m.links.pending.notices p)
+    ∙ ap (λ (ss : List Session). record (enter_notices (enter (Of_link peer note ∷ []) (at_links calls.notice m))) { sessions = ss })
+    (first_heard m.sessions peer note m.links.pending.notices p)
 
 no_notice : (xs : List (Callsign × LinkNotice)) → None ≡ slice_get xs 0 → xs ≡ []
 no_notice [] p = refl
@@ -34,8 +46,9 @@ none_to_enter m p =
     let e = no_notice m.links.pending.notices p in
     let entries : m.entries ++ map (λ (x : Callsign × LinkNotice). Of_link x.0 x.1) m.links.pending.notices ≡ m.entries =
     ap (λ (xs : List (Callsign × LinkNotice)). m.entries ++ map (λ (x : Callsign × LinkNotice). Of_link x.0 x.1) xs) e ∙ append-nil m.entries in
-    ap (λ (es : List Entry). record m { entries = es; links = all_noticed m.links }) entries
-    ∙ ap (λ (xs : List (Callsign × LinkNotice)). record m { links = record m.links { pending = record m.links.pending { notices = xs } } }) (sym e)
+    ap (λ (es : List Entry). record m { entries = es; sessions = hear_links m.links.pending.notices m.sessions; links = all_noticed m.links }) entries
+    ∙ (ap (λ (xs : List (Callsign × LinkNotice)). record m { sessions = hear_links xs m.sessions; links = all_noticed m.links }) e
+    ∙ ap (λ (xs : List (Callsign × LinkNotice)). record m { links = record m.links { pending = record m.links.pending { notices = xs } } }) (sym e))
 
 pub none_fetched : (m : State) → None ≡ slice_get m.links.pending.notices 0 → at_links calls.notice m ≡ m
 none_fetched m p =

@@ -1,5 +1,5 @@
 -- What a change of one part leaves of what the code stands for.
-use Rattle.std.proofs.Common.{◌≡◌, ◌<◌, ◌≤◌, ◌++◌, ◌∙◌, ℕ, suc, refl, sym, ap, subst, arith, append-nil, append_assoc, drop, List, [], ◌∷◌, length, map, slice_get, true, false}
+use Rattle.std.proofs.Common.{◌≡◌, ◌<◌, ◌≤◌, ◌++◌, ◌∙◌, ℕ, refl, sym, ap, subst, arith, append-nil, append_assoc, drop, List, [], ◌∷◌, length, map, slice_get, true, false}
 use Rattle.std.specs.Prelude.{Some, None}
 use Rattle.std.proofs.lemmas.Bool.Decides.{nat_tests}
 use Rattle.std.proofs.lemmas.List.{map-append}
@@ -23,6 +23,7 @@ use Rattle.route_table.specs.Table.{usable}
 use Rattle.node_core.specs.declared.entry.NodeEntry.{NodeEntry}
 use Rattle.node_core.specs.declared.station.Station.{Station}
 use Rattle.node_core.specs.Receiving.{has_room, live_with, take_in}
+use Rattle.node_core.specs.Sessions.{Session, bare}
 use Rattle.node_core.specs.Standing.{Holds, IsTold, entry_of}
 use Rattle.node_core.specs.Rounds.{put_all}
 use Rattle.node_core.specs.States.{Overflow, State, at_links, at_set, enter, fetch_frame, fetch_own, put, with_items}
@@ -47,6 +48,7 @@ links_go step s r old new e f goes n h = record {
   };
   names = record { alias = h.names.alias; path_quality = h.names.path_quality; interval = h.names.interval; fits = h.names.fits };
   queues = record { own = h.queues.own; entries = h.queues.entries };
+  users = record { prompt = h.users.prompt; sessions = h.users.sessions };
   next_round = h.next_round;
 }
 
@@ -68,6 +70,7 @@ table_goes items s r old new e f goes same n h = record {
   };
   names = record { alias = h.names.alias; path_quality = h.names.path_quality; interval = h.names.interval; fits = h.names.fits };
   queues = record { own = h.queues.own; entries = h.queues.entries };
+  users = record { prompt = h.users.prompt; sessions = h.users.sessions };
   next_round = h.next_round;
 }
 
@@ -84,6 +87,7 @@ table_stays s r old new e f g n h = record {
   };
   names = record { alias = h.names.alias; path_quality = h.names.path_quality; interval = h.names.interval; fits = h.names.fits };
   queues = record { own = h.queues.own; entries = h.queues.entries };
+  users = record { prompt = h.users.prompt; sessions = h.users.sessions };
   next_round = h.next_round;
 }
 
@@ -104,6 +108,7 @@ set_goes to s new goes n h told =
       };
       names = record { alias = h.names.alias; path_quality = h.names.path_quality; interval = h.names.interval; fits = h.names.fits };
       queues = record { own = h.queues.own; entries = h.queues.entries };
+      users = record { prompt = h.users.prompt; sessions = h.users.sessions };
       next_round = h.next_round;
     }
 
@@ -122,6 +127,7 @@ set_unchanged s new same n h =
       };
       names = record { alias = h.names.alias; path_quality = h.names.path_quality; interval = h.names.interval; fits = h.names.fits };
       queues = record { own = h.queues.own; entries = h.queues.entries };
+      users = record { prompt = h.users.prompt; sessions = h.users.sessions };
       next_round = h.next_round;
     }
 
@@ -136,6 +142,20 @@ entered s s2 e f same n h =
       parts = record { links = h.parts.links; log = h.parts.log; rules = h.parts.rules; own = h.parts.own; call = h.parts.call; set = h.parts.set };
       names = record { alias = h.names.alias; path_quality = h.names.path_quality; interval = h.names.interval; fits = h.names.fits };
       queues = record { own = h.queues.own; entries = entries };
+      users = record { prompt = h.users.prompt; sessions = h.users.sessions };
+      next_round = h.next_round;
+    })
+
+-- ---- sessions
+
+pub with_sessions : (s s2 : Station) (ss : List Session) → s2.sessions.items ≡ map bare ss → s2 ≡ record s { sessions = s2.sessions }
+    → (n : State) → Holds s n → Holds s2 (record n { sessions = ss })
+with_sessions s s2 ss f same n h =
+    subst (λ (x : Station). Holds x (record n { sessions = ss })) (sym same) (record {
+      parts = record { links = h.parts.links; log = h.parts.log; rules = h.parts.rules; own = h.parts.own; call = h.parts.call; set = h.parts.set };
+      names = record { alias = h.names.alias; path_quality = h.names.path_quality; interval = h.names.interval; fits = h.names.fits };
+      queues = record { own = h.queues.own; entries = h.queues.entries };
+      users = record { prompt = h.users.prompt; sessions = f };
       next_round = h.next_round;
     })
 
@@ -183,14 +203,9 @@ with_own s s2 own f same n h =
       parts = record { links = h.parts.links; log = h.parts.log; rules = h.parts.rules; own = h.parts.own; call = h.parts.call; set = h.parts.set };
       names = record { alias = h.names.alias; path_quality = h.names.path_quality; interval = h.names.interval; fits = h.names.fits };
       queues = record { own = f; entries = h.queues.entries };
+      users = record { prompt = h.users.prompt; sessions = h.users.sessions };
       next_round = h.next_round;
     })
-
-pub none_by : (xs : List Written) → xs ≡ drop 1 xs → xs ≡ []
-none_by [] e = refl
-none_by (x ∷ xs) e =
-    let same : suc (length xs) ≡ length xs = ap (λ (ys : List Written). length ys) e in
-    absurd (omega (arith, same))
 
 -- where the node has no frames of its own, the first of the links is fetched
 pub fetched_of_links : (n : State) → n.own ≡ [] → fetch_frame n ≡ at_links fetch n

@@ -17,6 +17,7 @@ use Rattle.link_table.specs.Standing.{Kept, Made}
 use Rattle.route_table.specs.Table as routes
 use Rattle.node_core.specs.declared.station.Station.{Station}
 use Rattle.node_core.specs.Pumping.{pump, told_entries}
+use Rattle.node_core.specs.Sessions.{hear_circuits, hear_if}
 use Rattle.node_core.specs.Standing.{Holds}
 use Rattle.node_core.specs.States.{Entry, Of_set, State, next_hop}
 use Rattle.node_core.proofs.Calls.{after_call, call_leads, pumped_on}
@@ -50,6 +51,7 @@ does now s new n result q h same d leads =
         };
         names = record { alias = h.names.alias; path_quality = h.names.path_quality; interval = h.names.interval; fits = h.names.fits };
         queues = record { own = h.queues.own; entries = h.queues.entries };
+        users = record { prompt = h.users.prompt; sessions = h.users.sessions };
         next_round = h.next_round;
       };
     }
@@ -69,14 +71,14 @@ module _ (offers : OffersLeave) (takes : TakesLower) (less : TellsLess) where
 
 -- what was told is entered
 pub told_on : (now : ℕ) (n : State) (q : Pumped) (e : SetTold) → Some e ≡ q.told → pump now n ≡ pumped_on now q.told (after_call q n)
-    → pump now n ≡ pump now (record (called q n) { entries = n.entries ++ Of_set e ∷ [] })
+    → pump now n ≡ pump now (record (called q n) { entries = n.entries ++ Of_set e ∷ []; sessions = hear_circuits n.settings.prompt e n.sessions })
 told_on now n q e told leads =
     leads ∙ (ap (λ (o : Option SetTold). pumped_on now o (after_call q n)) (sym told)
-    ∙ ap (λ (o : Option SetTold). pump now (record (called q n) { entries = n.entries ++ told_entries o })) (sym told))
+    ∙ ap (λ (o : Option SetTold). pump now (record (called q n) { entries = n.entries ++ told_entries o; sessions = hear_if n.settings.prompt o n.sessions })) (sym told))
 
 -- nothing was told
 pub pumped_is : (now : ℕ) (n : State) (q : Pumped) → None ≡ q.told → pump now n ≡ pumped_on now q.told (after_call q n) → pump now n ≡ called q n
 pumped_is now n q told leads =
     leads ∙ (ap (λ (o : Option SetTold). pumped_on now o (after_call q n)) (sym told)
-    ∙ (ap (λ (o : Option SetTold). record (called q n) { entries = n.entries ++ told_entries o }) (sym told)
+    ∙ (ap (λ (o : Option SetTold). record (called q n) { entries = n.entries ++ told_entries o; sessions = hear_if n.settings.prompt o n.sessions }) (sym told)
     ∙ ap (λ (es : List Entry). record (called q n) { entries = es }) (append-nil n.entries)))

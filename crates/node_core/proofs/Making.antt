@@ -113,7 +113,7 @@ handed_ok t d (Err e) now = same_ok t
 handed_ok t d (Ok head) now =
     if_ok t (same_call head.origin t.own || not (same_call head.dest t.own)) _ _ (same_ok t) (read_ok t head.origin d _ now)
 
-connected_ok : (t : SetState) (dest : Callsign) (now : ℕ) → StepOk t (s.connected t dest now)
+pub connected_ok : (t : SetState) (dest : Callsign) (now : ℕ) → StepOk t (s.connected t dest now)
 connected_ok t dest now = if_ok t (same_call dest t.own || s.is_full t) _ _ (same_ok t) (made_ok t dest None None (requesting (s.new_pair t) t.user t.own t.config (min now COUNT_MAX)))
 
 called_ok : (t : SetState) (o : Option Holder) (call : Call) (now : ℕ) → StepOk t (s.called t o call now)

@@ -1,7 +1,7 @@
 -- A whole node, between two inputs.
-use Rattle.std.proofs.Common.{◌≡◌, ◌∙◌, ℕ, List, [], ◌∷◌, ◌++◌, ap, append-nil, append_assoc, arith, drop, length, map, refl, subst, sym}
+use Rattle.std.proofs.Common.{◌≡◌, ◌∙◌, ℕ, List, [], ◌∷◌, ◌++◌, ◌-◌, ap, append-nil, append_assoc, arith, drop, length, length-drop, map, refl, subst, sym, take}
 use Rattle.std.specs.Prelude.{Bool, true, false, Some, Result, Ok, Err, OnOk, OnErr}
-use Rattle.std.proofs.lemmas.List.{drop_at}
+use Rattle.std.proofs.lemmas.List.{drop_at, take_all}
 use Rattle.std.proofs.lemmas.Bool.Decides.{nat_tests}
 use Rattle.circuit_set.specs.Pumps.{Waiting, at_rest, is_drained}
 use Rattle.kiss_framing.specs.Deframing as kiss
@@ -23,6 +23,10 @@ use Rattle.node_core.specs.Receiving.{take_item}
 use Rattle.node_core.specs.Settling.{after_input}
 use Rattle.link_table.specs.declared.written.Written.{Written}
 use Rattle.node_core.specs.declared.entry.NodeEntry.{NodeEntry}
+use Rattle.circuit_set.specs.Inputs.{TellsLess}
+use Rattle.link_table.specs.Payloads.{OffersLeave, TakesLower}
+use Rattle.node_core.specs.Pumping.{pump}
+use Rattle.node_core.proofs.Resting.{pumped_dry}
 use Rattle.node_core.specs.Standing.{Goes, Holds, IsDrained, IsTold, entry_of, item_of}
 use Rattle.node_core.specs.States.{NodeState, State, at_links, fetch_entry, fetch_frame, fetch_own}
 use Rattle.node_core.proofs.Calls.{rest_of, some_pending}
@@ -33,6 +37,10 @@ told_by w none true e = rest_of w e
 told_by w none false e =
     let some = some_pending w e in
     absurd (grind (arith, nat_tests, none, some))
+
+-- nothing of a node's circuits is untold once they were pumped
+pub pumped_told : OffersLeave → TakesLower → TellsLess → (now : ℕ) (n : State) → IsTold (pump now n)
+pumped_told offers takes less now n = told_by (pump now n).set (pumped_dry offers takes less now n).pending (is_drained (pump now n).set) refl
 
 -- nothing of a node's circuits is untold after an input
 pub told_after : NothingLeftAfterInputs → (now : ℕ) (n : State) → IsTold (after_input now n)
@@ -94,6 +102,7 @@ entry_fetched s s2 e same n h =
       parts = record { links = h.parts.links; log = h.parts.log; rules = h.parts.rules; own = h.parts.own; call = h.parts.call; set = h.parts.set };
       names = record { alias = h.names.alias; path_quality = h.names.path_quality; interval = h.names.interval; fits = h.names.fits };
       queues = record { own = h.queues.own; entries = entries };
+      users = record { prompt = h.users.prompt; sessions = h.users.sessions };
       next_round = h.next_round;
     })
 
@@ -116,6 +125,10 @@ takes_both now a b c stream first second f g = record {
   adds = ap items (sym (append_assoc stream first second)) ∙ (g.adds ∙ (ap (λ (is : List Item). is ++ g.given) f.adds ∙ append_assoc (items stream) f.given g.given));
   taken = λ n h. rw (items_both now f.given g.given n) (g.taken (after_items now f.given n) (f.taken n h));
 }
+
+-- the bytes behind those that were taken in
+pub bytes_left : (taken : ℕ) (bytes : List ℕ) → take (length bytes - taken) (drop taken bytes) ≡ drop taken bytes
+bytes_left taken bytes = take_all (length bytes - taken) (drop taken bytes) (omega (arith, length-drop taken bytes))
 
 -- what was given is what is new
 pub given_is_new : (stream bytes : List ℕ) (given : List Item) → items (stream ++ bytes) ≡ items stream ++ given → new_items stream bytes ≡ given

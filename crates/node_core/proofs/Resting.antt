@@ -1,5 +1,5 @@
 -- A node comes to rest after each input.
-use Rattle.std.proofs.Common.{◌≡◌, ◌≤◌, ◌<◌, ◌-◌, ◌∙◌, ℕ, zero, suc, refl, ap, arith, length, drop, List, [], ◌∷◌}
+use Rattle.std.proofs.Common.{◌≡◌, ◌≤◌, ◌<◌, ◌-◌, ◌∙◌, ℕ, zero, suc, refl, ap, arith, drop, List, [], ◌∷◌}
 use Rattle.std.specs.Prelude.{Bool, true, false, nat_lt, not, ◌&&◌, ◌||◌, if◌then◌else◌}
 use Rattle.std.proofs.lemmas.Bool.Decides.{nat_tests}
 use Rattle.ax_address.specs.Callsign.{Callsign}
@@ -10,14 +10,13 @@ use Rattle.link_table.specs.Calls.{collect, tell_lost}
 use Rattle.link_table.specs.Payloads.{OffersLeave, TakesLower}
 use Rattle.link_table.specs.Table.{Table}
 use Rattle.node_core.specs.Circuits as circuits
-use Rattle.node_core.specs.Laws.{InputsSettle, NothingLeft, NothingLeftAfterInputs}
 use Rattle.node_core.specs.Links as links
 use Rattle.node_core.specs.Pumping as p
 use Rattle.node_core.specs.Settling as s
 use Rattle.node_core.specs.States.{State, next_hop}
 use Rattle.node_core.specs.Turns.{Falls}
-use Rattle.node_core.proofs.Parts.{Leaves, collect_payloads, lost_payloads, noticed_payloads, offer_leaves, taken, tells_less, untaken}
-use Rattle.node_core.proofs.Turns.{ends, goes_on, kept, rests, unfolds}
+use Rattle.node_core.proofs.Parts.{Leaves, collect_payloads, lost_payloads, offer_leaves, taken, tells_less, untaken}
+use Rattle.node_core.proofs.Turns.{ends, goes_on, kept, rests}
 
 module _ (offers : OffersLeave) (takes : TakesLower) (less : TellsLess) where
   -- what is told, and handed down, leaves what waits for the node
@@ -182,51 +181,15 @@ module _ (offers : OffersLeave) (takes : TakesLower) (less : TellsLess) where
   pub dry_is_quiet : (n : State) → n.links.pending.notices ≡ [] → circuits.pending n.set ≡ 0 → p.at_router n ≡ 0 → s.is_quiet n ≡ true
   dry_is_quiet n e f g = rw (e, f, g) refl
 
-  same_entries : (n : State) → s.has_told n n ≡ false
+  pub same_entries : (n : State) → s.has_told n n ≡ false
   same_entries n = grind (arith, nat_tests)
 
-  or_false : (a b c : Bool) → a ≡ false → b ≡ false → c ≡ false → ((a || b) || c) ≡ false
+  pub or_false : (a b c : Bool) → a ≡ false → b ≡ false → c ≡ false → ((a || b) || c) ≡ false
   or_false a b c e f g = rw (e, f, g) refl
 
   -- a turn of a quiet node that finds no text does nothing
   pub quiet_pumped : (now : ℕ) (n : State) → Quiet n → p.pump now (s.enter_notices n) ≡ s.enter_notices n
   quiet_pumped now n q = pumped_nothing now (s.enter_notices n) q.pending q.router
-
-  quiet_does_nothing : (now : ℕ) (n : State) → Quiet n → (s.drop_text now (p.pump now (s.enter_notices n))).did ≡ false → (s.turn now n).did ≡ false
-  quiet_does_nothing now n q e =
-      or_false _ _ _ q.notices (rw (quiet_pumped now n q) (same_entries (s.enter_notices n))) e
-
-  most_one : (b : Bool) → s.one_unless b < 2
-  most_one true = omega arith
-  most_one false = omega arith
-
-  -- after the set is pumped, nothing is left but texts
-  pub payloads_stay : (now : ℕ) (n : State) → links.payloads (p.pump now (s.enter_notices n)).links ≡ links.payloads n.links
-  payloads_stay now n = (pumped_dry now (s.enter_notices n)).payloads ∙ noticed_payloads n.links
-
-  pub then_quiet : (now : ℕ) (n : State) → s.is_quiet (p.pump now (s.enter_notices n)) ≡ true
-  then_quiet now n =
-      let dry = pumped_dry now (s.enter_notices n) in
-      dry_is_quiet (p.pump now (s.enter_notices n)) (dry.notices) dry.pending dry.router
-
-  turn_by : (now : ℕ) (n : State) (texts quiet : Bool) → (s.drop_text now (p.pump now (s.enter_notices n))).did ≡ texts → s.is_quiet n ≡ quiet
-      → (s.turn now n).did ≡ true → s.left (s.turn now n).after < s.left n
-  turn_by now n true quiet e f did =
-      let b : State = p.pump now (s.enter_notices n) in
-      let fewer : links.payloads (s.drop_texts now b).links < links.payloads b.links = dropped_some now b e in
-      let stay = payloads_stay now n in
-      let most = most_one (s.is_quiet (s.drop_texts now b)) in
-      omega (arith, fewer, stay, most)
-  turn_by now n false true e f did =
-      let none = quiet_does_nothing now n (quiet_is n f) e in
-      absurd (cc (did, none))
-  turn_by now n false false e f did =
-      let b : State = p.pump now (s.enter_notices n) in
-      rw (dropped_none now b e, then_quiet now n, f, payloads_stay now n) (omega arith)
-
-  -- each turn that does something leaves less to do
-  pub turn_falls : (now : ℕ) → Falls (s.turn now) (s.left)
-  turn_falls now n did = turn_by now n (s.drop_text now (p.pump now (s.enter_notices n))).did (s.is_quiet n) refl refl did
 
   -- ---- the pumping, call by call
 
@@ -248,61 +211,3 @@ module _ (offers : OffersLeave) (takes : TakesLower) (less : TellsLess) where
   -- where nothing does and something waits at the router, that is asked and the set pumped on
   pub asks_on : (now k : ℕ) (n : State) → nat_lt 0 (circuits.pending n.set) ≡ false → p.at_router n ≡ suc k → p.pump now n ≡ p.pump now (p.ask now n)
   asks_on now k n e f = asks_by now k n e f ((asked_one now n).one ∙ omega (arith, f))
-
-  -- ---- after an input
-
-  drop_set : (now : ℕ) (o n : State) (peers : List Callsign) → n.set ≡ o.set → (s.drop_first now peers n).after.set ≡ o.set
-  drop_set now o n [] e = e
-  drop_set now o n (peer ∷ peers) e = e
-
-  dropped_set : (now : ℕ) (n : State) → (s.drop_texts now n).set ≡ n.set
-  dropped_set now n = kept (s.drop_text now) (s.payloads) (λ m. m.set ≡ n.set) (λ m e. drop_set now n m (links.text_peers m.links) e) n refl
-
-  -- nothing is untold after a turn
-  pub turn_told : (now : ℕ) (n : State) → circuits.pending (s.turn now n).after.set ≡ 0
-  turn_told now n = rw (dropped_set now (p.pump now (s.enter_notices n))) (pumped_dry now (s.enter_notices n)).pending
-
-  -- nothing waits to be told after an input
-  pub after_input_told : (now : ℕ) (n : State) → circuits.pending (s.after_input now n).set ≡ 0
-  unfolding s.after_input
-  after_input_told now n =
-      let r = rests (s.turn now) (s.left) (turn_falls now) n in
-      rw (r.is, dropped_set now (p.pump now (s.enter_notices r.last))) (pumped_dry now (s.enter_notices r.last)).pending
-
-  -- ---- at rest
-
-  no_list : {A : Type 0} (xs : List A) → length xs ≡ 0 → xs ≡ []
-  no_list [] e = refl
-  no_list (x ∷ xs) e = absurd (omega (arith, e))
-
-  last_false : (a b c : Bool) → ((a || b) || c) ≡ false → c ≡ false
-  last_false true b c e = absurd (cc e)
-  last_false false true c e = absurd (cc e)
-  last_false false false c e = e
-
-  -- after an input nothing is left to be done
-  pub nothing_left : (now : ℕ) (n : State) → NothingLeft now (s.after_input now n)
-  unfolding s.after_input
-  nothing_left now n =
-      let r = rests (s.turn now) (s.left) (turn_falls now) n in
-      let m : State = p.pump now (s.enter_notices r.last) in
-      let dry = pumped_dry now (s.enter_notices r.last) in
-      let no_text : (s.drop_text now m).did ≡ false =
-      last_false (s.has_some r.last.links.pending.notices) (s.has_told (s.enter_notices r.last) m) (s.drop_text now m).did r.nothing in
-      let is : s.drop_texts now m ≡ m = dropped_none now m no_text in
-      rw (r.is, is) (record {
-        notices = dry.notices;
-        pending = dry.pending;
-        lost = no_list (m.links.pending.lost) (omega (arith, dry.router));
-        waiting = no_list (m.links.pending.waiting) (omega (arith, dry.router));
-        texts = no_text;
-      })
-
-  pub nothing_is_left : NothingLeftAfterInputs
-  nothing_is_left now n = nothing_left now n
-
-  pub inputs_settle : InputsSettle
-  inputs_settle now = record {
-    unfolds = unfolds (s.turn now) s.left (turn_falls now);
-    rests = rests (s.turn now) s.left (turn_falls now);
-  }

@@ -1,5 +1,5 @@
 -- What a user does at a node, before it settles. Own profile, but for what the layers' own definitions say.
-use Rattle.std.specs.Prelude.{ℕ, Bool, true, false, nat_lt, if◌then◌else◌, List, [], ◌∷◌, length, Result, Ok, Err}
+use Rattle.std.specs.Prelude.{ℕ, Bool, true, false, ◌&&◌, is_some, nat_lt, if◌then◌else◌, List, [], ◌∷◌, length, Result, Ok, Err}
 use Rattle.ax_address.specs.Callsign.{Callsign}
 use Rattle.ax_address.specs.CallOrder.{same_call}
 use Rattle.circuit_set.specs.declared.event.ConnectRefusal.{ConnectRefusal}
@@ -16,14 +16,15 @@ use Rattle.node_core.specs.declared.acts.ActDone.{ActDone}
 use Rattle.node_core.specs.declared.acts.ActDone.TheVariants.{Done, Made, Took}
 use Rattle.node_core.specs.declared.acts.ActRefusal.{ActRefusal}
 use Rattle.node_core.specs.declared.acts.ActRefusal.TheVariants as refusal
-use Rattle.node_core.specs.declared.acts.UserAct.{UserAct}
-use Rattle.node_core.specs.declared.acts.UserAct.TheVariants.{Round, LinkFail, Lock, Connect, Write, Take, Close}
 use Rattle.node_core.specs.Circuits as circuits
 use Rattle.node_core.specs.Refusals.{connect_refusal, write_refusal}
 use Rattle.node_core.specs.Links.{break_link}
 use Rattle.node_core.specs.States.{State, at_links, at_set, next_hop, with_items}
 use Rattle.node_core.specs.Receiving.{has_room, live_with}
 use Rattle.node_core.specs.Rounds.{do_round}
+use Rattle.node_core.specs.Serving.{is_served}
+use Rattle.node_core.specs.UserActs.{UserAct, Round, LinkFail, Lock, Connect, Write, Take, Close}
+use Rattle.node_core.specs.Users.{facts}
 
 -- what an act comes to: the answer, and the node then
 pub record Answered : Type 0 where
@@ -61,7 +62,7 @@ write_by (Err why) act n = refuse (write_refusal why) n
 
 -- the message that was taken. Where none waits, or no end of that number is held, the circuits stay as they are
 abbrev pub took : Result Bool NoEnd → List ℕ → Result ActDone ActRefusal
-took (Ok true) message = Ok (Took (record { items = message }))
+took (Ok true) message = Ok (Took message)
 took (Ok false) message = Err refusal.Nothing
 took (Err why) message = Err refusal.NoEnd
 
@@ -70,18 +71,33 @@ abbrev pub closed : Result (Unit {0}) NoEnd → Result ActDone ActRefusal
 closed (Ok _) = Ok Done
 closed (Err why) = Err refusal.NoEnd
 
+abbrev pub write : ℕ → ℕ → List ℕ → State → Answered
+write now id message n = write_by (write_answer (sets.end_of id n.set.set.ends) message) (sets.Calls id (sets.Writes message) now) n
+
+abbrev pub take : ℕ → ℕ → State → Answered
+take now id n =
+    let end = sets.end_of id n.set.set.ends in
+    record { answer = took (take_answer end) (message_at [] end); node = at_set (circuits.acts (sets.Calls id sets.Takes now)) n }
+
+abbrev pub close : ℕ → ℕ → State → Answered
+close now id n =
+    record {
+      answer = closed (close_answer (sets.end_of id n.set.set.ends));
+      node = at_set (circuits.acts (sets.Calls id sets.Closes now)) n;
+    }
+
+-- an end that is held and that a session serves, or has asked for, is none of the node's own user
+abbrev pub is_kept : ℕ → State → Bool
+is_kept id n = is_some (facts id n) && is_served id n.sessions
+
+abbrev pub unless_kept : ℕ → Answered → State → Answered
+unless_kept id a n = if is_kept id n then refuse refusal.Served n else a
+
 abbrev pub do_act : ℕ → UserAct → State → Answered
 do_act now Round n = done (do_round n)
 do_act now (LinkFail peer) n = done (fail_link peer n)
 do_act now (Lock dest alias neighbour quality) n = lock dest (logs.Lock dest alias neighbour quality) quality n
 do_act now (Connect dest) n = connect_by (connect_answer (next_hop n) dest n.set.set) (sets.Connect dest now) n
-do_act now (Write id message) n =
-    write_by (write_answer (sets.end_of id n.set.set.ends) message.items) (sets.Calls id (sets.Writes message.items) now) n
-do_act now (Take id) n =
-    let end = sets.end_of id n.set.set.ends in
-    record { answer = took (take_answer end) (message_at [] end); node = at_set (circuits.acts (sets.Calls id sets.Takes now)) n }
-do_act now (Close id) n =
-    record {
-      answer = closed (close_answer (sets.end_of id n.set.set.ends));
-      node = at_set (circuits.acts (sets.Calls id sets.Closes now)) n;
-    }
+do_act now (Write id message) n = unless_kept id (write now id message n) n
+do_act now (Take id) n = unless_kept id (take now id n) n
+do_act now (Close id) n = unless_kept id (close now id n) n

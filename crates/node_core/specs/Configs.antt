@@ -1,5 +1,5 @@
 -- The settings with which a node starts.
-use Rattle.std.specs.Prelude.{◌≡◌, ◌≤◌, ◌+◌, false, [], None}
+use Rattle.std.specs.Prelude.{◌≤◌, ◌+◌, [], None}
 use Rattle.ax_link.specs.State.{count_end}
 use Rattle.circuit_l4.specs.EndOpening as ends
 use Rattle.circuit_set.specs.Pairs.{IsPair}
@@ -12,14 +12,13 @@ use Rattle.route_table.specs.Held.{AreRules}
 use Rattle.node_core.specs.declared.config.NodeConfig.{NodeConfig}
 use Rattle.node_core.specs.States.{NodeState, State}
 
--- what each part asks of its settings; and that no user is served at a prompt, since that isn't built
+-- what each part asks of its settings
 pub record IsConfig (c : NodeConfig) : Type 0 where
   pub routes : AreRules c.routes
   pub ttl : 1 ≤ c.ttl
   pub ends : ends.IsConfig c.ends
   pub t1 : c.link.t1 ≤ count_end
   pub t3 : c.link.t3 ≤ count_end
-  pub prompt : c.prompt ≡ false
   pub interval : c.interval ≤ count_end
   pub pair : IsPair c.pair
   pub first : 1 ≤ c.first
@@ -29,13 +28,14 @@ pub record IsConfig (c : NodeConfig) : Type 0 where
 abbrev pub new_station : NodeConfig → State
 new_station c =
     record {
-      settings = record { call = c.call; alias = c.alias; rules = c.routes; path_quality = c.quality; interval = c.interval };
+      settings = record { call = c.call; alias = c.alias; rules = c.routes; path_quality = c.quality; prompt = c.prompt; interval = c.interval };
       log = [];
       links = no_links c.call c.links (width c.modulo128) c.link;
       set = at_rest (sets.started c.call c.ttl c.call c.ends c.pair c.first);
       next_round = None;
       own = [];
       entries = [];
+      sessions = [];
     }
 
 abbrev pub new_node : NodeConfig → NodeState

@@ -3,12 +3,12 @@ use Rattle.std.specs.Prelude.{ℕ, min, List, [], ◌∷◌, ◌++◌, length, d
 use Rattle.kiss_framing.specs.Stream as kiss
 use Rattle.node_core.specs.declared.acts.ActDone.{ActDone}
 use Rattle.node_core.specs.declared.acts.ActRefusal.{ActRefusal}
-use Rattle.node_core.specs.declared.acts.UserAct.{UserAct}
 use Rattle.node_core.specs.States.{NodeState, State}
 use Rattle.node_core.specs.Settling.{after_input}
 use Rattle.node_core.specs.Receiving.{take_item}
 use Rattle.node_core.specs.Rounds.{tick}
 use Rattle.node_core.specs.Acts.{Answered, do_act}
+use Rattle.node_core.specs.UserActs.{UserAct}
 
 -- a moment above 2^62 ms counts as 2^62 ms
 abbrev pub moment : ℕ → ℕ

@@ -1,17 +1,18 @@
 -- What holds of every node.
-use Rattle.std.specs.Prelude.{ℕ, ◌≡◌, false, []}
+use Rattle.std.specs.Prelude.{ℕ, ◌≡◌, []}
 use Rattle.node_core.specs.Pumping.{pending}
-use Rattle.node_core.specs.Settling.{after_input, drop_text, left, turn}
+use Rattle.node_core.specs.Settling.{after_input, left, serve_users, turn}
 use Rattle.node_core.specs.States.{State}
-use Rattle.node_core.specs.Turns.{Settles}
+use Rattle.node_core.specs.Turns.{IsAtRest, Settles}
 
--- nothing is left to be done: no notice is to be entered, nothing is to be told or routed, and no text waits
+-- nothing is left to be done: no notice is to be entered, nothing is to be told or routed, and when the users were served last, nothing
+-- could be done
 pub record NothingLeft (now : ℕ) (n : State) : Type 0 where
   pub notices : n.links.pending.notices ≡ []
   pub pending : pending n ≡ 0
   pub lost : n.links.pending.lost ≡ []
   pub waiting : n.links.pending.waiting ≡ []
-  pub texts : (drop_text now n).did ≡ false
+  pub served : IsAtRest (serve_users now) n
 
 -- after an input nothing is left to be done
 abbrev pub NothingLeftAfterInputs : Type 0

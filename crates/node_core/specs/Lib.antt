@@ -1,13 +1,20 @@
 pub mod Turns
 pub mod Links
 pub mod Circuits
+pub mod Sessions
 pub mod States
 pub mod Pumping
+pub mod Users
+pub mod Bridging
+pub mod Views
+pub mod Asking
+pub mod Serving
 pub mod Settling
 pub mod Broadcasts
 pub mod Receiving
 pub mod Rounds
 pub mod Refusals
+pub mod UserActs
 pub mod Acts
 pub mod Inputs
 pub mod Laws
@@ -16,3 +23,4 @@ pub mod Standing
 pub mod Kept
 pub mod Runs
 pub mod Fetching
+pub mod Bridged

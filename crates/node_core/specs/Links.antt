@@ -1,5 +1,5 @@
 -- The links of a node, as the machine of `link_table` has them. Each step stands shut here: no goal about a node sees through it.
-use Rattle.std.specs.Prelude.{ℕ, Bool, is_some, List, [], map}
+use Rattle.std.specs.Prelude.{ℕ, Bool, is_some, List, [], map, unwrap_or, Result}
 use Rattle.ax_address.specs.Callsign.{Callsign}
 use Rattle.ax_frame.specs.Frames.{Frame}
 use Rattle.l3_datagram.specs.CarrierCall.{Datagram}
@@ -7,8 +7,10 @@ use Rattle.l3_datagram.specs.declared.carrier.Offered.{Offered}
 use Rattle.link_table.specs.Calls as calls
 use Rattle.link_table.specs.Fetching as fetching
 use Rattle.link_table.specs.Payloads as kept
+use Rattle.link_table.specs.Sending as sending
 use Rattle.link_table.specs.Table.{Table}
 use Rattle.link_table.specs.Texts as texts
+use Rattle.link_table.specs.declared.text_refusal.TextRefusal.{TextRefusal}
 use Rattle.link_table.specs.declared.written.Written.{Written}
 
 unfoldable pub arrive : Frame → ℕ → Table → Table
@@ -32,6 +34,22 @@ take_text peer now t = texts.take_text peer now t
 -- the peers at whose link a text waits, in the order of the links
 unfoldable pub text_peers : Table → List Callsign
 text_peers t = texts.text_peers t.links
+
+-- the text that waits at the link with a peer; none is where none waits
+unfoldable pub text_with : Callsign → Table → List ℕ
+text_with peer t = unwrap_or (texts.text_with peer t) []
+
+unfoldable pub room : Callsign → Table → ℕ
+room peer t = texts.room peer t
+
+unfoldable pub text_answer : Callsign → List ℕ → Table → Result (Unit {0}) TextRefusal
+text_answer peer text t = sending.text_answer peer text t
+
+unfoldable pub send_text : Callsign → List ℕ → ℕ → Table → Table
+send_text peer text now t = sending.send_text peer text now t
+
+unfoldable pub close : Callsign → ℕ → Table → Table
+close peer now t = calls.close peer now t
 
 unfoldable pub has_text : Callsign → Table → Bool
 has_text peer t = is_some (texts.text_with peer t)

@@ -6,6 +6,7 @@ use Rattle.l3_datagram.specs.CarrierCall.{Parcel}
 use Rattle.link_table.specs.Calls.{collect, tell_lost}
 use Rattle.node_core.specs.Circuits as circuits
 use Rattle.node_core.specs.Links.{offer, offer_answer}
+use Rattle.node_core.specs.Sessions.{hear_if}
 use Rattle.node_core.specs.States.{Entry, Of_set, State, at_links, next_hop}
 use Rattle.node_core.specs.Turns as turns
 use Rattle.node_core.specs.Turns.{settle}
@@ -14,9 +15,15 @@ abbrev pub told_entries : Option SetTold → List Entry
 told_entries None = []
 told_entries (Some told) = Of_set told ∷ []
 
--- after a turn of the circuits, with what it told
+-- after a turn of the circuits, with what it told, which the sessions hear
 abbrev pub with_turned : Turned → State → State
-with_turned t n = record n { set = t.after; log = n.log ++ t.items; entries = n.entries ++ told_entries t.told }
+with_turned t n =
+    record n {
+      set = t.after;
+      log = n.log ++ t.items;
+      entries = n.entries ++ told_entries t.told;
+      sessions = hear_if n.settings.prompt t.told n.sessions;
+    }
 
 -- what they hand down is offered to the links
 abbrev pub take_turn : ℕ → Turn → State → State

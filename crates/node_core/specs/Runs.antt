@@ -7,11 +7,10 @@ use Rattle.circuit_set.specs.Pumps.{at_rest}
 use Rattle.circuit_set.specs.Books.{Book}
 use Rattle.circuit_set.specs.Runs.{IsAct, Step, events_at, events_of, net_run}
 use Rattle.circuit_set.specs.Sets.{Act, SetState, Told, Made}
-use Rattle.node_core.specs.declared.acts.UserAct.{UserAct}
-use Rattle.node_core.specs.declared.acts.UserAct.TheVariants.{Connect}
 use Rattle.node_core.specs.Inputs.{after_act, after_bytes, after_tick}
 use Rattle.node_core.specs.Standing.{IsTold}
 use Rattle.node_core.specs.States.{Entry, NodeState, Of_link, Of_set, Overflow, State}
+use Rattle.node_core.specs.UserActs.{UserAct, Connect}
 
 -- what is told of circuits in these entries, in order
 abbrev pub circuits_told : List Entry → List Told

@@ -1,18 +1,29 @@
--- What follows an input: the notices of the links are entered, the circuits are pumped, the texts of links are dropped; and again
--- while any of these did something. Own profile.
-use Rattle.std.specs.Prelude.{ℕ, ◌+◌, ◌*◌, Bool, true, false, not, ◌||◌, ◌&&◌, nat_lt, List, [], ◌∷◌, map, length}
+-- What follows an input: the notices of the links are entered, the circuits are pumped, the users are served; and again while any
+-- of these did something. Own profile.
+use Rattle.std.specs.Prelude.{ℕ, ◌+◌, ◌*◌, max, Bool, true, false, not, ◌||◌, ◌&&◌, nat_eq, nat_lt, if◌then◌else◌, suc, Option, Some, None, List, [], ◌∷◌, map, length}
 use Rattle.ax_address.specs.Callsign.{Callsign}
 use Rattle.ax_link.specs.declared.plain.LinkNotice.{LinkNotice}
+use Rattle.circuit_l4.specs.Receiving.{inbox}
+use Rattle.circuit_set.specs.Sets.{Holder}
+use Rattle.circuit_l4.specs.declared.piece.Piece.{Piece}
+use Rattle.node_core.specs.declared.sessions.session.Circuit.{Circuit}
+use Rattle.node_core.specs.declared.sessions.session.Stage.{Stage}
+use Rattle.node_core.specs.declared.sessions.session.Stage.TheVariants.{AtPrompt, Trying, Failed, Connected}
 use Rattle.node_core.specs.Links as links
 use Rattle.node_core.specs.Pumping.{at_router, pending, pump}
-use Rattle.node_core.specs.States.{Of_link, State, at_links, enter}
+use Rattle.node_core.specs.Serving.{serve_sessions}
+use Rattle.node_core.specs.Sessions.{Session, circuit_of, hear_links}
+use Rattle.node_core.specs.States.{Of_link, State, at_links, at_sessions, enter}
 use Rattle.node_core.specs.Turns.{Turn, settle}
 
+-- the sessions hear of them
 abbrev pub enter_notices : State → State
 enter_notices n =
-    at_links links.all_noticed (enter (map (λ (x : Callsign × LinkNotice). Of_link x.0 x.1) n.links.pending.notices) n)
+    at_links links.all_noticed
+    (at_sessions (hear_links n.links.pending.notices)
+    (enter (map (λ (x : Callsign × LinkNotice). Of_link x.0 x.1) n.links.pending.notices) n))
 
--- ---- a text that waits at a link and that nobody takes: it is taken and dropped, so that nothing behind it is held back
+-- ---- where no user is served, a text that waits at a link is taken and dropped, so that nothing behind it is held back
 abbrev pub drop_first : ℕ → List Callsign → State → Turn State
 drop_first now [] n = record { did = false; after = n }
 drop_first now (peer ∷ _) n = record { did = links.has_text peer n.links; after = at_links (links.take_text peer now) n }
@@ -26,6 +37,9 @@ payloads n = links.payloads n.links
 abbrev pub drop_texts : ℕ → State → State
 drop_texts now n = settle (drop_text now) payloads n
 
+abbrev pub drop_turn : ℕ → State → Turn State
+drop_turn now n = record { did = (drop_text now n).did; after = drop_texts now n }
+
 -- ---- the three parts
 abbrev pub has_some : {A : Type 0} → List A → Bool
 has_some xs = nat_lt 0 (length xs)
@@ -33,14 +47,17 @@ has_some xs = nat_lt 0 (length xs)
 abbrev pub has_told : State → State → Bool
 has_told old new = nat_lt (length old.entries) (length new.entries)
 
+abbrev pub serve_users : ℕ → State → Turn State
+serve_users now n = if n.settings.prompt then serve_sessions now n else drop_turn now n
+
 abbrev pub turn : ℕ → State → Turn State
 turn now n =
     let noticed : State = enter_notices n in
     let pumped : State = pump now noticed in
-    record {
-      did = (has_some n.links.pending.notices || has_told noticed pumped) || (drop_text now pumped).did;
-      after = drop_texts now pumped;
-    }
+    let served : Turn State = serve_users now pumped in
+    record { did = (has_some n.links.pending.notices || has_told noticed pumped) || served.did; after = served.after }
+
+-- ---- how much is left to do
 
 -- nothing is to be entered, told or routed
 abbrev pub is_quiet : State → Bool
@@ -50,9 +67,65 @@ abbrev pub one_unless : Bool → ℕ
 one_unless true = 0
 one_unless false = 1
 
--- what is left to do
+-- Each thing that is done leaves less to do, by these weights. A byte of a text may be a line that opens a circuit: that costs 3, and a
+-- line has a byte at least.
+abbrev pub byte_cost : ℕ
+byte_cost = 4
+
+-- a payload may be a text or a datagram, a datagram may bring a message, and a message may be a text of 8,192 bytes
+abbrev pub text_cost : ℕ
+text_cost = 8192 * byte_cost + 1
+
+abbrev pub filled : List (Option Piece) → ℕ
+filled [] = 0
+filled (None ∷ early) = filled early
+filled (Some p ∷ early) = suc (filled early)
+
+-- messages that came to an end and weren't taken, and fragments that came early
+abbrev pub end_messages : Holder → ℕ
+end_messages h = if h.gone then 0 else length (inbox h.end.receiving) + filled h.end.receiving.early
+
+abbrev pub is_among : ℕ → List ℕ → Bool
+is_among id [] = false
+is_among id (x ∷ xs) = nat_eq x id || is_among id xs
+
+-- The most at any end of a number, and that of each number: of two ends that a node has made none has the same.
+abbrev pub most_at : ℕ → List Holder → ℕ
+most_at id [] = 0
+most_at id (h ∷ hs) = if nat_eq h.id id then max (end_messages h) (most_at id hs) else most_at id hs
+
+abbrev pub messages_but : List ℕ → List Holder → ℕ
+messages_but seen [] = 0
+messages_but seen (h ∷ hs) =
+    (if is_among h.id seen then 0 else max (end_messages h) (most_at h.id hs)) + messages_but (h.id ∷ seen) hs
+
+abbrev pub messages : State → ℕ
+messages n = messages_but [] n.set.set.ends
+
+-- a reply that waits is to be told; so is what may still become of a circuit: that it stands, and that it is gone
+abbrev pub stage_replies : Stage → ℕ
+stage_replies AtPrompt = 0
+stage_replies (Trying c) = 2
+stage_replies (Failed c) = 0
+stage_replies (Connected c) = 1
+
+-- a circuit may be closed once
+abbrev pub is_unclosed : Option Circuit → ℕ
+is_unclosed None = 0
+is_unclosed (Some c) = if c.closed then 0 else 1
+
+abbrev pub session_work : Session → ℕ
+session_work s = byte_cost * length s.rest + length s.replies + stage_replies s.stage + is_unclosed (circuit_of s.stage)
+
+abbrev pub sessions_work : List Session → ℕ
+sessions_work [] = 0
+sessions_work (s ∷ ss) = session_work s + sessions_work ss
+
+abbrev pub work : State → ℕ
+work n = text_cost * (payloads n + length n.links.pending.waiting + messages n) + sessions_work n.sessions
+
 abbrev pub left : State → ℕ
-left n = 2 * payloads n + one_unless (is_quiet n)
+left n = 2 * work n + one_unless (is_quiet n)
 
 unfoldable pub after_input : ℕ → State → State
 after_input now n = settle (turn now) left n

@@ -1,5 +1,5 @@
 -- The state of a node: its settings, its parts, and what waits to be fetched. Own profile.
-use Rattle.std.specs.Prelude.{ℕ, List, [], ◌∷◌, ◌++◌, drop, Option}
+use Rattle.std.specs.Prelude.{ℕ, Bool, List, [], ◌∷◌, ◌++◌, drop, Option}
 use Rattle.ax_address.specs.Callsign.{Callsign}
 use Rattle.ax_address.specs.declared.alias.Alias.{Alias}
 use Rattle.ax_link.specs.declared.plain.LinkNotice.{LinkNotice}
@@ -11,12 +11,14 @@ use Rattle.route_table.specs.declared.route.RouteRules.{RouteRules}
 use Rattle.route_table.specs.Log.{Item}
 use Rattle.route_table.specs.Table as routes
 use Rattle.node_core.specs.Links.{all_fetched, sent_frames}
+use Rattle.node_core.specs.Sessions.{Session}
 
 pub record Settings : Type 0 where
   pub call : Callsign
   pub alias : Alias
   pub rules : RouteRules
   pub path_quality : ℕ
+  pub prompt : Bool  -- users are served at a prompt
   pub interval : ℕ  -- milliseconds from a round to the next; 0 where none is done by itself
 
 -- what is told: something happened at the circuits or at the link with a peer, or the table had no room for a broadcast
@@ -34,6 +36,7 @@ pub record State : Type 0 where
   pub next_round : Option ℕ  -- when the next round is due; none before the first tick
   pub own : List Written  -- what it has put out before what waits at its links
   pub entries : List Entry
+  pub sessions : List Session  -- the users at the prompt, in the order of their making
 
 -- a node: that, and all KISS bytes that came
 pub record NodeState : Type 0 where
@@ -59,6 +62,9 @@ with_items items n = record n { log = n.log ++ items }
 
 abbrev pub enter : List Entry → State → State
 enter entries n = record n { entries = n.entries ++ entries }
+
+abbrev pub at_sessions : (List Session → List Session) → State → State
+at_sessions step n = record n { sessions = step n.sessions }
 
 -- a frame of the node itself goes behind all that its links have put out
 abbrev pub put : Written → State → State

@@ -1,10 +1,25 @@
 -- A turn that is done again while it did something. Own profile.
-use Rattle.std.specs.Prelude.{ℕ, zero, suc, ◌≡◌, ◌<◌, Bool, true, false, if◌then◌else◌}
+use Rattle.std.specs.Prelude.{ℕ, zero, suc, ◌≡◌, ◌<◌, Bool, true, false, ◌||◌, if◌then◌else◌}
 
 -- what a turn comes to: whether it did something, and the state then
 pub record Turn (S : Type 0) : Type 0 where
   pub did : Bool
   pub after : S
+
+-- nothing is done
+abbrev pub idle : {S : Type 0} → S → Turn S
+idle s = record { did = false; after = s }
+
+abbrev pub done : {S : Type 0} → S → Turn S
+done s = record { did = true; after = s }
+
+-- the first of two that does something
+abbrev pub or_else : {S : Type 0} → (S → Turn S) → (S → Turn S) → S → Turn S
+or_else first next s = if (first s).did then first s else next (first s).after
+
+-- both, one after the other
+abbrev pub and_then : {S : Type 0} → Turn S → (S → Turn S) → Turn S
+and_then t next = record { did = t.did || (next t.after).did; after = (next t.after).after }
 
 -- a turn, and so many more at most while they do something
 abbrev pub turns : {S : Type 0} → (S → Turn S) → ℕ → S → S

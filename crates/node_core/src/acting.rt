@@ -1,28 +1,31 @@
 //! What a user does at a node.
-ghost use Rattle.std.specs.Prelude.{OnOk};
+ghost use Rattle.std.specs.Prelude.{◌≡◌, OnOk};
 ghost use Rattle.route_table.specs.Log as logs;
 ghost use Rattle.node_core.specs.Acts as acts;
 ghost use Rattle.node_core.specs.Inputs as inputs;
+ghost use Rattle.node_core.specs.States.{State};
 
+use crate::acts::wants_memory;
 use crate::station::Station;
-use crate::{ActDone, ActRefusal, UserAct};
+use crate::{ActDone, ActRefusal, TakenMessage, UserAct};
 use ax_address::{Alias, Call};
 use l3_datagram::Message;
 use radio_base::{Moment, NoMemory};
 
 impl Station {
-    ghost use Rattle.node_core.specs.Standing.{Acts, Goes, IsAnswer, IsDrained, StandsTold};
-    ghost use Rattle.node_core.specs.declared.acts.UserAct.TheVariants as user;
+    ghost use Rattle.node_core.specs.Standing.{Acts, Goes, IsAnswer, IsDrained, StandsTold, Told};
+    ghost use Rattle.node_core.specs.UserActs as user;
+    ghost use Rattle.node_core.specs.UserActs.{act_of};
 
     /// Does an act, or tells why not, and all that follows an input.
     pub(crate) fn act(&mut self, act: &UserAct, now: Moment) -> Result<ActDone, ActRefusal>
         requires drained { IsDrained self.old }
         requires stands { StandsTold self.old }
-        ensures acts { Acts (inputs.settled_act now.0 act.now) self.old self.new result }
+        ensures acts { Acts (inputs.settled_act now.0 (act_of act.now)) self.old self.new result }
         ensures drained { IsAnswer result → IsDrained self.new }
     {
         let outcome = self.do_act(act, now);
-        if outcome == Err(ActRefusal::NoMemory) {
+        if wants_memory(&outcome) {
             return outcome;
         }
         self.settle(now)?;
@@ -32,7 +35,7 @@ impl Station {
     /// Does an act, or tells why not.
     fn do_act(&mut self, act: &UserAct, now: Moment) -> Result<ActDone, ActRefusal>
         requires { IsDrained self.old }
-        ensures { Acts (acts.do_act now.0 act.now) self.old self.new result }
+        ensures { Acts (acts.do_act now.0 (act_of act.now)) self.old self.new result }
     {
         match act {
             UserAct::Round => {
@@ -50,9 +53,24 @@ impl Station {
                 quality,
             } => self.lock(dest, alias, neighbour, *quality),
             UserAct::Connect(dest) => self.connect(dest, now),
-            UserAct::Write { id, message } => self.write(*id, message, now),
-            UserAct::Take { id } => self.take(*id, now),
-            UserAct::Close { id } => self.close(*id, now),
+            UserAct::Write { id, message } => {
+                if self.is_kept_from(*id) {
+                    return Err(ActRefusal::Served);
+                }
+                self.write(*id, message, now)
+            }
+            UserAct::Take { id } => {
+                if self.is_kept_from(*id) {
+                    return Err(ActRefusal::Served);
+                }
+                self.take(*id, now)
+            }
+            UserAct::Close { id } => {
+                if self.is_kept_from(*id) {
+                    return Err(ActRefusal::Served);
+                }
+                self.close(*id, now)
+            }
         }
     }
 
@@ -90,23 +108,24 @@ impl Station {
     }
 
     /// Writes a message for the partner of an end.
-    fn write(&mut self, id: u64, message: &Message, now: Moment) -> Result<ActDone, ActRefusal>
+    fn write(&mut self, id: u64, message: &[u8], now: Moment) -> Result<ActDone, ActRefusal>
         requires { IsDrained self.old }
-        ensures { Acts (acts.do_act now.0 (user.Write id message.now)) self.old self.new result }
+        ensures { Acts (acts.write now.0 id message.now) self.old self.new result }
     {
-        self.set.write(id, message.as_slice(), now)?;
+        self.set.write(id, message, now)?;
         Ok(ActDone::Done)
     }
 
     /// Takes the first message that came to an end.
     fn take(&mut self, id: u64, now: Moment) -> Result<ActDone, ActRefusal>
         requires { IsDrained self.old }
-        ensures { Acts (acts.do_act now.0 (user.Take id)) self.old self.new result }
+        ensures { Acts (acts.take now.0 id) self.old self.new result }
     {
         let mut message = Message::new();
-        let taken = self.set.take(id, &mut message, now)?;
-        if taken {
-            Ok(ActDone::Took(message))
+        let waited = self.set.take(id, &mut message, now)?;
+        if waited {
+            let taken = TakenMessage::new(self.alloc, message.as_slice())?;
+            Ok(ActDone::Took(taken))
         } else {
             Err(ActRefusal::Nothing)
         }
@@ -115,9 +134,16 @@ impl Station {
     /// Closes the circuit of an end.
     fn close(&mut self, id: u64, now: Moment) -> Result<ActDone, ActRefusal>
         requires { IsDrained self.old }
-        ensures { Acts (acts.do_act now.0 (user.Close id)) self.old self.new result }
+        ensures { Acts (acts.close now.0 id) self.old self.new result }
     {
         self.set.close(id, now)?;
         Ok(ActDone::Done)
+    }
+
+    /// Whether an end is held, and a session serves it or has asked for its circuit.
+    fn is_kept_from(&self, id: u64) -> bool
+        ensures { (n : State) → Told self.now n → result ≡ acts.is_kept id n }
+    {
+        self.set.facts(id).is_some() && self.is_served(id)
     }
 }

@@ -1,14 +1,18 @@
 //! What a node's user can do, and what comes of it.
+ghost use Rattle.std.specs.Prelude.{◌≡◌};
+ghost use Rattle.node_core.specs.Standing as standing;
+
 use ax_address::{Alias, Call};
 use circuit_l4::WriteRefusal;
 use circuit_set::{ConnectRefusal, NoEnd, SetRefusal};
-use l3_datagram::Message;
 use radio_base::NoMemory;
 use route_table::LockRefusal;
+use std::alloc::Global;
+use std::marker::Model;
 
 /// What a node's user does. An end of a circuit is named by its number.
-#[derive(Debug, Drop, PartialEq, Eq)]
-pub enum UserAct {
+#[derive(Clone, Copy, Debug, PartialEq, Eq)]
+pub enum UserAct<'a> {
     /// The counts of the routes go down, and the routes are broadcast.
     Round,
     /// The link with a neighbour is broken, and with it the routes over it.
@@ -25,7 +29,7 @@ pub enum UserAct {
     /// A message is written for the partner of an end.
     Write {
         id: u64,
-        message: Message,
+        message: &'a [u8],
     },
     /// The first message that came to an end is taken.
     Take {
@@ -37,15 +41,56 @@ pub enum UserAct {
     },
 }
 
+/// A message that was taken from an end.
+#[derive(Debug, Drop)]
+pub struct TakenMessage {
+    bytes: Vec<u8>,
+}
+
+impl Model for TakenMessage {
+    ghost use Rattle.std.specs.Prelude.{ℕ, List};
+
+    ghost Value = { List ℕ };
+
+    ghost view = { λ m. m.bytes.items };
+}
+
+impl TakenMessage {
+    ghost use Rattle.std.specs.Prelude.{◌≡◌, IfOk};
+
+    /// A message of these bytes.
+    pub(crate) fn new(alloc: Global, bytes: &[u8]) -> Result<TakenMessage, NoMemory>
+        ensures { IfOk result (λ message. message ≡ bytes.now) }
+    {
+        Ok(TakenMessage {
+            bytes: bytes.to_vec(alloc)?,
+        })
+    }
+
+    /// Its bytes.
+    pub fn as_slice(&self) -> &[u8]
+        ensures { result.now ≡ self.now }
+    {
+        &self.bytes
+    }
+
+    /// Its bytes, without a copy.
+    pub fn into_vec(self) -> Vec<u8>
+        ensures { result.items ≡ self }
+    {
+        self.bytes
+    }
+}
+
 /// What was done.
-#[derive(Debug, Drop, PartialEq, Eq)]
+#[derive(Debug, Drop)]
 pub enum ActDone {
     /// What was asked for.
     Done,
     /// An end of this number was made.
     Made(u64),
     /// This message was taken.
-    Took(Message),
+    Took(TakenMessage),
 }
 
 /// Why an act isn't done. But for want of memory it changes nothing.
@@ -65,6 +110,13 @@ pub enum ActRefusal {
     Write(WriteRefusal),
     /// Memory ran out, now or in an earlier call.
     NoMemory,
+}
+
+/// Whether memory ran out.
+pub(crate) fn wants_memory(outcome: &Result<ActDone, ActRefusal>) -> bool
+    ensures { result ≡ standing.wants_memory outcome.now }
+{
+    matches!(outcome, Err(ActRefusal::NoMemory))
 }
 
 impl From<NoMemory> for ActRefusal {

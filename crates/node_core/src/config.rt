@@ -25,7 +25,7 @@ pub struct NodeConfig {
     pub modulo128: bool,
     /// The settings of its links.
     pub link: LinkConfig,
-    /// Whether users are served at a prompt: not built yet, so it has to be false.
+    /// Whether users are served at a prompt; else the texts that come over links are dropped.
     pub prompt: bool,
     /// How long after a round the next one is due; 0 where no round is done by itself.
     pub interval: u64,

@@ -1,6 +1,7 @@
 //! What the definitions promise by themselves.
 ghost use Rattle.circuit_set.specs.Inputs.{TellsLess};
 ghost use Rattle.link_table.specs.Payloads.{CountsPayloads, OffersLeave, TakesLower};
+ghost use Rattle.node_core.specs.Bridged.{SessionsBounded, SessionsBridged};
 ghost use Rattle.node_core.specs.Fetching.{FetchesAllEntries, FetchesAllFrames, FramesInOrder};
 ghost use Rattle.node_core.specs.Runs.{ActsRun, BytesRun, InputsAreSteps, TicksRun};
 ghost use Rattle.node_core.specs.Laws.{InputsSettle, NothingLeftAfterInputs};
@@ -22,6 +23,7 @@ pub fn inputs_are_circuit_runs()
     ensures acts { ActsRun }
 {
     settles();
+    ax_address::laws::call_texts();
 }
 
 /// Inputs of the set at one node are steps of a run of several nodes' sets: they tell what they tell of that set alone, and change no other.
@@ -35,6 +37,17 @@ pub fn fetching_empties()
     ensures frames { FetchesAllFrames }
     ensures entries { FetchesAllEntries }
 {}
+
+/// Of every session of every node that inputs may have led to: while its circuit stands, what was taken from the user was written to
+/// the circuit, one message each and in order, but for what is left of the text that was taken last; and what was taken from the
+/// circuit was given to the user, in order. What keeps a message from that is said in `Bridged`. And a session keeps at most 8,192
+/// bytes and two replies.
+pub fn bridged()
+    ensures bridged { SessionsBridged }
+    ensures bounded { SessionsBounded }
+{
+    parts();
+}
 
 /// What it rests on: a datagram that is handed down brings nothing up, a text that is taken leaves fewer payloads, which the code
 /// counts alike, and each thing that the circuits tell leaves less untold.

@@ -12,10 +12,11 @@ pub mod laws;
 mod node;
 mod receiving;
 mod rounds;
+mod sessions;
 mod settling;
 mod station;
 
-pub use acts::{ActDone, ActRefusal, UserAct};
+pub use acts::{ActDone, ActRefusal, TakenMessage, UserAct};
 pub use broadcasts::broadcast_frame;
 pub use config::NodeConfig;
 pub use entry::NodeEntry;

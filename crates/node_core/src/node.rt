@@ -1,5 +1,5 @@
 //! A whole node.
-ghost use Rattle.std.specs.Prelude.{◌≡◌, ◌<◌, ◌≤◌, ◌↔◌, ◌++◌, ◌∷◌, [], ℕ, List, min, IfOk, IfSome, IfErr, OnOk, OnErr, IsErr, IsErrOf, IsTrue, slice_get, take};
+ghost use Rattle.std.specs.Prelude.{◌≡◌, ◌<◌, ◌≤◌, ◌↔◌, ◌++◌, ℕ, List, IfOk, IfSome, OnOk, OnErr, IsErr, IsErrOf, IsTrue, length, slice_get, take};
 ghost use Rattle.std.specs.Option.{option_map};
 ghost use Rattle.ax_link.specs.State.{count_end};
 ghost use Rattle.link_table.specs.Calls as calls;
@@ -12,6 +12,7 @@ ghost use Rattle.node_core.specs.Standing.{IsDrained, StandsForSome};
 ghost use Rattle.node_core.specs.States as states;
 ghost use Rattle.node_core.specs.States.{NodeState};
 
+use crate::acts::wants_memory;
 use crate::station::Station;
 use crate::{ActDone, ActRefusal, NodeConfig, NodeEntry, UserAct, laws};
 use ax_address::{Call, Path};
@@ -58,11 +59,11 @@ impl Node {
     ghost use Rattle.circuit_set.specs.Sets as sets;
     ghost use Rattle.node_core.specs.Standing.{IsAnswer, entry_of};
     ghost use Rattle.node_core.specs.Kept.{NodeGoes, NodeStands, circuits_of, entries_left, frames_left};
+    ghost use Rattle.node_core.specs.UserActs.{act_of};
     ghost use Rattle.node_core.specs.declared.acts.ActRefusal.TheVariants as refusals;
     ghost use Rattle.link_table.specs.declared.path_refusal.PathRefusal.TheVariants as path_refusals;
 
-    /// A node without links, circuits and routes. The conditions on its settings are those of its parts, and that `prompt` is
-    /// false.
+    /// A node without links, circuits, users and routes. The conditions on its settings are those of its parts.
     pub fn new(alloc: Global, config: NodeConfig) -> Result<Node, NoMemory>
         requires { IsConfig config }
         ensures { IfOk result (λ node. NodeStands node (new_node config)) }
@@ -133,8 +134,8 @@ impl Node {
 
     /// Does what the user wants, or tells why not.
     pub fn act(&mut self, act: &UserAct, now: Moment) -> Result<ActDone, ActRefusal>
-        ensures answer { IsAnswer result → (n : NodeState) → NodeStands self.old n → result ≡ inputs.act_answer now.0 act.now n }
-        ensures goes { IsAnswer result → NodeGoes (inputs.after_act now.0 act.now) self.old self.new }
+        ensures answer { IsAnswer result → (n : NodeState) → NodeStands self.old n → result ≡ inputs.act_answer now.0 (act_of act.now) n }
+        ensures goes { IsAnswer result → NodeGoes (inputs.after_act now.0 (act_of act.now)) self.old self.new }
         ensures memory { IsErrOf result refusals.NoMemory ↔ IsTrue self.new.spent }
         ensures spent { IsTrue self.old.spent → self.new ≡ self.old }
     {
@@ -144,7 +145,7 @@ impl Node {
         self.spent = true;
         laws::settles();
         let outcome = self.station.act(act, moment(now));
-        self.spent = outcome == Err(ActRefusal::NoMemory);
+        self.spent = wants_memory(&outcome);
         outcome
     }
 
@@ -200,32 +201,37 @@ fn take_bytes(
     ensures taken { OnOk result ((stream : List ℕ) → kiss.StandsFor deframer.old stream → Takes now.0 station.old station.new stream bytes.now) }
     ensures drained { OnOk result (IsDrained station.old → IsDrained station.new) }
 {
-    for byte in bytes {
-        take_byte(deframer, station, *byte, now)?;
+    let mut taken = 0;
+    while taken < bytes.len() {
+        taken += take_some(deframer, station, &bytes[taken..], now)?;
     }
     Ok(())
 }
 
-/// Takes in a KISS byte, and the item that it ends, if it ends one.
-fn take_byte(
+/// Takes in bytes up to the first that ends an item, and that item, or takes in all where none does. Answers with how many it
+/// took in.
+fn take_some(
     deframer: &mut Deframer,
     station: &mut Station,
-    byte: u8,
+    bytes: &[u8],
     now: Moment,
-) -> Result<(), NoMemory>
+) -> Result<usize, NoMemory>
     requires { StandsForSome station.old }
-    ensures fed { OnOk result ((stream : List ℕ) → kiss.StandsFor deframer.old stream → kiss.StandsFor deframer.new (stream ++ byte ∷ [])) }
-    ensures taken { OnOk result ((stream : List ℕ) → kiss.StandsFor deframer.old stream → Takes now.0 station.old station.new stream (byte ∷ [])) }
+    ensures fed { IfOk result (λ count. (stream : List ℕ) → kiss.StandsFor deframer.old stream → kiss.StandsFor deframer.new (stream ++ take count bytes.now)) }
+    ensures taken { IfOk result (λ count. (stream : List ℕ) → kiss.StandsFor deframer.old stream → Takes now.0 station.old station.new stream (take count bytes.now)) }
     ensures drained { OnOk result (IsDrained station.old → IsDrained station.new) }
     ensures some { OnOk result (StandsForSome station.new) }
+    ensures within { IfOk result (λ count. count ≤ length bytes.now) }
+    ensures moves { IfOk result (λ count. 0 < length bytes.now → 0 < count) }
 {
-    match deframer.feed(byte) {
+    let (count, item) = deframer.feed_until_item(bytes);
+    match item {
         Some(item) => {
             station.take_item(&item, now)?;
             station.settle(now)?;
-            Ok(())
+            Ok(count)
         }
-        None => Ok(()),
+        None => Ok(count),
     }
 }
 

@@ -1,5 +1,5 @@
-//! What follows an input: the notices of the links are entered, the circuits are pumped, the texts of links are dropped; and
-//! again while any of these did something.
+//! What follows an input: the notices of the links are entered, the circuits are pumped, the users are served; and again while any
+//! of these did something.
 ghost use Rattle.std.specs.Prelude.{◌≡◌, ◌<◌, IfOk, IfSome, OnOk, length, slice_get};
 ghost use Rattle.link_table.specs.Calls as calls;
 ghost use Rattle.node_core.specs.Links as links;
@@ -16,7 +16,7 @@ use l3_datagram::Message;
 use radio_base::{Moment, NoMemory};
 
 impl Station {
-    ghost use Rattle.node_core.specs.Standing.{Did, Goes, Holds, IsDrained, StandsForSome};
+    ghost use Rattle.node_core.specs.Standing.{Did, Goes, Holds, IsDrained, IsTold, StandsForSome, StandsTold, Turns};
 
     /// All that follows an input.
     pub(crate) fn settle(&mut self, now: Moment) -> Result<(), NoMemory>
@@ -41,8 +41,8 @@ impl Station {
     {
         let noticed = self.enter_notices()?;
         let told = self.pump(now)?;
-        let dropped = self.drop_texts(now)?;
-        Ok(noticed | told | dropped)
+        let served = self.serve_users(now)?;
+        Ok(noticed | told | served)
     }
 
     /// Enters what happened at the links. Whether anything did.
@@ -52,6 +52,7 @@ impl Station {
     {
         let before = self.entries.len();
         while let Some(told) = self.next_notice() {
+            self.hear_link(&told.0, told.1);
             self.entries.push_back(NodeEntry::Link(told.0, told.1))?;
         }
         Ok(before < self.entries.len())
@@ -68,17 +69,32 @@ impl Station {
     }
 
     /// Pumps the circuits until they tell nothing more. Whether they told anything.
-    fn pump(&mut self, now: Moment) -> Result<bool, NoMemory>
+    pub(crate) fn pump(&mut self, now: Moment) -> Result<bool, NoMemory>
         ensures did { IfOk result (Did (λ n. settling.has_told n (pumping.pump now.0 n)) self.old) }
         ensures goes { OnOk result (Goes (pumping.pump now.0) self.old self.new) }
+        ensures told { OnOk result ((n : State) → IsTold (pumping.pump now.0 n)) }
         ensures drained { OnOk result (IsDrained self.new) }
     {
         laws::parts();
         let before = self.entries.len();
         while let Some(event) = self.set.pump(now)? {
+            self.hear_circuits(&event)?;
             self.entries.push_back(NodeEntry::Set(event))?;
         }
         Ok(before < self.entries.len())
+    }
+
+    /// Serves the users at the prompt; where none are served, the texts of links are dropped. Whether there was anything.
+    fn serve_users(&mut self, now: Moment) -> Result<bool, NoMemory>
+        requires { StandsTold self.old }
+        ensures { IfOk result (Turns (settling.serve_users now.0) self.old self.new) }
+    {
+        if self.prompt {
+            self.serve_sessions(now)
+        } else {
+            let dropped = self.drop_texts(now)?;
+            Ok(dropped)
+        }
     }
 
     /// Takes each text that waits at a link and drops it, link by link, since nobody reads it. Whether any waited.

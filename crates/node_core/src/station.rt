@@ -6,6 +6,7 @@ ghost use Rattle.node_core.specs.Links.{sent_frames};
 ghost use Rattle.node_core.specs.States as states;
 ghost use Rattle.node_core.specs.States.{State};
 
+use crate::sessions::Session;
 use crate::{NodeConfig, NodeEntry};
 use ax_address::{Alias, Call};
 use circuit_set::CircuitSet;
@@ -29,6 +30,10 @@ pub(crate) struct Station {
     /// The frames that go out before what waits at the links.
     pub(crate) own: VecDeque<Written>,
     pub(crate) entries: VecDeque<NodeEntry>,
+    /// Whether users are served at a prompt.
+    pub(crate) prompt: bool,
+    /// The users at the prompt, in the order of their making.
+    pub(crate) sessions: Vec<Session>,
 }
 
 impl Station {
@@ -67,6 +72,8 @@ impl Station {
             set,
             own: VecDeque::new(alloc),
             entries: VecDeque::new(alloc),
+            prompt: config.prompt,
+            sessions: Vec::new(alloc),
         })
     }
 
@@ -95,9 +102,10 @@ impl Station {
         ensures left { IfSome result (λ _. station_frames self.new < station_frames self.old) }
         ensures drained { IsDrained self.old → IsDrained self.new }
     {
-        match self.own.pop_front() {
-            Some(frame) => Some(frame),
-            None => self.next_sent(),
+        if self.own.is_empty() {
+            self.next_sent()
+        } else {
+            self.own.pop_front()
         }
     }
 

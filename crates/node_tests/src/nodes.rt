@@ -7,7 +7,6 @@ use ax_link::LinkConfig;
 use circuit_l4::{EndConfig, EndNotice, Pair};
 use circuit_set::SetEvent;
 use kiss_framing::enframe;
-use l3_datagram::Message;
 use link_table::{Written, WrittenAs};
 use node_core::{ActDone, ActRefusal, Node, NodeConfig, NodeEntry, UserAct};
 use radio_base::{Moment, NoMemory};
@@ -131,22 +130,31 @@ fn flow(rt: &impl Abort, a: &mut Node, b: &mut Node) -> Result<(), NoMemory> {
     rt.abort()
 }
 
-/// An act after which this is done.
-fn done(rt: &impl Abort, node: &mut Node, act: &UserAct, done: ActDone) {
-    assert!(rt; node.act(act, NOW) == Ok(done));
+/// An act that is done.
+fn done(rt: &impl Abort, node: &mut Node, act: &UserAct) {
+    assert!(rt; matches!(node.act(act, NOW), Ok(ActDone::Done)));
+}
+
+/// An act that isn't done, since this hinders it.
+fn refused(rt: &impl Abort, node: &mut Node, act: &UserAct, why: ActRefusal) {
+    let refusal = match node.act(act, NOW) {
+        Ok(_) => None,
+        Err(refusal) => Some(refusal),
+    };
+    assert!(rt; refusal == Some(why));
+}
+
+/// A circuit is asked for with a node: its end is the first that is made.
+fn connect(rt: &impl Abort, node: &mut Node, dest: Call) {
+    let outcome = node.act(&UserAct::Connect(dest), NOW);
+    assert!(rt; matches!(outcome, Ok(ActDone::Made(1))));
 }
 
 /// Both have heard a round of the other.
 fn meet(rt: &impl Abort, a: &mut Node, b: &mut Node) -> Result<(), NoMemory> {
-    done(rt, a, &UserAct::Round, ActDone::Done);
-    done(rt, b, &UserAct::Round, ActDone::Done);
+    done(rt, a, &UserAct::Round);
+    done(rt, b, &UserAct::Round);
     flow(rt, a, b)
-}
-
-fn hello() -> Message {
-    let mut message = Message::new();
-    let _ = message.try_extend_from_slice(b"hello");
-    message
 }
 
 /// The first end has opened its circuit, with a window of 4.
@@ -190,17 +198,17 @@ fn carry_a_message(
     modulo128: bool,
 ) -> Result<(), NoMemory> {
     meet(rt, a, b)?;
-    done(rt, a, &UserAct::Connect(b_call()), ActDone::Made(1));
+    connect(rt, a, b_call());
     flow(rt, a, b)?;
     assert!(rt; b.circuits().router().carrier().is_128(&a_call()) == modulo128);
     assert!(rt; has_opened(a) && has_opened(b));
-    assert!(rt; b.act(&UserAct::Take { id: 1 }, NOW) == Err(ActRefusal::Nothing));
+    refused(rt, b, &UserAct::Take { id: 1 }, ActRefusal::Nothing);
     write_hello(rt, a);
     flow(rt, a, b)?;
-    done(rt, b, &UserAct::Take { id: 1 }, ActDone::Took(hello()));
-    done(rt, a, &UserAct::Close { id: 1 }, ActDone::Done);
+    take_hello(rt, b);
+    done(rt, a, &UserAct::Close { id: 1 });
     flow(rt, a, b)?;
-    assert!(rt; a.act(&UserAct::Close { id: 1 }, NOW) == Err(ActRefusal::NoEnd));
+    refused(rt, a, &UserAct::Close { id: 1 }, ActRefusal::NoEnd);
     assert!(rt; a.facts(1).is_none() && b.facts(1).is_none());
     Ok(())
 }
@@ -208,9 +216,16 @@ fn carry_a_message(
 fn write_hello(rt: &impl Abort, node: &mut Node) {
     let act = UserAct::Write {
         id: 1,
-        message: hello(),
+        message: b"hello",
     };
-    done(rt, node, &act, ActDone::Done);
+    done(rt, node, &act);
+}
+
+fn take_hello(rt: &impl Abort, node: &mut Node) {
+    match node.act(&UserAct::Take { id: 1 }, NOW) {
+        Ok(ActDone::Took(message)) => assert!(rt; message.as_slice() == b"hello".as_slice()),
+        _ => rt.abort(),
+    }
 }
 
 #[test]
@@ -221,11 +236,11 @@ fn a_round_is_broadcast_and_heard(rt: HostRuntime) -> Result<(), Fail> {
 
 /// Whoever hears the round has a route, which is gone with the link.
 fn hear_a_round(rt: &impl Abort, a: &mut Node, b: &mut Node) -> Result<(), NoMemory> {
-    done(rt, a, &UserAct::Round, ActDone::Done);
+    done(rt, a, &UserAct::Round);
     carry(rt, a, b)?;
     assert!(rt; b.routes().next_hop(&a_call()) == Some(a_call()));
     assert!(rt; a.routes().next_hop(&b_call()).is_none());
-    done(rt, b, &UserAct::LinkFail(a_call()), ActDone::Done);
+    done(rt, b, &UserAct::LinkFail(a_call()));
     assert!(rt; b.routes().next_hop(&a_call()).is_none());
     Ok(())
 }
@@ -244,8 +259,8 @@ fn set_up_again(rt: &impl Abort, a: &mut Node) -> Result<(), NoMemory> {
         neighbour: b_call(),
         quality: 192,
     };
-    done(rt, a, &lock, ActDone::Done);
-    done(rt, a, &UserAct::Connect(b_call()), ActDone::Made(1));
+    done(rt, a, &lock);
+    connect(rt, a, b_call());
     let lost = a.next_frame();
     assert!(rt; lost.is_some() && a.next_frame().is_none());
     a.tick(Moment(2999))?;
@@ -271,7 +286,7 @@ fn repeat(rt: &impl Abort, a: &mut Node, b: &mut Node, c: &mut Node) -> Result<(
         reserved: 3,
     });
     assert!(rt; a.set_path(&c_call(), &path).is_ok());
-    done(rt, a, &UserAct::Connect(c_call()), ActDone::Made(1));
+    connect(rt, a, c_call());
     assert!(rt; all_hear(rt, a, b, c)? == WrittenAs::Modulo8);
     assert!(rt; c.next_frame().is_none());
     assert!(rt; all_hear(rt, b, a, c)? == WrittenAs::AsItCame);

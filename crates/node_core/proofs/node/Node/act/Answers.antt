@@ -5,6 +5,7 @@ use Rattle.node_core.specs.Inputs.{after_act}
 use Rattle.node_core.specs.Kept.{IsSound, NodeStands, kept}
 use Rattle.node_core.specs.Standing.{IsAnswer}
 use Rattle.node_core.specs.States.{State}
+use Rattle.node_core.specs.UserActs.{act_of}
 use Rattle.node_core.specs.declared.station.Station.{Station}
 use Rattle.node_core.proofs.Answering.{answer_is, is_answer}
 use Rattle.node_core.proofs.Nodes.{sound_on, stands_on}
@@ -12,24 +13,24 @@ use Rattle.node_core.proofs.node.Node.act.Goals as goal
 
 pub invariant_of-self : goal.invariant_of-self
 invariant_of-self c unspent =
-    let answered : IsAnswer c.act-outcome.result = is_answer c.act-outcome.result (sym unspent ∙ c.eq-self-inside.ensures) in
+    let answered : IsAnswer c.act-outcome.result = is_answer c.act-outcome.result (sym unspent ∙ c.wants_memory-self-inside.ensures) in
     let s : Station = c.act-outcome.new.self in
     subst (λ (b : Bool). IsSound (kept c.self.inside.deframer s b)) (sym unspent)
-    (sound_on c.settles.ensures.nothing (λ (m : ℕ) (n : State). (do_act m c.args.act.now n).node) c.args.now.0 c.moment.result.0
+    (sound_on c.settles.ensures.nothing (λ (m : ℕ) (n : State). (do_act m (act_of c.args.act.now) n).node) c.args.now.0 c.moment.result.0
     (kept c.self.inside.deframer c.self.inside.station c.self.inside.spent) s c.moment.ensures.value
     (λ n h told. (c.act-outcome.ensures.acts answered n h told).stands) (c.act-outcome.ensures.drained answered) (c.self.invariant c.if-self.false))
 
 pub returns-clause-answer : goal.returns-clause-answer
 returns-clause-answer c answered n h =
     let k = subst (λ k. NodeStands k n) (sym c.self.view_is) h in
-    subst (λ (m : ℕ). c.act-outcome.result ≡ (do_act m c.args.act.now n.station).answer) c.moment.ensures.value
+    subst (λ (m : ℕ). c.act-outcome.result ≡ (do_act m (act_of c.args.act.now) n.station).answer) c.moment.ensures.value
     (c.act-outcome.ensures.acts answered n.station k.station k.told).answer
 
 pub returns-clause-goes : goal.returns-clause-goes
 returns-clause-goes c answered n h =
     let s : Station = c.act-outcome.new.self in
-    let unspent : c.eq-self-inside.result ≡ false = c.eq-self-inside.ensures ∙ answer_is c.act-outcome.result answered in
-    subst (λ (b : Bool). NodeStands (kept c.self.inside.deframer s b) (after_act c.args.now.0 c.args.act.now n)) (sym unspent)
-    (stands_on c.settles.ensures.nothing (λ (m : ℕ) (n : State). (do_act m c.args.act.now n).node) c.args.now.0 c.moment.result.0
+    let unspent : c.wants_memory-self-inside.result ≡ false = c.wants_memory-self-inside.ensures ∙ answer_is c.act-outcome.result answered in
+    subst (λ (b : Bool). NodeStands (kept c.self.inside.deframer s b) (after_act c.args.now.0 (act_of c.args.act.now) n)) (sym unspent)
+    (stands_on c.settles.ensures.nothing (λ (m : ℕ) (n : State). (do_act m (act_of c.args.act.now) n).node) c.args.now.0 c.moment.result.0
     (kept c.self.inside.deframer c.self.inside.station c.self.inside.spent) s c.moment.ensures.value
     (λ n h told. (c.act-outcome.ensures.acts answered n h told).stands) n (subst (λ k. NodeStands k n) (sym c.self.view_is) h))

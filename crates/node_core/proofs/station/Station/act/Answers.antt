@@ -4,7 +4,7 @@ use Rattle.node_core.proofs.station.Station.act.Goals as goal
 
 pub settle-requires : goal.settle-requires
 settle-requires c =
-    let answered : IsAnswer c.do_act-outcome.result = is_answer c.do_act-outcome.result c.if-eq.ensures in
+    let answered : IsAnswer c.do_act-outcome.result = is_answer c.do_act-outcome.result c.if-wants_memory.ensures in
     let s = c.requires.stands in
     (_, (c.do_act-outcome.ensures answered s.0 s.1.0 s.1.1).stands)
 

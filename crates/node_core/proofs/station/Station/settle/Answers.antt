@@ -1,6 +1,6 @@
 use Rattle.std.proofs.Common.{◌∙◌, ◌<◌, sym}
 use Rattle.node_core.specs.Settling.{after_input, left, turn}
-use Rattle.node_core.proofs.Resting.{turn_falls, turn_told}
+use Rattle.node_core.proofs.Settled.{turn_falls, turn_told}
 use Rattle.node_core.proofs.Turns.{ends, goes_on}
 use Rattle.node_core.proofs.Weighing.{same_left}
 use Rattle.node_core.proofs.station.Station.settle.Goals as goal

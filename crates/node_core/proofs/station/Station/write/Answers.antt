@@ -18,10 +18,10 @@ returns-in_err-write c =
     let p = err_from_is_err_and c.from_residual.result c.from_residual.ensures.1 in
     rw (p.1, p.2) (λ a n h told.
     let s = c.args.self.now in
-    let act = sets.Calls c.args.id (sets.Writes c.args.message.now.items) c.args.now.0 in
+    let act = sets.Calls c.args.id (sets.Writes c.args.message.now) c.args.now.0 in
     let why = c.in_err-write.field-0.0 in
     let s2 = record s { set = c.write.new.self } in
-    let answer = rw c.as_slice.ensures.value at (c.in_err-write.ensures.answer n.set.set (subst (SetStands s.set) told h.parts.set)) in
+    let answer = c.in_err-write.ensures.answer n.set.set (subst (SetStands s.set) told h.parts.set) in
     subst (λ x. Answers s2 (Err (write_refusal why)) (write_by x act n)) answer
     (record { answer = refl; stands = set_unchanged s c.write.new.self c.in_err-write.ensures.err n h }))
 
@@ -29,9 +29,9 @@ pub returns : goal.returns
 unfolding acts
 returns c = λ a n h told.
     let s = c.args.self.now in
-    let act = sets.Calls c.args.id (sets.Writes c.args.message.now.items) c.args.now.0 in
+    let act = sets.Calls c.args.id (sets.Writes c.args.message.now) c.args.now.0 in
     let s2 = record s { set = c.write.new.self } in
-    let answer = rw c.as_slice.ensures.value at (c.in_ok-write.ensures.answer n.set.set (subst (SetStands s.set) told h.parts.set)) in
-    let goes = rw c.as_slice.ensures.value at c.in_ok-write.ensures.goes in
+    let answer = c.in_ok-write.ensures.answer n.set.set (subst (SetStands s.set) told h.parts.set) in
+    let goes = c.in_ok-write.ensures.goes in
     subst (λ x. Answers s2 (Ok Done) (write_by x act n)) answer
     (record { answer = refl; stands = set_steps (inputs.acts act) s c.write.new.self goes n h told })

@@ -1,0 +1,234 @@
+-- A node whose sessions are sound and own what they own, as its circuits take inputs, are pumped and are written to.
+use Rattle.std.proofs.Common.{◌≡◌, ◌≤◌, ◌<◌, ◌+◌, ◌⊎◌, inl, inr, ℕ, zero, suc, refl, sym, subst, arith, drop, length, List, [], ◌∷◌, ◌++◌, slice_get}
+use Rattle.std.specs.Prelude.{Bool, true, false, not, ◌&&◌, ◌^◌, nat_eq, nat_le, nat_lt, if◌then◌else◌, Option, Some, None, Result, Ok, Err}
+use Rattle.std.proofs.lemmas.Bool.Decides.{nat_tests}
+use Rattle.ax_address.specs.Callsign.{Callsign}
+use Rattle.circuit_l4.specs.EndOpening.{facts_of}
+use Rattle.circuit_l4.specs.EndState.{State as End, is_up}
+use Rattle.circuit_l4.specs.EndTable as ends
+use Rattle.circuit_l4.specs.Halves.{first_or}
+use Rattle.circuit_l4.specs.Receiving.{inbox}
+use Rattle.circuit_l4.specs.Sending.{total as all_fragments, unacknowledged}
+use Rattle.circuit_l4.specs.declared.plain.WriteRefusal.TheVariants as refusal
+use Rattle.circuit_reassembly.specs.Fragments.{fragments_of}
+use Rattle.circuit_set.specs.CircuitSets.{facts_at}
+use Rattle.circuit_set.specs.Pumps.{Of}
+use Rattle.circuit_set.specs.Sets as sets
+use Rattle.circuit_set.specs.Sets.{Holder, SetDone, SetState, Told, end_of, set_step}
+use Rattle.circuit_set.specs.Standing as answers
+use Rattle.circuit_set.specs.declared.event.SetRefusal.{SetRefusal}
+use Rattle.circuit_set.specs.declared.event.SetRefusal.TheVariants as set_refusal
+use Rattle.link_table.specs.declared.text_refusal.TextRefusal.{TextRefusal}
+use Rattle.node_core.specs.declared.sessions.session.User.{User}
+use Rattle.node_core.specs.declared.sessions.session.User.TheVariants.{AtEnd, AtLink}
+use Rattle.node_core.specs.Circuits as circuits
+use Rattle.node_core.specs.Links as links
+use Rattle.node_core.specs.Pumping.{at_router, pump}
+use Rattle.node_core.specs.Runs.{MadeFrom}
+use Rattle.node_core.specs.Sessions.{Session, hear_circuits}
+use Rattle.node_core.specs.States.{State, at_set}
+use Rattle.node_core.specs.Users as users
+use Rattle.node_core.specs.Users.{Outcome, Taken, Exhausts, at_session, changed, session_at}
+use Rattle.node_core.proofs.Holders.{Any, Keeps, Other, closes_keep, comes_keeps, takes_keep, writes_keep}
+use Rattle.node_core.proofs.Soundness.{Every, Hears, Placed, Sound, changed_every, every_at, heard_every, heard_place, sound_hears, sound_new}
+use Rattle.node_core.proofs.Making.{step_ok}
+use Rattle.node_core.proofs.Owning.{Fewer, Less, Owns, changed_less, mades, none_made, opens_by, owned_by, owns_fewer, owns_input, owns_told, total}
+use Rattle.node_core.proofs.Pumped.{dry_keeps, pump_keeps}
+use Rattle.node_core.proofs.Unclosed.{IsMessage, Messages}
+
+abbrev pub All : SetState → List Told → List Session → Type 0
+All set ts ss = Owns set ts ss × Every Sound ss
+
+abbrev pub Fine : State → Type 0
+Fine n = All n.set.set n.set.untold n.sessions
+
+-- ---- the pumping
+
+tell_all : (prompt : Bool) (set : SetState) (t : Told) (ts : List Told) (ss : List Session) → All set (t ∷ ts) ss → All set ts (hear_circuits prompt (Of t) ss)
+tell_all prompt set t ts ss a = (owns_told prompt set t ts ss a.0, heard_every Sound sound_hears sound_new prompt t ss a.1)
+
+come_all : (set : SetState) (ts : List Told) (ss : List Session) (d : List ℕ) (now : ℕ) → All set ts ss → All (set_step set (sets.Comes d now)).set (ts ++ (set_step set (sets.Comes d now)).told) ss
+come_all set ts ss d now a =
+    (owns_input Any set (set_step set (sets.Comes d now)) ts ss a.0 (comes_keeps set d now) (step_ok set (sets.Comes d now) tt).made (λ id some. tt) (λ id some. tt), a.1)
+
+pub pumped : (now : ℕ) (n : State) → Fine n → Fine (pump now n)
+pumped now n f = pump_keeps All tell_all come_all now n f
+
+-- where nothing waits at the router the ends stay, and a session keeps what it keeps as it hears
+abbrev Stays : SetState → (Session → Type 0) → ℕ → SetState → List Told → List Session → Type 0
+Stays old P nth set ts ss = (set ≡ old) × Placed P nth ss
+
+pub record Dry (P : Session → Type 0) (nth : ℕ) (old new : State) : Type 0 where
+  pub set : new.set.set ≡ old.set.set
+  pub placed : Placed P nth new.sessions
+
+pub pumped_dry : (P : Session → Type 0) → Hears P → (now nth : ℕ) (n : State) → at_router n ≡ 0 → Placed P nth n.sessions → Dry P nth n (pump now n)
+pumped_dry P h now nth n e p =
+    let x = dry_keeps (Stays n.set.set P nth) (λ prompt set t ts ss a. (a.0, heard_place P h prompt t nth ss a.1)) now n e (refl, p) in
+    record { set = x.0; placed = x.1 }
+
+pub pumped_placed : (P : Session → Type 0) → Hears P → (now nth : ℕ) (n : State) → Placed P nth n.sessions → Placed P nth (pump now n).sessions
+pumped_placed P h now nth n p =
+    pump_keeps (λ set ts ss. Placed P nth ss) (λ prompt set t ts ss a. heard_place P h prompt t nth ss a) (λ set ts ss d now a. a) now n p
+
+-- ---- sessions
+
+pub fewer_at : (nth : ℕ) (f : Session → Session) (ss : List Session) (o : Option Session) → slice_get ss nth ≡ o → ((x : Session) → Less x (f x)) → Fewer ss (changed o nth f ss)
+fewer_at nth f ss o e less = record {
+  owned = λ id. changed_less (owned_by id) f ss nth o e (λ x. (less x).owned id);
+  opens = λ id. changed_less (opens_by id) f ss nth o e (λ x. (less x).opens id);
+}
+
+pub session_fine : (nth : ℕ) (f : Session → Session) (n : State) → ((x : Session) → session_at nth n ≡ Some x → Sound x → Sound (f x)) → ((x : Session) → Less x (f x)) → Fine n → Fine (at_session nth f n)
+session_fine nth f n on less a =
+    let o = slice_get n.sessions nth in (
+      owns_fewer n.set.set n.set.untold n.sessions _ a.0 (fewer_at nth f n.sessions o refl less),
+      changed_every Sound f n.sessions nth o (λ x e. on x e (every_at Sound n.sessions nth x a.1 e)) a.1,
+    )
+
+-- ---- inputs of the circuits
+
+pub acted : (a : sets.Act) (n : State) → Keeps Any n.set.set (set_step n.set.set a).set → MadeFrom n.set.set.number (set_step n.set.set a).told (set_step n.set.set a).set.number
+    → Fine n → Fine (at_set (circuits.acts a) n)
+unfolding circuits.acts
+acted a n k made f = (owns_input Any n.set.set (set_step n.set.set a) n.set.untold n.sessions f.0 k made (λ id some. tt) (λ id some. tt), f.1)
+
+pub takes_fine : (now id : ℕ) (n : State) → Fine n → Fine (at_set (circuits.acts (sets.Calls id sets.Takes now)) n)
+takes_fine now id n f = acted (sets.Calls id sets.Takes now) n (takes_keep n.set.set now id) (step_ok n.set.set (sets.Calls id sets.Takes now) tt).made f
+
+pub writes_fine : (now id : ℕ) (text : List ℕ) (n : State) → Fine n → Fine (at_set (circuits.acts (sets.Calls id (sets.Writes text) now)) n)
+writes_fine now id text n f = acted (sets.Calls id (sets.Writes text) now) n (writes_keep n.set.set text now id) (step_ok n.set.set (sets.Calls id (sets.Writes text) now) tt).made f
+
+same_number : (set : SetState) (now : ℕ) (o : Option Holder) → (sets.called set o sets.Closes now).set.number ≡ set.number
+same_number set now None = refl
+same_number set now (Some h) = by h.gone
+  where
+    by : (b : Bool) → (if b then sets.untold set else sets.goes_to set h [] (ends.step h.end ends.Close now)).set.number ≡ set.number
+    by true = refl
+    by false = refl
+
+other_by : (id k : ℕ) (b : Bool) → nat_eq id k ≡ b → (id ≡ k → ⊥) → nat_eq id k ≡ false
+other_by id k true e f = absurd (f (grind (arith, nat_tests, e)))
+other_by id k false e f = e
+
+-- an end is closed that is none of those that are to stay open
+pub closes_fine : (now id : ℕ) (n : State) → total (opens_by id) n.sessions + mades id n.set.untold ≡ 0 → Fine n → Fine (at_set (circuits.acts (sets.Calls id sets.Closes now)) n)
+unfolding circuits.acts
+closes_fine now id n none f =
+    let set = n.set.set in
+    let d : SetDone = set_step set (sets.Calls id sets.Closes now) in
+    let made : MadeFrom set.number d.told d.set.number = (step_ok set (sets.Calls id sets.Closes now) tt).made in
+    let still : MadeFrom set.number d.told set.number = subst (MadeFrom set.number d.told) (same_number set now (end_of id set.ends)) made in (
+      owns_input (Other id) set d n.set.untold n.sessions f.0 (closes_keep set now id) made
+          (λ k some. other_by id k (nat_eq id k) refl (λ same. let gone : total (opens_by k) n.sessions + mades k n.set.untold ≡ 0 = subst (λ j. total (opens_by j) n.sessions + mades j n.set.untold ≡ 0) same none in absurd (omega (arith, some, gone))))
+          (λ k some. let gone = none_made set.number d.told still k in absurd (omega (arith, some, gone))),
+      f.1,
+    )
+
+pub close_fine : (now id : ℕ) (n : State) → total (opens_by id) n.sessions + mades id n.set.untold ≡ 0 → Fine n → Fine (users.close now id n)
+close_fine now id n none f = pumped now (at_set (circuits.acts (sets.Calls id sets.Closes now)) n) (closes_fine now id n none f)
+
+written_fine : (now id : ℕ) (text : List ℕ) (r : Result (Unit {0}) SetRefusal) (n : State) → Fine n → Fine (users.written r (sets.Calls id (sets.Writes text) now) n)
+written_fine now id text (Ok _) n f = writes_fine now id text n f
+written_fine now id text (Err why) n f = f
+
+pub wrote_fine : (now id : ℕ) (text : List ℕ) (n : State) → Fine n → Fine (users.write_to now id text n)
+wrote_fine now id text n f =
+    let m : State = users.written (users.write_answer id text n) (sets.Calls id (sets.Writes text) now) n in
+    pumped now m (written_fine now id text (users.write_answer id text n) n f)
+
+sent_fine : (now : ℕ) (peer : Callsign) (text : List ℕ) (r : Result (Unit {0}) TextRefusal) (n : State) → Fine n → Fine (users.sent r peer text now n)
+sent_fine now peer text (Ok _) n f = f
+sent_fine now peer text (Err why) n f = f
+
+said_to : (o : Option User) (now : ℕ) (text : List ℕ) (n : State) → Fine n → Fine (users.say_if o now text n)
+said_to None now text n f = f
+said_to (Some (AtEnd id)) now text n f = wrote_fine now id text n f
+said_to (Some (AtLink peer)) now text n f = sent_fine now peer text (links.text_answer peer text n.links) n f
+
+pub said : (now nth : ℕ) (text : List ℕ) (n : State) → Fine n → Fine (users.say now nth text n)
+said now nth text n f = said_to (users.listener (session_at nth n) n) now text n f
+
+-- what a session keeps as it hears, it keeps while something is said
+written_sessions : (now id : ℕ) (text : List ℕ) (r : Result (Unit {0}) SetRefusal) (n : State) → (users.written r (sets.Calls id (sets.Writes text) now) n).sessions ≡ n.sessions
+written_sessions now id text (Ok _) n = refl
+written_sessions now id text (Err why) n = refl
+
+sent_sessions : (now : ℕ) (peer : Callsign) (text : List ℕ) (r : Result (Unit {0}) TextRefusal) (n : State) → (users.sent r peer text now n).sessions ≡ n.sessions
+sent_sessions now peer text (Ok _) n = refl
+sent_sessions now peer text (Err why) n = refl
+
+placed_to : (P : Session → Type 0) → Hears P → (o : Option User) (now nth : ℕ) (text : List ℕ) (n : State) → Placed P nth n.sessions → Placed P nth (users.say_if o now text n).sessions
+placed_to P h None now nth text n p = p
+placed_to P h (Some (AtEnd id)) now nth text n p =
+    let r = users.write_answer id text n in
+    let m : State = users.written r (sets.Calls id (sets.Writes text) now) n in
+    pumped_placed P h now nth m (subst (Placed P nth) (sym (written_sessions now id text r n)) p)
+placed_to P h (Some (AtLink peer)) now nth text n p = subst (Placed P nth) (sym (sent_sessions now peer text (links.text_answer peer text n.links) n)) p
+
+pub placed_said : (P : Session → Type 0) → Hears P → (now nth at : ℕ) (text : List ℕ) (n : State) → Placed P nth n.sessions → Placed P nth (users.say now at text n).sessions
+placed_said P h now nth at text n p = placed_to P h (users.listener (session_at at n) n) now nth text n p
+
+-- ---- what is taken, and written
+
+first_message : (k : ℕ) (ms : List (List ℕ)) → Messages ms → 0 < length (drop k ms) → IsMessage (first_or [] (drop k ms))
+first_message zero [] a some = absurd (omega (arith, some))
+first_message (suc k) [] a some = absurd (omega (arith, some))
+first_message zero (m ∷ ms) a some = a.0
+first_message (suc k) (m ∷ ms) a some = first_message k ms a.1 some
+
+pub took_message : (o : Option Holder) → users.took (answers.take_answer o) ≡ true → ((h : Holder) → o ≡ Some h → Messages h.end.receiving.received) → IsMessage (answers.message_at [] o)
+took_message None e a = absurd (cc e)
+took_message (Some h) e a = by h.gone e
+  where
+    by : (b : Bool) → users.took (if b then Err (record {}) else Ok (nat_lt 0 (length (inbox h.end.receiving)))) ≡ true → IsMessage (if b then [] else first_or [] (inbox h.end.receiving))
+    by true f = absurd (cc f)
+    by false f = first_message h.end.receiving.taken h.end.receiving.received (a h refl) (grind (arith, nat_tests, f))
+
+-- a text with room for it goes, unless the numbers have come to their end
+abbrev pub Goes : Outcome → Type 0
+Goes o = (o ≡ Taken) ⊎ (o ≡ Exhausts)
+
+by_tests : (up closing empty long full ended : Bool) → up ≡ true → closing ≡ false → empty ≡ false → long ≡ false → full ≡ false
+    → Goes (users.wrote_by (answers.by_write (
+    if not up then Err refusal.NotUp
+    else if closing then Err refusal.Closing
+    else if empty then Err refusal.Empty
+    else if long then Err refusal.TooLong
+    else if full then Err refusal.QueueFull
+    else if ended then Err refusal.Exhausted
+    else Ok tt)))
+by_tests true false false false false true a b c d e = inr refl
+by_tests true false false false false false a b c d e = inl refl
+by_tests false closing empty long full ended a b c d e = absurd (cc a)
+by_tests true true empty long full ended a b c d e = absurd (cc b)
+by_tests true false true long full ended a b c d e = absurd (cc c)
+by_tests true false false true full ended a b c d e = absurd (cc d)
+by_tests true false false false true ended a b c d e = absurd (cc e)
+
+and_both : (a b : Bool) → (a && b) ≡ true → (a ≡ true) × (b ≡ true)
+and_both true b e = (refl, e)
+and_both false b e = absurd (cc e)
+
+pub write_goes : (o : Option Holder) (message : List ℕ) → users.room_by (facts_at o) ≡ true → ((h : Holder) → o ≡ Some h → h.end.closing ≡ false) → IsMessage message
+    → Goes (users.wrote_by (answers.write_answer o message))
+write_goes None message room unshut m = absurd (cc room)
+write_goes (Some h) message room unshut m = by h.gone room
+  where
+    s : End
+    s = h.end
+
+    up : (is_up s.phase && nat_le (unacknowledged s.sending) 57344) ≡ true → Goes (users.wrote_by (answers.by_write (ends.write_answer s message)))
+    up r =
+        let both = and_both (is_up s.phase) (nat_le (unacknowledged s.sending) 57344) r in
+        let queued : unacknowledged s.sending ≤ 57344 = grind (arith, nat_tests, both.1) in
+        let some : nat_eq (length message) 0 ≡ false = grind (arith, nat_tests, m.0) in
+        let short : nat_lt 8192 (length message) ≡ false = grind (arith, nat_tests, m.1) in
+        let most : unacknowledged s.sending + length message ≤ 65536 = omega (arith, queued, m.1) in
+        let room : nat_lt 65536 (unacknowledged s.sending + length message) ≡ false = grind (arith, nat_tests, most) in
+        by_tests (is_up s.phase) s.closing (nat_eq (length message) 0) (nat_lt 8192 (length message)) (nat_lt 65536 (unacknowledged s.sending + length message))
+        (nat_lt (2 ^ 62) (all_fragments s.sending + length (fragments_of message))) both.0 (unshut h refl) some short room
+
+    by : (b : Bool) → users.room_by (if b then None else Some (facts_of s)) ≡ true → Goes (users.wrote_by (if b then Err set_refusal.NoEnd else answers.by_write (ends.write_answer s message)))
+    by true r = absurd (cc r)
+    by false r = up r

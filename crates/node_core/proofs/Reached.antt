@@ -1,0 +1,303 @@
+-- Every node that inputs may have led to is fine.
+use Rattle.std.proofs.Common.{◌≡◌, ℕ, refl, sym, ap, subst, arith, List, [], ◌∷◌, ◌++◌, append-nil, append_assoc}
+use Rattle.std.specs.List.{AllByRecursion}
+use Rattle.std.specs.Prelude.{Bool, true, false, ◌||◌, ◌&&◌, ◌==◌, is_some, nat_le, nat_lt, if◌then◌else◌, Option, Some, None, Result, Ok, Err}
+use Rattle.ax_address.specs.Callsign.{Callsign}
+use Rattle.ax_address.specs.CallOrder.{same_call}
+use Rattle.ax_frame.specs.declared.head.Head.{Head}
+use Rattle.ax_frame.specs.declared.frame.FrameRefusal.{FrameRefusal}
+use Rattle.ax_frame.specs.Frames.{Frame}
+use Rattle.ax_frame.specs.Read.{read_head_at, read_at}
+use Rattle.circuit_l4.specs.EndOpening.{facts_of}
+use Rattle.circuit_l4.specs.EndTable.{Close, step}
+use Rattle.circuit_set.specs.CircuitSets.{facts_at}
+use Rattle.circuit_set.specs.Inputs.{TellsLess, connect_answer, runs, ticks_of}
+use Rattle.circuit_set.specs.Sets as sets
+use Rattle.circuit_set.specs.Sets.{Act, Holder, SetDone, SetState, Told, set_step}
+use Rattle.circuit_set.specs.Standing.{write_answer}
+use Rattle.circuit_set.specs.declared.event.ConnectRefusal.{ConnectRefusal}
+use Rattle.circuit_set.specs.declared.event.SetRefusal.{SetRefusal}
+use Rattle.digi_path.specs.Paths.{Action, For_me, Repeat, Not_yet, Heard}
+use Rattle.kiss_framing.specs.Stream as kiss
+use Rattle.link_table.specs.Payloads.{OffersLeave, TakesLower}
+use Rattle.link_table.specs.declared.written.Written.{Written}
+use Rattle.nodes_broadcast.specs.declared.nodes.NodesRefusal.{NodesRefusal}
+use Rattle.nodes_broadcast.specs.Nodes.{Broadcast}
+use Rattle.nodes_broadcast.specs.Reading.{nodes_at}
+use Rattle.route_table.specs.Broadcast.{to_broadcast}
+use Rattle.route_table.specs.Log as logs
+use Rattle.route_table.specs.Log.{Item}
+use Rattle.node_core.specs.declared.acts.ActRefusal.TheVariants as refusal
+use Rattle.node_core.specs.declared.config.NodeConfig.{NodeConfig}
+use Rattle.node_core.specs.Acts as acts
+use Rattle.node_core.specs.Acts.{Answered}
+use Rattle.node_core.specs.Bridged.{Acts, Bytes, EverySession, Fetches_entry, Fetches_frame, Input, IsBounded, IsBridged, Paths, SessionsBounded, SessionsBridged, Ticks, after, after_all}
+use Rattle.node_core.specs.Broadcasts.{is_broadcast, round_frames}
+use Rattle.node_core.specs.Circuits as circuits
+use Rattle.node_core.specs.Configs.{new_node, new_station}
+use Rattle.node_core.specs.Inputs.{after_item, after_items, moment, new_items}
+use Rattle.node_core.specs.Links as links
+use Rattle.node_core.specs.Pumping.{pump}
+use Rattle.node_core.specs.Receiving as receiving
+use Rattle.node_core.specs.Rounds as rounds
+use Rattle.node_core.specs.Serving.{is_at_end, is_circuit, is_served, serve_sessions}
+use Rattle.node_core.specs.Sessions.{Session, circuit_of}
+use Rattle.node_core.specs.Settling as s
+use Rattle.node_core.specs.Standing.{IsTold}
+use Rattle.node_core.specs.States.{NodeState, State, at_links, at_set, fetch_own, next_hop, put, with_items}
+use Rattle.node_core.specs.UserActs as user
+use Rattle.node_core.specs.UserActs.{UserAct}
+use Rattle.node_core.specs.Users.{facts}
+use Rattle.node_core.proofs.Faithful.{sessions_fine}
+use Rattle.node_core.proofs.Fine.{All, Fine, acted, closes_fine, pumped, takes_fine, writes_fine}
+use Rattle.node_core.proofs.Holders.{Any, connects_keeps, ticks_keep}
+use Rattle.node_core.proofs.Soundness.{Every, Sound, links_every, sound_leaves}
+use Rattle.node_core.proofs.Making.{connected_ok, step_ok}
+use Rattle.node_core.proofs.Nodes.{items_told, told_after}
+use Rattle.node_core.proofs.Owning.{Owns, all_opens, links_fewer, mades, owned_by, owns_fewer, owns_input, total}
+use Rattle.node_core.proofs.Resting.{pumped_dry}
+use Rattle.node_core.proofs.Settled.{nothing_left}
+use Rattle.node_core.proofs.Turns.{kept}
+
+-- ---- the settling
+
+module _ (offers : OffersLeave) (takes : TakesLower) (less : TellsLess) where
+  noticed : (n : State) → Fine n → Fine (s.enter_notices n)
+  noticed n f =
+      let ns = n.links.pending.notices in
+      (owns_fewer n.set.set n.set.untold n.sessions _ f.0 (links_fewer ns n.sessions), links_every Sound sound_leaves ns n.sessions f.1)
+
+  drop_fine : (now : ℕ) (n : State) (peers : List Callsign) → Fine n → Fine (s.drop_first now peers n).after
+  drop_fine now n [] f = f
+  drop_fine now n (peer ∷ peers) f = f
+
+  dropped : (now : ℕ) (n : State) → Fine n → Fine (s.drop_texts now n)
+  dropped now n f = kept (s.drop_text now) s.payloads Fine (λ m g. drop_fine now m (links.text_peers m.links) g) n f
+
+  turned : (now : ℕ) (n : State) → Fine n → Fine (s.turn now n).after
+  turned now n f = by b.settings.prompt
+    where
+      a : State
+      a = s.enter_notices n
+
+      b : State
+      b = pump now a
+
+      fine : Fine b
+      fine = pumped now a (noticed n f)
+
+      by : (c : Bool) → Fine (if c then serve_sessions now b else s.drop_turn now b).after
+      by true = sessions_fine offers takes less now b fine (pumped_dry offers takes less now a).router
+      by false = dropped now b fine
+
+  settled : (now : ℕ) (n : State) → Fine n → Fine (s.after_input now n)
+  unfolding s.after_input
+  settled now n f = kept (s.turn now) s.left Fine (turned now) n f
+
+  -- ---- KISS items
+
+  either : (x y : State) (b : Bool) → Fine x → Fine y → Fine (if b then x else y)
+  either x y true f g = f
+  either x y false f g = g
+
+  taken_in : (items : List Item) (n : State) → Fine n → Fine (receiving.take_in items n)
+  taken_in items n f = either (with_items items n) _ (receiving.has_room items n) f f
+
+  heard : (source : Callsign) (b : Result Broadcast NodesRefusal) (n : State) → Fine n → Fine (receiving.hear source b n)
+  heard source (Ok b) n f = taken_in (logs.broadcast n.settings.call source b.alias n.settings.path_quality b.entries) n f
+  heard source (Err e) n f = f
+
+  framed : (now : ℕ) (mine : Bool) (r : Result Frame FrameRefusal) (n : State) → Fine n → Fine (receiving.take_frame now mine r n)
+  framed now mine (Err e) n f = f
+  framed now mine (Ok x) n f = either _ _ (is_broadcast x) (heard x.head.source.call (nodes_at x.info) n f) (either (at_links (links.arrive x now) n) n mine f f)
+
+  by_path : (now : ℕ) (octets : List ℕ) (h : Head) (a : Action) (n : State) → Fine n → Fine (receiving.take_by_path now octets h a n)
+  by_path now octets h (Repeat path) n f = f
+  by_path now octets h Not_yet n f = f
+  by_path now octets h For_me n f = framed now true (read_at (receiving.modulus_with h.source.call n) octets) n f
+  by_path now octets h Heard n f = framed now false (read_at (receiving.modulus_with h.source.call n) octets) n f
+
+  headed : (now : ℕ) (octets : List ℕ) (h : Result (Head × ℕ) FrameRefusal) (n : State) → Fine n → Fine (receiving.take_head now octets h n)
+  headed now octets (Err e) n f = f
+  headed now octets (Ok h) n f = either n _ (same_call h.0.source.call n.settings.call) f (by_path now octets h.0 _ n f)
+
+  item_fine : (now : ℕ) (item : kiss.Item) (n : State) → Fine n → Fine (receiving.take_item now item n)
+  item_fine now (kiss.Frame port command payload) n f = either _ n ((port == 0) && (command == 0)) (headed now payload (read_head_at payload) n f) f
+  item_fine now kiss.Too_long n f = f
+
+  items_fine : (now : ℕ) (items : List kiss.Item) (n : State) → Fine n → Fine (after_items now items n)
+  items_fine now [] n f = f
+  items_fine now (item ∷ more) n f = items_fine now more (after_item now item n) (settled now (receiving.take_item now item n) (item_fine now item n f))
+
+  -- ---- ticks
+
+  frames_fine : (fs : List Written) (n : State) → Fine n → Fine (rounds.put_all fs n)
+  frames_fine [] n f = f
+  frames_fine (x ∷ fs) n f = frames_fine fs (put x n) f
+
+  round_fine : (n : State) → Fine n → Fine (rounds.do_round n)
+  round_fine n f =
+      let m : State = with_items (logs.Round ∷ []) n in
+      frames_fine (round_frames m.settings.call m.settings.alias (to_broadcast m.settings.rules m.log)) m f
+
+  due_fine : (now : ℕ) (due : Option ℕ) (n : State) → Fine n → Fine (rounds.round_by now due n)
+  due_fine now None n f = f
+  due_fine now (Some due) n f = either _ n (nat_le due now) (round_fine n f) f
+
+  abbrev Ticked : SetState → List Told → List Session → List Act → Type 0
+  Ticked set ts ss inputs = Owns (runs inputs set).set (ts ++ (runs inputs set).told) ss
+
+  ticks_own : (now : ℕ) (hs : List Holder) (set : SetState) (ts : List Told) (ss : List Session) → Owns set ts ss
+      → Owns (runs (ticks_of now hs) set).set (ts ++ (runs (ticks_of now hs) set).told) ss
+  ticks_own now [] set ts ss o = subst (λ (us : List Told). Owns set us ss) (sym (append-nil ts)) o
+  ticks_own now (h ∷ hs) set ts ss o = by h.gone (λ set2 ts2 o2. ticks_own now hs set2 ts2 ss o2)
+    where
+      d : SetDone
+      d = set_step set (sets.Calls h.id sets.Ticks now)
+
+      one_tick : Owns d.set (ts ++ d.told) ss
+      one_tick = owns_input Any set d ts ss o (ticks_keep set now h.id) (step_ok set (sets.Calls h.id sets.Ticks now) tt).made (λ id some. tt) (λ id some. tt)
+
+      by : (b : Bool) → ((set2 : SetState) (ts2 : List Told) → Owns set2 ts2 ss → Ticked set2 ts2 ss (ticks_of now hs))
+          → Ticked set ts ss (if b then ticks_of now hs else sets.Calls h.id sets.Ticks now ∷ ticks_of now hs)
+      by true more = more set ts o
+      by false more =
+          let rest : SetDone = runs (ticks_of now hs) d.set in
+          subst (λ (us : List Told). Owns rest.set us ss) (append_assoc ts d.told rest.told) (more d.set (ts ++ d.told) one_tick)
+
+  set_ticked : (now : ℕ) (n : State) → Fine n → Fine (at_set (circuits.ticks now) n)
+  unfolding circuits.ticks
+  set_ticked now n f = (ticks_own now n.set.set.ends n.set.set n.set.untold n.sessions f.0, f.1)
+
+  tick_fine : (now : ℕ) (n : State) → Fine n → Fine (rounds.tick now n)
+  tick_fine now n f =
+      let m : State = at_set (circuits.ticks now) (at_links (links.tick_links now) n) in
+      let g = set_ticked now (at_links (links.tick_links now) n) f in
+      either m _ (m.settings.interval == 0) g (due_fine now m.next_round m g)
+
+  -- ---- acts
+
+  answered : (x y : Answered) (b : Bool) → Fine x.node → Fine y.node → Fine (if b then x else y).node
+  answered x y true f g = f
+  answered x y false f g = g
+
+  locked : (dest : Callsign) (item : Item) (quality : ℕ) (n : State) → Fine n → Fine (acts.lock dest item quality n).node
+  locked dest item quality n f =
+      answered _ _ (same_call dest n.settings.call) f
+      (answered _ _ (nat_lt quality n.settings.rules.minq) f (answered (acts.done (with_items (item ∷ []) n)) _ (receiving.has_room (item ∷ []) n) f f))
+
+  connected : (now : ℕ) (dest : Callsign) (r : Result ℕ ConnectRefusal) (n : State) → Fine n → Fine (acts.connect_by r (sets.Connect dest now) n).node
+  connected now dest (Ok id) n f = acted (sets.Connect dest now) n (connects_keeps n.set.set dest now) (connected_ok n.set.set dest now).made f
+  connected now dest (Err why) n f = f
+
+  wrote : (now id : ℕ) (message : List ℕ) (r : Result (Unit {0}) SetRefusal) (n : State) → Fine n → Fine (acts.write_by r (sets.Calls id (sets.Writes message) now) n).node
+  wrote now id message (Ok _) n f = writes_fine now id message n f
+  wrote now id message (Err why) n f = f
+
+  or_none : (a b : Bool) → (a || b) ≡ false → (a ≡ false) × (b ≡ false)
+  or_none true b e = absurd (cc e)
+  or_none false b e = (refl, e)
+
+  unserved : (id : ℕ) (ss : List Session) → is_served id ss ≡ false → total (owned_by id) ss ≡ 0
+  unserved id [] e = refl
+  unserved id (x ∷ ss) e =
+      let parts = or_none (is_at_end id x.user || is_circuit id (circuit_of x.stage)) (is_served id ss) e in
+      let both = or_none (is_at_end id x.user) (is_circuit id (circuit_of x.stage)) parts.0 in
+      let none : owned_by id x ≡ 0 = rw (both.0, both.1) refl in
+      let rest = unserved id ss parts.1 in
+      omega (arith, none, rest)
+
+  -- an end that isn't held is left as it is
+  not_held : (set : SetState) (o : Option Holder) (now : ℕ) → is_some (facts_at o) ≡ false → sets.called set o sets.Closes now ≡ sets.untold set
+  not_held set None now e = refl
+  not_held set (Some h) now e = by h.gone e
+    where
+      by : (b : Bool) → is_some (if b then None else Some (facts_of h.end)) ≡ false → (if b then sets.untold set else sets.goes_to set h [] (step h.end Close now)) ≡ sets.untold set
+      by true g = refl
+      by false g = absurd (cc g)
+
+  closed_none : (now id : ℕ) (n : State) → is_some (facts id n) ≡ false → Fine n → Fine (at_set (circuits.acts (sets.Calls id sets.Closes now)) n)
+  unfolding circuits.acts
+  closed_none now id n e f =
+      let same = not_held n.set.set (sets.end_of id n.set.set.ends) now e in
+      subst (λ (d : SetDone). All d.set (n.set.untold ++ d.told) n.sessions) (sym same) (subst (λ (ts : List Told). All n.set.set ts n.sessions) (sym (append-nil n.set.untold)) f)
+
+  closed_by : (now id : ℕ) (n : State) (a b : Bool) → is_some (facts id n) ≡ a → is_served id n.sessions ≡ b → (a && b) ≡ false → IsTold n → Fine n
+      → Fine (at_set (circuits.acts (sets.Calls id sets.Closes now)) n)
+  closed_by now id n true true e g h t f = absurd (cc h)
+  closed_by now id n false b e g h t f = closed_none now id n e f
+  closed_by now id n true false e g h t f =
+      let none = unserved id n.sessions g in
+      let opens = all_opens id n.sessions in
+      let told : mades id n.set.untold ≡ 0 = ap (λ w. mades id w.untold) t in
+      closes_fine now id n (omega (arith, none, opens, told)) f
+
+  closes : (now id : ℕ) (n : State) → IsTold n → Fine n → (b : Bool) → acts.is_kept id n ≡ b → Fine (if b then acts.refuse refusal.Served n else acts.close now id n).node
+  closes now id n t f true e = f
+  closes now id n t f false e = closed_by now id n (is_some (facts id n)) (is_served id n.sessions) refl refl e t f
+
+  act_fine : (now : ℕ) (act : UserAct) (n : State) → IsTold n → Fine n → Fine (acts.do_act now act n).node
+  act_fine now user.Round n t f = round_fine n f
+  act_fine now (user.LinkFail peer) n t f = f
+  act_fine now (user.Lock dest alias neighbour quality) n t f = locked dest (logs.Lock dest alias neighbour quality) quality n f
+  act_fine now (user.Connect dest) n t f = connected now dest (connect_answer (next_hop n) dest n.set.set) n f
+  act_fine now (user.Write id message) n t f =
+      answered _ _ (acts.is_kept id n) f (wrote now id message (write_answer (sets.end_of id n.set.set.ends) message) n f)
+  act_fine now (user.Take id) n t f = answered _ _ (acts.is_kept id n) f (takes_fine now id n f)
+  act_fine now (user.Close id) n t f = closes now id n t f (acts.is_kept id n) refl
+
+  -- ---- every node
+
+  record Reached (n : State) : Type 0 where
+    fine : Fine n
+    told : IsTold n
+
+  fetched : (own : List Written) (n : State) → Reached n → Reached (fetch_own own n)
+  fetched [] n r = record { fine = r.fine; told = r.told }
+  fetched (x ∷ fs) n r = record { fine = r.fine; told = r.told }
+
+  reaches : (i : Input) (n : NodeState) → Reached n.station → Reached (after i n).station
+  reaches (Bytes now bytes) n r =
+      let items = new_items n.stream bytes in
+      record { fine = items_fine (moment now) items n.station r.fine; told = items_told (nothing_left offers takes less) (moment now) items n.station r.told }
+  reaches (Ticks now) n r =
+      let m : State = rounds.tick (moment now) n.station in
+      record { fine = settled (moment now) m (tick_fine (moment now) n.station r.fine); told = told_after (nothing_left offers takes less) (moment now) m }
+  reaches (Acts now act) n r =
+      let m : State = (acts.do_act (moment now) act n.station).node in
+      record { fine = settled (moment now) m (act_fine (moment now) act n.station r.told r.fine); told = told_after (nothing_left offers takes less) (moment now) m }
+  reaches (Paths peer path) n r = record { fine = r.fine; told = r.told }
+  reaches Fetches_frame n r = fetched n.station.own n.station r
+  reaches Fetches_entry n r = record { fine = r.fine; told = r.told }
+
+  reached : (inputs : List Input) (n : NodeState) → Reached n.station → Reached (after_all inputs n).station
+  reached [] n r = r
+  reached (i ∷ inputs) n r = reached inputs (after i n) (reaches i n r)
+
+  starts : (c : NodeConfig) → Reached (new_station c)
+  starts c = record {
+    fine = (
+      record {
+        below = tt;
+        messages = tt;
+        few = λ id. omega arith;
+        fresh = λ id over. omega arith;
+        unshut = λ id some. tt;
+      },
+      tt,
+    );
+    told = refl;
+  }
+
+  all_of : (P : Session → Type 0) → ((x : Session) → Sound x → P x) → (ss : List Session) → Every Sound ss → AllByRecursion P ss
+  all_of P f [] e = tt
+  all_of P f (x ∷ ss) e = (f x e.0, all_of P f ss e.1)
+
+  every : (P : Session → Type 0) → ((x : Session) → Sound x → P x) → EverySession P
+  every P f c inputs = let n : NodeState = after_all inputs (new_node c) in all_of P f n.station.sessions (reached inputs (new_node c) (starts c)).fine.1
+
+  pub bridged : SessionsBridged
+  bridged = every IsBridged (λ x p. p.bridged)
+
+  pub bounded : SessionsBounded
+  bounded = every IsBounded (λ x p. record { rest = p.rest; replies = p.replies })

@@ -1,0 +1,7 @@
+use Rattle.std.proofs.Common.{◌≡◌, ◌++◌, map, take, drop}
+use Rattle.node_core.specs.Sessions as sessions
+use Rattle.node_core.specs.Sessions.{Session}
+use Rattle.node_core.proofs.sessions.hearing.hear_gone.Given as goal
+
+abbrev pub invariant-loop-session : goal.invariant-loop-session
+invariant-loop-session l = l.session-items ≡ map (sessions.hear_gone l.id) (take l.session-index l.fn.all.items) ++ drop l.session-index l.fn.all.items

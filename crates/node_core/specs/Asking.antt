@@ -1,0 +1,113 @@
+-- The lines of a user at the prompt. Own profile.
+use Rattle.std.specs.Prelude.{ℕ, Bool, true, false, ◌==◌, if◌then◌else◌, List, [], ◌∷◌, Option, Some, None, Result, Ok, Err}
+use Rattle.ax_address.specs.Callsign.{Callsign}
+use Rattle.circuit_set.specs.declared.event.ConnectRefusal.{ConnectRefusal}
+use Rattle.circuit_set.specs.declared.event.ConnectRefusal.TheVariants as refusal
+use Rattle.circuit_set.specs.Inputs.{connect_answer}
+use Rattle.circuit_set.specs.Sets as sets
+use Rattle.node_prompt.specs.Commands.{wanted}
+use Rattle.node_prompt.specs.Replies as texts
+use Rattle.node_prompt.specs.declared.action.Action.{Action}
+use Rattle.node_prompt.specs.declared.action.Action.TheVariants.{Say, Connect, Bye, Nothing}
+use Rattle.node_prompt.specs.declared.action.Trouble.{Trouble}
+use Rattle.node_prompt.specs.declared.action.Trouble.TheVariants as trouble
+use Rattle.node_core.specs.declared.sessions.session.Circuit.{Circuit}
+use Rattle.node_core.specs.declared.sessions.session.Stage.TheVariants.{Trying}
+use Rattle.node_core.specs.Bridging.{drop_rest, next_text, prompt_of}
+use Rattle.node_core.specs.Sessions.{Session}
+use Rattle.node_core.specs.States.{State, next_hop}
+use Rattle.node_core.specs.Turns.{Turn, done, idle}
+use Rattle.node_core.specs.Users.{acts, at_session, close_user, has_room, is_deaf, say, session_at}
+use Rattle.node_core.specs.Views.{view}
+
+-- ---- lines of a text
+
+-- a line ends before the first CR, or with its text
+abbrev pub first_line : List ℕ → List ℕ
+first_line [] = []
+first_line (b ∷ bs) = if b == 13 then [] else b ∷ first_line bs
+
+-- an LF right behind that CR is dropped
+abbrev pub without_lf : List ℕ → List ℕ
+without_lf [] = []
+without_lf (b ∷ bs) = if b == 10 then bs else b ∷ bs
+
+abbrev pub behind_line : List ℕ → List ℕ
+behind_line [] = []
+behind_line (b ∷ bs) = if b == 13 then without_lf bs else behind_line bs
+
+abbrev pub cut_line : Session → Session
+cut_line s = record s { rest = behind_line s.rest }
+
+-- ---- what is done for a line
+
+abbrev pub trouble_of : ConnectRefusal → Trouble
+trouble_of refusal.Own = trouble.Own
+trouble_of refusal.NoRoute = trouble.NoRoute
+trouble_of refusal.Full = trouble.Full
+trouble_of refusal.NoMemory = trouble.Full
+
+abbrev pub circuit_to : ℕ → Callsign → Circuit
+circuit_to id dest = record { id = id; dest = dest; closed = false }
+
+abbrev pub tries : ℕ → Callsign → Session → Session
+tries id dest s = record s { stage = Trying (circuit_to id dest) }
+
+-- the request leaves before the user is told that the circuit is tried
+abbrev pub tried : ℕ → ℕ → Callsign → Result ℕ ConnectRefusal → State → State
+tried now nth dest (Ok id) n =
+    say now nth (texts.trying (prompt_of n) dest).items (acts now (sets.Connect dest now) (at_session nth (tries id dest) n))
+tried now nth dest (Err why) n = say now nth (texts.refused (prompt_of n) dest (trouble_of why)).items n
+
+abbrev pub try_circuit : ℕ → ℕ → Callsign → State → State
+try_circuit now nth dest n = tried now nth dest (connect_answer (next_hop n) dest n.set.set) n
+
+abbrev pub leaves : Session → Session
+leaves s = record s { bye = true; rest = [] }
+
+-- the last text is said, and the user's side is closed
+abbrev pub say_bye : ℕ → ℕ → List ℕ → State → State
+say_bye now nth text n = close_user now nth (at_session nth leaves (say now nth text n))
+
+abbrev pub do_action : ℕ → ℕ → Action → State → State
+do_action now nth (Say text) n = say now nth text.items n
+do_action now nth (Bye text) n = say_bye now nth text.items n
+do_action now nth (Connect dest) n = try_circuit now nth dest n
+do_action now nth Nothing n = n
+
+abbrev pub action_for : List ℕ → State → Action
+action_for line n = texts.action_for (prompt_of n) line (view (wanted line) n)
+
+abbrev pub action_at : Option Session → State → Action
+action_at None n = Nothing
+action_at (Some s) n = action_for (first_line s.rest) n
+
+-- the first line of what is left of the text is done
+abbrev pub do_line : ℕ → ℕ → State → State
+do_line now nth n = do_action now nth (action_at (session_at nth n) n) (at_session nth cut_line n)
+
+-- ---- the next line
+
+abbrev pub if_text : Turn State → (State → State) → Turn State
+if_text t step = if t.did then done (step t.after) else idle t.after
+
+abbrev pub drop_text_of : ℕ → ℕ → State → Turn State
+drop_text_of now nth n = if_text (next_text now nth n) (at_session nth drop_rest)
+
+abbrev pub do_next_line : ℕ → ℕ → State → Turn State
+do_next_line now nth n = if_text (next_text now nth n) (do_line now nth)
+
+abbrev pub is_deaf_at : Option Session → State → Bool
+is_deaf_at None n = false
+is_deaf_at (Some s) n = is_deaf s n
+
+abbrev pub has_room_at : Option Session → State → Bool
+has_room_at None n = false
+has_room_at (Some s) n = has_room s n
+
+-- a line of the user is done, where its side has room for the reply; the texts of one that is told nothing more are dropped
+abbrev pub take_line : ℕ → ℕ → State → Turn State
+take_line now nth n =
+    if is_deaf_at (session_at nth n) n then drop_text_of now nth n
+    else if has_room_at (session_at nth n) n then do_next_line now nth n
+    else idle n

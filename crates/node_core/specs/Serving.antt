@@ -1,0 +1,101 @@
+-- The sessions are served in the order of their making, each with at most one thing. Own profile.
+use Rattle.std.specs.Prelude.{ℕ, zero, suc, Bool, false, ◌&&◌, ◌||◌, not, is_none, nat_eq, nat_lt, slice_get, if◌then◌else◌, List, [], ◌∷◌, length, filter, Option, Some, None}
+use Rattle.ax_address.specs.Callsign.{Callsign}
+use Rattle.node_core.specs.declared.sessions.session.Circuit.{Circuit}
+use Rattle.node_core.specs.declared.sessions.session.Stage.{Stage}
+use Rattle.node_core.specs.declared.sessions.session.Stage.TheVariants.{AtPrompt, Trying, Failed, Connected}
+use Rattle.node_core.specs.declared.sessions.session.User.{User}
+use Rattle.node_core.specs.declared.sessions.session.User.TheVariants.{AtEnd, AtLink}
+use Rattle.node_core.specs.Asking.{take_line}
+use Rattle.node_core.specs.Bridging.{close_circuit, give_message, give_reply, write_text}
+use Rattle.node_core.specs.Links as links
+use Rattle.node_core.specs.Pumping.{pump}
+use Rattle.node_core.specs.Sessions.{Session, circuit_of, greet, is_at_link}
+use Rattle.node_core.specs.States.{State, at_sessions}
+use Rattle.node_core.specs.Turns.{Turn, and_then, idle, or_else}
+use Rattle.node_core.specs.Users.{is_gone, session_at}
+
+-- ---- links with a first text
+
+abbrev pub serves_link : Callsign → Session → Bool
+serves_link peer s = is_at_link peer s.user && not s.left
+
+abbrev pub is_served_link : Callsign → List Session → Bool
+is_served_link peer [] = false
+is_served_link peer (s ∷ ss) = serves_link peer s || is_served_link peer ss
+
+-- a session is made for the user at a link, unless one serves it
+abbrev pub greet_link : Bool → Callsign → List Session → List Session
+greet_link prompt peer ss = if is_served_link peer ss then ss else greet prompt (AtLink peer) ss
+
+abbrev pub greet_each : Bool → List Callsign → List Session → List Session
+greet_each prompt [] ss = ss
+greet_each prompt (peer ∷ peers) ss = greet_each prompt peers (greet_link prompt peer ss)
+
+-- a session is made for each link at which a text waits and that has none, in the order of the links
+abbrev pub greet_links : State → State
+greet_links n = at_sessions (greet_each n.settings.prompt (links.text_peers n.links)) n
+
+-- ---- ends that a session serves
+
+abbrev pub is_at_end : ℕ → User → Bool
+is_at_end id (AtEnd at) = nat_eq at id
+is_at_end id (AtLink peer) = false
+
+abbrev pub is_circuit : ℕ → Option Circuit → Bool
+is_circuit id None = false
+is_circuit id (Some c) = nat_eq c.id id
+
+-- a session serves that end, or has asked for its circuit
+abbrev pub is_served : ℕ → List Session → Bool
+is_served id [] = false
+is_served id (s ∷ ss) = (is_at_end id s.user || is_circuit id (circuit_of s.stage)) || is_served id ss
+
+-- ---- serving
+
+abbrev pub take_up_at : Stage → ℕ → ℕ → State → Turn State
+take_up_at AtPrompt now nth n = take_line now nth n
+take_up_at (Trying c) now nth n = idle n
+take_up_at (Failed c) now nth n = idle n
+take_up_at (Connected c) now nth n = write_text now nth c n
+
+abbrev pub stage_of : Option Session → Option Stage
+stage_of None = None
+stage_of (Some s) = Some s.stage
+
+abbrev pub take_up_by : Option Stage → ℕ → ℕ → State → Turn State
+take_up_by None now nth n = idle n
+take_up_by (Some stage) now nth n = take_up_at stage now nth n
+
+-- what is to be done with the next text or line of the user
+abbrev pub take_up : ℕ → ℕ → State → Turn State
+take_up now nth n = take_up_by (stage_of (session_at nth n)) now nth n
+
+-- the first of these that can be done
+abbrev pub serve_once : ℕ → ℕ → State → Turn State
+serve_once now nth n = or_else (give_reply now nth) (or_else (give_message now nth) (or_else (take_up now nth) (close_circuit now nth))) n
+
+-- and then the circuits are pumped
+abbrev pub serve : ℕ → ℕ → State → Turn State
+serve now nth n = let t : Turn State = serve_once now nth n in record { did = t.did; after = pump now t.after }
+
+-- so many sessions from a place on
+abbrev pub serve_each : ℕ → ℕ → ℕ → State → Turn State
+serve_each now nth zero n = idle n
+serve_each now nth (suc more) n = and_then (serve now nth n) (serve_each now (suc nth) more)
+
+-- a session is over: its user is gone, and so is its circuit, and nothing is left of its texts and replies
+abbrev pub is_over : State → Session → Bool
+is_over n s = is_gone s n && (is_none (circuit_of s.stage) && (is_none (slice_get s.replies 0) && not (nat_lt 0 (length s.rest))))
+
+abbrev pub drop_over : State → State
+drop_over n = at_sessions (filter (λ s. not (is_over n s))) n
+
+abbrev pub serve_all : ℕ → State → Turn State
+serve_all now n = serve_each now 0 (length n.sessions) n
+
+abbrev pub serve_greeted : ℕ → State → Turn State
+serve_greeted now n = let t : Turn State = serve_all now n in record { did = t.did; after = drop_over t.after }
+
+unfoldable pub serve_sessions : ℕ → State → Turn State
+serve_sessions now n = serve_greeted now (greet_links n)

@@ -1,0 +1,11 @@
+//! The users at the prompt: their sessions, and how these are served.
+mod asking;
+mod bridging;
+mod hearing;
+mod lines;
+mod serving;
+mod session;
+mod users;
+mod views;
+
+pub(crate) use session::{Circuit, Reply, Session, Stage, User};

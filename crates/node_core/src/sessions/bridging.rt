@@ -1,0 +1,217 @@
+//! What goes between a user and its circuit.
+ghost use Rattle.std.specs.Prelude.{◌≡◌, IfOk, OnOk};
+ghost use Rattle.node_core.specs.Bridging as bridging;
+ghost use Rattle.node_core.specs.States.{State};
+ghost use Rattle.node_core.specs.Users as users;
+
+use crate::sessions::users::{is_gone, took};
+use crate::sessions::{Circuit, Reply};
+use crate::station::Station;
+use l3_datagram::Message;
+use node_prompt::Session as Prompt;
+use radio_base::{Moment, NoMemory};
+
+impl Station {
+    ghost use Rattle.node_core.specs.Standing.{Changes, Holds, StandsTold, Steps, Told, Turns};
+
+    /// The prompt of this node.
+    pub(crate) fn prompt(&self) -> Prompt
+        ensures { (n : State) → Holds self.now n → result ≡ bridging.prompt_of n }
+    {
+        Prompt::new(self.alias, self.call())
+    }
+
+    /// Gives the user the first reply that waits. Whether one could be given.
+    pub(crate) fn give_reply(&mut self, nth: usize, now: Moment) -> Result<bool, NoMemory>
+        requires { StandsTold self.old }
+        ensures { IfOk result (Turns (bridging.give_reply now.0 nth) self.old self.new) }
+    {
+        match self.next_reply(nth) {
+            Some(reply) => {
+                let text = reply_text(&mut self.prompt(), &reply);
+                self.drop_reply(nth);
+                self.say(nth, &text, now)?;
+                Ok(true)
+            }
+            None => Ok(false),
+        }
+    }
+
+    /// The first reply that waits, where it can be given.
+    fn next_reply(&self, nth: usize) -> Option<Reply>
+        ensures { (n : State) → Told self.now n → result ≡ bridging.next_reply (users.session_at nth n) n }
+    {
+        match self.session(nth) {
+            Some(session) => {
+                if self.can_give(session) {
+                    session.first_reply()
+                } else {
+                    None
+                }
+            }
+            None => None,
+        }
+    }
+
+    fn drop_reply(&mut self, nth: usize)
+        ensures { Changes nth bridging.drop_reply self.old self.new }
+    {
+        if let Some(session) = self.sessions.get_mut(nth) {
+            session.drop_reply();
+        }
+    }
+
+    /// Gives the user the next message of its circuit. Whether one could be given.
+    pub(crate) fn give_message(&mut self, nth: usize, now: Moment) -> Result<bool, NoMemory>
+        requires { StandsTold self.old }
+        ensures { IfOk result (Turns (bridging.give_message now.0 nth) self.old self.new) }
+    {
+        match self.giving_circuit(nth) {
+            Some(circuit) => self.give_from(nth, circuit.id, now),
+            None => Ok(false),
+        }
+    }
+
+    /// The circuit of a session, where a message of it can be given.
+    fn giving_circuit(&self, nth: usize) -> Option<Circuit>
+        ensures { (n : State) → Told self.now n → result ≡ bridging.giving_circuit (users.session_at nth n) n }
+    {
+        match self.session(nth) {
+            Some(session) => {
+                if self.can_give(session) {
+                    session.circuit()
+                } else {
+                    None
+                }
+            }
+            None => None,
+        }
+    }
+
+    /// Gives the user the next message of the circuit of an end.
+    fn give_from(&mut self, nth: usize, id: u64, now: Moment) -> Result<bool, NoMemory>
+        requires { StandsTold self.old }
+        ensures { IfOk result (Turns (bridging.give_from now.0 nth id) self.old self.new) }
+    {
+        let mut message = Message::new();
+        let taken = took(self.set.take(id, &mut message, now));
+        if taken {
+            self.pump(now)?;
+            self.say(nth, &message, now)?;
+        }
+        Ok(taken)
+    }
+
+    /// Writes the next text of the user to its circuit, where that has room. Whether one was written.
+    pub(crate) fn write_text(
+        &mut self,
+        nth: usize,
+        circuit: &Circuit,
+        now: Moment,
+    ) -> Result<bool, NoMemory>
+        requires { StandsTold self.old }
+        ensures { IfOk result (Turns (bridging.write_text now.0 nth circuit.now) self.old self.new) }
+    {
+        if circuit.closed || !self.end_has_room(circuit.id) {
+            return Ok(false);
+        }
+        if !self.next_text(nth, now)? {
+            return Ok(false);
+        }
+        self.write_rest(nth, circuit.id, now)?;
+        Ok(true)
+    }
+
+    /// Whether there is a text of the user: what is left of the last one, or else the next one, which is taken.
+    pub(crate) fn next_text(&mut self, nth: usize, now: Moment) -> Result<bool, NoMemory>
+        requires { StandsTold self.old }
+        ensures { IfOk result (Turns (bridging.next_text now.0 nth) self.old self.new) }
+    {
+        if self.has_rest(nth) {
+            return Ok(true);
+        }
+        self.take_text(nth, now)
+    }
+
+    fn has_rest(&self, nth: usize) -> bool
+        ensures { (n : State) → Told self.now n → result ≡ bridging.has_rest (users.session_at nth n) }
+    {
+        match self.session(nth) {
+            Some(session) => session.has_rest(),
+            None => false,
+        }
+    }
+
+    /// Writes what is left of the text that was taken last to the circuit of an end.
+    fn write_rest(&mut self, nth: usize, id: u64, now: Moment) -> Result<(), NoMemory>
+        requires { StandsTold self.old }
+        ensures { OnOk result (Steps (bridging.write_rest now.0 nth id) self.old self.new) }
+    {
+        let text = self.rest_of(nth);
+        self.drop_rest(nth);
+        self.write_to(id, text.as_slice(), now)?;
+        Ok(())
+    }
+
+    /// What is left of the text that was taken last.
+    fn rest_of(&self, nth: usize) -> Message
+        ensures { (n : State) → Told self.now n → result.items ≡ bridging.rest_of (users.session_at nth n) }
+    {
+        match self.session(nth) {
+            Some(session) => session.rest_text(),
+            None => Message::new(),
+        }
+    }
+
+    /// Closes the circuit, once, where the user is gone and no text of it is left. Whether it was closed.
+    pub(crate) fn close_circuit(&mut self, nth: usize, now: Moment) -> Result<bool, NoMemory>
+        requires { StandsTold self.old }
+        ensures { IfOk result (Turns (bridging.close_circuit now.0 nth) self.old self.new) }
+    {
+        match self.circuit_to_close(nth) {
+            Some(circuit) => {
+                self.note_closed(nth);
+                self.close_end(circuit.id, now)?;
+                Ok(true)
+            }
+            None => Ok(false),
+        }
+    }
+
+    fn circuit_to_close(&self, nth: usize) -> Option<Circuit>
+        ensures { (n : State) → Told self.now n → result ≡ bridging.circuit_to_close (users.session_at nth n) n }
+    {
+        match self.session(nth) {
+            Some(session) => match session.circuit() {
+                Some(circuit) => {
+                    if !circuit.closed && is_gone(&self.set, session) && !session.has_rest() {
+                        Some(circuit)
+                    } else {
+                        None
+                    }
+                }
+                None => None,
+            },
+            None => None,
+        }
+    }
+
+    fn note_closed(&mut self, nth: usize)
+        ensures { Changes nth bridging.note_closed self.old self.new }
+    {
+        if let Some(session) = self.sessions.get_mut(nth) {
+            session.note_closed();
+        }
+    }
+}
+
+/// The text of a reply.
+fn reply_text(prompt: &mut Prompt, reply: &Reply) -> Message
+    ensures { result.items ≡ bridging.reply_text prompt.old reply.now }
+{
+    match reply {
+        Reply::Connected(dest) => prompt.connected(dest),
+        Reply::Refused(dest, why) => prompt.refused(dest, *why),
+        Reply::Ended(dest) => prompt.ended(dest),
+    }
+}

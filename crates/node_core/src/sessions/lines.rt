@@ -1,0 +1,47 @@
+//! The lines of a text.
+ghost use Rattle.std.specs.Prelude.{◌≡◌, ◌≤◌, ◌<◌, ◌==◌, IfSome, drop, length};
+ghost use Rattle.std.specs.List.{position};
+ghost use Rattle.node_core.specs.Asking as asking;
+
+/// The first line of a text: up to its first CR, or all of it.
+pub fn first_line(text: &[u8]) -> &[u8]
+    ensures { result.now ≡ asking.first_line text.now }
+{
+    &text[..line_end(text)]
+}
+
+/// How many bytes of a text are done with when its first line is: its CR is too, and an LF right behind that.
+pub fn line_size(text: &[u8]) -> usize
+    ensures behind { drop result text.now ≡ asking.behind_line text.now }
+    ensures most { result ≤ length text.now }
+{
+    let end = line_end(text);
+    if end == text.len() {
+        end
+    } else if end + 1 == text.len() {
+        end + 1
+    } else if text[end + 1] == b'\n' {
+        end + 2
+    } else {
+        end + 1
+    }
+}
+
+/// How long the first line is.
+fn line_end(text: &[u8]) -> usize
+    ensures value { result ≡ length (asking.first_line text.now) }
+    ensures most { result ≤ length text.now }
+{
+    match carriage_return(text) {
+        Some(end) => end,
+        None => text.len(),
+    }
+}
+
+/// The place of the first CR.
+fn carriage_return(text: &[u8]) -> Option<usize>
+    ensures place { result ≡ position (λ b. b == 13) text.now }
+    ensures within { IfSome result (λ at. at < length text.now) }
+{
+    text.iter().position(|b| *b == b'\r')
+}
