@@ -6,14 +6,14 @@ use Rattle.network_file.specs.declared.plan.channels.Channel.{Channel}
 use Rattle.node_core.specs.declared.acts.ActDone.{ActDone}
 use Rattle.node_core.specs.declared.acts.ActDone.TheVariants as actions
 use Rattle.node_core.specs.declared.acts.ActRefusal.{ActRefusal}
-use Rattle.node_core.specs.declared.acts.UserAct.{UserAct}
+use Rattle.node_core.specs.UserActs.{UserAct}
 use Rattle.net_replay.specs.declared.answer.Answer.{Answer}
 use Rattle.net_replay.specs.declared.answer.Answer.TheVariants as answers
 use Rattle.net_replay.specs.declared.reasons.LineRefusal.{LineRefusal}
 use Rattle.net_replay.specs.declared.reasons.ReplayRefusal.{ReplayRefusal}
 use Rattle.net_replay.specs.Events.{Event}
-use Rattle.net_replay.specs.Lines.{is_long, refusal_events, said_of, said_refusals, told_of, took_of}
-use Rattle.net_replay.specs.Running.{Course, GoesOn, IsAnswerTo, IsRefusedFor, Runs, Stands, answer_events, message_events, message_in, refusal_in, said_answer, taken_events}
+use Rattle.net_replay.specs.Lines.{refusal_events, told_of, took_of}
+use Rattle.net_replay.specs.Running.{Course, GoesOn, IsAnswerTo, IsRefusedFor, Runs, Stands, answer_events, message_events, message_in, refusal_in, taken_events}
 use Rattle.net_replay.specs.Starting.{has_number}
 use Rattle.net_replay.specs.World.{Act, World, answer, place_of, put, reach, tell}
 use Rattle.net_replay.proofs.Placing.{place_is}
@@ -41,11 +41,6 @@ pub took_is : (node end : ℕ) (a : Answer) (r : Result ActDone ActRefusal) → 
 took_is node end answers.Done r h = ap (took_of node end) h.1 ∙ (took_done node end h.0 ∙ ap (message_events node end) h.2)
 took_is node end (answers.Took message) r h = ap (took_of node end) h.1 ∙ (took_done node end h.0 ∙ ap (message_events node end) h.2)
 took_is node end (answers.Refused why) r h = ap (took_of node end) h.1 ∙ ap refusal_events h.2
-
-pub said_is : (text : List ℕ) (a : Answer) (r : Result ActDone ActRefusal) → IsAnswerTo a r → said_of text r ≡ answer_events (said_answer (is_long text) a)
-said_is text answers.Done r h = ap (said_of text) h.1
-said_is text (answers.Took message) r h = ap (said_of text) h.1
-said_is text (answers.Refused why) r h = ap (said_of text) h.1 ∙ ap (λ o. refusal_events (said_refusals (is_long text) o)) h.2
 
 -- an act that isn't refused was done, and one that is was refused for that
 pub was_done : (a : Answer) (r : Result ActDone ActRefusal) → None ≡ refusal_in a → IsAnswerTo a r → (done : ActDone) × (r ≡ Ok done)

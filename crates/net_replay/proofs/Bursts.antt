@@ -4,11 +4,11 @@ use Rattle.std.specs.Prelude.{Ok}
 use Rattle.std.specs.Fmt.{decimal}
 use Rattle.network_file.specs.declared.plan.channels.Channel.{Channel}
 use Rattle.node_core.specs.declared.acts.ActDone.{ActDone}
-use Rattle.node_core.specs.declared.acts.UserAct.{UserAct}
+use Rattle.node_core.specs.UserActs.{UserAct, Write}
 use Rattle.net_replay.specs.declared.reasons.LineRefusal.{LineRefusal}
 use Rattle.net_replay.specs.declared.reasons.ReplayRefusal.{ReplayRefusal}
 use Rattle.net_replay.specs.Events.{Refused, Wrote}
-use Rattle.net_replay.specs.Lines.{all_wrote, burst_by, burst_from, refusal_events, write}
+use Rattle.net_replay.specs.Lines.{all_wrote, burst_by, burst_from, refusal_events}
 use Rattle.net_replay.specs.Running.{IsRefusedFor}
 use Rattle.net_replay.specs.Traces.{IsRefusal}
 use Rattle.net_replay.specs.World.{Act, World, answer, put, reach, tell}
@@ -19,7 +19,7 @@ use Rattle.net_replay.proofs.Telling.{tell_both}
 -- ---- one text
 
 abbrev pub text : ℕ → ℕ → UserAct
-text end nth = write end (decimal nth)
+text end nth = Write end (decimal nth)
 
 -- the world after a text that was taken, before the next
 abbrev pub taken : List Channel → ℕ → ℕ → ℕ → ℕ → ℕ → ℕ → World → World

@@ -15,14 +15,14 @@ use Rattle.network_file.specs.declared.plan.instructions.Instruction.TheVariants
 use Rattle.node_core.specs.Broadcasts.{broadcast_octets}
 use Rattle.node_core.specs.declared.acts.ActDone.{ActDone}
 use Rattle.node_core.specs.declared.acts.ActRefusal.{ActRefusal}
-use Rattle.node_core.specs.declared.acts.UserAct.{UserAct}
-use Rattle.node_core.specs.declared.acts.UserAct.TheVariants as acts
+use Rattle.node_core.specs.UserActs.{UserAct}
+use Rattle.node_core.specs.UserActs as acts
 use Rattle.net_replay.specs.declared.air.Aired.{Aired}
 use Rattle.net_replay.specs.declared.reasons.LineRefusal.{LineRefusal}
 use Rattle.net_replay.specs.Air.{delivery_fault, frame_of, lost_fault, oldest, settled_at}
 use Rattle.net_replay.specs.CircuitRuns.{IsLine}
 use Rattle.net_replay.specs.Events.{Delivered, Event, Wrote}
-use Rattle.net_replay.specs.Lines.{all_wrote, burst_by, burst_from, cut, deliver_all, deliver_at, deliver_of, do_act, do_line, do_lines, flow, hear, kiss_bytes, message_of, refusal_events, restart_of, said_of, settle, spread, spread_of, tick_from, tick_node, told_of, took_of, unless_refused, write}
+use Rattle.net_replay.specs.Lines.{all_wrote, burst_by, burst_from, cut, deliver_all, deliver_at, deliver_of, do_act, do_line, do_lines, flow, hear, kiss_bytes, refusal_events, restart_of, settle, spread, spread_of, tick_from, tick_node, told_of, took_of, unless_refused}
 use Rattle.net_replay.specs.Refused.{of_act}
 use Rattle.net_replay.specs.Starting.{Placed}
 use Rattle.net_replay.specs.World.{Act, Bytes, Input, Time, World, aired, answer, place_of, put, put_of, reach, reaches, tell}
@@ -92,7 +92,7 @@ pub burst_grows : (channels : List Channel) (line at node end nth more : ℕ) (w
 unfolding burst_from
 burst_grows channels line at node end nth zero w = omega arith
 burst_grows channels line at node end nth (suc more) w =
-    let act : UserAct = write end (decimal nth) in
+    let act : UserAct = acts.Write end (decimal nth) in
     burst_by_grows channels line at node end nth more (answer at act w) (burst_from channels line at node end (nth + 1) more) w (reach line at (Act act) w)
     (burst_grows channels line at node end (nth + 1) more) (reach_stays line at (Act act) w)
 
@@ -174,7 +174,7 @@ line_grows plan line (instructions.Tick milliseconds) w = ticks_grow plan.channe
 line_grows plan line (instructions.Restart node pair) w =
     restart_grows plan line (place_of node w.nodes) (record { index = pair.index; ident = pair.ident }) (slice_get w.nodes (place_of node w.nodes)) w
 line_grows plan line (instructions.Open node dest) w = act_grows plan.channels line node (acts.Connect dest) told_of w
-line_grows plan line (instructions.Say node end text) w = act_grows plan.channels line node (write end (message_of text)) (said_of text) w
+line_grows plan line (instructions.Say node end text) w = act_grows plan.channels line node (acts.Write end text) told_of w
 line_grows plan line (instructions.Burst node end count) w = burst_grows plan.channels line (place_of node w.nodes) node end 1 count w
 line_grows plan line (instructions.Take node end) w = act_grows plan.channels line node (acts.Take end) (took_of node end) w
 line_grows plan line (instructions.Close node end) w = act_grows plan.channels line node (acts.Close end) told_of w

@@ -17,8 +17,8 @@ use Rattle.node_core.specs.Broadcasts.{broadcast_octets}
 use Rattle.node_core.specs.declared.acts.ActDone.{ActDone}
 use Rattle.node_core.specs.declared.acts.ActDone.TheVariants.{Done, Made, Took}
 use Rattle.node_core.specs.declared.acts.ActRefusal.{ActRefusal}
-use Rattle.node_core.specs.declared.acts.UserAct.{UserAct}
-use Rattle.node_core.specs.declared.acts.UserAct.TheVariants as acts
+use Rattle.node_core.specs.UserActs.{UserAct}
+use Rattle.node_core.specs.UserActs as acts
 use Rattle.node_core.specs.Runs.{ActsRun, BytesRun, InputsAreSteps, IsUserAct, TicksRun}
 use Rattle.net_replay.specs.declared.air.Aired.{Aired}
 use Rattle.net_replay.specs.declared.reasons.LineRefusal.{LineRefusal}
@@ -27,7 +27,7 @@ use Rattle.net_replay.specs.CircuitRuns.{IsInstruction, IsRunOf, IsSound, RunsTh
 use Rattle.net_replay.specs.Circuits.{CircuitEvent}
 use Rattle.net_replay.specs.Events as events
 use Rattle.net_replay.specs.Events.{Event}
-use Rattle.net_replay.specs.Lines.{all_wrote, burst_by, burst_from, cut, deliver_all, deliver_at, deliver_of, do_act, do_line, do_lines, flow, hear, kiss_bytes, message_of, refusal_events, said_of, said_refusals, is_long, settle, shown_of, spread, spread_of, tick_from, tick_node, told_of, took_of, unless_refused, world, write}
+use Rattle.net_replay.specs.Lines.{all_wrote, burst_by, burst_from, cut, deliver_all, deliver_at, deliver_of, do_act, do_line, do_lines, flow, hear, kiss_bytes, refusal_events, settle, shown_of, spread, spread_of, tick_from, tick_node, told_of, took_of, unless_refused, world}
 use Rattle.net_replay.specs.Refused.{of_act}
 use Rattle.net_replay.specs.Starting.{Placed, by_number, has_number, new_nodes, new_placed}
 use Rattle.net_replay.specs.World as worlds
@@ -50,10 +50,6 @@ quiet_took node end (Ok Done) = tt
 quiet_took node end (Ok (Made id)) = tt
 quiet_took node end (Ok (Took message)) = (tt, tt)
 quiet_took node end (Err why) = quiet_refusal (of_act why)
-
-quiet_said : (text : List ℕ) (r : Result ActDone ActRefusal) → AllByRecursion IsQuiet (said_of text r)
-quiet_said text (Ok d) = tt
-quiet_said text (Err why) = quiet_refusal (said_refusals (is_long text) (of_act why))
 
 quiet_shown : (o : Option Placed) → AllByRecursion IsQuiet (shown_of o)
 quiet_shown None = tt
@@ -211,7 +207,7 @@ module _ (plan : Plan) (apart : AreApart (names (new_nodes plan))) (are_steps : 
   unfolding burst_from
   burst_leads line zero at node end nth w = stays w
   burst_leads line (suc more) at node end nth w =
-      let act : UserAct = write end (decimal nth) in
+      let act : UserAct = acts.Write end (decimal nth) in
       let v : World = reach line at (worlds.Act act) w in
       next w v (burst_by plan.channels line at node end nth more (answer at act w) (burst_from plan.channels line at node end (nth + 1) more) v)
       (reach_leads plan apart are_steps bytes ticks acts_run line at (worlds.Act act) w tt)
@@ -277,7 +273,7 @@ module _ (plan : Plan) (apart : AreApart (names (new_nodes plan))) (are_steps : 
   line_leads line (instructions.Tick milliseconds) w i = ticks_lead line (length w.nodes) 0 (record w { now = w.now + milliseconds })
   line_leads line (instructions.Restart node pair) w i = restart_leads plan apart are_steps bytes ticks acts_run line node (record { index = pair.index; ident = pair.ident }) w i
   line_leads line (instructions.Open node dest) w i = act_leads line node (acts.Connect dest) told_of w i quiet_told
-  line_leads line (instructions.Say node end text) w i = act_leads line node (write end (message_of text)) (said_of text) w tt (quiet_said text)
+  line_leads line (instructions.Say node end text) w i = act_leads line node (acts.Write end text) told_of w tt quiet_told
   line_leads line (instructions.Burst node end count) w i = burst_leads line count (place_of node w.nodes) node end 1 w
   line_leads line (instructions.Take node end) w i = act_leads line node (acts.Take end) (took_of node end) w tt (quiet_took node end)
   line_leads line (instructions.Close node end) w i = act_leads line node (acts.Close end) told_of w tt quiet_told

@@ -3,7 +3,7 @@ use Rattle.std.proofs.Common.{◌≡◌, ◌<◌, ◌≤◌, ◌∙◌, ◌++◌
 use Rattle.std.specs.Prelude.{None, min, slice_get, Result}
 use Rattle.node_core.specs.declared.acts.ActDone.{ActDone}
 use Rattle.node_core.specs.declared.acts.ActRefusal.{ActRefusal}
-use Rattle.node_core.specs.declared.acts.UserAct.{UserAct}
+use Rattle.node_core.specs.UserActs.{UserAct}
 use Rattle.node_core.specs.Inputs.{act_answer, after_items, new_items, settled_act}
 use Rattle.node_core.specs.Kept.{Kept, NodeStands}
 use Rattle.node_core.specs.Rounds.{tick}

@@ -17,7 +17,7 @@ use Rattle.net_replay.specs.declared.moves.World as code
 use Rattle.net_replay.specs.declared.reasons.LineRefusal.{LineRefusal}
 use Rattle.net_replay.specs.declared.reasons.ReplayRefusal.{ReplayRefusal}
 use Rattle.net_replay.specs.Events.{Event, Entry, Took}
-use Rattle.net_replay.specs.Lines.{loss_of, losses_of, refusal_events, said_refusal}
+use Rattle.net_replay.specs.Lines.{loss_of, losses_of, refusal_events}
 use Rattle.net_replay.specs.Refused.{of_act}
 use Rattle.net_replay.specs.Starting.{Placed}
 use Rattle.net_replay.specs.Traces.{IsRefusal, IsTraceOf, Left}
@@ -120,7 +120,7 @@ put_by line at node on_air came128 w = put_by_of line at node on_air came128 (sl
 abbrev pub message_in : ActDone → Option (List ℕ)
 message_in actions.Done = None
 message_in (actions.Made id) = None
-message_in (actions.Took message) = Some message.items
+message_in (actions.Took message) = Some message
 
 abbrev pub message_events : ℕ → ℕ → Option (List ℕ) → List Event
 message_events node end None = []
@@ -147,11 +147,6 @@ abbrev pub taken_events : ℕ → ℕ → Answer → List Event
 taken_events node end answers.Done = []
 taken_events node end (answers.Took message) = Took node end message.items ∷ []
 taken_events node end (answers.Refused why) = refusal_events (Some why)
-
-abbrev pub said_answer : Bool → Answer → Answer
-said_answer long answers.Done = answers.Done
-said_answer long (answers.Took message) = answers.Took message
-said_answer long (answers.Refused why) = answers.Refused (said_refusal long why)
 
 -- ---- a text of a burst: the burst has come to its end, or what is left of it is left
 

@@ -1,7 +1,8 @@
 //! The lines at one node: what its user does, and its table; and time, which goes on at all of them.
 ghost use Rattle.std.specs.Prelude.{◌≡◌, ℕ, OnOk, IfOk, length, slice_get};
 ghost use Rattle.std.specs.Option.{option_map};
-ghost use Rattle.node_core.specs.declared.acts.UserAct.TheVariants as acts;
+ghost use Rattle.node_core.specs.UserActs as acts;
+ghost use Rattle.node_core.specs.UserActs.{act_of};
 ghost use Rattle.net_replay.specs.Lines as lines;
 ghost use Rattle.net_replay.specs.Running as running;
 ghost use Rattle.net_replay.specs.Running.{GoesOn, Runs, Stands, course};
@@ -10,9 +11,8 @@ ghost use Rattle.net_replay.specs.World as worlds;
 use crate::answer::Answer;
 use crate::events::{Event, Table};
 use crate::moves::World;
-use crate::reasons::{LineRefusal, ReplayRefusal};
+use crate::reasons::ReplayRefusal;
 use crate::stations::shown;
-use l3_datagram::Message;
 use network_file::Channel;
 use node_core::UserAct;
 use radio_base::{Moment, NoMemory};
@@ -41,7 +41,7 @@ impl World {
         number: u8,
         act: &UserAct,
     ) -> Result<(), ReplayRefusal>
-        ensures { Runs (course self.old) (course self.new) (lines.do_act channels.now line number act.now lines.told_of) result }
+        ensures { Runs (course self.old) (course self.new) (lines.do_act channels.now line number (act_of act.now) lines.told_of) result }
     {
         let at = self.place_of(number);
         let answer = self.act_reaches(line, at, act)?;
@@ -71,16 +71,13 @@ impl World {
         end: u32,
         text: &[u8],
     ) -> Result<(), ReplayRefusal>
-        ensures { Runs (course self.old) (course self.new) (lines.do_act channels.now line number (lines.write end (lines.message_of text.now)) (lines.said_of text.now)) result }
+        ensures { Runs (course self.old) (course self.new) (lines.do_act channels.now line number (acts.Write end text.now) lines.told_of) result }
     {
-        let at = self.place_of(number);
         let act = UserAct::Write {
             id: end as u64,
-            message: message_of(text),
+            message: text,
         };
-        let answer = self.act_reaches(line, at, &act)?;
-        self.tell_answer(line, &said(text, answer))?;
-        self.put_in_air(channels, line, at, false)
+        self.act(channels, line, number, &act)
     }
 
     /// A message is taken from an end.
@@ -173,26 +170,5 @@ impl World {
     {
         self.time_reaches(line, at)?;
         self.put_in_air(channels, line, at, false)
-    }
-}
-
-/// A text as a message: an empty one for a text of more than 8,192 bytes.
-fn message_of(text: &[u8]) -> Message
-    ensures { result ≡ record { items = lines.message_of text.now } }
-{
-    let mut message = Message::new();
-    let _ = message.try_extend_from_slice(text);
-    message
-}
-
-/// What is told of the writing of a text: one that was too long was handed on as an empty one.
-fn said(text: &[u8], answer: Answer) -> Answer
-    ensures { result ≡ running.said_answer (lines.is_long text.now) answer }
-{
-    match answer {
-        Answer::Refused(LineRefusal::Empty) if text.len() > 8192 => {
-            Answer::Refused(LineRefusal::TooLong)
-        }
-        other => other,
     }
 }

@@ -7,7 +7,6 @@ use crate::reasons::LineRefusal;
 use crate::refused::of_act;
 use node_core::{ActDone, ActRefusal};
 use radio_base::NoMemory;
-use std::alloc::Global;
 
 /// What came of an act.
 #[derive(Debug, Drop)]
@@ -37,16 +36,13 @@ impl Answer {
 }
 
 /// What came of an act that a node answered so. Want of memory is no answer.
-pub fn answer_of(alloc: Global, outcome: &Result<ActDone, ActRefusal>) -> Result<Answer, NoMemory>
-    ensures outcome { IfOk result (λ _. IsAnswer outcome.now) }
-    ensures answer { IfOk result (λ answer. running.IsAnswerTo answer outcome.now) }
+pub fn answer_of(outcome: Result<ActDone, ActRefusal>) -> Result<Answer, NoMemory>
+    ensures outcome { IfOk result (λ _. IsAnswer outcome) }
+    ensures answer { IfOk result (λ answer. running.IsAnswerTo answer outcome) }
 {
     match outcome {
-        Ok(done) => {
-            let answer = done_answer(alloc, done)?;
-            Ok(answer)
-        }
-        Err(refusal) => match of_act(*refusal) {
+        Ok(done) => Ok(done_answer(done)),
+        Err(refusal) => match of_act(refusal) {
             Some(why) => Ok(Answer::Refused(why)),
             None => Err(NoMemory),
         },
@@ -54,12 +50,12 @@ pub fn answer_of(alloc: Global, outcome: &Result<ActDone, ActRefusal>) -> Result
 }
 
 /// What came of an act that was done.
-fn done_answer(alloc: Global, done: &ActDone) -> Result<Answer, NoMemory>
-    ensures { IfOk result (λ answer. running.IsAnswerTo answer (Ok done.now)) }
+fn done_answer(done: ActDone) -> Answer
+    ensures { running.IsAnswerTo result (Ok done) }
 {
     match done {
-        ActDone::Took(message) => Ok(Answer::Took(message.as_slice().to_vec(alloc)?)),
-        ActDone::Done => Ok(Answer::Done),
-        ActDone::Made(_) => Ok(Answer::Done),
+        ActDone::Took(message) => Answer::Took(message.into_vec()),
+        ActDone::Done => Answer::Done,
+        ActDone::Made(_) => Answer::Done,
     }
 }

@@ -1,6 +1,7 @@
 //! Bursts: many messages that are written at an end.
 ghost use Rattle.std.specs.Prelude.{◌≡◌, ◌≤◌, ◌+◌, ℕ, OnOk, IfOk, IfErr, suc};
 ghost use Rattle.std.specs.Fmt.{decimal};
+ghost use Rattle.node_core.specs.UserActs as acts;
 ghost use Rattle.net_replay.specs.Lines as lines;
 ghost use Rattle.net_replay.specs.Running as running;
 ghost use Rattle.net_replay.specs.Running.{GoesOn, IsAnswerTo, Runs, Stands, Stops, course};
@@ -10,11 +11,9 @@ use crate::answer::Answer;
 use crate::events::Event;
 use crate::moves::World;
 use crate::reasons::ReplayRefusal;
-use l3_datagram::Message;
 use network_file::Channel;
 use node_core::UserAct;
 use radio_base::NoMemory;
-use std::alloc::Global;
 
 impl World {
     /// The decimal texts from 1 to `count` are written at an end, up to the first that is refused.
@@ -87,13 +86,13 @@ impl World {
 
     /// Writes the decimal text of a number at an end.
     fn write_nth(&mut self, line: u32, at: usize, end: u32, nth: u32) -> Result<Answer, NoMemory>
-        ensures goes { OnOk result (GoesOn (course self.old) (course self.new) (worlds.reach line at (worlds.Act (lines.write end (decimal nth))))) }
-        ensures answer { IfOk result (λ answer. (w : worlds.World) → Stands (course self.old) w → IsAnswerTo answer (worlds.answer at (lines.write end (decimal nth)) w)) }
+        ensures goes { OnOk result (GoesOn (course self.old) (course self.new) (worlds.reach line at (worlds.Act (acts.Write end (decimal nth))))) }
+        ensures answer { IfOk result (λ answer. (w : worlds.World) → Stands (course self.old) w → IsAnswerTo answer (worlds.answer at (acts.Write end (decimal nth)) w)) }
     {
-        let message = burst_text(self.alloc, nth)?;
+        let text = nth.to_string(self.alloc)?;
         let act = UserAct::Write {
             id: end as u64,
-            message,
+            message: text.as_str().as_bytes(),
         };
         let answer = self.act_reaches(line, at, &act)?;
         Ok(answer)
@@ -124,14 +123,4 @@ impl World {
             Ok(())
         }
     }
-}
-
-/// A text of a burst: its number.
-fn burst_text(alloc: Global, nth: u32) -> Result<Message, NoMemory>
-    ensures { IfOk result (λ message. message ≡ record { items = decimal nth }) }
-{
-    let text = nth.to_string(alloc)?;
-    let mut message = Message::new();
-    let _ = message.try_extend_from_slice(text.as_str().as_bytes());
-    Ok(message)
 }

@@ -3,6 +3,7 @@ ghost use Rattle.std.specs.Prelude.{◌≡◌, ◌∷◌, [], ℕ, List, IfOk, I
 ghost use Rattle.std.specs.List.{position_or_len};
 ghost use Rattle.std.specs.Option.{option_map};
 ghost use Rattle.node_core.specs.Standing.{entry_of};
+ghost use Rattle.node_core.specs.UserActs.{act_of};
 ghost use Rattle.net_replay.specs.Events.{event_of};
 ghost use Rattle.net_replay.specs.Running as running;
 ghost use Rattle.net_replay.specs.Running.{GoesOn, IsAnswerTo, Runs, Stands, course};
@@ -73,8 +74,8 @@ impl World {
     /// A user's act reaches the node at a place, and its entries are told: what was done, or why it wasn't. Its frames stay
     /// with it.
     pub fn act_reaches(&mut self, line: u32, at: usize, act: &UserAct) -> Result<Answer, NoMemory>
-        ensures goes { OnOk result (GoesOn (course self.old) (course self.new) (worlds.reach line at (worlds.Act act.now))) }
-        ensures answer { IfOk result (λ answer. (w : worlds.World) → Stands (course self.old) w → IsAnswerTo answer (worlds.answer at act.now w)) }
+        ensures goes { OnOk result (GoesOn (course self.old) (course self.new) (worlds.reach line at (worlds.Act (act_of act.now)))) }
+        ensures answer { IfOk result (λ answer. (w : worlds.World) → Stands (course self.old) w → IsAnswerTo answer (worlds.answer at (act_of act.now) w)) }
     {
         if at < self.nodes.len() {
             let answer = self.act_at(at, act)?;
@@ -88,11 +89,11 @@ impl World {
     /// A user's act reaches the node at a place.
     fn act_at(&mut self, at: usize, act: &UserAct) -> Result<Answer, NoMemory>
         requires { at < length self.old.nodes.items }
-        ensures goes { OnOk result ((w : worlds.World) → Stands (course self.old) w → Stands (course self.new) (running.change at (worlds.after w.now (worlds.Act act.now)) w)) }
-        ensures answer { IfOk result (λ answer. (w : worlds.World) → Stands (course self.old) w → IsAnswerTo answer (worlds.answer at act.now w)) }
+        ensures goes { OnOk result ((w : worlds.World) → Stands (course self.old) w → Stands (course self.new) (running.change at (worlds.after w.now (worlds.Act (act_of act.now))) w)) }
+        ensures answer { IfOk result (λ answer. (w : worlds.World) → Stands (course self.old) w → IsAnswerTo answer (worlds.answer at (act_of act.now) w)) }
     {
         let outcome = self.nodes[at].act(act, self.time);
-        let answer = answer_of(self.alloc, &outcome)?;
+        let answer = answer_of(outcome)?;
         Ok(answer)
     }
 

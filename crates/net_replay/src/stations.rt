@@ -14,11 +14,11 @@ ghost use Rattle.net_replay.specs.Starting.{Placed};
 ghost use Rattle.net_replay.specs.Traces.{StandFor};
 
 use crate::events::Table;
-use crate::settings::config_of;
+use crate::settings::{config_of, live_config};
 use ax_address::{Address, Call, Path};
 use circuit_l4::Pair;
 use link_table::PathRefusal;
-use network_file::{Declaration, MAX_NODES, Network, Via};
+use network_file::{Declaration, LiveNode, MAX_NODES, Network, Via};
 use node_core::Node;
 use radio_base::NoMemory;
 use std::alloc::Global;
@@ -85,6 +85,16 @@ pub fn started(
     is_callsign(&declared.call);
     let mut node = Node::new(alloc, config)?;
     set_paths(&mut node, declared.node, network.vias())?;
+    Ok(node)
+}
+
+/// A node that runs alone, as it starts.
+pub fn live_node(alloc: Global, live: &LiveNode) -> Result<Node, NoMemory>
+    ensures { IfOk result (λ node. NodeStands node (starting.live_started live.now)) }
+{
+    is_callsign(&live.declared.call);
+    let mut node = Node::new(alloc, live_config(live))?;
+    set_paths(&mut node, live.declared.node, live.vias.as_slice())?;
     Ok(node)
 }
 

@@ -1,4 +1,5 @@
 use Rattle.std.proofs.Common.{false}
+use Rattle.node_core.specs.UserActs.{act_of}
 use Rattle.net_replay.specs.Lines.{told_of}
 use Rattle.net_replay.specs.Running.{answer_events, course}
 use Rattle.net_replay.specs.World.{Act, World, answer, put, reach, tell}
@@ -12,7 +13,7 @@ returns c =
     let at = c.place_of-at.result in
     let channels = c.args.channels.now in
     let line = c.args.line in
-    let act = c.args.act.now in
+    let act = act_of c.args.act.now in
     let a = c.in_ok-answer.answer in
     at_number old new c.args.number at (λ k (w : World). put channels line k false (tell line (told_of (answer k act w)) (reach line k (Act act) w))) c.put_in_air.result c.place_of-at.ensures
     (acted old (course c.act_reaches.new.self) (course c.tell_answer.new.self) new channels line at act c.put_in_air.result told_of (answer_events a)
