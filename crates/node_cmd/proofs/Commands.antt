@@ -1,25 +1,81 @@
--- Words ask for one command at most.
-use Rattle.std.proofs.Common.{◌≡◌, ◌∙◌, List, refl, ap, sym, String, Global}
+-- Words ask for one command at most: for one modulus, one seed, one node, one gateway.
+use Rattle.std.proofs.Common.{◌≡◌, ◌∙◌, ◌∷◌, [], ℕ, List, refl, sym, subst, ap, arith, inl, inr, String, Global}
+use Rattle.std.specs.Prelude.{Ok, codes, nat_eq, false}
+use Rattle.std.proofs.lemmas.Bool.Decides.{nat_tests}
 use Rattle.std.specs.Fmt.{decimal}
 use Rattle.std.proofs.lemmas.Fmt.{decimal_injective}
+use Rattle.ax_ip.specs.Machine.{state}
+use Rattle.network_file.specs.declared.plan.live.LiveNode.{LiveNode}
+use Rattle.node_cmd.specs.declared.ip.gateway.Gateway.{Gateway}
 use Rattle.node_cmd.specs.declared.words.Command.{Command}
-use Rattle.node_cmd.specs.declared.words.Command.TheVariants.{Replay, Frames, Soak}
+use Rattle.node_cmd.specs.declared.words.Command.TheVariants.{Replay, Frames, Soak, Node, Ip}
+use Rattle.node_cmd.specs.declared.words.FrameModulus.{FrameModulus}
 use Rattle.node_cmd.specs.declared.words.FrameModulus.TheVariants as modulo
-use Rattle.node_cmd.specs.Words.{AskFor, IsCommand, words_for}
+use Rattle.node_cmd.specs.IpWords.{IsGateway}
+use Rattle.node_cmd.specs.Words.{Ask, AskFor, AskForStream, Declare, modulo_word, seed_word, size_of}
+use Rattle.node_cmd.proofs.GatewayWords.{same_gateway}
 
-same_words : (a b : Command) → IsCommand a → IsCommand b → words_for a ≡ words_for b → a ≡ b
-same_words Replay Replay i j e = refl
-same_words Replay (Frames m) i j e = absurd (cc e)
-same_words Replay (Soak n) i j e = absurd (cc e)
-same_words (Frames m) Replay i j e = absurd (cc e)
-same_words (Frames modulo.M8) (Frames modulo.M8) i j e = refl
-same_words (Frames modulo.M8) (Frames modulo.M128) i j e = absurd (cc e)
-same_words (Frames modulo.M128) (Frames modulo.M8) i j e = absurd (cc e)
-same_words (Frames modulo.M128) (Frames modulo.M128) i j e = refl
-same_words (Frames m) (Soak n) i j e = absurd (cc e)
-same_words (Soak n) Replay i j e = absurd (cc e)
-same_words (Soak n) (Frames m) i j e = absurd (cc e)
-same_words (Soak m) (Soak n) i j e = let same : decimal m ≡ decimal n = cc e in ap Soak (decimal_injective m n i j same)
+pub one_seed : (words : List (String Global)) (m n : ℕ) → AskFor words (Soak m) → AskFor words (Soak n) → m ≡ n
+one_seed words m n a b = let same : decimal m ≡ decimal n = cc (sym a.0 ∙ b.0) in decimal_injective m n a.1 b.1 same
 
-pub one_command : (words : List (String Global)) (a b : Command) → AskFor words a → AskFor words b → a ≡ b
-one_command words a b x y = same_words a b x.1 y.1 (sym x.0 ∙ y.0)
+pub one_gateway : (words : List (String Global)) (g h : Gateway) → AskFor words (Ip g) → AskFor words (Ip h) → state g.forwarder ≡ state h.forwarder
+one_gateway words g h a b =
+    let same : a.0 ≡ b.0 = cc (sym a.1 ∙ b.1) in
+    same_gateway b.0 (state g.forwarder) (state h.forwarder) (subst (λ ws. IsGateway ws (state g.forwarder)) same a.2) b.2
+
+same_declared : (words : List (List ℕ)) (d e : LiveNode) → Declare words d → Declare words e → d ≡ e
+unfolding Declare
+same_declared words d e a b = let read : Ok d ≡ Ok e = sym a ∙ b in cc read
+
+pub one_declared : (words : List (String Global)) (d e : LiveNode) → AskFor words (Node d) → AskFor words (Node e) → d ≡ e
+one_declared words d e a b =
+    let same : a.0 ≡ b.0 = cc (sym a.1 ∙ b.1) in
+    same_declared b.0 d e (subst (λ ws. Declare ws d) same a.2) b.2
+
+-- ---- the first word tells the commands apart
+
+abbrev pub first_word : Command → List ℕ
+first_word Replay = codes "replay"
+first_word (Frames m) = codes "frames"
+first_word (Soak seed) = codes "soak"
+first_word (Node declared) = codes "node"
+first_word (Ip gateway) = codes "ip"
+
+headed : (words : List (List ℕ)) (c : Command) → Ask words c → (later : List (List ℕ)) × (words ≡ first_word c ∷ later)
+headed words Replay a = ([], a)
+headed words (Frames m) a = (modulo_word m ∷ [], a)
+headed words (Soak seed) a = (seed_word seed ∷ [], a.0)
+headed words (Node declared) a = (a.0, a.1)
+headed words (Ip gateway) a = (a.0, a.1)
+
+same_first : (words : List (String Global)) (c d : Command) → AskFor words c → AskFor words d → first_word c ≡ first_word d
+same_first words c d a b = let x = headed _ c a in let y = headed _ d b in cc (sym x.1 ∙ y.1)
+
+-- the first character of that word
+abbrev pub first_char : List ℕ → ℕ
+first_char [] = 0
+first_char (b ∷ bs) = b
+
+abbrev pub mark : Command → ℕ
+mark c = first_char (first_word c)
+
+differ : (m n : ℕ) → nat_eq m n ≡ false → m ≡ n → ⊥
+differ m n two e = grind (arith, nat_tests, two, e)
+
+-- words that ask for one command don't ask for one of another kind
+pub other : (words : List (String Global)) (c d : Command) → nat_eq (mark c) (mark d) ≡ false → AskFor words c → AskFor words d → ⊥
+other words c d two a b = differ (mark c) (mark d) two (ap first_char (same_first words c d a b))
+
+-- nor for one that answers a stream as it comes
+pub no_stream : (words : List (String Global)) (c : Command) → nat_eq (mark c) (first_char (codes "frames")) ≡ false → nat_eq (mark c) (first_char (codes "ip")) ≡ false → AskFor words c → AskForStream words → ⊥
+no_stream words c frames ip a (inl s) = other words c (Frames s.0) frames a s.1
+no_stream words c frames ip a (inr s) = other words c (Ip s.0) ip a s.1
+
+same_size : (m n : FrameModulus) → modulo_word m ≡ modulo_word n → size_of m ≡ size_of n
+same_size modulo.M8 modulo.M8 e = refl
+same_size modulo.M8 modulo.M128 e = absurd (cc e)
+same_size modulo.M128 modulo.M8 e = absurd (cc e)
+same_size modulo.M128 modulo.M128 e = refl
+
+pub one_modulus : (words : List (String Global)) (m n : FrameModulus) → AskFor words (Frames m) → AskFor words (Frames n) → size_of m ≡ size_of n
+one_modulus words m n a b = same_size m n (cc (sym a ∙ b))

@@ -1,7 +1,7 @@
 -- The lines of a KISS stream, one for each of its items (this project's profile).
 use Rattle.std.specs.Prelude.{ℕ, ◌≡◌, ◌⊎◌, ◌==◌, ◌++◌, List, [], ◌∷◌, length, Some, codes}
 use Rattle.std.specs.Bool.{MatchBool}
-use Rattle.kiss_framing.specs.Stream.{Item, Frame as Piece, Too_long, items}
+use Rattle.kiss_framing.specs.Stream.{Item, Frame as Piece, Too_long}
 use Rattle.ax_frame.specs.declared.frame.FrameRefusal.{FrameRefusal}
 use Rattle.ax_frame.specs.declared.frame.FrameRefusal.TheVariants.{Short, BadCall, TooManyRepeaters, BadControl, NoPid, ExtraInfo}
 use Rattle.ax_frame.specs.Frames.{Frame, Spells}
@@ -49,7 +49,3 @@ IsLine size Too_long line = line ≡ codes "too long\n"
 abbrev pub Lists : ℕ → List Item → List ℕ → Type 0
 Lists size [] text = text ≡ []
 Lists size (item ∷ later) text = (line : List ℕ) × (rest : List ℕ) × IsLine size item line × Lists size later rest × (text ≡ line ++ rest)
-
--- these bytes more bring the stream these lines more
-abbrev pub AddsLines : ℕ → List ℕ → List ℕ → List ℕ → Type 0
-AddsLines size stream bytes text = (new : List Item) × (items (stream ++ bytes) ≡ items stream ++ new) × Lists size new text

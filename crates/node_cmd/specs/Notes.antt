@@ -4,9 +4,9 @@ use Rattle.std.specs.Fmt.{decimal}
 use Rattle.network_file.specs.declared.reasons.What.{What}
 use Rattle.network_file.specs.Reasons.{word_for}
 
--- all commands with their words, of which `replay`, `frames` and `soak` are built so far
+-- all commands with their words
 abbrev pub usage_note : List ℕ
-usage_note = codes "usage: replay | node call=CALL alias=ALIAS [key=value] | frames modulo=8|128 | soak seed=N\n"
+usage_note = codes "usage: replay | node call=CALL alias=ALIAS [key=value] | frames modulo=8|128 | soak seed=N | ip call=CALL addr=IP [route=IP/N,IP]\n"
 
 abbrev pub read_fault_note : List ℕ
 read_fault_note = codes "read fault\n"

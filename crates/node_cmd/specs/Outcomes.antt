@@ -19,7 +19,7 @@ use Rattle.node_cmd.specs.declared.outcomes.Printed.TheVariants.{Report, SoakLin
 use Rattle.node_cmd.specs.declared.outcomes.ReportRefusal.{ReportRefusal}
 use Rattle.node_cmd.specs.declared.outcomes.ReportRefusal.TheVariants.{BadLine, TooManyFrames, NoMemory}
 use Rattle.node_cmd.specs.declared.ran.Ran.{Ran}
-use Rattle.node_cmd.specs.declared.ran.Ran.TheVariants.{Nothing, Replayed}
+use Rattle.node_cmd.specs.declared.ran.Ran.TheVariants.{Nothing, Replayed, Served}
 use Rattle.node_cmd.specs.declared.status.Status.{Status}
 use Rattle.node_cmd.specs.declared.status.Status.TheVariants as statuses
 use Rattle.node_cmd.specs.Notes.{bad_line_note}
@@ -68,6 +68,7 @@ pub record IsOutcome (what : Printed) (o : Outcome) (network : Plan) : Type 0 wh
 -- the trace of a world is left
 abbrev pub Leaves : Ran → World → Type 0
 Leaves Nothing w = ⊥
+Leaves (Served node) w = ⊥
 Leaves (Replayed trace) w = IsTraceOf (left_of trace) w
 
 -- the text of a network was written, with the verdict on it, what ran is left, and at each line every end past its retries was told so

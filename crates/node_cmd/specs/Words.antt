@@ -1,11 +1,16 @@
 -- The commands, and the words that ask for them.
-use Rattle.std.specs.Prelude.{ℕ, ◌≡◌, ◌<◌, ◌^◌, ◌++◌, List, [], ◌∷◌, map, codes, String, string_bytes}
+use Rattle.std.specs.Prelude.{ℕ, ◌≡◌, ◌⊎◌, ◌<◌, ◌^◌, ◌++◌, List, [], ◌∷◌, map, Ok, codes, String, string_bytes}
 use Rattle.std.specs.Fmt.{decimal}
 use Rattle.std.specs.declared.alloc.Global.{Global}
+use Rattle.ax_ip.specs.Machine.{state}
+use Rattle.network_file.specs.declared.plan.live.LiveNode.{LiveNode}
+use Rattle.network_file.specs.Live.{live_node_at}
+use Rattle.node_cmd.specs.declared.ip.gateway.Gateway.{Gateway}
 use Rattle.node_cmd.specs.declared.words.Command.{Command}
-use Rattle.node_cmd.specs.declared.words.Command.TheVariants.{Replay, Frames, Soak}
+use Rattle.node_cmd.specs.declared.words.Command.TheVariants.{Replay, Frames, Soak, Node, Ip}
 use Rattle.node_cmd.specs.declared.words.FrameModulus.{FrameModulus}
 use Rattle.node_cmd.specs.declared.words.FrameModulus.TheVariants as modulo
+use Rattle.node_cmd.specs.IpWords.{IsGateway}
 
 abbrev pub modulo_word : FrameModulus → List ℕ
 modulo_word modulo.M8 = codes "modulo=8"
@@ -20,20 +25,25 @@ size_of modulo.M128 = 128
 abbrev pub seed_word : ℕ → List ℕ
 seed_word seed = codes "seed=" ++ decimal seed
 
-abbrev pub words_for : Command → List (List ℕ)
-words_for Replay = codes "replay" ∷ []
-words_for (Frames m) = codes "frames" ∷ modulo_word m ∷ []
-words_for (Soak seed) = codes "soak" ∷ seed_word seed ∷ []
+-- the words behind `node` declare it
+unfoldable pub Declare : List (List ℕ) → LiveNode → Type 0
+Declare words declared = live_node_at words ≡ Ok declared
 
--- a seed is at most 2^64 - 1
-abbrev pub IsCommand : Command → Type 0
-IsCommand (Soak seed) = seed < 2 ^ 64
-IsCommand command = Unit {0}
+-- these words ask for the command; a seed is at most 2^64 - 1
+abbrev pub Ask : List (List ℕ) → Command → Type 0
+Ask words Replay = words ≡ codes "replay" ∷ []
+Ask words (Frames m) = words ≡ codes "frames" ∷ modulo_word m ∷ []
+Ask words (Soak seed) = (words ≡ codes "soak" ∷ seed_word seed ∷ []) × (seed < 2 ^ 64)
+Ask words (Node declared) = (later : List (List ℕ)) × (words ≡ codes "node" ∷ later) × Declare later declared
+Ask words (Ip gateway) = (later : List (List ℕ)) × (words ≡ codes "ip" ∷ later) × IsGateway later (state gateway.forwarder)
 
--- the words ask for the command
 abbrev pub AskFor : List (String Global) → Command → Type 0
-AskFor words command = (map (λ w. string_bytes w) words ≡ words_for command) × IsCommand command
+AskFor words command = Ask (map (λ w. string_bytes w) words) command
 
--- for the frames of a stream, of either modulus
-abbrev pub AskForFrames : List (String Global) → Type 0
-AskForFrames words = (m : FrameModulus) × AskFor words (Frames m)
+-- for a live node
+abbrev pub AskForNode : List (String Global) → Type 0
+AskForNode words = (declared : LiveNode) × AskFor words (Node declared)
+
+-- for one that answers a stream as it comes
+abbrev pub AskForStream : List (String Global) → Type 0
+AskForStream words = ((m : FrameModulus) × AskFor words (Frames m)) ⊎ ((g : Gateway) × AskFor words (Ip g))

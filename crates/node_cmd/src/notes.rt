@@ -8,9 +8,9 @@ use net_replay::What;
 use radio_base::{NoMemory, Sink};
 use std::alloc::Global;
 
-/// All commands with their words, of which `replay`, `frames` and `soak` are built so far.
+/// All commands with their words.
 pub const USAGE: &str =
-    "usage: replay | node call=CALL alias=ALIAS [key=value] | frames modulo=8|128 | soak seed=N\n";
+    "usage: replay | node call=CALL alias=ALIAS [key=value] | frames modulo=8|128 | soak seed=N | ip call=CALL addr=IP [route=IP/N,IP]\n";
 
 /// A read of the input failed.
 pub const READ_FAULT: &str = "read fault\n";

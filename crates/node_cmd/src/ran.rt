@@ -1,5 +1,6 @@
 //! What a command leaves of what it ran.
 use net_replay::Trace;
+use node_core::Node;
 
 /// What was run.
 #[derive(Drop)]
@@ -8,4 +9,6 @@ pub enum Ran {
     Nothing,
     /// A network.
     Replayed(Trace),
+    /// A live node.
+    Served(Node),
 }

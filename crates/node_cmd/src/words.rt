@@ -4,10 +4,13 @@ ghost use Rattle.std.specs.Fmt.{decimal};
 ghost use Rattle.node_cmd.specs.declared.words.Command.{Command};
 ghost use Rattle.node_cmd.specs.Words.{AskFor, seed_word};
 
+use crate::ip::gateway::Gateway;
+use crate::ip::words::gateway_of;
 use itoa::Buffer;
+use net_replay::{LiveNode, read_live_node};
 
 /// What the program can do.
-#[derive(Clone, Copy, Debug, PartialEq, Eq)]
+#[derive(Drop)]
 pub enum Command {
     /// `replay`
     Replay,
@@ -15,6 +18,10 @@ pub enum Command {
     Frames { modulo: FrameModulus },
     /// `soak seed=N`
     Soak { seed: u64 },
+    /// `node call=CALL alias=ALIAS ..`
+    Node { declared: LiveNode },
+    /// `ip call=CALL addr=IP`, and then `route=IP/N,IP` for each route
+    Ip { gateway: Gateway },
 }
 
 /// The modulus of the sequence numbers in the frames of a stream, which no frame tells (AX.25 2.2, section 4.2.1).
@@ -27,6 +34,7 @@ pub enum FrameModulus {
 }
 
 /// The command that the words ask for.
+#[tactic(auto, unfolding(crate::specs::Words::Declare))]
 pub fn command_of(words: &[String]) -> Option<Command>
     ensures found { IfSome result (AskFor words.now) }
     ensures none { IfNone result ((c : Command) → ¬ AskFor words.now c) }
@@ -45,6 +53,14 @@ pub fn command_of(words: &[String]) -> Option<Command>
         }
         [word, seed] if is_soak(word.as_bytes()) => match seed_of(seed.as_str()) {
             Some(seed) => Some(Command::Soak { seed }),
+            None => None,
+        },
+        [word, more @ ..] if is_node(word.as_bytes()) => match read_live_node(more) {
+            Ok(declared) => Some(Command::Node { declared }),
+            Err(_) => None,
+        },
+        [word, rest @ ..] if is_ip(word.as_bytes()) => match gateway_of(rest) {
+            Some(gateway) => Some(Command::Ip { gateway }),
             None => None,
         },
         _ => None,
@@ -67,6 +83,18 @@ fn is_soak(word: &[u8]) -> bool
     ensures { IsTrue result ↔ (word.now ≡ codes "soak") }
 {
     word == b"soak".as_slice()
+}
+
+fn is_node(word: &[u8]) -> bool
+    ensures { IsTrue result ↔ (word.now ≡ codes "node") }
+{
+    word == b"node".as_slice()
+}
+
+fn is_ip(word: &[u8]) -> bool
+    ensures { IsTrue result ↔ (word.now ≡ codes "ip") }
+{
+    word == b"ip".as_slice()
 }
 
 fn is_modulo8(word: &[u8]) -> bool

@@ -1,0 +1,37 @@
+//! Packets over streams in memory.
+use crate::runs::{Case, outcome_of};
+use node_cmd::Status;
+use std::test::Fail;
+
+/// N0BBB asks QST for the call of 44.0.0.1, as KISS bytes.
+const REQUEST: &[u8] =
+    b"\xC0\x00\xA2\xA6\xA8\x40\x40\x40\xE0\x9C\x60\x84\x84\x84\x40\x61\x03\xCD\x00\x03\x00\xCC\x07\x04\x00\x01\x9C\x60\x84\x84\x84\x40\x60\x2C\x00\x00\x02\x00\x00\x00\x00\x00\x00\x00\x2C\x00\x00\x01\xC0";
+
+/// N0AAA answers it.
+const REPLY: &[u8] =
+    b"\xC0\x00\x9C\x60\x84\x84\x84\x40\xE0\x9C\x60\x82\x82\x82\x40\x61\x03\xCD\x00\x03\x00\xCC\x07\x04\x00\x02\x9C\x60\x82\x82\x82\x40\x60\x2C\x00\x00\x01\x9C\x60\x84\x84\x84\x40\x60\x2C\x00\x00\x02\xC0";
+
+#[test]
+fn what_is_sent_for_a_read_is_written_before_the_next(rt: HostRuntime) -> Result<(), Fail> {
+    let case = Case {
+        words: &["ip", "call=N0AAA", "addr=44.0.0.1"],
+        file: REQUEST,
+        piece: REQUEST.len(),
+        failing_reads: &[2],
+        failing_writes: &[],
+    };
+    let outcome = outcome_of(rt.alloc(), &case)?;
+    assert_eq!(rt; outcome.status, Status::ReadFault);
+    assert_eq!(rt; outcome.written.bytes(), REPLY);
+    assert_eq!(rt; outcome.notes.bytes(), b"read fault\n".as_slice());
+
+    let whole = Case {
+        piece: 7,
+        failing_reads: &[],
+        ..case
+    };
+    let outcome = outcome_of(rt.alloc(), &whole)?;
+    assert_eq!(rt; outcome.status, Status::Done);
+    assert_eq!(rt; outcome.written.bytes(), REPLY);
+    Ok(())
+}

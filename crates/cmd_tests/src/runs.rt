@@ -1,0 +1,233 @@
+//! The whole program over streams in memory.
+use node_cmd::{Ran, Status, run};
+use radio_base::{MemClock, MemSink, MemSource, NoMemory};
+use std::alloc::Global;
+use std::test::Fail;
+
+/// How a run ended, and what it left.
+#[derive(Drop)]
+pub(crate) struct Outcome {
+    pub(crate) status: Status,
+    pub(crate) written: MemSink,
+    pub(crate) notes: MemSink,
+}
+
+/// A run that reads and writes the given number of bytes at a time, and whose given reads and writes
+/// fail.
+#[derive(Drop)]
+pub(crate) struct Case<'a> {
+    pub(crate) words: &'a [&'a str],
+    pub(crate) file: &'a [u8],
+    pub(crate) piece: usize,
+    pub(crate) failing_reads: &'a [u64],
+    pub(crate) failing_writes: &'a [u64],
+}
+
+pub(crate) fn replay_of(file: &[u8]) -> Case<'_> {
+    Case {
+        words: &["replay"],
+        file,
+        piece: 1000,
+        failing_reads: &[],
+        failing_writes: &[],
+    }
+}
+
+pub(crate) fn outcome_of(alloc: Global, case: &Case<'_>) -> Result<Outcome, NoMemory> {
+    let mut words = Vec::new(alloc);
+    for word in case.words {
+        words.push(word.to_string(alloc)?)?;
+    }
+    let piece = case.piece.max(1);
+    let mut source = MemSource::new(alloc, case.file, piece, case.failing_reads)?;
+    let mut written = MemSink::new(alloc, 10_000, piece, case.failing_writes)?;
+    let mut notes = MemSink::new(alloc, 1_000, 1_000, &[])?;
+    let mut clock = MemClock::new(0, 1);
+    let status = run(
+        alloc,
+        &words,
+        &mut source,
+        &mut written,
+        &mut notes,
+        &mut clock,
+        &mut Ran::Nothing,
+    );
+    Ok(Outcome {
+        status,
+        written,
+        notes,
+    })
+}
+
+const HEARD: &[u8] = b"node 1 N0AAA ANODE
+heard 1 N0BBB BNODE N0CCC CNODE N0DDD 192 N0EEE ENODE N0DDD 255
+";
+
+#[test]
+fn good_files_are_reported(rt: HostRuntime) -> Result<(), Fail> {
+    let rows: [(&[u8], &[u8]); 3] = [
+        (b"", b"verdict done\n"),
+        (
+            b"node 1 N0AAA ANODE",
+            b"table 1 N0AAA ANODE\nverdict done\n",
+        ),
+        (
+            HEARD,
+            b"table 1 N0AAA ANODE
+route N0BBB BNODE N0BBB 192 6
+route N0CCC CNODE N0BBB 144 6
+route N0EEE ENODE N0BBB 191 6
+verdict done
+",
+        ),
+    ];
+    for (file, report) in rows {
+        let outcome = outcome_of(rt.alloc(), &replay_of(file))?;
+        assert_eq!(rt; outcome.status, Status::Done);
+        assert_eq!(rt; outcome.written.bytes(), report);
+        assert_eq!(rt; outcome.notes.bytes(), b"".as_slice());
+    }
+    Ok(())
+}
+
+#[test]
+fn other_words_are_told_what_the_commands_are(rt: HostRuntime) -> Result<(), Fail> {
+    let words: [&[&str]; 4] = [
+        &[],
+        &["frames", "modulo=16"],
+        &["replay", "replay"],
+        &["Replay"],
+    ];
+    for given in words {
+        let case = Case {
+            words: given,
+            ..replay_of(HEARD)
+        };
+        let outcome = outcome_of(rt.alloc(), &case)?;
+        assert_eq!(rt; outcome.status, Status::Usage);
+        assert_eq!(rt; outcome.written.bytes(), b"".as_slice());
+        let usage =
+            b"usage: replay | node call=CALL alias=ALIAS [key=value] | frames modulo=8|128 | soak seed=N | ip call=CALL addr=IP [route=IP/N,IP]\n";
+        assert_eq!(rt; outcome.notes.bytes(), usage.as_slice());
+    }
+    Ok(())
+}
+
+#[test]
+fn a_bad_line_is_named(rt: HostRuntime) -> Result<(), Fail> {
+    let file = b"# one node\nnode 1 N0AAA ANODE\n\njump 1\njump 2\n";
+    let outcome = outcome_of(rt.alloc(), &replay_of(file))?;
+    assert_eq!(rt; outcome.status, Status::BadFile);
+    assert_eq!(rt; outcome.written.bytes(), b"".as_slice());
+    assert_eq!(rt; outcome.notes.bytes(), b"line 4: word\n".as_slice());
+    Ok(())
+}
+
+#[test]
+fn faults_in_mid_stream_end_a_run(rt: HostRuntime) -> Result<(), Fail> {
+    let case = Case {
+        piece: 1,
+        failing_reads: &[3],
+        ..replay_of(HEARD)
+    };
+    let outcome = outcome_of(rt.alloc(), &case)?;
+    assert_eq!(rt; outcome.status, Status::ReadFault);
+    assert_eq!(rt; outcome.written.bytes(), b"".as_slice());
+    assert_eq!(rt; outcome.notes.bytes(), b"read fault\n".as_slice());
+
+    let case = Case {
+        piece: 1,
+        failing_writes: &[2],
+        ..replay_of(HEARD)
+    };
+    let outcome = outcome_of(rt.alloc(), &case)?;
+    assert_eq!(rt; outcome.status, Status::WriteFault);
+    assert_eq!(rt; outcome.written.bytes(), b"t".as_slice());
+    assert_eq!(rt; outcome.notes.bytes(), b"".as_slice());
+    Ok(())
+}
+
+#[test]
+fn a_file_has_at_most_2_to_the_20_bytes(rt: HostRuntime) -> Result<(), Fail> {
+    let file = vec![in rt.alloc(); b'#'; 1_048_577]?;
+    let longest = outcome_of(rt.alloc(), &replay_of(&file[1..]))?;
+    assert_eq!(rt; longest.status, Status::Done);
+    assert_eq!(rt; longest.written.bytes(), b"verdict done\n".as_slice());
+
+    let too_long = outcome_of(rt.alloc(), &replay_of(&file))?;
+    assert_eq!(rt; too_long.status, Status::TooLong);
+    assert_eq!(rt; too_long.written.bytes(), b"".as_slice());
+    assert_eq!(rt; too_long.notes.bytes(), b"too long\n".as_slice());
+    Ok(())
+}
+
+#[test]
+fn statuses_have_their_exit_statuses(rt: HostRuntime) {
+    assert_eq!(rt; Status::Done.code(), 0);
+    assert_eq!(rt; Status::Usage.code(), 2);
+    assert_eq!(rt; Status::BadFile.code(), 3);
+    assert_eq!(rt; Status::ReadFault.code(), 4);
+    assert_eq!(rt; Status::WriteFault.code(), 5);
+    assert_eq!(rt; Status::TooLong.code(), 6);
+    assert_eq!(rt; Status::TooLate.code(), 7);
+    assert_eq!(rt; Status::NoMemory.code(), 8);
+}
+
+/// A NODES frame of N0CALL-7 with an alias and no entries, as KISS bytes.
+const NODES: &[u8] =
+    b"\xC0\x00\x9C\x9E\x88\x8A\xA6\x40\xE0\x9C\x60\x86\x82\x98\x98\x6F\x03\xCF\xFFBNODE \xC0";
+
+const NODES_LINE: &[u8] = b"port=0 N0CALL-7>NODES cmd UI pf=0 pid=CF len=7\n";
+
+pub(crate) fn frames_of(stream: &[u8]) -> Case<'_> {
+    Case {
+        words: &["frames", "modulo=8"],
+        file: stream,
+        piece: 1000,
+        failing_reads: &[],
+        failing_writes: &[],
+    }
+}
+
+#[test]
+fn each_item_of_a_stream_has_its_line(rt: HostRuntime) -> Result<(), Fail> {
+    let streams: [(&[u8], &[u8]); 5] = [
+        (b"", b""),
+        (NODES, NODES_LINE),
+        // An octet behind a control field of a kind without information; no PID; no frame at all.
+        (
+            b"\xC0\x00\x9C\x9E\x88\x8A\xA6\x40\xE0\x9C\x60\x86\x82\x98\x98\x6F\x41\x00\xC0",
+            b"port=0 bad extra 15\n",
+        ),
+        (
+            b"\x10\x9C\x9E\x88\x8A\xA6\x40\xE0\x9C\x60\x86\x82\x98\x98\x6F\x03\xC0\x00\xC0",
+            b"port=1 bad pid 15\nport=0 bad short 0\n",
+        ),
+        // TXDELAY of port 2.
+        (b"\xC0\x21\x05\xC0", b"port=2 command=1 len=1\n"),
+    ];
+    for (stream, lines) in streams {
+        let outcome = outcome_of(rt.alloc(), &frames_of(stream))?;
+        assert_eq!(rt; outcome.status, Status::Done);
+        assert_eq!(rt; outcome.written.bytes(), lines);
+        assert_eq!(rt; outcome.notes.bytes(), b"".as_slice());
+    }
+    let long = vec![in rt.alloc(); 0u8; 1025]?;
+    let outcome = outcome_of(rt.alloc(), &frames_of(&long))?;
+    assert_eq!(rt; outcome.written.bytes(), b"too long\n".as_slice());
+    Ok(())
+}
+
+#[test]
+fn the_lines_of_a_read_are_written_before_the_next(rt: HostRuntime) -> Result<(), Fail> {
+    let case = Case {
+        piece: NODES.len(),
+        failing_reads: &[2],
+        ..frames_of(NODES)
+    };
+    let outcome = outcome_of(rt.alloc(), &case)?;
+    assert_eq!(rt; outcome.status, Status::ReadFault);
+    assert_eq!(rt; outcome.written.bytes(), NODES_LINE);
+    assert_eq!(rt; outcome.notes.bytes(), b"read fault\n".as_slice());
+    Ok(())
+}

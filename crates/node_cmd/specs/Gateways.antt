@@ -1,0 +1,60 @@
+-- What a forwarder of packets does with the items of a KISS stream, and what is sent. (AX.25 2.2, section 4.3.3.6; own profile.)
+use Rattle.std.specs.Prelude.{ℕ, ◌≡◌, ◌++◌, List, [], ◌∷◌, Bool, true, false, ◌&&◌, ◌==◌, Option, Some, None, Result, Ok, Err, if◌then◌else◌}
+use Rattle.std.proofs.Common.{lit≤}
+use Rattle.kiss_framing.specs.declared.deframer.KissItem.{KissItem}
+use Rattle.kiss_framing.specs.declared.deframer.KissItem.TheVariants as kiss
+use Rattle.kiss_framing.specs.Stream.{Item, Frame as Piece, Too_long, items}
+use Rattle.kiss_framing.specs.Enframing.{framed}
+use Rattle.ax_address.specs.Callsign.{Callsign}
+use Rattle.ax_address.specs.declared.address.Address.{Address}
+use Rattle.ax_frame.specs.declared.control.Control.TheVariants.{Ui}
+use Rattle.ax_frame.specs.declared.frame.FrameRefusal.{FrameRefusal}
+use Rattle.ax_frame.specs.Frames.{Frame, frame, frame_octets}
+use Rattle.ax_frame.specs.Read.{read_at}
+use Rattle.ax_ip.specs.declared.out.IpOut.{IpOut}
+use Rattle.ax_ip.specs.Machine.{State, Turn, after, turn}
+
+-- the address of a sender or receiver, with its C bit; this station writes the reserved bits 1
+abbrev pub address_of : Callsign → Bool → Address
+address_of c bit7 = record { call = c; bit7 = bit7; reserved = 3; two_bits = lit≤ tt }
+
+-- what is sent is a UI command without repeaters
+abbrev pub ui_frame : Callsign → Callsign → ℕ → List ℕ → Frame
+ui_frame call to pid info = frame (record { dest = address_of to true; source = address_of call false; path = record { items = [] } }) (Ui false) (Some pid) info
+
+abbrev pub ui_octets : Callsign → Callsign → ℕ → List ℕ → List ℕ
+ui_octets call to pid info = frame_octets 8 (ui_frame call to pid info)
+
+abbrev pub sent : Callsign → Option IpOut → List ℕ
+sent call None = []
+sent call (Some out) = framed 0 0 (ui_octets call out.to out.pid out.info.items)
+
+-- the state behind a turn, and what was sent
+abbrev pub by_turn : State → Turn → State × List ℕ
+by_turn s t = (after s t, sent s.call t.out)
+
+-- octets that are no frame give nothing
+abbrev pub by_read : State → Result Frame FrameRefusal → State × List ℕ
+by_read s (Err refusal) = (s, [])
+by_read s (Ok f) = by_turn s (turn s f)
+
+abbrev pub item_of : KissItem → Item
+item_of (kiss.Frame port command payload) = Piece port command payload.now
+item_of kiss.TooLong = Too_long
+
+-- frames of data on port 0; other items give nothing
+abbrev pub by_item : State → Item → State × List ℕ
+by_item s Too_long = (s, [])
+by_item s (Piece port command payload) = if (port == 0) && (command == 0) then by_read s (read_at 8 payload) else (s, [])
+
+-- item by item
+abbrev pub by_items : State → List Item → State × List ℕ
+by_items s [] = (s, [])
+by_items s (item ∷ later) =
+    let first = by_item s item in
+    let rest = by_items first.0 later in
+    (rest.0, first.1 ++ rest.1)
+
+-- what is sent for the frames of a stream, from a state on
+abbrev pub sent_for : State → List ℕ → List ℕ
+sent_for s stream = (by_items s (items stream)).1

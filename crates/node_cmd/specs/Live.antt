@@ -1,0 +1,55 @@
+-- What a live node makes of the reads of a stream. Own profile.
+use Rattle.std.specs.Prelude.{ℕ, ◌≡◌, List, [], ◌∷◌, ◌++◌}
+use Rattle.std.specs.List.{flat_map}
+use Rattle.kiss_framing.specs.Enframing.{framed}
+use Rattle.link_table.specs.declared.written.Written.{Written}
+use Rattle.network_file.specs.declared.plan.live.LiveNode.{LiveNode}
+use Rattle.net_replay.specs.Starting.{live_started}
+use Rattle.node_core.specs.Fetching.{heard, sent}
+use Rattle.node_core.specs.Inputs.{after_bytes, after_tick}
+use Rattle.node_core.specs.Kept.{NodeStands}
+use Rattle.node_core.specs.States.{NodeState, frames}
+use Rattle.node_cmd.specs.declared.ran.Ran.{Ran}
+use Rattle.node_cmd.specs.declared.ran.Ran.TheVariants.{Nothing, Replayed, Served}
+use Rattle.node_cmd.specs.Streams.{Read}
+
+-- a read brings its bytes and then a tick, both at the moment behind it
+abbrev pub after_read : Read → NodeState → NodeState
+after_read read n = after_tick read.now (after_bytes read.now read.bytes n)
+
+-- frames as KISS bytes: data on port 0
+abbrev pub kiss_of_frame : Written → List ℕ
+kiss_of_frame f = framed 0 0 f.octets.items
+
+abbrev pub kiss_of : List Written → List ℕ
+kiss_of fs = flat_map kiss_of_frame fs
+
+-- all that it has to send and to tell was fetched
+abbrev pub fetched : NodeState → NodeState
+fetched n = record n { station = heard (sent n.station) }
+
+-- the node after these reads, behind each of which all was fetched
+abbrev pub after_reads : List Read → NodeState → NodeState
+after_reads [] n = n
+after_reads (read ∷ later) n = after_reads later (fetched (after_read read n))
+
+-- what it sends at a read, and at these reads
+abbrev pub answer_to : Read → NodeState → List ℕ
+answer_to read n = kiss_of (frames (after_read read n).station)
+
+abbrev pub answer_to_reads : List Read → NodeState → List ℕ
+answer_to_reads [] n = []
+answer_to_reads (read ∷ later) n = answer_to read n ++ answer_to_reads later (fetched (after_read read n))
+
+-- a text is what the declared node sends at these reads
+abbrev pub IsAnswerOf : LiveNode → List Read → List ℕ → Type 0
+IsAnswerOf declared reads text = text ≡ answer_to_reads reads (live_started declared)
+
+-- the node that is left stands for the machine after these reads
+abbrev pub LeavesNode : Ran → NodeState → Type 0
+LeavesNode Nothing n = ⊥
+LeavesNode (Replayed trace) n = ⊥
+LeavesNode (Served node) n = NodeStands node n
+
+abbrev pub ServesReads : LiveNode → Ran → List Read → List ℕ → Type 0
+ServesReads declared ran reads text = IsAnswerOf declared reads text × LeavesNode ran (after_reads reads (live_started declared))

@@ -1,0 +1,43 @@
+//! The command `ip`.
+ghost use Rattle.std.specs.Prelude.{◌≡◌};
+ghost use Rattle.ax_ip.specs.Machine.{state};
+ghost use Rattle.node_cmd.specs.Writing.{Says};
+ghost use Rattle.node_cmd.specs.StatusNotes.{HasNote, IsSilent};
+ghost use Rattle.node_cmd.specs.Told.{told};
+ghost use Rattle.node_cmd.specs.Run.{IpEnds};
+
+pub mod gateway;
+pub mod texts;
+pub mod words;
+
+use crate::items::answer_items;
+use crate::status::Status;
+use gateway::Gateway;
+use radio_base::{Sink, Source};
+use std::alloc::Global;
+
+/// The most bytes that are read at a time.
+const READ_SIZE: usize = 4_096;
+
+/// Forwards the packets of a KISS stream, read from the source to its end: what is sent for each read is written before the next read.
+///
+/// The status says how it ended, and where the input was refused the notes say why.
+pub fn ip_over_stream<S: Source, K: Sink, N: Sink>(
+    alloc: Global,
+    gateway: Gateway,
+    source: &mut S,
+    sink: &mut K,
+    notes: &mut N,
+) -> Status
+    // How it ends: the frames written are those that the gateway sends, and each status has its reason.
+    ensures ends { IpEnds (state gateway.forwarder)
+        (told (S.left source.old) (S.reads source.old) (S.faults source.old) (K.written sink.old) (K.faults sink.old) (N.written notes.old) (N.faults notes.old))
+        (told (S.left source.new) (S.reads source.new) (S.faults source.new) (K.written sink.new) (K.faults sink.new) (N.written notes.new) (N.faults notes.new)) result }
+
+    // Nothing else is noted.
+    ensures noted { HasNote result (Says (N.written notes.old) (N.written notes.new) (N.faults notes.old) (N.faults notes.new)) }
+    ensures silent { IsSilent result → notes.new ≡ notes.old }
+{
+    let mut buf = [0u8; READ_SIZE];
+    answer_items(alloc, &mut buf, gateway, source, sink, notes)
+}

@@ -1,0 +1,122 @@
+//! The command `node`: a live node, which reads KISS bytes and writes its frames.
+ghost use Rattle.std.specs.Prelude.{◌≡◌, ◌≢◌, ◌++◌, ◌≤◌, List, ℕ, length, OnOk};
+ghost use Rattle.node_core.specs.Fetching.{heard, sent};
+ghost use Rattle.node_core.specs.Kept.{NodeGoes, NodeStands};
+ghost use Rattle.node_core.specs.States.{NodeState, frames};
+ghost use Rattle.node_cmd.specs.Live as live;
+ghost use Rattle.node_cmd.specs.Run.{NodeEnds};
+ghost use Rattle.node_cmd.specs.StatusNotes.{HasNote, IsSilent};
+ghost use Rattle.node_cmd.specs.Told.{told};
+ghost use Rattle.node_cmd.specs.Writing.{Says};
+ghost use Rattle.node_cmd.specs.declared.ran.Ran.TheVariants as rans;
+
+use crate::ran::Ran;
+use crate::status::Status;
+use crate::streams::{Taker, answer_stream};
+use arrayvec::ArrayVec;
+use kiss_framing::enframe;
+use link_table::Written;
+use net_replay::{LiveNode, live_node};
+use node_core::Node;
+use radio_base::{Clock, Moment, NoMemory, Sink, Source, TextOut};
+use std::alloc::Global;
+
+/// The most bytes that are read at a time.
+const READ_SIZE: usize = 4_096;
+
+/// Room for a frame as KISS bytes: at most 1,024 bytes with the type byte, each of which may be escaped, between two FENDs.
+type KissBytes = ArrayVec<u8, 2050>;
+
+/// A node that lives on the reads of a stream.
+#[derive(Drop)]
+struct Living {
+    node: Node,
+}
+
+impl Taker for Living {
+    ghost use Rattle.std.specs.Prelude.{◌≡◌};
+    ghost use Rattle.node_core.specs.Kept.{NodeStands};
+    ghost use Rattle.node_core.specs.States.{NodeState};
+    ghost use Rattle.node_cmd.specs.Live.{after_reads, answer_to_reads};
+
+    ghost took = { λ first last reads text. (n : NodeState) → NodeStands first.node n → NodeStands last.node (after_reads reads n) × (text ≡ answer_to_reads reads n) };
+
+    fn take(&mut self, bytes: &[u8], now: Moment, answer: &mut TextOut) -> Result<(), NoMemory> {
+        self.node.kiss_bytes(bytes, now)?;
+        self.node.tick(now)?;
+        add_frames(&mut self.node, answer)?;
+        drop_entries(&mut self.node);
+        Ok(())
+    }
+}
+
+/// Fetches all frames of the node, and adds them as KISS bytes.
+fn add_frames(node: &mut Node, text: &mut TextOut) -> Result<(), NoMemory>
+    ensures goes { OnOk result (NodeGoes (λ n. record n { station = sent n.station }) node.old node.new) }
+    ensures added { OnOk result ((n : NodeState) → NodeStands node.old n → text.new ≡ text.old ++ live.kiss_of (frames n.station)) }
+    ensures grows { OnOk result ((more : List ℕ) × (text.new ≡ text.old ++ more)) }
+{
+    node_core::laws::fetching_empties();
+    while let Some(frame) = node.next_frame() {
+        add_frame(&frame, text)?;
+    }
+    Ok(())
+}
+
+/// Adds a frame as KISS bytes: data on port 0.
+fn add_frame(frame: &Written, text: &mut TextOut) -> Result<(), NoMemory>
+    ensures { OnOk result (text.new ≡ text.old ++ live.kiss_of_frame frame.now) }
+{
+    let mut bytes = KissBytes::new();
+    let _ = enframe(0, 0, frame.octets.as_slice(), &mut bytes);
+    text.octets(bytes.as_slice())
+}
+
+/// Fetches all that the node has to tell. Nobody reads it.
+fn drop_entries(node: &mut Node)
+    ensures { NodeGoes (λ n. record n { station = heard n.station }) node.old node.new }
+{
+    node_core::laws::fetching_empties();
+    while let Some(_entry) = node.trace_entry() {}
+}
+
+/// Runs a node on a stream of KISS bytes: each read that gives bytes brings it these and then a tick, both at the moment behind the
+/// read, and its frames are written before the next read. Where the stream was read to its end the node is left in `ran`.
+///
+/// The status says how it ended, and where the input was refused the notes say why.
+pub fn run_node<S: Source, K: Sink, N: Sink, C: Clock>(
+    alloc: Global,
+    declared: &LiveNode,
+    source: &mut S,
+    sink: &mut K,
+    notes: &mut N,
+    clock: &mut C,
+    ran: &mut Ran,
+) -> Status
+    requires { ran.old ≡ rans.Nothing }
+
+    // How it ends: the bytes written are the frames of the node's machine, and each status has its reason.
+    ensures ends { NodeEnds declared.now (C.given clock.old) (C.given clock.new)
+        (told (S.left source.old) (S.reads source.old) (S.faults source.old) (K.written sink.old) (K.faults sink.old) (N.written notes.old) (N.faults notes.old))
+        (told (S.left source.new) (S.reads source.new) (S.faults source.new) (K.written sink.new) (K.faults sink.new) (N.written notes.new) (N.faults notes.new))
+        ran.new result }
+
+    // What isn't said above to be left isn't, and nothing else is noted.
+    ensures nothing { result ≢ Status.Done → ran.new ≡ ran.old }
+    ensures noted { HasNote result (Says (N.written notes.old) (N.written notes.new) (N.faults notes.old) (N.faults notes.new)) }
+    ensures silent { IsSilent result → notes.new ≡ notes.old }
+{
+    let node = match live_node(alloc, declared) {
+        Ok(node) => node,
+        Err(_) => return Status::NoMemory,
+    };
+    let mut living = Living { node };
+    let mut buf = [0u8; READ_SIZE];
+    match answer_stream(alloc, &mut buf, &mut living, source, sink, notes, clock) {
+        Status::Done => {
+            *ran = Ran::Served(living.node);
+            Status::Done
+        }
+        other => other,
+    }
+}

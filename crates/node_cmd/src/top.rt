@@ -1,0 +1,98 @@
+//! The top call.
+ghost use Rattle.std.specs.Prelude.{ℕ, ◌≡◌, ◌≢◌, ◌↔◌};
+ghost use Rattle.ax_ip.specs.Machine.{state};
+ghost use Rattle.node_cmd.specs.declared.ip.gateway.Gateway.{Gateway};
+ghost use Rattle.node_cmd.specs.declared.ran.Ran.TheVariants as rans;
+ghost use Rattle.node_cmd.specs.declared.words.Command.{Command};
+ghost use Rattle.node_cmd.specs.declared.words.FrameModulus.{FrameModulus};
+ghost use Rattle.network_file.specs.declared.plan.live.LiveNode.{LiveNode};
+ghost use Rattle.node_cmd.specs.Words.{AskFor, AskForNode, AskForStream, size_of};
+ghost use Rattle.node_cmd.specs.Writing.{Says};
+ghost use Rattle.node_cmd.specs.StatusNotes.{HasNote, IsSilent};
+ghost use Rattle.node_cmd.specs.Told.{told};
+ghost use Rattle.node_cmd.specs.Run.{FramesEnd, IpEnds, NodeEnds, ReplayEnds, SoakEnds};
+
+use crate::frames::frames_of_stream;
+use crate::ip::ip_over_stream;
+use crate::live::run_node;
+use crate::notes::{USAGE, say};
+use crate::ran::Ran;
+use crate::replays::replay_file;
+use crate::soaks::soak;
+use crate::status::Status;
+use crate::words::{Command, command_of};
+use radio_base::{Clock, Sink, Source};
+use std::alloc::Global;
+
+/// Does what the words ask for: `replay` reads a network file from the source and writes the report of
+/// that network to the sink, and leaves what ran in `ran`, in which nothing is before; `frames` lists the frames of a KISS stream;
+/// `soak` replays the network that a number is made to, writes the line on it, and leaves what ran likewise; `ip` forwards the packets of
+/// a KISS stream.
+///
+/// The status says how it ended, and where words, input or lines were refused the notes say why.
+pub fn run<S: Source, K: Sink, N: Sink, C: Clock>(
+    alloc: Global,
+    words: &[String],
+    source: &mut S,
+    sink: &mut K,
+    notes: &mut N,
+    clock: &mut C,
+    ran: &mut Ran,
+) -> Status
+    requires { ran.old ≡ rans.Nothing }
+
+    // Words that are no command's are refused before anything is read or written.
+    ensures usage { (result ≡ Status.Usage) ↔ ((c : Command) → ¬ AskFor words.now c) }
+    ensures unread { result ≡ Status.Usage → source.new ≡ source.old }
+    ensures unwritten { result ≡ Status.Usage → sink.new ≡ sink.old }
+
+    // How each command ends.
+    ensures replay { AskFor words.now Command.Replay → ReplayEnds
+        (told (S.left source.old) (S.reads source.old) (S.faults source.old) (K.written sink.old) (K.faults sink.old) (N.written notes.old) (N.faults notes.old))
+        (told (S.left source.new) (S.reads source.new) (S.faults source.new) (K.written sink.new) (K.faults sink.new) (N.written notes.new) (N.faults notes.new))
+        ran.new result }
+    ensures frames { (m : FrameModulus) → AskFor words.now (Command.Frames m) → FramesEnd (size_of m)
+        (told (S.left source.old) (S.reads source.old) (S.faults source.old) (K.written sink.old) (K.faults sink.old) (N.written notes.old) (N.faults notes.old))
+        (told (S.left source.new) (S.reads source.new) (S.faults source.new) (K.written sink.new) (K.faults sink.new) (N.written notes.new) (N.faults notes.new)) result }
+    ensures soak { (seed : ℕ) → AskFor words.now (Command.Soak seed) → SoakEnds seed
+        (K.written sink.old) (K.written sink.new) (K.faults sink.old) (K.faults sink.new) ran.new result }
+
+    ensures node { (declared : LiveNode) → AskFor words.now (Command.Node declared) → NodeEnds declared (C.given clock.old) (C.given clock.new)
+        (told (S.left source.old) (S.reads source.old) (S.faults source.old) (K.written sink.old) (K.faults sink.old) (N.written notes.old) (N.faults notes.old))
+        (told (S.left source.new) (S.reads source.new) (S.faults source.new) (K.written sink.new) (K.faults sink.new) (N.written notes.new) (N.faults notes.new))
+        ran.new result }
+    ensures ip { (g : Gateway) → AskFor words.now (Command.Ip g) → IpEnds (state g.forwarder)
+        (told (S.left source.old) (S.reads source.old) (S.faults source.old) (K.written sink.old) (K.faults sink.old) (N.written notes.old) (N.faults notes.old))
+        (told (S.left source.new) (S.reads source.new) (S.faults source.new) (K.written sink.new) (K.faults sink.new) (N.written notes.new) (N.faults notes.new)) result }
+
+    // `soak` reads nothing.
+    ensures sourceless { (seed : ℕ) → AskFor words.now (Command.Soak seed) → source.new ≡ source.old }
+
+    // `replay` and `soak` write at the end: elsewhere they write nothing.
+    ensures whole { ¬ AskForStream words.now → ¬ AskForNode words.now → result ≢ Status.Done → result ≢ Status.TooLate → result ≢ Status.WriteFault → sink.new ≡ sink.old }
+
+    // What ran is left after `replay` and `soak`: where they are done, and where it is too late.
+    ensures nothing { result ≢ Status.Done → result ≢ Status.TooLate → ran.new ≡ ran.old }
+    ensures no_network { AskForStream words.now → ran.new ≡ ran.old }
+
+    // The notes are those of the status, and no others.
+    ensures noted { HasNote result (Says (N.written notes.old) (N.written notes.new) (N.faults notes.old) (N.faults notes.new)) }
+    ensures silent { IsSilent result → notes.new ≡ notes.old }
+
+    // No command but `node` asks the clock.
+    ensures timeless { ¬ AskForNode words.now → clock.new ≡ clock.old }
+{
+    match command_of(words) {
+        Some(Command::Replay) => replay_file(alloc, source, sink, notes, ran),
+        Some(Command::Frames { modulo }) => frames_of_stream(alloc, modulo, source, sink, notes),
+        Some(Command::Node { declared }) => {
+            run_node(alloc, &declared, source, sink, notes, clock, ran)
+        }
+        Some(Command::Soak { seed }) => soak(alloc, seed, sink, notes, ran),
+        Some(Command::Ip { gateway }) => ip_over_stream(alloc, gateway, source, sink, notes),
+        None => {
+            say(notes, USAGE);
+            Status::Usage
+        }
+    }
+}
