@@ -1,0 +1,11 @@
+pub mod Cuts
+pub mod Numbers
+pub mod Flying
+pub mod Coming
+pub mod Books
+pub mod Settling
+pub mod Acting
+pub mod Arriving
+pub mod Living
+pub mod LastLines
+pub mod Timing

@@ -1,0 +1,9 @@
+pub mod Reasons
+pub mod Words
+pub mod Lines
+pub mod Scripts
+pub mod Ends
+pub mod Lives
+pub mod Reports
+pub mod Standing
+pub mod Laws

@@ -1,0 +1,99 @@
+-- What a line of a script says. Own profile.
+use Rattle.std.specs.Prelude.{ℕ, List, [], ◌∷◌, length, Option, Some, None, Result, Ok, Err, Bool, true, false, ◌&&◌, nat_eq, nat_le, if◌then◌else◌, codes}
+use Rattle.std.specs.Cmp.Lexicographic.{pointwise}
+use Rattle.radio_base.specs.declared.payload.Payload.{Payload}
+use Rattle.link_life.specs.declared.reasons.LifeWhat.{LifeWhat}
+use Rattle.link_life.specs.declared.reasons.LifeWhat.TheVariants as whats
+use Rattle.link_life.specs.declared.act.Side.{Side}
+use Rattle.link_life.specs.declared.act.Side.TheVariants.{A, B}
+use Rattle.link_life.specs.declared.act.EndAct.{EndAct}
+use Rattle.link_life.specs.declared.act.EndAct.TheVariants.{SetUp, Send, Close, Take, Arrive, Lose}
+use Rattle.link_life.specs.declared.act.LifeAct.{LifeAct}
+use Rattle.link_life.specs.declared.act.LifeAct.TheVariants.{At, Tick}
+use Rattle.link_life.specs.Words.{is_text, number_of, sent_text, words_of}
+
+infixl 10 ◌>>=◌
+abbrev pub ◌>>=◌ : {A B : Type 0} → Result A LifeWhat → (A → Result B LifeWhat) → Result B LifeWhat
+(Ok x) >>= f = f x
+(Err e) >>= f = Err e
+
+-- what is wrong where the test fails
+abbrev pub needs : Bool → LifeWhat → Result (Unit {0}) LifeWhat
+needs true what = Ok tt
+needs false what = Err what
+
+-- the value, or what is wrong
+abbrev pub known : {A : Type 0} → LifeWhat → Option A → Result A LifeWhat
+known what (Some x) = Ok x
+known what None = Err what
+
+abbrev pub side_at : List ℕ → Result Side LifeWhat
+side_at word =
+    if pointwise nat_eq word (codes "a") then Ok A else (if pointwise nat_eq word (codes "b") then Ok B else Err whats.Side)
+
+-- setup S, close S, take S, arrive S, lose S
+unfoldable pub end_at : EndAct → List ℕ → Result LifeAct LifeWhat
+end_at act word = do
+  side ← side_at word
+  Ok (At side act)
+
+abbrev pub end_line : EndAct → List (List ℕ) → Result LifeAct LifeWhat
+end_line act (word ∷ []) = end_at act word
+end_line act other = Err whats.Count
+
+-- tick MS: at most a day
+unfoldable pub tick_at : List ℕ → Result LifeAct LifeWhat
+tick_at word = do
+  passed ← known whats.Number (number_of 1 86400000 word)
+  Ok (Tick passed)
+
+abbrev pub tick_line : List (List ℕ) → Result LifeAct LifeWhat
+tick_line (word ∷ []) = tick_at word
+tick_line other = Err whats.Count
+
+-- TEXT as a payload of no layer 3
+abbrev pub payload_at : List ℕ → Result Payload LifeWhat
+payload_at text =
+    if nat_le 1 (length text) && nat_le (length text) 256
+    then Ok (record { pid = 240; info = record { items = text } })
+    else Err whats.Text
+
+-- send S TEXT: without the space that TEXT stands behind the line has too few words
+unfoldable pub send_at : List ℕ → List ℕ → Result LifeAct LifeWhat
+send_at line word = do
+  text ← known whats.Count (sent_text line)
+  side ← side_at word
+  payload ← payload_at text
+  Ok (At side (Send payload))
+
+abbrev pub send_line : List ℕ → List (List ℕ) → Result LifeAct LifeWhat
+send_line line (word ∷ more) = send_at line word
+send_line line [] = Err whats.Count
+
+-- the acts of an end that have no text, by their words
+abbrev pub act_of : List ℕ → Option EndAct
+act_of word =
+    if pointwise nat_eq word (codes "setup") then Some SetUp
+    else if pointwise nat_eq word (codes "close") then Some Close
+    else if pointwise nat_eq word (codes "take") then Some Take
+    else if pointwise nat_eq word (codes "arrive") then Some Arrive
+    else if pointwise nat_eq word (codes "lose") then Some Lose
+    else None
+
+abbrev pub end_line_if : Option EndAct → List (List ℕ) → Result LifeAct LifeWhat
+end_line_if None words = Err whats.Word
+end_line_if (Some act) words = end_line act words
+
+-- TEXT may hold spaces: it is read from the line, and all else from the words
+abbrev pub line_of : List ℕ → List (List ℕ) → Result LifeAct LifeWhat
+line_of line [] = Err whats.Word
+line_of line (first ∷ words) =
+    if pointwise nat_eq first (codes "send") then send_line line words
+    else if pointwise nat_eq first (codes "tick") then tick_line words
+    else end_line_if (act_of first) words
+
+-- what a line says, or the first thing that is wrong with it
+unfoldable pub line_at : List ℕ → Result LifeAct LifeWhat
+line_at line = do
+  u ← needs (is_text line) whats.Char
+  line_of line (words_of line)

@@ -1,0 +1,106 @@
+-- The report of a life. Own profile.
+use Rattle.std.specs.Prelude.{ℕ, suc, ◌++◌, List, [], ◌∷◌, length, not, codes, Bool}
+use Rattle.std.specs.Fmt.{decimal}
+use Rattle.std.specs.List.{flat_map}
+use Rattle.std.proofs.Common.{lit≤}
+use Rattle.ax_address.specs.Callsign.{Callsign}
+use Rattle.ax_address.specs.declared.address.Address.{Address}
+use Rattle.ax_frame.specs.declared.head.Head.{Head}
+use Rattle.ax_frame.specs.FrameText.{frame_text}
+use Rattle.ax_link.specs.declared.plain.LinkNotice.{LinkNotice}
+use Rattle.ax_link.specs.declared.plain.LinkNotice.TheVariants as notices
+use Rattle.ax_link.specs.Kinds.{control_of, info_of, pid_of}
+use Rattle.ax_link.specs.State.{Frame}
+use Rattle.link_life.specs.declared.act.Side.{Side}
+use Rattle.link_life.specs.declared.act.Side.TheVariants.{A, B}
+use Rattle.link_life.specs.declared.reasons.LifeRefusal.{LifeRefusal}
+use Rattle.link_life.specs.declared.script.NumberedAct.{NumberedAct}
+use Rattle.link_life.specs.Reasons.{word_of_refusal}
+use Rattle.link_life.specs.Ends.{Epoch, epochs, partner_of}
+use Rattle.link_life.specs.Lives.{Life, Outcome, Told, Refused, Done, act_on, after_act}
+
+abbrev pub letter : Side → List ℕ
+letter A = codes "a"
+letter B = codes "b"
+
+-- N0AAA and N0BBB
+abbrev pub call_of : Side → Callsign
+call_of A = record { letters = codes "N0AAA "; ssid = 0 }
+call_of B = record { letters = codes "N0BBB "; ssid = 0 }
+
+abbrev pub other : Side → Side
+other A = B
+other B = A
+
+abbrev pub notice_word : LinkNotice → List ℕ
+notice_word notices.Opened = codes "opened"
+notice_word notices.Reset = codes "reset"
+notice_word notices.Closed = codes "closed"
+notice_word notices.Refused = codes "refused"
+notice_word notices.Failed = codes "failed"
+
+-- notice S WHAT
+abbrev pub notice_line : Side × LinkNotice → List ℕ
+notice_line n = codes "notice " ++ (letter n.0 ++ (codes " " ++ (notice_word n.1 ++ codes "\n")))
+
+-- took S LEN
+abbrev pub took_line : Side × ℕ → List ℕ
+took_line t = codes "took " ++ (letter t.0 ++ (codes " " ++ (decimal t.1 ++ codes "\n")))
+
+abbrev pub address_of : Side → Bool → Address
+address_of side bit7 = record { call = call_of side; bit7 = bit7; reserved = 3; two_bits = lit≤ tt }
+
+-- who a frame of a side is to and from. A response has the C bit of the source alone (AX.25 2.2, section 6.1.2)
+abbrev pub head_of : Side → Bool → Head
+head_of side command =
+    record { dest = address_of (other side) command; source = address_of side (not command); path = record { items = [] } }
+
+-- air S FRAME
+abbrev pub air_line : ℕ → Side × Frame → List ℕ
+air_line size f =
+    codes "air "
+    ++ (letter f.0
+    ++ (codes " "
+    ++ (frame_text (record {
+      head = head_of f.0 f.1.command;
+      control = control_of size f.1.kind;
+      pid = pid_of f.1.payload;
+      info = info_of f.1.payload;
+    })
+    ++ codes "\n")))
+
+-- refused L WHY
+abbrev pub refused_line : ℕ → LifeRefusal → List ℕ
+refused_line line refusal = codes "refused " ++ (decimal line ++ (codes " " ++ (word_of_refusal refusal ++ codes "\n")))
+
+abbrev pub told_text : ℕ → Told → List ℕ
+told_text size told = flat_map notice_line told.notices ++ (flat_map took_line told.taken ++ flat_map (air_line size) told.frames)
+
+-- what is reported of a line
+abbrev pub line_text : ℕ → ℕ → Outcome Life → List ℕ
+line_text size line (Refused refusal) = refused_line line refusal
+line_text size line (Done told w) = told_text size told
+
+-- given=G got=H acked=A partner=P
+abbrev pub counts_text : Epoch → List ℕ
+counts_text e =
+    codes "given="
+    ++ (decimal (length e.given)
+    ++ (codes " got=" ++ (decimal (length e.received) ++ (codes " acked=" ++ (decimal e.acked ++ (codes " partner=" ++ decimal (partner_of e.heard)))))))
+
+-- epoch S E given=G got=H acked=A partner=P
+abbrev pub epoch_line : Side → ℕ → Epoch → List ℕ
+epoch_line side number e = codes "epoch " ++ (letter side ++ (codes " " ++ (decimal number ++ (codes " " ++ (counts_text e ++ codes "\n")))))
+
+-- the epochs of an end, of which the first has a number above n
+abbrev pub epoch_lines : Side → ℕ → List Epoch → List ℕ
+epoch_lines side n [] = []
+epoch_lines side n (e ∷ es) = epoch_line side (suc n) e ++ epoch_lines side (suc n) es
+
+abbrev pub epochs_text : Life → List ℕ
+epochs_text w = epoch_lines A 0 (epochs w.a) ++ epoch_lines B 0 (epochs w.b)
+
+-- the report: line by line, and at last the epochs
+abbrev pub life_text : Life → List NumberedAct → List ℕ
+life_text w [] = epochs_text w
+life_text w (n ∷ ns) = line_text w.rules.size n.line (act_on n.act w) ++ life_text (after_act (act_on n.act w) w) ns

@@ -1,0 +1,57 @@
+-- The words of a line, and the numbers that words spell. Own profile.
+use Rattle.std.specs.Prelude.{ℕ, ◌+◌, ◌-◌, ◌*◌, List, [], ◌∷◌, length, filter, map, Option, Some, None, Bool, ◌&&◌, ◌||◌, ◌==◌, not, nat_le, if◌then◌else◌, slice_index}
+use Rattle.std.specs.List.{list_all, slice_split}
+use Rattle.std.specs.Borrow.{Bor}
+
+-- what the references point to
+abbrev pub texts : List (Bor (List ℕ)) → List (List ℕ)
+texts words = map (λ w. w.now) words
+
+-- printed characters and spaces
+abbrev pub is_text : List ℕ → Bool
+is_text line = list_all (λ b. nat_le 32 b && nat_le b 126) line
+
+-- the longest runs without a space
+abbrev pub words_of : List ℕ → List (List ℕ)
+words_of line = filter (λ w. not (length w == 0)) (slice_split (λ b. b == 32) line)
+
+-- a line without the spaces at its front
+abbrev pub after_spaces : List ℕ → List ℕ
+after_spaces [] = []
+after_spaces (b ∷ bs) = if b == 32 then after_spaces bs else b ∷ bs
+
+-- a line from its first space on
+abbrev pub after_word : List ℕ → List ℕ
+after_word [] = []
+after_word (b ∷ bs) = if b == 32 then b ∷ bs else after_word bs
+
+-- what stands after the first word: nothing, or a space and what follows
+unfoldable pub past_word : List ℕ → List ℕ
+past_word line = after_word (after_spaces line)
+
+abbrev pub after_space : List ℕ → Option (List ℕ)
+after_space [] = None
+after_space (space ∷ text) = Some text
+
+-- TEXT of a `send` line: what stands after its second word and the one space after that, if that space is there
+unfoldable pub sent_text : List ℕ → Option (List ℕ)
+sent_text line = after_space (past_word (past_word line))
+
+abbrev pub is_digit : ℕ → Bool
+is_digit b = nat_le 48 b && nat_le b 57
+
+-- decimal digits without a leading zero
+abbrev pub is_number : List ℕ → Bool
+is_number word = list_all is_digit word && (not (length word == 0) && ((length word == 1) || not (slice_index word 0 == 48)))
+
+-- the number that decimal digits spell behind n
+abbrev pub value_onto : ℕ → List ℕ → ℕ
+value_onto n [] = n
+value_onto n (d ∷ ds) = value_onto (n * 10 + (d - 48)) ds
+
+-- the number from least to most that the word spells
+abbrev pub number_of : ℕ → ℕ → List ℕ → Option ℕ
+number_of least most word =
+    if is_number word && (nat_le least (value_onto 0 word) && nat_le (value_onto 0 word) most)
+    then Some (value_onto 0 word)
+    else None

@@ -1,0 +1,20 @@
+//! Lives of links: two ends that are set up, reset and released over a channel that keeps order, loses at will and delays by at most a
+//! stated time (this project's profile).
+#![tactic(auto)]
+
+mod act;
+mod book;
+mod epochs;
+pub mod laws;
+mod life;
+mod line;
+mod reasons;
+mod script;
+mod told;
+mod turn;
+mod words;
+
+pub use act::{EndAct, LifeAct, Side};
+pub use life::run_life;
+pub use reasons::{LifeFileRefusal, LifeRefusal, LifeWhat};
+pub use script::{LifeScript, NumberedAct, read_life};

@@ -1,0 +1,116 @@
+//! A script, read whole.
+ghost use Rattle.std.specs.Prelude.{◌≡◌, ◌≤◌, ◌++◌, ◌∷◌, ◌+◌, [], length, Ok, Err, OnOk, OnErr, IfErr, MatchResult};
+ghost use Rattle.std.specs.Str.Lines.{lines};
+ghost use Rattle.link_life.specs.Scripts as scripts;
+
+use crate::act::LifeAct;
+use crate::line::read_line;
+use crate::reasons::{LifeFileRefusal, LifeWhat};
+use crate::words::first_line;
+use std::alloc::{AllocError, Global};
+use std::marker::Model;
+
+/// The most lines of a script.
+const MAX_LINES: u32 = 20_000;
+
+/// What a line asks for, with the number of the line, from 1.
+#[derive(Debug, Drop)]
+pub struct NumberedAct {
+    pub line: u32,
+    pub act: LifeAct,
+}
+
+/// What is done in a life, in order.
+#[derive(Debug, Drop)]
+pub struct LifeScript {
+    acts: Vec<NumberedAct>,
+}
+
+impl Model for LifeScript {
+    ghost use Rattle.std.specs.Prelude.{List};
+    ghost use Rattle.link_life.specs.declared.script.NumberedAct.{NumberedAct};
+
+    ghost Value = { List NumberedAct };
+
+    ghost view = { λ s. s.acts.items };
+}
+
+impl LifeScript {
+    fn new(alloc: Global) -> LifeScript
+        ensures { result ≡ [] }
+    {
+        LifeScript {
+            acts: Vec::new(alloc),
+        }
+    }
+
+    /// The acts, in the order of their lines.
+    pub fn acts(&self) -> &[NumberedAct]
+        ensures { result.now ≡ self.now }
+    {
+        &self.acts
+    }
+
+    fn add(&mut self, line: u32, act: LifeAct) -> Result<(), AllocError>
+        ensures ok { OnOk result (self.new ≡ self.old ++ record { line = line; act = act } ∷ []) }
+        ensures err { OnErr result (self.new ≡ self.old) }
+    {
+        self.acts.push(NumberedAct { line, act })?;
+        Ok(())
+    }
+}
+
+/// The script of a file of at most 1,048,576 bytes, or its first bad line.
+#[tactic(auto, unfolding(crate::specs::Scripts::script_of))]
+pub fn read_life(alloc: Global, bytes: &[u8]) -> Result<LifeScript, LifeFileRefusal>
+    requires { length bytes.now ≤ 1048576 }
+    ensures { MatchResult result (λ s. scripts.script_of bytes.now ≡ Ok s) (λ e. scripts.ReadAs e (scripts.script_of bytes.now)) }
+{
+    let mut script = LifeScript::new(alloc);
+    let mut number: u32 = 0;
+    let mut rest = bytes;
+    while !rest.is_empty() {
+        let (line, more) = first_line(rest);
+        number += 1;
+        take_line(alloc, &mut script, number, line)?;
+        rest = more;
+    }
+    Ok(script)
+}
+
+/// Takes in one line of a file.
+fn take_line(
+    alloc: Global,
+    script: &mut LifeScript,
+    number: u32,
+    line: &[u8],
+) -> Result<(), LifeFileRefusal>
+    ensures ok { OnOk result (scripts.after_line number script.old line.now ≡ Ok script.new) }
+    ensures few { OnOk result (number ≤ 20000) }
+    ensures err { IfErr result (λ e. scripts.ReadAs e (scripts.after_line number script.old line.now)) }
+{
+    if number > MAX_LINES {
+        return Err(LifeFileRefusal::BadLine {
+            line: number,
+            what: LifeWhat::Many,
+        });
+    }
+    if is_skipped(line) {
+        return Ok(());
+    }
+    let said = read_line(alloc, line)?;
+    match said {
+        Ok(act) => {
+            script.add(number, act)?;
+            Ok(())
+        }
+        Err(what) => Err(LifeFileRefusal::BadLine { line: number, what }),
+    }
+}
+
+/// An empty line, or a remark.
+fn is_skipped(line: &[u8]) -> bool
+    ensures { result ≡ scripts.is_skipped line.now }
+{
+    line.is_empty() || line[0] == b'#'
+}

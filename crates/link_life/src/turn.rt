@@ -1,0 +1,381 @@
+//! What is done at one end, and what comes of it.
+ghost use Rattle.std.specs.Prelude.{◌≡◌, ◌++◌, ◌∷◌, [], ℕ, length, map, None, Some, OnOk, IfOk, slice_get, IsTrue};
+ghost use Rattle.std.specs.Option.{option_to_list};
+ghost use Rattle.std.specs.List.{flat_map};
+ghost use Rattle.ax_frame.specs.Controls.{IsLinkModulus};
+ghost use Rattle.ax_link.specs.Kinds.{frame_in};
+ghost use Rattle.ax_link.specs.Opening.{IsDrained, facts_of, opening, rules_new};
+ghost use Rattle.ax_link.specs.Standing.{Stands, StandsFor, frame_of};
+ghost use Rattle.ax_link.specs.State.{Effect, State};
+ghost use Rattle.ax_link.specs.Table as table;
+ghost use Rattle.link_life.specs.declared.act.EndAct.TheVariants as acts;
+ghost use Rattle.link_life.specs.Ends as ends;
+ghost use Rattle.link_life.specs.Lives as lives;
+ghost use Rattle.link_life.specs.Reports as reports;
+ghost use Rattle.link_life.specs.Standing as standing;
+
+use crate::act::{EndAct, Side};
+use crate::book::{Book, Flight, is_of_account};
+use crate::reasons::LifeRefusal;
+use crate::told::{Told, write_frame, write_notice, write_took};
+use ax_link::{Link, LinkConfig, LinkFacts, LinkOut, LinkPhase, SendRefusal};
+use radio_base::{Modulus, Moment, NoMemory, Payload, TextOut};
+use std::alloc::Global;
+use std::collections::VecDeque;
+
+/// For so long an end that went Down isn't set up again, in milliseconds.
+const PAUSE: u64 = 3000;
+
+/// When and at which side something is done.
+#[derive(Clone, Copy)]
+pub struct Turn {
+    pub alloc: Global,
+    pub srej: bool,
+    pub moment: u64,
+    pub side: Side,
+}
+
+/// One end: its link, and what is kept beside it.
+#[derive(Drop)]
+pub struct End<M: Modulus> {
+    pub link: Link<M>,
+    pub book: Book,
+}
+
+/// Nothing where an act is done, or why it isn't.
+pub type Answer = Result<Option<LifeRefusal>, NoMemory>;
+
+/// The settings of both ends.
+fn config(srej: bool) -> LinkConfig
+    ensures { result ≡ lives.settings srej }
+{
+    LinkConfig {
+        window: 0,
+        srej,
+        t1: 3000,
+        t3: 300_000,
+        retries: 10,
+    }
+}
+
+fn is_down(phase: LinkPhase) -> bool
+    ensures { result ≡ ends.is_down phase }
+{
+    matches!(phase, LinkPhase::Down)
+}
+
+impl<M: Modulus> End<M> {
+    ghost use Rattle.std.specs.Prelude.{[], None, IfOk, ◌≡◌};
+    ghost use Rattle.ax_frame.specs.Controls.{IsLinkModulus};
+    ghost use Rattle.ax_link.specs.Opening.{IsDrained, rules_new};
+    ghost use Rattle.link_life.specs.Standing as standing;
+    ghost use Rattle.link_life.specs.Lives as lives;
+
+    /// An end that is Down and has known nothing yet.
+    pub fn new(alloc: Global, srej: bool) -> Result<End<M>, NoMemory>
+        requires { IsLinkModulus M.SIZE }
+        ensures stands { IfOk result (λ e. standing.EndStands M.SIZE e (lives.new_end (rules_new M.SIZE (lives.settings srej)))) }
+        ensures drained { IfOk result (λ e. IsDrained e.link) }
+    {
+        let link = Link::new(alloc, config(srej))?;
+        Ok(End {
+            link,
+            book: Book::new(alloc),
+        })
+    }
+}
+
+/// What the link tells is told, and the book heeds it. These were the link's facts before.
+fn tell<M: Modulus>(
+    turn: &Turn,
+    before: &LinkFacts,
+    link: &mut Link<M>,
+    book: &mut Book,
+    notices: &mut TextOut,
+) -> Result<(), NoMemory>
+    ensures link { OnOk result (link.new ≡ record link.old { notice = None }) }
+    ensures over { OnOk result (book.new.over.items ≡ standing.over_after link.old.notice before.now book.old) }
+    ensures lasting { OnOk result (book.new.lasting ≡ standing.lasting_after link.old.notice book.old.lasting) }
+    ensures down { OnOk result (book.new.down_since ≡ book.old.down_since) }
+    ensures coming { OnOk result (book.new.coming.items ≡ book.old.coming.items) }
+    ensures notices { OnOk result (notices.new ≡ notices.old ++ flat_map reports.notice_line (map (λ n. (turn.now.side, n)) (option_to_list link.old.notice))) }
+{
+    if let Some(notice) = link.notice() {
+        write_notice(turn.alloc, turn.side, notice, notices)?;
+        book.heed(notice, before)?;
+    }
+    Ok(())
+}
+
+/// What the link puts out is under way from now on.
+fn send_out<M: Modulus>(
+    turn: &Turn,
+    epoch: u64,
+    link: &mut Link<M>,
+    coming: &mut VecDeque<Flight>,
+    frames: &mut TextOut,
+) -> Result<(), NoMemory>
+    ensures link { OnOk result (link.new ≡ record link.old { outs = [] }) }
+    ensures coming { OnOk result (map (standing.flight_of M.SIZE) coming.new.items ≡ map (standing.flight_of M.SIZE) coming.old.items ++ ends.flights turn.now.moment epoch (map (frame_of M.SIZE) link.old.outs)) }
+    ensures frames { OnOk result (frames.new ≡ frames.old ++ flat_map (reports.air_line M.SIZE) (map (λ f. (turn.now.side, f)) (map (frame_of M.SIZE) link.old.outs))) }
+{
+    while let Some(out) = link.next_out() {
+        write_frame::<M>(turn.alloc, turn.side, &out, frames)?;
+        coming.push_back(Flight {
+            sent: turn.moment,
+            epoch,
+            out,
+        })?;
+    }
+    Ok(())
+}
+
+/// A link that went Down is replaced by a new one.
+fn replace<M: Modulus>(turn: &Turn, was: LinkPhase, near: &mut End<M>) -> Result<(), NoMemory>
+    requires modulus { IsLinkModulus M.SIZE }
+    requires drained { IsDrained near.old.link }
+    ensures drained { OnOk result (IsDrained near.new.link) }
+    ensures stands { OnOk result ((e : ends.End) → standing.EndStands M.SIZE near.old e → standing.EndStands M.SIZE near.new (ends.rest (rules_new M.SIZE (lives.settings turn.now.srej)) turn.now.moment was e)) }
+{
+    if is_down(was) || !is_down(near.link.facts().phase) {
+        return Ok(());
+    }
+    go_down(turn, near)
+}
+
+fn go_down<M: Modulus>(turn: &Turn, near: &mut End<M>) -> Result<(), NoMemory>
+    requires modulus { IsLinkModulus M.SIZE }
+    ensures drained { OnOk result (IsDrained near.new.link) }
+    ensures stands { OnOk result ((e : ends.End) → standing.EndStands M.SIZE near.old e → standing.EndStands M.SIZE near.new (ends.go_down (rules_new M.SIZE (lives.settings turn.now.srej)) turn.now.moment e)) }
+{
+    let facts = near.link.facts();
+    near.book.end_epoch(&facts)?;
+    near.link = Link::new(turn.alloc, config(turn.srej))?;
+    near.book.down_since = Some(turn.moment);
+    Ok(())
+}
+
+/// What comes of a step of the near end's link. These were its facts before.
+fn settle<M: Modulus>(
+    turn: &Turn,
+    before: &LinkFacts,
+    near: &mut End<M>,
+    far: &mut End<M>,
+    told: &mut Told,
+) -> Result<(), NoMemory>
+    requires modulus { IsLinkModulus M.SIZE }
+    ensures drained { OnOk result (IsDrained near.new.link) }
+    ensures far { OnOk result (far.new.link ≡ far.old.link) }
+    ensures stands { OnOk result ((p : ends.Ends) (g : Effect) → standing.FactsAre before.now p.near.link → standing.StepStands M.SIZE near.old far.old g p → standing.EndsStand M.SIZE near.new far.new (ends.step_near (rules_new M.SIZE (lives.settings turn.now.srej)) turn.now.moment g p)) }
+    ensures tells { OnOk result ((g : Effect) → Stands M.SIZE near.old.link g → standing.Tells M.SIZE told.old told.new (lives.told_of turn.now.side [] g)) }
+{
+    tell(
+        turn,
+        before,
+        &mut near.link,
+        &mut near.book,
+        &mut told.notices,
+    )?;
+    let epoch = near.book.number();
+    send_out(
+        turn,
+        epoch,
+        &mut near.link,
+        &mut far.book.coming,
+        &mut told.frames,
+    )?;
+    replace(turn, before.phase, near)?;
+    Ok(())
+}
+
+fn is_early(down_since: Option<u64>, now: u64) -> bool
+    ensures { result ≡ lives.is_early down_since now }
+{
+    match down_since {
+        Some(since) => now.saturating_sub(since) < PAUSE,
+        None => false,
+    }
+}
+
+fn set_up<M: Modulus>(turn: &Turn, near: &mut End<M>, far: &mut End<M>, told: &mut Told) -> Answer
+    requires modulus { IsLinkModulus M.SIZE }
+    requires drained { IsDrained near.old.link }
+    ensures drained { OnOk result (IsDrained near.new.link) }
+    ensures far { OnOk result (far.new.link ≡ far.old.link) }
+    ensures does { IfOk result (λ answer. (p : ends.Ends) → standing.EndsStand M.SIZE near.old far.old p → standing.ComesTo M.SIZE answer near.new far.new told.old told.new p (lives.act_near (standing.turn_of M.SIZE turn.now) acts.SetUp p)) }
+{
+    let before = near.link.facts();
+    if !is_down(before.phase) {
+        return Ok(Some(LifeRefusal::Phase));
+    }
+    if is_early(near.book.down_since, turn.moment) {
+        return Ok(Some(LifeRefusal::Early));
+    }
+    near.link.set_up(Moment(turn.moment));
+    settle(turn, &before, near, far, told)?;
+    Ok(None)
+}
+
+fn of_send(refusal: SendRefusal) -> LifeRefusal
+    ensures { result ≡ standing.of_send refusal }
+{
+    match refusal {
+        SendRefusal::NotUp => LifeRefusal::NotUp,
+        SendRefusal::QueueFull => LifeRefusal::QueueFull,
+        SendRefusal::Exhausted => LifeRefusal::Exhausted,
+    }
+}
+
+fn send<M: Modulus>(
+    turn: &Turn,
+    payload: &Payload,
+    near: &mut End<M>,
+    far: &mut End<M>,
+    told: &mut Told,
+) -> Answer
+    requires modulus { IsLinkModulus M.SIZE }
+    requires drained { IsDrained near.old.link }
+    ensures drained { OnOk result (IsDrained near.new.link) }
+    ensures far { OnOk result (far.new.link ≡ far.old.link) }
+    ensures does { IfOk result (λ answer. (p : ends.Ends) → standing.EndsStand M.SIZE near.old far.old p → standing.ComesTo M.SIZE answer near.new far.new told.old told.new p (lives.act_near (standing.turn_of M.SIZE turn.now) (acts.Send payload.now) p)) }
+{
+    let before = near.link.facts();
+    match near.link.send(payload, Moment(turn.moment)) {
+        Ok(()) => {
+            settle(turn, &before, near, far, told)?;
+            Ok(None)
+        }
+        Err(refusal) => Ok(Some(of_send(refusal))),
+    }
+}
+
+fn close<M: Modulus>(turn: &Turn, near: &mut End<M>, far: &mut End<M>, told: &mut Told) -> Answer
+    requires modulus { IsLinkModulus M.SIZE }
+    requires drained { IsDrained near.old.link }
+    ensures drained { OnOk result (IsDrained near.new.link) }
+    ensures far { OnOk result (far.new.link ≡ far.old.link) }
+    ensures does { IfOk result (λ answer. (p : ends.Ends) → standing.EndsStand M.SIZE near.old far.old p → standing.ComesTo M.SIZE answer near.new far.new told.old told.new p (lives.act_near (standing.turn_of M.SIZE turn.now) acts.Close p)) }
+{
+    let before = near.link.facts();
+    near.link.close(Moment(turn.moment));
+    settle(turn, &before, near, far, told)?;
+    Ok(None)
+}
+
+fn take<M: Modulus>(turn: &Turn, near: &mut End<M>, far: &mut End<M>, told: &mut Told) -> Answer
+    requires modulus { IsLinkModulus M.SIZE }
+    requires drained { IsDrained near.old.link }
+    ensures drained { OnOk result (IsDrained near.new.link) }
+    ensures far { OnOk result (far.new.link ≡ far.old.link) }
+    ensures does { IfOk result (λ answer. (p : ends.Ends) → standing.EndsStand M.SIZE near.old far.old p → standing.ComesTo M.SIZE answer near.new far.new told.old told.new p (lives.act_near (standing.turn_of M.SIZE turn.now) acts.Take p)) }
+{
+    let Some(payload) = near.link.first() else {
+        return Ok(Some(LifeRefusal::Nothing));
+    };
+    write_took(turn.alloc, turn.side, payload.info.len(), &mut told.taken)?;
+    let before = near.link.facts();
+    let _ = near.link.take(Moment(turn.moment));
+    settle(turn, &before, near, far, told)?;
+    Ok(None)
+}
+
+/// Time has passed at the near end.
+pub fn tick<M: Modulus>(
+    turn: &Turn,
+    near: &mut End<M>,
+    far: &mut End<M>,
+    told: &mut Told,
+) -> Result<(), NoMemory>
+    requires modulus { IsLinkModulus M.SIZE }
+    requires drained { IsDrained near.old.link }
+    ensures drained { OnOk result (IsDrained near.new.link) }
+    ensures far { OnOk result (far.new.link ≡ far.old.link) }
+    ensures does { OnOk result ((p : ends.Ends) → standing.EndsStand M.SIZE near.old far.old p → standing.ComesTo M.SIZE None near.new far.new told.old told.new p (lives.moved (standing.turn_of M.SIZE turn.now) table.Tick [] p)) }
+{
+    let before = near.link.facts();
+    near.link.tick(Moment(turn.moment));
+    settle(turn, &before, near, far, told)?;
+    Ok(())
+}
+
+/// The link takes in a frame.
+fn hand<M: Modulus>(out: &LinkOut, link: &mut Link<M>, now: u64)
+    requires { IsDrained link.old }
+    ensures { (s : State) → StandsFor M.SIZE link.old s → Stands M.SIZE link.new (table.step s (table.Arrive (frame_of M.SIZE out.now)) now) }
+{
+    match &out.payload {
+        Some(payload) => link.arrive(
+            out.command,
+            &out.control,
+            Some(payload.pid),
+            payload.info.as_slice(),
+            Moment(now),
+        ),
+        None => link.arrive(out.command, &out.control, None, &[], Moment(now)),
+    }
+}
+
+/// A frame comes: an end that is Up hears it where it is of account.
+fn hear(flight: &Flight, phase: LinkPhase, book: &mut Book)
+    ensures over { book.new.over.items ≡ book.old.over.items }
+    ensures lasting { book.new.lasting ≡ standing.heard_kept flight.now phase book.old.lasting }
+    ensures down { book.new.down_since ≡ book.old.down_since }
+    ensures coming { book.new.coming.items ≡ book.old.coming.items }
+{
+    if matches!(phase, LinkPhase::Up) && is_of_account(&flight.out.control) {
+        book.hear(flight.epoch);
+    }
+}
+
+fn arrive<M: Modulus>(turn: &Turn, near: &mut End<M>, far: &mut End<M>, told: &mut Told) -> Answer
+    requires modulus { IsLinkModulus M.SIZE }
+    requires drained { IsDrained near.old.link }
+    ensures drained { OnOk result (IsDrained near.new.link) }
+    ensures far { OnOk result (far.new.link ≡ far.old.link) }
+    ensures does { IfOk result (λ answer. (p : ends.Ends) → standing.EndsStand M.SIZE near.old far.old p → standing.ComesTo M.SIZE answer near.new far.new told.old told.new p (lives.act_near (standing.turn_of M.SIZE turn.now) acts.Arrive p)) }
+{
+    match near.book.coming.pop_front() {
+        Some(flight) => {
+            let before = near.link.facts();
+            hear(&flight, before.phase, &mut near.book);
+            hand(&flight.out, &mut near.link, turn.moment);
+            settle(turn, &before, near, far, told)?;
+            Ok(None)
+        }
+        None => Ok(Some(LifeRefusal::Nothing)),
+    }
+}
+
+fn lose<M: Modulus>(near: &mut End<M>) -> Option<LifeRefusal>
+    ensures link { near.new.link ≡ near.old.link }
+    ensures does { (e : ends.End) → standing.EndStands M.SIZE near.old e → standing.LosesTo M.SIZE result near.new e e.coming }
+{
+    match near.book.coming.pop_front() {
+        Some(_) => None,
+        None => Some(LifeRefusal::Nothing),
+    }
+}
+
+/// What is done at the near end.
+pub fn act_near<M: Modulus>(
+    turn: &Turn,
+    act: &EndAct,
+    near: &mut End<M>,
+    far: &mut End<M>,
+    told: &mut Told,
+) -> Answer
+    requires modulus { IsLinkModulus M.SIZE }
+    requires drained { IsDrained near.old.link }
+    ensures drained { OnOk result (IsDrained near.new.link) }
+    ensures far { OnOk result (far.new.link ≡ far.old.link) }
+    ensures does { IfOk result (λ answer. (p : ends.Ends) → standing.EndsStand M.SIZE near.old far.old p → standing.ComesTo M.SIZE answer near.new far.new told.old told.new p (lives.act_near (standing.turn_of M.SIZE turn.now) act.now p)) }
+{
+    match act {
+        EndAct::SetUp => set_up(turn, near, far, told),
+        EndAct::Send(payload) => send(turn, payload, near, far, told),
+        EndAct::Close => close(turn, near, far, told),
+        EndAct::Take => take(turn, near, far, told),
+        EndAct::Arrive => arrive(turn, near, far, told),
+        EndAct::Lose => Ok(lose(near)),
+    }
+}
