@@ -25,9 +25,9 @@ use radio_base::{Clock, Sink, Source};
 use std::alloc::Global;
 
 /// Does what the words ask for: `replay` reads a network file from the source and writes the report of
-/// that network to the sink, and leaves what ran in `ran`, in which nothing is before; `frames` lists the frames of a KISS stream;
-/// `soak` replays the network that a number is made to, writes the line on it, and leaves what ran likewise; `ip` forwards the packets of
-/// a KISS stream.
+/// that network to the sink, and leaves what ran in `ran`, in which nothing is before; `node` runs a node on a KISS stream, and leaves it
+/// likewise; `frames` lists the frames of a KISS stream; `soak` replays the network that a number is made to, writes the line on it, and
+/// leaves what ran likewise; `ip` forwards the packets of a KISS stream.
 ///
 /// The status says how it ended, and where words, input or lines were refused the notes say why.
 pub fn run<S: Source, K: Sink, N: Sink, C: Clock>(
@@ -71,7 +71,7 @@ pub fn run<S: Source, K: Sink, N: Sink, C: Clock>(
     // `replay` and `soak` write at the end: elsewhere they write nothing.
     ensures whole { ¬ AskForStream words.now → ¬ AskForNode words.now → result ≢ Status.Done → result ≢ Status.TooLate → result ≢ Status.WriteFault → sink.new ≡ sink.old }
 
-    // What ran is left after `replay` and `soak`: where they are done, and where it is too late.
+    // What ran is left after `replay`, `node` and `soak`: where they are done, and where it is too late.
     ensures nothing { result ≢ Status.Done → result ≢ Status.TooLate → ran.new ≡ ran.old }
     ensures no_network { AskForStream words.now → ran.new ≡ ran.old }
 
