@@ -1,5 +1,6 @@
 pub mod Arrivals
 pub mod CallSteps
+pub mod Carrying
 pub mod EarlyPlaces
 pub mod Inputs
 pub mod Leaving

@@ -1,13 +1,15 @@
 //! What holds of two ends of a link over a channel that loses frames but neither reorders nor repeats them.
 ghost use Rattle.std.specs.Prelude.{◌≡◌, ◌≤◌, ◌++◌, ◌⊎◌, ℕ, List, [], ◌∷◌, false, true, length};
 ghost use mathlib.Core.List.{IsPrefix};
+ghost use Rattle.ax_link.specs.declared.kind.Kind.TheVariants.{Ua};
 ghost use Rattle.ax_link.specs.declared.plain.LinkPhase.TheVariants.{SettingUp, Up};
 ghost use Rattle.ax_link.specs.State.{Frame, State, begin};
 ghost use Rattle.ax_link.specs.Moves.{fill, finish};
-ghost use Rattle.ax_link.specs.Table.{Input, step};
+ghost use Rattle.ax_link.specs.Table.{Arrive, Input, Send, step};
 ghost use Rattle.ax_link.specs.Pair.{PairSound, Both, Core, Queue, InScope, IsNew, Fits, NoRestartIn, OfNoAccount, core, opens_count, texts_of, acks_of, after_ua};
 ghost use Rattle.ax_link.specs.Runs.{CleanRun, Ends, EndsBounded, Event, Safe, Side, Starts, TakenSafe, carrying, losing, new_ends, run, two_new};
 ghost use Rattle.ax_link.specs.Opening.{rules_new};
+ghost use Rattle.ax_link.specs.Carrying.{OpensSo, UpGoesOn};
 ghost use Rattle.ax_link.specs.Laws.{BoundsStay, KindsGoOut, NoticesAre, PayloadsStay, SettingsStay};
 ghost use Rattle.ax_link.specs.declared.plain.LinkConfig.{LinkConfig};
 ghost use Rattle.radio_base.specs.declared.payload.Payload.{Payload};
@@ -50,11 +52,18 @@ pub fn pair_safe()
 {}
 
 /// A step of an end that is Up keeps the payloads and the acknowledgements of both ways sound, whether the end stays
-/// Up or leaves it, unless it begins anew: the frame that arrives is neither a set-up command nor FRMR.
+/// Up or leaves it, unless it begins anew: the frame that arrives is neither a set-up command nor FRMR. So does an end that comes up by
+/// a UA with F, even where it releases in the same step, an end that is given a payload in whatever phase, and the loss of the oldest frame.
 pub fn pair_left()
     ensures both { (now : ℕ) (l : State) (i : Input) (other : Core) (to_l to_l' to_other : List Frame) →
         l.phase ≡ Up → Queue i to_l to_l' → NoRestartIn i → Both (core l) other to_l to_other →
         Both (core (step l i now).link) other to_l' (to_other ++ (step l i now).outs) }
+    ensures opens { (now : ℕ) (l : State) (f : Frame) (other : Core) (to_l to_other : List Frame) →
+        l.phase ≡ SettingUp → f.kind ≡ Ua true → Both (core l) other to_l to_other →
+        Both (core (step l (Arrive f) now).link) other to_l (to_other ++ (step l (Arrive f) now).outs) }
+    ensures sends { (now : ℕ) (l : State) (p : Payload) (other : Core) (to_l to_other : List Frame) →
+        Both (core l) other to_l to_other → Both (core (step l (Send p) now).link) other to_l (to_other ++ (step l (Send p) now).outs) }
+    ensures lost { (l r : Core) (f : Frame) (to_l to_r : List Frame) → Both l r (f ∷ to_l) to_r → Both l r to_l to_r }
 {}
 
 /// A frame that brings no payload, acknowledges nothing and opens no end may come into the queue at any place, and go
@@ -102,4 +111,11 @@ pub fn steps()
     ensures payloads { PayloadsStay }
     ensures notices { NoticesAre }
     ensures kinds { KindsGoOut }
+{}
+
+/// An end that is Up stays so or releases with each input that gives no notice, and so does one that comes up by a UA with F; what it
+/// puts out are payloads, supervisory frames and the release.
+pub fn up_goes_on()
+    ensures up { UpGoesOn }
+    ensures opens { OpensSo }
 {}
