@@ -35,7 +35,7 @@ all_both : (now delay : ℕ) (xs ys : List Flight) → AllInTime now delay xs �
 all_both now delay [] ys a b = b
 all_both now delay (x ∷ xs) ys a b = (a.0, all_both now delay xs ys a.1 b)
 
-set_out : (now delay epoch : ℕ) (fs : List Frame) → AllInTime now delay (flights now epoch fs)
+pub set_out : (now delay epoch : ℕ) (fs : List Frame) → AllInTime now delay (flights now epoch fs)
 set_out now delay epoch [] = tt
 set_out now delay epoch (f ∷ fs) = (record { sent = omega arith; kept = omega arith }, set_out now delay epoch fs)
 
@@ -114,7 +114,7 @@ both_in_time : (w : Life) → Fine w → LifeOutcome (tick_both w)
 both_in_time w s = tick_in_time B (after_act (tick_at A w) w) (tick_in_time A w s)
 
 -- none of them is late
-none_late : (delay now later : ℕ) (fs : List Flight) → now ≤ later → AllInTime now delay fs → is_late delay later fs ≡ false → AllInTime later delay fs
+pub none_late : (delay now later : ℕ) (fs : List Flight) → now ≤ later → AllInTime now delay fs → is_late delay later fs ≡ false → AllInTime later delay fs
 none_late delay now later [] l s e = tt
 none_late delay now later (f ∷ fs) l s e =
     let now_not : nat_lt delay (later - f.sent) ≡ false = or_left (nat_lt delay (later - f.sent)) (is_late delay later fs) e in

@@ -1,9 +1,10 @@
 -- What holds of each life at each moment. Own profile.
-use Rattle.std.specs.Prelude.{ℕ, ◌+◌, ◌≤◌, Bool, List}
+use Rattle.std.specs.Prelude.{◌≡◌, ℕ, zero, suc, ◌+◌, ◌*◌, ◌<◌, ◌≤◌, ◌⊎◌, Bool, List, [], length, Some, slice_get}
 use Rattle.std.specs.List.{AllByRecursion}
+use mathlib.Core.List.{IsPrefix}
 use Rattle.link_life.specs.declared.act.LifeAct.{LifeAct}
-use Rattle.link_life.specs.Ends.{Flight}
-use Rattle.link_life.specs.Lives.{Life, new_life, run}
+use Rattle.link_life.specs.Ends.{Epoch, Flight, epochs, partner_of}
+use Rattle.link_life.specs.Lives.{Life, new_life, pause, run}
 
 -- a frame under way was sent before now, and no longer ago than the channel delays one
 pub record IsInTime (now delay : ℕ) (f : Flight) : Type 0 where
@@ -21,3 +22,44 @@ pub record InTime (w : Life) : Type 0 where
 -- in each life, at each moment
 abbrev pub FramesInTime : Type 0
 FramesInTime = (size delay : ℕ) (srej : Bool) (acts : List LifeAct) → InTime (run (new_life size srej delay) acts)
+
+-- Of an epoch with this number and of its partner: it got a beginning of what its partner was given, it counts as acknowledged
+-- no more than its partner got, and its partner's partner, where it has one, is this epoch.
+pub record ArePartners (number : ℕ) (e partner : Epoch) : Type 0 where
+  pub got : IsPrefix e.received partner.given
+  pub acked : e.acked ≤ length partner.received
+  pub partners_partner : (partner_of partner.heard ≡ 0) ⊎ (partner_of partner.heard ≡ number)
+
+-- an epoch without a partner got nothing, and nothing of it is acknowledged
+pub record IsAlone (e : Epoch) : Type 0 where
+  pub got : e.received ≡ []
+  pub acked : e.acked ≡ 0
+
+-- the partner is the epoch of the other end with its number, from 1; 0 stands for none
+abbrev pub WithPartner : ℕ → ℕ → Epoch → List Epoch → Type 0
+WithPartner zero number e others = IsAlone e
+WithPartner (suc before) number e others = (partner : Epoch) × (slice_get others before ≡ Some partner) × ArePartners number e partner
+
+-- a frame of account that an epoch took while Up was sent in this epoch
+pub record IsFrom (partner epoch : ℕ) : Type 0 where
+  pub same : epoch ≡ partner
+  pub some : 0 < epoch
+
+-- all such frames come from its partner
+pub record EpochSafe (number : ℕ) (e : Epoch) (others : List Epoch) : Type 0 where
+  pub heard : AllByRecursion (IsFrom (partner_of e.heard)) e.heard
+  pub partner : WithPartner (partner_of e.heard) number e others
+
+-- so with each epoch of an end, those that are over and the one that lasts
+abbrev pub EpochsSafe : List Epoch → List Epoch → Type 0
+EpochsSafe es others = (before : ℕ) (e : Epoch) → slice_get es before ≡ Some e → EpochSafe (suc before) e others
+
+pub record LifeSafe (w : Life) : Type 0 where
+  pub a : EpochsSafe (epochs w.a) (epochs w.b)
+  pub b : EpochsSafe (epochs w.b) (epochs w.a)
+
+-- in each life, at each moment, where two delays are shorter than T1 and the pause after going down
+abbrev pub LivesAreSafe : Type 0
+LivesAreSafe =
+    (size delay : ℕ) (srej : Bool) (acts : List LifeAct) → (size ≡ 8) ⊎ (size ≡ 128) → 2 * delay < pause →
+    LifeSafe (run (new_life size srej delay) acts)

@@ -1,7 +1,20 @@
 //! What holds of each life at each moment, whatever is done.
-ghost use Rattle.link_life.specs.Laws.{FramesInTime};
+ghost use Rattle.link_life.specs.Laws.{FramesInTime, LivesAreSafe};
 
 /// The channel keeps its promise: each frame under way was sent no longer ago than the channel delays one. The refusal `delay` keeps it.
 pub fn frames_in_time()
     ensures { FramesInTime }
 {}
+
+/// In each life, at each moment, each epoch of each end is safe with its partner, whatever is set up, reset and released, and whatever
+/// is lost: where the channel keeps order, and two delays are shorter than T1. The refusal `early` keeps the pause after going down.
+pub fn life_safe()
+    ensures { LivesAreSafe }
+{
+    ax_link::laws::link_safe();
+    ax_link::laws::pair_frames();
+    ax_link::laws::pair_left();
+    ax_link::laws::pair_start();
+    ax_link::laws::steps();
+    ax_link::laws::up_goes_on();
+}
