@@ -19,7 +19,7 @@ carries (Srej nr pf) = true
 carries (Disc pf) = true
 carries _ = false
 
--- up, or about to release
+-- Up or Releasing
 abbrev pub is_on : LinkPhase → Bool
 is_on Down = false
 is_on SettingUp = false

@@ -1,24 +1,19 @@
 -- An end comes up, begins anew, meets another set-up, and hears; and frames are lost.
-use Rattle.std.proofs.Common.{◌≡◌, ◌⊎◌, inl, inr, ◌≤◌, ◌<◌, ◌+◌, ℕ, zero, suc, Bool, true, false, if◌then◌else◌, List, [], ◌∷◌, ◌++◌, length, Option, Some, None, slice_get, refl, ap, sym, ◌∙◌, subst, arith, length-append, append-nil}
-use Rattle.std.specs.List.{AllByRecursion}
+use Rattle.std.proofs.Common.{◌≡◌, ◌⊎◌, inl, inr, ◌<◌, ℕ, suc, Bool, true, false, if◌then◌else◌, List, [], ◌∷◌, ◌++◌, length, Some, None, slice_get, refl, ap, sym, ◌∙◌, subst, arith}
 use Rattle.ax_link.specs.declared.plain.LinkPhase.{LinkPhase}
 use Rattle.ax_link.specs.declared.plain.LinkPhase.TheVariants.{Down, SettingUp, Up, Releasing}
 use Rattle.ax_link.specs.Carrying.{is_on}
 use Rattle.ax_link.specs.Opening.{opening}
 use Rattle.ax_link.specs.Pair.{Both, Core, Fits, IsNew, core, opens}
-use Rattle.ax_link.specs.State.{Frame, Rules, State}
-use Rattle.link_life.specs.Ends.{End, Epoch, Flight, epochs, is_of_account, lasting}
-use Rattle.link_life.specs.Laws.{EpochsSafe, IsFrom}
-use Rattle.link_life.proofs.Cases.{IsFresh, NoneOf, ua}
-use Rattle.link_life.proofs.Conversing.{Goes, goes, more_coming}
+use Rattle.ax_link.specs.State.{Rules, State}
+use Rattle.link_life.specs.Ends.{End, Flight, epochs, is_of_account, lasting}
+use Rattle.link_life.specs.Laws.{IsFrom}
+use Rattle.link_life.proofs.Cases.{IsFresh, NoneOf}
+use Rattle.link_life.proofs.Conversing.{goes, more_coming}
 use Rattle.link_life.proofs.Known.{Known}
 use Rattle.link_life.proofs.Partners.{rest_begun, rest_kept, rest_moved, rest_new, talk_safe}
-use Rattle.link_life.proofs.Sounding.{all_both, behind_last, behind_none, both_new, hears_none, none_back, none_left}
-use Rattle.link_life.proofs.Talks.{Apart, Hears, IsGone, IsNext, IsNone, IsUp, NoneIn, OfEpoch, Part, Rest, Side, Stand, Talk, behind_ua, epoch_of, frames_in, get_end, get_other}
-
--- an end without an epoch that lasts
-none_lasts : (over : List Epoch) (l : State) (h : Option (List ℕ)) → h ≡ None → over ++ lasting l h ≡ over
-none_lasts over l h e = subst (λ o. over ++ lasting l o ≡ over) (sym e) (append-nil over)
+use Rattle.link_life.proofs.Sounding.{behind_all, behind_last, behind_none, both_new, hears_none, none_back, none_left}
+use Rattle.link_life.proofs.Talks.{Apart, Hears, IsNext, IsUp, NoneIn, OfEpoch, Part, Rest, Stand, Talk, behind_ua, epoch_of, frames_in, get_end, get_other, none_lasts}
 
 pub on_phase : (ph : LinkPhase) → is_on ph ≡ true → (ph ≡ Up) ⊎ (ph ≡ Releasing)
 on_phase Down e = absurd (cc e)
@@ -171,14 +166,6 @@ begins known rules x y l coming f fits t a u n r q =
       };
       sound = both_new known rules l y.link (frames_in coming) (frames_in far.hears) fits r a.rules n a.new (none_back is_of_account coming q) (subst (λ fs. NoneOf is_of_account (frames_in fs)) (sym last) tt);
     }
-
-behind_all : (test : Flight → Type 0) (fs : List Flight) → AllByRecursion test fs → AllByRecursion test (behind_ua fs)
-behind_all test [] a = tt
-behind_all test (f ∷ fs) a = by (opens f.frame.kind) (behind_all test fs a.1)
-  where
-    by : (b : Bool) → AllByRecursion test (behind_ua fs) → AllByRecursion test (if b then fs else behind_ua fs)
-    by true r = a.1
-    by false r = r
 
 pub crosses : Known → (rules : Rules) (x y : End) (l : State) (coming : List Flight) (f : Flight) → Fits (core (opening rules)) (core (opening rules)) → Talk x y → Asker rules y →
     l.phase ≡ SettingUp → x.heard ≡ None → IsNew l → l.rules ≡ rules → NoneIn is_of_account coming → Talk (record x { link = l; coming = coming }) (more_coming y (f ∷ []))

@@ -1,5 +1,5 @@
 -- What a step of a link can be, where only frames come that links put out.
-use Rattle.std.proofs.Common.{◌≡◌, ◌⊎◌, inl, inr, ◌≤◌, ◌+◌, ℕ, zero, suc, min, Bool, true, false, not, ◌&&◌, ◌||◌, nat_eq, nat_le, if◌then◌else◌, List, [], ◌∷◌, ◌++◌, length, drop, replicate, Option, Some, None, refl, ap, sym, ◌∙◌, subst, arith}
+use Rattle.std.proofs.Common.{◌≡◌, ◌⊎◌, inl, inr, ◌≤◌, ◌+◌, ℕ, zero, suc, min, Bool, true, false, ◌&&◌, nat_eq, nat_le, if◌then◌else◌, List, [], ◌∷◌, ◌++◌, length, drop, replicate, Option, Some, None, refl, ap, sym, ◌∙◌, subst, arith, append-nil}
 use Rattle.std.proofs.lemmas.Bool.Decides.{nat_tests}
 use Rattle.std.specs.List.{AllByRecursion}
 use Rattle.std.specs.Option.{option_to_list}
@@ -11,12 +11,12 @@ use Rattle.ax_link.specs.declared.plain.LinkNotice.TheVariants.{Failed}
 use Rattle.ax_link.specs.declared.plain.LinkPhase.{LinkPhase}
 use Rattle.ax_link.specs.declared.plain.LinkPhase.TheVariants.{Down, SettingUp, Up, Releasing}
 use Rattle.ax_link.specs.Carrying.{GoesOn, carries}
-use Rattle.ax_link.specs.Laws.{gives_up, notice_of}
-use Rattle.ax_link.specs.Moves.{fill, follow, follow_by, next_early, resume, start_poll}
+use Rattle.ax_link.specs.Laws.{notice_of}
+use Rattle.ax_link.specs.Moves.{fill, start_poll}
 use Rattle.ax_link.specs.Pair.{Both, Core, IsNew, NoRestartIn, core, opens, reach}
 use Rattle.ax_link.specs.Runs.{sets_up}
-use Rattle.ax_link.specs.State.{Effect, Frame, State, begin, busy, count_end, is_up, t1_runs, t3_at, top}
-use Rattle.ax_link.specs.Table.{Input, Set_up, Send, Arrive, Tick, Close, Take, accept, arrive_down, arrive_in, arrive_releasing, arrive_setting, arrive_up, come_up, fail, refuse_if, retry, step, takes}
+use Rattle.ax_link.specs.State.{Effect, Frame, State, begin, count_end, is_up, t1_runs, t3_at, top}
+use Rattle.ax_link.specs.Table.{Input, Set_up, Send, Arrive, Tick, Close, Take, accept, arrive_down, arrive_releasing, arrive_setting, come_up, fail, refuse_if, retry, step, takes}
 use Rattle.link_life.specs.Ends.{any_begins, is_of_account}
 use Rattle.link_life.proofs.Known.{Known}
 
@@ -125,7 +125,7 @@ top_none : (n : ℕ) → top (replicate n None) ≡ 0
 top_none zero = refl
 top_none (suc n) = ap (λ t. if nat_eq t 0 then 0 else suc t) (top_none n)
 
-same_both : (s t : State) → core t ≡ core s → KeepsBoth s t
+pub same_both : (s t : State) → core t ≡ core s → KeepsBoth s t
 same_both s t e other to_s to_other b = subst (λ c. Both c other to_s to_other) (sym e) b
 
 -- ---- Down
@@ -138,10 +138,7 @@ down_refuses false pf s f now e = record { is = rests refl refl refl tt tt; few 
 down_step : (command : Bool) (k : Kind) (p : Option Payload) (s : State) (now : ℕ) → goes_out k ≡ true →
     Step (record s { phase = Down }) (Arrive (record { command = command; kind = k; payload = p })) now (arrive_down (min now count_end) command k (begin (record s { phase = Down; last_arrival = min now count_end })))
 down_step command (kind.SetUp pf) p s now m =
-    record { is = begins (record { command = command; kind = kind.SetUp pf; payload = p }) pf (inl refl) refl refl refl refl refl (record { acked = refl; sent = refl; high = top_none_high s }); few = one_answer pf }
-  where
-    top_none_high : (s : State) → 0 + top (replicate (if s.rules.srej then s.rules.window else 0) None) ≡ 0
-    top_none_high s = omega (arith, top_none (if s.rules.srej then s.rules.window else 0))
+    record { is = begins (record { command = command; kind = kind.SetUp pf; payload = p }) pf (inl refl) refl refl refl refl refl (record { acked = refl; sent = refl; high = omega (arith, top_none (if s.rules.srej then s.rules.window else 0)) }); few = one_answer pf }
 down_step command (kind.Disc pf) p s now m = down_refuses command pf s (record { command = command; kind = kind.Disc pf; payload = p }) now refl
 down_step command (kind.I ns nr pf) p s now m = down_refuses (command && pf) true s (record { command = command; kind = kind.I ns nr pf; payload = p }) now refl
 down_step command (kind.Rr nr pf) p s now m = down_refuses (command && pf) true s (record { command = command; kind = kind.Rr nr pf; payload = p }) now refl
@@ -229,13 +226,9 @@ setting_sends true s p now e known =
       is = waits refl refl refl tt tt tt refl (λ x. record { acked = x.acked; sent = omega (arith, x.sent); high = x.high })
           (λ other to_s to_other x.
           let whole = subst (λ b. Both (core (if b then g else begin t).link) other to_s (to_other ++ (if b then g else begin t).outs)) e (known.sends now t p other to_s to_other x) in
-          subst (λ q. Both (core g.link) other to_s q) (append_nil to_other) whole);
+          subst (λ q. Both (core g.link) other to_s q) (append-nil to_other) whole);
       few = omega arith;
     }
-  where
-    append_nil : (xs : List Frame) → xs ++ [] ≡ xs
-    append_nil [] = refl
-    append_nil (x ∷ xs) = ap (λ ys. x ∷ ys) (append_nil xs)
 setting_sends false s p now e known = waits_now s (Send p) now (record s { phase = SettingUp }) tt refl refl refl (λ x. record { acked = x.acked; sent = x.sent; high = x.high })
 
 -- ---- Releasing

@@ -1,18 +1,15 @@
 -- A conversation goes on, begins, and fails to begin.
-use Rattle.std.proofs.Common.{◌≡◌, ◌⊎◌, inl, inr, ◌≤◌, ◌<◌, ◌+◌, ℕ, zero, suc, Bool, true, false, List, [], ◌∷◌, ◌++◌, length, Option, Some, None, slice_get, refl, ap, sym, ◌∙◌, subst, arith, length-append, append-nil}
-use Rattle.std.specs.List.{AllByRecursion}
-use Rattle.ax_link.specs.declared.plain.LinkPhase.{LinkPhase}
-use Rattle.ax_link.specs.declared.plain.LinkPhase.TheVariants.{Down, SettingUp, Up, Releasing}
-use Rattle.ax_link.specs.Opening.{opening}
-use Rattle.ax_link.specs.Pair.{Both, Core, Fits, IsNew, core, opens}
-use Rattle.ax_link.specs.State.{Frame, Rules, State}
-use Rattle.link_life.specs.Ends.{End, Epoch, Flight, epochs, is_of_account, lasting, partner_of}
-use Rattle.link_life.specs.Laws.{EpochSafe, EpochsSafe}
-use Rattle.link_life.proofs.Cases.{IsFresh, KeepsBoth, NoneOf, ua}
+use Rattle.std.proofs.Common.{◌≡◌, ◌⊎◌, inl, inr, ◌<◌, ℕ, suc, false, List, [], ◌++◌, length, Some, slice_get, refl, ap, sym, ◌∙◌, subst, arith, length-append}
+use Rattle.ax_link.specs.declared.plain.LinkPhase.TheVariants.{SettingUp}
+use Rattle.ax_link.specs.Pair.{Both, Core, IsNew, core, opens}
+use Rattle.ax_link.specs.State.{Frame}
+use Rattle.link_life.specs.Ends.{End, Epoch, Flight, epochs, is_of_account, lasting}
+use Rattle.link_life.specs.Laws.{EpochSafe}
+use Rattle.link_life.proofs.Cases.{IsFresh, KeepsBoth}
 use Rattle.link_life.proofs.Known.{Known}
-use Rattle.link_life.proofs.Partners.{rest_begun, rest_kept, rest_moved, rest_new, safe_more, talk_safe}
-use Rattle.link_life.proofs.Sounding.{all_both, behind_last, behind_more, behind_none, both_new, both_quiet, frames_both, hears_none, none_back, none_left, none_right}
-use Rattle.link_life.proofs.Talks.{Apart, Hears, IsGone, IsNext, IsNone, IsUp, NoneIn, OfEpoch, Part, Rest, Side, Stand, Talk, behind_ua, epoch_of, frames_in, get_end, get_in, get_other}
+use Rattle.link_life.proofs.Sounding.{behind_more, both_quiet, frames_both, hears_none, none_back, none_left, none_right}
+use Rattle.link_life.proofs.Timing.{all_both}
+use Rattle.link_life.proofs.Talks.{Apart, Hears, IsGone, IsNext, IsNone, NoneIn, OfEpoch, Part, Rest, Stand, Talk, behind_ua, frames_in, get_in, none_lasts}
 
 abbrev pub more_coming : End → List Flight → End
 more_coming y sent = record y { coming = y.coming ++ sent }
@@ -133,11 +130,8 @@ next_goes known x y x2 t sent s u h o w b k q n =
           (k t.far.core (frames_in t.near.hears) (frames_in t.far.hears) (subst (λ c. Both c t.far.core (frames_in t.near.hears) (frames_in t.far.hears)) s.core t.sound));
     })
   where
-    none_lasts : (over : List Epoch) (l : State) (h : Option (List ℕ)) → h ≡ None → over ++ lasting l h ≡ over ++ []
-    none_lasts over l h e = subst (λ o. over ++ lasting l o ≡ over ++ []) (sym e) refl
-
     same_epochs : epochs x2 ≡ epochs x
-    same_epochs = none_lasts x2.over x2.link x2.heard (h ∙ s.lasts) ∙ (ap (λ es. es ++ []) o ∙ sym (none_lasts x.over x.link x.heard s.lasts))
+    same_epochs = none_lasts x2.over x2.link x2.heard (h ∙ s.lasts) ∙ (o ∙ sym (none_lasts x.over x.link x.heard s.lasts))
 
 -- it fails, and takes no part any more
 pub next_fails : Known → (x y x2 : End) (t : Talk x y) (sent : List Flight) → IsNext x t.near t.far.heard → Apart x2 → epochs x2 ≡ epochs x → NoneIn is_of_account sent →

@@ -1,5 +1,5 @@
 -- How long ago frames under way were sent, by which old set-ups and old answers are gone in time.
-use Rattle.std.proofs.Common.{◌≡◌, ◌⊎◌, inl, inr, ◌≤◌, ◌<◌, ◌+◌, ◌*◌, ◌-◌, min, ℕ, zero, suc, Bool, true, false, nat_lt, if◌then◌else◌, List, [], ◌∷◌, ◌++◌, length, Option, Some, None, refl, ap, sym, ◌∙◌, subst, arith}
+use Rattle.std.proofs.Common.{◌≡◌, ◌⊎◌, inl, inr, ◌≤◌, ◌<◌, ◌+◌, ◌*◌, ◌-◌, min, ℕ, suc, Bool, true, false, if◌then◌else◌, List, [], ◌∷◌, ◌++◌, Option, Some, None, refl, ap, sym, subst, arith}
 use Rattle.std.proofs.lemmas.Bool.Decides.{nat_tests}
 use Rattle.std.specs.List.{AllByRecursion}
 use Rattle.ax_link.specs.declared.kind.Kind.{Kind}
@@ -14,8 +14,9 @@ use Rattle.ax_link.specs.Table.{Input, Set_up, Send, Arrive, Tick, Close, Take}
 use Rattle.link_life.specs.Ends.{Flight, flights, is_of_account}
 use Rattle.link_life.specs.Laws.{AllInTime}
 use Rattle.link_life.specs.Lives.{is_early, pause}
-use Rattle.link_life.proofs.Cases.{NoneOf, answers, answers_in, asked_by, asks, set_up_frame}
-use Rattle.link_life.proofs.Sounding.{all_both, none_sent}
+use Rattle.link_life.proofs.Cases.{NoneOf, answers, answers_in, asked_by, asks}
+use Rattle.link_life.proofs.Sounding.{none_sent}
+use Rattle.link_life.proofs.Timing.{all_both}
 use Rattle.link_life.proofs.Talks.{NoneIn}
 
 -- such frames were sent by then
@@ -70,15 +71,6 @@ account_asks _ e = absurd (cc e)
 pub sets_account : (k : Kind) → sets_up k ≡ true → is_of_account k ≡ false
 sets_account (kind.SetUp pf) e = refl
 sets_account _ e = absurd (cc e)
-
-sets_asks : (k : Kind) → sets_up k ≡ true → asks k ≡ true
-sets_asks (kind.SetUp pf) e = refl
-sets_asks _ e = absurd (cc e)
-
-pub answer_asks_not : (k : Kind) → answers k ≡ true → asks k ≡ false
-answer_asks_not (kind.Ua pf) e = refl
-answer_asks_not (kind.Dm pf) e = refl
-answer_asks_not _ e = absurd (cc e)
 
 -- where one test fails, the other one does
 pub none_also : (test other : Kind → Bool) (fs : List Frame) → ((k : Kind) → test k ≡ false → other k ≡ false) → NoneOf test fs → NoneOf other fs
@@ -158,6 +150,9 @@ NoArrival _ = Unit {0}
 abbrev pub Taken : Input → List Flight → List Flight → Type 0
 Taken i coming rest = (NoArrival i × (coming ≡ rest)) ⊎ ((f : Flight) × (i ≡ Arrive f.frame) × (coming ≡ f ∷ rest))
 
+pub first_same : (f g : Flight) (fs : List Flight) → f ∷ fs ≡ g ∷ fs → f ≡ g
+first_same f g fs e = cc e
+
 pub all_rest : (test : Flight → Type 0) (i : Input) (coming rest : List Flight) → Taken i coming rest → AllByRecursion test coming → AllByRecursion test rest
 all_rest test i coming rest (inl t) a = subst (AllByRecursion test) t.1 a
 all_rest test i coming rest (inr t) a = (subst (AllByRecursion test) t.2 a).1
@@ -196,7 +191,7 @@ gone test t now delay (f ∷ fs) i s l = (by (test f.frame.kind) refl, gone test
     by true e = let m = s.0 e in let k = i.0.kept in absurd (omega (arith, m, k, l))
     by false e = e
 
-asked_sent : (since : ℕ) (fs : List Flight) → AllByRecursion (λ f. asks f.frame.kind ≡ true → (sets_up f.frame.kind ≡ true) × (f.sent ≤ since)) fs → SentBy asks since fs
+pub asked_sent : (since : ℕ) (fs : List Flight) → AllByRecursion (λ f. asks f.frame.kind ≡ true → (sets_up f.frame.kind ≡ true) × (f.sent ≤ since)) fs → SentBy asks since fs
 asked_sent since [] a = tt
 asked_sent since (f ∷ fs) a = (λ e. (a.0 e).1, asked_sent since fs a.1)
 

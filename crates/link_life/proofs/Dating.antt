@@ -1,19 +1,19 @@
 -- The dates of what is under way, after a step of one end.
-use Rattle.std.proofs.Common.{◌≡◌, ◌⊎◌, inl, inr, ◌≤◌, ◌<◌, ◌+◌, ◌*◌, ◌-◌, min, ℕ, zero, suc, Bool, true, false, if◌then◌else◌, List, [], ◌∷◌, ◌++◌, length, Option, Some, None, refl, ap, sym, ◌∙◌, subst, arith}
+use Rattle.std.proofs.Common.{◌≡◌, ◌⊎◌, inl, inr, ◌≤◌, ◌+◌, min, ℕ, suc, Bool, true, false, List, [], ◌∷◌, ◌++◌, Option, Some, None, refl, ap, sym, ◌∙◌, subst, arith}
 use Rattle.std.specs.List.{AllByRecursion}
 use Rattle.ax_link.specs.declared.kind.Kind.{Kind}
 use Rattle.ax_link.specs.declared.plain.LinkPhase.{LinkPhase}
 use Rattle.ax_link.specs.declared.plain.LinkPhase.TheVariants.{Down, SettingUp, Up, Releasing}
-use Rattle.ax_link.specs.Carrying.{carries}
 use Rattle.ax_link.specs.Runs.{sets_up}
 use Rattle.ax_link.specs.State.{Frame, count_end}
-use Rattle.ax_link.specs.Table.{Input, Arrive}
+use Rattle.ax_link.specs.Table.{Input}
 use Rattle.link_life.specs.Ends.{Flight, flights}
-use Rattle.link_life.specs.Laws.{AllInTime, IsInTime}
+use Rattle.link_life.specs.Laws.{AllInTime}
 use Rattle.link_life.specs.Lives.{pause}
-use Rattle.link_life.proofs.Cases.{NoneOf, answers, answers_in, asked_by, asks, set_up_frame}
-use Rattle.link_life.proofs.Dates.{Answered, Asking, Clear, Dated, Rested, SentBy, Taken, all_rest, count_in, count_both, count_less, count_none, count_one, count_rest, count_sent, none_answers, none_counted, none_more, none_set, none_set_carried, none_set_in}
-use Rattle.link_life.proofs.Sounding.{all_both, none_sent}
+use Rattle.link_life.proofs.Cases.{NoneOf, answers, asks, set_up_frame}
+use Rattle.link_life.proofs.Dates.{Answered, Asking, Clear, Dated, Rested, SentBy, Taken, all_rest, asked_sent, count_in, count_both, count_less, count_none, count_one, count_rest, count_sent, none_answers, none_counted, none_more, none_set, none_set_in}
+use Rattle.link_life.proofs.Sounding.{none_sent}
+use Rattle.link_life.proofs.Timing.{all_both}
 use Rattle.link_life.proofs.Talks.{NoneIn}
 
 -- ---- of the end that made the step; rest is what is still under way to it
@@ -123,10 +123,6 @@ rested i None now delay epoch coming going rest outs k j (inr a) r =
 rested i (Some t) now delay epoch coming going rest outs k j a r =
     (r.0, (all_rest _ i going rest k r.1.0, all_both _ coming (flights now epoch outs) r.1.1 (late_by t now delay epoch going rest outs j r.1.0 a)))
 
-sent_when : (since : ℕ) (fs : List Flight) → AllByRecursion (λ f. asks f.frame.kind ≡ true → (sets_up f.frame.kind ≡ true) × (f.sent ≤ since)) fs → SentBy asks since fs
-sent_when since [] a = tt
-sent_when since (f ∷ fs) a = (λ e. (a.0 e).1, sent_when since fs a.1)
-
 asking : (i : Input) (t1 now delay epoch : ℕ) (coming going rest : List Flight) (outs : List Frame) → Taken i going rest → AllInTime now delay going → Answered going rest outs →
     Asking t1 now delay coming going → Asking t1 now delay (coming ++ flights now epoch outs) rest
 asking i t1 now delay epoch coming going rest outs k j a d =
@@ -135,7 +131,7 @@ asking i t1 now delay epoch coming going rest outs k j a d =
       past = d.past;
       t1 = d.t1;
       asked = all_rest _ i going rest k d.asked;
-      answered = all_both _ coming (flights now epoch outs) d.answered (late_by d.since now delay epoch going rest outs j (sent_when d.since going d.asked) a);
+      answered = all_both _ coming (flights now epoch outs) d.answered (late_by d.since now delay epoch going rest outs j (asked_sent d.since going d.asked) a);
       few = by a;
     }
   where

@@ -1,26 +1,24 @@
 -- Each step of the near end leaves what is known of the two ends.
-use Rattle.std.proofs.Common.{◌≡◌, ◌⊎◌, inl, inr, ◌≤◌, ◌+◌, min, ℕ, suc, Bool, true, false, List, [], ◌∷◌, ◌++◌, length, Option, Some, None, refl, ap, sym, ◌∙◌, subst, arith, length-append}
+use Rattle.std.proofs.Common.{◌≡◌, ◌⊎◌, inl, inr, ◌≤◌, min, ℕ, true, false, List, [], ◌∷◌, ◌++◌, length, Option, Some, ap, sym, ◌∙◌, subst, arith, length-append}
 use Rattle.std.specs.List.{AllByRecursion}
-use Rattle.ax_link.specs.declared.kind.Kind.{Kind}
-use Rattle.ax_link.specs.declared.kind.Kind.TheVariants as kind
-use Rattle.ax_link.specs.declared.plain.LinkPhase.TheVariants.{Down, SettingUp, Up, Releasing}
-use Rattle.ax_link.specs.Pair.{NoRestart, NoRestartIn, core, opens}
+use Rattle.ax_link.specs.declared.plain.LinkPhase.TheVariants.{SettingUp, Up}
+use Rattle.ax_link.specs.Pair.{NoRestartIn, core, opens}
 use Rattle.ax_link.specs.Runs.{sets_up}
-use Rattle.ax_link.specs.State.{Effect, Frame, Rules, count_end}
+use Rattle.ax_link.specs.State.{Frame, Rules, count_end}
 use Rattle.ax_link.specs.Table.{Input, Arrive, Set_up, Send, Tick, Close, Take, step}
-use Rattle.link_life.specs.Ends.{End, Flight, heard_more, is_of_account, step_near}
+use Rattle.link_life.specs.Ends.{End, Flight, heard_more, is_of_account}
 use Rattle.link_life.specs.Laws.{IsFrom}
 use Rattle.link_life.specs.Lives.{is_early}
 use Rattle.link_life.proofs.Beginning.{heard_one}
 use Rattle.link_life.proofs.Cases as cases
 use Rattle.link_life.proofs.Cases.{Case, IsFresh, MayCome, NoneOf, OpensOnlyAsked, StaysUnopened, Step, answers, answers_in, asked_by, asks, goes_out, step_is}
-use Rattle.link_life.proofs.Dates.{NoArrival, Taken, sets_account}
+use Rattle.link_life.proofs.Dates.{NoArrival, Taken, first_same, sets_account}
 use Rattle.link_life.proofs.Known.{Known}
 use Rattle.link_life.proofs.Leaving.{comes_on, ends_on, fails_on, idles_on, leaves_on, restart_sets, up_on}
-use Rattle.link_life.proofs.Sounding.{all_both}
 use Rattle.link_life.proofs.Stepping.{begins_on, came, crosses_on, opens_asked, rests_on, retries_on, starts_on, waits_on}
+use Rattle.link_life.proofs.Timing.{all_both}
 use Rattle.link_life.proofs.Talks.{IsUp, NoneIn, OfEpoch, Stand}
-use Rattle.link_life.proofs.Turning.{Settled, Sound, quiet_going, up_of}
+use Rattle.link_life.proofs.Turning.{Settled, Sound, SoundAfter, quiet_going, up_of}
 use Rattle.link_life.proofs.Untouched.{NotHeard, fresh_stays}
 
 -- no frame of account comes
@@ -66,12 +64,9 @@ not_heard Take m a n = tt
 -- it asked, but not by a set-up command
 no_other : (coming rest : List Flight) (i : Input) (fr : Frame) → Arrived coming rest i fr → sets_up fr.kind ≡ false → (f : Flight) → coming ≡ f ∷ rest → asks f.frame.kind ≡ true → sets_up f.frame.kind ≡ true → ⊥
 no_other coming rest i fr a z f e q w =
-    let same : f ≡ a.flight = first_same f a.flight (sym e ∙ a.first) in
+    let same : f ≡ a.flight = first_same f a.flight rest (sym e ∙ a.first) in
     let y : sets_up f.frame.kind ≡ false = ap (λ (g : Flight). sets_up g.frame.kind) same ∙ (ap (λ (g : Frame). sets_up g.kind) a.same ∙ z) in
     absurd (cc (w, y))
-  where
-    first_same : (g h : Flight) → g ∷ rest ≡ h ∷ rest → g ≡ h
-    first_same g h q = cc q
 
 module _ (known : Known) (set : Rules) (now delay : ℕ) (settled : Settled set delay) (x y : End) (s : Sound set now delay (record { near = x; far = y })) (i : Input) (rest : List Flight) (taken : Taken i x.coming rest) (may : MayCome i) where
   few : answers_in (step x.link i now).outs ≤ asked_by i
@@ -84,9 +79,9 @@ module _ (known : Known) (set : Rules) (now delay : ℕ) (settled : Settled set 
   fresh n r u e = fresh_stays x.link i now u (not_heard i may n r) (subst IsFresh (is_up u).core (s.talk.one.alone e))
 
   -- with what the epoch has heard so far
-  as_heard : x.link.phase ≡ Up → Sound set now delay (step_near set now (step x.link i now) (record { near = record x { coming = rest; heard = Some s.talk.near.heard }; far = y })) →
-      Sound set now delay (step_near set now (step x.link i now) (record { near = record x { coming = rest }; far = y }))
-  as_heard u d = subst (λ h. Sound set now delay (step_near set now (step x.link i now) (record { near = record x { coming = rest; heard = h }; far = y }))) (sym (is_up u).lasts) d
+  as_heard : x.link.phase ≡ Up → SoundAfter set now delay i x rest (Some s.talk.near.heard) y →
+      SoundAfter set now delay i x rest x.heard y
+  as_heard u d = subst (λ h. SoundAfter set now delay i x rest h y) (sym (is_up u).lasts) d
 
   opens_none : OpensOnlyAsked i (step x.link i now).outs → y.link.phase ≡ SettingUp → NoneOf opens (step x.link i now).outs
   opens_none (inl n) u = n
@@ -95,7 +90,7 @@ module _ (known : Known) (set : Rules) (now delay : ℕ) (settled : Settled set 
       (came known set now delay settled x y s i rest taken few) s.far_dates u
 
   quiet : (x.link.phase ≡ Up → NotAccount i) → (i ≡ Set_up → is_early x.down_since now ≡ false) → Case x.link i now (step x.link i now) →
-      Sound set now delay (step_near set now (step x.link i now) (record { near = record x { coming = rest }; far = y }))
+      SoundAfter set now delay i x rest x.heard y
   quiet n early (cases.rests u v e q o) = rests_on known set now delay settled x y s i rest taken few u v e q o
   quiet n early (cases.starts u v e q o w t) = starts_on known set now delay settled x y s i rest taken few u v e (early q) o w t
   quiet n early (cases.begins f pf p v e q z o w) =
@@ -124,7 +119,7 @@ module _ (known : Known) (set : Rules) (now delay : ℕ) (settled : Settled set 
 
   -- a frame of account comes to an end that is Up
   hearing : (f : Flight) → x.coming ≡ f ∷ rest → x.link.phase ≡ Up → is_of_account f.frame.kind ≡ true → Case x.link i now (step x.link i now) →
-      Sound set now delay (step_near set now (step x.link i now) (record { near = record x { coming = rest; heard = Some (s.talk.near.heard ++ f.epoch ∷ []) }; far = y }))
+      SoundAfter set now delay i x rest (Some (s.talk.near.heard ++ f.epoch ∷ [])) y
   hearing f c up a = by
     where
       from : IsFrom s.talk.far.number f.epoch
@@ -142,15 +137,12 @@ module _ (known : Known) (set : Rules) (now delay : ℕ) (settled : Settled set 
       some : s.talk.near.heard ++ f.epoch ∷ [] ≡ [] → IsFresh (core (step x.link i now).link)
       some e = let l = ap length e in absurd (omega (arith, l, length-append s.talk.near.heard (f.epoch ∷ [])))
 
-      first_same : (g h : Flight) → g ∷ rest ≡ h ∷ rest → g ≡ h
-      first_same g h q = cc q
-
-      by : Case x.link i now (step x.link i now) → Sound set now delay (step_near set now (step x.link i now) (record { near = record x { coming = rest; heard = Some (s.talk.near.heard ++ f.epoch ∷ []) }; far = y }))
+      by : Case x.link i now (step x.link i now) → SoundAfter set now delay i x rest (Some (s.talk.near.heard ++ f.epoch ∷ [])) y
       by (cases.goes_on u e r on) = up_on known set now delay settled x y s i rest taken few (s.talk.near.heard ++ f.epoch ∷ []) u stands of some e r on
       by (cases.leaves u v e r q) = leaves_on known set now delay settled x y s i rest taken few (s.talk.near.heard ++ f.epoch ∷ []) u stands of some v e r q
       by (cases.begins g pf p v e q z o w) =
           let b = arrived i x.coming rest g q taken in
-          let same : f ≡ b.flight = first_same f b.flight (sym c ∙ b.first) in
+          let same : f ≡ b.flight = first_same f b.flight rest (sym c ∙ b.first) in
           let sets : sets_up f.frame.kind ≡ true = ap (λ (h : Flight). sets_up h.frame.kind) same ∙ (ap (λ (h : Frame). sets_up h.kind) b.same ∙ z) in
           let n = sets_account f.frame.kind sets in
           absurd (cc (n, a))
@@ -165,16 +157,16 @@ module _ (known : Known) (set : Rules) (now delay : ℕ) (settled : Settled set 
       by (cases.ends u v e m o) = absurd (cc (u, up))
 
 pub step_sound : (known : Known) (set : Rules) (now delay : ℕ) (x y : End) (i : Input) (rest : List Flight) (heard : Option (List ℕ)) → Settled set delay → Sound set now delay (record { near = x; far = y }) → Takes x i now rest heard →
-    Sound set now delay (step_near set now (step x.link i now) (record { near = record x { coming = rest; heard = heard }; far = y }))
+    SoundAfter set now delay i x rest heard y
 step_sound known set now delay x y i rest heard settled s k = by k.hears
   where
     is : Case x.link i now (step x.link i now)
     is = (step_is known x.link i now k.may).is
 
-    by : Hearing x i rest heard → Sound set now delay (step_near set now (step x.link i now) (record { near = record x { coming = rest; heard = heard }; far = y }))
+    by : Hearing x i rest heard → SoundAfter set now delay i x rest heard y
     by (inl a) =
-        subst (λ h. Sound set now delay (step_near set now (step x.link i now) (record { near = record x { coming = rest; heard = h }; far = y }))) (sym a.1)
+        subst (λ h. SoundAfter set now delay i x rest h y) (sym a.1)
         (quiet known set now delay settled x y s i rest k.taken k.may a.0 k.early is)
     by (inr a) =
-        subst (λ h. Sound set now delay (step_near set now (step x.link i now) (record { near = record x { coming = rest; heard = h }; far = y }))) (sym (a.4 ∙ ap (heard_more a.0.epoch) (up_of x s.talk.near s.talk.far.heard s.talk.one.stand a.2).lasts))
+        subst (λ h. SoundAfter set now delay i x rest h y) (sym (a.4 ∙ ap (heard_more a.0.epoch) (up_of x s.talk.near s.talk.far.heard s.talk.one.stand a.2).lasts))
         (hearing known set now delay settled x y s i rest k.taken k.may a.0 a.1 a.2 a.3 is)

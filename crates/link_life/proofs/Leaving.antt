@@ -1,30 +1,27 @@
 -- A step of an end that fails to come up, comes up, is Up, or releases.
-use Rattle.std.proofs.Common.{◌≡◌, ◌⊎◌, inl, inr, ◌≤◌, ◌<◌, ◌+◌, min, ℕ, suc, Bool, true, false, not, ◌&&◌, List, [], ◌∷◌, ◌++◌, length, Option, Some, None, slice_get, refl, ap, sym, ◌∙◌, subst, arith, append-nil}
-use Rattle.std.specs.List.{AllByRecursion}
+use Rattle.std.proofs.Common.{◌≡◌, ◌⊎◌, inl, inr, ◌≤◌, min, ℕ, suc, true, false, not, ◌&&◌, List, [], ◌∷◌, ◌++◌, length, Option, Some, slice_get, refl, ap, sym, ◌∙◌, subst, arith, append-nil}
 use Rattle.ax_link.specs.declared.kind.Kind.{Kind}
 use Rattle.ax_link.specs.declared.kind.Kind.TheVariants as kind
 use Rattle.ax_link.specs.declared.plain.LinkPhase.{LinkPhase}
 use Rattle.ax_link.specs.declared.plain.LinkPhase.TheVariants.{Down, SettingUp, Up, Releasing}
-use Rattle.ax_link.specs.Bounds.{Bounded, stock}
 use Rattle.ax_link.specs.Carrying.{GoesOn, is_on}
-use Rattle.ax_link.specs.Opening.{opening}
-use Rattle.ax_link.specs.Pair.{Both, Core, IsNew, NoRestart, NoRestartIn, Queue, core, opens}
+use Rattle.ax_link.specs.Pair.{Both, IsNew, NoRestart, NoRestartIn, Queue, core, opens}
 use Rattle.ax_link.specs.Runs.{sets_up}
-use Rattle.ax_link.specs.State.{Effect, Frame, Rules, State, count_end}
+use Rattle.ax_link.specs.State.{Effect, Rules, count_end}
 use Rattle.ax_link.specs.Table.{Input, Arrive, Set_up, Send, Tick, Close, Take, step}
-use Rattle.link_life.specs.Ends.{End, Ends, Epoch, Flight, any_begins, epochs, flights, is_down, is_of_account, lasting, number, step_near}
+use Rattle.link_life.specs.Ends.{End, Epoch, Flight, any_begins, epochs, flights, is_down, is_of_account, lasting, number}
 use Rattle.link_life.specs.Laws.{AllInTime}
 use Rattle.link_life.proofs.Beginning.{After, begun, next_opens, on_phase, up_goes}
-use Rattle.link_life.proofs.Cases.{IsFresh, MayCome, NoneOf, OpensOnlyAsked, answers, answers_in, asked_by, asks, goes_out}
-use Rattle.link_life.proofs.Conversing.{Off, more_coming, next_fails, off_goes}
-use Rattle.link_life.proofs.Dates.{Asking, Clear, Dated, NoArrival, Taken, account_asks, all_rest, clear_t1, none_also, none_more, none_set, none_set_carried, none_set_in, opens_answers}
+use Rattle.link_life.proofs.Cases.{IsFresh, NoneOf, answers, answers_in, asked_by, asks}
+use Rattle.link_life.proofs.Conversing.{Off, more_coming, next_fails}
+use Rattle.link_life.proofs.Dates.{Asking, Dated, Taken, all_rest, clear_t1, first_same, none_more, none_set, none_set_carried, none_set_in, opens_answers}
 use Rattle.link_life.proofs.Dating.{answer_came, down_dated, on_dated}
 use Rattle.link_life.proofs.Known.{Known}
-use Rattle.link_life.proofs.Sounding.{all_both, frames_sent, hears_sent, none_sent}
-use Rattle.link_life.proofs.Stepping.{behind_first, bounds_step, came, carries_opens, lasting_core, made, none_lasting, off_talk, opens_asked, rules_step, setting_lasts}
+use Rattle.link_life.proofs.Sounding.{frames_sent, hears_sent, none_sent}
+use Rattle.link_life.proofs.Stepping.{behind_first, bounds_step, came, carries_opens, lasting_core, made, none_lasting, off_talk, opens_asked, rules_step}
 use Rattle.link_life.proofs.Talks.{Apart, Hears, IsNext, IsUp, NoneIn, OfEpoch, Stand, Talk, behind_ua, epoch_of, frames_in, get_end, get_more, get_other}
-use Rattle.link_life.proofs.Timing.{set_out}
-use Rattle.link_life.proofs.Turning.{DatedEnd, EndFine, Lasts, Settled, Sound, apart_of, asking_of, down_test, ended, far_quiet, near_begins, near_ends, near_stays, next_or_off, off_of, quiet_going, up_of}
+use Rattle.link_life.proofs.Timing.{all_both, set_out}
+use Rattle.link_life.proofs.Turning.{Lasts, Settled, Sound, SoundAfter, apart_of, asking_of, down_test, ended, far_quiet, near_begins, near_ends, near_stays, next_or_off, off_of, quiet_going, up_of}
 
 pub restart_sets : (k : Kind) → NoRestart k → sets_up k ≡ false
 restart_sets (kind.SetUp pf) n = absurd n
@@ -39,10 +36,7 @@ no_set_up i rest coming (inl t) n f e a b = absurd (no_end (sym e ∙ t.1))
 no_set_up i rest coming (inr t) n f e a b =
     let k : NoRestart t.0.frame.kind = subst NoRestartIn t.1 n in
     let z : sets_up t.0.frame.kind ≡ false = restart_sets t.0.frame.kind k in
-    absurd (cc (b, ap (λ (g : Flight). sets_up g.frame.kind) (first_same (sym e ∙ t.2)), z))
-  where
-    first_same : f ∷ rest ≡ t.0 ∷ rest → f ≡ t.0
-    first_same q = cc q
+    absurd (cc (b, ap (λ (g : Flight). sets_up g.frame.kind) (first_same f t.0 rest (sym e ∙ t.2)), z))
 
 -- the frames of what was taken
 queue : (i : Input) (coming rest : List Flight) → Taken i coming rest → Queue i (frames_in coming) (frames_in rest)
@@ -66,7 +60,7 @@ module _ (known : Known) (set : Rules) (now delay : ℕ) (settled : Settled set 
   down_made : (heard : Option (List ℕ)) → (step x.link i now).link.phase ≡ Down → any_begins (step x.link i now).notes ≡ false → (not (is_down x.link.phase) && is_down (step x.link i now).link.phase) ≡ true →
       NoneIn sets_up y.coming → NoneOf sets_up (step x.link i now).outs →
       Talk (ended set now (step x.link i now).link (record x { coming = rest; heard = heard })) (more_coming y (flights now (number (record x { heard = heard })) (step x.link i now).outs)) →
-      Sound set now delay (step_near set now (step x.link i now) (record { near = record x { coming = rest; heard = heard }; far = y }))
+      SoundAfter set now delay i x rest heard y
   down_made heard v e d n m t =
       let g : Effect = step x.link i now in
       let epoch : ℕ = number (record x { heard = heard }) in
@@ -81,7 +75,7 @@ module _ (known : Known) (set : Rules) (now delay : ℕ) (settled : Settled set 
 
   pub fails_on : x.link.phase ≡ SettingUp → (step x.link i now).link.phase ≡ Down → any_begins (step x.link i now).notes ≡ false → (step x.link i now).outs ≡ [] →
       ((i ≡ Tick) × (x.link.t1_at ≤ min now count_end)) ⊎ ((f : Flight) × (x.coming ≡ f ∷ rest) × (answers f.frame.kind ≡ true)) →
-      Sound set now delay (step_near set now (step x.link i now) (record { near = record x { coming = rest }; far = y }))
+      SoundAfter set now delay i x rest x.heard y
   fails_on u v e o w =
       down_made x.heard v e (down_test x.link.phase (step x.link i now).link.phase SettingUp Down u v) (none_set_up w) (subst (NoneOf sets_up) (sym o) tt) (by (next_or_off x s.talk.near s.talk.far.heard s.talk.one.stand u))
     where
@@ -111,7 +105,7 @@ module _ (known : Known) (set : Rules) (now delay : ℕ) (settled : Settled set 
 
   pub comes_on : (f : Flight) → x.link.phase ≡ SettingUp → any_begins (step x.link i now).notes ≡ true → i ≡ Arrive f.frame → x.coming ≡ f ∷ rest → f.frame.kind ≡ kind.Ua true → GoesOn (step x.link i now) →
       (IsNew x.link → IsFresh (core (step x.link i now).link)) →
-      Sound set now delay (step_near set now (step x.link i now) (record { near = record x { coming = rest }; far = y }))
+      SoundAfter set now delay i x rest x.heard y
   comes_on f u e q c k on fresh = by (next_or_off x s.talk.near s.talk.far.heard s.talk.one.stand u)
     where
       opened : opens f.frame.kind ≡ true
@@ -135,7 +129,7 @@ module _ (known : Known) (set : Rules) (now delay : ℕ) (settled : Settled set 
       count n =
           ap (λ h. suc (length (x.over ++ lasting x.link h))) n.lasts ∙ (ap (λ es. suc (length es)) (append-nil x.over) ∙ sym n.number)
 
-      by : IsNext x s.talk.near s.talk.far.heard ⊎ Off x s.talk.near s.talk.far.heard → Sound set now delay (step_near set now (step x.link i now) (record { near = record x { coming = rest }; far = y }))
+      by : IsNext x s.talk.near s.talk.far.heard ⊎ Off x s.talk.near s.talk.far.heard → SoundAfter set now delay i x rest x.heard y
       by (inr a) = let n = (subst (NoneIn opens) c ((apart_of x s.talk.near s.talk.far.heard a).setting u)).0 in absurd (cc (n, opened))
       by (inl n) =
           let g : Effect = step x.link i now in
@@ -177,7 +171,7 @@ module _ (known : Known) (set : Rules) (now delay : ℕ) (settled : Settled set 
 
   pub up_on : (h : List ℕ) → x.link.phase ≡ Up → Stand y s.talk.far h → OfEpoch s.talk.far.number h → (h ≡ [] → IsFresh (core (step x.link i now).link)) →
       any_begins (step x.link i now).notes ≡ false → NoRestartIn i → GoesOn (step x.link i now) →
-      Sound set now delay (step_near set now (step x.link i now) (record { near = record x { coming = rest; heard = Some h }; far = y }))
+      SoundAfter set now delay i x rest (Some h) y
   up_on h u other o fresh e n on = by (on_phase (step x.link i now).link.phase on.phase)
     where
       is_up : IsUp x s.talk.near
@@ -185,7 +179,7 @@ module _ (known : Known) (set : Rules) (now delay : ℕ) (settled : Settled set 
 
       done : (not (is_down x.link.phase) && is_down (step x.link i now).link.phase) ≡ false → Lasts (step x.link i now).link.phase (Some h) → ((step x.link i now).link.phase ≡ SettingUp → ⊥) →
           ((step x.link i now).link.phase ≡ Up) ⊎ ((step x.link i now).link.phase ≡ Releasing) → After x (record x { coming = rest; heard = Some h; link = (step x.link i now).link }) (core (step x.link i now).link) h →
-          Sound set now delay (step_near set now (step x.link i now) (record { near = record x { coming = rest; heard = Some h }; far = y }))
+          SoundAfter set now delay i x rest (Some h) y
       done d l z p a =
           let g : Effect = step x.link i now in
           let epoch : ℕ = suc (length x.over) in
@@ -195,7 +189,7 @@ module _ (known : Known) (set : Rules) (now delay : ℕ) (settled : Settled set 
           (on_dated g.link.phase g.link.t1_at now delay x.down_since rest (y.coming ++ flights now epoch g.outs) p (none_more sets_up now epoch y.coming g.outs (up_unset u) (none_set_carried g.outs on.outs)))
           (up_goes known x y x2 s.talk (core g.link) h (flights now epoch g.outs) is_up a other o fresh (up_hears is_up) (up_sends h is_up) (λ w. none_sent opens now epoch g.outs (carries_opens g.outs on.outs)) (up_sound epoch is_up n)))
 
-      by : ((step x.link i now).link.phase ≡ Up) ⊎ ((step x.link i now).link.phase ≡ Releasing) → Sound set now delay (step_near set now (step x.link i now) (record { near = record x { coming = rest; heard = Some h }; far = y }))
+      by : ((step x.link i now).link.phase ≡ Up) ⊎ ((step x.link i now).link.phase ≡ Releasing) → SoundAfter set now delay i x rest (Some h) y
       by (inl v) =
           done (down_test x.link.phase (step x.link i now).link.phase Up Up u v) (subst (λ ph. Lasts ph (Some h)) (sym v) (h, refl)) (λ w. absurd (cc (v, w))) (inl v)
           (record { stands = inl (v, refl, refl, refl); same = other_over (epoch_of (core (step x.link i now).link) h) })
@@ -205,7 +199,7 @@ module _ (known : Known) (set : Rules) (now delay : ℕ) (settled : Settled set 
 
   pub leaves_on : (h : List ℕ) → x.link.phase ≡ Up → Stand y s.talk.far h → OfEpoch s.talk.far.number h → (h ≡ [] → IsFresh (core (step x.link i now).link)) →
       (step x.link i now).link.phase ≡ Down → any_begins (step x.link i now).notes ≡ false → NoRestartIn i → NoneOf asks (step x.link i now).outs →
-      Sound set now delay (step_near set now (step x.link i now) (record { near = record x { coming = rest; heard = Some h }; far = y }))
+      SoundAfter set now delay i x rest (Some h) y
   leaves_on h u other o fresh v e n q =
       let g : Effect = step x.link i now in
       let epoch : ℕ = suc (length x.over) in
@@ -231,7 +225,7 @@ module _ (known : Known) (set : Rules) (now delay : ℕ) (settled : Settled set 
 
   pub idles_on : x.link.phase ≡ Releasing → (step x.link i now).link.phase ≡ Releasing → any_begins (step x.link i now).notes ≡ false → core (step x.link i now).link ≡ core x.link →
       NoneOf sets_up (step x.link i now).outs → NoneOf is_of_account (step x.link i now).outs → (y.link.phase ≡ SettingUp → NoneOf opens (step x.link i now).outs) →
-      Sound set now delay (step_near set now (step x.link i now) (record { near = record x { coming = rest }; far = y }))
+      SoundAfter set now delay i x rest x.heard y
   idles_on u v e c n q o =
       let g : Effect = step x.link i now in
       let x2 : End = record x { coming = rest; link = g.link } in
@@ -243,7 +237,7 @@ module _ (known : Known) (set : Rules) (now delay : ℕ) (settled : Settled set 
       (record { up = λ w. absurd (cc (v, w)); setting = λ w. absurd (cc (v, w)) }) q o))
 
   pub ends_on : x.link.phase ≡ Releasing → (step x.link i now).link.phase ≡ Down → any_begins (step x.link i now).notes ≡ false → core (step x.link i now).link ≡ core x.link → (step x.link i now).outs ≡ [] →
-      Sound set now delay (step_near set now (step x.link i now) (record { near = record x { coming = rest }; far = y }))
+      SoundAfter set now delay i x rest x.heard y
   ends_on u v e c o =
       let g : Effect = step x.link i now in
       let x2 : End = ended set now g.link (record x { coming = rest }) in

@@ -1,10 +1,16 @@
 -- In a conversation all epochs are safe, and they stay so when another one begins.
-use Rattle.std.proofs.Common.{◌≡◌, ◌⊎◌, inl, inr, ◌≤◌, ◌<◌, ◌+◌, ℕ, zero, suc, Bool, true, false, nat_eq, List, [], ◌∷◌, ◌++◌, length, map, Option, Some, None, slice_get, refl, ap, sym, ◌∙◌, subst, arith, length-append}
+use Rattle.std.proofs.Common.{◌≡◌, inl, inr, ◌≤◌, ◌<◌, ℕ, zero, suc, Bool, true, false, nat_eq, List, [], ◌∷◌, ◌++◌, length, Some, slice_get, refl, ap, sym, ◌∙◌, subst, arith, length-append}
 use Rattle.std.proofs.lemmas.Bool.Decides.{nat_tests}
 use Rattle.ax_link.specs.Pair.{Both, core}
 use Rattle.link_life.specs.Ends.{End, Epoch, epochs, lasting, partner_of}
-use Rattle.link_life.specs.Laws.{ArePartners, EpochSafe, EpochsSafe, WithPartner}
-use Rattle.link_life.proofs.Talks.{OffTalk, Part, Rest, Side, Stand, Talk, both_swapped, epoch_of, epoch_safe, frames_in, get_end, get_in, get_more, get_other, partner_at}
+use Rattle.link_life.specs.Laws.{EpochSafe, EpochsSafe, WithPartner}
+use Rattle.link_life.proofs.Talks.{Part, Rest, Side, Stand, Talk, both_swapped, epoch_of, epoch_safe, frames_in, get_end, get_in, get_other, partner_at}
+
+suc_same : (a b : ℕ) → suc a ≡ suc b → a ≡ b
+suc_same a b e = omega (arith, e)
+
+some_same : (a b : Epoch) → Some a ≡ Some b → a ≡ b
+some_same a b e = cc e
 
 -- an epoch with the number of the conversation is the one that takes part
 is_part : (x : End) (p : Part) (heard : List ℕ) (i : ℕ) (e : Epoch) → Stand x p heard → slice_get (epochs x) i ≡ Some e → suc i ≡ p.number → e ≡ epoch_of p.core p.heard
@@ -14,12 +20,6 @@ is_part x p heard i e (inl s) g q =
     subst (λ o. slice_get (x.over ++ lasting x.link o) (length x.over) ≡ Some (epoch_of p.core p.heard)) (sym s.lasts)
     (subst (λ c. slice_get (x.over ++ epoch_of (core x.link) p.heard ∷ []) (length x.over) ≡ Some (epoch_of c p.heard)) (sym s.core) (get_end x.over (epoch_of (core x.link) p.heard))) in
     some_same e (epoch_of p.core p.heard) (sym g ∙ (ap (λ k. slice_get (epochs x) k) at ∙ last))
-  where
-    suc_same : (a b : ℕ) → suc a ≡ suc b → a ≡ b
-    suc_same a b e = omega (arith, e)
-
-    some_same : (a b : Epoch) → Some a ≡ Some b → a ≡ b
-    some_same a b e = cc e
 is_part x p heard i e (inr (inl s)) g q =
     let l : i < length (x.over ++ lasting x.link x.heard) = get_in (epochs x) i e g in
     let m : i < length (x.over ++ []) = subst (λ o. i < length (x.over ++ lasting x.link o)) s.lasts l in
@@ -27,12 +27,6 @@ is_part x p heard i e (inr (inl s)) g q =
     let none : List Epoch = [] in
     absurd (omega (arith, m, n, q, length-append x.over none))
 is_part x p heard i e (inr (inr (inl s))) g q = some_same e (epoch_of p.core p.heard) (sym g ∙ (ap (λ k. slice_get (epochs x) k) (suc_same i s.before (q ∙ s.number)) ∙ s.epoch))
-  where
-    suc_same : (a b : ℕ) → suc a ≡ suc b → a ≡ b
-    suc_same a b e = omega (arith, e)
-
-    some_same : (a b : Epoch) → Some a ≡ Some b → a ≡ b
-    some_same a b e = cc e
 is_part x p heard i e (inr (inr (inr s))) g q = let n = s.number in absurd (omega (arith, n, q))
 
 -- of one side
@@ -79,13 +73,5 @@ pub rest_moved : (n k : ℕ) (es fs others : List Epoch) → ((i : ℕ) → (suc
 rest_moved n k es fs others s r i e g m = r i e (s i m ∙ g) m
 
 -- one more epoch
-pub safe_more : (es others more : List Epoch) → EpochsSafe es others → EpochsSafe es (others ++ more)
-safe_more es others more s i e g =
-    let o = s i e g in record { heard = o.heard; partner = by (partner_of e.heard) o.partner }
-  where
-    by : (p : ℕ) → WithPartner p (suc i) e others → WithPartner p (suc i) e (others ++ more)
-    by zero w = w
-    by (suc j) w = (w.0, get_more others more j w.0 w.1, w.2)
-
 pub rest_begun : (k : ℕ) (es others : List Epoch) (new : Epoch) → EpochsSafe es others → length others < k → Rest (suc (length es)) k (es ++ new ∷ []) others
 rest_begun k es others new s l = rest_moved (suc (length es)) k es (es ++ new ∷ []) others (λ i m. get_other es new i (λ e. m (ap suc e))) (rest_new (suc (length es)) k es others s l)

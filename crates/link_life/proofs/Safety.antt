@@ -1,12 +1,14 @@
 -- In each life, at each moment, each epoch is safe with its partner.
-use Rattle.std.proofs.Common.{◌≡◌, ◌⊎◌, inl, inr, ◌≤◌, ◌<◌, ◌+◌, ◌*◌, min, ℕ, suc, Bool, true, false, not, ◌&&◌, ◌||◌, if◌then◌else◌, List, [], ◌∷◌, length, Option, Some, None, slice_get, nat_lt, refl, ap, sym, ◌∙◌, subst, arith}
+use Rattle.std.proofs.Common.{◌≡◌, inl, inr, ◌≤◌, ◌+◌, min, ℕ, Bool, true, false, not, ◌&&◌, ◌||◌, if◌then◌else◌, List, [], ◌∷◌, length, Option, Some, None, slice_get, refl, ap, sym, subst, arith}
 use Rattle.std.specs.List.{AllByRecursion}
 use Rattle.radio_base.specs.declared.payload.Payload.{Payload}
 use Rattle.ax_link.specs.declared.plain.LinkPhase.{LinkPhase}
 use Rattle.ax_link.specs.declared.plain.LinkPhase.TheVariants.{Down, SettingUp, Up, Releasing}
+use Rattle.std.specs.Prelude.{is_some}
+use Rattle.ax_link.specs.Carrying.{is_on}
 use Rattle.ax_link.specs.Opening.{opening, rules_new}
-use Rattle.ax_link.specs.Pair.{Both, IsNew, core, opens}
-use Rattle.ax_link.specs.State.{Effect, Frame, Rules, State, is_up}
+use Rattle.ax_link.specs.Pair.{IsNew, core}
+use Rattle.ax_link.specs.State.{Rules, is_up}
 use Rattle.ax_link.specs.Table as table
 use Rattle.ax_link.specs.Table.{Input, step}
 use Rattle.link_life.specs.declared.act.Side.{Side}
@@ -17,20 +19,20 @@ use Rattle.link_life.specs.declared.act.LifeAct.{LifeAct}
 use Rattle.link_life.specs.declared.act.LifeAct.TheVariants.{At, Tick}
 use Rattle.link_life.specs.declared.reasons.LifeRefusal.{LifeRefusal}
 use Rattle.link_life.specs.declared.reasons.LifeRefusal.TheVariants as why
-use Rattle.link_life.specs.Ends.{End, Ends, Epoch, Flight, epochs, heard_more, hear, is_down, is_of_account, step_near}
-use Rattle.link_life.specs.Laws.{AllInTime, LifeSafe, LivesAreSafe}
-use Rattle.link_life.specs.Lives.{Done, Life, Outcome, Refused, Turn, act_at, act_near, act_on, after_act, arrive_first, clock_end, ends_at, is_early, is_late, lifted, lose_first, moved, new_end, new_life, pause, run, send_refusal, set_up_refusal, settings, take_first, tick_at, tick_both, tick_to, turn_at, unless}
+use Rattle.link_life.specs.Ends.{End, Ends, Flight, heard_more, is_down, is_of_account, step_near}
+use Rattle.link_life.specs.Laws.{AllInTime, LivesAreSafe}
+use Rattle.link_life.specs.Lives.{Done, Life, Outcome, Refused, Turn, act_near, act_on, after_act, arrive_first, clock_end, ends_at, is_early, is_late, lifted, lose_first, moved, new_end, new_life, run, send_refusal, set_up_refusal, settings, take_first, tick_at, tick_both, tick_to, turn_at, unless}
 use Rattle.link_life.proofs.Beginning.{loses}
 use Rattle.link_life.proofs.Cases.{MayCome, goes_out}
 use Rattle.link_life.proofs.Dates.{Asking, Dated, NoArrival, opens_answers}
 use Rattle.link_life.proofs.Dating.{answer_came, dated_later, lost_coming, lost_going}
-use Rattle.link_life.proofs.Hearing.{NotAccount, Takes, step_sound}
+use Rattle.link_life.proofs.Hearing.{NotAccount, step_sound}
 use Rattle.link_life.proofs.Known.{Known}
 use Rattle.link_life.proofs.Partners.{talk_safe}
 use Rattle.link_life.proofs.Sounding.{both_new}
-use Rattle.link_life.proofs.Talks.{Apart, NoneIn, Part, Side as TalkSide, Talk, swapped}
+use Rattle.link_life.proofs.Talks.{Part, Side as TalkSide, Talk, swapped}
 use Rattle.link_life.proofs.Timing.{none_late}
-use Rattle.link_life.proofs.Turning.{EndFine, Settled, Sound, asking_of, none_opens}
+use Rattle.link_life.proofs.Turning.{EndFine, Lasts, Settled, Sound, asking_of, none_opens}
 
 -- ---- acts at one end
 
@@ -227,6 +229,12 @@ new_talk known set delay settled n =
     } in
     record { near = part; far = part; one = side; two = side; sound = both_new known set (opening set) (opening set) [] [] settled.fits refl refl n n tt tt }
 
+lasts_on : (ph : LinkPhase) (heard : Option (List ℕ)) → Lasts ph heard → is_some heard ≡ is_on ph
+lasts_on Down heard l = ap is_some l
+lasts_on SettingUp heard l = ap is_some l
+lasts_on Up heard l = ap is_some l.1
+lasts_on Releasing heard l = ap is_some l.1
+
 pub lives_are_safe : Known → LivesAreSafe
 lives_are_safe known size delay srej acts m short =
     let starts = known.begin size (settings srej) (settings srej) m refl in
@@ -241,4 +249,4 @@ lives_are_safe known size delay srej acts m short =
       ends = record { near = fine; far = fine; near_time = tt; far_time = tt; near_dates = (tt, (tt, tt)); far_dates = (tt, (tt, tt)); talk = new_talk known set delay settled starts.left_new };
     }) in
     let safe = talk_safe (run (new_life size srej delay) acts).a (run (new_life size srej delay) acts).b k.ends.talk in
-    record { a = safe.0; b = safe.1 }
+    record { a = safe.0; b = safe.1; a_lasts = lasts_on _ _ k.ends.near.lasts; b_lasts = lasts_on _ _ k.ends.far.lasts }

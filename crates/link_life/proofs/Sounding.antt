@@ -1,5 +1,5 @@
 -- What may be changed of what is under way, and both ways stay sound.
-use Rattle.std.proofs.Common.{◌≡◌, ◌⊎◌, inl, inr, ◌≤◌, ◌<◌, ◌+◌, ℕ, zero, suc, Bool, true, false, if◌then◌else◌, IsTrue, List, [], ◌∷◌, ◌++◌, length, map, Option, Some, None, refl, ap, sym, ◌∙◌, subst, arith, append_assoc}
+use Rattle.std.proofs.Common.{◌≡◌, ◌⊎◌, inl, inr, ◌≤◌, ◌<◌, ◌+◌, ℕ, Bool, true, false, if◌then◌else◌, IsTrue, List, [], ◌∷◌, ◌++◌, Option, refl, ap, sym, ◌∙◌, subst, arith}
 use Rattle.std.specs.List.{AllByRecursion}
 use Rattle.radio_base.specs.declared.payload.Payload.{Payload}
 use Rattle.ax_link.specs.declared.kind.Kind.{Kind}
@@ -9,7 +9,6 @@ use Rattle.ax_link.specs.Opening.{opening}
 use Rattle.ax_link.specs.Pair.{Both, Core, Fits, IsNew, ack_of, acks_of, core, opens, text_of, texts_of}
 use Rattle.ax_link.specs.State.{Frame, Rules, State}
 use Rattle.link_life.specs.Ends.{Flight, flights, is_of_account}
-use Rattle.link_life.specs.Laws.{IsFrom}
 use Rattle.link_life.proofs.Cases.{NoneOf}
 use Rattle.link_life.proofs.Known.{Known}
 use Rattle.link_life.proofs.Talks.{Hears, NoneIn, behind_ua, both_swapped, frames_in}
@@ -23,10 +22,6 @@ frames_both (x ∷ xs) ys = ap (λ fs. x.frame ∷ fs) (frames_both xs ys)
 pub frames_sent : (now epoch : ℕ) (fs : List Frame) → frames_in (flights now epoch fs) ≡ fs
 frames_sent now epoch [] = refl
 frames_sent now epoch (f ∷ fs) = ap (λ gs. f ∷ gs) (frames_sent now epoch fs)
-
-pub all_both : {A : Type 0} (P : A → Type 0) (xs ys : List A) → AllByRecursion P xs → AllByRecursion P ys → AllByRecursion P (xs ++ ys)
-all_both P [] ys a b = b
-all_both P (x ∷ xs) ys a b = (a.0, all_both P xs ys a.1 b)
 
 pub none_sent : (test : Kind → Bool) (now epoch : ℕ) (fs : List Frame) → NoneOf test fs → NoneIn test (flights now epoch fs)
 none_sent test now epoch [] a = tt
@@ -99,6 +94,14 @@ behind_more (f ∷ q) fs n = by (opens f.frame.kind) (behind_more q fs n)
     by : (b : Bool) → (behind_ua (q ++ fs) ≡ behind_ua q ++ fs) ⊎ ((behind_ua q ≡ []) × (behind_ua (q ++ fs) ≡ [])) →
         ((if b then q ++ fs else behind_ua (q ++ fs)) ≡ (if b then q else behind_ua q) ++ fs) ⊎ (((if b then q else behind_ua q) ≡ []) × ((if b then q ++ fs else behind_ua (q ++ fs)) ≡ []))
     by true r = inl refl
+    by false r = r
+
+pub behind_all : (test : Flight → Type 0) (fs : List Flight) → AllByRecursion test fs → AllByRecursion test (behind_ua fs)
+behind_all test [] a = tt
+behind_all test (f ∷ fs) a = by (opens f.frame.kind) (behind_all test fs a.1)
+  where
+    by : (b : Bool) → AllByRecursion test (behind_ua fs) → AllByRecursion test (if b then fs else behind_ua fs)
+    by true r = a.1
     by false r = r
 
 -- behind all that doesn't open, one frame leaves nothing behind it

@@ -1,30 +1,28 @@
 -- A step of the near end leaves what is known of the two ends, where its epoch hears nothing.
-use Rattle.std.proofs.Common.{◌≡◌, ◌⊎◌, inl, inr, ◌≤◌, ◌<◌, ◌+◌, ◌*◌, min, ℕ, zero, suc, Bool, true, false, not, ◌&&◌, if◌then◌else◌, List, [], ◌∷◌, ◌++◌, length, map, Option, Some, None, slice_get, refl, ap, sym, ◌∙◌, subst, arith, append-nil}
+use Rattle.std.proofs.Common.{◌≡◌, ◌⊎◌, inl, inr, ◌≤◌, ◌+◌, min, ℕ, suc, Bool, true, false, not, ◌&&◌, if◌then◌else◌, List, [], ◌∷◌, ◌++◌, length, Option, Some, None, refl, ap, sym, ◌∙◌, subst}
 use Rattle.std.specs.List.{AllByRecursion}
 use Rattle.ax_link.specs.declared.kind.Kind.{Kind}
 use Rattle.ax_link.specs.declared.kind.Kind.TheVariants as kind
-use Rattle.ax_link.specs.declared.plain.LinkPhase.{LinkPhase}
-use Rattle.ax_link.specs.declared.plain.LinkPhase.TheVariants.{Down, SettingUp, Up, Releasing}
+use Rattle.ax_link.specs.declared.plain.LinkPhase.TheVariants.{Down, SettingUp, Up}
 use Rattle.ax_link.specs.Bounds.{Bounded, stock}
-use Rattle.ax_link.specs.Carrying.{GoesOn, carries, is_on}
-use Rattle.ax_link.specs.Opening.{opening}
-use Rattle.ax_link.specs.Pair.{Both, Core, IsNew, core, opens, reach}
+use Rattle.ax_link.specs.Carrying.{carries}
+use Rattle.ax_link.specs.Pair.{Core, IsNew, core, opens, reach}
 use Rattle.ax_link.specs.Runs.{sets_up}
 use Rattle.ax_link.specs.State.{Effect, Frame, Rules, State, count_end}
-use Rattle.ax_link.specs.Table.{Input, Arrive, Set_up, Tick, step}
-use Rattle.link_life.specs.Ends.{End, Ends, Epoch, Flight, any_begins, epochs, flights, is_down, is_of_account, lasting, number, step_near}
+use Rattle.ax_link.specs.Table.{Input, Arrive, step}
+use Rattle.link_life.specs.Ends.{End, Flight, any_begins, epochs, flights, is_down, is_of_account, lasting, number}
 use Rattle.link_life.specs.Laws.{AllInTime}
 use Rattle.link_life.specs.Lives.{is_early}
-use Rattle.link_life.proofs.Beginning.{Asker, begins, begun, crosses, next_opens, on_phase}
-use Rattle.link_life.proofs.Cases.{IsFresh, KeepsBoth, MayCome, NoneOf, OpensOnlyAsked, StaysUnopened, answers, answers_in, asked_by, asks, goes_out, set_up_frame, step_is, ua}
-use Rattle.link_life.proofs.Conversing.{Off, more_coming, next_fails, next_goes, off_goes}
-use Rattle.link_life.proofs.Dates.{Answered, Asking, Clear, Dated, NoArrival, Taken, account_asks, all_rest, answered, clear_down, clear_t1, none_also, none_answers, none_more, none_set, none_set_carried, none_set_in, opens_answers}
-use Rattle.link_life.proofs.Dating.{answer_came, asks_anew, asks_still, down_dated, on_dated, other_dated, rests_dated}
+use Rattle.link_life.proofs.Beginning.{Asker, begins, begun, crosses}
+use Rattle.link_life.proofs.Cases.{KeepsBoth, NoneOf, StaysUnopened, answers, answers_in, asked_by, asks, goes_out, same_both, set_up_frame, ua}
+use Rattle.link_life.proofs.Conversing.{Off, more_coming, next_goes, off_goes}
+use Rattle.link_life.proofs.Dates.{Answered, Asking, Clear, Dated, Taken, account_asks, all_rest, answered, clear_down, clear_t1, none_also, none_answers, none_more}
+use Rattle.link_life.proofs.Dating.{asks_anew, asks_still, on_dated, other_dated, rests_dated}
 use Rattle.link_life.proofs.Known.{Known}
-use Rattle.link_life.proofs.Sounding.{all_both, frames_sent, hears_sent, none_sent}
-use Rattle.link_life.proofs.Talks.{Apart, Hears, IsNext, NoneIn, Stand, Talk, behind_ua, frames_in}
-use Rattle.link_life.proofs.Timing.{set_out}
-use Rattle.link_life.proofs.Turning.{DatedEnd, EndFine, Lasts, Settled, Sound, all_go_out, apart_of, asker, asking_of, down_test, ended, far_quiet, near_begins, near_ends, near_stays, next_or_off, none_opens, off_of, quiet_going}
+use Rattle.link_life.proofs.Sounding.{none_sent}
+use Rattle.link_life.proofs.Talks.{Apart, IsNext, NoneIn, Talk, behind_ua}
+use Rattle.link_life.proofs.Timing.{all_both, set_out}
+use Rattle.link_life.proofs.Turning.{DatedEnd, Lasts, Settled, Sound, SoundAfter, all_go_out, apart_of, asker, asking_of, down_test, near_begins, near_stays, next_or_off, none_opens, off_of, quiet_going}
 
 -- ---- small facts
 
@@ -63,12 +61,6 @@ lasting_core l m (Some h) e = ap (λ (c : Core). record { given = c.given; recei
 
 pub none_lasting : (l m : State) (h : Option (List ℕ)) → h ≡ None → lasting l h ≡ lasting m h
 none_lasting l m h e = subst (λ o. lasting l o ≡ lasting m o) (sym e) refl
-
-same_core : (s t : State) → core t ≡ core s → KeepsBoth s t
-same_core s t e other to_s to_other b = subst (λ c. Both c other to_s to_other) (sym e) b
-
-set_flights : (now epoch : ℕ) (outs outs2 : List Frame) → outs ≡ outs2 → flights now epoch outs ≡ flights now epoch outs2
-set_flights now epoch outs outs2 e = ap (flights now epoch) e
 
 module _ (known : Known) (set : Rules) (now delay : ℕ) (settled : Settled set delay) (x y : End) (s : Sound set now delay (record { near = x; far = y })) (i : Input) (rest : List Flight) (taken : Taken i x.coming rest)
     (few : answers_in (step x.link i now).outs ≤ asked_by i) where
@@ -111,7 +103,7 @@ module _ (known : Known) (set : Rules) (now delay : ℕ) (settled : Settled set 
       off_goes known x y x2 s.talk (flights now epoch (step x.link i now).outs) o e a (none_sent is_of_account now epoch (step x.link i now).outs q) (λ u. none_sent opens now epoch (step x.link i now).outs (n u))
 
   pub rests_on : x.link.phase ≡ Down → (step x.link i now).link.phase ≡ Down → any_begins (step x.link i now).notes ≡ false → NoneOf asks (step x.link i now).outs → NoneOf opens (step x.link i now).outs →
-      Sound set now delay (step_near set now (step x.link i now) (record { near = record x { coming = rest }; far = y }))
+      SoundAfter set now delay i x rest x.heard y
   rests_on u v e q n =
       let g : Effect = step x.link i now in
       let x2 : End = record x { coming = rest; link = g.link } in
@@ -135,7 +127,7 @@ module _ (known : Known) (set : Rules) (now delay : ℕ) (settled : Settled set 
 
   pub starts_on : x.link.phase ≡ Down → (step x.link i now).link.phase ≡ SettingUp → any_begins (step x.link i now).notes ≡ false → is_early x.down_since now ≡ false → (step x.link i now).outs ≡ set_up_frame ∷ [] → IsNew (step x.link i now).link →
       (step x.link i now).link.t1_at ≡ min now count_end + x.link.rules.t1 →
-      Sound set now delay (step_near set now (step x.link i now) (record { near = record x { coming = rest }; far = y }))
+      SoundAfter set now delay i x rest x.heard y
   starts_on u v e early o n t =
       let g : Effect = step x.link i now in
       let x2 : End = record x { coming = rest; link = g.link } in
@@ -149,7 +141,7 @@ module _ (known : Known) (set : Rules) (now delay : ℕ) (settled : Settled set 
 
   pub begins_on : (f : Flight) (pf : Bool) → (x.link.phase ≡ Down) ⊎ (x.link.phase ≡ Up) → (step x.link i now).link.phase ≡ Up → any_begins (step x.link i now).notes ≡ true → x.coming ≡ f ∷ rest → sets_up f.frame.kind ≡ true →
       (step x.link i now).outs ≡ ua pf ∷ [] → IsNew (step x.link i now).link →
-      Sound set now delay (step_near set now (step x.link i now) (record { near = record x { coming = rest }; far = y }))
+      SoundAfter set now delay i x rest x.heard y
   begins_on f pf p v e c z o n =
       let g : Effect = step x.link i now in
       let a : Asker set y = asker set now delay y f rest s.far z (subst (λ fs. DatedEnd now delay y fs) c s.far_dates) in
@@ -192,7 +184,7 @@ module _ (known : Known) (set : Rules) (now delay : ℕ) (settled : Settled set 
   setting_made : x.link.phase ≡ SettingUp → (step x.link i now).link.phase ≡ SettingUp → any_begins (step x.link i now).notes ≡ false → IsNew (step x.link i now).link →
       Dated (step x.link i now).link.phase (step x.link i now).link.t1_at x.down_since now delay rest (y.coming ++ flights now (number x) (step x.link i now).outs) →
       Talk (record x { coming = rest; link = (step x.link i now).link }) (more_coming y (flights now (number x) (step x.link i now).outs)) →
-      Sound set now delay (step_near set now (step x.link i now) (record { near = record x { coming = rest }; far = y }))
+      SoundAfter set now delay i x rest x.heard y
   setting_made u v e n d t =
       let g : Effect = step x.link i now in
       subst (Sound set now delay) (sym (near_stays set now g (record x { coming = rest }) y e (down_test x.link.phase g.link.phase SettingUp SettingUp u v)))
@@ -208,13 +200,13 @@ module _ (known : Known) (set : Rules) (now delay : ℕ) (settled : Settled set 
 
   pub waits_on : x.link.phase ≡ SettingUp → (step x.link i now).link.phase ≡ SettingUp → any_begins (step x.link i now).notes ≡ false → StaysUnopened i → NoneOf asks (step x.link i now).outs → NoneOf opens (step x.link i now).outs →
       (step x.link i now).link.t1_at ≡ x.link.t1_at → (IsNew x.link → IsNew (step x.link i now).link) → KeepsBoth x.link (step x.link i now).link →
-      Sound set now delay (step_near set now (step x.link i now) (record { near = record x { coming = rest }; far = y }))
+      SoundAfter set now delay i x rest x.heard y
   waits_on u v e w q o t n k =
       setting_made u v e (n (s.near.new u)) (still u v t q) (setting_talk (number x) u v (n (s.near.new u)) k w (none_also asks is_of_account (step x.link i now).outs account_asks q) o)
 
   pub crosses_on : (f : Flight) (pf : Bool) → x.link.phase ≡ SettingUp → (step x.link i now).link.phase ≡ SettingUp → any_begins (step x.link i now).notes ≡ false → x.coming ≡ f ∷ rest → sets_up f.frame.kind ≡ true →
       (step x.link i now).outs ≡ ua pf ∷ [] → (step x.link i now).link.t1_at ≡ x.link.t1_at → (IsNew x.link → IsNew (step x.link i now).link) →
-      Sound set now delay (step_near set now (step x.link i now) (record { near = record x { coming = rest }; far = y }))
+      SoundAfter set now delay i x rest x.heard y
   crosses_on f pf u v e c z o t n =
       let g : Effect = step x.link i now in
       let a : Asker set y = asker set now delay y f rest s.far z (subst (λ fs. DatedEnd now delay y fs) c s.far_dates) in
@@ -225,10 +217,10 @@ module _ (known : Known) (set : Rules) (now delay : ℕ) (settled : Settled set 
 
   pub retries_on : x.link.phase ≡ SettingUp → (step x.link i now).link.phase ≡ SettingUp → any_begins (step x.link i now).notes ≡ false → StaysUnopened i → x.link.t1_at ≤ min now count_end → (step x.link i now).outs ≡ set_up_frame ∷ [] →
       (step x.link i now).link.t1_at ≡ min now count_end + x.link.rules.t1 → core (step x.link i now).link ≡ core x.link →
-      Sound set now delay (step_near set now (step x.link i now) (record { near = record x { coming = rest }; far = y }))
+      SoundAfter set now delay i x rest x.heard y
   retries_on u v e w l o t k =
       let g : Effect = step x.link i now in
       let n : IsNew x.link = s.near.new u in
       let m : IsNew g.link = record { acked = ap (λ (c : Core). c.acked) k ∙ n.acked; sent = ap (λ (c : Core). c.sent) k ∙ n.sent; high = ap reach k ∙ n.high } in
       setting_made u v e m (anew (number x) (clear_t1 x.link.t1_at now delay x.coming y.coming settled.short s.near_time s.far_time l (asking_of now delay x y.coming u s.near_dates)) v o t)
-      (setting_talk (number x) u v m (same_core x.link g.link k) w (subst (NoneOf is_of_account) (sym o) (refl, tt)) (subst (NoneOf opens) (sym o) (refl, tt)))
+      (setting_talk (number x) u v m (same_both x.link g.link k) w (subst (NoneOf is_of_account) (sym o) (refl, tt)) (subst (NoneOf opens) (sym o) (refl, tt)))

@@ -1,15 +1,12 @@
 -- Two ends in a conversation: an epoch of one and an epoch of the other, which are partners once they hear of each other.
-use Rattle.std.proofs.Common.{◌≡◌, ◌⊎◌, inl, inr, ◌≤◌, ◌<◌, ◌+◌, ℕ, zero, suc, Bool, true, false, if◌then◌else◌, nat_eq, List, [], ◌∷◌, ◌++◌, length, map, Option, Some, None, slice_get, refl, ap, sym, ◌∙◌, subst, arith, length-append}
-use Rattle.std.proofs.lemmas.Bool.Decides.{nat_tests}
+use Rattle.std.proofs.Common.{◌≡◌, ◌⊎◌, inl, inr, ◌≤◌, ◌<◌, ℕ, zero, suc, Bool, true, false, if◌then◌else◌, List, [], ◌∷◌, ◌++◌, length, map, Option, Some, None, slice_get, refl, ap, sym, ◌∙◌, subst, arith, append-nil}
 use Rattle.std.specs.List.{AllByRecursion}
-use mathlib.Core.List.{IsPrefix}
-use Rattle.radio_base.specs.declared.payload.Payload.{Payload}
 use Rattle.ax_link.specs.declared.kind.Kind.{Kind}
 use Rattle.ax_link.specs.declared.plain.LinkPhase.TheVariants.{SettingUp, Up}
 use Rattle.ax_link.specs.Pair.{AcksFine, Both, Core, IsNew, acks_of, core, opens}
-use Rattle.ax_link.specs.State.{Frame}
-use Rattle.link_life.specs.Ends.{End, Epoch, Flight, epochs, is_of_account, partner_of}
-use Rattle.link_life.specs.Laws.{ArePartners, EpochSafe, EpochsSafe, IsFrom, WithPartner}
+use Rattle.ax_link.specs.State.{Frame, State}
+use Rattle.link_life.specs.Ends.{End, Epoch, Flight, epochs, is_of_account, lasting, partner_of}
+use Rattle.link_life.specs.Laws.{ArePartners, EpochSafe, IsFrom, WithPartner}
 use Rattle.link_life.proofs.Cases.{IsFresh}
 
 -- what is under way behind the first UA with F
@@ -113,6 +110,10 @@ pub swapped : (x y : End) → Talk x y → Talk y x
 swapped x y t = record { near = t.far; far = t.near; one = t.two; two = t.one; sound = both_swapped t.near.core t.far.core (frames_in t.near.hears) (frames_in t.far.hears) t.sound }
 
 -- ---- lists
+
+-- of an end without an epoch that lasts
+pub none_lasts : (over : List Epoch) (l : State) (h : Option (List ℕ)) → h ≡ None → over ++ lasting l h ≡ over
+none_lasts over l h e = subst (λ o. over ++ lasting l o ≡ over) (sym e) (append-nil over)
 
 pub get_end : {A : Type 0} (xs : List A) (y : A) → slice_get (xs ++ y ∷ []) (length xs) ≡ Some y
 get_end [] y = refl

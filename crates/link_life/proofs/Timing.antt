@@ -1,6 +1,7 @@
 -- Frames under way are in time.
 use Rattle.std.proofs.Common.{◌≡◌, ◌≤◌, ◌+◌, ◌-◌, min, ℕ, Bool, true, false, not, ◌&&◌, ◌||◌, if◌then◌else◌, List, [], ◌∷◌, ◌++◌, length, Option, Some, None, slice_get, nat_lt, refl, sym, ◌∙◌, subst, arith}
 use Rattle.std.proofs.lemmas.Bool.Decides.{nat_tests}
+use Rattle.std.specs.List.{AllByRecursion}
 use Rattle.radio_base.specs.declared.payload.Payload.{Payload}
 use Rattle.ax_link.specs.State.{Effect, Frame, Rules, is_up}
 use Rattle.ax_link.specs.Table as table
@@ -14,7 +15,7 @@ use Rattle.link_life.specs.declared.act.LifeAct.TheVariants.{At, Tick}
 use Rattle.link_life.specs.declared.reasons.LifeRefusal.{LifeRefusal}
 use Rattle.link_life.specs.declared.reasons.LifeRefusal.TheVariants as why
 use Rattle.link_life.specs.Ends.{End, Ends, Flight, after_step, any_begins, epochs, flights, go_down, heard_more, hear, is_down, is_of_account, number, step_near}
-use Rattle.link_life.specs.Laws.{AllInTime, FramesInTime, InTime}
+use Rattle.link_life.specs.Laws.{AllInTime, FramesInTime, InTime, IsInTime}
 use Rattle.link_life.specs.Lives.{Done, Life, Outcome, Refused, Turn, act_at, act_near, act_on, after_act, arrive_first, clock_end, ends_at, is_late, lifted, lose_first, moved, new_life, run, send_refusal, set_up_refusal, take_first, tick_at, tick_both, tick_to, turn_at, unless}
 
 -- ---- what a step leaves of the frames under way
@@ -31,9 +32,9 @@ near_coming rules now g p =
 hear_coming : (f : Flight) (e : End) → (hear f e).coming ≡ e.coming
 hear_coming f e = if_coming (is_up e.link.phase && is_of_account f.frame.kind) (record e { heard = heard_more f.epoch e.heard }) e refl
 
-all_both : (now delay : ℕ) (xs ys : List Flight) → AllInTime now delay xs → AllInTime now delay ys → AllInTime now delay (xs ++ ys)
-all_both now delay [] ys a b = b
-all_both now delay (x ∷ xs) ys a b = (a.0, all_both now delay xs ys a.1 b)
+pub all_both : {X : Type 0} (P : X → Type 0) (xs ys : List X) → AllByRecursion P xs → AllByRecursion P ys → AllByRecursion P (xs ++ ys)
+all_both P [] ys a b = b
+all_both P (x ∷ xs) ys a b = (a.0, all_both P xs ys a.1 b)
 
 pub set_out : (now delay epoch : ℕ) (fs : List Frame) → AllInTime now delay (flights now epoch fs)
 set_out now delay epoch [] = tt
@@ -54,7 +55,7 @@ moved_in_time delay t i taken p s =
     let g : Effect = step p.near.link i t.now in
     record {
       near = subst (λ (fs : List Flight). AllInTime t.now delay fs) (sym (near_coming t.rules t.now g p)) s.near;
-      far = all_both t.now delay p.far.coming (flights t.now (number (after_step g p.near)) g.outs) s.far (set_out t.now delay (number (after_step g p.near)) g.outs);
+      far = all_both (IsInTime t.now delay) p.far.coming (flights t.now (number (after_step g p.near)) g.outs) s.far (set_out t.now delay (number (after_step g p.near)) g.outs);
     }
 
 unless_in_time : (now delay : ℕ) (o : Option LifeRefusal) (done : Outcome Ends) → OutcomeInTime now delay done → OutcomeInTime now delay (unless o done)

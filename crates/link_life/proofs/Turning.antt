@@ -1,5 +1,5 @@
 -- What becomes of the ends as one of them makes a step, in plain words; and what two ends of a life are known to be.
-use Rattle.std.proofs.Common.{◌≡◌, ◌⊎◌, inl, inr, ◌≤◌, ◌<◌, ◌+◌, ◌*◌, ℕ, zero, suc, Bool, true, false, not, ◌&&◌, if◌then◌else◌, List, [], ◌∷◌, ◌++◌, length, map, Option, Some, None, slice_get, refl, ap, sym, ◌∙◌, subst, arith, append-nil}
+use Rattle.std.proofs.Common.{◌≡◌, ◌⊎◌, inl, inr, ◌≤◌, ◌<◌, ◌*◌, ℕ, suc, Bool, true, false, not, ◌&&◌, if◌then◌else◌, List, [], ◌∷◌, ◌++◌, length, Option, Some, None, refl, ap, sym, ◌∙◌, subst, arith}
 use Rattle.std.specs.List.{AllByRecursion}
 use Rattle.ax_link.specs.declared.kind.Kind.{Kind}
 use Rattle.ax_link.specs.declared.kind.Kind.TheVariants as kind
@@ -11,16 +11,16 @@ use Rattle.ax_link.specs.Opening.{opening}
 use Rattle.ax_link.specs.Pair.{Fits, IsNew, core, opens}
 use Rattle.ax_link.specs.Runs.{sets_up}
 use Rattle.ax_link.specs.State.{Effect, Frame, Rules, State}
-use Rattle.ax_link.specs.Table.{Input, Arrive, Set_up}
-use Rattle.link_life.specs.Ends.{End, Ends, Epoch, Flight, after_step, any_begins, epochs, flights, go_down, heard_more, is_down, is_of_account, lasting, number, step_near}
+use Rattle.ax_link.specs.Table.{Input, step}
+use Rattle.link_life.specs.Ends.{End, Ends, Flight, any_begins, epochs, flights, go_down, is_down, is_of_account, lasting, number, step_near}
 use Rattle.link_life.specs.Laws.{AllInTime}
-use Rattle.link_life.specs.Lives.{is_early, pause}
+use Rattle.link_life.specs.Lives.{pause}
 use Rattle.link_life.proofs.Beginning.{Asker}
-use Rattle.link_life.proofs.Cases.{MayCome, NoneOf, answers, asks, goes_out}
+use Rattle.link_life.proofs.Cases.{answers, asks, goes_out}
 use Rattle.link_life.proofs.Conversing.{Off, more_coming}
-use Rattle.link_life.proofs.Dates.{Asking, Dated, NoArrival, SentBy, Taken, account_asks, count_in, count_one, none_counted, opens_answers, sets_account}
-use Rattle.link_life.proofs.Sounding.{hears_none}
-use Rattle.link_life.proofs.Talks.{Apart, Hears, IsGone, IsNext, IsNone, IsUp, NoneIn, Part, Stand, Talk, behind_ua}
+use Rattle.link_life.proofs.Dates.{Asking, Dated, account_asks, count_one, none_counted, opens_answers, sets_account}
+use Rattle.link_life.proofs.Sounding.{behind_all, hears_none}
+use Rattle.link_life.proofs.Talks.{Apart, Hears, IsNext, IsUp, NoneIn, Part, Stand, Talk, behind_ua}
 
 -- ---- a step of the near end
 
@@ -88,6 +88,11 @@ pub record Sound (set : Rules) (now delay : ℕ) (p : Ends) : Type 0 where
   pub far_dates : DatedEnd now delay p.far p.near.coming
   pub talk : Talk p.near p.far
 
+-- so after a step of the near end, where this is still under way to it and its epoch has heard this
+abbrev pub SoundAfter : Rules → ℕ → ℕ → Input → End → List Flight → Option (List ℕ) → End → Type 0
+SoundAfter set now delay i x rest heard y =
+    Sound set now delay (step_near set now (step x.link i now) (record { near = record x { coming = rest; heard = heard }; far = y }))
+
 -- the settings of the life
 pub record Settled (set : Rules) (delay : ℕ) : Type 0 where
   pub fits : Fits (core (opening set)) (core (opening set))
@@ -134,15 +139,7 @@ quiet_going now delay y going u d = let a = asking_of now delay y going u d in q
 -- so nothing of account is left for the other end to hear
 pub far_quiet : (k : ℕ) (y : End) (q : Part) (h : List ℕ) → NoneIn is_of_account y.coming → Stand y q h → Hears k q.hears
 far_quiet k y q h n (inl s) = subst (Hears k) (sym s.hears) (hears_none k y.coming n)
-far_quiet k y q h n (inr (inl s)) = subst (Hears k) (sym s.hears) (hears_none k (behind_ua y.coming) (behind y.coming n))
-  where
-    behind_by : (b : Bool) (fs : List Flight) → NoneIn is_of_account fs → NoneIn is_of_account (behind_ua fs) → NoneIn is_of_account (if b then fs else behind_ua fs)
-    behind_by true fs a r = a
-    behind_by false fs a r = r
-
-    behind : (fs : List Flight) → NoneIn is_of_account fs → NoneIn is_of_account (behind_ua fs)
-    behind [] a = tt
-    behind (f ∷ fs) a = behind_by (opens f.frame.kind) fs a.1 (behind fs a.1)
+far_quiet k y q h n (inr (inl s)) = subst (Hears k) (sym s.hears) (hears_none k (behind_ua y.coming) (behind_all (λ f. is_of_account f.frame.kind ≡ false) y.coming n))
 far_quiet k y q h n (inr (inr (inl s))) = subst (Hears k) (sym s.hears) tt
 far_quiet k y q h n (inr (inr (inr s))) = subst (Hears k) (sym s.hears) tt
 

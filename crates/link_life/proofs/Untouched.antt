@@ -1,15 +1,15 @@
 -- What an end of a link has got, and what is acknowledged to it, waits for frames of account.
-use Rattle.std.proofs.Common.{◌≡◌, ◌+◌, ℕ, zero, suc, min, Bool, true, false, ◌&&◌, ◌||◌, nat_eq, nat_le, if◌then◌else◌, List, [], ◌∷◌, ◌++◌, length, drop, Option, Some, None, refl, ap, sym, ◌∙◌, subst, arith}
+use Rattle.std.proofs.Common.{◌≡◌, ℕ, zero, suc, min, Bool, true, false, ◌&&◌, ◌||◌, nat_eq, nat_le, if◌then◌else◌, List, [], ◌∷◌, length, drop, Option, Some, None, refl, ap, sym, subst, arith}
 use Rattle.radio_base.specs.declared.payload.Payload.{Payload}
 use Rattle.ax_link.specs.declared.kind.Kind.{Kind}
 use Rattle.ax_link.specs.declared.kind.Kind.TheVariants as kind
 use Rattle.ax_link.specs.declared.plain.LinkPhase.{LinkPhase}
 use Rattle.ax_link.specs.declared.plain.LinkPhase.TheVariants.{Up}
-use Rattle.ax_link.specs.Moves.{fill, finish, first_early, follow, follow_by, next_early, release, resume, start_poll, take_next}
+use Rattle.ax_link.specs.Moves.{first_early, follow, follow_by, release, resume, start_poll, take_next}
 use Rattle.ax_link.specs.Pair.{core}
 use Rattle.ax_link.specs.Runs.{sets_up}
-use Rattle.ax_link.specs.State.{Effect, State, begin, busy, count_end, is_up, t1_runs, t3_at, top}
-use Rattle.ax_link.specs.Table.{Input, Set_up, Send, Arrive, Tick, Close, Take, accept, arrive_up, close_in_turn, fail, retry, step, takes}
+use Rattle.ax_link.specs.State.{State, begin, busy, count_end, is_up, t1_runs, t3_at, top}
+use Rattle.ax_link.specs.Table.{Input, Set_up, Send, Arrive, Tick, Close, Take, accept, arrive_up, fail, retry, step, takes}
 use Rattle.link_life.specs.Ends.{is_of_account}
 use Rattle.link_life.proofs.Cases.{IsFresh, fresh_if, goes_out}
 

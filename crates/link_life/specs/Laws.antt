@@ -1,10 +1,15 @@
 -- What holds of each life at each moment. Own profile.
-use Rattle.std.specs.Prelude.{◌≡◌, ℕ, zero, suc, ◌+◌, ◌*◌, ◌<◌, ◌≤◌, ◌⊎◌, Bool, List, [], length, Some, slice_get}
+use Rattle.std.specs.Prelude.{◌≡◌, ℕ, zero, suc, ◌+◌, ◌*◌, ◌<◌, ◌≤◌, ◌⊎◌, Bool, false, List, [], ◌∷◌, length, Some, is_some, slice_get}
 use Rattle.std.specs.List.{AllByRecursion}
 use mathlib.Core.List.{IsPrefix}
+use Rattle.radio_base.specs.declared.payload.Payload.{Payload}
+use Rattle.ax_link.specs.Carrying.{is_on}
+use Rattle.link_life.specs.declared.act.EndAct.TheVariants.{SetUp, Send, Arrive, Lose}
 use Rattle.link_life.specs.declared.act.LifeAct.{LifeAct}
-use Rattle.link_life.specs.Ends.{Epoch, Flight, epochs, partner_of}
-use Rattle.link_life.specs.Lives.{Life, new_life, pause, run}
+use Rattle.link_life.specs.declared.act.LifeAct.TheVariants.{At, Tick}
+use Rattle.link_life.specs.declared.act.Side.TheVariants.{A, B}
+use Rattle.link_life.specs.Ends.{End, Epoch, Flight, epochs, partner_of}
+use Rattle.link_life.specs.Lives.{Life, new_life, run, settings}
 
 -- a frame under way was sent before now, and no longer ago than the channel delays one
 pub record IsInTime (now delay : ℕ) (f : Flight) : Type 0 where
@@ -40,26 +45,57 @@ abbrev pub WithPartner : ℕ → ℕ → Epoch → List Epoch → Type 0
 WithPartner zero number e others = IsAlone e
 WithPartner (suc before) number e others = (partner : Epoch) × (slice_get others before ≡ Some partner) × ArePartners number e partner
 
--- a frame of account that an epoch took while Up was sent in this epoch
+-- a frame of account that an epoch took while Up was sent in the epoch that is its partner
 pub record IsFrom (partner epoch : ℕ) : Type 0 where
   pub same : epoch ≡ partner
   pub some : 0 < epoch
 
--- all such frames come from its partner
+-- of an epoch with this number: so were all such frames
 pub record EpochSafe (number : ℕ) (e : Epoch) (others : List Epoch) : Type 0 where
   pub heard : AllByRecursion (IsFrom (partner_of e.heard)) e.heard
   pub partner : WithPartner (partner_of e.heard) number e others
 
--- so with each epoch of an end, those that are over and the one that lasts
+-- each epoch of an end, those that are over and the one that lasts
 abbrev pub EpochsSafe : List Epoch → List Epoch → Type 0
 EpochsSafe es others = (before : ℕ) (e : Epoch) → slice_get es before ≡ Some e → EpochSafe (suc before) e others
+
+-- an epoch lasts while a link is Up or Releasing, so that nothing which is taken while Up goes unheard
+abbrev pub EpochLasts : End → Type 0
+EpochLasts e = is_some e.heard ≡ is_on e.link.phase
 
 pub record LifeSafe (w : Life) : Type 0 where
   pub a : EpochsSafe (epochs w.a) (epochs w.b)
   pub b : EpochsSafe (epochs w.b) (epochs w.a)
+  pub a_lasts : EpochLasts w.a
+  pub b_lasts : EpochLasts w.b
 
--- in each life, at each moment, where two delays are shorter than T1 and the pause after going down
+-- in each life, at each moment, where two delays are shorter than T1
 abbrev pub LivesAreSafe : Type 0
 LivesAreSafe =
-    (size delay : ℕ) (srej : Bool) (acts : List LifeAct) → (size ≡ 8) ⊎ (size ≡ 128) → 2 * delay < pause →
+    (size delay : ℕ) (srej : Bool) (acts : List LifeAct) → (size ≡ 8) ⊎ (size ≡ 128) → 2 * delay < (settings srej).t1 →
     LifeSafe (run (new_life size srej delay) acts)
+
+-- There is a life in which an answer to a set-up is lost, the set-up command comes again and resets the end that is Up, and a payload is
+-- carried then: its partners are the first epoch of one end and the second of the other.
+abbrev pub set_up_again : Payload → List LifeAct
+set_up_again p =
+    At A SetUp ∷ At B Arrive ∷ At A Lose ∷ Tick 3000 ∷ At B Arrive ∷ At A Arrive ∷ At A (Send p) ∷ At B Arrive ∷ At A Arrive ∷ []
+
+abbrev pub SetUpAgain : Type 0
+SetUpAgain =
+    (p : Payload) →
+    let w : Life = run (new_life 8 false 1000) (set_up_again p) in
+    (epochs w.a ≡ record { given = p ∷ []; received = []; acked = 1; heard = 2 ∷ [] } ∷ [])
+    × (epochs w.b ≡ record { given = []; received = []; acked = 0; heard = [] } ∷ record { given = []; received = p ∷ []; acked = 0; heard = 1 ∷ [] } ∷ [])
+
+-- and one in which two set-ups cross and a payload is carried
+abbrev pub set_ups_cross : Payload → List LifeAct
+set_ups_cross p =
+    At A SetUp ∷ At B SetUp ∷ At A Arrive ∷ At B Arrive ∷ At A Arrive ∷ At B Arrive ∷ At A (Send p) ∷ At B Arrive ∷ At A Arrive ∷ []
+
+abbrev pub SetUpsCross : Type 0
+SetUpsCross =
+    (p : Payload) →
+    let w : Life = run (new_life 8 false 1000) (set_ups_cross p) in
+    (epochs w.a ≡ record { given = p ∷ []; received = []; acked = 1; heard = 1 ∷ [] } ∷ [])
+    × (epochs w.b ≡ record { given = []; received = p ∷ []; acked = 0; heard = 1 ∷ [] } ∷ [])

@@ -1,5 +1,5 @@
 //! What holds of each life at each moment, whatever is done.
-ghost use Rattle.link_life.specs.Laws.{FramesInTime, LivesAreSafe};
+ghost use Rattle.link_life.specs.Laws.{FramesInTime, LivesAreSafe, SetUpAgain, SetUpsCross};
 
 /// The channel keeps its promise: each frame under way was sent no longer ago than the channel delays one. The refusal `delay` keeps it.
 pub fn frames_in_time()
@@ -7,9 +7,12 @@ pub fn frames_in_time()
 {}
 
 /// In each life, at each moment, each epoch of each end is safe with its partner, whatever is set up, reset and released, and whatever
-/// is lost: where the channel keeps order, and two delays are shorter than T1. The refusal `early` keeps the pause after going down.
+/// is lost: where the channel keeps order and two delays are shorter than T1. There is a life in which an end that is Up is reset and
+/// carries a payload then, and one in which set-ups cross.
 pub fn life_safe()
-    ensures { LivesAreSafe }
+    ensures safe { LivesAreSafe }
+    ensures reset { SetUpAgain }
+    ensures crossing { SetUpsCross }
 {
     ax_link::laws::link_safe();
     ax_link::laws::pair_frames();

@@ -1,9 +1,10 @@
+use Rattle.std.proofs.Common.{refl}
 use Rattle.link_life.proofs.Known.{Known}
 use Rattle.link_life.proofs.Safety.{lives_are_safe}
 use Rattle.link_life.proofs.laws.life_safe.Goals as goal
 
-pub returns : goal.returns
-returns c =
+pub returns-clause-safe : goal.returns-clause-safe
+returns-clause-safe c =
     let known : Known = record {
       settings = c.steps.ensures.settings;
       bounds = c.steps.ensures.bounds;
@@ -21,3 +22,9 @@ returns c =
       bounded = λ size a b. c.link_safe.ensures.bounded size a b;
     } in
     lives_are_safe known
+
+pub returns-clause-reset : goal.returns-clause-reset
+returns-clause-reset c = λ p. (refl, refl)
+
+pub returns-clause-crossing : goal.returns-clause-crossing
+returns-clause-crossing c = λ p. (refl, refl)
