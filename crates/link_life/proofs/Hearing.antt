@@ -1,5 +1,5 @@
 -- Each step of the near end leaves what is known of the two ends.
-use Rattle.std.proofs.Common.{◌≡◌, ◌⊎◌, inl, inr, ◌≤◌, min, ℕ, true, false, List, [], ◌∷◌, ◌++◌, length, Option, Some, ap, sym, ◌∙◌, subst, arith, length-append}
+use Rattle.std.proofs.Common.{◌≡◌, ◌⊎◌, inl, inr, ◌≤◌, min, ℕ, true, false, List, [], ◌∷◌, ◌++◌, length, Option, Some, refl, ap, sym, ◌∙◌, subst, arith, length-append}
 use Rattle.std.specs.List.{AllByRecursion}
 use Rattle.ax_link.specs.declared.plain.LinkPhase.TheVariants.{SettingUp, Up}
 use Rattle.ax_link.specs.Pair.{NoRestartIn, core, opens}
@@ -18,7 +18,7 @@ use Rattle.link_life.proofs.Leaving.{comes_on, ends_on, fails_on, idles_on, leav
 use Rattle.link_life.proofs.Stepping.{begins_on, came, crosses_on, opens_asked, rests_on, retries_on, starts_on, waits_on}
 use Rattle.link_life.proofs.Timing.{all_both}
 use Rattle.link_life.proofs.Talks.{IsUp, NoneIn, OfEpoch, Stand}
-use Rattle.link_life.proofs.Turning.{Settled, Sound, SoundAfter, quiet_going, up_of}
+use Rattle.link_life.proofs.Turning.{Settled, Sound, SoundAfter, Stepped, quiet_going, up_of}
 use Rattle.link_life.proofs.Untouched.{NotHeard, fresh_stays}
 
 -- no frame of account comes
@@ -69,8 +69,15 @@ no_other coming rest i fr a z f e q w =
     absurd (cc (w, y))
 
 module _ (known : Known) (set : Rules) (now delay : ℕ) (settled : Settled set delay) (x y : End) (s : Sound set now delay (record { near = x; far = y })) (i : Input) (rest : List Flight) (taken : Taken i x.coming rest) (may : MayCome i) where
-  few : answers_in (step x.link i now).outs ≤ asked_by i
-  few = (step_is known x.link i now may).few
+  stepped : Stepped set now x i (step x.link i now)
+  stepped =
+      record {
+        is = refl;
+        rules = known.settings x.link i now ∙ s.near.rules;
+        bounded = known.bounds x.link i now s.near.bounded;
+        kinds = known.kinds x.link i now s.near.bounded;
+        few = (step_is known x.link i now may).few;
+      }
 
   is_up : x.link.phase ≡ Up → IsUp x s.talk.near
   is_up u = up_of x s.talk.near s.talk.far.heard s.talk.one.stand u
@@ -79,29 +86,29 @@ module _ (known : Known) (set : Rules) (now delay : ℕ) (settled : Settled set 
   fresh n r u e = fresh_stays x.link i now u (not_heard i may n r) (subst IsFresh (is_up u).core (s.talk.one.alone e))
 
   -- with what the epoch has heard so far
-  as_heard : x.link.phase ≡ Up → SoundAfter set now delay i x rest (Some s.talk.near.heard) y →
-      SoundAfter set now delay i x rest x.heard y
-  as_heard u d = subst (λ h. SoundAfter set now delay i x rest h y) (sym (is_up u).lasts) d
+  as_heard : x.link.phase ≡ Up → SoundAfter set now delay (step x.link i now) x rest (Some s.talk.near.heard) y →
+      SoundAfter set now delay (step x.link i now) x rest x.heard y
+  as_heard u d = subst (λ h. SoundAfter set now delay (step x.link i now) x rest h y) (sym (is_up u).lasts) d
 
   opens_none : OpensOnlyAsked i (step x.link i now).outs → y.link.phase ≡ SettingUp → NoneOf opens (step x.link i now).outs
   opens_none (inl n) u = n
   opens_none (inr a) u =
       opens_asked now delay y x.coming rest (step x.link i now).outs (no_other x.coming rest i a.0 (arrived i x.coming rest a.0 a.1 taken) a.3)
-      (came known set now delay settled x y s i rest taken few) s.far_dates u
+      (came known set now delay settled x y s i rest taken (step x.link i now) stepped) s.far_dates u
 
   quiet : (x.link.phase ≡ Up → NotAccount i) → (i ≡ Set_up → is_early x.down_since now ≡ false) → Case x.link i now (step x.link i now) →
-      SoundAfter set now delay i x rest x.heard y
-  quiet n early (cases.rests u v e q o) = rests_on known set now delay settled x y s i rest taken few u v e q o
-  quiet n early (cases.starts u v e q o w t) = starts_on known set now delay settled x y s i rest taken few u v e (early q) o w t
+      SoundAfter set now delay (step x.link i now) x rest x.heard y
+  quiet n early (cases.rests u v e q o) = rests_on known set now delay settled x y s i rest taken (step x.link i now) stepped u v e q o
+  quiet n early (cases.starts u v e q o w t) = starts_on known set now delay settled x y s i rest taken (step x.link i now) stepped u v e (early q) o w t
   quiet n early (cases.begins f pf p v e q z o w) =
       let a = arrived i x.coming rest f q taken in
-      begins_on known set now delay settled x y s i rest taken few a.flight pf p v e a.first (ap (λ (g : Frame). sets_up g.kind) a.same ∙ z) o w
-  quiet n early (cases.waits u v e w q o t m k) = waits_on known set now delay settled x y s i rest taken few u v e w q o t m k
+      begins_on known set now delay settled x y s i rest taken (step x.link i now) stepped a.flight pf p v e a.first (ap (λ (g : Frame). sets_up g.kind) a.same ∙ z) o w
+  quiet n early (cases.waits u v e w q o t m k) = waits_on known set now delay settled x y s i rest taken (step x.link i now) stepped u v e w q o t m k
   quiet n early (cases.crosses f pf u v e q z o t m) =
       let a = arrived i x.coming rest f q taken in
-      crosses_on known set now delay settled x y s i rest taken few a.flight pf u v e a.first (ap (λ (g : Frame). sets_up g.kind) a.same ∙ z) o t m
-  quiet n early (cases.retries u v e q l o t k) = retries_on known set now delay settled x y s i rest taken few u v e (subst StaysUnopened (sym q) tt) l o t k
-  quiet n early (cases.fails u v e o w) = fails_on known set now delay settled x y s i rest taken few u v e o (by w)
+      crosses_on known set now delay settled x y s i rest taken (step x.link i now) stepped a.flight pf u v e a.first (ap (λ (g : Frame). sets_up g.kind) a.same ∙ z) o t m
+  quiet n early (cases.retries u v e q l o t k) = retries_on known set now delay settled x y s i rest taken (step x.link i now) stepped u v e (subst StaysUnopened (sym q) tt) l o t k
+  quiet n early (cases.fails u v e o w) = fails_on known set now delay settled x y s i rest taken (step x.link i now) stepped u v e o (by w)
     where
       by : ((i ≡ Tick) × (x.link.t1_at ≤ min now count_end)) ⊎ ((f : Frame) × (i ≡ Arrive f) × (answers f.kind ≡ true)) →
           ((i ≡ Tick) × (x.link.t1_at ≤ min now count_end)) ⊎ ((f : Flight) × (x.coming ≡ f ∷ rest) × (answers f.frame.kind ≡ true))
@@ -109,17 +116,17 @@ module _ (known : Known) (set : Rules) (now delay : ℕ) (settled : Settled set 
       by (inr a) = let b = arrived i x.coming rest a.0 a.1 taken in inr (b.flight, b.first, ap (λ (g : Frame). answers g.kind) b.same ∙ a.2)
   quiet n early (cases.comes_up f u e q k on w) =
       let a = arrived i x.coming rest f q taken in
-      comes_on known set now delay settled x y s i rest taken few a.flight u e a.is a.first (ap (λ (g : Frame). g.kind) a.same ∙ k) on w
+      comes_on known set now delay settled x y s i rest taken (step x.link i now) stepped a.flight u e a.is a.first (ap (λ (g : Frame). g.kind) a.same ∙ k) on w
   quiet n early (cases.goes_on u e r on) =
-      as_heard u (up_on known set now delay settled x y s i rest taken few s.talk.near.heard u s.talk.two.stand s.talk.one.heard (fresh (n u) r u) e r on)
+      as_heard u (up_on known set now delay settled x y s i rest taken (step x.link i now) stepped s.talk.near.heard u s.talk.two.stand s.talk.one.heard (fresh (n u) r u) e r on)
   quiet n early (cases.leaves u v e r q) =
-      as_heard u (leaves_on known set now delay settled x y s i rest taken few s.talk.near.heard u s.talk.two.stand s.talk.one.heard (fresh (n u) r u) v e r q)
-  quiet n early (cases.idles u v e c m q o) = idles_on known set now delay settled x y s i rest taken few u v e c m q (opens_none o)
-  quiet n early (cases.ends u v e c o) = ends_on known set now delay settled x y s i rest taken few u v e c o
+      as_heard u (leaves_on known set now delay settled x y s i rest taken (step x.link i now) stepped s.talk.near.heard u s.talk.two.stand s.talk.one.heard (fresh (n u) r u) v e r q)
+  quiet n early (cases.idles u v e c m q o) = idles_on known set now delay settled x y s i rest taken (step x.link i now) stepped u v e c m q (opens_none o)
+  quiet n early (cases.ends u v e c o) = ends_on known set now delay settled x y s i rest taken (step x.link i now) stepped u v e c o
 
   -- a frame of account comes to an end that is Up
   hearing : (f : Flight) → x.coming ≡ f ∷ rest → x.link.phase ≡ Up → is_of_account f.frame.kind ≡ true → Case x.link i now (step x.link i now) →
-      SoundAfter set now delay i x rest (Some (s.talk.near.heard ++ f.epoch ∷ [])) y
+      SoundAfter set now delay (step x.link i now) x rest (Some (s.talk.near.heard ++ f.epoch ∷ [])) y
   hearing f c up a = by
     where
       from : IsFrom s.talk.far.number f.epoch
@@ -137,9 +144,9 @@ module _ (known : Known) (set : Rules) (now delay : ℕ) (settled : Settled set 
       some : s.talk.near.heard ++ f.epoch ∷ [] ≡ [] → IsFresh (core (step x.link i now).link)
       some e = let l = ap length e in absurd (omega (arith, l, length-append s.talk.near.heard (f.epoch ∷ [])))
 
-      by : Case x.link i now (step x.link i now) → SoundAfter set now delay i x rest (Some (s.talk.near.heard ++ f.epoch ∷ [])) y
-      by (cases.goes_on u e r on) = up_on known set now delay settled x y s i rest taken few (s.talk.near.heard ++ f.epoch ∷ []) u stands of some e r on
-      by (cases.leaves u v e r q) = leaves_on known set now delay settled x y s i rest taken few (s.talk.near.heard ++ f.epoch ∷ []) u stands of some v e r q
+      by : Case x.link i now (step x.link i now) → SoundAfter set now delay (step x.link i now) x rest (Some (s.talk.near.heard ++ f.epoch ∷ [])) y
+      by (cases.goes_on u e r on) = up_on known set now delay settled x y s i rest taken (step x.link i now) stepped (s.talk.near.heard ++ f.epoch ∷ []) u stands of some e r on
+      by (cases.leaves u v e r q) = leaves_on known set now delay settled x y s i rest taken (step x.link i now) stepped (s.talk.near.heard ++ f.epoch ∷ []) u stands of some v e r q
       by (cases.begins g pf p v e q z o w) =
           let b = arrived i x.coming rest g q taken in
           let same : f ≡ b.flight = first_same f b.flight rest (sym c ∙ b.first) in
@@ -157,16 +164,16 @@ module _ (known : Known) (set : Rules) (now delay : ℕ) (settled : Settled set 
       by (cases.ends u v e m o) = absurd (cc (u, up))
 
 pub step_sound : (known : Known) (set : Rules) (now delay : ℕ) (x y : End) (i : Input) (rest : List Flight) (heard : Option (List ℕ)) → Settled set delay → Sound set now delay (record { near = x; far = y }) → Takes x i now rest heard →
-    SoundAfter set now delay i x rest heard y
+    SoundAfter set now delay (step x.link i now) x rest heard y
 step_sound known set now delay x y i rest heard settled s k = by k.hears
   where
     is : Case x.link i now (step x.link i now)
     is = (step_is known x.link i now k.may).is
 
-    by : Hearing x i rest heard → SoundAfter set now delay i x rest heard y
+    by : Hearing x i rest heard → SoundAfter set now delay (step x.link i now) x rest heard y
     by (inl a) =
-        subst (λ h. SoundAfter set now delay i x rest h y) (sym a.1)
+        subst (λ h. SoundAfter set now delay (step x.link i now) x rest h y) (sym a.1)
         (quiet known set now delay settled x y s i rest k.taken k.may a.0 k.early is)
     by (inr a) =
-        subst (λ h. SoundAfter set now delay i x rest h y) (sym (a.4 ∙ ap (heard_more a.0.epoch) (up_of x s.talk.near s.talk.far.heard s.talk.one.stand a.2).lasts))
+        subst (λ h. SoundAfter set now delay (step x.link i now) x rest h y) (sym (a.4 ∙ ap (heard_more a.0.epoch) (up_of x s.talk.near s.talk.far.heard s.talk.one.stand a.2).lasts))
         (hearing known set now delay settled x y s i rest k.taken k.may a.0 a.1 a.2 a.3 is)

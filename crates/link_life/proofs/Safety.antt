@@ -136,7 +136,7 @@ module _ (known : Known) (delay : ℕ) (t : Turn) (settled : Settled t.rules del
 -- ---- acts of a life
 
 -- what is known of a life: its settings stay, and its clock hasn't passed its end
-record Known_of (set : Rules) (delay : ℕ) (w : Life) : Type 0 where
+record LifeSound (set : Rules) (delay : ℕ) (w : Life) : Type 0 where
   rules : w.rules ≡ set
   late : w.delay ≡ delay
   clock : w.now ≤ clock_end
@@ -144,7 +144,7 @@ record Known_of (set : Rules) (delay : ℕ) (w : Life) : Type 0 where
 
 abbrev LifeOutcome : Rules → ℕ → Outcome Life → Type 0
 LifeOutcome set delay (Refused refusal) = Unit {0}
-LifeOutcome set delay (Done told w) = Known_of set delay w
+LifeOutcome set delay (Done told w) = LifeSound set delay w
 
 sound_swapped : (set : Rules) (now delay : ℕ) (x y : End) → Sound set now delay (record { near = x; far = y }) → Sound set now delay (record { near = y; far = x })
 sound_swapped set now delay x y s =
@@ -166,20 +166,20 @@ module _ (known : Known) (set : Rules) (delay : ℕ) (settled : Settled set dela
 
   -- what is done at an end at some time
   done_at : (side : Side) (w : Life) (does : Turn → Ends → Outcome Ends) →
-      ((t : Turn) (p : Ends) → Settled t.rules delay → Sound t.rules t.now delay p → OutcomeSound t.rules t.now delay (does t p)) → Known_of set delay w → LifeOutcome set delay (lifted side w (does (turn_at side w) (ends_at side w)))
+      ((t : Turn) (p : Ends) → Settled t.rules delay → Sound t.rules t.now delay p → OutcomeSound t.rules t.now delay (does t p)) → LifeSound set delay w → LifeOutcome set delay (lifted side w (does (turn_at side w) (ends_at side w)))
   done_at side w does h k =
       lifted_sound set delay side w (does (turn_at side w) (ends_at side w)) k.rules k.late k.clock
       (subst (λ r. OutcomeSound r w.now delay (does (turn_at side w) (ends_at side w))) k.rules
       (h (turn_at side w) (ends_at side w) (turn_settled side w k.rules)
       (subst (λ r. Sound r w.now delay (ends_at side w)) (sym k.rules) (sound_at set w.now delay side w k.ends))))
 
-  ticks : (side : Side) (w : Life) → Known_of set delay w → LifeOutcome set delay (tick_at side w)
+  ticks : (side : Side) (w : Life) → LifeSound set delay w → LifeOutcome set delay (tick_at side w)
   ticks side w k = done_at side w (λ t p. moved t table.Tick [] p) (λ t p f s. called known delay t f table.Tick [] p tt tt (λ q. absurd (cc q)) s) k
 
-  both_ticks : (w : Life) → Known_of set delay w → LifeOutcome set delay (tick_both w)
+  both_ticks : (w : Life) → LifeSound set delay w → LifeOutcome set delay (tick_both w)
   both_ticks w k = ticks B (after_act (tick_at A w) w) (ticks A w k)
 
-  later : (w : Life) (to : ℕ) → w.now ≤ to → to ≤ clock_end → Known_of set delay w → LifeOutcome set delay (tick_to to w)
+  later : (w : Life) (to : ℕ) → w.now ≤ to → to ≤ clock_end → LifeSound set delay w → LifeOutcome set delay (tick_to to w)
   later w to l m k = by (is_late w.delay to w.a.coming) (is_late w.delay to w.b.coming) refl refl
     where
       by : (b c : Bool) → is_late w.delay to w.a.coming ≡ b → is_late w.delay to w.b.coming ≡ c →
@@ -203,15 +203,15 @@ module _ (known : Known) (set : Rules) (delay : ℕ) (settled : Settled set dela
             };
           })
 
-  acts_sound : (act : LifeAct) (w : Life) → Known_of set delay w → LifeOutcome set delay (act_on act w)
+  acts_sound : (act : LifeAct) (w : Life) → LifeSound set delay w → LifeOutcome set delay (act_on act w)
   acts_sound (At side act) w k = done_at side w (λ t p. act_near t act p) (λ t p f s. near_sound known delay t f act p s) k
   acts_sound (Tick passed) w k = let c = k.clock in later w (min (w.now + passed) clock_end) (omega (arith, c)) (omega arith) k
 
-  after_sound : (o : Outcome Life) (w : Life) → Known_of set delay w → LifeOutcome set delay o → Known_of set delay (after_act o w)
+  after_sound : (o : Outcome Life) (w : Life) → LifeSound set delay w → LifeOutcome set delay o → LifeSound set delay (after_act o w)
   after_sound (Refused refusal) w k l = k
   after_sound (Done told v) w k l = l
 
-  run_sound : (w : Life) (acts : List LifeAct) → Known_of set delay w → Known_of set delay (run w acts)
+  run_sound : (w : Life) (acts : List LifeAct) → LifeSound set delay w → LifeSound set delay (run w acts)
   run_sound w [] k = k
   run_sound w (act ∷ more) k = run_sound (after_act (act_on act w) w) more (after_sound (act_on act w) w k (acts_sound act w k))
 
@@ -242,7 +242,7 @@ lives_are_safe known size delay srej acts m short =
     let set : Rules = rules_new size (settings srej) in
     let settled : Settled set delay = record { fits = starts.rightward; bounded = bounded.left; t1 = refl; short = short } in
     let fine : EndFine set (new_end set) = record { rules = refl; bounded = bounded.left; lasts = refl; new = λ e. absurd (cc e); kinds = tt } in
-    let k : Known_of set delay (run (new_life size srej delay) acts) = run_sound known set delay settled (new_life size srej delay) acts (record {
+    let k : LifeSound set delay (run (new_life size srej delay) acts) = run_sound known set delay settled (new_life size srej delay) acts (record {
       rules = refl;
       late = refl;
       clock = omega arith;

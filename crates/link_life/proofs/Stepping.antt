@@ -9,12 +9,12 @@ use Rattle.ax_link.specs.Carrying.{carries}
 use Rattle.ax_link.specs.Pair.{Core, IsNew, core, opens, reach}
 use Rattle.ax_link.specs.Runs.{sets_up}
 use Rattle.ax_link.specs.State.{Effect, Frame, Rules, State, count_end}
-use Rattle.ax_link.specs.Table.{Input, Arrive, step}
+use Rattle.ax_link.specs.Table.{Input, Arrive}
 use Rattle.link_life.specs.Ends.{End, Flight, any_begins, epochs, flights, is_down, is_of_account, lasting, number}
 use Rattle.link_life.specs.Laws.{AllInTime}
 use Rattle.link_life.specs.Lives.{is_early}
 use Rattle.link_life.proofs.Beginning.{Asker, begins, begun, crosses}
-use Rattle.link_life.proofs.Cases.{KeepsBoth, NoneOf, StaysUnopened, answers, answers_in, asked_by, asks, goes_out, same_both, set_up_frame, ua}
+use Rattle.link_life.proofs.Cases.{KeepsBoth, NoneOf, StaysUnopened, answers, asks, goes_out, same_both, set_up_frame, ua}
 use Rattle.link_life.proofs.Conversing.{Off, more_coming, next_goes, off_goes}
 use Rattle.link_life.proofs.Dates.{Answered, Asking, Clear, Dated, Taken, account_asks, all_rest, answered, clear_down, clear_t1, none_also, none_answers, none_more}
 use Rattle.link_life.proofs.Dating.{asks_anew, asks_still, on_dated, other_dated, rests_dated}
@@ -22,7 +22,7 @@ use Rattle.link_life.proofs.Known.{Known}
 use Rattle.link_life.proofs.Sounding.{none_sent}
 use Rattle.link_life.proofs.Talks.{Apart, IsNext, NoneIn, Talk, behind_ua}
 use Rattle.link_life.proofs.Timing.{all_both, set_out}
-use Rattle.link_life.proofs.Turning.{DatedEnd, Lasts, Settled, Sound, SoundAfter, all_go_out, apart_of, asker, asking_of, down_test, near_begins, near_stays, next_or_off, none_opens, off_of, quiet_going}
+use Rattle.link_life.proofs.Turning.{DatedEnd, Lasts, Settled, Sound, SoundAfter, Stepped, all_go_out, apart_of, asker, asking_of, down_test, near_begins, near_stays, next_or_off, none_opens, off_of, quiet_going}
 
 -- ---- small facts
 
@@ -63,16 +63,16 @@ pub none_lasting : (l m : State) (h : Option (List ℕ)) → h ≡ None → last
 none_lasting l m h e = subst (λ o. lasting l o ≡ lasting m o) (sym e) refl
 
 module _ (known : Known) (set : Rules) (now delay : ℕ) (settled : Settled set delay) (x y : End) (s : Sound set now delay (record { near = x; far = y })) (i : Input) (rest : List Flight) (taken : Taken i x.coming rest)
-    (few : answers_in (step x.link i now).outs ≤ asked_by i) where
-  pub came : Answered x.coming rest (step x.link i now).outs
-  came = answered i x.coming rest (step x.link i now).outs taken few
+    (g : Effect) (stepped : Stepped set now x i g) where
+  pub came : Answered x.coming rest g.outs
+  came = answered i x.coming rest g.outs taken stepped.few
 
   -- all but what depends on the case
   pub made : (x2 : End) (epoch : ℕ) → x2.coming ≡ rest → x2.link.rules ≡ set → Bounded (stock x2.link) → Lasts x2.link.phase x2.heard → (x2.link.phase ≡ SettingUp → IsNew x2.link) →
-      Dated x2.link.phase x2.link.t1_at x2.down_since now delay rest (y.coming ++ flights now epoch (step x.link i now).outs) → Talk x2 (more_coming y (flights now epoch (step x.link i now).outs)) →
-      Sound set now delay (record { near = x2; far = more_coming y (flights now epoch (step x.link i now).outs) })
+      Dated x2.link.phase x2.link.t1_at x2.down_since now delay rest (y.coming ++ flights now epoch g.outs) → Talk x2 (more_coming y (flights now epoch g.outs)) →
+      Sound set now delay (record { near = x2; far = more_coming y (flights now epoch g.outs) })
   made x2 epoch c r b l n d t =
-      let outs : List Frame = (step x.link i now).outs in
+      let outs : List Frame = g.outs in
       record {
         near = record { rules = r; bounded = b; lasts = l; new = n; kinds = subst (AllByRecursion (λ f. goes_out f.frame.kind ≡ true)) (sym c) (all_rest (λ f. goes_out f.frame.kind ≡ true) i x.coming rest taken s.near.kinds) };
         far = record {
@@ -80,7 +80,7 @@ module _ (known : Known) (set : Rules) (now delay : ℕ) (settled : Settled set 
           bounded = s.far.bounded;
           lasts = s.far.lasts;
           new = s.far.new;
-          kinds = all_both (λ f. goes_out f.frame.kind ≡ true) y.coming (flights now epoch outs) s.far.kinds (all_go_out x.link.phase now epoch outs (known.kinds x.link i now s.near.bounded));
+          kinds = all_both (λ f. goes_out f.frame.kind ≡ true) y.coming (flights now epoch outs) s.far.kinds (all_go_out x.link.phase now epoch outs stepped.kinds);
         };
         near_time = subst (AllInTime now delay) (sym c) (all_rest _ i x.coming rest taken s.near_time);
         far_time = all_both _ y.coming (flights now epoch outs) s.far_time (set_out now delay epoch outs);
@@ -90,72 +90,62 @@ module _ (known : Known) (set : Rules) (now delay : ℕ) (settled : Settled set 
         talk = t;
       }
 
-  pub rules_step : (step x.link i now).link.rules ≡ set
-  rules_step = known.settings x.link i now ∙ s.near.rules
-
-  pub bounds_step : Bounded (stock (step x.link i now).link)
-  bounds_step = known.bounds x.link i now s.near.bounded
-
   -- an end that has no voice; more is under way from it
-  pub off_talk : (x2 : End) (epoch : ℕ) → Off x s.talk.near s.talk.far.heard → epochs x2 ≡ epochs x → Apart x2 → NoneOf is_of_account (step x.link i now).outs → (y.link.phase ≡ SettingUp → NoneOf opens (step x.link i now).outs) →
-      Talk x2 (more_coming y (flights now epoch (step x.link i now).outs))
+  pub off_talk : (x2 : End) (epoch : ℕ) → Off x s.talk.near s.talk.far.heard → epochs x2 ≡ epochs x → Apart x2 → NoneOf is_of_account g.outs → (y.link.phase ≡ SettingUp → NoneOf opens g.outs) →
+      Talk x2 (more_coming y (flights now epoch g.outs))
   off_talk x2 epoch o e a q n =
-      off_goes known x y x2 s.talk (flights now epoch (step x.link i now).outs) o e a (none_sent is_of_account now epoch (step x.link i now).outs q) (λ u. none_sent opens now epoch (step x.link i now).outs (n u))
+      off_goes known x y x2 s.talk (flights now epoch g.outs) o e a (none_sent is_of_account now epoch g.outs q) (λ u. none_sent opens now epoch g.outs (n u))
 
-  pub rests_on : x.link.phase ≡ Down → (step x.link i now).link.phase ≡ Down → any_begins (step x.link i now).notes ≡ false → NoneOf asks (step x.link i now).outs → NoneOf opens (step x.link i now).outs →
-      SoundAfter set now delay i x rest x.heard y
+  pub rests_on : x.link.phase ≡ Down → g.link.phase ≡ Down → any_begins g.notes ≡ false → NoneOf asks g.outs → NoneOf opens g.outs →
+      SoundAfter set now delay g x rest x.heard y
   rests_on u v e q n =
-      let g : Effect = step x.link i now in
       let x2 : End = record x { coming = rest; link = g.link } in
       let h : x.heard ≡ None = subst (λ ph. Lasts ph x.heard) u s.near.lasts in
       subst (Sound set now delay) (sym (near_stays set now g (record x { coming = rest }) y e (down_test x.link.phase g.link.phase Down Down u v)))
-      (made x2 (number x) refl rules_step bounds_step (subst (λ ph. Lasts ph x.heard) (sym v) h) (λ w. absurd (cc (v, w)))
+      (made x2 (number x) refl stepped.rules stepped.bounded (subst (λ ph. Lasts ph x.heard) (sym v) h) (λ w. absurd (cc (v, w)))
       (subst (λ ph. Dated ph g.link.t1_at x.down_since now delay rest (y.coming ++ flights now (number x) g.outs)) (sym v)
       (rests_dated i g.link.t1_at now delay (number x) x.down_since x.coming rest y.coming g.outs taken q (subst (λ ph. Dated ph x.link.t1_at x.down_since now delay x.coming y.coming) u s.near_dates)))
       (off_talk x2 (number x) (off_of x s.talk.near s.talk.far.heard s.talk.one.stand (λ w. absurd (cc (u, w))) (λ w. absurd (cc (u, w)))) (ap (λ l. x.over ++ l) (none_lasting g.link x.link x.heard h))
       (record { up = λ w. absurd (cc (v, w)); setting = λ w. absurd (cc (v, w)) }) (none_also asks is_of_account g.outs account_asks q) (λ w. n)))
 
   -- it is set up once more or for the first time, and nothing old is left
-  anew : (epoch : ℕ) → Clear x.coming y.coming → (step x.link i now).link.phase ≡ SettingUp → (step x.link i now).outs ≡ set_up_frame ∷ [] → (step x.link i now).link.t1_at ≡ min now count_end + x.link.rules.t1 →
-      Dated (step x.link i now).link.phase (step x.link i now).link.t1_at x.down_since now delay rest (y.coming ++ flights now epoch (step x.link i now).outs)
+  anew : (epoch : ℕ) → Clear x.coming y.coming → g.link.phase ≡ SettingUp → g.outs ≡ set_up_frame ∷ [] → g.link.t1_at ≡ min now count_end + x.link.rules.t1 →
+      Dated g.link.phase g.link.t1_at x.down_since now delay rest (y.coming ++ flights now epoch g.outs)
   anew epoch c v o t =
-      let g : Effect = step x.link i now in
       subst (λ ph. Dated ph g.link.t1_at x.down_since now delay rest (y.coming ++ flights now epoch g.outs)) (sym v)
       (subst (λ outs. Asking g.link.t1_at now delay rest (y.coming ++ flights now epoch outs)) (sym o)
       (asks_anew g.link.t1_at now delay epoch rest y.coming (t ∙ (ap (λ (r : Rules). min now count_end + r.t1) s.near.rules ∙ ap (λ n. min now count_end + n) settled.t1))
       (record { going = c.going; coming = all_rest (λ f. answers f.frame.kind ≡ false) i x.coming rest taken c.coming })))
 
-  pub starts_on : x.link.phase ≡ Down → (step x.link i now).link.phase ≡ SettingUp → any_begins (step x.link i now).notes ≡ false → is_early x.down_since now ≡ false → (step x.link i now).outs ≡ set_up_frame ∷ [] → IsNew (step x.link i now).link →
-      (step x.link i now).link.t1_at ≡ min now count_end + x.link.rules.t1 →
-      SoundAfter set now delay i x rest x.heard y
+  pub starts_on : x.link.phase ≡ Down → g.link.phase ≡ SettingUp → any_begins g.notes ≡ false → is_early x.down_since now ≡ false → g.outs ≡ set_up_frame ∷ [] → IsNew g.link →
+      g.link.t1_at ≡ min now count_end + x.link.rules.t1 →
+      SoundAfter set now delay g x rest x.heard y
   starts_on u v e early o n t =
-      let g : Effect = step x.link i now in
       let x2 : End = record x { coming = rest; link = g.link } in
       let h : x.heard ≡ None = subst (λ ph. Lasts ph x.heard) u s.near.lasts in
       let c : Clear x.coming y.coming = clear_down x.down_since now delay x.coming y.coming settled.short s.near_time s.far_time early (subst (λ ph. Dated ph x.link.t1_at x.down_since now delay x.coming y.coming) u s.near_dates).1 in
       subst (Sound set now delay) (sym (near_stays set now g (record x { coming = rest }) y e (down_test x.link.phase g.link.phase Down SettingUp u v)))
-      (made x2 (number x) refl rules_step bounds_step (subst (λ ph. Lasts ph x.heard) (sym v) h) (λ w. n) (anew (number x) c v o t)
+      (made x2 (number x) refl stepped.rules stepped.bounded (subst (λ ph. Lasts ph x.heard) (sym v) h) (λ w. n) (anew (number x) c v o t)
       (off_talk x2 (number x) (off_of x s.talk.near s.talk.far.heard s.talk.one.stand (λ w. absurd (cc (u, w))) (λ w. absurd (cc (u, w)))) (ap (λ l. x.over ++ l) (none_lasting g.link x.link x.heard h))
       (record { up = λ w. absurd (cc (v, w)); setting = λ w. none_opens rest (all_rest (λ f. answers f.frame.kind ≡ false) i x.coming rest taken c.coming) })
       (subst (NoneOf is_of_account) (sym o) (refl, tt)) (λ w. subst (NoneOf opens) (sym o) (refl, tt))))
 
-  pub begins_on : (f : Flight) (pf : Bool) → (x.link.phase ≡ Down) ⊎ (x.link.phase ≡ Up) → (step x.link i now).link.phase ≡ Up → any_begins (step x.link i now).notes ≡ true → x.coming ≡ f ∷ rest → sets_up f.frame.kind ≡ true →
-      (step x.link i now).outs ≡ ua pf ∷ [] → IsNew (step x.link i now).link →
-      SoundAfter set now delay i x rest x.heard y
+  pub begins_on : (f : Flight) (pf : Bool) → (x.link.phase ≡ Down) ⊎ (x.link.phase ≡ Up) → g.link.phase ≡ Up → any_begins g.notes ≡ true → x.coming ≡ f ∷ rest → sets_up f.frame.kind ≡ true →
+      g.outs ≡ ua pf ∷ [] → IsNew g.link →
+      SoundAfter set now delay g x rest x.heard y
   begins_on f pf p v e c z o n =
-      let g : Effect = step x.link i now in
       let a : Asker set y = asker set now delay y f rest s.far z (subst (λ fs. DatedEnd now delay y fs) c s.far_dates) in
       let quiet : NoneIn is_of_account rest = all_rest (λ k. is_of_account k.frame.kind ≡ false) i x.coming rest taken (quiet_going now delay y x.coming a.phase s.far_dates) in
       let epoch : ℕ = suc (length (epochs x)) in
       subst (Sound set now delay) (sym (near_begins set now g (record x { coming = rest }) y e (stays_up p v)))
-      (made (begun x g.link rest) epoch refl rules_step bounds_step (subst (λ ph. Lasts ph (Some [])) (sym v) ([], refl)) (λ w. absurd (cc (v, w)))
+      (made (begun x g.link rest) epoch refl stepped.rules stepped.bounded (subst (λ ph. Lasts ph (Some [])) (sym v) ([], refl)) (λ w. absurd (cc (v, w)))
       (on_dated g.link.phase g.link.t1_at now delay x.down_since rest (y.coming ++ flights now epoch g.outs) (inl v) (none_more sets_up now epoch y.coming g.outs (none_set_up p) (subst (NoneOf sets_up) (sym o) (refl, tt))))
       (subst (λ outs. Talk (begun x g.link rest) (more_coming y (flights now epoch outs))) (sym o)
-      (begins known set x y g.link rest (record { sent = now; epoch = epoch; frame = ua pf }) settled.fits s.talk a v n rules_step quiet)))
+      (begins known set x y g.link rest (record { sent = now; epoch = epoch; frame = ua pf }) settled.fits s.talk a v n stepped.rules quiet)))
     where
-      stays_up : (x.link.phase ≡ Down) ⊎ (x.link.phase ≡ Up) → (step x.link i now).link.phase ≡ Up → (not (is_down x.link.phase) && is_down (step x.link i now).link.phase) ≡ false
-      stays_up (inl u) w = down_test x.link.phase (step x.link i now).link.phase Down Up u w
-      stays_up (inr u) w = down_test x.link.phase (step x.link i now).link.phase Up Up u w
+      stays_up : (x.link.phase ≡ Down) ⊎ (x.link.phase ≡ Up) → g.link.phase ≡ Up → (not (is_down x.link.phase) && is_down g.link.phase) ≡ false
+      stays_up (inl u) w = down_test x.link.phase g.link.phase Down Up u w
+      stays_up (inr u) w = down_test x.link.phase g.link.phase Up Up u w
 
       none_set_up : (x.link.phase ≡ Down) ⊎ (x.link.phase ≡ Up) → NoneIn sets_up y.coming
       none_set_up (inl u) = (subst (λ ph. Dated ph x.link.t1_at x.down_since now delay x.coming y.coming) u s.near_dates).0
@@ -167,59 +157,55 @@ module _ (known : Known) (set : Rules) (now delay : ℕ) (settled : Settled set 
   setting_lasts u = subst (λ ph. Lasts ph x.heard) u s.near.lasts
 
   -- it stays so, and says nothing of account
-  setting_talk : (epoch : ℕ) → x.link.phase ≡ SettingUp → (step x.link i now).link.phase ≡ SettingUp → IsNew (step x.link i now).link → KeepsBoth x.link (step x.link i now).link → StaysUnopened i →
-      NoneOf is_of_account (step x.link i now).outs → NoneOf opens (step x.link i now).outs →
-      Talk (record x { coming = rest; link = (step x.link i now).link }) (more_coming y (flights now epoch (step x.link i now).outs))
+  setting_talk : (epoch : ℕ) → x.link.phase ≡ SettingUp → g.link.phase ≡ SettingUp → IsNew g.link → KeepsBoth x.link g.link → StaysUnopened i →
+      NoneOf is_of_account g.outs → NoneOf opens g.outs →
+      Talk (record x { coming = rest; link = g.link }) (more_coming y (flights now epoch g.outs))
   setting_talk epoch u v n k w q o = by (next_or_off x s.talk.near s.talk.far.heard s.talk.one.stand u)
     where
-      by : IsNext x s.talk.near s.talk.far.heard ⊎ Off x s.talk.near s.talk.far.heard → Talk (record x { coming = rest; link = (step x.link i now).link }) (more_coming y (flights now epoch (step x.link i now).outs))
+      by : IsNext x s.talk.near s.talk.far.heard ⊎ Off x s.talk.near s.talk.far.heard → Talk (record x { coming = rest; link = g.link }) (more_coming y (flights now epoch g.outs))
       by (inl a) =
-          let outs : List Frame = (step x.link i now).outs in
-          next_goes known x y (record x { coming = rest; link = (step x.link i now).link }) s.talk (flights now epoch outs) a v refl refl n (behind_rest i x.coming rest taken w) k
+          let outs : List Frame = g.outs in
+          next_goes known x y (record x { coming = rest; link = g.link }) s.talk (flights now epoch outs) a v refl refl n (behind_rest i x.coming rest taken w) k
           (none_sent is_of_account now epoch outs q) (λ z. none_sent opens now epoch outs o)
       by (inr a) =
-          off_talk (record x { coming = rest; link = (step x.link i now).link }) epoch a (ap (λ l. x.over ++ l) (none_lasting (step x.link i now).link x.link x.heard (setting_lasts u)))
+          off_talk (record x { coming = rest; link = g.link }) epoch a (ap (λ l. x.over ++ l) (none_lasting g.link x.link x.heard (setting_lasts u)))
           (record { up = λ z. absurd (cc (v, z)); setting = λ z. all_rest (λ f. opens f.frame.kind ≡ false) i x.coming rest taken ((apart_of x s.talk.near s.talk.far.heard a).setting u) }) q (λ z. o)
 
-  setting_made : x.link.phase ≡ SettingUp → (step x.link i now).link.phase ≡ SettingUp → any_begins (step x.link i now).notes ≡ false → IsNew (step x.link i now).link →
-      Dated (step x.link i now).link.phase (step x.link i now).link.t1_at x.down_since now delay rest (y.coming ++ flights now (number x) (step x.link i now).outs) →
-      Talk (record x { coming = rest; link = (step x.link i now).link }) (more_coming y (flights now (number x) (step x.link i now).outs)) →
-      SoundAfter set now delay i x rest x.heard y
+  setting_made : x.link.phase ≡ SettingUp → g.link.phase ≡ SettingUp → any_begins g.notes ≡ false → IsNew g.link →
+      Dated g.link.phase g.link.t1_at x.down_since now delay rest (y.coming ++ flights now (number x) g.outs) →
+      Talk (record x { coming = rest; link = g.link }) (more_coming y (flights now (number x) g.outs)) →
+      SoundAfter set now delay g x rest x.heard y
   setting_made u v e n d t =
-      let g : Effect = step x.link i now in
       subst (Sound set now delay) (sym (near_stays set now g (record x { coming = rest }) y e (down_test x.link.phase g.link.phase SettingUp SettingUp u v)))
-      (made (record x { coming = rest; link = g.link }) (number x) refl rules_step bounds_step (subst (λ ph. Lasts ph x.heard) (sym v) (setting_lasts u)) (λ w. n) d t)
+      (made (record x { coming = rest; link = g.link }) (number x) refl stepped.rules stepped.bounded (subst (λ ph. Lasts ph x.heard) (sym v) (setting_lasts u)) (λ w. n) d t)
 
-  still : x.link.phase ≡ SettingUp → (step x.link i now).link.phase ≡ SettingUp → (step x.link i now).link.t1_at ≡ x.link.t1_at → NoneOf asks (step x.link i now).outs →
-      Dated (step x.link i now).link.phase (step x.link i now).link.t1_at x.down_since now delay rest (y.coming ++ flights now (number x) (step x.link i now).outs)
+  still : x.link.phase ≡ SettingUp → g.link.phase ≡ SettingUp → g.link.t1_at ≡ x.link.t1_at → NoneOf asks g.outs →
+      Dated g.link.phase g.link.t1_at x.down_since now delay rest (y.coming ++ flights now (number x) g.outs)
   still u v t q =
-      let g : Effect = step x.link i now in
       subst (λ ph. Dated ph g.link.t1_at x.down_since now delay rest (y.coming ++ flights now (number x) g.outs)) (sym v)
       (subst (λ n. Asking n now delay rest (y.coming ++ flights now (number x) g.outs)) (sym t)
       (asks_still i x.link.t1_at now delay (number x) x.coming rest y.coming g.outs taken q (asking_of now delay x y.coming u s.near_dates)))
 
-  pub waits_on : x.link.phase ≡ SettingUp → (step x.link i now).link.phase ≡ SettingUp → any_begins (step x.link i now).notes ≡ false → StaysUnopened i → NoneOf asks (step x.link i now).outs → NoneOf opens (step x.link i now).outs →
-      (step x.link i now).link.t1_at ≡ x.link.t1_at → (IsNew x.link → IsNew (step x.link i now).link) → KeepsBoth x.link (step x.link i now).link →
-      SoundAfter set now delay i x rest x.heard y
+  pub waits_on : x.link.phase ≡ SettingUp → g.link.phase ≡ SettingUp → any_begins g.notes ≡ false → StaysUnopened i → NoneOf asks g.outs → NoneOf opens g.outs →
+      g.link.t1_at ≡ x.link.t1_at → (IsNew x.link → IsNew g.link) → KeepsBoth x.link g.link →
+      SoundAfter set now delay g x rest x.heard y
   waits_on u v e w q o t n k =
-      setting_made u v e (n (s.near.new u)) (still u v t q) (setting_talk (number x) u v (n (s.near.new u)) k w (none_also asks is_of_account (step x.link i now).outs account_asks q) o)
+      setting_made u v e (n (s.near.new u)) (still u v t q) (setting_talk (number x) u v (n (s.near.new u)) k w (none_also asks is_of_account g.outs account_asks q) o)
 
-  pub crosses_on : (f : Flight) (pf : Bool) → x.link.phase ≡ SettingUp → (step x.link i now).link.phase ≡ SettingUp → any_begins (step x.link i now).notes ≡ false → x.coming ≡ f ∷ rest → sets_up f.frame.kind ≡ true →
-      (step x.link i now).outs ≡ ua pf ∷ [] → (step x.link i now).link.t1_at ≡ x.link.t1_at → (IsNew x.link → IsNew (step x.link i now).link) →
-      SoundAfter set now delay i x rest x.heard y
+  pub crosses_on : (f : Flight) (pf : Bool) → x.link.phase ≡ SettingUp → g.link.phase ≡ SettingUp → any_begins g.notes ≡ false → x.coming ≡ f ∷ rest → sets_up f.frame.kind ≡ true →
+      g.outs ≡ ua pf ∷ [] → g.link.t1_at ≡ x.link.t1_at → (IsNew x.link → IsNew g.link) →
+      SoundAfter set now delay g x rest x.heard y
   crosses_on f pf u v e c z o t n =
-      let g : Effect = step x.link i now in
       let a : Asker set y = asker set now delay y f rest s.far z (subst (λ fs. DatedEnd now delay y fs) c s.far_dates) in
       let quiet : NoneIn is_of_account rest = all_rest (λ k. is_of_account k.frame.kind ≡ false) i x.coming rest taken (quiet_going now delay y x.coming a.phase s.far_dates) in
       setting_made u v e (n (s.near.new u)) (still u v t (subst (NoneOf asks) (sym o) (refl, tt)))
       (subst (λ outs. Talk (record x { coming = rest; link = g.link }) (more_coming y (flights now (number x) outs))) (sym o)
-      (crosses known set x y g.link rest (record { sent = now; epoch = number x; frame = ua pf }) settled.fits s.talk a v (setting_lasts u) (n (s.near.new u)) rules_step quiet))
+      (crosses known set x y g.link rest (record { sent = now; epoch = number x; frame = ua pf }) settled.fits s.talk a v (setting_lasts u) (n (s.near.new u)) stepped.rules quiet))
 
-  pub retries_on : x.link.phase ≡ SettingUp → (step x.link i now).link.phase ≡ SettingUp → any_begins (step x.link i now).notes ≡ false → StaysUnopened i → x.link.t1_at ≤ min now count_end → (step x.link i now).outs ≡ set_up_frame ∷ [] →
-      (step x.link i now).link.t1_at ≡ min now count_end + x.link.rules.t1 → core (step x.link i now).link ≡ core x.link →
-      SoundAfter set now delay i x rest x.heard y
+  pub retries_on : x.link.phase ≡ SettingUp → g.link.phase ≡ SettingUp → any_begins g.notes ≡ false → StaysUnopened i → x.link.t1_at ≤ min now count_end → g.outs ≡ set_up_frame ∷ [] →
+      g.link.t1_at ≡ min now count_end + x.link.rules.t1 → core g.link ≡ core x.link →
+      SoundAfter set now delay g x rest x.heard y
   retries_on u v e w l o t k =
-      let g : Effect = step x.link i now in
       let n : IsNew x.link = s.near.new u in
       let m : IsNew g.link = record { acked = ap (λ (c : Core). c.acked) k ∙ n.acked; sent = ap (λ (c : Core). c.sent) k ∙ n.sent; high = ap reach k ∙ n.high } in
       setting_made u v e m (anew (number x) (clear_t1 x.link.t1_at now delay x.coming y.coming settled.short s.near_time s.far_time l (asking_of now delay x y.coming u s.near_dates)) v o t)

@@ -16,7 +16,7 @@ use Rattle.link_life.specs.Ends.{End, Ends, Flight, any_begins, epochs, flights,
 use Rattle.link_life.specs.Laws.{AllInTime}
 use Rattle.link_life.specs.Lives.{pause}
 use Rattle.link_life.proofs.Beginning.{Asker}
-use Rattle.link_life.proofs.Cases.{answers, asks, goes_out}
+use Rattle.link_life.proofs.Cases.{answers, answers_in, asked_by, asks, goes_out}
 use Rattle.link_life.proofs.Conversing.{Off, more_coming}
 use Rattle.link_life.proofs.Dates.{Asking, Dated, account_asks, count_one, none_counted, opens_answers, sets_account}
 use Rattle.link_life.proofs.Sounding.{behind_all, hears_none}
@@ -89,9 +89,17 @@ pub record Sound (set : Rules) (now delay : ℕ) (p : Ends) : Type 0 where
   pub talk : Talk p.near p.far
 
 -- so after a step of the near end, where this is still under way to it and its epoch has heard this
-abbrev pub SoundAfter : Rules → ℕ → ℕ → Input → End → List Flight → Option (List ℕ) → End → Type 0
-SoundAfter set now delay i x rest heard y =
-    Sound set now delay (step_near set now (step x.link i now) (record { near = record x { coming = rest; heard = heard }; far = y }))
+abbrev pub SoundAfter : Rules → ℕ → ℕ → Effect → End → List Flight → Option (List ℕ) → End → Type 0
+SoundAfter set now delay g x rest heard y =
+    Sound set now delay (step_near set now g (record { near = record x { coming = rest; heard = heard }; far = y }))
+
+-- what is known of the effect of a step
+pub record Stepped (set : Rules) (now : ℕ) (x : End) (i : Input) (g : Effect) : Type 0 where
+  pub is : g ≡ step x.link i now
+  pub rules : g.link.rules ≡ set
+  pub bounded : Bounded (stock g.link)
+  pub kinds : AllByRecursion (λ f. may_go_out x.link.phase f.kind ≡ true) g.outs
+  pub few : answers_in g.outs ≤ asked_by i
 
 -- the settings of the life
 pub record Settled (set : Rules) (delay : ℕ) : Type 0 where
