@@ -107,7 +107,7 @@ fn other_words_are_told_what_the_commands_are(rt: HostRuntime) -> Result<(), Fai
         assert_eq!(rt; outcome.status, Status::Usage);
         assert_eq!(rt; outcome.written.bytes(), b"".as_slice());
         let usage =
-            b"usage: replay | node call=CALL alias=ALIAS [key=value] | frames modulo=8|128 | soak seed=N | ip call=CALL addr=IP [route=IP/N,IP]\n";
+            b"usage: replay | node call=CALL alias=ALIAS [key=value] | frames modulo=8|128 | soak seed=N | life modulo=8|128 srej=0|1 delay=N | ip call=CALL addr=IP [route=IP/N,IP]\n";
         assert_eq!(rt; outcome.notes.bytes(), usage.as_slice());
     }
     Ok(())

@@ -1,5 +1,5 @@
--- Words ask for one command at most: for one modulus, one seed, one node, one gateway.
-use Rattle.std.proofs.Common.{◌≡◌, ◌∙◌, ◌∷◌, [], ℕ, List, refl, sym, subst, ap, arith, inl, inr, String, Global}
+-- Words ask for one command at most: for one modulus, one seed, one life, one node, one gateway.
+use Rattle.std.proofs.Common.{◌≡◌, ◌∙◌, ◌⊎◌, ◌∷◌, [], ℕ, List, refl, sym, subst, ap, arith, inl, inr, String, Global}
 use Rattle.std.specs.Prelude.{Ok, codes, nat_eq, false}
 use Rattle.std.proofs.lemmas.Bool.Decides.{nat_tests}
 use Rattle.std.specs.Fmt.{decimal}
@@ -7,13 +7,17 @@ use Rattle.std.proofs.lemmas.Fmt.{decimal_injective}
 use Rattle.ax_ip.specs.Machine.{state}
 use Rattle.network_file.specs.declared.plan.live.LiveNode.{LiveNode}
 use Rattle.node_cmd.specs.declared.ip.gateway.Gateway.{Gateway}
+use Rattle.node_cmd.specs.declared.lives.words.LifeSettings.{LifeSettings}
 use Rattle.node_cmd.specs.declared.words.Command.{Command}
-use Rattle.node_cmd.specs.declared.words.Command.TheVariants.{Replay, Frames, Soak, Node, Ip}
+use Rattle.node_cmd.specs.declared.words.Command.TheVariants.{Replay, Frames, Soak, Life, Node, Ip}
 use Rattle.node_cmd.specs.declared.words.FrameModulus.{FrameModulus}
 use Rattle.node_cmd.specs.declared.words.FrameModulus.TheVariants as modulo
 use Rattle.node_cmd.specs.IpWords.{IsGateway}
-use Rattle.node_cmd.specs.Words.{Ask, AskFor, AskForStream, Declare, modulo_word, seed_word, size_of}
+use Rattle.node_cmd.specs.LifeWords.{AreSettings}
+use Rattle.node_cmd.specs.FrameModuli.{modulo_word, size_of}
+use Rattle.node_cmd.specs.Words.{Ask, AskFor, AskForLife, AskForStream, Declare, seed_word}
 use Rattle.node_cmd.proofs.GatewayWords.{same_gateway}
+use Rattle.node_cmd.proofs.ThreeWords.{first_char, one_settings}
 
 pub one_seed : (words : List (String Global)) (m n : ℕ) → AskFor words (Soak m) → AskFor words (Soak n) → m ≡ n
 one_seed words m n a b = let same : decimal m ≡ decimal n = cc (sym a.0 ∙ b.0) in decimal_injective m n a.1 b.1 same
@@ -32,12 +36,18 @@ one_declared words d e a b =
     let same : a.0 ≡ b.0 = cc (sym a.1 ∙ b.1) in
     same_declared b.0 d e (subst (λ ws. Declare ws d) same a.2) b.2
 
+pub one_life : (words : List (String Global)) (s t : LifeSettings) → AskFor words (Life s) → AskFor words (Life t) → s ≡ t
+one_life words s t a b =
+    let same : a.0 ≡ b.0 = cc (sym a.1 ∙ b.1) in
+    one_settings b.0 s t (subst (λ ws. AreSettings ws s) same a.2) b.2
+
 -- ---- the first word tells the commands apart
 
 abbrev pub first_word : Command → List ℕ
 first_word Replay = codes "replay"
 first_word (Frames m) = codes "frames"
 first_word (Soak seed) = codes "soak"
+first_word (Life s) = codes "life"
 first_word (Node declared) = codes "node"
 first_word (Ip gateway) = codes "ip"
 
@@ -45,6 +55,7 @@ headed : (words : List (List ℕ)) (c : Command) → Ask words c → (later : Li
 headed words Replay a = ([], a)
 headed words (Frames m) a = (modulo_word m ∷ [], a)
 headed words (Soak seed) a = (seed_word seed ∷ [], a.0)
+headed words (Life s) a = (a.0, a.1)
 headed words (Node declared) a = (a.0, a.1)
 headed words (Ip gateway) a = (a.0, a.1)
 
@@ -52,10 +63,6 @@ same_first : (words : List (String Global)) (c d : Command) → AskFor words c �
 same_first words c d a b = let x = headed _ c a in let y = headed _ d b in cc (sym x.1 ∙ y.1)
 
 -- the first character of that word
-abbrev pub first_char : List ℕ → ℕ
-first_char [] = 0
-first_char (b ∷ bs) = b
-
 abbrev pub mark : Command → ℕ
 mark c = first_char (first_word c)
 
@@ -66,10 +73,12 @@ differ m n two e = grind (arith, nat_tests, two, e)
 pub other : (words : List (String Global)) (c d : Command) → nat_eq (mark c) (mark d) ≡ false → AskFor words c → AskFor words d → ⊥
 other words c d two a b = differ (mark c) (mark d) two (ap first_char (same_first words c d a b))
 
--- nor for one that answers a stream as it comes
-pub no_stream : (words : List (String Global)) (c : Command) → nat_eq (mark c) (first_char (codes "frames")) ≡ false → nat_eq (mark c) (first_char (codes "ip")) ≡ false → AskFor words c → AskForStream words → ⊥
-no_stream words c frames ip a (inl s) = other words c (Frames s.0) frames a s.1
-no_stream words c frames ip a (inr s) = other words c (Ip s.0) ip a s.1
+-- nor for one that runs no network and no node
+pub runs_one : (words : List (String Global)) (c : Command) → nat_eq (mark c) (first_char (codes "frames")) ≡ false → nat_eq (mark c) (first_char (codes "ip")) ≡ false → nat_eq (mark c) (first_char (codes "life")) ≡ false
+    → AskFor words c → AskForStream words ⊎ AskForLife words → ⊥
+runs_one words c frames ip life a (inl (inl s)) = other words c (Frames s.0) frames a s.1
+runs_one words c frames ip life a (inl (inr s)) = other words c (Ip s.0) ip a s.1
+runs_one words c frames ip life a (inr s) = other words c (Life s.0) life a s.1
 
 same_size : (m n : FrameModulus) → modulo_word m ≡ modulo_word n → size_of m ≡ size_of n
 same_size modulo.M8 modulo.M8 e = refl

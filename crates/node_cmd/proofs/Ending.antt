@@ -22,19 +22,19 @@ module _ (left left' sizes sizes' : Option (List ℕ)) (reads reads' : ℕ) (wri
   replay_ends bytes all same e =
       let whole : (P : Plan → Type 0) → Tells P left → IsNetwork bytes P = λ P tells. (told_whole left left' bytes _ all.taken all.ended tells).1 in
       record {
-        done = λ s. let n = e.done s in (bytes, n.0, all, n.1, n.2);
-        late = λ s. let n = e.late s in (bytes, n.0, all, n.1, n.2);
+        done = λ s. (bytes, all, e.done s);
+        late = λ s. (bytes, all, e.late s);
         done_comes = λ tells _ fault. e.done_comes (whole _ tells) fault;
         late_comes = λ tells _ fault. e.late_comes (whole _ tells) fault;
         read_fault = λ s. absurd (e.others.1 s);
         read_few = λ s. absurd (e.others.1 s);
         read_same = λ s. same;
-        too_long = λ s. let n = e.too_long s in inr (bytes, n.0, all, n.1, n.2);
+        too_long = λ s. inr (bytes, all, e.too_long s);
         too_long_comes = λ tells _. elim tells [ inl much ↦ absurd (let more = told_whole left left' bytes _ all.taken all.ended much in let few = all.fits in omega arith) | inr many ↦ e.too_long_comes (whole _ many) ];
-        bad_file = λ s. let n = e.bad_file s in (bytes, n.0, all, n.1, n.2);
+        bad_file = λ s. (bytes, all, e.bad_file s);
         bad_file_comes = λ tells _. e.bad_file_comes (told_whole left left' bytes _ all.taken all.ended tells).1;
         write_fault = e.write_fault;
-        write_front = λ s. let n = e.write_front s in (bytes, n.0, all, n.1, n.2);
+        write_front = λ s. (bytes, all, e.write_front s);
         write_same = e.write_same;
         others = e.others.0;
       }

@@ -5,6 +5,7 @@ use Rattle.radio_base.specs.Causes.{Rose}
 use Rattle.circuit_verdict.specs.declared.verdict.Late.{Late}
 use Rattle.network_file.specs.Networks.{Bad, network_of}
 use Rattle.network_file.specs.Plan.{Plan}
+use Rattle.network_file.specs.Reasons.{word_for}
 use Rattle.net_replay.specs.Air.{most_frames}
 use Rattle.net_replay.specs.Circuits.{IsVerdictOn}
 use Rattle.net_replay.specs.Lines.{world}
@@ -36,7 +37,7 @@ IsNetwork bytes P = (network : Plan) × (network_of bytes ≡ Ok network) × P n
 
 -- it has a first bad line, of whose note P holds
 abbrev pub IsBadFile : List ℕ → (List ℕ → Type 0) → Type 0
-IsBadFile bytes P = (bad : Bad) × (network_of bytes ≡ Err bad) × P (bad_line_note bad.0 bad.1)
+IsBadFile bytes P = (bad : Bad) × (network_of bytes ≡ Err bad) × P (bad_line_note bad.0 (word_for bad.1))
 
 -- so many frames as a replay may have in the air, or more, are put there
 abbrev pub AirsFew : Plan → Type 0

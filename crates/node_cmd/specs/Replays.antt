@@ -1,30 +1,25 @@
 -- What `replay` reads.
-use Rattle.std.specs.Prelude.{ℕ, ◌≡◌, ◌<◌, ◌≤◌, List, length, Option, Ok, Err, IsSomeAnd}
+use Rattle.std.specs.Prelude.{ℕ, ◌≡◌, List, Option, Err}
 use Rattle.network_file.specs.Networks.{Bad, network_of}
 use Rattle.network_file.specs.Plan.{Plan}
-use Rattle.node_cmd.specs.Notes.{bad_line_note}
-use Rattle.node_cmd.specs.Outcomes.{AirsTooMany, IsInTime, IsLate}
-use Rattle.node_cmd.specs.Reading.{ReadsAll, max_file}
+use Rattle.node_cmd.specs.Outcomes.{AirsTooMany, IsBadFile, IsInTime, IsLate, IsNetwork}
+use Rattle.node_cmd.specs.Reading.{ReadsFile, TellsFile}
 
 -- a file was read to its end, and it is one of a network of which P holds
 abbrev pub ReadsNetwork : Option (List ℕ) → Option (List ℕ) → (Plan → Type 0) → Type 0
-ReadsNetwork old new P = (bytes : List ℕ) × (network : Plan) × ReadsAll old new bytes × (network_of bytes ≡ Ok network) × P network
+ReadsNetwork old new P = ReadsFile old new (λ bytes. IsNetwork bytes P)
 
 -- a file was read to its end, and it has a first bad line, of whose note P holds
 abbrev pub ReadsBadFile : Option (List ℕ) → Option (List ℕ) → (List ℕ → Type 0) → Type 0
-ReadsBadFile old new P = (bytes : List ℕ) × (bad : Bad) × ReadsAll old new bytes × (network_of bytes ≡ Err bad) × P (bad_line_note bad.0 bad.1)
-
--- the source tells its bytes, and they are more than a file may have
-abbrev pub TellsTooMuch : Option (List ℕ) → Type 0
-TellsTooMuch left = IsSomeAnd left (λ bytes. max_file < length bytes)
+ReadsBadFile old new P = ReadsFile old new (λ bytes. IsBadFile bytes P)
 
 -- the source tells its bytes, and they are a file with a bad line
 abbrev pub TellsBadFile : Option (List ℕ) → Type 0
-TellsBadFile left = IsSomeAnd left (λ bytes. (length bytes ≤ max_file) × ((bad : Bad) × (network_of bytes ≡ Err bad)))
+TellsBadFile left = TellsFile left (λ bytes. (bad : Bad) × (network_of bytes ≡ Err bad))
 
 -- the source tells its bytes, and they are the file of a network of which P holds
 abbrev pub Tells : (Plan → Type 0) → Option (List ℕ) → Type 0
-Tells P left = IsSomeAnd left (λ bytes. (length bytes ≤ max_file) × ((network : Plan) × (network_of bytes ≡ Ok network) × P network))
+Tells P left = TellsFile left (λ bytes. IsNetwork bytes P)
 
 -- one that puts as many frames in the air as it may, and in which nothing comes back too late, or something; or one that puts too
 -- many there

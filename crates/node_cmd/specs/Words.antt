@@ -6,20 +6,13 @@ use Rattle.ax_ip.specs.Machine.{state}
 use Rattle.network_file.specs.declared.plan.live.LiveNode.{LiveNode}
 use Rattle.network_file.specs.Live.{live_node_at}
 use Rattle.node_cmd.specs.declared.ip.gateway.Gateway.{Gateway}
+use Rattle.node_cmd.specs.declared.lives.words.LifeSettings.{LifeSettings}
 use Rattle.node_cmd.specs.declared.words.Command.{Command}
-use Rattle.node_cmd.specs.declared.words.Command.TheVariants.{Replay, Frames, Soak, Node, Ip}
+use Rattle.node_cmd.specs.declared.words.Command.TheVariants.{Replay, Frames, Soak, Life, Node, Ip}
 use Rattle.node_cmd.specs.declared.words.FrameModulus.{FrameModulus}
-use Rattle.node_cmd.specs.declared.words.FrameModulus.TheVariants as modulo
+use Rattle.node_cmd.specs.FrameModuli.{modulo_word}
 use Rattle.node_cmd.specs.IpWords.{IsGateway}
-
-abbrev pub modulo_word : FrameModulus → List ℕ
-modulo_word modulo.M8 = codes "modulo=8"
-modulo_word modulo.M128 = codes "modulo=128"
-
--- how many sequence numbers there are
-abbrev pub size_of : FrameModulus → ℕ
-size_of modulo.M8 = 8
-size_of modulo.M128 = 128
+use Rattle.node_cmd.specs.LifeWords.{AreSettings}
 
 -- decimal, without a sign and without leading zeros
 abbrev pub seed_word : ℕ → List ℕ
@@ -34,6 +27,7 @@ abbrev pub Ask : List (List ℕ) → Command → Type 0
 Ask words Replay = words ≡ codes "replay" ∷ []
 Ask words (Frames m) = words ≡ codes "frames" ∷ modulo_word m ∷ []
 Ask words (Soak seed) = (words ≡ codes "soak" ∷ seed_word seed ∷ []) × (seed < 2 ^ 64)
+Ask words (Life s) = (later : List (List ℕ)) × (words ≡ codes "life" ∷ later) × AreSettings later s
 Ask words (Node declared) = (later : List (List ℕ)) × (words ≡ codes "node" ∷ later) × Declare later declared
 Ask words (Ip gateway) = (later : List (List ℕ)) × (words ≡ codes "ip" ∷ later) × IsGateway later (state gateway.forwarder)
 
@@ -43,6 +37,10 @@ AskFor words command = Ask (map (λ w. string_bytes w) words) command
 -- for a live node
 abbrev pub AskForNode : List (String Global) → Type 0
 AskForNode words = (declared : LiveNode) × AskFor words (Node declared)
+
+-- for a life
+abbrev pub AskForLife : List (String Global) → Type 0
+AskForLife words = (s : LifeSettings) × AskFor words (Life s)
 
 -- for one that answers a stream as it comes
 abbrev pub AskForStream : List (String Global) → Type 0

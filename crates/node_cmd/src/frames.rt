@@ -4,7 +4,7 @@ ghost use Rattle.node_cmd.specs.Writing.{Says};
 ghost use Rattle.node_cmd.specs.StatusNotes.{HasNote, IsSilent};
 ghost use Rattle.node_cmd.specs.Told.{told};
 ghost use Rattle.node_cmd.specs.Run.{FramesEnd};
-ghost use Rattle.node_cmd.specs.Words.{size_of};
+ghost use Rattle.node_cmd.specs.FrameModuli.{size_of};
 
 use crate::items::{ItemTaker, answer_items};
 use crate::listing::add_item;
@@ -26,7 +26,7 @@ struct Lister {
 impl ItemTaker for Lister {
     ghost use Rattle.std.specs.Prelude.{◌≡◌};
     ghost use Rattle.node_cmd.specs.Listing.{Lists};
-    ghost use Rattle.node_cmd.specs.Words.{size_of};
+    ghost use Rattle.node_cmd.specs.FrameModuli.{size_of};
 
     ghost took = { λ first last items text. (last.modulo ≡ first.modulo) × Lists (size_of first.modulo) items text };
 

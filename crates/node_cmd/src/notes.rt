@@ -1,16 +1,16 @@
 //! What is said where a command was refused.
-ghost use Rattle.std.specs.Prelude.{◌≡◌, IfOk, string_bytes};
+ghost use Rattle.std.specs.Prelude.{◌≡◌, ℕ, List, Some, IfOk, string_bytes};
 ghost use Rattle.node_cmd.specs.Notes.{bad_line_note};
 ghost use Rattle.node_cmd.specs.Writing.{Says};
 
 use crate::writing::write_all;
-use net_replay::What;
 use radio_base::{NoMemory, Sink};
 use std::alloc::Global;
+use std::fmt::Display;
 
 /// All commands with their words.
 pub const USAGE: &str =
-    "usage: replay | node call=CALL alias=ALIAS [key=value] | frames modulo=8|128 | soak seed=N | ip call=CALL addr=IP [route=IP/N,IP]\n";
+    "usage: replay | node call=CALL alias=ALIAS [key=value] | frames modulo=8|128 | soak seed=N | life modulo=8|128 srej=0|1 delay=N | ip call=CALL addr=IP [route=IP/N,IP]\n";
 
 /// A read of the input failed.
 pub const READ_FAULT: &str = "read fault\n";
@@ -26,8 +26,12 @@ pub fn say<N: Sink>(notes: &mut N, text: &str)
 }
 
 /// Names the first bad line of a file, and what is wrong with it.
-pub fn bad_line_note(alloc: Global, line: u32, what: What) -> Result<String, NoMemory>
-    ensures { IfOk result (λ s. string_bytes s ≡ bad_line_note line what) }
+pub fn bad_line_note<W: Display + Drop>(
+    alloc: Global,
+    line: u32,
+    what: W,
+) -> Result<String, NoMemory>
+    ensures { IfOk result (λ s. (word : List ℕ) → W.output what ≡ Some word → string_bytes s ≡ bad_line_note line word) }
 {
     Ok(format!(in alloc; "line {line}: {what}\n")?)
 }

@@ -16,8 +16,9 @@ ghost use Rattle.node_cmd.specs.Writing.{Says};
 ghost use Rattle.node_cmd.specs.declared.outcomes.ReportRefusal.TheVariants as Refusal;
 ghost use Rattle.node_cmd.specs.declared.ran.Ran.TheVariants as rans;
 
-use crate::notes::{TOO_LONG, bad_line_note, say};
+use crate::notes::{TOO_LONG, say};
 use crate::ran::Ran;
+use crate::refusals::refuse_line;
 use crate::status::Status;
 use crate::writing::write_all;
 use net_replay::{
@@ -78,13 +79,9 @@ pub fn print_network<K: Sink, N: Sink>(
 {
     let Outcome { trace, late, text } = match outcome_of(alloc, bytes, what) {
         Ok(outcome) => outcome,
-        Err(ReportRefusal::BadLine { line, what }) => match bad_line_note(alloc, line, what) {
-            Ok(note) => {
-                say(notes, &note);
-                return Status::BadFile;
-            }
-            Err(_) => return Status::NoMemory,
-        },
+        Err(ReportRefusal::BadLine { line, what }) => {
+            return refuse_line(alloc, line, what, notes);
+        }
         Err(ReportRefusal::TooManyFrames) => {
             say(notes, TOO_LONG);
             return Status::TooLong;

@@ -7,7 +7,7 @@ ghost use Rattle.node_cmd.specs.Reading.{ReadsAll, WhyUnread, WhyNoMore};
 use radio_base::{Failed, Source};
 use std::alloc::{AllocError, Global};
 
-/// The most bytes that a network file may have.
+/// The most bytes that a file may have.
 const MAX_FILE: usize = 1_048_576;
 
 /// The most bytes that are read at a time.

@@ -6,10 +6,10 @@ ghost use Rattle.node_cmd.specs.Told.{told};
 ghost use Rattle.node_cmd.specs.Run.{ReplayEnds};
 ghost use Rattle.node_cmd.specs.declared.ran.Ran.TheVariants as rans;
 
-use crate::notes::{READ_FAULT, TOO_LONG, say};
 use crate::outcomes::{Printed, print_network};
 use crate::ran::Ran;
-use crate::reading::{ReadRefusal, read_file};
+use crate::reading::read_file;
+use crate::refusals::refuse_input;
 use crate::status::Status;
 use radio_base::{Sink, Source};
 use std::alloc::Global;
@@ -38,17 +38,8 @@ pub fn replay_file<S: Source, K: Sink, N: Sink>(
     ensures noted { HasNote result (Says (N.written notes.old) (N.written notes.new) (N.faults notes.old) (N.faults notes.new)) }
     ensures silent { IsSilent result → notes.new ≡ notes.old }
 {
-    let bytes = match read_file(alloc, source) {
-        Ok(bytes) => bytes,
-        Err(ReadRefusal::Fault) => {
-            say(notes, READ_FAULT);
-            return Status::ReadFault;
-        }
-        Err(ReadRefusal::TooLong) => {
-            say(notes, TOO_LONG);
-            return Status::TooLong;
-        }
-        Err(ReadRefusal::NoMemory) => return Status::NoMemory,
-    };
-    print_network(alloc, &bytes, Printed::Report, sink, notes, ran)
+    match read_file(alloc, source) {
+        Ok(bytes) => print_network(alloc, &bytes, Printed::Report, sink, notes, ran),
+        Err(why) => refuse_input(why, notes),
+    }
 }

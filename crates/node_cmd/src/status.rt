@@ -9,7 +9,7 @@ pub enum Status {
     Done,
     /// The words are no command's.
     Usage,
-    /// A line of the network file is bad.
+    /// A line of the file is bad.
     BadFile,
     /// A read failed.
     ReadFault,

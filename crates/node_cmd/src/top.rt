@@ -1,20 +1,23 @@
 //! The top call.
-ghost use Rattle.std.specs.Prelude.{ℕ, ◌≡◌, ◌≢◌, ◌↔◌};
+ghost use Rattle.std.specs.Prelude.{ℕ, ◌≡◌, ◌≢◌, ◌↔◌, ◌⊎◌};
 ghost use Rattle.ax_ip.specs.Machine.{state};
 ghost use Rattle.node_cmd.specs.declared.ip.gateway.Gateway.{Gateway};
+ghost use Rattle.node_cmd.specs.declared.lives.words.LifeSettings.{LifeSettings};
 ghost use Rattle.node_cmd.specs.declared.ran.Ran.TheVariants as rans;
 ghost use Rattle.node_cmd.specs.declared.words.Command.{Command};
 ghost use Rattle.node_cmd.specs.declared.words.FrameModulus.{FrameModulus};
 ghost use Rattle.network_file.specs.declared.plan.live.LiveNode.{LiveNode};
-ghost use Rattle.node_cmd.specs.Words.{AskFor, AskForNode, AskForStream, size_of};
+ghost use Rattle.node_cmd.specs.Words.{AskFor, AskForLife, AskForNode, AskForStream};
+ghost use Rattle.node_cmd.specs.FrameModuli.{size_of};
 ghost use Rattle.node_cmd.specs.Writing.{Says};
 ghost use Rattle.node_cmd.specs.StatusNotes.{HasNote, IsSilent};
 ghost use Rattle.node_cmd.specs.Told.{told};
-ghost use Rattle.node_cmd.specs.Run.{FramesEnd, IpEnds, NodeEnds, ReplayEnds, SoakEnds};
+ghost use Rattle.node_cmd.specs.Run.{FramesEnd, IpEnds, LifeEnds, NodeEnds, ReplayEnds, SoakEnds};
 
 use crate::frames::frames_of_stream;
 use crate::ip::ip_over_stream;
 use crate::live::run_node;
+use crate::lives::life_of_file;
 use crate::notes::{USAGE, say};
 use crate::ran::Ran;
 use crate::replays::replay_file;
@@ -27,7 +30,7 @@ use std::alloc::Global;
 /// Does what the words ask for: `replay` reads a network file from the source and writes the report of
 /// that network to the sink, and leaves what ran in `ran`, in which nothing is before; `node` runs a node on a KISS stream, and leaves it
 /// likewise; `frames` lists the frames of a KISS stream; `soak` replays the network that a number is made to, writes the line on it, and
-/// leaves what ran likewise; `ip` forwards the packets of a KISS stream.
+/// leaves what ran likewise; `life` reads the script of a life of a link, and writes its report; `ip` forwards the packets of a KISS stream.
 ///
 /// The status says how it ended, and where words, input or lines were refused the notes say why.
 pub fn run<S: Source, K: Sink, N: Sink, C: Clock>(
@@ -56,7 +59,9 @@ pub fn run<S: Source, K: Sink, N: Sink, C: Clock>(
         (told (S.left source.new) (S.reads source.new) (S.faults source.new) (K.written sink.new) (K.faults sink.new) (N.written notes.new) (N.faults notes.new)) result }
     ensures soak { (seed : ℕ) → AskFor words.now (Command.Soak seed) → SoakEnds seed
         (K.written sink.old) (K.written sink.new) (K.faults sink.old) (K.faults sink.new) ran.new result }
-
+    ensures life { (s : LifeSettings) → AskFor words.now (Command.Life s) → LifeEnds s
+        (told (S.left source.old) (S.reads source.old) (S.faults source.old) (K.written sink.old) (K.faults sink.old) (N.written notes.old) (N.faults notes.old))
+        (told (S.left source.new) (S.reads source.new) (S.faults source.new) (K.written sink.new) (K.faults sink.new) (N.written notes.new) (N.faults notes.new)) result }
     ensures node { (declared : LiveNode) → AskFor words.now (Command.Node declared) → NodeEnds declared (C.given clock.old) (C.given clock.new)
         (told (S.left source.old) (S.reads source.old) (S.faults source.old) (K.written sink.old) (K.faults sink.old) (N.written notes.old) (N.faults notes.old))
         (told (S.left source.new) (S.reads source.new) (S.faults source.new) (K.written sink.new) (K.faults sink.new) (N.written notes.new) (N.faults notes.new))
@@ -68,12 +73,12 @@ pub fn run<S: Source, K: Sink, N: Sink, C: Clock>(
     // `soak` reads nothing.
     ensures sourceless { (seed : ℕ) → AskFor words.now (Command.Soak seed) → source.new ≡ source.old }
 
-    // `replay` and `soak` write at the end: elsewhere they write nothing.
+    // `replay`, `soak` and `life` write at the end: elsewhere they write nothing.
     ensures whole { ¬ AskForStream words.now → ¬ AskForNode words.now → result ≢ Status.Done → result ≢ Status.TooLate → result ≢ Status.WriteFault → sink.new ≡ sink.old }
 
     // What ran is left after `replay`, `node` and `soak`: where they are done, and where it is too late.
     ensures nothing { result ≢ Status.Done → result ≢ Status.TooLate → ran.new ≡ ran.old }
-    ensures no_network { AskForStream words.now → ran.new ≡ ran.old }
+    ensures no_network { AskForStream words.now ⊎ AskForLife words.now → ran.new ≡ ran.old }
 
     // The notes are those of the status, and no others.
     ensures noted { HasNote result (Says (N.written notes.old) (N.written notes.new) (N.faults notes.old) (N.faults notes.new)) }
@@ -89,6 +94,7 @@ pub fn run<S: Source, K: Sink, N: Sink, C: Clock>(
             run_node(alloc, &declared, source, sink, notes, clock, ran)
         }
         Some(Command::Soak { seed }) => soak(alloc, seed, sink, notes, ran),
+        Some(Command::Life { settings }) => life_of_file(alloc, settings, source, sink, notes),
         Some(Command::Ip { gateway }) => ip_over_stream(alloc, gateway, source, sink, notes),
         None => {
             say(notes, USAGE);

@@ -1,4 +1,4 @@
-use Rattle.std.proofs.Common.{rules, ◌≡◌, ◌∙◌, ap, subst, None, Some}
+use Rattle.std.proofs.Common.{rules, ◌≡◌, ◌∙◌, inl, inr, refl, ap, subst, None, Some}
 use Rattle.std.specs.Io.KnownBytes.{Appends}
 use Rattle.net_replay.specs.Circuits.{IsVerdictOn}
 use Rattle.net_replay.specs.Lines.{world}
@@ -7,24 +7,25 @@ use Rattle.node_cmd.proofs.Verdicts.{few_many, late_none, none_late}
 use Rattle.node_cmd.proofs.outcomes.print_network.Goals as goal
 
 -- the file's first bad line is the one that the note names
-pub returns-in-Ok-bad_line_note-clause-ends : goal.returns-in-Ok-bad_line_note-clause-ends
-returns-in-Ok-bad_line_note-clause-ends g c =
+pub returns-in-Err-BadLine-clause-ends : goal.returns-in-Err-BadLine-clause-ends
+returns-in-Err-BadLine-clause-ends g c =
     let bad = rw c.in-Err-BadLine.field-0-is at c.in-Err-BadLine.ensures.err in
-    let spelled = c.deref.ensures ∙ c.in-Ok-bad_line_note.ensures in
-    record {
-      done = search rules;
-      late = search rules;
-      done_comes = λ n _. absurd (cc (bad, n.1));
-      late_comes = λ n _. absurd (cc (bad, n.1));
-      too_long = search rules;
-      too_long_comes = λ n. absurd (cc (bad, n.1));
-      bad_file = λ _. ((c.in-Err-BadLine.line, c.in-Err-BadLine.what), bad, rw (← spelled) c.say.ensures);
-      bad_file_comes = search rules;
-      write_fault = search rules;
-      write_front = search rules;
-      write_same = search rules;
-      others = search rules;
-    }
+    elim c.refuse_line.ensures.status [
+      | inl is ↦ record {
+        done = search rules;
+        late = search rules;
+        done_comes = λ n _. absurd (cc (bad, n.1));
+        late_comes = λ n _. absurd (cc (bad, n.1));
+        too_long = search rules;
+        too_long_comes = λ n. absurd (cc (bad, n.1));
+        bad_file = λ _. ((c.in-Err-BadLine.line, c.in-Err-BadLine.what), bad, c.refuse_line.ensures.noted is _ refl);
+        bad_file_comes = search rules;
+        write_fault = search rules;
+        write_front = search rules;
+        write_same = search rules;
+        others = search rules;
+      }
+      | inr is ↦ search rules ]
 
 -- nothing came back too late
 pub returns-in-None-clause-ends : goal.returns-in-None-clause-ends

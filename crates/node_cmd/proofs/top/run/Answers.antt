@@ -1,8 +1,8 @@
 use Rattle.std.proofs.Common.{◌≡◌, inl, inr, refl}
 use Rattle.ax_ip.specs.Machine.{state}
-use Rattle.node_cmd.specs.declared.words.Command.TheVariants.{Replay, Frames, Soak, Node, Ip}
-use Rattle.node_cmd.specs.Words.{size_of}
-use Rattle.node_cmd.proofs.Commands.{no_stream, one_declared, one_gateway, one_modulus, one_seed, other}
+use Rattle.node_cmd.specs.declared.words.Command.TheVariants.{Replay, Frames, Soak, Life, Node, Ip}
+use Rattle.node_cmd.specs.FrameModuli.{size_of}
+use Rattle.node_cmd.proofs.Commands.{one_declared, one_gateway, one_life, one_modulus, one_seed, other, runs_one}
 use Rattle.node_cmd.proofs.NodeEnding.{never_usage}
 use Rattle.node_cmd.proofs.top.run.Goals as goal
 
@@ -21,6 +21,13 @@ returns-in-Some-Soak-clause-soak g c = λ seed asked.
     let found = rw c.in-Some-Soak.field-0-is at c.in-Some-Soak.ensures.found in
     let same : c.in-Some-Soak.seed ≡ seed = one_seed c.args.words.now c.in-Some-Soak.seed seed found asked in
     rw (← same) c.soak.ensures.ends
+
+-- words give the settings of one life
+pub returns-in-Some-Life-clause-life : goal.returns-in-Some-Life-clause-life
+returns-in-Some-Life-clause-life g c = λ s asked.
+    let found = rw c.in-Some-Life.field-0-is at c.in-Some-Life.ensures.found in
+    let same : c.in-Some-Life.settings ≡ s = one_life c.args.words.now c.in-Some-Life.settings s found asked in
+    rw (← same) c.life_of_file.ensures.ends
 
 -- words declare one node
 pub returns-in-Some-Node-clause-node : goal.returns-in-Some-Node-clause-node
@@ -44,6 +51,9 @@ returns-in-Some-Replay-clause-frames g c = λ m asked. absurd (other c.args.word
 pub returns-in-Some-Replay-clause-soak : goal.returns-in-Some-Replay-clause-soak
 returns-in-Some-Replay-clause-soak g c = λ seed asked. absurd (other c.args.words.now Replay (Soak seed) refl (rw c.in-Some-Replay.field-0-is at c.in-Some-Replay.ensures.found) asked)
 
+pub returns-in-Some-Replay-clause-life : goal.returns-in-Some-Replay-clause-life
+returns-in-Some-Replay-clause-life g c = λ s asked. absurd (other c.args.words.now Replay (Life s) refl (rw c.in-Some-Replay.field-0-is at c.in-Some-Replay.ensures.found) asked)
+
 pub returns-in-Some-Replay-clause-node : goal.returns-in-Some-Replay-clause-node
 returns-in-Some-Replay-clause-node g c = λ declared asked. absurd (other c.args.words.now Replay (Node declared) refl (rw c.in-Some-Replay.field-0-is at c.in-Some-Replay.ensures.found) asked)
 
@@ -54,13 +64,16 @@ pub returns-in-Some-Replay-clause-sourceless : goal.returns-in-Some-Replay-claus
 returns-in-Some-Replay-clause-sourceless g c = λ seed asked. absurd (other c.args.words.now Replay (Soak seed) refl (rw c.in-Some-Replay.field-0-is at c.in-Some-Replay.ensures.found) asked)
 
 pub returns-in-Some-Replay-clause-no_network : goal.returns-in-Some-Replay-clause-no_network
-returns-in-Some-Replay-clause-no_network g c = λ asked. absurd (no_stream c.args.words.now Replay refl refl (rw c.in-Some-Replay.field-0-is at c.in-Some-Replay.ensures.found) asked)
+returns-in-Some-Replay-clause-no_network g c = λ asked. absurd (runs_one c.args.words.now Replay refl refl refl (rw c.in-Some-Replay.field-0-is at c.in-Some-Replay.ensures.found) asked)
 
 pub returns-in-Some-Frames-clause-replay : goal.returns-in-Some-Frames-clause-replay
 returns-in-Some-Frames-clause-replay g c = λ asked. absurd (other c.args.words.now (Frames c.in-Some-Frames.modulo) Replay refl (rw c.in-Some-Frames.field-0-is at c.in-Some-Frames.ensures.found) asked)
 
 pub returns-in-Some-Frames-clause-soak : goal.returns-in-Some-Frames-clause-soak
 returns-in-Some-Frames-clause-soak g c = λ seed asked. absurd (other c.args.words.now (Frames c.in-Some-Frames.modulo) (Soak seed) refl (rw c.in-Some-Frames.field-0-is at c.in-Some-Frames.ensures.found) asked)
+
+pub returns-in-Some-Frames-clause-life : goal.returns-in-Some-Frames-clause-life
+returns-in-Some-Frames-clause-life g c = λ s asked. absurd (other c.args.words.now (Frames c.in-Some-Frames.modulo) (Life s) refl (rw c.in-Some-Frames.field-0-is at c.in-Some-Frames.ensures.found) asked)
 
 pub returns-in-Some-Frames-clause-node : goal.returns-in-Some-Frames-clause-node
 returns-in-Some-Frames-clause-node g c = λ declared asked. absurd (other c.args.words.now (Frames c.in-Some-Frames.modulo) (Node declared) refl (rw c.in-Some-Frames.field-0-is at c.in-Some-Frames.ensures.found) asked)
@@ -80,6 +93,9 @@ returns-in-Some-Soak-clause-replay g c = λ asked. absurd (other c.args.words.no
 pub returns-in-Some-Soak-clause-frames : goal.returns-in-Some-Soak-clause-frames
 returns-in-Some-Soak-clause-frames g c = λ m asked. absurd (other c.args.words.now (Soak c.in-Some-Soak.seed) (Frames m) refl (rw c.in-Some-Soak.field-0-is at c.in-Some-Soak.ensures.found) asked)
 
+pub returns-in-Some-Soak-clause-life : goal.returns-in-Some-Soak-clause-life
+returns-in-Some-Soak-clause-life g c = λ s asked. absurd (other c.args.words.now (Soak c.in-Some-Soak.seed) (Life s) refl (rw c.in-Some-Soak.field-0-is at c.in-Some-Soak.ensures.found) asked)
+
 pub returns-in-Some-Soak-clause-node : goal.returns-in-Some-Soak-clause-node
 returns-in-Some-Soak-clause-node g c = λ declared asked. absurd (other c.args.words.now (Soak c.in-Some-Soak.seed) (Node declared) refl (rw c.in-Some-Soak.field-0-is at c.in-Some-Soak.ensures.found) asked)
 
@@ -87,7 +103,25 @@ pub returns-in-Some-Soak-clause-ip : goal.returns-in-Some-Soak-clause-ip
 returns-in-Some-Soak-clause-ip g c = λ gateway asked. absurd (other c.args.words.now (Soak c.in-Some-Soak.seed) (Ip gateway) refl (rw c.in-Some-Soak.field-0-is at c.in-Some-Soak.ensures.found) asked)
 
 pub returns-in-Some-Soak-clause-no_network : goal.returns-in-Some-Soak-clause-no_network
-returns-in-Some-Soak-clause-no_network g c = λ asked. absurd (no_stream c.args.words.now (Soak c.in-Some-Soak.seed) refl refl (rw c.in-Some-Soak.field-0-is at c.in-Some-Soak.ensures.found) asked)
+returns-in-Some-Soak-clause-no_network g c = λ asked. absurd (runs_one c.args.words.now (Soak c.in-Some-Soak.seed) refl refl refl (rw c.in-Some-Soak.field-0-is at c.in-Some-Soak.ensures.found) asked)
+
+pub returns-in-Some-Life-clause-replay : goal.returns-in-Some-Life-clause-replay
+returns-in-Some-Life-clause-replay g c = λ asked. absurd (other c.args.words.now (Life c.in-Some-Life.settings) Replay refl (rw c.in-Some-Life.field-0-is at c.in-Some-Life.ensures.found) asked)
+
+pub returns-in-Some-Life-clause-frames : goal.returns-in-Some-Life-clause-frames
+returns-in-Some-Life-clause-frames g c = λ m asked. absurd (other c.args.words.now (Life c.in-Some-Life.settings) (Frames m) refl (rw c.in-Some-Life.field-0-is at c.in-Some-Life.ensures.found) asked)
+
+pub returns-in-Some-Life-clause-soak : goal.returns-in-Some-Life-clause-soak
+returns-in-Some-Life-clause-soak g c = λ seed asked. absurd (other c.args.words.now (Life c.in-Some-Life.settings) (Soak seed) refl (rw c.in-Some-Life.field-0-is at c.in-Some-Life.ensures.found) asked)
+
+pub returns-in-Some-Life-clause-node : goal.returns-in-Some-Life-clause-node
+returns-in-Some-Life-clause-node g c = λ declared asked. absurd (other c.args.words.now (Life c.in-Some-Life.settings) (Node declared) refl (rw c.in-Some-Life.field-0-is at c.in-Some-Life.ensures.found) asked)
+
+pub returns-in-Some-Life-clause-ip : goal.returns-in-Some-Life-clause-ip
+returns-in-Some-Life-clause-ip g c = λ gateway asked. absurd (other c.args.words.now (Life c.in-Some-Life.settings) (Ip gateway) refl (rw c.in-Some-Life.field-0-is at c.in-Some-Life.ensures.found) asked)
+
+pub returns-in-Some-Life-clause-sourceless : goal.returns-in-Some-Life-clause-sourceless
+returns-in-Some-Life-clause-sourceless g c = λ seed asked. absurd (other c.args.words.now (Life c.in-Some-Life.settings) (Soak seed) refl (rw c.in-Some-Life.field-0-is at c.in-Some-Life.ensures.found) asked)
 
 pub returns-in-Some-Node-clause-replay : goal.returns-in-Some-Node-clause-replay
 returns-in-Some-Node-clause-replay g c = λ asked. absurd (other c.args.words.now (Node c.in-Some-Node.declared) Replay refl (rw c.in-Some-Node.field-0-is at c.in-Some-Node.ensures.found) asked)
@@ -98,6 +132,9 @@ returns-in-Some-Node-clause-frames g c = λ m asked. absurd (other c.args.words.
 pub returns-in-Some-Node-clause-soak : goal.returns-in-Some-Node-clause-soak
 returns-in-Some-Node-clause-soak g c = λ seed asked. absurd (other c.args.words.now (Node c.in-Some-Node.declared) (Soak seed) refl (rw c.in-Some-Node.field-0-is at c.in-Some-Node.ensures.found) asked)
 
+pub returns-in-Some-Node-clause-life : goal.returns-in-Some-Node-clause-life
+returns-in-Some-Node-clause-life g c = λ s asked. absurd (other c.args.words.now (Node c.in-Some-Node.declared) (Life s) refl (rw c.in-Some-Node.field-0-is at c.in-Some-Node.ensures.found) asked)
+
 pub returns-in-Some-Node-clause-ip : goal.returns-in-Some-Node-clause-ip
 returns-in-Some-Node-clause-ip g c = λ gateway asked. absurd (other c.args.words.now (Node c.in-Some-Node.declared) (Ip gateway) refl (rw c.in-Some-Node.field-0-is at c.in-Some-Node.ensures.found) asked)
 
@@ -105,7 +142,7 @@ pub returns-in-Some-Node-clause-sourceless : goal.returns-in-Some-Node-clause-so
 returns-in-Some-Node-clause-sourceless g c = λ seed asked. absurd (other c.args.words.now (Node c.in-Some-Node.declared) (Soak seed) refl (rw c.in-Some-Node.field-0-is at c.in-Some-Node.ensures.found) asked)
 
 pub returns-in-Some-Node-clause-no_network : goal.returns-in-Some-Node-clause-no_network
-returns-in-Some-Node-clause-no_network g c = λ asked. absurd (no_stream c.args.words.now (Node c.in-Some-Node.declared) refl refl (rw c.in-Some-Node.field-0-is at c.in-Some-Node.ensures.found) asked)
+returns-in-Some-Node-clause-no_network g c = λ asked. absurd (runs_one c.args.words.now (Node c.in-Some-Node.declared) refl refl refl (rw c.in-Some-Node.field-0-is at c.in-Some-Node.ensures.found) asked)
 
 pub returns-in-Some-Ip-clause-replay : goal.returns-in-Some-Ip-clause-replay
 returns-in-Some-Ip-clause-replay g c = λ asked. absurd (other c.args.words.now (Ip c.in-Some-Ip.gateway) Replay refl (rw c.in-Some-Ip.field-0-is at c.in-Some-Ip.ensures.found) asked)
@@ -115,6 +152,9 @@ returns-in-Some-Ip-clause-frames g c = λ m asked. absurd (other c.args.words.no
 
 pub returns-in-Some-Ip-clause-soak : goal.returns-in-Some-Ip-clause-soak
 returns-in-Some-Ip-clause-soak g c = λ seed asked. absurd (other c.args.words.now (Ip c.in-Some-Ip.gateway) (Soak seed) refl (rw c.in-Some-Ip.field-0-is at c.in-Some-Ip.ensures.found) asked)
+
+pub returns-in-Some-Ip-clause-life : goal.returns-in-Some-Ip-clause-life
+returns-in-Some-Ip-clause-life g c = λ s asked. absurd (other c.args.words.now (Ip c.in-Some-Ip.gateway) (Life s) refl (rw c.in-Some-Ip.field-0-is at c.in-Some-Ip.ensures.found) asked)
 
 pub returns-in-Some-Ip-clause-node : goal.returns-in-Some-Ip-clause-node
 returns-in-Some-Ip-clause-node g c = λ declared asked. absurd (other c.args.words.now (Ip c.in-Some-Ip.gateway) (Node declared) refl (rw c.in-Some-Ip.field-0-is at c.in-Some-Ip.ensures.found) asked)
@@ -155,6 +195,9 @@ returns-in-None-clause-frames g c = λ m asked. absurd (c.in-None.ensures.none (
 
 pub returns-in-None-clause-soak : goal.returns-in-None-clause-soak
 returns-in-None-clause-soak g c = λ seed asked. absurd (c.in-None.ensures.none (Soak seed) asked)
+
+pub returns-in-None-clause-life : goal.returns-in-None-clause-life
+returns-in-None-clause-life g c = λ s asked. absurd (c.in-None.ensures.none (Life s) asked)
 
 pub returns-in-None-clause-node : goal.returns-in-None-clause-node
 returns-in-None-clause-node g c = λ declared asked. absurd (c.in-None.ensures.none (Node declared) asked)
