@@ -1,0 +1,95 @@
+//! Calls compared and hashed. Six characters are compared one by one: to search them in groups, as what is derived does, takes longer
+//! to begin than that.
+ghost use Rattle.std.specs.Prelude.{◌≡◌, ◌∷◌, [], Some, nat_eq, refl};
+ghost use Rattle.std.specs.Cmp.{and_equiv, and_per, both_tied, on_equiv, on_per, on_total, partial_equiv_from_equiv, nat_eq_equiv, nat_cmp_total, then_total, unsigned_Decides, unsigned_ties, partial_order_from_agreeing_total};
+ghost use Rattle.std.specs.Cmp.Lexicographic.{bytes_decides, nat_list_cmp_total, nat_list_eq_equiv, pointwise, slice_cmp, texts_ties};
+ghost use Rattle.std.specs.Ordering.{nat_cmp};
+ghost use Rattle.std.specs.Hash.{and-Alike, on_Alike, same_Alike};
+ghost use Rattle.ax_address.specs.CallOrder.{call_cmp, call_writes, same_call};
+
+use crate::Call;
+use std::cmp::Ordering;
+use std::hash::{Hash, Hasher};
+
+impl PartialEq for Call {
+    ghost eq = { same_call };
+
+    ghost laws = { and_per (on_per (λ c. c.letters) (partial_equiv_from_equiv nat_list_eq_equiv)) (on_per (λ c. c.ssid) (partial_equiv_from_equiv nat_eq_equiv)) };
+
+    #[inline]
+    fn eq(&self, other: &Call) -> bool {
+        self.ssid == other.ssid && are_same(&self.letters, &other.letters)
+    }
+}
+
+impl Eq for Call {
+    ghost laws = { and_equiv (on_equiv (λ c. c.letters) nat_list_eq_equiv) (on_equiv (λ c. c.ssid) nat_eq_equiv) };
+}
+
+impl PartialOrd for Call {
+    ghost partial_cmp = { λ a b. Some (call_cmp a b) };
+
+    ghost laws = { partial_order_from_agreeing_total call_cmp (then_total (on_total (λ c. c.letters) nat_list_cmp_total) (on_total (λ c. c.ssid) nat_cmp_total)) (λ a b. refl)
+        (λ a b. both_tied _ _ _ _ (texts_ties a.letters b.letters) (unsigned_ties a.ssid b.ssid)) };
+
+    fn partial_cmp(&self, other: &Call) -> Option<Ordering> {
+        Some(self.cmp(other))
+    }
+}
+
+impl Ord for Call {
+    ghost cmp = { call_cmp };
+
+    ghost total = { then_total (on_total (λ c. c.letters) nat_list_cmp_total) (on_total (λ c. c.ssid) nat_cmp_total) };
+
+    ghost matches_partial_cmp = { λ a b. refl };
+
+    ghost matches_eq = { λ a b. both_tied _ _ _ _ (texts_ties a.letters b.letters) (unsigned_ties a.ssid b.ssid) };
+
+    fn cmp(&self, other: &Call) -> Ordering {
+        match order(&self.letters, &other.letters) {
+            Ordering::Equal => self.ssid.cmp(&other.ssid),
+            unequal => unequal,
+        }
+    }
+}
+
+impl Hash for Call {
+    ghost hash_input = { call_writes };
+
+    ghost respects_eq = { (and-Alike (on_Alike (λ c. c.letters) (same_Alike (λ letters. letters ∷ []) bytes_decides)) (on_Alike (λ c. c.ssid) (same_Alike (λ ssid. (ssid ∷ []) ∷ []) unsigned_Decides))).fed };
+
+    fn hash<H: Hasher>(&self, state: &mut H) {
+        state.write(&self.letters);
+        state.write_u8(self.ssid);
+    }
+}
+
+/// Whether these characters are the same.
+#[inline]
+fn are_same(a: &[u8], b: &[u8]) -> bool
+    ensures { result ≡ pointwise nat_eq a.now b.now }
+{
+    match (a, b) {
+        ([], []) => true,
+        ([x, a @ ..], [y, b @ ..]) => *x == *y && are_same(a, b),
+        _ => false,
+    }
+}
+
+/// The order of these characters: the first two that differ decide.
+#[inline]
+#[tactic(auto, using(crate::proofs::Comparing::longer))]
+fn order(a: &[u8], b: &[u8]) -> Ordering
+    ensures { result ≡ slice_cmp nat_cmp a.now b.now }
+{
+    match (a, b) {
+        ([], []) => Ordering::Equal,
+        ([], [_, ..]) => Ordering::Less,
+        ([_, ..], []) => Ordering::Greater,
+        ([x, a @ ..], [y, b @ ..]) => match x.cmp(y) {
+            Ordering::Equal => order(a, b),
+            unequal => unequal,
+        },
+    }
+}
