@@ -1,6 +1,5 @@
 //! The text of a frame, as `frames` and the report show it (this project's profile).
 ghost use Rattle.std.specs.Prelude.{◌≡◌, ◌<◌, ◌≤◌, ◌+◌, ◌*◌, ◌++◌, ◌∷◌, [], ℕ, length, OnOk, OnErr, IfOk};
-ghost use Rattle.std.specs.Fmt.{decimal};
 ghost use Rattle.std.specs.List.{flat_map};
 ghost use Rattle.radio_base.specs.Text.{hex_digit};
 ghost use Rattle.ax_frame.specs.Frames.{view};
@@ -10,8 +9,7 @@ use crate::control::Format;
 use crate::{Control, FrameView, Head, is_command};
 use arrayvec::ArrayString;
 use ax_address::Address;
-use itoa::Buffer;
-use radio_base::{NoMemory, TextOut};
+use radio_base::{NoMemory, TextOut, push_decimal};
 
 /// Room for the longest text of a frame.
 type Line = ArrayString<202>;
@@ -125,19 +123,6 @@ fn push_info(control: &Control, len: usize, line: &mut Line)
     if control.takes_info() {
         line.push_str(" len=");
         push_decimal(len, line);
-    }
-}
-
-#[tactic(auto, using(std::proofs::lemmas::Fmt::decimal_digit))]
-fn push_decimal(number: usize, line: &mut Line)
-    requires { length line.old.bytes + 20 ≤ 202 }
-    ensures text { line.new.bytes ≡ line.old.bytes ++ decimal number }
-    ensures len { length line.new.bytes ≤ length line.old.bytes + 20 }
-{
-    if number < 10 {
-        line.push((b'0' + number as u8) as char);
-    } else {
-        line.push_str(Buffer::new().format(number));
     }
 }
 
