@@ -2,3 +2,4 @@ pub mod Numbers
 pub mod Cuts
 pub mod KeyRanges
 pub mod Fitting
+pub mod Marks

@@ -15,7 +15,7 @@ mod words;
 
 pub use limits::MAX_NODES;
 pub use network::{Network, NumberedInstruction, read_network};
-pub use plan::channels::{Channel, can_hear, is_on_air};
+pub use plan::channels::{Channel, can_hear, heard_by, is_on_air};
 pub use plan::declarations::Declaration;
 pub use plan::instructions::Instruction;
 pub use plan::keys::{Key, Setting};
