@@ -24,3 +24,4 @@ pub mod Stepping
 pub mod Leaving
 pub mod Hearing
 pub mod Safety
+pub mod Sharp

@@ -99,3 +99,12 @@ SetUpsCross =
     let w : Life = run (new_life 8 false 1000) (set_ups_cross p) in
     (epochs w.a ≡ record { given = p ∷ []; received = []; acked = 1; heard = 1 ∷ [] } ∷ [])
     × (epochs w.b ≡ record { given = []; received = p ∷ []; acked = 0; heard = 1 ∷ [] } ∷ [])
+
+-- With delays of half of T1 lives aren't safe: the answer to a set-up command comes as the command goes out again. It opens one end, and
+-- what that end sends then is heard by the epoch to which the second command has reset the other.
+abbrev pub late_answer : Payload → List LifeAct
+late_answer p =
+    At A SetUp ∷ Tick 1500 ∷ At B Arrive ∷ Tick 1500 ∷ At A Arrive ∷ At B (Send p) ∷ At A Arrive ∷ At B Arrive ∷ At B Arrive ∷ []
+
+abbrev pub HalfIsTooLong : Type 0
+HalfIsTooLong = (p : Payload) → LifeSafe (run (new_life 8 false 1500) (late_answer p)) → ⊥

@@ -1,6 +1,7 @@
 use Rattle.std.proofs.Common.{refl}
 use Rattle.link_life.proofs.Known.{Known}
 use Rattle.link_life.proofs.Safety.{lives_are_safe}
+use Rattle.link_life.proofs.Sharp.{half_is_too_long}
 use Rattle.link_life.proofs.laws.life_safe.Goals as goal
 
 pub returns-clause-safe : goal.returns-clause-safe
@@ -28,3 +29,6 @@ returns-clause-reset c = λ p. (refl, refl)
 
 pub returns-clause-crossing : goal.returns-clause-crossing
 returns-clause-crossing c = λ p. (refl, refl)
+
+pub returns-clause-sharp : goal.returns-clause-sharp
+returns-clause-sharp c = half_is_too_long
