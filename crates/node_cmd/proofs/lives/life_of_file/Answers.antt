@@ -21,4 +21,5 @@ returns-in-Err-BadLine-clause-ends g c =
         write_same = search rules;
         others = search rules;
       }
-      | inr is ↦ search rules ]
+      | inr is ↦ search rules
+    ]

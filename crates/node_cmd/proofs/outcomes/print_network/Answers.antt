@@ -25,7 +25,8 @@ returns-in-Err-BadLine-clause-ends g c =
         write_same = search rules;
         others = search rules;
       }
-      | inr is ↦ search rules ]
+      | inr is ↦ search rules
+    ]
 
 -- nothing came back too late
 pub returns-in-None-clause-ends : goal.returns-in-None-clause-ends
