@@ -1,5 +1,5 @@
 -- A call of `pump`: what is untold, or what comes of the router.
-use Rattle.std.specs.Prelude.{◌≡◌, ℕ, List, [], ◌∷◌, Option, Some, None, Result, Ok, Err, IfOk, refl}
+use Rattle.std.specs.Prelude.{◌≡◌, ℕ, true, false, is_some, List, [], ◌∷◌, Option, Some, None, Result, Ok, Err, IfOk, refl}
 use Rattle.std.proofs.Common.{sym, ◌∙◌, ap, subst}
 use Rattle.std.proofs.lemmas.List.{append-nil}
 use Rattle.radio_base.specs.declared.errors.NoMemory.{NoMemory}
@@ -10,17 +10,21 @@ use Rattle.route_table.specs.Table.{next_hop}
 use Rattle.l3_datagram.specs.declared.carrier.Offered.{Offered}
 use Rattle.l3_datagram.specs.declared.carrier.Offered.TheVariants as offered
 use Rattle.l3_datagram.specs.declared.routed.Routed.{Routed}
-use Rattle.l3_datagram.specs.CarrierCall.{CarrierCall, Parcel}
+use Rattle.l3_datagram.specs.CarrierCall.{CarrierCall, Collect, Fail, Parcel}
 use Rattle.circuit_set.specs.declared.event.SetEvent.{SetEvent}
 use Rattle.circuit_set.specs.declared.event.SetEvent.TheVariants as event
 use Rattle.circuit_set.specs.declared.held_ends.HeldEnds.{HeldEnds}
 use Rattle.circuit_set.specs.declared.holder.Untold.{Untold}
 use Rattle.circuit_set.specs.Sets.{SetState, Told}
-use Rattle.circuit_set.specs.Pumps.{Dropped, Pumped, asks, at_rest, ends_with, pumped, tells_first, turned}
+use Rattle.circuit_set.specs.Pumps.{Dropped, Pumped, asks, at_rest, ends_with, is_empty, pumped, silent, tells_first, turned}
 use Rattle.circuit_set.specs.Standing.{Gives, HeldStands}
 use Rattle.circuit_set.specs.CircuitSets.{Circuits, DoesPump, Pumps, SetStands}
 use Rattle.circuit_set.specs.SetTurns.{Asks, Tells}
 use Rattle.circuit_set.proofs.Looping.{all_taken, firsts-taken}
+
+pub is_none_by : (o : Option Routed) → false ≡ is_some o → o ≡ None
+is_none_by None e = refl
+is_none_by (Some r) e = absurd (cc e)
 
 module _ {C : Type 0} (made : C → List CarrierCall → C → Type 0) (none_made : (c : C) → made c [] c) (old : Circuits C) (lost : List Callsign) (waiting : List Parcel) (now : ℕ) where
   -- what a sending came to
@@ -104,3 +108,33 @@ module _ {C : Type 0} (made : C → List CarrierCall → C → Type 0) (none_mad
       → IfOk result (Pumps made old new lost waiting now)
   asks_on new h left r (Ok told) e n is gives asked = asks_one new h left r told e n is gives asked
   asks_on new h left r (Err x) e n is gives asked = asked
+
+  -- nothing lies anywhere
+  empty_is : (ts : List Told) → is_empty ts ≡ true → ts ≡ []
+  empty_is [] e = refl
+  empty_is (t ∷ ts) e = absurd (cc e)
+
+  idle_case : (nh : Callsign → Option Callsign) (s : SetState) (ts : List Told) (o : Option Routed) (ls : List Callsign) → ts ≡ [] → o ≡ None → ls ≡ []
+      → ends_with (Fail None ∷ Collect None ∷ []) (silent (at_rest s)) ≡ pumped nh now (record { set = s; untold = ts; lost = o }) ls [] offered.Taken
+  idle_case nh s (t ∷ ts) o ls e f g = absurd (cc e)
+  idle_case nh s [] (Some r) ls e f g = absurd (cc f)
+  idle_case nh s [] None (l ∷ ls) e f g = absurd (cc g)
+  idle_case nh s [] None [] e f g = refl
+
+  pub tells_nothing : lost ≡ [] → waiting ≡ [] → made old.router.carrier (Fail None ∷ Collect None ∷ []) old.router.carrier → old.lost ≡ None
+      → ((s : SetState) (ts : List Told) → HeldStands old.held s ts → is_empty ts ≡ true) → Pumps made old old lost waiting now None
+  tells_nothing l w asked n quiet = (
+    [],
+    offered.Taken,
+    sym w,
+    λ log at stands st.
+        let nh = next_hop old.router.table.rules log in
+        let none : at.untold ≡ [] = empty_is at.untold (quiet at.set at.untold st.ends) in
+        let done : DoesPump made old old log None (ends_with (Fail None ∷ Collect None ∷ []) (silent (at_rest at.set))) = record {
+          told = refl;
+          calls = asked;
+          table = subst (λ (items : List Item). StandsFor old.router.table items) (sym (append-nil log)) stands;
+          stands = record { ends = subst (HeldStands old.held at.set) none st.ends; own = st.own; ttl = st.ttl; lost = sym n; unspent = st.unspent };
+        } in
+        subst (λ (p : Pumped). DoesPump made old old log None p) (idle_case nh at.set at.untold at.lost lost none (st.lost ∙ n) l) done,
+  )

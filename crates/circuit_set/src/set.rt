@@ -158,6 +158,20 @@ impl<C: Carrier> CircuitSet<C> {
         told
     }
 
+    /// Whether nothing is untold and nothing lies at the router: `pump` would answer None, and change nothing.
+    pub fn is_idle(&self) -> bool
+        ensures pumps { result ≡ true → (now : ℕ) → Pumps C.made self.now self.now (C.lost self.now.router.carrier) (C.waiting self.now.router.carrier) now None }
+        ensures drained { result ≡ true → IsDrained self.now }
+    {
+        if self.spent || self.lost.is_some() {
+            return false;
+        }
+        if !self.router.is_idle() {
+            return false;
+        }
+        self.held.is_quiet()
+    }
+
     /// Tells what is untold, or else what comes of what lies at the router.
     fn go_on(&mut self, now: Moment) -> Result<Option<SetEvent>, NoMemory>
         ensures pumps { IfOk result (Pumps C.made self.old self.new (C.lost self.old.router.carrier) (C.waiting self.old.router.carrier) now.0) }

@@ -91,6 +91,10 @@ impl Carrier for PlainCarrier {
         None
     }
 
+    fn is_idle(&self) -> bool {
+        self.waiting.is_empty()
+    }
+
     ghost none_made = { λ _. refl };
 
     ghost more_made = { more_made };

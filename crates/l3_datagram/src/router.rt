@@ -1,5 +1,5 @@
 //! The routing step of a node (NET/ROM, Appendix B, level 3).
-ghost use Rattle.std.specs.Prelude.{◌≡◌, ◌≤◌, ◌↔◌, drop, length, IfOk, IsErr, IsTrue, false, [], ◌∷◌};
+ghost use Rattle.std.specs.Prelude.{◌≡◌, ◌≤◌, ◌↔◌, drop, length, IfOk, IsErr, IsTrue, true, false, None, [], ◌∷◌};
 ghost use Rattle.std.specs.Borrow.{Lends, sem};
 
 use crate::datagram::{datagram_of, with_ttl};
@@ -35,7 +35,7 @@ impl<C> Model for Router<C> {
 
 impl<C: Carrier> Router<C> {
     ghost use Rattle.l3_datagram.specs.Routers.{Routing, Routes, Pumps, Sends, SameRouter, HandsUp, MineIsFor, NoneWhereEmpty, TellsLost, waiting_left};
-    ghost use Rattle.l3_datagram.specs.CarrierCall.{Offer};
+    ghost use Rattle.l3_datagram.specs.CarrierCall.{Collect, Fail, Offer};
     ghost use Rattle.l3_datagram.specs.Datagrams.{datagram_with};
     ghost use Rattle.l3_datagram.specs.contracts.router.Router.{the_row};
     ghost use Rattle.route_table.specs.contracts.table.RouteTable.{the_row as table_row};
@@ -111,6 +111,15 @@ impl<C: Carrier> Router<C> {
                 Ok(Some(routed))
             }
         }
+    }
+
+    /// Whether there is nothing to take: `pump` would answer None, and change nothing.
+    pub fn is_idle(&self) -> bool
+        ensures lost { result ≡ true → C.lost self.now.carrier ≡ [] }
+        ensures waiting { result ≡ true → C.waiting self.now.carrier ≡ [] }
+        ensures made { result ≡ true → C.made self.now.carrier (Fail None ∷ Collect None ∷ []) self.now.carrier }
+    {
+        self.carrier.is_idle()
     }
 
     /// The routing step: what becomes of a datagram that came.

@@ -6,6 +6,7 @@ mod entry;
 mod held_links;
 pub mod laws;
 mod link_of;
+mod octets;
 mod offer_calls;
 mod offers;
 mod path_refusal;
@@ -21,6 +22,7 @@ mod work;
 mod written;
 
 pub use link_of::LinkOf;
+pub use octets::Octets;
 pub use path_refusal::PathRefusal;
 pub use table::LinkTable;
 pub use text_refusal::TextRefusal;

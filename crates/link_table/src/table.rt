@@ -200,6 +200,16 @@ impl LinkTable {
         self.core.texts()
     }
 
+    /// The first of these peers.
+    pub fn first_text(&self) -> Option<Call>
+        ensures { (t : Table) → TableStands self.now t → result ≡ slice_get (texts.text_peers t.links) 0 }
+    {
+        if self.spent {
+            return None;
+        }
+        self.core.first_text()
+    }
+
     /// How many payloads the link with a peer would still accept: 0 where no link stands that accepts any.
     pub fn room(&self, peer: &Call) -> usize
         ensures { (t : Table) → TableStands self.now t → result ≡ texts.room peer.now t }
@@ -310,6 +320,10 @@ impl Carrier for LinkTable {
 
     fn failed(&mut self) -> Option<Call> {
         self.core.pending.lost.pop_front()
+    }
+
+    fn is_idle(&self) -> bool {
+        self.core.pending.lost.is_empty() && self.core.pending.waiting.is_empty()
     }
 
     ghost none_made = { λ c t s. (tt, s) };

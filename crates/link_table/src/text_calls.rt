@@ -1,11 +1,12 @@
 //! Texts at the links of a node: where they wait, and taking them (the PIDs: AX.25 2.2, section 3.4).
 ghost use Rattle.std.specs.Prelude.{◌≡◌, ◌<◌, ◌++◌, ◌∷◌, [], Some, OnOk, if◌then◌else◌, is_some, length, slice_get, true};
-ghost use Rattle.link_table.specs.Standing.{text_in};
+ghost use Rattle.link_table.specs.Standing.{text_in, text_keys};
 
 use crate::entry::Entry;
 use crate::held_links::HeldLinks;
 use arrayvec::ArrayVec;
 use ax_address::Call;
+use indexmap::map::Slice;
 use l3_datagram::Message;
 use radio_base::{Moment, NoMemory};
 
@@ -13,7 +14,7 @@ impl HeldLinks {
     ghost use Rattle.ax_address.specs.Callsign.{Callsign};
     ghost use Rattle.link_table.specs.declared.entry.Entry.{Entry};
     ghost use Rattle.link_table.specs.Calls.{at_link};
-    ghost use Rattle.link_table.specs.Standing.{CoreGoes, Rests, room_at, text_at, text_keys};
+    ghost use Rattle.link_table.specs.Standing.{CoreGoes, Rests, room_at, text_at};
     ghost use Rattle.link_table.specs.Texts.{take_text_of};
 
     /// Whether a text waits at the link with a peer.
@@ -36,6 +37,13 @@ impl HeldLinks {
             self.add_text_at(at, &mut peers);
         }
         peers
+    }
+
+    /// The first peer at whose link a text waits.
+    pub(crate) fn first_text(&self) -> Option<Call>
+        ensures { result ≡ slice_get (text_keys self.now.links.entries) 0 }
+    {
+        first_text(self.links.as_slice())
     }
 
     /// Names the peer of this link where a text waits at it.
@@ -79,6 +87,20 @@ impl HeldLinks {
         self.drop_if_down(peer);
         Ok(())
     }
+}
+
+/// The first peer of these links at which a text waits.
+fn first_text(links: Slice<'_, Call, Entry>) -> Option<Call>
+    ensures { result ≡ slice_get (text_keys links.entry) 0 }
+{
+    let mut rest = links;
+    while let Some(((peer, entry), later)) = rest.split_first() {
+        if entry.text_waits() {
+            return Some(*peer);
+        }
+        rest = later;
+    }
+    None
 }
 
 /// Names the peer where a text waits at its link.

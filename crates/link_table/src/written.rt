@@ -2,7 +2,7 @@
 ghost use Rattle.std.specs.Prelude.{◌≡◌};
 ghost use Rattle.link_table.specs.Fetching as fetching;
 
-use ax_frame::FrameBytes;
+use crate::Octets;
 use radio_base::Modulus;
 
 /// How a frame was written in octets. The octets alone don't tell it.
@@ -33,6 +33,6 @@ impl WrittenAs {
 #[derive(Debug, Drop, PartialEq, Eq)]
 pub struct Written {
     /// From the first address octet to the last one of the information.
-    pub octets: FrameBytes,
+    pub octets: Octets,
     pub how: WrittenAs,
 }

@@ -99,15 +99,15 @@ fn carry(from: &mut Node, to: &mut Node) -> Result<bool, NoMemory> {
             return Ok(some);
         };
         some = true;
-        to.kiss_bytes(kiss(&written.octets).as_slice(), NOW)?;
+        to.kiss_bytes(kiss(written.octets.as_slice()).as_slice(), NOW)?;
         let _ = fetched_entries(to);
     }
     Ok(some)
 }
 
-fn kiss(octets: &FrameBytes) -> Kiss {
+fn kiss(octets: &[u8]) -> Kiss {
     let mut bytes = Kiss::new();
-    let _ = enframe(0, 0, octets.as_slice(), &mut bytes);
+    let _ = enframe(0, 0, octets, &mut bytes);
     bytes
 }
 
@@ -140,7 +140,7 @@ fn between_others() -> Kiss {
         pf: false,
     };
     let _ = write_frame::<M8>(&head, &control, Some(0xF0), &[b'x'; 200], &mut octets);
-    kiss(&octets)
+    kiss(octets.as_slice())
 }
 
 /// A broadcast of another node.
@@ -148,7 +148,7 @@ fn broadcast(alloc: Global) -> Result<Kiss, NoMemory> {
     let mut other = Node::new(alloc, config(OTHER))?;
     let _ = other.act(&UserAct::Round, NOW);
     match other.next_frame() {
-        Some(written) => Ok(kiss(&written.octets)),
+        Some(written) => Ok(kiss(written.octets.as_slice())),
         None => Ok(Kiss::new()),
     }
 }
@@ -158,7 +158,7 @@ fn to_the_node() -> Kiss {
     let mut octets = FrameBytes::new();
     let head = head(OWN, STRANGER);
     let _ = write_frame::<M8>(&head, &Control::Disc { pf: true }, None, &[], &mut octets);
-    kiss(&octets)
+    kiss(octets.as_slice())
 }
 
 fn head(dest: u8, source: u8) -> Head {

@@ -167,6 +167,10 @@ impl Carrier for Failing {
         self.lost.take()
     }
 
+    fn is_idle(&self) -> bool {
+        self.lost.is_none()
+    }
+
     ghost none_made = { λ _. tt };
 
     ghost more_made = { λ _ _ _ _ _ _ _. tt };

@@ -1,13 +1,13 @@
 -- The entries of a node, told one after another.
 use Rattle.std.proofs.Common.{◌≡◌, ◌++◌, ◌∙◌, ℕ, refl, sym, ap, List, [], ◌∷◌, map, drop, append_assoc, append-nil}
-use Rattle.std.specs.Prelude.{Option, Some, None, slice_get, slice_set}
+use Rattle.std.specs.Prelude.{Option, Some, None, false, is_some, slice_get, slice_set}
 use Rattle.node_core.specs.States as states
 use Rattle.node_core.specs.States.{NodeState}
 use Rattle.net_replay.specs.Events.{Entry, NumberedEvent}
 use Rattle.net_replay.specs.Running.{all_entries, all_entries_of, change, change_of, entry_events, fetched_entry, first_entry}
 use Rattle.net_replay.specs.Starting.{Placed}
 use Rattle.net_replay.specs.World.{Input, World, after, all_told, numbered, reach, reaches, tell}
-use Rattle.net_replay.proofs.Placing.{set_same, set_twice}
+use Rattle.net_replay.proofs.Placing.{set_itself, set_same, set_twice}
 
 -- ---- what reaches a node, and then its entries
 
@@ -82,3 +82,26 @@ none_of_option line at v (Some p) first = none_case line at v p p.state.station.
 pub no_entry : (line at : ℕ) (v : World) → None ≡ first_entry (slice_get v.nodes at) → change at fetched_entry v ≡ all_entries line at v
 unfolding all_entries change
 no_entry line at v first = none_of_option line at v (slice_get v.nodes at) first
+
+-- ---- there is none
+
+pub none_by : (o : Option states.Entry) → false ≡ is_some o → None ≡ o
+none_by None e = refl
+none_by (Some x) e = absurd (cc)
+
+itself_case : (line at : ℕ) (v : World) (p : Placed) (es : List states.Entry) → slice_get v.nodes at ≡ Some p → p.state.station.entries ≡ es → None ≡ slice_get es 0
+    → all_entries_of line at (Some p) v ≡ v
+itself_case line at v p [] is entries first =
+    let told : all_told p.state ≡ p.state = ap (λ (xs : List states.Entry). record (p.state) { station = record (p.state.station) { entries = xs } }) (sym entries) in
+    ap (λ (xs : List states.Entry). tell line (map (Entry p.declared.node) xs) (record v { nodes = slice_set v.nodes at (record p { state = all_told p.state }) })) entries
+    ∙ (ap (λ (n : NodeState). tell line [] (record v { nodes = slice_set v.nodes at (record p { state = n }) })) told
+    ∙ (ap (λ (ns : List Placed). tell line [] (record v { nodes = ns })) (set_itself v.nodes at p is) ∙ ap (λ (ts : List NumberedEvent). record v { told = ts }) (append-nil v.told)))
+itself_case line at v p (e ∷ es) is entries first = absurd (cc)
+
+itself_of : (line at : ℕ) (v : World) (o : Option Placed) → slice_get v.nodes at ≡ o → None ≡ first_entry o → all_entries_of line at o v ≡ v
+itself_of line at v None is first = refl
+itself_of line at v (Some p) is first = itself_case line at v p p.state.station.entries is refl first
+
+pub none_to_tell : (line at : ℕ) (v : World) → None ≡ first_entry (slice_get v.nodes at) → all_entries line at v ≡ v
+unfolding all_entries
+none_to_tell line at v first = itself_of line at v (slice_get v.nodes at) refl first

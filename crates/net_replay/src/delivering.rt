@@ -1,5 +1,5 @@
 //! The lines on frames: they go to nodes, are lost, or go where they go by themselves.
-ghost use Rattle.std.specs.Prelude.{◌≡◌, ◌∷◌, [], OnOk, filter};
+ghost use Rattle.std.specs.Prelude.{◌≡◌, ◌∷◌, [], Some, OnOk, filter, slice_get};
 ghost use Rattle.network_file.specs.Channels.{can_hear, hearers};
 ghost use Rattle.net_replay.specs.Lines as lines;
 ghost use Rattle.net_replay.specs.Running.{GoesOn, Runs, course};
@@ -9,7 +9,7 @@ use crate::events::Event;
 use crate::kiss::put_kiss;
 use crate::moves::World;
 use crate::reasons::ReplayRefusal;
-use network_file::{Channel, can_hear};
+use network_file::{Channel, heard_by};
 use radio_base::NoMemory;
 
 impl World {
@@ -136,8 +136,9 @@ impl World {
     ) -> Result<(), ReplayRefusal>
         ensures { Runs (course self.old) (course self.new) (lines.deliver_all channels.now line at (hearers channels.now sender)) result }
     {
+        let heard = heard_by(channels, sender);
         for number in 1..17u8 {
-            self.deliver_if_heard(channels, line, at, sender, number)?;
+            self.deliver_if_heard(channels, line, at, sender, &heard, number)?;
         }
         Ok(())
     }
@@ -149,14 +150,15 @@ impl World {
         line: u32,
         at: usize,
         sender: u8,
+        heard: &[bool],
         number: u8,
     ) -> Result<(), ReplayRefusal>
+        requires { slice_get heard.now number ≡ Some (can_hear channels.now sender number) }
         ensures { Runs (course self.old) (course self.new) (lines.deliver_all channels.now line at (filter (can_hear channels.now sender) (number ∷ []))) result }
     {
-        if can_hear(channels, sender, number) {
-            self.deliver_at(channels, line, at, number)
-        } else {
-            Ok(())
+        match heard.get(number as usize) {
+            Some(true) => self.deliver_at(channels, line, at, number),
+            _ => Ok(()),
         }
     }
 

@@ -1,5 +1,5 @@
 //! The three moves of which every line is made: something reaches a node, events are told, a node's frames are put in the air.
-ghost use Rattle.std.specs.Prelude.{◌≡◌, ◌∷◌, [], ℕ, List, IfOk, IfSome, OnOk, length, slice_get, ◌<◌};
+ghost use Rattle.std.specs.Prelude.{◌≡◌, ◌∷◌, [], ℕ, List, is_some, IfOk, IfSome, OnOk, length, slice_get, ◌<◌};
 ghost use Rattle.std.specs.List.{position_or_len};
 ghost use Rattle.std.specs.Option.{option_map};
 ghost use Rattle.node_core.specs.Standing.{entry_of};
@@ -99,6 +99,29 @@ impl World {
 
     /// Tells what the node at a place has to tell.
     fn tell_entries(&mut self, line: u32, at: usize) -> Result<(), NoMemory>
+        ensures { OnOk result (GoesOn (course self.old) (course self.new) (running.all_entries line at)) }
+    {
+        // So it mostly is, and then no room is made for what could be told.
+        if !self.has_entries(at) {
+            return Ok(());
+        }
+        self.tell_all_entries(line, at)?;
+        Ok(())
+    }
+
+    /// Whether the node at a place has something to tell.
+    fn has_entries(&self, at: usize) -> bool
+        ensures { (w : worlds.World) → Stands (course self.now) w → result ≡ is_some (running.first_entry (slice_get w.nodes at)) }
+    {
+        if at < self.nodes.len() {
+            self.nodes[at].has_entries()
+        } else {
+            false
+        }
+    }
+
+    #[inline(never)]
+    fn tell_all_entries(&mut self, line: u32, at: usize) -> Result<(), NoMemory>
         ensures { OnOk result (GoesOn (course self.old) (course self.new) (running.all_entries line at)) }
     {
         while let Some(entry) = self.next_entry(at) {

@@ -57,18 +57,19 @@ fn add_frames(node: &mut Node, text: &mut TextOut) -> Result<(), NoMemory>
     ensures grows { OnOk result ((more : List ℕ) × (text.new ≡ text.old ++ more)) }
 {
     node_core::laws::fetching_empties();
+    let mut bytes = KissBytes::new();
     while let Some(frame) = node.next_frame() {
-        add_frame(&frame, text)?;
+        add_frame(&frame, &mut bytes, text)?;
     }
     Ok(())
 }
 
-/// Adds a frame as KISS bytes: data on port 0.
-fn add_frame(frame: &Written, text: &mut TextOut) -> Result<(), NoMemory>
+/// Adds a frame as KISS bytes: data on port 0. The same room serves one frame after another.
+fn add_frame(frame: &Written, bytes: &mut KissBytes, text: &mut TextOut) -> Result<(), NoMemory>
     ensures { OnOk result (text.new ≡ text.old ++ live.kiss_of_frame frame.now) }
 {
-    let mut bytes = KissBytes::new();
-    let _ = enframe(0, 0, frame.octets.as_slice(), &mut bytes);
+    bytes.clear();
+    let _ = enframe(0, 0, frame.octets.as_slice(), bytes);
     text.octets(bytes.as_slice())
 }
 

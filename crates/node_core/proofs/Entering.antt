@@ -1,6 +1,6 @@
 -- Notices that are entered one by one.
 use Rattle.std.proofs.Common.{◌≡◌, ◌+◌, ◌++◌, ◌∙◌, ℕ, refl, sym, ap, arith, append_assoc, append-nil, drop, List, [], ◌∷◌, length, length-append, map, slice_get}
-use Rattle.std.specs.Prelude.{nat_lt, Some, None}
+use Rattle.std.specs.Prelude.{nat_lt, not, is_some, ◌==◌, Some, None}
 use Rattle.std.proofs.lemmas.Bool.Decides.{nat_tests}
 use Rattle.std.proofs.lemmas.List.{length-map}
 use Rattle.ax_address.specs.Callsign.{Callsign}
@@ -74,3 +74,13 @@ told_by_length old new n m a b h g e f =
     let before : a ≡ length n.entries = e ∙ (sym (length-map old.entries.items entry_of) ∙ ap length h.queues.entries) in
     let grown : b ≡ length m.entries = f ∙ (sym (length-map new.entries.items entry_of) ∙ ap length g.queues.entries) in
     rw (before, grown) refl
+
+-- whether there is something to tell, by how much there is
+first_is : (es : List Entry) → not (length es == 0) ≡ is_some (slice_get es 0)
+first_is [] = refl
+first_is (e ∷ es) = grind (arith, nat_tests)
+
+pub some_entries : (s : Station) (n : State) (many : ℕ) → Holds s n → many ≡ length s.entries.items → not (many == 0) ≡ is_some (slice_get n.entries 0)
+some_entries s n many h e =
+    let same : many ≡ length n.entries = e ∙ (sym (length-map s.entries.items entry_of) ∙ ap length h.queues.entries) in
+    ap (λ k. not (k == 0)) same ∙ first_is n.entries

@@ -1,5 +1,5 @@
 -- What the code keeps after a call of `pump`.
-use Rattle.std.proofs.Common.{◌≡◌, ◌++◌, ◌∙◌, ℕ, sym, ap, subst, List, [], ◌∷◌, append-nil, map}
+use Rattle.std.proofs.Common.{◌≡◌, ◌++◌, ◌∙◌, ℕ, refl, sym, ap, subst, List, [], ◌∷◌, append-nil, map}
 use Rattle.std.specs.Prelude.{Option, Some, None}
 use Rattle.std.specs.Option.{option_map}
 use Rattle.circuit_set.specs.CircuitSets.{Circuits, DoesPump, Pumps}
@@ -82,3 +82,11 @@ pumped_is now n q told leads =
     leads ∙ (ap (λ (o : Option SetTold). pumped_on now o (after_call q n)) (sym told)
     ∙ (ap (λ (o : Option SetTold). record (called q n) { entries = n.entries ++ told_entries o; sessions = hear_if n.settings.prompt o n.sessions }) (sym told)
     ∙ ap (λ (es : List Entry). record (called q n) { entries = es }) (append-nil n.entries)))
+
+-- nothing lies anywhere, so that nothing is told and all stays
+pub nothing_lies : OffersLeave → TakesLower → TellsLess → (now : ℕ) (s : Station) (n : State) → Holds s n
+    → Pumps Made s.set s.set s.set.router.carrier.lost s.set.router.carrier.waiting now None → Holds s (pump now n)
+nothing_lies offers takes less now s n h p =
+    let same : SameRouter s.set.router s.set.router = record { own = refl; ttl = refl; node = record { own = refl; rules = refl } } in
+    let x = was_called offers takes less now s s.set n None h same p in
+    subst (Holds s) (sym (pumped_is now n x.q x.told x.leads)) x.holds

@@ -45,3 +45,4 @@ pub mod Faithful
 pub mod Reached
 mod FirstLine
 mod Seeing
+pub mod Passing

@@ -1,5 +1,6 @@
 //! Broadcasts as frames (NET/ROM, Appendix B).
 ghost use Rattle.std.specs.Prelude.{◌≡◌, ◌≤◌, ◌*◌, length};
+ghost use Rattle.ax_address.specs.CallOrder.{same_call};
 ghost use Rattle.ax_frame.specs.Frames.{view as frame_of};
 ghost use Rattle.nodes_broadcast.specs.Nodes.{view};
 ghost use Rattle.node_core.specs.Broadcasts as broadcasts;
@@ -20,12 +21,19 @@ fn nodes_call() -> Call
     }
 }
 
+/// A frame goes to all nodes, as a broadcast does.
+pub(crate) fn is_to_nodes(head: &Head) -> bool
+    ensures { result ≡ same_call head.now.dest.call broadcasts.nodes_call }
+{
+    head.dest.call == nodes_call()
+}
+
 /// A frame is a broadcast: UI to NODES with the PID of NET/ROM.
 pub(crate) fn is_broadcast(frame: &FrameView<'_>) -> bool
     ensures { result ≡ broadcasts.is_broadcast (frame_of frame.now) }
 {
     match frame.control {
-        Control::Ui { .. } => frame.pid == Some(NETROM_PID) && frame.head.dest.call == nodes_call(),
+        Control::Ui { .. } => frame.pid == Some(NETROM_PID) && is_to_nodes(&frame.head),
         _ => false,
     }
 }

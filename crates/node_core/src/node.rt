@@ -1,5 +1,5 @@
 //! A whole node.
-ghost use Rattle.std.specs.Prelude.{◌≡◌, ◌<◌, ◌≤◌, ◌↔◌, ◌++◌, ℕ, List, IfOk, IfSome, OnOk, OnErr, IsErr, IsErrOf, IsTrue, length, slice_get, take};
+ghost use Rattle.std.specs.Prelude.{◌≡◌, ◌<◌, ◌≤◌, ◌↔◌, ◌++◌, ℕ, List, IfOk, IfSome, OnOk, OnErr, IsErr, IsErrOf, IsTrue, is_some, length, slice_get, take};
 ghost use Rattle.std.specs.Option.{option_map};
 ghost use Rattle.ax_link.specs.State.{count_end};
 ghost use Rattle.link_table.specs.Calls as calls;
@@ -156,6 +156,13 @@ impl Node {
         ensures left { IfSome result (λ _. frames_left self.new < frames_left self.old) }
     {
         self.station.next_frame()
+    }
+
+    /// Whether it has something to tell.
+    pub fn has_entries(&self) -> bool
+        ensures { (n : NodeState) → NodeStands self.now n → result ≡ is_some (slice_get n.station.entries 0) }
+    {
+        !self.station.entries.is_empty()
     }
 
     /// The next thing that it has to tell, the oldest one. None where there is none.

@@ -1,8 +1,8 @@
 //! What comes in: KISS items, and the frames in them.
-ghost use Rattle.std.specs.Prelude.{◌≡◌, ◌≤◌, OnOk, bit_or, length, slice_index, slice_set, MatchResult, Ok, Err, if◌then◌else◌};
+ghost use Rattle.std.specs.Prelude.{◌≡◌, ◌≤◌, false, OnOk, bit_or, length, slice_index, slice_set, IsOkAnd, MatchResult, Ok, Err, if◌then◌else◌};
 ghost use Rattle.std.specs.List.{prefix_len};
 ghost use Rattle.ax_frame.specs.Frames.{view};
-ghost use Rattle.ax_frame.specs.Read.{read_at};
+ghost use Rattle.ax_frame.specs.Read.{read_at, read_head_at};
 ghost use Rattle.digi_path.specs.Paths.{action, has_repeated};
 ghost use Rattle.kiss_framing.specs.Feeding.{IsSmall};
 ghost use Rattle.nodes_broadcast.specs.Reading.{nodes_at};
@@ -13,13 +13,13 @@ ghost use Rattle.node_core.specs.States as states;
 ghost use Rattle.node_core.specs.States.{State};
 
 use crate::NodeEntry;
-use crate::broadcasts::is_broadcast;
+use crate::broadcasts::{is_broadcast, is_to_nodes};
 use crate::station::Station;
 use ax_address::{Address, Alias, Call, Entry};
 use ax_frame::{FrameBytes, FrameRefusal, FrameView, Head, read_frame, read_head};
 use digi_path::{DigiStep, step};
 use kiss_framing::KissItem;
-use link_table::{Written, WrittenAs};
+use link_table::{Octets, Written, WrittenAs};
 use nodes_broadcast::read_nodes;
 use radio_base::{M8, M128, Moment, NoMemory};
 use route_table::HeardRefusal;
@@ -67,7 +67,8 @@ impl Station {
 
     /// Takes in a frame by its addresses. One of this node itself is dropped.
     fn take_from(&mut self, head: &Head, octets: &[u8], now: Moment) -> Result<(), NoMemory>
-        requires { length octets.now ≤ 1023 }
+        requires few { length octets.now ≤ 1023 }
+        requires head { IsOkAnd (read_head_at octets.now) (λ x. x.0 ≡ head.now) }
         ensures { OnOk result (Goes (receiving.take_from now.0 octets.now head.now) self.old self.new) }
     {
         let own = self.call();
@@ -86,15 +87,28 @@ impl Station {
         octets: &[u8],
         now: Moment,
     ) -> Result<(), NoMemory>
-        requires { length octets.now ≤ 1023 }
+        requires few { length octets.now ≤ 1023 }
+        requires head { IsOkAnd (read_head_at octets.now) (λ x. x.0 ≡ head.now) }
         ensures { OnOk result (Goes (receiving.take_by_path now.0 octets.now head.now (action head.now.path.items head.now.dest.call own.now)) self.old self.new) }
     {
         match step(&head.path, &head.dest.call, own) {
             DigiStep::Repeat(_) => self.repeat(head.path.as_slice(), octets)?,
             DigiStep::NotYet => {}
             DigiStep::ForMe => self.take_heard(&head.source.call, true, octets, now)?,
-            DigiStep::Heard => self.take_heard(&head.source.call, false, octets, now)?,
+            DigiStep::Heard => self.overhear(head, octets, now)?,
         }
+        Ok(())
+    }
+
+    /// Takes in a frame between other stations, of which only broadcasts are read on.
+    fn overhear(&mut self, head: &Head, octets: &[u8], now: Moment) -> Result<(), NoMemory>
+        requires { IsOkAnd (read_head_at octets.now) (λ x. x.0 ≡ head.now) }
+        ensures { OnOk result (Goes (λ n. receiving.take_frame now.0 false (read_at (receiving.modulus_with head.now.source.call n) octets.now) n) self.old self.new) }
+    {
+        if !is_to_nodes(head) {
+            return Ok(());
+        }
+        self.take_heard(&head.source.call, false, octets, now)?;
         Ok(())
     }
 
@@ -103,9 +117,9 @@ impl Station {
         requires { length octets.now ≤ 1023 }
         ensures { OnOk result (Goes (states.put (receiving.repeated_frame path.now octets.now)) self.old self.new) }
     {
-        let octets = with_h_bit(octets, h_octet(path));
+        let repeated = with_h_bit(octets, h_octet(path));
         self.put(Written {
-            octets,
+            octets: Octets::new(self.alloc, &repeated)?,
             how: WrittenAs::AsItCame,
         })?;
         Ok(())

@@ -10,7 +10,7 @@ ghost use Rattle.node_core.specs.States as states;
 use crate::broadcasts::{broadcast_frame, entries_of_frame, frame_count};
 use crate::station::Station;
 use ax_address::Entry;
-use link_table::{Written, WrittenAs};
+use link_table::{Octets, Written, WrittenAs};
 use nodes_broadcast::Nodes;
 use radio_base::{Moment, NoMemory};
 
@@ -104,7 +104,7 @@ impl Station {
         };
         let octets = broadcast_frame(&self.call(), &nodes);
         self.put(Written {
-            octets,
+            octets: Octets::new(self.alloc, &octets)?,
             how: WrittenAs::Modulo8,
         })?;
         Ok(())

@@ -76,6 +76,22 @@ impl Station {
         ensures drained { OnOk result (IsDrained self.new) }
     {
         laws::parts();
+        // So it mostly is, and then no room is made for what could be told.
+        if self.set.is_idle() {
+            return Ok(false);
+        }
+        let told = self.pump_on(now)?;
+        Ok(told)
+    }
+
+    #[inline(never)]
+    fn pump_on(&mut self, now: Moment) -> Result<bool, NoMemory>
+        ensures did { IfOk result (Did (λ n. settling.has_told n (pumping.pump now.0 n)) self.old) }
+        ensures goes { OnOk result (Goes (pumping.pump now.0) self.old self.new) }
+        ensures told { OnOk result ((n : State) → IsTold (pumping.pump now.0 n)) }
+        ensures drained { OnOk result (IsDrained self.new) }
+    {
+        laws::parts();
         let before = self.entries.len();
         while let Some(event) = self.set.pump(now)? {
             self.hear_circuits(&event)?;
@@ -131,9 +147,9 @@ impl Station {
 
     /// The first peer at whose link a text waits.
     #[tactic(auto, unfolding(crate::specs::Links::text_peers))]
-    fn first_text(&self) -> Option<Call>
+    pub(crate) fn first_text(&self) -> Option<Call>
         ensures { (n : State) → Holds self.now n → result ≡ slice_get (links.text_peers n.links) 0 }
     {
-        self.set.router().carrier().texts().first().copied()
+        self.set.router().carrier().first_text()
     }
 }

@@ -63,9 +63,13 @@ impl Station {
     }
 
     /// Makes a session for each link at which a text waits and that has none, in the order of the links.
+    #[tactic(auto, using(crate::proofs::Passing::nobody_greeted))]
     pub(crate) fn greet_links(&mut self) -> Result<(), NoMemory>
         ensures { OnOk result (Steps serving.greet_links self.old self.new) }
     {
+        if self.first_text().is_none() {
+            return Ok(());
+        }
         let peers = self.set.router().carrier().texts();
         self.greet_each(&peers)?;
         Ok(())

@@ -3,7 +3,7 @@ use Rattle.circuit_set.specs.CircuitSets.{untold_by}
 use Rattle.node_core.specs.Pumping.{pump}
 use Rattle.node_core.specs.Standing.{Holds}
 use Rattle.node_core.specs.States.{State}
-use Rattle.node_core.proofs.station.Station.pump.Given as goal
+use Rattle.node_core.proofs.station.Station.pump_on.Given as goal
 
 -- it stands for a node that is pumped to the same
 abbrev pub invariant-loop-event : goal.invariant-loop-event

@@ -1,7 +1,7 @@
 use Rattle.std.proofs.Common.{◌≡◌}
 use Rattle.net_replay.specs.Running.{Stands, all_entries, course, entries_at}
 use Rattle.net_replay.specs.World.{World}
-use Rattle.net_replay.proofs.moves.World.tell_entries.Given as goal
+use Rattle.net_replay.proofs.moves.World.tell_all_entries.Given as goal
 
 abbrev pub invariant-loop-entry : goal.invariant-loop-entry
 invariant-loop-entry l = (w : World) → Stands (course l.fn.self) w → (v : World) × Stands (course l.self) v × (all_entries l.line l.at v ≡ all_entries l.line l.at w)

@@ -1,0 +1,45 @@
+-- What needn't be looked at: a frame to another station that goes to no node is no broadcast, and is left alone; where no text waits at a
+-- link, nobody is greeted.
+use Rattle.std.proofs.Common.{◌≡◌, ℕ, refl, ap, sym, Bool, true, false, ◌&&◌, List, [], ◌∷◌, drop, slice_get, Option, Some, None, ◌∙◌}
+use Rattle.std.specs.Prelude.{Result, Ok, Err, IsOkAnd}
+use Rattle.ax_address.specs.Callsign.{Callsign}
+use Rattle.ax_address.specs.CallOrder.{same_call}
+use Rattle.ax_frame.specs.declared.head.Head.{Head}
+use Rattle.ax_frame.specs.declared.control.Control.{Control}
+use Rattle.ax_frame.specs.declared.frame.FrameRefusal.{FrameRefusal}
+use Rattle.ax_frame.specs.Frames.{Frame, frame}
+use Rattle.ax_frame.specs.Read.{head_in, read_at, read_head_at}
+use Rattle.ax_frame.specs.Reading.{◌>>=◌, frame_at, head_end}
+use Rattle.node_core.specs.Broadcasts.{has_netrom_pid, is_broadcast, is_ui, nodes_call}
+use Rattle.node_core.specs.Receiving.{hear, take_frame}
+use Rattle.node_core.specs.Links as links
+use Rattle.node_core.specs.Serving.{greet_each, greet_links}
+use Rattle.node_core.specs.States.{State, at_sessions}
+
+not_both : (a b c : Bool) → c ≡ false → (a && (b && c)) ≡ false
+not_both true true c e = e
+not_both true false c e = refl
+not_both false b c e = refl
+
+left_alone : (now : ℕ) (f : Frame) (n : State) → same_call f.head.dest.call nodes_call ≡ false → take_frame now false (Ok f) n ≡ n
+left_alone now f n e = rw (not_both (is_ui f.control) (has_netrom_pid f.pid) (same_call f.head.dest.call nodes_call) e) refl
+
+pub passes_by : (now size : ℕ) (octets : List ℕ) (h : Head) (n : State) → IsOkAnd {T = Head × ℕ} (read_head_at octets) (λ x. x.0 ≡ h) → same_call h.dest.call nodes_call ≡ false
+    → take_frame now false (read_at size octets) n ≡ n
+unfolding read_head_at read_at
+passes_by now size octets h n = by (head_end octets) (frame_at size octets)
+  where
+    by : (r : Result ℕ FrameRefusal) (p : Result (Control × Option ℕ × ℕ) FrameRefusal) →
+        IsOkAnd {T = Head × ℕ} (r >>= (λ end. Ok (head_in end octets, end))) (λ x. x.0 ≡ h) → same_call h.dest.call nodes_call ≡ false →
+        take_frame now false (r >>= (λ end. p >>= (λ parts. Ok (frame (head_in end octets) parts.0 parts.1 (drop parts.2 octets))))) n ≡ n
+    by (Err e) p q s = refl
+    by (Ok end) (Err e) q s = refl
+    by (Ok end) (Ok parts) q s =
+        left_alone now (frame (head_in end octets) parts.0 parts.1 (drop parts.2 octets)) n (ap (λ (x : Head). same_call x.dest.call nodes_call) q ∙ s)
+
+pub nobody_greeted : (n : State) → None ≡ slice_get (links.text_peers n.links) 0 → greet_links n ≡ n
+nobody_greeted n = by (links.text_peers n.links)
+  where
+    by : (peers : List Callsign) → None ≡ slice_get peers 0 → at_sessions (greet_each n.settings.prompt peers) n ≡ n
+    by [] e = refl
+    by (peer ∷ peers) e = absurd (cc e)

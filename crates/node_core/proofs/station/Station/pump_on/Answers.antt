@@ -1,0 +1,54 @@
+use Rattle.std.proofs.Common.{◌++◌, ◌∙◌, [], ◌∷◌, refl, subst, sym}
+use Rattle.circuit_set.specs.Standing.{seen}
+use Rattle.node_core.specs.declared.entry.NodeEntry.TheVariants.{Set}
+use Rattle.node_core.specs.Pumping.{pump}
+use Rattle.node_core.specs.Standing.{Holds}
+use Rattle.node_core.specs.Sessions.{hear_circuits}
+use Rattle.node_core.specs.States.{Of_set, State}
+use Rattle.node_core.proofs.Entering.{told_by_length}
+use Rattle.node_core.proofs.Holding.{entered}
+use Rattle.node_core.proofs.Nodes.{pumped_told}
+use Rattle.node_core.proofs.Leading.{called, pumped_is, told_on, was_called}
+use Rattle.node_core.proofs.station.Station.pump_on.Goals as goal
+
+pub loop-event-preserved : goal.loop-event-preserved
+loop-event-preserved c = λ n h.
+    let now = c.args.now.0 in
+    let i = c.loop-event.invariant n h in
+    let s = c.loop-event.self in
+    let event = c.in-Some.event in
+    let pumps = rw c.in-Some.is at c.in_ok-event.ensures.pumps in
+    let x = was_called c.parts.ensures.offers c.parts.ensures.takes c.parts.ensures.less now s c.pump.new.self i.0 _ i.1 c.in_ok-event.ensures.router pumps in
+    let s1 = record s { set = c.pump.new.self } in
+    let s2 = c.hear_circuits.new.self in
+    let m : State = called x.q i.0 in
+    let ss = hear_circuits m.settings.prompt (seen event) m.sessions in
+    let hears = c.in_ok-hear_circuits.ensures.goes m x.holds in
+    let next : State = record m { sessions = ss; entries = i.0.entries ++ Of_set (seen event) ∷ [] } in (
+      next,
+      entered s2 (record s2 { entries = c.push_back.new.self }) (Set event) c.in_ok-push_back.ensures.items refl (record m { sessions = ss }) hears,
+      ◌∙◌ {c = pump now next} i.2 (told_on now i.0 x.q (seen event) x.told x.leads),
+    )
+
+pub returns-clause-did : goal.returns-clause-did
+returns-clause-did c = λ n h.
+    let now = c.args.now.0 in
+    let i = c.loop-event.invariant n h in
+    let s = c.loop-event.self in
+    let pumps = rw c.in_default.is at c.in_ok-event.ensures.pumps in
+    let x = was_called c.parts.ensures.offers c.parts.ensures.takes c.parts.ensures.less now s c.pump.new.self i.0 _ i.1 c.in_ok-event.ensures.router pumps in
+    let s1 = record s { set = c.pump.new.self } in
+    let held : Holds s1 (pump now n) = subst (Holds s1) (sym (i.2 ∙ pumped_is now i.0 x.q x.told x.leads)) x.holds in
+    told_by_length c.args.self.now s1 n (pump now n) c.len-before.result c.len.result h held (c.len-before.ensures ∙ c.args.self.now.entries.ok.0) (c.len.ensures ∙ s.entries.ok.0)
+
+pub returns-clause-goes : goal.returns-clause-goes
+returns-clause-goes c = λ n h.
+    let now = c.args.now.0 in
+    let i = c.loop-event.invariant n h in
+    let s = c.loop-event.self in
+    let pumps = rw c.in_default.is at c.in_ok-event.ensures.pumps in
+    let x = was_called c.parts.ensures.offers c.parts.ensures.takes c.parts.ensures.less now s c.pump.new.self i.0 _ i.1 c.in_ok-event.ensures.router pumps in
+    subst (Holds (record s { set = c.pump.new.self })) (sym (i.2 ∙ pumped_is now i.0 x.q x.told x.leads)) x.holds
+
+pub returns-clause-told : goal.returns-clause-told
+returns-clause-told c = λ n. pumped_told c.parts.ensures.offers c.parts.ensures.takes c.parts.ensures.less c.args.now.0 n
