@@ -1,5 +1,5 @@
 -- What holds of each life at each moment. Own profile.
-use Rattle.std.specs.Prelude.{◌≡◌, ℕ, zero, suc, ◌+◌, ◌*◌, ◌<◌, ◌≤◌, ◌⊎◌, Bool, false, List, [], ◌∷◌, length, Some, is_some, slice_get}
+use Rattle.std.specs.Prelude.{◌≡◌, ℕ, zero, suc, ◌+◌, ◌*◌, ◌<◌, ◌≤◌, ◌⊎◌, Bool, false, List, [], ◌∷◌, ◌++◌, length, map, Some, is_some, slice_get}
 use Rattle.std.specs.List.{AllByRecursion}
 use mathlib.Core.List.{IsPrefix}
 use Rattle.radio_base.specs.declared.payload.Payload.{Payload}
@@ -9,7 +9,9 @@ use Rattle.link_life.specs.declared.act.LifeAct.{LifeAct}
 use Rattle.link_life.specs.declared.act.LifeAct.TheVariants.{At, Tick}
 use Rattle.link_life.specs.declared.act.Side.TheVariants.{A, B}
 use Rattle.link_life.specs.Ends.{End, Epoch, Flight, epochs, partner_of}
+use Rattle.link_life.specs.declared.script.NumberedAct.{NumberedAct}
 use Rattle.link_life.specs.Lives.{Life, new_life, run, settings}
+use Rattle.link_life.specs.Reports.{epochs_text, life_text}
 
 -- a frame under way was sent before now, and no longer ago than the channel delays one
 pub record IsInTime (now delay : ℕ) (f : Flight) : Type 0 where
@@ -108,3 +110,8 @@ late_answer p =
 
 abbrev pub HalfIsTooLong : Type 0
 HalfIsTooLong = (p : Payload) → LifeSafe (run (new_life 8 false 1500) (late_answer p)) → ⊥
+
+-- a report ends with the epochs of the life after what the script asks for
+abbrev pub ReportsEnd : Type 0
+ReportsEnd =
+    (w : Life) (script : List NumberedAct) → (lines : List ℕ) × (life_text w script ≡ lines ++ epochs_text (run w (map (λ n. n.act) script)))

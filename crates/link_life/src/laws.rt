@@ -1,5 +1,5 @@
 //! What holds of each life at each moment, whatever is done.
-ghost use Rattle.link_life.specs.Laws.{FramesInTime, HalfIsTooLong, LivesAreSafe, SetUpAgain, SetUpsCross};
+ghost use Rattle.link_life.specs.Laws.{FramesInTime, HalfIsTooLong, LivesAreSafe, ReportsEnd, SetUpAgain, SetUpsCross};
 
 /// The channel keeps its promise: each frame under way was sent no longer ago than the channel delays one. The refusal `delay` keeps it.
 pub fn frames_in_time()
@@ -22,3 +22,8 @@ pub fn life_safe()
     ax_link::laws::steps();
     ax_link::laws::up_goes_on();
 }
+
+/// The epochs with which a report ends are those of the life of which the laws speak.
+pub fn reports_end()
+    ensures { ReportsEnd }
+{}
