@@ -68,8 +68,26 @@ module _ (offered came : Callsign → Payload → Bool) (sizes : ℕ → Bool) w
     pub notices : (t : Table) → Carries t → Carries (notice t)
     pub fetches : (t : Table) → Carries t → Carries (fetch t)
 
+  -- a frame with sequence numbers brings nothing where no link stands with its source: then nothing is asked of it
+  abbrev pub NumbersWantALink : Type 0
+  NumbersWantALink =
+      (t : Table) (f : AirFrame) (now : ℕ) → is_numbered f.control ≡ true → link_with (source f) t.links ≡ None → Carries t → Carries (arrive f now t)
+
 abbrev pub CarriesWhatWasOffered : Type 0
 CarriesWhatWasOffered = (offered came : Callsign → Payload → Bool) (sizes : ℕ → Bool) → CarriesOn offered came sizes
+
+abbrev pub NumberedWithoutLink : Type 0
+NumberedWithoutLink = (offered came : Callsign → Payload → Bool) (sizes : ℕ → Bool) → NumbersWantALink offered came sizes
+
+-- what has the one property has the other
+abbrev pub Implies : (one other : Callsign → Payload → Bool) → Type 0
+Implies one other = (call : Callsign) (p : Payload) → Has (one call) p → Has (other call) p
+
+-- what is so of a table by two properties is so by any that follow from them
+abbrev pub CarriesByWeaker : Type 0
+CarriesByWeaker =
+    (offered offered2 came came2 : Callsign → Payload → Bool) (sizes : ℕ → Bool) (t : Table) → Implies offered offered2 → Implies came came2 →
+    Carries offered came sizes t → Carries offered2 came2 sizes t
 
 -- of a link within its bounds nothing is left in the inbox, or a text stands first, once payload by payload was taken
 abbrev pub SettledAll : Type 0

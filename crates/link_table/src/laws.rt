@@ -2,7 +2,7 @@
 ghost use Rattle.std.specs.Prelude.{◌≡◌};
 ghost use Rattle.link_table.specs.Calls.{AnsweredAsDown};
 ghost use Rattle.link_table.specs.Payloads.{CountsPayloads, OffersLeave, TakesLower};
-ghost use Rattle.link_table.specs.Laws.{CarriesWhatWasOffered, NewLinkTakes, OnlyFramesBring, PiecesAreTheText, SettledAll, TextsAreGiven};
+ghost use Rattle.link_table.specs.Laws.{CarriesByWeaker, CarriesWhatWasOffered, NewLinkTakes, NumberedWithoutLink, OnlyFramesBring, PiecesAreTheText, SettledAll, TextsAreGiven};
 
 use crate::texts::MAX_TEXT;
 use crate::{MAX_LINKS, MAX_ORIGINATED, MAX_PATHS};
@@ -20,6 +20,15 @@ pub fn carried()
 {
     ax_link::laws::steps();
     ax_link::laws::link_safe();
+}
+
+/// The same by weaker properties, as those of more that was sent. And where no link stands with its source, a frame with sequence numbers
+/// brings nothing, whatever it was read as: so nothing is asked of it.
+pub fn carried_by_weaker()
+    ensures weaker { CarriesByWeaker }
+    ensures numbered { NumberedWithoutLink }
+{
+    carried();
 }
 
 /// After a frame nothing is left in the inbox, or a text stands first there.
