@@ -7,7 +7,7 @@ use Rattle.std.specs.List.{flat_map}
 use Rattle.kiss_framing.specs.declared.TheConstants.{FEND, FESC}
 use Rattle.kiss_framing.specs.Stream.{unescaped, pieces, items, is_too_long}
 use Rattle.kiss_framing.specs.Enframing.{escape_of}
-use Rattle.kiss_framing.specs.Laws.{FendParts, FramesReadBack}
+use Rattle.kiss_framing.specs.Laws.{FendParts, FramesReadBack, LongFramesAreTooLong}
 use Rattle.kiss_framing.proofs.Pieces.{cut_of, items_behind}
 
 -- what is escaped is got back
@@ -51,3 +51,9 @@ frames_read_back port command payload p c fits =
     let head = head_reads_back port command c in
     let room : is_too_long bytes ≡ false = grind (arith, nat_tests) in
     rw (one_piece bytes, unescaped-escaped bytes, room, head.0, head.1) refl
+
+pub long_are_too_long : LongFramesAreTooLong
+long_are_too_long port command payload long =
+    let bytes : List ℕ = (port * 16 + command) ∷ payload in
+    let over : is_too_long bytes ≡ true = grind (arith, nat_tests, long) in
+    rw (one_piece bytes, unescaped-escaped bytes, over) refl

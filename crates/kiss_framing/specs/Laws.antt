@@ -1,7 +1,7 @@
 -- What holds of every KISS stream and every frame.
-use Rattle.std.specs.Prelude.{◌≡◌, ℕ, ◌≤◌, List, [], ◌∷◌, ◌++◌, length}
+use Rattle.std.specs.Prelude.{◌≡◌, ℕ, ◌≤◌, ◌<◌, List, [], ◌∷◌, ◌++◌, length}
 use Rattle.kiss_framing.specs.declared.TheConstants.{FEND}
-use Rattle.kiss_framing.specs.Stream.{Frame, items, given_by_byte}
+use Rattle.kiss_framing.specs.Stream.{Frame, Too_long, items, given_by_byte}
 use Rattle.kiss_framing.specs.Enframing.{framed}
 
 -- a stream that goes on keeps its items, and each byte adds what it gives
@@ -17,3 +17,7 @@ abbrev pub FramesReadBack : Type 0
 FramesReadBack =
     (port command : ℕ) (payload : List ℕ) → port ≤ 15 → command ≤ 15 → length payload ≤ 1023 →
     items (framed port command payload) ≡ Frame port command payload ∷ []
+
+-- a frame of more bytes is too long as it is sent
+abbrev pub LongFramesAreTooLong : Type 0
+LongFramesAreTooLong = (port command : ℕ) (payload : List ℕ) → 1023 < length payload → items (framed port command payload) ≡ Too_long ∷ []

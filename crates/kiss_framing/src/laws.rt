@@ -1,6 +1,6 @@
 //! What holds of every stream and every frame.
 ghost use Rattle.std.specs.Prelude.{◌≡◌};
-ghost use Rattle.kiss_framing.specs.Laws.{BytesAdd, FendParts, FramesReadBack};
+ghost use Rattle.kiss_framing.specs.Laws.{BytesAdd, FendParts, FramesReadBack, LongFramesAreTooLong};
 
 use crate::{FEND, FESC, LONGEST, TFEND, TFESC};
 
@@ -18,6 +18,11 @@ pub fn fend_parts()
 /// A frame as it is sent reads back as this frame and nothing else.
 pub fn frames_read_back()
     ensures { FramesReadBack }
+{}
+
+/// A frame of more than 1,023 bytes behind its type byte is too long as it is sent.
+pub fn long_frames()
+    ensures { LongFramesAreTooLong }
 {}
 
 /// The bytes that KISS names, and the most bytes of a frame, 1,024.
