@@ -20,3 +20,4 @@ pub mod RunStates
 pub mod RunSteps
 pub mod Runs
 pub mod Ways
+pub mod Written

@@ -8,9 +8,11 @@ use Rattle.ax_link.specs.declared.plain.LinkNotice.{LinkNotice}
 use Rattle.ax_link.specs.declared.plain.LinkNotice.TheVariants.{Opened, Reset, Closed, Refused, Failed}
 use Rattle.ax_link.specs.declared.plain.LinkPhase.{LinkPhase}
 use Rattle.ax_link.specs.declared.plain.LinkPhase.TheVariants.{Down, SettingUp, Up, Releasing}
+use Rattle.ax_frame.specs.Frames.{HasParts}
 use Rattle.ax_link.specs.Bounds.{Bounded, stock}
+use Rattle.ax_link.specs.Kinds.{control_of, info_of, pid_of}
 use Rattle.ax_link.specs.Outputs.{Brings, HasIf, HavePayloads}
-use Rattle.ax_link.specs.State.{State, count_end, t1_runs}
+use Rattle.ax_link.specs.State.{Frame, State, count_end, t1_runs}
 use Rattle.ax_link.specs.Table.{Input, Set_up, Send, Arrive, Tick, Close, Take, step}
 use Rattle.radio_base.specs.declared.payload.Payload.{Payload}
 
@@ -86,3 +88,13 @@ abbrev pub KindsGoOut : Type 0
 KindsGoOut =
     (s : State) (i : Input) (now : ℕ) → Bounded (stock s) →
     AllByRecursion (λ f. may_go_out s.phase f.kind ≡ true) (step s i now).outs
+
+-- A frame can be written, with sequence numbers of this modulus: its numbers are below the modulus, and it has a PID and information exactly
+-- where its kind has them. Where it sets a link up, that is of this modulus.
+pub record CanBeWritten (size : ℕ) (f : Frame) : Type 0 where
+  pub parts : HasParts size (control_of size f.kind) (pid_of f.payload) (info_of f.payload)
+  pub sets_up : (pf : Bool) → f.kind ≡ OtherSetUp pf → ⊥
+
+-- each frame that a step puts out can
+abbrev pub FramesCanBeWritten : Type 0
+FramesCanBeWritten = (s : State) (i : Input) (now : ℕ) → Bounded (stock s) → AllByRecursion (CanBeWritten s.rules.size) (step s i now).outs

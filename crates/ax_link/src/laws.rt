@@ -10,7 +10,7 @@ ghost use Rattle.ax_link.specs.Pair.{PairSound, Both, Core, Queue, InScope, IsNe
 ghost use Rattle.ax_link.specs.Runs.{CleanRun, Ends, EndsBounded, Event, Safe, Side, Starts, TakenSafe, carrying, losing, new_ends, run, two_new};
 ghost use Rattle.ax_link.specs.Opening.{rules_new};
 ghost use Rattle.ax_link.specs.Carrying.{OpensSo, UpGoesOn};
-ghost use Rattle.ax_link.specs.Laws.{BoundsStay, KindsGoOut, NoticesAre, PayloadsStay, SettingsStay};
+ghost use Rattle.ax_link.specs.Laws.{BoundsStay, FramesCanBeWritten, KindsGoOut, NoticesAre, PayloadsStay, SettingsStay};
 ghost use Rattle.ax_link.specs.declared.plain.LinkConfig.{LinkConfig};
 ghost use Rattle.radio_base.specs.declared.payload.Payload.{Payload};
 
@@ -119,3 +119,11 @@ pub fn up_goes_on()
     ensures up { UpGoesOn }
     ensures opens { OpensSo }
 {}
+
+/// Each frame that a step of a link within its bounds puts out can be written, and so be read: its numbers are below the modulus, and it
+/// has a PID and information exactly where its kind has them. A set-up command is of the link's modulus.
+pub fn frames_can_be_written()
+    ensures { FramesCanBeWritten }
+{
+    steps();
+}

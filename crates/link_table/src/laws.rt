@@ -2,6 +2,7 @@
 ghost use Rattle.std.specs.Prelude.{◌≡◌};
 ghost use Rattle.link_table.specs.Calls.{AnsweredAsDown};
 ghost use Rattle.link_table.specs.Payloads.{CountsPayloads, OffersLeave, TakesLower};
+ghost use Rattle.link_table.specs.Reaching.{FramesAreSpelled};
 ghost use Rattle.link_table.specs.Laws.{CarriesByWeaker, CarriesWhatWasOffered, NewLinkTakes, NumberedWithoutLink, OnlyFramesBring, PiecesAreTheText, SettledAll, TextsAreGiven};
 
 use crate::texts::MAX_TEXT;
@@ -29,6 +30,17 @@ pub fn carried_by_weaker()
     ensures numbered { NumberedWithoutLink }
 {
     carried();
+}
+
+/// Each frame that waits to be fetched can be written, and so be read: its addresses are calls and its parts those of its kind; and where the
+/// links of the node and the set-ups that come are of one modulus, so are those that go out. Every call keeps it, where a datagram is offered
+/// to a call and what comes was read.
+pub fn frames_are_spelled()
+    ensures { FramesAreSpelled }
+{
+    ax_link::laws::steps();
+    ax_link::laws::link_safe();
+    ax_link::laws::frames_can_be_written();
 }
 
 /// After a frame nothing is left in the inbox, or a text stands first there.
