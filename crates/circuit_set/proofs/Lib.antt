@@ -63,3 +63,5 @@ pub mod NewName
 pub mod NamesOne
 pub mod SendsTo
 pub mod Retries
+pub mod Sendings
+pub mod Heedings

@@ -17,3 +17,5 @@ pub mod SetTurns
 pub mod Givings
 pub mod Naming
 pub mod Retries
+pub mod Sendings
+pub mod Heedings

@@ -6,6 +6,8 @@ ghost use Rattle.circuit_set.specs.Pairs.{PairsDiffer};
 ghost use Rattle.circuit_set.specs.Givings.{MadeAreGiven, MadeDiffer};
 ghost use Rattle.circuit_set.specs.Naming.{PairNamesOne, RequestersSend};
 ghost use Rattle.circuit_set.specs.Retries.{RetriesAreTold};
+ghost use Rattle.circuit_set.specs.Heedings.{SetsHeedPartners};
+ghost use Rattle.circuit_set.specs.Sendings.{SetsSendTheirOwn};
 ghost use Rattle.circuit_set.specs.Inputs.{ActsGo, HearsGo, HearsLostGoes, TellsGo, TellsLess, TicksGo};
 ghost use Rattle.circuit_set.specs.Examples.{ForgedIsUnsafe, OneMoreIsTooMany, RestartIsStale};
 ghost use Rattle.circuit_set.specs.Runs.{CircuitsSafe, NarrowIsTimely, PartnersStay, WindowsFit};
@@ -115,4 +117,15 @@ pub fn calls_are_inputs()
 /// What a set has to tell falls with each thing that it tells, whatever the carrier answers.
 pub fn telling_ends()
     ensures { TellsLess }
+{}
+
+/// Whatever comes: each datagram that a set sends has its node's call as its origin, and its node's time to live.
+pub fn sets_send_their_own()
+    ensures { SetsSendTheirOwn }
+{}
+
+/// Whatever comes: each datagram that a set heeds came with this input, is from the node of the partner of an end that it holds, and names that
+/// end's pair.
+pub fn sets_heed_partners()
+    ensures { SetsHeedPartners }
 {}
