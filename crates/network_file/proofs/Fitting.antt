@@ -1,9 +1,14 @@
--- Each node is declared once; and the version of a file stands before its settings, each of which is one that files of that version may have.
+-- Each node is declared once, what stands for calls are calls, and the version of a file stands before its settings, each of which is one that files of that version may have.
 use Rattle.std.proofs.Common.{◌≡◌, ℕ, suc, refl, sym, subst, List, [], ◌∷◌, ◌++◌, length, arith, Bool, true, false, cond}
 use Rattle.std.specs.Prelude.{◌&&◌, ◌||◌, ◌==◌, not, nat_eq, nat_lt, is_none, Result, Ok, Err}
 use Rattle.std.specs.Cmp.Lexicographic.{pointwise}
 use Rattle.std.specs.Str.Lines.{lines}
 use Rattle.std.specs.List.{AllByRecursion}
+use Rattle.ax_address.specs.CallReading as calls
+use Rattle.ax_address.specs.CallReading.{ReadsCallTexts}
+use Rattle.ax_address.specs.Callsign.{Callsign}
+use Rattle.ax_address.specs.declared.call.CallRefusal.{CallRefusal}
+use Rattle.network_file.specs.declared.network.NumberedInstruction.{NumberedInstruction}
 use Rattle.network_file.specs.declared.lines.Line.{Line}
 use Rattle.network_file.specs.declared.lines.Line.TheVariants as said
 use Rattle.network_file.specs.declared.plan.channels.Channel.{Channel}
@@ -13,7 +18,7 @@ use Rattle.network_file.specs.declared.plan.vias.Via.{Via}
 use Rattle.network_file.specs.declared.reasons.What.{What}
 use Rattle.network_file.specs.declared.reasons.What.TheVariants as whats
 use Rattle.network_file.specs.Keys.{Assignment, key_at, least_of, most_of, takes}
-use Rattle.network_file.specs.Laws.{AreDifferent, DeclaredOnce, SettingsFit}
+use Rattle.network_file.specs.Laws.{AreDifferent, CallsAreCalls, DeclaredOnce, HasCalls, IsCall, NamesCalls, SettingsFit}
 use Rattle.network_file.specs.Lines.{Kind, all_kinds, in_time, line_at, line_by, line_of}
 use Rattle.network_file.specs.Lines.Circuits.{burst_at, end_alone, end_at, burst_line, close_line, open_line, say_at, say_line, take_line}
 use Rattle.network_file.specs.Lines.Declaring.{are_members, are_repeaters, calls_at, channel_line, members_at, declaration_at, node_line, set_line, setting_at, version_at, version_line, via_at, via_line}
@@ -32,7 +37,9 @@ abbrev Fits : Plan → Line → Type 0
 Fits plan (said.Version v) = is_untouched plan ≡ true
 Fits plan (said.Node d) = has_node plan.declared d.node ≡ false
 Fits plan (said.Set s) = (takes (version_of plan) s.key s.value ≡ true) × (has_node plan.declared s.node ≡ true)
-Fits plan _ = Unit {0}
+Fits plan (said.Channel c) = Unit {0}
+Fits plan (said.Via v) = AllByRecursion IsCall v.repeaters.items
+Fits plan (said.Instruction i) = NamesCalls i
 
 -- ---- the parts of a reading
 
@@ -43,8 +50,8 @@ bound P (Err w) f h y e = absurd (cc e)
 last : {B : Type 0} (P : B → Type 0) (x : B) → P x → (y : B) → ◌≡◌ {A = Result B What} (Ok x) (Ok y) → P y
 last P x p y e = let same : x ≡ y = cc e in subst P same p
 
-done : (plan : Plan) (i : Instruction) (y : Line) → ◌≡◌ {A = Result Line What} (Ok (said.Instruction i)) (Ok y) → Fits plan y
-done plan i = last (Fits plan) (said.Instruction i) tt
+done : (plan : Plan) (i : Instruction) (y : Line) → ◌≡◌ {A = Result Line What} (Ok (said.Instruction i)) (Ok y) → NamesCalls i → Fits plan y
+done plan i y e n = last (Fits plan) (said.Instruction i) n y e
 
 declares : (plan : Plan) (d : Declaration) → has_node plan.declared d.node ≡ false → (y : Line) → ◌≡◌ {A = Result Line What} (Ok (said.Node d)) (Ok y) → Fits plan y
 declares plan d new = last (Fits plan) (said.Node d) new
@@ -52,8 +59,8 @@ declares plan d new = last (Fits plan) (said.Node d) new
 joins : (plan : Plan) (c : Channel) (y : Line) → ◌≡◌ {A = Result Line What} (Ok (said.Channel c)) (Ok y) → Fits plan y
 joins plan c = last (Fits plan) (said.Channel c) tt
 
-leads : (plan : Plan) (v : Via) (y : Line) → ◌≡◌ {A = Result Line What} (Ok (said.Via v)) (Ok y) → Fits plan y
-leads plan v = last (Fits plan) (said.Via v) tt
+leads : (plan : Plan) (v : Via) (y : Line) → ◌≡◌ {A = Result Line What} (Ok (said.Via v)) (Ok y) → AllByRecursion IsCall v.repeaters.items → Fits plan y
+leads plan v y e a = last (Fits plan) (said.Via v) a y e
 
 needed : (b : Bool) (w : What) (u : Unit {0}) → needs b w ≡ Ok u → b ≡ true
 needed true w u e = refl
@@ -96,133 +103,147 @@ channel_fits : (plan : Plan) (words : List (List ℕ)) (l : Line) → channel_li
 unfolding channel_line
 channel_fits plan words l e = bound (Fits plan) (needs (are_members words) whats.Count) _ (λ u _. bound (Fits plan) (members_at plan.declared [] words) _ (λ ns _. joins plan _)) l e
 
-via_fits : (plan : Plan) (words : List (List ℕ)) (l : Line) → via_line plan words ≡ Ok l → Fits plan l
-unfolding via_at
-via_fits plan (number ∷ name ∷ words) l e =
-    bound (Fits plan) (needs (are_repeaters words) whats.Count) _ (λ u _. bound (Fits plan) (node_at plan.declared number) _ (λ n _. bound (Fits plan) (new_peer_at plan.vias n name) _ (λ p _. bound (Fits plan) (calls_at words) _ (λ rs _. leads plan _)))) l e
-via_fits plan other l e = absurd (cc e)
+module _ (reads : ReadsCallTexts) where
+  call_by : (word : List ℕ) (r : Result Callsign CallRefusal) (c : Callsign) → calls.call_at word ≡ r → ◌≡◌ {A = Result Callsign What} (elim r [ Ok d ↦ Ok d | Err e ↦ Err whats.Call ]) (Ok c) → IsCall c
+  call_by word (Ok d) c e q = let same : d ≡ c = cc q in subst IsCall same ((reads word d).0 e).0
+  call_by word (Err why) c e q = absurd (cc q)
 
-heard_fits : (plan : Plan) (words : List (List ℕ)) (l : Line) → heard_line plan words ≡ Ok l → Fits plan l
-unfolding broadcast_at
-heard_fits plan (number ∷ name ∷ nick ∷ rest) l e =
-    bound (Fits plan) (needs (are_entries rest) whats.Count) _ (λ u _. bound (Fits plan) (node_at plan.declared number) _ (λ n _. bound (Fits plan) (call_at name) _ (λ c _. bound (Fits plan) (alias_at nick) _ (λ a _. bound (Fits plan) (entries_at rest) _ (λ es _. done plan _))))) l e
-heard_fits plan other l e = absurd (cc e)
+  is_call : (word : List ℕ) (c : Callsign) → call_at word ≡ Ok c → IsCall c
+  is_call word c e = call_by word (calls.call_at word) c refl e
 
-lock_fits : (plan : Plan) (words : List (List ℕ)) (l : Line) → lock_line plan words ≡ Ok l → Fits plan l
-unfolding lock_at
-lock_fits plan (number ∷ dest ∷ nick ∷ neighbour ∷ quality ∷ []) l e =
-    bound (Fits plan) (node_at plan.declared number) _ (λ n _. bound (Fits plan) (call_at dest) _ (λ d _. bound (Fits plan) (alias_at nick) _ (λ a _. bound (Fits plan) (call_at neighbour) _ (λ b _. bound (Fits plan) (number_at 0 255 quality) _ (λ q _. done plan _))))) l e
-lock_fits plan other l e = absurd (cc e)
+  are_calls : (words : List (List ℕ)) (cs : List Callsign) → calls_at words ≡ Ok cs → AllByRecursion IsCall cs
+  are_calls [] = last (AllByRecursion IsCall) [] tt
+  are_calls (word ∷ words) =
+      bound (AllByRecursion IsCall) (call_at word) _ (λ c q. bound (AllByRecursion IsCall) (calls_at words) _ (λ cs r. last (AllByRecursion IsCall) (c ∷ cs) (is_call word c q, are_calls words cs r)))
 
-round_fits : (plan : Plan) (words : List (List ℕ)) (l : Line) → round_line plan words ≡ Ok l → Fits plan l
-unfolding round_line
-round_fits plan words l e = bound (Fits plan) (node_alone plan words) _ (λ n _. done plan _) l e
+  via_fits : (plan : Plan) (words : List (List ℕ)) (l : Line) → via_line plan words ≡ Ok l → Fits plan l
+  unfolding via_at
+  via_fits plan (number ∷ name ∷ words) l e =
+      bound (Fits plan) (needs (are_repeaters words) whats.Count) _ (λ u _. bound (Fits plan) (node_at plan.declared number) _ (λ n _. bound (Fits plan) (new_peer_at plan.vias n name) _ (λ p _. bound (Fits plan) (calls_at words) _ (λ rs q y z. leads plan _ y z (are_calls words rs q))))) l e
+  via_fits plan other l e = absurd (cc e)
 
-linkfail_fits : (plan : Plan) (words : List (List ℕ)) (l : Line) → linkfail_line plan words ≡ Ok l → Fits plan l
-unfolding linkfail_line
-linkfail_fits plan words l e = bound (Fits plan) (node_and_call plan words) _ (λ n _. done plan _) l e
+  heard_fits : (plan : Plan) (words : List (List ℕ)) (l : Line) → heard_line plan words ≡ Ok l → Fits plan l
+  unfolding broadcast_at
+  heard_fits plan (number ∷ name ∷ nick ∷ rest) l e =
+      bound (Fits plan) (needs (are_entries rest) whats.Count) _ (λ u _. bound (Fits plan) (node_at plan.declared number) _ (λ n _. bound (Fits plan) (call_at name) _ (λ c q. bound (Fits plan) (alias_at nick) _ (λ a _. bound (Fits plan) (entries_at rest) _ (λ es _ y z. done plan _ y z (is_call name c q)))))) l e
+  heard_fits plan other l e = absurd (cc e)
 
-show_fits : (plan : Plan) (words : List (List ℕ)) (l : Line) → show_line plan words ≡ Ok l → Fits plan l
-unfolding show_line
-show_fits plan words l e = bound (Fits plan) (node_alone plan words) _ (λ n _. done plan _) l e
+  lock_fits : (plan : Plan) (words : List (List ℕ)) (l : Line) → lock_line plan words ≡ Ok l → Fits plan l
+  unfolding lock_at
+  lock_fits plan (number ∷ dest ∷ nick ∷ neighbour ∷ quality ∷ []) l e =
+      bound (Fits plan) (node_at plan.declared number) _ (λ n _. bound (Fits plan) (call_at dest) _ (λ d _. bound (Fits plan) (alias_at nick) _ (λ a _. bound (Fits plan) (call_at neighbour) _ (λ b is. bound (Fits plan) (number_at 0 255 quality) _ (λ q _ y z. done plan _ y z (is_call neighbour b is)))))) l e
+  lock_fits plan other l e = absurd (cc e)
 
-tick_fits : (plan : Plan) (words : List (List ℕ)) (l : Line) → tick_line words ≡ Ok l → Fits plan l
-unfolding tick_at
-tick_fits plan (word ∷ []) l e = bound (Fits plan) (number_at 1 86400000 word) _ (λ n _. done plan _) l e
-tick_fits plan other l e = absurd (cc e)
+  round_fits : (plan : Plan) (words : List (List ℕ)) (l : Line) → round_line plan words ≡ Ok l → Fits plan l
+  unfolding round_line
+  round_fits plan words l e = bound (Fits plan) (node_alone plan words) _ (λ n _ y z. done plan _ y z tt) l e
 
-restart_fits : (plan : Plan) (words : List (List ℕ)) (l : Line) → restart_line plan words ≡ Ok l → Fits plan l
-unfolding restart_at
-restart_fits plan (number ∷ index ∷ ident ∷ []) l e =
-    bound (Fits plan) (node_at plan.declared number) _ (λ n _. bound (Fits plan) (number_at 1 255 index) _ (λ i _. bound (Fits plan) (number_at 1 255 ident) _ (λ d _. done plan _))) l e
-restart_fits plan other l e = absurd (cc e)
+  linkfail_fits : (plan : Plan) (words : List (List ℕ)) (l : Line) → linkfail_line plan words ≡ Ok l → Fits plan l
+  unfolding linkfail_line
+  linkfail_fits plan words l e = bound (Fits plan) (node_and_call plan words) _ (λ n _ y z. done plan _ y z tt) l e
 
-open_fits : (plan : Plan) (words : List (List ℕ)) (l : Line) → open_line plan words ≡ Ok l → Fits plan l
-unfolding open_line
-open_fits plan words l e = bound (Fits plan) (node_and_call plan words) _ (λ n _. done plan _) l e
+  show_fits : (plan : Plan) (words : List (List ℕ)) (l : Line) → show_line plan words ≡ Ok l → Fits plan l
+  unfolding show_line
+  show_fits plan words l e = bound (Fits plan) (node_alone plan words) _ (λ n _ y z. done plan _ y z tt) l e
 
-burst_fits : (plan : Plan) (words : List (List ℕ)) (l : Line) → burst_line plan words ≡ Ok l → Fits plan l
-unfolding burst_at
-burst_fits plan (number ∷ nth ∷ count ∷ []) l e = bound (Fits plan) (end_at plan number nth) _ (λ n _. bound (Fits plan) (number_at 1 10000 count) _ (λ c _. done plan _)) l e
-burst_fits plan other l e = absurd (cc e)
+  tick_fits : (plan : Plan) (words : List (List ℕ)) (l : Line) → tick_line words ≡ Ok l → Fits plan l
+  unfolding tick_at
+  tick_fits plan (word ∷ []) l e = bound (Fits plan) (number_at 1 86400000 word) _ (λ n _ y z. done plan _ y z tt) l e
+  tick_fits plan other l e = absurd (cc e)
 
-take_fits : (plan : Plan) (words : List (List ℕ)) (l : Line) → take_line plan words ≡ Ok l → Fits plan l
-unfolding take_line
-take_fits plan words l e = bound (Fits plan) (end_alone plan words) _ (λ n _. done plan _) l e
+  restart_fits : (plan : Plan) (words : List (List ℕ)) (l : Line) → restart_line plan words ≡ Ok l → Fits plan l
+  unfolding restart_at
+  restart_fits plan (number ∷ index ∷ ident ∷ []) l e =
+      bound (Fits plan) (node_at plan.declared number) _ (λ n _. bound (Fits plan) (number_at 1 255 index) _ (λ i _. bound (Fits plan) (number_at 1 255 ident) _ (λ d _ y z. done plan _ y z tt))) l e
+  restart_fits plan other l e = absurd (cc e)
 
-close_fits : (plan : Plan) (words : List (List ℕ)) (l : Line) → close_line plan words ≡ Ok l → Fits plan l
-unfolding close_line
-close_fits plan words l e = bound (Fits plan) (end_alone plan words) _ (λ n _. done plan _) l e
+  open_fits : (plan : Plan) (words : List (List ℕ)) (l : Line) → open_line plan words ≡ Ok l → Fits plan l
+  unfolding open_line
+  open_fits plan words l e = bound (Fits plan) (node_and_call plan words) _ (λ n _ y z. done plan _ y z tt) l e
 
-deliver_fits : (plan : Plan) (words : List (List ℕ)) (l : Line) → deliver_line plan words ≡ Ok l → Fits plan l
-unfolding deliver_line
-deliver_fits plan words l e = bound (Fits plan) (frame_and_node plan words) _ (λ n _. done plan _) l e
+  burst_fits : (plan : Plan) (words : List (List ℕ)) (l : Line) → burst_line plan words ≡ Ok l → Fits plan l
+  unfolding burst_at
+  burst_fits plan (number ∷ nth ∷ count ∷ []) l e = bound (Fits plan) (end_at plan number nth) _ (λ n _. bound (Fits plan) (number_at 1 10000 count) _ (λ c _ y z. done plan _ y z tt)) l e
+  burst_fits plan other l e = absurd (cc e)
 
-again_fits : (plan : Plan) (words : List (List ℕ)) (l : Line) → again_line plan words ≡ Ok l → Fits plan l
-unfolding again_line
-again_fits plan words l e = bound (Fits plan) (frame_and_node plan words) _ (λ n _. done plan _) l e
+  take_fits : (plan : Plan) (words : List (List ℕ)) (l : Line) → take_line plan words ≡ Ok l → Fits plan l
+  unfolding take_line
+  take_fits plan words l e = bound (Fits plan) (end_alone plan words) _ (λ n _ y z. done plan _ y z tt) l e
 
-lose_fits : (plan : Plan) (words : List (List ℕ)) (l : Line) → lose_line words ≡ Ok l → Fits plan l
-unfolding lose_line
-lose_fits plan words l e = bound (Fits plan) (frame_alone words) _ (λ n _. done plan _) l e
+  close_fits : (plan : Plan) (words : List (List ℕ)) (l : Line) → close_line plan words ≡ Ok l → Fits plan l
+  unfolding close_line
+  close_fits plan words l e = bound (Fits plan) (end_alone plan words) _ (λ n _ y z. done plan _ y z tt) l e
 
-flow_fits : (plan : Plan) (words : List (List ℕ)) (l : Line) → flow_line words ≡ Ok l → Fits plan l
-unfolding flow_line
-flow_fits plan words l e = bound (Fits plan) (count_alone words) _ (λ n _. done plan _) l e
+  deliver_fits : (plan : Plan) (words : List (List ℕ)) (l : Line) → deliver_line plan words ≡ Ok l → Fits plan l
+  unfolding deliver_line
+  deliver_fits plan words l e = bound (Fits plan) (frame_and_node plan words) _ (λ n _ y z. done plan _ y z tt) l e
 
-cut_fits : (plan : Plan) (words : List (List ℕ)) (l : Line) → cut_line words ≡ Ok l → Fits plan l
-unfolding cut_line
-cut_fits plan words l e = bound (Fits plan) (count_alone words) _ (λ n _. done plan _) l e
+  again_fits : (plan : Plan) (words : List (List ℕ)) (l : Line) → again_line plan words ≡ Ok l → Fits plan l
+  unfolding again_line
+  again_fits plan words l e = bound (Fits plan) (frame_and_node plan words) _ (λ n _ y z. done plan _ y z tt) l e
 
-say_fits : (plan : Plan) (line : List ℕ) (words : List (List ℕ)) (l : Line) → say_line plan line words ≡ Ok l → Fits plan l
-unfolding say_at
-say_fits plan line (number ∷ nth ∷ more) l e = bound (Fits plan) (known whats.Count (said_text line)) _ (λ text _. bound (Fits plan) (end_at plan number nth) _ (λ n _. done plan _)) l e
-say_fits plan line other l e = absurd (cc e)
+  lose_fits : (plan : Plan) (words : List (List ℕ)) (l : Line) → lose_line words ≡ Ok l → Fits plan l
+  unfolding lose_line
+  lose_fits plan words l e = bound (Fits plan) (frame_alone words) _ (λ n _ y z. done plan _ y z tt) l e
 
--- ---- all kinds
+  flow_fits : (plan : Plan) (words : List (List ℕ)) (l : Line) → flow_line words ≡ Ok l → Fits plan l
+  unfolding flow_line
+  flow_fits plan words l e = bound (Fits plan) (count_alone words) _ (λ n _ y z. done plan _ y z tt) l e
 
-timely : (plan : Plan) (b : Bool) (r : Result Line What) (l : Line) → (b ≡ true → r ≡ Ok l → Fits plan l) → in_time b r ≡ Ok l → Fits plan l
-timely plan true r l h e = h refl e
-timely plan false r l h e = absurd (cc e)
+  cut_fits : (plan : Plan) (words : List (List ℕ)) (l : Line) → cut_line words ≡ Ok l → Fits plan l
+  unfolding cut_line
+  cut_fits plan words l e = bound (Fits plan) (count_alone words) _ (λ n _ y z. done plan _ y z tt) l e
 
-either : (plan : Plan) (b : Bool) (r s : Result Line What) (l : Line) → (r ≡ Ok l → Fits plan l) → (s ≡ Ok l → Fits plan l) → cond b r s ≡ Ok l → Fits plan l
-either plan true r s l h k e = h e
-either plan false r s l h k e = k e
+  say_fits : (plan : Plan) (line : List ℕ) (words : List (List ℕ)) (l : Line) → say_line plan line words ≡ Ok l → Fits plan l
+  unfolding say_at
+  say_fits plan line (number ∷ nth ∷ more) l e = bound (Fits plan) (known whats.Count (said_text line)) _ (λ text _. bound (Fits plan) (end_at plan number nth) _ (λ n _ y z. done plan _ y z tt)) l e
+  say_fits plan line other l e = absurd (cc e)
 
-abbrev KindFits : Kind → Type 0
-KindFits k = (plan : Plan) (words : List (List ℕ)) (l : Line) → k.says plan words ≡ Ok l → Fits plan l
+  -- ---- all kinds
 
-by_fits : (ks : List Kind) → AllByRecursion KindFits ks → (plan : Plan) (first : List ℕ) (words : List (List ℕ)) (l : Line) → line_by ks plan first words ≡ Ok l → Fits plan l
-by_fits [] all plan first words l e = absurd (cc e)
-by_fits (k ∷ ks) all plan first words l e =
-    either plan (k.is_known plan && pointwise nat_eq first k.word) (k.says plan words) (line_by ks plan first words) l (all.0 plan words l) (by_fits ks all.1 plan first words l) e
+  timely : (plan : Plan) (b : Bool) (r : Result Line What) (l : Line) → (b ≡ true → r ≡ Ok l → Fits plan l) → in_time b r ≡ Ok l → Fits plan l
+  timely plan true r l h e = h refl e
+  timely plan false r l h e = absurd (cc e)
 
-all_fit : AllByRecursion KindFits all_kinds
-all_fit = (
-  λ plan words l. timely plan (is_untouched plan) (version_line words) l (λ h. version_fits plan h words l),
-  (
-    λ plan words l. timely plan (may_declare plan) (node_line plan words) l (λ _. node_fits plan words l),
+  either : (plan : Plan) (b : Bool) (r s : Result Line What) (l : Line) → (r ≡ Ok l → Fits plan l) → (s ≡ Ok l → Fits plan l) → cond b r s ≡ Ok l → Fits plan l
+  either plan true r s l h k e = h e
+  either plan false r s l h k e = k e
+
+  abbrev KindFits : Kind → Type 0
+  KindFits k = (plan : Plan) (words : List (List ℕ)) (l : Line) → k.says plan words ≡ Ok l → Fits plan l
+
+  by_fits : (ks : List Kind) → AllByRecursion KindFits ks → (plan : Plan) (first : List ℕ) (words : List (List ℕ)) (l : Line) → line_by ks plan first words ≡ Ok l → Fits plan l
+  by_fits [] all plan first words l e = absurd (cc e)
+  by_fits (k ∷ ks) all plan first words l e =
+      either plan (k.is_known plan && pointwise nat_eq first k.word) (k.says plan words) (line_by ks plan first words) l (all.0 plan words l) (by_fits ks all.1 plan first words l) e
+
+  all_fit : AllByRecursion KindFits all_kinds
+  all_fit = (
+    λ plan words l. timely plan (is_untouched plan) (version_line words) l (λ h. version_fits plan h words l),
     (
-      λ plan words l. timely plan (may_declare plan) (channel_line plan words) l (λ _. channel_fits plan words l),
+      λ plan words l. timely plan (may_declare plan) (node_line plan words) l (λ _. node_fits plan words l),
       (
-        λ plan words l. timely plan (may_declare plan) (set_line plan words) l (λ _. set_fits plan words l),
+        λ plan words l. timely plan (may_declare plan) (channel_line plan words) l (λ _. channel_fits plan words l),
         (
-          λ plan words l. timely plan (may_declare plan) (via_line plan words) l (λ _. via_fits plan words l),
+          λ plan words l. timely plan (may_declare plan) (set_line plan words) l (λ _. set_fits plan words l),
           (
-            heard_fits,
+            λ plan words l. timely plan (may_declare plan) (via_line plan words) l (λ _. via_fits plan words l),
             (
-              lock_fits,
+              heard_fits,
               (
-                round_fits,
+                lock_fits,
                 (
-                  linkfail_fits,
+                  round_fits,
                   (
-                    show_fits,
+                    linkfail_fits,
                     (
-                      tick_fits,
+                      show_fits,
                       (
-                        restart_fits,
-                        (open_fits, (burst_fits, (take_fits, (close_fits, (deliver_fits, (again_fits, (lose_fits, (flow_fits, (cut_fits, tt))))))))),
+                        tick_fits,
+                        (
+                          restart_fits,
+                          (open_fits, (burst_fits, (take_fits, (close_fits, (deliver_fits, (again_fits, (lose_fits, (flow_fits, (cut_fits, tt))))))))),
+                        ),
                       ),
                     ),
                   ),
@@ -233,111 +254,135 @@ all_fit = (
         ),
       ),
     ),
-  ),
-)
+  )
 
-of_fits : (plan : Plan) (line : List ℕ) (words : List (List ℕ)) (l : Line) → line_of plan line words ≡ Ok l → Fits plan l
-of_fits plan line [] l e = absurd (cc e)
-of_fits plan line (first ∷ words) l e = either plan _ _ _ l (say_fits plan line words l) (by_fits all_kinds all_fit plan first words l) e
+  of_fits : (plan : Plan) (line : List ℕ) (words : List (List ℕ)) (l : Line) → line_of plan line words ≡ Ok l → Fits plan l
+  of_fits plan line [] l e = absurd (cc e)
+  of_fits plan line (first ∷ words) l e = either plan _ _ _ l (say_fits plan line words l) (by_fits all_kinds all_fit plan first words l) e
 
-line_fits : (plan : Plan) (line : List ℕ) (l : Line) → line_at plan line ≡ Ok l → Fits plan l
-unfolding line_at
-line_fits plan line l e = bound (Fits plan) (needs (is_text line) whats.Char) _ (λ u _. of_fits plan line (words_of line)) l e
+  line_fits : (plan : Plan) (line : List ℕ) (l : Line) → line_at plan line ≡ Ok l → Fits plan l
+  unfolding line_at
+  line_fits plan line l e = bound (Fits plan) (needs (is_text line) whats.Char) _ (λ u _. of_fits plan line (words_of line)) l e
 
--- ---- a plan, line by line
+  -- ---- a plan, line by line
 
-record IsFit (plan : Plan) : Type 0 where
-  settings : AllByRecursion (λ (s : Assignment). takes (version_of plan) s.key s.value ≡ true) plan.settings
-  none : plan.declared ≡ [] → plan.settings ≡ []
-  different : AreDifferent plan.declared
+  record IsFit (plan : Plan) : Type 0 where
+    settings : AllByRecursion (λ (s : Assignment). takes (version_of plan) s.key s.value ≡ true) plan.settings
+    none : plan.declared ≡ [] → plan.settings ≡ []
+    different : AreDifferent plan.declared
+    calls : HasCalls plan
 
-all_append : {A : Type 0} (P : A → Type 0) (xs : List A) (y : A) → AllByRecursion P xs → P y → AllByRecursion P (xs ++ y ∷ [])
-all_append P [] y all p = (p, tt)
-all_append P (x ∷ xs) y all p = (all.0, all_append P xs y all.1 p)
+  all_append : {A : Type 0} (P : A → Type 0) (xs : List A) (y : A) → AllByRecursion P xs → P y → AllByRecursion P (xs ++ y ∷ [])
+  all_append P [] y all p = (p, tt)
+  all_append P (x ∷ xs) y all p = (all.0, all_append P xs y all.1 p)
 
-never_empty : {A : Type 0} (xs : List A) (y : A) → (xs ++ y ∷ []) ≡ [] → ⊥
-never_empty [] y e = absurd (cc e)
-never_empty (x ∷ xs) y e = absurd (cc e)
+  never_empty : {A : Type 0} (xs : List A) (y : A) → (xs ++ y ∷ []) ≡ [] → ⊥
+  never_empty [] y e = absurd (cc e)
+  never_empty (x ∷ xs) y e = absurd (cc e)
 
-both : (a b : Bool) → (a && b) ≡ true → (a ≡ true) × (b ≡ true)
-both true b e = (refl, e)
-both false b e = absurd (cc e)
+  both : (a b : Bool) → (a && b) ≡ true → (a ≡ true) × (b ≡ true)
+  both true b e = (refl, e)
+  both false b e = absurd (cc e)
 
-empty_of : {A : Type 0} (xs : List A) → (length xs == 0) ≡ true → xs ≡ []
-empty_of [] e = refl
-empty_of (x ∷ xs) e = let none : length (x ∷ xs) ≡ 0 = grind (arith, e) in absurd (omega (arith, none))
+  empty_of : {A : Type 0} (xs : List A) → (length xs == 0) ≡ true → xs ≡ []
+  empty_of [] e = refl
+  empty_of (x ∷ xs) e = let none : length (x ∷ xs) ≡ 0 = grind (arith, e) in absurd (omega (arith, none))
 
-untouched : (plan : Plan) → is_untouched plan ≡ true → plan.declared ≡ []
-untouched plan h =
-    let more = (both (is_none plan.version) _ h).1 in empty_of plan.declared (both (length plan.declared == 0) (length plan.instructions == 0) more).0
+  untouched : (plan : Plan) → is_untouched plan ≡ true → plan.declared ≡ []
+  untouched plan h =
+      let more = (both (is_none plan.version) _ h).1 in empty_of plan.declared (both (length plan.declared == 0) (length plan.instructions == 0) more).0
 
--- one more is declared
-or_none : (a b : Bool) → (a || b) ≡ false → (a ≡ false) × (b ≡ false)
-or_none true b e = absurd (cc e)
-or_none false b e = (refl, e)
+  -- one more is declared
+  or_none : (a b : Bool) → (a || b) ≡ false → (a ≡ false) × (b ≡ false)
+  or_none true b e = absurd (cc e)
+  or_none false b e = (refl, e)
 
-none_or : (a b : Bool) → a ≡ false → b ≡ false → (a || b) ≡ false
-none_or true b e f = e
-none_or false b e f = f
+  none_or : (a b : Bool) → a ≡ false → b ≡ false → (a || b) ≡ false
+  none_or true b e f = e
+  none_or false b e f = f
 
-other_node : (ds : List Declaration) (d : Declaration) (n : ℕ) → has_node ds n ≡ false → (d.node == n) ≡ false → has_node (ds ++ d ∷ []) n ≡ false
-other_node [] d n e f = none_or (d.node == n) false f refl
-other_node (x ∷ ds) d n e f = let parts = or_none (x.node == n) (has_node ds n) e in none_or (x.node == n) (has_node (ds ++ d ∷ []) n) parts.0 (other_node ds d n parts.1 f)
+  other_node : (ds : List Declaration) (d : Declaration) (n : ℕ) → has_node ds n ≡ false → (d.node == n) ≡ false → has_node (ds ++ d ∷ []) n ≡ false
+  other_node [] d n e f = none_or (d.node == n) false f refl
+  other_node (x ∷ ds) d n e f = let parts = or_none (x.node == n) (has_node ds n) e in none_or (x.node == n) (has_node (ds ++ d ∷ []) n) parts.0 (other_node ds d n parts.1 f)
 
-differs : (a b : ℕ) → (a == b) ≡ false → (b == a) ≡ false
-differs a b e = grind (arith, e)
+  differs : (a b : ℕ) → (a == b) ≡ false → (b == a) ≡ false
+  differs a b e = grind (arith, e)
 
-more_different : (ds : List Declaration) (d : Declaration) → has_node ds d.node ≡ false → AreDifferent ds → AreDifferent (ds ++ d ∷ [])
-more_different [] d e a = (refl, tt)
-more_different (x ∷ ds) d e a =
-    let parts = or_none (x.node == d.node) (has_node ds d.node) e in
-    (other_node ds d x.node a.0 (differs x.node d.node parts.0), more_different ds d parts.1 a.1)
+  more_different : (ds : List Declaration) (d : Declaration) → has_node ds d.node ≡ false → AreDifferent ds → AreDifferent (ds ++ d ∷ [])
+  more_different [] d e a = (refl, tt)
+  more_different (x ∷ ds) d e a =
+      let parts = or_none (x.node == d.node) (has_node ds d.node) e in
+      (other_node ds d x.node a.0 (differs x.node d.node parts.0), more_different ds d parts.1 a.1)
 
-line_keeps : (n : ℕ) (l : Line) (plan : Plan) → Fits plan l → IsFit plan → IsFit (with_line n l plan)
-line_keeps n (said.Version v) plan f fit =
-    let none = fit.none (untouched plan f) in
-    record { settings = subst (AllByRecursion (λ (s : Assignment). takes v s.key s.value ≡ true)) (sym none) tt; none = fit.none; different = fit.different }
-line_keeps n (said.Node d) plan f fit = record { settings = fit.settings; none = λ e. absurd (never_empty plan.declared d e); different = more_different plan.declared d f fit.different }
-line_keeps n (said.Channel c) plan f fit = record { settings = fit.settings; none = fit.none; different = fit.different }
-line_keeps n (said.Set s) plan f fit =
-    record {
-      settings = all_append _ plan.settings s fit.settings f.0;
-      none = λ e. absurd (cc (subst (λ ds. has_node ds s.node ≡ true) e f.1));
-      different = fit.different;
-    }
-line_keeps n (said.Via v) plan f fit = record { settings = fit.settings; none = fit.none; different = fit.different }
-line_keeps n (said.Instruction i) plan f fit = record { settings = fit.settings; none = fit.none; different = fit.different }
+  line_keeps : (n : ℕ) (l : Line) (plan : Plan) → Fits plan l → IsFit plan → IsFit (with_line n l plan)
+  line_keeps n (said.Version v) plan f fit =
+      let none = fit.none (untouched plan f) in
+      record {
+        settings = subst (AllByRecursion (λ (s : Assignment). takes v s.key s.value ≡ true)) (sym none) tt;
+        none = fit.none;
+        different = fit.different;
+        calls = record { vias = fit.calls.vias; lines = fit.calls.lines };
+      }
+  line_keeps n (said.Node d) plan f fit = record {
+    settings = fit.settings;
+    none = λ e. absurd (never_empty plan.declared d e);
+    different = more_different plan.declared d f fit.different;
+    calls = record { vias = fit.calls.vias; lines = fit.calls.lines };
+  }
+  line_keeps n (said.Channel c) plan f fit = record { settings = fit.settings; none = fit.none; different = fit.different; calls = record { vias = fit.calls.vias; lines = fit.calls.lines } }
+  line_keeps n (said.Set s) plan f fit =
+      record {
+        settings = all_append _ plan.settings s fit.settings f.0;
+        none = λ e. absurd (cc (subst (λ ds. has_node ds s.node ≡ true) e f.1));
+        different = fit.different;
+        calls = record { vias = fit.calls.vias; lines = fit.calls.lines };
+      }
+  line_keeps n (said.Via v) plan f fit = record {
+    settings = fit.settings;
+    none = fit.none;
+    different = fit.different;
+    calls = record { vias = all_append (λ (x : Via). AllByRecursion IsCall x.repeaters.items) plan.vias v fit.calls.vias f; lines = fit.calls.lines };
+  }
+  line_keeps n (said.Instruction i) plan f fit = record {
+    settings = fit.settings;
+    none = fit.none;
+    different = fit.different;
+    calls = record { vias = fit.calls.vias; lines = all_append (λ (x : NumberedInstruction). NamesCalls x.instruction) plan.instructions _ fit.calls.lines f };
+  }
 
-said_keeps : (n : ℕ) (plan : Plan) (r : Result Line What) → ((l : Line) → r ≡ Ok l → Fits plan l) → IsFit plan → (p : Plan) → with_said n plan r ≡ Ok p → IsFit p
-said_keeps n plan (Ok l) h fit p e = let same : with_line n l plan ≡ p = cc e in subst IsFit same (line_keeps n l plan (h l refl) fit)
-said_keeps n plan (Err w) h fit p e = absurd (cc e)
+  said_keeps : (n : ℕ) (plan : Plan) (r : Result Line What) → ((l : Line) → r ≡ Ok l → Fits plan l) → IsFit plan → (p : Plan) → with_said n plan r ≡ Ok p → IsFit p
+  said_keeps n plan (Ok l) h fit p e = let same : with_line n l plan ≡ p = cc e in subst IsFit same (line_keeps n l plan (h l refl) fit)
+  said_keeps n plan (Err w) h fit p e = absurd (cc e)
 
-skip_keeps : (b : Bool) (n : ℕ) (plan : Plan) (line : List ℕ) → IsFit plan → (p : Plan) → cond b (Ok plan) (with_said n plan (line_at plan line)) ≡ Ok p → IsFit p
-skip_keeps true n plan line fit p e = let same : plan ≡ p = cc e in subst IsFit same fit
-skip_keeps false n plan line fit p e = said_keeps n plan (line_at plan line) (line_fits plan line) fit p e
+  skip_keeps : (b : Bool) (n : ℕ) (plan : Plan) (line : List ℕ) → IsFit plan → (p : Plan) → cond b (Ok plan) (with_said n plan (line_at plan line)) ≡ Ok p → IsFit p
+  skip_keeps true n plan line fit p e = let same : plan ≡ p = cc e in subst IsFit same fit
+  skip_keeps false n plan line fit p e = said_keeps n plan (line_at plan line) (line_fits plan line) fit p e
 
-few_keeps : (b : Bool) (bad : Bad) (r : Result Plan Bad) → ((p : Plan) → r ≡ Ok p → IsFit p) → (p : Plan) → cond b (Err bad) r ≡ Ok p → IsFit p
-few_keeps true bad r h p e = absurd (cc e)
-few_keeps false bad r h p e = h p e
+  few_keeps : (b : Bool) (bad : Bad) (r : Result Plan Bad) → ((p : Plan) → r ≡ Ok p → IsFit p) → (p : Plan) → cond b (Err bad) r ≡ Ok p → IsFit p
+  few_keeps true bad r h p e = absurd (cc e)
+  few_keeps false bad r h p e = h p e
 
-after_keeps : (n : ℕ) (plan : Plan) (line : List ℕ) → IsFit plan → (p : Plan) → after_line n plan line ≡ Ok p → IsFit p
-after_keeps n plan line fit = few_keeps (nat_lt 20000 n) _ _ (skip_keeps (is_skipped line) n plan line fit)
+  after_keeps : (n : ℕ) (plan : Plan) (line : List ℕ) → IsFit plan → (p : Plan) → after_line n plan line ≡ Ok p → IsFit p
+  after_keeps n plan line fit = few_keeps (nat_lt 20000 n) _ _ (skip_keeps (is_skipped line) n plan line fit)
 
-then_keeps : (r : Result Plan Bad) (next : Plan → Result Plan Bad) → ((p : Plan) → r ≡ Ok p → IsFit p) → ((p : Plan) → IsFit p → (q : Plan) → next p ≡ Ok q → IsFit q) → (q : Plan) → and_then r next ≡ Ok q → IsFit q
-then_keeps (Ok p) next h k q e = k p (h p refl) q e
-then_keeps (Err bad) next h k q e = absurd (cc e)
+  then_keeps : (r : Result Plan Bad) (next : Plan → Result Plan Bad) → ((p : Plan) → r ≡ Ok p → IsFit p) → ((p : Plan) → IsFit p → (q : Plan) → next p ≡ Ok q → IsFit q) → (q : Plan) → and_then r next ≡ Ok q → IsFit q
+  then_keeps (Ok p) next h k q e = k p (h p refl) q e
+  then_keeps (Err bad) next h k q e = absurd (cc e)
 
-lines_keep : (n : ℕ) (ls : List (List ℕ)) (plan : Plan) → IsFit plan → (p : Plan) → after_lines n plan ls ≡ Ok p → IsFit p
-lines_keep n [] plan fit p e = let same : plan ≡ p = cc e in subst IsFit same fit
-lines_keep n (line ∷ more) plan fit p e =
-    then_keeps (after_line (suc n) plan line) (λ next. after_lines (suc n) next more) (after_keeps (suc n) plan line fit) (λ next f. lines_keep (suc n) more next f) p e
+  lines_keep : (n : ℕ) (ls : List (List ℕ)) (plan : Plan) → IsFit plan → (p : Plan) → after_lines n plan ls ≡ Ok p → IsFit p
+  lines_keep n [] plan fit p e = let same : plan ≡ p = cc e in subst IsFit same fit
+  lines_keep n (line ∷ more) plan fit p e =
+      then_keeps (after_line (suc n) plan line) (λ next. after_lines (suc n) next more) (after_keeps (suc n) plan line fit) (λ next f. lines_keep (suc n) more next f) p e
 
-plan_fits : (bytes : List ℕ) (plan : Plan) → network_of bytes ≡ Ok plan → IsFit plan
-unfolding network_of
-plan_fits bytes = lines_keep 0 (lines bytes) nothing (record { settings = tt; none = λ _. refl; different = tt })
+  plan_fits : (bytes : List ℕ) (plan : Plan) → network_of bytes ≡ Ok plan → IsFit plan
+  unfolding network_of
+  plan_fits bytes = lines_keep 0 (lines bytes) nothing (record { settings = tt; none = λ _. refl; different = tt; calls = record { vias = tt; lines = tt } })
 
-pub settings_fit : SettingsFit
-settings_fit bytes plan e = (plan_fits bytes plan e).settings
+  pub settings_fit : SettingsFit
+  settings_fit bytes plan e = (plan_fits bytes plan e).settings
 
-pub declared_once : DeclaredOnce
-declared_once bytes plan e = (plan_fits bytes plan e).different
+  pub declared_once : DeclaredOnce
+  declared_once bytes plan e = (plan_fits bytes plan e).different
+
+  pub calls_are_calls : CallsAreCalls
+  calls_are_calls bytes plan e = (plan_fits bytes plan e).calls

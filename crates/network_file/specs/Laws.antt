@@ -1,7 +1,12 @@
 -- What holds of every network that a file lays down. Own profile.
 use Rattle.std.specs.Prelude.{ℕ, ◌≡◌, List, [], ◌∷◌, Ok, true, false}
 use Rattle.std.specs.List.{AllByRecursion}
+use Rattle.ax_address.specs.Callsign.{Callsign, IsCallsign}
+use Rattle.network_file.specs.declared.network.NumberedInstruction.{NumberedInstruction}
 use Rattle.network_file.specs.declared.plan.declarations.Declaration.{Declaration}
+use Rattle.network_file.specs.declared.plan.instructions.Instruction.{Instruction}
+use Rattle.network_file.specs.declared.plan.instructions.Instruction.TheVariants as instructions
+use Rattle.network_file.specs.declared.plan.vias.Via.{Via}
 use Rattle.network_file.specs.Keys.{Assignment, takes}
 use Rattle.network_file.specs.Networks.{network_of}
 use Rattle.network_file.specs.Places.{has_node}
@@ -21,3 +26,21 @@ AreDifferent (d ∷ ds) = (has_node ds d.node ≡ false) × AreDifferent ds
 -- each node is declared once
 abbrev pub DeclaredOnce : Type 0
 DeclaredOnce = (bytes : List ℕ) (plan : Plan) → network_of bytes ≡ Ok plan → AreDifferent plan.declared
+
+-- a call is one, as all that are read from a file are
+abbrev pub IsCall : Callsign → Type 0
+IsCall c = IsCallsign c.letters c.ssid
+
+-- who is heard, and to whom a route is locked
+abbrev pub NamesCalls : Instruction → Type 0
+NamesCalls (instructions.Heard node call nodes) = IsCall call
+NamesCalls (instructions.Lock node dest alias neighbour quality) = IsCall neighbour
+NamesCalls _ = Unit {0}
+
+-- these are calls, and all repeaters
+pub record HasCalls (plan : Plan) : Type 0 where
+  pub vias : AllByRecursion (λ (v : Via). AllByRecursion IsCall v.repeaters.items) plan.vias
+  pub lines : AllByRecursion (λ (l : NumberedInstruction). NamesCalls l.instruction) plan.instructions
+
+abbrev pub CallsAreCalls : Type 0
+CallsAreCalls = (bytes : List ℕ) (plan : Plan) → network_of bytes ≡ Ok plan → HasCalls plan

@@ -1,5 +1,7 @@
-use Rattle.network_file.proofs.Fitting.{declared_once, settings_fit}
+use Rattle.network_file.proofs.Fitting.{calls_are_calls, declared_once, settings_fit}
 use Rattle.network_file.proofs.laws.networks_fit.Goals as goal
 
 pub returns : goal.returns
-returns c = record { declared = declared_once; settings = settings_fit }
+returns c =
+    let reads = c.call_texts.ensures in
+    record { declared = declared_once reads; settings = settings_fit reads; calls = calls_are_calls reads }
