@@ -22,7 +22,7 @@ pub record Came (old new : State) : Type 0 where
   pub went : Went old.set new.set (circuits_told more)
   pub settings : new.settings ≡ old.settings
 
-told_of_both : (xs ys : List Entry) → circuits_told (xs ++ ys) ≡ circuits_told xs ++ circuits_told ys
+pub told_of_both : (xs ys : List Entry) → circuits_told (xs ++ ys) ≡ circuits_told xs ++ circuits_told ys
 told_of_both [] ys = refl
 told_of_both (Of_set t ∷ xs) ys =
     ap (λ (ts : List Told). of_circuits (Some t) ++ ts) (told_of_both xs ys) ∙ sym (append_assoc (of_circuits (Some t)) (circuits_told xs) (circuits_told ys))
@@ -42,7 +42,7 @@ then_came a b c g h = record {
 
 -- ---- the pumping
 
-told_entry : (o : Option SetTold) → circuits_told (p.told_entries o) ≡ of_circuits o
+pub told_entry : (o : Option SetTold) → circuits_told (p.told_entries o) ≡ of_circuits o
 told_entry None = refl
 told_entry (Some t) = append-nil (of_circuits (Some t))
 

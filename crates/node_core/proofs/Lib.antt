@@ -28,7 +28,17 @@ pub mod Inputs
 pub mod Making
 pub mod Coming
 pub mod Served
+pub mod Walking
 pub mod Running
+pub mod Tracing
+pub mod Spelling
+pub mod Repeating
+pub mod Naming
+pub mod Trails
+pub mod Pumps
+pub mod Moves
+pub mod Carrying
+pub mod Further
 pub mod Steps
 pub mod Fetching
 pub mod Serving

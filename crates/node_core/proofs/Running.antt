@@ -1,6 +1,6 @@
 -- Each input of a node is inputs of its circuits.
 use Rattle.std.proofs.Common.{◌≡◌, ◌∙◌, ℕ, refl, sym, ap, subst, List, [], ◌∷◌, ◌++◌, append-nil}
-use Rattle.std.specs.Prelude.{Bool, true, false, map, if◌then◌else◌, ◌&&◌, ◌==◌, nat_lt, nat_le, length, Option, Some, None, Result, Ok, Err}
+use Rattle.std.specs.Prelude.{Bool, true, false, map, ◌&&◌, ◌==◌, length, Result, Ok, Err}
 use Rattle.ax_address.specs.Callsign.{Callsign}
 use Rattle.ax_address.specs.CallOrder.{same_call}
 use Rattle.ax_frame.specs.declared.head.Head.{Head}
@@ -8,13 +8,10 @@ use Rattle.ax_frame.specs.declared.frame.FrameRefusal.{FrameRefusal}
 use Rattle.ax_frame.specs.Frames.{Frame}
 use Rattle.ax_frame.specs.Read.{read_head_at, read_at}
 use Rattle.ax_link.specs.declared.plain.LinkNotice.{LinkNotice}
-use Rattle.circuit_set.specs.declared.event.ConnectRefusal.{ConnectRefusal}
-use Rattle.circuit_set.specs.declared.event.SetRefusal.{SetRefusal}
-use Rattle.circuit_set.specs.Inputs.{connect_answer, runs}
+use Rattle.circuit_set.specs.Inputs.{runs}
 use Rattle.circuit_set.specs.Pumps.{Waiting, at_rest}
 use Rattle.circuit_set.specs.Sets as sets
 use Rattle.circuit_set.specs.Sets.{Act, SetState, Told}
-use Rattle.circuit_set.specs.Standing.{write_answer}
 use Rattle.digi_path.specs.Paths.{Action, For_me, Repeat, Not_yet, Heard}
 use Rattle.kiss_framing.specs.Stream as kiss
 use Rattle.link_table.specs.declared.written.Written.{Written}
@@ -32,28 +29,25 @@ use Rattle.node_core.specs.Circuits as circuits
 use Rattle.node_core.specs.Inputs.{after_item, after_items, moment, new_items}
 use Rattle.node_core.specs.Laws.{NothingLeftAfterInputs}
 use Rattle.node_core.specs.Links as links
-use Rattle.node_core.specs.Pumping as p
 use Rattle.node_core.specs.Receiving as receiving
 use Rattle.node_core.specs.Rounds as rounds
-use Rattle.node_core.specs.Runs.{ActsRun, BytesRun, IsUserAct, MadeFrom, RunsOn, TicksRun, circuits_told}
+use Rattle.node_core.specs.Runs.{ActsRun, BytesRun, MadeFrom, RunsOn, TicksRun, circuits_told}
 use Rattle.node_core.specs.Settling as s
 use Rattle.node_core.specs.Standing.{IsTold}
-use Rattle.node_core.specs.States.{Of_link, Overflow, State, at_links, at_set, next_hop, put, with_items}
+use Rattle.node_core.specs.States.{Of_link, Overflow, State, at_links, at_set, put, with_items}
 use Rattle.node_core.specs.UserActs as user
 use Rattle.node_core.specs.UserActs.{UserAct}
-use Rattle.node_core.proofs.Inputs.{IsInput, Went, are_acts, stays, ticks_went}
+use Rattle.node_core.proofs.Inputs.{Went, are_acts, stays, ticks_went}
 use Rattle.node_core.proofs.Making.{runs_ok}
 use Rattle.node_core.proofs.Nodes.{items_told, told_after}
-use Rattle.node_core.proofs.Turns.{kept}
 use Rattle.node_core.proofs.Coming.{Came, act_came, either, pumped_came, same_came, still, then_came}
-use Rattle.node_core.proofs.Served.{served_came}
-use Rattle.node_core.specs.Serving.{serve_sessions}
-use Rattle.node_core.specs.Turns as turns
+use Rattle.node_core.proofs.Served.{IsAsking}
+use Rattle.node_core.proofs.Walking.{LocksBy, Walks, do_on, settled_on, tick_on}
 use Rattle.ax_address.specs.CallReading.{ReadsCallTexts}
 
--- ---- the settling
+-- ---- each thing that an input is made of
 
-none_of_links : (ns : List (Callsign × LinkNotice)) → circuits_told (map (λ (x : Callsign × LinkNotice). Of_link x.0 x.1) ns) ≡ []
+pub none_of_links : (ns : List (Callsign × LinkNotice)) → circuits_told (map (λ (x : Callsign × LinkNotice). Of_link x.0 x.1) ns) ≡ []
 none_of_links [] = refl
 none_of_links (n ∷ ns) = none_of_links ns
 
@@ -65,27 +59,55 @@ noticed_came n = record {
   settings = refl;
 }
 
-drop_came : (now : ℕ) (o n : State) (peers : List Callsign) → Came o n → Came o (s.drop_first now peers n).after
-drop_came now o n [] w = w
-drop_came now o n (peer ∷ peers) w = record { more = w.more; grew = w.grew; went = w.went; settings = w.settings }
+frames_came : (fs : List Written) (n : State) → Came n (rounds.put_all fs n)
+frames_came [] n = still n
+frames_came (f ∷ fs) n = then_came n (put f n) _ (same_came n (put f n) refl refl refl) (frames_came fs (put f n))
 
-dropped_came : (now : ℕ) (n : State) → Came n (s.drop_texts now n)
-dropped_came now n = kept (s.drop_text now) s.payloads (Came n) (λ m w. drop_came now n m (links.text_peers m.links) w) n (still n)
+round_came : (n : State) → Came n (rounds.do_round n)
+round_came n =
+    let m : State = with_items (logs.Round ∷ []) n in
+    let fs = round_frames m.settings.call m.settings.alias (to_broadcast m.settings.rules m.log) in
+    then_came n m (rounds.put_all fs m) (same_came n m refl refl refl) (frames_came fs m)
 
-either_turn : (n : State) (t u : turns.Turn State) (b : Bool) → Came n t.after → Came n u.after → Came n (if b then t else u).after
-either_turn n t u true c d = c
-either_turn n t u false c d = d
+asked_came : (a : Act) (n : State) → IsAsking a → Came n (at_set (circuits.acts a) n)
+asked_came (sets.Connect dest now) n i = act_came (sets.Connect dest now) n i
+asked_came (sets.Comes datagram now) n i = absurd i
+asked_came (sets.Calls id call now) n i = act_came (sets.Calls id call now) n tt
+asked_came (sets.Discard id) n i = act_came (sets.Discard id) n tt
+asked_came (sets.Restart pair more) n i = absurd i
 
-turn_came : ReadsCallTexts → (now : ℕ) (n : State) → Came n (s.turn now n).after
-turn_came reads now n =
-    let a : State = s.enter_notices n in
-    let b : State = p.pump now a in
-    let c = either_turn b (serve_sessions now b) (s.drop_turn now b) b.settings.prompt (served_came reads now b) (dropped_came now b) in
-    then_came n b (s.serve_users now b).after (then_came n a b (noticed_came n) (pumped_came now a)) c
+-- of locks nothing is asked
+abbrev AnyItem : Item → Type 0
+AnyItem item = Unit {0}
 
-pub settled_came : ReadsCallTexts → (now : ℕ) (n : State) → Came n (s.after_input now n)
-unfolding s.after_input
-settled_came reads now n = kept (s.turn now) s.left (Came n) (λ m w. then_came n m (s.turn now m).after w (turn_came reads now m)) n (still n)
+any_lock : (act : UserAct) → LocksBy AnyItem act
+any_lock user.Round = tt
+any_lock (user.LinkFail peer) = tt
+any_lock (user.Lock dest alias neighbour quality) = tt
+any_lock (user.Connect dest) = tt
+any_lock (user.Write id message) = tt
+any_lock (user.Take id) = tt
+any_lock (user.Close id) = tt
+
+walks : Walks Came AnyItem
+walks = record {
+  serves = record {
+    still = still;
+    follows = then_came;
+    sessions = λ n ss. same_came n (record n { sessions = ss }) refl refl refl;
+    acts = asked_came;
+    pumps = pumped_came;
+    takes_text = λ peer now n. same_came n (at_links (links.take_text peer now) n) refl refl refl;
+    sends_text = λ peer text now n. same_came n (at_links (links.send_text peer text now) n) refl refl refl;
+    closes_link = λ peer now n. same_came n (at_links (links.close peer now) n) refl refl refl;
+  };
+  notices = noticed_came;
+  rounds = round_came;
+  next_round = λ due n. same_came n (record n { next_round = due }) refl refl refl;
+  ticks = λ now n. record { more = []; grew = sym (append-nil n.entries); went = ticks_went now n.set; settings = refl };
+  items = λ item n q. same_came n (with_items (item ∷ []) n) refl refl refl;
+  fails = λ peer n. same_came n (acts.fail_link peer n) refl refl refl;
+}
 
 -- ---- KISS items
 
@@ -122,61 +144,7 @@ items_came : ReadsCallTexts → (now : ℕ) (items : List kiss.Item) (n : State)
 items_came reads now [] n = still n
 items_came reads now (item ∷ more) n =
     let m : State = receiving.take_item now item n in
-    then_came n (after_item now item n) _ (then_came n m (after_item now item n) (item_came now item n) (settled_came reads now m)) (items_came reads now more (after_item now item n))
-
--- ---- ticks
-
-frames_came : (fs : List Written) (n : State) → Came n (rounds.put_all fs n)
-frames_came [] n = still n
-frames_came (f ∷ fs) n = then_came n (put f n) _ (same_came n (put f n) refl refl refl) (frames_came fs (put f n))
-
-round_came : (n : State) → Came n (rounds.do_round n)
-round_came n =
-    let m : State = with_items (logs.Round ∷ []) n in
-    let fs = round_frames m.settings.call m.settings.alias (to_broadcast m.settings.rules m.log) in
-    then_came n m (rounds.put_all fs m) (same_came n m refl refl refl) (frames_came fs m)
-
-due_came : (now : ℕ) (due : Option ℕ) (n : State) → Came n (rounds.round_by now due n)
-due_came now None n = same_came n _ refl refl refl
-due_came now (Some due) n =
-    either n _ _ (nat_le due now) (then_came n (rounds.do_round n) _ (round_came n) (same_came (rounds.do_round n) _ refl refl refl)) (still n)
-
-tick_came : (now : ℕ) (n : State) → Came n (rounds.tick now n)
-tick_came now n =
-    let m : State = at_set (circuits.ticks now) (at_links (links.tick_links now) n) in
-    let first : Came n m = record { more = []; grew = sym (append-nil n.entries); went = ticks_went now n.set; settings = refl } in
-    then_came n m _ first (either m m _ (m.settings.interval == 0) (still m) (due_came now m.next_round m))
-
--- ---- acts
-
-either_node : (n : State) (x y : Answered) (b : Bool) → Came n x.node → Came n y.node → Came n (if b then x else y).node
-either_node n x y true f g = f
-either_node n x y false f g = g
-
-lock_came : (dest : Callsign) (item : Item) (quality : ℕ) (n : State) → Came n (acts.lock dest item quality n).node
-lock_came dest item quality n =
-    either_node n _ _ (same_call dest n.settings.call) (still n)
-    (either_node n _ _ (nat_lt quality n.settings.rules.minq) (still n)
-    (either_node n _ _ (receiving.has_room (item ∷ []) n) (same_came n (with_items (item ∷ []) n) refl refl refl) (still n)))
-
-connect_came : (r : Result ℕ ConnectRefusal) (a : Act) (n : State) → IsInput a → Came n (acts.connect_by r a n).node
-connect_came (Ok id) a n i = act_came a n i
-connect_came (Err why) a n i = still n
-
-write_came : (r : Result (Unit {0}) SetRefusal) (a : Act) (n : State) → IsInput a → Came n (acts.write_by r a n).node
-write_came (Ok _) a n i = act_came a n i
-write_came (Err why) a n i = still n
-
-do_came : (now : ℕ) (act : UserAct) (n : State) → IsUserAct act → Came n (acts.do_act now act n).node
-do_came now user.Round n i = round_came n
-do_came now (user.LinkFail peer) n i = same_came n _ refl refl refl
-do_came now (user.Lock dest alias neighbour quality) n i = lock_came dest _ quality n
-do_came now (user.Connect dest) n i = connect_came (connect_answer (next_hop n) dest n.set.set) (sets.Connect dest now) n i
-do_came now (user.Write id message) n i =
-    either_node n _ _ (acts.is_kept id n) (still n)
-    (write_came (write_answer (sets.end_of id n.set.set.ends) message) (sets.Calls id (sets.Writes message) now) n tt)
-do_came now (user.Take id) n i = either_node n _ _ (acts.is_kept id n) (still n) (act_came (sets.Calls id sets.Takes now) n tt)
-do_came now (user.Close id) n i = either_node n _ _ (acts.is_kept id n) (still n) (act_came (sets.Calls id sets.Closes now) n tt)
+    then_came n (after_item now item n) _ (then_came n m (after_item now item n) (item_came now item n) (settled_on Came AnyItem walks reads now m)) (items_came reads now more (after_item now item n))
 
 -- ---- a node at rest
 
@@ -210,9 +178,9 @@ module _ (nothing : NothingLeftAfterInputs) (reads : ReadsCallTexts) where
   pub ticks_run : TicksRun
   ticks_run now n e =
       let m : State = rounds.tick (moment now) n.station in
-      exact n.station _ (then_came n.station m _ (tick_came (moment now) n.station) (settled_came reads (moment now) m)) e (told_after nothing (moment now) m)
+      exact n.station _ (then_came n.station m _ (tick_on Came AnyItem walks (moment now) n.station) (settled_on Came AnyItem walks reads (moment now) m)) e (told_after nothing (moment now) m)
 
   pub acts_run : ActsRun
   acts_run now act n i e =
       let m : State = (acts.do_act (moment now) act n.station).node in
-      exact n.station _ (then_came n.station m _ (do_came (moment now) act n.station i) (settled_came reads (moment now) m)) e (told_after nothing (moment now) m)
+      exact n.station _ (then_came n.station m _ (do_on Came AnyItem walks (moment now) act n.station i (any_lock act)) (settled_on Came AnyItem walks reads (moment now) m)) e (told_after nothing (moment now) m)

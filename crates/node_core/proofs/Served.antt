@@ -1,4 +1,5 @@
--- What the users are served with is inputs of the node's circuits, too.
+-- What is so from one state of a node to another, and behind one another, is so of what the users are served with where it is so of each thing
+-- that is done for them.
 use Rattle.std.proofs.Common.{◌≡◌, ℕ, zero, suc, refl, List, [], ◌∷◌}
 use Rattle.std.specs.Prelude.{Bool, true, false, if◌then◌else◌, not, ◌&&◌, length, map, nat_lt, Option, Some, None, Result, Ok, Err}
 use Rattle.ax_address.specs.CallReading.{ReadsCallTexts, call_at}
@@ -36,119 +37,30 @@ use Rattle.node_core.specs.Links as links
 use Rattle.node_core.specs.Pumping.{pump}
 use Rattle.node_core.specs.Serving as serving
 use Rattle.node_core.specs.Sessions.{Session}
-use Rattle.node_core.specs.States.{State, at_set, next_hop}
+use Rattle.node_core.specs.States.{State, at_links, at_set, next_hop}
 use Rattle.node_core.specs.Turns.{Turn, or_else}
 use Rattle.node_core.specs.Users as users
 use Rattle.node_core.specs.Views.{view}
 use Rattle.node_core.specs.Users.{at_session, session_at}
-use Rattle.node_core.proofs.Coming.{Came, act_came, pumped_came, same_came, still, then_came}
-use Rattle.node_core.proofs.Inputs.{IsInput}
 
--- ---- calls of the circuits
+-- what a user asks the circuits for
+abbrev pub IsAsking : sets.Act → Type 0
+IsAsking (sets.Connect dest now) = IsCallsign dest.letters dest.ssid
+IsAsking (sets.Comes datagram now) = ⊥
+IsAsking (sets.Calls id call now) = Unit {0}
+IsAsking (sets.Discard id) = Unit {0}
+IsAsking (sets.Restart pair more) = ⊥
 
-pub acts_came : (now : ℕ) (a : sets.Act) (n : State) → IsInput a → Came n (users.acts now a n)
-acts_came now a n i = let m : State = at_set (circuits.acts a) n in then_came n m (users.acts now a n) (act_came a n i) (pumped_came now m)
-
-changed_came : (nth : ℕ) (step : Session → Session) (n : State) → Came n (at_session nth step n)
-changed_came nth step n = same_came n (at_session nth step n) refl refl refl
-
--- behind a change of a session
-behind : (nth : ℕ) (step : Session → Session) (n m : State) → Came (at_session nth step n) m → Came n m
-behind nth step n m c = then_came n (at_session nth step n) m (changed_came nth step n) c
-
-written_came : (id : ℕ) (text : List ℕ) (now : ℕ) (r : Result (Unit {0}) SetRefusal) (n : State) → Came n (users.written r (sets.Calls id (sets.Writes text) now) n)
-written_came id text now (Ok _) n = act_came (sets.Calls id (sets.Writes text) now) n tt
-written_came id text now (Err why) n = still n
-
-write_came : (now id : ℕ) (text : List ℕ) (n : State) → Came n (users.write_to now id text n)
-write_came now id text n =
-    let m : State = users.written (users.write_answer id text n) (sets.Calls id (sets.Writes text) now) n in
-    then_came n m _ (written_came id text now (users.write_answer id text n) n) (pumped_came now m)
-
-close_came : (now id : ℕ) (n : State) → Came n (users.close now id n)
-close_came now id n = acts_came now (sets.Calls id sets.Closes now) n tt
-
--- ---- the user's side
-
-sent_came : (now : ℕ) (peer : Callsign) (text : List ℕ) (r : Result (Unit {0}) TextRefusal) (n : State) → Came n (users.sent r peer text now n)
-sent_came now peer text (Ok _) n = same_came n _ refl refl refl
-sent_came now peer text (Err why) n = still n
-
-say_to_came : (user : Option User) (now : ℕ) (text : List ℕ) (n : State) → Came n (users.say_if user now text n)
-say_to_came None now text n = still n
-say_to_came (Some (AtEnd id)) now text n = write_came now id text n
-say_to_came (Some (AtLink peer)) now text n = sent_came now peer text (links.text_answer peer text n.links) n
-
-say_came : (now nth : ℕ) (text : List ℕ) (n : State) → Came n (users.say now nth text n)
-say_came now nth text n = say_to_came (users.listener (session_at nth n) n) now text n
-
-abbrev TurnCame : State → Turn State → Type 0
-TurnCame n t = Came n t.after
-
-take_if_came : (b : Bool) (m n : State) → Came n m → TurnCame n (users.take_if b m n)
-take_if_came true m n c = c
-take_if_came false m n c = still n
-
-either_turn : (b : Bool) (t u : Turn State) (n : State) → TurnCame n t → TurnCame n u → TurnCame n (if b then t else u)
-either_turn true t u n c d = c
-either_turn false t u n c d = d
-
-from_end_came : (now nth id : ℕ) (n : State) → TurnCame n (users.take_from_end now nth id n)
-from_end_came now nth id n =
-    let m : State = at_set (circuits.acts (sets.Calls id sets.Takes now)) n in
-    let step = users.with_text (answers.message_at [] (users.end_at id n)) in
-    let b : State = at_session nth step m in
-    take_if_came (users.took (answers.take_answer (users.end_at id n))) (pump now b) n
-    (then_came n m (pump now b) (act_came (sets.Calls id sets.Takes now) n tt) (behind nth step m (pump now b) (pumped_came now b)))
-
-from_link_came : (now nth : ℕ) (peer : Callsign) (n : State) → TurnCame n (users.take_from_link now nth peer n)
-from_link_came now nth peer n = take_if_came (links.has_text peer n.links) _ n (same_came n _ refl refl refl)
-
-taken_came : (o : Option User) (now nth : ℕ) (n : State) → TurnCame n (users.take_by o now nth n)
-taken_came None now nth n = still n
-taken_came (Some (AtEnd id)) now nth n = from_end_came now nth id n
-taken_came (Some (AtLink peer)) now nth n = from_link_came now nth peer n
-
-side_closed_came : (o : Option User) (now : ℕ) (n : State) → Came n (users.close_by o now n)
-side_closed_came None now n = still n
-side_closed_came (Some (AtEnd id)) now n = close_came now id n
-side_closed_came (Some (AtLink peer)) now n = same_came n _ refl refl refl
-
--- ---- replies, messages, texts
-
-reply_came : (o : Option Reply) (now nth : ℕ) (n : State) → TurnCame n (bridging.reply_by o now nth n)
-reply_came None now nth n = still n
-reply_came (Some r) now nth n = behind nth bridging.drop_reply n _ (say_came now nth _ (at_session nth bridging.drop_reply n))
-
-pass_came : (now nth : ℕ) (message : List ℕ) (n : State) → Came n (bridging.pass_on now nth message n)
-pass_came now nth message n = behind nth (bridging.log_gave (users.said nth message n) message) n _ (say_came now nth message _)
-
-given_came : (o : Option Circuit) (now nth : ℕ) (n : State) → TurnCame n (bridging.give_of o now nth n)
-given_came None now nth n = still n
-given_came (Some c) now nth n =
-    let end = users.end_at c.id n in
-    let m : State = users.acts now (sets.Calls c.id sets.Takes now) n in
-    either_turn (users.took (answers.take_answer end)) _ _ n
-    (then_came n m _ (acts_came now (sets.Calls c.id sets.Takes now) n tt) (behind nth (bridging.log_got (answers.message_at [] end)) m _ (pass_came now nth (answers.message_at [] end) _))) (still n)
-
-next_came : (now nth : ℕ) (n : State) → TurnCame n (bridging.next_text now nth n)
-next_came now nth n = either_turn (bridging.has_rest (session_at nth n)) _ _ n (still n) (taken_came (users.present (session_at nth n)) now nth n)
-
-rest_came : (now nth id : ℕ) (n : State) → Came n (bridging.write_rest now nth id n)
-rest_came now nth id n =
-    let text = bridging.rest_of (session_at nth n) in
-    let step = bridging.log_wrote (users.wrote_by (users.write_answer id text n)) text in
-    behind nth step n (bridging.write_rest now nth id n) (write_came now id text (at_session nth step n))
-
-text_came : (now nth : ℕ) (c : Circuit) (n : State) → TurnCame n (bridging.write_text now nth c n)
-text_came now nth c n =
-    let t : Turn State = bridging.next_text now nth n in
-    either_turn (not c.closed && users.end_has_room c.id n) _ _ n
-    (either_turn t.did _ _ n (then_came n t.after _ (next_came now nth n) (rest_came now nth c.id t.after)) (next_came now nth n)) (still n)
-
-closed_came : (o : Option Circuit) (now nth : ℕ) (n : State) → TurnCame n (bridging.close_by o now nth n)
-closed_came None now nth n = still n
-closed_came (Some c) now nth n = behind nth bridging.note_closed n _ (close_came now c.id _)
+-- what is so of a state and itself, and behind one another, of each thing that is done for a user, and as the circuits are pumped
+pub record Serves (P : State → State → Type 0) : Type 0 where
+  pub still : (n : State) → P n n
+  pub follows : (a b c : State) → P a b → P b c → P a c
+  pub sessions : (n : State) (ss : List Session) → P n (record n { sessions = ss })
+  pub acts : (a : sets.Act) (n : State) → IsAsking a → P n (at_set (circuits.acts a) n)
+  pub pumps : (now : ℕ) (n : State) → P n (pump now n)
+  pub takes_text : (peer : Callsign) (now : ℕ) (n : State) → P n (at_links (links.take_text peer now) n)
+  pub sends_text : (peer : Callsign) (text : List ℕ) (now : ℕ) (n : State) → P n (at_links (links.send_text peer text now) n)
+  pub closes_link : (peer : Callsign) (now : ℕ) (n : State) → P n (at_links (links.close peer now) n)
 
 -- ---- lines
 
@@ -224,72 +136,182 @@ module _ (reads : ReadsCallTexts) where
   action_named : (line : List ℕ) (n : State) → IsNamed (asking.action_for line n)
   action_named line n = named (bridging.prompt_of n) (view (commands.wanted line) n) (commands.command_at line) (asked_at line)
 
-  tried_came : (now nth : ℕ) (dest : Callsign) (r : Result ℕ ConnectRefusal) (n : State) → IsCallsign dest.letters dest.ssid → Came n (asking.tried now nth dest r n)
-  tried_came now nth dest (Ok id) n i =
+module _ (P : State → State → Type 0) (w : Serves P) (reads : ReadsCallTexts) where
+  -- ---- calls of the circuits
+
+  acts_on : (now : ℕ) (a : sets.Act) (n : State) → IsAsking a → P n (users.acts now a n)
+  acts_on now a n i = let m : State = at_set (circuits.acts a) n in w.follows n m (users.acts now a n) (w.acts a n i) (w.pumps now m)
+
+  changed_on : (nth : ℕ) (step : Session → Session) (n : State) → P n (at_session nth step n)
+  changed_on nth step n = w.sessions n (at_session nth step n).sessions
+
+  -- behind a change of a session
+  behind : (nth : ℕ) (step : Session → Session) (n m : State) → P (at_session nth step n) m → P n m
+  behind nth step n m c = w.follows n (at_session nth step n) m (changed_on nth step n) c
+
+  written_on : (id : ℕ) (text : List ℕ) (now : ℕ) (r : Result (Unit {0}) SetRefusal) (n : State) → P n (users.written r (sets.Calls id (sets.Writes text) now) n)
+  written_on id text now (Ok _) n = w.acts (sets.Calls id (sets.Writes text) now) n tt
+  written_on id text now (Err why) n = w.still n
+
+  write_on : (now id : ℕ) (text : List ℕ) (n : State) → P n (users.write_to now id text n)
+  write_on now id text n =
+      let m : State = users.written (users.write_answer id text n) (sets.Calls id (sets.Writes text) now) n in
+      w.follows n m _ (written_on id text now (users.write_answer id text n) n) (w.pumps now m)
+
+  close_on : (now id : ℕ) (n : State) → P n (users.close now id n)
+  close_on now id n = acts_on now (sets.Calls id sets.Closes now) n tt
+
+  -- ---- the user's side
+
+  sent_on : (now : ℕ) (peer : Callsign) (text : List ℕ) (r : Result (Unit {0}) TextRefusal) (n : State) → P n (users.sent r peer text now n)
+  sent_on now peer text (Ok _) n = w.sends_text peer text now n
+  sent_on now peer text (Err why) n = w.still n
+
+  say_to_on : (user : Option User) (now : ℕ) (text : List ℕ) (n : State) → P n (users.say_if user now text n)
+  say_to_on None now text n = w.still n
+  say_to_on (Some (AtEnd id)) now text n = write_on now id text n
+  say_to_on (Some (AtLink peer)) now text n = sent_on now peer text (links.text_answer peer text n.links) n
+
+  say_on : (now nth : ℕ) (text : List ℕ) (n : State) → P n (users.say now nth text n)
+  say_on now nth text n = say_to_on (users.listener (session_at nth n) n) now text n
+
+  abbrev TurnOn : State → Turn State → Type 0
+  TurnOn n t = P n t.after
+
+  take_if_on : (b : Bool) (m n : State) → P n m → TurnOn n (users.take_if b m n)
+  take_if_on true m n c = c
+  take_if_on false m n c = w.still n
+
+  either_turn : (b : Bool) (t u : Turn State) (n : State) → TurnOn n t → TurnOn n u → TurnOn n (if b then t else u)
+  either_turn true t u n c d = c
+  either_turn false t u n c d = d
+
+  from_end_on : (now nth id : ℕ) (n : State) → TurnOn n (users.take_from_end now nth id n)
+  from_end_on now nth id n =
+      let m : State = at_set (circuits.acts (sets.Calls id sets.Takes now)) n in
+      let step = users.with_text (answers.message_at [] (users.end_at id n)) in
+      let b : State = at_session nth step m in
+      take_if_on (users.took (answers.take_answer (users.end_at id n))) (pump now b) n
+      (w.follows n m (pump now b) (w.acts (sets.Calls id sets.Takes now) n tt) (behind nth step m (pump now b) (w.pumps now b)))
+
+  from_link_on : (now nth : ℕ) (peer : Callsign) (n : State) → TurnOn n (users.take_from_link now nth peer n)
+  from_link_on now nth peer n =
+      let m : State = at_links (links.take_text peer now) n in
+      let step = users.with_text (links.text_with peer n.links) in
+      take_if_on (links.has_text peer n.links) (at_session nth step m) n (w.follows n m (at_session nth step m) (w.takes_text peer now n) (changed_on nth step m))
+
+  taken_on : (o : Option User) (now nth : ℕ) (n : State) → TurnOn n (users.take_by o now nth n)
+  taken_on None now nth n = w.still n
+  taken_on (Some (AtEnd id)) now nth n = from_end_on now nth id n
+  taken_on (Some (AtLink peer)) now nth n = from_link_on now nth peer n
+
+  side_closed_on : (o : Option User) (now : ℕ) (n : State) → P n (users.close_by o now n)
+  side_closed_on None now n = w.still n
+  side_closed_on (Some (AtEnd id)) now n = close_on now id n
+  side_closed_on (Some (AtLink peer)) now n = w.closes_link peer now n
+
+  -- ---- replies, messages, texts
+
+  reply_on : (o : Option Reply) (now nth : ℕ) (n : State) → TurnOn n (bridging.reply_by o now nth n)
+  reply_on None now nth n = w.still n
+  reply_on (Some r) now nth n = behind nth bridging.drop_reply n _ (say_on now nth _ (at_session nth bridging.drop_reply n))
+
+  pass_on : (now nth : ℕ) (message : List ℕ) (n : State) → P n (bridging.pass_on now nth message n)
+  pass_on now nth message n = behind nth (bridging.log_gave (users.said nth message n) message) n _ (say_on now nth message _)
+
+  given_on : (o : Option Circuit) (now nth : ℕ) (n : State) → TurnOn n (bridging.give_of o now nth n)
+  given_on None now nth n = w.still n
+  given_on (Some c) now nth n =
+      let end = users.end_at c.id n in
+      let m : State = users.acts now (sets.Calls c.id sets.Takes now) n in
+      either_turn (users.took (answers.take_answer end)) _ _ n
+      (w.follows n m _ (acts_on now (sets.Calls c.id sets.Takes now) n tt) (behind nth (bridging.log_got (answers.message_at [] end)) m _ (pass_on now nth (answers.message_at [] end) _))) (w.still n)
+
+  next_on : (now nth : ℕ) (n : State) → TurnOn n (bridging.next_text now nth n)
+  next_on now nth n = either_turn (bridging.has_rest (session_at nth n)) _ _ n (w.still n) (taken_on (users.present (session_at nth n)) now nth n)
+
+  rest_on : (now nth id : ℕ) (n : State) → P n (bridging.write_rest now nth id n)
+  rest_on now nth id n =
+      let text = bridging.rest_of (session_at nth n) in
+      let step = bridging.log_wrote (users.wrote_by (users.write_answer id text n)) text in
+      behind nth step n (bridging.write_rest now nth id n) (write_on now id text (at_session nth step n))
+
+  text_on : (now nth : ℕ) (c : Circuit) (n : State) → TurnOn n (bridging.write_text now nth c n)
+  text_on now nth c n =
+      let t : Turn State = bridging.next_text now nth n in
+      either_turn (not c.closed && users.end_has_room c.id n) _ _ n
+      (either_turn t.did _ _ n (w.follows n t.after _ (next_on now nth n) (rest_on now nth c.id t.after)) (next_on now nth n)) (w.still n)
+
+  closed_on : (o : Option Circuit) (now nth : ℕ) (n : State) → TurnOn n (bridging.close_by o now nth n)
+  closed_on None now nth n = w.still n
+  closed_on (Some c) now nth n = behind nth bridging.note_closed n _ (close_on now c.id _)
+
+  tried_on : (now nth : ℕ) (dest : Callsign) (r : Result ℕ ConnectRefusal) (n : State) → IsCallsign dest.letters dest.ssid → P n (asking.tried now nth dest r n)
+  tried_on now nth dest (Ok id) n i =
       let a : State = at_session nth (asking.tries id dest) n in
       let b : State = users.acts now (sets.Connect dest now) a in
-      behind nth (asking.tries id dest) n _ (then_came a b _ (acts_came now (sets.Connect dest now) a i) (say_came now nth _ b))
-  tried_came now nth dest (Err why) n i = say_came now nth _ n
+      behind nth (asking.tries id dest) n _ (w.follows a b _ (acts_on now (sets.Connect dest now) a i) (say_on now nth _ b))
+  tried_on now nth dest (Err why) n i = say_on now nth _ n
 
-  bye_came : (now nth : ℕ) (text : List ℕ) (n : State) → Came n (asking.say_bye now nth text n)
-  bye_came now nth text n =
+  bye_on : (now nth : ℕ) (text : List ℕ) (n : State) → P n (asking.say_bye now nth text n)
+  bye_on now nth text n =
       let a : State = users.say now nth text n in
-      then_came n a _ (say_came now nth text n) (let b : State = at_session nth asking.leaves a in behind nth asking.leaves a (users.close_user now nth b) (side_closed_came (users.present (session_at nth b)) now b))
+      w.follows n a _ (say_on now nth text n) (let b : State = at_session nth asking.leaves a in behind nth asking.leaves a (users.close_user now nth b) (side_closed_on (users.present (session_at nth b)) now b))
 
-  done_came : (now nth : ℕ) (a : Action) (n : State) → IsNamed a → Came n (asking.do_action now nth a n)
-  done_came now nth (action.Say text) n i = say_came now nth text.items n
-  done_came now nth (action.Bye text) n i = bye_came now nth text.items n
-  done_came now nth (action.Connect dest) n i = tried_came now nth dest (connect_answer (next_hop n) dest n.set.set) n i
-  done_came now nth action.Nothing n i = still n
+  done_on : (now nth : ℕ) (a : Action) (n : State) → IsNamed a → P n (asking.do_action now nth a n)
+  done_on now nth (action.Say text) n i = say_on now nth text.items n
+  done_on now nth (action.Bye text) n i = bye_on now nth text.items n
+  done_on now nth (action.Connect dest) n i = tried_on now nth dest (connect_answer (next_hop n) dest n.set.set) n i
+  done_on now nth action.Nothing n i = w.still n
 
   at_named : (o : Option Session) (n : State) → IsNamed (asking.action_at o n)
   at_named None n = tt
-  at_named (Some s) n = action_named (asking.first_line s.rest) n
+  at_named (Some s) n = action_named reads (asking.first_line s.rest) n
 
-  line_came : (now nth : ℕ) (n : State) → Came n (asking.do_line now nth n)
-  line_came now nth n = behind nth asking.cut_line n _ (done_came now nth (asking.action_at (session_at nth n) n) _ (at_named (session_at nth n) n))
+  line_on : (now nth : ℕ) (n : State) → P n (asking.do_line now nth n)
+  line_on now nth n = behind nth asking.cut_line n _ (done_on now nth (asking.action_at (session_at nth n) n) _ (at_named (session_at nth n) n))
 
-  if_text_came : (t : Turn State) (step : State → State) (n : State) → TurnCame n t → ((m : State) → Came m (step m)) → TurnCame n (asking.if_text t step)
-  if_text_came t step n c steps = either_turn t.did _ _ n (then_came n t.after (step t.after) c (steps t.after)) c
+  if_text_on : (t : Turn State) (step : State → State) (n : State) → TurnOn n t → ((m : State) → P m (step m)) → TurnOn n (asking.if_text t step)
+  if_text_on t step n c steps = either_turn t.did _ _ n (w.follows n t.after (step t.after) c (steps t.after)) c
 
-  take_line_came : (now nth : ℕ) (n : State) → TurnCame n (asking.take_line now nth n)
-  take_line_came now nth n =
+  take_line_on : (now nth : ℕ) (n : State) → TurnOn n (asking.take_line now nth n)
+  take_line_on now nth n =
       either_turn (asking.is_deaf_at (session_at nth n) n) _ _ n
-      (if_text_came (bridging.next_text now nth n) _ n (next_came now nth n) (λ m. changed_came nth bridging.drop_rest m))
-      (either_turn (asking.has_room_at (session_at nth n) n) _ _ n (if_text_came (bridging.next_text now nth n) _ n (next_came now nth n) (line_came now nth)) (still n))
+      (if_text_on (bridging.next_text now nth n) _ n (next_on now nth n) (λ m. changed_on nth bridging.drop_rest m))
+      (either_turn (asking.has_room_at (session_at nth n) n) _ _ n (if_text_on (bridging.next_text now nth n) _ n (next_on now nth n) (line_on now nth)) (w.still n))
 
   -- ---- serving
 
-  up_at_came : (stage : Stage) (now nth : ℕ) (n : State) → TurnCame n (serving.take_up_at stage now nth n)
-  up_at_came AtPrompt now nth n = take_line_came now nth n
-  up_at_came (Trying c) now nth n = still n
-  up_at_came (Failed c) now nth n = still n
-  up_at_came (Connected c) now nth n = text_came now nth c n
+  up_at_on : (stage : Stage) (now nth : ℕ) (n : State) → TurnOn n (serving.take_up_at stage now nth n)
+  up_at_on AtPrompt now nth n = take_line_on now nth n
+  up_at_on (Trying c) now nth n = w.still n
+  up_at_on (Failed c) now nth n = w.still n
+  up_at_on (Connected c) now nth n = text_on now nth c n
 
-  up_came : (o : Option Stage) (now nth : ℕ) (n : State) → TurnCame n (serving.take_up_by o now nth n)
-  up_came None now nth n = still n
-  up_came (Some stage) now nth n = up_at_came stage now nth n
+  up_on : (o : Option Stage) (now nth : ℕ) (n : State) → TurnOn n (serving.take_up_by o now nth n)
+  up_on None now nth n = w.still n
+  up_on (Some stage) now nth n = up_at_on stage now nth n
 
-  else_came : (first next : State → Turn State) (n : State) → ((m : State) → TurnCame m (first m)) → ((m : State) → TurnCame m (next m)) → TurnCame n (or_else first next n)
-  else_came first next n f g = either_turn (first n).did _ _ n (f n) (then_came n (first n).after _ (f n) (g (first n).after))
+  else_on : (first next : State → Turn State) (n : State) → ((m : State) → TurnOn m (first m)) → ((m : State) → TurnOn m (next m)) → TurnOn n (or_else first next n)
+  else_on first next n f g = either_turn (first n).did _ _ n (f n) (w.follows n (first n).after _ (f n) (g (first n).after))
 
-  once_came : (now nth : ℕ) (n : State) → TurnCame n (serving.serve_once now nth n)
-  once_came now nth n =
-      else_came (bridging.give_reply now nth) (or_else (bridging.give_message now nth) (or_else (serving.take_up now nth) (bridging.close_circuit now nth))) n (λ m. reply_came (bridging.next_reply (session_at nth m) m) now nth m)
-      (λ a. else_came (bridging.give_message now nth) (or_else (serving.take_up now nth) (bridging.close_circuit now nth)) a (λ m. given_came (bridging.giving_circuit (session_at nth m) m) now nth m)
-      (λ b. else_came (serving.take_up now nth) (bridging.close_circuit now nth) b (λ m. up_came (serving.stage_of (session_at nth m)) now nth m)
-      (λ m. closed_came (bridging.circuit_to_close (session_at nth m) m) now nth m)))
+  once_on : (now nth : ℕ) (n : State) → TurnOn n (serving.serve_once now nth n)
+  once_on now nth n =
+      else_on (bridging.give_reply now nth) (or_else (bridging.give_message now nth) (or_else (serving.take_up now nth) (bridging.close_circuit now nth))) n (λ m. reply_on (bridging.next_reply (session_at nth m) m) now nth m)
+      (λ a. else_on (bridging.give_message now nth) (or_else (serving.take_up now nth) (bridging.close_circuit now nth)) a (λ m. given_on (bridging.giving_circuit (session_at nth m) m) now nth m)
+      (λ b. else_on (serving.take_up now nth) (bridging.close_circuit now nth) b (λ m. up_on (serving.stage_of (session_at nth m)) now nth m)
+      (λ m. closed_on (bridging.circuit_to_close (session_at nth m) m) now nth m)))
 
-  serve_came : (now nth : ℕ) (n : State) → TurnCame n (serving.serve now nth n)
-  serve_came now nth n = then_came n _ _ (once_came now nth n) (pumped_came now _)
+  serve_on : (now nth : ℕ) (n : State) → TurnOn n (serving.serve now nth n)
+  serve_on now nth n = w.follows n _ _ (once_on now nth n) (w.pumps now _)
 
-  each_came : (now nth k : ℕ) (n : State) → TurnCame n (serving.serve_each now nth k n)
-  each_came now nth zero n = still n
-  each_came now nth (suc k) n = then_came n _ _ (serve_came now nth n) (each_came now (suc nth) k _)
+  each_on : (now nth k : ℕ) (n : State) → TurnOn n (serving.serve_each now nth k n)
+  each_on now nth zero n = w.still n
+  each_on now nth (suc k) n = w.follows n _ _ (serve_on now nth n) (each_on now (suc nth) k _)
 
-  pub served_came : (now : ℕ) (n : State) → TurnCame n (serving.serve_sessions now n)
+  pub served_on : (now : ℕ) (n : State) → TurnOn n (serving.serve_sessions now n)
   unfolding serving.serve_sessions
-  served_came now n =
+  served_on now n =
       let a : State = serving.greet_links n in
       let b : State = (serving.serve_all now a).after in
-      then_came n a _ (same_came n a refl refl refl) (then_came a b _ (each_came now 0 (length a.sessions) a) (same_came b _ refl refl refl))
+      w.follows n a _ (w.sessions n a.sessions) (w.follows a b _ (each_on now 0 (length a.sessions) a) (w.sessions b (serving.drop_over b).sessions))

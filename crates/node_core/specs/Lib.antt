@@ -24,3 +24,4 @@ pub mod Kept
 pub mod Runs
 pub mod Fetching
 pub mod Bridged
+pub mod Carried

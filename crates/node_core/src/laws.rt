@@ -2,6 +2,7 @@
 ghost use Rattle.circuit_set.specs.Inputs.{TellsLess};
 ghost use Rattle.link_table.specs.Payloads.{CountsPayloads, OffersLeave, TakesLower};
 ghost use Rattle.node_core.specs.Bridged.{SessionsBounded, SessionsBridged};
+ghost use Rattle.node_core.specs.Carried.{ActsCarry, BytesCarry, CarriedFurther, TicksCarry};
 ghost use Rattle.node_core.specs.Fetching.{FetchesAllEntries, FetchesAllFrames, FramesInOrder};
 ghost use Rattle.node_core.specs.Runs.{ActsRun, BytesRun, InputsAreSteps, TicksRun};
 ghost use Rattle.node_core.specs.Laws.{InputsSettle, NothingLeftAfterInputs};
@@ -24,6 +25,35 @@ pub fn inputs_are_circuit_runs()
 {
     settles();
     ax_address::laws::call_texts();
+}
+
+/// Of the datagrams that were sent in a network whose links are of one modulus: each input of a node is inputs of its circuits as above, each
+/// datagram that is handed up to them comes of one that was sent before, the same but for a time to live that is no greater, and so does all
+/// that its links then hold and put out as NET/ROM's, where that was so of it before and what comes is fit.
+pub fn datagrams_are_carried()
+    ensures bytes { BytesCarry }
+    ensures ticks { TicksCarry }
+    ensures acts { ActsCarry }
+{
+    settles();
+    ax_address::laws::call_texts();
+    link_table::laws::carried();
+    link_table::laws::carried_by_weaker();
+    link_table::laws::frames_are_spelled();
+    ax_frame::laws::head_spelling();
+    ax_frame::laws::frame_spelling();
+    l3_datagram::laws::one_hop_on();
+}
+
+/// What a node carries comes of datagrams that were sent, too, where more was sent, as its frames are fetched and its entries told, and as
+/// repeaters are set; each of its frames is carried, and so is a broadcast of a call; and a node starts so.
+pub fn carried_further()
+    ensures { CarriedFurther }
+{
+    link_table::laws::carried();
+    link_table::laws::carried_by_weaker();
+    link_table::laws::frames_are_spelled();
+    l3_datagram::laws::one_hop_on();
 }
 
 /// Inputs of the set at one node are steps of a run of several nodes' sets: they tell what they tell of that set alone, and change no other.
