@@ -33,31 +33,9 @@ use Rattle.net_replay.specs.Starting.{Placed, by_number, has_number, new_nodes, 
 use Rattle.net_replay.specs.World as worlds
 use Rattle.net_replay.specs.World.{Bytes, Time, World, answer, place_of, put, reach, start, tell}
 use Rattle.net_replay.proofs.Containing.{AreApart, Contains, IsQuiet, Tracks, TracksAt, events_by, events_named, is_named, names, net_sets, sets_run}
+use Rattle.ax_address.specs.Callsign.{Callsign}
+use Rattle.net_replay.proofs.LineWalks.{IsPlain, LineIs, Moves, lines_lead}
 use Rattle.net_replay.proofs.Moving.{Leads, new_tracks, put_leads, reach_leads, restart_leads, set_is, still, tell_leads, then}
-
--- ---- what is told of a line itself tells nothing of circuits
-
-quiet_refusal : (o : Option LineRefusal) → AllByRecursion IsQuiet (refusal_events o)
-quiet_refusal None = tt
-quiet_refusal (Some why) = (tt, tt)
-
-quiet_told : (r : Result ActDone ActRefusal) → AllByRecursion IsQuiet (told_of r)
-quiet_told (Ok d) = tt
-quiet_told (Err why) = quiet_refusal (of_act why)
-
-quiet_took : (node end : ℕ) (r : Result ActDone ActRefusal) → AllByRecursion IsQuiet (took_of node end r)
-quiet_took node end (Ok Done) = tt
-quiet_took node end (Ok (Made id)) = tt
-quiet_took node end (Ok (Took message)) = (tt, tt)
-quiet_took node end (Err why) = quiet_refusal (of_act why)
-
-quiet_shown : (o : Option Placed) → AllByRecursion IsQuiet (shown_of o)
-quiet_shown None = tt
-quiet_shown (Some p) = (tt, tt)
-
-quiet_wrote : (node end nth more : ℕ) → AllByRecursion IsQuiet (all_wrote node end nth more)
-quiet_wrote node end nth zero = (tt, tt)
-quiet_wrote node end nth (suc more) = tt
 
 -- ---- no two nodes have one number
 
@@ -144,7 +122,7 @@ by_number_different ds (suc count) n a =
     (filter_all (λ (d : Declaration). has_node (by_number ds (suc n) count) d.node ≡ false) n ds (λ x e. from_none ds count (suc n) x.node (omega (arith, e))))
     (filter_different n ds a) (by_number_different ds count (suc n) a)
 
-placed_names : (plan : Plan) (ds : List Declaration) → names (map (new_placed plan) ds) ≡ ds
+pub placed_names : (plan : Plan) (ds : List Declaration) → names (map (new_placed plan) ds) ≡ ds
 placed_names plan [] = refl
 placed_names plan (d ∷ ds) = ap (λ xs. d ∷ xs) (placed_names plan ds)
 
@@ -156,150 +134,72 @@ module _ (plan : Plan) (apart : AreApart (names (new_nodes plan))) (are_steps : 
   abbrev Lead : World → World → Type 0
   Lead w v = Leads plan apart are_steps bytes ticks acts_run w v
 
-  stays : (w : World) → Lead w w
-  stays = still plan apart are_steps bytes ticks acts_run
+  -- nothing is asked of whom broadcasts are heard from, and to whom routes are locked
+  abbrev AnyCall : Callsign → Type 0
+  AnyCall call = Unit {0}
 
-  next : (u v w : World) → Lead u v → Lead v w → Lead u w
-  next = then plan apart are_steps bytes ticks acts_run
+  plain_act : (act : UserAct) → IsPlain act → IsUserAct act
+  plain_act acts.Round i = tt
+  plain_act (acts.LinkFail peer) i = tt
+  plain_act (acts.Lock dest alias neighbour quality) i = tt
+  plain_act (acts.Connect dest) i = absurd i
+  plain_act (acts.Write id message) i = tt
+  plain_act (acts.Take id) i = tt
+  plain_act (acts.Close id) i = tt
 
-  tells : (line : ℕ) (es : List Event) (w : World) → AllByRecursion IsQuiet es → Lead w (tell line es w)
-  tells = tell_leads plan apart are_steps bytes ticks acts_run
+  moves : Moves plan AnyCall AnyCall Lead
+  moves = record {
+    still = still plan apart are_steps bytes ticks acts_run;
+    follows = then plan apart are_steps bytes ticks acts_run;
+    tells = tell_leads plan apart are_steps bytes ticks acts_run;
+    does = λ line at act w i. reach_leads plan apart are_steps bytes ticks acts_run line at (worlds.Act act) w (plain_act act i);
+    locks = λ line at dest alias neighbour quality w i. reach_leads plan apart are_steps bytes ticks acts_run line at (worlds.Act (acts.Lock dest alias neighbour quality)) w tt;
+    connects = λ line at dest w i. reach_leads plan apart are_steps bytes ticks acts_run line at (worlds.Act (acts.Connect dest)) w i;
+    times = λ line at w. reach_leads plan apart are_steps bytes ticks acts_run line at Time w tt;
+    broadcasts = λ line at call b w i. reach_leads plan apart are_steps bytes ticks acts_run line at _ w tt;
+    frames = λ line at place f w e. reach_leads plan apart are_steps bytes ticks acts_run line at _ w tt;
+    puts = put_leads plan apart are_steps bytes ticks acts_run plan.channels;
+    restarts = restart_leads plan apart are_steps bytes ticks acts_run;
+    settles = λ at w. still plan apart are_steps bytes ticks acts_run w;
+    later = λ ms w. still plan apart are_steps bytes ticks acts_run w;
+  }
 
-  puts : (line at : ℕ) (came128 : Bool) (w : World) → Lead w (put plan.channels line at came128 w)
-  puts = put_leads plan apart are_steps bytes ticks acts_run plan.channels
+  line_is : (i : Instruction) → IsInstruction i → LineIs AnyCall AnyCall i
+  line_is (instructions.Heard node call nodes) i = tt
+  line_is (instructions.Lock node dest alias neighbour quality) i = tt
+  line_is (instructions.Round node) i = tt
+  line_is (instructions.LinkFail node call) i = tt
+  line_is (instructions.Show node) i = tt
+  line_is (instructions.Tick milliseconds) i = tt
+  line_is (instructions.Restart node pair) i = i
+  line_is (instructions.Open node dest) i = i
+  line_is (instructions.Say node end text) i = tt
+  line_is (instructions.Burst node end count) i = tt
+  line_is (instructions.Take node end) i = tt
+  line_is (instructions.Close node end) i = tt
+  line_is (instructions.Deliver frame node) i = tt
+  line_is (instructions.Again frame node) i = tt
+  line_is (instructions.Lose frame) i = tt
+  line_is (instructions.Flow count) i = tt
+  line_is (instructions.Cut count) i = tt
 
-  act_leads : (line number : ℕ) (act : UserAct) (told : Result ActDone ActRefusal → List Event) (w : World) → IsUserAct act → ((r : Result ActDone ActRefusal) → AllByRecursion IsQuiet (told r))
-      → Lead w (do_act plan.channels line number act told w)
-  act_leads line number act told w i quiet =
-      let at : ℕ = place_of number w.nodes in
-      let v : World = reach line at (worlds.Act act) w in
-      let u : World = tell line (told (answer at act w)) v in
-      next w v (put plan.channels line at false u) (reach_leads plan apart are_steps bytes ticks acts_run line at (worlds.Act act) w i)
-      (next v u (put plan.channels line at false u) (tells line (told (answer at act w)) v (quiet (answer at act w))) (puts line at false u))
+  lines_are : (ls : List NumberedInstruction) → AllByRecursion (λ (l : NumberedInstruction). IsInstruction l.instruction) ls → AllByRecursion (λ (l : NumberedInstruction). LineIs AnyCall AnyCall l.instruction) ls
+  lines_are [] all = tt
+  lines_are (l ∷ ls) all = (line_is l.instruction all.0, lines_are ls all.1)
 
-  hear_leads : (line number : ℕ) (octets : List ℕ) (came128 : Bool) (w : World) → Lead w (hear plan.channels line number octets came128 w)
-  hear_leads line number octets came128 w =
-      let at : ℕ = place_of number w.nodes in
-      let v : World = reach line at (Bytes octets) w in
-      next w v (put plan.channels line at came128 v) (reach_leads plan apart are_steps bytes ticks acts_run line at (Bytes octets) w tt) (puts line at came128 v)
+  lead_lines : (ls : List NumberedInstruction) (w : World) → AllByRecursion (λ (l : NumberedInstruction). IsInstruction l.instruction) ls → Lead w (do_lines plan ls w)
+  lead_lines ls w all = lines_lead plan AnyCall AnyCall Lead moves ls w (lines_are ls all)
 
-  tick_leads : (line at : ℕ) (w : World) → Lead w (tick_node plan.channels line at w)
-  tick_leads line at w =
-      let v : World = reach line at Time w in
-      next w v (put plan.channels line at false v) (reach_leads plan apart are_steps bytes ticks acts_run line at Time w tt) (puts line at false v)
-
-  ticks_lead : (line count at : ℕ) (w : World) → Lead w (tick_from plan.channels line at count w)
-  ticks_lead line zero at w = stays w
-  ticks_lead line (suc count) at w =
-      let v : World = tick_node plan.channels line at w in
-      next w v (tick_from plan.channels line (suc at) count v) (tick_leads line at w) (ticks_lead line count (suc at) v)
-
-  burst_case : (line at node end nth more : ℕ) (r : Result ActDone ActRefusal) (later : World → World) (v : World) → ((u : World) → Lead u (later u)) → Lead v (burst_by plan.channels line at node end nth more r later v)
-  burst_case line at node end nth more (Ok d) later v rest =
-      let u : World = tell line (all_wrote node end nth more) v in
-      let x : World = put plan.channels line at false u in
-      next v u (later x) (tells line (all_wrote node end nth more) v (quiet_wrote node end nth more)) (next u x (later x) (puts line at false u) (rest x))
-  burst_case line at node end nth more (Err why) later v rest =
-      let u : World = tell line (events.Wrote node end (nth - 1) ∷ refusal_events (of_act why)) v in
-      next v u (put plan.channels line at false u) (tells line (events.Wrote node end (nth - 1) ∷ refusal_events (of_act why)) v (tt, quiet_refusal (of_act why))) (puts line at false u)
-
-  burst_leads : (line more at node end nth : ℕ) (w : World) → Lead w (burst_from plan.channels line at node end nth more w)
-  unfolding burst_from
-  burst_leads line zero at node end nth w = stays w
-  burst_leads line (suc more) at node end nth w =
-      let act : UserAct = acts.Write end (decimal nth) in
-      let v : World = reach line at (worlds.Act act) w in
-      next w v (burst_by plan.channels line at node end nth more (answer at act w) (burst_from plan.channels line at node end (nth + 1) more) v)
-      (reach_leads plan apart are_steps bytes ticks acts_run line at (worlds.Act act) w tt)
-      (burst_case line at node end nth more (answer at act w) (burst_from plan.channels line at node end (nth + 1) more) v (burst_leads line more at node end (nth + 1)))
-
-  delivered : (line at node : ℕ) (o : Option Aired) (w : World) → Lead w (deliver_of plan.channels line at node o w)
-  delivered line at node None w = stays w
-  delivered line at node (Some f) w =
-      let v : World = tell line (events.Delivered (at + 1) node ∷ []) w in
-      next w v (hear plan.channels line node (kiss_bytes f.octets) f.modulo128 v) (tells line (events.Delivered (at + 1) node ∷ []) w (tt, tt)) (hear_leads line node (kiss_bytes f.octets) f.modulo128 v)
-
-  deliver_leads : (line at node : ℕ) (w : World) → Lead w (deliver_at plan.channels line at node w)
-  unfolding deliver_at
-  deliver_leads line at node w = delivered line at node (slice_get w.air at) w
-
-  unless_leads : (line : ℕ) (o : Option LineRefusal) (done w : World) → Lead w done → Lead w (unless_refused line o done w)
-  unless_leads line None done w l = l
-  unless_leads line (Some why) done w l = tells line (events.Refused why ∷ []) w (tt, tt)
-
-  all_leads : (line at : ℕ) (nodes : List ℕ) (w : World) → Lead w (deliver_all plan.channels line at nodes w)
-  all_leads line at [] w = stays w
-  all_leads line at (node ∷ more) w =
-      let v : World = deliver_at plan.channels line at node w in
-      next w v (deliver_all plan.channels line at more v) (deliver_leads line at node w) (all_leads line at more v)
-
-  spread_leads : (line at : ℕ) (o : Option Aired) (w : World) → Lead w (spread_of plan.channels line at o w)
-  spread_leads line at None w = stays w
-  spread_leads line at (Some f) w = all_leads line at (hearers plan.channels f.sender) w
-
-  abbrev flow_by : ℕ → ℕ → World → Option ℕ → World
-  flow_by line count w o = elim o [ None ↦ w | Some at ↦ flow plan.channels line count (spread plan.channels line at (settle at w)) ]
-
-  flow_case : (line count : ℕ) (w : World) (o : Option ℕ) → ((u : World) → Lead u (flow plan.channels line count u)) → Lead w (flow_by line count w o)
-  flow_case line count w None rest = stays w
-  flow_case line count w (Some at) rest =
-      let v : World = spread plan.channels line at (settle at w) in
-      next w v (flow plan.channels line count v) (spread_leads line at (slice_get (settle at w).air at) (settle at w)) (rest v)
-
-  flow_leads : (line count : ℕ) (w : World) → Lead w (flow plan.channels line count w)
-  unfolding flow
-  flow_leads line zero w = stays w
-  flow_leads line (suc count) w = flow_case line count w (oldest w.air) (flow_leads line count)
-
-  abbrev cut_by : ℕ → World → Option ℕ → World
-  cut_by count w o = elim o [ None ↦ w | Some at ↦ cut count (settle at w) ]
-
-  cut_case : (count : ℕ) (w : World) (o : Option ℕ) → ((u : World) → Lead u (cut count u)) → Lead w (cut_by count w o)
-  cut_case count w None rest = stays w
-  cut_case count w (Some at) rest = rest (settle at w)
-
-  cut_leads : (count : ℕ) (w : World) → Lead w (cut count w)
-  unfolding cut
-  cut_leads zero w = stays w
-  cut_leads (suc count) w = cut_case count w (oldest w.air) (cut_leads count)
-
-  line_leads : (line : ℕ) (i : Instruction) (w : World) → IsInstruction i → Lead w (do_line plan line i w)
-  line_leads line (instructions.Heard node call nodes) w i = hear_leads line node (kiss_bytes (broadcast_octets call (view nodes))) false w
-  line_leads line (instructions.Lock node dest alias neighbour quality) w i = act_leads line node (acts.Lock dest alias neighbour quality) told_of w tt quiet_told
-  line_leads line (instructions.Round node) w i = act_leads line node acts.Round told_of w tt quiet_told
-  line_leads line (instructions.LinkFail node call) w i = act_leads line node (acts.LinkFail call) told_of w tt quiet_told
-  line_leads line (instructions.Show node) w i =
-      tells line (shown_of (slice_get w.nodes (place_of node w.nodes))) w (quiet_shown (slice_get w.nodes (place_of node w.nodes)))
-  line_leads line (instructions.Tick milliseconds) w i = ticks_lead line (length w.nodes) 0 (record w { now = w.now + milliseconds })
-  line_leads line (instructions.Restart node pair) w i = restart_leads plan apart are_steps bytes ticks acts_run line node (record { index = pair.index; ident = pair.ident }) w i
-  line_leads line (instructions.Open node dest) w i = act_leads line node (acts.Connect dest) told_of w i quiet_told
-  line_leads line (instructions.Say node end text) w i = act_leads line node (acts.Write end text) told_of w tt quiet_told
-  line_leads line (instructions.Burst node end count) w i = burst_leads line count (place_of node w.nodes) node end 1 w
-  line_leads line (instructions.Take node end) w i = act_leads line node (acts.Take end) (took_of node end) w tt (quiet_took node end)
-  line_leads line (instructions.Close node end) w i = act_leads line node (acts.Close end) told_of w tt quiet_told
-  line_leads line (instructions.Deliver frame node) w i =
-      unless_leads line (delivery_fault plan.channels node false (frame_of w.air frame)) _ w (deliver_leads line (frame - 1) node (settle (frame - 1) w))
-  line_leads line (instructions.Again frame node) w i =
-      unless_leads line (delivery_fault plan.channels node true (frame_of w.air frame)) _ w (deliver_leads line (frame - 1) node w)
-  line_leads line (instructions.Lose frame) w i = unless_leads line (lost_fault false (frame_of w.air frame)) (settle (frame - 1) w) w (stays w)
-  line_leads line (instructions.Flow count) w i = flow_leads line count w
-  line_leads line (instructions.Cut count) w i = cut_leads count w
-
-  lines_lead : (ls : List NumberedInstruction) (w : World) → AllByRecursion (λ (l : NumberedInstruction). IsInstruction l.instruction) ls → Lead w (do_lines plan ls w)
-  lines_lead [] w all = stays w
-  lines_lead (l ∷ ls) w all =
-      let v : World = do_line plan l.line l.instruction w in next w v (do_lines plan ls v) (line_leads l.line l.instruction w all.0) (lines_lead ls v all.1)
-
-  lines_append : (xs ys : List NumberedInstruction) (w : World) → do_lines plan (xs ++ ys) w ≡ do_lines plan ys (do_lines plan xs w)
+  pub lines_append : (xs ys : List NumberedInstruction) (w : World) → do_lines plan (xs ++ ys) w ≡ do_lines plan ys (do_lines plan xs w)
   lines_append [] ys w = refl
   lines_append (x ∷ xs) ys w = lines_append xs ys (do_line plan x.line x.instruction w)
 
-  front_all : (xs ys : List NumberedInstruction) (P : NumberedInstruction → Type 0) → AllByRecursion P (xs ++ ys) → AllByRecursion P xs × AllByRecursion P ys
+  pub front_all : (xs ys : List NumberedInstruction) (P : NumberedInstruction → Type 0) → AllByRecursion P (xs ++ ys) → AllByRecursion P xs × AllByRecursion P ys
   front_all [] ys P all = (tt, all)
   front_all (x ∷ xs) ys P all = let rest = front_all xs ys P all.1 in ((all.0, rest.0), rest.1)
 
   -- ---- the start
-  placed_at : (ds : List Declaration) (at : ℕ) (p : Placed) → slice_get (map (new_placed plan) ds) at ≡ Some p → (d : Declaration) × (new_placed plan d ≡ p)
+  pub placed_at : (ds : List Declaration) (at : ℕ) (p : Placed) → slice_get (map (new_placed plan) ds) at ≡ Some p → (d : Declaration) × (new_placed plan d ≡ p)
   placed_at [] at p e = absurd (cc e)
   placed_at (d ∷ ds) zero p e = (d, cc e)
   placed_at (d ∷ ds) (suc at) p e = placed_at ds at p e
@@ -313,7 +213,7 @@ module _ (plan : Plan) (apart : AreApart (names (new_nodes plan))) (are_steps : 
   start_tracks d =
       new_tracks plan [] d (record { index = 1; ident = 1 }) 1 1 [] (set_of (new_placed plan d)) (record { gone = tt; below = tt }) (omega arith) (omega arith) refl (set_is plan d (record { index = 1; ident = 1 }) 1)
 
-  start_contains : Contains plan [] (new_nodes plan) []
+  pub start_contains : Contains plan [] (new_nodes plan) []
   start_contains = record {
     are = tt;
     names_are = refl;
@@ -322,7 +222,7 @@ module _ (plan : Plan) (apart : AreApart (names (new_nodes plan))) (are_steps : 
     events_are = refl;
   }
 
-  is_run : (steps : List Step) (w : World) → Contains plan steps w.nodes w.told → IsRunOf plan steps w
+  pub is_run : (steps : List Step) (w : World) → Contains plan steps w.nodes w.told → IsRunOf plan steps w
   is_run steps w c = record {
     are = c.are;
     nodes = λ at p e. (let t : TracksAt plan w.told (sets_run (first_sets plan) steps) at p = c.tracks at p e in
@@ -335,8 +235,8 @@ module _ (plan : Plan) (apart : AreApart (names (new_nodes plan))) (are_steps : 
   runs_through done later e sound =
       let parts = front_all done later (λ (l : NumberedInstruction). IsInstruction l.instruction) (subst (AllByRecursion (λ (l : NumberedInstruction). IsInstruction l.instruction)) e sound.instructions) in
       let w : World = do_lines plan done (start plan) in
-      let a = lines_lead done (start plan) parts.0 [] start_contains in
-      let b = lines_lead later w parts.1 a.0 a.1 in
+      let a = lead_lines done (start plan) parts.0 [] start_contains in
+      let b = lead_lines later w parts.1 a.0 a.1 in
       record {
         steps = a.0;
         then = b.0;

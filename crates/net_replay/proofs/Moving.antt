@@ -72,7 +72,7 @@ next_made first next (sets.Gone id facts) ts ends m = record { then = first; mad
 next_made first next (sets.Restarted pair) ts ends m = record { then = first; made = m; long = refl }
 next_made first next (sets.Lost id facts) ts ends m = record { then = first; made = m; long = refl }
 
-abbrev told_entries : ℕ → ℕ → List states.Entry → List NumberedEvent
+abbrev pub told_entries : ℕ → ℕ → List states.Entry → List NumberedEvent
 told_entries line number entries = map (numbered line) (map (events.Entry number) entries)
 
 -- the number of ends that a node ever made grows as it tells
@@ -345,7 +345,7 @@ module _ (plan : Plan) (apart : AreApart (names (new_nodes plan))) (are_steps : 
   runs_on now Time n i rest = ticks now n rest
   runs_on now (worlds.Act act) n i rest = acts now act n i rest
 
-  reach_comes : (steps : List Step) (w : World) (line at : ℕ) (p : Placed) (n : NodeState) → Contains plan steps w.nodes w.told → slice_get w.nodes at ≡ Some p → (t : TracksAt plan w.told (sets_run (first_sets plan) steps) at p)
+  pub reach_comes : (steps : List Step) (w : World) (line at : ℕ) (p : Placed) (n : NodeState) → Contains plan steps w.nodes w.told → slice_get w.nodes at ≡ Some p → (t : TracksAt plan w.told (sets_run (first_sets plan) steps) at p)
       → (r : RunsOn p.state.station n.station) → Comes plan w.told at p (record p { state = all_told n }) t.set r.inputs (told_entries line p.declared.node r.more)
   reach_comes steps w line at p n c e t r =
       let k : Tracks plan w.told t.set p = t.tracks in
@@ -401,11 +401,11 @@ module _ (plan : Plan) (apart : AreApart (names (new_nodes plan))) (are_steps : 
   reach_leads line at input w i = reach_case line at input w (slice_get w.nodes at) refl i
 
   -- frames are put in the air
-  quiet_air : (count more : ℕ) → AllByRecursion IsQuiet (air_events count more)
+  pub quiet_air : (count more : ℕ) → AllByRecursion IsQuiet (air_events count more)
   quiet_air count zero = tt
   quiet_air count (suc more) = (tt, quiet_air (suc count) more)
 
-  put_comes : (told : List NumberedEvent) (line at : ℕ) (p : Placed) (s : SetState) (es : List Event) → AllByRecursion IsQuiet es → Tracks plan told s p
+  pub put_comes : (told : List NumberedEvent) (line at : ℕ) (p : Placed) (s : SetState) (es : List Event) → AllByRecursion IsQuiet es → Tracks plan told s p
       → Comes plan told at p (record p { state = all_fetched_of p.state }) s [] (map (numbered line) es)
   put_comes told line at p s es quiet t = record {
     declared = refl;
@@ -430,7 +430,7 @@ module _ (plan : Plan) (apart : AreApart (names (new_nodes plan))) (are_steps : 
   put_leads channels line at came128 w = put_case channels line at came128 w (slice_get w.nodes at) refl
 
   -- a node starts again
-  restart_comes : (steps : List Step) (w : World) (line at : ℕ) (pair : Pair) (p : Placed) → IsPair pair → Contains plan steps w.nodes w.told → slice_get w.nodes at ≡ Some p
+  pub restart_comes : (steps : List Step) (w : World) (line at : ℕ) (pair : Pair) (p : Placed) → IsPair pair → Contains plan steps w.nodes w.told → slice_get w.nodes at ≡ Some p
       → (t : TracksAt plan w.told (sets_run (first_sets plan) steps) at p)
       → Comes plan w.told at p (placed plan p.declared pair (length (ends_of p.declared.node w.told) + 1)) t.set (sets.Restart pair 0 ∷ [])
       (map (numbered line) (events.Restarted p.declared.node pair ∷ losses_of p.declared.node (length (ends_of p.declared.node w.told)) (set_of p).ends))

@@ -1,5 +1,6 @@
 //! What is promised of every network.
 ghost use Rattle.net_replay.specs.CircuitRuns.{WorldsAreRuns};
+ghost use Rattle.net_replay.specs.Datagrams.{DatagramsSent};
 ghost use Rattle.net_replay.specs.Promises.{EachTellsRetries, InTimeIsSafe};
 
 /// What happens in a network is a run of its nodes' circuits: at each line they have come by some steps to what the world has of them, and what
@@ -21,6 +22,26 @@ pub fn in_time_is_safe()
     circuit_set::laws::circuits_safe();
     circuit_set::laws::narrow_is_timely();
     network_file::laws::networks_fit();
+}
+
+/// In a network whose nodes all have one modulus, whatever is lost, repeated, delayed or reordered and whichever node starts again: each datagram
+/// that reaches its node, so that the circuits there are handed it, was sent before by the node that is its origin, by an end of it or by its set as
+/// a refusal, and came as it was sent but for its time to live, which is no greater. And one that an end heeds is from the node of its partner, and
+/// names that end's pair.
+pub fn datagrams_sent()
+    ensures { DatagramsSent }
+{
+    node_core::laws::inputs_are_circuit_runs();
+    node_core::laws::inputs_are_steps();
+    node_core::laws::datagrams_are_carried();
+    node_core::laws::carried_further();
+    circuit_set::laws::sets_send_their_own();
+    circuit_set::laws::sets_heed_partners();
+    ax_address::laws::net_call_spelling();
+    network_file::laws::networks_fit();
+    kiss_framing::laws::fend_parts();
+    kiss_framing::laws::frames_read_back();
+    kiss_framing::laws::long_frames();
 }
 
 /// Whatever comes back too late: at each line, an end was told that its retries are used up exactly where they are.

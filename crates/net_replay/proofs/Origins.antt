@@ -1,0 +1,117 @@
+-- The origin of a datagram is the node that sent it; and who tells of circuits is a node of the network.
+use Rattle.std.proofs.Common.{◌≡◌, ◌∙◌, ◌+◌, ◌-◌, ◌*◌, ◌≤◌, ℕ, refl, sym, ap, subst, arith, List, [], ◌∷◌, ◌++◌, length, map, take, append_assoc, replicate, Bool, true, false}
+use Rattle.std.specs.Prelude.{◌&&◌, nat_le, nat_lt, slice_get, slice_index, if◌then◌else◌, Option, Some, None, Result, Ok, Err}
+use Rattle.std.specs.Cmp.Lexicographic.{same_text}
+use Rattle.std.specs.List.{AllByRecursion, position_or_len}
+use Rattle.std.proofs.lemmas.List.{length-append, length-map, length-replicate, take-take, take_at}
+use Rattle.ax_address.specs.Callsign.{Callsign, IsCallsign, name_in}
+use Rattle.ax_address.specs.NetCalls.{SpelledNetCallIsRead, WrittenNetCallSpellsIt, net_call_at, net_call_octets}
+use Rattle.ax_address.specs.declared.octets.AddressRefusal.{AddressRefusal}
+use Rattle.circuit_set.specs.Books as books
+use Rattle.circuit_set.specs.Books.{is_copy}
+use Rattle.circuit_set.specs.Pumps as pumps
+use Rattle.circuit_set.specs.Sendings.{IsFrom}
+use Rattle.circuit_set.specs.Sets as sets
+use Rattle.circuit_set.specs.Sets.{Told}
+use Rattle.l3_datagram.specs.Datagrams.{◌>>=◌, call_from, fault_from, head_at, octets_with}
+use Rattle.l3_datagram.specs.declared.datagram.DatagramHead.{DatagramHead}
+use Rattle.l3_datagram.specs.declared.datagram.DatagramRefusal.{DatagramRefusal}
+use Rattle.l3_datagram.specs.declared.datagram.DatagramRefusal.TheVariants.{Short, TooLong}
+use Rattle.link_table.specs.Reaching.{IsCall}
+use Rattle.network_file.specs.declared.plan.declarations.Declaration.{Declaration}
+use Rattle.node_core.specs.States as states
+use Rattle.net_replay.specs.Circuits.{CircuitEvent}
+use Rattle.net_replay.specs.Events as events
+use Rattle.net_replay.specs.Events.{Event, NumberedEvent}
+use Rattle.net_replay.proofs.Containing.{at_name, event_by, events_by, is_named, told_by}
+use Rattle.net_replay.proofs.Flying.{both, one_of}
+
+-- ---- the origin that is read
+
+call_length : (c : Callsign) → IsCall c → length (net_call_octets c) ≡ 7
+call_length c i =
+    let few = i.six in
+    let blank : ℕ = 32 in
+    let letters : length c.letters ≡ 6 =
+    ap length i.spaces
+    ∙ (let a = length-append (name_in c.letters) (replicate (6 - length (name_in c.letters)) blank) in let b = length-replicate (6 - length (name_in c.letters)) blank in omega (arith, a, b, few)) in
+    let d = length-append (map (λ b. 2 * b) c.letters) ((96 + 2 * c.ssid) ∷ []) in
+    let e = length-map c.letters (λ b. 2 * b) in
+    omega (arith, letters, d, e)
+
+first_true : (a b c d : Bool) → (a && b && c && d) ≡ true → a ≡ true
+first_true true b c d e = refl
+first_true false b c d e = absurd (cc e)
+
+front_is : (own : Callsign) (ttl : ℕ) (sent d : List ℕ) → IsCall own → IsFrom own ttl sent → is_copy d sent ≡ true → take 7 d ≡ net_call_octets own
+front_is own ttl sent d c f e =
+    let front : take 14 d ≡ take 14 sent = same_text (take 14 d) (take 14 sent) (sym (first_true _ _ _ _ e)) in
+    let whole = octets_with (record { origin = own; dest = f.dest; ttl = ttl }) f.transport in
+    sym (take-take 7 14 d (omega arith)) ∙ (ap (take 7) front ∙ (take-take 7 14 sent (omega arith)
+    ∙ (ap (take 7) (f.are ∙ append_assoc (net_call_octets own) (net_call_octets f.dest) (ttl ∷ f.transport)) ∙ take_at (net_call_octets own) (net_call_octets f.dest ++ ttl ∷ f.transport) 7 (call_length own c))))
+
+unfault : (r : Result Callsign AddressRefusal) (c : Callsign) → fault_from 0 r ≡ Ok c → r ≡ Ok c
+unfault (Ok x) c e = let same : x ≡ c = cc e in ap Ok same
+unfault (Err why) c e = absurd (cc e)
+
+calls_are : (octets : List ℕ) (head : DatagramHead) (origin dest : Result Callsign DatagramRefusal)
+    → (origin >>= λ o. dest >>= λ d. Ok (record { origin = o; dest = d; ttl = slice_index octets 14 })) ≡ Ok head → origin ≡ Ok head.origin
+calls_are octets head (Ok o) (Ok d) e = let same : (record { origin = o; dest = d; ttl = slice_index octets 14 }) ≡ head = cc e in ap (λ (h : DatagramHead). Ok h.origin) same
+calls_are octets head (Ok o) (Err r) e = absurd (cc e)
+calls_are octets head (Err r) dest e = absurd (cc e)
+
+origin_by : (octets : List ℕ) (head : DatagramHead) (low high : Bool)
+    → ((if low then Err (Short (length octets)) else (if high then Err TooLong else Ok octets)) >>= λ whole.
+    call_from 0 whole >>= λ o. call_from 7 whole >>= λ d. Ok (record { origin = o; dest = d; ttl = slice_index whole 14 })) ≡ Ok head → call_from 0 octets ≡ Ok head.origin
+origin_by octets head true high e = absurd (cc e)
+origin_by octets head false true e = absurd (cc e)
+origin_by octets head false false e = calls_are octets head (call_from 0 octets) (call_from 7 octets) e
+
+origin_read : (octets : List ℕ) (head : DatagramHead) → head_at octets ≡ Ok head → net_call_at (take 7 octets) ≡ Ok head.origin
+unfolding head_at
+origin_read octets head e = unfault (net_call_at (take 7 octets)) head.origin (origin_by octets head (nat_lt (length octets) 15) (nat_lt 256 (length octets)) e)
+
+pub origin_is : WrittenNetCallSpellsIt → SpelledNetCallIsRead → (own : Callsign) (ttl : ℕ) (sent d : List ℕ) (head : DatagramHead) → IsCall own → IsFrom own ttl sent → is_copy d sent ≡ true → head_at d ≡ Ok head → head.origin ≡ own
+origin_is written read own ttl sent d head c f e h =
+    let both_read : Ok head.origin ≡ Ok own = sym (origin_read d head h) ∙ (ap net_call_at (front_is own ttl sent d c f e) ∙ read own (net_call_octets own) (written own c)) in
+    cc both_read
+
+-- ---- who tells of circuits
+
+abbrev ByCall : CircuitEvent → Type 0
+ByCall e = IsCall e.event.own
+
+name_calls : (ds : List Declaration) (line at k : ℕ) (told : Told) → AllByRecursion (λ (d : Declaration). IsCall d.call) ds → (o : Option Declaration) → slice_get ds k ≡ o → AllByRecursion ByCall (at_name line at o told)
+name_calls ds line at k told a None e = tt
+name_calls ds line at k told a (Some d) e = (one_of (λ (x : Declaration). IsCall x.call) ds k d a e, tt)
+
+told_calls : (ds : List Declaration) (line number : ℕ) (told : Told) → AllByRecursion (λ (d : Declaration). IsCall d.call) ds → AllByRecursion ByCall (told_by ds line number told)
+told_calls ds line number told a = let k : ℕ = position_or_len (is_named number) ds in name_calls ds line k k told a (slice_get ds k) refl
+
+event_calls : (ds : List Declaration) (line : ℕ) (e : Event) → AllByRecursion (λ (d : Declaration). IsCall d.call) ds → AllByRecursion ByCall (event_by ds line e)
+event_calls ds line (events.Entry node (states.Of_set (pumps.Of told))) a = told_calls ds line node told a
+event_calls ds line (events.Entry node (states.Of_set (pumps.Dropped routed))) a = tt
+event_calls ds line (events.Entry node (states.Of_set (pumps.Lost call))) a = tt
+event_calls ds line (events.Entry node (states.Of_link peer notice)) a = tt
+event_calls ds line (events.Entry node (states.Overflow live would_be)) a = tt
+event_calls ds line (events.InAir frame) a = tt
+event_calls ds line (events.Delivered frame node) a = tt
+event_calls ds line (events.Shown table) a = tt
+event_calls ds line (events.Took node end message) a = tt
+event_calls ds line (events.Wrote node end count) a = tt
+event_calls ds line (events.Restarted node pair) a = told_calls ds line node (sets.Restarted pair) a
+event_calls ds line (events.Lost node end facts) a = told_calls ds line node (sets.Lost end facts) a
+event_calls ds line (events.Refused why) a = tt
+
+events_calls : (ds : List Declaration) (es : List NumberedEvent) → AllByRecursion (λ (d : Declaration). IsCall d.call) ds → AllByRecursion ByCall (events_by ds es)
+events_calls ds [] a = tt
+events_calls ds (e ∷ es) a = both ByCall (event_by ds e.line e.event) (events_by ds es) (event_calls ds e.line e.event a) (events_calls ds es a)
+
+plain_calls : (es : List CircuitEvent) → AllByRecursion ByCall es → AllByRecursion (λ (e : books.Event). IsCall e.own) (map (λ (e : CircuitEvent). e.event) es)
+plain_calls [] a = tt
+plain_calls (e ∷ es) a = (a.0, plain_calls es a.1)
+
+-- all that is told of circuits is told by calls
+pub told_by_calls : (ds : List Declaration) (es : List NumberedEvent) (ts : List books.Event) → AllByRecursion (λ (d : Declaration). IsCall d.call) ds
+    → map (λ (e : CircuitEvent). e.event) (events_by ds es) ≡ ts → AllByRecursion (λ (e : books.Event). IsCall e.own) ts
+told_by_calls ds es ts a e = subst (AllByRecursion (λ (x : books.Event). IsCall x.own)) e (plain_calls (events_by ds es) (events_calls ds es a))
