@@ -1,5 +1,5 @@
 //! The circuits of a node.
-ghost use Rattle.std.specs.Prelude.{◌≡◌, ◌≢◌, ◌≤◌, ◌+◌, ◌<◌, ◌↔◌, ℕ, List, None, Some, true, false, if◌then◌else◌, is_some, Option, OnOk, OnErr, IfOk, IsErr, IsErrOf, IsTrue, drop, length, slice_get};
+ghost use Rattle.std.specs.Prelude.{[], ◌≡◌, ◌≢◌, ◌≤◌, ◌+◌, ◌<◌, ◌↔◌, ℕ, List, None, Some, true, false, if◌then◌else◌, is_some, Option, OnOk, OnErr, IfOk, IsErr, IsErrOf, IsTrue, drop, length, slice_get};
 ghost use Rattle.std.specs.Option.{option_copied};
 ghost use Rattle.std.specs.Borrow.{Lends, sem};
 ghost use Rattle.radio_base.specs.declared.modulus.TheConstants.{COUNT_MAX};
@@ -160,6 +160,7 @@ impl<C: Carrier> CircuitSet<C> {
 
     /// Whether nothing is untold and nothing lies at the router: `pump` would answer None, and change nothing.
     pub fn is_idle(&self) -> bool
+        ensures idle { (w : Waiting) → SetStands self.now w → is_drained w ≡ true → C.lost self.now.router.carrier ≡ [] → C.waiting self.now.router.carrier ≡ [] → result ≡ true }
         ensures pumps { result ≡ true → (now : ℕ) → Pumps C.made self.now self.now (C.lost self.now.router.carrier) (C.waiting self.now.router.carrier) now None }
         ensures drained { result ≡ true → IsDrained self.now }
     {

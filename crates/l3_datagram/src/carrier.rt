@@ -49,6 +49,7 @@ pub trait Carrier {
 
     /// Whether no neighbour is lost and untold, and no datagram waits: to ask for them changes nothing then.
     fn is_idle(&self) -> bool
+        ensures idle { lost self.now ≡ [] → waiting self.now ≡ [] → result ≡ true }
         ensures lost { result ≡ true → lost self.now ≡ [] }
         ensures waiting { result ≡ true → waiting self.now ≡ [] }
         ensures made { result ≡ true → made self.now (Fail None ∷ Collect None ∷ []) self.now };
