@@ -284,31 +284,9 @@ module _ (bounds_stay : BoundsStay) (settings_stay : SettingsStay) (written : Fr
     kind true (control.Sabm pf) t e x = set_up 8 pf t (from.sets_up 8 (ap calls.set_up_size e)) x
     kind true (control.Sabme pf) t e x = set_up 128 pf t (from.sets_up 128 (ap calls.set_up_size e)) x
     kind true (control.Test pf) t e x = answered (control.Test pf) f.info t (record { numbers = tt; pid_there = refl; no_info = λ e. absurd (cc e) }) refl x
-    kind false (control.Sabm pf) t e x = other t x
-    kind false (control.Sabme pf) t e x = other t x
-    kind false (control.Test pf) t e x = other t x
     kind true (control.Ui pf) t e x = ui f.pid t x
     kind false (control.Ui pf) t e x = ui f.pid t x
-    kind true (control.I ns nr pf) t e x = other t x
-    kind false (control.I ns nr pf) t e x = other t x
-    kind true (control.Rr nr pf) t e x = other t x
-    kind false (control.Rr nr pf) t e x = other t x
-    kind true (control.Rnr nr pf) t e x = other t x
-    kind false (control.Rnr nr pf) t e x = other t x
-    kind true (control.Rej nr pf) t e x = other t x
-    kind false (control.Rej nr pf) t e x = other t x
-    kind true (control.Srej nr pf) t e x = other t x
-    kind false (control.Srej nr pf) t e x = other t x
-    kind true (control.Disc pf) t e x = other t x
-    kind false (control.Disc pf) t e x = other t x
-    kind true (control.Dm pf) t e x = other t x
-    kind false (control.Dm pf) t e x = other t x
-    kind true (control.Ua pf) t e x = other t x
-    kind false (control.Ua pf) t e x = other t x
-    kind true (control.Frmr pf) t e x = other t x
-    kind false (control.Frmr pf) t e x = other t x
-    kind true (control.Xid pf) t e x = other t x
-    kind false (control.Xid pf) t e x = other t x
+    kind command c t e x = other t x
 
   -- ---- the other calls
 
