@@ -1,51 +1,44 @@
 -- Each line of a network carries on what comes of datagrams that were sent.
-use Rattle.std.proofs.Common.{◌≡◌, ◌∙◌, ◌+◌, ◌≤◌, ℕ, zero, suc, refl, sym, ap, subst, arith, List, [], ◌∷◌, ◌++◌, length, append_assoc, append-nil, map, filter, Bool, true, false, cond, inl, inr}
+use Rattle.std.proofs.Common.{◌≡◌, ◌∙◌, ◌+◌, ◌≤◌, ℕ, zero, suc, refl, sym, ap, subst, arith, List, [], ◌∷◌, ◌++◌, length, append_assoc, append-nil, map, filter, Bool, true, false, cond}
 use Rattle.std.specs.Prelude.{◌≢◌, ◌==◌, ◌⊎◌, nat_eq, nat_lt, slice_get, slice_set, if◌then◌else◌, Option, Some, None, Result, Ok, Err}
 use Rattle.std.specs.List.{AllByRecursion}
 use Rattle.std.proofs.lemmas.Bool.{ltb-false}
-use Rattle.arrayvec.specs.ArrayVec.{ArrayVec}
-use Rattle.ax_address.specs.Callsign.{Callsign, IsCallsign}
-use Rattle.ax_address.specs.declared.address.Address.{Address}
-use Rattle.ax_address.specs.declared.alias.Alias.{Alias}
+use Rattle.ax_address.specs.Callsign.{Callsign}
 use Rattle.ax_frame.specs.Frames.{IsAddress}
 use Rattle.circuit_l4.specs.declared.transport.Pair.{Pair}
 use Rattle.circuit_set.specs.Inputs.{runs}
 use Rattle.circuit_set.specs.Pairs.{IsPair}
-use Rattle.circuit_set.specs.Runs as net
-use Rattle.circuit_set.specs.Runs.{AreStarts, Step, events_of}
+use Rattle.circuit_set.specs.Runs.{Step, events_of}
 use Rattle.circuit_set.specs.Sets as sets
 use Rattle.circuit_set.specs.Sets.{Act, SetState, Told}
 use Rattle.link_table.specs.Calls as links
-use Rattle.link_table.specs.Reaching.{IsCall, IsWay}
+use Rattle.link_table.specs.Reaching.{IsCall}
 use Rattle.link_table.specs.Standing.{width}
 use Rattle.link_table.specs.declared.path_refusal.PathRefusal.{PathRefusal}
 use Rattle.link_table.specs.declared.path_refusal.PathRefusal.TheVariants.{TooLong as PathLong, Full as PathFull}
 use Rattle.link_table.specs.declared.written.Written.{Written}
 use Rattle.kiss_framing.specs.Laws.{FendParts, FramesReadBack, LongFramesAreTooLong}
-use Rattle.network_file.specs.declared.plan.channels.Channel.{Channel}
 use Rattle.network_file.specs.declared.plan.declarations.Declaration.{Declaration}
 use Rattle.network_file.specs.declared.plan.keys.Key.TheVariants.{Modulo}
 use Rattle.network_file.specs.declared.plan.vias.Via.{Via}
 use Rattle.network_file.specs.Plan.{Plan}
 use Rattle.network_file.specs.Channels.{is_on_air}
 use Rattle.network_file.specs.Settings.{value_of}
-use Rattle.nodes_broadcast.specs.Nodes.{Broadcast}
 use Rattle.node_core.specs.Broadcasts.{broadcast_octets}
 use Rattle.node_core.specs.Carried.{ActsCarry, BytesCarry, CarriedFurther, CarriedOn, CarriesTraced, IsCarried, TicksCarry, sends_in}
 use Rattle.node_core.specs.Configs.{new_node}
 use Rattle.node_core.specs.Runs.{ActsRun, BytesRun, InputsAreSteps, RunsOn, TicksRun, steps_at}
 use Rattle.node_core.specs.Standing.{IsTold}
-use Rattle.node_core.specs.States as states
 use Rattle.node_core.specs.States.{NodeState, frames}
 use Rattle.node_core.specs.UserActs as acts
 use Rattle.node_core.specs.UserActs.{UserAct}
 use Rattle.net_replay.specs.declared.air.Aired.{Aired}
-use Rattle.net_replay.specs.Air.{settled, settled_at}
+use Rattle.net_replay.specs.Air.{settled_at}
 use Rattle.net_replay.specs.CircuitRuns.{first_sets, set_of}
-use Rattle.net_replay.specs.Events.{Event, NumberedEvent}
+use Rattle.net_replay.specs.Events.{Event}
 use Rattle.net_replay.specs.Ends.{ends_of}
 use Rattle.net_replay.specs.Lines.{kiss_bytes, restart, restart_of, settle}
-use Rattle.net_replay.specs.Starting.{Placed, by_number, config_of, is_via_of, new_nodes, new_placed, path_of, repeater, started, with_via, with_via_by, with_vias}
+use Rattle.net_replay.specs.Starting.{Placed, config_of, is_via_of, new_nodes, path_of, repeater, with_via, with_via_by, with_vias}
 use Rattle.net_replay.specs.World as worlds
 use Rattle.net_replay.specs.World.{Bytes, Input, Time, World, after, aired, aired_as, air_events, all_fetched_of, all_told, numbered, place_of, put, put_of, reach, reaches, tell}
 use Rattle.net_replay.proofs.Containing.{AreApart, Contains, IsQuiet, Tracks, TracksAt, comes_contains, events_append, name_at, names, quiet_contains, sets_run}

@@ -1,38 +1,25 @@
 -- Each line goes on with the run of its network's circuits.
-use Rattle.std.proofs.Common.{◌≡◌, ◌∙◌, ◌+◌, ◌-◌, ◌<◌, ℕ, zero, suc, refl, sym, ap, subst, arith, List, [], ◌∷◌, ◌++◌, length, map, filter, Bool, true, false, cond}
-use Rattle.std.specs.Prelude.{◌==◌, ◌||◌, not, slice_get, Option, Some, None, Result, Ok, Err}
-use Rattle.std.specs.Fmt.{decimal}
+use Rattle.std.proofs.Common.{◌≡◌, ◌∙◌, ◌+◌, ◌<◌, ℕ, zero, suc, refl, sym, ap, subst, arith, List, [], ◌∷◌, ◌++◌, map, filter, Bool, true, false, cond}
+use Rattle.std.specs.Prelude.{◌==◌, ◌||◌, not, slice_get, Some}
 use Rattle.std.specs.List.{AllByRecursion, position_or_len}
-use Rattle.nodes_broadcast.specs.Nodes.{view}
 use Rattle.circuit_set.specs.Runs.{Step, begins}
 use Rattle.network_file.specs.declared.network.NumberedInstruction.{NumberedInstruction}
 use Rattle.network_file.specs.declared.plan.declarations.Declaration.{Declaration}
 use Rattle.network_file.specs.declared.plan.instructions.Instruction.{Instruction}
 use Rattle.network_file.specs.declared.plan.instructions.Instruction.TheVariants as instructions
-use Rattle.network_file.specs.Channels.{hearers}
 use Rattle.network_file.specs.Laws.{AreDifferent}
 use Rattle.network_file.specs.Places.{has_node}
 use Rattle.network_file.specs.Plan.{Plan}
-use Rattle.node_core.specs.Broadcasts.{broadcast_octets}
-use Rattle.node_core.specs.declared.acts.ActDone.{ActDone}
-use Rattle.node_core.specs.declared.acts.ActDone.TheVariants.{Done, Made, Took}
-use Rattle.node_core.specs.declared.acts.ActRefusal.{ActRefusal}
 use Rattle.node_core.specs.UserActs.{UserAct}
 use Rattle.node_core.specs.UserActs as acts
 use Rattle.node_core.specs.Runs.{ActsRun, BytesRun, InputsAreSteps, IsUserAct, TicksRun}
-use Rattle.net_replay.specs.declared.air.Aired.{Aired}
-use Rattle.net_replay.specs.declared.reasons.LineRefusal.{LineRefusal}
-use Rattle.net_replay.specs.Air.{delivery_fault, frame_of, lost_fault, oldest}
 use Rattle.net_replay.specs.CircuitRuns.{IsInstruction, IsRunOf, IsSound, RunsThrough, first_sets, set_of}
 use Rattle.net_replay.specs.Circuits.{CircuitEvent}
-use Rattle.net_replay.specs.Events as events
-use Rattle.net_replay.specs.Events.{Event}
-use Rattle.net_replay.specs.Lines.{all_wrote, burst_by, burst_from, cut, deliver_all, deliver_at, deliver_of, do_act, do_line, do_lines, flow, hear, kiss_bytes, refusal_events, settle, shown_of, spread, spread_of, tick_from, tick_node, told_of, took_of, unless_refused, world}
-use Rattle.net_replay.specs.Refused.{of_act}
+use Rattle.net_replay.specs.Lines.{do_line, do_lines, world}
 use Rattle.net_replay.specs.Starting.{Placed, by_number, has_number, new_nodes, new_placed}
 use Rattle.net_replay.specs.World as worlds
 use Rattle.net_replay.specs.World.{Bytes, Time, World, answer, place_of, put, reach, start, tell}
-use Rattle.net_replay.proofs.Containing.{AreApart, Contains, IsQuiet, Tracks, TracksAt, events_by, events_named, is_named, names, net_sets, sets_run}
+use Rattle.net_replay.proofs.Containing.{AreApart, Contains, Tracks, TracksAt, events_by, events_named, is_named, names, net_sets, sets_run}
 use Rattle.ax_address.specs.Callsign.{Callsign}
 use Rattle.net_replay.proofs.LineWalks.{IsPlain, LineIs, Moves, lines_lead}
 use Rattle.net_replay.proofs.Moving.{Leads, new_tracks, put_leads, reach_leads, restart_leads, set_is, still, tell_leads, then}

@@ -1,6 +1,6 @@
 -- Each datagram that reaches its node was sent before.
-use Rattle.std.proofs.Common.{◌≡◌, ◌∙◌, ◌<◌, ◌≤◌, ℕ, zero, suc, refl, sym, ap, subst, arith, List, [], ◌∷◌, ◌++◌, length, append_assoc, append-nil, filter, map, Bool, true, false, inl, inr}
-use Rattle.std.specs.Prelude.{◌&&◌, ◌||◌, ◌==◌, ◌⊎◌, Contains, nat_le, slice_get, if◌then◌else◌, Option, Some, None, Ok}
+use Rattle.std.proofs.Common.{◌≡◌, ◌∙◌, ◌≤◌, ℕ, zero, suc, refl, sym, ap, subst, arith, List, [], ◌∷◌, ◌++◌, append_assoc, append-nil, filter, map, Bool, true, false, inl, inr}
+use Rattle.std.specs.Prelude.{◌&&◌, ◌||◌, ◌==◌, ◌⊎◌, Contains, nat_le, slice_get, Option, Some, None}
 use Rattle.std.specs.List.{AllByRecursion}
 use Rattle.std.proofs.lemmas.Bool.Decides.{nat_tests}
 use Rattle.ax_address.specs.Callsign.{Callsign, IsCallsign}
@@ -29,7 +29,7 @@ use Rattle.network_file.specs.Settings.{value_of}
 use Rattle.node_core.specs.Carried.{ActsCarry, BytesCarry, CarriedFurther, TicksCarry, comes_of, is_traced, ttl_of}
 use Rattle.node_core.specs.Runs.{ActsRun, BytesRun, InputsAreSteps, TicksRun}
 use Rattle.net_replay.specs.CircuitRuns.{IsInstruction, IsSound, first_sets, set_of}
-use Rattle.net_replay.specs.Datagrams.{DatagramsSent, IsOfModulus, SendsAll, WasSent}
+use Rattle.net_replay.specs.Datagrams.{DatagramsSent, IsOfModulus, SendsAll}
 use Rattle.net_replay.specs.Lines.{do_lines}
 use Rattle.net_replay.specs.Starting.{Placed, by_number, has_number, new_nodes, new_placed}
 use Rattle.net_replay.specs.World.{World, start}
@@ -38,7 +38,7 @@ use Rattle.net_replay.proofs.Flying as flying
 use Rattle.net_replay.proofs.Flying.{Flies, NodeFlies}
 use Rattle.net_replay.proofs.LineRuns as runs
 use Rattle.net_replay.proofs.LineWalks.{LineIs, lines_lead}
-use Rattle.net_replay.proofs.Moving.{placed, set_is}
+use Rattle.net_replay.proofs.Moving.{set_is}
 use Rattle.net_replay.proofs.Origins.{origin_is, told_by_calls}
 use Rattle.net_replay.proofs.Traced.{IsTracedAct, StepsTraced, sent_both, sent_by}
 

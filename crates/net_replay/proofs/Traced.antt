@@ -1,15 +1,12 @@
 -- What was sent, step by step of several nodes' circuits; and that a carried frame is taken as it is from KISS bytes.
-use Rattle.std.proofs.Common.{◌≡◌, ◌∙◌, ◌+◌, ◌≤◌, ◌<◌, ℕ, zero, suc, refl, sym, ap, subst, arith, List, [], ◌∷◌, ◌++◌, length, append_assoc, append-nil, map, drop, Bool, true, false, cond, inl, inr}
-use Rattle.std.specs.Prelude.{◌≢◌, ◌==◌, ◌⊎◌, nat_eq, nat_le, nat_lt, slice_get, slice_set, if◌then◌else◌, Option, Some, None, Result, Ok, Err, IfOk}
+use Rattle.std.proofs.Common.{◌≡◌, ◌∙◌, ◌≤◌, ◌<◌, ℕ, zero, suc, refl, sym, ap, subst, arith, List, [], ◌∷◌, ◌++◌, length, append_assoc, append-nil, map, drop, Bool, true, false}
+use Rattle.std.specs.Prelude.{nat_le, slice_get, slice_set, Some}
 use Rattle.std.specs.List.{AllByRecursion, flat_map}
 use Rattle.std.proofs.lemmas.List.{map-append}
 use Rattle.std.proofs.lemmas.Bool.Decides.{nat_tests}
 use Rattle.ax_address.specs.Callsign.{Callsign}
-use Rattle.ax_address.specs.declared.alias.Alias.{Alias}
-use Rattle.circuit_l4.specs.declared.transport.Pair.{Pair}
 use Rattle.circuit_set.specs.Books as books
 use Rattle.circuit_set.specs.Inputs.{runs}
-use Rattle.circuit_set.specs.Pairs.{IsPair}
 use Rattle.circuit_set.specs.Runs as net
 use Rattle.circuit_set.specs.Runs.{Step, events_of}
 use Rattle.circuit_set.specs.Sets as sets
@@ -18,12 +15,9 @@ use Rattle.kiss_framing.specs.Enframing.{escape_of, framed}
 use Rattle.kiss_framing.specs.Laws.{FendParts, FramesReadBack, LongFramesAreTooLong}
 use Rattle.kiss_framing.specs.Stream as kiss
 use Rattle.kiss_framing.specs.declared.TheConstants.{FEND}
-use Rattle.node_core.specs.Broadcasts.{broadcast_octets}
-use Rattle.node_core.specs.Carried.{ActsCarry, BytesCarry, CarriedFurther, CarriedOn, CarriesTraced, ComeTraced, IsCarried, ItemCarried, TicksCarry, is_traced, sends_in}
+use Rattle.node_core.specs.Carried.{ComeTraced, IsCarried, ItemCarried, is_traced, sends_in}
 use Rattle.node_core.specs.Inputs.{new_items}
 use Rattle.node_core.specs.Runs.{InputsAreSteps, StepsOf, steps_at}
-use Rattle.net_replay.specs.declared.air.Aired.{Aired}
-use Rattle.net_replay.specs.CircuitRuns.{first_sets, set_of}
 use Rattle.net_replay.proofs.Containing.{sets_run}
 use Rattle.net_replay.proofs.Remembering.{Lifts, Past, Rising, lift, runs_lift, step_lifts}
 
