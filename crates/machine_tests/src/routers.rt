@@ -6,6 +6,7 @@ use l3_datagram::*;
 use radio_base::{Moment, NoMemory};
 use route_table::{RouteRules, RouteTable};
 use std::alloc::Global;
+use std::process::Abort;
 use std::test::Fail;
 
 const NOW: Moment = Moment(0);
@@ -65,6 +66,22 @@ fn router<C: Carrier + Drop>(
     Ok(Router::new(alloc, call(own), table, carrier, 2))
 }
 
+/// Hands in a datagram that came from a neighbour.
+fn bring(node: &mut Router<PlainCarrier>, from: &str, datagram: &Datagram) -> Result<(), Fail> {
+    node.carrier_mut().bring(&call(from), datagram)?;
+    Ok(())
+}
+
+/// Asserts what the next step of a router comes to.
+fn assert_next(
+    rt: &impl Abort,
+    node: &mut Router<PlainCarrier>,
+    wanted: Option<Routed>,
+) -> Result<(), Fail> {
+    assert!(rt; node.pump(NOW)? == wanted);
+    Ok(())
+}
+
 #[test]
 fn a_datagram_of_another_maker_goes_on(rt: HostRuntime) -> Result<(), Fail> {
     let carrier = PlainCarrier::new(rt.alloc());
@@ -75,8 +92,8 @@ fn a_datagram_of_another_maker_goes_on(rt: HostRuntime) -> Result<(), Fail> {
         ttl: 15,
     };
     assert!(rt; read_datagram(&CAME) == Ok(head));
-    node.carrier_mut().bring(&call("N0BBB"), &datagram(&CAME))?;
-    assert!(rt; node.pump(NOW)? == Some(Routed::Forwarded));
+    bring(&mut node, "N0BBB", &datagram(&CAME))?;
+    assert_next(&rt, &mut node, Some(Routed::Forwarded))?;
     let went = node.carrier_mut().fetch();
     assert!(rt; went == Some((call("N0AAA"), datagram(&WENT))));
     Ok(())
@@ -86,41 +103,35 @@ fn a_datagram_of_another_maker_goes_on(rt: HostRuntime) -> Result<(), Fail> {
 fn two_hops_and_no_third(rt: HostRuntime) -> Result<(), Fail> {
     let mut a = router(rt.alloc(), "N0AAA", "N0BBB", PlainCarrier::new(rt.alloc()))?;
     let mut b = router(rt.alloc(), "N0BBB", "N0AAA", PlainCarrier::new(rt.alloc()))?;
-    a.carrier_mut()
-        .bring(&call("N0EEE"), &datagram_of("N0EEE", "N0DDD", 2))?;
-    assert!(rt; a.pump(NOW)? == Some(Routed::Forwarded));
+    bring(&mut a, "N0EEE", &datagram_of("N0EEE", "N0DDD", 2))?;
+    assert_next(&rt, &mut a, Some(Routed::Forwarded))?;
     match a.carrier_mut().fetch() {
         None => assert!(rt; false),
         Some((to, went)) => {
             assert_eq!(rt; to, call("N0BBB"));
             assert!(rt; went == datagram_of("N0EEE", "N0DDD", 1));
-            b.carrier_mut().bring(&call("N0AAA"), &went)?;
+            bring(&mut b, "N0AAA", &went)?;
         }
     }
-    assert!(rt; b.pump(NOW)? == Some(Routed::Expired));
-    assert!(rt; b.pump(NOW)? == None);
-    Ok(())
+    assert_next(&rt, &mut b, Some(Routed::Expired))?;
+    assert_next(&rt, &mut b, None)
 }
 
 #[test]
 fn what_does_not_go_on(rt: HostRuntime) -> Result<(), Fail> {
     let mut node = router(rt.alloc(), "N0AAA", "N0BBB", PlainCarrier::new(rt.alloc()))?;
-    let from = call("N0BBB");
     let mine = datagram_of("N0EEE", "N0AAA", 1);
-    node.carrier_mut().bring(&from, &mine)?;
-    node.carrier_mut()
-        .bring(&from, &datagram_of("N0AAA", "N0DDD", 2))?;
-    node.carrier_mut()
-        .bring(&from, &datagram_of("N0EEE", "N0FFF", 2))?;
-    node.carrier_mut().bring(&from, &datagram(&CAME[..14]))?;
+    bring(&mut node, "N0BBB", &mine)?;
+    bring(&mut node, "N0BBB", &datagram_of("N0AAA", "N0DDD", 2))?;
+    bring(&mut node, "N0BBB", &datagram_of("N0EEE", "N0FFF", 2))?;
+    bring(&mut node, "N0BBB", &datagram(&CAME[..14]))?;
     let origin = call("N0EEE");
     let datagram = mine;
-    assert!(rt; node.pump(NOW)? == Some(Routed::Mine { origin, datagram }));
-    assert!(rt; node.pump(NOW)? == Some(Routed::Returned));
-    assert!(rt; node.pump(NOW)? == Some(Routed::NoRoute));
-    assert!(rt; node.pump(NOW)? == Some(Routed::Bad));
-    assert!(rt; node.pump(NOW)? == None);
-    Ok(())
+    assert_next(&rt, &mut node, Some(Routed::Mine { origin, datagram }))?;
+    assert_next(&rt, &mut node, Some(Routed::Returned))?;
+    assert_next(&rt, &mut node, Some(Routed::NoRoute))?;
+    assert_next(&rt, &mut node, Some(Routed::Bad))?;
+    assert_next(&rt, &mut node, None)
 }
 
 #[test]
