@@ -1,5 +1,5 @@
 //! Reads and writes that fail, each of the first eight in turn, and a file that ends after any of its bytes.
-use crate::runs::{Case, frames_of, outcome_of, replay_of};
+use crate::runs::{Case, check, frames_of, replay_of};
 use node_cmd::Status;
 use std::test::Fail;
 
@@ -59,21 +59,30 @@ fn each_of_the_first_eight_reads_may_fail(rt: HostRuntime) -> Result<(), Fail> {
             failing_reads: &[number],
             ..replay_of(CIRCUIT)
         };
-        let outcome = outcome_of(rt.alloc(), &case)?;
-        assert_eq!(rt; outcome.status, Status::ReadFault);
-        assert_eq!(rt; outcome.written.bytes(), b"".as_slice());
-        assert_eq!(rt; outcome.notes.bytes(), b"read fault\n".as_slice());
+        check(
+            &rt,
+            rt.alloc(),
+            &case,
+            Status::ReadFault,
+            b"",
+            b"read fault\n",
+        )?;
 
         let case = Case {
             piece: 1,
             failing_reads: &[number],
             ..frames_of(STREAM)
         };
-        let outcome = outcome_of(rt.alloc(), &case)?;
         let listed = if number == 8 { FIRST_LINE } else { 0 };
-        assert_eq!(rt; outcome.status, Status::ReadFault);
-        assert_eq!(rt; outcome.written.bytes(), &STREAM_LINES[..listed]);
-        assert_eq!(rt; outcome.notes.bytes(), b"read fault\n".as_slice());
+        let written = &STREAM_LINES[..listed];
+        check(
+            &rt,
+            rt.alloc(),
+            &case,
+            Status::ReadFault,
+            written,
+            b"read fault\n",
+        )?;
     }
     Ok(())
 }
@@ -87,23 +96,22 @@ fn each_of_the_first_eight_writes_may_fail(rt: HostRuntime) -> Result<(), Fail> 
             failing_writes: &[number],
             ..replay_of(CIRCUIT)
         };
-        let outcome = outcome_of(rt.alloc(), &case)?;
-        assert_eq!(rt; outcome.status, Status::WriteFault);
-        assert_eq!(rt;
-            outcome.written.bytes(),
-            &CIRCUIT_REPORT[..CIRCUIT_PIECE * before]
-        );
-        assert_eq!(rt; outcome.notes.bytes(), b"".as_slice());
+        let written = &CIRCUIT_REPORT[..CIRCUIT_PIECE * before];
+        check(&rt, rt.alloc(), &case, Status::WriteFault, written, b"")?;
 
         let case = Case {
             piece: 1,
             failing_writes: &[number],
             ..frames_of(STREAM)
         };
-        let outcome = outcome_of(rt.alloc(), &case)?;
-        assert_eq!(rt; outcome.status, Status::WriteFault);
-        assert_eq!(rt; outcome.written.bytes(), &STREAM_LINES[..before]);
-        assert_eq!(rt; outcome.notes.bytes(), b"".as_slice());
+        check(
+            &rt,
+            rt.alloc(),
+            &case,
+            Status::WriteFault,
+            &STREAM_LINES[..before],
+            b"",
+        )?;
     }
     Ok(())
 }
@@ -121,9 +129,7 @@ fn without_a_fault_all_is_written(rt: HostRuntime) -> Result<(), Fail> {
         (frames_of(STREAM), STREAM_LINES),
     ];
     for (case, written) in &cases {
-        let outcome = outcome_of(rt.alloc(), case)?;
-        assert_eq!(rt; outcome.status, Status::Done);
-        assert_eq!(rt; outcome.written.bytes(), *written);
+        check(&rt, rt.alloc(), case, Status::Done, written, b"")?;
     }
     Ok(())
 }
@@ -141,16 +147,20 @@ const REPORTS: [&[u8]; 5] = [
 fn a_file_may_end_after_any_of_its_bytes(rt: HostRuntime) -> Result<(), Fail> {
     let file = b"node 1 N0AAA ANODE";
     for end in 0..=file.len() {
-        let outcome = outcome_of(rt.alloc(), &replay_of(&file[..end]))?;
         let (status, written, notes): (Status, &[u8], &[u8]) = match end {
             0 => (Status::Done, b"verdict done\n", b""),
             1..=3 => (Status::BadFile, b"", b"line 1: word\n"),
             4..=13 => (Status::BadFile, b"", b"line 1: count\n"),
             _ => (Status::Done, REPORTS[end - 14], b""),
         };
-        assert_eq!(rt; outcome.status, status);
-        assert_eq!(rt; outcome.written.bytes(), written);
-        assert_eq!(rt; outcome.notes.bytes(), notes);
+        check(
+            &rt,
+            rt.alloc(),
+            &replay_of(&file[..end]),
+            status,
+            written,
+            notes,
+        )?;
     }
     Ok(())
 }

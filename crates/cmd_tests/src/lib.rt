@@ -10,6 +10,8 @@ mod faults;
 #[cfg(test)]
 mod live;
 #[cfg(test)]
+mod lives;
+#[cfg(test)]
 mod networks;
 #[cfg(test)]
 mod packets;

@@ -1,5 +1,5 @@
 //! A live node over streams in memory.
-use crate::runs::{Case, outcome_of, replay_of};
+use crate::runs::{Case, USAGE, check, replay_of};
 use node_cmd::Status;
 use std::test::Fail;
 
@@ -21,18 +21,20 @@ fn node_of<'a>(words: &'a [&'a str], stream: &'a [u8]) -> Case<'a> {
 #[test]
 fn a_live_node_writes_its_frames(rt: HostRuntime) -> Result<(), Fail> {
     let words = ["node", "call=N0AAA", "alias=ANODE"];
-    let outcome = outcome_of(rt.alloc(), &node_of(&words, b""))?;
-    assert_eq!(rt; outcome.status, Status::Done);
-    assert_eq!(rt; outcome.written.bytes(), b"".as_slice());
+    check(
+        &rt,
+        rt.alloc(),
+        &node_of(&words, b""),
+        Status::Done,
+        b"",
+        b"",
+    )?;
     for piece in [1, 7, 1000] {
         let case = Case {
             piece,
             ..node_of(&words, TEST)
         };
-        let outcome = outcome_of(rt.alloc(), &case)?;
-        assert_eq!(rt; outcome.status, Status::Done);
-        assert_eq!(rt; outcome.written.bytes(), ANSWER);
-        assert_eq!(rt; outcome.notes.bytes(), b"".as_slice());
+        check(&rt, rt.alloc(), &case, Status::Done, ANSWER, b"")?;
     }
     Ok(())
 }
@@ -45,10 +47,14 @@ fn what_a_live_node_wrote_before_a_fault_stays(rt: HostRuntime) -> Result<(), Fa
         failing_reads: &[2],
         ..node_of(&words, TEST)
     };
-    let outcome = outcome_of(rt.alloc(), &case)?;
-    assert_eq!(rt; outcome.status, Status::ReadFault);
-    assert_eq!(rt; outcome.written.bytes(), ANSWER);
-    assert_eq!(rt; outcome.notes.bytes(), b"read fault\n".as_slice());
+    check(
+        &rt,
+        rt.alloc(),
+        &case,
+        Status::ReadFault,
+        ANSWER,
+        b"read fault\n",
+    )?;
     Ok(())
 }
 
@@ -66,8 +72,14 @@ fn words_declare_a_live_node(rt: HostRuntime) -> Result<(), Fail> {
         &["node", "call=N0AAA", "alias=A", "pair=255,1", "modulo=128"],
     ];
     for words in good {
-        let outcome = outcome_of(rt.alloc(), &node_of(words, b""))?;
-        assert_eq!(rt; outcome.status, Status::Done);
+        check(
+            &rt,
+            rt.alloc(),
+            &node_of(words, b""),
+            Status::Done,
+            b"",
+            b"",
+        )?;
     }
     let bad: [&[&str]; 12] = [
         &["node"],
@@ -89,8 +101,14 @@ fn words_declare_a_live_node(rt: HostRuntime) -> Result<(), Fail> {
         ],
     ];
     for words in bad {
-        let outcome = outcome_of(rt.alloc(), &node_of(words, b""))?;
-        assert_eq!(rt; outcome.status, Status::Usage);
+        check(
+            &rt,
+            rt.alloc(),
+            &node_of(words, b""),
+            Status::Usage,
+            b"",
+            USAGE,
+        )?;
     }
     Ok(())
 }

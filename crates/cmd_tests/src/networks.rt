@@ -1,31 +1,16 @@
 //! What network files come to: the report of worked ones.
-use net_replay::{read_network, replay, report, too_late};
-use radio_base::TextOut;
-use std::alloc::Global;
+use crate::runs::{check, replay_of};
+use node_cmd::Status;
 use std::test::Fail;
-
-/// The report of a network.
-fn reported(alloc: Global, text: &[u8]) -> Result<TextOut, Fail> {
-    if text.len() > 1_048_576 {
-        return Err("a text that is too long".into());
-    }
-    let network = read_network(alloc, text)?;
-    let trace = replay(alloc, &network)?;
-    let late = too_late(alloc, &trace)?;
-    let mut out = TextOut::new(alloc);
-    report(alloc, &trace, late, &mut out)?;
-    Ok(out)
-}
 
 #[test]
 fn a_setting_and_a_round_show_in_the_report(rt: HostRuntime) -> Result<(), Fail> {
     let text =
         b"node 2 N0BBB-7 B\nnode 1 N0AAA A\nset 2 quality 255\nset 2 life 2\nheard 2 N0AAA A N0CCC C N0DDD 128\nround 2\nheard 1 N0AAA A";
-    let out = reported(rt.alloc(), text)?;
     // (128 * 255 + 128) div 256 is 128; a broadcast of the node's own call changes nothing.
     let want =
         b"table 1 N0AAA A\ntable 2 N0BBB-7 B\nroute N0AAA A N0AAA 255 1\nroute N0CCC C N0AAA 128 1\nverdict done\n";
-    assert_eq!(rt; out.bytes(), want.as_slice());
+    check(&rt, rt.alloc(), &replay_of(text), Status::Done, want, b"")?;
     Ok(())
 }
 
@@ -50,8 +35,8 @@ fn rounds_put_frames_in_the_air_that_go_where_they_are_sent(rt: HostRuntime) -> 
         ),
     ];
     for (text, want) in cases {
-        let out = reported(rt.alloc(), text.as_bytes())?;
-        assert_eq!(rt; out.bytes(), want.as_bytes());
+        let case = replay_of(text.as_bytes());
+        check(&rt, rt.alloc(), &case, Status::Done, want.as_bytes(), b"")?;
     }
     Ok(())
 }
@@ -60,9 +45,9 @@ fn rounds_put_frames_in_the_air_that_go_where_they_are_sent(rt: HostRuntime) -> 
 fn the_fourth_route_moves_up_where_the_first_ends(rt: HostRuntime) -> Result<(), Fail> {
     let text =
         "node 1 N0AAA A\nheard 1 N0BBB B N0ZZZ Z N0XXX 255\nheard 1 N0CCC C N0ZZZ Z N0XXX 250\nheard 1 N0DDD D N0ZZZ Z N0XXX 240\nheard 1 N0EEE E N0ZZZ Z N0XXX 230\nshow 1\nlinkfail 1 N0BBB";
-    let out = reported(rt.alloc(), text.as_bytes())?;
     let want =
         "table 1 N0AAA A\nroute N0BBB B N0BBB 192 6\nroute N0CCC C N0CCC 192 6\nroute N0DDD D N0DDD 192 6\nroute N0EEE E N0EEE 192 6\nroute N0ZZZ Z N0BBB 191 6\nroute N0ZZZ Z N0CCC 188 6\nroute N0ZZZ Z N0DDD 180 6\ntable 1 N0AAA A\nroute N0CCC C N0CCC 192 6\nroute N0DDD D N0DDD 192 6\nroute N0EEE E N0EEE 192 6\nroute N0ZZZ Z N0CCC 188 6\nroute N0ZZZ Z N0DDD 180 6\nroute N0ZZZ Z N0EEE 173 6\nverdict done\n";
-    assert_eq!(rt; out.bytes(), want.as_bytes());
+    let case = replay_of(text.as_bytes());
+    check(&rt, rt.alloc(), &case, Status::Done, want.as_bytes(), b"")?;
     Ok(())
 }

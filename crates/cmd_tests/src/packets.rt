@@ -1,5 +1,5 @@
 //! Packets over streams in memory.
-use crate::runs::{Case, outcome_of};
+use crate::runs::{Case, check};
 use node_cmd::Status;
 use std::test::Fail;
 
@@ -20,18 +20,20 @@ fn what_is_sent_for_a_read_is_written_before_the_next(rt: HostRuntime) -> Result
         failing_reads: &[2],
         failing_writes: &[],
     };
-    let outcome = outcome_of(rt.alloc(), &case)?;
-    assert_eq!(rt; outcome.status, Status::ReadFault);
-    assert_eq!(rt; outcome.written.bytes(), REPLY);
-    assert_eq!(rt; outcome.notes.bytes(), b"read fault\n".as_slice());
+    check(
+        &rt,
+        rt.alloc(),
+        &case,
+        Status::ReadFault,
+        REPLY,
+        b"read fault\n",
+    )?;
 
     let whole = Case {
         piece: 7,
         failing_reads: &[],
         ..case
     };
-    let outcome = outcome_of(rt.alloc(), &whole)?;
-    assert_eq!(rt; outcome.status, Status::Done);
-    assert_eq!(rt; outcome.written.bytes(), REPLY);
+    check(&rt, rt.alloc(), &whole, Status::Done, REPLY, b"")?;
     Ok(())
 }

@@ -1,16 +1,13 @@
 //! The whole program over streams in memory.
 use node_cmd::{Ran, Status, run};
-use radio_base::{MemClock, MemSink, MemSource, NoMemory};
+use radio_base::{MemClock, MemSink, MemSource};
 use std::alloc::Global;
+use std::process::Abort;
 use std::test::Fail;
 
-/// How a run ended, and what it left.
-#[derive(Drop)]
-pub(crate) struct Outcome {
-    pub(crate) status: Status,
-    pub(crate) written: MemSink,
-    pub(crate) notes: MemSink,
-}
+/// What is noted where words are no command's.
+pub(crate) const USAGE: &[u8] =
+    b"usage: replay | node call=CALL alias=ALIAS [key=value] | frames modulo=8|128 | soak seed=N | life modulo=8|128 srej=0|1 delay=N | ip call=CALL addr=IP [route=IP/N,IP]\n";
 
 /// A run that reads and writes the given number of bytes at a time, and whose given reads and writes
 /// fail.
@@ -33,30 +30,38 @@ pub(crate) fn replay_of(file: &[u8]) -> Case<'_> {
     }
 }
 
-pub(crate) fn outcome_of(alloc: Global, case: &Case<'_>) -> Result<Outcome, NoMemory> {
+/// Runs a case: it has to end by this status, and to write and note exactly this. All values of the crates below are made and dropped
+/// here, so that this is proved once.
+pub(crate) fn check(
+    rt: &impl Abort,
+    alloc: Global,
+    case: &Case<'_>,
+    status: Status,
+    written: &[u8],
+    notes: &[u8],
+) -> Result<(), Fail> {
     let mut words = Vec::new(alloc);
     for word in case.words {
         words.push(word.to_string(alloc)?)?;
     }
     let piece = case.piece.max(1);
     let mut source = MemSource::new(alloc, case.file, piece, case.failing_reads)?;
-    let mut written = MemSink::new(alloc, 10_000, piece, case.failing_writes)?;
-    let mut notes = MemSink::new(alloc, 1_000, 1_000, &[])?;
+    let mut sink = MemSink::new(alloc, 10_000, piece, case.failing_writes)?;
+    let mut noted = MemSink::new(alloc, 1_000, 1_000, &[])?;
     let mut clock = MemClock::new(0, 1);
-    let status = run(
+    let ended = run(
         alloc,
         &words,
         &mut source,
-        &mut written,
-        &mut notes,
+        &mut sink,
+        &mut noted,
         &mut clock,
         &mut Ran::Nothing,
     );
-    Ok(Outcome {
-        status,
-        written,
-        notes,
-    })
+    assert_eq!(rt; ended, status);
+    assert_eq!(rt; sink.bytes(), written);
+    assert_eq!(rt; noted.bytes(), notes);
+    Ok(())
 }
 
 const HEARD: &[u8] = b"node 1 N0AAA ANODE
@@ -82,10 +87,7 @@ verdict done
         ),
     ];
     for (file, report) in rows {
-        let outcome = outcome_of(rt.alloc(), &replay_of(file))?;
-        assert_eq!(rt; outcome.status, Status::Done);
-        assert_eq!(rt; outcome.written.bytes(), report);
-        assert_eq!(rt; outcome.notes.bytes(), b"".as_slice());
+        check(&rt, rt.alloc(), &replay_of(file), Status::Done, report, b"")?;
     }
     Ok(())
 }
@@ -103,12 +105,7 @@ fn other_words_are_told_what_the_commands_are(rt: HostRuntime) -> Result<(), Fai
             words: given,
             ..replay_of(HEARD)
         };
-        let outcome = outcome_of(rt.alloc(), &case)?;
-        assert_eq!(rt; outcome.status, Status::Usage);
-        assert_eq!(rt; outcome.written.bytes(), b"".as_slice());
-        let usage =
-            b"usage: replay | node call=CALL alias=ALIAS [key=value] | frames modulo=8|128 | soak seed=N | life modulo=8|128 srej=0|1 delay=N | ip call=CALL addr=IP [route=IP/N,IP]\n";
-        assert_eq!(rt; outcome.notes.bytes(), usage.as_slice());
+        check(&rt, rt.alloc(), &case, Status::Usage, b"", USAGE)?;
     }
     Ok(())
 }
@@ -116,10 +113,14 @@ fn other_words_are_told_what_the_commands_are(rt: HostRuntime) -> Result<(), Fai
 #[test]
 fn a_bad_line_is_named(rt: HostRuntime) -> Result<(), Fail> {
     let file = b"# one node\nnode 1 N0AAA ANODE\n\njump 1\njump 2\n";
-    let outcome = outcome_of(rt.alloc(), &replay_of(file))?;
-    assert_eq!(rt; outcome.status, Status::BadFile);
-    assert_eq!(rt; outcome.written.bytes(), b"".as_slice());
-    assert_eq!(rt; outcome.notes.bytes(), b"line 4: word\n".as_slice());
+    check(
+        &rt,
+        rt.alloc(),
+        &replay_of(file),
+        Status::BadFile,
+        b"",
+        b"line 4: word\n",
+    )?;
     Ok(())
 }
 
@@ -130,34 +131,44 @@ fn faults_in_mid_stream_end_a_run(rt: HostRuntime) -> Result<(), Fail> {
         failing_reads: &[3],
         ..replay_of(HEARD)
     };
-    let outcome = outcome_of(rt.alloc(), &case)?;
-    assert_eq!(rt; outcome.status, Status::ReadFault);
-    assert_eq!(rt; outcome.written.bytes(), b"".as_slice());
-    assert_eq!(rt; outcome.notes.bytes(), b"read fault\n".as_slice());
+    check(
+        &rt,
+        rt.alloc(),
+        &case,
+        Status::ReadFault,
+        b"",
+        b"read fault\n",
+    )?;
 
     let case = Case {
         piece: 1,
         failing_writes: &[2],
         ..replay_of(HEARD)
     };
-    let outcome = outcome_of(rt.alloc(), &case)?;
-    assert_eq!(rt; outcome.status, Status::WriteFault);
-    assert_eq!(rt; outcome.written.bytes(), b"t".as_slice());
-    assert_eq!(rt; outcome.notes.bytes(), b"".as_slice());
+    check(&rt, rt.alloc(), &case, Status::WriteFault, b"t", b"")?;
     Ok(())
 }
 
 #[test]
 fn a_file_has_at_most_2_to_the_20_bytes(rt: HostRuntime) -> Result<(), Fail> {
     let file = vec![in rt.alloc(); b'#'; 1_048_577]?;
-    let longest = outcome_of(rt.alloc(), &replay_of(&file[1..]))?;
-    assert_eq!(rt; longest.status, Status::Done);
-    assert_eq!(rt; longest.written.bytes(), b"verdict done\n".as_slice());
+    check(
+        &rt,
+        rt.alloc(),
+        &replay_of(&file[1..]),
+        Status::Done,
+        b"verdict done\n",
+        b"",
+    )?;
 
-    let too_long = outcome_of(rt.alloc(), &replay_of(&file))?;
-    assert_eq!(rt; too_long.status, Status::TooLong);
-    assert_eq!(rt; too_long.written.bytes(), b"".as_slice());
-    assert_eq!(rt; too_long.notes.bytes(), b"too long\n".as_slice());
+    check(
+        &rt,
+        rt.alloc(),
+        &replay_of(&file),
+        Status::TooLong,
+        b"",
+        b"too long\n",
+    )?;
     Ok(())
 }
 
@@ -207,14 +218,24 @@ fn each_item_of_a_stream_has_its_line(rt: HostRuntime) -> Result<(), Fail> {
         (b"\xC0\x21\x05\xC0", b"port=2 command=1 len=1\n"),
     ];
     for (stream, lines) in streams {
-        let outcome = outcome_of(rt.alloc(), &frames_of(stream))?;
-        assert_eq!(rt; outcome.status, Status::Done);
-        assert_eq!(rt; outcome.written.bytes(), lines);
-        assert_eq!(rt; outcome.notes.bytes(), b"".as_slice());
+        check(
+            &rt,
+            rt.alloc(),
+            &frames_of(stream),
+            Status::Done,
+            lines,
+            b"",
+        )?;
     }
     let long = vec![in rt.alloc(); 0u8; 1025]?;
-    let outcome = outcome_of(rt.alloc(), &frames_of(&long))?;
-    assert_eq!(rt; outcome.written.bytes(), b"too long\n".as_slice());
+    check(
+        &rt,
+        rt.alloc(),
+        &frames_of(&long),
+        Status::Done,
+        b"too long\n",
+        b"",
+    )?;
     Ok(())
 }
 
@@ -225,9 +246,13 @@ fn the_lines_of_a_read_are_written_before_the_next(rt: HostRuntime) -> Result<()
         failing_reads: &[2],
         ..frames_of(NODES)
     };
-    let outcome = outcome_of(rt.alloc(), &case)?;
-    assert_eq!(rt; outcome.status, Status::ReadFault);
-    assert_eq!(rt; outcome.written.bytes(), NODES_LINE);
-    assert_eq!(rt; outcome.notes.bytes(), b"read fault\n".as_slice());
+    check(
+        &rt,
+        rt.alloc(),
+        &case,
+        Status::ReadFault,
+        NODES_LINE,
+        b"read fault\n",
+    )?;
     Ok(())
 }

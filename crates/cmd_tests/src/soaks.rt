@@ -1,58 +1,33 @@
 //! The command `soak` over streams in memory.
-use net_replay::soak_file;
-use node_cmd::{Ran, Status, run};
-use radio_base::{MemClock, MemSink, MemSource, NoMemory};
-use std::alloc::Global;
+use crate::runs::{Case, USAGE, check, replay_of};
+use node_cmd::Status;
 use std::test::Fail;
 
-/// What a run of these words wrote of this input, of which each read fails, or none does; and how it ended.
-fn run_of(
-    alloc: Global,
-    words: &[&str],
-    file: &[u8],
-    failing_reads: &[u64],
-) -> Result<(Status, MemSink), NoMemory> {
-    let mut given = Vec::new(alloc);
-    for word in words {
-        given.push(word.to_string(alloc)?)?;
-    }
-    let mut source = MemSource::new(alloc, file, 4_096, failing_reads)?;
-    let mut written = MemSink::new(alloc, 40_000, 4_096, &[])?;
-    let mut notes = MemSink::new(alloc, 1_000, 1_000, &[])?;
-    let mut clock = MemClock::new(0, 1);
-    let status = run(
-        alloc,
-        &given,
-        &mut source,
-        &mut written,
-        &mut notes,
-        &mut clock,
-        &mut Ran::Nothing,
-    );
-    Ok((status, written))
-}
-
-fn last_line(text: &[u8]) -> &[u8] {
-    let end = text.len().saturating_sub(1);
-    match text[..end].iter().rposition(|b| *b == b'\n') {
-        Some(at) => &text[at + 1..],
-        None => text,
+/// A source that would fail: nothing is read.
+fn soak_of<'a>(words: &'a [&'a str]) -> Case<'a> {
+    Case {
+        words,
+        failing_reads: &[1],
+        ..replay_of(b"")
     }
 }
 
 #[test]
-fn a_number_has_one_line_and_the_verdict_of_its_file(rt: HostRuntime) -> Result<(), Fail> {
-    let alloc = rt.alloc();
-    // Its source would fail, and isn't read.
-    let (status, first) = run_of(alloc, &["soak", "seed=1"], b"", &[1])?;
-    let (_, second) = run_of(alloc, &["soak", "seed=1"], b"", &[])?;
-    assert_eq!(rt; first.bytes(), second.bytes());
-    assert!(rt; first.bytes().starts_with(b"soak 1 frames="));
-
-    let file = soak_file(alloc, 1)?;
-    let (replayed, report) = run_of(alloc, &["replay"], &file, &[])?;
-    assert_eq!(rt; status, replayed);
-    assert!(rt; first.bytes().ends_with(last_line(report.bytes())));
+fn a_number_has_one_line(rt: HostRuntime) -> Result<(), Fail> {
+    let rows: [(&str, &[u8]); 2] = [
+        (
+            "seed=1",
+            b"soak 1 frames=252 wrote=20 received=18 failed=12 verdict done\n",
+        ),
+        (
+            "seed=18446744073709551615",
+            b"soak 18446744073709551615 frames=241 wrote=14 received=11 failed=12 verdict done\n",
+        ),
+    ];
+    for (word, line) in rows {
+        let words = ["soak", word];
+        check(&rt, rt.alloc(), &soak_of(&words), Status::Done, line, b"")?;
+    }
     Ok(())
 }
 
@@ -70,16 +45,8 @@ fn a_seed_is_a_decimal_number_below_2_to_the_64(rt: HostRuntime) -> Result<(), F
         "seed=18446744073709551616",
     ];
     for word in words {
-        let (status, written) = run_of(rt.alloc(), &["soak", word], b"", &[])?;
-        assert_eq!(rt; status, Status::Usage);
-        assert_eq!(rt; written.bytes(), b"".as_slice());
+        let words = ["soak", word];
+        check(&rt, rt.alloc(), &soak_of(&words), Status::Usage, b"", USAGE)?;
     }
-    let (status, written) = run_of(rt.alloc(), &["soak", "seed=18446744073709551615"], b"", &[])?;
-    assert_eq!(rt; status, Status::Done);
-    assert!(rt;
-        written
-            .bytes()
-            .starts_with(b"soak 18446744073709551615 frames=")
-    );
     Ok(())
 }
