@@ -3,7 +3,7 @@ use Rattle.std.specs.Prelude.{◌≡◌, ℕ, ◌⊎◌, Bool, true, false, not,
 use Rattle.std.proofs.Common.{sym, ◌∙◌, ap, subst, inl, inr, arith}
 use Rattle.std.proofs.lemmas.Bool.Decides.{nat_tests}
 use Rattle.radio_base.specs.declared.modulus.TheConstants.{COUNT_MAX}
-use Rattle.ax_address.specs.Callsign.{Callsign}
+use Rattle.ax_address.specs.Callsign.{Callsign, IsCallsign}
 use Rattle.ax_address.specs.CallOrder.{same_call}
 use Rattle.l3_datagram.specs.declared.datagram.DatagramHead.{DatagramHead}
 use Rattle.l3_datagram.specs.declared.datagram.DatagramRefusal.{DatagramRefusal}
@@ -14,6 +14,8 @@ use Rattle.circuit_l4.specs.declared.transport.Transport.TheVariants.{Request, A
 use Rattle.circuit_l4.specs.declared.transport.TransportRefusal.{TransportRefusal}
 use Rattle.circuit_l4.specs.Reading.{transport_at}
 use Rattle.circuit_l4.specs.declared.plain.EndNotice.{EndNotice}
+use Rattle.circuit_l4.specs.declared.machine.Role.{Role}
+use Rattle.circuit_l4.specs.declared.machine.Role.TheVariants.{Requester, Responder}
 use Rattle.circuit_l4.specs.EndState.{Effect, State}
 use Rattle.circuit_l4.specs.EndLaws.{Accepts, Asks}
 use Rattle.circuit_l4.specs.EndTable.{Arrive, step}
@@ -24,12 +26,13 @@ use Rattle.circuit_set.specs.Books.{any_ends}
 use Rattle.circuit_set.specs.Givings.{IsUp}
 use Rattle.circuit_set.specs.Runs.{opened_window}
 use Rattle.circuit_set.proofs.Acts.{call_names, lives_on, lives_same}
+use Rattle.circuit_set.proofs.Asks as asking
 use Rattle.circuit_set.proofs.Ended.{Ends, SendsOn, accept_opens, step_ends, step_sends_on}
 use Rattle.circuit_set.proofs.Invariant.{Lived}
 use Rattle.circuit_set.proofs.Lookups.{InEnds, open_found}
 use Rattle.circuit_set.proofs.Names.{AcceptsNone}
 use Rattle.circuit_set.proofs.Sends.{Named}
-use Rattle.circuit_set.proofs.Unheeded.{SameEnd, arrival_same}
+use Rattle.circuit_set.proofs.Unheeded.{SameEnd, arrival_same, origin_read}
 
 -- ---- the numbers of ends ----
 -- none has this number
@@ -119,6 +122,42 @@ pub record Cases (s : SetState) (P : SetDone → Type 0) : Type 0 where
       → P (record { set = record s { ends = with_end (record h { gone = true }) s.ends }; told = Gone h.id (facts_of h.end) ∷ [] })
   pub makes : (at : Callsign) (asked : Option Pair) (request : Option (List ℕ)) (g : Effect) → IsNew s asked request g → P (made s at asked request g)
 
+-- ---- the cases, with more of what is known in each ----
+-- a datagram has come from another node
+pub record Comer (s : SetState) (a : Act) (d : List ℕ) : Type 0 where
+  pub now : ℕ
+  pub came : a ≡ Comes d now
+  pub head : DatagramHead
+  pub read : head_at d ≡ Ok head
+  pub other : same_call head.origin s.own ≡ false
+  pub mine : same_call head.dest s.own ≡ true
+
+-- it is a request, for which no end is open
+pub record Opener (s : SetState) (a : Act) (at : Callsign) (pair : Pair) (d : List ℕ) : Type 0 where
+  pub comer : Comer s a d
+  pub origin : comer.head.origin ≡ at
+  pub window : ℕ
+  pub user : Callsign
+  pub node : Callsign
+  pub request : transport_at (drop 15 d) ≡ Ok (Request pair window user node)
+  pub none : first_open (opened_by comer.head.origin pair) s.ends ≡ None
+
+-- a circuit was asked for with this node, or such a request has come from it
+abbrev pub MadeBy : SetState → Act → Callsign → Role → Option Pair → Option (List ℕ) → Type 0
+MadeBy s a at role None None = (now : ℕ) × (a ≡ Connect at now) × (role ≡ Requester s.user s.own)
+MadeBy s a at role (Some pair) (Some d) = Opener s a at pair d × (role ≡ Responder)
+MadeBy s a at role _ _ = ⊥
+
+pub record Every (s : SetState) (a : Act) (P : SetDone → Type 0) : Type 0 where
+  pub rests : P (untold s)
+  pub refuses : (at : Callsign) (pair : Pair) → IsCallsign at.letters at.ssid → P (record { set = s; told = Sent 0 None (datagram_to s at (Refuse pair)) ∷ [] })
+  pub moves : (h : Holder) (heeded : Bool) (d : List ℕ) (g : Effect) → end_of h.id s.ends ≡ Some h → h.gone ≡ false → SameEnd h.end g.end → Ends h.end g → Says h heeded d g → Lives h.end g
+      → asking.Asks h.end g.outs → P (goes_to s h (if heeded then Heeded h.id d ∷ [] else []) g)
+  pub leaves : (h : Holder) → end_of h.id s.ends ≡ Some h → h.gone ≡ false → has_ended h.end.phase ≡ true
+      → P (record { set = record s { ends = with_end (record h { gone = true }) s.ends }; told = Gone h.id (facts_of h.end) ∷ [] })
+  pub makes : (at : Callsign) (asked : Option Pair) (request : Option (List ℕ)) (g : Effect) → IsNew s asked request g → MadeBy s a at g.end.role asked request → asking.Asks g.end g.outs
+      → P (made s at asked request g)
+
 either_done : (P : SetDone → Type 0) (b : Bool) (x y : SetDone) → P x → P y → P (if b then x else y)
 either_done P true x y p q = p
 either_done P false x y p q = q
@@ -132,14 +171,19 @@ is_false : (a : Bool) → not a ≡ true → a ≡ false
 is_false true e = cc
 is_false false e = refl
 
-module _ (s : SetState) (one : (h : Holder) → InEnds h s.ends → end_of h.id s.ends ≡ Some h) (P : SetDone → Type 0) (k : Cases s P) where
+is_true : (a : Bool) → not a ≡ false → a ≡ true
+is_true true e = refl
+is_true false e = cc
+
+module _ (s : SetState) (one : (h : Holder) → InEnds h s.ends → end_of h.id s.ends ≡ Some h) (a : Act) (P : SetDone → Type 0) (k : Every s a P) where
   -- ---- calls ----
   call_case : (h : Holder) (call : Call) (now : ℕ) (b : Bool) → h.gone ≡ b → end_of h.id s.ends ≡ Some h → P (if b then untold s else goes_to s h [] (step h.end (input_of call) now))
   call_case h call now true e there = k.rests
   call_case h call now false e there =
       let names = call_names h.end call now in
       let same : SameEnd h.end (step h.end (input_of call) now).end = record { role = ap (λ (n : Named). n.role) names; pair = ap (λ (n : Named). n.pair) names; config = ap (λ (n : Named). n.config) names } in
-      k.moves h false [] (step h.end (input_of call) now) there e same (step_ends h.end (input_of call) now (accepts_none call)) (inl (step_sends_on h.end (input_of call) now (accepts_none call))) (λ ns l. lives_on h.end ns (input_of call) now l)
+      k.moves h false [] (step h.end (input_of call) now) there e same (step_ends h.end (input_of call) now (accepts_none call)) (inl (step_sends_on h.end (input_of call) now (accepts_none call)))
+      (λ ns l. lives_on h.end ns (input_of call) now l) (asking.step_asks h.end (input_of call) now)
 
   called_so : (id : ℕ) (call : Call) (now : ℕ) (o : Option Holder) → end_of id s.ends ≡ o → P (called s o call now)
   called_so id call now None e = k.rests
@@ -148,7 +192,7 @@ module _ (s : SetState) (one : (h : Holder) → InEnds h s.ends → end_of h.id 
   discard_case : (h : Holder) (b : Bool) → (not h.gone && has_ended h.end.phase) ≡ b → end_of h.id s.ends ≡ Some h
       → P (if b then record { set = record s { ends = with_end (record h { gone = true }) s.ends }; told = Gone h.id (facts_of h.end) ∷ [] } else untold s)
   discard_case h false e there = k.rests
-  discard_case h true e there = k.leaves h there (is_false h.gone (and_parts (not h.gone) (has_ended h.end.phase) e).0)
+  discard_case h true e there = let r = and_parts (not h.gone) (has_ended h.end.phase) e in k.leaves h there (is_false h.gone r.0) r.1
 
   discard_so : (id : ℕ) (o : Option Holder) → end_of id s.ends ≡ o → P (discarded s o)
   discard_so id None e = k.rests
@@ -161,78 +205,97 @@ module _ (s : SetState) (one : (h : Holder) → InEnds h s.ends → end_of h.id 
       let lasts : is_open h ≡ true = (and_parts (is_open h) (test h) f.1).0 in
       (one h f.0, is_false h.gone (and_parts (not h.gone) (not (has_ended h.end.phase)) lasts).0)
 
-  arrives_case : (origin : Callsign) (d : List ℕ) (to : Pair) (t : Transport) (now : ℕ) (o : Option Holder) → transport_at (drop 15 d) ≡ Ok t → first_open (named_by origin to) s.ends ≡ o
-      → P (elim o as (λ x. SetDone) [ Some h ↦ handed s h d t now | None ↦ untold s ])
-  arrives_case origin d to t now None read e = k.rests
-  arrives_case origin d to t now (Some h) read e =
-      let f = open_one (named_by origin to) h e in
-      let says = arrival_says h d t now read in
-      k.moves h (heeds h.end.phase t) d (step h.end (Arrive t) now) f.0 f.1 (arrival_same h.end t now) says.0 says.1 (λ ns l. lives_on h.end ns (Arrive t) now l)
+  module _ (d : List ℕ) (c : Comer s a d) where
+    arrives_case : (to : Pair) (t : Transport) (o : Option Holder) → transport_at (drop 15 d) ≡ Ok t → first_open (named_by c.head.origin to) s.ends ≡ o
+        → P (elim o as (λ x. SetDone) [ Some h ↦ handed s h d t c.now | None ↦ untold s ])
+    arrives_case to t None read e = k.rests
+    arrives_case to t (Some h) read e =
+        let f = open_one (named_by c.head.origin to) h e in
+        let says = arrival_says h d t c.now read in
+        k.moves h (heeds h.end.phase t) d (step h.end (Arrive t) c.now) f.0 f.1 (arrival_same h.end t c.now) says.0 says.1 (λ ns l. lives_on h.end ns (Arrive t) c.now l) (asking.step_asks h.end (Arrive t) c.now)
 
-  arrives_so : (origin : Callsign) (d : List ℕ) (to : Pair) (t : Transport) (now : ℕ) → transport_at (drop 15 d) ≡ Ok t → P (arrives_at s origin d to t now)
-  arrives_so origin d to t now read = arrives_case origin d to t now (first_open (named_by origin to) s.ends) read refl
+    arrives_so : (to : Pair) (t : Transport) → transport_at (drop 15 d) ≡ Ok t → P (arrives_at s c.head.origin d to t c.now)
+    arrives_so to t read = arrives_case to t (first_open (named_by c.head.origin to) s.ends) read refl
 
-  anew_case : (origin : Callsign) (d : List ℕ) (pair : Pair) (window now : ℕ) (b : Bool) → is_full s ≡ b → IsForeign s (Some d)
-      → P (if b then record { set = s; told = Sent 0 None (datagram_to s origin (Refuse pair)) ∷ [] } else responds s origin d pair window now)
-  anew_case origin d pair window now true e f = k.refuses (datagram_to s origin (Refuse pair))
-  anew_case origin d pair window now false e f =
-      k.makes origin (Some pair) (Some d) (responding (new_pair s) pair window s.config (min now COUNT_MAX)) (record {
-        room = e;
-        foreign = f;
-        pair = refl;
-        lasts = refl;
-        told = refl;
-        asks = λ e. cc;
-        lives = record { first = responding (new_pair s) pair window s.config (min now COUNT_MAX); new = Accepts (new_pair s) pair window s.config (min now COUNT_MAX); inputs = []; end = refl; notes_are = refl };
-      })
+    anew_case : (pair : Pair) (window : ℕ) (b : Bool) → is_full s ≡ b → Opener s a c.head.origin pair d
+        → P (if b then record { set = s; told = Sent 0 None (datagram_to s c.head.origin (Refuse pair)) ∷ [] } else responds s c.head.origin d pair window c.now)
+    anew_case pair window true e o = k.refuses c.head.origin pair (origin_read d c.head c.read)
+    anew_case pair window false e o =
+        let g : Effect = responding (new_pair s) pair window s.config (min c.now COUNT_MAX) in
+        k.makes c.head.origin (Some pair) (Some d) g (record {
+          room = e;
+          foreign = (c.head, c.read, c.other);
+          pair = refl;
+          lasts = refl;
+          told = refl;
+          asks = λ e. cc;
+          lives = record { first = g; new = Accepts (new_pair s) pair window s.config (min c.now COUNT_MAX); inputs = []; end = refl; notes_are = refl };
+        }) (o, refl) ((refl, refl), tt)
 
-  requested_case : (origin : Callsign) (d : List ℕ) (pair : Pair) (window now : ℕ) (o : Option Holder) → first_open (opened_by origin pair) s.ends ≡ o → IsForeign s (Some d)
-      → P (elim o as (λ x. SetDone) [ Some h ↦ goes_to s h [] (accept_again h.end) | None ↦ requested_anew s origin d pair window now ])
-  requested_case origin d pair window now None e f = anew_case origin d pair window now (is_full s) refl f
-  requested_case origin d pair window now (Some h) e f =
-      let o = open_one (opened_by origin pair) h e in
-      k.moves h false [] (accept_again h.end) o.0 o.1 (record { role = refl; pair = refl; config = refl }) (record { told = λ e. cc; stays = λ e. e }) (inl (record { unopened = refl; to = refl })) (λ ns l. lives_same h.end ns l)
+    requested_case : (pair : Pair) (window : ℕ) (user node : Callsign) (o : Option Holder) → first_open (opened_by c.head.origin pair) s.ends ≡ o → transport_at (drop 15 d) ≡ Ok (Request pair window user node)
+        → P (elim o as (λ x. SetDone) [ Some h ↦ goes_to s h [] (accept_again h.end) | None ↦ requested_anew s c.head.origin d pair window c.now ])
+    requested_case pair window user node None e read =
+        anew_case pair window (is_full s) refl (record { comer = c; origin = refl; window = window; user = user; node = node; request = read; none = e })
+    requested_case pair window user node (Some h) e read =
+        let o = open_one (opened_by c.head.origin pair) h e in
+        k.moves h false [] (accept_again h.end) o.0 o.1 (record { role = refl; pair = refl; config = refl }) (record { told = λ e. cc; stays = λ e. e; says = λ e. inl e }) (inl (record { unopened = refl; to = refl }))
+        (λ ns l. lives_same h.end ns l) ((refl, refl), tt)
 
-  received_so : (origin : Callsign) (d : List ℕ) (t : Transport) (now : ℕ) → IsForeign s (Some d) → transport_at (drop 15 d) ≡ Ok t → P (received s origin d t now)
-  received_so origin d (Request pair window user node) now f read = requested_case origin d pair window now (first_open (opened_by origin pair) s.ends) refl f
-  received_so origin d (Accept to own window) now f read = arrives_so origin d to (Accept to own window) now read
-  received_so origin d (Refuse to) now f read = arrives_so origin d to (Refuse to) now read
-  received_so origin d (Disconnect to) now f read = arrives_so origin d to (Disconnect to) now read
-  received_so origin d (Disconnected to) now f read = arrives_so origin d to (Disconnected to) now read
-  received_so origin d (Info to tx rx flags text) now f read = arrives_so origin d to (Info to tx rx flags text) now read
-  received_so origin d (InfoAck to rx flags) now f read = arrives_so origin d to (InfoAck to rx flags) now read
+    received_so : (t : Transport) → transport_at (drop 15 d) ≡ Ok t → P (received s c.head.origin d t c.now)
+    received_so (Request pair window user node) read = requested_case pair window user node (first_open (opened_by c.head.origin pair) s.ends) refl read
+    received_so (Accept to own window) read = arrives_so to (Accept to own window) read
+    received_so (Refuse to) read = arrives_so to (Refuse to) read
+    received_so (Disconnect to) read = arrives_so to (Disconnect to) read
+    received_so (Disconnected to) read = arrives_so to (Disconnected to) read
+    received_so (Info to tx rx flags text) read = arrives_so to (Info to tx rx flags text) read
+    received_so (InfoAck to rx flags) read = arrives_so to (InfoAck to rx flags) read
 
-  read_so : (origin : Callsign) (d : List ℕ) (r : Result Transport TransportRefusal) (now : ℕ) → IsForeign s (Some d) → transport_at (drop 15 d) ≡ r → P (read_as s origin d r now)
-  read_so origin d (Err e) now f read = k.rests
-  read_so origin d (Ok t) now f read = received_so origin d t now f read
+    read_so : (r : Result Transport TransportRefusal) → transport_at (drop 15 d) ≡ r → P (read_as s c.head.origin d r c.now)
+    read_so (Err e) read = k.rests
+    read_so (Ok t) read = received_so t read
 
-  handed_case : (d : List ℕ) (head : DatagramHead) (now : ℕ) (a b : Bool) → head_at d ≡ Ok head → same_call head.origin s.own ≡ a
-      → P (if a || b then untold s else read_as s head.origin d (transport_at (drop 15 d)) now)
-  handed_case d head now true b e f = k.rests
-  handed_case d head now false true e f = k.rests
-  handed_case d head now false false e f = read_so head.origin d (transport_at (drop 15 d)) now (head, e, f) refl
+  handed_case : (d : List ℕ) (head : DatagramHead) (now : ℕ) (v w : Bool) → a ≡ Comes d now → head_at d ≡ Ok head → same_call head.origin s.own ≡ v → not (same_call head.dest s.own) ≡ w
+      → P (if v || w then untold s else read_as s head.origin d (transport_at (drop 15 d)) now)
+  handed_case d head now true w i e f g = k.rests
+  handed_case d head now false true i e f g = k.rests
+  handed_case d head now false false i e f g =
+      read_so d (record { now = now; came = i; head = head; read = e; other = f; mine = is_true (same_call head.dest s.own) g }) (transport_at (drop 15 d)) refl
 
-  handed_so : (d : List ℕ) (r : Result DatagramHead DatagramRefusal) (now : ℕ) → head_at d ≡ r → P (handed_up s d r now)
-  handed_so d (Err e) now h = k.rests
-  handed_so d (Ok head) now h = handed_case d head now (same_call head.origin s.own) (not (same_call head.dest s.own)) h refl
+  handed_so : (d : List ℕ) (r : Result DatagramHead DatagramRefusal) (now : ℕ) → a ≡ Comes d now → head_at d ≡ r → P (handed_up s d r now)
+  handed_so d (Err e) now i h = k.rests
+  handed_so d (Ok head) now i h = handed_case d head now (same_call head.origin s.own) (not (same_call head.dest s.own)) i h refl refl
 
-  connected_case : (dest : Callsign) (now : ℕ) (a b : Bool) → is_full s ≡ b → P (if a || b then untold s else requests s dest now)
-  connected_case dest now true b e = k.rests
-  connected_case dest now false true e = k.rests
-  connected_case dest now false false e =
-      k.makes dest None None (requesting (new_pair s) s.user s.own s.config (min now COUNT_MAX)) (record {
+  connected_case : (dest : Callsign) (now : ℕ) (v w : Bool) → a ≡ Connect dest now → is_full s ≡ w → P (if v || w then untold s else requests s dest now)
+  connected_case dest now true w i e = k.rests
+  connected_case dest now false true i e = k.rests
+  connected_case dest now false false i e =
+      let g : Effect = requesting (new_pair s) s.user s.own s.config (min now COUNT_MAX) in
+      k.makes dest None None g (record {
         room = e;
         foreign = tt;
         pair = refl;
         lasts = refl;
         told = refl;
         asks = λ e. refl;
-        lives = record { first = requesting (new_pair s) s.user s.own s.config (min now COUNT_MAX); new = Asks (new_pair s) s.user s.own s.config (min now COUNT_MAX); inputs = []; end = refl; notes_are = refl };
-      })
+        lives = record { first = g; new = Asks (new_pair s) s.user s.own s.config (min now COUNT_MAX); inputs = []; end = refl; notes_are = refl };
+      }) (now, i, refl) ((refl, refl, refl, refl), tt)
 
-  pub step_cases : (a : Act) → IsUp a → P (set_step s a)
-  step_cases (Connect dest now) up = connected_case dest now (same_call dest s.own) (is_full s) refl
-  step_cases (Comes d now) up = handed_so d (head_at d) now refl
-  step_cases (Calls id call now) up = called_so id call now (end_of id s.ends) refl
-  step_cases (Discard id) up = discard_so id (end_of id s.ends) refl
-  step_cases (Restart pair more) up = absurd up
+  step_by : (b : Act) → a ≡ b → IsUp b → P (set_step s b)
+  step_by (Connect dest now) e up = connected_case dest now (same_call dest s.own) (is_full s) e refl
+  step_by (Comes d now) e up = handed_so d (head_at d) now e refl
+  step_by (Calls id call now) e up = called_so id call now (end_of id s.ends) refl
+  step_by (Discard id) e up = discard_so id (end_of id s.ends) refl
+  step_by (Restart pair more) e up = absurd up
+
+  pub step_every : IsUp a → P (set_step s a)
+  step_every up = step_by a refl up
+
+pub step_cases : (s : SetState) → ((h : Holder) → InEnds h s.ends → end_of h.id s.ends ≡ Some h) → (P : SetDone → Type 0) → Cases s P → (a : Act) → IsUp a → P (set_step s a)
+step_cases s one P k a =
+    step_every s one a P (record {
+      rests = k.rests;
+      refuses = λ at pair call. k.refuses (datagram_to s at (Refuse pair));
+      moves = λ h heeded d g there held same ends says lives asks. k.moves h heeded d g there held same ends says lives;
+      leaves = λ h there held ended. k.leaves h there held;
+      makes = λ at asked request g new by asks. k.makes at asked request g new;
+    })

@@ -1,5 +1,5 @@
 -- What an end tells in a step: nothing, that its circuit is open, or how it ended; and then it has ended, and stays so.
-use Rattle.std.specs.Prelude.{◌≡◌, ℕ, suc, ◌⊎◌, ◌∷◌, ◌+◌, ◌-◌, min, Bool, true, false, not, ◌&&◌, ◌||◌, nat_eq, nat_lt, nat_le, if◌then◌else◌, [], ◌++◌, length, Option, None, Some, is_ok, refl}
+use Rattle.std.specs.Prelude.{◌≡◌, ℕ, suc, ◌⊎◌, ◌∷◌, ◌+◌, ◌-◌, min, Bool, true, false, not, ◌&&◌, ◌||◌, nat_eq, nat_lt, nat_le, if◌then◌else◌, List, [], ◌++◌, length, Option, None, Some, is_ok, refl}
 use Rattle.std.proofs.Common.{sym, ◌∙◌, ap, inl, inr}
 use Rattle.radio_base.specs.declared.modulus.TheConstants.{COUNT_MAX}
 use Rattle.radio_base.specs.Modulus.{place_of}
@@ -17,6 +17,7 @@ use Rattle.circuit_l4.specs.declared.machine.Role.TheVariants.{Requester, Respon
 use Rattle.circuit_l4.specs.declared.texts.Owed.{Owed}
 use Rattle.circuit_l4.specs.EndState.{Effect, State, begin, is_up}
 use Rattle.circuit_l4.specs.EndMoves.{acknowledge, acknowledge_by, advance, again, answer, answer_all, wait, wait_if_out, on_state, hold, begin_to_close, end_with, fill, fill_count, finish, with_receiving, is_done, is_silent, note, on_info, on_info_ack, put_out, emit, emit_owed, supply, emit_ack}
+use Rattle.circuit_l4.specs.EndLaws.{Accepts, Asks, IsNew, after_inputs, followed_by}
 use Rattle.circuit_l4.specs.EndTable.{Input, Write, Arrive, Tick, Close, Take, arrive_in, ask_by, close_in_turn, due_in, expire, count_expiry, note_activity, is_due, may_close, release, common_window, come_up, resume_by, retry, retry_in, step, step_at, take_from, write_answer, write}
 use Rattle.circuit_l4.specs.Receiving.{Appended, Receipt, busy, receive, without_first, inbox, moved_on}
 use Rattle.circuit_l4.specs.Sending.{total, written}
@@ -33,20 +34,20 @@ record IsLast (g : Effect) : Type 0 where
   ends : ends_it why ≡ true
   over : has_ended g.end.phase ≡ true
 
--- a step in which it isn't opened
+-- a step in which it isn't opened, and ends only where it tells how
 record Goes (s : State) (g : Effect) : Type 0 where
-  told : (g.notes ≡ []) ⊎ IsLast g
+  told : ((g.notes ≡ []) × (has_ended g.end.phase ≡ true → has_ended s.phase ≡ true)) ⊎ IsLast g
   stays : has_ended s.phase ≡ true → has_ended g.end.phase ≡ true
 
 rests : (s : State) (g : Effect) → g.notes ≡ [] → g.end.phase ≡ s.phase → Goes s g
-rests s g none same = record { told = inl none; stays = λ e. ap has_ended same ∙ e }
+rests s g none same = record { told = inl (none, λ e. sym (ap has_ended same) ∙ e); stays = λ e. ap has_ended same ∙ e }
 
 over : (s : State) (why : EndNotice) (g : Effect) → g.notes ≡ [] → ends_it why ≡ true → Goes s (end_with why g)
 over s why g none ends = record { told = inr (record { why = why; notes = ap (λ ns. ns ++ why ∷ []) none; ends = ends; over = refl }); stays = λ e. refl }
 
 same_phase : (s : State) (g h : Effect) → h.notes ≡ g.notes → h.end.phase ≡ g.end.phase → Goes s g → Goes s h
 same_phase s g h notes phase k = record {
-  told = elim k.told [ inl e ↦ inl (notes ∙ e) | inr r ↦ inr (record { why = r.why; notes = notes ∙ r.notes; ends = r.ends; over = ap has_ended phase ∙ r.over }) ];
+  told = elim k.told [ inl r ↦ inl (notes ∙ r.0, λ e. r.1 (sym (ap has_ended phase) ∙ e)) | inr r ↦ inr (record { why = r.why; notes = notes ∙ r.notes; ends = r.ends; over = ap has_ended phase ∙ r.over }) ];
   stays = λ e. ap has_ended phase ∙ k.stays e;
 }
 
@@ -101,7 +102,7 @@ finish_case s now g true e k =
     let up : is_up g.end.phase ≡ true = and_first (is_up g.end.phase) g.end.closing (nat_eq g.end.sending.acked (total g.end.sending)) e in
     let n : Effect = begin_to_close now g in
     record {
-      told = elim k.told [ inl none ↦ inl none | inr r ↦ up_is_open ((n.notes ≡ []) ⊎ IsLast n) g.end.phase up r.over ];
+      told = elim k.told [ inl r ↦ inl (r.0, λ e. cc) | inr r ↦ up_is_open (((n.notes ≡ []) × (has_ended n.end.phase ≡ true → has_ended s.phase ≡ true)) ⊎ IsLast n) g.end.phase up r.over ];
       stays = λ t. up_is_open (has_ended n.end.phase ≡ true) g.end.phase up (k.stays t);
     }
 finish_case s now g false e k = k
@@ -214,6 +215,7 @@ steps_go s Take now a =
 pub record Ends (s : State) (g : Effect) : Type 0 where
   pub told : any_ends g.notes ≡ true → has_ended g.end.phase ≡ true
   pub stays : has_ended s.phase ≡ true → has_ended g.end.phase ≡ true
+  pub says : has_ended g.end.phase ≡ true → (has_ended s.phase ≡ true) ⊎ (any_ends g.notes ≡ true)
 
 -- it isn't opened, and sends to the same pair as before
 pub record SendsOn (s : State) (g : Effect) : Type 0 where
@@ -231,12 +233,13 @@ unopened_by FailedInactive e = refl
 
 goes_ends : (s : State) (g : Effect) → Goes s g → Ends s g
 goes_ends s g k = record {
-  told = λ e. elim k.told [ inl none ↦ (let bad : any_ends [] ≡ true = sym (ap any_ends none) ∙ e in cc) | inr r ↦ r.over ];
+  told = λ e. elim k.told [ inl r ↦ (let bad : any_ends [] ≡ true = sym (ap any_ends r.0) ∙ e in cc) | inr r ↦ r.over ];
   stays = k.stays;
+  says = λ e. elim k.told [ inl r ↦ inl (r.1 e) | inr r ↦ inr (ap any_ends r.notes ∙ ap (λ b. b || false) r.ends) ];
 }
 
 goes_unopened : (s : State) (g : Effect) → Goes s g → opened_window g.notes ≡ None
-goes_unopened s g k = elim k.told [ inl none ↦ ap opened_window none | inr r ↦ ap opened_window r.notes ∙ unopened_by r.why r.ends ]
+goes_unopened s g k = elim k.told [ inl r ↦ ap opened_window r.0 | inr r ↦ ap opened_window r.notes ∙ unopened_by r.why r.ends ]
 
 pub step_ends : (s : State) (i : Input) (now : ℕ) → AcceptsNone i → Ends s (step s i now)
 step_ends s i now a = goes_ends s (step s i now) (steps_go s i (min now COUNT_MAX) a)
@@ -248,16 +251,73 @@ step_sends_on s i now a = record { unopened = goes_unopened s (step s i now) (st
 abbrev Opens : State → Pair → Effect → Type 0
 Opens s own g = Ends s g × (SendsOn s g ⊎ ((s.phase ≡ Connecting) × (g.end.to ≡ own)))
 
-up_case : (s : State) (now : ℕ) (own : Pair) (g : Effect) (b : Bool) → s.phase ≡ Connecting → any_ends g.notes ≡ false → g.end.to ≡ own → Opens s own (if b then begin_to_close now g else g)
-up_case s now own g true p none to = (record { told = λ e. let bad : true ≡ false = sym e ∙ none in cc; stays = λ e. let bad : has_ended Connecting ≡ true = sym (ap has_ended p) ∙ e in cc }, inr (p, to))
-up_case s now own g false p none to = (record { told = λ e. let bad : true ≡ false = sym e ∙ none in cc; stays = λ e. let bad : has_ended Connecting ≡ true = sym (ap has_ended p) ∙ e in cc }, inr (p, to))
+up_case : (s : State) (now : ℕ) (own : Pair) (g : Effect) (b : Bool) → s.phase ≡ Connecting → any_ends g.notes ≡ false → g.end.phase ≡ Up → g.end.to ≡ own → Opens s own (if b then begin_to_close now g else g)
+up_case s now own g true p none up to = (record { told = λ e. let bad : true ≡ false = sym e ∙ none in cc; stays = λ e. let bad : has_ended Connecting ≡ true = sym (ap has_ended p) ∙ e in cc; says = λ e. cc }, inr (p, to))
+up_case s now own g false p none up to = (
+  record {
+    told = λ e. let bad : true ≡ false = sym e ∙ none in cc;
+    stays = λ e. let bad : has_ended Connecting ≡ true = sym (ap has_ended p) ∙ e in cc;
+    says = λ e. let bad : has_ended Up ≡ true = sym (ap has_ended up) ∙ e in cc;
+  },
+  inr (p, to),
+)
 
 accept_case : (p : EndPhase) (s : State) (now : ℕ) (to own : Pair) (window : ℕ) → s.phase ≡ p → Opens s own (arrive_in p now (Accept to own window) (begin s))
 accept_case Connecting s now to own window e =
-    let g : Effect = note (Opened (common_window s.config.window window)) (on_state (come_up now own window) (begin s)) in up_case s now own g (is_done g.end) e refl refl
+    let g : Effect = note (Opened (common_window s.config.window window)) (on_state (come_up now own window) (begin s)) in up_case s now own g (is_done g.end) e refl refl refl
 accept_case Up s now to own window e = (goes_ends s (begin s) (nothing s), inl (record { unopened = refl; to = refl }))
 accept_case Closing s now to own window e = (goes_ends s (begin s) (nothing s), inl (record { unopened = refl; to = refl }))
 accept_case Ended s now to own window e = (goes_ends s (begin s) (nothing s), inl (record { unopened = refl; to = refl }))
 
 pub accept_opens : (s : State) (to own : Pair) (window now : ℕ) → Ends s (step s (Arrive (Accept to own window)) now) × (SendsOn s (step s (Arrive (Accept to own window)) now) ⊎ ((s.phase ≡ Connecting) × ((step s (Arrive (Accept to own window)) now).end.to ≡ own)))
 accept_opens s to own window now = accept_case s.phase s (min now COUNT_MAX) to own window refl
+
+-- ---- each step, and so each end ----
+arrival_ends : (s : State) (t : Transport) (now : ℕ) → Ends s (step s (Arrive t) now)
+arrival_ends s (Accept to own window) now = (accept_opens s to own window now).0
+arrival_ends s (Refuse to) now = step_ends s (Arrive (Refuse to)) now refl
+arrival_ends s (Request pair window user node) now = step_ends s (Arrive (Request pair window user node)) now refl
+arrival_ends s (Disconnect to) now = step_ends s (Arrive (Disconnect to)) now refl
+arrival_ends s (Disconnected to) now = step_ends s (Arrive (Disconnected to)) now refl
+arrival_ends s (Info to tx rx flags text) now = step_ends s (Arrive (Info to tx rx flags text)) now refl
+arrival_ends s (InfoAck to rx flags) now = step_ends s (Arrive (InfoAck to rx flags)) now refl
+
+input_ends : (s : State) (i : Input) (now : ℕ) → Ends s (step s i now)
+input_ends s (Write m) now = step_ends s (Write m) now tt
+input_ends s (Arrive t) now = arrival_ends s t now
+input_ends s Tick now = step_ends s Tick now tt
+input_ends s Close now = step_ends s Close now tt
+input_ends s Take now = step_ends s Take now tt
+
+or_assoc : (a b c : Bool) → (a || (b || c)) ≡ ((a || b) || c)
+or_assoc true b c = refl
+or_assoc false b c = refl
+
+pub any_append : (xs ys : List EndNotice) → any_ends (xs ++ ys) ≡ (any_ends xs || any_ends ys)
+any_append [] ys = refl
+any_append (n ∷ xs) ys = ap (λ b. ends_it n || b) (any_append xs ys) ∙ or_assoc (ends_it n) (any_ends xs) (any_ends ys)
+
+or_true : (a : Bool) → (a || true) ≡ true
+or_true true = refl
+or_true false = refl
+
+-- where it has ended it was told how
+abbrev Says : Effect → Type 0
+Says g = has_ended g.end.phase ≡ true → any_ends g.notes ≡ true
+
+inputs_say : (inputs : List (Input × ℕ)) (g : Effect) → Says g → Says (after_inputs g inputs)
+inputs_say [] g k = k
+inputs_say (i ∷ inputs) g k =
+    let h : Effect = step g.end i.0 i.1 in
+    let next : Says (followed_by g h) = λ e. any_append g.notes h.notes ∙ elim ((input_ends g.end i.0 i.1).says e) [
+      | inl was ↦ ap (λ b. b || any_ends h.notes) (k was)
+      | inr now ↦ ap (λ b. any_ends g.notes || b) now ∙ or_true (any_ends g.notes)
+    ] in
+    inputs_say inputs (followed_by g h) next
+
+new_says : (g : Effect) → IsNew g → Says g
+new_says g (Asks pair user node config now) = λ e. cc
+new_says g (Accepts pair partner window config now) = λ e. cc
+
+pub lived_says : (g : Effect) (inputs : List (Input × ℕ)) → IsNew g → Says (after_inputs g inputs)
+lived_says g inputs new = inputs_say inputs g (new_says g new)

@@ -4,9 +4,10 @@ use Rattle.std.proofs.Common.{sym, ◌∙◌, ap, subst, inl, inr, arith}
 use Rattle.circuit_l4.specs.declared.plain.EndNotice.{EndNotice}
 use Rattle.circuit_set.specs.Pairs.{IsPair}
 use Rattle.circuit_set.specs.Sets.{Holder, SetState, has_ended, is_open}
-use Rattle.circuit_set.specs.Books.{MadeNote, Name, any_ends, ends_it, is_lost, partner_in, same_name, with_notice}
+use Rattle.circuit_set.specs.Books.{MadeNote, Name, any_ends, is_lost, partner_in, same_name, with_notice}
 use Rattle.circuit_set.specs.Runs.{Net, end_at, told_to}
 use Rattle.circuit_set.proofs.Bridge.{same_names}
+use Rattle.circuit_set.proofs.Ended.{any_append}
 use Rattle.circuit_set.proofs.Given.{Numbers}
 use Rattle.circuit_set.proofs.Lookups.{has_note}
 use Rattle.circuit_set.proofs.Moved.{same_or}
@@ -221,14 +222,6 @@ module _ (net new : Net) (lost : List Name) (f : Fair net lost) (g : Grown net n
   losts_now x e = let r = f.losts x e in let w = g.is x r.0 r.1 in (w.0, w.1, w.2.gone r.2)
 
 -- ---- what an end tells ----
-or_assoc : (a b c : Bool) → (a || (b || c)) ≡ ((a || b) || c)
-or_assoc true b c = refl
-or_assoc false b c = refl
-
-any_append : (xs ys : List EndNotice) → any_ends (xs ++ ys) ≡ (any_ends xs || any_ends ys)
-any_append [] ys = refl
-any_append (n ∷ xs) ys = ap (λ b. ends_it n || b) (any_append xs ys) ∙ or_assoc (ends_it n) (any_ends xs) (any_ends ys)
-
 or_either : (a b : Bool) (P : Type 0) → (a || b) ≡ true → (a ≡ true → P) → (b ≡ true → P) → P
 or_either true b P e p q = p refl
 or_either false b P e p q = q e

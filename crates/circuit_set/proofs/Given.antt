@@ -11,7 +11,7 @@ use Rattle.circuit_l4.specs.EndOpening.{facts_of}
 use Rattle.circuit_l4.specs.Receiving.{inbox}
 use Rattle.circuit_set.specs.Pairs.{Change, Gives, Giving, Goes, following, gave, given, pairs_given, without}
 use Rattle.circuit_set.specs.Pairs as pairs
-use Rattle.circuit_set.specs.Sets.{Act, Calls, Comes, Connect, Discard, Restart, Made, Sent, Heeded, Notice, Gone, Restarted, Lost, Holder, SetDone, SetState, Told, all_gone, end_of, held_pairs, holder_of, is_full, is_over, made, new_pair, notices, restarted, sents, set_step, settled, told_by, with_end}
+use Rattle.circuit_set.specs.Sets.{Act, Calls, Comes, Connect, Discard, Restart, Made, Sent, Heeded, Notice, Gone, Restarted, Lost, Holder, SetDone, SetState, Told, all_gone, end_of, held_pairs, holder_of, is_over, made, new_pair, notices, restarted, sents, set_step, settled, told_by, with_end}
 use Rattle.circuit_set.specs.Inputs.{runs}
 use Rattle.circuit_set.specs.Runs.{IsStart}
 use Rattle.circuit_set.specs.Givings.{GivenBy, MadeAreGiven, MadeDiffer, StaysUp, after_changes, giving, pairs_made}
@@ -131,7 +131,7 @@ held_push h [] e = ap (λ g. if g then [] else h.end.pair ∷ []) e
 held_push h (x ∷ xs) e = push_case x.gone x.end.pair (held_pairs (xs ++ h ∷ [])) (held_pairs xs) (h.end.pair ∷ []) (held_push h xs e)
 
 -- ---- what is told of pairs ----
-made_append : (xs ys : List Told) → pairs_made (xs ++ ys) ≡ pairs_made xs ++ pairs_made ys
+pub made_append : (xs ys : List Told) → pairs_made (xs ++ ys) ≡ pairs_made xs ++ pairs_made ys
 made_append [] ys = refl
 made_append (Made id pair at request ∷ xs) ys = ap (λ ps. pair ∷ ps) (made_append xs ys)
 made_append (Sent id number d ∷ xs) ys = made_append xs ys
@@ -141,7 +141,7 @@ made_append (Gone id facts ∷ xs) ys = made_append xs ys
 made_append (Restarted pair ∷ xs) ys = made_append xs ys
 made_append (Lost id facts ∷ xs) ys = made_append xs ys
 
-none_append : (xs ys : List Told) → pairs_made xs ≡ [] → pairs_made ys ≡ [] → pairs_made (xs ++ ys) ≡ []
+pub none_append : (xs ys : List Told) → pairs_made xs ≡ [] → pairs_made ys ≡ [] → pairs_made (xs ++ ys) ≡ []
 none_append xs ys p q = made_append xs ys ∙ ap (λ ps. ps ++ pairs_made ys) p ∙ q
 
 sents_none : (s : SetState) (id : ℕ) (at : Callsign) (os : List Out) → pairs_made (sents s id at os) ≡ []
@@ -156,7 +156,7 @@ gone_none : (b : Bool) (t : Told) → pairs_made (t ∷ []) ≡ [] → pairs_mad
 gone_none true t e = e
 gone_none false t e = refl
 
-told_none : (s : SetState) (h : Holder) (g : Effect) → pairs_made (told_by s h g) ≡ []
+pub told_none : (s : SetState) (h : Holder) (g : Effect) → pairs_made (told_by s h g) ≡ []
 told_none s h g =
     none_append (sents s h.id h.at g.outs ++ notices h.id g.notes) (if is_over g.end then Gone h.id (facts_of g.end) ∷ [] else [])
     (none_append (sents s h.id h.at g.outs) (notices h.id g.notes) (sents_none s h.id h.at g.outs) (notices_none h.id g.notes)) (gone_none (is_over g.end) (Gone h.id (facts_of g.end)) refl)
@@ -199,7 +199,7 @@ or_false false b e = refl
 room_is : (n : ℕ) → nat_le 64 n ≡ false → nat_lt 63 n ≡ false
 room_is n e = grind (arith, nat_tests)
 
-heard_none : (b : Bool) (id : ℕ) (d : List ℕ) → pairs_made (if b then Heeded id d ∷ [] else []) ≡ []
+pub heard_none : (b : Bool) (id : ℕ) (d : List ℕ) → pairs_made (if b then Heeded id d ∷ [] else []) ≡ []
 heard_none true id d = refl
 heard_none false id d = refl
 

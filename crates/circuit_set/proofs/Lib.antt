@@ -65,3 +65,11 @@ pub mod SendsTo
 pub mod Retries
 pub mod Sendings
 pub mod Heedings
+pub mod Requests
+pub mod Differing
+pub mod Unrepeated
+pub mod Knowing
+pub mod Learning
+pub mod Askers
+pub mod Returning
+pub mod Returned

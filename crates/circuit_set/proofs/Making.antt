@@ -252,7 +252,7 @@ both_true : (a b : Bool) → (a && b) ≡ true → (a ≡ true) × (b ≡ true)
 both_true true b e = (refl, e)
 both_true false b e = absurd (cc e)
 
-same_pairs : (p q : Pair) → sets.same_pair p q ≡ true → p ≡ q
+pub same_pairs : (p q : Pair) → sets.same_pair p q ≡ true → p ≡ q
 same_pairs p q e =
     let both = both_true (nat_eq p.index q.index) (nat_eq p.ident q.ident) e in
     let i : p.index ≡ q.index = grind (arith, nat_tests) in

@@ -51,7 +51,7 @@ same_or x z = same_or_case x z (same_name x z) refl
 -- a request of the same end
 ask_by : (s t : State) (r : Transport) (o : Option ℕ) → t.role ≡ s.role → t.config ≡ s.config → t.pair ≡ s.pair → AskOf s r o → AskOf t r o
 ask_by s t (Info to tx rx flags text) o e f p a = a
-ask_by s t (Request pair window user node) o e f p a = (e ∙ a.0, a.1 ∙ sym (ap (λ (k : EndConfig). k.window) f), a.2)
+ask_by s t (Request pair window user node) o e f p a = (e ∙ a.0, a.1 ∙ sym (ap (λ (k : EndConfig). k.window) f), a.2, a.3 ∙ sym p)
 ask_by s t (InfoAck to rx flags) o e f p a = a
 ask_by s t (Accept to own window) o e f p a = (a.0 ∙ sym p, a.1)
 ask_by s t (Disconnect to) o e f p a = a

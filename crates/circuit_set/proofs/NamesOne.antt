@@ -31,7 +31,7 @@ use Rattle.circuit_set.proofs.Unheeded.{SameEnd}
 use Rattle.circuit_set.proofs.Unused.{following_ok, next_ok, next_unused}
 
 -- ---- who is lost ----
-abbrev lost_all : List Name → List Event → List Name
+abbrev pub lost_all : List Name → List Event → List Name
 lost_all lost [] = lost
 lost_all lost (e ∷ es) = lost_all (lost_with lost e.node e.told) es
 

@@ -110,7 +110,7 @@ same_bytes : (xs : List ℕ) → pointwise nat_eq xs xs ≡ true
 same_bytes [] = refl
 same_bytes (x ∷ xs) = let e : nat_eq x x ≡ true = grind (arith, nat_tests) in ap (λ b. b && pointwise nat_eq xs xs) e ∙ same_bytes xs
 
-call_itself : (c : Callsign) → same_call c c ≡ true
+pub call_itself : (c : Callsign) → same_call c c ≡ true
 call_itself c = let e : nat_eq c.ssid c.ssid ≡ true = grind (arith, nat_tests) in ap (λ b. b && nat_eq c.ssid c.ssid) (same_bytes c.letters) ∙ e
 
 -- ---- the pairs of the ends that are held ----

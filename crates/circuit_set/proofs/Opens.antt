@@ -64,7 +64,7 @@ requester_made net s pair dest now inv call =
       lives = record { first = requesting pair s.user s.own s.config now; new = NewAsks pair s.user s.own s.config now; inputs = []; end = refl; notes_are = refl };
       silent = (λ n e. cc, tt);
       spelled = (record { head = record { origin = s.own; dest = dest; ttl = s.ttl }; is = refl; origin = inv.own; dest = call; transport = (inv.user, inv.own) }, tt);
-      asks = ((refl, refl, refl), tt);
+      asks = ((refl, refl, refl, refl), tt);
       some = some;
       most = inv.most;
       at_call = call;

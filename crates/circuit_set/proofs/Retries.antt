@@ -28,14 +28,14 @@ use Rattle.circuit_set.proofs.Stepped as stepped
 use Rattle.circuit_set.proofs.Stepped.{same_holder}
 use Rattle.circuit_set.proofs.Unheeded.{SameEnd}
 
-record LivesOn (net : Net) (x : Name) (h : Holder) : Type 0 where
-  note : has_note net.book.made x ≡ true
-  lived : Lived h.end (told_to net.book.made x)
+pub record LivesOn (net : Net) (x : Name) (h : Holder) : Type 0 where
+  pub note : has_note net.book.made x ≡ true
+  pub lived : Lived h.end (told_to net.book.made x)
 
-abbrev AllLive : Net → Type 0
+abbrev pub AllLive : Net → Type 0
 AllLive net = (x : Name) (h : Holder) → end_at net x ≡ Some h → LivesOn net x h
 
-abbrev SetsOk : Net → Type 0
+abbrev pub SetsOk : Net → Type 0
 SetsOk net = (n : ℕ) (s : SetState) → slice_get net.sets n ≡ Some s → Numbers s
 
 or_true : (a : Bool) → (a || true) ≡ true
@@ -159,18 +159,18 @@ module _ (net : Net) (sets : SetsOk net) (live : AllLive net) (n : ℕ) (s : Set
   act_sets a i u e = stepped.each_set net n s here Numbers (set_step s a).set (step_numbers s (sets n s here) a) sets i u (nat_eq i n) refl e
 
 -- ---- a run ----
-abbrev Both : Net → Type 0
+abbrev pub Both : Net → Type 0
 Both net = SetsOk net × AllLive net
 
-step_case : (net : Net) (st : Step) (o : Option SetState) → Both net → slice_get net.sets st.node ≡ o → Both (record { sets = sets_at net.sets st.node o st.act; book = noted_all net.book (told_at net.sets st.node o st.act) })
-step_case net st None b e = b
-step_case net st (Some s) b e = (act_sets net b.0 b.1 st.node s e st.act, act_lives net b.0 b.1 st.node s e st.act)
+pub step_lives : (net : Net) (st : Step) (o : Option SetState) → Both net → slice_get net.sets st.node ≡ o → Both (record { sets = sets_at net.sets st.node o st.act; book = noted_all net.book (told_at net.sets st.node o st.act) })
+step_lives net st None b e = b
+step_lives net st (Some s) b e = (act_sets net b.0 b.1 st.node s e st.act, act_lives net b.0 b.1 st.node s e st.act)
 
 run_lives : (net : Net) (steps : List Step) → Both net → Both (net_run net steps)
 run_lives net [] b = b
-run_lives net (st ∷ sts) b = run_lives (net_step net st) sts (step_case net st (slice_get net.sets st.node) b refl)
+run_lives net (st ∷ sts) b = run_lives (net_step net st) sts (step_lives net st (slice_get net.sets st.node) b refl)
 
-start_lives : (sets : List SetState) → AreStarts sets → Both (begins sets)
+pub start_lives : (sets : List SetState) → AreStarts sets → Both (begins sets)
 start_lives sets a = (
   λ n s e. start_numbers s (starts_at sets n s a e),
   λ x h e. (let none : end_at (begins sets) x ≡ None = none_case sets x (slice_get sets x.node) a refl in let bad : None ≡ Some h = sym none ∙ e in cc),

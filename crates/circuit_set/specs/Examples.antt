@@ -1,4 +1,5 @@
--- Runs that show what "too late" bears: a text that is made up, and a node that starts again at a pair of its former ends.
+-- Runs that show what "too late" bears: a text that is made up, a node that starts again at a pair of its former ends, and a request that comes
+-- again after its circuit.
 use Rattle.std.specs.Prelude.{◌≡◌, ℕ, ◌+◌, ◌-◌, ◌≤◌, ◌%◌, false, List, [], ◌∷◌}
 use Rattle.ax_address.specs.Callsign.{Callsign}
 use Rattle.l3_datagram.specs.Datagrams.{octets_with}
@@ -7,8 +8,9 @@ use Rattle.circuit_l4.specs.declared.transport.Transport.{Transport}
 use Rattle.circuit_l4.specs.declared.transport.Transport.TheVariants.{Request, Accept, Info}
 use Rattle.circuit_l4.specs.declared.plain.EndConfig.{EndConfig}
 use Rattle.circuit_l4.specs.Transports.{transport_octets}
-use Rattle.circuit_set.specs.Sets.{Comes, Connect, Restart, SetState, started}
+use Rattle.circuit_set.specs.Sets.{Calls, Comes, Connect, Restart, SetState, Ticks, started}
 use Rattle.circuit_set.specs.Books.{Fresh, Timely, empty}
+use Rattle.circuit_set.specs.Returning.{IsUnbroken}
 use Rattle.circuit_set.specs.Runs.{Safe, Step, allowed, begins, events_of, net_run}
 
 -- N0AAA and N0BBB
@@ -56,6 +58,23 @@ again_at index =
 pub record RestartIsStale : Type 0 where
   pub timely : Timely allowed empty (events_of (node here ∷ node there ∷ []) (again_at 1))
   pub stale : Fresh empty (events_of (node here ∷ node there ∷ []) (again_at 1)) → ⊥
+
+-- N0AAA asks for a circuit with N0BBB, whose end is opened by that, hears nothing more and fails. Then a copy of the request comes.
+abbrev pub ask : List ℕ
+ask = from here there (Request (pair_of 1) 1 here here)
+
+abbrev pub asked_again : List Step
+asked_again =
+    record { node = 0; act = Connect there 0 }
+    ∷ record { node = 1; act = Comes ask 0 }
+    ∷ record { node = 1; act = Calls 1 Ticks 1000 }
+    ∷ record { node = 1; act = Comes ask 1000 }
+    ∷ []
+
+-- No node starts again, none gives a pair twice, and all that comes was sent: yet the run isn't fresh.
+pub record CopyReturns : Type 0 where
+  pub unbroken : IsUnbroken (node here ∷ node there ∷ []) asked_again
+  pub stale : Fresh empty (events_of (node here ∷ node there ∷ []) asked_again) → ⊥
 
 -- With one overtaker more two counts would be one number on the air: at a window of 127 an acknowledgement may be of the count
 -- 129 below what was acknowledged and of the one 127 above it.

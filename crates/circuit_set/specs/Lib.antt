@@ -19,3 +19,4 @@ pub mod Naming
 pub mod Retries
 pub mod Sendings
 pub mod Heedings
+pub mod Returning

@@ -6,10 +6,11 @@ ghost use Rattle.circuit_set.specs.Pairs.{PairsDiffer};
 ghost use Rattle.circuit_set.specs.Givings.{MadeAreGiven, MadeDiffer};
 ghost use Rattle.circuit_set.specs.Naming.{PairNamesOne, RequestersSend};
 ghost use Rattle.circuit_set.specs.Retries.{RetriesAreTold};
+ghost use Rattle.circuit_set.specs.Returning.{CopiesAloneReturn};
 ghost use Rattle.circuit_set.specs.Heedings.{SetsHeedPartners};
 ghost use Rattle.circuit_set.specs.Sendings.{SetsSendTheirOwn};
 ghost use Rattle.circuit_set.specs.Inputs.{ActsGo, HearsGo, HearsLostGoes, TellsGo, TellsLess, TicksGo};
-ghost use Rattle.circuit_set.specs.Examples.{ForgedIsUnsafe, OneMoreIsTooMany, RestartIsStale};
+ghost use Rattle.circuit_set.specs.Examples.{CopyReturns, ForgedIsUnsafe, OneMoreIsTooMany, RestartIsStale};
 ghost use Rattle.circuit_set.specs.Runs.{CircuitsSafe, NarrowIsTimely, PartnersStay, WindowsFit};
 
 /// At each moment of every run of several nodes' ends, in which any datagram whatever may come to any node and any node may
@@ -42,6 +43,13 @@ pub fn pair_names_one()
     ensures { PairNamesOne }
 {}
 
+/// In each run in which no node starts again, no node gives more than the 48,960 pairs of which none stands twice, no two nodes have one call,
+/// and each datagram that comes was sent before, as it came but for its time to live: each event is fresh, or it is that an end is opened by a
+/// copy of a connect request, where an end of the same node that was opened for that request before was told how it ended.
+pub fn copies_alone_return()
+    ensures { CopiesAloneReturn }
+{}
+
 /// What the premises bear: an end may receive a text that nobody wrote where somebody makes it up, and such a run isn't timely.
 pub fn forged_is_unsafe()
     ensures { ForgedIsUnsafe }
@@ -51,6 +59,12 @@ pub fn forged_is_unsafe()
 /// isn't fresh.
 pub fn restart_is_stale()
     ensures { RestartIsStale }
+{}
+
+/// A copy of a connect request may return: in a run as `copies_alone_return` asks for one an end is opened by it after its circuit has failed, and
+/// such a run isn't fresh.
+pub fn copy_returns()
+    ensures { CopyReturns }
 {}
 
 /// Where no own window is above 64, a run in which all that is heeded has fewer than 128 overtakers is timely.
