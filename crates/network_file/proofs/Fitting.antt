@@ -1,6 +1,6 @@
--- Each node is declared once, what stands for calls are calls, and the version of a file stands before its settings, each of which is one that files of that version may have.
+-- Each node is declared once, with a call of its own, what stands for calls are calls, and the version of a file stands before its settings, each of which is one that files of that version may have.
 use Rattle.std.proofs.Common.{◌≡◌, ℕ, suc, refl, sym, subst, List, [], ◌∷◌, ◌++◌, length, arith, Bool, true, false, cond}
-use Rattle.std.specs.Prelude.{◌&&◌, ◌||◌, ◌==◌, not, nat_eq, nat_lt, is_none, Result, Ok, Err}
+use Rattle.std.specs.Prelude.{◌&&◌, ◌==◌, not, nat_eq, nat_lt, is_none, Result, Ok, Err}
 use Rattle.std.specs.Cmp.Lexicographic.{pointwise}
 use Rattle.std.specs.Str.Lines.{lines}
 use Rattle.std.specs.List.{AllByRecursion}
@@ -18,15 +18,16 @@ use Rattle.network_file.specs.declared.plan.vias.Via.{Via}
 use Rattle.network_file.specs.declared.reasons.What.{What}
 use Rattle.network_file.specs.declared.reasons.What.TheVariants as whats
 use Rattle.network_file.specs.Keys.{Assignment, key_at, least_of, most_of, takes}
-use Rattle.network_file.specs.Laws.{AreDifferent, CallsAreCalls, DeclaredOnce, HasCalls, IsCall, NamesCalls, SettingsFit}
+use Rattle.network_file.specs.Laws.{AreDifferent, CallsAreCalls, CallsDeclaredOnce, DeclaredOnce, HasCalls, HaveOwnCalls, IsCall, NamesCalls, SettingsFit}
 use Rattle.network_file.specs.Lines.{Kind, all_kinds, in_time, line_at, line_by, line_of}
 use Rattle.network_file.specs.Lines.Circuits.{burst_at, end_alone, end_at, burst_line, close_line, open_line, say_at, say_line, take_line}
 use Rattle.network_file.specs.Lines.Declaring.{are_members, are_repeaters, calls_at, channel_line, members_at, declaration_at, node_line, set_line, setting_at, version_at, version_line, via_at, via_line}
 use Rattle.network_file.specs.Lines.Frames.{again_line, count_alone, frame_alone, frame_and_node, cut_line, deliver_line, flow_line, lose_line}
 use Rattle.network_file.specs.Lines.Heard.{are_entries, broadcast_at, entries_at, heard_line}
 use Rattle.network_file.specs.Lines.Nodes.{linkfail_line, node_alone, node_and_call, lock_at, lock_line, restart_at, restart_line, round_line, show_line, tick_at, tick_line}
+use Rattle.network_file.proofs.Declared.{more_calls, more_different}
 use Rattle.network_file.specs.Networks.{Bad, after_line, after_lines, and_then, is_skipped, network_of, nothing, with_line, with_said}
-use Rattle.network_file.specs.Places.{◌>>=◌, alias_at, call_at, has_node, known, needs, new_call_at, new_node_at, new_peer_at, node_at, number_at, value_at}
+use Rattle.network_file.specs.Places.{◌>>=◌, alias_at, call_at, has_call, has_node, known, needs, new_call_at, new_node_at, new_peer_at, node_at, number_at, value_at}
 use Rattle.network_file.specs.Settings.{set_to}
 use Rattle.network_file.specs.Plan.{Plan, is_untouched, may_declare, version_of}
 use Rattle.network_file.specs.Words.{is_text, said_text, words_of}
@@ -35,7 +36,7 @@ use Rattle.network_file.specs.Words.{is_text, said_text, words_of}
 -- declared node
 abbrev Fits : Plan → Line → Type 0
 Fits plan (said.Version v) = is_untouched plan ≡ true
-Fits plan (said.Node d) = has_node plan.declared d.node ≡ false
+Fits plan (said.Node d) = (has_node plan.declared d.node ≡ false) × (has_call plan.declared d.call ≡ false)
 Fits plan (said.Set s) = (takes (version_of plan) s.key s.value ≡ true) × (has_node plan.declared s.node ≡ true)
 Fits plan (said.Channel c) = Unit {0}
 Fits plan (said.Via v) = AllByRecursion IsCall v.repeaters.items
@@ -53,7 +54,7 @@ last P x p y e = let same : x ≡ y = cc e in subst P same p
 done : (plan : Plan) (i : Instruction) (y : Line) → ◌≡◌ {A = Result Line What} (Ok (said.Instruction i)) (Ok y) → NamesCalls i → Fits plan y
 done plan i y e n = last (Fits plan) (said.Instruction i) n y e
 
-declares : (plan : Plan) (d : Declaration) → has_node plan.declared d.node ≡ false → (y : Line) → ◌≡◌ {A = Result Line What} (Ok (said.Node d)) (Ok y) → Fits plan y
+declares : (plan : Plan) (d : Declaration) → (has_node plan.declared d.node ≡ false) × (has_call plan.declared d.call ≡ false) → (y : Line) → ◌≡◌ {A = Result Line What} (Ok (said.Node d)) (Ok y) → Fits plan y
 declares plan d new = last (Fits plan) (said.Node d) new
 
 joins : (plan : Plan) (c : Channel) (y : Line) → ◌≡◌ {A = Result Line What} (Ok (said.Channel c)) (Ok y) → Fits plan y
@@ -79,6 +80,11 @@ unfolding new_node_at
 new_at ds word = bound (λ n. has_node ds n ≡ false) (number_at 1 16 word) _ (λ n _. bound (λ n. has_node ds n ≡ false) (needs (not (has_node ds n)) whats.Twice) _ (λ u e.
     last (λ n. has_node ds n ≡ false) n (negated (has_node ds n) (needed (not (has_node ds n)) whats.Twice u e))))
 
+new_call : (ds : List Declaration) (word : List ℕ) (c : Callsign) → new_call_at ds word ≡ Ok c → has_call ds c ≡ false
+unfolding new_call_at
+new_call ds word = bound (λ c. has_call ds c ≡ false) (call_at word) _ (λ c _. bound (λ c. has_call ds c ≡ false) (needs (not (has_call ds c)) whats.Twice) _ (λ u e.
+    last (λ c. has_call ds c ≡ false) c (negated (has_call ds c) (needed (not (has_call ds c)) whats.Twice u e))))
+
 -- ---- each kind of line
 
 version_fits : (plan : Plan) → is_untouched plan ≡ true → (words : List (List ℕ)) (l : Line) → version_line words ≡ Ok l → Fits plan l
@@ -89,7 +95,7 @@ version_fits plan h other l e = absurd (cc e)
 node_fits : (plan : Plan) (words : List (List ℕ)) (l : Line) → node_line plan words ≡ Ok l → Fits plan l
 unfolding declaration_at
 node_fits plan (number ∷ name ∷ nick ∷ []) l e =
-    bound (Fits plan) (new_node_at plan.declared number) _ (λ n new. bound (Fits plan) (new_call_at plan.declared name) _ (λ c _. bound (Fits plan) (alias_at nick) _ (λ a _. declares plan (record { node = n; call = c; alias = a }) (new_at plan.declared number n new)))) l e
+    bound (Fits plan) (new_node_at plan.declared number) _ (λ n new. bound (Fits plan) (new_call_at plan.declared name) _ (λ c other. bound (Fits plan) (alias_at nick) _ (λ a _. declares plan (record { node = n; call = c; alias = a }) (new_at plan.declared number n new, new_call plan.declared name c other)))) l e
 node_fits plan other l e = absurd (cc e)
 
 set_fits : (plan : Plan) (words : List (List ℕ)) (l : Line) → set_line plan words ≡ Ok l → Fits plan l
@@ -270,6 +276,7 @@ module _ (reads : ReadsCallTexts) where
     settings : AllByRecursion (λ (s : Assignment). takes (version_of plan) s.key s.value ≡ true) plan.settings
     none : plan.declared ≡ [] → plan.settings ≡ []
     different : AreDifferent plan.declared
+    own_calls : HaveOwnCalls plan.declared
     calls : HasCalls plan
 
   all_append : {A : Type 0} (P : A → Type 0) (xs : List A) (y : A) → AllByRecursion P xs → P y → AllByRecursion P (xs ++ y ∷ [])
@@ -292,28 +299,6 @@ module _ (reads : ReadsCallTexts) where
   untouched plan h =
       let more = (both (is_none plan.version) _ h).1 in empty_of plan.declared (both (length plan.declared == 0) (length plan.instructions == 0) more).0
 
-  -- one more is declared
-  or_none : (a b : Bool) → (a || b) ≡ false → (a ≡ false) × (b ≡ false)
-  or_none true b e = absurd (cc e)
-  or_none false b e = (refl, e)
-
-  none_or : (a b : Bool) → a ≡ false → b ≡ false → (a || b) ≡ false
-  none_or true b e f = e
-  none_or false b e f = f
-
-  other_node : (ds : List Declaration) (d : Declaration) (n : ℕ) → has_node ds n ≡ false → (d.node == n) ≡ false → has_node (ds ++ d ∷ []) n ≡ false
-  other_node [] d n e f = none_or (d.node == n) false f refl
-  other_node (x ∷ ds) d n e f = let parts = or_none (x.node == n) (has_node ds n) e in none_or (x.node == n) (has_node (ds ++ d ∷ []) n) parts.0 (other_node ds d n parts.1 f)
-
-  differs : (a b : ℕ) → (a == b) ≡ false → (b == a) ≡ false
-  differs a b e = grind (arith, e)
-
-  more_different : (ds : List Declaration) (d : Declaration) → has_node ds d.node ≡ false → AreDifferent ds → AreDifferent (ds ++ d ∷ [])
-  more_different [] d e a = (refl, tt)
-  more_different (x ∷ ds) d e a =
-      let parts = or_none (x.node == d.node) (has_node ds d.node) e in
-      (other_node ds d x.node a.0 (differs x.node d.node parts.0), more_different ds d parts.1 a.1)
-
   line_keeps : (n : ℕ) (l : Line) (plan : Plan) → Fits plan l → IsFit plan → IsFit (with_line n l plan)
   line_keeps n (said.Version v) plan f fit =
       let none = fit.none (untouched plan f) in
@@ -321,32 +306,37 @@ module _ (reads : ReadsCallTexts) where
         settings = subst (AllByRecursion (λ (s : Assignment). takes v s.key s.value ≡ true)) (sym none) tt;
         none = fit.none;
         different = fit.different;
+        own_calls = fit.own_calls;
         calls = record { vias = fit.calls.vias; lines = fit.calls.lines };
       }
   line_keeps n (said.Node d) plan f fit = record {
     settings = fit.settings;
     none = λ e. absurd (never_empty plan.declared d e);
-    different = more_different plan.declared d f fit.different;
+    different = more_different plan.declared d f.0 fit.different;
+    own_calls = more_calls plan.declared d f.1 fit.own_calls;
     calls = record { vias = fit.calls.vias; lines = fit.calls.lines };
   }
-  line_keeps n (said.Channel c) plan f fit = record { settings = fit.settings; none = fit.none; different = fit.different; calls = record { vias = fit.calls.vias; lines = fit.calls.lines } }
+  line_keeps n (said.Channel c) plan f fit = record { settings = fit.settings; none = fit.none; different = fit.different; own_calls = fit.own_calls; calls = record { vias = fit.calls.vias; lines = fit.calls.lines } }
   line_keeps n (said.Set s) plan f fit =
       record {
         settings = all_append _ plan.settings s fit.settings f.0;
         none = λ e. absurd (cc (subst (λ ds. has_node ds s.node ≡ true) e f.1));
         different = fit.different;
+        own_calls = fit.own_calls;
         calls = record { vias = fit.calls.vias; lines = fit.calls.lines };
       }
   line_keeps n (said.Via v) plan f fit = record {
     settings = fit.settings;
     none = fit.none;
     different = fit.different;
+    own_calls = fit.own_calls;
     calls = record { vias = all_append (λ (x : Via). AllByRecursion IsCall x.repeaters.items) plan.vias v fit.calls.vias f; lines = fit.calls.lines };
   }
   line_keeps n (said.Instruction i) plan f fit = record {
     settings = fit.settings;
     none = fit.none;
     different = fit.different;
+    own_calls = fit.own_calls;
     calls = record { vias = fit.calls.vias; lines = all_append (λ (x : NumberedInstruction). NamesCalls x.instruction) plan.instructions _ fit.calls.lines f };
   }
 
@@ -376,13 +366,16 @@ module _ (reads : ReadsCallTexts) where
 
   plan_fits : (bytes : List ℕ) (plan : Plan) → network_of bytes ≡ Ok plan → IsFit plan
   unfolding network_of
-  plan_fits bytes = lines_keep 0 (lines bytes) nothing (record { settings = tt; none = λ _. refl; different = tt; calls = record { vias = tt; lines = tt } })
+  plan_fits bytes = lines_keep 0 (lines bytes) nothing (record { settings = tt; none = λ _. refl; different = tt; own_calls = tt; calls = record { vias = tt; lines = tt } })
 
   pub settings_fit : SettingsFit
   settings_fit bytes plan e = (plan_fits bytes plan e).settings
 
   pub declared_once : DeclaredOnce
   declared_once bytes plan e = (plan_fits bytes plan e).different
+
+  pub calls_differ : CallsDeclaredOnce
+  calls_differ bytes plan e = (plan_fits bytes plan e).own_calls
 
   pub calls_are_calls : CallsAreCalls
   calls_are_calls bytes plan e = (plan_fits bytes plan e).calls

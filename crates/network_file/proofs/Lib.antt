@@ -3,3 +3,4 @@ pub mod Cuts
 pub mod KeyRanges
 pub mod Fitting
 pub mod Marks
+pub mod Declared

@@ -9,7 +9,7 @@ use Rattle.network_file.specs.declared.plan.instructions.Instruction.TheVariants
 use Rattle.network_file.specs.declared.plan.vias.Via.{Via}
 use Rattle.network_file.specs.Keys.{Assignment, takes}
 use Rattle.network_file.specs.Networks.{network_of}
-use Rattle.network_file.specs.Places.{has_node}
+use Rattle.network_file.specs.Places.{has_call, has_node}
 use Rattle.network_file.specs.Plan.{Plan, version_of}
 
 -- each setting is one that files of the network's version may have
@@ -26,6 +26,15 @@ AreDifferent (d ∷ ds) = (has_node ds d.node ≡ false) × AreDifferent ds
 -- each node is declared once
 abbrev pub DeclaredOnce : Type 0
 DeclaredOnce = (bytes : List ℕ) (plan : Plan) → network_of bytes ≡ Ok plan → AreDifferent plan.declared
+
+-- no two of them have one call
+abbrev pub HaveOwnCalls : List Declaration → Type 0
+HaveOwnCalls [] = Unit {0}
+HaveOwnCalls (d ∷ ds) = (has_call ds d.call ≡ false) × HaveOwnCalls ds
+
+-- each call is that of one node
+abbrev pub CallsDeclaredOnce : Type 0
+CallsDeclaredOnce = (bytes : List ℕ) (plan : Plan) → network_of bytes ≡ Ok plan → HaveOwnCalls plan.declared
 
 -- a call is one, as all that are read from a file are
 abbrev pub IsCall : Callsign → Type 0
