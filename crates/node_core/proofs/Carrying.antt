@@ -44,7 +44,7 @@ use Rattle.node_core.specs.Standing.{IsTold}
 use Rattle.node_core.specs.States.{Entry, Overflow, State, at_links, put, with_items}
 use Rattle.node_core.specs.UserActs as user
 use Rattle.node_core.specs.UserActs.{UserAct}
-use Rattle.node_core.proofs.Inputs.{are_acts}
+use Rattle.node_core.proofs.Inputs.{are_acts, are_up}
 use Rattle.node_core.proofs.Making.{runs_ok}
 use Rattle.node_core.proofs.Moves.{logged, put_carries, walks}
 use Rattle.node_core.proofs.Repeating.{repeat_carried}
@@ -250,6 +250,7 @@ module _ (size : ℕ) (law : CarriesWhatWasOffered) (weaker : CarriesByWeaker) (
             inputs = t.inputs;
             more = t.more;
             allowed = are_acts t.inputs t.are;
+            up = are_up t.inputs t.are;
             entries = t.grew;
             set = f ∙ ap at_rest t.set;
             told = told;

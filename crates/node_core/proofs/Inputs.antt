@@ -3,6 +3,7 @@ use Rattle.std.proofs.Common.{◌≡◌, ◌∙◌, ℕ, refl, sym, ap, List, []
 use Rattle.std.specs.Prelude.{Bool, true, false, if◌then◌else◌, Option, Some, None, Result, Ok, Err}
 use Rattle.std.specs.List.{AllByRecursion}
 use Rattle.ax_address.specs.Callsign.{Callsign, IsCallsign}
+use Rattle.circuit_set.specs.Givings.{IsUp}
 use Rattle.circuit_set.specs.Inputs.{OfEach, of_circuits, runs, ticks_of}
 use Rattle.circuit_set.specs.Pumps.{Dropped, Offers, Says, Turn, Turned, Waiting, heard_as, hears_by, sent_by_head, sent_to, tells_first, tells_of, with_done}
 use Rattle.circuit_set.specs.Runs.{IsAct}
@@ -44,6 +45,17 @@ is_act (Discard id) i = tt
 pub are_acts : (inputs : List Act) → AllByRecursion IsInput inputs → AllByRecursion IsAct inputs
 are_acts [] is = tt
 are_acts (a ∷ inputs) is = (is_act a is.0, are_acts inputs is.1)
+
+is_up : (a : Act) → IsInput a → IsUp a
+is_up (Restart pair more) i = absurd i
+is_up (Connect dest now) i = tt
+is_up (Comes d now) i = tt
+is_up (Calls id call now) i = tt
+is_up (Discard id) i = tt
+
+pub are_up : (inputs : List Act) → AllByRecursion IsInput inputs → AllByRecursion IsUp inputs
+are_up [] is = tt
+are_up (a ∷ inputs) is = (is_up a is.0, are_up inputs is.1)
 
 are_both : (xs ys : List Act) → AllByRecursion IsInput xs → AllByRecursion IsInput ys → AllByRecursion IsInput (xs ++ ys)
 are_both [] ys p q = q

@@ -37,7 +37,7 @@ use Rattle.node_core.specs.Standing.{IsTold}
 use Rattle.node_core.specs.States.{Of_link, Overflow, State, at_links, at_set, put, with_items}
 use Rattle.node_core.specs.UserActs as user
 use Rattle.node_core.specs.UserActs.{UserAct}
-use Rattle.node_core.proofs.Inputs.{Went, are_acts, stays, ticks_went}
+use Rattle.node_core.proofs.Inputs.{Went, are_acts, are_up, stays, ticks_went}
 use Rattle.node_core.proofs.Making.{runs_ok}
 use Rattle.node_core.proofs.Nodes.{items_told, told_after}
 use Rattle.node_core.proofs.Coming.{Came, act_came, either, pumped_came, same_came, still, then_came}
@@ -160,6 +160,7 @@ exact old new c e f =
       inputs = inputs;
       more = c.more;
       allowed = are_acts inputs c.went.are;
+      up = are_up inputs c.went.are;
       entries = c.grew;
       set = f ∙ ap at_rest c.went.set;
       told = told;

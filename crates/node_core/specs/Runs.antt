@@ -2,6 +2,7 @@
 use Rattle.std.specs.Prelude.{ℕ, ◌≡◌, ◌+◌, List, [], ◌∷◌, ◌++◌, slice_get, slice_set, Some}
 use Rattle.std.specs.List.{AllByRecursion}
 use Rattle.ax_address.specs.Callsign.{IsCallsign}
+use Rattle.circuit_set.specs.Givings.{IsUp}
 use Rattle.circuit_set.specs.Inputs.{of_circuits, runs}
 use Rattle.circuit_set.specs.Pumps.{at_rest}
 use Rattle.circuit_set.specs.Books.{Book}
@@ -25,12 +26,13 @@ MadeFrom first [] next = next ≡ first
 MadeFrom first (Made id pair partner request ∷ ts) next = (id ≡ first) × MadeFrom (first + 1) ts next
 MadeFrom first (t ∷ ts) next = MadeFrom first ts next
 
--- A node has come from one state to another: its circuits took some inputs, each of them one that a run of sets may have, and the
--- entries that are new tell what these inputs told, in their order. It is at rest again.
+-- A node has come from one state to another: its circuits took some inputs, each of them one that a run of sets may have, and none that starts
+-- the node again, and the entries that are new tell what these inputs told, in their order. It is at rest again.
 pub record RunsOn (old new : State) : Type 0 where
   pub inputs : List Act
   pub more : List Entry
   pub allowed : AllByRecursion IsAct inputs
+  pub up : AllByRecursion IsUp inputs
   pub entries : new.entries ≡ old.entries ++ more
   pub set : new.set ≡ at_rest (runs inputs old.set.set).set
   pub told : circuits_told more ≡ (runs inputs old.set.set).told

@@ -16,8 +16,9 @@ pub fn settles()
     parts();
 }
 
-/// Each input of a node that is at rest is inputs of its circuits, each of them one that a run of sets may have: its new entries tell what these
-/// inputs tell, in their order, and it is at rest again. Its own call stays, and ends are made with one number after another.
+/// Each input of a node that is at rest is inputs of its circuits, each of them one that a run of sets may have, and none that starts the node again:
+/// its new entries tell what these inputs tell, in their order, and it is at rest again. Its own call stays, and ends are made with one number after
+/// another.
 pub fn inputs_are_circuit_runs()
     ensures bytes { BytesRun }
     ensures ticks { TicksRun }
