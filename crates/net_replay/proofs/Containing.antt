@@ -5,6 +5,7 @@ use Rattle.std.specs.List.{AllByRecursion, position_or_len}
 use Rattle.std.proofs.lemmas.List.{map-append}
 use Rattle.circuit_l4.specs.declared.plain.EndConfig.{EndConfig}
 use Rattle.circuit_set.specs.Books.{empty}
+use Rattle.circuit_set.specs.Givings.{IsUp}
 use Rattle.circuit_set.specs.Inputs.{runs}
 use Rattle.circuit_set.specs.Pumps as pumps
 use Rattle.circuit_set.specs.Pumps.{at_rest}
@@ -82,6 +83,14 @@ are_append (x ∷ xs) ys a b = (a.0, are_append xs ys a.1 b)
 pub are_at : (node : ℕ) (inputs : List Act) → AllByRecursion IsAct inputs → AreSteps (steps_at node inputs)
 are_at node [] a = tt
 are_at node (x ∷ xs) a = (a.0, are_at node xs a.1)
+
+pub up_append : (xs ys : List Step) → AllByRecursion (λ (st : Step). IsUp st.act) xs → AllByRecursion (λ (st : Step). IsUp st.act) ys → AllByRecursion (λ (st : Step). IsUp st.act) (xs ++ ys)
+up_append [] ys a b = b
+up_append (x ∷ xs) ys a b = (a.0, up_append xs ys a.1 b)
+
+pub up_at : (node : ℕ) (inputs : List Act) → AllByRecursion IsUp inputs → AllByRecursion (λ (st : Step). IsUp st.act) (steps_at node inputs)
+up_at node [] a = tt
+up_at node (x ∷ xs) a = (a.0, up_at node xs a.1)
 
 -- ---- names of nodes
 
@@ -190,6 +199,23 @@ pub quiet_notes : (number line : ℕ) (es : List Event) (ends : List EndRecord) 
 quiet_notes number line [] ends q = refl
 quiet_notes number line (e ∷ es) ends q = ap (note_events number (map (numbered line) es)) (quiet_note number e ends q.0) ∙ quiet_notes number line es ends q.1
 
+-- ---- events by which no node starts again
+
+abbrev pub IsOn : Event → Type 0
+IsOn (events.Restarted node pair) = ⊥
+IsOn event = Unit {0}
+
+abbrev pub AreOn : List NumberedEvent → Type 0
+AreOn es = AllByRecursion (λ (e : NumberedEvent). IsOn e.event) es
+
+pub on_parts : (xs ys : List NumberedEvent) → AreOn (xs ++ ys) → AreOn xs × AreOn ys
+on_parts [] ys a = (tt, a)
+on_parts (x ∷ xs) ys a = let r = on_parts xs ys a.1 in ((a.0, r.0), r.1)
+
+pub on_both : (xs ys : List NumberedEvent) → AreOn xs → AreOn ys → AreOn (xs ++ ys)
+on_both [] ys a b = b
+on_both (x ∷ xs) ys a b = (a.0, on_both xs ys a.1 b)
+
 -- ---- a node and its circuits in the run
 
 -- the settings with which its circuits start
@@ -228,6 +254,7 @@ name_at (q ∷ nodes) (suc at) p e = name_at nodes at p e
 -- the nodes and the events of a world, at the end of these steps
 pub record Contains (plan : Plan) (steps : List Step) (nodes : List Placed) (told : List NumberedEvent) : Type 0 where
   pub are : AreSteps steps
+  pub up : AreOn told → AllByRecursion (λ (st : Step). IsUp st.act) steps
   pub names_are : names nodes ≡ names (new_nodes plan)
   pub tracks : (at : ℕ) (p : Placed) → slice_get nodes at ≡ Some p → TracksAt plan told (sets_run (first_sets plan) steps) at p
   pub events_are : map (λ (e : CircuitEvent). e.event) (events_by (names (new_nodes plan)) told) ≡ net.events_of (first_sets plan) steps
@@ -254,6 +281,7 @@ retold plan told told2 s p e t = record {
 pub record Comes (plan : Plan) (told : List NumberedEvent) (at : ℕ) (p q : Placed) (s : SetState) (inputs : List Act) (es : List NumberedEvent) : Type 0 where
   pub declared : q.declared ≡ p.declared
   pub allowed : AllByRecursion IsAct inputs
+  pub up : AreOn es → AllByRecursion IsUp inputs
   pub tracks : Tracks plan (told ++ es) (runs inputs s).set q
   pub tells : map (λ (e : CircuitEvent). e.event) (events_by (names (new_nodes plan)) es) ≡ net.events_at at s.own (runs inputs s).told
   pub others : (n : ℕ) → n ≢ p.declared.node → ends_of n (told ++ es) ≡ ends_of n told
@@ -301,6 +329,7 @@ module _ (plan : Plan) (apart : AreApart (names (new_nodes plan))) (are_steps : 
       ∙ (sym (net_sets (steps_at at inputs) (record { sets = sets_run (first_sets plan) steps; book = empty })) ∙ of.sets_then empty) in
       record {
         are = are_append steps (steps_at at inputs) c.are (are_at at inputs m.allowed);
+        up = λ on. (let parts = on_parts told es on in up_append steps (steps_at at inputs) (c.up parts.0) (up_at at inputs (m.up parts.1)));
         names_are = map_set (λ (x : Placed). x.declared) nodes at p q e m.declared ∙ c.names_are;
         tracks = λ k r f. subst (λ ss. TracksAt plan (told ++ es) ss k r) (sym then) (comes_at steps nodes told es at p q s inputs c e here m k r f (nat_eq at k) refl);
         events_are =
@@ -316,6 +345,7 @@ module _ (plan : Plan) (apart : AreApart (names (new_nodes plan))) (are_steps : 
       → Contains plan steps nodes (told ++ map (numbered line) es)
   quiet_contains steps nodes told line es quiet c = record {
     are = c.are;
+    up = λ on. c.up (on_parts told (map (numbered line) es) on).0;
     names_are = c.names_are;
     tracks = λ k r f. (let t : TracksAt plan told (sets_run (first_sets plan) steps) k r = c.tracks k r f in
         record {

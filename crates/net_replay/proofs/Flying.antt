@@ -316,7 +316,7 @@ module _ (plan : Plan) (size : ℕ) (apart : AreApart (names (new_nodes plan))) 
 
   -- ---- all moves
 
-  pub moves : Moves plan IsCall IsCall Goes
+  pub moves : Moves plan IsCall IsCall IsPair Goes
   moves = record {
     still = still;
     follows = follows;

@@ -2,6 +2,7 @@
 use Rattle.std.proofs.Common.{◌≡◌, ◌∙◌, ◌+◌, ◌<◌, ℕ, zero, suc, refl, sym, ap, subst, arith, List, [], ◌∷◌, ◌++◌, map, filter, Bool, true, false, cond}
 use Rattle.std.specs.Prelude.{◌==◌, ◌||◌, not, slice_get, Some}
 use Rattle.std.specs.List.{AllByRecursion, position_or_len}
+use Rattle.circuit_set.specs.Pairs.{IsPair}
 use Rattle.circuit_set.specs.Runs.{Step, begins}
 use Rattle.network_file.specs.declared.network.NumberedInstruction.{NumberedInstruction}
 use Rattle.network_file.specs.declared.plan.declarations.Declaration.{Declaration}
@@ -134,7 +135,7 @@ module _ (plan : Plan) (apart : AreApart (names (new_nodes plan))) (are_steps : 
   plain_act (acts.Take id) i = tt
   plain_act (acts.Close id) i = tt
 
-  moves : Moves plan AnyCall AnyCall Lead
+  moves : Moves plan AnyCall AnyCall IsPair Lead
   moves = record {
     still = still plan apart are_steps bytes ticks acts_run;
     follows = then plan apart are_steps bytes ticks acts_run;
@@ -151,7 +152,7 @@ module _ (plan : Plan) (apart : AreApart (names (new_nodes plan))) (are_steps : 
     later = λ ms w. still plan apart are_steps bytes ticks acts_run w;
   }
 
-  line_is : (i : Instruction) → IsInstruction i → LineIs AnyCall AnyCall i
+  line_is : (i : Instruction) → IsInstruction i → LineIs AnyCall AnyCall IsPair i
   line_is (instructions.Heard node call nodes) i = tt
   line_is (instructions.Lock node dest alias neighbour quality) i = tt
   line_is (instructions.Round node) i = tt
@@ -170,12 +171,12 @@ module _ (plan : Plan) (apart : AreApart (names (new_nodes plan))) (are_steps : 
   line_is (instructions.Flow count) i = tt
   line_is (instructions.Cut count) i = tt
 
-  lines_are : (ls : List NumberedInstruction) → AllByRecursion (λ (l : NumberedInstruction). IsInstruction l.instruction) ls → AllByRecursion (λ (l : NumberedInstruction). LineIs AnyCall AnyCall l.instruction) ls
+  lines_are : (ls : List NumberedInstruction) → AllByRecursion (λ (l : NumberedInstruction). IsInstruction l.instruction) ls → AllByRecursion (λ (l : NumberedInstruction). LineIs AnyCall AnyCall IsPair l.instruction) ls
   lines_are [] all = tt
   lines_are (l ∷ ls) all = (line_is l.instruction all.0, lines_are ls all.1)
 
   lead_lines : (ls : List NumberedInstruction) (w : World) → AllByRecursion (λ (l : NumberedInstruction). IsInstruction l.instruction) ls → Lead w (do_lines plan ls w)
-  lead_lines ls w all = lines_lead plan AnyCall AnyCall Lead moves ls w (lines_are ls all)
+  lead_lines ls w all = lines_lead plan AnyCall AnyCall IsPair Lead moves ls w (lines_are ls all)
 
   pub lines_append : (xs ys : List NumberedInstruction) (w : World) → do_lines plan (xs ++ ys) w ≡ do_lines plan ys (do_lines plan xs w)
   lines_append [] ys w = refl
@@ -203,6 +204,7 @@ module _ (plan : Plan) (apart : AreApart (names (new_nodes plan))) (are_steps : 
   pub start_contains : Contains plan [] (new_nodes plan) []
   start_contains = record {
     are = tt;
+    up = λ quiet. tt;
     names_are = refl;
     tracks = λ at p e. (let from = placed_at (by_number plan.declared 1 16) at p e in
         record { set = set_of p; here = set_at (new_nodes plan) at p e; tracks = subst (λ x. Tracks plan [] (set_of x) x) from.1 (start_tracks from.0) });

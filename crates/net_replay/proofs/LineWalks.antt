@@ -6,7 +6,6 @@ use Rattle.std.specs.List.{AllByRecursion}
 use Rattle.ax_address.specs.Callsign.{Callsign, IsCallsign}
 use Rattle.ax_address.specs.declared.alias.Alias.{Alias}
 use Rattle.circuit_l4.specs.declared.transport.Pair.{Pair}
-use Rattle.circuit_set.specs.Pairs.{IsPair}
 use Rattle.nodes_broadcast.specs.Nodes.{Broadcast, view}
 use Rattle.network_file.specs.declared.network.NumberedInstruction.{NumberedInstruction}
 use Rattle.network_file.specs.declared.plan.instructions.Instruction.{Instruction}
@@ -61,16 +60,17 @@ IsPlain (acts.Lock dest alias neighbour quality) = ⊥
 IsPlain (acts.Connect dest) = ⊥
 IsPlain act = Unit {0}
 
--- of an instruction: from whom a broadcast may be heard, and to whom a route be locked; and what is asked of it in any case
-abbrev pub LineIs : (heard locks : Callsign → Type 0) → Instruction → Type 0
-LineIs heard locks (instructions.Heard node call nodes) = heard call
-LineIs heard locks (instructions.Lock node dest alias neighbour quality) = locks neighbour
-LineIs heard locks (instructions.Open node dest) = IsCallsign dest.letters dest.ssid
-LineIs heard locks (instructions.Restart node pair) = IsPair (record { index = pair.index; ident = pair.ident })
-LineIs heard locks i = Unit {0}
+-- of an instruction: from whom a broadcast may be heard, to whom a route be locked, and at which pair a node start again; and what is asked of it in
+-- any case
+abbrev pub LineIs : (heard locks : Callsign → Type 0) → (again : Pair → Type 0) → Instruction → Type 0
+LineIs heard locks again (instructions.Heard node call nodes) = heard call
+LineIs heard locks again (instructions.Lock node dest alias neighbour quality) = locks neighbour
+LineIs heard locks again (instructions.Open node dest) = IsCallsign dest.letters dest.ssid
+LineIs heard locks again (instructions.Restart node pair) = again (record { index = pair.index; ident = pair.ident })
+LineIs heard locks again i = Unit {0}
 
 -- what is so of each move
-pub record Moves (plan : Plan) (Heard_from Locks : Callsign → Type 0) (P : World → World → Type 0) : Type 0 where
+pub record Moves (plan : Plan) (Heard_from Locks : Callsign → Type 0) (Again : Pair → Type 0) (P : World → World → Type 0) : Type 0 where
   pub still : (w : World) → P w w
   pub follows : (u v w : World) → P u v → P v w → P u w
   pub tells : (line : ℕ) (es : List Event) (w : World) → AllByRecursion IsQuiet es → P w (tell line es w)
@@ -82,11 +82,11 @@ pub record Moves (plan : Plan) (Heard_from Locks : Callsign → Type 0) (P : Wor
   pub broadcasts : (line at : ℕ) (call : Callsign) (b : Broadcast) (w : World) → Heard_from call → P w (reach line at (Bytes (kiss_bytes (broadcast_octets call b))) w)
   pub frames : (line at place : ℕ) (f : Aired) (w : World) → slice_get w.air place ≡ Some f → P w (reach line at (Bytes (kiss_bytes f.octets)) w)
   pub puts : (line at : ℕ) (came128 : Bool) (w : World) → P w (put plan.channels line at came128 w)
-  pub restarts : (line number : ℕ) (pair : Pair) (w : World) → IsPair pair → P w (restart plan line number pair w)
+  pub restarts : (line number : ℕ) (pair : Pair) (w : World) → Again pair → P w (restart plan line number pair w)
   pub settles : (at : ℕ) (w : World) → P w (settle at w)
   pub later : (milliseconds : ℕ) (w : World) → P w (record w { now = w.now + milliseconds })
 
-module _ (plan : Plan) (Heard_from Locks : Callsign → Type 0) (P : World → World → Type 0) (k : Moves plan Heard_from Locks P) where
+module _ (plan : Plan) (Heard_from Locks : Callsign → Type 0) (Again : Pair → Type 0) (P : World → World → Type 0) (k : Moves plan Heard_from Locks Again P) where
   stays : (w : World) → P w w
   stays = k.still
 
@@ -195,7 +195,7 @@ module _ (plan : Plan) (Heard_from Locks : Callsign → Type 0) (P : World → W
   cut_leads zero w = stays w
   cut_leads (suc count) w = cut_case count w (oldest w.air) (cut_leads count)
 
-  line_leads : (line : ℕ) (i : Instruction) (w : World) → LineIs Heard_from Locks i → P w (do_line plan line i w)
+  line_leads : (line : ℕ) (i : Instruction) (w : World) → LineIs Heard_from Locks Again i → P w (do_line plan line i w)
   line_leads line (instructions.Heard node call nodes) w i = hear_leads line node (kiss_bytes (broadcast_octets call (view nodes))) false w (k.broadcasts line (place_of node w.nodes) call (view nodes) w i)
   line_leads line (instructions.Lock node dest alias neighbour quality) w i = act_leads line node (acts.Lock dest alias neighbour quality) told_of w (k.locks line (place_of node w.nodes) dest alias neighbour quality w i) quiet_told
   line_leads line (instructions.Round node) w i = act_leads line node acts.Round told_of w (k.does line (place_of node w.nodes) acts.Round w tt) quiet_told
@@ -217,7 +217,7 @@ module _ (plan : Plan) (Heard_from Locks : Callsign → Type 0) (P : World → W
   line_leads line (instructions.Flow count) w i = flow_leads line count w
   line_leads line (instructions.Cut count) w i = cut_leads count w
 
-  pub lines_lead : (ls : List NumberedInstruction) (w : World) → AllByRecursion (λ (l : NumberedInstruction). LineIs Heard_from Locks l.instruction) ls → P w (do_lines plan ls w)
+  pub lines_lead : (ls : List NumberedInstruction) (w : World) → AllByRecursion (λ (l : NumberedInstruction). LineIs Heard_from Locks Again l.instruction) ls → P w (do_lines plan ls w)
   lines_lead [] w all = stays w
   lines_lead (l ∷ ls) w all =
       let v : World = do_line plan l.line l.instruction w in next w v (do_lines plan ls v) (line_leads l.line l.instruction w all.0) (lines_lead ls v all.1)

@@ -359,6 +359,7 @@ module _ (plan : Plan) (apart : AreApart (names (new_nodes plan))) (are_steps : 
       record {
         declared = refl;
         allowed = r.allowed;
+        up = λ on. r.up;
         tracks = record {
           past = k.past;
           base = k.base;
@@ -410,6 +411,7 @@ module _ (plan : Plan) (apart : AreApart (names (new_nodes plan))) (are_steps : 
   put_comes told line at p s es quiet t = record {
     declared = refl;
     allowed = tt;
+    up = λ on. tt;
     tracks = sent_tracks plan told (told ++ map (numbered line) es) s p (note_append p.declared.node told (map (numbered line) es) [] ∙ quiet_notes p.declared.node line es (ends_of p.declared.node told) quiet) t;
     tells = ap (map event) (quiet_events (names (new_nodes plan)) line es quiet);
     others = λ n d. note_append n told (map (numbered line) es) [] ∙ quiet_notes n line es (ends_of n told) quiet;
@@ -450,6 +452,7 @@ module _ (plan : Plan) (apart : AreApart (names (new_nodes plan))) (are_steps : 
       (record {
         declared = refl;
         allowed = (is_pair, tt);
+        up = λ on. absurd on.0;
         tracks = new_tracks plan (w.told ++ map (numbered line) told) p.declared pair (made + 1) (made + 1) (all_gone (k.past ++ (set_of p).ends)) _
             (record { gone = all_gone_gone (k.past ++ (set_of p).ends); below = past_below k.base (made + 1) k.past (set_of p).ends low k.lost.below rises })
             (omega arith) (omega arith)

@@ -1,6 +1,6 @@
 -- Each datagram that reaches its node was sent before.
 use Rattle.std.proofs.Common.{◌≡◌, ◌∙◌, ◌≤◌, ℕ, zero, suc, refl, sym, ap, subst, arith, List, [], ◌∷◌, ◌++◌, append_assoc, append-nil, filter, map, Bool, true, false, inl, inr}
-use Rattle.std.specs.Prelude.{◌&&◌, ◌||◌, ◌==◌, ◌⊎◌, Contains, nat_le, slice_get, Option, Some, None}
+use Rattle.std.specs.Prelude.{◌&&◌, ◌||◌, ◌==◌, ◌⊎◌, nat_le, slice_get, Option, Some, None}
 use Rattle.std.specs.List.{AllByRecursion}
 use Rattle.std.proofs.lemmas.Bool.Decides.{nat_tests}
 use Rattle.ax_address.specs.Callsign.{Callsign, IsCallsign}
@@ -9,6 +9,8 @@ use Rattle.net_replay.specs.Circuits.{CircuitEvent}
 use Rattle.net_replay.specs.Events.{NumberedEvent}
 use Rattle.circuit_set.specs.Books as books
 use Rattle.circuit_set.specs.Books.{is_copy}
+use Rattle.circuit_set.specs.Pairs.{IsPair}
+use Rattle.circuit_set.specs.Returning as returning
 use Rattle.circuit_set.specs.Runs as net
 use Rattle.circuit_set.specs.Runs.{AreStarts, Step, events_of}
 use Rattle.circuit_set.specs.Heedings.{SetsHeedPartners}
@@ -36,6 +38,7 @@ use Rattle.net_replay.specs.World.{World, start}
 use Rattle.net_replay.proofs.Containing.{AreApart, events_append, events_by, name_at, names, sets_run}
 use Rattle.net_replay.proofs.Flying as flying
 use Rattle.net_replay.proofs.Flying.{Flies, NodeFlies}
+use Rattle.net_replay.proofs.GoingOn.{lines_on}
 use Rattle.net_replay.proofs.LineRuns as runs
 use Rattle.net_replay.proofs.LineWalks.{LineIs, lines_lead}
 use Rattle.net_replay.proofs.Moving.{set_is}
@@ -74,32 +77,22 @@ events_from law ss (st ∷ sts) =
 -- ---- a datagram that comes of one that was sent
 
 record Found (es : List books.Event) (d : List ℕ) : Type 0 where
-  node : ℕ
-  own : Callsign
-  id : ℕ
-  number : Option ℕ
-  sent : List ℕ
-  told : Contains es (record { node = node; own = own; told = sets.Sent id number sent })
+  sending : returning.WasSent es d
   ttl : ℕ
-  from : IsFrom own ttl sent
-  call : IsCall own
-  copy : is_copy d sent ≡ true
-  hops : ttl_of d ≤ ttl_of sent
+  from : IsFrom sending.own ttl sending.sent
+  call : IsCall sending.own
+  hops : ttl_of d ≤ ttl_of sending.sent
 
 found_later : (e : books.Event) (es : List books.Event) (d : List ℕ) → Found es d → Found (e ∷ es) d
-found_later e es d f = record {
-  node = f.node;
-  own = f.own;
-  id = f.id;
-  number = f.number;
-  sent = f.sent;
-  told = (suc f.told.0, (let low = f.told.1 in omega (arith, low)), f.told.2);
-  ttl = f.ttl;
-  from = f.from;
-  call = f.call;
-  copy = f.copy;
-  hops = f.hops;
-}
+found_later e es d f =
+    let s = f.sending in
+    record {
+      sending = record { node = s.node; own = s.own; id = s.id; number = s.number; sent = s.sent; told = (suc s.told.0, (let low = s.told.1 in omega (arith, low)), s.told.2); copy = s.copy };
+      ttl = f.ttl;
+      from = f.from;
+      call = f.call;
+      hops = f.hops;
+    }
 
 and_both : (a b : Bool) → (a && b) ≡ true → (a ≡ true) × (b ≡ true)
 and_both true b e = (refl, e)
@@ -110,16 +103,10 @@ found_here : (node : ℕ) (own : Callsign) (id : ℕ) (number : Option ℕ) (s d
 found_here node own id number s d es true call f c e rest =
     let both = and_both (is_copy d s) (nat_le (ttl_of d) (ttl_of s)) c in
     record {
-      node = node;
-      own = own;
-      id = id;
-      number = number;
-      sent = s;
-      told = (0, omega arith, refl);
+      sending = record { node = node; own = own; id = id; number = number; sent = s; told = (0, omega arith, refl); copy = both.0 };
       ttl = f.0;
       from = f.1;
       call = call;
-      copy = both.0;
       hops = (let low = both.1 in grind (arith, nat_tests, low));
     }
 found_here node own id number s d es false call f c e rest = found_later _ es d (rest e)
@@ -153,7 +140,7 @@ traced_at ds ss (x ∷ xs) y ys t =
 numbered_all : (P : Declaration → Type 0) (n : ℕ) (ds : List Declaration) → AllByRecursion P ds → AllByRecursion P (filter (has_number n) ds)
 numbered_all P n ds a = flying.kept_by P (has_number n) ds a
 
-by_number_all : (P : Declaration → Type 0) (ds : List Declaration) (count n : ℕ) → AllByRecursion P ds → AllByRecursion P (by_number ds n count)
+pub by_number_all : (P : Declaration → Type 0) (ds : List Declaration) (count n : ℕ) → AllByRecursion P ds → AllByRecursion P (by_number ds n count)
 unfolding by_number
 by_number_all P ds zero n a = tt
 by_number_all P ds (suc count) n a = flying.both P (filter (has_number n) ds) (by_number ds (suc n) count) (numbered_all P n ds a) (by_number_all P ds count (suc n) a)
@@ -183,7 +170,7 @@ module _ (are_steps : InputsAreSteps) (bytes : BytesRun) (ticks : TicksRun) (act
       (flying.every (λ (d : Declaration). value_of plan.settings d.node Modulo ≡ size) (λ (d : Declaration). width (value_of plan.settings d.node Modulo == 128) ≡ size)
       (λ d e. width_is size (value_of plan.settings d.node Modulo) of.modulus e) plan.declared of.nodes))
 
-  line_is : (i : Instruction) → IsInstruction i → NamesCalls i → LineIs IsCall IsCall i
+  line_is : (i : Instruction) → IsInstruction i → NamesCalls i → LineIs IsCall IsCall IsPair i
   line_is (instructions.Heard node call nodes) i n = n
   line_is (instructions.Lock node dest alias neighbour quality) i n = n
   line_is (instructions.Round node) i n = tt
@@ -203,7 +190,7 @@ module _ (are_steps : InputsAreSteps) (bytes : BytesRun) (ticks : TicksRun) (act
   line_is (instructions.Cut count) i n = tt
 
   lines_are : (ls : List NumberedInstruction) → AllByRecursion (λ (l : NumberedInstruction). IsInstruction l.instruction) ls → AllByRecursion (λ (l : NumberedInstruction). NamesCalls l.instruction) ls
-      → AllByRecursion (λ (l : NumberedInstruction). LineIs IsCall IsCall l.instruction) ls
+      → AllByRecursion (λ (l : NumberedInstruction). LineIs IsCall IsCall IsPair l.instruction) ls
   lines_are [] a b = tt
   lines_are (l ∷ ls) a b = (line_is l.instruction a.0 b.0, lines_are ls a.1 b.1)
 
@@ -245,7 +232,7 @@ module _ (are_steps : InputsAreSteps) (bytes : BytesRun) (ticks : TicksRun) (act
         let goods = runs.front_all plan apart are_steps bytes ticks acts_run done later (λ (l : NumberedInstruction). IsInstruction l.instruction) (subst (AllByRecursion (λ (l : NumberedInstruction). IsInstruction l.instruction)) is sound.instructions) in
         let named = runs.front_all plan apart are_steps bytes ticks acts_run done later (λ (l : NumberedInstruction). NamesCalls l.instruction) (subst (AllByRecursion (λ (l : NumberedInstruction). NamesCalls l.instruction)) is calls.lines) in
         let w : World = do_lines plan done (start plan) in
-        let a = lines_lead plan IsCall IsCall (flying.Goes plan size apart are_steps bytes ticks acts_run parts read_back too_long bytes_carry ticks_carry acts_carry further of.modulus starts calls.vias)
+        let a = lines_lead plan IsCall IsCall IsPair (flying.Goes plan size apart are_steps bytes ticks acts_run parts read_back too_long bytes_carry ticks_carry acts_carry further of.modulus starts calls.vias)
         (flying.moves plan size apart are_steps bytes ticks acts_run parts read_back too_long bytes_carry ticks_carry acts_carry further of.modulus starts calls.vias) done (start plan) (lines_are done goods.0 named.0) [] start_flies in
         record {
           steps = a.0;
@@ -253,8 +240,9 @@ module _ (are_steps : InputsAreSteps) (bytes : BytesRun) (ticks : TicksRun) (act
           sent = λ before after node now d e.
               (let f = found (events_of (first_sets plan) before) d (events_from sendings (first_sets plan) before) (front_calls before (record { node = node; act = sets.Comes d now } ∷ after) a.0 e w.told a.1.contains.events_are)
               (traced_at [] (first_sets plan) before (record { node = node; act = sets.Comes d now }) after (subst (StepsTraced [] (first_sets plan)) e a.1.traced)) in
-              record { node = f.node; own = f.own; id = f.id; number = f.number; sent = f.sent; told = f.told; ttl = f.ttl; from = f.from; origin = λ head h. origin_is written read f.own f.ttl f.sent d head f.call f.from f.copy h; copy = f.copy; hops = f.hops });
+              record { sending = f.sending; ttl = f.ttl; from = f.from; origin = λ head h. origin_is written read f.sending.own f.ttl f.sending.sent d head f.call f.from f.sending.copy h; hops = f.hops });
           heeded = λ before after step s e g. heedings s step.act;
+          up = λ on. a.1.contains.up (lines_on plan done (start plan) goods.0 on tt);
         }
 
   pub datagrams_sent : DatagramsSent

@@ -1,16 +1,18 @@
 -- Where the datagrams are from that reach their nodes, in a network whose nodes all have one modulus. Own profile.
-use Rattle.std.specs.Prelude.{ℕ, ◌≡◌, ◌≤◌, ◌⊎◌, true, List, ◌∷◌, ◌++◌, Option, Some, Contains, Ok, slice_get}
+use Rattle.std.specs.Prelude.{ℕ, ◌≡◌, ◌≤◌, ◌⊎◌, List, ◌∷◌, ◌++◌, Some, Ok, slice_get}
 use Rattle.std.specs.List.{AllByRecursion}
-use Rattle.ax_address.specs.Callsign.{Callsign}
-use Rattle.circuit_set.specs.Books.{is_copy}
+use Rattle.circuit_set.specs.Givings.{IsUp}
 use Rattle.circuit_set.specs.Heedings.{HeedsFor}
+use Rattle.circuit_set.specs.Returning as returning
 use Rattle.circuit_set.specs.Runs.{Step, begins, events_of, net_run}
 use Rattle.circuit_set.specs.Sendings.{IsFrom}
-use Rattle.circuit_set.specs.Sets.{Comes, Sent, SetState, set_step}
+use Rattle.circuit_set.specs.Sets.{Comes, SetState, set_step}
 use Rattle.l3_datagram.specs.Datagrams.{head_at}
 use Rattle.l3_datagram.specs.declared.datagram.DatagramHead.{DatagramHead}
 use Rattle.network_file.specs.declared.network.NumberedInstruction.{NumberedInstruction}
 use Rattle.network_file.specs.declared.plan.declarations.Declaration.{Declaration}
+use Rattle.network_file.specs.declared.plan.instructions.Instruction.{Instruction}
+use Rattle.network_file.specs.declared.plan.instructions.Instruction.TheVariants.{Restart}
 use Rattle.network_file.specs.declared.plan.keys.Key.TheVariants.{Modulo}
 use Rattle.network_file.specs.Networks.{network_of}
 use Rattle.network_file.specs.Plan.{Plan}
@@ -27,26 +29,29 @@ pub record IsOfModulus (size : ℕ) (plan : Plan) : Type 0 where
   pub modulus : (size ≡ 8) ⊎ (size ≡ 128)
   pub nodes : AllByRecursion (λ (d : Declaration). value_of plan.settings d.node Modulo ≡ size) plan.declared
 
+-- a line that starts no node again
+abbrev pub IsOn : Instruction → Type 0
+IsOn (Restart node pair) = ⊥
+IsOn _ = Unit {0}
+
+abbrev pub GoesOn : NumberedInstruction → Type 0
+GoesOn l = IsOn l.instruction
+
 -- ---- the law
 
 -- By these steps of the nodes' circuits a datagram was sent by the node that is its origin, as it came but for its time to live: an end of that
 -- node told so, or its set, as number 0, where that refused a circuit. Each node that passed it on took one from the time to live, so these
 -- were no more than that.
 pub record WasSent (plan : Plan) (before : List Step) (datagram : List ℕ) : Type 0 where
-  pub node : ℕ
-  pub own : Callsign
-  pub id : ℕ
-  pub number : Option ℕ
-  pub sent : List ℕ
-  pub told : Contains (events_of (first_sets plan) before) (record { node = node; own = own; told = Sent id number sent })
+  pub sending : returning.WasSent (events_of (first_sets plan) before) datagram
   pub ttl : ℕ
-  pub from : IsFrom own ttl sent
-  pub origin : (head : DatagramHead) → head_at datagram ≡ Ok head → head.origin ≡ own
-  pub copy : is_copy datagram sent ≡ true
-  pub hops : ttl_of datagram ≤ ttl_of sent
+  pub from : IsFrom sending.own ttl sending.sent
+  pub origin : (head : DatagramHead) → head_at datagram ≡ Ok head → head.origin ≡ sending.own
+  pub hops : ttl_of datagram ≤ ttl_of sending.sent
 
 -- What a front of a file's lines has come to is a run of the nodes' circuits, in which each datagram that reached its node, so that the node's
--- circuits were handed it, was sent before. And one that an end heeded came from the node of its partner, and names that end's pair.
+-- circuits were handed it, was sent before. And one that an end heeded came from the node of its partner, and names that end's pair. In the
+-- run a node starts again only where one of these lines says so.
 pub record SendsAll (plan : Plan) (done : List NumberedInstruction) : Type 0 where
   pub steps : List Step
   pub run : IsRunOf plan steps (do_lines plan done (start plan))
@@ -54,6 +59,7 @@ pub record SendsAll (plan : Plan) (done : List NumberedInstruction) : Type 0 whe
       → WasSent plan before datagram
   pub heeded : (before after : List Step) (step : Step) (s : SetState) → steps ≡ before ++ step ∷ after
       → slice_get (net_run (begins (first_sets plan)) before).sets step.node ≡ Some s → HeedsFor s step.act (set_step s step.act).told
+  pub up : AllByRecursion GoesOn done → AllByRecursion (λ (st : Step). IsUp st.act) steps
 
 abbrev pub DatagramsSent : Type 0
 DatagramsSent =

@@ -2,6 +2,7 @@
 ghost use Rattle.net_replay.specs.CircuitRuns.{WorldsAreRuns};
 ghost use Rattle.net_replay.specs.Datagrams.{DatagramsSent};
 ghost use Rattle.net_replay.specs.Promises.{EachTellsRetries, InTimeIsSafe};
+ghost use Rattle.net_replay.specs.Returning.{CopiesAloneReturn};
 
 /// What happens in a network is a run of its nodes' circuits: at each line they have come by some steps to what the world has of them, and what
 /// these steps told is what the world has told of circuits.
@@ -27,7 +28,7 @@ pub fn in_time_is_safe()
 /// In a network whose nodes all have one modulus, whatever is lost, repeated, delayed or reordered and whichever node starts again: each datagram
 /// that reaches its node, so that the circuits there are handed it, was sent before by the node that is its origin, by an end of it or by its set as
 /// a refusal, and came as it was sent but for its time to live, which is no greater. And one that an end heeds is from the node of its partner, and
-/// names that end's pair.
+/// names that end's pair. In the run of the nodes' circuits that this is said of, a node starts again only where a line says so.
 pub fn datagrams_sent()
     ensures { DatagramsSent }
 {
@@ -50,4 +51,15 @@ pub fn retries_are_told()
 {
     worlds_are_circuit_runs();
     circuit_set::laws::retries_are_told();
+}
+
+/// In a network whose nodes all have one modulus, whatever is lost, repeated, delayed or reordered: up to its first line that starts a node again,
+/// and while no node has given more than the 48,960 pairs of which none stands twice, what is told of circuits is fresh, but where a copy of a
+/// connect request opens an end again, after the one that it opened earlier was told how it ended.
+pub fn copies_alone_return()
+    ensures { CopiesAloneReturn }
+{
+    datagrams_sent();
+    circuit_set::laws::copies_alone_return();
+    network_file::laws::networks_fit();
 }
