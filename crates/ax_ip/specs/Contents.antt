@@ -1,5 +1,6 @@
 -- What a frame carries for a station. (AX.25 2.2, sections 3.4 and 3.12.)
-use Rattle.std.specs.Prelude.{ℕ, List, [], ◌∷◌, Bool, true, false, ◌&&◌, ◌||◌, ◌==◌, Option, Some, None, codes, if◌then◌else◌}
+use Rattle.std.specs.Prelude.{ℕ, List, Bool, true, false, ◌&&◌, ◌||◌, ◌==◌, Option, Some, None, codes, if◌then◌else◌}
+use Rattle.std.specs.List.{list_all}
 use Rattle.ax_address.specs.Callsign.{Callsign, padded}
 use Rattle.ax_address.specs.CallOrder.{same_call}
 use Rattle.ax_address.specs.declared.address.Address.{Address}
@@ -18,8 +19,7 @@ is_ui (Ui pf) = true
 is_ui _ = false
 
 abbrev pub all_repeated : List Address → Bool
-all_repeated [] = true
-all_repeated (r ∷ rs) = r.bit7 && all_repeated rs
+all_repeated path = list_all (λ (r : Address). r.bit7) path
 
 -- packets to the own call, and messages of ARP to the own call or to everyone
 abbrev pub by_pid : Option ℕ → Callsign → Callsign → Content

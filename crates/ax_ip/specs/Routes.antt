@@ -1,5 +1,6 @@
 -- Routes: a prefix with its length, and the next hop. (RFC 1812, section 5.2.4.3: the longest match is taken.)
-use Rattle.std.specs.Prelude.{ℕ, ◌≡◌, ◌-◌, ◌/◌, ◌%◌, ◌^◌, List, [], ◌∷◌, Bool, false, ◌&&◌, ◌||◌, ◌==◌, nat_lt, nat_le, not, length, Option, Some, None, Result, Ok, Err, if◌then◌else◌}
+use Rattle.std.specs.Prelude.{ℕ, ◌≡◌, ◌-◌, ◌/◌, ◌%◌, ◌^◌, List, [], ◌∷◌, Bool, ◌&&◌, ◌||◌, ◌==◌, nat_lt, nat_le, not, length, Option, Some, None, Result, Ok, Err, if◌then◌else◌}
+use Rattle.std.specs.List.{list_any}
 pub use Rattle.ax_ip.specs.declared.route.Route.{Route}
 use Rattle.ax_ip.specs.declared.routes.RouteRefusal.{RouteRefusal}
 use Rattle.ax_ip.specs.declared.routes.RouteRefusal.TheVariants.{Bits, Twice, Full}
@@ -22,8 +23,7 @@ abbrev pub matches : ℕ → Route → Bool
 matches dest r = front r.len dest == front r.len r.prefix
 
 abbrev pub stands : ℕ → ℕ → List Route → Bool
-stands prefix len [] = false
-stands prefix len (r ∷ rs) = ((r.prefix == prefix) && (r.len == len)) || stands prefix len rs
+stands prefix len rs = list_any (λ (r : Route). (r.prefix == prefix) && (r.len == len)) rs
 
 abbrev pub longer : Route → Option Route → Route
 longer r None = r

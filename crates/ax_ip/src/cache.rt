@@ -19,15 +19,9 @@ pub(crate) type Cache = ArrayVec<Neighbour, 64>;
 pub(crate) fn call_of(cache: &[Neighbour], address: u32) -> Option<Call>
     ensures { result ≡ caches.call_of address cache.now }
 {
-    match cache {
-        [] => None,
-        [first, rest @ ..] => {
-            if first.address == address {
-                Some(first.call)
-            } else {
-                call_of(rest, address)
-            }
-        }
+    match cache.iter().find(|neighbour| neighbour.address == address) {
+        Some(neighbour) => Some(neighbour.call),
+        None => None,
     }
 }
 

@@ -40,10 +40,7 @@ pub(crate) fn content_of(frame: &FrameView<'_>, own: &Call) -> Content
 fn all_repeated(path: &[Address]) -> bool
     ensures { result ≡ contents.all_repeated path.now }
 {
-    match path {
-        [] => true,
-        [first, rest @ ..] => first.bit7 && all_repeated(rest),
-    }
+    path.iter().all(|repeater| repeater.bit7)
 }
 
 fn by_pid(pid: Option<u8>, dest: &Call, own: &Call) -> Content

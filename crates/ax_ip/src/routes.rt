@@ -27,11 +27,9 @@ pub(crate) fn has_bits_past(prefix: u32, len: u8) -> bool
 pub(crate) fn stands(routes: &[Route], prefix: u32, len: u8) -> bool
     ensures { result ≡ spec.stands prefix len routes.now }
 {
-    match routes {
-        [] => false,
-        [first, rest @ ..] => (first.prefix == prefix && first.len == len)
-            || stands(rest, prefix, len),
-    }
+    routes
+        .iter()
+        .any(|route| route.prefix == prefix && route.len == len)
 }
 
 /// Whether the address begins with the route's prefix.
