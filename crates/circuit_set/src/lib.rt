@@ -9,6 +9,8 @@ mod held_ends;
 mod holder;
 pub mod laws;
 mod pair_order;
+mod pump;
+mod receiving;
 mod set;
 
 pub use event::{ConnectRefusal, DiscardRefusal, NoEnd, SetEvent, SetRefusal};
