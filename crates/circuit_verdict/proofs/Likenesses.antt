@@ -1,6 +1,6 @@
 -- Copies are equal in all but their time to live.
-use Rattle.std.proofs.Common.{◌≡◌, ◌≤◌, ◌<◌, ◌∙◌, ℕ, refl, sym, arith, length, length-take-le, take, drop, List, [], ◌∷◌, ◌++◌}
-use Rattle.std.specs.Prelude.{Bool, true, false, cond, ◌&&◌, if◌then◌else◌, nat_eq, nat_le, Option, Some, None}
+use Rattle.std.proofs.Common.{◌≡◌, ◌≤◌, ◌<◌, ◌∙◌, ℕ, suc, refl, sym, ap, arith, length, length-append, length-take-le, take, drop, List, [], ◌∷◌, ◌++◌}
+use Rattle.std.specs.Prelude.{◌≢◌, Bool, true, false, cond, ◌&&◌, if◌then◌else◌, nat_eq, nat_le, Option, Some, None}
 use Rattle.std.proofs.lemmas.Bool.Decides.{nat_tests}
 use Rattle.std.specs.Ordering.{is_eq, nat_cmp, ordering_then}
 use Rattle.std.specs.declared.cmp.Ordering.{Ordering}
@@ -12,7 +12,7 @@ use Rattle.circuit_verdict.specs.declared.sendings.Likeness.{Likeness}
 use Rattle.circuit_verdict.specs.declared.sendings.Sending.{Sending}
 use Rattle.circuit_verdict.specs.Sendings.{core, latest_like, likeness_cmp, name_cmp, sending_in, sending_of}
 use Rattle.circuit_verdict.proofs.Same.{nat_turned}
-use Rattle.circuit_verdict.proofs.Tests.{and_false, and_true, and_and}
+use Rattle.circuit_verdict.proofs.Tests.{and_false, and_true, and_turned}
 
 -- ---- equal in order is equal ----
 then_by : (o p : Ordering) → is_eq (ordering_then o p) ≡ is_eq o && is_eq p
@@ -38,11 +38,19 @@ likeness_by a b =
     ∙ rw (name_by a.who b.who, bytes_by a.octets.items b.octets.items) refl
 
 -- ---- without the time to live ----
-parts_by : (a b c d : List ℕ) → length a ≡ length c → pointwise nat_eq (a ++ b) (c ++ d) ≡ pointwise nat_eq a c && pointwise nat_eq b d
-parts_by [] b [] d e = refl
-parts_by [] b (y ∷ c) d e = absurd (omega (arith, e))
-parts_by (x ∷ a) b [] d e = absurd (omega (arith, e))
-parts_by (x ∷ a) b (y ∷ c) d e = rw (parts_by a b c d (omega (arith, e))) (and_and (nat_eq x y) (pointwise nat_eq a c) (pointwise nat_eq b d))
+-- lists of different lengths aren't equal
+unlike : (xs ys : List ℕ) → length xs ≢ length ys → pointwise nat_eq xs ys ≡ false
+unlike [] [] n = absurd (n refl)
+unlike [] (y ∷ ys) n = refl
+unlike (x ∷ xs) [] n = refl
+unlike (x ∷ xs) (y ∷ ys) n = rw (unlike xs ys (λ e. n (ap suc e)), and_false (nat_eq x y)) refl
+
+-- lists whose last parts are equally long are equal in both parts or in none
+parts_by : (a b c d : List ℕ) → length b ≡ length d → pointwise nat_eq (a ++ b) (c ++ d) ≡ pointwise nat_eq b d && pointwise nat_eq a c
+parts_by [] b [] d e = sym (and_true (pointwise nat_eq b d))
+parts_by [] b (y ∷ c) d e = unlike b (y ∷ c ++ d) (λ f. absurd (omega (arith, e, f, length-append c d))) ∙ sym (and_false (pointwise nat_eq b d))
+parts_by (x ∷ a) b [] d e = unlike (x ∷ a ++ b) d (λ f. absurd (omega (arith, e, f, length-append a b))) ∙ sym (and_false (pointwise nat_eq b d))
+parts_by (x ∷ a) b (y ∷ c) d e = rw (parts_by a b c d e) (and_turned (nat_eq x y) (pointwise nat_eq b d) (pointwise nat_eq a c))
 
 turned_by : (xs ys : List ℕ) → pointwise nat_eq xs ys ≡ pointwise nat_eq ys xs
 turned_by [] [] = refl
@@ -66,7 +74,7 @@ core_by : (d e : List ℕ) → HEAD_SIZE ≤ length d → HEAD_SIZE ≤ length e
     → pointwise nat_eq (core e) (core d) ≡ pointwise nat_eq (take TTL_AT d) (take TTL_AT e) && pointwise nat_eq (drop HEAD_SIZE d) (drop HEAD_SIZE e)
 core_by d e p q =
     turned_by (core e) (core d)
-    ∙ parts_by (take TTL_AT d) (drop HEAD_SIZE d) (take TTL_AT e) (drop HEAD_SIZE e) (front d p ∙ sym (front e q))
+    ∙ parts_by (drop HEAD_SIZE d) (take TTL_AT d) (drop HEAD_SIZE e) (take TTL_AT e) (front d p ∙ sym (front e q))
 
 copy_by : (h : Bool) (d e : List ℕ) → HEAD_SIZE ≤ length d → nat_le HEAD_SIZE (length e) ≡ h
     → h && pointwise nat_eq (core e) (core d)

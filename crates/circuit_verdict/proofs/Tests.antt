@@ -35,9 +35,10 @@ pub and_true : (b : Bool) → b && true ≡ b
 and_true true = refl
 and_true false = refl
 
-pub and_and : (a b c : Bool) → a && (b && c) ≡ (a && b) && c
-and_and true b c = refl
-and_and false b c = refl
+pub and_turned : (a b c : Bool) → a && (b && c) ≡ b && (a && c)
+and_turned true b c = refl
+and_turned false true c = refl
+and_turned false false c = refl
 
 pub or_false : (b : Bool) → b || false ≡ b
 or_false true = refl

@@ -18,9 +18,9 @@ use Rattle.circuit_verdict.specs.declared.sendings.Sendings.{Sendings}
 use Rattle.circuit_verdict.specs.Lists.{list_in}
 
 -- ---- the latest sending ----
--- a datagram without its time to live
+-- a datagram without its time to live: what it carries, and then between whom
 abbrev pub core : List ℕ → List ℕ
-core d = take TTL_AT d ++ drop HEAD_SIZE d
+core d = drop HEAD_SIZE d ++ take TTL_AT d
 
 abbrev pub sending_of : SentNote → Sending
 sending_of s = record { place = s.place; number = s.number }

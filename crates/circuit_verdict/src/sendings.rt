@@ -193,8 +193,9 @@ fn make_likeness(alloc: Global, who: &Name, datagram: &[u8]) -> Result<Likeness,
     ensures who { IfOk result (λ likeness. likeness.who ≡ who.now) }
     ensures octets { IfOk result (λ likeness. likeness.octets.items ≡ sends.core datagram.now) }
 {
-    let mut octets = Vec::from_slice(alloc, &datagram[..TTL_AT])?;
-    octets.extend_from_slice(&datagram[HEAD_SIZE..])?;
+    // (what differs between the datagrams of an end comes first, so that two are told apart early)
+    let mut octets = Vec::from_slice(alloc, &datagram[HEAD_SIZE..])?;
+    octets.extend_from_slice(&datagram[..TTL_AT])?;
     Ok(Likeness { who: *who, octets })
 }
 
