@@ -13,6 +13,7 @@ pub mod Texting
 pub mod Heaping
 pub mod Working
 pub mod Using
+pub mod Lowering
 pub mod Falling
 pub mod Settled
 pub mod Paging
@@ -51,6 +52,9 @@ pub mod Soundness
 pub mod Crowding
 pub mod Fine
 pub mod Trying
+pub mod FineGiving
+pub mod FineTexts
+pub mod FineLines
 pub mod Faithful
 pub mod Reached
 mod FirstLine

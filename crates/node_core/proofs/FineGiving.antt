@@ -1,0 +1,240 @@
+-- Giving a user replies and messages keeps a node fine.
+use Rattle.std.proofs.Common.{◌≡◌, ◌<◌, ◌+◌, ◌∙◌, ◌⊎◌, inl, inr, ℕ, zero, suc, refl, sym, ap, subst, arith, List, [], ◌∷◌, slice_get, slice_set}
+use Rattle.std.specs.Prelude.{Bool, true, false, not, ◌||◌, ◌&&◌, nat_eq, if◌then◌else◌, Option, Some, None, Result, Ok, Err}
+use Rattle.std.proofs.lemmas.Bool.Decides.{nat_tests}
+use Rattle.ax_address.specs.Callsign.{Callsign}
+use Rattle.circuit_set.specs.CircuitSets.{facts_at}
+use Rattle.circuit_set.specs.Sets as sets
+use Rattle.circuit_set.specs.Sets.{Holder, SetState, end_of}
+use Rattle.circuit_set.specs.Standing as answers
+use Rattle.link_table.specs.declared.text_refusal.TextRefusal.{TextRefusal}
+use Rattle.link_table.specs.declared.text_refusal.TextRefusal.TheVariants.{Full}
+use Rattle.node_core.specs.declared.sessions.session.Circuit.{Circuit}
+use Rattle.node_core.specs.declared.sessions.session.Reply.{Reply}
+use Rattle.node_core.specs.declared.sessions.session.User.{User}
+use Rattle.node_core.specs.declared.sessions.session.User.TheVariants.{AtEnd, AtLink}
+use Rattle.node_core.specs.Bridging as bridging
+use Rattle.node_core.specs.Circuits as circuits
+use Rattle.node_core.specs.Links as links
+use Rattle.node_core.specs.Pumping.{at_router, pump}
+use Rattle.node_core.specs.Serving.{is_at_end, is_circuit}
+use Rattle.node_core.specs.Sessions.{Session, circuit_of}
+use Rattle.node_core.specs.States.{State, at_set}
+use Rattle.node_core.specs.Turns.{done, idle}
+use Rattle.node_core.specs.Users as users
+use Rattle.node_core.specs.Users.{Outcome, at_session, changed, session_at}
+use Rattle.node_core.proofs.Crowding.{TakesTexts, offers_on, text_goes, with_room}
+use Rattle.node_core.proofs.Fine.{Dry, Fine, Goes, pumped, pumped_dry, said, session_fine, takes_fine, took_message, write_goes}
+use Rattle.node_core.proofs.Holders.{AreOpen, end_in, every_in, number_of, others_stay}
+use Rattle.node_core.proofs.Soundness.{IsGood, Same, changed_here, same_hears, same_itself, sound_gave, sound_reply}
+use Rattle.node_core.proofs.Owning.{Less, at_least, but_here, mades, one, opens_by, owned_by, total}
+use Rattle.node_core.proofs.Pumped.{dry_links}
+use Rattle.node_core.proofs.Unclosed.{IsMessage, Messages}
+
+-- ---- a session in its place
+
+pub less_same : (x y : Session) → y.user ≡ x.user → y.bye ≡ x.bye → y.stage ≡ x.stage → Less x y
+less_same x y e f g = record {
+  owned = λ id. let same : owned_by id y ≡ owned_by id x = rw (e, g) refl in omega (arith, same);
+  opens = λ id. let same : opens_by id y ≡ opens_by id x = rw (e, f, g) refl in omega (arith, same);
+}
+
+twice : (ss : List Session) (nth : ℕ) (x y : Session) → slice_set (slice_set ss nth x) nth y ≡ slice_set ss nth y
+twice [] nth x y = refl
+twice (z ∷ ss) zero x y = refl
+twice (z ∷ ss) (suc nth) x y = ap (λ (zs : List Session). z ∷ zs) (twice ss nth x y)
+
+put_is : (ss : List Session) (nth : ℕ) (x y : Session) → slice_get ss nth ≡ Some x → slice_get (slice_set ss nth y) nth ≡ Some y
+put_is [] nth x y e = absurd (cc e)
+put_is (z ∷ ss) zero x y e = refl
+put_is (z ∷ ss) (suc nth) x y e = put_is ss nth x y e
+
+changed_twice : (f g : Session → Session) (ss : List Session) (nth : ℕ) (x : Session) → slice_get ss nth ≡ Some x
+    → changed (slice_get (changed (Some x) nth f ss) nth) nth g (changed (Some x) nth f ss) ≡ slice_set ss nth (g (f x))
+changed_twice f g ss nth x e = rw (put_is ss nth x (f x) e) (twice ss nth (f x) (g (f x)))
+
+-- two changes of one session are one
+both_changed : (f g : Session → Session) (n : State) (nth : ℕ) (x : Session) → session_at nth n ≡ Some x
+    → at_session nth g (at_session nth f n) ≡ at_session nth (λ y. g (f y)) n
+both_changed f g n nth x e =
+    ap (λ (ss : List Session). record n { sessions = ss }) (ap (λ (o : Option Session). changed (slice_get (changed o nth f n.sessions) nth) nth g (changed o nth f n.sessions)) e
+    ∙ (changed_twice f g n.sessions nth x e ∙ sym (ap (λ (o : Option Session). changed o nth (λ y. g (f y)) n.sessions) e)))
+
+-- ---- what is owned
+
+pub other_number : (a b : ℕ) → (a ≡ b → ⊥) → nat_eq a b ≡ false
+other_number a b differ = by (nat_eq a b) refl
+  where
+    by : (c : Bool) → nat_eq a b ≡ c → nat_eq a b ≡ false
+    by true e = absurd (differ (grind (arith, nat_tests, e)))
+    by false e = e
+
+-- the user's end isn't that of the circuit
+pub ends_differ : (u : ℕ) (n : State) (nth : ℕ) (x : Session) → Fine n → session_at nth n ≡ Some x → x.user ≡ AtEnd u → (c : Circuit) → circuit_of x.stage ≡ Some c → c.id ≡ u → ⊥
+ends_differ u n nth x f e g c h same =
+    let self : nat_eq u u ≡ true = grind (arith, nat_tests) in
+    let mine : is_at_end u x.user ≡ true = rw g self in
+    let its : is_circuit u (circuit_of x.stage) ≡ true = rw (h, same) self in
+    let two : owned_by u x ≡ 2 = rw (mine, its) refl in
+    let least = at_least (owned_by u) n.sessions nth x e in
+    omega (arith, least, two, f.0.few u)
+
+-- the end of a number is open where one that owns it has neither closed it nor said BYE
+pub open_end : (id : ℕ) (n : State) (nth : ℕ) (x : Session) → Fine n → session_at nth n ≡ Some x → 0 < opens_by id x → AreOpen id n.set.set.ends
+open_end id n nth x f e some = let least = at_least (opens_by id) n.sessions nth x e in f.0.unshut id (omega (arith, least, some))
+
+-- one that is open no longer of the session that owns it is open of none
+pub shut_end : (id : ℕ) (n : State) (nth : ℕ) (x : Session) → Fine n → session_at nth n ≡ Some x → opens_by id x ≡ 0 → 0 < owned_by id x → total (opens_by id) n.sessions + mades id n.set.untold ≡ 0
+shut_end id n nth x f e none some =
+    let least = at_least (owned_by id) n.sessions nth x e in
+    omega (arith, but_here id n.sessions nth x e, none, some, least, f.0.few id)
+
+pub closing_of : (id : ℕ) (hs : List Holder) (h : Holder) → AreOpen id hs → end_of id hs ≡ Some h → h.end.closing ≡ false
+closing_of id hs h unshut e = every_in (λ x. x.id ≡ id → x.end.closing ≡ false) h hs unshut (end_in id hs h e) (number_of id hs h e)
+
+pub messages_of : (id : ℕ) (n : State) → Fine n → (h : Holder) → users.end_at id n ≡ Some h → Messages h.end.receiving.received
+messages_of id n f h e = every_in (λ x. Messages x.end.receiving.received) h n.set.set.ends f.0.messages (end_in id n.set.set.ends h e)
+
+spoken_for : (u : ℕ) (x : Session) → x.user ≡ AtEnd u → x.bye ≡ false → 0 < opens_by u x
+spoken_for u x g spoke =
+    let self : nat_eq u u ≡ true = grind (arith, nat_tests) in
+    rw (g, spoke, self) (omega arith)
+
+-- ---- replies
+
+pub replied : (o : Option Reply) (now nth : ℕ) (n : State) → Fine n → Fine (bridging.reply_by o now nth n).after
+replied None now nth n f = f
+replied (Some r) now nth n f =
+    let m : State = at_session nth bridging.drop_reply n in
+    said now nth _ m (session_fine nth bridging.drop_reply n (λ x e s. sound_reply x s) (λ x. less_same x (bridging.drop_reply x) refl refl refl) f)
+
+-- ---- messages
+
+or_rest : (a b : Bool) → (a || b) ≡ true → a ≡ false → b ≡ true
+or_rest true b e f = absurd (cc f)
+or_rest false b e f = e
+
+or_parts : (a b : Bool) → (a || b) ≡ false → (a ≡ false) × (b ≡ false)
+or_parts true b e = absurd (cc e)
+or_parts false b e = (refl, e)
+
+pub not_and : (a b : Bool) → (not a && b) ≡ true → (a ≡ false) × (b ≡ true)
+not_and true b e = absurd (cc e)
+not_and false b e = (refl, e)
+
+good_wrote : (o : Outcome) → Goes o → IsGood o
+good_wrote o (inl e) = rw e tt
+good_wrote o (inr e) = rw e tt
+
+good_sent : (r : Result (Unit {0}) TextRefusal) → (r ≡ Ok tt) ⊎ (r ≡ Err Full) → IsGood (users.sent_by r)
+good_sent r (inl e) = rw e tt
+good_sent r (inr e) = rw e tt
+
+-- a message that is given to a session's user after this, from a state in which its side had room
+module _ (now nth id : ℕ) (n m : State) (x z : Session) (message : List ℕ) (f : Fine n) (e : session_at nth n ≡ Some x) (is : IsMessage message)
+    (user : z.user ≡ x.user) (left : z.left ≡ x.left) (bye : z.bye ≡ x.bye)
+    (ends : (u : ℕ) → x.user ≡ AtEnd u → users.end_at u m ≡ users.end_at u n)
+    (takes : (peer : Callsign) → TakesTexts peer n.links → TakesTexts peer m.links)
+    (gives : users.can_give x n ≡ true) where
+  heard_at_end : (u : ℕ) → x.user ≡ AtEnd u → users.is_deaf z m ≡ false → IsGood (users.wrote_by (users.write_answer u message m))
+  heard_at_end u g deaf =
+      let at = user ∙ g in
+      let same = ends u g in
+      let parts = or_parts z.bye (users.has_ended z m) deaf in
+      let hears : users.has_ended z m ≡ users.has_ended x n = rw (at, g, same) refl in
+      let before : users.is_deaf x n ≡ false = rw (← bye, parts.0) (sym hears ∙ parts.1) in
+      let room : users.has_room x n ≡ true = or_rest (users.is_deaf x n) (users.has_room x n) gives before in
+      let here : users.room_by (facts_at (users.end_at u m)) ≡ true = rw same (subst (λ (y : User). users.has_room_at y x.left n ≡ true) g room) in
+      let spoke : x.bye ≡ false = sym bye ∙ parts.0 in
+      let some = spoken_for u x g spoke in
+      let unshut = open_end u n nth x f e some in
+      good_wrote _ (write_goes (users.end_at u m) message here (λ h k. closing_of u n.set.set.ends h unshut (sym same ∙ k)) is)
+
+  heard_at_link : (peer : Callsign) → x.user ≡ AtLink peer → users.is_deaf z m ≡ false → IsGood (users.sent_by (links.text_answer peer message m.links))
+  heard_at_link peer g deaf =
+      let at = user ∙ g in
+      let parts = or_parts z.bye (users.has_ended z m) deaf in
+      let hears : users.has_ended z m ≡ users.has_ended x n = rw (at, g, left) refl in
+      let before : users.is_deaf x n ≡ false = rw (← bye, parts.0) (sym hears ∙ parts.1) in
+      let room : users.has_room x n ≡ true = or_rest (users.is_deaf x n) (users.has_room x n) gives before in
+      let here : users.has_room_at (AtLink peer) x.left n ≡ true = subst (λ (y : User). users.has_room_at y x.left n ≡ true) g room in
+      let both = not_and x.left (users.link_has_room peer n) here in
+      good_sent _ (text_goes peer message m.links (takes peer (with_room peer n.links both.1)) is.1)
+
+  goes_to : (y : User) → x.user ≡ y → users.is_deaf z m ≡ false → IsGood (users.outcome_at y message m)
+  goes_to (AtEnd u) g deaf = heard_at_end u g deaf
+  goes_to (AtLink peer) g deaf = heard_at_link peer g deaf
+
+  good_said : IsGood (users.outcome_if (users.listener (Some z) m) message m)
+  good_said = by (users.is_deaf z m) refl
+    where
+      by : (b : Bool) → users.is_deaf z m ≡ b → IsGood (users.outcome_if (if b then None else Some z.user) message m)
+      by true d = tt
+      by false d = subst (λ (y : User). IsGood (users.outcome_at y message m)) (sym user) (goes_to x.user refl d)
+
+-- what of a session's circuit came to the node is given to its user
+given_from : (now nth : ℕ) (n : State) (x : Session) (c : Circuit) → Fine n → at_router n ≡ 0 → session_at nth n ≡ Some x → circuit_of x.stage ≡ Some c → users.can_give x n ≡ true
+    → Fine (bridging.give_from now nth c.id n).after
+unfolding circuits.acts
+given_from now nth n x c f router e h gives = by (users.took (answers.take_answer (users.end_at c.id n))) refl
+  where
+    message : List ℕ
+    message = answers.message_at [] (users.end_at c.id n)
+
+    took : State
+    took = at_set (circuits.acts (sets.Calls c.id sets.Takes now)) n
+
+    told : State
+    told = pump now took
+
+    dry : Dry (Same x) nth took told
+    dry = pumped_dry (Same x) (same_hears x) now nth took router (record { x = x; is = e; holds = same_itself x })
+
+    got : State
+    got = at_session nth (bridging.log_got message) told
+
+    z : Session
+    z = bridging.log_got message dry.placed.x
+
+    at_got : session_at nth got ≡ Some z
+    at_got = changed_here (bridging.log_got message) told.sessions nth dry.placed.x dry.placed.is
+
+    ends : (u : ℕ) → x.user ≡ AtEnd u → users.end_at u got ≡ users.end_at u n
+    ends u g =
+        ap (λ (set : SetState). end_of u set.ends) dry.set
+        ∙ others_stay n.set.set u c.id sets.Takes now (other_number c.id u (ends_differ u n nth x f e g c h))
+
+    takes : (peer : Callsign) → TakesTexts peer n.links → TakesTexts peer got.links
+    takes peer t = dry_links (TakesTexts peer) (λ to d at t y. offers_on peer to d at t y) now took router t
+
+    outcome : Outcome
+    outcome = users.said nth message got
+
+    good : IsMessage message → IsGood outcome
+    good is =
+        subst (λ (o : Option Session). IsGood (users.outcome_if (users.listener o got) message got)) (sym at_got)
+        (good_said now nth c.id n got x z message f e is dry.placed.holds.user dry.placed.holds.left dry.placed.holds.bye ends takes gives)
+
+    gave : State
+    gave = at_session nth (bridging.log_gave outcome message) got
+
+    by : (b : Bool) → users.took (answers.take_answer (users.end_at c.id n)) ≡ b → Fine (if b then done (users.say now nth message gave) else idle n).after
+    by false t = f
+    by true t =
+        let is = took_message (users.end_at c.id n) t (messages_of c.id n f) in
+        let both = λ (y : Session). bridging.log_gave outcome message (bridging.log_got message y) in
+        let same : gave ≡ at_session nth both told = both_changed (bridging.log_got message) (bridging.log_gave outcome message) told nth dry.placed.x dry.placed.is in
+        let fine = session_fine nth both told (λ y k s. sound_gave outcome message y (good is) s) (λ y. less_same y (both y) refl refl refl) (pumped now took (takes_fine now c.id n f)) in
+        said now nth message gave (subst Fine (sym same) fine)
+
+pub given : (now nth : ℕ) (n : State) → Fine n → at_router n ≡ 0 → (o : Option Session) → session_at nth n ≡ o → Fine (bridging.give_of (bridging.giving_circuit o n) now nth n).after
+given now nth n f router None e = f
+given now nth n f router (Some x) e = by (users.can_give x n) refl
+  where
+    of : (o : Option Circuit) → circuit_of x.stage ≡ o → users.can_give x n ≡ true → Fine (bridging.give_of o now nth n).after
+    of None h g = f
+    of (Some c) h g = given_from now nth n x c f router e h g
+
+    by : (b : Bool) → users.can_give x n ≡ b → Fine (bridging.give_of (if b then circuit_of x.stage else None) now nth n).after
+    by false g = f
+    by true g = of (circuit_of x.stage) refl g
