@@ -1,21 +1,24 @@
 -- What is done at one end.
-use Rattle.std.proofs.Common.{◌≡◌, ◌+◌, ◌-◌, ℕ, Bool, true, false, not, ◌||◌, nat_le, if◌then◌else◌, [], ◌∷◌, ◌++◌, length, Option, Some, None, Result, Ok, Err, refl, ap, sym, ◌∙◌, subst, arith, append-nil, length-append}
+use Rattle.std.proofs.Common.{◌≡◌, ◌+◌, ◌-◌, ℕ, Bool, true, false, not, ◌||◌, nat_le, if◌then◌else◌, List, [], ◌∷◌, ◌++◌, length, map, Option, Some, None, Result, Ok, Err, refl, ap, sym, ◌∙◌, subst, arith, append-nil, append_assoc, length-append}
+use Rattle.std.specs.List.{flat_map}
+use Rattle.std.specs.Option.{option_to_list}
 use Rattle.ax_link.specs.declared.plain.LinkFacts.{LinkFacts}
+use Rattle.ax_link.specs.declared.plain.LinkNotice.{LinkNotice}
 use Rattle.ax_link.specs.declared.plain.LinkPhase.{LinkPhase}
 use Rattle.ax_link.specs.declared.plain.SendRefusal.{SendRefusal}
 use Rattle.ax_link.specs.Opening.{answer_by, rules_new, send_answer}
 use Rattle.ax_link.specs.Standing.{LinkView, Stands, StandsFor}
 use Rattle.ax_link.specs.State.{Effect, State, count_end}
-use Rattle.ax_link.specs.Table.{Input, Take, may_close, step}
+use Rattle.ax_link.specs.Table.{Input, Take, Tick, may_close, step}
 use Rattle.link_life.specs.declared.reasons.LifeRefusal.{LifeRefusal}
 use Rattle.link_life.specs.declared.reasons.LifeRefusal.TheVariants as why
 use Rattle.link_life.specs.declared.turn.Turn.{Turn as TurnKept}
 use Rattle.link_life.specs.declared.turn.End.{End as EndKept}
-use Rattle.link_life.specs.declared.told.Told.{Told as ToldKept}
-use Rattle.link_life.specs.Ends.{End, Ends, is_down, step_near}
+use Rattle.link_life.specs.Ends.{End, Ends, after_step, is_down, step_near}
 use Rattle.link_life.specs.Lives.{Outcome, is_early, moved, set_up_refusal, send_refusal, settings, told_of, unless}
-use Rattle.link_life.specs.Reports.{took_line}
-use Rattle.link_life.specs.Standing.{BookStands, ComesTo, EndStands, EndsStand, FactsAre, StepStands, Tells, of_send, turn_of}
+use Rattle.link_life.specs.Reports.{notice_line, told_text, took_line}
+use Rattle.link_life.specs.Standing.{BookStands, ComesTo, EndStands, EndsStand, FactsAre, Heeded, StepStands, Ticked, frames_text, notices_text, of_send, turn_of}
+use Rattle.link_life.proofs.Settling.{heeded_link, notes_of}
 
 -- what comes of a step, as `settle` says it
 abbrev pub SettlesTo : {M : Type 0} → ℕ → TurnKept → LinkFacts → (mid other two other2 : EndKept M) → Type 0
@@ -23,38 +26,79 @@ SettlesTo size t f mid other two other2 =
     (q : Ends) (g : Effect) → FactsAre f q.near.link → StepStands size mid other g q →
     EndsStand size two other2 (step_near (rules_new size (settings t.srej)) t.moment g q)
 
-abbrev pub TellsOf : {M : Type 0} → ℕ → TurnKept → (mid : EndKept M) → ToldKept → ToldKept → Type 0
-TellsOf size t mid old new = (g : Effect) → Stands size mid.link g → Tells size old new (told_of t.side [] g)
+abbrev pub TellsOf : {M : Type 0} → ℕ → TurnKept → (mid : EndKept M) → List ℕ → List ℕ → Type 0
+TellsOf size t mid old new = (g : Effect) → Stands size mid.link g → new ≡ old ++ told_text size (told_of t.side [] g)
+
+-- its two halves, as `heed` and `put_out` say them
+abbrev pub HeedsTo : {M : Type 0} → ℕ → LinkFacts → (mid heeded : EndKept M) → Type 0
+HeedsTo size f mid heeded = (e : End) (g : Effect) → FactsAre f e.link → Stands size mid.link g → BookStands size mid.book e → BookStands size heeded.book (after_step g e)
+
+abbrev pub PutsOut : {M : Type 0} → ℕ → TurnKept → LinkPhase → (heeded other two other2 : EndKept M) → Type 0
+PutsOut size t was heeded other two other2 =
+    (q : Ends) (g : Effect) → was ≡ q.near.link.phase → Heeded size heeded g (after_step g q.near) → EndStands size other q.far →
+    EndsStand size two other2 (step_near (rules_new size (settings t.srej)) t.moment g q)
+
+pub settles : {M : Type 0} (size : ℕ) (t : TurnKept) (f : LinkFacts) (mid heeded other two other2 : EndKept M) →
+    heeded.link ≡ record mid.link { notice = None } → HeedsTo size f mid heeded → PutsOut size t f.phase heeded other two other2 → SettlesTo size t f mid other two other2
+settles size t f mid heeded other two other2 e heeds puts =
+    λ q g a s. puts q g a.phase (record { link = heeded_link size mid.link heeded.link g s.link e; book = heeds q.near g a s.link s.book }) s.far
 
 -- a step of the near end's link was made and settled
-pub moves : {M : Type 0} (size : ℕ) (t : TurnKept) (i : Input) (f : LinkFacts) (mid other two other2 : EndKept M) (old new : ToldKept) (p q : Ends) → FactsAre f q.near.link →
+pub moves : {M : Type 0} (size : ℕ) (t : TurnKept) (i : Input) (f : LinkFacts) (mid other two other2 : EndKept M) (old new : List ℕ) (p q : Ends) → FactsAre f q.near.link →
     Stands size mid.link (step q.near.link i t.moment) → BookStands size mid.book q.near → EndStands size other q.far →
     SettlesTo size t f mid other two other2 → TellsOf size t mid old new → ComesTo size None two other2 old new p (moved (turn_of size t) i [] q)
 moves size t i f mid other two other2 old new p q a l b o stands tells =
     (refl, stands q (step q.near.link i t.moment) a (record { link = l; book = b; far = o }), tells (step q.near.link i t.moment) l)
 
--- a payload was taken, and its line was told before
-pub takes : {M : Type 0} (size : ℕ) (t : TurnKept) (len : ℕ) (f : LinkFacts) (mid other two other2 : EndKept M) (old before new : ToldKept) (p q : Ends) → FactsAre f q.near.link →
-    Stands size mid.link (step q.near.link Take t.moment) → BookStands size mid.book q.near → EndStands size other q.far →
-    SettlesTo size t f mid other two other2 → TellsOf size t mid before new →
-    before.notices ≡ old.notices → before.taken ≡ old.taken ++ took_line (t.side, len) → before.frames ≡ old.frames →
+-- a payload was taken, and its line was told before: no notice comes of that
+pub takes : {M : Type 0} (size : ℕ) (t : TurnKept) (len : ℕ) (f : LinkFacts) (mid other two other2 : EndKept M) (old before new : List ℕ) (p q : Ends) → FactsAre f q.near.link →
+    Stands size mid.link (step q.near.link Take t.moment) → mid.link.notice ≡ None → BookStands size mid.book q.near → EndStands size other q.far →
+    SettlesTo size t f mid other two other2 → TellsOf size t mid before new → before ≡ old ++ took_line (t.side, len) →
     ComesTo size None two other2 old new p (moved (turn_of size t) Take (len ∷ []) q)
-takes size t len f mid other two other2 old before new p q a l b o stands tells n k r =
-    let g : Effect = step q.near.link Take t.moment in
-    let told : Tells size before new (told_of t.side [] g) = tells g l in
-    let told2 : Tells size old new (told_of t.side (len ∷ []) g) = record {
-      notices = rw (← n) told.notices;
-      taken = told.taken ∙ append-nil before.taken ∙ k ∙ ap (λ xs. old.taken ++ xs) (sym (append-nil (took_line (t.side, len))));
-      frames = rw (← r) told.frames;
-    } in
-    (refl, stands q g a (record { link = l; book = b; far = o }), told2)
+takes size t len f mid other two other2 old before new p q a l quiet b o stands tells k =
+    (refl, stands q g a (record { link = l; book = b; far = o }), told)
+  where
+    g : Effect
+    g = step q.near.link Take t.moment
+
+    none : g.notes ≡ []
+    none = notes_of size mid.link g l ∙ ap option_to_list quiet
+
+    line : List ℕ
+    line = took_line (t.side, len)
+
+    frames : List ℕ
+    frames = frames_text size t.side g
+
+    told : new ≡ old ++ told_text size (told_of t.side (len ∷ []) g)
+    told =
+        tells g l
+        ∙ ap (λ (ns : List LinkNotice). before ++ (flat_map notice_line (map (λ n. (t.side, n)) ns) ++ frames)) none
+        ∙ ap (λ xs. xs ++ frames) k ∙ append_assoc old line frames
+        ∙ ap (λ xs. old ++ (xs ++ frames)) (sym (append-nil line))
+        ∙ ap (λ (ns : List LinkNotice). old ++ (flat_map notice_line (map (λ n. (t.side, n)) ns) ++ ((line ++ []) ++ frames))) (sym none)
+
+-- time came to an end
+pub comes_ticked : {M : Type 0} (size : ℕ) (t : TurnKept) (f : LinkFacts) (mid heeded other two other2 : EndKept M) (notices notices2 frames frames2 : List ℕ) (p : Ends) → FactsAre f p.near.link →
+    Stands size mid.link (step p.near.link Tick t.moment) → BookStands size mid.book p.near → EndStands size other p.far →
+    heeded.link ≡ record mid.link { notice = None } → HeedsTo size f mid heeded → PutsOut size t f.phase heeded other two other2 →
+    ((g : Effect) → Stands size mid.link g → notices2 ≡ notices ++ notices_text t.side g) →
+    ((g : Effect) → Stands size heeded.link g → frames2 ≡ frames ++ frames_text size t.side g) →
+    Ticked size (turn_of size t) two other2 notices notices2 frames frames2 p
+comes_ticked size t f mid heeded other two other2 notices notices2 frames frames2 p a l b o e heeds puts n r =
+    let g : Effect = step p.near.link Tick t.moment in
+    record {
+      stands = settles size t f mid heeded other two other2 e heeds puts p g a (record { link = l; book = b; far = o });
+      notices = n g l;
+      frames = r (record g { notes = [] }) (heeded_link size mid.link heeded.link g l e);
+    }
 
 -- what stands in the way
-pub refuses : {M : Type 0} (size : ℕ) (two other2 : EndKept M) (old : ToldKept) (p : Ends) (refusal : LifeRefusal) (o : Option LifeRefusal) (done : Outcome Ends) → o ≡ Some refusal →
+pub refuses : {M : Type 0} (size : ℕ) (two other2 : EndKept M) (old : List ℕ) (p : Ends) (refusal : LifeRefusal) (o : Option LifeRefusal) (done : Outcome Ends) → o ≡ Some refusal →
     EndsStand size two other2 p → ComesTo size (Some refusal) two other2 old old p (unless o done)
 refuses size two other2 old p refusal o done e s = subst (λ (x : Option LifeRefusal). ComesTo size (Some refusal) two other2 old old p (unless x done)) (sym e) (refl, s, refl)
 
-pub allows : {M : Type 0} (size : ℕ) (two other2 : EndKept M) (old new : ToldKept) (p : Ends) (o : Option LifeRefusal) (done : Outcome Ends) → o ≡ None →
+pub allows : {M : Type 0} (size : ℕ) (two other2 : EndKept M) (old new : List ℕ) (p : Ends) (o : Option LifeRefusal) (done : Outcome Ends) → o ≡ None →
     ComesTo size None two other2 old new p done → ComesTo size None two other2 old new p (unless o done)
 allows size two other2 old new p o done e s = subst (λ (x : Option LifeRefusal). ComesTo size None two other2 old new p (unless x done)) (sym e) s
 

@@ -11,7 +11,6 @@ use Rattle.ax_link.specs.State.{State, is_up}
 use Rattle.ax_link.specs.Table.{Arrive, step}
 use Rattle.link_life.specs.declared.book.Flight.{Flight as FlightKept}
 use Rattle.link_life.specs.declared.book.Lasting.{Lasting}
-use Rattle.link_life.specs.declared.told.Told.{Told as ToldKept}
 use Rattle.link_life.specs.declared.turn.End.{End as EndKept}
 use Rattle.link_life.specs.declared.turn.Turn.{Turn as TurnKept}
 use Rattle.link_life.specs.Ends.{End, Ends, Flight, heard_more, is_of_account}
@@ -54,7 +53,7 @@ lasting_same epoch (Some hs) = first_same epoch hs
 pub popped : {X : Type 0} (xs ys : List X) (x : X) → xs ≡ x ∷ ys → (F : List X → Type 0) → F (x ∷ ys) → F xs
 popped xs ys x e F p = subst F (sym e) p
 
-pub arrives : {M : Type 0} (size : ℕ) (t : TurnKept) (fl : FlightKept) (fs : List FlightKept) (f : LinkFacts) (one mid other two other2 : EndKept M) (old new : ToldKept) (p : Ends) →
+pub arrives : {M : Type 0} (size : ℕ) (t : TurnKept) (fl : FlightKept) (fs : List FlightKept) (f : LinkFacts) (one mid other two other2 : EndKept M) (old new : List ℕ) (p : Ends) →
     EndsStand size one other p → f ≡ facts_of one.link → one.book.coming.items ≡ fl ∷ fs →
     ((s : State) → StandsFor size one.link s → Stands size mid.link (step s (Arrive (frame_of size fl.out)) t.moment)) →
     mid.book.over.items ≡ one.book.over.items → mid.book.lasting ≡ heard_kept fl f.phase one.book.lasting → mid.book.down_since ≡ one.book.down_since → mid.book.coming.items ≡ fs →

@@ -1,4 +1,5 @@
 pub mod Cuts
+pub mod FirstWords
 pub mod Numbers
 pub mod Flying
 pub mod Coming

@@ -15,6 +15,7 @@ use Rattle.ax_link.specs.Kinds.{info_of, pid_of}
 use Rattle.ax_link.specs.Opening.{IsDrained, rules_new}
 use Rattle.ax_link.specs.Standing.{Stands, StandsFor, frame_of}
 use Rattle.ax_link.specs.State.{Effect, State, count_end, is_up}
+use Rattle.ax_link.specs.Table.{Tick, step}
 use Rattle.link_life.specs.declared.act.Side.{Side}
 use Rattle.link_life.specs.declared.reasons.LifeRefusal.{LifeRefusal}
 use Rattle.link_life.specs.declared.reasons.LifeRefusal.TheVariants.{Nothing, NotUp, QueueFull, Exhausted}
@@ -22,18 +23,21 @@ use Rattle.link_life.specs.declared.book.Book.{Book}
 use Rattle.link_life.specs.declared.book.Epoch.{Epoch as EpochKept}
 use Rattle.link_life.specs.declared.book.Flight.{Flight as FlightKept}
 use Rattle.link_life.specs.declared.book.Lasting.{Lasting}
-use Rattle.link_life.specs.declared.told.Told.{Told as ToldKept}
 use Rattle.link_life.specs.declared.turn.Turn.{Turn as TurnKept}
 use Rattle.link_life.specs.declared.turn.End.{End as EndKept}
 use Rattle.link_life.specs.declared.life.Life.{Life as LifeKept}
-use Rattle.link_life.specs.Ends.{End, Ends, Epoch, Flight, begins}
-use Rattle.link_life.specs.Lives.{Life, Outcome, Told, Turn, Refused, Done, after_act, settings}
-use Rattle.link_life.specs.Reports.{air_line, head_of, letter, line_text, notice_line, took_line}
+use Rattle.link_life.specs.Ends.{End, Ends, Epoch, Flight, begins, step_near}
+use Rattle.link_life.specs.Lives.{Life, Outcome, Turn, Refused, Done, after_act, settings}
+use Rattle.link_life.specs.Reports.{air_line, head_of, letter, line_text, notice_line, told_text}
 
 -- the text of a frame of a side, as it waits to be sent
 abbrev pub out_text : Side → LinkOut → List ℕ
 out_text side out =
     frame_text (record { head = head_of side out.command; control = out.control; pid = pid_of out.payload; info = info_of out.payload })
+
+-- what stands before a frame's text in its line
+abbrev pub air_start : Side → List ℕ
+air_start side = codes "air " ++ (letter side ++ codes " ")
 
 -- whether a control field has numbers
 abbrev pub account_at : Control → Bool
@@ -125,6 +129,18 @@ pub record StepStands {M : Type 0} (size : ℕ) (one two : EndKept M) (g : Effec
   pub book : BookStands size one.book p.near
   pub far : EndStands size two p.far
 
+-- a link has made a step, and what it told is heeded: what it puts out still waits
+pub record Heeded {M : Type 0} (size : ℕ) (k : EndKept M) (g : Effect) (e : End) : Type 0 where
+  pub link : Stands size k.link (record g { notes = [] })
+  pub book : BookStands size k.book e
+
+-- the lines of a step: those of its notices, and those of its frames
+abbrev pub notices_text : Side → Effect → List ℕ
+notices_text side g = flat_map notice_line (map (λ n. (side, n)) g.notes)
+
+abbrev pub frames_text : ℕ → Side → Effect → List ℕ
+frames_text size side g = flat_map (air_line size) (map (λ f. (side, f)) g.outs)
+
 -- the oldest of these frames is lost, if there is one
 abbrev pub LosesTo : {M : Type 0} → ℕ → Option LifeRefusal → EndKept M → End → List Flight → Type 0
 LosesTo size answer k e [] = (answer ≡ Some Nothing) × EndStands size k e
@@ -136,20 +152,20 @@ of_send sends.NotUp = NotUp
 of_send sends.QueueFull = QueueFull
 of_send sends.Exhausted = Exhausted
 
--- the lines of what was told have been added
-pub record Tells (size : ℕ) (old new : ToldKept) (told : Told) : Type 0 where
-  pub notices : new.notices ≡ old.notices ++ flat_map notice_line told.notices
-  pub taken : new.taken ≡ old.taken ++ flat_map took_line told.taken
-  pub frames : new.frames ≡ old.frames ++ flat_map (air_line size) told.frames
-
 -- when and where an act is done
 abbrev pub turn_of : ℕ → TurnKept → Turn
 turn_of size t = record { rules = rules_new size (settings t.srej); now = t.moment; side = t.side }
 
--- an act at an end was refused and has changed nothing, or it was done
-abbrev pub ComesTo : {M : Type 0} → ℕ → Option LifeRefusal → EndKept M → EndKept M → ToldKept → ToldKept → Ends → Outcome Ends → Type 0
+-- an act at an end was refused and has changed nothing, or it was done and what it told was added
+abbrev pub ComesTo : {M : Type 0} → ℕ → Option LifeRefusal → EndKept M → EndKept M → List ℕ → List ℕ → Ends → Outcome Ends → Type 0
 ComesTo size answer near far old new p (Refused refusal) = (answer ≡ Some refusal) × EndsStand size near far p × (new ≡ old)
-ComesTo size answer near far old new p (Done told after) = (answer ≡ None) × EndsStand size near far after × Tells size old new told
+ComesTo size answer near far old new p (Done told after) = (answer ≡ None) × EndsStand size near far after × (new ≡ old ++ told_text size told)
+
+-- time came to an end: the lines of its notices were added to one text, and those of its frames to another
+pub record Ticked {M : Type 0} (size : ℕ) (t : Turn) (near far : EndKept M) (old new old2 new2 : List ℕ) (p : Ends) : Type 0 where
+  pub stands : EndsStand size near far (step_near t.rules t.now (step p.near.link Tick t.now) p)
+  pub notices : new ≡ old ++ notices_text t.side (step p.near.link Tick t.now)
+  pub frames : new2 ≡ old2 ++ frames_text size t.side (step p.near.link Tick t.now)
 
 -- both ends, and the time
 pub record LifeStands {M : Type 0} (size : ℕ) (k : LifeKept M) (w : Life) : Type 0 where
@@ -164,10 +180,10 @@ pub record Rests {M : Type 0} (k : LifeKept M) : Type 0 where
   pub a : IsDrained k.a.link
   pub b : IsDrained k.b.link
 
--- an act was refused and has changed nothing, or it was done
-abbrev pub LifeComesTo : {M : Type 0} → ℕ → Option LifeRefusal → LifeKept M → ToldKept → ToldKept → Life → Outcome Life → Type 0
+-- an act was refused and has changed nothing, or it was done and what it told was added
+abbrev pub LifeComesTo : {M : Type 0} → ℕ → Option LifeRefusal → LifeKept M → List ℕ → List ℕ → Life → Outcome Life → Type 0
 LifeComesTo size answer k old new w (Refused refusal) = (answer ≡ Some refusal) × LifeStands size k w × (new ≡ old)
-LifeComesTo size answer k old new w (Done told after) = (answer ≡ None) × LifeStands size k after × Tells size old new told
+LifeComesTo size answer k old new w (Done told after) = (answer ≡ None) × LifeStands size k after × (new ≡ old ++ told_text size told)
 
 -- a line was done or refused, and what is reported of it was added
 pub record LineWritten {M : Type 0} (size : ℕ) (k : LifeKept M) (old new : List ℕ) (line : ℕ) (w : Life) (outcome : Outcome Life) : Type 0 where

@@ -20,6 +20,11 @@ abbrev pub after_spaces : List ℕ → List ℕ
 after_spaces [] = []
 after_spaces (b ∷ bs) = if b == 32 then after_spaces bs else b ∷ bs
 
+-- a line up to its first space
+abbrev pub before_space : List ℕ → List ℕ
+before_space [] = []
+before_space (b ∷ bs) = if b == 32 then [] else b ∷ before_space bs
+
 -- a line from its first space on
 abbrev pub after_word : List ℕ → List ℕ
 after_word [] = []

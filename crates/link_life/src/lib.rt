@@ -4,6 +4,7 @@
 
 mod act;
 mod book;
+mod calls;
 mod epochs;
 pub mod laws;
 mod life;
@@ -14,7 +15,7 @@ mod told;
 mod turn;
 mod words;
 
-pub use act::{EndAct, LifeAct, Side};
+pub use act::{EndAct, LifeAct, SentText, Side};
 pub use life::run_life;
 pub use reasons::{LifeFileRefusal, LifeRefusal, LifeWhat};
 pub use script::{LifeScript, NumberedAct, read_life};

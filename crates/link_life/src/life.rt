@@ -8,10 +8,11 @@ ghost use Rattle.link_life.specs.Standing as standing;
 
 use crate::act::{EndAct, LifeAct, Side};
 use crate::book::Flight;
+use crate::calls::Calls;
 use crate::epochs::write_epochs;
 use crate::reasons::LifeRefusal;
 use crate::script::{LifeScript, NumberedAct};
-use crate::told::{Told, write_refused};
+use crate::told::write_refused;
 use crate::turn::{Answer, End, Turn, act_near, tick};
 use radio_base::{Modulus, NoMemory, TextOut};
 use std::alloc::Global;
@@ -21,6 +22,7 @@ use std::collections::VecDeque;
 #[derive(Drop)]
 pub struct Life<M: Modulus> {
     pub alloc: Global,
+    pub calls: Calls,
     pub srej: bool,
     /// For how long a frame may be under way, in milliseconds.
     pub delay: u64,
@@ -44,6 +46,7 @@ impl<M: Modulus> Life<M> {
         let b = End::new(alloc, srej)?;
         Ok(Life {
             alloc,
+            calls: Calls::new(),
             srej,
             delay,
             moment: 0,
@@ -51,35 +54,33 @@ impl<M: Modulus> Life<M> {
             b,
         })
     }
-
-    fn turn(&self, side: Side) -> Turn
-        ensures srej { result.srej ≡ self.now.srej }
-        ensures moment { result.moment ≡ self.now.moment }
-        ensures side { result.side ≡ side }
-    {
-        Turn {
-            alloc: self.alloc,
-            srej: self.srej,
-            moment: self.moment,
-            side,
-        }
-    }
 }
 
-fn act_at<M: Modulus>(life: &mut Life<M>, side: Side, act: &EndAct, told: &mut Told) -> Answer
+fn act_at<M: Modulus>(
+    life: &mut Life<M>,
+    side: Side,
+    act: &EndAct<'_>,
+    text: &mut TextOut,
+) -> Answer
     requires modulus { IsLinkModulus M.SIZE }
     requires rests { standing.Rests life.old }
     ensures rests { OnOk result (standing.Rests life.new) }
-    ensures does { IfOk result (λ answer. (w : lives.Life) → standing.LifeStands M.SIZE life.old w → standing.LifeComesTo M.SIZE answer life.new told.old told.new w (lives.act_at side act.now w)) }
+    ensures does { IfOk result (λ answer. (w : lives.Life) → standing.LifeStands M.SIZE life.old w → standing.LifeComesTo M.SIZE answer life.new text.old text.new w (lives.act_at side act.now w)) }
 {
-    let turn = life.turn(side);
+    let turn = Turn {
+        alloc: life.alloc,
+        srej: life.srej,
+        moment: life.moment,
+        side,
+        calls: &life.calls,
+    };
     match side {
         Side::A => {
-            let answer = act_near(&turn, act, &mut life.a, &mut life.b, told)?;
+            let answer = act_near(&turn, act, &mut life.a, &mut life.b, text)?;
             Ok(answer)
         }
         Side::B => {
-            let answer = act_near(&turn, act, &mut life.b, &mut life.a, told)?;
+            let answer = act_near(&turn, act, &mut life.b, &mut life.a, text)?;
             Ok(answer)
         }
     }
@@ -102,51 +103,62 @@ fn is_too_late<M: Modulus>(life: &Life<M>, later: u64) -> bool
         || is_late(life.delay, later, &life.b.book.coming)
 }
 
-/// Time goes on, first at a.
-fn tick_both<M: Modulus>(life: &mut Life<M>, told: &mut Told) -> Result<(), NoMemory>
+/// Time goes on, first at a: the notices of both are told first, and then the frames of both.
+fn tick_both<M: Modulus>(life: &mut Life<M>, text: &mut TextOut) -> Result<(), NoMemory>
     requires modulus { IsLinkModulus M.SIZE }
     requires rests { standing.Rests life.old }
     ensures rests { OnOk result (standing.Rests life.new) }
-    ensures does { OnOk result ((w : lives.Life) → standing.LifeStands M.SIZE life.old w → standing.LifeComesTo M.SIZE None life.new told.old told.new w (lives.tick_both w)) }
+    ensures does { OnOk result ((w : lives.Life) → standing.LifeStands M.SIZE life.old w → standing.LifeComesTo M.SIZE None life.new text.old text.new w (lives.tick_both w)) }
 {
-    let turn = life.turn(Side::A);
-    tick(&turn, &mut life.a, &mut life.b, told)?;
-    let turn = life.turn(Side::B);
-    tick(&turn, &mut life.b, &mut life.a, told)?;
+    let mut frames = TextOut::new(life.alloc);
+    let turn = Turn {
+        alloc: life.alloc,
+        srej: life.srej,
+        moment: life.moment,
+        side: Side::A,
+        calls: &life.calls,
+    };
+    tick(&turn, &mut life.a, &mut life.b, text, &mut frames)?;
+    let turn = Turn {
+        side: Side::B,
+        ..turn
+    };
+    tick(&turn, &mut life.b, &mut life.a, text, &mut frames)?;
+    text.append(frames)?;
     Ok(())
 }
 
-fn tick_on<M: Modulus>(life: &mut Life<M>, passed: u64, told: &mut Told) -> Answer
+fn tick_on<M: Modulus>(life: &mut Life<M>, passed: u64, text: &mut TextOut) -> Answer
     requires modulus { IsLinkModulus M.SIZE }
     requires rests { standing.Rests life.old }
     ensures rests { OnOk result (standing.Rests life.new) }
-    ensures does { IfOk result (λ answer. (w : lives.Life) → standing.LifeStands M.SIZE life.old w → standing.LifeComesTo M.SIZE answer life.new told.old told.new w (lives.tick_on passed w)) }
+    ensures does { IfOk result (λ answer. (w : lives.Life) → standing.LifeStands M.SIZE life.old w → standing.LifeComesTo M.SIZE answer life.new text.old text.new w (lives.tick_on passed w)) }
 {
     let later = life.moment.saturating_add(passed);
     if is_too_late(life, later) {
         return Ok(Some(LifeRefusal::Delay));
     }
     life.moment = later;
-    tick_both(life, told)?;
+    tick_both(life, text)?;
     Ok(None)
 }
 
-fn act_on<M: Modulus>(life: &mut Life<M>, act: &LifeAct, told: &mut Told) -> Answer
+fn act_on<M: Modulus>(life: &mut Life<M>, act: &LifeAct<'_>, text: &mut TextOut) -> Answer
     requires modulus { IsLinkModulus M.SIZE }
     requires rests { standing.Rests life.old }
     ensures rests { OnOk result (standing.Rests life.new) }
-    ensures does { IfOk result (λ answer. (w : lives.Life) → standing.LifeStands M.SIZE life.old w → standing.LifeComesTo M.SIZE answer life.new told.old told.new w (lives.act_on act.now w)) }
+    ensures does { IfOk result (λ answer. (w : lives.Life) → standing.LifeStands M.SIZE life.old w → standing.LifeComesTo M.SIZE answer life.new text.old text.new w (lives.act_on act.now w)) }
 {
     match act {
-        LifeAct::At(side, act) => act_at(life, *side, act, told),
-        LifeAct::Tick(passed) => tick_on(life, *passed, told),
+        LifeAct::At(side, act) => act_at(life, *side, act, text),
+        LifeAct::Tick(passed) => tick_on(life, *passed, text),
     }
 }
 
 /// Does what a line asks for, and appends what is reported of it.
 fn write_line<M: Modulus>(
     life: &mut Life<M>,
-    numbered: &NumberedAct,
+    numbered: &NumberedAct<'_>,
     report: &mut TextOut,
 ) -> Result<(), NoMemory>
     requires modulus { IsLinkModulus M.SIZE }
@@ -154,16 +166,12 @@ fn write_line<M: Modulus>(
     ensures rests { OnOk result (standing.Rests life.new) }
     ensures does { OnOk result ((w : lives.Life) → standing.LifeStands M.SIZE life.old w → standing.LineWritten M.SIZE life.new report.old report.new numbered.now.line w (lives.act_on numbered.now.act w)) }
 {
-    let mut told = Told::new(life.alloc);
-    match act_on(life, &numbered.act, &mut told)? {
+    match act_on(life, &numbered.act, report)? {
         Some(why) => {
-            write_refused(life.alloc, numbered.line, why, report)?;
+            write_refused(numbered.line, why, report)?;
             Ok(())
         }
-        None => {
-            told.write(report)?;
-            Ok(())
-        }
+        None => Ok(()),
     }
 }
 
@@ -171,7 +179,7 @@ fn write_line<M: Modulus>(
 /// many milliseconds; or nothing, where memory ran out.
 pub fn run_life<M: Modulus>(
     alloc: Global,
-    script: &LifeScript,
+    script: &LifeScript<'_>,
     srej: bool,
     delay: u64,
     out: &mut TextOut,
@@ -187,7 +195,7 @@ pub fn run_life<M: Modulus>(
 
 fn report_of<M: Modulus>(
     alloc: Global,
-    acts: &[NumberedAct],
+    acts: &[NumberedAct<'_>],
     srej: bool,
     delay: u64,
 ) -> Result<TextOut, NoMemory>

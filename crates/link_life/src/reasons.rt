@@ -92,14 +92,16 @@ pub enum LifeRefusal {
     Exhausted,
 }
 
-impl fmt::Display for LifeRefusal {
-    ghost use Rattle.std.specs.Prelude.{Some};
+impl LifeRefusal {
+    ghost use Rattle.std.specs.Prelude.{◌≡◌, ◌≤◌, length};
     ghost use Rattle.link_life.specs.Reasons.{word_of_refusal};
 
-    ghost output = { λ why. Some (word_of_refusal why) };
-
-    fn fmt<W: fmt::Write>(&self, f: &mut fmt::Formatter<W>) -> fmt::Result {
-        f.write_str(match self {
+    /// The word by which a report shows it.
+    pub fn word(self) -> &'static str
+        ensures text { result.now ≡ word_of_refusal self }
+        ensures len { length result.now ≤ 10 }
+    {
+        match self {
             LifeRefusal::Phase => "phase",
             LifeRefusal::Early => "early",
             LifeRefusal::Delay => "delay",
@@ -107,6 +109,6 @@ impl fmt::Display for LifeRefusal {
             LifeRefusal::NotUp => "not up",
             LifeRefusal::QueueFull => "queue full",
             LifeRefusal::Exhausted => "exhausted",
-        })
+        }
     }
 }

@@ -15,18 +15,18 @@ const MAX_LINES: u32 = 20_000;
 
 /// What a line asks for, with the number of the line, from 1.
 #[derive(Debug, Drop)]
-pub struct NumberedAct {
+pub struct NumberedAct<'a> {
     pub line: u32,
-    pub act: LifeAct,
+    pub act: LifeAct<'a>,
 }
 
-/// What is done in a life, in order.
+/// What is done in a life, in order. It lends the texts of the file.
 #[derive(Debug, Drop)]
-pub struct LifeScript {
-    acts: Vec<NumberedAct>,
+pub struct LifeScript<'a> {
+    acts: Vec<NumberedAct<'a>>,
 }
 
-impl Model for LifeScript {
+impl<'a> Model for LifeScript<'a> {
     ghost use Rattle.std.specs.Prelude.{List};
     ghost use Rattle.link_life.specs.declared.script.NumberedAct.{NumberedAct};
 
@@ -35,8 +35,8 @@ impl Model for LifeScript {
     ghost view = { λ s. s.acts.items };
 }
 
-impl LifeScript {
-    fn new(alloc: Global) -> LifeScript
+impl<'a> LifeScript<'a> {
+    fn new(alloc: Global) -> LifeScript<'a>
         ensures { result ≡ [] }
     {
         LifeScript {
@@ -45,14 +45,14 @@ impl LifeScript {
     }
 
     /// The acts, in the order of their lines.
-    pub fn acts(&self) -> &[NumberedAct]
+    pub fn acts(&self) -> &[NumberedAct<'a>]
         ensures { result.now ≡ self.now }
     {
         &self.acts
     }
 
-    fn add(&mut self, line: u32, act: LifeAct) -> Result<(), AllocError>
-        ensures ok { OnOk result (self.new ≡ self.old ++ record { line = line; act = act } ∷ []) }
+    fn add(&mut self, line: u32, act: LifeAct<'a>) -> Result<(), AllocError>
+        ensures ok { OnOk result (self.new ≡ self.old ++ record { line = line; act = act.entry } ∷ []) }
         ensures err { OnErr result (self.new ≡ self.old) }
     {
         self.acts.push(NumberedAct { line, act })?;
@@ -62,7 +62,7 @@ impl LifeScript {
 
 /// The script of a file of at most 1,048,576 bytes, or its first bad line.
 #[tactic(auto, unfolding(crate::specs::Scripts::script_of))]
-pub fn read_life(alloc: Global, bytes: &[u8]) -> Result<LifeScript, LifeFileRefusal>
+pub fn read_life(alloc: Global, bytes: &[u8]) -> Result<LifeScript<'_>, LifeFileRefusal>
     requires { length bytes.now ≤ 1048576 }
     ensures { MatchResult result (λ s. scripts.script_of bytes.now ≡ Ok s) (λ e. scripts.ReadAs e (scripts.script_of bytes.now)) }
 {
@@ -72,18 +72,17 @@ pub fn read_life(alloc: Global, bytes: &[u8]) -> Result<LifeScript, LifeFileRefu
     while !rest.is_empty() {
         let (line, more) = first_line(rest);
         number += 1;
-        take_line(alloc, &mut script, number, line)?;
+        take_line(&mut script, number, line)?;
         rest = more;
     }
     Ok(script)
 }
 
 /// Takes in one line of a file.
-fn take_line(
-    alloc: Global,
-    script: &mut LifeScript,
+fn take_line<'a>(
+    script: &mut LifeScript<'a>,
     number: u32,
-    line: &[u8],
+    line: &'a [u8],
 ) -> Result<(), LifeFileRefusal>
     ensures ok { OnOk result (scripts.after_line number script.old line.now ≡ Ok script.new) }
     ensures few { OnOk result (number ≤ 20000) }
@@ -98,8 +97,7 @@ fn take_line(
     if is_skipped(line) {
         return Ok(());
     }
-    let said = read_line(alloc, line)?;
-    match said {
+    match read_line(line) {
         Ok(act) => {
             script.add(number, act)?;
             Ok(())

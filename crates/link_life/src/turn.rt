@@ -3,7 +3,6 @@ ghost use Rattle.std.specs.Prelude.{◌≡◌, ◌++◌, ◌∷◌, [], ℕ, len
 ghost use Rattle.std.specs.Option.{option_to_list};
 ghost use Rattle.std.specs.List.{flat_map};
 ghost use Rattle.ax_frame.specs.Controls.{IsLinkModulus};
-ghost use Rattle.ax_link.specs.Kinds.{frame_in};
 ghost use Rattle.ax_link.specs.Opening.{IsDrained, facts_of, opening, rules_new};
 ghost use Rattle.ax_link.specs.Standing.{Stands, StandsFor, frame_of};
 ghost use Rattle.ax_link.specs.State.{Effect, State};
@@ -14,12 +13,13 @@ ghost use Rattle.link_life.specs.Lives as lives;
 ghost use Rattle.link_life.specs.Reports as reports;
 ghost use Rattle.link_life.specs.Standing as standing;
 
-use crate::act::{EndAct, Side};
+use crate::act::{EndAct, SentText, Side};
 use crate::book::{Book, Flight, is_of_account};
+use crate::calls::Calls;
 use crate::reasons::LifeRefusal;
-use crate::told::{Told, write_frame, write_notice, write_took};
+use crate::told::{write_frame, write_notice, write_took};
 use ax_link::{Link, LinkConfig, LinkFacts, LinkOut, LinkPhase, SendRefusal};
-use radio_base::{Modulus, Moment, NoMemory, Payload, TextOut};
+use radio_base::{Modulus, Moment, NoMemory, TextOut};
 use std::alloc::Global;
 use std::collections::VecDeque;
 
@@ -28,11 +28,12 @@ const PAUSE: u64 = 3000;
 
 /// When and at which side something is done.
 #[derive(Clone, Copy)]
-pub struct Turn {
+pub struct Turn<'a> {
     pub alloc: Global,
     pub srej: bool,
     pub moment: u64,
     pub side: Side,
+    pub calls: &'a Calls,
 }
 
 /// One end: its link, and what is kept beside it.
@@ -87,7 +88,7 @@ impl<M: Modulus> End<M> {
 
 /// What the link tells is told, and the book heeds it. These were the link's facts before.
 fn tell<M: Modulus>(
-    turn: &Turn,
+    turn: &Turn<'_>,
     before: &LinkFacts,
     link: &mut Link<M>,
     book: &mut Book,
@@ -101,7 +102,7 @@ fn tell<M: Modulus>(
     ensures notices { OnOk result (notices.new ≡ notices.old ++ flat_map reports.notice_line (map (λ n. (turn.now.side, n)) (option_to_list link.old.notice))) }
 {
     if let Some(notice) = link.notice() {
-        write_notice(turn.alloc, turn.side, notice, notices)?;
+        write_notice(turn.side, notice, notices)?;
         book.heed(notice, before)?;
     }
     Ok(())
@@ -109,7 +110,7 @@ fn tell<M: Modulus>(
 
 /// What the link puts out is under way from now on.
 fn send_out<M: Modulus>(
-    turn: &Turn,
+    turn: &Turn<'_>,
     epoch: u64,
     link: &mut Link<M>,
     coming: &mut VecDeque<Flight>,
@@ -120,7 +121,7 @@ fn send_out<M: Modulus>(
     ensures frames { OnOk result (frames.new ≡ frames.old ++ flat_map (reports.air_line M.SIZE) (map (λ f. (turn.now.side, f)) (map (frame_of M.SIZE) link.old.outs))) }
 {
     while let Some(out) = link.next_out() {
-        write_frame::<M>(turn.alloc, turn.side, &out, frames)?;
+        write_frame::<M>(turn.calls, turn.side, &out, frames)?;
         coming.push_back(Flight {
             sent: turn.moment,
             epoch,
@@ -131,7 +132,7 @@ fn send_out<M: Modulus>(
 }
 
 /// A link that went Down is replaced by a new one.
-fn replace<M: Modulus>(turn: &Turn, was: LinkPhase, near: &mut End<M>) -> Result<(), NoMemory>
+fn replace<M: Modulus>(turn: &Turn<'_>, was: LinkPhase, near: &mut End<M>) -> Result<(), NoMemory>
     requires modulus { IsLinkModulus M.SIZE }
     requires drained { IsDrained near.old.link }
     ensures drained { OnOk result (IsDrained near.new.link) }
@@ -143,7 +144,7 @@ fn replace<M: Modulus>(turn: &Turn, was: LinkPhase, near: &mut End<M>) -> Result
     go_down(turn, near)
 }
 
-fn go_down<M: Modulus>(turn: &Turn, near: &mut End<M>) -> Result<(), NoMemory>
+fn go_down<M: Modulus>(turn: &Turn<'_>, near: &mut End<M>) -> Result<(), NoMemory>
     requires modulus { IsLinkModulus M.SIZE }
     ensures drained { OnOk result (IsDrained near.new.link) }
     ensures stands { OnOk result ((e : ends.End) → standing.EndStands M.SIZE near.old e → standing.EndStands M.SIZE near.new (ends.go_down (rules_new M.SIZE (lives.settings turn.now.srej)) turn.now.moment e)) }
@@ -155,36 +156,58 @@ fn go_down<M: Modulus>(turn: &Turn, near: &mut End<M>) -> Result<(), NoMemory>
     Ok(())
 }
 
+/// The near end heeds what its link tells of a step. These were the link's facts before.
+fn heed<M: Modulus>(
+    turn: &Turn<'_>,
+    before: &LinkFacts,
+    near: &mut End<M>,
+    notices: &mut TextOut,
+) -> Result<(), NoMemory>
+    ensures link { OnOk result (near.new.link ≡ record near.old.link { notice = None }) }
+    ensures book { OnOk result ((e : ends.End) (g : Effect) → standing.FactsAre before.now e.link → Stands M.SIZE near.old.link g → standing.BookStands M.SIZE near.old.book e → standing.BookStands M.SIZE near.new.book (ends.after_step g e)) }
+    ensures tells { OnOk result ((g : Effect) → Stands M.SIZE near.old.link g → notices.new ≡ notices.old ++ standing.notices_text turn.now.side g) }
+{
+    tell(turn, before, &mut near.link, &mut near.book, notices)?;
+    Ok(())
+}
+
+/// What the near end's link puts out sets out to the far one, and a link that went Down is replaced. In this phase it was before.
+fn put_out<M: Modulus>(
+    turn: &Turn<'_>,
+    was: LinkPhase,
+    near: &mut End<M>,
+    far: &mut End<M>,
+    frames: &mut TextOut,
+) -> Result<(), NoMemory>
+    requires modulus { IsLinkModulus M.SIZE }
+    requires quiet { near.old.link.notice ≡ None }
+    ensures drained { OnOk result (IsDrained near.new.link) }
+    ensures far { OnOk result (far.new.link ≡ far.old.link) }
+    ensures stands { OnOk result ((p : ends.Ends) (g : Effect) → was ≡ p.near.link.phase → standing.Heeded M.SIZE near.old g (ends.after_step g p.near) → standing.EndStands M.SIZE far.old p.far → standing.EndsStand M.SIZE near.new far.new (ends.step_near (rules_new M.SIZE (lives.settings turn.now.srej)) turn.now.moment g p)) }
+    ensures tells { OnOk result ((g : Effect) → Stands M.SIZE near.old.link g → frames.new ≡ frames.old ++ standing.frames_text M.SIZE turn.now.side g) }
+{
+    let epoch = near.book.number();
+    send_out(turn, epoch, &mut near.link, &mut far.book.coming, frames)?;
+    replace(turn, was, near)?;
+    Ok(())
+}
+
 /// What comes of a step of the near end's link. These were its facts before.
 fn settle<M: Modulus>(
-    turn: &Turn,
+    turn: &Turn<'_>,
     before: &LinkFacts,
     near: &mut End<M>,
     far: &mut End<M>,
-    told: &mut Told,
+    text: &mut TextOut,
 ) -> Result<(), NoMemory>
     requires modulus { IsLinkModulus M.SIZE }
     ensures drained { OnOk result (IsDrained near.new.link) }
     ensures far { OnOk result (far.new.link ≡ far.old.link) }
     ensures stands { OnOk result ((p : ends.Ends) (g : Effect) → standing.FactsAre before.now p.near.link → standing.StepStands M.SIZE near.old far.old g p → standing.EndsStand M.SIZE near.new far.new (ends.step_near (rules_new M.SIZE (lives.settings turn.now.srej)) turn.now.moment g p)) }
-    ensures tells { OnOk result ((g : Effect) → Stands M.SIZE near.old.link g → standing.Tells M.SIZE told.old told.new (lives.told_of turn.now.side [] g)) }
+    ensures tells { OnOk result ((g : Effect) → Stands M.SIZE near.old.link g → text.new ≡ text.old ++ reports.told_text M.SIZE (lives.told_of turn.now.side [] g)) }
 {
-    tell(
-        turn,
-        before,
-        &mut near.link,
-        &mut near.book,
-        &mut told.notices,
-    )?;
-    let epoch = near.book.number();
-    send_out(
-        turn,
-        epoch,
-        &mut near.link,
-        &mut far.book.coming,
-        &mut told.frames,
-    )?;
-    replace(turn, before.phase, near)?;
+    heed(turn, before, near, text)?;
+    put_out(turn, before.phase, near, far, text)?;
     Ok(())
 }
 
@@ -197,12 +220,17 @@ fn is_early(down_since: Option<u64>, now: u64) -> bool
     }
 }
 
-fn set_up<M: Modulus>(turn: &Turn, near: &mut End<M>, far: &mut End<M>, told: &mut Told) -> Answer
+fn set_up<M: Modulus>(
+    turn: &Turn<'_>,
+    near: &mut End<M>,
+    far: &mut End<M>,
+    text: &mut TextOut,
+) -> Answer
     requires modulus { IsLinkModulus M.SIZE }
     requires drained { IsDrained near.old.link }
     ensures drained { OnOk result (IsDrained near.new.link) }
     ensures far { OnOk result (far.new.link ≡ far.old.link) }
-    ensures does { IfOk result (λ answer. (p : ends.Ends) → standing.EndsStand M.SIZE near.old far.old p → standing.ComesTo M.SIZE answer near.new far.new told.old told.new p (lives.act_near (standing.turn_of M.SIZE turn.now) acts.SetUp p)) }
+    ensures does { IfOk result (λ answer. (p : ends.Ends) → standing.EndsStand M.SIZE near.old far.old p → standing.ComesTo M.SIZE answer near.new far.new text.old text.new p (lives.act_near (standing.turn_of M.SIZE turn.now) acts.SetUp p)) }
 {
     let before = near.link.facts();
     if !is_down(before.phase) {
@@ -212,7 +240,7 @@ fn set_up<M: Modulus>(turn: &Turn, near: &mut End<M>, far: &mut End<M>, told: &m
         return Ok(Some(LifeRefusal::Early));
     }
     near.link.set_up(Moment(turn.moment));
-    settle(turn, &before, near, far, told)?;
+    settle(turn, &before, near, far, text)?;
     Ok(None)
 }
 
@@ -227,74 +255,86 @@ fn of_send(refusal: SendRefusal) -> LifeRefusal
 }
 
 fn send<M: Modulus>(
-    turn: &Turn,
-    payload: &Payload,
+    turn: &Turn<'_>,
+    sent: &SentText<'_>,
     near: &mut End<M>,
     far: &mut End<M>,
-    told: &mut Told,
+    text: &mut TextOut,
 ) -> Answer
     requires modulus { IsLinkModulus M.SIZE }
     requires drained { IsDrained near.old.link }
     ensures drained { OnOk result (IsDrained near.new.link) }
     ensures far { OnOk result (far.new.link ≡ far.old.link) }
-    ensures does { IfOk result (λ answer. (p : ends.Ends) → standing.EndsStand M.SIZE near.old far.old p → standing.ComesTo M.SIZE answer near.new far.new told.old told.new p (lives.act_near (standing.turn_of M.SIZE turn.now) (acts.Send payload.now) p)) }
+    ensures does { IfOk result (λ answer. (p : ends.Ends) → standing.EndsStand M.SIZE near.old far.old p → standing.ComesTo M.SIZE answer near.new far.new text.old text.new p (lives.act_near (standing.turn_of M.SIZE turn.now) (acts.Send sent.now) p)) }
 {
     let before = near.link.facts();
-    match near.link.send(payload, Moment(turn.moment)) {
+    match near.link.send(&sent.payload(), Moment(turn.moment)) {
         Ok(()) => {
-            settle(turn, &before, near, far, told)?;
+            settle(turn, &before, near, far, text)?;
             Ok(None)
         }
         Err(refusal) => Ok(Some(of_send(refusal))),
     }
 }
 
-fn close<M: Modulus>(turn: &Turn, near: &mut End<M>, far: &mut End<M>, told: &mut Told) -> Answer
+fn close<M: Modulus>(
+    turn: &Turn<'_>,
+    near: &mut End<M>,
+    far: &mut End<M>,
+    text: &mut TextOut,
+) -> Answer
     requires modulus { IsLinkModulus M.SIZE }
     requires drained { IsDrained near.old.link }
     ensures drained { OnOk result (IsDrained near.new.link) }
     ensures far { OnOk result (far.new.link ≡ far.old.link) }
-    ensures does { IfOk result (λ answer. (p : ends.Ends) → standing.EndsStand M.SIZE near.old far.old p → standing.ComesTo M.SIZE answer near.new far.new told.old told.new p (lives.act_near (standing.turn_of M.SIZE turn.now) acts.Close p)) }
+    ensures does { IfOk result (λ answer. (p : ends.Ends) → standing.EndsStand M.SIZE near.old far.old p → standing.ComesTo M.SIZE answer near.new far.new text.old text.new p (lives.act_near (standing.turn_of M.SIZE turn.now) acts.Close p)) }
 {
     let before = near.link.facts();
     near.link.close(Moment(turn.moment));
-    settle(turn, &before, near, far, told)?;
+    settle(turn, &before, near, far, text)?;
     Ok(None)
 }
 
-fn take<M: Modulus>(turn: &Turn, near: &mut End<M>, far: &mut End<M>, told: &mut Told) -> Answer
+fn take<M: Modulus>(
+    turn: &Turn<'_>,
+    near: &mut End<M>,
+    far: &mut End<M>,
+    text: &mut TextOut,
+) -> Answer
     requires modulus { IsLinkModulus M.SIZE }
     requires drained { IsDrained near.old.link }
     ensures drained { OnOk result (IsDrained near.new.link) }
     ensures far { OnOk result (far.new.link ≡ far.old.link) }
-    ensures does { IfOk result (λ answer. (p : ends.Ends) → standing.EndsStand M.SIZE near.old far.old p → standing.ComesTo M.SIZE answer near.new far.new told.old told.new p (lives.act_near (standing.turn_of M.SIZE turn.now) acts.Take p)) }
+    ensures does { IfOk result (λ answer. (p : ends.Ends) → standing.EndsStand M.SIZE near.old far.old p → standing.ComesTo M.SIZE answer near.new far.new text.old text.new p (lives.act_near (standing.turn_of M.SIZE turn.now) acts.Take p)) }
 {
     let Some(payload) = near.link.first() else {
         return Ok(Some(LifeRefusal::Nothing));
     };
-    write_took(turn.alloc, turn.side, payload.info.len(), &mut told.taken)?;
+    write_took(turn.side, payload.info.len(), text)?;
     let before = near.link.facts();
     let _ = near.link.take(Moment(turn.moment));
-    settle(turn, &before, near, far, told)?;
+    settle(turn, &before, near, far, text)?;
     Ok(None)
 }
 
-/// Time has passed at the near end.
+/// Time has passed at the near end. Its notices and its frames are told apart.
 pub fn tick<M: Modulus>(
-    turn: &Turn,
+    turn: &Turn<'_>,
     near: &mut End<M>,
     far: &mut End<M>,
-    told: &mut Told,
+    notices: &mut TextOut,
+    frames: &mut TextOut,
 ) -> Result<(), NoMemory>
     requires modulus { IsLinkModulus M.SIZE }
     requires drained { IsDrained near.old.link }
     ensures drained { OnOk result (IsDrained near.new.link) }
     ensures far { OnOk result (far.new.link ≡ far.old.link) }
-    ensures does { OnOk result ((p : ends.Ends) → standing.EndsStand M.SIZE near.old far.old p → standing.ComesTo M.SIZE None near.new far.new told.old told.new p (lives.moved (standing.turn_of M.SIZE turn.now) table.Tick [] p)) }
+    ensures does { OnOk result ((p : ends.Ends) → standing.EndsStand M.SIZE near.old far.old p → standing.Ticked M.SIZE (standing.turn_of M.SIZE turn.now) near.new far.new notices.old notices.new frames.old frames.new p) }
 {
     let before = near.link.facts();
     near.link.tick(Moment(turn.moment));
-    settle(turn, &before, near, far, told)?;
+    heed(turn, &before, near, notices)?;
+    put_out(turn, before.phase, near, far, frames)?;
     Ok(())
 }
 
@@ -327,19 +367,24 @@ fn hear(flight: &Flight, phase: LinkPhase, book: &mut Book)
     }
 }
 
-fn arrive<M: Modulus>(turn: &Turn, near: &mut End<M>, far: &mut End<M>, told: &mut Told) -> Answer
+fn arrive<M: Modulus>(
+    turn: &Turn<'_>,
+    near: &mut End<M>,
+    far: &mut End<M>,
+    text: &mut TextOut,
+) -> Answer
     requires modulus { IsLinkModulus M.SIZE }
     requires drained { IsDrained near.old.link }
     ensures drained { OnOk result (IsDrained near.new.link) }
     ensures far { OnOk result (far.new.link ≡ far.old.link) }
-    ensures does { IfOk result (λ answer. (p : ends.Ends) → standing.EndsStand M.SIZE near.old far.old p → standing.ComesTo M.SIZE answer near.new far.new told.old told.new p (lives.act_near (standing.turn_of M.SIZE turn.now) acts.Arrive p)) }
+    ensures does { IfOk result (λ answer. (p : ends.Ends) → standing.EndsStand M.SIZE near.old far.old p → standing.ComesTo M.SIZE answer near.new far.new text.old text.new p (lives.act_near (standing.turn_of M.SIZE turn.now) acts.Arrive p)) }
 {
     match near.book.coming.pop_front() {
         Some(flight) => {
             let before = near.link.facts();
             hear(&flight, before.phase, &mut near.book);
             hand(&flight.out, &mut near.link, turn.moment);
-            settle(turn, &before, near, far, told)?;
+            settle(turn, &before, near, far, text)?;
             Ok(None)
         }
         None => Ok(Some(LifeRefusal::Nothing)),
@@ -358,24 +403,24 @@ fn lose<M: Modulus>(near: &mut End<M>) -> Option<LifeRefusal>
 
 /// What is done at the near end.
 pub fn act_near<M: Modulus>(
-    turn: &Turn,
-    act: &EndAct,
+    turn: &Turn<'_>,
+    act: &EndAct<'_>,
     near: &mut End<M>,
     far: &mut End<M>,
-    told: &mut Told,
+    text: &mut TextOut,
 ) -> Answer
     requires modulus { IsLinkModulus M.SIZE }
     requires drained { IsDrained near.old.link }
     ensures drained { OnOk result (IsDrained near.new.link) }
     ensures far { OnOk result (far.new.link ≡ far.old.link) }
-    ensures does { IfOk result (λ answer. (p : ends.Ends) → standing.EndsStand M.SIZE near.old far.old p → standing.ComesTo M.SIZE answer near.new far.new told.old told.new p (lives.act_near (standing.turn_of M.SIZE turn.now) act.now p)) }
+    ensures does { IfOk result (λ answer. (p : ends.Ends) → standing.EndsStand M.SIZE near.old far.old p → standing.ComesTo M.SIZE answer near.new far.new text.old text.new p (lives.act_near (standing.turn_of M.SIZE turn.now) act.now p)) }
 {
     match act {
-        EndAct::SetUp => set_up(turn, near, far, told),
-        EndAct::Send(payload) => send(turn, payload, near, far, told),
-        EndAct::Close => close(turn, near, far, told),
-        EndAct::Take => take(turn, near, far, told),
-        EndAct::Arrive => arrive(turn, near, far, told),
+        EndAct::SetUp => set_up(turn, near, far, text),
+        EndAct::Send(sent) => send(turn, sent, near, far, text),
+        EndAct::Close => close(turn, near, far, text),
+        EndAct::Take => take(turn, near, far, text),
+        EndAct::Arrive => arrive(turn, near, far, text),
         EndAct::Lose => Ok(lose(near)),
     }
 }

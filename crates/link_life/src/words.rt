@@ -1,10 +1,8 @@
 //! Lines, and their words.
-ghost use Rattle.std.specs.Prelude.{◌≡◌, ◌<◌, ◌≤◌, ◌==◌, ◌∷◌, ◌^◌, length, nat_le, map, not, Some, None, IfSome, IfOk, MatchOption, if◌then◌else◌};
+ghost use Rattle.std.specs.Prelude.{◌≡◌, ◌<◌, ◌≤◌, ◌==◌, ◌∷◌, ◌^◌, [], length, nat_le, not, Some, None, IfSome, IfOk, MatchOption, if◌then◌else◌};
 ghost use Rattle.std.specs.List.{list_all, position, slice_split};
 ghost use Rattle.std.specs.Str.Lines.{lines, strip_carriage_return};
 ghost use Rattle.link_life.specs.Words as words;
-
-use std::alloc::{AllocError, Global};
 
 /// The first line of a text that isn't empty, and what stands behind its line feed.
 pub fn first_line(text: &[u8]) -> (&[u8], &[u8])
@@ -44,24 +42,27 @@ pub fn is_text(line: &[u8]) -> bool
     line.iter().all(|b| *b >= 32 && *b <= 126)
 }
 
-/// The words of a line, which spaces part.
-pub fn words_of(alloc: Global, line: &[u8]) -> Result<Vec<&[u8]>, AllocError>
-    ensures { IfOk result (λ v. words.texts v.items ≡ words.words_of line.now) }
+/// The first word of a line, and what stands behind it: nothing, or a space and what follows. None where it has no word.
+pub fn first_word(line: &[u8]) -> Option<(&[u8], &[u8])>
+    ensures { MatchOption result (words.words_of line.now ≡ []) (λ cut. words.words_of line.now ≡ cut.0.now ∷ words.words_of cut.1.now) }
 {
-    let pieces = pieces_of(alloc, line)?;
-    let mut found = Vec::new(alloc);
-    for piece in &pieces {
-        if !piece.is_empty() {
-            found.push(*piece)?;
-        }
+    let rest = after_spaces(line);
+    if rest.is_empty() {
+        return None;
     }
-    Ok(found)
+    Some(at_space(rest))
 }
 
-fn pieces_of(alloc: Global, line: &[u8]) -> Result<Vec<&[u8]>, AllocError>
-    ensures { IfOk result (λ v. words.texts v.items ≡ slice_split (λ b. b == 32) line.now) }
+/// A line up to its first space, and from there on.
+fn at_space(line: &[u8]) -> (&[u8], &[u8])
+    ensures front { result.0.now ≡ words.before_space line.now }
+    ensures rest { result.1.now ≡ words.after_word line.now }
 {
-    line.split(|b| *b == b' ').collect(alloc)
+    let mut end = 0;
+    while end < line.len() && line[end] != b' ' {
+        end += 1;
+    }
+    line.split_at(end)
 }
 
 /// TEXT of a `send` line: what stands after its second word and the one space after that, if that space is there.
@@ -80,7 +81,7 @@ pub fn sent_text(line: &[u8]) -> Option<&[u8]>
 fn past_word(line: &[u8]) -> &[u8]
     ensures { result.now ≡ words.past_word line.now }
 {
-    after_word(after_spaces(line))
+    at_space(after_spaces(line)).1
 }
 
 /// The line without the spaces at its front.
@@ -89,17 +90,6 @@ fn after_spaces(line: &[u8]) -> &[u8]
 {
     let mut rest = line;
     while !rest.is_empty() && rest[0] == b' ' {
-        rest = &rest[1..];
-    }
-    rest
-}
-
-/// The line from its first space on.
-fn after_word(line: &[u8]) -> &[u8]
-    ensures { result.now ≡ words.after_word line.now }
-{
-    let mut rest = line;
-    while !rest.is_empty() && rest[0] != b' ' {
         rest = &rest[1..];
     }
     rest

@@ -76,7 +76,7 @@ fn report_of_file(
 
 fn report_of(
     alloc: Global,
-    script: &LifeScript,
+    script: &LifeScript<'_>,
     settings: LifeSettings,
 ) -> Result<TextOut, NoMemory>
     ensures { IfOk result (λ text. text ≡ report_of settings script.now) }
