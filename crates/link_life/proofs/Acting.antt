@@ -1,24 +1,21 @@
 -- What is done at one end.
-use Rattle.std.proofs.Common.{◌≡◌, ◌+◌, ◌-◌, ℕ, Bool, true, false, not, ◌||◌, nat_le, if◌then◌else◌, List, [], ◌∷◌, ◌++◌, length, map, Option, Some, None, Result, Ok, Err, refl, ap, sym, ◌∙◌, subst, arith, append-nil, append_assoc, length-append}
-use Rattle.std.specs.List.{flat_map}
-use Rattle.std.specs.Option.{option_to_list}
+use Rattle.std.proofs.Common.{◌≡◌, ◌+◌, ◌-◌, ℕ, Bool, true, false, not, ◌||◌, nat_le, if◌then◌else◌, List, [], ◌++◌, length, Option, Some, None, Result, Ok, Err, refl, ap, sym, ◌∙◌, subst, arith, length-append}
 use Rattle.ax_link.specs.declared.plain.LinkFacts.{LinkFacts}
-use Rattle.ax_link.specs.declared.plain.LinkNotice.{LinkNotice}
 use Rattle.ax_link.specs.declared.plain.LinkPhase.{LinkPhase}
 use Rattle.ax_link.specs.declared.plain.SendRefusal.{SendRefusal}
 use Rattle.ax_link.specs.Opening.{answer_by, rules_new, send_answer}
 use Rattle.ax_link.specs.Standing.{LinkView, Stands, StandsFor}
 use Rattle.ax_link.specs.State.{Effect, State, count_end}
-use Rattle.ax_link.specs.Table.{Input, Take, Tick, may_close, step}
+use Rattle.ax_link.specs.Table.{Input, Tick, may_close, step}
 use Rattle.link_life.specs.declared.reasons.LifeRefusal.{LifeRefusal}
 use Rattle.link_life.specs.declared.reasons.LifeRefusal.TheVariants as why
 use Rattle.link_life.specs.declared.turn.Turn.{Turn as TurnKept}
 use Rattle.link_life.specs.declared.turn.End.{End as EndKept}
-use Rattle.link_life.specs.Ends.{End, Ends, after_step, is_down, step_near}
-use Rattle.link_life.specs.Lives.{Outcome, is_early, moved, set_up_refusal, send_refusal, settings, told_of, unless}
-use Rattle.link_life.specs.Reports.{notice_line, told_text, took_line}
+use Rattle.link_life.specs.Ends.{End, Ends, after_step, step_near}
+use Rattle.link_life.specs.Lives.{Outcome, moved, send_refusal, settings, told_of, unless}
+use Rattle.link_life.specs.Reports.{told_text}
 use Rattle.link_life.specs.Standing.{BookStands, ComesTo, EndStands, EndsStand, FactsAre, Heeded, StepStands, Ticked, frames_text, notices_text, of_send, turn_of}
-use Rattle.link_life.proofs.Settling.{heeded_link, notes_of}
+use Rattle.link_life.proofs.Settling.{heeded_link}
 
 -- what comes of a step, as `settle` says it
 abbrev pub SettlesTo : {M : Type 0} → ℕ → TurnKept → LinkFacts → (mid other two other2 : EndKept M) → Type 0
@@ -50,34 +47,6 @@ pub moves : {M : Type 0} (size : ℕ) (t : TurnKept) (i : Input) (f : LinkFacts)
 moves size t i f mid other two other2 old new p q a l b o stands tells =
     (refl, stands q (step q.near.link i t.moment) a (record { link = l; book = b; far = o }), tells (step q.near.link i t.moment) l)
 
--- a payload was taken, and its line was told before: no notice comes of that
-pub takes : {M : Type 0} (size : ℕ) (t : TurnKept) (len : ℕ) (f : LinkFacts) (mid other two other2 : EndKept M) (old before new : List ℕ) (p q : Ends) → FactsAre f q.near.link →
-    Stands size mid.link (step q.near.link Take t.moment) → mid.link.notice ≡ None → BookStands size mid.book q.near → EndStands size other q.far →
-    SettlesTo size t f mid other two other2 → TellsOf size t mid before new → before ≡ old ++ took_line (t.side, len) →
-    ComesTo size None two other2 old new p (moved (turn_of size t) Take (len ∷ []) q)
-takes size t len f mid other two other2 old before new p q a l quiet b o stands tells k =
-    (refl, stands q g a (record { link = l; book = b; far = o }), told)
-  where
-    g : Effect
-    g = step q.near.link Take t.moment
-
-    none : g.notes ≡ []
-    none = notes_of size mid.link g l ∙ ap option_to_list quiet
-
-    line : List ℕ
-    line = took_line (t.side, len)
-
-    frames : List ℕ
-    frames = frames_text size t.side g
-
-    told : new ≡ old ++ told_text size (told_of t.side (len ∷ []) g)
-    told =
-        tells g l
-        ∙ ap (λ (ns : List LinkNotice). before ++ (flat_map notice_line (map (λ n. (t.side, n)) ns) ++ frames)) none
-        ∙ ap (λ xs. xs ++ frames) k ∙ append_assoc old line frames
-        ∙ ap (λ xs. old ++ (xs ++ frames)) (sym (append-nil line))
-        ∙ ap (λ (ns : List LinkNotice). old ++ (flat_map notice_line (map (λ n. (t.side, n)) ns) ++ ((line ++ []) ++ frames))) (sym none)
-
 -- time came to an end
 pub comes_ticked : {M : Type 0} (size : ℕ) (t : TurnKept) (f : LinkFacts) (mid heeded other two other2 : EndKept M) (notices notices2 frames frames2 : List ℕ) (p : Ends) → FactsAre f p.near.link →
     Stands size mid.link (step p.near.link Tick t.moment) → BookStands size mid.book p.near → EndStands size other p.far →
@@ -101,13 +70,6 @@ refuses size two other2 old p refusal o done e s = subst (λ (x : Option LifeRef
 pub allows : {M : Type 0} (size : ℕ) (two other2 : EndKept M) (old new : List ℕ) (p : Ends) (o : Option LifeRefusal) (done : Outcome Ends) → o ≡ None →
     ComesTo size None two other2 old new p done → ComesTo size None two other2 old new p (unless o done)
 allows size two other2 old new p o done e s = subst (λ (x : Option LifeRefusal). ComesTo size None two other2 old new p (unless x done)) (sym e) s
-
-pub set_up_phase : (e : End) (now : ℕ) → is_down e.link.phase ≡ false → set_up_refusal e now ≡ Some why.Phase
-set_up_phase e now d = ap (λ b. if not b then Some why.Phase else if is_early e.down_since now then Some why.Early else None) d
-
-pub set_up_by : (e : End) (now : ℕ) (early : Bool) → is_down e.link.phase ≡ true → is_early e.down_since now ≡ early → set_up_refusal e now ≡ (if early then Some why.Early else None)
-set_up_by e now early d a =
-    ap (λ b. if not b then Some why.Phase else if is_early e.down_since now then Some why.Early else None) d ∙ ap (λ b. if b then Some why.Early else None) a
 
 refusal_of : Result (Unit {0}) SendRefusal → Option LifeRefusal
 refusal_of (Ok u) = None

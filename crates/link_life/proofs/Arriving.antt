@@ -49,10 +49,6 @@ lasting_same : (epoch : ℕ) (heard : Option (List ℕ)) → lasting_with epoch 
 lasting_same epoch None = refl
 lasting_same epoch (Some hs) = first_same epoch hs
 
--- the queue without its first frame
-pub popped : {X : Type 0} (xs ys : List X) (x : X) → xs ≡ x ∷ ys → (F : List X → Type 0) → F (x ∷ ys) → F xs
-popped xs ys x e F p = subst F (sym e) p
-
 pub arrives : {M : Type 0} (size : ℕ) (t : TurnKept) (fl : FlightKept) (fs : List FlightKept) (f : LinkFacts) (one mid other two other2 : EndKept M) (old new : List ℕ) (p : Ends) →
     EndsStand size one other p → f ≡ facts_of one.link → one.book.coming.items ≡ fl ∷ fs →
     ((s : State) → StandsFor size one.link s → Stands size mid.link (step s (Arrive (frame_of size fl.out)) t.moment)) →

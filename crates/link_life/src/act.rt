@@ -40,7 +40,7 @@ impl<'a> SentText<'a> {
     }
 
     /// The payload, with a copy of the text.
-    pub(crate) fn payload(&self) -> Payload
+    pub fn payload(&self) -> Payload
         ensures { result ≡ self.now }
     {
         payload_of(self.text)

@@ -1,6 +1,5 @@
 //! What is kept of an end beside its link: its epochs, and the frames that are under way to it.
-ghost use Rattle.std.specs.Prelude.{◌≡◌, ◌++◌, ◌∷◌, [], ℕ, length, map, None, Some, OnOk};
-ghost use Rattle.ax_link.specs.Kinds.{kind_of};
+ghost use Rattle.std.specs.Prelude.{◌≡◌, ◌++◌, [], None, Some, OnOk};
 ghost use Rattle.link_life.specs.Ends as ends;
 ghost use Rattle.link_life.specs.Standing as standing;
 

@@ -1,7 +1,6 @@
 //! The life of a link, act by act.
 ghost use Rattle.std.specs.Prelude.{◌≡◌, ◌++◌, OnOk, OnErr, IfOk, ◌||◌, None};
 ghost use Rattle.ax_frame.specs.Controls.{IsLinkModulus};
-ghost use Rattle.ax_link.specs.Opening.{IsDrained};
 ghost use Rattle.link_life.specs.Lives as lives;
 ghost use Rattle.link_life.specs.Reports as reports;
 ghost use Rattle.link_life.specs.Standing as standing;

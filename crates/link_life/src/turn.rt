@@ -1,9 +1,9 @@
 //! What is done at one end, and what comes of it.
-ghost use Rattle.std.specs.Prelude.{◌≡◌, ◌++◌, ◌∷◌, [], ℕ, length, map, None, Some, OnOk, IfOk, slice_get, IsTrue};
+ghost use Rattle.std.specs.Prelude.{◌≡◌, ◌++◌, [], map, None, Some, OnOk, IfOk};
 ghost use Rattle.std.specs.Option.{option_to_list};
 ghost use Rattle.std.specs.List.{flat_map};
 ghost use Rattle.ax_frame.specs.Controls.{IsLinkModulus};
-ghost use Rattle.ax_link.specs.Opening.{IsDrained, facts_of, opening, rules_new};
+ghost use Rattle.ax_link.specs.Opening.{IsDrained, rules_new};
 ghost use Rattle.ax_link.specs.Standing.{Stands, StandsFor, frame_of};
 ghost use Rattle.ax_link.specs.State.{Effect, State};
 ghost use Rattle.ax_link.specs.Table as table;

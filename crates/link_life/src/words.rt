@@ -1,6 +1,6 @@
 //! Lines, and their words.
-ghost use Rattle.std.specs.Prelude.{◌≡◌, ◌<◌, ◌≤◌, ◌==◌, ◌∷◌, ◌^◌, [], length, nat_le, not, Some, None, IfSome, IfOk, MatchOption, if◌then◌else◌};
-ghost use Rattle.std.specs.List.{list_all, position, slice_split};
+ghost use Rattle.std.specs.Prelude.{◌≡◌, ◌<◌, ◌==◌, ◌∷◌, [], length, nat_le, Some, None, IfSome, MatchOption, if◌then◌else◌};
+ghost use Rattle.std.specs.List.{list_all, position};
 ghost use Rattle.std.specs.Str.Lines.{lines, strip_carriage_return};
 ghost use Rattle.link_life.specs.Words as words;
 

@@ -1,4 +1,4 @@
-use Rattle.std.proofs.Common.{refl, subst, sym, ◌∙◌}
+use Rattle.std.proofs.Common.{refl, subst, sym}
 use Rattle.link_life.specs.declared.act.Side.{Side}
 use Rattle.link_life.specs.Ends.{Ends}
 use Rattle.link_life.specs.Lives.{Turn, act_at, act_near}
