@@ -1,11 +1,6 @@
 -- The words of a line, and the numbers that words spell. Own profile.
-use Rattle.std.specs.Prelude.{ℕ, ◌+◌, ◌-◌, ◌*◌, List, [], ◌∷◌, length, filter, map, Option, Some, None, Bool, ◌&&◌, ◌||◌, ◌==◌, not, nat_le, if◌then◌else◌, slice_index}
+use Rattle.std.specs.Prelude.{ℕ, ◌+◌, ◌-◌, ◌*◌, List, [], ◌∷◌, length, filter, Option, Some, None, Bool, ◌&&◌, ◌||◌, ◌==◌, not, nat_le, if◌then◌else◌, slice_index}
 use Rattle.std.specs.List.{list_all, slice_split}
-use Rattle.std.specs.Borrow.{Bor}
-
--- what the references point to
-abbrev pub texts : List (Bor (List ℕ)) → List (List ℕ)
-texts words = map (λ w. w.now) words
 
 -- printed characters and spaces
 abbrev pub is_text : List ℕ → Bool
