@@ -1,6 +1,11 @@
 //! Calls and aliases in texts, and the beginning of an address.
 use ax_address::{Alias, AliasRefusal, Call, address_fault};
-use std::test::Fail;
+use std::cmp::Ordering;
+use std::process::Abort;
+
+fn call(rt: &impl Abort, text: &str) -> Call {
+    Call::read(text.as_bytes()).ok().expect(rt, "a call")
+}
 
 #[test]
 fn calls_are_read_and_shown(rt: HostRuntime) {
@@ -10,19 +15,24 @@ fn calls_are_read_and_shown(rt: HostRuntime) {
         ("A-15", 15, "A-15"),
         ("N0AAA-0", 0, "N0AAA"),
     ] {
-        let call = Call::read(text.as_bytes()).ok().unwrap_or_default();
-        assert_eq!(rt; call.show().as_str(), shown);
-        assert_eq!(rt; call.ssid(), ssid);
+        let call = call(&rt, text);
+        assert!(rt; call.show().as_str() == shown, "{text}");
+        assert!(rt; call.ssid() == ssid, "{text}");
     }
 }
 
 #[test]
-fn calls_go_by_characters_and_then_by_ssid(rt: HostRuntime) -> Result<(), Fail> {
-    let read = |text: &str| Call::read(text.as_bytes()).ok().ok_or("a call");
-    assert!(rt; read("N0AAA-15")?.cmp(&read("N0AAAA")?).is_lt());
-    assert!(rt; read("N0AAA")?.cmp(&read("N0AAA-1")?).is_lt());
-    assert!(rt; read("N0AAB")?.cmp(&read("N0AAA-1")?).is_gt());
-    Ok(())
+fn calls_go_by_characters_and_then_by_ssid(rt: HostRuntime) {
+    for (first, second, order) in [
+        ("N0AAA-15", "N0AAAA", Ordering::Less),
+        ("N0AAA", "N0AAA-1", Ordering::Less),
+        ("N0AAB", "N0AAA-1", Ordering::Greater),
+    ] {
+        assert!(rt;
+            call(&rt, first).cmp(&call(&rt, second)) == order,
+            "{first} {second}"
+        );
+    }
 }
 
 #[test]
@@ -34,8 +44,8 @@ fn aliases_are_padded_and_shown(rt: HostRuntime) {
         (*b"      ", "-"),
     ] {
         let alias = Alias::from_bytes(octets);
-        assert_eq!(rt; alias.bytes(), octets);
-        assert_eq!(rt; alias.show().as_str(), shown);
+        assert!(rt; alias.bytes() == octets, "{shown}");
+        assert!(rt; alias.show().as_str() == shown, "{shown}");
     }
     assert!(rt; Alias::read(b"BNODE") == Ok(Alias::from_bytes(*b"BNODE ")));
     assert!(rt; Alias::read(b"") == Err(AliasRefusal::Empty));

@@ -1,26 +1,56 @@
 //! Messages as fragments.
 use circuit_reassembly::{Gather, Gathered, Oversize, fragment, fragment_count};
+use std::process::Abort;
 use std::test::Fail;
+
+/// Asserts what a fragment of a message is, and whether more follow.
+fn expect_fragment(rt: &impl Abort, message: &[u8], nth: usize, wanted: Option<(&[u8], bool)>) {
+    assert!(rt; fragment(message, nth) == wanted);
+}
 
 #[test]
 fn fragments_of_a_message(rt: HostRuntime) {
     let message = [7; 473];
-    assert_eq!(rt; fragment_count(message.len()), 3);
-    assert!(rt; fragment(&message, 0) == Some((&[7; 236], true)));
-    assert!(rt; fragment(&message, 1) == Some((&[7; 236], true)));
-    assert!(rt; fragment(&message, 2) == Some((&[7; 1], false)));
-    assert!(rt; fragment(&message, 3) == None);
-    assert_eq!(rt; fragment_count(472), 2);
-    assert_eq!(rt; fragment_count(0), 0);
-    assert!(rt; fragment(&message[..236], 0) == Some((&[7; 236], false)));
+    for (len, count) in [(message.len(), 3), (472, 2), (0, 0)] {
+        assert_eq!(rt; fragment_count(len), count);
+    }
+    expect_fragment(&rt, &message, 0, Some((&[7; 236], true)));
+    expect_fragment(&rt, &message, 1, Some((&[7; 236], true)));
+    expect_fragment(&rt, &message, 2, Some((&[7; 1], false)));
+    expect_fragment(&rt, &message, 3, None);
+    expect_fragment(&rt, &message[..236], 0, Some((&[7; 236], false)));
+}
+
+/// Asserts what a fragment completes.
+fn expect_gathered(
+    rt: &impl Abort,
+    gather: &mut Gather,
+    piece: &[u8],
+    more: bool,
+    wanted: Result<Gathered<'_>, Oversize>,
+) {
+    assert!(rt; piece.len() <= 236);
+    assert!(rt; gather.push(piece, more) == wanted);
 }
 
 #[test]
 fn fragments_gather_to_messages(rt: HostRuntime) -> Result<(), Fail> {
     let mut gather = Gather::new(rt.alloc())?;
-    assert!(rt; gather.push(b"one, ", true) == Ok(Gathered::More));
-    assert!(rt; gather.push(b"two", false) == Ok(Gathered::Whole(b"one, two")));
-    assert!(rt; gather.push(b"three", false) == Ok(Gathered::Whole(b"three")));
+    expect_gathered(&rt, &mut gather, b"one, ", true, Ok(Gathered::More));
+    expect_gathered(
+        &rt,
+        &mut gather,
+        b"two",
+        false,
+        Ok(Gathered::Whole(b"one, two")),
+    );
+    expect_gathered(
+        &rt,
+        &mut gather,
+        b"three",
+        false,
+        Ok(Gathered::Whole(b"three")),
+    );
     Ok(())
 }
 
@@ -28,14 +58,14 @@ fn fragments_gather_to_messages(rt: HostRuntime) -> Result<(), Fail> {
 fn a_message_of_one_byte_too_many_is_refused(rt: HostRuntime) -> Result<(), Fail> {
     let mut gather = Gather::new(rt.alloc())?;
     for _ in 0..34 {
-        assert!(rt; gather.push(&[1; 236], true) == Ok(Gathered::More));
+        expect_gathered(&rt, &mut gather, &[1; 236], true, Ok(Gathered::More));
     }
     // 34 * 236 = 8,024 bytes, so that 168 are left.
-    assert!(rt; gather.push(&[2; 169], false) == Err(Oversize));
-    assert!(rt; gather.push(&[2; 168], true) == Ok(Gathered::More));
-    assert!(rt; gather.push(&[2; 1], true) == Err(Oversize));
+    expect_gathered(&rt, &mut gather, &[2; 169], false, Err(Oversize));
+    expect_gathered(&rt, &mut gather, &[2; 168], true, Ok(Gathered::More));
+    expect_gathered(&rt, &mut gather, &[2; 1], true, Err(Oversize));
     match gather.push(&[], false) {
-        Ok(Gathered::Whole(message)) => assert_eq!(rt; message.len(), 8192),
+        Ok(Gathered::Whole(message)) => assert!(rt; message.len() == 8192),
         _ => assert!(rt; false),
     }
     Ok(())

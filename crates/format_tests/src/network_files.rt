@@ -1,6 +1,7 @@
 //! Network files: what is wrong with bad ones, and a file with every kind of line.
-use network_file::{Instruction, NetworkRefusal, What, read_network};
+use network_file::{Instruction, NetworkRefusal, NumberedInstruction, What, read_network};
 use std::alloc::Global;
+use std::process::Abort;
 use std::test::Fail;
 
 /// Why the first bad line of a text is bad, and its number.
@@ -107,18 +108,27 @@ fn circuits_paths_time_and_versions_have_their_reasons(rt: HostRuntime) {
     }
 }
 
+/// Asserts that an instruction is this text on its way.
+fn expect_text(rt: &impl Abort, numbered: &NumberedInstruction, text: &[u8]) {
+    match &numbered.instruction {
+        Instruction::Say {
+            node,
+            end,
+            text: said,
+        } => {
+            assert!(rt; numbered.line == 2 && *node == 1 && *end == 2);
+            assert!(rt; said.as_slice() == text);
+        }
+        _ => assert!(rt; false),
+    }
+}
+
 #[test]
 fn a_text_keeps_all_spaces_but_the_one_before_it(rt: HostRuntime) -> Result<(), Fail> {
     let network = read_network(rt.alloc(), b"node 1 N0AAA A\n  say 1  2   x  y \n")?;
     for numbered in network.instructions() {
-        match &numbered.instruction {
-            Instruction::Say { node, end, text } => {
-                assert_eq!(rt; (numbered.line, *node, *end), (2, 1, 2));
-                assert_eq!(rt; text.as_slice(), b"  x  y ".as_slice());
-            }
-            _ => return Err("another instruction".into()),
-        }
+        expect_text(&rt, numbered, b"  x  y ");
     }
-    assert_eq!(rt; network.instructions().len(), 1);
+    assert!(rt; network.instructions().len() == 1);
     Ok(())
 }

@@ -22,6 +22,25 @@ fn octets(alloc: Global, start: &[u8], bytes: &[u8]) -> Result<Vec<u8>, Fail> {
     Ok(octets)
 }
 
+/// Asserts what a segment comes to.
+fn expect(rt: &impl Abort, joiner: &mut Joiner, segment: &[u8], wanted: Joined<'_>) {
+    let joined = joiner.push(segment);
+    assert!(rt; joined == Ok(wanted), "{segment:?}");
+}
+
+/// Asserts what a joiner holds.
+fn expect_held(rt: &impl Abort, joiner: &Joiner, wanted: Option<(u8, usize, u8)>) {
+    assert_eq!(rt; joiner.held(), wanted);
+}
+
+/// Asserts what the information of a segment is: these octets, and then those.
+fn expect_info(rt: &impl Abort, segment: &Payload, start: &[u8], rest: &[u8]) {
+    assert_eq!(rt; segment.pid, 8);
+    let info = segment.info.as_slice();
+    assert!(rt; info.get(..start.len()) == Some(start));
+    assert!(rt; info.get(start.len()..) == Some(rest));
+}
+
 fn refusal(message: &[u8]) -> Option<SplitRefusal> {
     Split::new(0xF0, message).err()
 }
@@ -31,111 +50,102 @@ fn a_message_of_300_bytes(rt: HostRuntime) -> Result<(), Fail> {
     let (front, back) = ([0x41; 254], [0x42; 46]);
     let message = octets(rt.alloc(), &front, &back)?;
     let segments = segments(rt.alloc(), 0xF0, &message)?;
-    let mut joiner = Joiner::new(rt.alloc());
     match segments.as_slice() {
         [first, second] => {
-            assert_eq!(rt; (first.pid, second.pid), (8, 8));
-            let begins = octets(rt.alloc(), b"\x81\xF0", &front)?;
-            assert!(rt; first.info.as_slice() == begins.as_slice());
-            let ends = octets(rt.alloc(), b"\x00", &back)?;
-            assert!(rt; second.info.as_slice() == ends.as_slice());
-
-            let early = joiner.push(&second.info)?;
-            assert_eq!(rt;
-                early,
-                Joined::Broken {
-                    expected: None,
-                    found: 0
-                }
-            );
-            assert_eq!(rt; joiner.push(&first.info)?, Joined::More);
-            assert_eq!(rt; joiner.held(), Some((0xF0, 254, 1)));
-            let whole = joiner.push(&second.info)?;
-            assert_eq!(rt;
-                whole,
-                Joined::Whole {
-                    pid: 0xF0,
-                    message: &message
-                }
-            );
-            assert_eq!(rt; joiner.held(), None);
+            expect_info(&rt, first, b"\x81\xF0", &front);
+            expect_info(&rt, second, b"\x00", &back);
+            expect_message(&rt, rt.alloc(), first, second, &message);
         }
         _ => assert!(rt; false),
     }
     Ok(())
 }
 
+/// The two segments of a message of 300 bytes join to it; the second comes too early once.
+fn expect_message(
+    rt: &impl Abort,
+    alloc: Global,
+    first: &Payload,
+    second: &Payload,
+    message: &[u8],
+) {
+    let mut joiner = Joiner::new(alloc);
+    let (expected, found) = (None, 0);
+    expect(
+        rt,
+        &mut joiner,
+        &second.info,
+        Joined::Broken { expected, found },
+    );
+    expect(rt, &mut joiner, &first.info, Joined::More);
+    expect_held(rt, &joiner, Some((0xF0, 254, 1)));
+    let pid = 0xF0;
+    expect(
+        rt,
+        &mut joiner,
+        &second.info,
+        Joined::Whole { pid, message },
+    );
+    expect_held(rt, &joiner, None);
+}
+
 #[test]
 fn the_longest_message_and_one_byte_more(rt: HostRuntime) -> Result<(), Fail> {
     let message = vec![in rt.alloc(); 7u8; 32_640]?;
-    assert_eq!(rt; refusal(&message), Some(SplitRefusal::TooLong));
-    assert_eq!(rt; refusal(b""), Some(SplitRefusal::Empty));
-
+    assert!(rt; refusal(&message) == Some(SplitRefusal::TooLong));
+    assert!(rt; refusal(b"") == Some(SplitRefusal::Empty));
     let longest = &message[..32_639];
     let segments = segments(rt.alloc(), 0xCF, longest)?;
+    expect_longest(&rt, rt.alloc(), &segments, longest);
+    Ok(())
+}
+
+/// The segments of the longest message join to it, and not before the last one.
+fn expect_longest(rt: &impl Abort, alloc: Global, segments: &[Payload], message: &[u8]) {
     assert_eq!(rt; segments.len(), 128);
-    let mut joiner = Joiner::new(rt.alloc());
+    let mut joiner = Joiner::new(alloc);
     for (at, segment) in segments.iter().enumerate() {
-        assert_eq!(rt; segment.info.len(), 256);
-        match joiner.push(&segment.info)? {
-            Joined::More => assert!(rt; at < 127),
-            whole => {
-                assert_eq!(rt; at, 127);
-                assert!(rt;
-                    whole
-                        == Joined::Whole {
-                            pid: 0xCF,
-                            message: longest
-                        }
-                );
-            }
-        }
+        assert!(rt; segment.info.len() == 256);
+        let wanted = if at < 127 {
+            Joined::More
+        } else {
+            Joined::Whole { pid: 0xCF, message }
+        };
+        expect(rt, &mut joiner, &segment.info, wanted);
     }
-    Ok(())
 }
 
 #[test]
-fn a_segment_out_of_turn_empties_the_joiner(rt: HostRuntime) -> Result<(), Fail> {
+fn a_segment_out_of_turn_empties_the_joiner(rt: HostRuntime) {
     let mut joiner = Joiner::new(rt.alloc());
-    assert_eq!(rt; joiner.push(b"\x82\xF0ab")?, Joined::More);
-    let skipped = joiner.push(b"\x00ef")?;
-    assert_eq!(rt;
-        skipped,
-        Joined::Broken {
-            expected: Some(1),
-            found: 0
-        }
-    );
-    assert_eq!(rt; joiner.held(), None);
-    let late = joiner.push(b"\x01cd")?;
-    assert_eq!(rt;
-        late,
-        Joined::Broken {
-            expected: None,
-            found: 1
-        }
-    );
-    let single = joiner.push(b"\x80\xF0ab")?;
-    assert_eq!(rt;
-        single,
-        Joined::Whole {
-            pid: 0xF0,
-            message: b"ab"
-        }
-    );
-    Ok(())
+    expect(&rt, &mut joiner, b"\x82\xF0ab", Joined::More);
+    let skipped = Joined::Broken {
+        expected: Some(1),
+        found: 0,
+    };
+    expect(&rt, &mut joiner, b"\x00ef", skipped);
+    expect_held(&rt, &joiner, None);
+    let late = Joined::Broken {
+        expected: None,
+        found: 1,
+    };
+    expect(&rt, &mut joiner, b"\x01cd", late);
+    let single = Joined::Whole {
+        pid: 0xF0,
+        message: b"ab",
+    };
+    expect(&rt, &mut joiner, b"\x80\xF0ab", single);
 }
 
 #[test]
-fn a_segment_that_is_too_short(rt: HostRuntime) -> Result<(), Fail> {
+fn a_segment_that_is_too_short(rt: HostRuntime) {
     let mut joiner = Joiner::new(rt.alloc());
-    assert_eq!(rt; joiner.push(b"\x80")?, Joined::Short);
-    assert_eq!(rt; joiner.push(b"\x81\xF0ab")?, Joined::More);
-    assert_eq!(rt; joiner.push(b"")?, Joined::Short);
-    assert_eq!(rt; joiner.held(), None);
-    assert_eq!(rt; joiner.push(b"\x81\xF0")?, Joined::More);
-    assert_eq!(rt; joiner.held(), Some((0xF0, 0, 1)));
+    expect(&rt, &mut joiner, b"\x80", Joined::Short);
+    expect(&rt, &mut joiner, b"\x81\xF0ab", Joined::More);
+    expect(&rt, &mut joiner, b"", Joined::Short);
+    expect_held(&rt, &joiner, None);
+    expect(&rt, &mut joiner, b"\x81\xF0", Joined::More);
+    expect_held(&rt, &joiner, Some((0xF0, 0, 1)));
     joiner.clear();
-    assert_eq!(rt; joiner.held(), None);
-    Ok(())
+    expect_held(&rt, &joiner, None);
 }
