@@ -5,6 +5,7 @@ use arrayvec::ArrayVec;
 use ax_frame::Control;
 use ax_link::{Link, LinkConfig, LinkNotice, LinkOut, LinkPhase, SendRefusal};
 use radio_base::{M8, M128, Modulus, Moment, Payload};
+use std::alloc::Global;
 use std::process::Abort;
 use std::test::Fail;
 
@@ -24,25 +25,52 @@ fn text(letter: u8) -> Payload {
     Payload { pid: 0xF0, info }
 }
 
-/// The control field of the next frame that waits.
-fn next_control<M: Modulus>(link: &mut Link<M>) -> Option<Control> {
-    let out = link.next_out()?;
-    Some(out.control)
+/// A link that is Down.
+fn link(rt: &impl Abort, alloc: Global, window: u8, srej: bool) -> Link<M8> {
+    let config = LinkConfig {
+        window,
+        srej,
+        ..CONFIG
+    };
+    Link::new(alloc, config).ok().expect(rt, "memory")
 }
 
-fn send<M: Modulus>(
+/// The frame that waits next has this control field, or none waits.
+fn expect_next<M: Modulus>(rt: &impl Abort, link: &mut Link<M>, wanted: Option<Control>) {
+    match link.next_out() {
+        Some(out) => assert!(rt; wanted == Some(out.control)),
+        None => assert!(rt; wanted == None),
+    }
+}
+
+/// A payload comes to this.
+fn expect_sending<M: Modulus>(
     rt: &impl Abort,
     link: &mut Link<M>,
     letter: u8,
     now: Moment,
-) -> Result<(), SendRefusal> {
+    wanted: Result<(), SendRefusal>,
+) {
     assert!(rt; link.drained());
-    link.send(&text(letter), now)
+    assert!(rt; link.send(&text(letter), now) == wanted);
 }
 
-fn take(rt: &impl Abort, link: &mut Link<M8>) -> Option<Payload> {
+/// The oldest payload that came is this.
+fn expect_taken(rt: &impl Abort, link: &mut Link<M8>, letter: u8) {
     assert!(rt; link.drained());
-    link.take(NOW)
+    assert!(rt; link.take(NOW) == Some(text(letter)));
+}
+
+fn expect_acked(rt: &impl Abort, link: &Link<M8>, acked: u64) {
+    assert_eq!(rt; link.facts().acked, acked);
+}
+
+fn expect_phase(rt: &impl Abort, link: &Link<M8>, phase: LinkPhase) {
+    assert_eq!(rt; link.facts().phase, phase);
+}
+
+fn expect_drained<M: Modulus>(rt: &impl Abort, link: &Link<M>) {
+    assert!(rt; link.drained());
 }
 
 /// A frame without information comes.
@@ -71,56 +99,49 @@ fn expect_opened<M: Modulus>(rt: &impl Abort, link: &mut Link<M>) {
         Control::Sabme { pf: true }
     };
     hear(rt, link, true, set_up);
-    assert!(rt; next_control(link) == Some(Control::Ua { pf: true }));
+    expect_next(rt, link, Some(Control::Ua { pf: true }));
     assert!(rt; link.notice() == Some(LinkNotice::Opened));
 }
 
-#[test]
-fn a_lost_text_is_asked_for_and_all_come(rt: HostRuntime) -> Result<(), Fail> {
-    let mut left = Link::<M8>::new(rt.alloc(), CONFIG)?;
-    let mut right = Link::<M8>::new(rt.alloc(), CONFIG)?;
-    expect_opened(&rt, &mut left);
-    expect_opened(&rt, &mut right);
-
-    for n in 0..7 {
-        let out = expect_sent(&rt, &mut left, n, n);
-        if n > 0 {
-            bring(&rt, &mut right, &out);
-            let answer = next_control(&mut right);
-            let reject = Control::Rej { nr: 0, pf: false };
-            assert!(rt; answer == if n == 1 { Some(reject) } else { None });
-        }
-    }
-
-    hear(&rt, &mut left, false, Control::Rej { nr: 0, pf: false });
-    assert_eq!(rt; left.facts().acked, 0);
-    for n in 0..7 {
-        let out = left.next_out().expect(&rt, "a text goes out again");
-        assert!(rt;
-            out.control
-                == Control::I {
-                    ns: n,
-                    nr: 0,
-                    pf: false
-                }
-        );
-        bring(&rt, &mut right, &out);
-        assert!(rt;
-            next_control(&mut right)
-                == Some(Control::Rr {
-                    nr: n + 1,
-                    pf: false
-                })
-        );
-        assert!(rt; take(&rt, &mut right) == Some(text(n)));
-    }
-    assert!(rt; left.drained());
-    Ok(())
+/// Two links with one configuration, both set up by the other station.
+fn two_links(rt: &impl Abort, alloc: Global, window: u8, srej: bool) -> (Link<M8>, Link<M8>) {
+    let mut left = link(rt, alloc, window, srej);
+    let mut right = link(rt, alloc, window, srej);
+    expect_opened(rt, &mut left);
+    expect_opened(rt, &mut right);
+    (left, right)
 }
 
-/// A payload is accepted, and goes out with this number on the air.
-fn expect_sent<M: Modulus>(rt: &impl Abort, link: &mut Link<M>, letter: u8, ns: u8) -> LinkOut {
-    assert!(rt; send(rt, link, letter, NOW) == Ok(()));
+/// A text that was lost and those behind it go out again, come in order, and are taken.
+fn expect_all_again(rt: &impl Abort, left: &mut Link<M8>, right: &mut Link<M8>) {
+    for n in 0..7 {
+        let out = next_text(rt, left, n);
+        bring(rt, right, &out);
+        let nr = n + 1;
+        expect_next(rt, right, Some(Control::Rr { nr, pf: false }));
+        expect_taken(rt, right, n);
+    }
+    expect_drained(rt, left);
+}
+
+#[test]
+fn a_lost_text_is_asked_for_and_all_come(rt: HostRuntime) {
+    let (mut left, mut right) = two_links(&rt, rt.alloc(), 7, false);
+    let _ = expect_sent(&rt, &mut left, 0, 0);
+    let reject = Control::Rej { nr: 0, pf: false };
+    for n in 1..7 {
+        let out = expect_sent(&rt, &mut left, n, n);
+        bring(&rt, &mut right, &out);
+        expect_next(&rt, &mut right, if n == 1 { Some(reject) } else { None });
+    }
+
+    hear(&rt, &mut left, false, reject);
+    expect_acked(&rt, &left, 0);
+    expect_all_again(&rt, &mut left, &mut right);
+}
+
+/// A text goes out next, with this number on the air.
+fn next_text<M: Modulus>(rt: &impl Abort, link: &mut Link<M>, ns: u8) -> LinkOut {
     let out = link.next_out().expect(rt, "a text goes out");
     let text = Control::I {
         ns,
@@ -131,18 +152,27 @@ fn expect_sent<M: Modulus>(rt: &impl Abort, link: &mut Link<M>, letter: u8, ns: 
     out
 }
 
-#[test]
-fn a_lost_text_alone_is_asked_for(rt: HostRuntime) -> Result<(), Fail> {
-    let config = LinkConfig {
-        window: 4,
-        srej: true,
-        ..CONFIG
-    };
-    let mut left = Link::<M8>::new(rt.alloc(), config)?;
-    let mut right = Link::<M8>::new(rt.alloc(), config)?;
-    expect_opened(&rt, &mut left);
-    expect_opened(&rt, &mut right);
+/// A payload is accepted, and goes out with this number on the air.
+fn expect_sent<M: Modulus>(rt: &impl Abort, link: &mut Link<M>, letter: u8, ns: u8) -> LinkOut {
+    expect_sending(rt, link, letter, NOW, Ok(()));
+    next_text(rt, link, ns)
+}
 
+/// The third text goes out again, and comes; then all four are taken.
+fn expect_third_again(rt: &impl Abort, left: &mut Link<M8>, right: &mut Link<M8>) {
+    let again = left.next_out().expect(rt, "the text goes out again");
+    assert!(rt; again.payload == Some(text(2)));
+    expect_drained(rt, left);
+    bring(rt, right, &again);
+    expect_next(rt, right, Some(Control::Rr { nr: 4, pf: false }));
+    for n in 0..4 {
+        expect_taken(rt, right, n);
+    }
+}
+
+#[test]
+fn a_lost_text_alone_is_asked_for(rt: HostRuntime) {
+    let (mut left, mut right) = two_links(&rt, rt.alloc(), 4, true);
     let ask = Control::Srej { nr: 2, pf: false };
     for n in 0..4 {
         let out = expect_sent(&rt, &mut left, n, n);
@@ -152,21 +182,13 @@ fn a_lost_text_alone_is_asked_for(rt: HostRuntime) -> Result<(), Fail> {
                 nr: n + 1,
                 pf: false,
             };
-            assert!(rt; next_control(&mut right) == Some(if n == 3 { ask } else { ready }));
+            expect_next(&rt, &mut right, Some(if n == 3 { ask } else { ready }));
         }
     }
 
     hear(&rt, &mut left, false, ask);
-    assert_eq!(rt; left.facts().acked, 0);
-    let again = left.next_out().expect(&rt, "the text goes out again");
-    assert!(rt; again.payload == Some(text(2)));
-    assert!(rt; left.drained());
-    bring(&rt, &mut right, &again);
-    assert!(rt; next_control(&mut right) == Some(Control::Rr { nr: 4, pf: false }));
-    for n in 0..4 {
-        assert!(rt; take(&rt, &mut right) == Some(text(n)));
-    }
-    Ok(())
+    expect_acked(&rt, &left, 0);
+    expect_third_again(&rt, &mut left, &mut right);
 }
 
 #[test]
@@ -180,33 +202,33 @@ fn numbers_go_on_past_the_modulus(rt: HostRuntime) -> Result<(), Fail> {
     for n in 0..127 {
         let _ = expect_sent(&rt, &mut link, n, n);
     }
-    assert!(rt; send(&rt, &mut link, 127, NOW) == Ok(()));
-    assert!(rt; link.drained());
+    expect_sending(&rt, &mut link, 127, NOW, Ok(()));
+    expect_drained(&rt, &link);
 
     let all = Control::Rr { nr: 127, pf: false };
     hear(&rt, &mut link, false, all);
-    let last = Control::I {
-        ns: 127,
-        nr: 0,
-        pf: false,
-    };
-    assert!(rt; next_control(&mut link) == Some(last));
+    let _ = next_text(&rt, &mut link, 127);
     let _ = expect_sent(&rt, &mut link, 128, 0);
     Ok(())
 }
 
 #[test]
-fn when_a_payload_is_refused(rt: HostRuntime) -> Result<(), Fail> {
-    let mut link = Link::<M8>::new(rt.alloc(), CONFIG)?;
-    assert!(rt; send(&rt, &mut link, 0, NOW) == Err(SendRefusal::NotUp));
+fn when_a_payload_is_refused(rt: HostRuntime) {
+    let mut link = link(&rt, rt.alloc(), 7, false);
+    expect_sending(&rt, &mut link, 0, NOW, Err(SendRefusal::NotUp));
     expect_opened(&rt, &mut link);
     for _ in 0..128 {
-        assert!(rt; send(&rt, &mut link, 0, NOW) == Ok(()));
+        expect_sending(&rt, &mut link, 0, NOW, Ok(()));
         let _ = link.next_out();
     }
-    assert!(rt; send(&rt, &mut link, 0, NOW) == Err(SendRefusal::QueueFull));
-    assert_eq!(rt; link.facts().held, 128);
-    Ok(())
+    expect_sending(&rt, &mut link, 0, NOW, Err(SendRefusal::QueueFull));
+    assert!(rt; link.facts().held == 128);
+}
+
+/// Time goes on.
+fn tick(rt: &impl Abort, link: &mut Link<M8>, at: u64) {
+    assert!(rt; link.drained());
+    link.tick(Moment(at));
 }
 
 /// A link that gets no answer puts out the frame once for each retry, and then fails.
@@ -214,35 +236,32 @@ fn expect_failure(rt: &impl Abort, link: &mut Link<M8>, begun: u64, asks: Contro
     requires { begun ≤ 40000 }
 {
     for tries in 1..=2 {
-        assert!(rt; link.drained());
-        link.tick(Moment(begun + 3000 * tries));
-        assert!(rt; next_control(link) == Some(asks));
+        tick(rt, link, begun + 3000 * tries);
+        expect_next(rt, link, Some(asks));
     }
-    assert!(rt; link.drained());
-    link.tick(Moment(begun + 9000));
+    tick(rt, link, begun + 9000);
     assert!(rt; link.notice() == Some(LinkNotice::Failed));
-    assert!(rt; link.facts().phase == LinkPhase::Down);
+    expect_phase(rt, link, LinkPhase::Down);
 }
 
 #[test]
-fn nobody_answers(rt: HostRuntime) -> Result<(), Fail> {
-    let mut link = Link::<M8>::new(rt.alloc(), CONFIG)?;
+fn nobody_answers(rt: HostRuntime) {
+    let mut link = link(&rt, rt.alloc(), 7, false);
     assert!(rt; link.drained());
     link.set_up(Moment(0));
-    assert!(rt; next_control(&mut link) == Some(Control::Sabm { pf: true }));
+    expect_next(&rt, &mut link, Some(Control::Sabm { pf: true }));
     expect_failure(&rt, &mut link, 0, Control::Sabm { pf: true });
 
     expect_opened(&rt, &mut link);
-    assert!(rt; send(&rt, &mut link, 0, Moment(20_000)) == Ok(()));
+    expect_sending(&rt, &mut link, 0, Moment(20_000), Ok(()));
     let _ = link.next_out();
     expect_failure(&rt, &mut link, 20_000, Control::Rr { nr: 0, pf: true });
-    assert!(rt; next_control(&mut link) == Some(Control::Dm { pf: false }));
+    expect_next(&rt, &mut link, Some(Control::Dm { pf: false }));
 
     expect_opened(&rt, &mut link);
     assert!(rt; link.drained());
     link.close(Moment(40_000));
-    assert!(rt; next_control(&mut link) == Some(Control::Disc { pf: true }));
-    assert!(rt; link.facts().phase == LinkPhase::Releasing);
+    expect_next(&rt, &mut link, Some(Control::Disc { pf: true }));
+    expect_phase(&rt, &link, LinkPhase::Releasing);
     expect_failure(&rt, &mut link, 40_000, Control::Disc { pf: true });
-    Ok(())
 }

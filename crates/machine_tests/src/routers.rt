@@ -7,7 +7,6 @@ use radio_base::{Moment, NoMemory};
 use route_table::{RouteRules, RouteTable};
 use std::alloc::Global;
 use std::process::Abort;
-use std::test::Fail;
 
 const NOW: Moment = Moment(0);
 
@@ -44,11 +43,12 @@ fn datagram_of(origin: &str, dest: &str, ttl: u8) -> Datagram {
 
 /// A router that has a route to its neighbour, and by it one to N0DDD.
 fn router<C: Carrier + Drop>(
+    rt: &impl Abort,
     alloc: Global,
     own: &str,
     neighbour: &str,
     carrier: C,
-) -> Result<Router<C>, Fail> {
+) -> Router<C> {
     let rules = RouteRules {
         life: 6,
         least: 5,
@@ -62,93 +62,102 @@ fn router<C: Carrier + Drop>(
     };
     let mut table = RouteTable::new(alloc, call(own), rules);
     let heard = table.heard(&call(neighbour), &Alias::default(), 192, &[entry]);
-    heard.ok().ok_or("room")?;
-    Ok(Router::new(alloc, call(own), table, carrier, 2))
+    assert!(rt; heard == Ok(()));
+    Router::new(alloc, call(own), table, carrier, 2)
+}
+
+/// A router over a carrier in memory.
+fn plain(rt: &impl Abort, alloc: Global, own: &str, neighbour: &str) -> Router<PlainCarrier> {
+    router(rt, alloc, own, neighbour, PlainCarrier::new(alloc))
 }
 
 /// Hands in a datagram that came from a neighbour.
-fn bring(node: &mut Router<PlainCarrier>, from: &str, datagram: &Datagram) -> Result<(), Fail> {
-    node.carrier_mut().bring(&call(from), datagram)?;
-    Ok(())
+fn bring(rt: &impl Abort, node: &mut Router<PlainCarrier>, from: &str, datagram: &Datagram) {
+    let brought = node.carrier_mut().bring(&call(from), datagram);
+    assert!(rt; brought.is_ok());
 }
 
 /// Asserts what the next step of a router comes to.
-fn assert_next(
+fn expect_next<C: Carrier + Drop>(
     rt: &impl Abort,
-    node: &mut Router<PlainCarrier>,
-    wanted: Option<Routed>,
-) -> Result<(), Fail> {
-    assert!(rt; node.pump(NOW)? == wanted);
-    Ok(())
+    node: &mut Router<C>,
+    wanted: Result<Option<Routed>, NoMemory>,
+) {
+    assert!(rt; node.pump(NOW) == wanted);
+}
+
+/// Asserts what is sent on, and to which neighbour.
+fn expect_gone(rt: &impl Abort, node: &mut Router<PlainCarrier>, wanted: (Call, Datagram)) {
+    assert!(rt; node.carrier_mut().fetch() == Some(wanted));
+}
+
+/// Asserts what becomes of a transport that is sent.
+fn expect_sending<C: Carrier + Drop>(
+    rt: &impl Abort,
+    node: &mut Router<C>,
+    to: &str,
+    transport: &[u8],
+    wanted: Result<Sending, NoMemory>,
+) {
+    assert!(rt; transport.len() <= 241);
+    assert!(rt; node.send(&call(to), transport, NOW) == wanted);
 }
 
 #[test]
-fn a_datagram_of_another_maker_goes_on(rt: HostRuntime) -> Result<(), Fail> {
-    let carrier = PlainCarrier::new(rt.alloc());
-    let mut node = router(rt.alloc(), "N0CCC", "N0AAA", carrier)?;
+fn a_datagram_of_another_maker_goes_on(rt: HostRuntime) {
+    let mut node = plain(&rt, rt.alloc(), "N0CCC", "N0AAA");
     let head = DatagramHead {
         origin: call("N0BBB"),
         dest: call("N0AAA"),
         ttl: 15,
     };
     assert!(rt; read_datagram(&CAME) == Ok(head));
-    bring(&mut node, "N0BBB", &datagram(&CAME))?;
-    assert_next(&rt, &mut node, Some(Routed::Forwarded))?;
-    let went = node.carrier_mut().fetch();
-    assert!(rt; went == Some((call("N0AAA"), datagram(&WENT))));
-    Ok(())
+    bring(&rt, &mut node, "N0BBB", &datagram(&CAME));
+    expect_next(&rt, &mut node, Ok(Some(Routed::Forwarded)));
+    expect_gone(&rt, &mut node, (call("N0AAA"), datagram(&WENT)));
 }
 
 #[test]
-fn two_hops_and_no_third(rt: HostRuntime) -> Result<(), Fail> {
-    let mut a = router(rt.alloc(), "N0AAA", "N0BBB", PlainCarrier::new(rt.alloc()))?;
-    let mut b = router(rt.alloc(), "N0BBB", "N0AAA", PlainCarrier::new(rt.alloc()))?;
-    bring(&mut a, "N0EEE", &datagram_of("N0EEE", "N0DDD", 2))?;
-    assert_next(&rt, &mut a, Some(Routed::Forwarded))?;
-    match a.carrier_mut().fetch() {
-        None => assert!(rt; false),
-        Some((to, went)) => {
-            assert_eq!(rt; to, call("N0BBB"));
-            assert!(rt; went == datagram_of("N0EEE", "N0DDD", 1));
-            bring(&mut b, "N0AAA", &went)?;
-        }
-    }
-    assert_next(&rt, &mut b, Some(Routed::Expired))?;
-    assert_next(&rt, &mut b, None)
+fn two_hops_and_no_third(rt: HostRuntime) {
+    let mut a = plain(&rt, rt.alloc(), "N0AAA", "N0BBB");
+    let mut b = plain(&rt, rt.alloc(), "N0BBB", "N0AAA");
+    bring(&rt, &mut a, "N0EEE", &datagram_of("N0EEE", "N0DDD", 2));
+    expect_next(&rt, &mut a, Ok(Some(Routed::Forwarded)));
+    let went = datagram_of("N0EEE", "N0DDD", 1);
+    bring(&rt, &mut b, "N0AAA", &went);
+    expect_gone(&rt, &mut a, (call("N0BBB"), went));
+    expect_next(&rt, &mut b, Ok(Some(Routed::Expired)));
+    expect_next(&rt, &mut b, Ok(None));
 }
 
 #[test]
-fn what_does_not_go_on(rt: HostRuntime) -> Result<(), Fail> {
-    let mut node = router(rt.alloc(), "N0AAA", "N0BBB", PlainCarrier::new(rt.alloc()))?;
+fn what_does_not_go_on(rt: HostRuntime) {
+    let mut node = plain(&rt, rt.alloc(), "N0AAA", "N0BBB");
     let mine = datagram_of("N0EEE", "N0AAA", 1);
-    bring(&mut node, "N0BBB", &mine)?;
-    bring(&mut node, "N0BBB", &datagram_of("N0AAA", "N0DDD", 2))?;
-    bring(&mut node, "N0BBB", &datagram_of("N0EEE", "N0FFF", 2))?;
-    bring(&mut node, "N0BBB", &datagram(&CAME[..14]))?;
+    bring(&rt, &mut node, "N0BBB", &mine);
+    bring(&rt, &mut node, "N0BBB", &datagram_of("N0AAA", "N0DDD", 2));
+    bring(&rt, &mut node, "N0BBB", &datagram_of("N0EEE", "N0FFF", 2));
+    bring(&rt, &mut node, "N0BBB", &datagram(&CAME[..14]));
     let origin = call("N0EEE");
     let datagram = mine;
-    assert_next(&rt, &mut node, Some(Routed::Mine { origin, datagram }))?;
-    assert_next(&rt, &mut node, Some(Routed::Returned))?;
-    assert_next(&rt, &mut node, Some(Routed::NoRoute))?;
-    assert_next(&rt, &mut node, Some(Routed::Bad))?;
-    assert_next(&rt, &mut node, None)
+    expect_next(&rt, &mut node, Ok(Some(Routed::Mine { origin, datagram })));
+    expect_next(&rt, &mut node, Ok(Some(Routed::Returned)));
+    expect_next(&rt, &mut node, Ok(Some(Routed::NoRoute)));
+    expect_next(&rt, &mut node, Ok(Some(Routed::Bad)));
+    expect_next(&rt, &mut node, Ok(None));
 }
 
 #[test]
-fn one_offer_too_many(rt: HostRuntime) -> Result<(), Fail> {
-    let mut node = router(rt.alloc(), "N0AAA", "N0BBB", PlainCarrier::new(rt.alloc()))?;
-    let to = call("N0DDD");
+fn one_offer_too_many(rt: HostRuntime) {
+    let mut node = plain(&rt, rt.alloc(), "N0AAA", "N0BBB");
     for _ in 0..1024 {
-        assert_eq!(rt;
-            node.send(&to, b"\x01\x02\x03\x04\x05", NOW)?,
-            Sending::Sent
-        );
+        let transport = b"\x01\x02\x03\x04\x05";
+        expect_sending(&rt, &mut node, "N0DDD", transport, Ok(Sending::Sent));
     }
-    assert_eq!(rt; node.send(&to, b"", NOW)?, Sending::Dropped);
+    expect_sending(&rt, &mut node, "N0DDD", b"", Ok(Sending::Dropped));
     assert!(rt; node.carrier_mut().fetch().is_some());
-    assert_eq!(rt; node.send(&to, b"", NOW)?, Sending::Sent);
-    assert_eq!(rt; node.send(&call("N0FFF"), b"", NOW)?, Sending::NoRoute);
-    Ok(())
+    expect_sending(&rt, &mut node, "N0DDD", b"", Ok(Sending::Sent));
+    expect_sending(&rt, &mut node, "N0FFF", b"", Ok(Sending::NoRoute));
 }
 
 /// A carrier that loses one neighbour and has no memory for an offer.
@@ -188,17 +197,16 @@ impl Carrier for Failing {
 }
 
 #[test]
-fn a_lost_neighbour_and_a_spent_router(rt: HostRuntime) -> Result<(), Fail> {
+fn a_lost_neighbour_and_a_spent_router(rt: HostRuntime) {
     let lost = Some(call("N0BBB"));
-    let mut node = router(rt.alloc(), "N0AAA", "N0BBB", Failing { lost })?;
-    assert!(rt; node.pump(NOW)? == Some(Routed::Lost(call("N0BBB"))));
-    assert!(rt; node.pump(NOW)? == None);
-    assert_eq!(rt; node.send(&call("N0DDD"), b"", NOW)?, Sending::NoRoute);
+    let mut node = router(&rt, rt.alloc(), "N0AAA", "N0BBB", Failing { lost });
+    expect_next(&rt, &mut node, Ok(Some(Routed::Lost(call("N0BBB")))));
+    expect_next(&rt, &mut node, Ok(None));
+    expect_sending(&rt, &mut node, "N0DDD", b"", Ok(Sending::NoRoute));
     let table = node.table_mut();
     let heard = table.heard(&call("N0CCC"), &Alias::default(), 192, &[]);
-    heard.ok().ok_or("room")?;
-    assert_eq!(rt; node.send(&call("N0CCC"), b"", NOW), Err(NoMemory));
-    assert_eq!(rt; node.send(&call("N0FFF"), b"", NOW), Err(NoMemory));
-    assert!(rt; node.pump(NOW) == Err(NoMemory));
-    Ok(())
+    assert!(rt; heard == Ok(()));
+    expect_sending(&rt, &mut node, "N0CCC", b"", Err(NoMemory));
+    expect_sending(&rt, &mut node, "N0FFF", b"", Err(NoMemory));
+    expect_next(&rt, &mut node, Err(NoMemory));
 }
