@@ -5,10 +5,9 @@ use circuit_l4::{
     End, EndConfig, EndNotice, EndPhase, Flags, MAX_TEXT, Pair, QUEUE_MAX, Transport, WriteRefusal,
 };
 use l3_datagram::Message;
-use radio_base::{M256, Modulus, Moment, NoMemory};
+use radio_base::{M256, Modulus, Moment};
 use std::alloc::Global;
 use std::process::Abort;
-use std::test::Fail;
 
 const CONFIG: EndConfig = EndConfig {
     window: 4,
@@ -25,9 +24,10 @@ const OWN: Pair = Pair { index: 1, ident: 2 };
 const PARTNER: Pair = Pair { index: 3, ident: 4 };
 
 /// An end whose request has gone out.
-fn connecting(rt: &impl Abort, alloc: Global) -> Result<End, NoMemory> {
+fn connecting(rt: &impl Abort, alloc: Global) -> End {
     let (user, node) = (Call::default(), Call::default());
-    let mut end = End::requester(alloc, OWN, user, node, CONFIG, NOW)?;
+    let made = End::requester(alloc, OWN, user, node, CONFIG, NOW);
+    let mut end = made.ok().expect(rt, "memory");
     let request = Transport::Request {
         pair: OWN,
         window: 4,
@@ -35,23 +35,60 @@ fn connecting(rt: &impl Abort, alloc: Global) -> Result<End, NoMemory> {
         node,
     };
     expect_out(rt, &mut end, request);
-    Ok(end)
+    end
 }
 
 /// An end that is Up, with a window of 4.
-fn up(rt: &impl Abort, alloc: Global) -> Result<End, NoMemory> {
-    let mut end = End::responder(alloc, OWN, PARTNER, 4, CONFIG, NOW)?;
+fn up(rt: &impl Abort, alloc: Global) -> End {
+    let made = End::responder(alloc, OWN, PARTNER, 4, CONFIG, NOW);
+    let mut end = made.ok().expect(rt, "memory");
     expect_opened(rt, &mut end, 4);
-    Ok(end)
+    end
+}
+
+/// An end that is Up: its own window is 127, it was asked for the first window, and accepted with the second.
+fn answering(rt: &impl Abort, alloc: Global, asked: u8, window: u8) -> End {
+    let config = EndConfig {
+        window: 127,
+        ..CONFIG
+    };
+    let made = End::responder(alloc, OWN, PARTNER, asked, config, NOW);
+    let mut end = made.ok().expect(rt, "memory");
+    expect_opened(rt, &mut end, window);
+    end
 }
 
 /// The end accepts with this window, and is Up.
 fn expect_opened(rt: &impl Abort, end: &mut End, window: u8) {
     let (to, own) = (PARTNER, OWN);
-    assert!(rt; end.notice() == Some(EndNotice::Opened { window }));
+    expect_notice(rt, end, EndNotice::Opened { window });
     expect_out(rt, end, Transport::Accept { to, own, window });
-    assert_eq!(rt; end.facts().phase, EndPhase::Up);
+    expect_phase(rt, end, EndPhase::Up);
     assert_eq!(rt; end.facts().window, window);
+}
+
+/// This is told next.
+fn expect_notice(rt: &impl Abort, end: &mut End, notice: EndNotice) {
+    assert!(rt; end.notice() == Some(notice));
+}
+
+fn expect_phase(rt: &impl Abort, end: &End, phase: EndPhase) {
+    assert_eq!(rt; end.facts().phase, phase);
+}
+
+/// So many bytes are written and not wholly acknowledged.
+fn expect_queued(rt: &impl Abort, end: &End, queued: usize) {
+    assert_eq!(rt; end.facts().queued, queued);
+}
+
+/// So many fragments are acknowledged.
+fn expect_acked(rt: &impl Abort, end: &End, acked: u64) {
+    assert_eq!(rt; end.facts().acked, acked);
+}
+
+/// So many messages have come.
+fn expect_received(rt: &impl Abort, end: &End, received: u64) {
+    assert_eq!(rt; end.facts().received, received);
 }
 
 /// This goes out, and nothing else.
@@ -84,9 +121,9 @@ fn expect_sent(rt: &impl Abort, end: &mut End, number: u8) {
 
 /// The end has ended with this notice, and puts out nothing more.
 fn expect_ended(rt: &impl Abort, end: &mut End, notice: EndNotice) {
-    assert!(rt; end.notice() == Some(notice));
+    expect_notice(rt, end, notice);
     assert!(rt; end.drained());
-    assert_eq!(rt; end.facts().phase, EndPhase::Ended);
+    expect_phase(rt, end, EndPhase::Ended);
 }
 
 fn text(bytes: &[u8]) -> ArrayVec<u8, 236> {
@@ -115,9 +152,10 @@ fn hear_text(rt: &impl Abort, end: &mut End, tx: u8, bytes: &[u8], more: bool) {
     hear(rt, end, info);
 }
 
-fn write(rt: &impl Abort, end: &mut End, message: &[u8]) -> Result<(), WriteRefusal> {
+/// Asserts what becomes of a message.
+fn write(rt: &impl Abort, end: &mut End, message: &[u8], wanted: Result<(), WriteRefusal>) {
     assert!(rt; end.drained());
-    end.write(message, NOW)
+    assert!(rt; end.write(message, NOW) == wanted);
 }
 
 fn close(rt: &impl Abort, end: &mut End) {
@@ -130,50 +168,42 @@ fn tick(rt: &impl Abort, end: &mut End, at: u64) {
     end.tick(Moment(at));
 }
 
-fn take(rt: &impl Abort, end: &mut End, out: &mut Message) -> bool {
+/// Asserts whether a message is there to take.
+fn take(rt: &impl Abort, end: &mut End, out: &mut Message, wanted: bool) {
     assert!(rt; end.drained());
-    end.take(out, NOW)
+    assert!(rt; end.take(out, NOW) == wanted);
 }
 
 #[test]
-fn the_window_is_at_most_the_own_one_and_at_least_one(rt: HostRuntime) -> Result<(), Fail> {
-    let config = EndConfig {
-        window: 127,
-        ..CONFIG
-    };
+fn the_window_is_at_most_the_own_one_and_at_least_one(rt: HostRuntime) {
     for (proposed, window) in [(255, 127), (0, 1)] {
-        let mut end = End::responder(rt.alloc(), OWN, PARTNER, proposed, config, NOW)?;
-        expect_opened(&rt, &mut end, window);
+        let _ = answering(&rt, rt.alloc(), proposed, window);
     }
-    Ok(())
 }
 
 #[test]
-fn when_a_message_is_refused(rt: HostRuntime) -> Result<(), Fail> {
-    let mut end = connecting(&rt, rt.alloc())?;
-    assert!(rt; write(&rt, &mut end, &[7]) == Err(WriteRefusal::NotUp));
-
-    let mut end = up(&rt, rt.alloc())?;
-    assert!(rt; write(&rt, &mut end, &[]) == Err(WriteRefusal::Empty));
-    assert!(rt; write(&rt, &mut end, &[7; 8193]) == Err(WriteRefusal::TooLong));
+fn when_a_message_is_refused(rt: HostRuntime) {
+    expect_not_up(&rt, rt.alloc());
+    let mut end = up(&rt, rt.alloc());
+    write(&rt, &mut end, &[], Err(WriteRefusal::Empty));
+    write(&rt, &mut end, &[7; 8193], Err(WriteRefusal::TooLong));
     for _ in 0..8 {
-        assert!(rt; write(&rt, &mut end, &[7; 8192]) == Ok(()));
+        write(&rt, &mut end, &[7; 8192], Ok(()));
         for _ in 0..4 {
             let _ = end.next_out();
         }
     }
-    assert!(rt; write(&rt, &mut end, &[7]) == Err(WriteRefusal::QueueFull));
-    assert_eq!(rt; end.facts().queued, QUEUE_MAX);
+    write(&rt, &mut end, &[7], Err(WriteRefusal::QueueFull));
+    expect_queued(&rt, &end, QUEUE_MAX);
     close(&rt, &mut end);
-    assert!(rt; write(&rt, &mut end, &[7]) == Err(WriteRefusal::Closing));
-    Ok(())
+    write(&rt, &mut end, &[7], Err(WriteRefusal::Closing));
 }
 
 #[test]
-fn an_acknowledgement_of_what_is_not_out_changes_no_count(rt: HostRuntime) -> Result<(), Fail> {
-    let mut end = up(&rt, rt.alloc())?;
+fn an_acknowledgement_of_what_is_not_out_changes_no_count(rt: HostRuntime) {
+    let mut end = up(&rt, rt.alloc());
     for number in 0..4 {
-        assert!(rt; write(&rt, &mut end, &[7]) == Ok(()));
+        write(&rt, &mut end, &[7], Ok(()));
         expect_sent(&rt, &mut end, number);
     }
     let before = end.facts();
@@ -181,55 +211,60 @@ fn an_acknowledgement_of_what_is_not_out_changes_no_count(rt: HostRuntime) -> Re
     hear(&rt, &mut end, Transport::InfoAck { to, rx: 5, flags });
     assert!(rt; end.facts() == before);
     hear(&rt, &mut end, Transport::InfoAck { to, rx: 4, flags });
-    assert_eq!(rt; end.facts().acked, 4);
-    assert_eq!(rt; end.facts().queued, 0);
-    Ok(())
+    expect_acked(&rt, &end, 4);
+    expect_queued(&rt, &end, 0);
 }
 
 #[test]
-fn numbers_go_on_past_255(rt: HostRuntime) -> Result<(), Fail> {
-    let mut end = up(&rt, rt.alloc())?;
+fn numbers_go_on_past_255(rt: HostRuntime) {
+    let mut end = up(&rt, rt.alloc());
     for number in 0..=255 {
         hear_text(&rt, &mut end, number, &[7], false);
         expect_told(&rt, &mut end, number.wrapping_add(1), false);
     }
     hear_text(&rt, &mut end, 0, &[7], false);
     expect_told(&rt, &mut end, 1, false);
-    assert_eq!(rt; end.facts().received, 257);
-    Ok(())
+    expect_received(&rt, &end, 257);
 }
 
 #[test]
-fn what_the_other_end_answers(rt: HostRuntime) -> Result<(), Fail> {
-    let mut end = connecting(&rt, rt.alloc())?;
+fn what_the_other_end_answers(rt: HostRuntime) {
+    expect_closed(&rt, rt.alloc());
+    let mut end = connecting(&rt, rt.alloc());
+    hear(&rt, &mut end, Transport::Refuse { to: OWN });
+    expect_ended(&rt, &mut end, EndNotice::Refused);
+    expect_closed_by_partner(&rt, rt.alloc());
+}
+
+/// The other end accepts, and then this end closes.
+fn expect_closed(rt: &impl Abort, alloc: Global) {
+    let mut end = connecting(rt, alloc);
     let accept = Transport::Accept {
         to: OWN,
         own: PARTNER,
         window: 3,
     };
-    hear(&rt, &mut end, accept);
-    assert!(rt; end.notice() == Some(EndNotice::Opened { window: 3 }));
-    close(&rt, &mut end);
-    expect_out(&rt, &mut end, Transport::Disconnect { to: PARTNER });
-    assert_eq!(rt; end.facts().phase, EndPhase::Closing);
-    hear(&rt, &mut end, Transport::Disconnected { to: OWN });
-    expect_ended(&rt, &mut end, EndNotice::Closed);
+    hear(rt, &mut end, accept);
+    expect_notice(rt, &mut end, EndNotice::Opened { window: 3 });
+    close(rt, &mut end);
+    expect_out(rt, &mut end, Transport::Disconnect { to: PARTNER });
+    expect_phase(rt, &end, EndPhase::Closing);
+    hear(rt, &mut end, Transport::Disconnected { to: OWN });
+    expect_ended(rt, &mut end, EndNotice::Closed);
+}
 
-    let mut end = connecting(&rt, rt.alloc())?;
-    hear(&rt, &mut end, Transport::Refuse { to: OWN });
-    expect_ended(&rt, &mut end, EndNotice::Refused);
-
-    let mut end = up(&rt, rt.alloc())?;
-    hear(&rt, &mut end, Transport::Disconnect { to: OWN });
-    expect_out(&rt, &mut end, Transport::Disconnected { to: PARTNER });
-    expect_ended(&rt, &mut end, EndNotice::ClosedByPartner);
-    Ok(())
+/// The other end closes.
+fn expect_closed_by_partner(rt: &impl Abort, alloc: Global) {
+    let mut end = up(rt, alloc);
+    hear(rt, &mut end, Transport::Disconnect { to: OWN });
+    expect_out(rt, &mut end, Transport::Disconnected { to: PARTNER });
+    expect_ended(rt, &mut end, EndNotice::ClosedByPartner);
 }
 
 #[test]
-fn the_third_expiry_without_an_answer_ends_it(rt: HostRuntime) -> Result<(), Fail> {
-    let mut end = up(&rt, rt.alloc())?;
-    assert!(rt; write(&rt, &mut end, &[7]) == Ok(()));
+fn the_third_expiry_without_an_answer_ends_it(rt: HostRuntime) {
+    let mut end = up(&rt, rt.alloc());
+    write(&rt, &mut end, &[7], Ok(()));
     expect_sent(&rt, &mut end, 0);
     for at in [1000, 2000] {
         tick(&rt, &mut end, at);
@@ -237,32 +272,34 @@ fn the_third_expiry_without_an_answer_ends_it(rt: HostRuntime) -> Result<(), Fai
     }
     tick(&rt, &mut end, 3000);
     expect_ended(&rt, &mut end, EndNotice::FailedRetries);
-    Ok(())
 }
 
 #[test]
-fn too_long_a_message_and_too_long_a_silence_end_it(rt: HostRuntime) -> Result<(), Fail> {
-    let mut end = up(&rt, rt.alloc())?;
+fn too_long_a_message_and_too_long_a_silence_end_it(rt: HostRuntime) {
+    let mut end = up(&rt, rt.alloc());
     for number in 0..34 {
         hear_text(&rt, &mut end, number, &[7; MAX_TEXT], true);
         expect_told(&rt, &mut end, number + 1, false);
     }
     hear_text(&rt, &mut end, 34, &[7; MAX_TEXT], true);
     expect_ended(&rt, &mut end, EndNotice::FailedOversize);
+    expect_silence_ends(&rt, rt.alloc());
+}
 
-    let mut end = up(&rt, rt.alloc())?;
-    tick(&rt, &mut end, 899_999);
+/// A silence of 900,000 milliseconds ends an end, and no shorter one.
+fn expect_silence_ends(rt: &impl Abort, alloc: Global) {
+    let mut end = up(rt, alloc);
+    tick(rt, &mut end, 899_999);
     assert!(rt; end.drained());
-    tick(&rt, &mut end, 900_000);
-    expect_ended(&rt, &mut end, EndNotice::FailedInactive);
-    Ok(())
+    tick(rt, &mut end, 900_000);
+    expect_ended(rt, &mut end, EndNotice::FailedInactive);
 }
 
 #[test]
-fn a_busy_end_takes_no_text_until_a_message_is_taken(rt: HostRuntime) -> Result<(), Fail> {
-    let mut end = up(&rt, rt.alloc())?;
+fn a_busy_end_takes_no_text_until_a_message_is_taken(rt: HostRuntime) {
+    let mut end = up(&rt, rt.alloc());
     let mut out = Message::new();
-    assert!(rt; !take(&rt, &mut end, &mut out));
+    take(&rt, &mut end, &mut out, false);
     for number in 0..69 {
         hear_text(&rt, &mut end, number, &[number; MAX_TEXT], false);
         expect_told(&rt, &mut end, number + 1, false);
@@ -272,14 +309,13 @@ fn a_busy_end_takes_no_text_until_a_message_is_taken(rt: HostRuntime) -> Result<
     assert_eq!(rt; end.facts().waiting, 16_384);
     hear_text(&rt, &mut end, 70, &[70], false);
     expect_told(&rt, &mut end, 70, true);
-    assert_eq!(rt; end.facts().received, 70);
+    expect_received(&rt, &end, 70);
 
-    assert!(rt; take(&rt, &mut end, &mut out));
+    take(&rt, &mut end, &mut out, true);
     assert!(rt; out.as_slice() == [0; MAX_TEXT].as_slice());
     expect_told(&rt, &mut end, 70, false);
     hear_text(&rt, &mut end, 70, &[70], false);
     expect_told(&rt, &mut end, 71, false);
-    Ok(())
 }
 
 /// A message that has other bytes at each place of a fragment.
@@ -289,6 +325,12 @@ fn long_message() -> [u8; 8191] {
         bytes[at] = (at % 251) as u8;
     }
     bytes
+}
+
+/// An end whose request isn't answered yet takes no message.
+fn expect_not_up(rt: &impl Abort, alloc: Global) {
+    let mut end = connecting(rt, alloc);
+    write(rt, &mut end, &[7], Err(WriteRefusal::NotUp));
 }
 
 /// The fragments of a message go out, the first with this number.
@@ -311,21 +353,15 @@ fn expect_fragments(rt: &impl Abort, end: &mut End, message: &[u8], first: u64) 
 }
 
 #[test]
-fn text_goes_out_as_it_was_written_past_65536_bytes(rt: HostRuntime) -> Result<(), Fail> {
-    let config = EndConfig {
-        window: 127,
-        ..CONFIG
-    };
-    let mut end = End::responder(rt.alloc(), OWN, PARTNER, 127, config, NOW)?;
-    expect_opened(&rt, &mut end, 127);
+fn text_goes_out_as_it_was_written_past_65536_bytes(rt: HostRuntime) {
+    let mut end = answering(&rt, rt.alloc(), 127, 127);
     let message = long_message();
     for nth in 0..20u64 {
-        assert!(rt; write(&rt, &mut end, &message) == Ok(()));
+        write(&rt, &mut end, &message, Ok(()));
         expect_fragments(&rt, &mut end, &message, 35 * nth);
         let (to, rx, flags) = (OWN, M256::wire(35 * nth + 34), Flags::default());
         hear(&rt, &mut end, Transport::InfoAck { to, rx, flags });
     }
-    assert_eq!(rt; end.facts().acked, 699);
-    assert_eq!(rt; end.facts().queued, 8191);
-    Ok(())
+    expect_acked(&rt, &end, 699);
+    expect_queued(&rt, &end, 8191);
 }

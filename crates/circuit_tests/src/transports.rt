@@ -2,7 +2,7 @@
 use arrayvec::ArrayVec;
 use ax_address::Call;
 use circuit_l4::{Flags, Pair, Transport, TransportRefusal, read_transport, write_transport};
-use std::test::Fail;
+use std::process::Abort;
 
 /// N0AAA asks from its own node, with the pair 1, 1 and a window of 4.
 const REQUEST: [u8; 20] = [
@@ -16,31 +16,45 @@ const LINUX_ACCEPT: [u8; 7] = [0x01, 0x01, 0x01, 0x01, 0x02, 0x04, 0x10];
 const TO: Pair = Pair { index: 7, ident: 9 };
 
 /// The transport is written as these octets, and they are read as it.
-fn goes_both_ways(transport: Transport, octets: &[u8]) -> bool {
-    write_transport(&transport).as_slice() == octets && read_transport(octets) == Ok(transport)
+fn expect_both_ways(rt: &impl Abort, transport: Transport, octets: &[u8]) {
+    assert!(rt;
+        write_transport(&transport).as_slice() == octets,
+        "{octets:?}"
+    );
+    expect_read(rt, octets, transport);
+}
+
+/// The octets are read as this transport.
+fn expect_read(rt: &impl Abort, octets: &[u8], transport: Transport) {
+    assert!(rt; read_transport(octets) == Ok(transport), "{octets:?}");
+}
+
+/// The octets are no transport, for this reason.
+fn expect_refused(rt: &impl Abort, octets: &[u8], refusal: TransportRefusal) {
+    assert!(rt; read_transport(octets) == Err(refusal), "{octets:?}");
 }
 
 #[test]
-fn a_request(rt: HostRuntime) -> Result<(), Fail> {
+fn a_request(rt: HostRuntime) {
+    let call = Call::read(b"N0AAA").ok().expect(&rt, "a call");
     let request = Transport::Request {
         pair: Pair { index: 1, ident: 1 },
         window: 4,
-        user: Call::read(b"N0AAA")?,
-        node: Call::read(b"N0AAA")?,
+        user: call,
+        node: call,
     };
-    assert!(rt; goes_both_ways(request, &REQUEST));
-    assert!(rt; read_transport(&REQUEST[..4]) == Err(TransportRefusal::Short { at: 4 }));
-    assert!(rt; read_transport(&REQUEST[..5]) == Err(TransportRefusal::Short { at: 5 }));
-    assert!(rt; read_transport(&REQUEST[..19]) == Err(TransportRefusal::Short { at: 19 }));
+    expect_both_ways(&rt, request, &REQUEST);
+    for at in [4, 5, 19] {
+        expect_refused(&rt, &REQUEST[..at], TransportRefusal::Short { at });
+    }
     let mut octets = REQUEST;
     octets[15] = 0x83;
-    assert!(rt; read_transport(&octets[..17]) == Err(TransportRefusal::BadCall { at: 15 }));
+    expect_refused(&rt, &octets[..17], TransportRefusal::BadCall { at: 15 });
     octets[4] = 0x11;
-    assert!(rt; read_transport(&octets) == Err(TransportRefusal::BadOpcode));
+    expect_refused(&rt, &octets, TransportRefusal::BadOpcode);
     octets[4] = 0x07;
-    assert!(rt; read_transport(&octets) == Err(TransportRefusal::BadOpcode));
-    assert!(rt; read_transport(&[0; 242]) == Err(TransportRefusal::TooLong));
-    Ok(())
+    expect_refused(&rt, &octets, TransportRefusal::BadOpcode);
+    expect_refused(&rt, &[0; 242], TransportRefusal::TooLong);
 }
 
 #[test]
@@ -48,26 +62,16 @@ fn answers_and_ends(rt: HostRuntime) {
     let to = TO;
     let own = Pair { index: 2, ident: 3 };
     let window = 5;
-    assert!(rt;
-        goes_both_ways(
-            Transport::Accept { to, own, window },
-            &[7, 9, 2, 3, 0x02, 5]
-        )
-    );
-    assert!(rt; goes_both_ways(Transport::Refuse { to }, &[7, 9, 0, 0, 0x82, 0]));
-    assert!(rt; read_transport(&[7, 9, 0, 0, 0x82]) == Ok(Transport::Refuse { to }));
-    assert!(rt; goes_both_ways(Transport::Disconnect { to }, &[7, 9, 0, 0, 0x03]));
-    assert!(rt; goes_both_ways(Transport::Disconnected { to }, &[7, 9, 0, 0, 0x04]));
-    assert!(rt; read_transport(&[7, 9, 1, 1, 0xE4, 1]) == Ok(Transport::Disconnected { to }));
+    let accept = Transport::Accept { to, own, window };
+    expect_both_ways(&rt, accept, &[7, 9, 2, 3, 0x02, 5]);
+    expect_both_ways(&rt, Transport::Refuse { to }, &[7, 9, 0, 0, 0x82, 0]);
+    expect_read(&rt, &[7, 9, 0, 0, 0x82], Transport::Refuse { to });
+    expect_both_ways(&rt, Transport::Disconnect { to }, &[7, 9, 0, 0, 0x03]);
+    expect_both_ways(&rt, Transport::Disconnected { to }, &[7, 9, 0, 0, 0x04]);
+    expect_read(&rt, &[7, 9, 1, 1, 0xE4, 1], Transport::Disconnected { to });
     let one = Pair { index: 1, ident: 1 };
-    assert!(rt;
-        read_transport(&LINUX_ACCEPT)
-            == Ok(Transport::Accept {
-                to: one,
-                own: one,
-                window: 4
-            })
-    );
+    let (to, own, window) = (one, one, 4);
+    expect_read(&rt, &LINUX_ACCEPT, Transport::Accept { to, own, window });
 }
 
 #[test]
@@ -87,12 +91,12 @@ fn text_and_what_was_got(rt: HostRuntime) {
         flags: more,
         text,
     };
-    assert!(rt; goes_both_ways(info, &[7, 9, 4, 6, 0x25, b'h', b'i']));
+    expect_both_ways(&rt, info, &[7, 9, 4, 6, 0x25, b'h', b'i']);
     let flags = Flags {
         choke: true,
         nak: true,
         more: false,
     };
     let ack = Transport::InfoAck { to, rx: 6, flags };
-    assert!(rt; goes_both_ways(ack, &[7, 9, 0, 6, 0xC6]));
+    expect_both_ways(&rt, ack, &[7, 9, 0, 6, 0xC6]);
 }
