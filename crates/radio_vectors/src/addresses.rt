@@ -3,7 +3,7 @@ use crate::Maker;
 use ax_address::{AddressRefusal, CallRefusal};
 
 /// One address: the octets are read as it, and it is written as them.
-#[derive(Clone, Copy, Debug, PartialEq, Eq)]
+#[derive(Clone, Copy)]
 pub struct AddressVector {
     pub maker: Maker,
     pub octets: [u8; 7],

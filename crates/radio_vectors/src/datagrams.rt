@@ -3,7 +3,7 @@ use crate::Maker;
 use l3_datagram::DatagramRefusal;
 
 /// A datagram: the octets are read as it, and it is written as `written`.
-#[derive(Clone, Copy, Debug, PartialEq, Eq)]
+#[derive(Clone, Copy)]
 pub struct DatagramVector {
     pub maker: Maker,
     /// As they came.

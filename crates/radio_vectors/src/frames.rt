@@ -6,7 +6,7 @@ use ax_frame::{Control, FrameRefusal};
 pub type Station = (&'static str, bool);
 
 /// A frame: the octets are read as it, and it is written as them. The reserved bits of its addresses are 1.
-#[derive(Clone, Copy, Debug, PartialEq, Eq)]
+#[derive(Clone, Copy)]
 pub struct FrameVector {
     pub maker: Maker,
     pub octets: &'static [u8],

@@ -2,7 +2,7 @@
 use crate::Maker;
 
 /// What a KISS frame has.
-#[derive(Clone, Copy, Debug, PartialEq, Eq)]
+#[derive(Clone, Copy)]
 pub struct KissFrame {
     /// From 0 to 15.
     pub port: u8,
@@ -13,7 +13,7 @@ pub struct KissFrame {
 }
 
 /// A KISS frame alone: the bytes are read as it, and it is written as them.
-#[derive(Clone, Copy, Debug, PartialEq, Eq)]
+#[derive(Clone, Copy)]
 pub struct KissVector {
     pub maker: Maker,
     pub bytes: &'static [u8],
@@ -21,7 +21,7 @@ pub struct KissVector {
 }
 
 /// A stream that is read alone: no frame is written so.
-#[derive(Clone, Copy, Debug, PartialEq, Eq)]
+#[derive(Clone, Copy)]
 pub struct KissStream {
     pub bytes: &'static [u8],
     /// The frames, each with the place of the byte that ends it, from 0.

@@ -1,7 +1,7 @@
 //! Who made the octets of a vector.
 
 /// Who made the octets of a vector. Its values never come from the codecs of this repository.
-#[derive(Clone, Copy, Debug, PartialEq, Eq)]
+#[derive(Clone, Copy)]
 pub enum Maker {
     /// Worked by hand from the layout.
     Worked,

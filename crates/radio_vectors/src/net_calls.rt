@@ -3,7 +3,7 @@ use crate::Maker;
 use ax_address::AddressRefusal;
 
 /// A call: both octets are read as it, and it is written as `written`.
-#[derive(Clone, Copy, Debug, PartialEq, Eq)]
+#[derive(Clone, Copy)]
 pub struct NetCallVector {
     pub maker: Maker,
     /// As they came: bits 0, 5, 6 and 7 of the last octet may be any.

@@ -3,7 +3,7 @@ use crate::Maker;
 use nodes_broadcast::NodesRefusal;
 
 /// One entry of a broadcast.
-#[derive(Clone, Copy, Debug, PartialEq, Eq)]
+#[derive(Clone, Copy)]
 pub struct NodesEntry {
     /// The text of a call.
     pub dest: &'static str,
@@ -15,7 +15,7 @@ pub struct NodesEntry {
 }
 
 /// A broadcast: its information is read as it, and it is written as `written`.
-#[derive(Clone, Copy, Debug, PartialEq, Eq)]
+#[derive(Clone, Copy)]
 pub struct NodesVector {
     pub maker: Maker,
     /// As it came.

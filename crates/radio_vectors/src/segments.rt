@@ -2,7 +2,7 @@
 use crate::Maker;
 
 /// A message: it is split into these segments, and they join to it.
-#[derive(Clone, Copy, Debug, PartialEq, Eq)]
+#[derive(Clone, Copy)]
 pub struct SegmentsVector {
     pub maker: Maker,
     /// The PID of the message.

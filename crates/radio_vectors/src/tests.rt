@@ -7,9 +7,18 @@ mod nodes;
 mod segments;
 mod transports;
 
-use ax_address::Call;
-use std::test::Fail;
+use ax_address::{Alias, Call};
+use std::process::Abort;
 
-fn call(text: &str) -> Result<Call, Fail> {
-    Ok(Call::read(text.as_bytes())?)
+fn call(rt: &impl Abort, text: &str) -> Call {
+    Call::read(text.as_bytes()).ok().expect(rt, "a call")
+}
+
+fn alias(rt: &impl Abort, text: &str) -> Alias {
+    Alias::read(text.as_bytes()).ok().expect(rt, "an alias")
+}
+
+/// Asserts that this holds of these octets.
+fn expect(rt: &impl Abort, holds: bool, octets: &[u8]) {
+    assert!(rt; holds, "{octets:?}");
 }

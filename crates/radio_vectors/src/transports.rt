@@ -3,7 +3,7 @@ use crate::Maker;
 use circuit_l4::{Flags, Pair, TransportRefusal};
 
 /// What a transport says: `Transport` of the codec, with texts for calls.
-#[derive(Clone, Copy, Debug, PartialEq, Eq)]
+#[derive(Clone, Copy)]
 pub enum Said {
     Request {
         pair: Pair,
@@ -40,7 +40,7 @@ pub enum Said {
 }
 
 /// A transport: the octets are read as it, and it is written as `written`.
-#[derive(Clone, Copy, Debug, PartialEq, Eq)]
+#[derive(Clone, Copy)]
 pub struct TransportVector {
     pub maker: Maker,
     /// As they came.

@@ -1,32 +1,35 @@
 //! Addresses, calls in texts, and calls of NET/ROM.
-use super::call;
-use crate::addresses::{ADDRESSES, REFUSED_ADDRESSES, REFUSED_CALLS};
-use crate::net_calls::{NET_CALLS, REFUSED_NET_CALLS};
+use super::{call, expect};
+use crate::addresses::{ADDRESSES, AddressVector, REFUSED_ADDRESSES, REFUSED_CALLS};
+use crate::net_calls::{NET_CALLS, NetCallVector, REFUSED_NET_CALLS};
 use ax_address::{Call, address_fault, read_address, read_net_call, write_address, write_net_call};
-use std::test::Fail;
+use std::process::Abort;
+
+fn address_goes_both_ways(rt: &impl Abort, row: &AddressVector) {
+    match read_address(&row.octets) {
+        Ok((address, last)) => {
+            expect(rt, address.call == call(rt, row.call), &row.octets);
+            expect(rt, address.bit7 == row.bit7, &row.octets);
+            expect(rt, address.reserved == row.reserved, &row.octets);
+            expect(rt, last == row.last, &row.octets);
+            expect(rt, write_address(&address, last) == row.octets, &row.octets);
+        }
+        Err(_) => expect(rt, false, &row.octets),
+    }
+}
 
 #[test]
-fn addresses_go_both_ways(rt: HostRuntime) -> Result<(), Fail> {
-    for row in ADDRESSES {
-        match read_address(&row.octets) {
-            Ok((address, last)) => {
-                assert!(rt; address.call == call(row.call)?, "{}", row.call);
-                assert!(rt; address.bit7 == row.bit7, "{}", row.call);
-                assert!(rt; address.reserved == row.reserved, "{}", row.call);
-                assert!(rt; last == row.last, "{}", row.call);
-                assert!(rt; write_address(&address, last) == row.octets, "{}", row.call);
-            }
-            Err(refusal) => assert!(rt; false, "{}: {refusal:?}", row.call),
-        }
+fn addresses_go_both_ways(rt: HostRuntime) {
+    for row in &ADDRESSES {
+        address_goes_both_ways(&rt, row);
     }
-    Ok(())
 }
 
 #[test]
 fn the_first_octet_at_fault_is_named(rt: HostRuntime) {
     for (octets, refusal) in REFUSED_ADDRESSES {
-        assert!(rt; read_address(&octets) == Err(refusal), "{octets:?}");
-        assert!(rt; address_fault(&octets) == Some(refusal), "{octets:?}");
+        expect(&rt, read_address(&octets) == Err(refusal), &octets);
+        expect(&rt, address_fault(&octets) == Some(refusal), &octets);
     }
 }
 
@@ -37,16 +40,19 @@ fn texts_that_are_no_calls(rt: HostRuntime) {
     }
 }
 
+fn net_call_is_read_and_written(rt: &impl Abort, row: &NetCallVector) {
+    let call = call(rt, row.call);
+    expect(rt, read_net_call(&row.octets) == Ok(call), &row.octets);
+    expect(rt, read_net_call(&row.written) == Ok(call), &row.written);
+    expect(rt, write_net_call(&call) == row.written, &row.written);
+}
+
 #[test]
-fn net_calls_are_read_and_written(rt: HostRuntime) -> Result<(), Fail> {
-    for row in NET_CALLS {
-        let call = call(row.call)?;
-        assert!(rt; read_net_call(&row.octets) == Ok(call), "{}", row.call);
-        assert!(rt; read_net_call(&row.written) == Ok(call), "{}", row.call);
-        assert!(rt; write_net_call(&call) == row.written, "{}", row.call);
+fn net_calls_are_read_and_written(rt: HostRuntime) {
+    for row in &NET_CALLS {
+        net_call_is_read_and_written(&rt, row);
     }
     for (octets, refusal) in REFUSED_NET_CALLS {
-        assert!(rt; read_net_call(&octets) == Err(refusal), "{octets:?}");
+        expect(&rt, read_net_call(&octets) == Err(refusal), &octets);
     }
-    Ok(())
 }

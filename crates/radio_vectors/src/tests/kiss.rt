@@ -1,4 +1,5 @@
 //! Frames of KISS.
+use super::expect;
 use crate::kiss::{KISS_FRAMES, KISS_STREAMS, KissFrame};
 use arrayvec::ArrayVec;
 use kiss_framing::{Deframer, KissItem, enframe};
@@ -17,13 +18,13 @@ fn expect_frames(rt: &impl Abort, stream: &[u8], expected: &[(usize, KissFrame)]
                     command: frame.command,
                     payload: frame.payload,
                 };
-                assert!(rt; item == Some(wanted), "{stream:?} at {at}");
+                expect(rt, item == Some(wanted), stream);
                 left = rest;
             }
-            _ => assert!(rt; item == None, "{stream:?} at {at}"),
+            _ => expect(rt, item == None, stream),
         }
     }
-    assert!(rt; left.is_empty(), "{stream:?}");
+    expect(rt, left.is_empty(), stream);
 }
 
 #[test]
@@ -35,7 +36,7 @@ fn frames_go_both_ways(rt: HostRuntime) {
         let mut out = ArrayVec::<u8, 2050>::new();
         let written = enframe(frame.port, frame.command, frame.payload, &mut out);
         assert!(rt; written.is_ok());
-        assert!(rt; out.as_slice() == row.bytes, "{frame:?}");
+        expect(&rt, out.as_slice() == row.bytes, row.bytes);
     }
 }
 

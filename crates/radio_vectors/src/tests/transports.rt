@@ -1,12 +1,12 @@
 //! Transports.
-use super::call;
-use crate::transports::{REFUSED_TRANSPORTS, Said, TRANSPORTS};
+use super::{call, expect};
+use crate::transports::{REFUSED_TRANSPORTS, Said, TRANSPORTS, TransportVector};
 use arrayvec::ArrayVec;
 use circuit_l4::{Transport, read_transport, write_transport};
-use std::test::Fail;
+use std::process::Abort;
 
-fn transport(said: &Said) -> Result<Transport, Fail> {
-    Ok(match *said {
+fn transport(rt: &impl Abort, said: &Said) -> Transport {
+    match *said {
         Said::Request {
             pair,
             window,
@@ -15,8 +15,8 @@ fn transport(said: &Said) -> Result<Transport, Fail> {
         } => Transport::Request {
             pair,
             window,
-            user: call(user)?,
-            node: call(node)?,
+            user: call(rt, user),
+            node: call(rt, node),
         },
         Said::Accept { to, own, window } => Transport::Accept { to, own, window },
         Said::Refuse { to } => Transport::Refuse { to },
@@ -40,29 +40,28 @@ fn transport(said: &Said) -> Result<Transport, Fail> {
             }
         }
         Said::InfoAck { to, rx, flags } => Transport::InfoAck { to, rx, flags },
-    })
+    }
+}
+
+fn transport_is_read_and_written(rt: &impl Abort, row: &TransportVector) {
+    let transport = transport(rt, &row.said);
+    let written = write_transport(&transport);
+    expect(rt, written.as_slice() == row.written, row.octets);
+    let same = read_transport(row.written) == read_transport(row.octets);
+    expect(rt, same, row.octets);
+    expect(rt, read_transport(row.octets) == Ok(transport), row.octets);
 }
 
 #[test]
-fn transports_are_read_and_written(rt: HostRuntime) -> Result<(), Fail> {
-    for row in TRANSPORTS {
-        let transport = transport(&row.said)?;
-        assert!(rt;
-            write_transport(&transport).as_slice() == row.written,
-            "{row:?}"
-        );
-        assert!(rt;
-            read_transport(row.written) == read_transport(row.octets),
-            "{row:?}"
-        );
-        assert!(rt; read_transport(row.octets) == Ok(transport), "{row:?}");
+fn transports_are_read_and_written(rt: HostRuntime) {
+    for row in &TRANSPORTS {
+        transport_is_read_and_written(&rt, row);
     }
-    Ok(())
 }
 
 #[test]
 fn what_is_no_transport(rt: HostRuntime) {
     for (octets, refusal) in REFUSED_TRANSPORTS {
-        assert!(rt; read_transport(octets) == Err(refusal), "{octets:?}");
+        expect(&rt, read_transport(octets) == Err(refusal), octets);
     }
 }
