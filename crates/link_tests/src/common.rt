@@ -1,11 +1,11 @@
 //! What the tests of tables of links share.
 use crate::{carried, rows, texts};
 use ax_address::Call;
-use ax_frame::read_frame;
+use ax_frame::{FrameView, read_frame};
 use ax_link::LinkConfig;
 use l3_datagram::{Datagram, Message};
 use link_table::{LinkTable, Written};
-use radio_base::{M8, M128, Moment, NoMemory};
+use radio_base::{M8, M128, Moment};
 use std::alloc::Global;
 use std::process::Abort;
 
@@ -33,33 +33,23 @@ pub enum Trial {
 }
 
 /// Makes tables of N0AAA and N0BBB, and tries this on them.
-pub fn on_two_tables(
-    rt: &impl Abort,
-    alloc: Global,
-    links: bool,
-    modulo128: bool,
-    trial: Trial,
-) -> Result<(), NoMemory> {
-    let mut a = LinkTable::new(alloc, a_call(), links, modulo128, CONFIG)?;
-    let mut b = LinkTable::new(alloc, b_call(), links, modulo128, CONFIG)?;
-    play(rt, alloc, trial, &mut a, &mut b)
+pub fn on_two_tables(rt: &impl Abort, alloc: Global, links: bool, modulo128: bool, trial: Trial) {
+    let mut a = table(rt, alloc, a_call(), links, modulo128);
+    let mut b = table(rt, alloc, b_call(), links, modulo128);
+    play(rt, alloc, trial, &mut a, &mut b);
 }
 
-fn play(
-    rt: &impl Abort,
-    alloc: Global,
-    trial: Trial,
-    a: &mut LinkTable,
-    b: &mut LinkTable,
-) -> Result<(), NoMemory> {
+fn table(rt: &impl Abort, alloc: Global, own: Call, links: bool, modulo128: bool) -> LinkTable {
+    let made = LinkTable::new(alloc, own, links, modulo128, CONFIG);
+    made.ok().expect(rt, "memory")
+}
+
+fn play(rt: &impl Abort, alloc: Global, trial: Trial, a: &mut LinkTable, b: &mut LinkTable) {
     match trial {
         Trial::WithoutLinks => rows::send_without_links(rt, alloc, a),
         Trial::OverALink => rows::send_over_a_link(rt, alloc, a, b),
         Trial::SixtyFiveLinks => rows::set_up_65_links(rt, alloc, a),
-        Trial::Paths => {
-            rows::set_paths(rt, a);
-            Ok(())
-        }
+        Trial::Paths => rows::set_paths(rt, a),
         Trial::TextHoldsBack => texts::hold_back(rt, a),
         Trial::WhichTexts => texts::send_texts(rt, a, b),
         Trial::Lossy { texts } => carried::carry(rt, a, b, texts),
@@ -97,21 +87,20 @@ pub fn text(len: usize) -> Message {
 }
 
 /// Hands a frame of this station to a table.
-pub fn hand(
-    written: &Written,
-    from: &Call,
-    to: &mut LinkTable,
-    now: Moment,
-) -> Result<(), NoMemory> {
+pub fn hand(rt: &impl Abort, written: &Written, from: &Call, to: &mut LinkTable, now: Moment) {
     let octets = written.octets.as_slice();
     if to.is_128(from) {
         if let Ok(frame) = read_frame::<M128>(octets) {
-            return to.arrive(&frame, now);
+            arrive(rt, to, &frame, now);
         }
     } else {
         if let Ok(frame) = read_frame::<M8>(octets) {
-            return to.arrive(&frame, now);
+            arrive(rt, to, &frame, now);
         }
     }
-    Ok(())
+}
+
+/// A frame comes to a table, which has memory enough.
+pub fn arrive(rt: &impl Abort, to: &mut LinkTable, frame: &FrameView<'_>, now: Moment) {
+    assert!(rt; to.arrive(frame, now) == Ok(()));
 }
