@@ -5,6 +5,7 @@ use node_cmd::{Reading, SystemClock, Writing};
 use radio_base::{Clock, Failed, Moment, Sink, Source};
 use std::cell::Cell;
 use std::io::{Read, Write};
+use std::process::Abort;
 use std::time::Duration;
 use std::{io, time};
 
@@ -61,17 +62,31 @@ impl time::Clock for Shown<'_> {
     }
 }
 
+/// Asserts what a read answers.
+fn expect_read(rt: &impl Abort, source: &mut Reading<Answers>, wanted: Result<usize, Failed>) {
+    assert_eq!(rt; source.read(&mut [0u8; 4]), wanted);
+}
+
 #[test]
 fn an_error_of_a_read_is_a_fault(rt: HostRuntime) {
     let mut source = Reading::new(Answers {
         counts: [Some(2), None, Some(0)],
         calls: 0,
     });
-    let mut buf = [0u8; 4];
-    assert_eq!(rt; source.read(&mut buf), Ok(2));
-    assert_eq!(rt; source.read(&mut buf), Err(Failed));
-    assert_eq!(rt; source.read(&mut buf), Ok(0));
-    assert_eq!(rt; source.faults(), 1);
+    expect_read(&rt, &mut source, Ok(2));
+    expect_read(&rt, &mut source, Err(Failed));
+    expect_read(&rt, &mut source, Ok(0));
+    assert!(rt; source.faults() == 1);
+}
+
+/// Asserts what a write answers.
+fn expect_write(
+    rt: &impl Abort,
+    sink: &mut Writing<Answers>,
+    bytes: &[u8],
+    wanted: Result<usize, Failed>,
+) {
+    assert_eq!(rt; sink.write(bytes), wanted);
 }
 
 #[test]
@@ -80,21 +95,18 @@ fn an_error_of_a_write_or_a_write_of_no_bytes_is_a_fault(rt: HostRuntime) {
         counts: [Some(2), None, Some(0)],
         calls: 0,
     });
-    assert_eq!(rt; sink.write(b"abc"), Ok(2));
-    assert_eq!(rt; sink.write(b"c"), Err(Failed));
-    assert_eq!(rt; sink.write(b"c"), Err(Failed));
-    assert_eq!(rt; sink.faults(), 2);
+    expect_write(&rt, &mut sink, b"abc", Ok(2));
+    expect_write(&rt, &mut sink, b"c", Err(Failed));
+    expect_write(&rt, &mut sink, b"c", Err(Failed));
+    assert!(rt; sink.faults() == 2);
 }
 
 #[test]
 fn a_lower_reading_or_none_counts_as_the_last_one(rt: HostRuntime) {
     let shown = Cell::new(Some(5));
     let mut clock = SystemClock::new(Shown(&shown));
-    assert_eq!(rt; clock.now(), Moment(5));
-    shown.set(Some(3));
-    assert_eq!(rt; clock.now(), Moment(5));
-    shown.set(None);
-    assert_eq!(rt; clock.now(), Moment(5));
-    shown.set(Some(7));
-    assert_eq!(rt; clock.now(), Moment(7));
+    for (reading, moment) in [(Some(5), 5), (Some(3), 5), (None, 5), (Some(7), 7)] {
+        shown.set(reading);
+        assert_eq!(rt; clock.now(), Moment(moment));
+    }
 }

@@ -1,7 +1,6 @@
 //! Reads and writes that fail, each of the first eight in turn, and a file that ends after any of its bytes.
 use crate::runs::{Case, check, frames_of, replay_of};
 use node_cmd::Status;
-use std::test::Fail;
 
 /// Two nodes open a circuit, carry one message and close it.
 const CIRCUIT: &[u8] = b"node 1 N0AAA ANODE
@@ -52,7 +51,7 @@ const STREAM_LINES: &[u8] = b"port=0 bad call 0\nport=0 bad call 0\n";
 const FIRST_LINE: usize = 18;
 
 #[test]
-fn each_of_the_first_eight_reads_may_fail(rt: HostRuntime) -> Result<(), Fail> {
+fn each_of_the_first_eight_reads_may_fail(rt: HostRuntime) {
     for number in 1..=8u64 {
         let case = Case {
             piece: CIRCUIT_PIECE,
@@ -66,7 +65,7 @@ fn each_of_the_first_eight_reads_may_fail(rt: HostRuntime) -> Result<(), Fail> {
             Status::ReadFault,
             b"",
             b"read fault\n",
-        )?;
+        );
 
         let case = Case {
             piece: 1,
@@ -82,13 +81,12 @@ fn each_of_the_first_eight_reads_may_fail(rt: HostRuntime) -> Result<(), Fail> {
             Status::ReadFault,
             written,
             b"read fault\n",
-        )?;
+        );
     }
-    Ok(())
 }
 
 #[test]
-fn each_of_the_first_eight_writes_may_fail(rt: HostRuntime) -> Result<(), Fail> {
+fn each_of_the_first_eight_writes_may_fail(rt: HostRuntime) {
     for number in 1..=8u64 {
         let before = number as usize - 1;
         let case = Case {
@@ -97,7 +95,7 @@ fn each_of_the_first_eight_writes_may_fail(rt: HostRuntime) -> Result<(), Fail> 
             ..replay_of(CIRCUIT)
         };
         let written = &CIRCUIT_REPORT[..CIRCUIT_PIECE * before];
-        check(&rt, rt.alloc(), &case, Status::WriteFault, written, b"")?;
+        check(&rt, rt.alloc(), &case, Status::WriteFault, written, b"");
 
         let case = Case {
             piece: 1,
@@ -111,13 +109,12 @@ fn each_of_the_first_eight_writes_may_fail(rt: HostRuntime) -> Result<(), Fail> 
             Status::WriteFault,
             &STREAM_LINES[..before],
             b"",
-        )?;
+        );
     }
-    Ok(())
 }
 
 #[test]
-fn without_a_fault_all_is_written(rt: HostRuntime) -> Result<(), Fail> {
+fn without_a_fault_all_is_written(rt: HostRuntime) {
     let cases = [
         (
             Case {
@@ -129,9 +126,8 @@ fn without_a_fault_all_is_written(rt: HostRuntime) -> Result<(), Fail> {
         (frames_of(STREAM), STREAM_LINES),
     ];
     for (case, written) in &cases {
-        check(&rt, rt.alloc(), case, Status::Done, written, b"")?;
+        check(&rt, rt.alloc(), case, Status::Done, written, b"");
     }
-    Ok(())
 }
 
 /// The reports of a file that ends with the alias cut after each of its characters.
@@ -144,7 +140,7 @@ const REPORTS: [&[u8]; 5] = [
 ];
 
 #[test]
-fn a_file_may_end_after_any_of_its_bytes(rt: HostRuntime) -> Result<(), Fail> {
+fn a_file_may_end_after_any_of_its_bytes(rt: HostRuntime) {
     let file = b"node 1 N0AAA ANODE";
     for end in 0..=file.len() {
         let (status, written, notes): (Status, &[u8], &[u8]) = match end {
@@ -160,7 +156,6 @@ fn a_file_may_end_after_any_of_its_bytes(rt: HostRuntime) -> Result<(), Fail> {
             status,
             written,
             notes,
-        )?;
+        );
     }
-    Ok(())
 }

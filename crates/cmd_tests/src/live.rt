@@ -1,7 +1,6 @@
 //! A live node over streams in memory.
 use crate::runs::{Case, USAGE, check, replay_of};
 use node_cmd::Status;
-use std::test::Fail;
 
 /// `N0BBB>N0AAA cmd TEST pf=1` with the information `41 42`, as a KISS frame.
 const TEST: &[u8] =
@@ -19,7 +18,7 @@ fn node_of<'a>(words: &'a [&'a str], stream: &'a [u8]) -> Case<'a> {
 }
 
 #[test]
-fn a_live_node_writes_its_frames(rt: HostRuntime) -> Result<(), Fail> {
+fn a_live_node_writes_its_frames(rt: HostRuntime) {
     let words = ["node", "call=N0AAA", "alias=ANODE"];
     check(
         &rt,
@@ -28,19 +27,18 @@ fn a_live_node_writes_its_frames(rt: HostRuntime) -> Result<(), Fail> {
         Status::Done,
         b"",
         b"",
-    )?;
+    );
     for piece in [1, 7, 1000] {
         let case = Case {
             piece,
             ..node_of(&words, TEST)
         };
-        check(&rt, rt.alloc(), &case, Status::Done, ANSWER, b"")?;
+        check(&rt, rt.alloc(), &case, Status::Done, ANSWER, b"");
     }
-    Ok(())
 }
 
 #[test]
-fn what_a_live_node_wrote_before_a_fault_stays(rt: HostRuntime) -> Result<(), Fail> {
+fn what_a_live_node_wrote_before_a_fault_stays(rt: HostRuntime) {
     let words = ["node", "call=N0AAA", "alias=ANODE"];
     let case = Case {
         piece: 20,
@@ -54,12 +52,11 @@ fn what_a_live_node_wrote_before_a_fault_stays(rt: HostRuntime) -> Result<(), Fa
         Status::ReadFault,
         ANSWER,
         b"read fault\n",
-    )?;
-    Ok(())
+    );
 }
 
 #[test]
-fn words_declare_a_live_node(rt: HostRuntime) -> Result<(), Fail> {
+fn words_declare_a_live_node(rt: HostRuntime) {
     let good: [&[&str]; 3] = [
         &["node", "call=N0AAA-7", "alias=A", "window=127", "prompt=0"],
         &[
@@ -79,7 +76,7 @@ fn words_declare_a_live_node(rt: HostRuntime) -> Result<(), Fail> {
             Status::Done,
             b"",
             b"",
-        )?;
+        );
     }
     let bad: [&[&str]; 12] = [
         &["node"],
@@ -108,7 +105,6 @@ fn words_declare_a_live_node(rt: HostRuntime) -> Result<(), Fail> {
             Status::Usage,
             b"",
             USAGE,
-        )?;
+        );
     }
-    Ok(())
 }

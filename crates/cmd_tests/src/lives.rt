@@ -1,7 +1,6 @@
 //! The command `life` over streams in memory.
 use crate::runs::{Case, USAGE, check, replay_of};
 use node_cmd::Status;
-use std::test::Fail;
 
 /// A set-up is repeated, since its answer is lost, and resets the other end.
 const SCRIPT: &[u8] = b"setup a
@@ -43,7 +42,7 @@ fn life_of(script: &[u8]) -> Case<'_> {
 }
 
 #[test]
-fn a_script_is_reported_or_its_first_bad_line_is_named(rt: HostRuntime) -> Result<(), Fail> {
+fn a_script_is_reported_or_its_first_bad_line_is_named(rt: HostRuntime) {
     let cases: [(&[u8], Status, &[u8], &[u8]); 4] = [
         (b"", Status::Done, b"", b""),
         (SCRIPT, Status::Done, REPORT, b""),
@@ -61,13 +60,12 @@ fn a_script_is_reported_or_its_first_bad_line_is_named(rt: HostRuntime) -> Resul
         ),
     ];
     for (script, status, report, notes) in cases {
-        check(&rt, rt.alloc(), &life_of(script), status, report, notes)?;
+        check(&rt, rt.alloc(), &life_of(script), status, report, notes);
     }
-    Ok(())
 }
 
 #[test]
-fn a_fault_ends_a_life(rt: HostRuntime) -> Result<(), Fail> {
+fn a_fault_ends_a_life(rt: HostRuntime) {
     let case = Case {
         failing_reads: &[4],
         ..life_of(SCRIPT)
@@ -79,7 +77,7 @@ fn a_fault_ends_a_life(rt: HostRuntime) -> Result<(), Fail> {
         Status::ReadFault,
         b"",
         b"read fault\n",
-    )?;
+    );
 
     let case = Case {
         failing_writes: &[3],
@@ -92,12 +90,11 @@ fn a_fault_ends_a_life(rt: HostRuntime) -> Result<(), Fail> {
         Status::WriteFault,
         &REPORT[..2 * PIECE],
         b"",
-    )?;
-    Ok(())
+    );
 }
 
 #[test]
-fn words_give_the_settings_of_a_life(rt: HostRuntime) -> Result<(), Fail> {
+fn words_give_the_settings_of_a_life(rt: HostRuntime) {
     let good: [&[&str]; 2] = [
         &["life", "delay=1499", "srej=1", "modulo=128"],
         &["life", "srej=0", "modulo=8", "delay=0"],
@@ -107,7 +104,7 @@ fn words_give_the_settings_of_a_life(rt: HostRuntime) -> Result<(), Fail> {
             words,
             ..life_of(b"")
         };
-        check(&rt, rt.alloc(), &case, Status::Done, b"", b"")?;
+        check(&rt, rt.alloc(), &case, Status::Done, b"", b"");
     }
     let bad: [&[&str]; 9] = [
         &["life"],
@@ -125,7 +122,6 @@ fn words_give_the_settings_of_a_life(rt: HostRuntime) -> Result<(), Fail> {
             words,
             ..life_of(b"")
         };
-        check(&rt, rt.alloc(), &case, Status::Usage, b"", USAGE)?;
+        check(&rt, rt.alloc(), &case, Status::Usage, b"", USAGE);
     }
-    Ok(())
 }

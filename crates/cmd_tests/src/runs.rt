@@ -1,7 +1,9 @@
 //! The whole program over streams in memory.
+ghost use Rattle.std.specs.Prelude.{◌≤◌};
+
 use node_cmd::{Ran, Status, run};
 use radio_base::{MemClock, MemSink, MemSource};
-use std::alloc::Global;
+use std::alloc::{AllocError, Global};
 use std::process::Abort;
 use std::test::Fail;
 
@@ -30,6 +32,22 @@ pub(crate) fn replay_of(file: &[u8]) -> Case<'_> {
     }
 }
 
+fn words_of(alloc: Global, given: &[&str]) -> Result<Vec<String>, AllocError> {
+    let mut words = Vec::new(alloc);
+    for word in given {
+        words.push(word.to_string(alloc)?)?;
+    }
+    Ok(words)
+}
+
+/// A sink in memory.
+fn sink_of(rt: &impl Abort, alloc: Global, room: usize, piece: usize, fails: &[u64]) -> MemSink
+    requires { 1 ≤ piece }
+{
+    let made = MemSink::new(alloc, room, piece, fails);
+    made.ok().expect(rt, "memory")
+}
+
 /// Runs a case: it has to end by this status, and to write and note exactly this. All values of the crates below are made and dropped
 /// here, so that this is proved once.
 pub(crate) fn check(
@@ -39,15 +57,13 @@ pub(crate) fn check(
     status: Status,
     written: &[u8],
     notes: &[u8],
-) -> Result<(), Fail> {
-    let mut words = Vec::new(alloc);
-    for word in case.words {
-        words.push(word.to_string(alloc)?)?;
-    }
+) {
+    let words = words_of(alloc, case.words).ok().expect(rt, "memory");
     let piece = case.piece.max(1);
-    let mut source = MemSource::new(alloc, case.file, piece, case.failing_reads)?;
-    let mut sink = MemSink::new(alloc, 10_000, piece, case.failing_writes)?;
-    let mut noted = MemSink::new(alloc, 1_000, 1_000, &[])?;
+    let source = MemSource::new(alloc, case.file, piece, case.failing_reads);
+    let mut source = source.ok().expect(rt, "memory");
+    let mut sink = sink_of(rt, alloc, 10_000, piece, case.failing_writes);
+    let mut noted = sink_of(rt, alloc, 1_000, 1_000, &[]);
     let mut clock = MemClock::new(0, 1);
     let ended = run(
         alloc,
@@ -58,10 +74,17 @@ pub(crate) fn check(
         &mut clock,
         &mut Ran::Nothing,
     );
-    assert_eq!(rt; ended, status);
-    assert_eq!(rt; sink.bytes(), written);
-    assert_eq!(rt; noted.bytes(), notes);
-    Ok(())
+    expect_ended(rt, ended, status);
+    expect_bytes(rt, sink.bytes(), written);
+    expect_bytes(rt, noted.bytes(), notes);
+}
+
+fn expect_ended(rt: &impl Abort, ended: Status, wanted: Status) {
+    assert_eq!(rt; ended, wanted);
+}
+
+fn expect_bytes(rt: &impl Abort, bytes: &[u8], wanted: &[u8]) {
+    assert_eq!(rt; bytes, wanted);
 }
 
 const HEARD: &[u8] = b"node 1 N0AAA ANODE
@@ -69,7 +92,7 @@ heard 1 N0BBB BNODE N0CCC CNODE N0DDD 192 N0EEE ENODE N0DDD 255
 ";
 
 #[test]
-fn good_files_are_reported(rt: HostRuntime) -> Result<(), Fail> {
+fn good_files_are_reported(rt: HostRuntime) {
     let rows: [(&[u8], &[u8]); 3] = [
         (b"", b"verdict done\n"),
         (
@@ -87,13 +110,12 @@ verdict done
         ),
     ];
     for (file, report) in rows {
-        check(&rt, rt.alloc(), &replay_of(file), Status::Done, report, b"")?;
+        check(&rt, rt.alloc(), &replay_of(file), Status::Done, report, b"");
     }
-    Ok(())
 }
 
 #[test]
-fn other_words_are_told_what_the_commands_are(rt: HostRuntime) -> Result<(), Fail> {
+fn other_words_are_told_what_the_commands_are(rt: HostRuntime) {
     let words: [&[&str]; 4] = [
         &[],
         &["frames", "modulo=16"],
@@ -105,13 +127,12 @@ fn other_words_are_told_what_the_commands_are(rt: HostRuntime) -> Result<(), Fai
             words: given,
             ..replay_of(HEARD)
         };
-        check(&rt, rt.alloc(), &case, Status::Usage, b"", USAGE)?;
+        check(&rt, rt.alloc(), &case, Status::Usage, b"", USAGE);
     }
-    Ok(())
 }
 
 #[test]
-fn a_bad_line_is_named(rt: HostRuntime) -> Result<(), Fail> {
+fn a_bad_line_is_named(rt: HostRuntime) {
     let file = b"# one node\nnode 1 N0AAA ANODE\n\njump 1\njump 2\n";
     check(
         &rt,
@@ -120,12 +141,11 @@ fn a_bad_line_is_named(rt: HostRuntime) -> Result<(), Fail> {
         Status::BadFile,
         b"",
         b"line 4: word\n",
-    )?;
-    Ok(())
+    );
 }
 
 #[test]
-fn faults_in_mid_stream_end_a_run(rt: HostRuntime) -> Result<(), Fail> {
+fn faults_in_mid_stream_end_a_run(rt: HostRuntime) {
     let case = Case {
         piece: 1,
         failing_reads: &[3],
@@ -138,15 +158,14 @@ fn faults_in_mid_stream_end_a_run(rt: HostRuntime) -> Result<(), Fail> {
         Status::ReadFault,
         b"",
         b"read fault\n",
-    )?;
+    );
 
     let case = Case {
         piece: 1,
         failing_writes: &[2],
         ..replay_of(HEARD)
     };
-    check(&rt, rt.alloc(), &case, Status::WriteFault, b"t", b"")?;
-    Ok(())
+    check(&rt, rt.alloc(), &case, Status::WriteFault, b"t", b"");
 }
 
 #[test]
@@ -159,7 +178,7 @@ fn a_file_has_at_most_2_to_the_20_bytes(rt: HostRuntime) -> Result<(), Fail> {
         Status::Done,
         b"verdict done\n",
         b"",
-    )?;
+    );
 
     check(
         &rt,
@@ -168,20 +187,25 @@ fn a_file_has_at_most_2_to_the_20_bytes(rt: HostRuntime) -> Result<(), Fail> {
         Status::TooLong,
         b"",
         b"too long\n",
-    )?;
+    );
     Ok(())
 }
 
 #[test]
 fn statuses_have_their_exit_statuses(rt: HostRuntime) {
-    assert_eq!(rt; Status::Done.code(), 0);
-    assert_eq!(rt; Status::Usage.code(), 2);
-    assert_eq!(rt; Status::BadFile.code(), 3);
-    assert_eq!(rt; Status::ReadFault.code(), 4);
-    assert_eq!(rt; Status::WriteFault.code(), 5);
-    assert_eq!(rt; Status::TooLong.code(), 6);
-    assert_eq!(rt; Status::TooLate.code(), 7);
-    assert_eq!(rt; Status::NoMemory.code(), 8);
+    let codes = [
+        (Status::Done, 0),
+        (Status::Usage, 2),
+        (Status::BadFile, 3),
+        (Status::ReadFault, 4),
+        (Status::WriteFault, 5),
+        (Status::TooLong, 6),
+        (Status::TooLate, 7),
+        (Status::NoMemory, 8),
+    ];
+    for (status, code) in codes {
+        assert_eq!(rt; status.code(), code);
+    }
 }
 
 /// A NODES frame of N0CALL-7 with an alias and no entries, as KISS bytes.
@@ -225,7 +249,7 @@ fn each_item_of_a_stream_has_its_line(rt: HostRuntime) -> Result<(), Fail> {
             Status::Done,
             lines,
             b"",
-        )?;
+        );
     }
     let long = vec![in rt.alloc(); 0u8; 1025]?;
     check(
@@ -235,12 +259,12 @@ fn each_item_of_a_stream_has_its_line(rt: HostRuntime) -> Result<(), Fail> {
         Status::Done,
         b"too long\n",
         b"",
-    )?;
+    );
     Ok(())
 }
 
 #[test]
-fn the_lines_of_a_read_are_written_before_the_next(rt: HostRuntime) -> Result<(), Fail> {
+fn the_lines_of_a_read_are_written_before_the_next(rt: HostRuntime) {
     let case = Case {
         piece: NODES.len(),
         failing_reads: &[2],
@@ -253,6 +277,5 @@ fn the_lines_of_a_read_are_written_before_the_next(rt: HostRuntime) -> Result<()
         Status::ReadFault,
         NODES_LINE,
         b"read fault\n",
-    )?;
-    Ok(())
+    );
 }
