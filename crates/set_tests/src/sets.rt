@@ -4,7 +4,7 @@ use ax_address::{Alias, Call};
 use circuit_l4::{EndConfig, EndNotice, Pair};
 use circuit_set::{CircuitSet, ConnectRefusal, SetEvent};
 use l3_datagram::{PlainCarrier, Routed, Router};
-use radio_base::{Moment, NoMemory};
+use radio_base::Moment;
 use route_table::{RouteRules, RouteTable};
 use std::alloc::Global;
 use std::process::Abort;
@@ -56,30 +56,29 @@ pub enum Trial {
 }
 
 /// Makes the sets of two nodes without routes, and tries this on them.
-pub fn on_two_nodes(rt: &impl Abort, alloc: Global, trial: Trial) -> Result<(), NoMemory> {
+pub fn on_two_nodes(rt: &impl Abort, alloc: Global, trial: Trial) {
     let retries = if matches!(trial, Trial::PairsGoOn) {
         0
     } else {
         200
     };
-    let mut a = set_of(alloc, a_call(), retries)?;
-    let mut b = set_of(alloc, b_call(), retries)?;
-    play(rt, trial, &mut a, &mut b)
+    let mut a = set_of(rt, alloc, a_call(), retries);
+    let mut b = set_of(rt, alloc, b_call(), retries);
+    play(rt, trial, &mut a, &mut b);
 }
 
-fn set_of(alloc: Global, own: Call, retries: u8) -> Result<Set, NoMemory> {
+fn set_of(rt: &impl Abort, alloc: Global, own: Call, retries: u8) -> Set {
     let table = RouteTable::new(alloc, own, RULES);
     let router = Router::new(alloc, own, table, PlainCarrier::new(alloc), 25);
     let config = EndConfig { retries, ..CONFIG };
-    CircuitSet::new(alloc, router, own, config, Pair { index: 1, ident: 1 }, 1)
+    let pair = Pair { index: 1, ident: 1 };
+    let made = CircuitSet::new(alloc, router, own, config, pair, 1);
+    made.ok().expect(rt, "memory")
 }
 
-fn play(rt: &impl Abort, trial: Trial, a: &mut Set, b: &mut Set) -> Result<(), NoMemory> {
+fn play(rt: &impl Abort, trial: Trial, a: &mut Set, b: &mut Set) {
     match trial {
-        Trial::NobodyToAsk => {
-            rows::nobody_to_ask(rt, a);
-            Ok(())
-        }
+        Trial::NobodyToAsk => rows::nobody_to_ask(rt, a),
         Trial::Refusals => rows::refusals(rt, a),
         Trial::NoRouteAnyMore => rows::no_route_any_more(rt, a),
         Trial::PairsGoOn => rows::pairs_go_on(rt, a),
@@ -126,44 +125,46 @@ fn told_by(event: &SetEvent) -> Told {
     }
 }
 
-fn pump(set: &mut Set, now: Moment) -> Result<Option<Told>, NoMemory> {
-    match set.pump(now)? {
-        Some(event) => Ok(Some(told_by(&event))),
-        None => Ok(None),
+fn pump(rt: &impl Abort, set: &mut Set, now: Moment) -> Option<Told> {
+    match set.pump(now) {
+        Ok(Some(event)) => Some(told_by(&event)),
+        Ok(None) => None,
+        Err(_) => rt.abort(),
     }
 }
 
 /// Tells all that there is to tell, which is this.
-pub fn expect(rt: &impl Abort, set: &mut Set, all: &[Told], now: Moment) -> Result<(), NoMemory> {
+pub fn expect(rt: &impl Abort, set: &mut Set, all: &[Told], now: Moment) {
     for told in all {
-        assert!(rt; pump(set, now)? == Some(*told));
+        assert!(rt; pump(rt, set, now) == Some(*told));
     }
-    assert!(rt; pump(set, now)?.is_none());
+    assert!(rt; pump(rt, set, now).is_none());
     assert!(rt; set.drained());
-    Ok(())
 }
 
 /// Tells all that there is to tell.
-pub fn settle(rt: &impl Abort, set: &mut Set, now: Moment) -> Result<(), NoMemory> {
+pub fn settle(rt: &impl Abort, set: &mut Set, now: Moment) {
     for _ in 0..1000 {
-        if pump(set, now)?.is_none() {
-            return Ok(());
+        if pump(rt, set, now).is_none() {
+            return;
         }
     }
     rt.abort()
 }
 
+/// What comes of a circuit that is asked for: the number of its end, or why there is none.
 pub fn connect(
     rt: &impl Abort,
     set: &mut Set,
     node: &Call,
     now: Moment,
-) -> Result<u64, ConnectRefusal> {
+    wanted: Result<u64, ConnectRefusal>,
+) {
     assert!(rt; set.drained());
-    set.connect(node, now)
+    assert!(rt; set.connect(node, now) == wanted);
 }
 
-pub fn tick(rt: &impl Abort, set: &mut Set, now: Moment) -> Result<(), NoMemory> {
+pub fn tick(rt: &impl Abort, set: &mut Set, now: Moment) {
     assert!(rt; set.drained());
-    set.tick(now)
+    assert!(rt; set.tick(now) == Ok(()));
 }

@@ -1,25 +1,24 @@
 //! 300 messages over a path that loses, repeats and reorders.
+use crate::rows::bring;
 use crate::sets::*;
 use arrayvec::ArrayVec;
 use ax_address::Call;
 use l3_datagram::{Datagram, Message, PlainCarrier};
-use radio_base::{Moment, NoMemory};
+use radio_base::Moment;
 use std::process::Abort;
-use std::test::Fail;
 
 const MESSAGES: u64 = 300;
 
 #[test]
-fn three_hundred_messages_come_whole_and_in_order(rt: HostRuntime) -> Result<(), Fail> {
-    on_two_nodes(&rt, rt.alloc(), Trial::ThreeHundredMessages)?;
-    Ok(())
+fn three_hundred_messages_come_whole_and_in_order(rt: HostRuntime) {
+    on_two_nodes(&rt, rt.alloc(), Trial::ThreeHundredMessages);
 }
 
 /// N0AAA writes all and closes, and N0BBB takes all.
-pub fn three_hundred_messages(rt: &impl Abort, a: &mut Set, b: &mut Set) -> Result<(), NoMemory> {
+pub fn three_hundred_messages(rt: &impl Abort, a: &mut Set, b: &mut Set) {
     hears(rt, a, &b_call());
     hears(rt, b, &a_call());
-    assert!(rt; connect(rt, a, &b_call(), NOW) == Ok(1));
+    connect(rt, a, &b_call(), NOW, Ok(1));
     let mut to_b = Way {
         state: 7,
         late: None,
@@ -31,31 +30,23 @@ pub fn three_hundred_messages(rt: &impl Abort, a: &mut Set, b: &mut Set) -> Resu
     let (mut written, mut taken) = (0, 0);
     for tenth in 0..20_000 {
         let now = Moment(tenth * 100);
-        written = say(rt, a, written, now)?;
-        to_b.pass(
-            &a_call(),
-            a.router_mut().carrier_mut(),
-            b.router_mut().carrier_mut(),
-        )?;
-        taken = hear(rt, b, taken, now)?;
-        to_a.pass(
-            &b_call(),
-            b.router_mut().carrier_mut(),
-            a.router_mut().carrier_mut(),
-        )?;
-        tick(rt, a, now)?;
-        tick(rt, b, now)?;
+        written = say(rt, a, written, now);
+        to_b.pass(rt, a, b);
+        taken = hear(rt, b, taken, now);
+        to_a.pass(rt, b, a);
+        tick(rt, a, now);
+        tick(rt, b, now);
         if a.held(0).is_none() && b.held(0).is_none() {
-            assert_eq!(rt; taken, MESSAGES);
-            return Ok(());
+            assert!(rt; taken == MESSAGES);
+            return;
         }
     }
     rt.abort()
 }
 
 /// N0AAA writes the next message where there is room, and closes behind the last one. How many are written then.
-fn say(rt: &impl Abort, a: &mut Set, written: u64, now: Moment) -> Result<u64, NoMemory> {
-    settle(rt, a, now)?;
+fn say(rt: &impl Abort, a: &mut Set, written: u64, now: Moment) -> u64 {
+    settle(rt, a, now);
     assert!(rt; a.drained());
     let mut next = written;
     if written == MESSAGES {
@@ -63,21 +54,21 @@ fn say(rt: &impl Abort, a: &mut Set, written: u64, now: Moment) -> Result<u64, N
     } else if a.write(1, message(written).as_slice(), now).is_ok() {
         next = written.wrapping_add(1);
     }
-    settle(rt, a, now)?;
-    Ok(next)
+    settle(rt, a, now);
+    next
 }
 
 /// N0BBB takes the next message, where it has come whole. How many are taken then.
-fn hear(rt: &impl Abort, b: &mut Set, taken: u64, now: Moment) -> Result<u64, NoMemory> {
-    settle(rt, b, now)?;
+fn hear(rt: &impl Abort, b: &mut Set, taken: u64, now: Moment) -> u64 {
+    settle(rt, b, now);
     assert!(rt; b.drained());
     let mut out = Message::new();
     if b.take(1, &mut out, now) != Ok(true) {
-        return Ok(taken);
+        return taken;
     }
     assert!(rt; out.as_slice() == message(taken).as_slice());
-    settle(rt, b, now)?;
-    Ok(taken.wrapping_add(1))
+    settle(rt, b, now);
+    taken.wrapping_add(1)
 }
 
 /// The nth message: up to 700 bytes.
@@ -103,52 +94,44 @@ impl Way {
         self.state % 8
     }
 
-    fn pass(
-        &mut self,
-        own: &Call,
-        from: &mut PlainCarrier,
-        to: &mut PlainCarrier,
-    ) -> Result<(), NoMemory> {
+    /// What one node has put out goes the way to the other.
+    fn pass(&mut self, rt: &impl Abort, from: &mut Set, to: &mut Set) {
+        let own = from.router().own();
+        let (from, to) = (
+            from.router_mut().carrier_mut(),
+            to.router_mut().carrier_mut(),
+        );
         for _ in 0..1000 {
             match from.fetch() {
-                Some((_, datagram)) => self.bring(own, datagram, to)?,
-                None => return Ok(()),
+                Some((_, datagram)) => self.bring(rt, &own, datagram, to),
+                None => return,
             }
         }
-        Ok(())
     }
 
-    fn bring(
-        &mut self,
-        own: &Call,
-        datagram: Datagram,
-        to: &mut PlainCarrier,
-    ) -> Result<(), NoMemory> {
+    fn bring(&mut self, rt: &impl Abort, own: &Call, datagram: Datagram, to: &mut PlainCarrier) {
         match self.chance() {
-            0 => Ok(()),
-            1 if self.late.is_none() => {
-                self.late = Some(datagram);
-                Ok(())
-            }
+            0 => {}
+            1 if self.late.is_none() => self.late = Some(datagram),
             2 => {
-                to.bring(own, &datagram)?;
-                self.bring_with_late(own, &datagram, to)
+                bring(rt, to, own, &datagram);
+                self.bring_with_late(rt, own, &datagram, to);
             }
-            _ => self.bring_with_late(own, &datagram, to),
+            _ => self.bring_with_late(rt, own, &datagram, to),
         }
     }
 
     /// What is late comes behind this.
     fn bring_with_late(
         &mut self,
+        rt: &impl Abort,
         own: &Call,
         datagram: &Datagram,
         to: &mut PlainCarrier,
-    ) -> Result<(), NoMemory> {
-        to.bring(own, datagram)?;
-        match self.late.take() {
-            Some(earlier) => to.bring(own, &earlier),
-            None => Ok(()),
+    ) {
+        bring(rt, to, own, datagram);
+        if let Some(earlier) = self.late.take() {
+            bring(rt, to, own, &earlier);
         }
     }
 }

@@ -3,10 +3,9 @@ use ax_address::Call;
 use circuit_l4::{EndFacts, EndNotice, EndPhase, Pair};
 use circuit_verdict::{Allowance, Event, Late, LateWhy, Numbered, Told, Verdict, too_late};
 use l3_datagram::{Datagram, DatagramHead, write_datagram};
-use radio_base::NoMemory;
 use std::alloc::Global;
+use std::process::Abort;
 use std::rt::HostRuntime;
-use std::test::Fail;
 
 const FIRST: Pair = Pair { index: 1, ident: 1 };
 
@@ -61,120 +60,103 @@ struct Trial {
 
 impl Trial {
     /// This is told at the line after the last one.
-    fn tell(&mut self, event: &Event<'_>) -> Result<(), NoMemory> {
+    fn tell(&mut self, rt: &impl Abort, event: &Event<'_>) {
         let line = self.line.saturating_add(1);
         self.line = line;
-        self.verdict.heed(event, line)
+        let heeded = self.verdict.heed(event, line);
+        assert!(rt; heeded == Ok(()));
     }
 
-    fn made(
-        &mut self,
-        node: u64,
-        id: u64,
-        pair: Pair,
-        request: Option<&[u8]>,
-    ) -> Result<(), NoMemory> {
+    fn made(&mut self, rt: &impl Abort, node: u64, id: u64, pair: Pair, request: Option<&[u8]>) {
         let told = Told::Made {
             id,
             pair,
             partner: partner_of(node),
             request,
         };
-        self.tell(&Event {
-            node,
-            own: call_of(node),
-            told,
-        })
+        let own = call_of(node);
+        self.tell(rt, &Event { node, own, told });
     }
 
-    fn sent(&mut self, node: u64, number: Option<u64>, datagram: &[u8]) -> Result<(), NoMemory> {
+    fn sent(&mut self, rt: &impl Abort, node: u64, number: Option<u64>, datagram: &[u8]) {
         let told = Told::Sent {
             id: 1,
             number,
             datagram,
         };
-        self.tell(&Event {
-            node,
-            own: call_of(node),
-            told,
-        })
+        let own = call_of(node);
+        self.tell(rt, &Event { node, own, told });
     }
 
-    fn heeded(&mut self, node: u64, datagram: &[u8]) -> Result<(), NoMemory> {
+    fn heeded(&mut self, rt: &impl Abort, node: u64, datagram: &[u8]) {
         let told = Told::Heeded { id: 1, datagram };
-        self.tell(&Event {
-            node,
-            own: call_of(node),
-            told,
-        })
+        let own = call_of(node);
+        self.tell(rt, &Event { node, own, told });
     }
 
-    fn notice(&mut self, node: u64, notice: EndNotice) -> Result<(), NoMemory> {
+    fn notice(&mut self, rt: &impl Abort, node: u64, notice: EndNotice) {
         let told = Told::Notice { id: 1, notice };
-        self.tell(&Event {
-            node,
-            own: call_of(node),
-            told,
-        })
+        let own = call_of(node);
+        self.tell(rt, &Event { node, own, told });
     }
 
     /// A node loses its first end and starts again, at this pair.
-    fn restarted(&mut self, node: u64, pair: Pair) -> Result<(), NoMemory> {
-        let own = call_of(node);
+    fn restarted(&mut self, rt: &impl Abort, node: u64, pair: Pair) {
         let told = Told::Lost {
             id: 1,
             facts: FACTS,
         };
-        self.tell(&Event { node, own, told })?;
+        let own = call_of(node);
+        self.tell(rt, &Event { node, own, told });
         let told = Told::Restarted { pair };
-        self.tell(&Event { node, own, told })
+        self.tell(rt, &Event { node, own, told });
     }
 
     /// A message of N0AAA's end is sent and heeded.
-    fn pass(&mut self, number: u8) -> Result<(), NoMemory> {
+    fn pass(&mut self, rt: &impl Abort, number: u8) {
         let message = message(1, number, 25);
-        self.sent(1, Some(number as u64), message.as_slice())?;
-        self.heeded(2, message.as_slice())
+        self.sent(rt, 1, Some(number as u64), message.as_slice());
+        self.heeded(rt, 2, message.as_slice());
     }
 
     /// The first seven lines: a circuit with this window is opened.
-    fn open(&mut self, window: u8) -> Result<(), NoMemory> {
+    fn open(&mut self, rt: &impl Abort, window: u8) {
         let request = request(1);
         let accept = datagram(2, 25, &[1, 1, 1, 1, 2, window]);
-        self.made(1, 1, FIRST, None)?;
-        self.sent(1, None, request.as_slice())?;
-        self.made(2, 1, FIRST, Some(request.as_slice()))?;
-        self.notice(2, EndNotice::Opened { window })?;
-        self.sent(2, None, accept.as_slice())?;
-        self.heeded(1, accept.as_slice())?;
-        self.notice(1, EndNotice::Opened { window })
+        self.made(rt, 1, 1, FIRST, None);
+        self.sent(rt, 1, None, request.as_slice());
+        self.made(rt, 2, 1, FIRST, Some(request.as_slice()));
+        self.notice(rt, 2, EndNotice::Opened { window });
+        self.sent(rt, 2, None, accept.as_slice());
+        self.heeded(rt, 1, accept.as_slice());
+        self.notice(rt, 1, EndNotice::Opened { window });
     }
 
     /// Message 0 is sent and heeded, then so many others, and then a copy of message 0, which has gone over a hop, is heeded.
-    fn overtake(&mut self, others: u8) -> Result<(), NoMemory> {
-        self.pass(0)?;
+    fn overtake(&mut self, rt: &impl Abort, others: u8) {
+        self.pass(rt, 0);
         for number in 1..others {
-            self.pass(number)?;
+            self.pass(rt, number);
         }
-        self.pass(others)?;
-        self.heeded(2, message(1, 0, 24).as_slice())
+        self.pass(rt, others);
+        self.heeded(rt, 2, message(1, 0, 24).as_slice());
     }
 
     /// Both ends fail, and then the request, which had opened an end, opens another one.
-    fn open_again(&mut self) -> Result<(), NoMemory> {
-        self.notice(1, EndNotice::FailedRetries)?;
-        self.notice(2, EndNotice::FailedRetries)?;
-        self.made(2, 2, SECOND, Some(request(1).as_slice()))
+    fn open_again(&mut self, rt: &impl Abort) {
+        self.notice(rt, 1, EndNotice::FailedRetries);
+        self.notice(rt, 2, EndNotice::FailedRetries);
+        self.made(rt, 2, 2, SECOND, Some(request(1).as_slice()));
     }
 
-    fn play(&mut self, story: Story) -> Result<(), NoMemory> {
+    fn play(&mut self, rt: &impl Abort, story: Story) {
         match story {
-            Story::Overtaken { others } => self.overtake(others),
+            Story::Overtaken { others } => self.overtake(rt, others),
             Story::Restarted { pair } => {
-                self.restarted(2, pair)?;
-                self.made(2, 2, pair, None)
+                self.restarted(rt, 2, pair);
+                self.made(rt, 2, 2, pair, None);
             }
-            Story::OpenedAgain => self.open_again(),
+            Story::OpenedAgain => self.open_again(rt),
         }
     }
 }
@@ -190,20 +172,22 @@ enum Story {
     OpenedAgain,
 }
 
-/// The verdict on what happens to a circuit with this window.
-fn judge(
+/// Asserts the verdict on what happens to a circuit with this window.
+fn expect_late(
+    rt: &impl Abort,
     alloc: Global,
     allowance: Allowance,
     window: u8,
     story: Story,
-) -> Result<Option<Late>, NoMemory> {
+    wanted: Option<Late>,
+) {
     let mut trial = Trial {
         verdict: Verdict::new(alloc, allowance),
         line: 0,
     };
-    trial.open(window)?;
-    trial.play(story)?;
-    Ok(trial.verdict.late())
+    trial.open(rt, window);
+    trial.play(rt, story);
+    assert_eq!(rt; trial.verdict.late(), wanted);
 }
 
 fn overtaken(line: u32) -> Option<Late> {
@@ -217,41 +201,42 @@ fn returned(line: u32) -> Option<Late> {
 }
 
 #[test]
-fn a_copy_that_128_messages_have_overtaken_is_too_late(rt: HostRuntime) -> Result<(), Fail> {
+fn a_copy_that_128_messages_have_overtaken_is_too_late(rt: HostRuntime) {
     for (others, late) in [(127, None), (128, overtaken(9 + 2 * 128 + 1))] {
         let story = Story::Overtaken { others };
-        assert_eq!(&rt; judge(rt.alloc(), Allowance::Fixed, 4, story)?, late);
+        expect_late(&rt, rt.alloc(), Allowance::Fixed, 4, story, late);
     }
-    Ok(())
 }
 
 #[test]
-fn a_window_of_127_allows_for_one_overtaker(rt: HostRuntime) -> Result<(), Fail> {
+fn a_window_of_127_allows_for_one_overtaker(rt: HostRuntime) {
     for (others, late) in [(1, None), (2, overtaken(14))] {
         let story = Story::Overtaken { others };
-        assert_eq!(&rt; judge(rt.alloc(), Allowance::OfWindow, 127, story)?, late);
+        expect_late(&rt, rt.alloc(), Allowance::OfWindow, 127, story, late);
     }
-    Ok(())
 }
 
 #[test]
-fn a_pair_that_an_open_end_still_knows_comes_back(rt: HostRuntime) -> Result<(), Fail> {
+fn a_pair_that_an_open_end_still_knows_comes_back(rt: HostRuntime) {
     for (pair, late) in [(FIRST, returned(10)), (SECOND, None)] {
         let story = Story::Restarted { pair };
-        assert_eq!(&rt; judge(rt.alloc(), Allowance::Fixed, 4, story)?, late);
+        expect_late(&rt, rt.alloc(), Allowance::Fixed, 4, story, late);
     }
-    Ok(())
 }
 
 #[test]
-fn a_connect_request_that_has_opened_an_end_comes_back(rt: HostRuntime) -> Result<(), Fail> {
-    let late = judge(rt.alloc(), Allowance::Fixed, 4, Story::OpenedAgain)?;
-    assert_eq!(&rt; late, returned(10));
-    Ok(())
+fn a_connect_request_that_has_opened_an_end_comes_back(rt: HostRuntime) {
+    let (allowance, late) = (Allowance::Fixed, returned(10));
+    expect_late(&rt, rt.alloc(), allowance, 4, Story::OpenedAgain, late);
+}
+
+/// Asserts the verdict on a list.
+fn expect_verdict(rt: &impl Abort, alloc: Global, events: &[Numbered<'_>], wanted: Option<Late>) {
+    assert!(rt; too_late(alloc, Allowance::Fixed, events) == Ok(wanted));
 }
 
 #[test]
-fn a_list_is_judged_at_once(rt: HostRuntime) -> Result<(), Fail> {
+fn a_list_is_judged_at_once(rt: HostRuntime) {
     let alloc = rt.alloc();
     let request = request(1);
     let datagram = request.as_slice();
@@ -294,7 +279,6 @@ fn a_list_is_judged_at_once(rt: HostRuntime) -> Result<(), Fail> {
             },
         },
     ];
-    assert_eq!(&rt; too_late(alloc, Allowance::Fixed, &events[..2])?, None);
-    assert_eq!(&rt; too_late(alloc, Allowance::Fixed, &events)?, overtaken(5));
-    Ok(())
+    expect_verdict(&rt, alloc, &events[..2], None);
+    expect_verdict(&rt, alloc, &events, overtaken(5));
 }
