@@ -1,13 +1,14 @@
 //! Twenty thousand KISS items come to a node. Whatever it does then, it doesn't depend on how the bytes are cut.
 ghost use Rattle.std.specs.Prelude.{◌≤◌};
 
-use crate::nodes::{NOW, a_call, config};
+use crate::nodes::{a_call, node, take_in};
 use crate::stream::Seeded;
 use circuit_set::SetEvent;
 use link_table::Written;
 use node_core::{Node, NodeEntry};
 use radio_base::NoMemory;
 use std::alloc::Global;
+use std::process::Abort;
 use std::test::Fail;
 
 const ITEMS: u32 = 20_000;
@@ -98,35 +99,34 @@ fn fetch(node: &mut Node, outcome: &mut Outcome) {
 }
 
 /// Hands a stream to a node in pieces of up to `most` bytes.
-fn feed(node: &mut Node, stream: &[u8], most: u32, outcome: &mut Outcome) -> Result<(), NoMemory>
+fn feed(rt: &impl Abort, node: &mut Node, stream: &[u8], most: u32, outcome: &mut Outcome)
     requires { 1 ≤ most }
 {
     let mut cuts = Seeded { state: 5 };
     let mut rest = stream;
     for _ in 0..stream.len() {
         if rest.is_empty() {
-            return Ok(());
+            return;
         }
         let count = (1 + cuts.below(most) as usize).min(rest.len());
         let (piece, later) = rest.split_at(count);
-        node.kiss_bytes(piece, NOW)?;
+        take_in(rt, node, piece);
         fetch(node, outcome);
         rest = later;
     }
-    Ok(())
 }
 
 /// What a new node makes of a stream that comes in pieces of up to `most` bytes.
-fn outcome_of(alloc: Global, stream: &[u8], most: u32) -> Result<Outcome, NoMemory>
+fn outcome_of(rt: &impl Abort, alloc: Global, stream: &[u8], most: u32) -> Outcome
     requires { 1 ≤ most }
 {
-    let mut node = Node::new(alloc, config(a_call(), false))?;
+    let mut node = node(rt, alloc, a_call(), false);
     let mut outcome = Outcome {
         frames: EMPTY,
         entries: EMPTY,
     };
-    feed(&mut node, stream, most, &mut outcome)?;
-    Ok(outcome)
+    feed(rt, &mut node, stream, most, &mut outcome);
+    outcome
 }
 
 fn stream_of(alloc: Global) -> Result<Vec<u8>, NoMemory> {
@@ -143,8 +143,8 @@ fn stream_of(alloc: Global) -> Result<Vec<u8>, NoMemory> {
 #[test]
 fn twenty_thousand_items(rt: HostRuntime) -> Result<(), Fail> {
     let stream = stream_of(rt.alloc())?;
-    let long = outcome_of(rt.alloc(), &stream, 2_000)?;
-    let short = outcome_of(rt.alloc(), &stream, 40)?;
+    let long = outcome_of(&rt, rt.alloc(), &stream, 2_000);
+    let short = outcome_of(&rt, rt.alloc(), &stream, 40);
     assert!(rt; long.frames.count >= 1_000 && long.entries.count >= 1_000);
     assert_eq!(rt; long, short);
     Ok(())

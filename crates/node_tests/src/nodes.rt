@@ -9,16 +9,15 @@ use circuit_set::SetEvent;
 use kiss_framing::enframe;
 use link_table::{Written, WrittenAs};
 use node_core::{ActDone, ActRefusal, Node, NodeConfig, NodeEntry, UserAct};
-use radio_base::{Moment, NoMemory};
+use radio_base::Moment;
 use route_table::RouteRules;
 use std::alloc::Global;
 use std::process::Abort;
-use std::test::Fail;
 
-pub const NOW: Moment = Moment(0);
+const NOW: Moment = Moment(0);
 
 /// The settings of a node of this call.
-pub fn config(call: Call, modulo128: bool) -> NodeConfig
+fn config(call: Call, modulo128: bool) -> NodeConfig
     ensures { IsConfig result }
 {
     NodeConfig {
@@ -77,21 +76,21 @@ enum Trial {
 }
 
 /// Makes the nodes N0AAA, N0BBB and N0CCC, of which only the first may have links modulo 128, and tries this on them.
-fn on_three_nodes(rt: &impl Abort, alloc: Global, trial: Trial) -> Result<(), NoMemory> {
+fn on_three_nodes(rt: &impl Abort, alloc: Global, trial: Trial) {
     let modulo128 = matches!(trial, Trial::CircuitModulo128);
-    let mut a = Node::new(alloc, config(a_call(), modulo128))?;
-    let mut b = Node::new(alloc, config(b_call(), false))?;
-    let mut c = Node::new(alloc, config(c_call(), false))?;
-    play(rt, trial, &mut a, &mut b, &mut c)
+    let mut a = node(rt, alloc, a_call(), modulo128);
+    let mut b = node(rt, alloc, b_call(), false);
+    let mut c = node(rt, alloc, c_call(), false);
+    play(rt, trial, &mut a, &mut b, &mut c);
 }
 
-fn play(
-    rt: &impl Abort,
-    trial: Trial,
-    a: &mut Node,
-    b: &mut Node,
-    c: &mut Node,
-) -> Result<(), NoMemory> {
+/// A new node of this call.
+pub fn node(rt: &impl Abort, alloc: Global, call: Call, modulo128: bool) -> Node {
+    let made = Node::new(alloc, config(call, modulo128));
+    made.ok().expect(rt, "memory")
+}
+
+fn play(rt: &impl Abort, trial: Trial, a: &mut Node, b: &mut Node, c: &mut Node) {
     match trial {
         Trial::CircuitModulo8 => carry_a_message(rt, a, b, false),
         Trial::CircuitModulo128 => carry_a_message(rt, a, b, true),
@@ -102,29 +101,35 @@ fn play(
 }
 
 /// Hands a frame to a node, as KISS bytes.
-fn hand(node: &mut Node, frame: &Written) -> Result<(), NoMemory> {
+fn hand(rt: &impl Abort, node: &mut Node, frame: &Written) {
     let mut bytes: ArrayVec<u8, 2050> = ArrayVec::new();
     let _ = enframe(0, 0, frame.octets.as_slice(), &mut bytes);
-    node.kiss_bytes(bytes.as_slice(), NOW)
+    take_in(rt, node, bytes.as_slice());
+}
+
+/// Bytes come to a node, which has memory enough.
+pub fn take_in(rt: &impl Abort, node: &mut Node, bytes: &[u8]) {
+    assert!(rt; node.kiss_bytes(bytes, NOW) == Ok(()));
 }
 
 /// Everything that one has put out comes to the other. How many frames that was.
-fn carry(rt: &impl Abort, from: &mut Node, to: &mut Node) -> Result<usize, NoMemory> {
+fn carry(rt: &impl Abort, from: &mut Node, to: &mut Node) -> usize {
     for count in 0..1000usize {
         match from.next_frame() {
-            Some(frame) => hand(to, &frame)?,
-            None => return Ok(count),
+            Some(frame) => hand(rt, to, &frame),
+            None => return count,
         }
     }
     rt.abort()
 }
 
 /// Both hear each other until nothing is on the air any more.
-fn flow(rt: &impl Abort, a: &mut Node, b: &mut Node) -> Result<(), NoMemory> {
+fn flow(rt: &impl Abort, a: &mut Node, b: &mut Node) {
     for _ in 0..100 {
-        let went = carry(rt, a, b)?;
-        if carry(rt, b, a)? == 0 && went == 0 {
-            return Ok(());
+        let went = carry(rt, a, b);
+        let came = carry(rt, b, a);
+        if went == 0 && came == 0 {
+            return;
         }
     }
     rt.abort()
@@ -151,10 +156,10 @@ fn connect(rt: &impl Abort, node: &mut Node, dest: Call) {
 }
 
 /// Both have heard a round of the other.
-fn meet(rt: &impl Abort, a: &mut Node, b: &mut Node) -> Result<(), NoMemory> {
+fn meet(rt: &impl Abort, a: &mut Node, b: &mut Node) {
     done(rt, a, &UserAct::Round);
     done(rt, b, &UserAct::Round);
-    flow(rt, a, b)
+    flow(rt, a, b);
 }
 
 /// The first end has opened its circuit, with a window of 4.
@@ -179,38 +184,41 @@ fn is_opened(entry: &NodeEntry) -> bool {
 }
 
 #[test]
-fn a_circuit_over_links_modulo_8(rt: HostRuntime) -> Result<(), Fail> {
-    on_three_nodes(&rt, rt.alloc(), Trial::CircuitModulo8)?;
-    Ok(())
+fn a_circuit_over_links_modulo_8(rt: HostRuntime) {
+    on_three_nodes(&rt, rt.alloc(), Trial::CircuitModulo8);
 }
 
 #[test]
-fn a_circuit_over_links_modulo_128(rt: HostRuntime) -> Result<(), Fail> {
-    on_three_nodes(&rt, rt.alloc(), Trial::CircuitModulo128)?;
-    Ok(())
+fn a_circuit_over_links_modulo_128(rt: HostRuntime) {
+    on_three_nodes(&rt, rt.alloc(), Trial::CircuitModulo128);
 }
 
 /// N0AAA opens a circuit with N0BBB, writes a message and closes.
-fn carry_a_message(
-    rt: &impl Abort,
-    a: &mut Node,
-    b: &mut Node,
-    modulo128: bool,
-) -> Result<(), NoMemory> {
-    meet(rt, a, b)?;
+fn carry_a_message(rt: &impl Abort, a: &mut Node, b: &mut Node, modulo128: bool) {
+    meet(rt, a, b);
     connect(rt, a, b_call());
-    flow(rt, a, b)?;
+    flow(rt, a, b);
     assert!(rt; b.circuits().router().carrier().is_128(&a_call()) == modulo128);
-    assert!(rt; has_opened(a) && has_opened(b));
+    expect_opened(rt, a);
+    expect_opened(rt, b);
     refused(rt, b, &UserAct::Take { id: 1 }, ActRefusal::Nothing);
     write_hello(rt, a);
-    flow(rt, a, b)?;
+    flow(rt, a, b);
     take_hello(rt, b);
     done(rt, a, &UserAct::Close { id: 1 });
-    flow(rt, a, b)?;
+    flow(rt, a, b);
     refused(rt, a, &UserAct::Close { id: 1 }, ActRefusal::NoEnd);
-    assert!(rt; a.facts(1).is_none() && b.facts(1).is_none());
-    Ok(())
+    expect_no_end(rt, a);
+    expect_no_end(rt, b);
+}
+
+fn expect_opened(rt: &impl Abort, node: &mut Node) {
+    assert!(rt; has_opened(node));
+}
+
+/// The first end is no longer known.
+fn expect_no_end(rt: &impl Abort, node: &Node) {
+    assert!(rt; node.facts(1).is_none());
 }
 
 fn write_hello(rt: &impl Abort, node: &mut Node) {
@@ -229,30 +237,32 @@ fn take_hello(rt: &impl Abort, node: &mut Node) {
 }
 
 #[test]
-fn a_round_is_broadcast_and_heard(rt: HostRuntime) -> Result<(), Fail> {
-    on_three_nodes(&rt, rt.alloc(), Trial::Round)?;
-    Ok(())
+fn a_round_is_broadcast_and_heard(rt: HostRuntime) {
+    on_three_nodes(&rt, rt.alloc(), Trial::Round);
 }
 
 /// Whoever hears the round has a route, which is gone with the link.
-fn hear_a_round(rt: &impl Abort, a: &mut Node, b: &mut Node) -> Result<(), NoMemory> {
+fn hear_a_round(rt: &impl Abort, a: &mut Node, b: &mut Node) {
     done(rt, a, &UserAct::Round);
-    carry(rt, a, b)?;
-    assert!(rt; b.routes().next_hop(&a_call()) == Some(a_call()));
-    assert!(rt; a.routes().next_hop(&b_call()).is_none());
+    carry(rt, a, b);
+    expect_hop(rt, b, a_call(), Some(a_call()));
+    expect_hop(rt, a, b_call(), None);
     done(rt, b, &UserAct::LinkFail(a_call()));
-    assert!(rt; b.routes().next_hop(&a_call()).is_none());
-    Ok(())
+    expect_hop(rt, b, a_call(), None);
+}
+
+/// Which neighbour a node's datagrams to another one go to.
+fn expect_hop(rt: &impl Abort, node: &Node, dest: Call, wanted: Option<Call>) {
+    assert!(rt; node.routes().next_hop(&dest) == wanted);
 }
 
 #[test]
-fn a_set_up_that_was_lost_goes_out_again(rt: HostRuntime) -> Result<(), Fail> {
-    on_three_nodes(&rt, rt.alloc(), Trial::SetUpAgain)?;
-    Ok(())
+fn a_set_up_that_was_lost_goes_out_again(rt: HostRuntime) {
+    on_three_nodes(&rt, rt.alloc(), Trial::SetUpAgain);
 }
 
 /// N0AAA has N0BBB as its locked neighbour. What it has sent is lost, and sent again once T1 has run out.
-fn set_up_again(rt: &impl Abort, a: &mut Node) -> Result<(), NoMemory> {
+fn set_up_again(rt: &impl Abort, a: &mut Node) {
     let lock = UserAct::Lock {
         dest: b_call(),
         alias: Alias::default(),
@@ -262,23 +272,46 @@ fn set_up_again(rt: &impl Abort, a: &mut Node) -> Result<(), NoMemory> {
     done(rt, a, &lock);
     connect(rt, a, b_call());
     let lost = a.next_frame();
-    assert!(rt; lost.is_some() && a.next_frame().is_none());
-    a.tick(Moment(2999))?;
-    assert!(rt; a.next_frame().is_none());
-    a.tick(Moment(3000))?;
+    assert!(rt; lost.is_some());
+    expect_silent(rt, a);
+    tick(rt, a, 2999);
+    expect_silent(rt, a);
+    tick(rt, a, 3000);
     assert!(rt; a.next_frame() == lost);
-    Ok(())
+}
+
+fn tick(rt: &impl Abort, node: &mut Node, at: u64) {
+    assert!(rt; node.tick(Moment(at)) == Ok(()));
+}
+
+/// No frame waits.
+fn expect_silent(rt: &impl Abort, node: &mut Node) {
+    assert!(rt; node.next_frame().is_none());
 }
 
 #[test]
-fn a_node_between_two_others_repeats(rt: HostRuntime) -> Result<(), Fail> {
-    on_three_nodes(&rt, rt.alloc(), Trial::Repeats)?;
-    Ok(())
+fn a_node_between_two_others_repeats(rt: HostRuntime) {
+    on_three_nodes(&rt, rt.alloc(), Trial::Repeats);
 }
 
 /// N0AAA reaches N0CCC over N0BBB: its set-up and the answer are taken only once they are repeated.
-fn repeat(rt: &impl Abort, a: &mut Node, b: &mut Node, c: &mut Node) -> Result<(), NoMemory> {
-    meet(rt, a, c)?;
+fn repeat(rt: &impl Abort, a: &mut Node, b: &mut Node, c: &mut Node) {
+    meet(rt, a, c);
+    reach_over(rt, a);
+    all_hear(rt, a, b, c, WrittenAs::Modulo8);
+    expect_silent(rt, c);
+    all_hear(rt, b, a, c, WrittenAs::AsItCame);
+    expect_silent(rt, a);
+    expect_silent(rt, b);
+    all_hear(rt, c, a, b, WrittenAs::Modulo8);
+    expect_silent(rt, a);
+    all_hear(rt, b, a, c, WrittenAs::AsItCame);
+    assert!(rt; a.circuits().router().carrier().link(&c_call()).is_some());
+    assert!(rt; a.next_frame().is_some());
+}
+
+/// N0AAA asks for a circuit with N0CCC, to which its path leads over N0BBB.
+fn reach_over(rt: &impl Abort, a: &mut Node) {
     let mut path = Path::new();
     path.push(Address {
         call: b_call(),
@@ -287,31 +320,16 @@ fn repeat(rt: &impl Abort, a: &mut Node, b: &mut Node, c: &mut Node) -> Result<(
     });
     assert!(rt; a.set_path(&c_call(), &path).is_ok());
     connect(rt, a, c_call());
-    assert!(rt; all_hear(rt, a, b, c)? == WrittenAs::Modulo8);
-    assert!(rt; c.next_frame().is_none());
-    assert!(rt; all_hear(rt, b, a, c)? == WrittenAs::AsItCame);
-    assert!(rt; a.next_frame().is_none() && b.next_frame().is_none());
-    assert!(rt; all_hear(rt, c, a, b)? == WrittenAs::Modulo8);
-    assert!(rt; a.next_frame().is_none());
-    assert!(rt; all_hear(rt, b, a, c)? == WrittenAs::AsItCame);
-    assert!(rt; a.circuits().router().carrier().link(&c_call()).is_some());
-    assert!(rt; a.next_frame().is_some());
-    Ok(())
 }
 
-/// The next frame of a node comes to all, to itself too. How it was written.
-fn all_hear(
-    rt: &impl Abort,
-    from: &mut Node,
-    second: &mut Node,
-    third: &mut Node,
-) -> Result<WrittenAs, NoMemory> {
+/// The next frame of a node, which was written so, comes to all, to itself too.
+fn all_hear(rt: &impl Abort, from: &mut Node, second: &mut Node, third: &mut Node, how: WrittenAs) {
     match from.next_frame() {
         Some(frame) => {
-            hand(from, &frame)?;
-            hand(second, &frame)?;
-            hand(third, &frame)?;
-            Ok(frame.how)
+            hand(rt, from, &frame);
+            hand(rt, second, &frame);
+            hand(rt, third, &frame);
+            assert!(rt; frame.how == how);
         }
         None => rt.abort(),
     }
