@@ -36,12 +36,23 @@ pub fn carried(alloc: Global, circuits: u8, count: u32) -> Result<u32, NoMemory>
     let right_call = call(b"N0BBB");
     let mut left = set_of(alloc, left_call, &right_call)?;
     let mut right = set_of(alloc, right_call, &left_call)?;
+    open(&mut left, &mut right, &right_call, circuits)?;
+    write_all(&mut left, &mut right, circuits, count)
+}
+
+/// Opens so many circuits with the other node.
+fn open(left: &mut Set, right: &mut Set, other: &Call, circuits: u8) -> Result<(), NoMemory> {
     for _ in 0..circuits {
         if left.drained() {
-            let _ = left.connect(&right_call, NOW);
+            let _ = left.connect(other, NOW);
         }
-        exchange(&mut left, &mut right)?;
+        exchange(left, right)?;
     }
+    Ok(())
+}
+
+/// Writes so many messages. How many came.
+fn write_all(left: &mut Set, right: &mut Set, circuits: u8, count: u32) -> Result<u32, NoMemory> {
     let mut came: u32 = 0;
     for nth in 0..count {
         let id = match circuits {
@@ -51,9 +62,9 @@ pub fn carried(alloc: Global, circuits: u8, count: u32) -> Result<u32, NoMemory>
         if left.drained() {
             let _ = left.write(id, &[b'x'; 200], NOW);
         }
-        exchange(&mut left, &mut right)?;
-        came = came.saturating_add(taken(&mut right, id));
-        exchange(&mut left, &mut right)?;
+        exchange(left, right)?;
+        came = came.saturating_add(taken(right, id));
+        exchange(left, right)?;
     }
     Ok(came)
 }

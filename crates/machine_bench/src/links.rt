@@ -25,25 +25,36 @@ const MANY: u32 = 10_000;
 /// Hands `count` datagrams from a table of links to so many others, in turn, each until nothing is left to be sent. How many came.
 pub fn carried(alloc: Global, modulo128: bool, peers: u8, count: u32) -> Result<u32, NoMemory> {
     let own = numbered(0);
+    let mut others = others(alloc, modulo128, peers)?;
     let mut hub = LinkTable::new(alloc, own, true, modulo128, CONFIG)?;
-    set_paths(&mut hub)?;
+    hand_all(&mut hub, &own, &mut others, count)
+}
+
+/// A table of links for each number from 1 to `peers`.
+fn others(alloc: Global, modulo128: bool, peers: u8) -> Result<Vec<LinkTable>, NoMemory> {
     let mut others = Vec::new(alloc);
-    for number in 1..peers as u16 + 1 {
-        let other = LinkTable::new(alloc, numbered(number as u8), true, modulo128, CONFIG)?;
-        others.push(other)?;
+    for number in 0..peers {
+        let own = numbered(number.saturating_add(1));
+        others.push(LinkTable::new(alloc, own, true, modulo128, CONFIG)?)?;
     }
+    Ok(others)
+}
+
+/// Hands so many datagrams to the others, in turn. How many came.
+fn hand_all(
+    hub: &mut LinkTable,
+    own: &Call,
+    others: &mut [LinkTable],
+    count: u32,
+) -> Result<u32, NoMemory> {
+    set_paths(hub)?;
     let mut came: u32 = 0;
     for nth in 0..count {
         if others.is_empty() {
             return Ok(came);
         }
         let at = nth as usize % others.len();
-        hand(
-            &mut hub,
-            &own,
-            &mut others[at],
-            &numbered((at % 64) as u8 + 1),
-        )?;
+        hand(hub, own, &mut others[at], &numbered((at % 64) as u8 + 1))?;
         came = came.saturating_add(collected(&mut others[at]));
     }
     Ok(came)

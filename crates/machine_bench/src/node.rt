@@ -32,10 +32,21 @@ type Kiss = ArrayVec<u8, 2050>;
 pub fn taken(alloc: Global, held: u8, count: u32) -> Result<u32, NoMemory> {
     let kinds = [between_others(), broadcast(alloc)?, to_the_node()];
     let mut node = Node::new(alloc, config(OWN))?;
-    if !hold(alloc, &mut node, held)? {
-        return Ok(0);
+    hold_and_take(alloc, &mut node, held, &kinds, count)
+}
+
+fn hold_and_take(
+    alloc: Global,
+    node: &mut Node,
+    held: u8,
+    kinds: &[Kiss; 3],
+    count: u32,
+) -> Result<u32, NoMemory> {
+    if hold(alloc, node, held)? {
+        take_all(node, kinds, count)
+    } else {
+        Ok(0)
     }
-    take_all(&mut node, &kinds, count)
 }
 
 fn take_all(node: &mut Node, kinds: &[Kiss; 3], count: u32) -> Result<u32, NoMemory> {
@@ -146,10 +157,15 @@ fn between_others() -> Kiss {
 /// A broadcast of another node.
 fn broadcast(alloc: Global) -> Result<Kiss, NoMemory> {
     let mut other = Node::new(alloc, config(OTHER))?;
-    let _ = other.act(&UserAct::Round, NOW);
-    match other.next_frame() {
-        Some(written) => Ok(kiss(written.octets.as_slice())),
-        None => Ok(Kiss::new()),
+    Ok(round_of(&mut other))
+}
+
+/// The first frame of a round of this node.
+fn round_of(node: &mut Node) -> Kiss {
+    let _ = node.act(&UserAct::Round, NOW);
+    match node.next_frame() {
+        Some(written) => kiss(written.octets.as_slice()),
+        None => Kiss::new(),
     }
 }
 
