@@ -48,7 +48,7 @@ use Rattle.net_replay.proofs.Traced.{IsRested, StepsTraced, inputs_send, inputs_
 
 -- ---- lists
 
-settled_all : (P : List ℕ → Type 0) (at : ℕ) (air : List Aired) → AllByRecursion (λ (f : Aired). P f.octets) air → AllByRecursion (λ (f : Aired). P f.octets) (settled_at at air)
+settled_all : (P : List ℕ → Type 0) (at : ℕ) (air : List Aired) → AllByRecursion (λ (f : Aired). P f.octets.items) air → AllByRecursion (λ (f : Aired). P f.octets.items) (settled_at at air)
 settled_all P at [] a = tt
 settled_all P zero (f ∷ air) a = a
 settled_all P (suc at) (f ∷ air) a = (a.0, settled_all P at air a.1)
@@ -97,7 +97,7 @@ module _ (plan : Plan) (size : ℕ) (apart : AreApart (names (new_nodes plan))) 
   NodeFlies ds p = CarriesTraced size ds p.state.station × IsRested p.state.stream
 
   abbrev pub AirFlies : List (List ℕ) → List Aired → Type 0
-  AirFlies ds air = AllByRecursion (λ (f : Aired). IsCarried size ds f.octets) air
+  AirFlies ds air = AllByRecursion (λ (f : Aired). IsCarried size ds f.octets.items) air
 
   -- all that is under way in a world, after these steps of its circuits
   pub record Flies (steps : List Step) (w : World) : Type 0 where
@@ -144,7 +144,7 @@ module _ (plan : Plan) (size : ℕ) (apart : AreApart (names (new_nodes plan))) 
   node_more ds more p f = (further.more size ds more p.state.station f.0, f.1)
 
   air_more : (ds more : List (List ℕ)) (air : List Aired) → AirFlies ds air → AirFlies (ds ++ more) air
-  air_more ds more air a = every (λ (f : Aired). IsCarried size ds f.octets) (λ (f : Aired). IsCarried size (ds ++ more) f.octets) (λ f x. further.octets size ds more f.octets x) air a
+  air_more ds more air a = every (λ (f : Aired). IsCarried size ds f.octets.items) (λ (f : Aired). IsCarried size (ds ++ more) f.octets.items) (λ f x. further.octets size ds more f.octets x) air a
 
   -- the node at a place has changed
   beside : (ds ds2 : List (List ℕ)) (nodes : List Placed) (at : ℕ) (p q : Placed) → slice_get nodes at ≡ Some p → ((k : ℕ) (r : Placed) → slice_get nodes k ≡ Some r → NodeFlies ds r) → ((r : Placed) → NodeFlies ds r → NodeFlies ds2 r)
@@ -245,7 +245,7 @@ module _ (plan : Plan) (size : ℕ) (apart : AreApart (names (new_nodes plan))) 
           traced = subst (StepsTraced [] (first_sets plan)) (sym (append-nil steps)) f.traced;
           nodes = λ i x g. subst (λ xs. NodeFlies xs x) (sym same) (beside (sent steps) (sent steps) w.nodes at p q e f.nodes (λ r y. y) mine i x g (nat_eq at i) refl);
           air = subst (λ xs. AirFlies xs (w.air ++ aired plan.channels came128 p)) (sym same)
-              (both (λ (y : Aired). IsCarried size (sent steps) y.octets) w.air (aired plan.channels came128 p) f.air (aired_by (sent steps) came128 (is_on_air plan.channels p.declared.node) p (f.nodes at p e)));
+              (both (λ (y : Aired). IsCarried size (sent steps) y.octets.items) w.air (aired plan.channels came128 p) f.air (aired_by (sent steps) came128 (is_on_air plan.channels p.declared.node) p (f.nodes at p e)));
         },
       )
 
@@ -327,7 +327,7 @@ module _ (plan : Plan) (size : ℕ) (apart : AreApart (names (new_nodes plan))) 
     connects = λ line at dest w i. reach_goes line at (worlds.Act (acts.Connect dest)) w (λ ds p air told f. (acts_carry size ds w.now (acts.Connect dest) p.state i tt told f.0, f.1));
     times = times_go;
     broadcasts = λ line at call b w i. bytes_go line at (broadcast_octets call b) w (λ ds air. further.broadcasts size ds call b i);
-    frames = λ line at place f w e. bytes_go line at f.octets w (λ ds air. one_of (λ (y : Aired). IsCarried size ds y.octets) w.air place f air e);
+    frames = λ line at place f w e. bytes_go line at f.octets.items w (λ ds air. one_of (λ (y : Aired). IsCarried size ds y.octets.items) w.air place f air e);
     puts = puts_go;
     restarts = restarts_go;
     settles = settles;

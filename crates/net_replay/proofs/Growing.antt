@@ -104,7 +104,7 @@ restart_grows plan line at pair (Some p) w = omega arith
 
 deliver_of_grows : (channels : List Channel) (line at node : ℕ) (f : Option Aired) (w : World) → length w.air ≤ length (deliver_of channels line at node f w).air
 deliver_of_grows channels line at node None w = omega arith
-deliver_of_grows channels line at node (Some f) w = hear_grows channels line node (kiss_bytes f.octets) f.modulo128 (tell line (Delivered (at + 1) node ∷ []) w)
+deliver_of_grows channels line at node (Some f) w = hear_grows channels line node (kiss_bytes f.octets.items) f.modulo128 (tell line (Delivered (at + 1) node ∷ []) w)
 
 pub deliver_grows : (channels : List Channel) (line at node : ℕ) (w : World) → length w.air ≤ length (deliver_at channels line at node w).air
 unfolding deliver_at

@@ -20,7 +20,7 @@ pub not_found : (frames air : List Aired) (at : ℕ) → frames ≡ air → fals
 not_found frames air at same e = ap (λ (fs : List Aired). slice_get fs at) (sym same) ∙ slice_get_past frames at (ltb-false at (length frames) (sym e))
 
 pub delivered : (old mid new : Course) (channels : List Channel) (line at node : ℕ) (f : Aired) (bytes : List ℕ) (r : Result (Unit {0}) ReplayRefusal)
-    → slice_get old.left.air at ≡ Some f → bytes ≡ kiss_bytes f.octets → GoesOn old mid (tell line (Delivered (at + 1) node ∷ []))
+    → slice_get old.left.air at ≡ Some f → bytes ≡ kiss_bytes f.octets.items → GoesOn old mid (tell line (Delivered (at + 1) node ∷ []))
     → Runs mid new (hear channels line node bytes f.modulo128) r → Runs old new (deliver_at channels line at node) r
 unfolding deliver_at
 delivered old mid new channels line at node f bytes r is same tells hears =

@@ -80,7 +80,7 @@ pub record Moves (plan : Plan) (Heard_from Locks : Callsign → Type 0) (Again :
   pub connects : (line at : ℕ) (dest : Callsign) (w : World) → IsCallsign dest.letters dest.ssid → P w (reach line at (worlds.Act (acts.Connect dest)) w)
   pub times : (line at : ℕ) (w : World) → P w (reach line at Time w)
   pub broadcasts : (line at : ℕ) (call : Callsign) (b : Broadcast) (w : World) → Heard_from call → P w (reach line at (Bytes (kiss_bytes (broadcast_octets call b))) w)
-  pub frames : (line at place : ℕ) (f : Aired) (w : World) → slice_get w.air place ≡ Some f → P w (reach line at (Bytes (kiss_bytes f.octets)) w)
+  pub frames : (line at place : ℕ) (f : Aired) (w : World) → slice_get w.air place ≡ Some f → P w (reach line at (Bytes (kiss_bytes f.octets.items)) w)
   pub puts : (line at : ℕ) (came128 : Bool) (w : World) → P w (put plan.channels line at came128 w)
   pub restarts : (line number : ℕ) (pair : Pair) (w : World) → Again pair → P w (restart plan line number pair w)
   pub settles : (at : ℕ) (w : World) → P w (settle at w)
@@ -148,8 +148,8 @@ module _ (plan : Plan) (Heard_from Locks : Callsign → Type 0) (Again : Pair �
   delivered line at node None w e = stays w
   delivered line at node (Some f) w e =
       let v : World = tell line (events.Delivered (at + 1) node ∷ []) w in
-      next w v (hear plan.channels line node (kiss_bytes f.octets) f.modulo128 v) (tells line (events.Delivered (at + 1) node ∷ []) w (tt, tt))
-      (hear_leads line node (kiss_bytes f.octets) f.modulo128 v (k.frames line (place_of node v.nodes) at f v e))
+      next w v (hear plan.channels line node (kiss_bytes f.octets.items) f.modulo128 v) (tells line (events.Delivered (at + 1) node ∷ []) w (tt, tt))
+      (hear_leads line node (kiss_bytes f.octets.items) f.modulo128 v (k.frames line (place_of node v.nodes) at f v e))
 
   deliver_leads : (line at node : ℕ) (w : World) → P w (deliver_at plan.channels line at node w)
   unfolding deliver_at

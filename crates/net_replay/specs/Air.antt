@@ -1,6 +1,7 @@
 -- Frames in the air. Own profile.
 use Rattle.std.specs.Prelude.{ℕ, zero, suc, ◌-◌, List, [], ◌∷◌, position, slice_get, Bool, true, false, ◌≡◌, not, Option, Some, None, if◌then◌else◌}
 use Rattle.std.specs.List.{AllByRecursion}
+use Rattle.arrayvec.specs.ArrayVec.{ArrayVec}
 use Rattle.net_replay.specs.declared.air.Aired.{Aired}
 use Rattle.network_file.specs.Channels.{can_hear}
 use Rattle.network_file.specs.declared.plan.channels.Channel.{Channel}
@@ -15,7 +16,7 @@ abbrev pub most_frames : ℕ
 most_frames = 100000
 
 -- a frame as it is put in the air, written modulo 128, else modulo 8 or without
-abbrev pub in_air : ℕ → List ℕ → Bool → Aired
+abbrev pub in_air : ℕ → ArrayVec ℕ → Bool → Aired
 in_air sender octets modulo128 = record { sender = sender; octets = octets; modulo128 = modulo128; settled = false }
 
 -- Frames are numbered from 1.

@@ -37,7 +37,7 @@ modulus_of f = if f.modulo128 then 128 else 8
 abbrev pub air_line : ℕ → Option Aired → List ℕ
 air_line number None = []
 air_line number (Some f) =
-    codes "air " ++ (decimal number ++ (codes " " ++ (decimal f.sender ++ (codes " " ++ (text_of_frame (read_at (modulus_of f) f.octets) ++ codes "\n")))))
+    codes "air " ++ (decimal number ++ (codes " " ++ (decimal f.sender ++ (codes " " ++ (text_of_frame (read_at (modulus_of f) f.octets.items) ++ codes "\n")))))
 
 -- table N CALL ALIAS
 abbrev pub table_line : Table → List ℕ

@@ -6,47 +6,10 @@ ghost use Rattle.net_replay.specs.Air as airs;
 
 use crate::limits::MAX_FRAMES;
 use crate::reasons::{LineRefusal, ReplayRefusal};
+use link_table::Octets;
 use network_file::{Channel, can_hear};
-use std::alloc::{AllocError, Global};
+use std::alloc::Global;
 use std::marker::Model;
-
-/// The octets of a frame, at most 1,023.
-#[derive(Debug, Drop)]
-pub struct Octets {
-    bytes: Vec<u8>,
-}
-
-impl Model for Octets {
-    ghost use Rattle.std.specs.Prelude.{ℕ, List, ◌≤◌, length};
-
-    ghost Value = { List ℕ };
-
-    ghost view = { λ o. o.bytes.items };
-
-    ghost invariant = { λ o. length o.bytes.items ≤ 1023 };
-}
-
-impl Octets {
-    ghost use Rattle.std.specs.Prelude.{◌≡◌, ◌≤◌, length, IfOk};
-
-    /// The octets of a frame.
-    pub fn new(alloc: Global, bytes: &[u8]) -> Result<Octets, AllocError>
-        requires { length bytes.now ≤ 1023 }
-        ensures { IfOk result (λ octets. octets ≡ bytes.now) }
-    {
-        Ok(Octets {
-            bytes: bytes.to_vec(alloc)?,
-        })
-    }
-
-    /// The octets.
-    pub fn as_slice(&self) -> &[u8]
-        ensures value { result.now ≡ self.now }
-        ensures few { length result.now ≤ 1023 }
-    {
-        &self.bytes
-    }
-}
 
 /// A frame that a node has put in the air.
 #[derive(Debug, Drop)]

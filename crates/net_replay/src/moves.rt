@@ -10,7 +10,7 @@ ghost use Rattle.net_replay.specs.Running.{GoesOn, IsAnswerTo, Runs, Stands, cou
 ghost use Rattle.net_replay.specs.Starting.{has_number};
 ghost use Rattle.net_replay.specs.World as worlds;
 
-use crate::air::{Air, Octets};
+use crate::air::Air;
 use crate::answer::{Answer, answer_of};
 use crate::ends::Ends;
 use crate::events::{Event, NumberedEvent};
@@ -200,7 +200,7 @@ impl World {
         ensures { Runs (course self.old) (course self.new) (running.put_by line at node on_air came128) result }
     {
         while let Some(written) = self.next_frame(at) {
-            self.put_frame(line, node, on_air, came128, &written)?;
+            self.put_frame(line, node, on_air, came128, written)?;
         }
         Ok(())
     }
@@ -225,15 +225,14 @@ impl World {
         node: u8,
         on_air: bool,
         came128: bool,
-        written: &Written,
+        written: Written,
     ) -> Result<(), ReplayRefusal>
-        ensures runs { Runs (course self.old) (course self.new) (running.airs line (running.aired_one on_air node came128 written.now)) result }
+        ensures runs { Runs (course self.old) (course self.new) (running.airs line (running.aired_one on_air node came128 written)) result }
         ensures nodes { self.new.nodes.items ≡ self.old.nodes.items }
     {
         if on_air {
-            let octets = Octets::new(self.alloc, written.octets.as_slice())?;
             let modulo128 = is_modulo128(came128, written.how);
-            self.air.put(node, octets, modulo128)?;
+            self.air.put(node, written.octets, modulo128)?;
             let frame = self.air.frames().len();
             self.tell(line, Event::InAir { frame })?;
             Ok(())

@@ -1,4 +1,4 @@
-use Rattle.std.proofs.Common.{◌≡◌, ◌∙◌, ◌++◌, ◌∷◌, [], ap, List, ℕ, length}
+use Rattle.std.proofs.Common.{◌≡◌, ◌∙◌, ◌++◌, ◌∷◌, [], ap, List, length}
 use Rattle.net_replay.specs.declared.air.Aired.{Aired}
 use Rattle.net_replay.specs.Air.{in_air}
 use Rattle.net_replay.specs.Running.{course}
@@ -10,12 +10,10 @@ pub returns-in_ok-tell-clause-runs : goal.returns-in_ok-tell-clause-runs
 returns-in_ok-tell-clause-runs c =
     let old = course c.args.self.now in
     let node = c.args.node in
-    let f = c.args.written.now in
-    let octets = c.in_ok-octets.ensures ∙ c.as_slice.ensures.value in
+    let f = c.args.written in
     let air : c.put.new.self ≡ old.left.air ++ aired_as node c.args.came128 f ∷ [] =
     c.in_ok-put.ensures.ok
-    ∙ (ap (λ (os : List ℕ). old.left.air ++ in_air node os c.is_modulo128-modulo128.result ∷ []) octets
-    ∙ ap (λ m. old.left.air ++ in_air node f.octets.items m ∷ []) c.is_modulo128-modulo128.ensures)
+    ∙ ap (λ m. old.left.air ++ in_air node f.octets m ∷ []) c.is_modulo128-modulo128.ensures
     in
     let frame = length c.frames-frame.result.now in
     let count : frame ≡ length c.put.new.self = ap (λ (fs : List Aired). length fs) c.frames-frame.ensures.value in
