@@ -26,12 +26,12 @@ use Rattle.node_core.specs.Sessions as sessions
 use Rattle.node_core.specs.Sessions.{Session}
 use Rattle.node_core.specs.Settling.{session_work, sessions_work, work}
 use Rattle.node_core.specs.States.{State, next_hop}
-use Rattle.node_core.specs.Turns.{Turn, done, idle, or_else}
+use Rattle.node_core.specs.Turns.{Turn, or_else}
 use Rattle.node_core.specs.Users as users
 use Rattle.node_core.specs.Users.{at_session, session_at}
 use Rattle.node_core.proofs.Texting.{closed_most}
 use Rattle.node_core.proofs.Resting.{pumped_nothing}
-use Rattle.node_core.proofs.Working.{greeted_same, units}
+use Rattle.node_core.proofs.Working.{greeted_same}
 use Rattle.node_core.proofs.Lowering.{changed_to, Adds, itself, session_adds, connects_less, Lowers, idles, either}
 use Rattle.node_core.proofs.Lowering as lowering
 

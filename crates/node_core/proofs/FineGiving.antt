@@ -27,7 +27,7 @@ use Rattle.node_core.proofs.Crowding.{TakesTexts, offers_on, text_goes, with_roo
 use Rattle.node_core.proofs.Fine.{Dry, Fine, Goes, pumped, pumped_dry, said, session_fine, takes_fine, took_message, write_goes}
 use Rattle.node_core.proofs.Holders.{AreOpen, end_in, every_in, number_of, others_stay}
 use Rattle.node_core.proofs.Soundness.{IsGood, Same, changed_here, same_hears, same_itself, sound_gave, sound_reply}
-use Rattle.node_core.proofs.Owning.{Less, at_least, but_here, mades, one, opens_by, owned_by, total}
+use Rattle.node_core.proofs.Owning.{Less, at_least, but_here, mades, opens_by, owned_by, total}
 use Rattle.node_core.proofs.Pumped.{dry_links}
 use Rattle.node_core.proofs.Unclosed.{IsMessage, Messages}
 

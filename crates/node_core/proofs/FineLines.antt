@@ -24,7 +24,7 @@ use Rattle.node_core.proofs.Fine.{Fine, close_fine, placed_said, said, session_f
 use Rattle.node_core.proofs.Soundness.{Idle, Placed, changed_here, idle_hears, sound_at_prompt}
 use Rattle.node_core.proofs.Trying.{tried}
 use Rattle.node_core.proofs.Owning.{Less, mades, opens_by, owned_by, total}
-use Rattle.node_core.proofs.FineGiving.{less_same, shut_end, given}
+use Rattle.node_core.proofs.FineGiving.{less_same, shut_end}
 use Rattle.node_core.proofs.FineTexts.{Next, same_session, next, text_written}
 
 -- ---- lines

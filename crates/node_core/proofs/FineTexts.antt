@@ -23,7 +23,7 @@ use Rattle.node_core.proofs.Crowding.{text_has_bytes}
 use Rattle.node_core.proofs.Fine.{Dry, Fine, pumped, pumped_dry, session_fine, takes_fine, took_message, wrote_fine, write_goes}
 use Rattle.node_core.proofs.Holders.{AreOpen, others_stay, takes_keep}
 use Rattle.node_core.proofs.Soundness.{Hears, Same, Sound, changed_here, every_at, same_hears, same_itself, sound_text, sound_wrote}
-use Rattle.node_core.proofs.Owning.{one, opens_by}
+use Rattle.node_core.proofs.Owning.{opens_by}
 use Rattle.node_core.proofs.FineGiving.{less_same, other_number, ends_differ, open_end, closing_of, messages_of, not_and}
 
 -- ---- texts of the user

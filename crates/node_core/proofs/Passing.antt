@@ -1,6 +1,6 @@
 -- What needn't be looked at: a frame to another station that goes to no node is no broadcast, and is left alone; where no text waits at a
 -- link, nobody is greeted.
-use Rattle.std.proofs.Common.{◌≡◌, ℕ, refl, ap, sym, Bool, true, false, ◌&&◌, List, [], ◌∷◌, drop, slice_get, Option, Some, None, ◌∙◌}
+use Rattle.std.proofs.Common.{◌≡◌, ℕ, refl, ap, Bool, true, false, ◌&&◌, List, [], ◌∷◌, drop, slice_get, Option, None, ◌∙◌}
 use Rattle.std.specs.Prelude.{Result, Ok, Err, IsOkAnd}
 use Rattle.ax_address.specs.Callsign.{Callsign}
 use Rattle.ax_address.specs.CallOrder.{same_call}
@@ -10,8 +10,8 @@ use Rattle.ax_frame.specs.declared.frame.FrameRefusal.{FrameRefusal}
 use Rattle.ax_frame.specs.Frames.{Frame, frame}
 use Rattle.ax_frame.specs.Read.{head_in, read_at, read_head_at}
 use Rattle.ax_frame.specs.Reading.{◌>>=◌, frame_at, head_end}
-use Rattle.node_core.specs.Broadcasts.{has_netrom_pid, is_broadcast, is_ui, nodes_call}
-use Rattle.node_core.specs.Receiving.{hear, take_frame}
+use Rattle.node_core.specs.Broadcasts.{has_netrom_pid, is_ui, nodes_call}
+use Rattle.node_core.specs.Receiving.{take_frame}
 use Rattle.node_core.specs.Links as links
 use Rattle.node_core.specs.Serving.{greet_each, greet_links}
 use Rattle.node_core.specs.States.{State, at_sessions}
