@@ -144,7 +144,7 @@ module _ (plan : Plan) (size : ℕ) (apart : AreApart (names (new_nodes plan))) 
   node_more ds more p f = (further.more size ds more p.state.station f.0, f.1)
 
   air_more : (ds more : List (List ℕ)) (air : List Aired) → AirFlies ds air → AirFlies (ds ++ more) air
-  air_more ds more air a = every (λ (f : Aired). IsCarried size ds f.octets.items) (λ (f : Aired). IsCarried size (ds ++ more) f.octets.items) (λ f x. further.octets size ds more f.octets x) air a
+  air_more ds more air a = every (λ (f : Aired). IsCarried size ds f.octets.items) (λ (f : Aired). IsCarried size (ds ++ more) f.octets.items) (λ f x. further.octets size ds more f.octets.items x) air a
 
   -- the node at a place has changed
   beside : (ds ds2 : List (List ℕ)) (nodes : List Placed) (at : ℕ) (p q : Placed) → slice_get nodes at ≡ Some p → ((k : ℕ) (r : Placed) → slice_get nodes k ≡ Some r → NodeFlies ds r) → ((r : Placed) → NodeFlies ds r → NodeFlies ds2 r)

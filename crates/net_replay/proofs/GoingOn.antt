@@ -12,7 +12,7 @@ use Rattle.network_file.specs.Plan.{Plan}
 use Rattle.node_core.specs.States as states
 use Rattle.node_core.specs.UserActs as acts
 use Rattle.net_replay.specs.CircuitRuns.{IsInstruction}
-use Rattle.net_replay.specs.Datagrams.{GoesOn, IsOn}
+use Rattle.net_replay.specs.Datagrams.{LineRestartsNone, RestartsNone}
 use Rattle.net_replay.specs.Events as events
 use Rattle.net_replay.specs.Events.{Event}
 use Rattle.net_replay.specs.Lines.{do_lines}
@@ -94,7 +94,7 @@ moves plan = record {
   later = λ milliseconds w a. a;
 }
 
-line_is : (i : Instruction) → IsInstruction i → IsOn i → LineIs Any Any Never i
+line_is : (i : Instruction) → IsInstruction i → RestartsNone i → LineIs Any Any Never i
 line_is (instructions.Heard node call nodes) i o = tt
 line_is (instructions.Lock node dest alias neighbour quality) i o = tt
 line_is (instructions.Round node) i o = tt
@@ -113,9 +113,9 @@ line_is (instructions.Lose frame) i o = tt
 line_is (instructions.Flow count) i o = tt
 line_is (instructions.Cut count) i o = tt
 
-lines_are : (ls : List NumberedInstruction) → AllByRecursion (λ (l : NumberedInstruction). IsInstruction l.instruction) ls → AllByRecursion GoesOn ls → AllByRecursion (λ (l : NumberedInstruction). LineIs Any Any Never l.instruction) ls
+lines_are : (ls : List NumberedInstruction) → AllByRecursion (λ (l : NumberedInstruction). IsInstruction l.instruction) ls → AllByRecursion LineRestartsNone ls → AllByRecursion (λ (l : NumberedInstruction). LineIs Any Any Never l.instruction) ls
 lines_are [] a b = tt
 lines_are (l ∷ ls) a b = (line_is l.instruction a.0 b.0, lines_are ls a.1 b.1)
 
-pub lines_on : (plan : Plan) (ls : List NumberedInstruction) (w : World) → AllByRecursion (λ (l : NumberedInstruction). IsInstruction l.instruction) ls → AllByRecursion GoesOn ls → AreOn w.told → AreOn (do_lines plan ls w).told
+pub lines_on : (plan : Plan) (ls : List NumberedInstruction) (w : World) → AllByRecursion (λ (l : NumberedInstruction). IsInstruction l.instruction) ls → AllByRecursion LineRestartsNone ls → AreOn w.told → AreOn (do_lines plan ls w).told
 lines_on plan ls w a b = lines_lead plan Any Any Never Stays (moves plan) ls w (lines_are ls a b)

@@ -30,12 +30,12 @@ pub record IsOfModulus (size : ℕ) (plan : Plan) : Type 0 where
   pub nodes : AllByRecursion (λ (d : Declaration). value_of plan.settings d.node Modulo ≡ size) plan.declared
 
 -- a line that starts no node again
-abbrev pub IsOn : Instruction → Type 0
-IsOn (Restart node pair) = ⊥
-IsOn _ = Unit {0}
+abbrev pub RestartsNone : Instruction → Type 0
+RestartsNone (Restart node pair) = ⊥
+RestartsNone _ = Unit {0}
 
-abbrev pub GoesOn : NumberedInstruction → Type 0
-GoesOn l = IsOn l.instruction
+abbrev pub LineRestartsNone : NumberedInstruction → Type 0
+LineRestartsNone l = RestartsNone l.instruction
 
 -- ---- the law
 
@@ -59,7 +59,7 @@ pub record SendsAll (plan : Plan) (done : List NumberedInstruction) : Type 0 whe
       → WasSent plan before datagram
   pub heeded : (before after : List Step) (step : Step) (s : SetState) → steps ≡ before ++ step ∷ after
       → slice_get (net_run (begins (first_sets plan)) before).sets step.node ≡ Some s → HeedsFor s step.act (set_step s step.act).told
-  pub up : AllByRecursion GoesOn done → AllByRecursion (λ (st : Step). IsUp st.act) steps
+  pub up : AllByRecursion LineRestartsNone done → AllByRecursion (λ (st : Step). IsUp st.act) steps
 
 abbrev pub DatagramsSent : Type 0
 DatagramsSent =
