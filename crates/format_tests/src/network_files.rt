@@ -1,4 +1,4 @@
-//! Network files: what is wrong with bad ones, and a file with every kind of line.
+//! Network files: what is wrong with bad ones, and the text of a `say` line, which keeps its spaces.
 use network_file::{Instruction, NetworkRefusal, NumberedInstruction, What, read_network};
 use std::alloc::Global;
 use std::process::Abort;
