@@ -11,6 +11,7 @@ mod life;
 mod line;
 mod reasons;
 mod script;
+mod settle;
 mod told;
 mod turn;
 mod words;

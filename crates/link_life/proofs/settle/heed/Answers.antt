@@ -1,5 +1,5 @@
 use Rattle.link_life.proofs.Settling.{book_heeds, notices_so}
-use Rattle.link_life.proofs.turn.heed.Goals as goal
+use Rattle.link_life.proofs.settle.heed.Goals as goal
 
 pub returns-clause-book : goal.returns-clause-book
 returns-clause-book g c = λ e g2 facts step book.

@@ -6,7 +6,7 @@ use Rattle.link_life.specs.Lives.{settings}
 use Rattle.link_life.specs.Standing.{EndStands}
 use Rattle.link_life.proofs.Books.{number_same}
 use Rattle.link_life.proofs.Settling.{far_gains, frames_so, link_rests}
-use Rattle.link_life.proofs.turn.put_out.Goals as goal
+use Rattle.link_life.proofs.settle.put_out.Goals as goal
 
 pub returns-clause-stands : goal.returns-clause-stands
 returns-clause-stands g c = λ p g2 was heeded far.

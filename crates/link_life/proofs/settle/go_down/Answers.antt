@@ -3,7 +3,7 @@ use Rattle.ax_link.specs.declared.plain.LinkConfig.{LinkConfig}
 use Rattle.ax_link.specs.Opening.{opening, rules_new}
 use Rattle.ax_link.specs.Standing.{StandsFor}
 use Rattle.link_life.proofs.Books.{all_over, facts_stand}
-use Rattle.link_life.proofs.turn.go_down.Goals as goal
+use Rattle.link_life.proofs.settle.go_down.Goals as goal
 
 pub returns-clause-stands : goal.returns-clause-stands
 returns-clause-stands g c = λ e s.

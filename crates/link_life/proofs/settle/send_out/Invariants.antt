@@ -1,7 +1,7 @@
 use Rattle.std.proofs.Common.{◌≡◌, ◌++◌, length, map}
 use Rattle.link_life.specs.Standing.{flight_of}
 use Rattle.link_life.proofs.Flying.{flights_of, lines_of}
-use Rattle.link_life.proofs.turn.send_out.Given as goal
+use Rattle.link_life.proofs.settle.send_out.Given as goal
 
 -- the frames so far and those to come are all of them
 abbrev pub invariant-loop-out : goal.invariant-loop-out

@@ -1,7 +1,7 @@
 use Rattle.std.proofs.Common.{[]}
 use Rattle.link_life.proofs.Acting.{settles}
 use Rattle.link_life.proofs.Settling.{heeded_link, told_so}
-use Rattle.link_life.proofs.turn.settle.Goals as goal
+use Rattle.link_life.proofs.settle.settle.Goals as goal
 
 pub returns-clause-stands : goal.returns-clause-stands
 returns-clause-stands g c =
