@@ -1,11 +1,10 @@
-//! Calls compared and hashed. Six characters are compared one by one: to search them in groups, as what is derived does, takes longer
-//! to begin than that.
+//! Calls compared and hashed. Their order is that of numbers, which takes one comparison; to search six characters in groups, as what is
+//! derived does, takes longer to begin than that.
 ghost use Rattle.std.specs.Prelude.{◌≡◌, ◌∷◌, [], Some, nat_eq, refl};
 ghost use Rattle.std.specs.Cmp.{and_equiv, and_per, both_tied, on_equiv, on_per, on_total, partial_equiv_from_equiv, nat_eq_equiv, nat_cmp_total, then_total, unsigned_Decides, unsigned_ties, partial_order_from_agreeing_total};
-ghost use Rattle.std.specs.Cmp.Lexicographic.{bytes_decides, nat_list_cmp_total, nat_list_eq_equiv, pointwise, slice_cmp, texts_ties};
-ghost use Rattle.std.specs.Ordering.{nat_cmp};
+ghost use Rattle.std.specs.Cmp.Lexicographic.{bytes_decides, nat_list_cmp_total, nat_list_eq_equiv, pointwise, texts_ties};
 ghost use Rattle.std.specs.Hash.{and-Alike, on_Alike, same_Alike};
-ghost use Rattle.ax_address.specs.CallOrder.{call_cmp, call_writes, same_call};
+ghost use Rattle.ax_address.specs.CallOrder.{AreDigits, call_cmp, call_writes, digits, number_from, same_call};
 
 use crate::Call;
 use std::cmp::Ordering;
@@ -46,11 +45,24 @@ impl Ord for Call {
 
     ghost matches_eq = { λ a b. both_tied _ _ _ _ (texts_ties a.letters b.letters) (unsigned_ties a.ssid b.ssid) };
 
+    #[inline]
+    #[tactic(auto, using(crate::proofs::Comparing::as_numbers))]
     fn cmp(&self, other: &Call) -> Ordering {
-        match order(&self.letters, &other.letters) {
-            Ordering::Equal => self.ssid.cmp(&other.ssid),
-            unequal => unequal,
-        }
+        self.number().cmp(&other.number())
+    }
+}
+
+impl Call {
+    /// The six characters and the SSID as digits to the base 256, the first character the greatest.
+    #[inline]
+    fn number(&self) -> u64
+        ensures value { result ≡ number_from 0 (digits self.now) }
+        ensures digits { AreDigits self.now }
+    {
+        let [a, b, c, d, e, f] = self.letters;
+        let front = u32::from_be_bytes([a, b, c, d]) as u64;
+        let back = u16::from_be_bytes([e, f]) as u64;
+        (front * 0x1_0000 + back) * 0x100 + self.ssid as u64
     }
 }
 
@@ -74,22 +86,5 @@ fn are_same(a: &[u8], b: &[u8]) -> bool
         ([], []) => true,
         ([x, a @ ..], [y, b @ ..]) => *x == *y && are_same(a, b),
         _ => false,
-    }
-}
-
-/// The order of these characters: the first two that differ decide.
-#[inline]
-#[tactic(auto, using(crate::proofs::Comparing::longer))]
-fn order(a: &[u8], b: &[u8]) -> Ordering
-    ensures { result ≡ slice_cmp nat_cmp a.now b.now }
-{
-    match (a, b) {
-        ([], []) => Ordering::Equal,
-        ([], [_, ..]) => Ordering::Less,
-        ([_, ..], []) => Ordering::Greater,
-        ([x, a @ ..], [y, b @ ..]) => match x.cmp(y) {
-            Ordering::Equal => order(a, b),
-            unequal => unequal,
-        },
     }
 }
