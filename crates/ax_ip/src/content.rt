@@ -16,13 +16,11 @@ pub(crate) enum Content {
 }
 
 /// The call to which requests for an address go, as AX.25 2.2 has it for frames to everyone (section 3.12).
+#[tactic(auto, using(crate::proofs::Names::everyone_is_call))]
 pub(crate) fn everyone() -> Call
     ensures { result ≡ contents.everyone }
 {
-    match Call::read(b"QST") {
-        Ok(call) => call,
-        Err(_) => Call::default(),
-    }
+    Call::from_letters(*b"QST   ", 0)
 }
 
 /// What the frame carries for the station `own`: a UI frame that every repeater has repeated.
