@@ -11,7 +11,8 @@ use Rattle.ax_link.specs.Laws.{KindsGoOut, may_go_out}
 use Rattle.ax_link.specs.State.{Frame, State, Effect, begin, count_end, is_up}
 use Rattle.ax_link.specs.Moves.{fill, fill_count, frames_of, supply}
 use Rattle.ax_link.specs.Table.{Input, Set_up, Send, Arrive, Tick, Close, Take, step, accept, arrive_down, arrive_releasing, arrive_setting, fail, come_up, refuse_if, retry, takes}
-use Rattle.ax_link.proofs.PutOut.{IsPut, IsPutOut, every, every_put}
+use Rattle.ax_link.proofs.PutOut.{IsPut, IsPutOut, every}
+use Rattle.ax_link.proofs.PutFrames.{every_put}
 
 abbrev AllGo : LinkPhase → List Frame → Type 0
 AllGo phase fs = AllByRecursion (λ f. may_go_out phase f.kind ≡ true) fs

@@ -8,6 +8,8 @@ pub mod PairSteps
 pub mod NoUa
 pub mod Pairs
 pub mod PutOut
+pub mod PutSteps
+pub mod PutFrames
 pub mod Notices
 pub mod KindsOut
 pub mod Takings

@@ -4,7 +4,8 @@ use mathlib.Core.List.{IsPrefix, IsSuffix}
 use Rattle.ax_link.specs.Runs.{Calls, Comes, Ends, EndsBounded, Event, Left, Lost, Right, Safe, Side, TakenIn, TakenSafe, arrives, at_left, called, happens, loses, new_ends, run, swap}
 use Rattle.ax_link.specs.State.{Frame, Rules, State}
 use Rattle.ax_link.specs.Table.{Input, Set_up, Send, Arrive, Tick, Close, Take}
-use Rattle.ax_link.proofs.PutOut.{bounds_stay, emptied}
+use Rattle.ax_link.proofs.PutOut.{emptied}
+use Rattle.ax_link.proofs.PutFrames.{bounds_stay}
 
 called_bounds : (w : Ends) (i : Input) (now : ℕ) → EndsBounded w → EndsBounded (called w i now)
 called_bounds w Set_up now b = record { left = bounds_stay w.left.link Set_up now b.left; right = b.right }

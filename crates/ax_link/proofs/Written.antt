@@ -10,7 +10,8 @@ use Rattle.ax_link.specs.State.{Frame, Rules}
 use Rattle.ax_link.specs.Table.{step}
 use Rattle.ax_link.specs.declared.kind.Kind.{Kind}
 use Rattle.ax_link.specs.declared.kind.Kind.TheVariants as kind
-use Rattle.ax_link.proofs.PutOut.{IsPut, IsPutOut, every, every_put}
+use Rattle.ax_link.proofs.PutOut.{IsPut, IsPutOut, every}
+use Rattle.ax_link.proofs.PutFrames.{every_put}
 
 set_up_parts : (size : ℕ) (pf b : Bool) → HasParts size (if b then control.Sabm pf else control.Sabme pf) None []
 set_up_parts size pf true = record { numbers = tt; pid_there = refl; no_info = λ e. refl }

@@ -24,6 +24,7 @@ use Rattle.circuit_l4.specs.Sending.{total, written}
 use Rattle.circuit_set.specs.Books.{any_ends, ends_it}
 use Rattle.circuit_set.specs.Runs.{opened_window}
 use Rattle.circuit_set.specs.Sets.{has_ended}
+use Rattle.circuit_set.proofs.Lasting.{Core, acknowledges, fills, if_out}
 use Rattle.circuit_set.proofs.Names.{AcceptsNone, is_accept, step_same}
 use Rattle.circuit_set.proofs.Sends.{Named, either, either_going, on_due}
 
@@ -52,36 +53,17 @@ same_phase s g h notes phase k = record {
 }
 
 -- ---- the phase of a state stays ----
-abbrev Same : State → State → Type 0
-Same s t = t.phase ≡ s.phase
+abbrev phase_stays : Core → Core → Type 0
+phase_stays c d = d.phase ≡ c.phase
 
-waits : (s t : State) (now : ℕ) (due : Option ℕ) → Same s t → Same s (elim due as (λ d. State) [ None ↦ wait now t | Some d ↦ t ])
-waits s t now None h = h
-waits s t now (Some d) h = h
+fill_phase : (now : ℕ) (g : Effect) → (fill now g).end.phase ≡ g.end.phase
+fill_phase now g = fills phase_stays (λ c. refl) (λ c d k e. e) g.end now g refl
 
-fill_phase : (now : ℕ) (g : Effect) → Same g.end (fill now g).end
-fill_phase now g =
-    let t : State = put_out (fill_count g.end) g.end in
-    either (Same g.end) (nat_lt 0 (fill_count g.end)) (elim t.answer_due as (λ d. State) [ None ↦ wait now t | Some d ↦ t ]) t (waits g.end t now t.answer_due refl) refl
+if_out_phase : (s : State) (now : ℕ) → (wait_if_out now s).phase ≡ s.phase
+if_out_phase s now = if_out phase_stays (λ c. refl) (λ c d k e. e) s s now refl
 
-if_out : (s t : State) (now : ℕ) → Same s t → Same s (wait_if_out now t)
-if_out s t now h = on_due (Same s) (nat_lt t.sending.acked t.sending.sent) now t h h
-
-advances : (s : State) (now x : ℕ) → Same s (advance now x s)
-advances s now x =
-    either (Same s) (nat_lt s.sending.acked x) (wait_if_out now (record s { sending = record s.sending { acked = x }; tries = 0; expiries = 0 })) s
-    (if_out s (record s { sending = record s.sending { acked = x }; tries = 0; expiries = 0 }) now refl) refl
-
-chokes : (s t : State) (now : ℕ) (choke : Bool) → Same s t → Same s (hold now choke t)
-chokes s t now true h = h
-chokes s t now false h = either (Same s) t.choked (wait_if_out now (record t { choked = false })) t (if_out s (record t { choked = false }) now h) h
-
-acks : (s : State) (now : ℕ) (flags : Flags) (o : Option ℕ) → Same s (acknowledge_by now flags o s).end
-acks s now flags None = refl
-acks s now flags (Some x) = chokes s (advance now x s) now flags.choke (advances s now x)
-
-acknowledges : (s : State) (now rx : ℕ) (flags : Flags) → Same s (acknowledge now rx flags s).end
-acknowledges s now rx flags = acks s now flags (place_of 256 rx s.sending.acked (suc (s.sending.sent - s.sending.acked)))
+acknowledges_phase : (s : State) (now rx : ℕ) (flags : Flags) → (acknowledge now rx flags s).end.phase ≡ s.phase
+acknowledges_phase s now rx flags = acknowledges phase_stays (λ c. refl) (λ c d k e. e) s now rx flags
 
 -- ---- the rows ----
 fills : (s : State) (now : ℕ) (g : Effect) → Goes s g → Goes s (fill now g)
@@ -125,14 +107,14 @@ info_goes s now tx rx flags piece =
     let a = acknowledge now rx flags base in
     let c : Receipt = receive a.end.window tx piece a.end.receiving in
     let g : Effect = with_receiving c.half (record { end = a.end; outs = []; notes = [] }) in
-    either_going (Goes s) c.fits (answer_all now c.nak a.owed g) (end_with FailedOversize g) (answers s now c.nak a.owed g (rests s g refl (acknowledges base now rx flags))) (over s FailedOversize g refl refl)
+    either_going (Goes s) c.fits (answer_all now c.nak a.owed g) (end_with FailedOversize g) (answers s now c.nak a.owed g (rests s g refl (acknowledges_phase base now rx flags))) (over s FailedOversize g refl refl)
 
 ack_goes : (s : State) (now rx : ℕ) (flags : Flags) → Goes s (on_info_ack now rx flags (note_activity now (begin s)))
 ack_goes s now rx flags =
     let base : State = record s { last_active = now } in
     let a = acknowledge now rx flags base in
     let g : Effect = emit_owed a.owed (record { end = a.end; outs = []; notes = [] }) in
-    supplies s now g (rests s g refl (acknowledges base now rx flags))
+    supplies s now g (rests s g refl (acknowledges_phase base now rx flags))
 
 nothing : (s : State) → Goes s (begin s)
 nothing s = rests s (begin s) refl refl
@@ -181,7 +163,7 @@ releases_go : (s : State) (now : ℕ) → Goes s (release now (begin s))
 releases_go s now =
     let g : Effect = again (on_state (λ s. record s { choked = false; answer_due = None }) (begin s)) in
     let f : Effect = fill now g in
-    rests s (release now (begin s)) refl (if_out f.end f.end now refl ∙ fill_phase now g)
+    rests s (release now (begin s)) refl (if_out_phase f.end now ∙ fill_phase now g)
 
 due_go : (p : EndPhase) (s : State) (now : ℕ) → Goes s (due_in p now (begin s))
 due_go Connecting s now = expires_go s now

@@ -14,6 +14,7 @@ pub mod Next
 pub mod Places
 pub mod Pairs
 pub mod Bridge
+pub mod Lasting
 pub mod Names
 pub mod Copies
 pub mod Lonely

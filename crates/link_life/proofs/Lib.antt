@@ -1,6 +1,3 @@
-pub mod Cuts
-pub mod FirstWords
-pub mod Numbers
 pub mod Flying
 pub mod Coming
 pub mod Books

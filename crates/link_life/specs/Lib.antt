@@ -1,5 +1,4 @@
 pub mod Reasons
-pub mod Words
 pub mod Lines
 pub mod Scripts
 pub mod Ends

@@ -10,7 +10,9 @@ use Rattle.link_life.specs.declared.act.EndAct.{EndAct}
 use Rattle.link_life.specs.declared.act.EndAct.TheVariants.{SetUp, Send, Close, Take, Arrive, Lose}
 use Rattle.link_life.specs.declared.act.LifeAct.{LifeAct}
 use Rattle.link_life.specs.declared.act.LifeAct.TheVariants.{At, Tick}
-use Rattle.link_life.specs.Words.{is_text, number_of, sent_text, words_of}
+use Rattle.text_lines.specs.Lines.{is_text}
+use Rattle.text_lines.specs.Numbers.{number_of}
+use Rattle.text_lines.specs.Words.{after_space, past_word, words_of}
 
 infixl 10 ◌>>=◌
 abbrev pub ◌>>=◌ : {A B : Type 0} → Result A LifeWhat → (A → Result B LifeWhat) → Result B LifeWhat
@@ -57,6 +59,10 @@ payload_at text =
     if nat_le 1 (length text) && nat_le (length text) 256
     then Ok (record { pid = 240; info = record { items = text } })
     else Err whats.Text
+
+-- TEXT of a `send` line: what stands after its second word and the one space after that, if that space is there
+unfoldable pub sent_text : List ℕ → Option (List ℕ)
+sent_text line = after_space (past_word (past_word line))
 
 -- send S TEXT: without the space that TEXT stands behind the line has too few words
 unfoldable pub send_at : List ℕ → List ℕ → Result LifeAct LifeWhat

@@ -1,6 +1,7 @@
 -- The script of a file: what its lines ask for, one after another, or the first bad line and why. Own profile.
-use Rattle.std.specs.Prelude.{ℕ, suc, ◌≡◌, List, [], ◌∷◌, ◌++◌, length, Result, Ok, Err, Bool, ◌||◌, ◌==◌, nat_lt, if◌then◌else◌, slice_index}
+use Rattle.std.specs.Prelude.{ℕ, suc, ◌≡◌, List, [], ◌∷◌, ◌++◌, Result, Ok, Err, nat_lt, if◌then◌else◌}
 use Rattle.std.specs.Str.Lines.{lines}
+use Rattle.text_lines.specs.Lines.{is_skipped}
 use Rattle.link_life.specs.declared.reasons.LifeWhat.{LifeWhat}
 use Rattle.link_life.specs.declared.reasons.LifeWhat.TheVariants.{Many}
 use Rattle.link_life.specs.declared.reasons.LifeFileRefusal.{LifeFileRefusal}
@@ -16,10 +17,6 @@ Bad = ℕ × LifeWhat
 abbrev pub with_said : ℕ → List NumberedAct → Result LifeAct LifeWhat → Result (List NumberedAct) Bad
 with_said n acts (Ok act) = Ok (acts ++ record { line = n; act = act } ∷ [])
 with_said n acts (Err what) = Err (n, what)
-
--- an empty line, or a remark
-abbrev pub is_skipped : List ℕ → Bool
-is_skipped line = (length line == 0) || (slice_index line 0 == 35)
 
 -- the acts after line number n
 abbrev pub after_line : ℕ → List NumberedAct → List ℕ → Result (List NumberedAct) Bad

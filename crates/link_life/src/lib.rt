@@ -14,7 +14,6 @@ mod script;
 mod settle;
 mod told;
 mod turn;
-mod words;
 
 pub use act::{EndAct, LifeAct, SentText, Side};
 pub use life::run_life;

@@ -1,12 +1,12 @@
 //! What a line of a script says: its kind is named by its first word.
-ghost use Rattle.std.specs.Prelude.{◌≡◌, ◌∷◌};
+ghost use Rattle.std.specs.Prelude.{◌≡◌, ◌∷◌, MatchOption, None, Some};
 ghost use Rattle.link_life.specs.Lines as lines;
-ghost use Rattle.link_life.specs.Words.{words_of};
+ghost use Rattle.text_lines.specs.Words.{words_of};
 
 use crate::act::{EndAct, LifeAct, SentText, Side};
 use crate::reasons::LifeWhat;
-use crate::words::{first_word, is_text, number_of, sent_text};
 use radio_base::MAX_INFO;
+use text_lines::{after_space, first_word, is_text, number_of, past_word};
 
 /// The milliseconds of a day.
 const DAY: u32 = 86_400_000;
@@ -142,6 +142,14 @@ fn send_at<'a>(line: &'a [u8], word: &[u8]) -> Result<LifeAct<'a>, LifeWhat>
     let side = side_at(word)?;
     let payload = payload_at(text)?;
     Ok(LifeAct::At(side, EndAct::Send(payload)))
+}
+
+/// TEXT of a `send` line: what stands after its second word and the one space after that, if that space is there.
+#[tactic(auto, unfolding(crate::specs::Lines::sent_text))]
+fn sent_text(line: &[u8]) -> Option<&[u8]>
+    ensures { MatchOption result (lines.sent_text line.now ≡ None) (λ text. lines.sent_text line.now ≡ Some text.now) }
+{
+    after_space(past_word(past_word(line)))
 }
 
 fn payload_at(text: &[u8]) -> Result<SentText<'_>, LifeWhat>

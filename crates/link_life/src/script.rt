@@ -6,12 +6,9 @@ ghost use Rattle.link_life.specs.Scripts as scripts;
 use crate::act::LifeAct;
 use crate::line::read_line;
 use crate::reasons::{LifeFileRefusal, LifeWhat};
-use crate::words::first_line;
 use std::alloc::{AllocError, Global};
 use std::marker::Model;
-
-/// The most lines of a script.
-const MAX_LINES: u32 = 20_000;
+use text_lines::{MAX_LINES, first_line, is_skipped};
 
 /// What a line asks for, with the number of the line, from 1.
 #[derive(Debug, Drop)]
@@ -104,11 +101,4 @@ fn take_line<'a>(
         }
         Err(what) => Err(LifeFileRefusal::BadLine { line: number, what }),
     }
-}
-
-/// An empty line, or a remark.
-fn is_skipped(line: &[u8]) -> bool
-    ensures { result ≡ scripts.is_skipped line.now }
-{
-    line.is_empty() || line[0] == b'#'
 }

@@ -26,11 +26,13 @@ use Rattle.network_file.specs.Lines.Frames.{again_line, count_alone, frame_alone
 use Rattle.network_file.specs.Lines.Heard.{are_entries, broadcast_at, entries_at, heard_line}
 use Rattle.network_file.specs.Lines.Nodes.{linkfail_line, node_alone, node_and_call, lock_at, lock_line, restart_at, restart_line, round_line, show_line, tick_at, tick_line}
 use Rattle.network_file.proofs.Declared.{more_calls, more_different}
-use Rattle.network_file.specs.Networks.{Bad, after_line, after_lines, and_then, is_skipped, network_of, nothing, with_line, with_said}
+use Rattle.network_file.specs.Networks.{Bad, after_line, after_lines, and_then, network_of, nothing, with_line, with_said}
 use Rattle.network_file.specs.Places.{◌>>=◌, alias_at, call_at, has_call, has_node, known, needs, new_call_at, new_node_at, new_peer_at, node_at, number_at, value_at}
 use Rattle.network_file.specs.Settings.{set_to}
 use Rattle.network_file.specs.Plan.{Plan, is_untouched, may_declare, version_of}
-use Rattle.network_file.specs.Words.{is_text, said_text, words_of}
+use Rattle.text_lines.specs.Lines.{is_skipped, is_text}
+use Rattle.text_lines.specs.Words.{words_of}
+use Rattle.network_file.specs.Lines.Circuits.{said_text}
 
 -- what is known of a line that is read after a plan: a version comes first, a node is declared once, and a setting fits and is of a
 -- declared node

@@ -1,5 +1,3 @@
-pub mod Numbers
-pub mod Cuts
 pub mod KeyRanges
 pub mod Fitting
 pub mod Marks

@@ -1,5 +1,4 @@
 pub mod Reasons
-pub mod Words
 pub mod Keys
 pub mod Settings
 pub mod Channels

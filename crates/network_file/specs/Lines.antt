@@ -10,7 +10,8 @@ use Rattle.network_file.specs.declared.reasons.What.{What}
 use Rattle.network_file.specs.declared.reasons.What.TheVariants as whats
 use Rattle.network_file.specs.declared.lines.Line.{Line}
 use Rattle.network_file.specs.Plan.{Plan, version_of, is_untouched, may_declare}
-use Rattle.network_file.specs.Words.{is_text, words_of}
+use Rattle.text_lines.specs.Lines.{is_text}
+use Rattle.text_lines.specs.Words.{words_of}
 use Rattle.network_file.specs.Places.{◌>>=◌, needs}
 use Rattle.network_file.specs.Lines.Declaring.{version_line, node_line, channel_line, set_line, via_line}
 use Rattle.network_file.specs.Lines.Heard.{heard_line}

@@ -1,6 +1,7 @@
 -- The network of a file: what its lines say, one after another, or the first bad line and why. Own profile.
-use Rattle.std.specs.Prelude.{ℕ, suc, ◌≡◌, List, [], ◌∷◌, ◌++◌, length, Some, None, Result, Ok, Err, Bool, ◌||◌, ◌==◌, nat_lt, if◌then◌else◌, slice_index}
+use Rattle.std.specs.Prelude.{ℕ, suc, ◌≡◌, List, [], ◌∷◌, ◌++◌, Some, None, Result, Ok, Err, nat_lt, if◌then◌else◌}
 use Rattle.std.specs.Str.Lines.{lines}
+use Rattle.text_lines.specs.Lines.{is_skipped}
 use Rattle.network_file.specs.declared.reasons.What.{What}
 use Rattle.network_file.specs.declared.reasons.What.TheVariants.{Many}
 use Rattle.network_file.specs.declared.reasons.NetworkRefusal.{NetworkRefusal}
@@ -29,10 +30,6 @@ Bad = ℕ × What
 abbrev pub with_said : ℕ → Plan → Result Line What → Result Plan Bad
 with_said n plan (Ok line) = Ok (with_line n line plan)
 with_said n plan (Err what) = Err (n, what)
-
--- an empty line, or a comment
-abbrev pub is_skipped : List ℕ → Bool
-is_skipped line = (length line == 0) || (slice_index line 0 == 35)
 
 -- the plan after line number n
 abbrev pub after_line : ℕ → Plan → List ℕ → Result Plan Bad

@@ -11,7 +11,7 @@ use Rattle.network_file.specs.declared.reasons.What.TheVariants as whats
 use Rattle.network_file.specs.declared.plan.declarations.Declaration.{Declaration}
 use Rattle.network_file.specs.declared.plan.vias.Via.{Via}
 use Rattle.network_file.specs.Vias.{has_via, via_count}
-use Rattle.network_file.specs.Words.{is_number, number_of}
+use Rattle.text_lines.specs.Numbers.{is_number, number_of}
 
 infixl 10 ◌>>=◌
 abbrev pub ◌>>=◌ : {A B : Type 0} → Result A What → (A → Result B What) → Result B What

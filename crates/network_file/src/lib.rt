@@ -11,7 +11,6 @@ mod network;
 mod places;
 mod plan;
 mod reasons;
-mod words;
 
 pub use limits::MAX_NODES;
 pub use network::{Network, NumberedInstruction, read_network};

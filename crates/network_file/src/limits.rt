@@ -1,7 +1,5 @@
 //! How large a network may be, and how large the numbers of its lines.
 
-/// The most lines of a network file.
-pub const MAX_LINES: u32 = 20_000;
 /// The most nodes of a network: their numbers are from 1 to this one.
 pub const MAX_NODES: usize = 16;
 /// The most peers that a node reaches over repeaters.

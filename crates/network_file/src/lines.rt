@@ -1,7 +1,7 @@
 //! What a line says: its kind is named by its first word.
 ghost use Rattle.std.specs.Prelude.{◌≡◌, IfOk};
 ghost use Rattle.network_file.specs.Lines as lines;
-ghost use Rattle.network_file.specs.Words.{texts, words_of};
+ghost use Rattle.text_lines.specs.Words.{texts, words_of};
 
 pub mod circuits;
 pub mod declaring;
@@ -23,8 +23,8 @@ use crate::plan::instructions::Instruction;
 use crate::plan::keys::Setting;
 use crate::plan::vias::Via;
 use crate::reasons::What;
-use crate::words::{is_text, words_of};
 use std::alloc::{AllocError, Global};
+use text_lines::{is_text, words_of};
 
 /// What a line says.
 #[derive(Debug, Drop)]

@@ -3,7 +3,6 @@ ghost use Rattle.std.specs.Prelude.{◌≡◌, ◌≤◌, ◌++◌, ◌∷◌, �
 ghost use Rattle.std.specs.Str.Lines.{lines};
 ghost use Rattle.network_file.specs.Networks as networks;
 
-use crate::limits::MAX_LINES;
 use crate::lines::{Line, read_line};
 use crate::plan::channels::Channel;
 use crate::plan::declarations::Declaration;
@@ -11,9 +10,9 @@ use crate::plan::instructions::Instruction;
 use crate::plan::keys::Setting;
 use crate::plan::vias::Via;
 use crate::reasons::{NetworkRefusal, What};
-use crate::words::first_line;
 use std::alloc::{AllocError, Global};
 use std::marker::Model;
+use text_lines::{MAX_LINES, first_line, is_skipped};
 
 /// An instruction with the number of its line, from 1.
 #[derive(Debug, Drop)]
@@ -198,11 +197,4 @@ fn take_line(
         }
         Err(what) => Err(NetworkRefusal::BadLine { line: number, what }),
     }
-}
-
-/// An empty line, or a comment.
-fn is_skipped(line: &[u8]) -> bool
-    ensures { result ≡ networks.is_skipped line.now }
-{
-    line.is_empty() || line[0] == b'#'
 }

@@ -6,8 +6,8 @@ use crate::limits::{MAX_BURST, MAX_COUNT, MAX_NODES, MAX_TICK, MAX_VIAS};
 use crate::plan::declarations::{Declaration, has_call, has_node};
 use crate::plan::vias::{Via, has_via, via_count};
 use crate::reasons::What;
-use crate::words::{is_number, number_of};
 use ax_address::{Alias, Call};
+use text_lines::{is_number, number_of};
 
 /// What is wrong, where the test fails.
 pub fn needs(holds: bool, what: What) -> Result<(), What>

@@ -12,7 +12,7 @@ use Rattle.network_file.specs.declared.network.NumberedInstruction.{NumberedInst
 use Rattle.network_file.specs.declared.plan.instructions.Instruction.{Instruction}
 use Rattle.network_file.specs.declared.plan.instructions.Instruction.TheVariants.{Flow, Cut, Tick, Say}
 use Rattle.network_file.specs.Keys.{key_at}
-use Rattle.network_file.specs.Networks.{after_lines, is_skipped, network_of, nothing, Bad}
+use Rattle.network_file.specs.Networks.{after_lines, network_of, nothing, Bad}
 use Rattle.network_file.specs.Plan.{Plan}
 use Rattle.network_file.specs.declared.reasons.What.TheVariants as whats
 use Rattle.network_file.specs.Places.{◌>>=◌, needs, node_at, new_node_at, new_call_at, value_at}
@@ -21,7 +21,9 @@ use Rattle.network_file.specs.Lines.Circuits.{open_line, end_at, say_at, close_l
 use Rattle.network_file.specs.Lines.Declaring.{declaration_at, channel_line, setting_at}
 use Rattle.network_file.specs.Lines.Frames.{flow_line, cut_line}
 use Rattle.network_file.specs.Lines.Nodes.{node_and_call_at, round_line, tick_at}
-use Rattle.network_file.specs.Words.{is_text, past_word, said_text, words_of}
+use Rattle.text_lines.specs.Lines.{is_skipped, is_text}
+use Rattle.text_lines.specs.Words.{past_word, words_of}
+use Rattle.network_file.specs.Lines.Circuits.{said_text}
 use Rattle.network_soak.specs.Draws.{draw, next}
 use Rattle.network_soak.specs.Files.{soak_file, start_text, end_text, drawn_text, lines_of, drawn, Drawn, say_line, flow_line as flow_text}
 use Rattle.network_soak.proofs.TextLines.{is_feed, is_space, pushed, parts_of, some_part, Says, one_line, some_length, decimal_is}

@@ -11,10 +11,10 @@ use Rattle.std.proofs.lemmas.List.Splits.{length-slice_split}
 use Rattle.std.proofs.lemmas.Fmt.{digits_decimal}
 use Rattle.std.proofs.lemmas.Str.Parse.{IsNumeralModel, numerals_by_fold}
 use Rattle.network_file.specs.declared.lines.Line.{Line}
-use Rattle.network_file.specs.Networks.{after_lines, is_skipped, with_line}
+use Rattle.network_file.specs.Networks.{after_lines, with_line}
 use Rattle.network_file.specs.Plan.{Plan}
 use Rattle.network_file.specs.Lines.{line_at}
-use Rattle.network_file.specs.Words.{is_text}
+use Rattle.text_lines.specs.Lines.{is_skipped, is_text}
 
 -- ---- a text in front of others
 

@@ -21,6 +21,7 @@ use Rattle.route_table.specs.Log.{Item}
 use Rattle.node_core.specs.Acts as acts
 use Rattle.ax_link.specs.declared.plain.LinkNotice.{LinkNotice}
 use Rattle.link_table.specs.Reaching.{FramesAreSpelled, IsCall, IsSpelled, Reaches}
+use Rattle.node_core.proofs.Names.{nodes_is_call}
 use Rattle.node_core.specs.Broadcasts.{broadcast_frame, broadcast_octets, entries_of_frame, nodes_call, frame_count, round_frame, round_frames}
 use Rattle.node_core.specs.Carried.{CarriesTraced, ComeTraced, IsCarried, NamesCall, brings_traced, offers_traced, sends_in}
 use Rattle.node_core.specs.Circuits as circuits
@@ -117,9 +118,6 @@ module _ (size : ℕ) (law : CarriesWhatWasOffered) (weaker : CarriesByWeaker) (
 
   put_goes : (f : Written) (n : State) → ((sent : List (List ℕ)) → CarriesTraced size sent n → IsCarried size sent f.octets.items) → Goes size n (put f n)
   put_goes f n g = quiet size n (put f n) [] (sym (append-nil n.entries)) refl refl refl (λ sent x. put_carries sent f n (g sent x) x)
-
-  nodes_is_call : IsCall nodes_call
-  nodes_is_call = record { some = omega arith; six = omega arith; chars = (refl, (refl, (refl, (refl, (refl, tt))))); spaces = refl; small = omega arith }
 
   -- a broadcast of a call is carried
   pub broadcast_carried : (sent : List (List ℕ)) (own : Callsign) (b : Broadcast) → IsCall own → IsCarried size sent (broadcast_octets own b)

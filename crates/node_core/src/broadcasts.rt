@@ -12,13 +12,11 @@ use nodes_broadcast::{Nodes, write_nodes};
 use radio_base::{M8, NETROM_PID};
 
 /// The call to which broadcasts go.
+#[tactic(auto, using(crate::proofs::Names::nodes_is_call))]
 fn nodes_call() -> Call
     ensures { result ≡ broadcasts.nodes_call }
 {
-    match Call::read(b"NODES") {
-        Ok(call) => call,
-        Err(_) => Call::default(),
-    }
+    Call::from_letters(*b"NODES ", 0)
 }
 
 /// A frame goes to all nodes, as a broadcast does.

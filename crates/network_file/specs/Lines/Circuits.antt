@@ -1,5 +1,5 @@
 -- Lines that speak of circuits and their ends. Own profile.
-use Rattle.std.specs.Prelude.{ℕ, List, [], ◌∷◌, Result, Ok, Err}
+use Rattle.std.specs.Prelude.{ℕ, List, [], ◌∷◌, Option, Result, Ok, Err}
 use Rattle.network_file.specs.declared.reasons.What.{What}
 use Rattle.network_file.specs.declared.reasons.What.TheVariants as whats
 use Rattle.network_file.specs.declared.lines.Line.{Line}
@@ -8,7 +8,7 @@ use Rattle.network_file.specs.declared.plan.instructions.Instruction.TheVariants
 use Rattle.network_file.specs.Plan.{Plan}
 use Rattle.network_file.specs.Places.{◌>>=◌, known, number_at, nth_at, node_at}
 use Rattle.network_file.specs.Lines.Nodes.{node_and_call}
-use Rattle.network_file.specs.Words.{said_text}
+use Rattle.text_lines.specs.Words.{after_space, past_word}
 
 -- open N DEST
 unfoldable pub open_line : Plan → List (List ℕ) → Result Line What
@@ -22,6 +22,10 @@ end_at plan number nth = do
   n ← node_at plan.declared number
   x ← nth_at nth
   Ok (n, x)
+
+-- TEXT of a `say` line: what stands after its third word and the one space after that, if that space is there
+unfoldable pub said_text : List ℕ → Option (List ℕ)
+said_text line = after_space (past_word (past_word (past_word line)))
 
 -- say N X TEXT: without the space that TEXT stands behind the line has too few words
 unfoldable pub say_at : Plan → List ℕ → List ℕ → List ℕ → Result Line What

@@ -1,7 +1,7 @@
 //! Lines that speak of circuits and their ends: `open`, `say`, `burst`, `take`, `close`.
-ghost use Rattle.std.specs.Prelude.{◌≡◌, IfOk};
+ghost use Rattle.std.specs.Prelude.{◌≡◌, IfOk, MatchOption, None, Some};
 ghost use Rattle.network_file.specs.Lines.Circuits as lines;
-ghost use Rattle.network_file.specs.Words.{texts};
+ghost use Rattle.text_lines.specs.Words.{texts};
 
 use crate::lines::Line;
 use crate::lines::nodes::node_and_call;
@@ -10,8 +10,8 @@ use crate::places::{node, nth, text_count};
 use crate::plan::instructions::Instruction;
 use crate::plan::text::Text;
 use crate::reasons::What;
-use crate::words::said_text;
 use std::alloc::{AllocError, Global};
+use text_lines::{after_space, past_word};
 
 /// `open N DEST`
 #[tactic(auto, unfolding(crate::specs::Lines::Circuits::open_line))]
@@ -67,6 +67,14 @@ fn say(
         }
         Err(what) => Ok(Err(what)),
     }
+}
+
+/// TEXT of a `say` line: what stands after its third word and the one space after that, if that space is there.
+#[tactic(auto, unfolding(crate::specs::Lines::Circuits::said_text))]
+fn said_text(line: &[u8]) -> Option<&[u8]>
+    ensures { MatchOption result (lines.said_text line.now ≡ None) (λ text. lines.said_text line.now ≡ Some text.now) }
+{
+    after_space(past_word(past_word(past_word(line))))
 }
 
 /// `burst N X COUNT`

@@ -1,7 +1,7 @@
 //! Lines that declare: `version`, `node`, `set`, `channel`, `via`.
 ghost use Rattle.std.specs.Prelude.{◌≡◌, ◌≤◌, ◌+◌, ◌++◌, List, [], length, Ok, Err, IsTrue, MatchResult};
 ghost use Rattle.ax_address.specs.Callsign.{Callsign};
-ghost use Rattle.network_file.specs.Words.{texts};
+ghost use Rattle.text_lines.specs.Words.{texts};
 ghost use Rattle.network_file.specs.Lines.Declaring as lines;
 
 use crate::limits::{MAX_NODES, MAX_VIA_REPEATERS};

@@ -1,7 +1,7 @@
 //! Lines that move frames: `deliver`, `again`, `lose`, `flow`, `cut`.
 ghost use Rattle.std.specs.Prelude.{◌≡◌};
 ghost use Rattle.network_file.specs.Lines.Frames as lines;
-ghost use Rattle.network_file.specs.Words.{texts};
+ghost use Rattle.text_lines.specs.Words.{texts};
 
 use crate::lines::Line;
 use crate::network::Network;

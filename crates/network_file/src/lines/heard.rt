@@ -1,7 +1,7 @@
 //! The line `heard`.
 ghost use Rattle.std.specs.Prelude.{◌≡◌, ◌≤◌, ◌+◌, ◌*◌, ◌++◌, List, length, Ok, Err, IsTrue, MatchResult};
 ghost use Rattle.ax_address.specs.declared.Entry.{Entry};
-ghost use Rattle.network_file.specs.Words.{texts};
+ghost use Rattle.text_lines.specs.Words.{texts};
 ghost use Rattle.network_file.specs.Lines.Heard as lines;
 
 use crate::lines::Line;

@@ -1,7 +1,7 @@
 //! Lines that speak of a node, or of time: `lock`, `round`, `linkfail`, `show`, `tick`, `restart`.
 ghost use Rattle.std.specs.Prelude.{◌≡◌};
 ghost use Rattle.network_file.specs.Lines.Nodes as lines;
-ghost use Rattle.network_file.specs.Words.{texts};
+ghost use Rattle.text_lines.specs.Words.{texts};
 
 use crate::lines::Line;
 use crate::network::Network;

@@ -3,7 +3,8 @@ use Rattle.ax_link.specs.State.{count_end}
 use Rattle.ax_link.specs.Table.{step}
 use Rattle.ax_link.proofs.KindsOut.{kinds_go_out}
 use Rattle.ax_link.proofs.Notices.{notices_are, settings_stay}
-use Rattle.ax_link.proofs.PutOut.{bounds_stay, good_step, have_payloads}
+use Rattle.ax_link.proofs.PutSteps.{good_step}
+use Rattle.ax_link.proofs.PutFrames.{bounds_stay, have_payloads}
 use Rattle.ax_link.proofs.laws.steps.Goals as goal
 
 pub returns-clause-settings : goal.returns-clause-settings

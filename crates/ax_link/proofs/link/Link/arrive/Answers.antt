@@ -1,7 +1,7 @@
 use Rattle.ax_link.specs.Kinds.{frame_in}
 use Rattle.ax_link.specs.Stations.{view_of, arrive}
 use Rattle.ax_link.specs.Table as table
-use Rattle.ax_link.proofs.PutOut.{all_put, within}
+use Rattle.ax_link.proofs.PutFrames.{all_put, within}
 use Rattle.ax_link.proofs.CallSteps.{stepped}
 use Rattle.ax_link.proofs.link.Link.arrive.Goals as goal
 

@@ -1,6 +1,6 @@
 use Rattle.ax_link.specs.Stations.{view_of, close}
 use Rattle.ax_link.specs.Table as table
-use Rattle.ax_link.proofs.PutOut.{all_put, within}
+use Rattle.ax_link.proofs.PutFrames.{all_put, within}
 use Rattle.ax_link.proofs.CallSteps.{stepped}
 use Rattle.ax_link.proofs.link.Link.close.Goals as goal
 

@@ -3,7 +3,7 @@ use Rattle.ax_link.specs.Outputs.{AllCanBeSent}
 use Rattle.ax_link.specs.Standing.{LinkView}
 use Rattle.ax_link.specs.Stations.{view_of}
 use Rattle.ax_link.specs.Table as table
-use Rattle.ax_link.proofs.PutOut.{all_put, either, on_err_then, on_ok_then, quiet, quiet_send, within}
+use Rattle.ax_link.proofs.PutFrames.{all_put, either, on_err_then, on_ok_then, quiet, quiet_send, within}
 use Rattle.ax_link.proofs.CallSteps.{accepts, on_ok, takes_is}
 use Rattle.ax_link.proofs.link.Link.send.Goals as goal
 

@@ -1,6 +1,6 @@
 use Rattle.ax_link.specs.Stations.{view_of, begun}
 use Rattle.ax_link.specs.Table as table
-use Rattle.ax_link.proofs.PutOut.{all_put, quiet, quiet_set_up, within}
+use Rattle.ax_link.proofs.PutFrames.{all_put, quiet, quiet_set_up, within}
 use Rattle.ax_link.proofs.CallSteps.{stepped}
 use Rattle.ax_link.proofs.link.Link.set_up.Goals as goal
 

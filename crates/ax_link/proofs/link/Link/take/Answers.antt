@@ -2,7 +2,7 @@ use Rattle.std.proofs.Common.{refl}
 use Rattle.ax_link.specs.Table.{take_first}
 use Rattle.ax_link.specs.Stations.{view_of}
 use Rattle.ax_link.specs.Table as table
-use Rattle.ax_link.proofs.PutOut.{all_put, quiet, quiet_take, within}
+use Rattle.ax_link.proofs.PutFrames.{all_put, quiet, quiet_take, within}
 use Rattle.ax_link.proofs.CallSteps.{stepped}
 use Rattle.ax_link.proofs.link.Link.take.Goals as goal
 

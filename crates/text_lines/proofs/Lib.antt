@@ -1,0 +1,3 @@
+pub mod Cuts
+pub mod FirstWords
+pub mod Values
