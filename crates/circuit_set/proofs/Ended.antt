@@ -1,8 +1,7 @@
 -- What an end tells in a step: nothing, that its circuit is open, or how it ended; and then it has ended, and stays so.
-use Rattle.std.specs.Prelude.{◌≡◌, ℕ, suc, ◌⊎◌, ◌∷◌, ◌+◌, ◌-◌, min, Bool, true, false, not, ◌&&◌, ◌||◌, nat_eq, nat_lt, nat_le, if◌then◌else◌, List, [], ◌++◌, length, Option, None, Some, is_ok, refl}
+use Rattle.std.specs.Prelude.{◌≡◌, ℕ, ◌⊎◌, ◌∷◌, ◌+◌, min, Bool, true, false, not, ◌&&◌, ◌||◌, nat_eq, nat_lt, nat_le, if◌then◌else◌, List, [], ◌++◌, length, None, is_ok, refl}
 use Rattle.std.proofs.Common.{sym, ◌∙◌, ap, inl, inr}
 use Rattle.radio_base.specs.declared.modulus.TheConstants.{COUNT_MAX}
-use Rattle.radio_base.specs.Modulus.{place_of}
 use Rattle.circuit_l4.specs.declared.transport.Pair.{Pair}
 use Rattle.circuit_l4.specs.declared.transport.Flags.{Flags}
 use Rattle.circuit_l4.specs.declared.transport.Transport.{Transport}
@@ -16,7 +15,7 @@ use Rattle.circuit_l4.specs.declared.machine.Role.{Role}
 use Rattle.circuit_l4.specs.declared.machine.Role.TheVariants.{Requester, Responder}
 use Rattle.circuit_l4.specs.declared.texts.Owed.{Owed}
 use Rattle.circuit_l4.specs.EndState.{Effect, State, begin, is_up}
-use Rattle.circuit_l4.specs.EndMoves.{acknowledge, acknowledge_by, advance, again, answer, answer_all, wait, wait_if_out, on_state, hold, begin_to_close, end_with, fill, fill_count, finish, with_receiving, is_done, is_silent, note, on_info, on_info_ack, put_out, emit, emit_owed, supply, emit_ack}
+use Rattle.circuit_l4.specs.EndMoves.{acknowledge, again, answer, answer_all, wait_if_out, on_state, begin_to_close, end_with, fill, finish, with_receiving, is_done, is_silent, note, on_info, on_info_ack, emit, emit_owed, supply, emit_ack}
 use Rattle.circuit_l4.specs.EndLaws.{Accepts, Asks, IsNew, after_inputs, followed_by}
 use Rattle.circuit_l4.specs.EndTable.{Input, Write, Arrive, Tick, Close, Take, arrive_in, ask_by, close_in_turn, due_in, expire, count_expiry, note_activity, is_due, may_close, release, common_window, come_up, resume_by, retry, retry_in, step, step_at, take_from, write_answer, write}
 use Rattle.circuit_l4.specs.Receiving.{Appended, Receipt, busy, receive, without_first, inbox, moved_on}
@@ -24,9 +23,9 @@ use Rattle.circuit_l4.specs.Sending.{total, written}
 use Rattle.circuit_set.specs.Books.{any_ends, ends_it}
 use Rattle.circuit_set.specs.Runs.{opened_window}
 use Rattle.circuit_set.specs.Sets.{has_ended}
-use Rattle.circuit_set.proofs.Lasting.{Core, acknowledges, fills, if_out}
+use Rattle.circuit_set.proofs.Lasting.{Core, acknowledges, fills as fill_keeps, if_out}
 use Rattle.circuit_set.proofs.Names.{AcceptsNone, is_accept, step_same}
-use Rattle.circuit_set.proofs.Sends.{Named, either, either_going, on_due}
+use Rattle.circuit_set.proofs.Sends.{Named, either_going}
 
 -- it tells how its circuit ended
 record IsLast (g : Effect) : Type 0 where
@@ -57,7 +56,7 @@ abbrev phase_stays : Core → Core → Type 0
 phase_stays c d = d.phase ≡ c.phase
 
 fill_phase : (now : ℕ) (g : Effect) → (fill now g).end.phase ≡ g.end.phase
-fill_phase now g = fills phase_stays (λ c. refl) (λ c d k e. e) g.end now g refl
+fill_phase now g = fill_keeps phase_stays (λ c. refl) (λ c d k e. e) g.end now g refl
 
 if_out_phase : (s : State) (now : ℕ) → (wait_if_out now s).phase ≡ s.phase
 if_out_phase s now = if_out phase_stays (λ c. refl) (λ c d k e. e) s s now refl
