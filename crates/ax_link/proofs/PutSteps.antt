@@ -1,31 +1,18 @@
 -- Each step puts out what may be put out, and keeps the bounds.
-use Rattle.std.proofs.Common.{◌≡◌, ℕ, zero, suc, ◌+◌, ◌-◌, ◌%◌, ◌<◌, ◌≤◌, Bool, true, false, not, ◌&&◌, ◌||◌, nat_eq, nat_lt, nat_le, ◌==◌, if◌then◌else◌, List, [], ◌∷◌, ◌++◌, length, drop, replicate, map, min, Option, Some, None, Result, Ok, Err, OnOk, OnErr, slice_get, slice_set, refl, ap, sym, ◌∙◌, subst, arith, append_assoc, length-append}
+use Rattle.std.proofs.Common.{◌≡◌, ℕ, zero, suc, ◌+◌, ◌-◌, ◌%◌, ◌<◌, ◌≤◌, Bool, true, false, not, ◌&&◌, ◌||◌, nat_eq, nat_lt, nat_le, if◌then◌else◌, List, [], ◌∷◌, ◌++◌, length, drop, replicate, min, Option, Some, None, slice_get, slice_set, refl, sym, subst, arith}
 use Rattle.std.proofs.lemmas.Bool.Decides.{nat_tests}
-use Rattle.std.proofs.lemmas.List.{length-drop, length-replicate, length-set}
 use Rattle.std.specs.List.{AllByRecursion}
 use Rattle.radio_base.specs.declared.payload.Payload.{Payload}
 use Rattle.radio_base.specs.Modulus.{place_of}
-use Rattle.ax_frame.specs.declared.control.Control.{Control}
-use Rattle.ax_frame.specs.declared.control.Control.TheVariants as control
-use Rattle.ax_link.specs.Kinds.{control_of, kind_of, set_up_kind}
 use Rattle.ax_link.specs.declared.kind.Kind.{Kind}
 use Rattle.ax_link.specs.declared.kind.Kind.TheVariants as kind
 use Rattle.ax_link.specs.declared.plain.LinkPhase.{LinkPhase}
 use Rattle.ax_link.specs.declared.plain.LinkPhase.TheVariants.{Down, SettingUp, Up, Releasing}
-use Rattle.ax_link.specs.declared.plain.LinkNotice.{LinkNotice}
-use Rattle.ax_link.specs.State.{Frame, State, Effect, Rules, ack_place, count_end, begin, busy, high, is_up, update_t1, places, restart_t1, t1_runs, t3_at, wire}
+use Rattle.ax_link.specs.State.{Frame, State, Effect, ack_place, count_end, begin, busy, high, is_up, update_t1, places, restart_t1, t1_runs, t3_at, wire}
 use Rattle.ax_link.specs.Moves.{acknowledge, again, answer_poll, ask, ask_again, asks, asks_of, end_poll, fill, fill_count, finish, first_early, frames, frames_of, hold, is_free, follow_by, follow, next_early, on_i, on_srej, on_supervisory, emit, release, reset, resume, supply_again, resupply, rr, srej_at, start_poll, store_early, supervisory_at, supply, take_in, take_next, text, text_at, text_later, text_plain, text_srej, i_at}
-use Rattle.std.specs.Option.{option_to_list}
-use Rattle.ax_link.specs.declared.plain.LinkOut.{LinkOut}
-use Rattle.ax_link.specs.declared.plain.SendRefusal.{SendRefusal}
-use Rattle.ax_link.specs.Standing.{LinkView, Keeps, KeepsEffect, Stands, StandsFor, frame_of, state_of}
-use Rattle.ax_link.specs.Stations.{view_of}
-use Rattle.ax_link.specs.declared.station.Station.{Station}
-use Rattle.ax_link.specs.Table.{Input, Set_up, Send, Arrive, Tick, Close, Take, step, accept, arrive_down, arrive_in, arrive_releasing, arrive_setting, arrive_up, close_in_turn, expire, fail_in, fail, may_close, come_up, refuse_if, retry, retry_in, set_up_in, step_at, takes, tick}
-use mathlib.Core.List.{IsSuffix}
+use Rattle.ax_link.specs.Table.{Input, Set_up, Send, Arrive, Tick, Close, Take, accept, arrive_down, arrive_in, arrive_releasing, arrive_setting, arrive_up, close_in_turn, expire, fail_in, fail, may_close, come_up, refuse_if, retry, retry_in, set_up_in, step_at, takes, tick}
 use Rattle.ax_link.specs.Bounds.{Bounded, Stock, stock}
-use Rattle.ax_link.specs.Outputs.{AllCanBeSent, CanBeSent, Brings, Has, HasIf, HavePayloads}
-use Rattle.ax_link.specs.Laws.{BoundsStay}
+use Rattle.ax_link.specs.Outputs.{Brings, Has, HasIf, HavePayloads}
 use Rattle.ax_link.proofs.Ways.{place_in}
 use Rattle.ax_link.proofs.PutOut.{IsPut, IsPutOut, some, with_sent, with_acked, neither, both_false, room_for, with_next, with_early, with_given, with_rest, emptied}
 
