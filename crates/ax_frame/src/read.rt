@@ -30,13 +30,22 @@ pub fn read_head(bytes: &[u8]) -> Result<(Head, usize), FrameRefusal>
     head_of(bytes)
 }
 
+/// The addresses, and how many octets they have. As in `frame_of`, the path is filled where it stands, and stays one
+/// place in memory.
+#[inline(never)]
 fn head_of(bytes: &[u8]) -> Result<(Head, usize), FrameRefusal>
     ensures found { IfOk result (λ x. (x.1 ≤ length bytes.now) × SpellsHead x.0 (take x.1 bytes.now)) }
     ensures judged { MatchResult result (λ x. reading.head_end bytes.now ≡ Ok x.1) (λ e. reading.head_end bytes.now ≡ Err e) }
 {
-    let mut path = Path::new();
-    let (dest, source, end) = addresses(bytes, &mut path)?;
-    Ok((Head { dest, source, path }, end))
+    let mut head = Head {
+        dest: Address::default(),
+        source: Address::default(),
+        path: Path::new(),
+    };
+    let (dest, source, end) = addresses(bytes, &mut head.path)?;
+    head.dest = dest;
+    head.source = source;
+    Ok((head, end))
 }
 
 /// Destination, source and where the addresses end. The repeaters are put into the path where it stands, since a
