@@ -34,6 +34,14 @@ impl Octets {
         })
     }
 
+    /// These octets, which are moved.
+    pub fn from_vec(bytes: Vec<u8>) -> Octets
+        requires { length bytes.items ≤ 1023 }
+        ensures { result.items ≡ bytes.items }
+    {
+        Octets { bytes }
+    }
+
     /// The octets.
     pub fn as_slice(&self) -> &[u8]
         ensures value { result.now ≡ self.now.items }

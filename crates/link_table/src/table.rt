@@ -1,5 +1,5 @@
 //! The table of links, and what it is to a router: a carrier of datagrams (AX.25 2.2, section 6; NET/ROM, Appendix B).
-ghost use Rattle.std.specs.Prelude.{◌≡◌, ◌≤◌, ◌<◌, ◌↔◌, ℕ, List, [], ◌∷◌, Bool, true, false, None, Some, OnOk, OnErr, IfOk, IsOk, IsErr, IsErrOf, IsTrue, slice_get, drop, length};
+ghost use Rattle.std.specs.Prelude.{◌≡◌, ◌≤◌, ◌<◌, ◌↔◌, ℕ, List, [], ◌∷◌, Bool, true, false, None, Some, OnOk, OnErr, IfOk, IsOk, IsErr, IsErrOf, IsTrue, is_some, slice_get, drop, length};
 ghost use Rattle.ax_link.specs.State.{count_end};
 ghost use Rattle.l3_datagram.specs.CarrierCall.{Offer};
 ghost use Rattle.link_table.specs.Table.{Table};
@@ -274,6 +274,13 @@ impl LinkTable {
         ensures left { self.new ≡ record self.old { frames = drop 1 self.old.frames } }
     {
         self.core.pending.frames.pop_front()
+    }
+
+    /// Whether a notice waits.
+    pub fn has_notices(&self) -> bool
+        ensures { (t : Table) → TableStands self.now t → result ≡ is_some (slice_get t.pending.notices 0) }
+    {
+        !self.core.pending.notices.is_empty()
     }
 
     /// The next notice, the oldest one, with the peer of its link. None where none waits.
