@@ -1,5 +1,5 @@
 -- How many rows there are after reports.
-use Rattle.std.proofs.Common.{◌≡◌, ◌<◌, ◌+◌, ◌∙◌, ℕ, zero, suc, refl, sym, ap, List, [], ◌∷◌, length, take, arith, Bool, true, false, cond, get_or, drop, drop-cons, add-one}
+use Rattle.std.proofs.Common.{◌≡◌, ◌<◌, ◌≤◌, ◌+◌, ◌∙◌, ℕ, zero, suc, refl, sym, ap, List, [], ◌∷◌, length, take, arith, Bool, true, false, cond, get_or, drop, drop-cons, add-one}
 use Rattle.std.specs.Prelude.{not, ◌||◌, ◌&&◌, is_none}
 use Rattle.std.specs.List.{list_any}
 use Rattle.std.proofs.lemmas.List.Sorted.{list_any-IsPermutation, length_permutation}
@@ -116,6 +116,27 @@ report_length minq r rows h l = rw l (length_case (length (beside r rows)) (leng
     sizes : (G : Bool) → cond G (suc (length (beside r rows))) (length (beside r rows)) ≡ length (cond G (placed r (beside r rows)) (beside r rows))
     sizes true = sym (length_placed r (beside r rows))
     sizes false = refl
+
+beside_bound : (r : Route) (xs : List Route) → length (beside r xs) ≤ length xs
+beside_bound r [] = omega arith
+beside_bound r (x ∷ xs) = cases (is_same_pair x r) (beside_bound r xs)
+  where
+    cases : (b : Bool) → length (beside r xs) ≤ length xs → length (cond (not b) (x ∷ beside r xs) (beside r xs)) ≤ suc (length xs)
+    cases true ih = omega (arith, ih)
+    cases false ih = omega (arith, ih)
+
+pub report_bound : (minq : ℕ) (r : Route) (rows : List Route) → length (with_report minq r rows) ≤ length rows + 1
+report_bound minq r rows = cases (list_any (is_lock_on r) rows) (is_good minq r)
+  where
+    cases : (L G : Bool) → length (cond L rows (cond G (placed r (beside r rows)) (beside r rows))) ≤ length rows + 1
+    cases true G = omega arith
+    cases false true = omega (arith, length_placed r (beside r rows), beside_bound r rows)
+    cases false false = omega (arith, beside_bound r rows)
+
+-- each report is at most a row more
+pub reports_bound : (minq : ℕ) (rs rows : List Route) → length (after_reports minq rs rows) ≤ length rows + length rs
+reports_bound minq [] rows = omega arith
+reports_bound minq (r ∷ rs) rows = omega (arith, reports_bound minq rs (with_report minq r rows), report_bound minq r rows)
 
 -- what the code counts with one report more
 

@@ -1,5 +1,5 @@
 -- Rows in order, by recursion, and places in them.
-use Rattle.std.specs.Prelude.{ℕ, ◌+◌, ◌-◌, ◌<◌, List, [], ◌∷◌, length, slice_index_or, ◌≡◌, true, false, not, Option, Some, None, is_none}
+use Rattle.std.specs.Prelude.{ℕ, ◌+◌, ◌-◌, ◌<◌, ◌≤◌, List, [], ◌∷◌, length, slice_index_or, ◌≡◌, true, false, not, Option, Some, None, is_none}
 use Rattle.std.specs.List.{AllByRecursion, list_any, prefix_len}
 use Rattle.ax_address.specs.Callsign.{Callsign}
 use Rattle.ax_address.specs.CallOrder.{call_lt}
@@ -43,3 +43,8 @@ PairAt r rows (Some at) = (at < length rows) × ((d : Route) → is_same_pair r 
 pub record FitsAt (r : Route) (rows : List Route) (at : ℕ) : Type 0 where
   pub after : (d : Route) → 0 < at → stands_before (slice_index_or rows (at - 1) d) r ≡ true
   pub before : (d : Route) → at + 1 < length rows → stands_before r (slice_index_or rows (at + 1) d) ≡ true
+
+-- what is said of how many rows there are: nothing where a table holds so many, and else the number
+abbrev pub IsSurplus : ℕ → Option ℕ → Type 0
+IsSurplus rows None = rows ≤ 16384
+IsSurplus rows (Some count) = (count ≡ rows) × (16384 < rows)

@@ -7,7 +7,7 @@ ghost use Rattle.route_table.specs.Rows as spec;
 ghost use Rattle.route_table.specs.Table as table;
 
 use crate::ranking::{place_of, place_of_pair, stands_before};
-use crate::route::Route;
+use crate::route::{MAX_PAIRS, Route};
 use ax_address::Call;
 use std::alloc::AllocError;
 
@@ -113,8 +113,24 @@ fn is_before(rows: &[Route], at: usize, route: &Route) -> bool
     }
 }
 
+/// How many rows there are after these reports, where a table doesn't hold so many.
+///
+/// Each report is at most a row more, so mostly there is room for all, and nothing is counted.
+pub(crate) fn surplus_after(rows: &[Route], minq: u8, reports: &[Route]) -> Option<usize>
+    requires stand { places.Stand rows.now }
+    requires few { length rows.now ≤ 16384 }
+    requires reports { (length reports.now ≤ 12) × places.AreCounted reports.now }
+    ensures { places.IsSurplus (length (spec.after_reports minq reports.now rows.now)) result }
+{
+    if rows.len() + reports.len() <= MAX_PAIRS {
+        return None;
+    }
+    let count = count_after(rows, minq, reports);
+    if count > MAX_PAIRS { Some(count) } else { None }
+}
+
 /// How many rows there are after these reports.
-pub(crate) fn count_after(rows: &[Route], minq: u8, reports: &[Route]) -> usize
+fn count_after(rows: &[Route], minq: u8, reports: &[Route]) -> usize
     requires stand { places.Stand rows.now }
     requires few { length rows.now ≤ 16384 }
     requires reports { (length reports.now ≤ 12) × places.AreCounted reports.now }
