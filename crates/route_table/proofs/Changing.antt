@@ -93,7 +93,7 @@ pair_found r (x ∷ xs) (suc i) d w s = rw (pair_found r xs i d (omega arith) s)
 
 -- a route in the place of a row, where it stands between those before and behind it
 
-ahead_at : (x : Route) (xs : List Route) (i : ℕ) (d : Route) → i < length xs → Ahead x xs → stands_before x (get_or xs i d) ≡ true
+pub ahead_at : (x : Route) (xs : List Route) (i : ℕ) (d : Route) → i < length xs → Ahead x xs → stands_before x (get_or xs i d) ≡ true
 ahead_at x [] i d w h = absurd (omega arith)
 ahead_at x (y ∷ ys) zero d w h = h.0
 ahead_at x (y ∷ ys) (suc i) d w h = ahead_at x ys i d (omega arith) h.1

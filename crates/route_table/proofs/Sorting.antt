@@ -102,7 +102,7 @@ placed_first : (r : Route) (xs : List Route) → Ahead r xs → placed r xs ≡ 
 placed_first r [] h = refl
 placed_first r (x ∷ xs) h = rw h.0 refl
 
-filter_placed : (p : Route → Bool) (r : Route) (xs : List Route) → InRows xs → filter p (placed r xs) ≡ cond (p r) (placed r (filter p xs)) (filter p xs)
+pub filter_placed : (p : Route → Bool) (r : Route) (xs : List Route) → InRows xs → filter p (placed r xs) ≡ cond (p r) (placed r (filter p xs)) (filter p xs)
 filter_placed p r [] h = refl
 filter_placed p r (x ∷ xs) h = cases (stands_before r x) (p r) (p x) refl refl refl (filter_placed p r xs h.1)
   where

@@ -26,6 +26,17 @@ pub record Stand (rows : List Route) : Type 0 where
 abbrev pub AreCounted : List Route → Type 0
 AreCounted routes = AllByRecursion (λ (r : Route). is_none r.count ≡ false) routes
 
+-- no row is of the route's pair
+abbrev pub IsNew : List Route → Route → Type 0
+IsNew rows r = AllByRecursion (λ s. is_same_pair r s ≡ false) rows
+
+-- routes in order wait for their places among rows: no row is of the pair of one, and none is a lock
+pub record AreWaiting (routes rows : List Route) : Type 0 where
+  pub stand : Stand rows
+  pub waiting : Stand routes
+  pub new : AllByRecursion (IsNew rows) routes
+  pub counted : AreCounted routes
+
 -- how many rows lead to lower destinations
 abbrev pub start_of : Callsign → List Route → ℕ
 start_of dest rows = prefix_len (λ r. call_lt r.dest dest) rows

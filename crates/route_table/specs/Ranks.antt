@@ -23,6 +23,11 @@ abbrev pub placed : Route → List Route → List Route
 placed r [] = r ∷ []
 placed r (x ∷ xs) = if stands_before r x then r ∷ x ∷ xs else x ∷ placed r xs
 
+-- rows with these routes among them, each at its place
+abbrev pub all_placed : List Route → List Route → List Route
+all_placed [] rows = rows
+all_placed (r ∷ rs) rows = placed r (all_placed rs rows)
+
 -- the routes, in order
 abbrev pub in_order : List Route → List Route
 in_order [] = []

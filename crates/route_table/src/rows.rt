@@ -17,7 +17,7 @@ fn is_same_pair(a: &Route, b: &Route) -> bool
     a.dest == b.dest && a.neighbour == b.neighbour
 }
 
-fn is_good(minq: u8, report: &Route) -> bool
+pub(crate) fn is_good(minq: u8, report: &Route) -> bool
     ensures { result ≡ table.is_good minq report.now }
 {
     minq <= report.quality
@@ -35,38 +35,8 @@ fn enter(rows: &mut Vec<Route>, route: &Route)
     let _ = rows.insert(at, *route);
 }
 
-/// Takes in one report after another. There is room for a row of each.
-pub(crate) fn take_reports(rows: &mut Vec<Route>, minq: u8, reports: &[Route])
-    requires stand { places.Stand rows.old.items }
-    requires room { vec_len rows.old + length reports.now ≤ vec_capacity rows.old }
-    ensures items { rows.new.items ≡ spec.after_reports minq reports.now rows.old.items }
-    ensures stand { places.Stand rows.new.items }
-{
-    for report in reports {
-        take_report(rows, minq, report);
-    }
-}
-
-/// Takes a report in, where no row is a lock of its pair: it stands in the place of what was of its pair, if it is good enough.
-fn take_report(rows: &mut Vec<Route>, minq: u8, report: &Route)
-    requires stand { places.Stand rows.old.items }
-    requires room { vec_len rows.old < vec_capacity rows.old }
-    ensures items { rows.new.items ≡ spec.with_report minq report.now rows.old.items }
-    ensures len { vec_len rows.new ≤ vec_len rows.old + 1 }
-    ensures capacity { vec_capacity rows.old ≤ vec_capacity rows.new }
-{
-    match place_of_pair(rows, report) {
-        Some(at) => change(rows, minq, at, report),
-        None => {
-            if is_good(minq, report) {
-                enter(rows, report);
-            }
-        }
-    }
-}
-
 /// Takes a report in, which is of the pair of the row at that place.
-fn change(rows: &mut Vec<Route>, minq: u8, at: usize, report: &Route)
+pub(crate) fn change(rows: &mut Vec<Route>, minq: u8, at: usize, report: &Route)
     requires stand { places.Stand rows.old.items }
     requires pair { places.PairAt report.now rows.old.items (Some at) }
     requires room { vec_len rows.old < vec_capacity rows.old }

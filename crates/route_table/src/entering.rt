@@ -1,0 +1,119 @@
+//! A broadcast's reports, taken in: those of pairs that have a row one by one, and all others in one pass.
+ghost use Rattle.std.specs.Prelude.{◌≡◌, ◌≤◌, ◌<◌, ◌+◌, ◌∷◌, ◌++◌, take, drop, length, vec_len, vec_capacity, is_none, false};
+ghost use Rattle.route_table.specs.Places as places;
+ghost use Rattle.route_table.specs.Ranks as ranks;
+ghost use Rattle.route_table.specs.Rows as spec;
+
+use crate::ranking::{place_of, place_of_pair};
+use crate::reports::MAX_REPORTS;
+use crate::route::Route;
+use crate::rows::{change, is_good};
+use arrayvec::ArrayVec;
+
+/// Takes in one report after another. There is room for a row of each.
+///
+/// A row that enters moves all rows behind it, so the reports of new pairs wait until all can enter at once.
+pub(crate) fn take_reports(rows: &mut Vec<Route>, minq: u8, reports: &[Route])
+    requires stand { places.Stand rows.old.items }
+    requires reports { (length reports.now ≤ 12) × places.AreCounted reports.now }
+    requires room { vec_len rows.old + length reports.now ≤ vec_capacity rows.old }
+    ensures items { rows.new.items ≡ spec.after_reports minq reports.now rows.old.items }
+    ensures stand { places.Stand rows.new.items }
+{
+    let waiting = take_known(rows, minq, reports);
+    enter_all(rows, &waiting);
+}
+
+/// Takes in the reports of pairs that have a row, and hands back the others that become rows.
+fn take_known(rows: &mut Vec<Route>, minq: u8, reports: &[Route]) -> ArrayVec<Route, MAX_REPORTS>
+    requires stand { places.Stand rows.old.items }
+    requires reports { (length reports.now ≤ 12) × places.AreCounted reports.now }
+    requires room { vec_len rows.old + length reports.now ≤ vec_capacity rows.old }
+    ensures items { ranks.all_placed result.items rows.new.items ≡ spec.after_reports minq reports.now rows.old.items }
+    ensures waiting { places.AreWaiting result.items rows.new.items }
+    ensures room { vec_len rows.new + length result.items ≤ vec_capacity rows.new }
+{
+    let mut waiting = ArrayVec::new();
+    for report in reports {
+        take_or_keep(rows, &mut waiting, minq, report);
+    }
+    waiting
+}
+
+/// Takes a report in where a row is of its pair, and else keeps it among those that wait.
+fn take_or_keep(
+    rows: &mut Vec<Route>,
+    waiting: &mut ArrayVec<Route, MAX_REPORTS>,
+    minq: u8,
+    report: &Route,
+)
+    requires waiting { places.AreWaiting waiting.old.items rows.old.items }
+    requires counted { is_none report.now.count ≡ false }
+    requires few { length waiting.old.items < 12 }
+    requires room { vec_len rows.old + length waiting.old.items < vec_capacity rows.old }
+    ensures items { ranks.all_placed waiting.new.items rows.new.items ≡ spec.with_report minq report.now (ranks.all_placed waiting.old.items rows.old.items) }
+    ensures waiting { places.AreWaiting waiting.new.items rows.new.items }
+    ensures few { length waiting.new.items ≤ length waiting.old.items + 1 }
+    ensures len { vec_len rows.new + length waiting.new.items ≤ vec_len rows.old + length waiting.old.items + 1 }
+    ensures capacity { vec_capacity rows.old ≤ vec_capacity rows.new }
+{
+    match place_of_pair(rows, report) {
+        Some(at) => change(rows, minq, at, report),
+        None => keep(waiting, minq, report),
+    }
+}
+
+/// Keeps a report in the place of what waits of its pair, if it is good enough.
+fn keep(waiting: &mut ArrayVec<Route, MAX_REPORTS>, minq: u8, report: &Route)
+    requires stand { places.Stand waiting.old.items }
+    requires counted { places.AreCounted waiting.old.items }
+    requires few { length waiting.old.items < 12 }
+    ensures items { waiting.new.items ≡ spec.with_report minq report.now waiting.old.items }
+    ensures few { length waiting.new.items ≤ length waiting.old.items + 1 }
+{
+    drop_pair(waiting, report);
+    if is_good(minq, report) {
+        let at = place_of(waiting, report);
+        waiting.insert(at, *report);
+    }
+}
+
+/// Drops what waits of the route's pair.
+fn drop_pair(waiting: &mut ArrayVec<Route, MAX_REPORTS>, route: &Route)
+    requires { places.Stand waiting.old.items }
+    ensures items { waiting.new.items ≡ spec.beside route.now waiting.old.items }
+    ensures few { length waiting.new.items ≤ length waiting.old.items }
+{
+    if let Some(at) = place_of_pair(waiting, route) {
+        waiting.remove(at);
+    }
+}
+
+/// Enters routes among the rows in one pass from the back, in which each row moves at most once. There is room for them.
+fn enter_all(rows: &mut Vec<Route>, routes: &[Route])
+    requires waiting { places.AreWaiting routes.now rows.old.items }
+    requires room { vec_len rows.old + length routes.now ≤ vec_capacity rows.old }
+    ensures { rows.new.items ≡ ranks.all_placed routes.now rows.old.items }
+{
+    let mut end = rows.len();
+    let _ = rows.extend_from_slice(routes);
+    let rows = rows.as_mut_slice();
+    for gap in (0..routes.len()).rev() {
+        end = enter_before(rows, end, gap, &routes[gap]);
+    }
+}
+
+/// Enters a route among the rows before `end`, so that it and those behind it end where the gap of `gap + 1` places did.
+/// It answers where the rows now end that have `gap` places behind them.
+fn enter_before(rows: &mut [Route], end: usize, gap: usize, route: &Route) -> usize
+    requires within { end + gap < length rows.old }
+    requires order { places.InRows (take end rows.old) }
+    ensures place { result ≡ places.place_of route.now (take end rows.old) }
+    ensures bound { result ≤ end }
+    ensures rows { rows.new ≡ take (result + gap) rows.old ++ route.now ∷ (drop result (take end rows.old) ++ drop (end + gap + 1) rows.old) }
+{
+    let at = place_of(&rows[..end], route);
+    rows.copy_within(at..end, at + gap + 1);
+    rows[at + gap] = *route;
+    at
+}
