@@ -53,7 +53,7 @@ impl<M: Modulus> Station<M> {
         match self.phase {
             LinkPhase::Down => self.arrive_down(command, kind, now),
             LinkPhase::SettingUp => self.arrive_setting_up(kind, now),
-            LinkPhase::Up => self.arrive_up(command, kind, payload_of(pid, info), now),
+            LinkPhase::Up => self.arrive_up(command, kind, &payload_of(pid, info), now),
             LinkPhase::Releasing => self.arrive_releasing(kind, now),
         }
     }
@@ -115,12 +115,12 @@ impl<M: Modulus> Station<M> {
         }
     }
 
-    fn arrive_up(&mut self, command: bool, kind: Kind, payload: Option<Payload>, now: u64)
+    fn arrive_up(&mut self, command: bool, kind: Kind, payload: &Option<Payload>, now: u64)
         requires now { now ≤ COUNT_MAX }
         requires outs { self.old.outs.items ≡ [] }
         requires notice { self.old.notice ≡ None }
         requires size { self.old.window < M.SIZE }
-        ensures does { Does M.SIZE (table.arrive_up now command kind payload) self.old self.new }
+        ensures does { Does M.SIZE (table.arrive_up now command kind payload.now) self.old self.new }
         ensures window { self.new.window ≡ self.old.window }
     {
         match kind {
@@ -340,11 +340,11 @@ impl<M: Modulus> Station<M> {
         self.emit_texts(number, (self.sent - number).min(1));
     }
 
-    fn on_text(&mut self, ns: u8, nr: u8, pf: bool, payload: Payload, now: u64)
+    fn on_text(&mut self, ns: u8, nr: u8, pf: bool, payload: &Payload, now: u64)
         requires now { now ≤ COUNT_MAX }
         requires outs { self.old.outs.items ≡ [] }
         requires size { self.old.window < M.SIZE }
-        ensures does { Does M.SIZE (moves.on_i now pf ns nr (Some payload)) self.old self.new }
+        ensures does { Does M.SIZE (moves.on_i now pf ns nr (Some payload.now)) self.old self.new }
         ensures notice { self.new.notice ≡ self.old.notice }
         ensures window { self.new.window ≡ self.old.window }
     {
@@ -353,13 +353,13 @@ impl<M: Modulus> Station<M> {
         }
     }
 
-    fn i_at(&mut self, ns: u8, pf: bool, payload: Payload, below: u64, now: u64)
+    fn i_at(&mut self, ns: u8, pf: bool, payload: &Payload, below: u64, now: u64)
         requires now { now ≤ COUNT_MAX }
         requires outs { self.old.outs.items ≡ [] }
         requires size { self.old.window < M.SIZE }
         requires from { self.old.acked ≤ below }
         requires to { below ≤ self.old.sent }
-        ensures does { Does M.SIZE (moves.i_at now pf ns payload below) self.old self.new }
+        ensures does { Does M.SIZE (moves.i_at now pf ns payload.now below) self.old self.new }
         ensures notice { self.new.notice ≡ self.old.notice }
         ensures window { self.new.window ≡ self.old.window }
     {

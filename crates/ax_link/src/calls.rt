@@ -4,6 +4,7 @@ ghost use Rattle.radio_base.specs.declared.modulus.TheConstants.{COUNT_MAX};
 ghost use Rattle.ax_link.specs.Opening.{IsDrained, opening, rules_new, window_used};
 
 use crate::early::empty;
+use crate::moves::copy_of;
 use crate::plain::{LinkConfig, LinkPhase, SendRefusal};
 use crate::station::{INBOX, QUEUE, Station, push};
 use circular_buffer::HeapCircularBuffer;
@@ -93,11 +94,11 @@ impl<M: Modulus> Station<M> {
         }
     }
 
-    pub(crate) fn send(&mut self, payload: Payload, now: u64) -> Result<(), SendRefusal>
+    pub(crate) fn send(&mut self, payload: &Payload, now: u64) -> Result<(), SendRefusal>
         requires now { now ≤ COUNT_MAX }
         requires outs { self.old.outs.items ≡ [] }
         ensures answer { result ≡ send_answer (view_of self.old) }
-        ensures does { OnOk result (Does M.SIZE (table.accept now payload) self.old self.new) }
+        ensures does { OnOk result (Does M.SIZE (table.accept now payload.now) self.old self.new) }
         ensures err { OnErr result (view_of self.new ≡ view_of self.old) }
         ensures window { self.new.window ≡ self.old.window }
     {
@@ -114,25 +115,25 @@ impl<M: Modulus> Station<M> {
         Ok(())
     }
 
-    fn accept(&mut self, payload: Payload, now: u64)
+    fn accept(&mut self, payload: &Payload, now: u64)
         requires now { now ≤ COUNT_MAX }
         requires outs { self.old.outs.items ≡ [] }
         requires room { length self.old.queue.items < 128 }
         requires numbers { self.old.acked + length self.old.queue.items < COUNT_MAX }
-        ensures does { Does M.SIZE (table.accept now payload) self.old self.new }
+        ensures does { Does M.SIZE (table.accept now payload.now) self.old self.new }
         ensures window { self.new.window ≡ self.old.window }
     {
         self.enqueue(payload);
         self.fill(now);
     }
 
-    fn enqueue(&mut self, payload: Payload)
+    fn enqueue(&mut self, payload: &Payload)
         requires room { length self.old.queue.items < 128 }
         requires numbers { self.old.acked + length self.old.queue.items < COUNT_MAX }
-        ensures does { Does M.SIZE (enqueue payload) self.old self.new }
+        ensures does { Does M.SIZE (enqueue payload.now) self.old self.new }
         ensures adds { Adds 0 (view_of self.old) (view_of self.new) }
     {
-        push(&mut self.queue, payload);
+        push(&mut self.queue, copy_of(payload));
     }
 
     fn may_close(&self) -> bool

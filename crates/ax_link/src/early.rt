@@ -1,6 +1,6 @@
 //! Payloads that came before their turn (AX.25 2.2, section 6.4.4.2).
-ghost use Rattle.std.specs.Prelude.{◌≡◌, ℕ, List, ◌+◌, ◌-◌, ◌*◌, ◌%◌, ◌≤◌, ◌<◌, length, replicate, slice_get, false, None, IfSome};
-ghost use Rattle.circular_buffer.specs.Buffer.{buffer};
+ghost use Rattle.std.specs.Prelude.{◌≡◌, ℕ, List, ◌+◌, ◌-◌, ◌*◌, ◌%◌, ◌≤◌, ◌<◌, ◌++◌, ◌∷◌, [], length, replicate, slice_get, false, None, IfSome};
+ghost use Rattle.circular_buffer.specs.Buffer.{buffer, keep_last};
 ghost use Rattle.radio_base.specs.declared.modulus.TheConstants.{COUNT_MAX};
 ghost use Rattle.ax_link.specs.State as state;
 ghost use Rattle.ax_link.specs.Stations.{is_filled, with_early};
@@ -46,14 +46,26 @@ fn top(early: &Places) -> usize
 }
 
 /// Keeps a payload, where none is kept in its place.
-fn keep(early: &mut Places, place: usize, payload: Payload)
-    ensures { early.new ≡ buffer (with_early place payload early.old.items) early.old.capacity }
+fn keep(early: &mut Places, place: usize, payload: &Payload)
+    ensures { early.new ≡ buffer (with_early place payload.now early.old.items) early.old.capacity }
 {
     if let Some(kept) = early.get_mut(place) {
         if kept.is_none() {
-            *kept = Some(payload);
+            *kept = Some(copy_of(payload));
         }
     }
+}
+
+/// What came early is one place nearer. The places are full, so that the first one leaves.
+fn bring_nearer(early: &mut Places)
+    requires { length early.old.items ≡ early.old.capacity }
+    ensures { early.new ≡ buffer (keep_last early.old.capacity (early.old.items ++ None ∷ [])) early.old.capacity }
+{
+    // A link that asks for no single payloads has no places.
+    if early.is_empty() {
+        return;
+    }
+    let _ = early.push_back(None);
 }
 
 impl<M: Modulus> Station<M> {
@@ -65,16 +77,15 @@ impl<M: Modulus> Station<M> {
     ghost use Rattle.ax_link.specs.Stations.{Does, ask_for_each, view_of, keep_early, ask_for_missing, move_on, take_next_payload};
 
     /// Takes the next payload: what came early is one place nearer.
-    pub(crate) fn take_next(&mut self, payload: Payload)
+    pub(crate) fn take_next(&mut self, payload: &Payload)
         requires busy { length self.old.inbox.items < 64 }
         requires more { self.old.got < COUNT_MAX }
-        ensures does { Does M.SIZE (take_next_payload payload) self.old self.new }
+        ensures does { Does M.SIZE (take_next_payload payload.now) self.old self.new }
         ensures adds { Adds 0 (view_of self.old) (view_of self.new) }
     {
-        push(&mut self.inbox, payload);
+        push(&mut self.inbox, copy_of(payload));
         self.got += 1;
-        // The places are full, so that the first one leaves.
-        let _ = self.early.push_back(None);
+        bring_nearer(&mut self.early);
     }
 
     /// The early payload that is next, where it may be taken.
@@ -99,7 +110,7 @@ impl<M: Modulus> Station<M> {
     {
         for done in 0..self.early.len() {
             match self.next_early() {
-                Some(payload) => self.take_next(payload),
+                Some(payload) => self.take_next(&payload),
                 None => return,
             }
         }
@@ -165,20 +176,20 @@ impl<M: Modulus> Station<M> {
     }
 
     /// Keeps the payload of this number, where none is kept in its place.
-    fn keep_early(&mut self, number: u64, payload: Payload)
+    fn keep_early(&mut self, number: u64, payload: &Payload)
         requires { self.old.got ≤ number }
-        ensures does { Does M.SIZE (keep_early number payload) self.old self.new }
+        ensures does { Does M.SIZE (keep_early number payload.now) self.old self.new }
         ensures adds { Adds 0 (view_of self.old) (view_of self.new) }
     {
         keep(&mut self.early, (number - self.got) as usize, payload);
     }
 
     /// A payload of the window has come before its turn.
-    pub(crate) fn text_later(&mut self, pf: bool, number: u64, payload: Payload)
+    pub(crate) fn text_later(&mut self, pf: bool, number: u64, payload: &Payload)
         requires room { length self.old.outs.items + self.old.window ≤ 2 * self.old.window + 4 }
         requires from { self.old.got ≤ number }
         requires below { number < self.old.got + self.old.window }
-        ensures does { Does M.SIZE (moves.text_later pf number payload) self.old self.new }
+        ensures does { Does M.SIZE (moves.text_later pf number payload.now) self.old self.new }
         ensures adds { Adds self.old.window (view_of self.old) (view_of self.new) }
     {
         self.ask_for_missing(number);

@@ -8,7 +8,6 @@ ghost use Rattle.ax_link.specs.Standing.{Stands, StandsFor};
 ghost use Rattle.ax_link.specs.Outputs.{CanBeSent};
 ghost use Rattle.ax_link.specs.Opening.{IsDrained, facts_of, opening, rules_new, send_answer};
 
-use crate::moves::copy_of;
 use crate::plain::{LinkConfig, LinkFacts, LinkNotice, LinkOut, SendRefusal};
 use crate::station::Station;
 use ax_frame::Control;
@@ -77,7 +76,7 @@ impl<M: Modulus> Link<M> {
         ensures quiet { OnOk result (self.new.notice ≡ None) }
         ensures err { OnErr result (self.new ≡ self.old) }
     {
-        self.station.send(copy_of(payload), moment(now))
+        self.station.send(payload, moment(now))
     }
 
     /// Takes in a frame of the other station.

@@ -17,10 +17,10 @@ impl<M: Modulus> Station<M> {
     ghost use Rattle.ax_link.specs.Stations.{Does, view_of, take_plain, text_next};
 
     /// A payload has come with this number on the air.
-    pub(crate) fn text(&mut self, pf: bool, ns: u8, payload: Payload)
+    pub(crate) fn text(&mut self, pf: bool, ns: u8, payload: &Payload)
         requires room { length self.old.outs.items + self.old.window ≤ 2 * self.old.window + 4 }
         requires size { self.old.window < M.SIZE }
-        ensures does { Does M.SIZE (moves.text pf ns payload) self.old self.new }
+        ensures does { Does M.SIZE (moves.text pf ns payload.now) self.old self.new }
         ensures adds { Adds self.old.window (view_of self.old) (view_of self.new) }
     {
         if self.got >= COUNT_MAX {
@@ -37,12 +37,12 @@ impl<M: Modulus> Station<M> {
     }
 
     /// Where single payloads are asked for, each one of the window is taken or kept.
-    fn text_in_window(&mut self, pf: bool, ns: u8, payload: Payload)
+    fn text_in_window(&mut self, pf: bool, ns: u8, payload: &Payload)
         requires room { length self.old.outs.items + self.old.window ≤ 2 * self.old.window + 4 }
         requires size { self.old.window < M.SIZE }
         requires busy { length self.old.inbox.items < 64 }
         requires more { self.old.got < COUNT_MAX }
-        ensures does { Does M.SIZE (moves.text_srej pf ns payload) self.old self.new }
+        ensures does { Does M.SIZE (moves.text_srej pf ns payload.now) self.old self.new }
         ensures adds { Adds self.old.window (view_of self.old) (view_of self.new) }
     {
         match self.in_window(ns) {
@@ -51,13 +51,13 @@ impl<M: Modulus> Station<M> {
         }
     }
 
-    fn text_at(&mut self, pf: bool, number: u64, payload: Payload)
+    fn text_at(&mut self, pf: bool, number: u64, payload: &Payload)
         requires room { length self.old.outs.items + self.old.window ≤ 2 * self.old.window + 4 }
         requires busy { length self.old.inbox.items < 64 }
         requires more { self.old.got < COUNT_MAX }
         requires from { self.old.got ≤ number }
         requires below { number < self.old.got + self.old.window }
-        ensures does { Does M.SIZE (moves.text_at pf number payload) self.old self.new }
+        ensures does { Does M.SIZE (moves.text_at pf number payload.now) self.old self.new }
         ensures adds { Adds self.old.window (view_of self.old) (view_of self.new) }
     {
         if self.got < number {
@@ -68,11 +68,11 @@ impl<M: Modulus> Station<M> {
     }
 
     /// The next payload has come, and early ones follow.
-    fn text_next(&mut self, pf: bool, payload: Payload)
+    fn text_next(&mut self, pf: bool, payload: &Payload)
         requires room { length self.old.outs.items + 1 ≤ 2 * self.old.window + 4 }
         requires busy { length self.old.inbox.items < 64 }
         requires more { self.old.got < COUNT_MAX }
-        ensures does { Does M.SIZE (text_next pf payload) self.old self.new }
+        ensures does { Does M.SIZE (text_next pf payload.now) self.old self.new }
         ensures adds { Adds 1 (view_of self.old) (view_of self.new) }
     {
         self.take_next(payload);
@@ -81,11 +81,11 @@ impl<M: Modulus> Station<M> {
     }
 
     /// Without single payloads being asked for, only the next one is taken.
-    fn text_in_turn(&mut self, pf: bool, ns: u8, payload: Payload)
+    fn text_in_turn(&mut self, pf: bool, ns: u8, payload: &Payload)
         requires room { length self.old.outs.items + 1 ≤ 2 * self.old.window + 4 }
         requires busy { length self.old.inbox.items < 64 }
         requires more { self.old.got < COUNT_MAX }
-        ensures does { Does M.SIZE (moves.text_plain pf ns payload) self.old self.new }
+        ensures does { Does M.SIZE (moves.text_plain pf ns payload.now) self.old self.new }
         ensures adds { Adds 1 (view_of self.old) (view_of self.new) }
     {
         if ns == M::wire(self.got) {
@@ -96,10 +96,10 @@ impl<M: Modulus> Station<M> {
         }
     }
 
-    fn take_in(&mut self, payload: Payload)
+    fn take_in(&mut self, payload: &Payload)
         requires busy { length self.old.inbox.items < 64 }
         requires more { self.old.got < COUNT_MAX }
-        ensures does { Does M.SIZE (take_plain payload) self.old self.new }
+        ensures does { Does M.SIZE (take_plain payload.now) self.old self.new }
         ensures adds { Adds 0 (view_of self.old) (view_of self.new) }
     {
         self.take_next(payload);

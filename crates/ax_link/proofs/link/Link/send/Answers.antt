@@ -9,7 +9,7 @@ use Rattle.ax_link.proofs.link.Link.send.Goals as goal
 
 pub returns-clause-does : goal.returns-clause-does
 returns-clause-does g c =
-    rw (← c.self.view_is, ← c.copy_of.ensures)
+    rw (← c.self.view_is)
     (on_ok c.send.result _ _
     (λ is does. within g.M.Modulus.SIZE (view_of c.self.inside.station) _ (table.Send _) c.args.now.0
     (accepts g.M.Modulus.SIZE (view_of c.self.inside.station) _ _ _ _ (rw (← c.self.view_is) at c.requires) c.moment.ensures (sym c.send.ensures.answer ∙ is) does))

@@ -5,4 +5,4 @@ use Rattle.ax_link.proofs.station.Station.take_next.Goals as goal
 
 pub returns-clause-does : goal.returns-clause-does
 returns-clause-does g c =
-    takes_next g.M.Modulus.SIZE (view_of c.args.self.now) _ c.args.payload _ c.args.self.now.early_places (rw (c.push.ensures, c.push_back.ensures.items) refl)
+    takes_next g.M.Modulus.SIZE (view_of c.args.self.now) _ c.args.payload.now _ c.args.self.now.early_places (rw (c.push.ensures, c.copy_of.ensures, c.bring_nearer.ensures) refl)
