@@ -113,13 +113,12 @@ pub(crate) fn datagram_of(head: &DatagramHead, transport: &[u8]) -> Datagram
     datagram
 }
 
-/// The datagram with another time to live.
-pub(crate) fn with_ttl(mut datagram: Datagram, ttl: u8) -> Datagram
-    requires { 15 ≤ length datagram.items }
-    ensures { result ≡ with_ttl datagram ttl }
+/// Gives a datagram another time to live.
+pub(crate) fn set_ttl(datagram: &mut Datagram, ttl: u8)
+    requires { 15 ≤ length datagram.old.items }
+    ensures { datagram.new ≡ with_ttl datagram.old ttl }
 {
     datagram[TTL_AT] = ttl;
-    datagram
 }
 
 /// A datagram of the same octets.

@@ -2,7 +2,7 @@
 ghost use Rattle.std.specs.Prelude.{◌≡◌, ◌≤◌, ◌↔◌, drop, length, IfOk, IsErr, IsTrue, true, false, None, [], ◌∷◌};
 ghost use Rattle.std.specs.Borrow.{Lends, sem};
 
-use crate::datagram::{datagram_of, with_ttl};
+use crate::datagram::{datagram_of, set_ttl};
 use crate::{Carrier, Datagram, DatagramHead, Offered, Routed, Sending, read_datagram};
 use ax_address::Call;
 use radio_base::{Moment, NoMemory};
@@ -124,7 +124,7 @@ impl<C: Carrier> Router<C> {
     }
 
     /// The routing step: what becomes of a datagram that came.
-    fn route(&mut self, datagram: Datagram, now: Moment) -> Result<Routed, NoMemory>
+    fn route(&mut self, mut datagram: Datagram, now: Moment) -> Result<Routed, NoMemory>
         requires { self.old.spent ≡ false }
         ensures routes { IfOk result (Routes C.made self.old self.new datagram now.0) }
         ensures mine { IfOk result (MineIsFor self.old.own) }
@@ -151,7 +151,7 @@ impl<C: Carrier> Router<C> {
         match self.table.next_hop(&head.dest) {
             None => Ok(Routed::NoRoute),
             Some(hop) => {
-                let datagram = with_ttl(datagram, head.ttl - 1);
+                set_ttl(&mut datagram, head.ttl - 1);
                 match self.offer(&hop, &datagram, now)? {
                     Offered::Taken => Ok(Routed::Forwarded),
                     Offered::Dropped => Ok(Routed::Dropped),
