@@ -82,18 +82,21 @@ impl Machine {
                 rx,
                 flags,
                 text,
-            } => self.hear_info(*tx, *rx, *flags, piece_of(text.as_slice(), flags.more), now),
+            } => {
+                let piece = piece_of(text.as_slice(), flags.more);
+                self.hear_info(*tx, *rx, *flags, &piece, now);
+            }
             Transport::InfoAck { to: _, rx, flags } => self.hear_info_ack(*rx, *flags, now),
             Transport::Disconnect { to: _ } => self.closed_by_partner(),
             _ => {}
         }
     }
 
-    fn hear_info(&mut self, tx: u8, rx: u8, flags: Flags, piece: Piece, now: u64)
+    fn hear_info(&mut self, tx: u8, rx: u8, flags: Flags, piece: &Piece, now: u64)
         requires now { now ≤ COUNT_MAX }
         requires outs { self.old.outs.items ≡ [] }
         requires notice { self.old.notice ≡ None }
-        ensures does { Does (table.hear_info now tx rx flags piece) self.old self.new }
+        ensures does { Does (table.hear_info now tx rx flags piece.now) self.old self.new }
         ensures config { self.new.config ≡ self.old.config }
     {
         self.last_active = now;

@@ -8,7 +8,7 @@ ghost use Rattle.circuit_l4.specs.Receiving.{Receiving};
 ghost use Rattle.circuit_l4.specs.Halves.{IsReceiving, Takes, receipt_answer, first_or, moved_answer, take_message, whole_answer, with_answer};
 
 use crate::messages::Messages;
-use crate::piece::{BUSY_AT, Piece, piece_of};
+use crate::piece::{BUSY_AT, Piece, copy_of};
 use circuit_reassembly::{FRAGMENT, Gather, Gathered, Oversize};
 use circular_buffer::HeapCircularBuffer;
 use l3_datagram::Message;
@@ -102,11 +102,11 @@ impl Incoming {
     }
 
     /// A fragment has come with this number on the air. Answers whether the next one expected has to be asked for.
-    pub(crate) fn receive(&mut self, window: u64, tx: u8, piece: Piece) -> Result<bool, Oversize>
+    pub(crate) fn receive(&mut self, window: u64, tx: u8, piece: &Piece) -> Result<bool, Oversize>
         requires window { window ≤ length self.old.early }
         requires numbers { window ≤ 256 }
-        ensures does { (r : Receiving) → IsReceiving self.old r → IsReceiving self.new (spec.receive window tx piece r).half }
-        ensures answer { (r : Receiving) → IsReceiving self.old r → result ≡ receipt_answer (spec.receive window tx piece r) }
+        ensures does { (r : Receiving) → IsReceiving self.old r → IsReceiving self.new (spec.receive window tx piece.now r).half }
+        ensures answer { (r : Receiving) → IsReceiving self.old r → result ≡ receipt_answer (spec.receive window tx piece.now r) }
         ensures places { length self.new.early ≡ length self.old.early }
     {
         if !self.takes() {
@@ -119,11 +119,11 @@ impl Incoming {
     }
 
     /// The fragment of this number has come.
-    fn receive_at(&mut self, number: u64, piece: Piece) -> Result<bool, Oversize>
+    fn receive_at(&mut self, number: u64, piece: &Piece) -> Result<bool, Oversize>
         requires takes { Takes self.old }
         requires from { self.old.got ≤ number }
-        ensures does { (r : Receiving) → IsReceiving self.old r → IsReceiving self.new (spec.receive_at number piece r).half }
-        ensures answer { (r : Receiving) → IsReceiving self.old r → result ≡ receipt_answer (spec.receive_at number piece r) }
+        ensures does { (r : Receiving) → IsReceiving self.old r → IsReceiving self.new (spec.receive_at number piece.now r).half }
+        ensures answer { (r : Receiving) → IsReceiving self.old r → result ≡ receipt_answer (spec.receive_at number piece.now r) }
         ensures places { length self.new.early ≡ length self.old.early }
     {
         if self.got < number {
@@ -134,10 +134,10 @@ impl Incoming {
     }
 
     /// A fragment has come before its turn: the next one expected is asked for, once.
-    fn receive_early(&mut self, number: u64, piece: Piece) -> bool
+    fn receive_early(&mut self, number: u64, piece: &Piece) -> bool
         requires { self.old.got ≤ number }
-        ensures does { (r : Receiving) → IsReceiving self.old r → IsReceiving self.new (spec.receive_early number piece r).half }
-        ensures answer { (r : Receiving) → IsReceiving self.old r → result ≡ (spec.receive_early number piece r).nak }
+        ensures does { (r : Receiving) → IsReceiving self.old r → IsReceiving self.new (spec.receive_early number piece.now r).half }
+        ensures answer { (r : Receiving) → IsReceiving self.old r → result ≡ (spec.receive_early number piece.now r).nak }
         ensures places { length self.new.early ≡ length self.old.early }
     {
         keep(&mut self.early, (number - self.got) as usize, piece);
@@ -147,13 +147,13 @@ impl Incoming {
     }
 
     /// The next fragment has come.
-    fn receive_next(&mut self, piece: Piece) -> Result<bool, Oversize>
+    fn receive_next(&mut self, piece: &Piece) -> Result<bool, Oversize>
         requires { Takes self.old }
-        ensures does { (r : Receiving) → IsReceiving self.old r → IsReceiving self.new (spec.receive_next piece r).half }
-        ensures answer { (r : Receiving) → IsReceiving self.old r → result ≡ receipt_answer (spec.receive_next piece r) }
+        ensures does { (r : Receiving) → IsReceiving self.old r → IsReceiving self.new (spec.receive_next piece.now r).half }
+        ensures answer { (r : Receiving) → IsReceiving self.old r → result ≡ receipt_answer (spec.receive_next piece.now r) }
         ensures places { length self.new.early ≡ length self.old.early }
     {
-        self.append(&piece)?;
+        self.append(piece)?;
         self.move_on()?;
         Ok(false)
     }
@@ -184,7 +184,7 @@ impl Incoming {
             return None;
         }
         match self.early.front() {
-            Some(Some(piece)) => Some(piece_of(piece.text.as_slice(), piece.more)),
+            Some(Some(piece)) => Some(copy_of(piece)),
             _ => None,
         }
     }
@@ -231,12 +231,12 @@ fn empty_places(alloc: Global, many: u8) -> Result<Places, NoMemory>
 }
 
 /// Keeps a fragment, where none is kept in its place.
-fn keep(early: &mut Places, place: usize, piece: Piece)
-    ensures { early.new ≡ buffer (spec.keep place piece early.old.items) early.old.capacity }
+fn keep(early: &mut Places, place: usize, piece: &Piece)
+    ensures { early.new ≡ buffer (spec.keep place piece.now early.old.items) early.old.capacity }
 {
     if let Some(kept) = early.get_mut(place) {
         if kept.is_none() {
-            *kept = Some(piece);
+            *kept = Some(copy_of(piece));
         }
     }
 }

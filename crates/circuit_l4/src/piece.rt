@@ -23,3 +23,10 @@ pub(crate) fn piece_of(bytes: &[u8], more: bool) -> Piece
     let _ = text.try_extend_from_slice(bytes);
     Piece { text, more }
 }
+
+/// A fragment of the same bytes.
+pub(crate) fn copy_of(piece: &Piece) -> Piece
+    ensures { result ≡ piece.now }
+{
+    piece_of(piece.text.as_slice(), piece.more)
+}

@@ -39,11 +39,11 @@ impl Machine {
     }
 
     /// An information message: its acknowledgement first, then its text.
-    pub(crate) fn on_info(&mut self, tx: u8, rx: u8, flags: Flags, piece: Piece, now: u64)
+    pub(crate) fn on_info(&mut self, tx: u8, rx: u8, flags: Flags, piece: &Piece, now: u64)
         requires now { now ≤ COUNT_MAX }
         requires outs { self.old.outs.items ≡ [] }
         requires notice { self.old.notice ≡ None }
-        ensures does { Does (moves.on_info now tx rx flags piece) self.old self.new }
+        ensures does { Does (moves.on_info now tx rx flags piece.now) self.old self.new }
         ensures config { self.new.config ≡ self.old.config }
     {
         let owed = self.acknowledge(rx, flags, now);
@@ -54,10 +54,10 @@ impl Machine {
     }
 
     /// The text of a message has come. Answers whether a negative acknowledgement is owed.
-    fn receive(&mut self, tx: u8, piece: Piece) -> Result<bool, Oversize>
+    fn receive(&mut self, tx: u8, piece: &Piece) -> Result<bool, Oversize>
         ensures does { (g : Effect) → Stands (view_of self.old) g →
-            Stands (view_of self.new) (moves.with_receiving (receive g.end.window tx piece g.end.receiving).half g)
-            × (result ≡ receipt_answer (receive g.end.window tx piece g.end.receiving)) }
+            Stands (view_of self.new) (moves.with_receiving (receive g.end.window tx piece.now g.end.receiving).half g)
+            × (result ≡ receipt_answer (receive g.end.window tx piece.now g.end.receiving)) }
         ensures adds { Adds 0 self.old self.new }
         ensures outgoing { self.new.outgoing ≡ self.old.outgoing }
     {

@@ -8,7 +8,7 @@ use Rattle.circuit_l4.proofs.machine.Machine.arrive_up.Goals as goal
 pub returns-in-Info-clause-does : goal.returns-in-Info-clause-does
 returns-in-Info-clause-does c = λ g h.
     let note_activity = c.in-Info in
-    let piece : c.piece_of.result ≡ record { text = note_activity.text; more = note_activity.flags.more } =
-    c.piece_of.ensures ∙ ap (λ (bytes : List ℕ). record { text = record { items = bytes }; more = note_activity.flags.more }) c.as_slice.ensures.value in
+    let piece : c.piece_of-piece.result ≡ record { text = note_activity.text; more = note_activity.flags.more } =
+    c.piece_of-piece.ensures ∙ ap (λ (bytes : List ℕ). record { text = record { items = bytes }; more = note_activity.flags.more }) c.as_slice.ensures.value in
     subst (λ (t : Transport). Stands (view_of c.hear_info.new.self) (arrive_up c.args.now t g)) (sym note_activity.is)
     (subst (λ (p : Piece). Stands (view_of c.hear_info.new.self) (hear_info c.args.now note_activity.tx note_activity.rx note_activity.flags p g)) piece (c.hear_info.ensures.does g h))
