@@ -64,6 +64,21 @@ module _ (nh : Callsign → Option Callsign) (now : ℕ) (s : SetState) where
       ∙ ap (λ (q : Pumped). after_calls (Fail None ∷ Collect (Some p) ∷ offer_of t now (pick r a b)) q) (picked r a b)
       ∙ ap (λ (u : Turned). after_calls (Fail None ∷ Collect (Some p) ∷ offer_of t now (pick r a b)) (tells_on nh now u (pick r a b))) (sym (way_outcome w r a b e))
 
+-- nothing lies at the router, which isn't asked
+module _ {C : Type 0} (made : C → List CarrierCall → C → Type 0) (old : Circuits C) (log : List Item) (now : ℕ) (s : SetState) where
+  pub asks_idle : (a : Offered) (lost : List Callsign) (waiting : List Parcel) → lost ≡ [] → waiting ≡ [] → made old.router.carrier (Fail None ∷ Collect None ∷ []) old.router.carrier
+      → StandsFor old.router.table log → SetStands old (at_rest s) → DoesPump made old old log None (asks_once (next_hop old.router.table.rules log) now s lost waiting a)
+  asks_idle a lost waiting e f calls stands st =
+      let nh : Callsign → Option Callsign = next_hop old.router.table.rules log in
+      let done : DoesPump made old old log None (asks_once nh now s [] [] a) = record {
+        told = refl;
+        calls = calls;
+        table = subst (λ (items : List Item). StandsFor old.router.table items) (sym (append-nil log)) stands;
+        stands = st;
+      } in
+      subst (λ (l : List Callsign). DoesPump made old old log None (asks_once nh now s l waiting a)) (sym e)
+      (subst (λ (w : List Parcel). DoesPump made old old log None (asks_once nh now s [] w a)) (sym f) done)
+
 module _ {C : Type 0} (made : C → List CarrierCall → C → Type 0) (more_made : (a b c : C) (calls more : List CarrierCall) → made a calls b → made b more c → made a (calls ++ more) c)
     (old new : Circuits C) (r1 : Routing C) (log : List Item) (now : ℕ) (s : SetState) (st : SetStands old (at_rest s)) (same : SameRouter old.router r1) where
   abbrev nh_of : RouteRules → Callsign → Option Callsign

@@ -147,6 +147,10 @@ impl<C: Carrier> CircuitSet<C> {
         ensures router { OnOk result (SameRouter self.old.router self.new.router) }
         ensures spent { OnOk result (self.new.spent ≡ self.old.spent) }
     {
+        // So it mostly is once something was taken, and then no room is made for what the router could bring.
+        if self.router.is_idle() {
+            return Ok(Asked::Idle);
+        }
         match self.router.pump(now)? {
             Some(routed) => {
                 let told = self.take_in(routed, now)?;
