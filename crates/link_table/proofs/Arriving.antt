@@ -24,7 +24,8 @@ use Rattle.link_table.specs.Calls.{answer, answer_down, back, end, made, most_li
 use Rattle.link_table.specs.Frames.{all_sent, fitting, head_to, sent}
 use Rattle.link_table.specs.Standing.{CoreGoes, CoreStands, is_wide, size_of, wide_at, wide_by, width}
 use Rattle.link_table.specs.Table.{Table}
-use Rattle.link_table.proofs.Links.{Found, append_none, entry_looks, found, none_found, same_length, some_looks}
+use Rattle.link_table.proofs.Links.{Found, found, none_found}
+use Rattle.link_table.proofs.LinkOffers.{append_none, entry_looks, same_length, some_looks}
 
 module _ (own peer : Callsign) (path : ArrayVec Address) (rules : Rules) (now : ℕ) (pid : Option ℕ) (info : List ℕ) where
   abbrev Same : Control → Type 0

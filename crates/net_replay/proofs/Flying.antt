@@ -43,7 +43,8 @@ use Rattle.net_replay.specs.World as worlds
 use Rattle.net_replay.specs.World.{Bytes, Input, Time, World, after, aired, aired_as, air_events, all_fetched_of, all_told, numbered, place_of, put, put_of, reach, reaches, tell}
 use Rattle.net_replay.proofs.Containing.{AreApart, Contains, IsQuiet, Tracks, TracksAt, comes_contains, events_append, name_at, names, quiet_contains, sets_run}
 use Rattle.net_replay.proofs.LineWalks.{IsPlain, Moves}
-use Rattle.net_replay.proofs.Moving.{placed, put_comes, quiet_air, reach_comes, restart_comes, told_entries}
+use Rattle.net_replay.proofs.Moving.{placed, told_entries}
+use Rattle.net_replay.proofs.MovesRun.{put_comes, quiet_air, reach_comes, restart_comes}
 use Rattle.net_replay.proofs.Traced.{IsRested, StepsTraced, inputs_send, inputs_traced, items_carried, rested_then, sent_both, sent_by, traced_both}
 
 -- ---- lists

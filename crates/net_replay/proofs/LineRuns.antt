@@ -23,7 +23,8 @@ use Rattle.net_replay.specs.World.{Bytes, Time, World, answer, place_of, put, re
 use Rattle.net_replay.proofs.Containing.{AreApart, Contains, Tracks, TracksAt, events_by, events_named, is_named, names, net_sets, sets_run}
 use Rattle.ax_address.specs.Callsign.{Callsign}
 use Rattle.net_replay.proofs.LineWalks.{IsPlain, LineIs, Moves, lines_lead}
-use Rattle.net_replay.proofs.Moving.{Leads, new_tracks, put_leads, reach_leads, restart_leads, set_is, still, tell_leads, then}
+use Rattle.net_replay.proofs.Moving.{new_tracks, set_is}
+use Rattle.net_replay.proofs.MovesRun.{Leads, put_leads, reach_leads, restart_leads, still, tell_leads, then}
 
 -- ---- no two nodes have one number
 

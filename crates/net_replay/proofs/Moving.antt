@@ -76,7 +76,7 @@ abbrev pub told_entries : ℕ → ℕ → List states.Entry → List NumberedEve
 told_entries line number entries = map (numbered line) (map (events.Entry number) entries)
 
 -- the number of ends that a node ever made grows as it tells
-made_length : (line number : ℕ) (entries : List states.Entry) (first next : ℕ) (ends : List EndRecord) → MadeFrom first (circuits_told entries) next
+pub made_length : (line number : ℕ) (entries : List states.Entry) (first next : ℕ) (ends : List EndRecord) → MadeFrom first (circuits_told entries) next
     → length (note_events number (told_entries line number entries) ends) + first ≡ length ends + next
 made_length line number [] first next ends m = let e : next ≡ first = m in omega (arith, e)
 made_length line number (states.Of_set (pumps.Of t) ∷ es) first next ends m =
@@ -98,23 +98,23 @@ skipped : (n number : ℕ) (e : states.Entry) (ends : List EndRecord) → n ≢ 
 skipped n number e ends d = ap (λ b. cond b (note_entry e ends) ends) (other_number n number d)
 
 -- no other node's ends
-entries_other : (line number n : ℕ) (entries : List states.Entry) (ends : List EndRecord) → n ≢ number → note_events n (told_entries line number entries) ends ≡ ends
+pub entries_other : (line number n : ℕ) (entries : List states.Entry) (ends : List EndRecord) → n ≢ number → note_events n (told_entries line number entries) ends ≡ ends
 entries_other line number n [] ends d = refl
 entries_other line number n (e ∷ es) ends d =
     ap (note_events n (told_entries line number es)) (skipped n number e ends d) ∙ entries_other line number n es ends d
 
 -- what is told of circuits, where the node stands at this place
-abbrev TellsAt : List Declaration → ℕ → ℕ → Callsign → Type 0
+abbrev pub TellsAt : List Declaration → ℕ → ℕ → Callsign → Type 0
 TellsAt ds number at call = (line : ℕ) (told : Told) → told_by ds line number told ≡ record { line = line; event = record { node = at; own = call; told = told } } ∷ []
 
-tells_at : (ds : List Declaration) (number at : ℕ) (d : Declaration) → position_or_len (is_named number) ds ≡ at → slice_get ds at ≡ Some d → TellsAt ds number at d.call
+pub tells_at : (ds : List Declaration) (number at : ℕ) (d : Declaration) → position_or_len (is_named number) ds ≡ at → slice_get ds at ≡ Some d → TellsAt ds number at d.call
 tells_at ds number at d p e line told =
     ap (λ k. at_name line k (slice_get ds k) told) p ∙ ap (λ o. at_name line at o told) e
 
-abbrev event : CircuitEvent → books.Event
+abbrev pub event : CircuitEvent → books.Event
 event e = e.event
 
-entries_tell : (ds : List Declaration) (line number at : ℕ) (call : Callsign) → TellsAt ds number at call → (entries : List states.Entry)
+pub entries_tell : (ds : List Declaration) (line number at : ℕ) (call : Callsign) → TellsAt ds number at call → (entries : List states.Entry)
     → map event (events_by ds (told_entries line number entries)) ≡ net.events_at at call (circuits_told entries)
 entries_tell ds line number at call t [] = refl
 entries_tell ds line number at call t (states.Of_set (pumps.Of told) ∷ es) =
@@ -127,7 +127,7 @@ entries_tell ds line number at call t (states.Overflow live would_be ∷ es) = e
 
 -- ---- what a restart tells: the ends that are held, by number
 
-abbrev lost_events : ℕ → List Holder → List Event
+abbrev pub lost_events : ℕ → List Holder → List Event
 lost_events number [] = []
 lost_events number (h ∷ hs) = cond h.gone (lost_events number hs) (events.Lost number h.id (facts_of h.end) ∷ lost_events number hs)
 
@@ -183,7 +183,7 @@ losses_from number (suc count) lo full [] a r =
     ∙ losses_from number count (lo + 1) full [] (λ id k. a id (omega (arith, k))) (omega arith)
 losses_from number (suc count) lo full (h ∷ hs) a r = losses_case number count lo full h hs (λ lo2 ends. losses_from number count lo2 full ends) a r (nat_eq h.id lo) refl
 
-losses_are : (number made base : ℕ) (ends : List Holder) → 1 ≤ base → Rising base ends (made + 1) → losses_of number made ends ≡ lost_events number ends
+pub losses_are : (number made base : ℕ) (ends : List Holder) → 1 ≤ base → Rising base ends (made + 1) → losses_of number made ends ≡ lost_events number ends
 losses_are number made base ends some r =
     losses_from number made 1 ends ends (λ id k. refl)
     (subst (λ n. Rising 1 ends n) (let n : made + 1 ≡ 1 + made = omega arith in n) (rising_more base 1 (made + 1) ends some r))
@@ -197,7 +197,7 @@ lost_case ds line number at call t h hs false rest =
     ap (λ xs. map event (xs ++ events_by ds (map (numbered line) (lost_events number hs)))) (t line (sets.Lost h.id (facts_of h.end)))
     ∙ ap (λ xs. record { node = at; own = call; told = sets.Lost h.id (facts_of h.end) } ∷ xs) rest
 
-lost_tell : (ds : List Declaration) (line number at : ℕ) (call : Callsign) → TellsAt ds number at call → (hs : List Holder)
+pub lost_tell : (ds : List Declaration) (line number at : ℕ) (call : Callsign) → TellsAt ds number at call → (hs : List Holder)
     → map event (events_by ds (map (numbered line) (lost_events number hs))) ≡ net.events_at at call (losses hs)
 lost_tell ds line number at call t [] = refl
 lost_tell ds line number at call t (h ∷ hs) = lost_case ds line number at call t h hs h.gone (lost_tell ds line number at call t hs)
@@ -211,7 +211,7 @@ lost_length_case line number h hs ends false rest =
     rest (note_event number (events.Lost number h.id (facts_of h.end)) ends)
     ∙ (ap (λ b. length (cond b (with_outcome (outcomes.Lost (facts_of h.end)) (h.id - 1) ends) ends)) (same_number number) ∙ outcome_length _ _ ends)
 
-lost_length : (line number : ℕ) (hs : List Holder) (ends : List EndRecord) → length (note_events number (map (numbered line) (lost_events number hs)) ends) ≡ length ends
+pub lost_length : (line number : ℕ) (hs : List Holder) (ends : List EndRecord) → length (note_events number (map (numbered line) (lost_events number hs)) ends) ≡ length ends
 lost_length line number [] ends = refl
 lost_length line number (h ∷ hs) ends = lost_length_case line number h hs ends h.gone (lost_length line number hs)
 
@@ -223,7 +223,7 @@ lost_other_case line number n h hs ends false d rest =
     rest (note_event n (events.Lost number h.id (facts_of h.end)) ends)
     ∙ ap (λ b. cond b (with_outcome (outcomes.Lost (facts_of h.end)) (h.id - 1) ends) ends) (other_number n number d)
 
-lost_other : (line number n : ℕ) (hs : List Holder) (ends : List EndRecord) → n ≢ number → note_events n (map (numbered line) (lost_events number hs)) ends ≡ ends
+pub lost_other : (line number n : ℕ) (hs : List Holder) (ends : List EndRecord) → n ≢ number → note_events n (map (numbered line) (lost_events number hs)) ends ≡ ends
 lost_other line number n [] ends d = refl
 lost_other line number n (h ∷ hs) ends d = lost_other_case line number n h hs ends h.gone d (λ es. lost_other line number n hs es d)
 
@@ -272,11 +272,11 @@ new_tracks plan told d pair first base past s lost some low number is =
       config = ap (λ (x : SetState). x.config) set;
     }
 
-all_gone_gone : (hs : List Holder) → AllByRecursion (λ (h : Holder). h.gone ≡ true) (all_gone hs)
+pub all_gone_gone : (hs : List Holder) → AllByRecursion (λ (h : Holder). h.gone ≡ true) (all_gone hs)
 all_gone_gone [] = tt
 all_gone_gone (h ∷ hs) = (refl, all_gone_gone hs)
 
-past_below : (base high : ℕ) (past ends : List Holder) → base ≤ high → AllByRecursion (λ (h : Holder). h.id < base) past → Rising base ends high
+pub past_below : (base high : ℕ) (past ends : List Holder) → base ≤ high → AllByRecursion (λ (h : Holder). h.id < base) past → Rising base ends high
     → AllByRecursion (λ (h : Holder). h.id < high) (all_gone (past ++ ends))
 past_below base high [] [] k a r = tt
 past_below base high [] (h ∷ hs) k a r = (
@@ -286,7 +286,7 @@ past_below base high [] (h ∷ hs) k a r = (
 past_below base high (h ∷ past) ends k a r = (let low : h.id < base = a.0 in omega (arith, low, k), past_below base high past ends k a.1 r)
 
 -- two sets are one where all their parts are
-same_set : (s t : SetState) → s.own ≡ t.own → s.ttl ≡ t.ttl → s.user ≡ t.user → s.config ≡ t.config → s.next ≡ t.next → s.number ≡ t.number → s.ends ≡ t.ends → s ≡ t
+pub same_set : (s t : SetState) → s.own ≡ t.own → s.ttl ≡ t.ttl → s.user ≡ t.user → s.config ≡ t.config → s.next ≡ t.next → s.number ≡ t.number → s.ends ≡ t.ends → s ≡ t
 same_set s t a b c d e f g =
     ap (λ x. record s { own = x }) a
     ∙ (ap (λ x. record s { own = t.own; ttl = x }) b
@@ -297,7 +297,7 @@ same_set s t a b c d e f g =
     ∙ ap (λ x. record s { own = t.own; ttl = t.ttl; user = t.user; config = t.config; next = t.next; number = t.number; ends = x }) g)))))
 
 -- its frames are fetched, and others' events tell nothing of it
-sent_tracks : (plan : Plan) (told told2 : List NumberedEvent) (s : SetState) (p : Placed) → ends_of p.declared.node told2 ≡ ends_of p.declared.node told → Tracks plan told s p
+pub sent_tracks : (plan : Plan) (told told2 : List NumberedEvent) (s : SetState) (p : Placed) → ends_of p.declared.node told2 ≡ ends_of p.declared.node told → Tracks plan told s p
     → Tracks plan told2 s (record p { state = all_fetched_of p.state })
 sent_tracks plan told told2 s p e t = record {
   past = t.past;
@@ -314,167 +314,3 @@ sent_tracks plan told told2 s p e t = record {
   user = t.user;
   config = t.config;
 }
-
--- ---- the moves
-
-module _ (plan : Plan) (apart : AreApart (names (new_nodes plan))) (are_steps : InputsAreSteps) (bytes : BytesRun) (ticks : TicksRun) (acts : ActsRun) where
-  -- one world goes on to another, whatever steps led to it
-  abbrev pub Leads : World → World → Type 0
-  Leads w v = (steps : List Step) → Contains plan steps w.nodes w.told → (more : List Step) × Contains plan (steps ++ more) v.nodes v.told
-
-  pub still : (w : World) → Leads w w
-  still w steps c = ([], subst (λ ss. Contains plan ss w.nodes w.told) (sym (append-nil steps)) c)
-
-  pub then : (u v w : World) → Leads u v → Leads v w → Leads u w
-  then u v w f g steps c =
-      let a = f steps c in
-      let b = g (steps ++ a.0) a.1 in
-      (a.0 ++ b.0, subst (λ ss. Contains plan ss w.nodes w.told) (append_assoc steps a.0 b.0) b.1)
-
-  pub tell_leads : (line : ℕ) (es : List Event) (w : World) → AllByRecursion IsQuiet es → Leads w (tell line es w)
-  tell_leads line es w quiet steps c =
-      ([], subst (λ ss. Contains plan ss w.nodes (w.told ++ map (numbered line) es)) (sym (append-nil steps)) (quiet_contains plan apart are_steps steps w.nodes w.told line es quiet c))
-
-  -- something reaches a node
-  abbrev pub IsInput : Input → Type 0
-  IsInput (worlds.Act act) = IsUserAct act
-  IsInput _ = Unit {0}
-
-  runs_on : (now : ℕ) (input : Input) (n : NodeState) → IsInput input → n.station.set ≡ at_rest n.station.set.set → RunsOn n.station (after now input n).station
-  runs_on now (Bytes b) n i rest = bytes now b n rest
-  runs_on now Time n i rest = ticks now n rest
-  runs_on now (worlds.Act act) n i rest = acts now act n i rest
-
-  pub reach_comes : (steps : List Step) (w : World) (line at : ℕ) (p : Placed) (n : NodeState) → Contains plan steps w.nodes w.told → slice_get w.nodes at ≡ Some p → (t : TracksAt plan w.told (sets_run (first_sets plan) steps) at p)
-      → (r : RunsOn p.state.station n.station) → Comes plan w.told at p (record p { state = all_told n }) t.set r.inputs (told_entries line p.declared.node r.more)
-  reach_comes steps w line at p n c e t r =
-      let k : Tracks plan w.told t.set p = t.tracks in
-      let l : Lifts k.base k.past (set_of p) (runs r.inputs (lift k.past (set_of p))) (runs r.inputs (set_of p)) = runs_lift k.base k.past k.lost r.inputs (set_of p) k.rises in
-      let set : n.station.set.set ≡ (runs r.inputs (set_of p)).set = ap (λ w. w.set) r.set in
-      let run : runs r.inputs t.set ≡ record { set = lift k.past (runs r.inputs (set_of p)).set; told = (runs r.inputs (set_of p)).told } = ap (runs r.inputs) k.is ∙ l.is in
-      let here : TellsAt (names (new_nodes plan)) p.declared.node at p.declared.call =
-      tells_at (names (new_nodes plan)) p.declared.node at p.declared (place_is plan apart are_steps steps w.nodes w.told at p c e) (ap (λ ds. slice_get ds at) (sym c.names_are) ∙ name_at w.nodes at p e) in
-      let long = made_length line p.declared.node r.more (set_of p).number n.station.set.set.number (ends_of p.declared.node w.told) r.made in
-      let was = k.number in
-      record {
-        declared = refl;
-        allowed = r.allowed;
-        up = λ on. r.up;
-        tracks = record {
-          past = k.past;
-          base = k.base;
-          some = k.some;
-          lost = k.lost;
-          is = ap (λ d. d.set) run ∙ ap (lift k.past) (sym set);
-          rises = subst (λ (x : SetState). Rising k.base x.ends x.number) (sym set) l.rises;
-          rest = r.set ∙ ap at_rest (sym set);
-          heard = refl;
-          number =
-              (let is : n.station.set.set.number ≡ length (note_events p.declared.node (told_entries line p.declared.node r.more) (ends_of p.declared.node w.told)) + 1 = omega (arith, long, was) in is)
-              ∙ ap (λ ends. length ends + 1) (sym (note_append p.declared.node w.told (told_entries line p.declared.node r.more) []));
-          own = ap (λ (x : SetState). x.own) set ∙ (l.own ∙ k.own);
-          ttl = ap (λ (x : SetState). x.ttl) set ∙ (l.ttl ∙ k.ttl);
-          user = ap (λ (x : SetState). x.user) set ∙ (l.user ∙ k.user);
-          config = ap (λ (x : SetState). x.config) set ∙ (l.config ∙ k.config);
-        };
-        tells =
-            entries_tell (names (new_nodes plan)) line p.declared.node at p.declared.call here r.more
-            ∙ (ap (net.events_at at p.declared.call) (r.told ∙ sym (ap (λ d. d.told) run))
-            ∙ ap (λ call. net.events_at at call (runs r.inputs t.set).told) (sym (ap (λ (x : SetState). x.own) k.is ∙ k.own)));
-        others = λ m d. note_append m w.told (told_entries line p.declared.node r.more) [] ∙ entries_other line p.declared.node m r.more (ends_of m w.told) d;
-      }
-
-  reach_case : (line at : ℕ) (input : Input) (w : World) (o : Option Placed) → slice_get w.nodes at ≡ o → IsInput input → Leads w (reaches line at input o w)
-  reach_case line at input w None e i steps c = still w steps c
-  reach_case line at input w (Some p) e i steps c =
-      let t : TracksAt plan w.told (sets_run (first_sets plan) steps) at p = c.tracks at p e in
-      let n : NodeState = after w.now input p.state in
-      let r : RunsOn p.state.station n.station = runs_on w.now input p.state i t.tracks.rest in
-      let entries : n.station.entries ≡ r.more = r.entries ∙ ap (λ xs. xs ++ r.more) t.tracks.heard in (
-        steps_at at r.inputs,
-        subst (λ xs. Contains plan (steps ++ steps_at at r.inputs) (slice_set w.nodes at (record p { state = all_told n })) (w.told ++ told_entries line p.declared.node xs)) (sym entries)
-            (comes_contains plan apart are_steps steps w.nodes w.told (told_entries line p.declared.node r.more) at p (record p { state = all_told n }) t.set r.inputs c e t.here
-            (reach_comes steps w line at p n c e t r)),
-      )
-
-  pub reach_leads : (line at : ℕ) (input : Input) (w : World) → IsInput input → Leads w (reach line at input w)
-  unfolding reach
-  reach_leads line at input w i = reach_case line at input w (slice_get w.nodes at) refl i
-
-  -- frames are put in the air
-  pub quiet_air : (count more : ℕ) → AllByRecursion IsQuiet (air_events count more)
-  quiet_air count zero = tt
-  quiet_air count (suc more) = (tt, quiet_air (suc count) more)
-
-  pub put_comes : (told : List NumberedEvent) (line at : ℕ) (p : Placed) (s : SetState) (es : List Event) → AllByRecursion IsQuiet es → Tracks plan told s p
-      → Comes plan told at p (record p { state = all_fetched_of p.state }) s [] (map (numbered line) es)
-  put_comes told line at p s es quiet t = record {
-    declared = refl;
-    allowed = tt;
-    up = λ on. tt;
-    tracks = sent_tracks plan told (told ++ map (numbered line) es) s p (note_append p.declared.node told (map (numbered line) es) [] ∙ quiet_notes p.declared.node line es (ends_of p.declared.node told) quiet) t;
-    tells = ap (map event) (quiet_events (names (new_nodes plan)) line es quiet);
-    others = λ n d. note_append n told (map (numbered line) es) [] ∙ quiet_notes n line es (ends_of n told) quiet;
-  }
-
-  put_case : (channels : List Channel) (line at : ℕ) (came128 : Bool) (w : World) (o : Option Placed) → slice_get w.nodes at ≡ o → Leads w (put_of channels line at came128 o w)
-  put_case channels line at came128 w None e steps c = still w steps c
-  put_case channels line at came128 w (Some p) e steps c =
-      let t : TracksAt plan w.told (sets_run (first_sets plan) steps) at p = c.tracks at p e in
-      let es : List Event = air_events (length w.air) (length (aired channels came128 p)) in (
-        [],
-        comes_contains plan apart are_steps steps w.nodes w.told (map (numbered line) es) at p (record p { state = all_fetched_of p.state }) t.set [] c e t.here
-            (put_comes w.told line at p t.set es (quiet_air (length w.air) (length (aired channels came128 p))) t.tracks),
-      )
-
-  pub put_leads : (channels : List Channel) (line at : ℕ) (came128 : Bool) (w : World) → Leads w (put channels line at came128 w)
-  unfolding put
-  put_leads channels line at came128 w = put_case channels line at came128 w (slice_get w.nodes at) refl
-
-  -- a node starts again
-  pub restart_comes : (steps : List Step) (w : World) (line at : ℕ) (pair : Pair) (p : Placed) → IsPair pair → Contains plan steps w.nodes w.told → slice_get w.nodes at ≡ Some p
-      → (t : TracksAt plan w.told (sets_run (first_sets plan) steps) at p)
-      → Comes plan w.told at p (placed plan p.declared pair (length (ends_of p.declared.node w.told) + 1)) t.set (sets.Restart pair 0 ∷ [])
-      (map (numbered line) (events.Restarted p.declared.node pair ∷ losses_of p.declared.node (length (ends_of p.declared.node w.told)) (set_of p).ends))
-  restart_comes steps w line at pair p is_pair c e t =
-      let k : Tracks plan w.told t.set p = t.tracks in
-      let made : ℕ = length (ends_of p.declared.node w.told) in
-      let number : (set_of p).number ≡ made + 1 = k.number in
-      let rises : Rising k.base (set_of p).ends (made + 1) = subst (λ n. Rising k.base (set_of p).ends n) number k.rises in
-      let low : k.base ≤ made + 1 = rising_le k.base (made + 1) (set_of p).ends rises in
-      let lost : losses_of p.declared.node made (set_of p).ends ≡ lost_events p.declared.node (set_of p).ends = losses_are p.declared.node made k.base (set_of p).ends k.some rises in
-      let here : TellsAt (names (new_nodes plan)) p.declared.node at p.declared.call =
-      tells_at (names (new_nodes plan)) p.declared.node at p.declared (place_is plan apart are_steps steps w.nodes w.told at p c e) (ap (λ ds. slice_get ds at) (sym c.names_are) ∙ name_at w.nodes at p e) in
-      let ends : t.set.ends ≡ k.past ++ (set_of p).ends = ap (λ (x : SetState). x.ends) k.is in
-      let owned : t.set.own ≡ p.declared.call = ap (λ (x : SetState). x.own) k.is ∙ k.own in
-      let told : List Event = events.Restarted p.declared.node pair ∷ lost_events p.declared.node (set_of p).ends in
-      subst (λ xs. Comes plan w.told at p (placed plan p.declared pair (made + 1)) t.set (sets.Restart pair 0 ∷ []) (map (numbered line) (events.Restarted p.declared.node pair ∷ xs))) (sym lost)
-      (record {
-        declared = refl;
-        allowed = (is_pair, tt);
-        up = λ on. absurd on.0;
-        tracks = new_tracks plan (w.told ++ map (numbered line) told) p.declared pair (made + 1) (made + 1) (all_gone (k.past ++ (set_of p).ends)) _
-            (record { gone = all_gone_gone (k.past ++ (set_of p).ends); below = past_below k.base (made + 1) k.past (set_of p).ends low k.lost.below rises })
-            (omega arith) (omega arith)
-            (ap (λ n. n + 1) (sym (ap length (note_append p.declared.node w.told (map (numbered line) told) []) ∙ lost_length line p.declared.node (set_of p).ends (ends_of p.declared.node w.told))))
-            (same_set _ _ (ap (λ (x : SetState). x.own) k.is ∙ k.own) (ap (λ (x : SetState). x.ttl) k.is ∙ k.ttl) (ap (λ (x : SetState). x.user) k.is ∙ k.user) (ap (λ (x : SetState). x.config) k.is ∙ k.config)
-            refl (let n : t.set.number ≡ made + 1 = ap (λ (x : SetState). x.number) k.is ∙ number in omega (arith, n)) (ap all_gone ends ∙ sym (append-nil (all_gone (k.past ++ (set_of p).ends)))));
-        tells =
-            ap (λ xs. map event (xs ++ events_by (names (new_nodes plan)) (map (numbered line) (lost_events p.declared.node (set_of p).ends)))) (here line (sets.Restarted pair))
-            ∙ (ap (λ xs. record { node = at; own = p.declared.call; told = sets.Restarted pair } ∷ xs) (lost_tell (names (new_nodes plan)) line p.declared.node at p.declared.call here (set_of p).ends)
-            ∙ (ap (λ ts. net.events_at at p.declared.call (sets.Restarted pair ∷ ts)) (sym (append-nil (losses t.set.ends) ∙ (ap losses ends ∙ losses_lift k.past (set_of p).ends k.lost.gone)))
-            ∙ ap (λ call. net.events_at at call (sets.Restarted pair ∷ losses t.set.ends ++ [])) (sym owned)));
-        others = λ n d. note_append n w.told (map (numbered line) told) [] ∙ lost_other line p.declared.node n (set_of p).ends (ends_of n w.told) d;
-      })
-
-  restart_case : (line at : ℕ) (pair : Pair) (w : World) (o : Option Placed) → slice_get w.nodes at ≡ o → IsPair pair → Leads w (restart_of plan line at pair o w)
-  restart_case line at pair w None e i steps c = still w steps c
-  restart_case line at pair w (Some p) e i steps c =
-      let t : TracksAt plan w.told (sets_run (first_sets plan) steps) at p = c.tracks at p e in (
-        steps_at at (sets.Restart pair 0 ∷ []),
-        comes_contains plan apart are_steps steps w.nodes w.told _ at p (placed plan p.declared pair (length (ends_of p.declared.node w.told) + 1)) t.set (sets.Restart pair 0 ∷ []) c e t.here
-            (restart_comes steps w line at pair p i c e t),
-      )
-
-  pub restart_leads : (line number : ℕ) (pair : Pair) (w : World) → IsPair pair → Leads w (restart plan line number pair w)
-  restart_leads line number pair w i = restart_case line (place_of number w.nodes) pair w (slice_get w.nodes (place_of number w.nodes)) refl i

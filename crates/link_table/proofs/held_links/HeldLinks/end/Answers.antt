@@ -1,6 +1,6 @@
 use Rattle.std.proofs.Common.{◌∙◌, ap, ◌∷◌, []}
 use Rattle.link_table.specs.declared.held_links.HeldLinks.{HeldLinks}
-use Rattle.link_table.proofs.Links.{ends, ends_none, rests_removed}
+use Rattle.link_table.proofs.LinkOffers.{ends, ends_none, rests_removed}
 use Rattle.link_table.proofs.held_links.HeldLinks.end.Goals as goal
 
 pub returns-in_ok-note-clause-rests : goal.returns-in_ok-note-clause-rests

@@ -1,5 +1,6 @@
 use Rattle.std.proofs.Common.{ap, sym, refl}
-use Rattle.link_table.proofs.Links.{drained_at, offer_at, offer_at_none, rests_set, unchanged}
+use Rattle.link_table.proofs.Links.{drained_at}
+use Rattle.link_table.proofs.LinkOffers.{offer_at, offer_at_none, rests_set, unchanged}
 use Rattle.link_table.proofs.held_links.HeldLinks.send.Goals as goal
 
 pub send-requires : goal.send-requires

@@ -1,7 +1,8 @@
 use Rattle.std.proofs.Common.{ap, sym, refl}
 use Rattle.ax_link.specs.Table as table
 use Rattle.link_table.specs.Works as works
-use Rattle.link_table.proofs.Links.{at_no_link, drained_at, quiet_at, rests_set, set_up_stays}
+use Rattle.link_table.proofs.Links.{at_no_link, drained_at}
+use Rattle.link_table.proofs.LinkOffers.{quiet_at, rests_set, set_up_stays}
 use Rattle.link_table.proofs.held_links.HeldLinks.set_up_link.Goals as goal
 
 pub set_up-requires : goal.set_up-requires

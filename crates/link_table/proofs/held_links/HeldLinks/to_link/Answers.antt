@@ -4,7 +4,8 @@ use Rattle.link_table.specs.declared.held_links.HeldLinks.{HeldLinks}
 use Rattle.link_table.specs.Calls.{link_frame, source}
 use Rattle.link_table.specs.Standing.{drop_if_down}
 use Rattle.link_table.specs.Works as works
-use Rattle.link_table.proofs.Links.{at_link_stands, at_no_link, drained_at, rests_at, sized}
+use Rattle.link_table.proofs.Links.{at_link_stands, at_no_link, drained_at, rests_at}
+use Rattle.link_table.proofs.LinkOffers.{sized}
 use Rattle.link_table.proofs.held_links.HeldLinks.to_link.Goals as goal
 
 pub arrive-requires : goal.arrive-requires
