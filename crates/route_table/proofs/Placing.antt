@@ -15,7 +15,7 @@ use Rattle.route_table.specs.Rows.{is_same_pair}
 use Rattle.route_table.specs.Table.{is_to}
 use Rattle.route_table.specs.Places.{InRows, start_of, place_of}
 use Rattle.route_table.proofs.Calls.{same_call-true, apart_sym, call_lt_trans, call_lt_equal, call_lt_total}
-use Rattle.route_table.proofs.Order.{stands_trans}
+use Rattle.route_table.proofs.Order.{stands_trans, stands_asym}
 use Rattle.route_table.proofs.Sorting.{Ahead, pairs_from_rows}
 
 -- what rows in order before a row pass where it does
@@ -61,6 +61,48 @@ point_is p rows i d h point = sym (prefix_len_is p rows i d h (λ k l. point.0 k
 pub start_is : (c : Callsign) (rows : List Route) (i : ℕ) → i ≤ length rows → IsPartitionPoint (λ (y : Route). call_lt y.dest c ≡ true) (λ (y : Route). call_lt y.dest c ≡ false) rows i → i ≡ start_of c rows
 start_is c [] i h point = omega arith
 start_is c (x ∷ xs) i h point = point_is (λ (r : Route). call_lt r.dest c) (x ∷ xs) i x h point
+
+-- looking at a part of the rows
+
+prefix_skip : (p : Route → Bool) (n : ℕ) (rows : List Route) → n ≤ length rows → ((k : ℕ) (d : Route) → k < n → p (get_or rows k d) ≡ true) → prefix_len p rows ≡ n + prefix_len p (drop n rows)
+prefix_skip p zero rows w h = omega arith
+prefix_skip p (suc n) [] w h = absurd (omega arith)
+prefix_skip p (suc n) (x ∷ xs) w h =
+    let e : p x ≡ true = h 0 x (omega arith) in
+    let rest = prefix_skip p n xs (omega arith) (λ k d l. h (suc k) d (omega arith)) in
+    rw e (omega (arith, rest))
+
+-- where the row before a place leads lower, the start is so many rows behind it
+pub start_behind : (c : Callsign) (rows : List Route) (n : ℕ) → InRows rows → n ≤ length rows → ((d : Route) → 0 < n → call_lt (get_or rows (n - 1) d).dest c ≡ true) → n + start_of c (drop n rows) ≡ start_of c rows
+start_behind c rows n h w last =
+    sym (prefix_skip (λ r. call_lt r.dest c) n rows w (λ k d l. parted (λ r. call_lt r.dest c) (lower_down c) rows h k (n - 1) d (omega arith) (omega arith) (last d (omega arith))))
+
+prefix_part : (p : Route → Bool) (n : ℕ) (rows : List Route) (d : Route) → n < length rows → p (get_or rows n d) ≡ false → prefix_len p (take n rows) ≡ prefix_len p rows
+prefix_part p n [] d w h = absurd (omega arith)
+prefix_part p zero (x ∷ xs) d w h = rw h refl
+prefix_part p (suc n) (x ∷ xs) d w h = ap (λ k. cond (p x) (1 + k) 0) (prefix_part p n xs d (omega arith) h)
+
+-- where the row at a place doesn't lead lower, the start is among those before it, or there
+pub start_within : (c : Callsign) (rows : List Route) (n : ℕ) (d : Route) → n < length rows → call_lt (get_or rows n d).dest c ≡ false → start_of c (take n rows) ≡ start_of c rows
+start_within c rows n d w h = prefix_part (λ r. call_lt r.dest c) n rows d w h
+
+-- a route that the last row stands before belongs behind all
+pub place_behind : (r : Route) (rows : List Route) → InRows rows → ((d : Route) → 0 < length rows → stands_before (get_or rows (length rows - 1) d) r ≡ true) → length rows ≡ place_of r rows
+place_behind r [] h last = refl
+place_behind r (x ∷ xs) h last =
+    let test = λ (y : Route). not (stands_before r y) in
+    let end = length (x ∷ xs) in
+    sym (prefix_len_is test (x ∷ xs) end x (omega arith) (λ k l. parted test (place_down r) (x ∷ xs) h k (end - 1) x (omega arith) (omega arith) (ap not (stands_asym (get_or (x ∷ xs) (end - 1) x) r (last x (omega arith))))) (λ l. absurd (omega arith)))
+
+take_all_by : (P : Route → Type 0) (n : ℕ) (xs : List Route) → AllByRecursion P xs → AllByRecursion P (take n xs)
+take_all_by P zero xs h = tt
+take_all_by P (suc n) [] h = tt
+take_all_by P (suc n) (x ∷ xs) h = (h.0, take_all_by P n xs h.1)
+
+pub take_rows : (n : ℕ) (xs : List Route) → InRows xs → InRows (take n xs)
+take_rows zero xs h = tt
+take_rows (suc n) [] h = tt
+take_rows (suc n) (x ∷ xs) h = (take_all_by (λ s. stands_before x s ≡ true) n xs h.0, take_rows n xs h.1)
 
 -- putting in, by the place
 

@@ -12,7 +12,7 @@ use Rattle.route_table.proofs.Order.{stands_trans, stands_asym, stands_total, sa
 use Rattle.route_table.proofs.Sorting.{Apart, placed_all, placed_rows, filter_all, filter_placed}
 use Rattle.route_table.proofs.Changing.{beside_apart, beside_none, no_lock, apart_none, ahead_at, report_stand, placed_once}
 use Rattle.route_table.proofs.Counting.{any_placed}
-use Rattle.route_table.proofs.Placing.{placed-insert}
+use Rattle.route_table.proofs.Placing.{placed-insert, take_rows}
 use Rattle.route_table.proofs.Twice.{or_parts}
 
 -- two routes of different pairs take their places in whichever order
@@ -195,16 +195,6 @@ all_before : (xs : List Route) (i : ℕ) (d : Route) → InRows xs → i < lengt
 all_before [] i d h w = absurd (omega arith)
 all_before (x ∷ xs) zero d h w = tt
 all_before (x ∷ xs) (suc i) d h w = (ahead_at x xs i d (omega arith) h.0, all_before xs i d h.1 (omega arith))
-
-take_all_by : (P : Route → Type 0) (n : ℕ) (xs : List Route) → AllByRecursion P xs → AllByRecursion P (take n xs)
-take_all_by P zero xs h = tt
-take_all_by P (suc n) [] h = tt
-take_all_by P (suc n) (x ∷ xs) h = (h.0, take_all_by P n xs h.1)
-
-pub take_rows : (n : ℕ) (xs : List Route) → InRows xs → InRows (take n xs)
-take_rows zero xs h = tt
-take_rows (suc n) [] h = tt
-take_rows (suc n) (x ∷ xs) h = (take_all_by (λ s. stands_before x s ≡ true) n xs h.0, take_rows n xs h.1)
 
 -- The rows before `end` and those behind the gap come to `all` with the first routes, one for each place of the gap.
 pub record Entering (routes rows all : List Route) (end gap : ℕ) : Type 0 where

@@ -4,7 +4,7 @@ ghost use Rattle.route_table.specs.Places as places;
 ghost use Rattle.route_table.specs.Ranks as ranks;
 ghost use Rattle.route_table.specs.Rows as spec;
 
-use crate::ranking::{place_of, place_of_pair};
+use crate::ranking::{pair_from, place_of, start_near};
 use crate::reports::MAX_REPORTS;
 use crate::route::Route;
 use crate::rows::{change, is_good};
@@ -34,19 +34,22 @@ fn take_known(rows: &mut Vec<Route>, minq: u8, reports: &[Route]) -> ArrayVec<Ro
     ensures room { vec_len rows.new + length result.items ≤ vec_capacity rows.new }
 {
     let mut waiting = ArrayVec::new();
+    let mut near = 0;
     for report in reports {
-        take_or_keep(rows, &mut waiting, minq, report);
+        near = take_or_keep(rows, &mut waiting, minq, near, report);
     }
     waiting
 }
 
-/// Takes a report in where a row is of its pair, and else keeps it among those that wait.
+/// Takes a report in where a row is of its pair, and else keeps it among those that wait. It answers where the rows to its
+/// destination began: the next report's begin near there, since broadcasts mostly rise in call order.
 fn take_or_keep(
     rows: &mut Vec<Route>,
     waiting: &mut ArrayVec<Route, MAX_REPORTS>,
     minq: u8,
+    near: usize,
     report: &Route,
-)
+) -> usize
     requires waiting { places.AreWaiting waiting.old.items rows.old.items }
     requires counted { is_none report.now.count ≡ false }
     requires few { length waiting.old.items < 12 }
@@ -57,10 +60,12 @@ fn take_or_keep(
     ensures len { vec_len rows.new + length waiting.new.items ≤ vec_len rows.old + length waiting.old.items + 1 }
     ensures capacity { vec_capacity rows.old ≤ vec_capacity rows.new }
 {
-    match place_of_pair(rows, report) {
+    let start = start_near(rows, near, &report.dest);
+    match pair_from(rows, start, report) {
         Some(at) => change(rows, minq, at, report),
         None => keep(waiting, minq, report),
     }
+    start
 }
 
 /// Keeps a report in the place of what waits of its pair, if it is good enough.
@@ -84,7 +89,8 @@ fn drop_pair(waiting: &mut ArrayVec<Route, MAX_REPORTS>, route: &Route)
     ensures items { waiting.new.items ≡ spec.beside route.now waiting.old.items }
     ensures few { length waiting.new.items ≤ length waiting.old.items }
 {
-    if let Some(at) = place_of_pair(waiting, route) {
+    let start = start_near(waiting, waiting.len(), &route.dest);
+    if let Some(at) = pair_from(waiting, start, route) {
         waiting.remove(at);
     }
 }

@@ -1,5 +1,7 @@
 //! Routes by quality, and which is the better one (NET/ROM, Appendix B).
-ghost use Rattle.std.specs.Prelude.{◌≡◌, ◌≤◌, length};
+ghost use Rattle.std.specs.Prelude.{◌≡◌, ◌≤◌, ◌<◌, ◌-◌, length, slice_index_or, true};
+ghost use Rattle.ax_address.specs.CallOrder.{call_lt};
+ghost use Rattle.route_table.specs.declared.route.Route.{Route};
 ghost use Rattle.route_table.specs.Places as places;
 ghost use Rattle.route_table.specs.Ranks as ranks;
 ghost use Rattle.route_table.specs.Rows as rows_spec;
@@ -33,13 +35,59 @@ pub(crate) fn start_of(rows: &[Route], dest: &Call) -> usize
     rows.partition_point(|row| row.dest.cmp(dest).is_lt())
 }
 
-/// Where a route belongs among rows.
+/// Where the rows to a destination begin, or would. Where the first `from` rows lead lower, it looks soon behind them first.
+pub(crate) fn start_near(rows: &[Route], from: usize, dest: &Call) -> usize
+    requires { places.InRows rows.now }
+    ensures place { result ≡ places.start_of dest.now rows.now }
+    ensures within { result ≤ length rows.now }
+{
+    if leads_lower(rows, from, dest) {
+        from + start_soon(&rows[from..], dest)
+    } else {
+        start_of(rows, dest)
+    }
+}
+
+/// Whether the row before that place leads lower, if there is one.
+fn leads_lower(rows: &[Route], at: usize, dest: &Call) -> bool
+    ensures within { result ≡ true → at ≤ length rows.now }
+    ensures lower { result ≡ true → (d : Route) → 0 < at → call_lt (slice_index_or rows.now (at - 1) d).dest dest.now ≡ true }
+{
+    at == 0 || at <= rows.len() && rows[at - 1].dest.cmp(dest).is_lt()
+}
+
+/// Where the rows to a destination begin, or would: mostly soon, so the first few are searched before all are.
+fn start_soon(rows: &[Route], dest: &Call) -> usize
+    requires { places.InRows rows.now }
+    ensures place { result ≡ places.start_of dest.now rows.now }
+    ensures within { result ≤ length rows.now }
+{
+    for few in [4, 32, 256] {
+        if few < rows.len() && !rows[few].dest.cmp(dest).is_lt() {
+            return start_of(&rows[..few], dest);
+        }
+    }
+    start_of(rows, dest)
+}
+
+/// Where a route belongs among rows: often behind all of them, as what a broadcast brings stands in order.
 pub(crate) fn place_of(rows: &[Route], route: &Route) -> usize
     requires { places.InRows rows.now }
     ensures place { result ≡ places.place_of route.now rows.now }
     ensures within { result ≤ length rows.now }
 {
+    if is_after(rows, rows.len(), route) {
+        return rows.len();
+    }
     rows.partition_point(|row| !stands_before(route, row))
+}
+
+/// Whether a route stands behind the row before that place, if there is one.
+pub(crate) fn is_after(rows: &[Route], at: usize, route: &Route) -> bool
+    requires { at ≤ length rows.now }
+    ensures { result ≡ true → (d : Route) → 0 < at → ranks.stands_before (slice_index_or rows.now (at - 1) d) route.now ≡ true }
+{
+    at == 0 || stands_before(&rows[at - 1], route)
 }
 
 /// The place of the row with the route's destination and neighbour.
@@ -47,7 +95,16 @@ pub(crate) fn place_of_pair(rows: &[Route], route: &Route) -> Option<usize>
     requires { places.InRows rows.now }
     ensures { places.PairAt route.now rows.now result }
 {
-    for at in start_of(rows, &route.dest)..rows.len() {
+    pair_from(rows, start_of(rows, &route.dest), route)
+}
+
+/// The same, where the rows to its destination begin there.
+pub(crate) fn pair_from(rows: &[Route], start: usize, route: &Route) -> Option<usize>
+    requires order { places.InRows rows.now }
+    requires start { start ≡ places.start_of route.now.dest rows.now }
+    ensures { places.PairAt route.now rows.now result }
+{
+    for at in start..rows.len() {
         let row = &rows[at];
         if row.dest != route.dest {
             return None;

@@ -6,7 +6,7 @@ ghost use Rattle.route_table.specs.Ranks as ranks;
 ghost use Rattle.route_table.specs.Rows as spec;
 ghost use Rattle.route_table.specs.Table as table;
 
-use crate::ranking::{place_of, place_of_pair, stands_before};
+use crate::ranking::{is_after, pair_from, place_of, place_of_pair, stands_before, start_near};
 use crate::route::{MAX_PAIRS, Route};
 use ax_address::Call;
 use std::alloc::AllocError;
@@ -66,13 +66,6 @@ fn fits_at(rows: &[Route], at: usize, route: &Route) -> bool
     is_after(rows, at, route) && is_before(rows, at, route)
 }
 
-fn is_after(rows: &[Route], at: usize, route: &Route) -> bool
-    requires { at < length rows.now }
-    ensures { result ≡ true → (d : Route) → 0 < at → ranks.stands_before (slice_index_or rows.now (at - 1) d) route.now ≡ true }
-{
-    at == 0 || stands_before(&rows[at - 1], route)
-}
-
 fn is_before(rows: &[Route], at: usize, route: &Route) -> bool
     requires { at < length rows.now }
     ensures { result ≡ true → (d : Route) → at + 1 < length rows.now → ranks.stands_before route.now (slice_index_or rows.now (at + 1) d) ≡ true }
@@ -107,22 +100,33 @@ fn count_after(rows: &[Route], minq: u8, reports: &[Route]) -> usize
     ensures { result ≡ length (spec.after_reports minq reports.now rows.now) }
 {
     let mut count = rows.len();
+    let mut start = 0;
     for (at, report) in reports.iter().enumerate() {
-        count = count_with(rows, minq, &reports[..at], report, count);
+        start = start_near(rows, start, &report.dest);
+        count = count_with(rows, start, minq, &reports[..at], report, count);
     }
     count
 }
 
-/// How many rows there are after a report more, where there were so many before it.
-fn count_with(rows: &[Route], minq: u8, earlier: &[Route], report: &Route, count: usize) -> usize
+/// How many rows there are after a report more, where there were so many before it, and the rows to its destination begin
+/// there.
+fn count_with(
+    rows: &[Route],
+    start: usize,
+    minq: u8,
+    earlier: &[Route],
+    report: &Route,
+    count: usize,
+) -> usize
     requires stand { places.Stand rows.now }
+    requires start { start ≡ places.start_of report.now.dest rows.now }
     requires few { count ≤ 32768 }
     requires earlier { places.AreCounted earlier.now }
     requires value { count ≡ length (spec.after_reports minq earlier.now rows.now) }
     ensures value { result ≡ length (spec.with_report minq report.now (spec.after_reports minq earlier.now rows.now)) }
     ensures bound { result ≤ count + 1 }
 {
-    match place_of_pair(rows, report) {
+    match pair_from(rows, start, report) {
         Some(at) if rows[at].count.is_none() => count,
         Some(_) => changed(
             count,

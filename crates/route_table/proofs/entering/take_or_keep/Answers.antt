@@ -10,7 +10,7 @@ use Rattle.route_table.proofs.entering.take_or_keep.Goals.{In-Some}
 
 found : (c : In-Some) → list_any (is_same_pair c.args.report.now) c.args.rows.now.items ≡ true
 found c =
-    let at : PairAt c.args.report.now c.args.rows.now.items (Some c.in-Some.at) = subst (λ xs. PairAt c.args.report.now xs (Some c.in-Some.at)) c.deref.ensures.value c.in-Some.ensures in
+    let at : PairAt c.args.report.now c.args.rows.now.items (Some c.in-Some.at) = subst (λ xs. PairAt c.args.report.now xs (Some c.in-Some.at)) c.deref-2.ensures.value c.in-Some.ensures in
     pair_found c.args.report.now c.args.rows.now.items c.in-Some.at c.args.report.now at.0 (at.1 c.args.report.now)
 
 pub returns-in-Some-clause-items : goal.returns-in-Some-clause-items
@@ -25,12 +25,12 @@ returns-in-Some-clause-waiting c =
 
 pub returns-in-None-clause-items : goal.returns-in-None-clause-items
 returns-in-None-clause-items c =
-    let none : PairAt c.args.report.now c.args.rows.now.items None = subst (λ xs. PairAt c.args.report.now xs None) c.deref.ensures.value c.in-None.ensures in
+    let none : PairAt c.args.report.now c.args.rows.now.items None = subst (λ xs. PairAt c.args.report.now xs None) c.deref-2.ensures.value c.in-None.ensures in
     ap (λ xs. all_placed xs c.args.rows.now.items) c.keep.ensures.items
     ∙ kept_items c.args.minq c.args.report.now c.args.waiting.now.items c.args.rows.now.items c.requires.waiting none
 
 pub returns-in-None-clause-waiting : goal.returns-in-None-clause-waiting
 returns-in-None-clause-waiting c =
-    let none : PairAt c.args.report.now c.args.rows.now.items None = subst (λ xs. PairAt c.args.report.now xs None) c.deref.ensures.value c.in-None.ensures in
+    let none : PairAt c.args.report.now c.args.rows.now.items None = subst (λ xs. PairAt c.args.report.now xs None) c.deref-2.ensures.value c.in-None.ensures in
     subst (λ xs. AreWaiting xs c.args.rows.now.items) (sym c.keep.ensures.items)
     (kept_waiting c.args.minq c.args.report.now c.args.waiting.now.items c.args.rows.now.items c.requires.counted c.requires.waiting none)
