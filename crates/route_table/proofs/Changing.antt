@@ -1,14 +1,16 @@
 -- Rows in order, as reports change them.
 use Rattle.std.proofs.Common.{◌≡◌, ◌<◌, ◌+◌, ◌-◌, ◌∙◌, ℕ, zero, suc, refl, sym, ap, subst, List, [], ◌∷◌, map, length, arith, Bool, true, false, cond, get_or, filter, Some}
-use Rattle.std.specs.Prelude.{remove, not, ◌||◌, ◌&&◌, is_none, slice_set}
+use Rattle.std.specs.Prelude.{remove, not, ◌||◌, ◌&&◌, is_none, slice_set, nat_lt, nat_eq}
 use Rattle.std.specs.List.{list_any}
+use Rattle.std.proofs.lemmas.List.{get_or_default}
+use Rattle.ax_address.specs.CallOrder.{same_call, call_lt}
 use Rattle.route_table.specs.declared.route.Route.{Route}
-use Rattle.route_table.specs.Ranks.{stands_before, placed}
+use Rattle.route_table.specs.Ranks.{is_before, stands_before, placed}
 use Rattle.route_table.specs.Rows.{is_same_pair, is_lock_on, stays_beside, beside, with_report, after_reports, older, still_counts, after_round}
 use Rattle.route_table.specs.Table.{is_good}
 use Rattle.route_table.specs.Places.{InRows, NoneTwice, Stand, PairAt, FitsAt}
-use Rattle.route_table.proofs.Order.{stands_trans, stands_asym, same_pair_sym, same_pair_over}
-use Rattle.route_table.proofs.Sorting.{Ahead, Apart, placed_all, placed_rows, filter_rows, filter_once}
+use Rattle.route_table.proofs.Order.{stands_trans, stands_asym, same_pair_sym, same_pair_over, same_pair_true}
+use Rattle.route_table.proofs.Sorting.{Ahead, Apart, pairs_from_rows, placed_all, placed_rows, filter_rows, filter_once}
 
 -- the rows beside a route
 
@@ -125,6 +127,29 @@ placed_over r (x ∷ xs) (suc i) h w a b =
         let two : suc (suc k) - 1 ≡ suc k = omega arith in
         let one : suc k - 1 ≡ k = omega arith in
         rw one (rw two at (a d (omega arith)))
+
+-- a route as good as the row of its pair stands where that one does
+
+before_same : (x r s : Route) → r.dest ≡ s.dest → r.neighbour ≡ s.neighbour → r.quality ≡ s.quality → stands_before x s ≡ true → stands_before x r ≡ true
+before_same x r s d n q h =
+    ap (λ c. call_lt x.dest c || (same_call x.dest c && is_before x r)) d
+    ∙ (ap (λ k. call_lt x.dest s.dest || (same_call x.dest s.dest && (nat_lt k x.quality || (nat_eq x.quality k && call_lt x.neighbour r.neighbour)))) q
+    ∙ (ap (λ c. call_lt x.dest s.dest || (same_call x.dest s.dest && (nat_lt s.quality x.quality || (nat_eq x.quality s.quality && call_lt x.neighbour c)))) n ∙ h))
+
+behind_same : (x r s : Route) → r.dest ≡ s.dest → r.neighbour ≡ s.neighbour → r.quality ≡ s.quality → stands_before s x ≡ true → stands_before r x ≡ true
+behind_same x r s d n q h =
+    ap (λ c. call_lt c x.dest || (same_call c x.dest && is_before r x)) d
+    ∙ (ap (λ k. call_lt s.dest x.dest || (same_call s.dest x.dest && (nat_lt x.quality k || (nat_eq k x.quality && call_lt r.neighbour x.neighbour)))) q
+    ∙ (ap (λ c. call_lt s.dest x.dest || (same_call s.dest x.dest && (nat_lt x.quality s.quality || (nat_eq s.quality x.quality && call_lt c x.neighbour)))) n ∙ h))
+
+pub fits_same : (r : Route) (rows : List Route) (i : ℕ) → InRows rows → PairAt r rows (Some i) → (get_or rows i r).quality ≡ r.quality → FitsAt r rows i
+fits_same r rows i h p q =
+    let row = get_or rows i r in
+    let pair = same_pair_true r row (p.1 r) in
+    record {
+      after = λ d l. before_same (get_or rows (i - 1) d) r row pair.0 pair.1 (sym q) (ap (stands_before (get_or rows (i - 1) d)) (get_or_default rows i r d p.0) ∙ pairs_from_rows rows h (i - 1) i d (omega arith) p.0);
+      before = λ d l. behind_same (get_or rows (i + 1) d) r row pair.0 pair.1 (sym q) (ap (λ x. stands_before x (get_or rows (i + 1) d)) (get_or_default rows i r d p.0) ∙ pairs_from_rows rows h i (i + 1) d (omega arith) l);
+    }
 
 -- what a report comes to, by what is found of its pair
 

@@ -58,11 +58,15 @@ pub(crate) fn change(rows: &mut Vec<Route>, minq: u8, at: usize, report: &Route)
     }
 }
 
-/// Whether a route stands between the rows before and behind the one at that place.
+/// Whether a route stands between the rows before and behind the one of its pair, which is at that place: as good a one does.
 fn fits_at(rows: &[Route], at: usize, route: &Route) -> bool
-    requires { at < length rows.now }
+    requires order { places.InRows rows.now }
+    requires pair { places.PairAt route.now rows.now (Some at) }
     ensures { result ≡ true → places.FitsAt route.now rows.now at }
 {
+    if rows[at].quality == route.quality {
+        return true;
+    }
     is_after(rows, at, route) && is_before(rows, at, route)
 }
 
