@@ -109,8 +109,8 @@ fn enter_all(rows: &mut Vec<Route>, routes: &[Route])
     }
 }
 
-/// Enters a route among the rows before `end`, so that it and those behind it end where the gap of `gap + 1` places did.
-/// It answers where the rows now end that have `gap` places behind them.
+/// Enters a route among the rows before `end`, where a gap of `gap + 1` places begins: the rows behind the route move to the end of
+/// the gap, and the route stands before them. It answers where the gap begins now, of `gap` places.
 fn enter_before(rows: &mut [Route], end: usize, gap: usize, route: &Route) -> usize
     requires within { end + gap < length rows.old }
     requires order { places.InRows (take end rows.old) }

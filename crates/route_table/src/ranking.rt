@@ -35,7 +35,7 @@ pub(crate) fn start_of(rows: &[Route], dest: &Call) -> usize
     rows.partition_point(|row| row.dest.cmp(dest).is_lt())
 }
 
-/// Where the rows to a destination begin, or would. Where the first `from` rows lead lower, it looks soon behind them first.
+/// Where the rows to a destination begin, or would. Where the first `from` rows lead lower, those behind them are searched alone.
 pub(crate) fn start_near(rows: &[Route], from: usize, dest: &Call) -> usize
     requires { places.InRows rows.now }
     ensures place { result ≡ places.start_of dest.now rows.now }
@@ -48,7 +48,7 @@ pub(crate) fn start_near(rows: &[Route], from: usize, dest: &Call) -> usize
     }
 }
 
-/// Whether the row before that place leads lower, if there is one.
+/// Whether the rows before that place lead lower: there are so many, and the last of them does.
 fn leads_lower(rows: &[Route], at: usize, dest: &Call) -> bool
     ensures within { result ≡ true → at ≤ length rows.now }
     ensures lower { result ≡ true → (d : Route) → 0 < at → call_lt (slice_index_or rows.now (at - 1) d).dest dest.now ≡ true }
