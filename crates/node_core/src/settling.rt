@@ -93,7 +93,10 @@ impl Station {
     {
         laws::parts();
         let before = self.entries.len();
-        while let Some(event) = self.set.pump(now)? {
+        while !self.set.is_idle() {
+            let Some(event) = self.set.pump(now)? else {
+                return Ok(before < self.entries.len());
+            };
             self.hear_circuits(&event)?;
             self.entries.push_back(NodeEntry::Set(event))?;
         }

@@ -8,14 +8,14 @@ use Rattle.node_core.specs.States.{Of_set, State}
 use Rattle.node_core.proofs.Entering.{told_by_length}
 use Rattle.node_core.proofs.Holding.{entered}
 use Rattle.node_core.proofs.Nodes.{pumped_told}
-use Rattle.node_core.proofs.Leading.{called, pumped_is, told_on, was_called}
+use Rattle.node_core.proofs.Leading.{called, nothing_lies, pumped_is, told_on, was_called}
 use Rattle.node_core.proofs.station.Station.pump_on.Goals as goal
 
-pub loop-event-preserved : goal.loop-event-preserved
-loop-event-preserved c = λ n h.
+pub loop-now-preserved : goal.loop-now-preserved
+loop-now-preserved c = λ n h.
     let now = c.args.now.0 in
-    let i = c.loop-event.invariant n h in
-    let s = c.loop-event.self in
+    let i = c.loop-now.invariant n h in
+    let s = c.loop-now.self in
     let event = c.in-Some.event in
     let pumps = rw c.in-Some.is at c.in_ok-event.ensures.pumps in
     let x = was_called c.parts.ensures.offers c.parts.ensures.takes c.parts.ensures.less now s c.pump.new.self i.0 _ i.1 c.in_ok-event.ensures.router pumps in
@@ -30,25 +30,44 @@ loop-event-preserved c = λ n h.
       ◌∙◌ {c = pump now next} i.2 (told_on now i.0 x.q (seen event) x.told x.leads),
     )
 
-pub returns-clause-did : goal.returns-clause-did
-returns-clause-did c = λ n h.
+pub returns-in_default-clause-did : goal.returns-in_default-clause-did
+returns-in_default-clause-did c = λ n h.
     let now = c.args.now.0 in
-    let i = c.loop-event.invariant n h in
-    let s = c.loop-event.self in
+    let i = c.loop-now.invariant n h in
+    let s = c.loop-now.self in
     let pumps = rw c.in_default.is at c.in_ok-event.ensures.pumps in
     let x = was_called c.parts.ensures.offers c.parts.ensures.takes c.parts.ensures.less now s c.pump.new.self i.0 _ i.1 c.in_ok-event.ensures.router pumps in
     let s1 = record s { set = c.pump.new.self } in
     let held : Holds s1 (pump now n) = subst (Holds s1) (sym (i.2 ∙ pumped_is now i.0 x.q x.told x.leads)) x.holds in
     told_by_length c.args.self.now s1 n (pump now n) c.len-before.result c.len.result h held (c.len-before.ensures ∙ c.args.self.now.entries.ok.0) (c.len.ensures ∙ s.entries.ok.0)
 
-pub returns-clause-goes : goal.returns-clause-goes
-returns-clause-goes c = λ n h.
+pub returns-in_default-clause-goes : goal.returns-in_default-clause-goes
+returns-in_default-clause-goes c = λ n h.
     let now = c.args.now.0 in
-    let i = c.loop-event.invariant n h in
-    let s = c.loop-event.self in
+    let i = c.loop-now.invariant n h in
+    let s = c.loop-now.self in
     let pumps = rw c.in_default.is at c.in_ok-event.ensures.pumps in
     let x = was_called c.parts.ensures.offers c.parts.ensures.takes c.parts.ensures.less now s c.pump.new.self i.0 _ i.1 c.in_ok-event.ensures.router pumps in
     subst (Holds (record s { set = c.pump.new.self })) (sym (i.2 ∙ pumped_is now i.0 x.q x.told x.leads)) x.holds
 
+pub returns-clause-did : goal.returns-clause-did
+returns-clause-did c = λ n h.
+    let now = c.args.now.0 in
+    let i = c.loop-now.invariant n h in
+    let s = c.loop-now.self in
+    let still : Holds s (pump now i.0) = nothing_lies c.parts.ensures.offers c.parts.ensures.takes c.parts.ensures.less now s i.0 i.1 (c.is_idle.ensures.pumps c.loop-now-test.false now) in
+    let held : Holds s (pump now n) = subst (Holds s) (sym i.2) still in
+    told_by_length c.args.self.now s n (pump now n) c.len-before.result c.len-2.result h held (c.len-before.ensures ∙ c.args.self.now.entries.ok.0) (c.len-2.ensures ∙ s.entries.ok.0)
+
+pub returns-clause-goes : goal.returns-clause-goes
+returns-clause-goes c = λ n h.
+    let now = c.args.now.0 in
+    let i = c.loop-now.invariant n h in
+    let s = c.loop-now.self in
+    subst (Holds s) (sym i.2) (nothing_lies c.parts.ensures.offers c.parts.ensures.takes c.parts.ensures.less now s i.0 i.1 (c.is_idle.ensures.pumps c.loop-now-test.false now))
+
 pub returns-clause-told : goal.returns-clause-told
 returns-clause-told c = λ n. pumped_told c.parts.ensures.offers c.parts.ensures.takes c.parts.ensures.less c.args.now.0 n
+
+pub returns-in_default-clause-told : goal.returns-in_default-clause-told
+returns-in_default-clause-told c = λ n. pumped_told c.parts.ensures.offers c.parts.ensures.takes c.parts.ensures.less c.args.now.0 n
