@@ -1,6 +1,6 @@
 -- Notices that are entered one by one.
 use Rattle.std.proofs.Common.{◌≡◌, ◌+◌, ◌++◌, ◌∙◌, ℕ, refl, sym, ap, arith, append_assoc, append-nil, drop, List, [], ◌∷◌, length, length-append, map, slice_get}
-use Rattle.std.specs.Prelude.{nat_lt, not, is_some, ◌==◌, Some, None}
+use Rattle.std.specs.Prelude.{false, nat_lt, not, is_some, ◌==◌, Some, None}
 use Rattle.std.proofs.lemmas.Bool.Decides.{nat_tests}
 use Rattle.std.proofs.lemmas.List.{length-map}
 use Rattle.ax_address.specs.Callsign.{Callsign}
@@ -40,6 +40,14 @@ notice_moves peer note m p =
 no_notice : (xs : List (Callsign × LinkNotice)) → None ≡ slice_get xs 0 → xs ≡ []
 no_notice [] p = refl
 no_notice (x ∷ xs) p = absurd (cc p)
+
+pub none_waits : (xs : List (Callsign × LinkNotice)) → false ≡ is_some (slice_get xs 0) → None ≡ slice_get xs 0
+none_waits [] e = refl
+none_waits (x ∷ xs) e = absurd (cc e)
+
+pub nothing_noticed : (xs : List (Callsign × LinkNotice)) → None ≡ slice_get xs 0 → false ≡ has_some xs
+nothing_noticed [] e = refl
+nothing_noticed (x ∷ xs) e = absurd (cc e)
 
 pub none_to_enter : (m : State) → None ≡ slice_get m.links.pending.notices 0 → enter_notices m ≡ m
 none_to_enter m p =

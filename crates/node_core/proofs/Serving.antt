@@ -44,6 +44,14 @@ same_number s n h = ap (λ (ss : List Session). length ss) h.users.sessions ∙ 
 
 -- ---- sessions that are over
 
+-- a station without sessions stands for a node without sessions
+pub nobody_held : (s : Station) (n : State) → Holds s n → length s.sessions.items ≡ 0 → n.sessions ≡ []
+nobody_held s n h e = by n.sessions (sym (same_number s n h) ∙ e)
+  where
+    by : (ss : List Session) → length ss ≡ 0 → ss ≡ []
+    by [] e = refl
+    by (s ∷ ss) e = absurd (omega (arith, e))
+
 by_test : (test : Session → Bool) (s : Session) (ss : List Session) (b : Bool) → (if b then bare s ∷ map bare (filter test ss) else map bare (filter test ss)) ≡ map bare (if b then s ∷ filter test ss else filter test ss)
 by_test test s ss true = refl
 by_test test s ss false = refl

@@ -1,6 +1,6 @@
 -- A node comes to rest after each input.
-use Rattle.std.proofs.Common.{◌≡◌, ◌≤◌, ◌<◌, ◌∙◌, ℕ, zero, suc, refl, ap, arith, length, List, [], ◌∷◌}
-use Rattle.std.specs.Prelude.{Bool, true, false, ◌||◌, if◌then◌else◌}
+use Rattle.std.proofs.Common.{◌≡◌, ◌≤◌, ◌<◌, ◌∙◌, ℕ, zero, suc, refl, ap, arith, length, sym, slice_get, List, [], ◌∷◌}
+use Rattle.std.specs.Prelude.{Bool, true, false, not, filter, None, ◌||◌, if◌then◌else◌}
 use Rattle.ax_address.specs.Callsign.{Callsign}
 use Rattle.circuit_set.specs.Inputs.{TellsLess}
 use Rattle.link_table.specs.Payloads.{OffersLeave, TakesLower}
@@ -13,9 +13,10 @@ use Rattle.node_core.specs.Sessions.{Session}
 use Rattle.node_core.specs.Settling as s
 use Rattle.node_core.specs.Settling.{work}
 use Rattle.node_core.specs.States.{State}
-use Rattle.node_core.specs.Turns.{Falls}
+use Rattle.node_core.specs.Turns.{Falls, Turn, idle}
 use Rattle.node_core.proofs.Falling.{ServesAll, sessions_served}
 use Rattle.node_core.proofs.Parts.{noticed_payloads, untaken}
+use Rattle.node_core.proofs.Passing.{nobody_greeted}
 use Rattle.node_core.proofs.Resting.{drop_falls, dropped_none, dry_is_quiet, or_false, pumped_dry, Quiet, quiet_is, quiet_pumped, same_entries}
 use Rattle.node_core.proofs.Texting.{text_leaves_less}
 use Rattle.node_core.proofs.Turns.{goes_on, kept, rests, unfolds}
@@ -56,6 +57,41 @@ module _ (offers : OffersLeave) (takes : TakesLower) (less : TellsLess) where
         rw (goes_on (s.drop_text now) s.payloads (drop_falls offers takes less now) n e) (omega (arith, one, rest));
     idle = λ e f g. (n.sessions, dropped_none offers takes less now n e);
   }
+
+  -- ---- nobody is served
+
+  abbrev dropping : Turn State → Turn State
+  dropping t = record { did = t.did; after = serving.drop_over t.after }
+
+  abbrev dropped : State → List Session → State
+  dropped n ss = record n { sessions = filter (λ x. not (serving.is_over n x)) ss }
+
+  abbrev left_with : State → List Session → State
+  left_with n ss = record n { sessions = ss }
+
+  sessions_idle : (now : ℕ) (n : State) → n.sessions ≡ [] → None ≡ slice_get (links.text_peers n.links) 0 → serving.serve_sessions now n ≡ idle n
+  unfolding serving.serve_sessions
+  sessions_idle now n e none =
+      ap (serving.serve_greeted now) (nobody_greeted n none)
+      ∙ (ap (λ (k : ℕ). dropping (serving.serve_each now 0 k n)) (ap length e)
+      ∙ (ap (λ (ss : List Session). idle (dropped n ss)) e ∙ ap (λ (ss : List Session). idle (left_with n ss)) (sym e)))
+
+  texts_idle : (now : ℕ) (n : State) → None ≡ slice_get (links.text_peers n.links) 0 → s.drop_turn now n ≡ idle n
+  texts_idle now n none =
+      let quiet : (s.drop_text now n).did ≡ false = by (links.text_peers n.links) none in
+      rw (quiet, dropped_none offers takes less now n quiet) refl
+    where
+      by : (peers : List Callsign) → None ≡ slice_get peers 0 → (s.drop_first now peers n).did ≡ false
+      by [] e = refl
+      by (peer ∷ peers) e = absurd (cc e)
+
+  -- where there is no user and no text waits, serving the users does nothing
+  pub users_idle : (now : ℕ) (n : State) → n.sessions ≡ [] → None ≡ slice_get (links.text_peers n.links) 0 → s.serve_users now n ≡ idle n
+  users_idle now n e none = by n.settings.prompt
+    where
+      by : (b : Bool) → (if b then serving.serve_sessions now n else s.drop_turn now n) ≡ idle n
+      by true = sessions_idle now n e none
+      by false = texts_idle now n none
 
   pub users_served : (now : ℕ) (n : State) → ServesAll n (s.serve_users now n)
   users_served now n = by n.settings.prompt

@@ -16,7 +16,7 @@ use crate::NodeEntry;
 use crate::broadcasts::{is_broadcast, is_to_nodes};
 use crate::station::Station;
 use ax_address::{Address, Alias, Call, Entry};
-use ax_frame::{FrameBytes, FrameRefusal, FrameView, Head, read_frame, read_head};
+use ax_frame::{FrameRefusal, FrameView, Head, read_frame, read_head};
 use digi_path::{DigiStep, step};
 use kiss_framing::KissItem;
 use link_table::{Octets, Written, WrittenAs};
@@ -117,9 +117,10 @@ impl Station {
         requires { length octets.now ≤ 1023 }
         ensures { OnOk result (Goes (states.put (receiving.repeated_frame path.now octets.now)) self.old self.new) }
     {
-        let repeated = with_h_bit(octets, h_octet(path));
+        let mut repeated = octets.to_vec(self.alloc)?;
+        set_h_bit(&mut repeated, h_octet(path));
         self.put(Written {
-            octets: Octets::new(self.alloc, &repeated)?,
+            octets: Octets::from_vec(repeated),
             how: WrittenAs::AsItCame,
         })?;
         Ok(())
@@ -219,17 +220,13 @@ fn times_repeated(path: &[Address]) -> usize
     path.iter().take_while(|repeater| repeater.bit7).count()
 }
 
-/// These octets, with the H bit set in one of them.
-fn with_h_bit(octets: &[u8], at: usize) -> FrameBytes
-    requires { length octets.now ≤ 1023 }
-    ensures { result.items ≡ slice_set octets.now at (bit_or (slice_index octets.now at) 0x80) }
+/// Sets the H bit in one of these octets.
+fn set_h_bit(octets: &mut [u8], at: usize)
+    ensures { octets.new ≡ slice_set octets.old at (bit_or (slice_index octets.old at) 0x80) }
 {
-    let mut repeated = FrameBytes::new();
-    let _ = repeated.try_extend_from_slice(octets);
     if at < octets.len() {
-        repeated[at] = octets[at] | H_BIT;
+        octets[at] |= H_BIT;
     }
-    repeated
 }
 
 /// The frame of these octets, with sequence numbers modulo 128 or modulo 8.

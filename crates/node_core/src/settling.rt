@@ -32,7 +32,9 @@ impl Station {
         Ok(())
     }
 
-    /// Each of the three parts once. Whether any of them did something.
+    /// Each of the three parts once. Whether any of them did something. Most turns have nothing to do, so each part looks first,
+    /// where it is called, and takes a call only where there is something.
+    #[inline(always)]
     fn turn(&mut self, now: Moment) -> Result<bool, NoMemory>
         requires { StandsForSome self.old }
         ensures did { IfOk result (Did (λ n. (settling.turn now.0 n).did) self.old) }
@@ -46,7 +48,20 @@ impl Station {
     }
 
     /// Enters what happened at the links. Whether anything did.
+    #[inline(always)]
     fn enter_notices(&mut self) -> Result<bool, NoMemory>
+        ensures did { IfOk result (Did (λ n. settling.has_some n.links.pending.notices) self.old) }
+        ensures goes { OnOk result (Goes settling.enter_notices self.old self.new) }
+    {
+        if !self.set.router().carrier().has_notices() {
+            return Ok(false);
+        }
+        let noticed = self.enter_each()?;
+        Ok(noticed)
+    }
+
+    #[inline(never)]
+    fn enter_each(&mut self) -> Result<bool, NoMemory>
         ensures did { IfOk result (Did (λ n. settling.has_some n.links.pending.notices) self.old) }
         ensures goes { OnOk result (Goes settling.enter_notices self.old self.new) }
     {
@@ -104,7 +119,22 @@ impl Station {
     }
 
     /// Serves the users at the prompt; where none are served, the texts of links are dropped. Whether there was anything.
+    #[inline(always)]
     fn serve_users(&mut self, now: Moment) -> Result<bool, NoMemory>
+        requires { StandsTold self.old }
+        ensures { IfOk result (Turns (settling.serve_users now.0) self.old self.new) }
+    {
+        laws::parts();
+        // So it mostly is.
+        if self.sessions.is_empty() && self.first_text().is_none() {
+            return Ok(false);
+        }
+        let served = self.serve_some(now)?;
+        Ok(served)
+    }
+
+    #[inline(never)]
+    fn serve_some(&mut self, now: Moment) -> Result<bool, NoMemory>
         requires { StandsTold self.old }
         ensures { IfOk result (Turns (settling.serve_users now.0) self.old self.new) }
     {

@@ -1,16 +1,15 @@
-use Rattle.std.proofs.Common.{◌≡◌, ◌∙◌, subst, sym}
-use Rattle.std.specs.Prelude.{false, if◌then◌else◌}
-use Rattle.circuit_set.specs.Pumps.{Waiting, at_rest}
-use Rattle.node_core.specs.Serving.{serve_sessions}
-use Rattle.node_core.specs.Settling.{drop_turn}
+use Rattle.std.proofs.Common.{◌≡◌, false, length, refl, rules, subst, sym}
 use Rattle.node_core.specs.Standing.{HasTurned}
-use Rattle.node_core.proofs.Settled.{dropped_set}
+use Rattle.node_core.specs.States.{State}
+use Rattle.node_core.specs.Turns.{Turn}
+use Rattle.node_core.proofs.Settled.{users_idle}
+use Rattle.node_core.proofs.Serving.{nobody_held}
 use Rattle.node_core.proofs.station.Station.serve_users.Goals as goal
 
-pub returns-in_ok-dropped : goal.returns-in_ok-dropped
-returns-in_ok-dropped c = λ n t.
-    let now = c.args.now.0 in
-    let unserved : n.settings.prompt ≡ false = sym t.0.users.prompt ∙ c.if-self.false in
-    let told = subst (λ (w : Waiting). w ≡ at_rest w.set) (sym (dropped_set now n)) t.1 in
-    subst (λ b. HasTurned (if b then serve_sessions now n else drop_turn now n) c.drop_texts.new.self c.in_ok-dropped.dropped) (sym unserved)
-    (record { did_is = c.in_ok-dropped.ensures.did n t.0; stands = (c.in_ok-dropped.ensures.goes n t.0, told) })
+pub returns-then-is_none : goal.returns-then-is_none
+returns-then-is_none c = λ n t.
+    let s = c.args.self.now in
+    let first = c.first_text.ensures n t.0 in
+    let none : length s.sessions.items ≡ 0 = search rules in
+    let e = users_idle c.parts.ensures.offers c.parts.ensures.takes c.parts.ensures.less c.args.now.0 n (nobody_held s n t.0 none) (search (rules, first)) in
+    subst (λ (x : Turn State). HasTurned x s false) (sym e) (record { did_is = refl; stands = t })

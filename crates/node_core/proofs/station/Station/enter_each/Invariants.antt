@@ -2,7 +2,7 @@ use Rattle.std.proofs.Common.{◌≡◌, length}
 use Rattle.node_core.specs.Settling.{enter_notices}
 use Rattle.node_core.specs.Standing.{Holds}
 use Rattle.node_core.specs.States.{State}
-use Rattle.node_core.proofs.station.Station.enter_notices.Given as goal
+use Rattle.node_core.proofs.station.Station.enter_each.Given as goal
 
 -- it stands for a node of which entering the notices comes to the same
 abbrev pub invariant-loop-told : goal.invariant-loop-told
