@@ -1,47 +1,29 @@
 -- The moves of a world are runs of its nodes' circuits.
-use Rattle.std.proofs.Common.{◌≡◌, ◌∙◌, ◌+◌, ◌-◌, ◌<◌, ◌≤◌, ℕ, zero, suc, refl, sym, ap, subst, arith, List, [], ◌∷◌, ◌++◌, length, append_assoc, append-nil, map, filter, Bool, true, false, cond}
-use Rattle.std.specs.Prelude.{◌≢◌, ◌==◌, nat_eq, slice_get, slice_set, Option, Some, None, Result, Ok, Err}
-use Rattle.std.specs.List.{AllByRecursion, flat_map, position_or_len, range_with_len}
-use Rattle.std.proofs.lemmas.List.{length-append}
-use Rattle.ax_address.specs.Callsign.{Callsign}
+use Rattle.std.proofs.Common.{◌≡◌, ◌∙◌, ◌+◌, ◌≤◌, ℕ, zero, suc, refl, sym, ap, subst, arith, List, [], ◌∷◌, ◌++◌, length, append_assoc, append-nil, map, Bool}
+use Rattle.std.specs.Prelude.{slice_get, slice_set, Option, Some, None}
+use Rattle.std.specs.List.{AllByRecursion}
 use Rattle.circuit_l4.specs.declared.transport.Pair.{Pair}
-use Rattle.circuit_l4.specs.EndOpening.{facts_of}
-use Rattle.circuit_set.specs.Books as books
-use Rattle.circuit_set.specs.CircuitSets.{facts_at}
 use Rattle.circuit_set.specs.Inputs.{runs}
 use Rattle.circuit_set.specs.Pairs.{IsPair}
-use Rattle.circuit_set.specs.Pumps as pumps
 use Rattle.circuit_set.specs.Pumps.{at_rest}
 use Rattle.circuit_set.specs.Runs as net
 use Rattle.circuit_set.specs.Runs.{IsAct, Step}
 use Rattle.circuit_set.specs.Sets as sets
 use Rattle.circuit_set.specs.Sets.{Holder, SetState, Told, all_gone, end_of, losses}
-use Rattle.link_table.specs.Calls as links
-use Rattle.link_table.specs.declared.path_refusal.PathRefusal.{PathRefusal}
 use Rattle.network_file.specs.declared.plan.channels.Channel.{Channel}
-use Rattle.network_file.specs.declared.plan.declarations.Declaration.{Declaration}
-use Rattle.network_file.specs.declared.plan.vias.Via.{Via}
-use Rattle.network_file.specs.declared.plan.keys.Key.TheVariants.{TimeToLive}
 use Rattle.network_file.specs.Plan.{Plan}
-use Rattle.network_file.specs.Settings.{value_of}
-use Rattle.node_core.specs.Configs.{new_node}
-use Rattle.node_core.specs.Runs.{ActsRun, BytesRun, InputsAreSteps, IsUserAct, MadeFrom, RunsOn, TicksRun, circuits_told, steps_at}
-use Rattle.node_core.specs.States as states
+use Rattle.node_core.specs.Runs.{ActsRun, BytesRun, InputsAreSteps, IsUserAct, RunsOn, TicksRun, steps_at}
 use Rattle.node_core.specs.States.{NodeState}
-use Rattle.net_replay.specs.declared.ends.EndRecord.{EndRecord}
-use Rattle.net_replay.specs.declared.ends.Outcome.{Outcome}
-use Rattle.net_replay.specs.declared.ends.Outcome.TheVariants as outcomes
 use Rattle.net_replay.specs.CircuitRuns.{first_sets, set_of}
-use Rattle.net_replay.specs.Circuits.{CircuitEvent}
-use Rattle.net_replay.specs.Ends.{ends_of, note_entry, note_event, note_events, note_told, with_outcome}
+use Rattle.net_replay.specs.Ends.{ends_of, note_events}
 use Rattle.net_replay.specs.Events as events
 use Rattle.net_replay.specs.Events.{Event, NumberedEvent}
-use Rattle.net_replay.specs.Lines.{loss_of, losses_of, restart, restart_of}
-use Rattle.net_replay.specs.Starting.{Placed, config_of, is_via_of, new_nodes, path_of, started, with_via, with_via_by, with_vias}
+use Rattle.net_replay.specs.Lines.{losses_of, restart, restart_of}
+use Rattle.net_replay.specs.Starting.{Placed, new_nodes}
 use Rattle.net_replay.specs.World as worlds
 use Rattle.net_replay.specs.World.{Bytes, Input, Time, World, after, aired, air_events, all_fetched_of, all_told, numbered, place_of, put, put_of, puts, reach, reaches, tell, tells_entries}
-use Rattle.net_replay.proofs.Containing.{AreApart, Comes, Contains, IsQuiet, Tracks, TracksAt, at_name, comes_contains, ends_config, events_by, is_named, name_at, names, note_append, place_is, quiet_contains, quiet_events, quiet_notes, sets_run, told_by}
-use Rattle.net_replay.proofs.Remembering.{Lifts, Past, Rising, below_none, lift, losses_lift, rising_le, rising_more, runs_lift}
+use Rattle.net_replay.proofs.Containing.{AreApart, Comes, Contains, IsQuiet, Tracks, TracksAt, comes_contains, events_by, name_at, names, note_append, place_is, quiet_contains, quiet_events, quiet_notes, sets_run}
+use Rattle.net_replay.proofs.Remembering.{Lifts, Rising, lift, losses_lift, rising_le, runs_lift}
 use Rattle.net_replay.proofs.Moving.{told_entries, made_length, entries_other, TellsAt, tells_at, event, entries_tell, lost_events, losses_are, lost_tell, lost_length, lost_other, placed, new_tracks, all_gone_gone, past_below, same_set, sent_tracks}
 
 module _ (plan : Plan) (apart : AreApart (names (new_nodes plan))) (are_steps : InputsAreSteps) (bytes : BytesRun) (ticks : TicksRun) (acts : ActsRun) where

@@ -120,6 +120,7 @@ impl World {
         let at = self.place_of(number);
         match self.table_at(at)? {
             Some(table) => {
+                let table = Box::new(self.alloc, table)?;
                 self.tell(line, Event::Shown { table })?;
                 Ok(())
             }

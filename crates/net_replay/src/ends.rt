@@ -100,7 +100,7 @@ fn note_in(lists: &mut [Vec<EndRecord>], event: &Event) -> Result<(), NoMemory>
             Ok(())
         }
         Event::Lost { node, end, facts } => {
-            set_outcome(&mut lists[*node as usize], *end, Outcome::Lost(*facts));
+            set_outcome(&mut lists[*node as usize], *end, Outcome::Lost(**facts));
             Ok(())
         }
         _ => Ok(()),

@@ -67,7 +67,7 @@ impl Table {
     }
 }
 
-/// Something that a replay has to tell.
+/// Something that a replay has to tell. What is large and seldom stands on the heap, since there are three events for a frame.
 #[derive(Debug, Drop)]
 pub enum Event {
     /// What the node of that number tells.
@@ -86,7 +86,7 @@ pub enum Event {
     },
     /// A node's table was shown.
     Shown {
-        table: Table,
+        table: Box<Table>,
     },
     /// This message was taken from an end.
     Took {
@@ -109,7 +109,7 @@ pub enum Event {
     Lost {
         node: u8,
         end: u64,
-        facts: EndFacts,
+        facts: Box<EndFacts>,
     },
     /// An act wasn't done.
     Refused {

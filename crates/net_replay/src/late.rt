@@ -96,7 +96,7 @@ fn heed(
                 own: spot.own,
                 told: Told::Lost {
                     id: *end,
-                    facts: *facts,
+                    facts: **facts,
                 },
             };
             take_in(&spot, verdict, line, &event)

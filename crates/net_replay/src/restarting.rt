@@ -82,6 +82,7 @@ impl World {
     {
         match self.facts_at(at, end) {
             Some(facts) => {
+                let facts = Box::new(self.alloc, facts)?;
                 self.tell(line, Event::Lost { node, end, facts })?;
                 Ok(())
             }
