@@ -1,7 +1,9 @@
 -- The first word of a line, cut off.
-use Rattle.std.proofs.Common.{◌≡◌, ◌<◌, ℕ, Bool, true, false, not, ◌==◌, if◌then◌else◌, cond, List, [], ◌∷◌, length, filter, refl, sym, ap, ◌∙◌, arith}
-use Rattle.std.specs.List.{slice_split, onto_first}
+use Rattle.std.proofs.Common.{◌≡◌, ◌<◌, ◌≤◌, ℕ, suc, Bool, true, false, not, ◌==◌, if◌then◌else◌, cond, List, [], ◌∷◌, length, filter, take, drop, ◌+◌, refl, sym, ap, ◌∙◌, arith}
+use Rattle.std.specs.Prelude.{unwrap_or}
+use Rattle.std.specs.List.{slice_split, onto_first, position, position_or_len}
 use Rattle.std.proofs.lemmas.Bool.Decides.{nat_tests}
+use Rattle.std.proofs.lemmas.List.Sums.{prefix_len-le-length}
 use Rattle.text_lines.specs.Words.{after_spaces, after_word, before_space, words_of}
 
 -- the pieces behind the first
@@ -68,3 +70,19 @@ no_word_behind line rest e none = no_word line (sym e ∙ is_nil rest none)
 pub first_word_behind : (line rest word behind : List ℕ) → rest ≡ after_spaces line → (length rest == 0) ≡ false → word ≡ before_space rest → behind ≡ after_word rest →
     words_of line ≡ word ∷ words_of behind
 first_word_behind line rest word behind e some w b = rw (w, b, e) (first_word line (is_cons (after_spaces line) (rw e at some)))
+
+cut_there : (line : List ℕ) → (take (position_or_len (λ b. b == 32) line) line ≡ before_space line) × (drop (position_or_len (λ b. b == 32) line) line ≡ after_word line)
+cut_there [] = (refl, refl)
+cut_there (b ∷ bs) = by (b == 32) (position_or_len (λ c. c == 32) bs) (cut_there bs)
+  where
+    by : (t : Bool) (n : ℕ) → (take n bs ≡ before_space bs) × (drop n bs ≡ after_word bs) →
+        (take (cond (not t) (1 + n) 0) (b ∷ bs) ≡ (if t then [] else b ∷ before_space bs)) × (drop (cond (not t) (1 + n) 0) (b ∷ bs) ≡ (if t then b ∷ bs else after_word bs))
+    by true n next = (refl, refl)
+    by false n next = let e : 1 + n ≡ suc n = omega arith in rw e (ap (λ ys. b ∷ ys) next.0, next.1)
+
+-- the first word ends at the first space, or with the line
+pub cut : (line : List ℕ) (end : ℕ) → end ≡ unwrap_or (position (λ b. b == 32) line) (length line) → (take end line ≡ before_space line) × (drop end line ≡ after_word line)
+cut line end e =
+    let short : position_or_len (λ b. b == 32) line ≤ length line = prefix_len-le-length (λ b. not (b == 32)) line in
+    let same : end ≡ position_or_len (λ b. b == 32) line = grind (arith, nat_tests) in
+    rw same (cut_there line)

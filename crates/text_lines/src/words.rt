@@ -1,6 +1,6 @@
 //! The words of a line, which spaces part. Own profile.
-ghost use Rattle.std.specs.Prelude.{◌≡◌, ◌==◌, ◌∷◌, [], None, Some, IfOk, MatchOption};
-ghost use Rattle.std.specs.List.{slice_split};
+ghost use Rattle.std.specs.Prelude.{◌≡◌, ◌<◌, ◌==◌, ◌∷◌, [], None, Some, length, IfOk, IfSome, MatchOption};
+ghost use Rattle.std.specs.List.{slice_split, position};
 ghost use Rattle.text_lines.specs.Words as words;
 
 use std::alloc::{AllocError, Global};
@@ -37,15 +37,20 @@ pub fn first_word(line: &[u8]) -> Option<(&[u8], &[u8])>
 }
 
 /// A line up to its first space, and from there on.
+#[tactic(auto, using(crate::proofs::FirstWords::cut))]
 fn at_space(line: &[u8]) -> (&[u8], &[u8])
     ensures front { result.0.now ≡ words.before_space line.now }
     ensures rest { result.1.now ≡ words.after_word line.now }
 {
-    let mut end = 0;
-    while end < line.len() && line[end] != b' ' {
-        end += 1;
-    }
-    line.split_at(end)
+    line.split_at(first_space(line).unwrap_or(line.len()))
+}
+
+/// The place of the first space.
+fn first_space(line: &[u8]) -> Option<usize>
+    ensures place { result ≡ position (λ b. b == 32) line.now }
+    ensures within { IfSome result (λ at. at < length line.now) }
+{
+    line.iter().position(|b| *b == b' ')
 }
 
 /// What stands after the one space at the front, if that space is there.
