@@ -44,16 +44,13 @@ fn matches(route: &Route, dest: u32) -> bool
 pub(crate) fn longest(routes: &[Route], dest: u32) -> Option<Route>
     ensures { result ≡ spec.longest dest routes.now }
 {
-    match routes {
-        [] => None,
-        [first, rest @ ..] => {
-            if matches(first, dest) {
-                Some(longer(first, longest(rest, dest)))
-            } else {
-                longest(rest, dest)
-            }
+    let mut best = None;
+    for route in routes.iter().rev() {
+        if matches(route, dest) {
+            best = Some(longer(route, best));
         }
     }
+    best
 }
 
 fn longer(first: &Route, other: Option<Route>) -> Route

@@ -8,10 +8,15 @@ pub(crate) fn word_sum(octets: &[u8]) -> u32
     ensures value { result ≡ sums.word_sum octets.now }
     ensures bound { result ≤ 65535 * length octets.now }
 {
-    match octets {
-        [high, low, rest @ ..] => 256 * *high as u32 + *low as u32 + word_sum(rest),
-        [high] => 256 * *high as u32,
-        [] => 0,
+    let mut sum = 0;
+    let mut rest = octets;
+    while let [high, low, more @ ..] = rest {
+        sum += 256 * *high as u32 + *low as u32;
+        rest = more;
+    }
+    match rest {
+        [high] => sum + 256 * *high as u32,
+        _ => sum,
     }
 }
 
