@@ -1,7 +1,8 @@
 -- Searching rows in order.
 use Rattle.std.proofs.Common.{◌≡◌, ◌≤◌, ◌<◌, ◌+◌, ◌∙◌, ℕ, zero, suc, refl, sym, ap, subst, List, [], ◌∷◌, ◌++◌, length, take, drop, arith, Bool, true, false, cond, get_or, filter, append-nil, ◌-◌, inl, inr}
-use Rattle.std.specs.Prelude.{insert, not, ◌||◌, ◌&&◌}
+use Rattle.std.specs.Prelude.{Option, Some, None, insert, not, slice_get, ◌||◌, ◌&&◌}
 use Rattle.std.specs.List.{list_any, prefix_len, AllByRecursion}
+use Rattle.std.specs.Option.{option_map}
 use Rattle.std.specs.List.Sorted.{IsPartitionedBy, IsPartitionPoint}
 use Rattle.std.proofs.lemmas.Bool.{cases_lt}
 use Rattle.std.proofs.lemmas.List.Sums.{prefix_len_is, prefix_len_stops}
@@ -271,3 +272,44 @@ drop_end (x ∷ xs) (suc i) h = drop_end xs i (omega arith)
 
 pub best_end : (c : Callsign) (rows tail best : List Route) (i : ℕ) → length tail ≤ i → length best ≤ 3 → best ++ filter (is_to c) (drop i tail) ≡ filter (is_to c) rows → best ≡ take 3 (filter (is_to c) rows)
 best_end c rows tail best i w few told = best_done c rows (drop i tail) best few (ap (filter (is_to c)) (drop_end tail i w)) told
+
+-- the first of the rows to a destination: the row where they begin, if that leads there
+
+first_found : (c : Callsign) (tail : List Route) (r : Route) → Some r ≡ slice_get tail 0 → same_call r.dest c ≡ true → slice_get (take 3 (filter (is_to c) tail)) 0 ≡ Some r
+first_found c [] r h e = absurd (cc)
+first_found c (x ∷ xs) r h e =
+    let k : r ≡ x = cc in
+    let t : same_call x.dest c ≡ true = subst (λ y. same_call y.dest c ≡ true) k e in
+    rw t (sym h)
+
+none_found : (c : Callsign) (tail : List Route) (r : Route) → InRows tail → NotLower c tail → Some r ≡ slice_get tail 0 → same_call r.dest c ≡ false → filter (is_to c) tail ≡ []
+none_found c [] r i n h e = refl
+none_found c (x ∷ xs) r i n h e =
+    let k : r ≡ x = cc in
+    none_from c (x ∷ xs) 0 x i n (omega arith) (subst (λ y. same_call y.dest c ≡ false) k e)
+
+abbrev hop : List Route → Option Callsign
+hop rows = option_map (λ (r : Route). r.neighbour) (slice_get (take 3 rows) 0)
+
+-- what lies at the front of what a search gives
+front_is : (rows : List Route) (s : ℕ) (o : Option Route) → o ≡ slice_get (take (length rows - s) (drop s rows)) 0 → o ≡ slice_get (drop s rows) 0
+front_is rows s o h = h ∙ ap (λ xs. slice_get xs 0) (whole_tail s rows)
+
+tail_is : (c : Callsign) (rows : List Route) (s : ℕ) → s ≡ start_of c rows → filter (is_to c) (drop s rows) ≡ filter (is_to c) rows
+tail_is c rows s q = ap (λ n. filter (is_to c) (drop n rows)) q ∙ from_start c rows
+
+pub hop_found : (c : Callsign) (rows : List Route) (s : ℕ) (r : Route) → s ≡ start_of c rows → Some r ≡ slice_get (take (length rows - s) (drop s rows)) 0 → same_call r.dest c ≡ true → Some r.neighbour ≡ hop (filter (is_to c) rows)
+hop_found c rows s r q h e =
+    ap (option_map (λ (r : Route). r.neighbour)) (sym (first_found c (drop s rows) r (front_is rows s (Some r) h) e)) ∙ ap hop (tail_is c rows s q)
+
+pub hop_elsewhere : (c : Callsign) (rows : List Route) (s : ℕ) (r : Route) → InRows rows → s ≡ start_of c rows → Some r ≡ slice_get (take (length rows - s) (drop s rows)) 0 → same_call r.dest c ≡ false → None ≡ hop (filter (is_to c) rows)
+hop_elsewhere c rows s r i q h e =
+    let low : NotLower c (drop s rows) = subst (λ n. NotLower c (drop n rows)) (sym q) (tail_not_lower c rows i) in
+    ap hop (sym (none_found c (drop s rows) r (drop_rows s rows i) low (front_is rows s (Some r) h) e) ∙ tail_is c rows s q)
+
+pub hop_behind : (c : Callsign) (rows : List Route) (s : ℕ) → s ≡ start_of c rows → None ≡ slice_get (take (length rows - s) (drop s rows)) 0 → None ≡ hop (filter (is_to c) rows)
+hop_behind c rows s q h = ap hop (ap (filter (is_to c)) (sym (none_at (drop s rows) (front_is rows s None h))) ∙ tail_is c rows s q)
+  where
+    none_at : (xs : List Route) → None ≡ slice_get xs 0 → xs ≡ []
+    none_at [] h = refl
+    none_at (x ∷ xs) h = absurd (cc)

@@ -59,38 +59,44 @@ pub(crate) fn all_entries_of(
     let mut entries = Vec::new(alloc);
     let mut rest = rows;
     while let Some(first) = rest.first() {
-        push_entry(&mut entries, entry_of(least, first))?;
+        push_entry(&mut entries, least, first)?;
         rest = behind(rest);
     }
     Ok(entries)
 }
 
-/// Adds an entry, where there is one.
-fn push_entry(entries: &mut Vec<Entry>, found: Option<Entry>) -> Result<(), AllocError>
-    ensures { OnOk result ((later : List Entry) → entries.new.items ++ later ≡ entries.old.items ++ cons_option found later) }
+/// Adds what is broadcast of a destination with this first route, if anything is.
+fn push_entry(entries: &mut Vec<Entry>, least: u8, first: &Route) -> Result<(), AllocError>
+    ensures { OnOk result ((later : List Entry) → entries.new.items ++ later ≡ entries.old.items ++ cons_option (broadcast.entry_by least first.now.dest (Some first.now)) later) }
 {
-    match found {
-        Some(entry) => {
-            entries.push(entry)?;
-            Ok(())
-        }
-        None => Ok(()),
+    if is_fresh(least, first) {
+        entries.push(entry_by(first))?;
     }
+    Ok(())
 }
 
 /// What is broadcast of a destination with this first route, where that is locked or has rounds enough left.
-fn entry_of(least: u8, route: &Route) -> Option<Entry>
-    ensures { result ≡ broadcast.entry_by least route.now.dest (Some route.now) }
+fn entry_of(least: u8, first: &Route) -> Option<Entry>
+    ensures { result ≡ broadcast.entry_by least first.now.dest (Some first.now) }
 {
-    if !is_fresh(least, route) {
-        return None;
+    if is_fresh(least, first) {
+        Some(entry_by(first))
+    } else {
+        None
     }
-    Some(Entry {
+}
+
+/// What a route says of its destination.
+fn entry_by(route: &Route) -> Entry
+    ensures { let r = route.now in
+        result ≡ record { dest = r.dest; alias = r.alias; best = r.neighbour; quality = r.quality } }
+{
+    Entry {
         dest: route.dest,
         alias: route.alias,
         best: route.neighbour,
         quality: route.quality,
-    })
+    }
 }
 
 /// Whether the route is broadcast: it is locked, or has at least that many rounds left.

@@ -1,5 +1,6 @@
 //! Routes by quality, and which is the better one (NET/ROM, Appendix B).
-ghost use Rattle.std.specs.Prelude.{◌≡◌, ◌≤◌, ◌<◌, ◌-◌, length, slice_index_or, true};
+ghost use Rattle.std.specs.Prelude.{◌≡◌, ◌≤◌, ◌<◌, ◌-◌, length, slice_get, slice_index_or, true};
+ghost use Rattle.std.specs.Option.{option_map};
 ghost use Rattle.ax_address.specs.CallOrder.{call_lt};
 ghost use Rattle.route_table.specs.declared.route.Route.{Route};
 ghost use Rattle.route_table.specs.Places as places;
@@ -114,6 +115,23 @@ pub(crate) fn pair_from(rows: &[Route], start: usize, route: &Route) -> Option<u
         }
     }
     None
+}
+
+/// The neighbour of the first row to a destination.
+pub(crate) fn hop_to(rows: &[Route], dest: &Call) -> Option<Call>
+    requires { places.InRows rows.now }
+    ensures { result ≡ option_map (λ r. r.neighbour) (slice_get (rows_spec.best_of rows.now dest.now) 0) }
+{
+    match rows[start_of(rows, dest)..].first() {
+        Some(row) => {
+            if row.dest == *dest {
+                Some(row.neighbour)
+            } else {
+                None
+            }
+        }
+        None => None,
+    }
 }
 
 /// The best three of the rows to a destination.

@@ -215,18 +215,17 @@ pub(crate) fn count_down(rows: &mut Vec<Route>)
     ensures len { length rows.new.items ≡ length rows.old.items }
 {
     for row in rows.iter_mut() {
-        *row = older(row);
+        grow_older(row);
     }
 }
 
-fn older(row: &Route) -> Route
-    ensures { result ≡ spec.older row.now }
+/// A row that counts is one round older.
+fn grow_older(row: &mut Route)
+    ensures { row.new ≡ spec.older row.old }
 {
-    let count = match row.count {
-        Some(count) => Some(count.saturating_sub(1)),
-        None => None,
-    };
-    Route { count, ..*row }
+    if let Some(count) = row.count {
+        row.count = Some(count.saturating_sub(1));
+    }
 }
 
 /// Drops the rows whose count has run out.

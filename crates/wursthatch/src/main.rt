@@ -8,20 +8,24 @@ use std::process::ExitCode;
 use std::{env, io};
 
 fn main(rt: HostRuntime) -> ExitCode {
+    ExitCode::from(status_of(&rt).code())
+}
+
+/// Runs the command. What ran is left as it stands: the process ends here, and its memory goes back at once.
+fn status_of(rt: &HostRuntime) -> Status {
     let alloc = rt.alloc();
-    let status = match given_words(&rt, alloc) {
-        Ok(words) => run(
-            alloc,
-            &words,
-            &mut Reading::new(rt.stdin()),
-            &mut Writing::new(rt.stdout()),
-            &mut Writing::new(rt.stderr()),
-            &mut SystemClock::new(&rt),
-            &mut Ran::Nothing,
-        ),
-        Err(NoMemory) => Status::NoMemory,
+    let (Ok(words), Ok(ran)) = (given_words(rt, alloc), Box::new(alloc, Ran::Nothing)) else {
+        return Status::NoMemory;
     };
-    ExitCode::from(status.code())
+    run(
+        alloc,
+        &words,
+        &mut Reading::new(rt.stdin()),
+        &mut Writing::new(rt.stdout()),
+        &mut Writing::new(rt.stderr()),
+        &mut SystemClock::new(rt),
+        Box::leak(ran),
+    )
 }
 
 /// The words behind the program's name. Where one of them is no text they belong to no command,

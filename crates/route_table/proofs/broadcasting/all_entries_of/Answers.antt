@@ -9,8 +9,7 @@ pub loop-first-preserved : goal.loop-first-preserved
 loop-first-preserved c = record {
   told =
       c.in_ok-push_entry.ensures (told c.args.least c.behind-rest.result.now)
-      ∙ (ap (λ o. c.loop-first.entries.items ++ cons_option o (told c.args.least c.behind-rest.result.now)) c.entry_of.ensures
       ∙ (ap (λ xs. c.loop-first.entries.items ++ cons_option (entry_by c.args.least c.in-Some.first.now.dest (Some c.in-Some.first.now)) (told c.args.least xs)) c.behind-rest.ensures.rest
-      ∙ (ap (λ xs. c.loop-first.entries.items ++ xs) (sym (told_step c.args.least c.loop-first.rest.now c.in-Some.first.now c.loop-first.invariant.order c.in-Some.ensures.value)) ∙ c.loop-first.invariant.told)));
+      ∙ (ap (λ xs. c.loop-first.entries.items ++ xs) (sym (told_step c.args.least c.loop-first.rest.now c.in-Some.first.now c.loop-first.invariant.order c.in-Some.ensures.value)) ∙ c.loop-first.invariant.told));
   order = subst InRows (sym c.behind-rest.ensures.rest) (rest_rows c.loop-first.rest.now c.loop-first.invariant.order);
 }
