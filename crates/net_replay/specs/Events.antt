@@ -36,10 +36,10 @@ event_of (codes.Entry node entry) = Entry node (entry_of entry.value)
 event_of (codes.InAir frame) = InAir frame
 event_of (codes.Delivered frame node) = Delivered frame node
 event_of (codes.Shown table) = Shown table.value
-event_of (codes.Took node end message) = Took node end message.items
+event_of (codes.Took node end message) = Took node end message.value.items
 event_of (codes.Wrote node end count) = Wrote node end count
 event_of (codes.Restarted node pair) = Restarted node pair
-event_of (codes.Lost node end facts) = Lost node end facts.value
+event_of (codes.Lost node end) = Lost node end.value.id end.value.facts
 event_of (codes.Refused why) = Refused why
 
 abbrev pub numbered_of : numbered.NumberedEvent → NumberedEvent

@@ -102,6 +102,7 @@ impl World {
     {
         match answer {
             Answer::Took(message) => {
+                let message = Box::new(self.alloc, message)?;
                 self.tell(line, Event::Took { node, end, message })?;
                 Ok(())
             }

@@ -85,7 +85,7 @@ impl World {
             Some(frame) => {
                 put_kiss(frame.octets.as_slice(), &mut self.kiss);
                 let modulo128 = frame.modulo128;
-                let frame = at + 1;
+                let frame = (at + 1) as u32;
                 self.tell(line, Event::Delivered { frame, node })?;
                 self.hear(channels, line, node, modulo128)
             }

@@ -99,8 +99,8 @@ fn note_in(lists: &mut [Vec<EndRecord>], event: &Event) -> Result<(), NoMemory>
             note_entry(&mut lists[*node as usize], entry)?;
             Ok(())
         }
-        Event::Lost { node, end, facts } => {
-            set_outcome(&mut lists[*node as usize], *end, Outcome::Lost(**facts));
+        Event::Lost { node, end } => {
+            set_outcome(&mut lists[*node as usize], end.id, Outcome::Lost(end.facts));
             Ok(())
         }
         _ => Ok(()),

@@ -67,6 +67,13 @@ impl Table {
     }
 }
 
+/// An end that a restart took away: its number at the node, and what it had come to.
+#[derive(Clone, Copy, Debug)]
+pub struct LostEnd {
+    pub id: u64,
+    pub facts: EndFacts,
+}
+
 /// Something that a replay has to tell. What is large and seldom stands on the heap, since there are three events for a frame.
 #[derive(Debug, Drop)]
 pub enum Event {
@@ -77,11 +84,11 @@ pub enum Event {
     },
     /// The frame of that number, from 1, was put in the air.
     InAir {
-        frame: usize,
+        frame: u32,
     },
     /// The frame of that number goes to the node.
     Delivered {
-        frame: usize,
+        frame: u32,
         node: u8,
     },
     /// A node's table was shown.
@@ -92,7 +99,7 @@ pub enum Event {
     Took {
         node: u8,
         end: u32,
-        message: Vec<u8>,
+        message: Box<Vec<u8>>,
     },
     /// So many messages of a burst were written at an end.
     Wrote {
@@ -108,8 +115,7 @@ pub enum Event {
     /// A restart took an end away.
     Lost {
         node: u8,
-        end: u64,
-        facts: Box<EndFacts>,
+        end: Box<LostEnd>,
     },
     /// An act wasn't done.
     Refused {

@@ -89,14 +89,14 @@ fn heed(
             };
             take_in(&spot, verdict, line, &event)
         }
-        Event::Lost { node, end, facts } => {
+        Event::Lost { node, end } => {
             let spot = spot_of(declared, *node);
             let event = CircuitEvent {
                 node: spot.place,
                 own: spot.own,
                 told: Told::Lost {
-                    id: *end,
-                    facts: **facts,
+                    id: end.id,
+                    facts: end.facts,
                 },
             };
             take_in(&spot, verdict, line, &event)

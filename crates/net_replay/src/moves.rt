@@ -233,7 +233,7 @@ impl World {
         if on_air {
             let modulo128 = is_modulo128(came128, written.how);
             self.air.put(node, written.octets, modulo128)?;
-            let frame = self.air.frames().len();
+            let frame = self.air.frames().len() as u32;
             self.tell(line, Event::InAir { frame })?;
             Ok(())
         } else {

@@ -6,7 +6,7 @@ ghost use Rattle.net_replay.specs.Running as running;
 ghost use Rattle.net_replay.specs.Running.{GoesOn, Stands, course};
 ghost use Rattle.net_replay.specs.World as worlds;
 
-use crate::events::Event;
+use crate::events::{Event, LostEnd};
 use crate::moves::World;
 use crate::stations::started;
 use circuit_l4::{EndFacts, Pair};
@@ -82,8 +82,8 @@ impl World {
     {
         match self.facts_at(at, end) {
             Some(facts) => {
-                let facts = Box::new(self.alloc, facts)?;
-                self.tell(line, Event::Lost { node, end, facts })?;
+                let end = Box::new(self.alloc, LostEnd { id: end, facts })?;
+                self.tell(line, Event::Lost { node, end })?;
                 Ok(())
             }
             None => Ok(()),
