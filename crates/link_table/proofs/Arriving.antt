@@ -20,10 +20,11 @@ use Rattle.link_table.specs.declared.entry.Entry.{Entry}
 use Rattle.link_table.specs.declared.held_links.HeldLinks.{HeldLinks}
 use Rattle.link_table.specs.declared.link_of.LinkOf.{LinkOf}
 use Rattle.link_table.specs.declared.link_of.LinkOf.TheVariants.{Eight, Wide}
-use Rattle.link_table.specs.Calls.{answer, answer_down, back, end, made, most_links, no_set_up, refusal_of, refused_by, set_up, set_up_new, sets_up, source, to_link}
+use Rattle.link_table.specs.Calls.{answer, answer_down, back, end, keep, link_frame, made, most_links, no_set_up, refusal_of, refused_by, set_up, set_up_new, sets_up, source, to_link}
 use Rattle.link_table.specs.Frames.{all_sent, fitting, head_to, sent}
 use Rattle.link_table.specs.Standing.{CoreGoes, CoreStands, is_wide, size_of, wide_at, wide_by, width}
-use Rattle.link_table.specs.Table.{Table}
+use Rattle.link_table.specs.Table.{Table, link_with}
+use Rattle.link_table.specs.Works.{arrive_at_link}
 use Rattle.link_table.proofs.Links.{Found, found, none_found}
 use Rattle.link_table.proofs.LinkOffers.{append_none, entry_looks, same_length, some_looks}
 
@@ -129,10 +130,13 @@ stands_there c c2 f now b e q goes t s =
     let y : Found c.own (source f) x.0 t.links = found c.own (source f) c.links.entries t.links x.0 s.links x.1 in
     subst (CoreStands c2) (sym (ap (λ z. elim z as (λ w. Table) [ None ↦ if is_command f.head then answer_down f t else t | Some l ↦ to_link f now t ]) y.with)) (goes t s)
 
-pub none_there : (c c2 : HeldLinks) (f : AirFrame) (now : ℕ) (b command : Bool) → b ≡ is_some (lookup (same_call (source f)) c.links.entries) → b ≡ false → command ≡ is_command f.head →
-    CoreGoes (λ t. if command then answer_down f t else t) c c2 → CoreGoes (no_set_up f now) c c2
-none_there c c2 f now b command e q k goes t s =
-    subst (CoreStands c2)
-    (sym (ap (λ z. elim z as (λ w. Table) [ None ↦ if is_command f.head then answer_down f t else t | Some l ↦ to_link f now t ]) (none_found c.own (source f) c.links.entries t.links s.links (some_looks _ (sym e ∙ q)))
+pub none_there : (c c2 c3 : HeldLinks) (f : AirFrame) (now : ℕ) (b command : Bool) → b ≡ is_some (lookup (same_call (source f)) c.links.entries) → b ≡ false → command ≡ is_command f.head →
+    CoreGoes (to_link f now) c c2 → CoreGoes (λ t. if command then answer_down f t else t) c2 c3 → CoreGoes (no_set_up f now) c c3
+none_there c c2 c3 f now b command e q k first goes t s =
+    let none : link_with (source f) t.links ≡ None = none_found c.own (source f) c.links.entries t.links s.links (some_looks _ (sym e ∙ q)) in
+    let same : to_link f now t ≡ t =
+    ap (λ z. elim z as (λ w. Table) [ None ↦ t | Some l ↦ keep (source f) (arrive_at_link t.own (link_frame l.link.rules.size f) now (record { linked = l; pending = t.pending })) t ]) none in
+    subst (CoreStands c3)
+    (sym (ap (λ z. elim z as (λ w. Table) [ None ↦ if is_command f.head then answer_down f t else t | Some l ↦ to_link f now t ]) none
     ∙ ap (λ d. if d then answer_down f t else t) (sym k)))
-    (goes t s)
+    (goes t (subst (CoreStands c2) same (first t s)))

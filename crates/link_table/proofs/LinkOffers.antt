@@ -1,6 +1,6 @@
 -- What is offered to a link, and what ends one without a frame or hands it one.
 use Rattle.std.proofs.Common.{◌≡◌, ℕ, suc, ◌≤◌, ◌<◌, Bool, true, false, cond, List, [], ◌∷◌, ◌++◌, length, map, min, ◌&&◌, is_some, nat_le, Option, Some, None, refl, ap, sym, ◌∙◌, subst, arith, if◌then◌else◌}
-use Rattle.std.specs.Map.{keys_of, lookup, set_value, remove_entry}
+use Rattle.std.specs.Map.{lookup, set_value, remove_entry}
 use Rattle.ax_address.specs.Callsign.{Callsign}
 use Rattle.arrayvec.specs.ArrayVec.{ArrayVec}
 use Rattle.ax_address.specs.declared.address.Address.{Address}
@@ -9,13 +9,12 @@ use Rattle.ax_address.specs.CallOrder.{same_call}
 use Rattle.ax_frame.specs.Frames.{Frame as AirFrame}
 use Rattle.link_table.specs.Frames.{Sent}
 use Rattle.ax_link.specs.declared.plain.LinkNotice.{LinkNotice}
-use Rattle.ax_link.specs.Opening.{IsDrained, opening, rules_new}
+use Rattle.ax_link.specs.Opening.{IsDrained}
 use Rattle.link_table.specs.declared.entry.Entry.{Entry}
 use Rattle.link_table.specs.declared.held_links.HeldLinks.{HeldLinks}
 use Rattle.link_table.specs.declared.pending.Pending.{Pending}
-use Rattle.link_table.specs.Fetching.{PendingStands, written}
-use Rattle.link_table.specs.Calls.{Offering, at_link, end, link_frame, made, keep, offer, offer_link, offer_standing, offer_ui, set_up_link, pack, most_links, tick, tick_each}
-use Rattle.ax_segment.specs.Joining.{Nothing}
+use Rattle.link_table.specs.Fetching.{written}
+use Rattle.link_table.specs.Calls.{Offering, at_link, end, link_frame, made, offer, offer_link, offer_standing, offer_ui, set_up_link, pack, most_links}
 use Rattle.link_table.specs.declared.route.Route.{Route}
 use Rattle.ax_link.specs.State.{count_end}
 use Rattle.radio_base.specs.declared.payload.Payload.{Payload}
@@ -23,14 +22,14 @@ use Rattle.std.proofs.lemmas.List.{map-append}
 use Rattle.ax_link.specs.declared.plain.LinkPhase.{LinkPhase}
 use Rattle.ax_link.specs.declared.plain.LinkPhase.TheVariants.{Down, SettingUp, Up, Releasing}
 use Rattle.ax_link.specs.State.{State, begin}
-use Rattle.ax_link.specs.Table.{Input, Send, Set_up, Tick, accept, may_close, set_up_in, step, takes}
+use Rattle.ax_link.specs.Table.{Input, Send, Set_up, accept, may_close, set_up_in, step, takes}
 use Rattle.ax_link.specs.Standing.{LinkView, StandsFor}
 use Rattle.l3_datagram.specs.CarrierCall.{Datagram}
 use Rattle.l3_datagram.specs.declared.carrier.Offered.{Offered}
 use Rattle.l3_datagram.specs.declared.carrier.Offered.TheVariants.{Taken, Dropped}
-use Rattle.link_table.specs.Standing.{width, GoesQuietly, Offers, SameEntry, CoreGoes, AllDrained, CoreStands, EntryGoes, LinkStands, LinksStand, Rests, WorkStands, down_at, down_by, drop_if_down, held_of, size_of}
+use Rattle.link_table.specs.Standing.{width, GoesQuietly, Offers, SameEntry, CoreGoes, AllDrained, CoreStands, EntryGoes, LinkStands, LinksStand, Rests, WorkStands, drop_if_down, held_of, size_of}
 use Rattle.link_table.specs.Table.{Linked, Table, path_to, link_with, with_link, without}
-use Rattle.link_table.specs.Works.{Work, arrive_at_link, is_down, joiner_after, lost_by, emit, step_link, tell}
+use Rattle.link_table.specs.Works.{arrive_at_link, is_down, joiner_after, lost_by, emit, step_link, tell}
 use Rattle.link_table.proofs.Links.{Found, SameNode, at_link_stands, down_set, drained_removed, drained_set, few_removed, few_set, found, none_found, removed, set}
 
 -- ---- what is offered to a link
@@ -215,8 +214,9 @@ pub entry_looks : (x : Option Entry) → is_some x ≡ true → (e : Entry) × (
 entry_looks None e = absurd (cc e)
 entry_looks (Some y) e = (y, refl)
 
-pub looked_none : (c : HeldLinks) (peer : Callsign) (b : Bool) → b ≡ is_some (lookup (same_call peer) c.links.entries) → b ≡ false → lookup (same_call peer) c.links.entries ≡ None
-looked_none c peer b e f = some_looks _ (sym e ∙ f)
+pub looked_none : (c c2 : HeldLinks) (peer : Callsign) (answer : Option Offered) → is_some answer ≡ is_some (lookup (same_call peer) c.links.entries) → answer ≡ None → c2 ≡ c →
+    lookup (same_call peer) c2.links.entries ≡ None
+looked_none c c2 peer answer e none same = ap (λ (x : HeldLinks). lookup (same_call peer) x.links.entries) same ∙ some_looks _ (sym e ∙ ap is_some none)
 
 -- what an offer comes to, by whether a link stands
 pub offers_standing : (c c2 : HeldLinks) (to : Callsign) (d : Datagram) (now : ℕ) (answer : Offered) (b : Bool) → b ≡ is_some (lookup (same_call to) c.links.entries) → b ≡ true →
@@ -247,6 +247,12 @@ pub offers_new : (c c2 : HeldLinks) (to : Callsign) (d : Datagram) (now : ℕ) (
     (t : Table) → CoreStands c t → (answer ≡ (offer_link to d now t).answer) × CoreStands c2 (offer_link to d now t).table
 offers_new c c2 to d now answer none l offers t s =
     subst (λ (o : Offering). (answer ≡ o.answer) × CoreStands c2 o.table) (sym (offer_link_none c to d now false t s none (grind (arith, nat_tests, l)))) (offers t s)
+
+-- where no link stands nothing was changed first
+pub offers_later : (c c2 c3 : HeldLinks) (to : Callsign) (d : Datagram) (now : ℕ) (answer : Offered) → c2 ≡ c →
+    ((t : Table) → CoreStands c2 t → (answer ≡ (offer_link to d now t).answer) × CoreStands c3 (offer_link to d now t).table) →
+    (t : Table) → CoreStands c t → (answer ≡ (offer_link to d now t).answer) × CoreStands c3 (offer_link to d now t).table
+offers_later c c2 c3 to d now answer same offers t s = offers t (subst (λ (x : HeldLinks). CoreStands x t) (sym same) s)
 
 -- by links or without
 pub offers_by_links : (c c2 : HeldLinks) (to : Callsign) (d : Datagram) (now : ℕ) (answer : Offered) → c.by_links ≡ true →

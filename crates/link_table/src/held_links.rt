@@ -53,23 +53,15 @@ impl HeldLinks {
         }
     }
 
-    /// Whether the link with a peer is Down.
-    fn is_down(&self, peer: &Call) -> bool
-        ensures { result ≡ down_at peer.now self.now.links.entries }
-    {
-        match self.links.get(peer) {
-            Some(entry) => entry.is_down(),
-            None => false,
-        }
-    }
-
-    /// A link that is Down leaves at once.
-    pub(crate) fn drop_if_down(&mut self, peer: &Call)
+    /// A link that is Down leaves at once. The caller has had it in hand and says whether it is, so that a link that stays isn't
+    /// looked up again.
+    pub(crate) fn drop_if_down(&mut self, peer: &Call, down: bool)
+        requires { down ≡ down_at peer.now self.old.links.entries }
         ensures rest { self.new ≡ record self.old { links = self.new.links } }
         ensures left { self.new.links.entries ≡ drop_if_down peer.now self.old.links.entries }
     {
-        if self.is_down(peer) {
-            let _ = self.links.shift_remove(peer);
+        if down {
+            let _ = self.remove(peer);
         }
     }
 
@@ -124,18 +116,23 @@ impl HeldLinks {
         self.links.shift_remove(peer).is_some()
     }
 
-    fn to_link(&mut self, frame: &FrameView<'_>, now: Moment) -> Result<(), NoMemory>
+    /// Hands a frame to the link with its source, and says whether one stood.
+    fn to_link(&mut self, frame: &FrameView<'_>, now: Moment) -> Result<bool, NoMemory>
         requires { Rests self.old }
         ensures rests { OnOk result (Rests self.new) }
         ensures goes { OnOk result (CoreGoes (calls.to_link (view frame.now) now.0) self.old self.new) }
+        ensures stood { IfOk result (λ stood. stood ≡ is_some (lookup (same_call (calls.source (view frame.now))) self.old.links.entries)) }
     {
         let peer = frame.head.source.call;
-        match self.links.get_mut(&peer) {
-            Some(entry) => entry.arrive(&mut self.pending, frame, now)?,
-            None => return Ok(()),
-        }
-        self.drop_if_down(&peer);
-        Ok(())
+        let down = match self.links.get_mut(&peer) {
+            Some(entry) => {
+                entry.arrive(&mut self.pending, frame, now)?;
+                entry.is_down()
+            }
+            None => return Ok(false),
+        };
+        self.drop_if_down(&peer, down);
+        Ok(true)
     }
 
     fn answer(
@@ -213,8 +210,8 @@ impl HeldLinks {
         ensures rests { OnOk result (Rests self.new) }
         ensures goes { OnOk result (CoreGoes (calls.no_set_up (view frame.now) now.0) self.old self.new) }
     {
-        if self.links.contains_key(&frame.head.source.call) {
-            self.to_link(frame, now)?;
+        let stood = self.to_link(frame, now)?;
+        if stood {
             return Ok(());
         }
         if command {
@@ -300,11 +297,14 @@ impl HeldLinks {
         ensures rests { OnOk result (Rests self.new) }
         ensures goes { OnOk result (CoreGoes (λ t. calls.at_link peer.now (works.step_link t.own table.Tick now.0) t) self.old self.new) }
     {
-        match self.links.get_mut(peer) {
-            Some(entry) => entry.tick(&mut self.pending, now)?,
+        let down = match self.links.get_mut(peer) {
+            Some(entry) => {
+                entry.tick(&mut self.pending, now)?;
+                entry.is_down()
+            }
             None => return Ok(()),
-        }
-        self.drop_if_down(peer);
+        };
+        self.drop_if_down(peer, down);
         Ok(())
     }
 
@@ -325,11 +325,14 @@ impl HeldLinks {
         ensures rests { OnOk result (Rests self.new) }
         ensures goes { OnOk result (CoreGoes (calls.close peer.now now.0) self.old self.new) }
     {
-        match self.links.get_mut(peer) {
-            Some(entry) => entry.close(&mut self.pending, now)?,
+        let down = match self.links.get_mut(peer) {
+            Some(entry) => {
+                entry.close(&mut self.pending, now)?;
+                entry.is_down()
+            }
             None => return Ok(()),
-        }
-        self.drop_if_down(peer);
+        };
+        self.drop_if_down(peer, down);
         Ok(())
     }
 

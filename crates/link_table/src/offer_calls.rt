@@ -1,8 +1,10 @@
 //! Datagrams that are offered to the links of a node (NET/ROM, Appendix B).
 ghost use Rattle.std.specs.Prelude.{◌≡◌, ◌≤◌, ◌<◌, ℕ, None, Some, OnOk, IfOk, if◌then◌else◌, length, is_some};
 ghost use Rattle.std.specs.Map.{lookup};
+ghost use Rattle.std.specs.Option.{unwrap_or};
 ghost use Rattle.ax_address.specs.CallOrder.{same_call};
 ghost use Rattle.ax_link.specs.Table as table;
+ghost use Rattle.l3_datagram.specs.declared.carrier.Offered.TheVariants.{Dropped};
 ghost use Rattle.link_table.specs.Works as works;
 ghost use Rattle.link_table.specs.Calls as calls;
 
@@ -56,11 +58,19 @@ impl HeldLinks {
         }
     }
 
-    fn send(&mut self, to: &Call, datagram: &Datagram, now: Moment) -> Result<Offered, NoMemory>
+    /// Offers a datagram to the link with a peer. None where no link stands: then nothing is changed.
+    fn send(
+        &mut self,
+        to: &Call,
+        datagram: &Datagram,
+        now: Moment,
+    ) -> Result<Option<Offered>, NoMemory>
         requires { Rests self.old }
         ensures rests { OnOk result (Rests self.new) }
+        ensures stood { IfOk result (λ answer. is_some answer ≡ is_some (lookup (same_call to.now) self.old.links.entries)) }
         ensures offers { IfOk result (λ answer. (t : Table) → CoreStands self.old t →
-            (answer ≡ (calls.offer_standing to.now datagram.now now.0 t).answer) × CoreStands self.new (calls.offer_standing to.now datagram.now now.0 t).table) }
+            (unwrap_or answer Dropped ≡ (calls.offer_standing to.now datagram.now now.0 t).answer) × CoreStands self.new (calls.offer_standing to.now datagram.now now.0 t).table) }
+        ensures none { IfOk result (λ answer. answer ≡ None → self.new ≡ self.old) }
         ensures waiting { self.new.pending.waiting ≡ self.old.pending.waiting }
         ensures lost { self.new.pending.lost ≡ self.old.pending.lost }
     {
@@ -68,9 +78,9 @@ impl HeldLinks {
         match self.links.get_mut(to) {
             Some(entry) => {
                 let offered = entry.send(&mut self.pending.frames, &payload, now)?;
-                Ok(offered)
+                Ok(Some(offered))
             }
-            None => Ok(Offered::Dropped),
+            None => Ok(None),
         }
     }
 
@@ -91,8 +101,8 @@ impl HeldLinks {
             self.offer_ui(to, datagram)?;
             return Ok(Offered::Taken);
         }
-        if self.links.contains_key(to) {
-            let offered = self.send(to, datagram, now)?;
+        let answer = self.send(to, datagram, now)?;
+        if let Some(offered) = answer {
             return Ok(offered);
         }
         if self.links.len() >= MAX_LINKS {
@@ -127,6 +137,6 @@ impl HeldLinks {
         self.make(self.wide, route)?;
         self.set_up_link(to, now)?;
         let offered = self.send(to, datagram, now)?;
-        Ok(offered)
+        Ok(offered.unwrap_or(Offered::Dropped))
     }
 }

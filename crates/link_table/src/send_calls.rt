@@ -33,11 +33,14 @@ impl HeldLinks {
         ensures rests { OnOk result (Rests self.new) }
         ensures goes { OnOk result (CoreGoes (λ t. at_link peer.now (send_text_of t.own text.now now.0) t) self.old self.new) }
     {
-        match self.links.get_mut(peer) {
-            Some(entry) => entry.send_text(&mut self.pending, text, now)?,
+        let down = match self.links.get_mut(peer) {
+            Some(entry) => {
+                entry.send_text(&mut self.pending, text, now)?;
+                entry.is_down()
+            }
             None => return Ok(()),
-        }
-        self.drop_if_down(peer);
+        };
+        self.drop_if_down(peer, down);
         Ok(())
     }
 }

@@ -57,7 +57,8 @@ pub(crate) fn send_pieces<M: Modulus>(
     let mut rest = text;
     while !rest.is_empty() {
         let (piece, later) = rest.split_at(rest.len().min(MAX_INFO));
-        give(link, route, joiner, pending, &text_payload(piece), now)?;
+        let payload = payload_of(TEXT_PID, piece);
+        give(link, route, joiner, pending, &payload, now)?;
         rest = later;
     }
     Ok(())
@@ -128,17 +129,17 @@ fn send_split<M: Modulus>(
     Ok(())
 }
 
-/// A payload of text.
-fn text_payload(piece: &[u8]) -> Payload
-    requires { length piece.now ≤ 256 }
-    ensures { result ≡ sending.payload plain_text piece.now }
+/// A payload of these octets, which are put where it stands, so that they are copied once.
+pub(crate) fn payload_of(pid: u8, info: &[u8]) -> Payload
+    requires { length info.now ≤ 256 }
+    ensures { result ≡ sending.payload pid info.now }
 {
-    let mut info = ArrayVec::new();
-    let _ = info.try_extend_from_slice(piece);
-    Payload {
-        pid: TEXT_PID,
-        info,
-    }
+    let mut payload = Payload {
+        pid,
+        info: ArrayVec::new(),
+    };
+    let _ = payload.info.try_extend_from_slice(info);
+    payload
 }
 
 /// Whether a link takes texts: it is being set up or is Up, and isn't being closed.

@@ -80,11 +80,14 @@ impl HeldLinks {
         ensures text { OnOk result (text_at peer.now self.old.links.entries ≡ Some out.new.items) }
         ensures goes { OnOk result (CoreGoes (λ t. at_link peer.now (take_text_of t.own now.0) t) self.old self.new) }
     {
-        match self.links.get_mut(peer) {
-            Some(entry) => entry.take_text(&mut self.pending, out, now)?,
+        let down = match self.links.get_mut(peer) {
+            Some(entry) => {
+                entry.take_text(&mut self.pending, out, now)?;
+                entry.is_down()
+            }
             None => return Ok(()),
-        }
-        self.drop_if_down(peer);
+        };
+        self.drop_if_down(peer, down);
         Ok(())
     }
 }
