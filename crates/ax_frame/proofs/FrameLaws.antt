@@ -10,8 +10,7 @@ use Rattle.ax_frame.specs.declared.frame.FrameRefusal.{FrameRefusal}
 use Rattle.ax_frame.specs.declared.frame.FrameRefusal.TheVariants.{ExtraInfo}
 use Rattle.ax_frame.specs.Controls.{IsLinkModulus, control_octets, has_pid, takes_info}
 use Rattle.ax_frame.specs.Reading.{◌>>=◌, head_end, control_or_short, control_at, pid_or_none, pid_at, frame_at}
-use Rattle.ax_frame.specs.Frames.{frame, addresses, addresses_octets, pid_octets, Spells}
-use Rattle.ax_frame.specs.Parts.{HasHead}
+use Rattle.ax_frame.specs.Frames.{frame, addresses, addresses_octets, pid_octets, BeginsWith, Spells}
 use Rattle.ax_frame.proofs.Words.{bind_ok, get_at_drop, IsBytes}
 use Rattle.ax_frame.proofs.Fields.{TakesField, control_takes}
 
@@ -107,10 +106,9 @@ pub record FrameTaken (size : ℕ) (h : Head) (x : Control × Option ℕ × ℕ)
   pub spells : Spells size (frame h x.0 x.1 (drop x.2 bytes)) bytes
 
 -- the parts that were read, one behind the other
-joined : (size : ℕ) (h : Head) (head : ℕ) (bytes : List ℕ) (y : Control × ℕ) (z : Option ℕ × ℕ) → HasHead h bytes → head_end bytes ≡ Ok head → TakesField size head (drop head bytes) y.0 y.1 → TakesPid y.1 (drop y.1 bytes) y.0 z.0 z.1 → FrameTaken size h (y.0, z.0, z.1) bytes
-joined size h head bytes y z has ends field pid =
-    let same : has.end ≡ head = ok_is has.end head (sym has.ends ∙ ends) in
-    let first : take head bytes ≡ addresses_octets (addresses h) = ap (λ k. take k bytes) (sym same) ∙ has.spelled.spelled in
+joined : (size : ℕ) (h : Head) (head : ℕ) (bytes : List ℕ) (y : Control × ℕ) (z : Option ℕ × ℕ) → BeginsWith bytes h head → TakesField size head (drop head bytes) y.0 y.1 → TakesPid y.1 (drop y.1 bytes) y.0 z.0 z.1 → FrameTaken size h (y.0, z.0, z.1) bytes
+joined size h head bytes y z has field pid =
+    let first : take head bytes ≡ addresses_octets (addresses h) = has.spelled.spelled in
     let c = control_octets size y.0 in
     let p = pid_octets z.0 in
     let info = drop z.1 bytes in
@@ -118,7 +116,7 @@ joined size h head bytes y z has ends field pid =
     let pid_is : drop y.1 bytes ≡ p ++ info = pid.spelled ∙ ap (λ os. p ++ os) (dropped y.1 z.1 bytes pid.later) in
     let all : bytes ≡ addresses_octets (addresses h) ++ (c ++ (p ++ info)) = sym (take-append-drop head bytes) ∙ (ap (λ os. os ++ drop head bytes) first ∙ ap (λ os. addresses_octets (addresses h) ++ os) (field_is ∙ ap (λ os. c ++ os) pid_is)) in
     record {
-      within = omega (arith, pid.within, field.within, length-drop y.1 bytes, length-drop head bytes, has.within, same);
+      within = omega (arith, pid.within, field.within, length-drop y.1 bytes, length-drop head bytes, has.within);
       spells = record {
         calls = has.spelled.calls;
         eight = has.spelled.eight;
@@ -127,14 +125,14 @@ joined size h head bytes y z has ends field pid =
       };
     }
 
-pub frame_takes : (size : ℕ) (bytes : List ℕ) (h : Head) (x : Control × Option ℕ × ℕ) → IsLinkModulus size → IsBytes bytes → HasHead h bytes → frame_at size bytes ≡ Ok x → FrameTaken size h x bytes
+pub frame_takes : (size : ℕ) (bytes : List ℕ) (h : Head) (end : ℕ) (x : Control × Option ℕ × ℕ) → IsLinkModulus size → IsBytes bytes → BeginsWith bytes h end → head_end bytes ≡ Ok end → frame_at size bytes ≡ Ok x → FrameTaken size h x bytes
 unfolding frame_at
-frame_takes size bytes h x m small has e =
+frame_takes size bytes h end x m small has ends e =
     let a = bind_ok (head_end bytes) (λ at. control_at size at bytes >>= λ control. pid_at control.0 control.1 bytes >>= λ pid. Ok (control.0, pid.0, pid.1)) x e in
     let b = bind_ok (control_at size a.0 bytes) (λ control. pid_at control.0 control.1 bytes >>= λ pid. Ok (control.0, pid.0, pid.1)) x a.2 in
     let d = bind_ok (pid_at b.0.0 b.0.1 bytes) (λ pid. Ok (b.0.0, pid.0, pid.1)) x b.2 in
     let field = control_at_takes size a.0 bytes b.0 m small b.1 in
-    let same : has.end ≡ a.0 = ok_is has.end a.0 (sym has.ends ∙ a.1) in
+    let same : end ≡ a.0 = ok_is end a.0 (sym ends ∙ a.1) in
     let within : b.0.1 ≤ length bytes = omega (arith, field.within, length-drop a.0 bytes, has.within, same) in
     let pid = pid_takes b.0.1 bytes b.0.0 d.0 within d.1 in
-    subst (λ (y : Control × Option ℕ × ℕ). FrameTaken size h y bytes) (ok_is (b.0.0, d.0.0, d.0.1) x d.2) (joined size h a.0 bytes b.0 d.0 has a.1 field pid)
+    subst (λ (y : Control × Option ℕ × ℕ). FrameTaken size h y bytes) (ok_is (b.0.0, d.0.0, d.0.1) x d.2) (joined size h a.0 bytes b.0 d.0 (subst (BeginsWith bytes h) same has) field pid)

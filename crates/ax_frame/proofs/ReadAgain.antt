@@ -86,6 +86,14 @@ no_frame : (size : ℕ) (bytes : List ℕ) (d : FrameRefusal) → head_end bytes
 unfolding frame_at
 no_frame size bytes d here = rw here refl
 
+-- addresses at fault are a fault of the frame
+pub head_at_fault : (size : ℕ) (bytes : List ℕ) (d : FrameRefusal) → head_end bytes ≡ Err d → Some d ≡ first_fault size bytes
+head_at_fault size bytes d here = rw (no_frame size bytes d here) refl
+
+pub head_refused : (size : ℕ) (bytes : List ℕ) (d : FrameRefusal) → head_end bytes ≡ Err d → read_at size bytes ≡ Err d
+unfolding read_at
+head_refused size bytes d here = rw here refl
+
 refused_there : (size : ℕ) (bytes : List ℕ) (e : FrameRefusal) (h : Result ℕ FrameRefusal) → head_end bytes ≡ h → frame_at size bytes ≡ Err e → read_at size bytes ≡ Err e
 unfolding read_at
 refused_there size bytes e (Ok end) here refused = rw (here, refused) refl

@@ -3,7 +3,7 @@ use Rattle.std.proofs.Common.{◌≡◌, ◌≤◌, ◌<◌, ◌+◌, ◌-◌, �
 use Rattle.std.specs.Prelude.{◌||◌, Option, Some, None, Result, Ok, Err, IfOk, IsOkAnd, MatchResult, is_some, slice_get, nat_le}
 use Rattle.std.specs.List.{AllByRecursion}
 use Rattle.std.specs.Result.{result_err}
-use Rattle.std.proofs.lemmas.List.{append_assoc, take_at, drop_at, drop-drop, length-append, length-map, length-drop}
+use Rattle.std.proofs.lemmas.List.{append_assoc, take_at, drop_at, drop-drop, length-append, length-map, length-drop, length-take, take-append-drop}
 use Rattle.std.proofs.lemmas.Bool.Decides.{nat_tests}
 use Rattle.ax_address.specs.declared.address.Address.{Address}
 use Rattle.ax_address.specs.Octets as octets
@@ -14,7 +14,7 @@ use Rattle.ax_frame.specs.declared.frame.FrameRefusal.{FrameRefusal}
 use Rattle.ax_frame.specs.declared.frame.FrameView.{FrameView}
 use Rattle.ax_frame.specs.Controls.{IsLinkModulus, NumbersFit, control_octets, has_pid, takes_info}
 use Rattle.ax_frame.specs.Reading.{extension_at, addresses_end, head_end, control_or_short, control_at, pid_at, frame_at, first_fault}
-use Rattle.ax_frame.specs.Frames.{Frame, frame, view, IsAddress, addresses, addresses_octets, pid_octets, Spells, SpellsHead, HeadWithoutFault, HeadSpelledOnce, SpelledWithoutFault, SpelledOnce}
+use Rattle.ax_frame.specs.Frames.{Frame, frame, view, IsAddress, addresses, addresses_octets, pid_octets, BeginsWith, Spells, SpellsHead, HeadWithoutFault, HeadSpelledOnce, SpelledWithoutFault, SpelledOnce}
 use Rattle.ax_frame.proofs.Words.{get_at_drop}
 use Rattle.ax_frame.proofs.Addresses.{six_letters, judged_ok, head_goes_on, end_here, end_later}
 use Rattle.ax_frame.proofs.FieldsAgain.{control_again}
@@ -188,6 +188,12 @@ reads_only size bytes (Err e) without once m found refused f h = absurd (let non
 pub head_without_fault : octets.SpelledWithoutFault → HeadWithoutFault
 head_without_fault without h os rest spells =
     head_again without h (os ++ rest) rest spells.calls spells.eight (ap (λ x. x ++ rest) spells.spelled) ∙ ap Ok (sym (ap length spells.spelled ∙ addresses_length (addresses h) spells.calls))
+
+-- a head that octets begin with ends where it is said to
+pub ends_there : HeadWithoutFault → (bytes : List ℕ) (h : Head) (end : ℕ) → BeginsWith bytes h end → head_end bytes ≡ Ok end
+ends_there without bytes h end begins =
+    let len : length (take end bytes) ≡ end = omega (arith, length-take end bytes, begins.within) in
+    ap head_end (sym (take-append-drop end bytes)) ∙ (without h (take end bytes) (drop end bytes) begins.spelled ∙ ap Ok len)
 
 pub head_spelled_once : octets.SpelledOnce → HeadSpelledOnce
 head_spelled_once one h g os p q =

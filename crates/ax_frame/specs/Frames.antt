@@ -1,5 +1,5 @@
 -- Frames, and the octets that spell them (AX.25 2.2, section 3).
-use Rattle.std.specs.Prelude.{◌≡◌, ℕ, ◌≤◌, List, [], ◌∷◌, ◌++◌, length, true, false, Option, Some, None, Ok, is_some}
+use Rattle.std.specs.Prelude.{◌≡◌, ℕ, ◌≤◌, List, [], ◌∷◌, ◌++◌, length, take, true, false, Option, Some, None, Ok, is_some}
 use Rattle.std.specs.List.{AllByRecursion}
 use Rattle.arrayvec.specs.ArrayVec.{ArrayVec}
 use Rattle.ax_address.specs.declared.address.Address.{Address}
@@ -59,6 +59,11 @@ pub record SpellsHead (h : Head) (octets : List ℕ) : Type 0 where
   pub calls : AllByRecursion IsAddress (addresses h)
   pub eight : length h.path.items ≤ 8
   pub spelled : octets ≡ addresses_octets (addresses h)
+
+-- the octets begin with the head, and it ends there
+pub record BeginsWith (octets : List ℕ) (h : Head) (end : ℕ) : Type 0 where
+  pub within : end ≤ length octets
+  pub spelled : SpellsHead h (take end octets)
 
 -- the octets are the frame, with sequence numbers modulo 8 or 128
 pub record Spells (size : ℕ) (f : Frame) (octets : List ℕ) : Type 0 where

@@ -1,10 +1,8 @@
 -- What the readers of a frame's parts say to each other.
-use Rattle.std.specs.Prelude.{◌≡◌, ℕ, ◌+◌, ◌*◌, ◌<◌, ◌≤◌, List, length, take, drop, Ok}
+use Rattle.std.specs.Prelude.{◌≡◌, ℕ, ◌+◌, ◌*◌, ◌<◌, ◌≤◌, List, length, take, drop}
 use Rattle.std.specs.List.{AllByRecursion}
 use Rattle.ax_address.specs.declared.address.Address.{Address}
-use Rattle.ax_frame.specs.declared.head.Head.{Head}
-use Rattle.ax_frame.specs.Reading.{head_end}
-use Rattle.ax_frame.specs.Frames.{IsAddress, addresses_octets, SpellsHead}
+use Rattle.ax_frame.specs.Frames.{IsAddress, addresses_octets}
 
 -- the last addresses, from a place on
 pub record SpellsLast (at : ℕ) (bytes : List ℕ) (many : List Address) : Type 0 where
@@ -12,10 +10,3 @@ pub record SpellsLast (at : ℕ) (bytes : List ℕ) (many : List Address) : Type
   pub within : at + 7 * length many ≤ length bytes
   pub calls : AllByRecursion IsAddress many
   pub spelled : take (7 * length many) (drop at bytes) ≡ addresses_octets many
-
--- the octets begin with the head, and it ends there
-pub record HasHead (h : Head) (bytes : List ℕ) : Type 0 where
-  pub end : ℕ
-  pub ends : head_end bytes ≡ Ok end
-  pub within : end ≤ length bytes
-  pub spelled : SpellsHead h (take end bytes)

@@ -12,6 +12,6 @@ mod write;
 pub use control::Control;
 pub use frame::{FrameBytes, FrameRefusal, FrameView, Full, MAX_FRAME};
 pub use head::{Head, is_command};
-pub use read::{read_frame, read_head};
+pub use read::{read_behind, read_frame, read_head};
 pub use show::show_frame;
 pub use write::write_frame;

@@ -5,8 +5,8 @@ ghost use Rattle.ax_frame.specs.Read.{read_at, read_head_at};
 ghost use Rattle.ax_address.specs.Octets.{SpellsAddress};
 ghost use Rattle.std.specs.Result.{result_err};
 ghost use Rattle.ax_frame.specs.Controls.{IsLinkModulus};
-ghost use Rattle.ax_frame.specs.Frames.{Frame, Spells, SpellsHead, head, view};
-ghost use Rattle.ax_frame.specs.Parts.{HasHead, SpellsLast};
+ghost use Rattle.ax_frame.specs.Frames.{BeginsWith, Frame, Spells, SpellsHead, head, view};
+ghost use Rattle.ax_frame.specs.Parts.{SpellsLast};
 ghost use Rattle.ax_frame.specs.declared.head.Head.{Head};
 
 use crate::{Control, FrameRefusal, FrameView, Head, laws};
@@ -30,8 +30,8 @@ pub fn read_head(bytes: &[u8]) -> Result<(Head, usize), FrameRefusal>
     head_of(bytes)
 }
 
-/// The addresses, and how many octets they have. As in `frame_of`, the path is filled where it stands, and stays one
-/// place in memory.
+/// The addresses, and how many octets they have. The path is filled where it stands, and stays one place in memory: taken
+/// into a caller, each of its eight addresses would be moved part by part.
 #[inline(never)]
 fn head_of(bytes: &[u8]) -> Result<(Head, usize), FrameRefusal>
     ensures found { IfOk result (λ x. (x.1 ≤ length bytes.now) × SpellsHead x.0 (take x.1 bytes.now)) }
@@ -86,25 +86,55 @@ pub fn read_frame<M: Modulus>(bytes: &[u8]) -> Result<FrameView<'_>, FrameRefusa
 {
     // By the laws of the spelling no other frame is spelled so, and none that is spelled is refused.
     laws::frame_spelling();
-    frame_of(M::SIZE, bytes)
+    let (head, at) = read_head(bytes)?;
+    read_behind::<M>(head, at, bytes)
 }
 
-/// The frame that the octets spell. Its path is filled where it stands, and stays one place in memory: taken into a
-/// caller, each of its eight addresses would be moved part by part.
-#[inline(never)]
-fn frame_of(size: u64, bytes: &[u8]) -> Result<FrameView<'_>, FrameRefusal>
-    requires { IsLinkModulus size }
+/// The frame of octets whose head was read already, with sequence numbers modulo 8 or 128, or the first octet that
+/// can't stand at its place: only what stands behind the head, from `at` on, is read. The information is lent.
+#[inline(always)]
+pub fn read_behind<M: Modulus>(
+    head: Head,
+    at: usize,
+    bytes: &[u8],
+) -> Result<FrameView<'_>, FrameRefusal>
+    requires modulus { IsLinkModulus M.SIZE }
+
+    // The octets begin with the head, and it ends there, as `read_head` says.
+    requires begins { BeginsWith bytes.now head at }
+
+    // What is read is spelled so, the head included.
+    ensures found { IfOk result (λ v. Spells M.SIZE (view v) bytes.now) }
+
+    // What is spelled so is read.
+    ensures only { (f : Frame) → Spells M.SIZE f bytes.now → IsOkAnd result (λ v. view v ≡ f) }
+
+    // It is refused exactly where an octet is at fault.
+    ensures refused { result_err result ≡ reading.first_fault M.SIZE bytes.now }
+    ensures exact { MatchResult result (λ v. read_at M.SIZE bytes.now ≡ Ok (view v)) (λ e. read_at M.SIZE bytes.now ≡ Err e) }
+{
+    // By the laws of the spelling octets that begin with a head have no fault in it.
+    laws::head_spelling();
+    laws::frame_spelling();
+    frame_behind(M::SIZE, head, at, bytes)
+}
+
+/// The frame with this head, by what stands behind it. Callers take it in with the call above, so that the head isn't
+/// moved from one to the next.
+#[inline(always)]
+fn frame_behind(
+    size: u64,
+    head: Head,
+    at: usize,
+    bytes: &[u8],
+) -> Result<FrameView<'_>, FrameRefusal>
+    requires modulus { IsLinkModulus size }
+    requires begins { BeginsWith bytes.now head at }
+    requires ends { reading.head_end bytes.now ≡ Ok at }
     ensures found { IfOk result (λ v. Spells size (view v) bytes.now) }
     ensures refused { result_err result ≡ reading.first_fault size bytes.now }
 {
-    let mut head = Head {
-        dest: Address::default(),
-        source: Address::default(),
-        path: Path::new(),
-    };
-    let ((dest, source), control, pid, at) = parts(size, bytes, &mut head.path)?;
-    head.dest = dest;
-    head.source = source;
+    let (control, pid, at) = parts(size, bytes, at)?;
     let info = &bytes[at..];
     Ok(FrameView {
         head,
@@ -114,23 +144,19 @@ fn frame_of(size: u64, bytes: &[u8]) -> Result<FrameView<'_>, FrameRefusal>
     })
 }
 
-/// What stands before the information, and where that begins; the repeaters are put into the path.
+/// What stands between the head, which ends at a place, and the information, and where that begins.
+#[inline(never)]
 #[tactic(auto, unfolding(crate::specs::Reading::frame_at))]
-fn parts(
-    size: u64,
-    bytes: &[u8],
-    path: &mut Path,
-) -> Result<((Address, Address), Control, Option<u8>, usize), FrameRefusal>
+fn parts(size: u64, bytes: &[u8], at: usize) -> Result<(Control, Option<u8>, usize), FrameRefusal>
     requires modulus { IsLinkModulus size }
-    requires empty { path.old.items ≡ [] }
-    ensures judged { MatchResult result (λ x. reading.frame_at size bytes.now ≡ Ok (x.1, x.2, x.3)) (λ e. reading.frame_at size bytes.now ≡ Err e) }
-    ensures head { IfOk result (λ x. HasHead (head x.0.0 x.0.1 path.new) bytes.now) }
-    ensures within { IfOk result (λ x. x.3 ≤ length bytes.now) }
+    requires within { at ≤ length bytes.now }
+    requires ends { reading.head_end bytes.now ≡ Ok at }
+    ensures judged { result ≡ reading.frame_at size bytes.now }
+    ensures within { IfOk result (λ x. x.2 ≤ length bytes.now) }
 {
-    let (dest, source, at) = addresses(bytes, path)?;
     let (control, at) = control_at(size, bytes, at)?;
     let (pid, at) = pid_at(&control, bytes, at)?;
-    Ok(((dest, source), control, pid, at))
+    Ok((control, pid, at))
 }
 
 /// Puts the repeaters into the path. They stand behind destination and source, where the source isn't the last

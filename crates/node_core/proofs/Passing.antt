@@ -1,14 +1,15 @@
 -- What needn't be looked at: a frame to another station that goes to no node is no broadcast, and is left alone; where no text waits at a
 -- link, nobody is greeted.
-use Rattle.std.proofs.Common.{◌≡◌, ℕ, refl, ap, Bool, true, false, ◌&&◌, List, [], ◌∷◌, drop, slice_get, Option, None, ◌∙◌}
+use Rattle.std.proofs.Common.{◌≡◌, ℕ, refl, sym, ap, Bool, true, false, ◌&&◌, List, [], ◌∷◌, length, take, drop, slice_get, Option, None, ◌∙◌}
 use Rattle.std.specs.Prelude.{Result, Ok, Err, IsOkAnd}
+use Rattle.std.proofs.lemmas.List.{take-append-drop}
 use Rattle.ax_address.specs.Callsign.{Callsign}
 use Rattle.ax_address.specs.CallOrder.{same_call}
 use Rattle.ax_frame.specs.declared.head.Head.{Head}
 use Rattle.ax_frame.specs.declared.control.Control.{Control}
 use Rattle.ax_frame.specs.declared.frame.FrameRefusal.{FrameRefusal}
-use Rattle.ax_frame.specs.Frames.{Frame, frame}
-use Rattle.ax_frame.specs.Read.{head_in, read_at, read_head_at}
+use Rattle.ax_frame.specs.Frames.{BeginsWith, Frame, frame}
+use Rattle.ax_frame.specs.Read.{SpelledHeadIsRead, head_in, read_at, read_head_at}
 use Rattle.ax_frame.specs.Reading.{◌>>=◌, frame_at, head_end}
 use Rattle.node_core.specs.Broadcasts.{has_netrom_pid, is_ui, nodes_call}
 use Rattle.node_core.specs.Receiving.{take_frame}
@@ -36,6 +37,12 @@ passes_by now size octets h n = by (head_end octets) (frame_at size octets)
     by (Ok end) (Err e) q s = refl
     by (Ok end) (Ok parts) q s =
         left_alone now (frame (head_in end octets) parts.0 parts.1 (drop parts.2 octets)) n (ap (λ (x : Head). same_call x.dest.call nodes_call) q ∙ s)
+
+-- octets that begin with a head are read as it
+pub head_read : SpelledHeadIsRead → (octets : List ℕ) (h : Head) (end : ℕ) → BeginsWith octets h end → IsOkAnd {T = Head × ℕ} (read_head_at octets) (λ x. x.0 ≡ h)
+head_read read octets h end begins =
+    let again : read_head_at octets ≡ Ok (h, length (take end octets)) = ap read_head_at (sym (take-append-drop end octets)) ∙ read h (take end octets) (drop end octets) begins.spelled in
+    rw again refl
 
 pub nobody_greeted : (n : State) → None ≡ slice_get (links.text_peers n.links) 0 → greet_links n ≡ n
 nobody_greeted n = by (links.text_peers n.links)

@@ -1,8 +1,8 @@
 //! What comes in: KISS items, and the frames in them.
-ghost use Rattle.std.specs.Prelude.{◌≡◌, ◌≤◌, false, OnOk, bit_or, length, slice_index, slice_set, IsOkAnd, MatchResult, Ok, Err, if◌then◌else◌};
+ghost use Rattle.std.specs.Prelude.{◌≡◌, ◌≤◌, false, OnOk, bit_or, length, slice_index, slice_set, MatchResult, Ok, Err, if◌then◌else◌};
 ghost use Rattle.std.specs.List.{prefix_len};
-ghost use Rattle.ax_frame.specs.Frames.{view};
-ghost use Rattle.ax_frame.specs.Read.{read_at, read_head_at};
+ghost use Rattle.ax_frame.specs.Frames.{BeginsWith, view};
+ghost use Rattle.ax_frame.specs.Read.{read_at};
 ghost use Rattle.digi_path.specs.Paths.{action, has_repeated};
 ghost use Rattle.kiss_framing.specs.Feeding.{IsSmall};
 ghost use Rattle.nodes_broadcast.specs.Reading.{nodes_at};
@@ -16,7 +16,7 @@ use crate::NodeEntry;
 use crate::broadcasts::{is_broadcast, is_to_nodes};
 use crate::station::Station;
 use ax_address::{Address, Alias, Call, Entry};
-use ax_frame::{FrameRefusal, FrameView, Head, read_frame, read_head};
+use ax_frame::{FrameRefusal, FrameView, Head, read_behind, read_head};
 use digi_path::{DigiStep, step};
 use kiss_framing::KissItem;
 use link_table::{Octets, Written, WrittenAs};
@@ -57,58 +57,74 @@ impl Station {
         ensures { OnOk result (Goes (receiving.take_octets now.0 octets.now) self.old self.new) }
     {
         match read_head(octets) {
-            Ok((head, _)) => {
-                self.take_from(&head, octets, now)?;
+            Ok((head, at)) => {
+                self.take_from(head, at, octets, now)?;
                 Ok(())
             }
             Err(_) => Ok(()),
         }
     }
 
-    /// Takes in a frame by its addresses. One of this node itself is dropped.
-    fn take_from(&mut self, head: &Head, octets: &[u8], now: Moment) -> Result<(), NoMemory>
+    /// Takes in a frame by its addresses, which end at a place. One of this node itself is dropped. The head is handed on
+    /// whole, since the frame keeps it.
+    fn take_from(
+        &mut self,
+        head: Head,
+        at: usize,
+        octets: &[u8],
+        now: Moment,
+    ) -> Result<(), NoMemory>
         requires few { length octets.now ≤ 1023 }
-        requires head { IsOkAnd (read_head_at octets.now) (λ x. x.0 ≡ head.now) }
-        ensures { OnOk result (Goes (receiving.take_from now.0 octets.now head.now) self.old self.new) }
+        requires begins { BeginsWith octets.now head at }
+        ensures { OnOk result (Goes (receiving.take_from now.0 octets.now head) self.old self.new) }
     {
         let own = self.call();
         if head.source.call == own {
             return Ok(());
         }
-        self.take_by_path(head, &own, octets, now)?;
+        self.take_by_path(head, at, &own, octets, now)?;
         Ok(())
     }
 
     /// Takes in a frame of another station by its path.
     fn take_by_path(
         &mut self,
-        head: &Head,
+        head: Head,
+        at: usize,
         own: &Call,
         octets: &[u8],
         now: Moment,
     ) -> Result<(), NoMemory>
         requires few { length octets.now ≤ 1023 }
-        requires head { IsOkAnd (read_head_at octets.now) (λ x. x.0 ≡ head.now) }
-        ensures { OnOk result (Goes (receiving.take_by_path now.0 octets.now head.now (action head.now.path.items head.now.dest.call own.now)) self.old self.new) }
+        requires begins { BeginsWith octets.now head at }
+        ensures { OnOk result (Goes (receiving.take_by_path now.0 octets.now head (action head.path.items head.dest.call own.now)) self.old self.new) }
     {
         match step(&head.path, &head.dest.call, own) {
             DigiStep::Repeat(_) => self.repeat(head.path.as_slice(), octets)?,
             DigiStep::NotYet => {}
-            DigiStep::ForMe => self.take_heard(&head.source.call, true, octets, now)?,
-            DigiStep::Heard => self.overhear(head, octets, now)?,
+            DigiStep::ForMe => self.take_heard(head, at, true, octets, now)?,
+            DigiStep::Heard => self.overhear(head, at, octets, now)?,
         }
         Ok(())
     }
 
     /// Takes in a frame between other stations, of which only broadcasts are read on.
-    fn overhear(&mut self, head: &Head, octets: &[u8], now: Moment) -> Result<(), NoMemory>
-        requires { IsOkAnd (read_head_at octets.now) (λ x. x.0 ≡ head.now) }
-        ensures { OnOk result (Goes (λ n. receiving.take_frame now.0 false (read_at (receiving.modulus_with head.now.source.call n) octets.now) n) self.old self.new) }
+    fn overhear(
+        &mut self,
+        head: Head,
+        at: usize,
+        octets: &[u8],
+        now: Moment,
+    ) -> Result<(), NoMemory>
+        requires { BeginsWith octets.now head at }
+        ensures { OnOk result (Goes (λ n. receiving.take_frame now.0 false (read_at (receiving.modulus_with head.source.call n) octets.now) n) self.old self.new) }
     {
-        if !is_to_nodes(head) {
+        // By the laws of the spelling the frame has this head, and so goes to no node.
+        ax_frame::laws::head_spelling();
+        if !is_to_nodes(&head) {
             return Ok(());
         }
-        self.take_heard(&head.source.call, false, octets, now)?;
+        self.take_heard(head, at, false, octets, now)?;
         Ok(())
     }
 
@@ -129,14 +145,17 @@ impl Station {
     /// Takes in a frame that no repeater has to repeat any more, by the modulus of the link with its source.
     fn take_heard(
         &mut self,
-        source: &Call,
+        head: Head,
+        at: usize,
         mine: bool,
         octets: &[u8],
         now: Moment,
     ) -> Result<(), NoMemory>
-        ensures { OnOk result (Goes (λ n. receiving.take_frame now.0 mine (read_at (receiving.modulus_with source.now n) octets.now) n) self.old self.new) }
+        requires { BeginsWith octets.now head at }
+        ensures { OnOk result (Goes (λ n. receiving.take_frame now.0 mine (read_at (receiving.modulus_with head.source.call n) octets.now) n) self.old self.new) }
     {
-        match read_by(self.is_128(source), octets) {
+        let is_128 = self.is_128(&head.source.call);
+        match read_by(is_128, head, at, octets) {
             Ok(frame) => {
                 self.take_frame(&frame, mine, now)?;
                 Ok(())
@@ -229,14 +248,21 @@ fn set_h_bit(octets: &mut [u8], at: usize)
     }
 }
 
-/// The frame of these octets, with sequence numbers modulo 128 or modulo 8.
-fn read_by(is_128: bool, octets: &[u8]) -> Result<FrameView<'_>, FrameRefusal>
+/// The frame of these octets, with sequence numbers modulo 128 or modulo 8. Its head was read already, up to a place.
+#[inline(always)]
+fn read_by(
+    is_128: bool,
+    head: Head,
+    at: usize,
+    octets: &[u8],
+) -> Result<FrameView<'_>, FrameRefusal>
+    requires { BeginsWith octets.now head at }
     ensures { let size = (if is_128 then 128 else 8) in
         MatchResult result (λ v. read_at size octets.now ≡ Ok (view v)) (λ e. read_at size octets.now ≡ Err e) }
 {
     if is_128 {
-        read_frame::<M128>(octets)
+        read_behind::<M128>(head, at, octets)
     } else {
-        read_frame::<M8>(octets)
+        read_behind::<M8>(head, at, octets)
     }
 }

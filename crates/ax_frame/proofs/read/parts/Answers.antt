@@ -5,12 +5,12 @@ use Rattle.ax_frame.proofs.read.parts.Goals as goal
 
 pub pid_at-requires : goal.pid_at-requires
 pid_at-requires c =
-    let field = control_at_takes c.args.size c.in_ok-dest.at c.args.bytes.now (c.in_ok-control.control, c.in_ok-control.at) c.requires.modulus (λ i. omega (arith, c.type_inv.bytes i)) (sym c.in_ok-control.ensures) in
-    omega (arith, field.within, length-drop c.in_ok-dest.at c.args.bytes.now, c.in_ok-dest.ensures.found.0)
+    let field = control_at_takes c.args.size c.args.at c.args.bytes.now (c.in_ok-control.control, c.in_ok-control.at) c.requires.modulus (λ i. omega (arith, c.type_inv.bytes i)) (sym c.in_ok-control.ensures) in
+    omega (arith, field.within, length-drop c.args.at c.args.bytes.now, c.requires.within)
 
 pub returns-clause-within : goal.returns-clause-within
 returns-clause-within c =
-    let field = control_at_takes c.args.size c.in_ok-dest.at c.args.bytes.now (c.in_ok-control.control, c.in_ok-control.at) c.requires.modulus (λ i. omega (arith, c.type_inv.bytes i)) (sym c.in_ok-control.ensures) in
-    let within : c.in_ok-control.at ≤ length c.args.bytes.now = omega (arith, field.within, length-drop c.in_ok-dest.at c.args.bytes.now, c.in_ok-dest.ensures.found.0) in
+    let field = control_at_takes c.args.size c.args.at c.args.bytes.now (c.in_ok-control.control, c.in_ok-control.at) c.requires.modulus (λ i. omega (arith, c.type_inv.bytes i)) (sym c.in_ok-control.ensures) in
+    let within : c.in_ok-control.at ≤ length c.args.bytes.now = omega (arith, field.within, length-drop c.args.at c.args.bytes.now, c.requires.within) in
     let pid = pid_takes c.in_ok-control.at c.args.bytes.now c.in_ok-control.control (c.in_ok-pid.pid, c.in_ok-pid.at) within (sym c.in_ok-pid.ensures) in
     omega (arith, pid.within, length-drop c.in_ok-control.at c.args.bytes.now)

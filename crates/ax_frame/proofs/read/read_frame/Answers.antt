@@ -1,12 +1,13 @@
-use Rattle.ax_frame.proofs.Spelled.{reads_only}
-use Rattle.ax_frame.proofs.ReadAgain.{frame_answer}
+use Rattle.std.proofs.lemmas.Result.{err_from_is_err_and}
+use Rattle.ax_frame.proofs.ReadAgain.{head_at_fault, head_refused}
 use Rattle.ax_frame.proofs.read.read_frame.Goals as goal
 
-pub returns-clause-only : goal.returns-clause-only
-returns-clause-only g c = rw (← c.SIZE.ensures)
-    (reads_only c.SIZE.result c.args.bytes.now c.frame_of.result c.frame_spelling.ensures.without_fault c.frame_spelling.ensures.once
-    (rw c.SIZE.ensures c.requires) c.frame_of.ensures.found c.frame_of.ensures.refused)
+pub returns-in_err-head-clause-refused : goal.returns-in_err-head-clause-refused
+returns-in_err-head-clause-refused g c =
+    let p = err_from_is_err_and c.from_residual.result c.from_residual.ensures.1 in
+    rw (p.1, p.2) (head_at_fault _ _ _ c.in_err-head.ensures.judged)
 
-pub returns-clause-exact : goal.returns-clause-exact
-returns-clause-exact g c = rw (← c.SIZE.ensures)
-    (frame_answer c.frame_spelling.ensures.read c.SIZE.result c.args.bytes.now c.frame_of.result (rw c.SIZE.ensures c.requires) c.frame_of.ensures.found c.frame_of.ensures.refused)
+pub returns-in_err-head-clause-exact : goal.returns-in_err-head-clause-exact
+returns-in_err-head-clause-exact g c =
+    let p = err_from_is_err_and c.from_residual.result c.from_residual.ensures.1 in
+    rw (p.1, p.2) (head_refused _ _ _ c.in_err-head.ensures.judged)
