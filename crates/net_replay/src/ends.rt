@@ -4,7 +4,7 @@ ghost use Rattle.node_core.specs.Standing.{entry_of};
 ghost use Rattle.net_replay.specs.Ends as ends;
 ghost use Rattle.net_replay.specs.Events.{event_of};
 
-use crate::events::Event;
+use crate::events::{Event, LostEnd};
 use ax_address::Call;
 use circuit_l4::EndFacts;
 use circuit_set::SetEvent;
@@ -100,7 +100,8 @@ fn note_in(lists: &mut [Vec<EndRecord>], event: &Event) -> Result<(), NoMemory>
             Ok(())
         }
         Event::Lost { node, end } => {
-            set_outcome(&mut lists[*node as usize], end.id, Outcome::Lost(end.facts));
+            let LostEnd { id, facts } = **end;
+            set_outcome(&mut lists[*node as usize], id, Outcome::Lost(facts));
             Ok(())
         }
         _ => Ok(()),

@@ -14,7 +14,7 @@ ghost use Rattle.net_replay.specs.Starting.{Placed};
 ghost use Rattle.net_replay.specs.Traces.{IsTraceOf, allowance_in, left_of};
 ghost use Rattle.net_replay.specs.World.{World};
 
-use crate::events::{Event, NumberedEvent};
+use crate::events::{Event, LostEnd, NumberedEvent};
 use crate::places::place_of;
 use crate::trace::Trace;
 use ax_address::Call;
@@ -90,14 +90,12 @@ fn heed(
             take_in(&spot, verdict, line, &event)
         }
         Event::Lost { node, end } => {
+            let LostEnd { id, facts } = **end;
             let spot = spot_of(declared, *node);
             let event = CircuitEvent {
                 node: spot.place,
                 own: spot.own,
-                told: Told::Lost {
-                    id: end.id,
-                    facts: end.facts,
-                },
+                told: Told::Lost { id, facts },
             };
             take_in(&spot, verdict, line, &event)
         }

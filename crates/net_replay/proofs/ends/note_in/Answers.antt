@@ -1,8 +1,8 @@
 use Rattle.std.proofs.Common.{◌≡◌, ◌<◌, ◌∙◌, ap, arith, length, ◌-◌, get_or}
 use Rattle.std.specs.Vec.{with_items}
 use Rattle.std.proofs.lemmas.List.{with_items_is}
-use Rattle.circuit_l4.specs.declared.plain.EndFacts.{EndFacts}
 use Rattle.net_replay.specs.declared.ends.Outcome.TheVariants.{Lost}
+use Rattle.net_replay.specs.declared.events.LostEnd.{LostEnd}
 use Rattle.net_replay.specs.Ends.{note_entry, with_outcome}
 use Rattle.node_core.specs.declared.entry.NodeEntry.{NodeEntry}
 use Rattle.node_core.specs.Standing.{entry_of}
@@ -25,5 +25,5 @@ returns-in-Lost c =
     let old = get_or lists at c.index-lists-node-in-Lost.result in
     let same : length c.set_outcome.new.made ≡ old.len = c.set_outcome.auto.made ∙ c.deref_mut.ensures.len in
     rw c.in-Lost.is
-    (λ node. noted lists at node (with_items old c.set_outcome.new.made) c.index-lists-node-in-Lost.result (with_outcome (Lost c.in-Lost.facts.value) (c.in-Lost.end - 1)) h
-    (with_items_is old c.set_outcome.new.made same ∙ (c.set_outcome.ensures ∙ (ap (λ (f : EndFacts). with_outcome (Lost f) (c.in-Lost.end - 1) c.deref_mut.result.now) c.deref-in-Lost.ensures ∙ ap (with_outcome (Lost c.in-Lost.facts.value) (c.in-Lost.end - 1)) c.deref_mut.ensures.value))))
+    (λ node. noted lists at node (with_items old c.set_outcome.new.made) c.index-lists-node-in-Lost.result (with_outcome (Lost c.in-Lost.end.value.facts) (c.in-Lost.end.value.id - 1)) h
+    (with_items_is old c.set_outcome.new.made same ∙ (c.set_outcome.ensures ∙ (ap (λ (l : LostEnd). with_outcome (Lost l.facts) (l.id - 1) c.deref_mut.result.now) c.deref-in-Lost.ensures ∙ ap (with_outcome (Lost c.in-Lost.end.value.facts) (c.in-Lost.end.value.id - 1)) c.deref_mut.ensures.value))))

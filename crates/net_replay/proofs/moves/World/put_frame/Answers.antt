@@ -15,6 +15,6 @@ returns-in_ok-tell-clause-runs c =
     c.in_ok-put.ensures.ok
     ∙ ap (λ m. old.left.air ++ in_air node f.octets m ∷ []) c.is_modulo128-modulo128.ensures
     in
-    let frame = length c.frames-frame.result.now in
-    let count : frame ≡ length c.put.new.self = ap (λ (fs : List Aired). length fs) c.frames-frame.ensures.value in
+    let frame = length c.frames.result.now in
+    let count : frame ≡ length c.put.new.self = ap (λ (fs : List Aired). length fs) c.frames.ensures.value in
     rw c.if-on_air.true (put_one old (course c.tell.new.self) c.args.line node frame c.args.came128 f c.put.new.self air count c.in_ok-tell.ensures.goes)
