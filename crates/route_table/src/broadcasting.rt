@@ -70,7 +70,7 @@ fn push_entry(entries: &mut Vec<Entry>, least: u8, first: &Route) -> Result<(), 
     ensures { OnOk result ((later : List Entry) → entries.new.items ++ later ≡ entries.old.items ++ cons_option (broadcast.entry_by least first.now.dest (Some first.now)) later) }
 {
     if is_fresh(least, first) {
-        entries.push(entry_by(first))?;
+        entries.push(entry_through(first))?;
     }
     Ok(())
 }
@@ -80,14 +80,14 @@ fn entry_of(least: u8, first: &Route) -> Option<Entry>
     ensures { result ≡ broadcast.entry_by least first.now.dest (Some first.now) }
 {
     if is_fresh(least, first) {
-        Some(entry_by(first))
+        Some(entry_through(first))
     } else {
         None
     }
 }
 
-/// What a route says of its destination.
-fn entry_by(route: &Route) -> Entry
+/// What a route says of its destination, as it is broadcast.
+fn entry_through(route: &Route) -> Entry
     ensures { let r = route.now in
         result ≡ record { dest = r.dest; alias = r.alias; best = r.neighbour; quality = r.quality } }
 {
