@@ -21,4 +21,6 @@ mod repeaters;
 #[cfg(test)]
 mod segments;
 #[cfg(test)]
+mod soak_files;
+#[cfg(test)]
 mod streams;

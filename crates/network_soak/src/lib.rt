@@ -8,6 +8,3 @@ pub mod laws;
 mod lines;
 
 pub use file::soak_file;
-
-#[cfg(test)]
-mod tests;

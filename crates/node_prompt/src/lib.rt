@@ -13,6 +13,3 @@ mod words;
 
 pub use action::{Action, Trouble, View};
 pub use session::{Session, wanted};
-
-#[cfg(test)]
-mod tests;

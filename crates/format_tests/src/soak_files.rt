@@ -1,15 +1,10 @@
 //! What the file of a number has, as worked by hand.
-use crate::draws::Draws;
-use crate::file::soak_file;
+use network_soak::soak_file;
 use std::test::Fail;
 
 #[test]
-fn the_first_draws_of_1_bring_a_flow(rt: HostRuntime) -> Result<(), Fail> {
-    let mut draws = Draws { x: 1 };
-    assert_eq!(rt; draws.below(6), 2);
-    assert_eq!(rt; draws.below(4), 1);
-
-    // 61 lines stand before those that are drawn.
+fn the_first_line_that_is_drawn_for_1_is_a_flow(rt: HostRuntime) -> Result<(), Fail> {
+    // The first two draws, below 6 and below 4, are 2 and 1. 61 lines stand before those that are drawn.
     let file = soak_file(rt.alloc(), 1)?;
     let drawn = file.split(|b| *b == b'\n').nth(61);
     assert!(rt; drawn.is_some_and(|line| line.starts_with(b"flow ")));

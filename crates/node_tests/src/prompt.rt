@@ -1,7 +1,7 @@
-//! The rows of the table of commands, by the texts that a user sees.
-use crate::{Action, Session, Trouble, View, wanted};
+//! The prompt: the rows of the table of commands, by the texts that a user sees.
 use arrayvec::ArrayVec;
 use ax_address::{Alias, Call};
+use node_prompt::{Action, Session, Trouble, View, wanted};
 use route_table::Route;
 
 fn call(text: &str) -> Call {
