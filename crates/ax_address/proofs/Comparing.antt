@@ -1,14 +1,16 @@
 -- Calls are in the order of the numbers whose digits they are.
 use Rattle.std.proofs.Common.{◌≡◌, ◌<◌, ◌≤◌, ◌+◌, ◌-◌, ◌*◌, ◌∙◌, ℕ, zero, suc, List, [], ◌∷◌, ◌++◌, length, replicate, refl, sym, ap, subst, arith}
 use Rattle.std.specs.List.{AllByRecursion}
-use Rattle.std.specs.Ordering.{nat_cmp, ordering_then}
+use Rattle.std.specs.Ordering.{nat_cmp, ordering_then, is_eq}
 use Rattle.std.specs.declared.cmp.Ordering.{Ordering}
 use Rattle.std.specs.declared.cmp.Ordering.TheVariants.{Less, Equal, Greater}
-use Rattle.std.specs.Cmp.Lexicographic.{slice_cmp}
+use Rattle.std.specs.Prelude.{◌==◌}
+use Rattle.std.specs.Cmp.{both_tied, unsigned_ties}
+use Rattle.std.specs.Cmp.Lexicographic.{slice_cmp, texts_ties}
 use Rattle.std.proofs.lemmas.List.{length-append, length-replicate, append_assoc}
 use Rattle.std.proofs.lemmas.Bool.Decides.{nat_tests}
 use Rattle.ax_address.specs.Callsign.{Callsign, IsCallsign, IsCallChar, name_in}
-use Rattle.ax_address.specs.CallOrder.{call_cmp, number_from, digits, AreDigits}
+use Rattle.ax_address.specs.CallOrder.{same_call, call_cmp, number_from, digits, AreDigits}
 
 then_assoc : (a b c : Ordering) → ordering_then (ordering_then a b) c ≡ ordering_then a (ordering_then b c)
 then_assoc Less b c = refl
@@ -35,9 +37,9 @@ in_order m n (x ∷ xs) (y ∷ ys) e p q =
     ∙ ap (λ o. ordering_then o (slice_cmp nat_cmp xs ys)) (step m n x y p.0 q.0)
     ∙ then_assoc (nat_cmp m n) (nat_cmp x y) (slice_cmp nat_cmp xs ys)
 
--- texts of one length, and one character behind each
+-- texts of one length, and behind each one character and a zero
 behind : (xs ys : List ℕ) (x y : ℕ) → length xs ≡ length ys
-    → slice_cmp nat_cmp (xs ++ x ∷ []) (ys ++ y ∷ []) ≡ ordering_then (slice_cmp nat_cmp xs ys) (nat_cmp x y)
+    → slice_cmp nat_cmp (xs ++ x ∷ 0 ∷ []) (ys ++ y ∷ 0 ∷ []) ≡ ordering_then (slice_cmp nat_cmp xs ys) (nat_cmp x y)
 behind [] [] x y e = then_equal (nat_cmp x y)
 behind [] (b ∷ ys) x y e = grind (arith, e)
 behind (a ∷ xs) [] x y e = grind (arith, e)
@@ -45,19 +47,26 @@ behind (a ∷ xs) (b ∷ ys) x y e =
     let l : length xs ≡ length ys = grind (arith, e) in
     ap (ordering_then (nat_cmp a b)) (behind xs ys x y l) ∙ sym (then_assoc (nat_cmp a b) (slice_cmp nat_cmp xs ys) (nat_cmp x y))
 
-longer_by_one : (xs ys : List ℕ) (x y : ℕ) → length xs ≡ length ys → length (xs ++ x ∷ []) ≡ length (ys ++ y ∷ [])
-longer_by_one [] [] x y e = refl
-longer_by_one [] (b ∷ ys) x y e = grind (arith, e)
-longer_by_one (a ∷ xs) [] x y e = grind (arith, e)
-longer_by_one (a ∷ xs) (b ∷ ys) x y e = let l : length xs ≡ length ys = grind (arith, e) in ap suc (longer_by_one xs ys x y l)
+longer_by_two : (xs ys : List ℕ) (x y : ℕ) → length xs ≡ length ys → length (xs ++ x ∷ 0 ∷ []) ≡ length (ys ++ y ∷ 0 ∷ [])
+longer_by_two [] [] x y e = refl
+longer_by_two [] (b ∷ ys) x y e = grind (arith, e)
+longer_by_two (a ∷ xs) [] x y e = grind (arith, e)
+longer_by_two (a ∷ xs) (b ∷ ys) x y e = let l : length xs ≡ length ys = grind (arith, e) in ap suc (longer_by_two xs ys x y l)
 
 pub as_numbers : (a b : Callsign) → AreDigits a → AreDigits b
     → nat_cmp (number_from 0 (digits a)) (number_from 0 (digits b)) ≡ call_cmp a b
 as_numbers a b p q =
     let l : length a.letters ≡ length b.letters = p.six ∙ sym q.six in
-    in_order 0 0 (digits a) (digits b) (longer_by_one a.letters b.letters a.ssid b.ssid l) p.octets q.octets ∙ behind a.letters b.letters a.ssid b.ssid l
+    in_order 0 0 (digits a) (digits b) (longer_by_two a.letters b.letters a.ssid b.ssid l) p.octets q.octets ∙ behind a.letters b.letters a.ssid b.ssid l
 
--- ---- each call is seven digits
+-- calls are the same where their numbers are
+pub same_numbers : (a b : Callsign) → AreDigits a → AreDigits b → (number_from 0 (digits a) == number_from 0 (digits b)) ≡ same_call a b
+same_numbers a b p q =
+    unsigned_ties (number_from 0 (digits a)) (number_from 0 (digits b))
+    ∙ ap is_eq (as_numbers a b p q)
+    ∙ sym (both_tied _ _ _ _ (texts_ties a.letters b.letters) (unsigned_ties a.ssid b.ssid))
+
+-- ---- each call is eight digits
 
 is_octet : (b : ℕ) → IsCallChar b → b < 256
 is_octet b h = grind (arith, nat_tests)
@@ -66,8 +75,8 @@ before : (name rest : List ℕ) → AllByRecursion IsCallChar name → AllByRecu
 before [] rest h r = r
 before (b ∷ bs) rest h r = (is_octet b h.0, before bs rest h.1 r)
 
-spaces_before : (n s : ℕ) → s ≤ 15 → AllByRecursion (λ b. b < 256) (replicate n 32 ++ s ∷ [])
-spaces_before zero s h = (omega arith, tt)
+spaces_before : (n s : ℕ) → s ≤ 15 → AllByRecursion (λ b. b < 256) (replicate n 32 ++ s ∷ 0 ∷ [])
+spaces_before zero s h = (omega arith, (omega arith, tt))
 spaces_before (suc n) s h = (omega arith, spaces_before n s h)
 
 pub are_digits : (c : Callsign) → IsCallsign c.letters c.ssid → AreDigits c
@@ -77,6 +86,6 @@ are_digits c h =
     record {
       six = ap length h.spaces ∙ (length-append name pad ∙ (ap (λ k. length name + k) (length-replicate (6 - length name) 32) ∙ omega (arith, h.six)));
       octets = subst (AllByRecursion (λ b. b < 256))
-          (sym (append_assoc name pad (c.ssid ∷ [])) ∙ ap (λ xs. xs ++ c.ssid ∷ []) (sym h.spaces))
-          (before name (pad ++ c.ssid ∷ []) h.chars (spaces_before (6 - length name) c.ssid h.small));
+          (sym (append_assoc name pad (c.ssid ∷ 0 ∷ [])) ∙ ap (λ xs. xs ++ c.ssid ∷ 0 ∷ []) (sym h.spaces))
+          (before name (pad ++ c.ssid ∷ 0 ∷ []) h.chars (spaces_before (6 - length name) c.ssid h.small));
     }

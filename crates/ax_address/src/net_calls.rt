@@ -9,6 +9,7 @@ use crate::{AddressRefusal, Call};
 
 /// The call that seven octets of a broadcast or datagram spell (NET/ROM, Appendix B), or the first octet that
 /// can't stand there. Of the last octet bits 4 to 1 alone are looked at.
+#[inline(always)]
 pub fn read_net_call(octets: &[u8; 7]) -> Result<Call, AddressRefusal>
     ensures exact { result ≡ net.net_call_at octets.now }
 

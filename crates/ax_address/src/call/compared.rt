@@ -1,8 +1,8 @@
-//! Calls compared and hashed. Their order is that of numbers, which takes one comparison; to search six characters in groups, as what is
-//! derived does, takes longer to begin than that.
+//! Calls compared and hashed. Their eight octets are compared as one number, which takes one comparison; to go through the six
+//! characters, as what is derived does, takes longer.
 ghost use Rattle.std.specs.Prelude.{◌≡◌, ◌∷◌, [], Some, nat_eq, refl};
 ghost use Rattle.std.specs.Cmp.{and_equiv, and_per, both_tied, on_equiv, on_per, on_total, partial_equiv_from_equiv, nat_eq_equiv, nat_cmp_total, then_total, unsigned_Decides, unsigned_ties, partial_order_from_agreeing_total};
-ghost use Rattle.std.specs.Cmp.Lexicographic.{bytes_decides, nat_list_cmp_total, nat_list_eq_equiv, pointwise, texts_ties};
+ghost use Rattle.std.specs.Cmp.Lexicographic.{bytes_decides, nat_list_cmp_total, nat_list_eq_equiv, texts_ties};
 ghost use Rattle.std.specs.Hash.{and-Alike, on_Alike, same_Alike};
 ghost use Rattle.ax_address.specs.CallOrder.{AreDigits, call_cmp, call_writes, digits, number_from, same_call};
 
@@ -16,8 +16,9 @@ impl PartialEq for Call {
     ghost laws = { and_per (on_per (λ c. c.letters) (partial_equiv_from_equiv nat_list_eq_equiv)) (on_per (λ c. c.ssid) (partial_equiv_from_equiv nat_eq_equiv)) };
 
     #[inline]
+    #[tactic(auto, using(crate::proofs::Comparing::same_numbers))]
     fn eq(&self, other: &Call) -> bool {
-        self.ssid == other.ssid && are_same(&self.letters, &other.letters)
+        self.number() == other.number()
     }
 }
 
@@ -53,16 +54,14 @@ impl Ord for Call {
 }
 
 impl Call {
-    /// The six characters and the SSID as digits to the base 256, the first character the greatest.
+    /// The six characters, the SSID and 0 as digits to the base 256, the first character the greatest.
     #[inline]
     fn number(&self) -> u64
         ensures value { result ≡ number_from 0 (digits self.now) }
         ensures digits { AreDigits self.now }
     {
         let [a, b, c, d, e, f] = self.letters;
-        let front = u32::from_be_bytes([a, b, c, d]) as u64;
-        let back = u16::from_be_bytes([e, f]) as u64;
-        (front * 0x1_0000 + back) * 0x100 + self.ssid as u64
+        u64::from_be_bytes([a, b, c, d, e, f, self.ssid, self.spare])
     }
 }
 
@@ -74,17 +73,5 @@ impl Hash for Call {
     fn hash<H: Hasher>(&self, state: &mut H) {
         state.write(&self.letters);
         state.write_u8(self.ssid);
-    }
-}
-
-/// Whether these characters are the same.
-#[inline]
-fn are_same(a: &[u8], b: &[u8]) -> bool
-    ensures { result ≡ pointwise nat_eq a.now b.now }
-{
-    match (a, b) {
-        ([], []) => true,
-        ([x, a @ ..], [y, b @ ..]) => *x == *y && are_same(a, b),
-        _ => false,
     }
 }
