@@ -3,9 +3,13 @@ use Rattle.std.proofs.Common.{◌≡◌, ◌<◌, ◌≤◌, ◌+◌, ◌∙◌,
 use Rattle.std.specs.Prelude.{not, ◌||◌, ◌&&◌, is_none}
 use Rattle.std.specs.List.{list_any}
 use Rattle.std.proofs.lemmas.List.Sorted.{list_any-IsPermutation, length_permutation}
+use Rattle.ax_address.specs.CallOrder.{same_call}
+use Rattle.ax_address.specs.declared.Entry.{Entry}
+use Rattle.route_table.specs.declared.reports.Sender.{Sender}
 use Rattle.route_table.specs.declared.route.Route.{Route}
+use Rattle.route_table.specs.Log.{Report, entry_reports, quality_over}
 use Rattle.route_table.specs.Ranks.{placed}
-use Rattle.route_table.specs.Rows.{is_same_pair, is_lock_on, beside, with_report, after_reports, is_held_after, changed}
+use Rattle.route_table.specs.Rows.{is_same_pair, is_lock_on, beside, with_report, after_reports, fresh, reported, reported_by, is_held_after, changed}
 use Rattle.route_table.specs.Table.{is_good}
 use Rattle.route_table.specs.Places.{NoneTwice, Stand, AreCounted}
 use Rattle.route_table.proofs.Order.{same_pair_sym, same_pair_over}
@@ -137,6 +141,24 @@ report_bound minq r rows = cases (list_any (is_lock_on r) rows) (is_good minq r)
 pub reports_bound : (minq : ℕ) (rs rows : List Route) → length (after_reports minq rs rows) ≤ length rows + length rs
 reports_bound minq [] rows = omega arith
 reports_bound minq (r ∷ rs) rows = omega (arith, reports_bound minq rs (with_report minq r rows), report_bound minq r rows)
+
+-- a broadcast reports at most a route to its sender and one for each entry
+
+entries_bound : (s : Sender) (es : List Entry) → length (reported_by s es) ≤ length es
+entries_bound s [] = omega arith
+entries_bound s (e ∷ es) = cases (same_call e.dest s.own || same_call e.dest s.neighbour) (entries_bound s es)
+  where
+    cases : (b : Bool) → length (reported_by s es) ≤ length es
+        → length (fresh s.life (cond b (entry_reports s.own s.neighbour s.path_quality es) (Report e.dest e.alias s.neighbour (quality_over s.own s.path_quality e) ∷ entry_reports s.own s.neighbour s.path_quality es))) ≤ length (e ∷ es)
+    cases true h = omega (arith, h)
+    cases false h = omega (arith, h)
+
+pub reported_bound : (s : Sender) (es : List Entry) → length (reported s es) ≤ 1 + length es
+reported_bound s es = cases (same_call s.neighbour s.own)
+  where
+    cases : (b : Bool) → length (fresh s.life (cond b [] (Report s.neighbour s.alias s.neighbour s.path_quality ∷ entry_reports s.own s.neighbour s.path_quality es))) ≤ 1 + length es
+    cases true = omega arith
+    cases false = omega (arith, entries_bound s es)
 
 -- what the code counts with one report more
 

@@ -5,7 +5,8 @@ use Rattle.ax_address.specs.Callsign.{Callsign}
 use Rattle.ax_address.specs.CallOrder.{same_call}
 use Rattle.ax_address.specs.declared.Entry.{Entry}
 use Rattle.route_table.specs.declared.route.Route.{Route}
-use Rattle.route_table.specs.Log.{Item, Report}
+use Rattle.route_table.specs.declared.reports.Sender.{Sender}
+use Rattle.route_table.specs.Log.{Item, Report, broadcast, entry_reports, quality_over}
 use Rattle.route_table.specs.Table.{is_good, is_to}
 use Rattle.route_table.specs.Ranks.{placed}
 use Rattle.route_table.specs.Broadcast.{entry_by}
@@ -20,6 +21,22 @@ fresh life [] = []
 fresh life (Report d a n q ∷ items) =
     record { dest = d; alias = a; neighbour = n; quality = q; count = Some life } ∷ fresh life items
 fresh life (_ ∷ items) = fresh life items
+
+-- the route that a broadcast reports to its sender
+abbrev pub route_to : Sender → Route
+route_to s = record { dest = s.neighbour; alias = s.alias; neighbour = s.neighbour; quality = s.path_quality; count = Some s.life }
+
+-- the route that an entry of it reports
+abbrev pub route_over : Sender → Entry → Route
+route_over s e = record { dest = e.dest; alias = e.alias; neighbour = s.neighbour; quality = quality_over s.own s.path_quality e; count = Some s.life }
+
+-- the routes that the entries of a broadcast report
+abbrev pub reported_by : Sender → List Entry → List Route
+reported_by s entries = fresh s.life (entry_reports s.own s.neighbour s.path_quality entries)
+
+-- the routes that a broadcast reports
+abbrev pub reported : Sender → List Entry → List Route
+reported s entries = fresh s.life (broadcast s.own s.neighbour s.alias s.path_quality entries)
 
 -- a row stays beside these reports: it is locked, or none of them is of its pair
 abbrev pub stays : List Route → Route → Bool

@@ -1,48 +1,85 @@
 //! A broadcast's reports, taken in: those of pairs that have a row one by one, and all others in one pass.
-ghost use Rattle.std.specs.Prelude.{◌≡◌, ◌≤◌, ◌<◌, ◌+◌, ◌∷◌, ◌++◌, take, drop, length, vec_len, vec_capacity, is_none, false};
+ghost use Rattle.std.specs.Prelude.{◌≡◌, ◌≤◌, ◌<◌, ◌+◌, ◌∷◌, ◌++◌, List, take, drop, length, vec_len, vec_capacity, is_none, false};
+ghost use Rattle.ax_address.specs.declared.Entry.{Entry};
 ghost use Rattle.route_table.specs.Places as places;
 ghost use Rattle.route_table.specs.Ranks as ranks;
 ghost use Rattle.route_table.specs.Rows as spec;
 
 use crate::ranking::{pair_from, place_of, start_near};
-use crate::reports::MAX_REPORTS;
+use crate::reports::{MAX_REPORTS, Sender, is_reported, route_over, route_to};
 use crate::route::Route;
 use crate::rows::{change, is_good};
 use arrayvec::ArrayVec;
+use ax_address::Entry;
 
-/// Takes in one report after another. There is room for a row of each.
+/// Takes in a broadcast, one report after another. There is room for a row of each.
 ///
 /// A row that enters moves all rows behind it, so the reports of new pairs wait until all can enter at once.
-pub(crate) fn take_reports(rows: &mut Vec<Route>, minq: u8, reports: &[Route])
+pub(crate) fn take_reports(rows: &mut Vec<Route>, minq: u8, sender: &Sender, entries: &[Entry])
     requires stand { places.Stand rows.old.items }
-    requires reports { (length reports.now ≤ 12) × places.AreCounted reports.now }
-    requires room { vec_len rows.old + length reports.now ≤ vec_capacity rows.old }
-    ensures items { rows.new.items ≡ spec.after_reports minq reports.now rows.old.items }
+    requires few { length entries.now ≤ 11 }
+    requires room { vec_len rows.old + length entries.now < vec_capacity rows.old }
+    ensures items { rows.new.items ≡ spec.after_reports minq (spec.reported sender.now entries.now) rows.old.items }
     ensures stand { places.Stand rows.new.items }
 {
-    let waiting = take_known(rows, minq, reports);
+    if sender.neighbour == sender.own {
+        return;
+    }
+    let mut waiting = ArrayVec::new();
+    let _ = take_or_keep(rows, &mut waiting, minq, 0, &route_to(sender));
+    take_entries(rows, &mut waiting, minq, sender, entries);
     enter_all(rows, &waiting);
 }
 
-/// Takes in the reports of pairs that have a row, and hands back the others that become rows.
-fn take_known(rows: &mut Vec<Route>, minq: u8, reports: &[Route]) -> ArrayVec<Route, MAX_REPORTS>
-    requires stand { places.Stand rows.old.items }
-    requires reports { (length reports.now ≤ 12) × places.AreCounted reports.now }
-    requires room { vec_len rows.old + length reports.now ≤ vec_capacity rows.old }
-    ensures items { ranks.all_placed result.items rows.new.items ≡ spec.after_reports minq reports.now rows.old.items }
-    ensures waiting { places.AreWaiting result.items rows.new.items }
-    ensures room { vec_len rows.new + length result.items ≤ vec_capacity rows.new }
+/// Takes in what the entries report: where a row is of a report's pair, and else the report is kept among those that wait.
+fn take_entries(
+    rows: &mut Vec<Route>,
+    waiting: &mut ArrayVec<Route, MAX_REPORTS>,
+    minq: u8,
+    sender: &Sender,
+    entries: &[Entry],
+)
+    requires waiting { places.AreWaiting waiting.old.items rows.old.items }
+    requires few { length waiting.old.items + length entries.now ≤ 12 }
+    requires room { vec_len rows.old + length waiting.old.items + length entries.now ≤ vec_capacity rows.old }
+    ensures items { ranks.all_placed waiting.new.items rows.new.items ≡ spec.after_reports minq (spec.reported_by sender.now entries.now) (ranks.all_placed waiting.old.items rows.old.items) }
+    ensures waiting { places.AreWaiting waiting.new.items rows.new.items }
+    ensures room { vec_len rows.new + length waiting.new.items ≤ vec_capacity rows.new }
 {
-    let mut waiting = ArrayVec::new();
     let mut near = 0;
-    for report in reports {
-        near = take_or_keep(rows, &mut waiting, minq, near, report);
+    for entry in entries {
+        near = take_entry(rows, waiting, minq, near, sender, entry);
     }
-    waiting
 }
 
-/// Takes a report in where a row is of its pair, and else keeps it among those that wait. It answers where the rows to its
-/// destination began: the next report's begin near there, since broadcasts mostly rise in call order.
+/// Takes in what an entry reports, if it reports a route, and answers as `take_or_keep` does.
+fn take_entry(
+    rows: &mut Vec<Route>,
+    waiting: &mut ArrayVec<Route, MAX_REPORTS>,
+    minq: u8,
+    near: usize,
+    sender: &Sender,
+    entry: &Entry,
+) -> usize
+    requires waiting { places.AreWaiting waiting.old.items rows.old.items }
+    requires few { length waiting.old.items < 12 }
+    requires room { vec_len rows.old + length waiting.old.items < vec_capacity rows.old }
+    ensures items { (later : List Entry) → spec.after_reports minq (spec.reported_by sender.now later) (ranks.all_placed waiting.new.items rows.new.items)
+        ≡ spec.after_reports minq (spec.reported_by sender.now (entry.now ∷ later)) (ranks.all_placed waiting.old.items rows.old.items) }
+    ensures waiting { places.AreWaiting waiting.new.items rows.new.items }
+    ensures few { length waiting.new.items ≤ length waiting.old.items + 1 }
+    ensures len { vec_len rows.new + length waiting.new.items ≤ vec_len rows.old + length waiting.old.items + 1 }
+    ensures capacity { vec_capacity rows.old ≤ vec_capacity rows.new }
+{
+    if is_reported(sender, entry) {
+        take_or_keep(rows, waiting, minq, near, &route_over(sender, entry))
+    } else {
+        near
+    }
+}
+
+/// Takes a report in where a row is of its pair, and else keeps it among those that wait. It answers where that row is, or
+/// where the rows to its destination begin: the next report's begin near there, since broadcasts mostly rise in call order.
 fn take_or_keep(
     rows: &mut Vec<Route>,
     waiting: &mut ArrayVec<Route, MAX_REPORTS>,
@@ -62,10 +99,15 @@ fn take_or_keep(
 {
     let start = start_near(rows, near, &report.dest);
     match pair_from(rows, start, report) {
-        Some(at) => change(rows, minq, at, report),
-        None => keep(waiting, minq, report),
+        Some(at) => {
+            change(rows, minq, at, report);
+            at
+        }
+        None => {
+            keep(waiting, minq, report);
+            start
+        }
     }
-    start
 }
 
 /// Keeps a report in the place of what waits of its pair, if it is good enough.
@@ -89,6 +131,9 @@ fn drop_pair(waiting: &mut ArrayVec<Route, MAX_REPORTS>, route: &Route)
     ensures items { waiting.new.items ≡ spec.beside route.now waiting.old.items }
     ensures few { length waiting.new.items ≤ length waiting.old.items }
 {
+    if waiting.is_empty() {
+        return;
+    }
     let start = start_near(waiting, waiting.len(), &route.dest);
     if let Some(at) = pair_from(waiting, start, route) {
         waiting.remove(at);

@@ -57,15 +57,18 @@ fn leads_lower(rows: &[Route], at: usize, dest: &Call) -> bool
     at == 0 || at <= rows.len() && rows[at - 1].dest.cmp(dest).is_lt()
 }
 
-/// Where the rows to a destination begin, or would: mostly soon, so the first few are searched before all are.
+/// How many rows are asked one by one before all are searched.
+const FEW: usize = 8;
+
+/// Where the rows to a destination begin, or would: mostly soon, so the first few are asked one by one before all are searched.
 fn start_soon(rows: &[Route], dest: &Call) -> usize
     requires { places.InRows rows.now }
     ensures place { result ≡ places.start_of dest.now rows.now }
     ensures within { result ≤ length rows.now }
 {
-    for few in [4, 32, 256] {
-        if few < rows.len() && !rows[few].dest.cmp(dest).is_lt() {
-            return start_of(&rows[..few], dest);
+    for at in 0..rows.len().min(FEW) {
+        if !rows[at].dest.cmp(dest).is_lt() {
+            return at;
         }
     }
     start_of(rows, dest)

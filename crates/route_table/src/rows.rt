@@ -7,8 +7,9 @@ ghost use Rattle.route_table.specs.Rows as spec;
 ghost use Rattle.route_table.specs.Table as table;
 
 use crate::ranking::{is_after, pair_from, place_of, place_of_pair, stands_before, start_near};
+use crate::reports::{Sender, reports_of};
 use crate::route::{MAX_PAIRS, Route};
-use ax_address::Call;
+use ax_address::{Call, Entry};
 use std::alloc::AllocError;
 
 fn is_same_pair(a: &Route, b: &Route) -> bool
@@ -83,16 +84,32 @@ fn is_before(rows: &[Route], at: usize, route: &Route) -> bool
 /// How many rows there are after these reports, where a table doesn't hold so many.
 ///
 /// Each report is at most a row more, so mostly there is room for all, and nothing is counted.
-pub(crate) fn surplus_after(rows: &[Route], minq: u8, reports: &[Route]) -> Option<usize>
+pub(crate) fn surplus_after(
+    rows: &[Route],
+    minq: u8,
+    sender: &Sender,
+    entries: &[Entry],
+) -> Option<usize>
     requires stand { places.Stand rows.now }
     requires few { length rows.now ≤ 16384 }
-    requires reports { (length reports.now ≤ 12) × places.AreCounted reports.now }
-    ensures { places.IsSurplus (length (spec.after_reports minq reports.now rows.now)) result }
+    requires entries { length entries.now ≤ 11 }
+    ensures { places.IsSurplus (length (spec.after_reports minq (spec.reported sender.now entries.now) rows.now)) result }
 {
-    if rows.len() + reports.len() <= MAX_PAIRS {
+    if rows.len() + entries.len() < MAX_PAIRS {
         return None;
     }
-    let count = count_after(rows, minq, reports);
+    counted_surplus(rows, minq, sender, entries)
+}
+
+/// The same, counted. It stands apart, so that a broadcast that has room pays nothing for the reports that are counted here.
+#[inline(never)]
+fn counted_surplus(rows: &[Route], minq: u8, sender: &Sender, entries: &[Entry]) -> Option<usize>
+    requires stand { places.Stand rows.now }
+    requires few { length rows.now ≤ 16384 }
+    requires entries { length entries.now ≤ 11 }
+    ensures { places.IsSurplus (length (spec.after_reports minq (spec.reported sender.now entries.now) rows.now)) result }
+{
+    let count = count_after(rows, minq, &reports_of(sender, entries));
     if count > MAX_PAIRS { Some(count) } else { None }
 }
 

@@ -6,5 +6,5 @@ use Rattle.route_table.proofs.entering.take_reports.Goals as goal
 
 pub returns-clause-stand : goal.returns-clause-stand
 returns-clause-stand c =
-    subst Stand (sym (c.enter_all.ensures ∙ ap (λ xs. all_placed xs c.take_known-waiting.new.rows.items) c.deref.ensures.0))
-    (waiting_stand c.take_known-waiting.result.items c.take_known-waiting.new.rows.items c.take_known-waiting.ensures.waiting)
+    subst Stand (sym (c.enter_all.ensures ∙ ap (λ xs. all_placed xs c.take_entries.new.rows.items) c.deref.ensures.0))
+    (waiting_stand c.take_entries.new.waiting.items c.take_entries.new.rows.items c.take_entries.ensures.waiting)

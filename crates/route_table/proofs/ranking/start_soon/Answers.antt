@@ -1,12 +1,20 @@
-use Rattle.std.proofs.Common.{◌∙◌, rules}
-use Rattle.route_table.proofs.Placing.{take_rows, start_within}
+use Rattle.std.proofs.Common.{◌≡◌, ◌<◌, ◌∙◌, true, false, arith, ap, sym, rules, length}
+use Rattle.std.proofs.lemmas.List.Sums.{prefix_len-drop_yes, prefix_len-drop_no}
+use Rattle.ax_address.specs.CallOrder.{call_lt}
+use Rattle.route_table.specs.declared.route.Route.{Route}
 use Rattle.route_table.proofs.ranking.start_soon.Goals as goal
 
-pub start_of-requires : goal.start_of-requires
-start_of-requires c = take_rows _ c.args.rows.now c.requires
+pub loop-at-init : goal.loop-at-init
+loop-at-init c = omega arith
 
-pub returns-then-not-is_lt-clause-place :
-    goal.returns-then-not-is_lt-clause-place
+pub loop-at-preserved : goal.loop-at-preserved
+loop-at-preserved c =
+    let lower : call_lt c.index-rows-at.result.dest c.args.dest.now ≡ true = search rules in
+    let within : c.loop-at.at < length c.args.rows.now = omega (arith, c.loop-at-test.true) in
+    omega (arith, c.loop-at.invariant, prefix_len-drop_yes (λ (r : Route). call_lt r.dest c.args.dest.now) c.args.rows.now c.loop-at.at c.index-rows-at.result within (ap (λ (r : Route). call_lt r.dest c.args.dest.now) (sym c.index-rows-at.is) ∙ lower))
+
+pub returns-then-not-is_lt-clause-place : goal.returns-then-not-is_lt-clause-place
 returns-then-not-is_lt-clause-place c =
-    c.start_of.ensures.place
-    ∙ start_within c.args.dest.now c.args.rows.now _ c.index-rows-few.result c.if-few-rows.true (rw (← c.index-rows-few.is) (search rules))
+    let higher : call_lt c.index-rows-at.result.dest c.args.dest.now ≡ false = search rules in
+    let within : c.loop-at.at < length c.args.rows.now = omega (arith, c.loop-at-test.true) in
+    omega (arith, c.loop-at.invariant, prefix_len-drop_no (λ (r : Route). call_lt r.dest c.args.dest.now) c.args.rows.now c.loop-at.at c.index-rows-at.result within (ap (λ (r : Route). call_lt r.dest c.args.dest.now) (sym c.index-rows-at.is) ∙ higher))
