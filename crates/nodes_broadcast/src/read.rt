@@ -1,5 +1,5 @@
 //! Octets become broadcasts.
-ghost use Rattle.std.specs.Prelude.{◌≡◌, ◌≤◌, ◌/◌, ◌%◌, [], ◌∷◌, length, take, IfOk, IfNone, IsOkAnd, MatchResult, Ok, Err, true};
+ghost use Rattle.std.specs.Prelude.{◌≡◌, ◌≤◌, ◌/◌, ◌%◌, [], ◌∷◌, length, take, IfOk, OnOk, IfNone, IsOkAnd, MatchResult, Ok, Err, true};
 ghost use Rattle.nodes_broadcast.specs.Nodes.{Broadcast, view, Spells, SpellsEntry, SpellsEntries};
 ghost use Rattle.nodes_broadcast.specs.Reading as reading;
 ghost use Rattle.ax_address.specs.NetCalls.{SpellsNetCall};
@@ -33,9 +33,12 @@ fn nodes_of(info: &[u8]) -> Result<Nodes, NodesRefusal>
     if let Some(refusal) = shape_fault(info) {
         return Err(refusal);
     }
-    let alias = alias_of(&info[1..HEAD_LEN]);
-    let entries = entries_of(&info[HEAD_LEN..])?;
-    Ok(Nodes { alias, entries })
+    let mut nodes = Nodes {
+        alias: alias_of(&info[1..HEAD_LEN]),
+        entries: ArrayVec::new(),
+    };
+    read_entries(&mut nodes.entries, &info[HEAD_LEN..])?;
+    Ok(nodes)
 }
 
 /// What shows that octets are no broadcast before any call of theirs is read.
@@ -65,21 +68,25 @@ fn is_nodes(info: &[u8]) -> bool
     }
 }
 
-/// The entries that the octets behind the alias spell.
-fn entries_of(octets: &[u8]) -> Result<ArrayVec<Entry, MAX_ENTRIES>, NodesRefusal>
+/// Reads the entries that the octets behind the alias spell straight into their place, where none is yet.
+fn read_entries(
+    entries: &mut ArrayVec<Entry, MAX_ENTRIES>,
+    octets: &[u8],
+) -> Result<(), NodesRefusal>
+    requires none { entries.old.items ≡ [] }
     requires whole { length octets.now % 21 ≡ 0 }
     requires few { length octets.now ≤ 231 }
-    ensures found { IfOk result (λ entries. SpellsEntries entries.items octets.now) }
-    ensures exact { MatchResult result (λ entries. reading.entries_at (length octets.now / 21) 7 octets.now ≡ Ok entries.items) (λ e. reading.entries_at (length octets.now / 21) 7 octets.now ≡ Err e) }
+    ensures found { OnOk result (SpellsEntries entries.new.items octets.now) }
+    ensures few { length entries.new.items ≤ 11 }
+    ensures exact { MatchResult result (λ _. reading.entries_at (length octets.now / 21) 7 octets.now ≡ Ok entries.new.items) (λ e. reading.entries_at (length octets.now / 21) 7 octets.now ≡ Err e) }
 {
-    let mut entries = ArrayVec::new();
     let mut rest = octets;
     for nth in 0..octets.len() / ENTRY_LEN {
         let (octets, others) = rest.split_at(ENTRY_LEN);
         entries.push(entry_of(octets, HEAD_LEN + ENTRY_LEN * nth)?);
         rest = others;
     }
-    Ok(entries)
+    Ok(())
 }
 
 /// The entry that its octets spell, which begin at that place of the information.

@@ -1,11 +1,14 @@
 -- Routes that wait among rows in order: what a report comes to, and how they enter.
 use Rattle.std.proofs.Common.{◌≡◌, ◌≤◌, ◌<◌, ◌+◌, ◌-◌, ◌++◌, ◌∙◌, ℕ, zero, suc, refl, sym, ap, List, [], ◌∷◌, length, take, drop, arith, Bool, true, false, cond, get_or, append_assoc}
-use Rattle.std.specs.Prelude.{not, is_none, slice_set}
+use Rattle.std.specs.Prelude.{not, ◌||◌, is_none, slice_set}
 use Rattle.std.specs.List.{list_any, AllByRecursion, copy_within}
 use Rattle.std.proofs.lemmas.List.{length-append, length-take-le, take-append-le, take-take, drop_at, drop-take, set_split}
+use Rattle.ax_address.specs.CallOrder.{same_call}
+use Rattle.ax_address.specs.declared.Entry.{Entry}
+use Rattle.route_table.specs.declared.reports.Sender.{Sender}
 use Rattle.route_table.specs.declared.route.Route.{Route}
 use Rattle.route_table.specs.Ranks.{stands_before, placed, all_placed}
-use Rattle.route_table.specs.Rows.{is_same_pair, is_lock_on, stays_beside, beside, with_report}
+use Rattle.route_table.specs.Rows.{is_same_pair, is_lock_on, stays_beside, beside, route_over, reported_by, with_report, after_reports}
 use Rattle.route_table.specs.Table.{is_good}
 use Rattle.route_table.specs.Places.{InRows, NoneTwice, Stand, AreCounted, IsNew, AreWaiting, place_of}
 use Rattle.route_table.proofs.Order.{stands_trans, stands_asym, stands_total, same_pair_sym}
@@ -160,6 +163,23 @@ kept_items minq r xs rows h k =
     cases : (G : Bool) → all_placed (cond G (placed r (beside r xs)) (beside r xs)) rows ≡ cond G (placed r (all_placed (beside r xs) rows)) (all_placed (beside r xs) rows)
     cases true = placed_among r (beside r xs) rows (beside_apart r xs)
     cases false = refl
+
+not_true : (b : Bool) → not b ≡ true → b ≡ false
+not_true false h = refl
+not_true true h = absurd (cc)
+
+-- an entry that reports a route is taken in as that route
+pub entry_told : (minq : ℕ) (s : Sender) (e : Entry) (later : List Entry) (rows now : List Route) → not (same_call e.dest s.own || same_call e.dest s.neighbour) ≡ true
+    → now ≡ with_report minq (route_over s e) rows → after_reports minq (reported_by s later) now ≡ after_reports minq (reported_by s (e ∷ later)) rows
+entry_told minq s e later rows now h k = let other = not_true (same_call e.dest s.own || same_call e.dest s.neighbour) h in rw (other, k) refl
+
+-- such a report becomes a row if it is good enough, and else changes nothing
+
+pub new_entered : (minq : ℕ) (r : Route) (rows : List Route) → list_any (is_same_pair r) rows ≡ false → is_good minq r ≡ true → placed r rows ≡ with_report minq r rows
+new_entered minq r rows k g = rw (no_lock r rows k, g, beside_none r rows k) refl
+
+pub poor_dropped : (minq : ℕ) (r : Route) (rows : List Route) → list_any (is_same_pair r) rows ≡ false → is_good minq r ≡ false → rows ≡ with_report minq r rows
+poor_dropped minq r rows k g = rw (no_lock r rows k, g) (sym (beside_none r rows k))
 
 pub kept_waiting : (minq : ℕ) (r : Route) (xs rows : List Route) → is_none r.count ≡ false → AreWaiting xs rows → list_any (is_same_pair r) rows ≡ false → AreWaiting (with_report minq r xs) rows
 kept_waiting minq r xs rows c h k = record {

@@ -1,20 +1,18 @@
 //! A broadcast's reports, taken in: those of pairs that have a row one by one, and all others in one pass.
-ghost use Rattle.std.specs.Prelude.{◌≡◌, ◌≤◌, ◌<◌, ◌+◌, ◌∷◌, ◌++◌, List, take, drop, length, vec_len, vec_capacity, is_none, false};
+ghost use Rattle.std.specs.Prelude.{◌≡◌, ◌≤◌, ◌<◌, ◌+◌, ◌∷◌, ◌++◌, List, take, drop, length, vec_len, vec_capacity, is_none, false, IfSome, IfNone, ◌-◌};
 ghost use Rattle.ax_address.specs.declared.Entry.{Entry};
 ghost use Rattle.route_table.specs.Places as places;
 ghost use Rattle.route_table.specs.Ranks as ranks;
 ghost use Rattle.route_table.specs.Rows as spec;
 
-use crate::ranking::{pair_from, place_of, start_near};
+use crate::ranking::{pair_from, place_of, place_of_pair, start_near};
 use crate::reports::{MAX_REPORTS, Sender, is_reported, route_over, route_to};
 use crate::route::Route;
-use crate::rows::{change, is_good};
+use crate::rows::{change, enter, is_good};
 use arrayvec::ArrayVec;
 use ax_address::Entry;
 
 /// Takes in a broadcast, one report after another. There is room for a row of each.
-///
-/// A row that enters moves all rows behind it, so the reports of new pairs wait until all can enter at once.
 pub(crate) fn take_reports(rows: &mut Vec<Route>, minq: u8, sender: &Sender, entries: &[Entry])
     requires stand { places.Stand rows.old.items }
     requires few { length entries.now ≤ 11 }
@@ -25,8 +23,97 @@ pub(crate) fn take_reports(rows: &mut Vec<Route>, minq: u8, sender: &Sender, ent
     if sender.neighbour == sender.own {
         return;
     }
+    take_or_enter(rows, minq, &route_to(sender));
+    let known = take_known(rows, minq, sender, entries);
+    if known == entries.len() {
+        return;
+    }
+    take_all(rows, minq, sender, &entries[known..]);
+}
+
+/// Takes a report in where a row is of its pair, and else enters it, if it is good enough.
+fn take_or_enter(rows: &mut Vec<Route>, minq: u8, report: &Route)
+    requires stand { places.Stand rows.old.items }
+    requires room { vec_len rows.old < vec_capacity rows.old }
+    ensures items { rows.new.items ≡ spec.with_report minq report.now rows.old.items }
+    ensures stand { places.Stand rows.new.items }
+    ensures len { vec_len rows.new ≤ vec_len rows.old + 1 }
+    ensures capacity { vec_capacity rows.old ≤ vec_capacity rows.new }
+{
+    match place_of_pair(rows, report) {
+        Some(at) => change(rows, minq, at, report),
+        None if is_good(minq, report) => enter(rows, report),
+        None => {}
+    }
+}
+
+/// Takes in what the entries from the first on report, up to one whose report becomes a row of a new pair. It answers how many
+/// entries that are: all, as a rule.
+fn take_known(rows: &mut Vec<Route>, minq: u8, sender: &Sender, entries: &[Entry]) -> usize
+    requires stand { places.Stand rows.old.items }
+    requires room { vec_len rows.old + length entries.now ≤ vec_capacity rows.old }
+    ensures items { spec.after_reports minq (spec.reported_by sender.now (drop result entries.now)) rows.new.items
+        ≡ spec.after_reports minq (spec.reported_by sender.now entries.now) rows.old.items }
+    ensures stand { places.Stand rows.new.items }
+    ensures within { result ≤ length entries.now }
+    ensures room { vec_len rows.new + (length entries.now - result) ≤ vec_capacity rows.new }
+{
+    let mut near = 0;
+    for at in 0..entries.len() {
+        match take_if_known(rows, minq, near, sender, &entries[at]) {
+            Some(place) => near = place,
+            None => return at,
+        }
+    }
+    entries.len()
+}
+
+/// Takes in what an entry reports, unless that becomes a row of a new pair. It answers, if so, where the row of the pair is, or
+/// where the rows to its destination begin: the next report's begin near there, since broadcasts mostly rise in call order.
+fn take_if_known(
+    rows: &mut Vec<Route>,
+    minq: u8,
+    near: usize,
+    sender: &Sender,
+    entry: &Entry,
+) -> Option<usize>
+    requires stand { places.Stand rows.old.items }
+    requires room { vec_len rows.old < vec_capacity rows.old }
+    ensures items { IfSome result (λ _. (later : List Entry) → spec.after_reports minq (spec.reported_by sender.now later) rows.new.items
+        ≡ spec.after_reports minq (spec.reported_by sender.now (entry.now ∷ later)) rows.old.items) }
+    ensures same { IfNone result (rows.new ≡ rows.old) }
+    ensures stand { places.Stand rows.new.items }
+    ensures len { vec_len rows.new ≤ vec_len rows.old + 1 }
+    ensures capacity { vec_capacity rows.old ≤ vec_capacity rows.new }
+{
+    if !is_reported(sender, entry) {
+        return Some(near);
+    }
+    let report = route_over(sender, entry);
+    let start = start_near(rows, near, &report.dest);
+    match pair_from(rows, start, &report) {
+        Some(at) => {
+            change(rows, minq, at, &report);
+            Some(at)
+        }
+        None if is_good(minq, &report) => None,
+        None => Some(start),
+    }
+}
+
+/// Takes in what the entries report.
+///
+/// A row that enters moves all rows behind it, so the reports of new pairs wait until all can enter at once. It stands apart, so
+/// that a broadcast that reports known pairs alone pays nothing for those that could wait.
+#[inline(never)]
+fn take_all(rows: &mut Vec<Route>, minq: u8, sender: &Sender, entries: &[Entry])
+    requires stand { places.Stand rows.old.items }
+    requires few { length entries.now ≤ 11 }
+    requires room { vec_len rows.old + length entries.now ≤ vec_capacity rows.old }
+    ensures items { rows.new.items ≡ spec.after_reports minq (spec.reported_by sender.now entries.now) rows.old.items }
+    ensures stand { places.Stand rows.new.items }
+{
     let mut waiting = ArrayVec::new();
-    let _ = take_or_keep(rows, &mut waiting, minq, 0, &route_to(sender));
     take_entries(rows, &mut waiting, minq, sender, entries);
     enter_all(rows, &waiting);
 }

@@ -25,7 +25,7 @@ pub(crate) fn is_good(minq: u8, report: &Route) -> bool
 }
 
 /// Puts a route at its place. There is room for it.
-fn enter(rows: &mut Vec<Route>, route: &Route)
+pub(crate) fn enter(rows: &mut Vec<Route>, route: &Route)
     requires order { places.InRows rows.old.items }
     requires room { vec_len rows.old < vec_capacity rows.old }
     ensures items { rows.new.items ≡ ranks.placed route.now rows.old.items }

@@ -3,7 +3,7 @@ use Rattle.ax_address.specs.declared.Entry.{Entry}
 use Rattle.nodes_broadcast.specs.Nodes.{SpellsEntries}
 use Rattle.nodes_broadcast.specs.Reading.{entries_at}
 use Rattle.nodes_broadcast.proofs.Turns.{behind}
-use Rattle.nodes_broadcast.proofs.read.entries_of.Given as goal
+use Rattle.nodes_broadcast.proofs.read.read_entries.Given as goal
 
 abbrev pub invariant-loop-nth : goal.invariant-loop-nth
 invariant-loop-nth l = record {

@@ -3,16 +3,16 @@ use Rattle.std.proofs.lemmas.Result.{err_from_is_err_and}
 use Rattle.nodes_broadcast.specs.Nodes.{SpellsEntry}
 use Rattle.nodes_broadcast.specs.Reading.{entry_at, entries_at}
 use Rattle.nodes_broadcast.proofs.Turns.{behind_nothing, read_on, refused_here, read_all, spells_on, spells_all}
-use Rattle.nodes_broadcast.proofs.read.entries_of.Goals as goal
+use Rattle.nodes_broadcast.proofs.read.read_entries.Goals as goal
 
 pub loop-nth-init : goal.loop-nth-init
 loop-nth-init c =
     let all : length c.args.octets.now / 21 - 0 ≡ length c.args.octets.now / 21 = omega arith in
     record {
-      count = ap length c.new-entries.ensures;
+      count = ap length c.requires.none;
       left = omega (arith, c.requires.whole);
-      found = λ more h. rw c.new-entries.ensures h;
-      exact = rw (c.new-entries.ensures, all) (behind_nothing (entries_at (length c.args.octets.now / 21) 7 c.args.octets.now));
+      found = λ more h. rw c.requires.none h;
+      exact = rw (c.requires.none, all) (behind_nothing (entries_at (length c.args.octets.now / 21) 7 c.args.octets.now));
     }
 
 pub loop-nth-preserved : goal.loop-nth-preserved
