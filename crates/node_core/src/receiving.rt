@@ -1,5 +1,5 @@
 //! What comes in: KISS items, and the frames in them.
-ghost use Rattle.std.specs.Prelude.{◌≡◌, ◌≤◌, false, OnOk, bit_or, length, slice_index, slice_set, MatchResult, Ok, Err, if◌then◌else◌};
+ghost use Rattle.std.specs.Prelude.{◌≡◌, ◌≤◌, [], ◌∷◌, false, OnOk, bit_or, length, slice_index, slice_set, MatchResult, Ok, Err, if◌then◌else◌};
 ghost use Rattle.std.specs.List.{prefix_len};
 ghost use Rattle.ax_frame.specs.Frames.{BeginsWith, view};
 ghost use Rattle.ax_frame.specs.Read.{read_at};
@@ -10,7 +10,7 @@ ghost use Rattle.route_table.specs.Log.{broadcast};
 ghost use Rattle.node_core.specs.Links as links;
 ghost use Rattle.node_core.specs.Receiving as receiving;
 ghost use Rattle.node_core.specs.States as states;
-ghost use Rattle.node_core.specs.States.{State};
+ghost use Rattle.node_core.specs.States.{Overflow, State};
 
 use crate::NodeEntry;
 use crate::broadcasts::{is_broadcast, is_to_nodes};
@@ -20,7 +20,7 @@ use ax_frame::{FrameRefusal, FrameView, Head, read_behind, read_head};
 use digi_path::{DigiStep, step};
 use kiss_framing::KissItem;
 use link_table::{Octets, Written, WrittenAs};
-use nodes_broadcast::read_nodes;
+use nodes_broadcast::{Nodes, read_nodes_into};
 use radio_base::{M8, M128, Moment, NoMemory};
 use route_table::HeardRefusal;
 
@@ -195,8 +195,9 @@ impl Station {
     fn take_broadcast(&mut self, frame: &FrameView<'_>) -> Result<(), NoMemory>
         ensures { OnOk result (Goes (receiving.hear frame.now.head.source.call (nodes_at frame.now.info.now)) self.old self.new) }
     {
-        match read_nodes(frame.info) {
-            Ok(nodes) => {
+        let mut nodes = Nodes::default();
+        match read_nodes_into(&mut nodes, frame.info) {
+            Ok(()) => {
                 let source = &frame.head.source.call;
                 self.hear(source, &nodes.alias, nodes.entries.as_slice())?;
                 Ok(())
@@ -215,12 +216,21 @@ impl Station {
         match table.heard(source, alias, path_quality, reported) {
             Ok(()) => Ok(()),
             Err(HeardRefusal::TableFull { live, would_be }) => {
-                self.entries
-                    .push_back(NodeEntry::Overflow { live, would_be })?;
+                self.tell_overflow(live, would_be)?;
                 Ok(())
             }
             Err(HeardRefusal::NoMemory) => Err(NoMemory),
         }
+    }
+
+    /// Tells that a broadcast was not taken. It stands apart, so that one that is taken pays nothing for the entry.
+    #[inline(never)]
+    fn tell_overflow(&mut self, live: usize, would_be: usize) -> Result<(), NoMemory>
+        ensures { OnOk result (Goes (states.enter (Overflow live would_be ∷ [])) self.old self.new) }
+    {
+        self.entries
+            .push_back(NodeEntry::Overflow { live, would_be })?;
+        Ok(())
     }
 }
 

@@ -10,5 +10,5 @@ mod read;
 mod write;
 
 pub use nodes::{Nodes, NodesRefusal};
-pub use read::read_nodes;
+pub use read::{read_nodes, read_nodes_into};
 pub use write::write_nodes;

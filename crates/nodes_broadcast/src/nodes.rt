@@ -12,7 +12,9 @@ pub(crate) const HEAD_LEN: usize = 7;
 pub(crate) const ENTRY_LEN: usize = 21;
 
 /// What a NODES broadcast says: how its sender names itself, and what it can reach.
-#[derive(Clone, Debug, Drop, PartialEq, Eq)]
+///
+/// Its default has the default alias and no entries: a place to read one into.
+#[derive(Clone, Debug, Default, Drop, PartialEq, Eq)]
 pub struct Nodes {
     pub alias: Alias,
     pub entries: ArrayVec<Entry, MAX_ENTRIES>,

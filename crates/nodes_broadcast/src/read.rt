@@ -21,24 +21,35 @@ pub fn read_nodes(info: &[u8]) -> Result<Nodes, NodesRefusal>
     // Which refusal it is.
     ensures exact { MatchResult result (λ nodes. reading.nodes_at info.now ≡ Ok (view nodes)) (λ e. reading.nodes_at info.now ≡ Err e) }
 {
-    // By the laws of the spelling none that is spelled is refused.
-    laws::nodes_spelling();
-    nodes_of(info)
+    let mut nodes = Nodes::default();
+    read_nodes_into(&mut nodes, info)?;
+    Ok(nodes)
 }
 
-fn nodes_of(info: &[u8]) -> Result<Nodes, NodesRefusal>
-    ensures found { IfOk result (λ nodes. Spells (view nodes) info.now) }
-    ensures exact { MatchResult result (λ nodes. reading.nodes_at info.now ≡ Ok (view nodes)) (λ e. reading.nodes_at info.now ≡ Err e) }
+/// Reads the same broadcast straight into its place: it is large, and so is not moved. After a refusal nothing is said of
+/// what stands there.
+pub fn read_nodes_into(nodes: &mut Nodes, info: &[u8]) -> Result<(), NodesRefusal>
+    ensures found { OnOk result (Spells (view nodes.new) info.now) }
+    ensures only { (broadcast : Broadcast) → Spells broadcast info.now → IsOkAnd result (λ _. view nodes.new ≡ broadcast) }
+    ensures exact { MatchResult result (λ _. reading.nodes_at info.now ≡ Ok (view nodes.new)) (λ e. reading.nodes_at info.now ≡ Err e) }
+{
+    // By the laws of the spelling none that is spelled is refused.
+    laws::nodes_spelling();
+    fill(nodes, info)?;
+    Ok(())
+}
+
+fn fill(nodes: &mut Nodes, info: &[u8]) -> Result<(), NodesRefusal>
+    ensures found { OnOk result (Spells (view nodes.new) info.now) }
+    ensures exact { MatchResult result (λ _. reading.nodes_at info.now ≡ Ok (view nodes.new)) (λ e. reading.nodes_at info.now ≡ Err e) }
 {
     if let Some(refusal) = shape_fault(info) {
         return Err(refusal);
     }
-    let mut nodes = Nodes {
-        alias: alias_of(&info[1..HEAD_LEN]),
-        entries: ArrayVec::new(),
-    };
+    nodes.alias = alias_of(&info[1..HEAD_LEN]);
+    nodes.entries.clear();
     read_entries(&mut nodes.entries, &info[HEAD_LEN..])?;
-    Ok(nodes)
+    Ok(())
 }
 
 /// What shows that octets are no broadcast before any call of theirs is read.
