@@ -14,6 +14,7 @@ mod reasons;
 
 pub use limits::MAX_NODES;
 pub use network::{Network, NumberedInstruction, read_network};
+pub use plan::broadcasts::HeardNodes;
 pub use plan::channels::{Channel, can_hear, heard_by, is_on_air};
 pub use plan::declarations::Declaration;
 pub use plan::instructions::Instruction;

@@ -80,28 +80,33 @@ fn line_of(
             if *first == b"say".as_slice() {
                 say_line(alloc, before, line, rest)
             } else {
-                Ok(declaring_kind(before, first, rest))
+                declaring_kind(alloc, before, first, rest)
             }
         }
     }
 }
 
 /// The line of a kind that declares, or else of one that doesn't.
-fn declaring_kind(before: &Network, word: &[u8], words: &[&[u8]]) -> Result<Line, What>
-    ensures { result ≡ lines.line_by lines.all_kinds before.now word.now (texts words.now) }
+fn declaring_kind(
+    alloc: Global,
+    before: &Network,
+    word: &[u8],
+    words: &[&[u8]],
+) -> Result<Result<Line, What>, AllocError>
+    ensures { IfOk result (λ said. said ≡ lines.line_by lines.all_kinds before.now word.now (texts words.now)) }
 {
     if word == b"version".as_slice() {
-        in_time(before.is_untouched(), version_line(words))
+        Ok(in_time(before.is_untouched(), version_line(words)))
     } else if word == b"node".as_slice() {
-        in_time(before.may_declare(), node_line(before, words))
+        Ok(in_time(before.may_declare(), node_line(before, words)))
     } else if word == b"channel".as_slice() {
-        in_time(before.may_declare(), channel_line(before, words))
+        Ok(in_time(before.may_declare(), channel_line(before, words)))
     } else if word == b"set".as_slice() {
-        in_time(before.may_declare(), set_line(before, words))
+        Ok(in_time(before.may_declare(), set_line(before, words)))
     } else if word == b"via".as_slice() {
-        in_time(before.may_declare(), via_line(before, words))
+        Ok(in_time(before.may_declare(), via_line(before, words)))
     } else {
-        node_kind(before, word, words)
+        node_kind(alloc, before, word, words)
     }
 }
 
@@ -113,25 +118,30 @@ fn in_time(is_in_time: bool, said: Result<Line, What>) -> Result<Line, What>
 }
 
 /// The line of a kind that speaks of nodes or of time, or else of the ends of circuits.
-fn node_kind(before: &Network, word: &[u8], words: &[&[u8]]) -> Result<Line, What>
-    ensures { result ≡ lines.line_by lines.node_kinds before.now word.now (texts words.now) }
+fn node_kind(
+    alloc: Global,
+    before: &Network,
+    word: &[u8],
+    words: &[&[u8]],
+) -> Result<Result<Line, What>, AllocError>
+    ensures { IfOk result (λ said. said ≡ lines.line_by lines.node_kinds before.now word.now (texts words.now)) }
 {
     if word == b"heard".as_slice() {
-        heard_line(before, words)
+        heard_line(alloc, before, words)
     } else if word == b"lock".as_slice() {
-        lock_line(before, words)
+        Ok(lock_line(before, words))
     } else if word == b"round".as_slice() {
-        round_line(before, words)
+        Ok(round_line(before, words))
     } else if word == b"linkfail".as_slice() {
-        linkfail_line(before, words)
+        Ok(linkfail_line(before, words))
     } else if word == b"show".as_slice() {
-        show_line(before, words)
+        Ok(show_line(before, words))
     } else if word == b"tick".as_slice() {
-        tick_line(words)
+        Ok(tick_line(words))
     } else if before.version() >= 2 && word == b"restart".as_slice() {
-        restart_line(before, words)
+        Ok(restart_line(before, words))
     } else {
-        end_kind(before, word, words)
+        Ok(end_kind(before, word, words))
     }
 }
 

@@ -1,4 +1,5 @@
 //! What a network file lays down: nodes, who hears whom, settings, ways over repeaters, and what happens.
+pub mod broadcasts;
 pub mod channels;
 pub mod declarations;
 pub mod instructions;

@@ -1,45 +1,72 @@
 //! The line `heard`.
-ghost use Rattle.std.specs.Prelude.{◌≡◌, ◌≤◌, ◌+◌, ◌*◌, ◌++◌, List, length, Ok, Err, IsTrue, MatchResult};
+ghost use Rattle.std.specs.Prelude.{◌≡◌, ◌≤◌, ◌+◌, ◌*◌, ◌++◌, List, length, Ok, Err, IfOk, IsTrue, MatchResult};
 ghost use Rattle.ax_address.specs.declared.Entry.{Entry};
 ghost use Rattle.text_lines.specs.Words.{texts};
 ghost use Rattle.network_file.specs.Lines.Heard as lines;
+ghost use Rattle.network_file.specs.declared.lines.Line.TheVariants as said;
+ghost use Rattle.network_file.specs.declared.plan.instructions.Instruction.TheVariants as instructions;
 
 use crate::lines::Line;
 use crate::network::Network;
 use crate::places::{alias, call, needs, node, octet};
+use crate::plan::broadcasts::HeardNodes;
 use crate::plan::instructions::Instruction;
 use crate::reasons::What;
 use arrayvec::ArrayVec;
-use ax_address::{Entry, MAX_ENTRIES};
+use ax_address::{Call, Entry, MAX_ENTRIES};
 use nodes_broadcast::Nodes;
+use std::alloc::{AllocError, Global};
 
 /// `heard N CALL ALIAS`, and up to eleven times `DEST ALIAS BEST QUALITY`
-pub fn heard_line(before: &Network, words: &[&[u8]]) -> Result<Line, What>
-    ensures { result ≡ lines.heard_line before.now (texts words.now) }
+pub fn heard_line(
+    alloc: Global,
+    before: &Network,
+    words: &[&[u8]],
+) -> Result<Result<Line, What>, AllocError>
+    ensures { IfOk result (λ line. line ≡ lines.heard_line before.now (texts words.now)) }
 {
     match words {
-        [number, name, nick, rest @ ..] => broadcast(before, number, name, nick, rest),
-        _ => Err(What::Count),
+        [number, name, nick, rest @ ..] => broadcast(alloc, before, number, name, nick, rest),
+        _ => Ok(Err(What::Count)),
     }
 }
 
-#[tactic(auto, unfolding(crate::specs::Lines::Heard::broadcast_at))]
 fn broadcast(
+    alloc: Global,
     before: &Network,
     number: &[u8],
     name: &[u8],
     nick: &[u8],
     rest: &[&[u8]],
-) -> Result<Line, What>
-    ensures { result ≡ lines.broadcast_at before.now number.now name.now nick.now (texts rest.now) }
+) -> Result<Result<Line, What>, AllocError>
+    ensures { IfOk result (λ line. line ≡ lines.broadcast_at before.now number.now name.now nick.now (texts rest.now)) }
+{
+    match heard(before, number, name, nick, rest) {
+        Ok((node, call, nodes)) => {
+            let nodes = HeardNodes::new(alloc, nodes)?;
+            Ok(Ok(Line::Instruction(Instruction::Heard { node, call, nodes })))
+        }
+        Err(what) => Ok(Err(what)),
+    }
+}
+
+/// Which node hears a broadcast, whose, and what it says.
+#[tactic(auto, unfolding(crate::specs::Lines::Heard::broadcast_at))]
+fn heard(
+    before: &Network,
+    number: &[u8],
+    name: &[u8],
+    nick: &[u8],
+    rest: &[&[u8]],
+) -> Result<(u8, Call, Nodes), What>
+    ensures { MatchResult result (λ h. lines.broadcast_at before.now number.now name.now nick.now (texts rest.now) ≡ Ok (said.Instruction (instructions.Heard h.0 h.1 h.2))) (λ e. lines.broadcast_at before.now number.now name.now nick.now (texts rest.now) ≡ Err e) }
 {
     needs(are_entries(rest), What::Count)?;
     let node = node(before.declared(), number)?;
     let call = call(name)?;
     let alias = alias(nick)?;
     let entries = entries_of(rest)?;
-    let nodes = Nodes { alias, entries };
-    Ok(Line::Instruction(Instruction::Heard { node, call, nodes }))
+    Ok((node, call, Nodes { alias, entries }))
 }
 
 /// Four words to an entry, and at most eleven entries.

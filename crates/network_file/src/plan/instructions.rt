@@ -1,8 +1,8 @@
 //! What happens in a network, one instruction a line.
+use crate::plan::broadcasts::HeardNodes;
 use crate::plan::pairs::FirstPair;
 use crate::plan::text::Text;
 use ax_address::{Alias, Call};
-use nodes_broadcast::Nodes;
 
 /// What happens in a network, one instruction a line.
 ///
@@ -14,7 +14,7 @@ pub enum Instruction {
     Heard {
         node: u8,
         call: Call,
-        nodes: Nodes,
+        nodes: HeardNodes,
     },
     /// An operator locks a route in.
     Lock {
