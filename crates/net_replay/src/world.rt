@@ -9,13 +9,13 @@ ghost use Rattle.net_replay.specs.Running.{GoesOn, Runs, course};
 ghost use Rattle.net_replay.specs.Running as running;
 ghost use Rattle.net_replay.specs.World as worlds;
 
-use crate::kiss::put_kiss;
+use crate::kiss::put_broadcast;
 use crate::moves::World;
 use crate::reasons::ReplayRefusal;
 use crate::stations::is_callsign;
 use circuit_l4::Pair;
 use network_file::{Instruction, Network, NumberedInstruction};
-use node_core::{UserAct, broadcast_frame};
+use node_core::UserAct;
 
 impl World {
     /// Does one instruction after another.
@@ -46,8 +46,7 @@ impl World {
         let channels = network.channels();
         match instruction {
             Instruction::Heard { node, call, nodes } => {
-                let octets = broadcast_frame(call, nodes);
-                put_kiss(octets.as_slice(), &mut self.kiss);
+                put_broadcast(call, nodes.as_nodes(), &mut self.kiss);
                 self.hear(channels, line, *node, false)
             }
             Instruction::Lock {
