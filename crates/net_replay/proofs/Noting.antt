@@ -16,6 +16,11 @@ one_behind node (f ∷ es) e ends = one_behind node es e (note_event node f.even
 pub one_more : (node : ℕ) (told : List NumberedEvent) (e : NumberedEvent) → ends_of node (told ++ e ∷ []) ≡ note_event node e.event (ends_of node told)
 one_more node told e = one_behind node told e []
 
+-- what isn't told of the making of ends leaves them as they are, at whichever node
+pub either_way : (b : Bool) (ends : List EndRecord) → cond b ends ends ≡ ends
+either_way true ends = refl
+either_way false ends = refl
+
 -- ---- lists by the numbers of their nodes
 
 pub at_itself : {A : Type 0} (lists : List (Vec EndRecord A)) (at : ℕ) (d v : Vec EndRecord A) → at < length lists → ends_at at (all_items (set lists at v)) ≡ v.items

@@ -2,6 +2,8 @@
 use Rattle.std.specs.Prelude.{ℕ, List}
 use Rattle.circuit_l4.specs.declared.plain.EndFacts.{EndFacts}
 use Rattle.circuit_l4.specs.declared.transport.Pair.{Pair}
+use Rattle.circuit_set.specs.Pumps.{Of}
+use Rattle.circuit_set.specs.Sets as sets
 use Rattle.node_core.specs.States as nodes
 use Rattle.node_core.specs.Standing.{entry_of}
 use Rattle.net_replay.specs.declared.events.Event as code
@@ -33,6 +35,8 @@ pub record NumberedEvent : Type 0 where
 
 abbrev pub event_of : code.Event → Event
 event_of (codes.Entry node entry) = Entry node (entry_of entry.value)
+event_of (codes.Sent node sent) = Entry node (nodes.Of_set (Of (sets.Sent sent.value.datagram.id sent.value.number sent.value.datagram.octets.items)))
+event_of (codes.Heeded node heeded) = Entry node (nodes.Of_set (Of (sets.Heeded heeded.value.id heeded.value.octets.items)))
 event_of (codes.InAir frame) = InAir frame
 event_of (codes.Delivered frame node) = Delivered frame node
 event_of (codes.Shown table) = Shown table.value

@@ -90,6 +90,7 @@ fn empty_lists(alloc: Global) -> Result<Vec<Vec<EndRecord>>, NoMemory>
     Ok(lists)
 }
 
+#[tactic(auto, using(crate::proofs::Noting::either_way))]
 fn note_in(lists: &mut [Vec<EndRecord>], event: &Event) -> Result<(), NoMemory>
     requires { length lists.old ≡ 256 }
     ensures { OnOk result ((node : ℕ) → ends.ends_at node (ends.all_items lists.new) ≡ ends.note_event node (event_of event.now) (ends.ends_at node (ends.all_items lists.old))) }

@@ -1,9 +1,17 @@
 //! What there is to tell of a replay.
+ghost use Rattle.std.specs.Prelude.{◌≡◌, IfOk};
+ghost use Rattle.node_core.specs.Standing.{entry_of};
+ghost use Rattle.net_replay.specs.Events.{Entry, event_of};
+
 use crate::reasons::LineRefusal;
 use ax_address::{Alias, Call};
 use circuit_l4::{EndFacts, Pair};
+use circuit_set::SetEvent;
+use l3_datagram::Datagram;
 use node_core::NodeEntry;
+use radio_base::NoMemory;
 use route_table::Route;
+use std::alloc::Global;
 use std::marker::Model;
 
 /// A node's table as it was when it was shown.
@@ -74,13 +82,37 @@ pub struct LostEnd {
     pub facts: EndFacts,
 }
 
+/// A datagram of an end: the end's number at its node, and the octets.
+#[derive(Debug, Drop)]
+pub struct EndDatagram {
+    pub id: u64,
+    pub octets: Vec<u8>,
+}
+
+/// A datagram that an end has sent. That of an information message has the number of its fragment.
+#[derive(Debug, Drop)]
+pub struct SentDatagram {
+    pub number: Option<u64>,
+    pub datagram: EndDatagram,
+}
+
 /// Something that a replay has to tell. What is large and seldom stands on the heap, since there are three events for a frame.
 #[derive(Debug, Drop)]
 pub enum Event {
-    /// What the node of that number tells.
+    /// What the node of that number tells, other than a datagram that an end has sent or taken in.
     Entry {
         node: u8,
         entry: Box<NodeEntry>,
+    },
+    /// An end of the node has sent a datagram.
+    Sent {
+        node: u8,
+        sent: Box<SentDatagram>,
+    },
+    /// An end of the node has taken in a datagram of its partner's node.
+    Heeded {
+        node: u8,
+        heeded: Box<EndDatagram>,
     },
     /// The frame of that number, from 1, was put in the air.
     InAir {
@@ -128,4 +160,42 @@ pub enum Event {
 pub struct NumberedEvent {
     pub line: u32,
     pub event: Event,
+}
+
+/// What the node of that number tells, as an event: of a datagram that an end has sent or taken in no more room is kept than its
+/// octets take.
+pub fn entry_event(alloc: Global, node: u8, entry: NodeEntry) -> Result<Event, NoMemory>
+    ensures { IfOk result (λ event. event_of event ≡ Entry node (entry_of entry)) }
+{
+    match entry {
+        NodeEntry::Set(
+            SetEvent::Sent {
+                id,
+                number,
+                datagram,
+            },
+        ) => {
+            let datagram = end_datagram(alloc, id, &datagram)?;
+            let sent = Box::new(alloc, SentDatagram { number, datagram })?;
+            Ok(Event::Sent { node, sent })
+        }
+        NodeEntry::Set(SetEvent::Heeded { id, datagram }) => {
+            let datagram = end_datagram(alloc, id, &datagram)?;
+            let heeded = Box::new(alloc, datagram)?;
+            Ok(Event::Heeded { node, heeded })
+        }
+        other => {
+            let entry = Box::new(alloc, other)?;
+            Ok(Event::Entry { node, entry })
+        }
+    }
+}
+
+/// The datagram of the end of that number.
+fn end_datagram(alloc: Global, id: u64, datagram: &Datagram) -> Result<EndDatagram, NoMemory>
+    ensures id { IfOk result (λ kept. kept.id ≡ id) }
+    ensures octets { IfOk result (λ kept. kept.octets.items ≡ datagram.now.items) }
+{
+    let octets = datagram.as_slice().to_vec(alloc)?;
+    Ok(EndDatagram { id, octets })
 }

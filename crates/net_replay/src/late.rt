@@ -80,6 +80,21 @@ fn heed(
     let line = numbered.line;
     match &numbered.event {
         Event::Entry { node, entry } => heed_entry(declared, verdict, line, *node, entry),
+        Event::Sent { node, sent } => {
+            let spot = spot_of(declared, *node);
+            heed_sent(
+                &spot,
+                verdict,
+                line,
+                sent.datagram.id,
+                sent.number,
+                &sent.datagram.octets,
+            )
+        }
+        Event::Heeded { node, heeded } => {
+            let spot = spot_of(declared, *node);
+            heed_heeded(&spot, verdict, line, heeded.id, &heeded.octets)
+        }
         Event::Restarted { node, pair } => {
             let spot = spot_of(declared, *node);
             let event = CircuitEvent {
@@ -151,28 +166,9 @@ fn heed_set(spot: &Spot, verdict: &mut Verdict, line: u32, event: &SetEvent) -> 
             id,
             number,
             datagram,
-        } => {
-            let event = CircuitEvent {
-                node: spot.place,
-                own: spot.own,
-                told: Told::Sent {
-                    id: *id,
-                    number: *number,
-                    datagram: datagram.as_slice(),
-                },
-            };
-            take_in(spot, verdict, line, &event)
-        }
+        } => heed_sent(spot, verdict, line, *id, *number, datagram.as_slice()),
         SetEvent::Heeded { id, datagram } => {
-            let event = CircuitEvent {
-                node: spot.place,
-                own: spot.own,
-                told: Told::Heeded {
-                    id: *id,
-                    datagram: datagram.as_slice(),
-                },
-            };
-            take_in(spot, verdict, line, &event)
+            heed_heeded(spot, verdict, line, *id, datagram.as_slice())
         }
         SetEvent::Notice { id, notice } => {
             let event = CircuitEvent {
@@ -198,6 +194,47 @@ fn heed_set(spot: &Spot, verdict: &mut Verdict, line: u32, event: &SetEvent) -> 
         }
         SetEvent::Dropped(_) | SetEvent::Lost(_) => Ok(()),
     }
+}
+
+/// Takes in that an end has sent a datagram.
+fn heed_sent(
+    spot: &Spot,
+    verdict: &mut Verdict,
+    line: u32,
+    id: u64,
+    number: Option<u64>,
+    datagram: &[u8],
+) -> Result<(), NoMemory>
+    ensures { OnOk result (Heeds verdict.old verdict.new (told_here line spot.now (sets.Sent id number datagram.now))) }
+{
+    let event = CircuitEvent {
+        node: spot.place,
+        own: spot.own,
+        told: Told::Sent {
+            id,
+            number,
+            datagram,
+        },
+    };
+    take_in(spot, verdict, line, &event)
+}
+
+/// Takes in that an end has taken in a datagram.
+fn heed_heeded(
+    spot: &Spot,
+    verdict: &mut Verdict,
+    line: u32,
+    id: u64,
+    datagram: &[u8],
+) -> Result<(), NoMemory>
+    ensures { OnOk result (Heeds verdict.old verdict.new (told_here line spot.now (sets.Heeded id datagram.now))) }
+{
+    let event = CircuitEvent {
+        node: spot.place,
+        own: spot.own,
+        told: Told::Heeded { id, datagram },
+    };
+    take_in(spot, verdict, line, &event)
 }
 
 /// The octets of a request, if there is one.

@@ -13,7 +13,7 @@ ghost use Rattle.net_replay.specs.World as worlds;
 use crate::air::Air;
 use crate::answer::{Answer, answer_of};
 use crate::ends::Ends;
-use crate::events::{Event, NumberedEvent};
+use crate::events::{Event, NumberedEvent, entry_event};
 use crate::kiss::KissBytes;
 use crate::places::place_of;
 use crate::reasons::ReplayRefusal;
@@ -150,9 +150,8 @@ impl World {
     {
         match self.declared.get(at) {
             Some(declared) => {
-                let node = declared.node;
-                let entry = Box::new(self.alloc, entry)?;
-                self.tell(line, Event::Entry { node, entry })?;
+                let event = entry_event(self.alloc, declared.node, entry)?;
+                self.tell(line, event)?;
                 Ok(())
             }
             None => Ok(()),
