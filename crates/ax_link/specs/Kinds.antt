@@ -28,10 +28,14 @@ kind_of size command (control.Ui pf) = Other
 kind_of size command (control.Xid pf) = Xid pf
 kind_of size command (control.Test pf) = Other
 
+-- the payload of this PID with these octets
+abbrev pub payload : ℕ → List ℕ → Payload
+payload pid info = record { pid = pid; info = record { items = info } }
+
 -- the payload of an I frame: none without a PID, or where the information has more than 256 octets
 abbrev pub payload_of : Option ℕ → List ℕ → Option Payload
 payload_of None info = None
-payload_of (Some pid) info = if nat_le (length info) 256 then Some (record { pid = pid; info = record { items = info } }) else None
+payload_of (Some pid) info = if nat_le (length info) 256 then Some (payload pid info) else None
 
 -- a frame as it comes in
 abbrev pub frame_in : ℕ → Bool → Control → Option ℕ → List ℕ → Frame

@@ -1,31 +1,17 @@
 //! What a link does with a frame of the other station (AX.25 2.2, sections 6.3 and 6.4).
 ghost use Rattle.std.specs.Prelude.{◌≡◌, ℕ, Bool, List, ◌+◌, ◌-◌, ◌*◌, ◌≤◌, ◌<◌, ◌++◌, ◌∷◌, [], ◌&&◌, not, nat_eq, nat_le, length, true, false, None, Some, IfSome};
 ghost use Rattle.radio_base.specs.declared.modulus.TheConstants.{COUNT_MAX};
-ghost use Rattle.ax_link.specs.Kinds as kinds;
 
 use crate::kind::Kind;
 use crate::plain::{LinkNotice, LinkPhase};
 use crate::station::Station;
-use arrayvec::ArrayVec;
 use ax_frame::Control;
-use radio_base::{COUNT_MAX, Modulus, Payload};
-
-/// The payload of an I frame: none without a PID, or where the information has more than 256 octets.
-fn payload_of(pid: Option<u8>, info: &[u8]) -> Option<Payload>
-    ensures { result ≡ kinds.payload_of pid info.now }
-{
-    let pid = pid?;
-    let mut text = ArrayVec::new();
-    match text.try_extend_from_slice(info) {
-        Ok(()) => Some(Payload { pid, info: text }),
-        Err(_) => None,
-    }
-}
+use radio_base::{COUNT_MAX, MAX_INFO, Modulus};
 
 impl<M: Modulus> Station<M> {
     ghost use Rattle.radio_base.specs.declared.payload.Payload.{Payload};
     ghost use Rattle.ax_link.specs.declared.kind.Kind.TheVariants as Kind;
-    ghost use Rattle.ax_link.specs.Kinds.{kind_of, payload_of, frame_in};
+    ghost use Rattle.ax_link.specs.Kinds.{kind_of, payload, payload_of, frame_in};
     ghost use Rattle.radio_base.specs.Modulus.{place_of};
     ghost use Rattle.ax_link.specs.State as state;
     ghost use Rattle.ax_link.specs.Moves as moves;
@@ -53,7 +39,7 @@ impl<M: Modulus> Station<M> {
         match self.phase {
             LinkPhase::Down => self.arrive_down(command, kind, now),
             LinkPhase::SettingUp => self.arrive_setting_up(kind, now),
-            LinkPhase::Up => self.arrive_up(command, kind, &payload_of(pid, info), now),
+            LinkPhase::Up => self.arrive_up(command, kind, pid, info, now),
             LinkPhase::Releasing => self.arrive_releasing(kind, now),
         }
     }
@@ -115,19 +101,16 @@ impl<M: Modulus> Station<M> {
         }
     }
 
-    fn arrive_up(&mut self, command: bool, kind: Kind, payload: &Option<Payload>, now: u64)
+    fn arrive_up(&mut self, command: bool, kind: Kind, pid: Option<u8>, info: &[u8], now: u64)
         requires now { now ≤ COUNT_MAX }
         requires outs { self.old.outs.items ≡ [] }
         requires notice { self.old.notice ≡ None }
         requires size { self.old.window < M.SIZE }
-        ensures does { Does M.SIZE (table.arrive_up now command kind payload.now) self.old self.new }
+        ensures does { Does M.SIZE (table.arrive_up now command kind (payload_of pid info.now)) self.old self.new }
         ensures window { self.new.window ≡ self.old.window }
     {
         match kind {
-            Kind::I { ns, nr, pf } => match payload {
-                Some(payload) => self.on_text(ns, nr, pf, payload, now),
-                None => {}
-            },
+            Kind::I { ns, nr, pf } => self.on_information(ns, nr, pf, pid, info, now),
             Kind::Rr { nr, pf } => self.on_supervisory(command, false, false, pf, nr, now),
             Kind::Rnr { nr, pf } => self.on_supervisory(command, true, false, pf, nr, now),
             Kind::Rej { nr, pf } => self.on_supervisory(command, false, true, pf, nr, now),
@@ -340,31 +323,52 @@ impl<M: Modulus> Station<M> {
         self.emit_texts(number, (self.sent - number).min(1));
     }
 
-    fn on_text(&mut self, ns: u8, nr: u8, pf: bool, payload: &Payload, now: u64)
+    /// An I frame. One without a PID, or with more than 256 octets of information, has no payload.
+    fn on_information(&mut self, ns: u8, nr: u8, pf: bool, pid: Option<u8>, info: &[u8], now: u64)
         requires now { now ≤ COUNT_MAX }
         requires outs { self.old.outs.items ≡ [] }
         requires size { self.old.window < M.SIZE }
-        ensures does { Does M.SIZE (moves.on_i now pf ns nr (Some payload.now)) self.old self.new }
+        ensures does { Does M.SIZE (moves.on_i now pf ns nr (payload_of pid info.now)) self.old self.new }
+        ensures notice { self.new.notice ≡ self.old.notice }
+        ensures window { self.new.window ≡ self.old.window }
+    {
+        match pid {
+            Some(pid) => {
+                if info.len() <= MAX_INFO {
+                    self.on_text(ns, nr, pf, pid, info, now);
+                }
+            }
+            None => {}
+        }
+    }
+
+    fn on_text(&mut self, ns: u8, nr: u8, pf: bool, pid: u8, info: &[u8], now: u64)
+        requires few { length info.now ≤ 256 }
+        requires now { now ≤ COUNT_MAX }
+        requires outs { self.old.outs.items ≡ [] }
+        requires size { self.old.window < M.SIZE }
+        ensures does { Does M.SIZE (moves.on_i now pf ns nr (Some (payload pid info.now))) self.old self.new }
         ensures notice { self.new.notice ≡ self.old.notice }
         ensures window { self.new.window ≡ self.old.window }
     {
         if let Some(below) = self.ack_place(nr) {
-            self.i_at(ns, pf, payload, below, now);
+            self.i_at(ns, pf, pid, info, below, now);
         }
     }
 
-    fn i_at(&mut self, ns: u8, pf: bool, payload: &Payload, below: u64, now: u64)
+    fn i_at(&mut self, ns: u8, pf: bool, pid: u8, info: &[u8], below: u64, now: u64)
+        requires few { length info.now ≤ 256 }
         requires now { now ≤ COUNT_MAX }
         requires outs { self.old.outs.items ≡ [] }
         requires size { self.old.window < M.SIZE }
         requires from { self.old.acked ≤ below }
         requires to { below ≤ self.old.sent }
-        ensures does { Does M.SIZE (moves.i_at now pf ns payload.now below) self.old self.new }
+        ensures does { Does M.SIZE (moves.i_at now pf ns (payload pid info.now) below) self.old self.new }
         ensures notice { self.new.notice ≡ self.old.notice }
         ensures window { self.new.window ≡ self.old.window }
     {
         self.acknowledge(below, now);
-        self.text(pf, ns, payload);
+        self.text(pf, ns, pid, info);
         self.fill_and_finish(now);
     }
 }

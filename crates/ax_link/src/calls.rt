@@ -163,6 +163,7 @@ impl<M: Modulus> Station<M> {
         self.finish(now);
     }
 
+    #[inline(always)]
     pub(crate) fn take(&mut self) -> Option<Payload>
         requires outs { self.old.outs.items ≡ [] }
         ensures does { Does M.SIZE table.take_first self.old self.new }

@@ -2,10 +2,11 @@
 ghost use Rattle.std.specs.Prelude.{◌≡◌, ℕ, List, ◌+◌, ◌-◌, ◌*◌, ◌%◌, ◌≤◌, ◌<◌, ◌++◌, ◌∷◌, [], length, replicate, slice_get, false, None, IfSome};
 ghost use Rattle.circular_buffer.specs.Buffer.{buffer, keep_last};
 ghost use Rattle.radio_base.specs.declared.modulus.TheConstants.{COUNT_MAX};
+ghost use Rattle.ax_link.specs.Kinds.{payload};
 ghost use Rattle.ax_link.specs.State as state;
 ghost use Rattle.ax_link.specs.Stations.{is_filled, with_early};
 
-use crate::moves::copy_of;
+use crate::moves::{copy_of, payload_of};
 use crate::station::{Station, push};
 use ax_frame::Control;
 use circular_buffer::HeapCircularBuffer;
@@ -46,12 +47,13 @@ fn top(early: &Places) -> usize
 }
 
 /// Keeps a payload, where none is kept in its place.
-fn keep(early: &mut Places, place: usize, payload: &Payload)
-    ensures { early.new ≡ buffer (with_early place payload.now early.old.items) early.old.capacity }
+fn keep(early: &mut Places, place: usize, pid: u8, info: &[u8])
+    requires { length info.now ≤ 256 }
+    ensures { early.new ≡ buffer (with_early place (payload pid info.now) early.old.items) early.old.capacity }
 {
     if let Some(kept) = early.get_mut(place) {
         if kept.is_none() {
-            *kept = Some(copy_of(payload));
+            *kept = Some(payload_of(pid, info));
         }
     }
 }
@@ -77,13 +79,14 @@ impl<M: Modulus> Station<M> {
     ghost use Rattle.ax_link.specs.Stations.{Does, ask_for_each, view_of, keep_early, ask_for_missing, move_on, take_next_payload};
 
     /// Takes the next payload: what came early is one place nearer.
-    pub(crate) fn take_next(&mut self, payload: &Payload)
+    pub(crate) fn take_next(&mut self, pid: u8, info: &[u8])
+        requires few { length info.now ≤ 256 }
         requires busy { length self.old.inbox.items < 64 }
         requires more { self.old.got < COUNT_MAX }
-        ensures does { Does M.SIZE (take_next_payload payload.now) self.old self.new }
+        ensures does { Does M.SIZE (take_next_payload (payload pid info.now)) self.old self.new }
         ensures adds { Adds 0 (view_of self.old) (view_of self.new) }
     {
-        push(&mut self.inbox, copy_of(payload));
+        push(&mut self.inbox, payload_of(pid, info));
         self.got += 1;
         bring_nearer(&mut self.early);
     }
@@ -110,7 +113,7 @@ impl<M: Modulus> Station<M> {
     {
         for done in 0..self.early.len() {
             match self.next_early() {
-                Some(payload) => self.take_next(&payload),
+                Some(payload) => self.take_next(payload.pid, payload.info.as_slice()),
                 None => return,
             }
         }
@@ -176,24 +179,26 @@ impl<M: Modulus> Station<M> {
     }
 
     /// Keeps the payload of this number, where none is kept in its place.
-    fn keep_early(&mut self, number: u64, payload: &Payload)
-        requires { self.old.got ≤ number }
-        ensures does { Does M.SIZE (keep_early number payload.now) self.old self.new }
+    fn keep_early(&mut self, number: u64, pid: u8, info: &[u8])
+        requires few { length info.now ≤ 256 }
+        requires from { self.old.got ≤ number }
+        ensures does { Does M.SIZE (keep_early number (payload pid info.now)) self.old self.new }
         ensures adds { Adds 0 (view_of self.old) (view_of self.new) }
     {
-        keep(&mut self.early, (number - self.got) as usize, payload);
+        keep(&mut self.early, (number - self.got) as usize, pid, info);
     }
 
     /// A payload of the window has come before its turn.
-    pub(crate) fn text_later(&mut self, pf: bool, number: u64, payload: &Payload)
+    pub(crate) fn text_later(&mut self, pf: bool, number: u64, pid: u8, info: &[u8])
+        requires few { length info.now ≤ 256 }
         requires room { length self.old.outs.items + self.old.window ≤ 2 * self.old.window + 4 }
         requires from { self.old.got ≤ number }
         requires below { number < self.old.got + self.old.window }
-        ensures does { Does M.SIZE (moves.text_later pf number payload.now) self.old self.new }
+        ensures does { Does M.SIZE (moves.text_later pf number (payload pid info.now)) self.old self.new }
         ensures adds { Adds self.old.window (view_of self.old) (view_of self.new) }
     {
         self.ask_for_missing(number);
-        self.keep_early(number, payload);
+        self.keep_early(number, pid, info);
         self.answer_poll(pf);
     }
 }

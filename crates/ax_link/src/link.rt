@@ -20,7 +20,7 @@ use std::marker::Model;
 /// - Inputs, each with its moment in milliseconds: `set_up`, `send`, `close` and `take` of the user, `arrive` of a frame of the other
 ///   station, `tick` of time. They want `drained()`.
 /// - Outputs: `next_out` and `notice`. After each input both are fetched until they answer None.
-/// - Looks, which change nothing: `first`, `facts`, `drained`.
+/// - Looks, which change nothing: `first`, `first_out`, `facts`, `drained`.
 ///
 /// `tick` is called about once a second, since no call tells when the next timer is due. `new` takes all the memory that a link needs.
 /// What each input does is one row of the table in `specs/Table.antt`.
@@ -113,12 +113,21 @@ impl<M: Modulus> Link<M> {
 
     /// The next frame that waits to be sent. It can be written: its numbers are below the modulus, and it has a PID and
     /// information exactly where its kind has them.
+    #[inline(always)]
     pub fn next_out(&mut self) -> Option<LinkOut>
         ensures value { result ≡ slice_get self.old.outs 0 }
         ensures can_be_sent { IfSome result (CanBeSent M.SIZE) }
         ensures rest { self.new ≡ record self.old { outs = drop 1 self.old.outs } }
     {
         self.station.outs.pop_front()
+    }
+
+    /// The frame that `next_out` would give.
+    pub fn first_out(&self) -> Option<&LinkOut>
+        ensures value { option_copied result ≡ slice_get self.now.outs 0 }
+        ensures can_be_sent { IfSome (option_copied result) (CanBeSent M.SIZE) }
+    {
+        self.station.outs.front()
     }
 
     /// The next notice.
@@ -130,6 +139,7 @@ impl<M: Modulus> Link<M> {
     }
 
     /// Takes the oldest payload of the inbox.
+    #[inline(always)]
     pub fn take(&mut self, now: Moment) -> Option<Payload>
         requires { IsDrained self.old }
         ensures does { (s : State) → StandsFor M.SIZE self.old s → Stands M.SIZE self.new (table.step s table.Take now.0) }

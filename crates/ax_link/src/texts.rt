@@ -4,12 +4,12 @@ ghost use Rattle.radio_base.specs.declared.modulus.TheConstants.{COUNT_MAX};
 
 use crate::station::Station;
 use ax_frame::Control;
-use radio_base::{COUNT_MAX, Modulus, Payload};
+use radio_base::{COUNT_MAX, Modulus};
 
 impl<M: Modulus> Station<M> {
     ghost use Rattle.radio_base.specs.declared.payload.Payload.{Payload};
     ghost use Rattle.ax_link.specs.declared.kind.Kind.TheVariants as Kind;
-    ghost use Rattle.ax_link.specs.Kinds.{kind_of, payload_of};
+    ghost use Rattle.ax_link.specs.Kinds.{kind_of, payload};
     ghost use Rattle.ax_link.specs.State as state;
     ghost use Rattle.ax_link.specs.Moves as moves;
     ghost use Rattle.ax_link.specs.Table as table;
@@ -17,10 +17,11 @@ impl<M: Modulus> Station<M> {
     ghost use Rattle.ax_link.specs.Stations.{Does, view_of, take_plain, text_next};
 
     /// A payload has come with this number on the air.
-    pub(crate) fn text(&mut self, pf: bool, ns: u8, payload: &Payload)
+    pub(crate) fn text(&mut self, pf: bool, ns: u8, pid: u8, info: &[u8])
+        requires few { length info.now ≤ 256 }
         requires room { length self.old.outs.items + self.old.window ≤ 2 * self.old.window + 4 }
         requires size { self.old.window < M.SIZE }
-        ensures does { Does M.SIZE (moves.text pf ns payload.now) self.old self.new }
+        ensures does { Does M.SIZE (moves.text pf ns (payload pid info.now)) self.old self.new }
         ensures adds { Adds self.old.window (view_of self.old) (view_of self.new) }
     {
         if self.got >= COUNT_MAX {
@@ -30,79 +31,84 @@ impl<M: Modulus> Station<M> {
             let nr = M::wire(self.got);
             self.emit(false, Control::Rnr { nr, pf });
         } else if self.srej {
-            self.text_in_window(pf, ns, payload);
+            self.text_in_window(pf, ns, pid, info);
         } else {
-            self.text_in_turn(pf, ns, payload);
+            self.text_in_turn(pf, ns, pid, info);
         }
     }
 
     /// Where single payloads are asked for, each one of the window is taken or kept.
-    fn text_in_window(&mut self, pf: bool, ns: u8, payload: &Payload)
+    fn text_in_window(&mut self, pf: bool, ns: u8, pid: u8, info: &[u8])
+        requires few { length info.now ≤ 256 }
         requires room { length self.old.outs.items + self.old.window ≤ 2 * self.old.window + 4 }
         requires size { self.old.window < M.SIZE }
         requires busy { length self.old.inbox.items < 64 }
         requires more { self.old.got < COUNT_MAX }
-        ensures does { Does M.SIZE (moves.text_srej pf ns payload.now) self.old self.new }
+        ensures does { Does M.SIZE (moves.text_srej pf ns (payload pid info.now)) self.old self.new }
         ensures adds { Adds self.old.window (view_of self.old) (view_of self.new) }
     {
         match self.in_window(ns) {
-            Some(number) => self.text_at(pf, number, payload),
+            Some(number) => self.text_at(pf, number, pid, info),
             None => self.emit_rr(pf),
         }
     }
 
-    fn text_at(&mut self, pf: bool, number: u64, payload: &Payload)
+    fn text_at(&mut self, pf: bool, number: u64, pid: u8, info: &[u8])
+        requires few { length info.now ≤ 256 }
         requires room { length self.old.outs.items + self.old.window ≤ 2 * self.old.window + 4 }
         requires busy { length self.old.inbox.items < 64 }
         requires more { self.old.got < COUNT_MAX }
         requires from { self.old.got ≤ number }
         requires below { number < self.old.got + self.old.window }
-        ensures does { Does M.SIZE (moves.text_at pf number payload.now) self.old self.new }
+        ensures does { Does M.SIZE (moves.text_at pf number (payload pid info.now)) self.old self.new }
         ensures adds { Adds self.old.window (view_of self.old) (view_of self.new) }
     {
         if self.got < number {
-            self.text_later(pf, number, payload);
+            self.text_later(pf, number, pid, info);
         } else {
-            self.text_next(pf, payload);
+            self.text_next(pf, pid, info);
         }
     }
 
     /// The next payload has come, and early ones follow.
-    fn text_next(&mut self, pf: bool, payload: &Payload)
+    fn text_next(&mut self, pf: bool, pid: u8, info: &[u8])
+        requires few { length info.now ≤ 256 }
         requires room { length self.old.outs.items + 1 ≤ 2 * self.old.window + 4 }
         requires busy { length self.old.inbox.items < 64 }
         requires more { self.old.got < COUNT_MAX }
-        ensures does { Does M.SIZE (text_next pf payload.now) self.old self.new }
+        ensures does { Does M.SIZE (text_next pf (payload pid info.now)) self.old self.new }
         ensures adds { Adds 1 (view_of self.old) (view_of self.new) }
     {
-        self.take_next(payload);
+        self.take_next(pid, info);
         self.move_on();
         self.answer_text(pf);
     }
 
     /// Without single payloads being asked for, only the next one is taken.
-    fn text_in_turn(&mut self, pf: bool, ns: u8, payload: &Payload)
+    fn text_in_turn(&mut self, pf: bool, ns: u8, pid: u8, info: &[u8])
+        requires few { length info.now ≤ 256 }
         requires room { length self.old.outs.items + 1 ≤ 2 * self.old.window + 4 }
         requires busy { length self.old.inbox.items < 64 }
         requires more { self.old.got < COUNT_MAX }
-        ensures does { Does M.SIZE (moves.text_plain pf ns payload.now) self.old self.new }
+        ensures does { Does M.SIZE (moves.text_plain pf ns (payload pid info.now)) self.old self.new }
         ensures adds { Adds 1 (view_of self.old) (view_of self.new) }
     {
         if ns == M::wire(self.got) {
-            self.take_in(payload);
+            self.take_in(pid, info);
             self.answer_text(pf);
         } else {
             self.ask_again(pf);
         }
     }
 
-    fn take_in(&mut self, payload: &Payload)
+    fn take_in(&mut self, pid: u8, info: &[u8])
+        requires few { length info.now ≤ 256 }
         requires busy { length self.old.inbox.items < 64 }
         requires more { self.old.got < COUNT_MAX }
-        ensures does { Does M.SIZE (take_plain payload.now) self.old self.new }
+        ensures does { Does M.SIZE (take_plain (payload pid info.now)) self.old self.new }
         ensures adds { Adds 0 (view_of self.old) (view_of self.new) }
     {
-        self.take_next(payload);
+        self.take_next(pid, info);
         self.rej_sent = false;
     }
 

@@ -15,7 +15,7 @@ use Rattle.link_table.specs.declared.written.Written.{Written}
 use Rattle.link_table.specs.Fetching.{written}
 use Rattle.link_table.specs.Frames.{Sent, all_sent, fitting, netrom, sent_by, segmented}
 use Rattle.link_table.specs.Standing.{GoesQuietly, Goes, HandsUp, Lifted, WorkStands, gone_out}
-use Rattle.link_table.specs.Works.{Work, arrive_at_link, first_to_take, hand_up, is_down, is_text, most_taken, settle, step_link, take_payload, unless_text}
+use Rattle.link_table.specs.Works.{Work, arrive_at_link, first_to_take, hand_up, is_down, is_text, joiner_after, lost_by, most_taken, settle, step_link, take_payload, unless_text}
 
 -- the oldest frame of a link has gone out, and the others are still to go
 pub one_out : (size : ℕ) (route : Route) (out : LinkOut) (old new : LinkView) (fs fs2 : List Written) → slice_get old.outs 0 ≡ Some out → new.outs ≡ drop 1 old.outs →
@@ -36,6 +36,21 @@ one_out size route out old new fs fs2 first rest one =
         append_assoc fs (map written (sent_one out)) (gone xs)
         ∙ ap (λ y. fs ++ (map written (sent_one y) ++ gone xs)) (sym same)
         ∙ ap (λ ys. fs ++ ys) (sym (map-append written (sent_one x) (all_sent size route.own route.peer route.path (map (frame_of size) xs))))
+
+-- no frame is still to go
+pub none_out : (size : ℕ) (route : Route) (link : LinkView) → slice_get link.outs 0 ≡ None → gone_out size route link ≡ []
+none_out size route link e = by link.outs e
+  where
+    by : (xs : List LinkOut) → slice_get xs 0 ≡ None → map written (all_sent size route.own route.peer route.path (map (frame_of size) xs)) ≡ []
+    by [] e = refl
+    by (x ∷ xs) e = absurd (cc e)
+
+pub none_left_out : (link : LinkView) → slice_get link.outs 0 ≡ None → link.outs ≡ []
+none_left_out link e = by link.outs e
+  where
+    by : (xs : List LinkOut) → slice_get xs 0 ≡ None → xs ≡ []
+    by [] e = refl
+    by (x ∷ xs) e = absurd (cc e)
 
 -- all but the frames stays
 pub outs_alone : (old mid new : LinkView) → mid ≡ record old { outs = mid.outs } → new ≡ record mid { outs = drop 1 mid.outs } → new ≡ record old { outs = new.outs }
@@ -116,6 +131,31 @@ pub takes_one : (size : ℕ) (route : Route) (now : ℕ) (p q : Payload) (old mi
     Goes size route (take_payload route.own now p) old new j j3 k k3
 takes_one size route now p q old mid new j j2 j3 k k2 k3 e does l u w s =
     hands size route p new j2 j3 k2 k3 (subst (λ x. HandsUp x route j2 j3 k2 k3) e u) (step_link route.own Take now w) (lifts size route Take now old mid new j j2 k k2 does l w s)
+
+-- It may be handed up first: a link that gives a payload tells nothing.
+pub hands_first : (size : ℕ) (route : Route) (now : ℕ) (p q : Payload) (old mid new : LinkView) (j j2 j3 : Joined) (k k2 k3 : Pending) → q ≡ p →
+    ((s : State) → StandsFor size old s → Stands size mid (step s Take now)) → mid.notice ≡ None → HandsUp q route j j2 k k2 → Lifted size route mid new j2 j3 k2 k3 →
+    Goes size route (take_payload route.own now p) old new j j3 k k3
+hands_first size route now p q old mid new j j2 j3 k k2 k3 e does quiet u l =
+    let before : Pending = record k3 { waiting = k.waiting } in
+    let lifted : Lifted size route mid new j j k before =
+    record {
+      link = l.link;
+      joiner = ap (λ x. joiner_after (option_to_list x) j) (sym quiet);
+      waiting = refl;
+      lost = l.lost ∙ ap (λ xs. xs ++ lost_by route.peer (option_to_list mid.notice)) u.lost;
+      notices = l.notices ∙ ap (λ xs. xs ++ map (λ n. (route.peer, n)) (option_to_list mid.notice)) u.notices;
+      frames = l.frames ∙ ap (λ xs. xs ++ gone_out size route mid) u.frames;
+    } in
+    let up : HandsUp q route j j3 before k3 =
+    record {
+      joiner = l.joiner ∙ ap (λ x. joiner_after (option_to_list x) j2) quiet ∙ u.joiner;
+      waiting = l.waiting ∙ u.waiting;
+      lost = refl;
+      notices = refl;
+      frames = refl;
+    } in
+    takes_one size route now p q old mid new j j j3 k before k3 e does lifted up
 
 -- what may be taken at once is the oldest payload
 pub untexted : (j : Joined) (x : Option Payload) (p : Payload) → unless_text j x ≡ Some p → x ≡ Some p

@@ -1,36 +1,22 @@
 -- Links by peer, as the map has them and as the table has them.
-use Rattle.std.proofs.Common.{◌≡◌, ℕ, suc, ◌≤◌, ◌<◌, Bool, true, false, cond, List, [], ◌∷◌, ◌++◌, length, map, min, ◌&&◌, is_some, nat_le, Option, Some, None, refl, ap, sym, ◌∙◌, subst, arith, if◌then◌else◌}
+use Rattle.std.proofs.Common.{◌≡◌, ℕ, suc, ◌≤◌, ◌<◌, Bool, true, false, cond, List, [], ◌∷◌, ◌++◌, length, map, Some, None, refl, ap, sym, ◌∙◌, subst, arith, if◌then◌else◌}
 use Rattle.std.specs.Map.{keys_of, lookup, set_value, remove_entry}
 use Rattle.ax_address.specs.Callsign.{Callsign}
-use Rattle.arrayvec.specs.ArrayVec.{ArrayVec}
-use Rattle.ax_address.specs.declared.address.Address.{Address}
-use Rattle.std.proofs.lemmas.Bool.Decides.{nat_tests}
 use Rattle.ax_address.specs.CallOrder.{same_call}
-use Rattle.ax_frame.specs.Frames.{Frame as AirFrame}
-use Rattle.link_table.specs.Frames.{Sent}
-use Rattle.ax_link.specs.declared.plain.LinkNotice.{LinkNotice}
 use Rattle.ax_link.specs.Opening.{IsDrained, opening, rules_new}
 use Rattle.link_table.specs.declared.entry.Entry.{Entry}
 use Rattle.link_table.specs.declared.held_links.HeldLinks.{HeldLinks}
 use Rattle.link_table.specs.declared.pending.Pending.{Pending}
-use Rattle.link_table.specs.Fetching.{PendingStands, written}
-use Rattle.link_table.specs.Calls.{Offering, at_link, end, link_frame, made, keep, offer, offer_link, offer_standing, offer_ui, set_up_link, pack, most_links, tick, tick_each}
+use Rattle.link_table.specs.Fetching.{PendingStands}
+use Rattle.link_table.specs.Calls.{at_link, made, keep, most_links, tick, tick_each}
 use Rattle.ax_segment.specs.Joining.{Nothing}
 use Rattle.link_table.specs.declared.route.Route.{Route}
-use Rattle.ax_link.specs.State.{count_end}
-use Rattle.radio_base.specs.declared.payload.Payload.{Payload}
-use Rattle.std.proofs.lemmas.List.{map-append}
-use Rattle.ax_link.specs.declared.plain.LinkPhase.{LinkPhase}
-use Rattle.ax_link.specs.declared.plain.LinkPhase.TheVariants.{Down, SettingUp, Up, Releasing}
-use Rattle.ax_link.specs.State.{State, begin}
-use Rattle.ax_link.specs.Table.{Input, Send, Set_up, Tick, accept, may_close, set_up_in, step, takes}
-use Rattle.ax_link.specs.Standing.{LinkView, StandsFor}
-use Rattle.l3_datagram.specs.CarrierCall.{Datagram}
-use Rattle.l3_datagram.specs.declared.carrier.Offered.{Offered}
-use Rattle.l3_datagram.specs.declared.carrier.Offered.TheVariants.{Taken, Dropped}
-use Rattle.link_table.specs.Standing.{width, GoesQuietly, Offers, SameEntry, CoreGoes, AllDrained, CoreStands, EntryGoes, LinkStands, LinksStand, Rests, WorkStands, down_at, down_by, drop_if_down, held_of, size_of}
-use Rattle.link_table.specs.Table.{Linked, Table, path_to, link_with, with_link, without}
-use Rattle.link_table.specs.Works.{Work, arrive_at_link, is_down, joiner_after, lost_by, emit, step_link, tell}
+use Rattle.ax_link.specs.State.{State}
+use Rattle.ax_link.specs.Table.{Tick}
+use Rattle.ax_link.specs.Standing.{StandsFor}
+use Rattle.link_table.specs.Standing.{width, CoreGoes, AllDrained, CoreStands, EntryGoes, LinkStands, LinksStand, Rests, WorkStands, down_at, down_by, drop_if_down, held_of, size_of}
+use Rattle.link_table.specs.Table.{Linked, Table, link_with, with_link, without}
+use Rattle.link_table.specs.Works.{Work, is_down, step_link}
 
 module _ (own peer : Callsign) where
   -- the link that the map has stands for the one that the table has

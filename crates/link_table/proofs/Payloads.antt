@@ -1,6 +1,6 @@
 -- What calls leave of the payloads that came and weren't taken.
-use Rattle.std.proofs.Common.{◌≡◌, ◌≤◌, ◌<◌, ◌+◌, ◌∙◌, ◌==◌, ℕ, zero, suc, refl, sym, ap, subst, arith, length, length-append, length-drop, append-nil, drop, List, [], ◌∷◌, ◌++◌, replicate, slice_get}
-use Rattle.std.specs.Prelude.{Bool, true, false, if◌then◌else◌, ◌||◌, ◌&&◌, not, nat_le, nat_lt, is_some, Option, Some, None}
+use Rattle.std.proofs.Common.{◌≡◌, ◌≤◌, ◌<◌, ◌+◌, ◌∙◌, ℕ, zero, suc, refl, sym, ap, subst, arith, length, append-nil, List, [], ◌∷◌, ◌++◌, replicate, slice_get}
+use Rattle.std.specs.Prelude.{Bool, true, false, if◌then◌else◌, ◌&&◌, nat_le, is_some, Option, Some, None}
 use Rattle.radio_base.specs.declared.payload.Payload.{Payload}
 use Rattle.ax_address.specs.Callsign.{Callsign}
 use Rattle.ax_address.specs.CallOrder.{same_call}
@@ -16,7 +16,7 @@ use Rattle.l3_datagram.specs.declared.carrier.Offered.TheVariants.{Taken, Droppe
 use Rattle.link_table.specs.declared.entry.Entry.{Entry}
 use Rattle.link_table.specs.Calls as calls
 use Rattle.link_table.specs.Payloads.{CountsPayloads, Leaves, OffersLeave, TakesLower, all_payloads, entry_payloads, filled, link_payloads, payloads}
-use Rattle.link_table.specs.Standing.{Kept, LinksStand, TableStands}
+use Rattle.link_table.specs.Standing.{LinksStand}
 use Rattle.link_table.specs.Table.{Linked, Table, link_with, path_to, with_link, without}
 use Rattle.link_table.specs.Texts as texts
 use Rattle.link_table.specs.Works.{Work, first_to_take, is_down, most_taken, settle, step_link, take_payload}

@@ -15,13 +15,13 @@ use crate::answers::{answer, refusal, way_back};
 use crate::entry::Entry;
 use crate::pending::Pending;
 use crate::route::{Route, copy_of};
-use crate::work::note;
+use crate::work::{bring, note};
 use arrayvec::ArrayVec;
 use ax_address::{Call, Path};
 use ax_frame::{Control, FrameView, is_command};
 use ax_link::{LinkConfig, LinkNotice};
 use indexmap::IndexMap;
-use l3_datagram::{Datagram, MAX_DATAGRAM};
+use l3_datagram::MAX_DATAGRAM;
 use radio_base::{Moment, NETROM_PID, NoMemory};
 use std::alloc::Global;
 
@@ -240,11 +240,11 @@ impl HeldLinks {
         ensures links { self.new.links ≡ self.old.links }
     {
         if frame.pid == Some(NETROM_PID) && frame.info.len() <= MAX_DATAGRAM {
-            let mut datagram = Datagram::new();
-            let _ = datagram.try_extend_from_slice(frame.info);
-            self.pending
-                .waiting
-                .push_back((frame.head.source.call, datagram))?;
+            bring(
+                &frame.head.source.call,
+                frame.info,
+                &mut self.pending.waiting,
+            )?;
         }
         Ok(())
     }

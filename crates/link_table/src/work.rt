@@ -1,5 +1,5 @@
 //! What comes of a step of a link: its frames are put out, its notices are told, and what it brought is taken.
-ghost use Rattle.std.specs.Prelude.{◌≡◌, ◌++◌, ◌∷◌, [], ℕ, List, None, Some, map, OnOk, IfOk, ◌<◌, slice_get, is_some, length};
+ghost use Rattle.std.specs.Prelude.{◌≡◌, ◌≤◌, ◌++◌, ◌∷◌, [], ℕ, List, None, Some, map, OnOk, IfOk, ◌<◌, slice_get, is_some, length};
 ghost use Rattle.radio_base.specs.declared.payload.Payload.{Payload};
 ghost use Rattle.std.specs.Option.{option_to_list};
 ghost use Rattle.ax_frame.specs.Controls.{IsLinkModulus};
@@ -15,13 +15,14 @@ ghost use Rattle.link_table.specs.Frames.{all_sent, fitting, sent_by};
 ghost use Rattle.link_table.specs.Standing.{Goes, HandsUp, Lifted, gone_out};
 ghost use Rattle.link_table.specs.Works as works;
 
-use crate::pending::{Frames, Pending, put};
+use crate::pending::{Frames, Pending, Waiting, put};
 use crate::route::Route;
 use crate::texts::is_text;
 use ax_address::Call;
 use ax_frame::{FrameView, is_command};
 use ax_link::{Link, LinkNotice, LinkOut, LinkPhase};
 use ax_segment::Joiner;
+use l3_datagram::Datagram;
 use radio_base::{Modulus, Moment, NETROM_PID, NoMemory, Payload, SEGMENT_PID};
 
 /// Puts out one frame of a link.
@@ -43,7 +44,7 @@ fn emit<M: Modulus>(frames: &mut Frames, route: &Route, out: &LinkOut) -> Result
     }
 }
 
-/// Puts out all frames of a link.
+/// Puts out all frames of a link, each from where it stands.
 pub(crate) fn emit_frames<M: Modulus>(
     link: &mut Link<M>,
     route: &Route,
@@ -53,8 +54,9 @@ pub(crate) fn emit_frames<M: Modulus>(
     ensures link { OnOk result (link.new ≡ record link.old { outs = [] }) }
     ensures frames { OnOk result (frames.new.items ≡ frames.old.items ++ gone_out M.SIZE route.now link.old) }
 {
-    while let Some(out) = link.next_out() {
-        emit::<M>(frames, route, &out)?;
+    while let Some(out) = link.first_out() {
+        emit::<M>(frames, route, out)?;
+        let _ = link.next_out();
     }
     Ok(())
 }
@@ -111,20 +113,31 @@ pub(crate) fn lift<M: Modulus>(
     Ok(())
 }
 
-/// A payload that was taken from a link: a datagram comes up, a segment goes to the joiner, and all else is dropped.
+/// The oldest payload of a link: a datagram comes up, a segment goes to the joiner, and all else is dropped.
 fn hand_up(
-    payload: Payload,
+    payload: &Payload,
     route: &Route,
     joiner: &mut Joiner,
     pending: &mut Pending,
 ) -> Result<(), NoMemory>
-    ensures { OnOk result (HandsUp payload route.now joiner.old joiner.new pending.old pending.new) }
+    ensures { OnOk result (HandsUp payload.now route.now joiner.old joiner.new pending.old pending.new) }
 {
     if payload.pid == NETROM_PID {
-        pending.waiting.push_back((route.peer, payload.info))?;
+        bring(&route.peer, payload.info.as_slice(), &mut pending.waiting)?;
     } else if payload.pid == SEGMENT_PID {
         join(joiner, payload.info.as_slice())?;
     }
+    Ok(())
+}
+
+/// A datagram of these octets has come from a peer. They are put where they stand, so that they are copied once.
+pub(crate) fn bring(peer: &Call, octets: &[u8], waiting: &mut Waiting) -> Result<(), NoMemory>
+    requires { length octets.now ≤ 256 }
+    ensures { OnOk result (waiting.new.items ≡ waiting.old.items ++ (peer.now, record { items = octets.now }) ∷ []) }
+{
+    let mut came = (*peer, Datagram::new());
+    let _ = came.1.try_extend_from_slice(octets);
+    waiting.push_back(came)?;
     Ok(())
 }
 
@@ -136,7 +149,7 @@ fn join(joiner: &mut Joiner, segment: &[u8]) -> Result<(), NoMemory>
     Ok(())
 }
 
-/// Takes the oldest payload.
+/// Takes the oldest payload. It is handed up from where it stands, so that it isn't moved before.
 fn take_one<M: Modulus>(
     link: &mut Link<M>,
     route: &Route,
@@ -151,11 +164,12 @@ fn take_one<M: Modulus>(
     ensures goes { (p : Payload) → slice_get link.old.inbox 0 ≡ Some p →
         OnOk result (Goes M.SIZE route.now (works.take_payload route.now.own now.0 p) link.old link.new joiner.old joiner.new pending.old pending.new) }
 {
-    match link.take(now) {
+    match link.first() {
         None => Ok(()),
         Some(payload) => {
-            lift(link, route, joiner, pending)?;
             hand_up(payload, route, joiner, pending)?;
+            let _ = link.take(now);
+            lift(link, route, joiner, pending)?;
             Ok(())
         }
     }

@@ -1,6 +1,5 @@
 -- The first of the links that are left is the first of all, since no text waits at those before.
-use Rattle.std.proofs.Common.{◌≡◌, Option, length, slice_get}
-use Rattle.ax_address.specs.Callsign.{Callsign}
+use Rattle.std.proofs.Common.{◌≡◌, length, slice_get}
 use Rattle.link_table.specs.Standing.{text_keys}
 use Rattle.link_table.proofs.text_calls.first_text.Given as goal
 

@@ -11,7 +11,7 @@ loop-done-preserved g c =
     let kept = c.loop-done.invariant in
     let left : length c.args.self.now.early.items - c.loop-done.done ≡ suc (length c.args.self.now.early.items - (c.loop-done.done + 1)) = omega (arith, c.loop-done-test.true, c.len-done-end.ensures.len) in
     record {
-      goes = λ part stands. goes_on _ _ _ (view_of c.loop-done.self) _ _ _ left c.in-Some.ensures.exact c.take_next.ensures.does (kept.goes part stands);
+      goes = λ part stands. goes_on _ _ _ (view_of c.loop-done.self) _ _ _ left c.in-Some.ensures.exact (rw c.as_slice.ensures.value at c.take_next.ensures.does) (kept.goes part stands);
       adds = record {
         window = c.take_next.ensures.adds.window ∙ kept.adds.window;
         outs = omega (arith, c.take_next.ensures.adds.outs, kept.adds.outs);
