@@ -194,7 +194,8 @@ fn make_likeness(alloc: Global, who: &Name, datagram: &[u8]) -> Result<Likeness,
     ensures octets { IfOk result (λ likeness. likeness.octets.items ≡ sends.core datagram.now) }
 {
     // (what differs between the datagrams of an end comes first, so that two are told apart early)
-    let mut octets = Vec::from_slice(alloc, &datagram[HEAD_SIZE..])?;
+    let mut octets = Vec::with_capacity(alloc, datagram.len())?;
+    octets.extend_from_slice(&datagram[HEAD_SIZE..])?;
     octets.extend_from_slice(&datagram[..TTL_AT])?;
     Ok(Likeness { who: *who, octets })
 }
