@@ -47,7 +47,8 @@ fn address_of(call: Call, bit7: bool) -> Address
     }
 }
 
-/// A broadcast in octets: a UI command to NODES without repeaters.
+/// A broadcast in octets: a UI command to NODES without repeaters. A frame is long to move, so its caller takes this in.
+#[inline(always)]
 pub fn broadcast_frame(call: &Call, broadcast: &Nodes) -> FrameBytes
     ensures { result.items ≡ broadcasts.broadcast_octets call.now (view broadcast.now) }
 {
@@ -79,6 +80,7 @@ pub(crate) fn frame_count(entries: &[Entry]) -> usize
 }
 
 /// The entries of a frame, by its number from 0.
+#[inline(always)]
 pub(crate) fn entries_of_frame(entries: &[Entry], nth: usize) -> ArrayVec<Entry, MAX_ENTRIES>
     requires { 11 * nth ≤ length entries.now }
     ensures { result.items ≡ broadcasts.entries_of_frame entries.now nth }

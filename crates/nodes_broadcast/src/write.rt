@@ -10,7 +10,8 @@ use ax_address::{Entry, write_net_call};
 /// The information of a broadcast: a head of 7 octets and at most eleven entries of 21 have room.
 type Info = ArrayVec<u8, 256>;
 
-/// The information of the frame that carries a broadcast.
+/// The information of the frame that carries a broadcast. It is long to move, so its caller takes this in.
+#[inline(always)]
 pub fn write_nodes(nodes: &Nodes) -> ArrayVec<u8, 256>
     ensures exact { result.items ≡ nodes_octets (view nodes.now) }
 
