@@ -47,10 +47,18 @@ fn address_of(call: Call, bit7: bool) -> Address
     }
 }
 
-/// A broadcast in octets: a UI command to NODES without repeaters. A frame is long to move, so its caller takes this in.
-#[inline(always)]
+/// A broadcast in octets: a UI command to NODES without repeaters.
 pub fn broadcast_frame(call: &Call, broadcast: &Nodes) -> FrameBytes
     ensures { result.items ≡ broadcasts.broadcast_octets call.now (view broadcast.now) }
+{
+    let mut octets = FrameBytes::new();
+    write_broadcast(call, broadcast, &mut octets);
+    octets
+}
+
+/// Replaces `out` by the same octets.
+pub(crate) fn write_broadcast(call: &Call, broadcast: &Nodes, out: &mut FrameBytes)
+    ensures { out.new.items ≡ broadcasts.broadcast_octets call.now (view broadcast.now) }
 {
     let head = Head {
         dest: address_of(nodes_call(), true),
@@ -58,15 +66,13 @@ pub fn broadcast_frame(call: &Call, broadcast: &Nodes) -> FrameBytes
         path: Path::new(),
     };
     let info = write_nodes(broadcast);
-    let mut octets = FrameBytes::new();
     let _ = write_frame::<M8>(
         &head,
         &Control::Ui { pf: false },
         Some(NETROM_PID),
         info.as_slice(),
-        &mut octets,
+        out,
     );
-    octets
 }
 
 /// How many frames these entries need: eleven entries a frame, and at least one frame.

@@ -7,9 +7,10 @@ ghost use Rattle.node_core.specs.Links as links;
 ghost use Rattle.node_core.specs.Rounds as rounds;
 ghost use Rattle.node_core.specs.States as states;
 
-use crate::broadcasts::{broadcast_frame, entries_of_frame, frame_count};
+use crate::broadcasts::{entries_of_frame, frame_count, write_broadcast};
 use crate::station::Station;
 use ax_address::Entry;
+use ax_frame::FrameBytes;
 use link_table::{Octets, Written, WrittenAs};
 use nodes_broadcast::Nodes;
 use radio_base::{Moment, NoMemory};
@@ -87,14 +88,21 @@ impl Station {
         ensures { OnOk result (Goes rounds.broadcast_routes self.old self.new) }
     {
         let entries = self.set.router().table().all_entries(self.alloc)?;
+        // The same room serves one frame after another.
+        let mut octets = FrameBytes::new();
         for nth in 0..frame_count(&entries) {
-            self.broadcast(&entries, nth)?;
+            self.broadcast(&entries, nth, &mut octets)?;
         }
         Ok(())
     }
 
-    /// Puts out the broadcast's frame of a number.
-    fn broadcast(&mut self, entries: &[Entry], nth: usize) -> Result<(), NoMemory>
+    /// Puts out the broadcast's frame of a number, which is written where it can be long.
+    fn broadcast(
+        &mut self,
+        entries: &[Entry],
+        nth: usize,
+        octets: &mut FrameBytes,
+    ) -> Result<(), NoMemory>
         requires { 11 * nth ≤ length entries.now }
         ensures { OnOk result (Goes (λ n. states.put (round_frame n.settings.call n.settings.alias entries.now nth) n) self.old self.new) }
     {
@@ -102,9 +110,9 @@ impl Station {
             alias: self.alias,
             entries: entries_of_frame(entries, nth),
         };
-        let octets = broadcast_frame(&self.call(), &nodes);
+        write_broadcast(&self.call(), &nodes, octets);
         self.put(Written {
-            octets: Octets::new(self.alloc, &octets)?,
+            octets: Octets::new(self.alloc, octets)?,
             how: WrittenAs::Modulo8,
         })?;
         Ok(())
