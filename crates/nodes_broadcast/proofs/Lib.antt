@@ -2,3 +2,4 @@ pub mod Spelled
 pub mod Written
 pub mod Heeded
 pub mod Turns
+pub mod Joined

@@ -3,7 +3,7 @@ ghost use Rattle.std.specs.Prelude.{◌≡◌, ◌≤◌, ◌+◌, ◌++◌, len
 ghost use Rattle.nodes_broadcast.specs.Nodes.{view, Spells, IsEntry, nodes_octets, entry_octets};
 
 use crate::laws;
-use crate::nodes::{Nodes, SIGNATURE};
+use crate::nodes::{ENTRY_LEN, Nodes, SIGNATURE};
 use arrayvec::ArrayVec;
 use ax_address::{Entry, write_net_call};
 
@@ -35,10 +35,20 @@ fn push_entry(info: &mut Info, entry: &Entry)
     ensures len { length info.new.items ≡ length info.old.items + 21 }
     ensures entry { IsEntry entry.now }
 {
-    push_octets(info, &write_net_call(&entry.dest));
-    push_octets(info, &entry.alias.bytes());
-    push_octets(info, &write_net_call(&entry.best));
-    info.push(entry.quality);
+    push_octets(info, &octets_of(entry));
+}
+
+/// The octets of an entry.
+fn octets_of(entry: &Entry) -> [u8; ENTRY_LEN]
+    ensures octets { result ≡ entry_octets entry.now }
+    ensures entry { IsEntry entry.now }
+{
+    let mut octets = [0; ENTRY_LEN];
+    octets[..7].copy_from_slice(&write_net_call(&entry.dest));
+    octets[7..13].copy_from_slice(&entry.alias.bytes());
+    octets[13..20].copy_from_slice(&write_net_call(&entry.best));
+    octets[20] = entry.quality;
+    octets
 }
 
 fn push_octets(info: &mut Info, octets: &[u8])
