@@ -1,5 +1,5 @@
 -- A call of `pump`: what is untold, or what comes of the router.
-use Rattle.std.specs.Prelude.{◌≡◌, ℕ, true, false, is_some, List, [], ◌∷◌, Option, Some, None, Result, Ok, Err, IfOk, refl}
+use Rattle.std.specs.Prelude.{◌≡◌, ℕ, true, false, is_some, Bool, List, [], ◌∷◌, Option, Some, None, Result, Ok, Err, OnOk, refl}
 use Rattle.std.proofs.Common.{sym, ◌∙◌, ap, subst}
 use Rattle.std.proofs.lemmas.List.{append-nil}
 use Rattle.radio_base.specs.declared.errors.NoMemory.{NoMemory}
@@ -22,7 +22,7 @@ use Rattle.circuit_set.specs.CircuitSets.{Circuits, DoesPump, Pumps, SetStands}
 use Rattle.circuit_set.specs.SetTurns.{Asks, Tells}
 use Rattle.circuit_set.proofs.Looping.{all_taken, firsts-taken}
 
-pub is_none_by : (o : Option Routed) → false ≡ is_some o → o ≡ None
+pub is_none_by : {A : Type 0} (o : Option A) → false ≡ is_some o → o ≡ None
 is_none_by None e = refl
 is_none_by (Some r) e = absurd (cc e)
 
@@ -64,9 +64,9 @@ module _ {C : Type 0} (made : C → List CarrierCall → C → Type 0) (none_mad
   abbrev mid : HeldEnds → Option Routed → Circuits C
   mid h left = record { router = old.router; held = h; lost = left; spent = old.spent }
 
-  pub tells_one : (new : Circuits C) (h : HeldEnds) (left : Option Routed) (u : Untold) (r : Option Untold) (told : SetEvent) → old.lost ≡ None → left ≡ None → r ≡ Some u
+  tells_one : (new : Circuits C) (h : HeldEnds) (left : Option Routed) (u : Untold) (r : Option Untold) (told : Option SetEvent) → old.lost ≡ None → left ≡ None → r ≡ Some u
       → ((s : SetState) (ts : List Told) → HeldStands old.held s ts → Gives (record { set = s; told = ts }) r h) → Tells made (mid h left) new u now told
-      → Pumps made old new lost waiting now (Some told)
+      → Pumps made old new lost waiting now told
   tells_one new h left u r told e n is gives tells = (
     all_taken waiting,
     tells.0,
@@ -75,10 +75,16 @@ module _ {C : Type 0} (made : C → List CarrierCall → C → Type 0) (none_mad
         let nh = next_hop old.router.table.rules log in
         let x = subst (λ (o : Option Untold). Gives (record { set = w.set; told = w.untold }) o h) is (gives w.set w.untold st.ends) in
         let held : SetStands (mid h left) (record { set = w.set; untold = x.1; lost = None }) = record { ends = x.4; own = st.own; ttl = st.ttl; lost = sym n; unspent = st.unspent } in
-        let y : DoesPump made (mid h left) new log (Some told) (turned now (tells_first nh w.set x.0 x.1) tells.0) = tells.1 log w.set x.0 x.1 stands held x.3 in
-        let z : DoesPump made old new log (Some told) (turned now (tells_first nh w.set x.0 x.1) tells.0) = record { told = y.told; calls = y.calls; table = y.table; stands = y.stands } in
-        subst (λ (p : Pumped). DoesPump made old new log (Some told) p) (told_case nh w.set w.untold w.lost x.0 x.1 (all_taken waiting) tells.0 x.2 (st.lost ∙ e)) z,
+        let y : DoesPump made (mid h left) new log told (turned now (tells_first nh w.set x.0 x.1) tells.0) = tells.1 log w.set x.0 x.1 stands held x.3 in
+        let z : DoesPump made old new log told (turned now (tells_first nh w.set x.0 x.1) tells.0) = record { told = y.told; calls = y.calls; table = y.table; stands = y.stands } in
+        subst (λ (p : Pumped). DoesPump made old new log told p) (told_case nh w.set w.untold w.lost x.0 x.1 (all_taken waiting) tells.0 x.2 (st.lost ∙ e)) z,
   )
+
+  pub tells_on : (new : Circuits C) (h : HeldEnds) (u : Untold) (r : Option Untold) (told : Option SetEvent) (result : Result (Unit {0}) NoMemory) → old.lost ≡ None → r ≡ Some u
+      → ((s : SetState) (ts : List Told) → HeldStands old.held s ts → Gives (record { set = s; told = ts }) r h) → OnOk result (Tells made (record old { held = h }) new u now told)
+      → OnOk result (Pumps made old new lost waiting now told)
+  tells_on new h u r told (Ok x) e is gives tells = tells_one new h old.lost u r told e e is gives tells
+  tells_on new h u r told (Err x) e is gives tells = tells
 
   -- what comes of the router
   asks_case : (nh : Callsign → Option Callsign) (s : SetState) (ts : List Told) (o : Option Routed) (ps : List (Parcel × Offered)) → ts ≡ [] → o ≡ None
@@ -103,11 +109,11 @@ module _ {C : Type 0} (made : C → List CarrierCall → C → Type 0) (none_mad
         subst (λ (p : Pumped). DoesPump made old new log told p) (asks_case nh w.set w.untold w.lost asked.0 x.0 (st.lost ∙ e)) z,
   )
 
-  pub asks_on : (new : Circuits C) (h : HeldEnds) (left : Option Routed) (r : Option Untold) (result : Result (Option SetEvent) NoMemory) → old.lost ≡ None → left ≡ None → r ≡ None
-      → ((s : SetState) (ts : List Told) → HeldStands old.held s ts → Gives (record { set = s; told = ts }) r h) → IfOk result (Asks made (mid h left) new lost waiting now)
-      → IfOk result (Pumps made old new lost waiting now)
-  asks_on new h left r (Ok told) e n is gives asked = asks_one new h left r told e n is gives asked
-  asks_on new h left r (Err x) e n is gives asked = asked
+  pub asks_on : (new : Circuits C) (h : HeldEnds) (r : Option Untold) (told : Option SetEvent) (result : Result (Unit {0}) NoMemory) → old.lost ≡ None → r ≡ None
+      → ((s : SetState) (ts : List Told) → HeldStands old.held s ts → Gives (record { set = s; told = ts }) r h) → OnOk result (Asks made (record old { held = h }) new lost waiting now told)
+      → OnOk result (Pumps made old new lost waiting now told)
+  asks_on new h r told (Ok x) e is gives asked = asks_one new h old.lost r told e e is gives asked
+  asks_on new h r told (Err x) e is gives asked = asked
 
   -- nothing lies anywhere
   empty_is : (ts : List Told) → is_empty ts ≡ true → ts ≡ []
@@ -138,3 +144,13 @@ module _ {C : Type 0} (made : C → List CarrierCall → C → Type 0) (none_mad
         } in
         subst (λ (p : Pumped). DoesPump made old old log None p) (idle_case nh at.set at.untold at.lost lost none (st.lost ∙ n) l) done,
   )
+
+  -- the ends have nothing to tell
+  quiet_gives : (s : SetState) (ts : List Told) → is_empty ts ≡ true → HeldStands old.held s ts → Gives (record { set = s; told = ts }) None old.held
+  quiet_gives s [] e st = (refl, st)
+  quiet_gives s (t ∷ ts) e st = absurd (cc e)
+
+  pub asks_quiet : (new : Circuits C) (quiet : Bool) (told : Option SetEvent) (result : Result (Unit {0}) NoMemory) → old.lost ≡ None → quiet ≡ true
+      → ((s : SetState) (ts : List Told) → HeldStands old.held s ts → quiet ≡ is_empty ts) → OnOk result (Asks made old new lost waiting now told)
+      → OnOk result (Pumps made old new lost waiting now told)
+  asks_quiet new quiet told result e is empty asked = asks_on new old.held None told result e refl (λ s ts st. quiet_gives s ts (sym (empty s ts st) ∙ is) st) asked

@@ -17,7 +17,6 @@ use Rattle.l3_datagram.specs.CarrierCall.{CarrierCall, Parcel}
 use Rattle.l3_datagram.specs.Datagrams.{head_at}
 use Rattle.l3_datagram.specs.Hops.{Way, Ends, GoesOn, forwarded_by, way}
 use Rattle.l3_datagram.specs.Routers.{SameRouter, waiting_left}
-use Rattle.circuit_set.specs.declared.asked.Asked.TheVariants as asked
 use Rattle.circuit_set.specs.declared.event.SetEvent.{SetEvent}
 use Rattle.circuit_set.specs.Sets.{SetState, Told, Made, Sent, Heeded, Notice, Gone, Restarted, Lost}
 use Rattle.circuit_set.specs.Pumps.{Pumped, Turn, Turned, Waiting, after_calls, asks, at_rest, ends_with, heard_as, hears, hears_by, is_drained, outcome, sent_by_head, sent_to, takes, takes_all, tells, tells_first, turned}
@@ -188,9 +187,10 @@ module _ {C : Type 0} (made : C → List CarrierCall → C → Type 0) (none_mad
         let told : is_some (takes nh now t p a).told ≡ true = ap is_some (sym x.told) in
         subst (λ (q : Pumped). DoesPump made mid new log (Some e) q) (stops_at nh now t p a (all_taken ps) told) x
 
-    pub tells_it : (new : Circuits C) (e : SetEvent) → AsksOnce made mid new (lost mid.router.carrier) (waiting mid.router.carrier) now (asked.Told e) → IsAsked (lost mid.router.carrier) (waiting mid.router.carrier) (asked.Told e)
-        → Asks made old new (lost old.router.carrier) (waiting old.router.carrier) now (Some e)
-    tells_it new e x some =
+    pub tells_it : (new : Circuits C) (told : Option SetEvent) (asked : Bool) → is_some told ≡ true → AsksOnce made mid new (lost mid.router.carrier) (waiting mid.router.carrier) now told
+        → IsAsked (lost mid.router.carrier) (waiting mid.router.carrier) told asked → Asks made old new (lost old.router.carrier) (waiting old.router.carrier) now told
+    tells_it new None asked is x some = absurd (cc is)
+    tells_it new (Some e) asked is x some =
         let rest : List (Parcel × Offered) = answered (waiting mid.router.carrier) x.0 in
         let all : firsts (so.done ++ rest) ≡ waiting old.router.carrier = firsts-append so.done rest ∙ ap (λ ps. firsts so.done ++ ps) (firsts-answered (waiting mid.router.carrier) x.0) ∙ sym so.taken in (
           so.done ++ rest,
@@ -207,9 +207,10 @@ module _ {C : Type 0} (made : C → List CarrierCall → C → Type 0) (none_mad
     idle_case new log t nh a [] (p ∷ ps) e f x = absurd (cc f)
     idle_case new log t nh a [] [] e f x = x
 
-    pub idles : (new : Circuits C) → AsksOnce made mid new (lost mid.router.carrier) (waiting mid.router.carrier) now asked.Idle → IsAsked (lost mid.router.carrier) (waiting mid.router.carrier) asked.Idle
-        → Asks made old new (lost old.router.carrier) (waiting old.router.carrier) now None
-    idles new x none =
+    pub idles : (new : Circuits C) (told : Option SetEvent) → told ≡ None → AsksOnce made mid new (lost mid.router.carrier) (waiting mid.router.carrier) now told
+        → IsAsked (lost mid.router.carrier) (waiting mid.router.carrier) told false → Asks made old new (lost old.router.carrier) (waiting old.router.carrier) now told
+    idles new (Some e) is x none = absurd (cc is)
+    idles new None is x none =
         let all : firsts (so.done ++ []) ≡ waiting old.router.carrier = firsts-append so.done [] ∙ ap (λ ps. firsts so.done ++ ps) (sym none.1) ∙ sym so.taken in (
           so.done ++ [],
           all,
@@ -261,8 +262,9 @@ module _ {C : Type 0} (made : C → List CarrierCall → C → Type 0) (none_mad
           less = omega (arith, less, before);
         }
 
-    pub goes_on : (new : Circuits C) → AsksOnce made mid new (lost mid.router.carrier) (waiting mid.router.carrier) now asked.Silent → IsAsked (lost mid.router.carrier) (waiting mid.router.carrier) asked.Silent
+    pub goes_on : (new : Circuits C) (told : Option SetEvent) → told ≡ None → AsksOnce made mid new (lost mid.router.carrier) (waiting mid.router.carrier) now told → IsAsked (lost mid.router.carrier) (waiting mid.router.carrier) told true
         → lost new.router.carrier ≡ drop 1 (lost mid.router.carrier) → waiting new.router.carrier ≡ waiting_left (lost mid.router.carrier) (waiting mid.router.carrier)
         → Rests new.held.ends.entries → new.lost ≡ None → SameRouter mid.router new.router → new.spent ≡ mid.spent
         → untold_by (lost new.router.carrier) (waiting new.router.carrier) new < untold_by (lost mid.router.carrier) (waiting mid.router.carrier) mid → So old new now
-    goes_on new x some l w rests told router spent less = goes_case new x.0 (lost mid.router.carrier) (waiting mid.router.carrier) refl refl some.0 some.1 x.1 l w rests told router spent less
+    goes_on new (Some e) is x some l w rests told router spent less = absurd (cc is)
+    goes_on new None is x some l w rests told router spent less = goes_case new x.0 (lost mid.router.carrier) (waiting mid.router.carrier) refl refl some.0 some.1 x.1 l w rests told router spent less

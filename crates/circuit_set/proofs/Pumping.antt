@@ -1,7 +1,8 @@
 -- The turns of which a call of `pump` is made.
-use Rattle.std.specs.Prelude.{◌≡◌, ℕ, List, Option, Some, None, Result, Ok, Err, refl}
+use Rattle.std.specs.Prelude.{◌≡◌, ℕ, List, Option, Some, None, Result, Ok, Err, OnOk, refl}
 use Rattle.std.proofs.Common.{sym, ◌∙◌, ap, subst}
 use Rattle.std.proofs.lemmas.List.{append-nil}
+use Rattle.radio_base.specs.declared.errors.NoMemory.{NoMemory}
 use Rattle.ax_address.specs.Callsign.{Callsign}
 use Rattle.route_table.specs.Log.{Item}
 use Rattle.route_table.specs.Held.{StandsFor}
@@ -24,6 +25,11 @@ use Rattle.circuit_set.specs.Pumps.{dropped_by, sent_by_head, sent_to, tells_fir
 use Rattle.circuit_set.specs.Standing.{datagram_by}
 use Rattle.circuit_set.specs.CircuitSets.{Circuits, DoesPump, SetStands}
 use Rattle.circuit_set.specs.SetTurns.{came_to_nothing}
+
+-- what follows from what holds where there is a value holds there, too
+pub on_ok : {P Q : Type 0} (r : Result (Unit {0}) NoMemory) → OnOk r P → (P → Q) → OnOk r Q
+on_ok (Ok x) p f = f p
+on_ok (Err e) p f = p
 
 -- a set whose router is another one with the same call and hops
 pub with_router : {C : Type 0} (old : Circuits C) (r : Routing C) (s : SetState) (rest : List Told) → SameRouter old.router r → SetStands old (record { set = s; untold = rest; lost = None })

@@ -120,8 +120,8 @@ module _ {C : Type 0} (made : C → List CarrierCall → C → Type 0) (none_mad
       → turned now (tells_first nh d t rest) answer ≡ tells_on nh now (silent (record { set = d; untold = ts; lost = None })) answer
   loud_list d ts t rest answer e = ap (λ xs. tells_on nh now (silent (record { set = d; untold = xs; lost = None })) answer) (sym e)
 
-  pub takes_loud : (d e : SetDone) (new : Circuits C) (h : HeldEnds) (t : Told) (rest : List Told) (answer : Offered) (told : SetEvent) → e ≡ d → d.told ≡ t ∷ rest
-      → DoesPump made (with_held h) new log (Some told) (turned now (tells_first nh d.set t rest) answer) → Up (Some told) new e answer
+  pub takes_loud : (d e : SetDone) (new : Circuits C) (h : HeldEnds) (t : Told) (rest : List Told) (answer : Offered) (told : Option SetEvent) → e ≡ d → d.told ≡ t ∷ rest
+      → DoesPump made (with_held h) new log told (turned now (tells_first nh d.set t rest) answer) → Up told new e answer
   takes_loud d e new h t rest answer told is first x =
-      subst (λ y. Up (Some told) new y answer) (sym is)
-      (subst (λ p. DoesPump made old new log (Some told) p) (loud_list d.set d.told t rest answer first) (record { told = x.told; calls = x.calls; table = x.table; stands = x.stands }))
+      subst (λ y. Up told new y answer) (sym is)
+      (subst (λ p. DoesPump made old new log told p) (loud_list d.set d.told t rest answer first) (record { told = x.told; calls = x.calls; table = x.table; stands = x.stands }))

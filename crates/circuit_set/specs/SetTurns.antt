@@ -1,5 +1,5 @@
 -- What the inner functions of a set do, of which a call of `pump` is made.
-use Rattle.std.specs.Prelude.{◌≡◌, ℕ, ◌+◌, ◌<◌, ◌≤◌, List, [], ◌∷◌, ◌++◌, length, map, Option, Some, None, is_some, true}
+use Rattle.std.specs.Prelude.{◌≡◌, ℕ, ◌+◌, ◌<◌, ◌≤◌, Bool, false, List, [], ◌∷◌, ◌++◌, length, map, Option, Some, None, is_some, true}
 use Rattle.ax_address.specs.Callsign.{Callsign}
 use Rattle.route_table.specs.Log.{Item}
 use Rattle.route_table.specs.Held.{StandsFor}
@@ -13,8 +13,6 @@ use Rattle.l3_datagram.specs.CarrierCall.{CarrierCall, Collect, Fail, Parcel}
 use Rattle.l3_datagram.specs.Routers.{SameRouter}
 use Rattle.circuit_set.specs.declared.event.SetEvent.{SetEvent}
 use Rattle.circuit_set.specs.declared.holder.Untold.{Untold}
-use Rattle.circuit_set.specs.declared.asked.Asked.{Asked}
-use Rattle.circuit_set.specs.declared.asked.Asked.TheVariants.{Told as Heard, Silent, Idle}
 use Rattle.circuit_set.specs.Sets.{SetState, Told}
 use Rattle.circuit_set.specs.Pumps.{Pumped, after_calls, asks, at_rest, ends_with, heard_as, hears_lost, silent, takes, tells_first, tells_on, turned}
 use Rattle.circuit_set.specs.Standing.{Rests, told_of}
@@ -32,21 +30,16 @@ asks_once next_hop now s (neighbour ∷ _) waiting answer = ends_with (Fail (Som
 asks_once next_hop now s [] [] answer = ends_with (Fail None ∷ Collect None ∷ []) (silent (at_rest s))
 asks_once next_hop now s [] (parcel ∷ _) answer = takes next_hop now s parcel answer
 
-abbrev pub event_of : Asked → Option SetEvent
-event_of (Heard event) = Some event
-event_of Silent = None
-event_of Idle = None
-
 -- a lost neighbour is told
 abbrev pub TellsLost : Routed → Option SetEvent → Type 0
 TellsLost (routed.Lost call) told = is_some told ≡ true
 TellsLost _ told = Unit {0}
 
--- it is silent where a datagram waited and no neighbour was lost, and idle where there was neither
-abbrev pub IsAsked : List Callsign → List Parcel → Asked → Type 0
-IsAsked lost waiting (Heard event) = 0 < length lost + length waiting
-IsAsked lost waiting Silent = (lost ≡ []) × (0 < length waiting)
-IsAsked lost waiting Idle = (lost ≡ []) × (waiting ≡ [])
+-- something lay there where something is told of it; else no neighbour was lost, and a datagram waited where the router was asked
+abbrev pub IsAsked : List Callsign → List Parcel → Option SetEvent → Bool → Type 0
+IsAsked lost waiting (Some event) asked = 0 < length lost + length waiting
+IsAsked lost waiting None true = (lost ≡ []) × (0 < length waiting)
+IsAsked lost waiting None false = (lost ≡ []) × (waiting ≡ [])
 
 -- the lists of the carrier, the router's own call, hops and rules, and whether the set is spent stay
 pub record SameLists {C : Type 0} (lost : C → List Callsign) (waiting : C → List Parcel) (old new : Circuits C) : Type 0 where
@@ -57,12 +50,12 @@ pub record SameLists {C : Type 0} (lost : C → List Callsign) (waiting : C → 
 
 module _ {C : Type 0} (made : C → List CarrierCall → C → Type 0) where
   -- this is told, which stands before the rest of what is untold
-  abbrev pub Tells : Circuits C → Circuits C → Untold → ℕ → SetEvent → Type 0
-  Tells old new u now event =
+  abbrev pub Tells : Circuits C → Circuits C → Untold → ℕ → Option SetEvent → Type 0
+  Tells old new u now result =
       (answer : Offered)
       × ((log : List Item) (s : SetState) (t : Told) (rest : List Told) → StandsFor old.router.table log
       → SetStands old (record { set = s; untold = rest; lost = None }) → told_of s.own s.ttl u ≡ Some t
-      → DoesPump made old new log (Some event) (turned now (tells_first (next_hop old.router.table.rules log) s t rest) answer))
+      → DoesPump made old new log result (turned now (tells_first (next_hop old.router.table.rules log) s t rest) answer))
 
   -- what the router has answered is taken in, and what it brings is told, the first of it
   abbrev pub TakesIn : Circuits C → Circuits C → Routed → ℕ → Option SetEvent → Type 0
@@ -71,11 +64,11 @@ module _ {C : Type 0} (made : C → List CarrierCall → C → Type 0) where
       × ((log : List Item) (s : SetState) → StandsFor old.router.table log → SetStands old (at_rest s)
       → DoesPump made old new log result (tells_on (next_hop old.router.table.rules log) now (heard_as now (at_rest s) routed) answer))
 
-  abbrev pub AsksOnce : Circuits C → Circuits C → List Callsign → List Parcel → ℕ → Asked → Type 0
+  abbrev pub AsksOnce : Circuits C → Circuits C → List Callsign → List Parcel → ℕ → Option SetEvent → Type 0
   AsksOnce old new lost waiting now result =
       (answer : Offered)
       × ((log : List Item) (s : SetState) → StandsFor old.router.table log → SetStands old (at_rest s)
-      → DoesPump made old new log (event_of result) (asks_once (next_hop old.router.table.rules log) now s lost waiting answer))
+      → DoesPump made old new log result (asks_once (next_hop old.router.table.rules log) now s lost waiting answer))
 
   -- the router is asked until something is told, or nothing is left
   abbrev pub Asks : Circuits C → Circuits C → List Callsign → List Parcel → ℕ → Option SetEvent → Type 0

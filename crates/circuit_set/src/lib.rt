@@ -1,7 +1,6 @@
 //! The circuits of a node, and what holds of circuits over every schedule.
 #![tactic(auto)]
 
-mod asked;
 mod event;
 mod finding;
 mod heeding;

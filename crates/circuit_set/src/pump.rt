@@ -1,13 +1,15 @@
 //! What the circuits of a node tell, one thing after another: what they put out, and what comes to them by the router.
-ghost use Rattle.std.specs.Prelude.{◌≡◌, ◌≢◌, ◌≤◌, ◌<◌, ◌↔◌, None, Some, true, if◌then◌else◌, is_some, Option, OnOk, IfOk, IsErr, IsTrue, drop, length};
+ghost use Rattle.std.specs.Prelude.{◌≡◌, ◌≤◌, ◌<◌, ◌↔◌, ℕ, None, true, false, if◌then◌else◌, is_some, OnOk, IfOk, IsErr, IsTrue, drop, length};
+ghost use Rattle.circuit_set.specs.SetTurns as turns;
 
-use crate::asked::{Asked, asked_by, came_to_nothing};
 use crate::event::SetEvent;
 use crate::holder::Untold;
 use crate::set::CircuitSet;
 use ax_address::Call;
 use circuit_l4::{Transport, read_transport, write_transport};
-use l3_datagram::{Carrier, Datagram, DatagramHead, HEAD_SIZE, Routed, laws, write_datagram};
+use l3_datagram::{
+    Carrier, Datagram, DatagramHead, HEAD_SIZE, Routed, Sending, laws, write_datagram,
+};
 use radio_base::{Moment, NoMemory};
 
 impl<C: Carrier> CircuitSet<C> {
@@ -17,7 +19,7 @@ impl<C: Carrier> CircuitSet<C> {
     ghost use Rattle.circuit_set.specs.Sets.{Told};
     ghost use Rattle.circuit_set.specs.Standing.{Brings, Rests, cost, untold_in};
     ghost use Rattle.circuit_set.specs.CircuitSets.{Falls, IsDrained, Pumps};
-    ghost use Rattle.circuit_set.specs.SetTurns.{Asks, AsksOnce, IsAsked, SameLists, TakesIn, Tells, TellsLost, event_of};
+    ghost use Rattle.circuit_set.specs.SetTurns.{Asks, AsksOnce, IsAsked, SameLists, TakesIn, Tells, TellsLost};
 
     /// Tells what happened next: None where nothing is untold, and nothing that lies at the router gives anything to tell.
     pub fn pump(&mut self, now: Moment) -> Result<Option<SetEvent>, NoMemory>
@@ -31,47 +33,91 @@ impl<C: Carrier> CircuitSet<C> {
         if self.spent {
             return Err(NoMemory);
         }
-        let told = self.go_on(now);
-        self.spent = told.is_err();
-        told
+        let mut told = None;
+        let done = self.go_on(now, &mut told);
+        self.spent = done.is_err();
+        done?;
+        Ok(told)
     }
 
-    /// Tells what is untold, or else what comes of what lies at the router.
-    fn go_on(&mut self, now: Moment) -> Result<Option<SetEvent>, NoMemory>
-        ensures pumps { IfOk result (Pumps C.made self.old self.new (C.lost self.old.router.carrier) (C.waiting self.old.router.carrier) now.0) }
-        ensures drained { IfOk result (λ told. told ≡ None → Rests self.new.held.ends.entries × (self.new.lost ≡ None)) }
-        ensures falls { IfOk result (λ told. is_some told ≡ true → Falls C.lost C.waiting self.old self.new) }
+    /// Tells what is untold, or else what comes of what lies at the router. What is told is put where it is to stand, here and below,
+    /// since an event is long to move. Most calls find nothing untold, so that is looked at first, and no room is made for it.
+    fn go_on(&mut self, now: Moment, told: &mut Option<SetEvent>) -> Result<(), NoMemory>
+        requires { told.old ≡ None }
+        ensures pumps { OnOk result (Pumps C.made self.old self.new (C.lost self.old.router.carrier) (C.waiting self.old.router.carrier) now.0 told.new) }
+        ensures drained { OnOk result (told.new ≡ None → Rests self.new.held.ends.entries × (self.new.lost ≡ None)) }
+        ensures falls { OnOk result (is_some told.new ≡ true → Falls C.lost C.waiting self.old self.new) }
         ensures router { OnOk result (SameRouter self.old.router self.new.router) }
         ensures spent { OnOk result (self.new.spent ≡ self.old.spent) }
     {
-        if let Some(routed) = self.lost.take() {
-            return Ok(Some(SetEvent::Dropped(routed)));
+        if self.lost.is_some() {
+            self.tell_lost(told);
+            return Ok(());
         }
+        if self.held.is_quiet() {
+            self.ask_router(now, told)
+        } else {
+            self.tell_next(now, told)
+        }
+    }
+
+    /// Tells what the last sending came to.
+    #[inline(never)]
+    fn tell_lost(&mut self, told: &mut Option<SetEvent>)
+        requires { is_some self.old.lost ≡ true }
+        ensures pumps { (now : ℕ) → Pumps C.made self.old self.new (C.lost self.old.router.carrier) (C.waiting self.old.router.carrier) now told.new }
+        ensures told { is_some told.new ≡ true }
+        ensures falls { Falls C.lost C.waiting self.old self.new }
+        ensures router { self.new.router ≡ self.old.router }
+        ensures spent { self.new.spent ≡ self.old.spent }
+    {
+        if let Some(routed) = self.lost.take() {
+            *told = Some(SetEvent::Dropped(routed));
+        }
+    }
+
+    /// Tells what the ends tell next, or else what comes of what lies at the router.
+    #[inline(never)]
+    fn tell_next(&mut self, now: Moment, told: &mut Option<SetEvent>) -> Result<(), NoMemory>
+        requires lost { self.old.lost ≡ None }
+        requires none { told.old ≡ None }
+        ensures pumps { OnOk result (Pumps C.made self.old self.new (C.lost self.old.router.carrier) (C.waiting self.old.router.carrier) now.0 told.new) }
+        ensures drained { OnOk result (told.new ≡ None → Rests self.new.held.ends.entries × (self.new.lost ≡ None)) }
+        ensures falls { OnOk result (is_some told.new ≡ true → Falls C.lost C.waiting self.old self.new) }
+        ensures router { OnOk result (SameRouter self.old.router self.new.router) }
+        ensures spent { OnOk result (self.new.spent ≡ self.old.spent) }
+    {
         match self.held.next() {
-            Some(untold) => {
-                let event = self.tell(untold, now)?;
-                Ok(Some(event))
-            }
-            None => self.ask_router(now),
+            Some(untold) => self.tell(untold, now, told),
+            None => self.ask_router(now, told),
         }
     }
 
     /// Tells what is to be told next, and sends what is to be sent.
-    fn tell(&mut self, untold: Untold, now: Moment) -> Result<SetEvent, NoMemory>
+    fn tell(
+        &mut self,
+        untold: Untold,
+        now: Moment,
+        told: &mut Option<SetEvent>,
+    ) -> Result<(), NoMemory>
         requires { self.old.lost ≡ None }
-        ensures tells { IfOk result (Tells C.made self.old self.new untold now.0) }
+        ensures tells { OnOk result (Tells C.made self.old self.new untold now.0 told.new) }
+        ensures told { OnOk result (is_some told.new ≡ true) }
         ensures cost { OnOk result ((if is_some self.new.lost then 1 else 0) < cost untold) }
         ensures lists { OnOk result (SameLists C.lost C.waiting self.old self.new) }
         ensures held { self.new.held ≡ self.old.held }
     {
         match untold {
-            Untold::Event(event) => Ok(event),
+            Untold::Event(event) => {
+                *told = Some(event);
+                Ok(())
+            }
             Untold::Out {
                 id,
                 number,
                 to,
                 transport,
-            } => self.send(id, number, &to, &transport, now),
+            } => self.send(id, number, &to, &transport, now, told),
         }
     }
 
@@ -83,8 +129,10 @@ impl<C: Carrier> CircuitSet<C> {
         to: &Call,
         transport: &Transport,
         now: Moment,
-    ) -> Result<SetEvent, NoMemory>
-        ensures tells { IfOk result (Tells C.made self.old self.new (untold.Out id number to.now transport.now) now.0) }
+        told: &mut Option<SetEvent>,
+    ) -> Result<(), NoMemory>
+        ensures tells { OnOk result (Tells C.made self.old self.new (untold.Out id number to.now transport.now) now.0 told.new) }
+        ensures told { OnOk result (is_some told.new ≡ true) }
         ensures lists { OnOk result (SameLists C.lost C.waiting self.old self.new) }
         ensures held { self.new.held ≡ self.old.held }
     {
@@ -94,11 +142,12 @@ impl<C: Carrier> CircuitSet<C> {
         let sending = self.router.send(to, octets.as_slice(), now)?;
         self.lost = came_to_nothing(sending);
         let datagram = self.datagram(to, octets.as_slice());
-        Ok(SetEvent::Sent {
+        *told = Some(SetEvent::Sent {
             id,
             number,
             datagram,
-        })
+        });
+        Ok(())
     }
 
     /// The datagram in which a transport goes to a node.
@@ -116,32 +165,35 @@ impl<C: Carrier> CircuitSet<C> {
     }
 
     /// Asks the router until it has brought something to tell, or has nothing more.
-    fn ask_router(&mut self, now: Moment) -> Result<Option<SetEvent>, NoMemory>
+    #[inline(never)]
+    fn ask_router(&mut self, now: Moment, told: &mut Option<SetEvent>) -> Result<(), NoMemory>
         requires rests { Rests self.old.held.ends.entries }
         requires lost { self.old.lost ≡ None }
-        ensures asks { IfOk result (Asks C.made self.old self.new (C.lost self.old.router.carrier) (C.waiting self.old.router.carrier) now.0) }
-        ensures drained { IfOk result (λ told. told ≡ None → Rests self.new.held.ends.entries × (self.new.lost ≡ None)) }
-        ensures falls { IfOk result (λ told. is_some told ≡ true → Falls C.lost C.waiting self.old self.new) }
+        requires none { told.old ≡ None }
+        ensures asks { OnOk result (Asks C.made self.old self.new (C.lost self.old.router.carrier) (C.waiting self.old.router.carrier) now.0 told.new) }
+        ensures drained { OnOk result (told.new ≡ None → Rests self.new.held.ends.entries × (self.new.lost ≡ None)) }
+        ensures falls { OnOk result (is_some told.new ≡ true → Falls C.lost C.waiting self.old self.new) }
         ensures router { OnOk result (SameRouter self.old.router self.new.router) }
         ensures spent { OnOk result (self.new.spent ≡ self.old.spent) }
     {
-        loop {
-            match self.ask_once(now)? {
-                Asked::Told(event) => return Ok(Some(event)),
-                Asked::Silent => {}
-                Asked::Idle => return Ok(None),
+        while self.ask_once(now, told)? {
+            if told.is_some() {
+                return Ok(());
             }
         }
+        Ok(())
     }
 
-    /// Asks the router for one lost neighbour, or else for one datagram.
-    fn ask_once(&mut self, now: Moment) -> Result<Asked, NoMemory>
+    /// Asks the router for one lost neighbour, or else for one datagram. Whether either lay there.
+    fn ask_once(&mut self, now: Moment, told: &mut Option<SetEvent>) -> Result<bool, NoMemory>
         requires rests { Rests self.old.held.ends.entries }
         requires lost { self.old.lost ≡ None }
-        ensures asks { IfOk result (AsksOnce C.made self.old self.new (C.lost self.old.router.carrier) (C.waiting self.old.router.carrier) now.0) }
-        ensures asked { IfOk result (IsAsked (C.lost self.old.router.carrier) (C.waiting self.old.router.carrier)) }
-        ensures rests { IfOk result (λ asked. event_of asked ≡ None → Rests self.new.held.ends.entries × (self.new.lost ≡ None)) }
-        ensures falls { IfOk result (λ asked. asked ≢ Asked.Idle → Falls C.lost C.waiting self.old self.new) }
+        requires none { told.old ≡ None }
+        ensures asks { OnOk result (AsksOnce C.made self.old self.new (C.lost self.old.router.carrier) (C.waiting self.old.router.carrier) now.0 told.new) }
+        ensures asked { IfOk result (λ asked. IsAsked (C.lost self.old.router.carrier) (C.waiting self.old.router.carrier) told.new asked) }
+        ensures rests { OnOk result (told.new ≡ None → Rests self.new.held.ends.entries × (self.new.lost ≡ None)) }
+        ensures falls { IfOk result (λ asked. asked ≡ true → Falls C.lost C.waiting self.old self.new) }
+        ensures idle { IfOk result (λ asked. asked ≡ false → told.new ≡ None) }
         ensures lost { OnOk result (C.lost self.new.router.carrier ≡ drop 1 (C.lost self.old.router.carrier)) }
         ensures waiting { OnOk result (C.waiting self.new.router.carrier ≡ waiting_left (C.lost self.old.router.carrier) (C.waiting self.old.router.carrier)) }
         ensures router { OnOk result (SameRouter self.old.router self.new.router) }
@@ -149,61 +201,84 @@ impl<C: Carrier> CircuitSet<C> {
     {
         // So it mostly is once something was taken, and then no room is made for what the router could bring.
         if self.router.is_idle() {
-            return Ok(Asked::Idle);
+            return Ok(false);
         }
         match self.router.pump(now)? {
             Some(routed) => {
-                let told = self.take_in(routed, now)?;
-                Ok(asked_by(told))
+                self.take_in(routed, now, told)?;
+                Ok(true)
             }
-            None => Ok(Asked::Idle),
+            None => Ok(false),
         }
     }
 
     /// Takes in what the router has answered, and tells the first thing that it brings.
-    fn take_in(&mut self, routed: Routed, now: Moment) -> Result<Option<SetEvent>, NoMemory>
+    fn take_in(
+        &mut self,
+        routed: Routed,
+        now: Moment,
+        told: &mut Option<SetEvent>,
+    ) -> Result<(), NoMemory>
         requires mine { MineIsFor self.old.router.own routed }
         requires rests { Rests self.old.held.ends.entries }
         requires lost { self.old.lost ≡ None }
-        ensures takes { IfOk result (TakesIn C.made self.old self.new routed now.0) }
-        ensures loud { IfOk result (TellsLost routed) }
-        ensures rests { IfOk result (λ told. told ≡ None → Rests self.new.held.ends.entries × (self.new.lost ≡ None)) }
+        requires none { told.old ≡ None }
+        ensures takes { OnOk result (TakesIn C.made self.old self.new routed now.0 told.new) }
+        ensures loud { OnOk result (TellsLost routed told.new) }
+        ensures rests { OnOk result (told.new ≡ None → Rests self.new.held.ends.entries × (self.new.lost ≡ None)) }
         ensures few { OnOk result (Brings (untold_in self.old.held.ends.entries) (untold_in self.new.held.ends.entries)) }
         ensures lists { OnOk result (SameLists C.lost C.waiting self.old self.new) }
     {
         match routed {
-            Routed::Mine { origin, datagram } => self.hand_up(origin, datagram, now),
-            Routed::Forwarded => Ok(None),
-            Routed::Lost(neighbour) => Ok(Some(SetEvent::Lost(neighbour))),
-            other => Ok(Some(SetEvent::Dropped(other))),
+            Routed::Mine { origin, datagram } => self.hand_up(origin, datagram, now, told),
+            Routed::Forwarded => Ok(()),
+            Routed::Lost(neighbour) => {
+                *told = Some(SetEvent::Lost(neighbour));
+                Ok(())
+            }
+            other => {
+                *told = Some(SetEvent::Dropped(other));
+                Ok(())
+            }
         }
     }
 
     /// Takes in a datagram for this node.
+    #[inline(never)]
     fn hand_up(
         &mut self,
         origin: Call,
         datagram: Datagram,
         now: Moment,
-    ) -> Result<Option<SetEvent>, NoMemory>
+        told: &mut Option<SetEvent>,
+    ) -> Result<(), NoMemory>
         requires mine { IsFor self.old.router.own origin datagram }
         requires rests { Rests self.old.held.ends.entries }
         requires lost { self.old.lost ≡ None }
-        ensures takes { IfOk result (TakesIn C.made self.old self.new (Routed.Mine origin datagram) now.0) }
-        ensures rests { IfOk result (λ told. told ≡ None → Rests self.new.held.ends.entries × (self.new.lost ≡ None)) }
+        requires none { told.old ≡ None }
+        ensures takes { OnOk result (TakesIn C.made self.old self.new (Routed.Mine origin datagram) now.0 told.new) }
+        ensures rests { OnOk result (told.new ≡ None → Rests self.new.held.ends.entries × (self.new.lost ≡ None)) }
         ensures few { OnOk result (Brings (untold_in self.old.held.ends.entries) (untold_in self.new.held.ends.entries)) }
         ensures lists { OnOk result (SameLists C.lost C.waiting self.old self.new) }
     {
         let transport = match read_transport(&datagram.as_slice()[HEAD_SIZE..]) {
             Ok(transport) => transport,
-            Err(_) => return Ok(None),
+            Err(_) => return Ok(()),
         };
         match self.held.receive(origin, datagram, &transport, now)? {
-            Some(untold) => {
-                let event = self.tell(untold, now)?;
-                Ok(Some(event))
-            }
-            None => Ok(None),
+            Some(untold) => self.tell(untold, now, told),
+            None => Ok(()),
         }
+    }
+}
+
+/// What is told after a sending that came to nothing.
+fn came_to_nothing(sending: Sending) -> Option<Routed>
+    ensures { result ≡ turns.came_to_nothing sending }
+{
+    match sending {
+        Sending::Sent => None,
+        Sending::NoRoute => Some(Routed::NoRoute),
+        Sending::Dropped => Some(Routed::Dropped),
     }
 }

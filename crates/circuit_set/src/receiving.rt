@@ -193,28 +193,14 @@ impl HeldEnds {
                 let told = self.requested(origin, datagram, *pair, *window, now)?;
                 Ok(told)
             }
-            Transport::Accept {
-                to,
-                own: _,
-                window: _,
-            } => Ok(self.arrives(&origin, datagram, *to, transport, now)),
-            Transport::Refuse { to }
+            Transport::Accept { to, .. }
+            | Transport::Refuse { to }
             | Transport::Disconnect { to }
-            | Transport::Disconnected { to } => {
+            | Transport::Disconnected { to }
+            | Transport::Info { to, .. }
+            | Transport::InfoAck { to, .. } => {
                 Ok(self.arrives(&origin, datagram, *to, transport, now))
             }
-            Transport::Info {
-                to,
-                tx: _,
-                rx: _,
-                flags: _,
-                text: _,
-            } => Ok(self.arrives(&origin, datagram, *to, transport, now)),
-            Transport::InfoAck {
-                to,
-                rx: _,
-                flags: _,
-            } => { Ok(self.arrives(&origin, datagram, *to, transport, now)) }
         }
     }
 }

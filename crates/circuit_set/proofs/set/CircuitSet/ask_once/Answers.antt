@@ -1,19 +1,15 @@
-use Rattle.std.proofs.Common.{Option, subst, sym}
 use Rattle.l3_datagram.specs.declared.carrier.Offered.TheVariants.{Taken}
-use Rattle.route_table.specs.Table.{next_hop}
-use Rattle.circuit_set.specs.declared.event.SetEvent.{SetEvent}
-use Rattle.circuit_set.specs.CircuitSets.{Circuits, DoesPump}
-use Rattle.circuit_set.specs.SetTurns.{asks_once}
+use Rattle.circuit_set.specs.CircuitSets.{Circuits}
 use Rattle.circuit_set.proofs.Asking.{asks_idle, asks_none, asks_some, mid_stands, pick}
 use Rattle.circuit_set.proofs.set.CircuitSet.ask_once.Goals as goal
 
-pub returns-in_ok-told-in-Some-clause-asks : goal.returns-in_ok-told-in-Some-clause-asks
-returns-in_ok-told-in-Some-clause-asks g c =
+pub returns-in_ok-take_in-in-Some-clause-asks : goal.returns-in_ok-take_in-in-Some-clause-asks
+returns-in_ok-take_in-in-Some-clause-asks g c =
     let old : Circuits g.row.C.Denot = record { router = c.self.inside.router; held = c.self.inside.held; lost = c.self.inside.lost; spent = c.self.inside.spent } in
     let made = g.C.Carrier.made in
     let more = g.met.C.Carrier.more_made in
     let pumps = rw c.in-Some.is at c.in_ok-routed.ensures.pumps in
-    let takes = c.in_ok-told-in-Some.ensures.takes in
+    let takes = c.in_ok-take_in-in-Some.ensures.takes in
     let same = c.in_ok-routed.ensures.same in
     let r = c.in-Some.routed in
     rw (← c.self.view_is) (
@@ -21,9 +17,8 @@ returns-in_ok-told-in-Some-clause-asks g c =
       λ log s stands st.
           let lost = g.C.Carrier.lost c.self.inside.router.carrier in
           let waiting = g.C.Carrier.waiting c.self.inside.router.carrier in
-          let done = asks_some made more old c.take_in.new.self c.pump.new.self log c.args.now.0 s st same lost waiting r pumps.0 takes.0 c.in_ok-told-in-Some.told (pumps.1 log stands)
-          (λ log2 st2. takes.1 log2 s st2 (mid_stands made more old c.take_in.new.self c.pump.new.self log c.args.now.0 s st same)) in
-          subst (λ (e : Option SetEvent). DoesPump made old c.take_in.new.self log e (asks_once (next_hop c.self.inside.router.table.rules log) c.args.now.0 s lost waiting (pick r pumps.0 takes.0))) (sym c.asked_by.ensures.event) done,
+          asks_some made more old c.take_in.new.self c.pump.new.self log c.args.now.0 s st same lost waiting r pumps.0 takes.0 c.take_in.new.told (pumps.1 log stands)
+          (λ log2 st2. takes.1 log2 s st2 (mid_stands made more old c.take_in.new.self c.pump.new.self log c.args.now.0 s st same)),
     )
 
 pub returns-in-None-clause-asks : goal.returns-in-None-clause-asks
@@ -31,7 +26,7 @@ returns-in-None-clause-asks g c =
     let old : Circuits g.row.C.Denot = record { router = c.self.inside.router; held = c.self.inside.held; lost = c.self.inside.lost; spent = c.self.inside.spent } in
     let pumps = rw c.in-None.is at c.in_ok-routed.ensures.pumps in
     let none = rw c.in-None.is at c.in_ok-routed.ensures.none in
-    rw (← c.self.view_is) (
+    rw (← c.self.view_is, c.requires.none) (
       pumps.0,
       λ log s stands st.
           asks_none g.C.Carrier.made g.met.C.Carrier.more_made old old c.pump.new.self log c.args.now.0 s st c.in_ok-routed.ensures.same pumps.0 _ _ none.0 none.1 (pumps.1 log stands),
@@ -42,7 +37,7 @@ returns-then-is_idle-clause-asks g c =
     let old : Circuits g.row.C.Denot = record { router = c.self.inside.router; held = c.self.inside.held; lost = c.self.inside.lost; spent = c.self.inside.spent } in
     let carrier = c.self.inside.router.carrier in
     let idle = c.is_idle.ensures in
-    rw (← c.self.view_is) (
+    rw (← c.self.view_is, c.requires.none) (
       Taken,
       λ log s stands st.
           asks_idle g.C.Carrier.made old log c.args.now.0 s Taken (g.C.Carrier.lost carrier) (g.C.Carrier.waiting carrier) (idle.lost c.if-is_idle.true) (idle.waiting c.if-is_idle.true) (idle.made c.if-is_idle.true) stands st,

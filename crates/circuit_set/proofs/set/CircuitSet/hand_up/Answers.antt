@@ -5,6 +5,7 @@ use Rattle.circuit_set.specs.declared.holder.Untold.{Untold}
 use Rattle.circuit_set.specs.Sets.{received}
 use Rattle.circuit_set.specs.Standing.{Gives}
 use Rattle.circuit_set.proofs.Owning.{comes}
+use Rattle.circuit_set.proofs.Pumping.{on_ok}
 use Rattle.circuit_set.proofs.Turning.{held_stands, reads, takes_loud, takes_silent, take_rest}
 use Rattle.circuit_set.proofs.set.CircuitSet.hand_up.Goals as goal
 
@@ -13,7 +14,7 @@ returns-in-None-clause-takes g c =
     let d = c.args.datagram in
     let t = c.in-Ok.transport in
     let mine = rw (← c.self.view_is) at c.requires.mine in
-    rw (← c.self.view_is) (
+    rw (← c.self.view_is, c.requires.none) (
       Taken,
       λ log s stands st.
           let r = received s c.args.origin d.items t c.args.now.0 in
@@ -22,20 +23,19 @@ returns-in-None-clause-takes g c =
           (comes s c.args.origin d.items t c.args.now.0) (subst (λ (o : Option Untold). Gives r o c.receive.new.self) c.in-None.is (c.in_ok-untold.ensures.gives s st.ends)),
     )
 
-pub returns-in_ok-event-in-Some-clause-takes : goal.returns-in_ok-event-in-Some-clause-takes
-returns-in_ok-event-in-Some-clause-takes g c =
+pub returns-in-Some-clause-takes : goal.returns-in-Some-clause-takes
+returns-in-Some-clause-takes g c =
     let d = c.args.datagram in
     let t = c.in-Ok.transport in
     let mine = rw (← c.self.view_is) at c.requires.mine in
-    let w = c.in_ok-event-in-Some.ensures.tells in
-    rw (← c.self.view_is) (
+    rw (← c.self.view_is) (on_ok c.tell.result c.tell.ensures.tells (λ w. (
       w.0,
       λ log s stands st.
           let r = received s c.args.origin d.items t c.args.now.0 in
           let gives = subst (λ (o : Option Untold). Gives r o c.receive.new.self) c.in-Some.is (c.in_ok-untold.ensures.gives s st.ends) in
           let same = comes s c.args.origin d.items t c.args.now.0 in
-          takes_loud g.C.Carrier.made g.met.C.Carrier.none_made _ log c.args.now.0 s stands st r _ c.tell.new.self c.receive.new.self gives.0 gives.1 w.0 c.in_ok-event-in-Some.event
+          takes_loud g.C.Carrier.made g.met.C.Carrier.none_made _ log c.args.now.0 s stands st r _ c.tell.new.self c.receive.new.self gives.0 gives.1 w.0 c.tell.new.told
           (reads s c.self.inside.router.own c.args.origin d c.args.now.0 (Ok t) st.own mine (c.in-Ok.ensures.exact ∙ ap transport_at (take_rest 15 c.as_slice.result.now) ∙ ap (λ (b : List ℕ). transport_at (drop 15 b)) c.as_slice.ensures.value))
           gives.2
           (w.1 log r.set gives.0 gives.1 stands (held_stands g.C.Carrier.made g.met.C.Carrier.none_made _ log c.args.now.0 s stands st c.receive.new.self r.set gives.1 same gives.4) gives.3),
-    )
+    )))
