@@ -9,10 +9,10 @@ use Rattle.ax_address.specs.Octets as octets
 use Rattle.ax_address.specs.Octets.{address_octets, address_in}
 use Rattle.ax_frame.specs.declared.head.Head.{Head}
 use Rattle.ax_frame.specs.declared.frame.FrameRefusal.{FrameRefusal}
-use Rattle.ax_frame.specs.declared.frame.FrameView.{FrameView}
+use Rattle.ax_frame.specs.declared.frame.Behind.{Behind}
 use Rattle.ax_frame.specs.Controls.{IsLinkModulus, control_octets}
 use Rattle.ax_frame.specs.Reading.{head_end, frame_at, first_fault}
-use Rattle.ax_frame.specs.Frames.{frame, view, IsAddress, addresses, addresses_octets, pid_octets, Spells, SpellsHead}
+use Rattle.ax_frame.specs.Frames.{frame, with_head, IsAddress, addresses, addresses_octets, pid_octets, BeginsWith, Spells, SpellsHead}
 use Rattle.ax_frame.specs.Read.{addresses_in, head_in, read_head_at, read_at, SpelledHeadIsRead, SpelledIsRead}
 use Rattle.ax_frame.proofs.Spelled.{seven, front_of, spells, head_again, addresses_length, frame_again, same_head, apart, info_place}
 
@@ -105,7 +105,8 @@ refusal_of : {A : Type 0} → (e : FrameRefusal) (r : Result A FrameRefusal) →
 refusal_of e (Ok x) h = absurd cc
 refusal_of e (Err d) h = cc
 
-pub frame_answer : SpelledIsRead → (size : ℕ) (bytes : List ℕ) (r : Result FrameView FrameRefusal) → IsLinkModulus size → IfOk r (λ v. Spells size (view v) bytes) → result_err r ≡ first_fault size bytes
-    → MatchResult r (λ v. read_at size bytes ≡ Ok (view v)) (λ e. read_at size bytes ≡ Err e)
-frame_answer read size bytes (Ok v) m found refused = read size (view v) bytes m found
-frame_answer read size bytes (Err e) m found refused = refused_there size bytes e (head_end bytes) refl (refusal_of e (frame_at size bytes) refused)
+pub behind_answer : SpelledIsRead → (size end : ℕ) (bytes : List ℕ) (r : Result Behind FrameRefusal) → IsLinkModulus size
+    → IfOk r (λ b. (h : Head) → BeginsWith bytes h end → Spells size (with_head h b) bytes) → result_err r ≡ first_fault size bytes
+    → (h : Head) → BeginsWith bytes h end → MatchResult r (λ b. read_at size bytes ≡ Ok (with_head h b)) (λ e. read_at size bytes ≡ Err e)
+behind_answer read size end bytes (Ok b) m found refused h begins = read size (with_head h b) bytes m (found h begins)
+behind_answer read size end bytes (Err e) m found refused h begins = refused_there size bytes e (head_end bytes) refl (refusal_of e (frame_at size bytes) refused)

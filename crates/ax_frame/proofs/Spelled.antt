@@ -11,10 +11,10 @@ use Rattle.ax_address.specs.Octets.{SpellsAddress, address_octets}
 use Rattle.ax_frame.specs.declared.control.Control.{Control}
 use Rattle.ax_frame.specs.declared.head.Head.{Head}
 use Rattle.ax_frame.specs.declared.frame.FrameRefusal.{FrameRefusal}
-use Rattle.ax_frame.specs.declared.frame.FrameView.{FrameView}
+use Rattle.ax_frame.specs.declared.frame.Behind.{Behind}
 use Rattle.ax_frame.specs.Controls.{IsLinkModulus, NumbersFit, control_octets, has_pid, takes_info}
 use Rattle.ax_frame.specs.Reading.{extension_at, addresses_end, head_end, control_or_short, control_at, pid_at, frame_at, first_fault}
-use Rattle.ax_frame.specs.Frames.{Frame, frame, view, IsAddress, addresses, addresses_octets, pid_octets, BeginsWith, Spells, SpellsHead, HeadWithoutFault, HeadSpelledOnce, SpelledWithoutFault, SpelledOnce}
+use Rattle.ax_frame.specs.Frames.{Frame, frame, with_head, IsAddress, addresses, addresses_octets, pid_octets, BeginsWith, Spells, SpellsHead, HeadWithoutFault, HeadSpelledOnce, SpelledWithoutFault, SpelledOnce}
 use Rattle.ax_frame.proofs.Words.{get_at_drop}
 use Rattle.ax_frame.proofs.Addresses.{six_letters, judged_ok, head_goes_on, end_here, end_later}
 use Rattle.ax_frame.proofs.FieldsAgain.{control_again}
@@ -178,11 +178,6 @@ spelled_once without one size f g bytes m h k =
     (ap (λ (x : Control × Option ℕ × ℕ). x.1) same)
     (sym a.info_is ∙ (ap (λ (x : Control × Option ℕ × ℕ). drop x.2 bytes) same ∙ b.info_is))
 
--- an answer that is right is the frame that is spelled
-pub reads_only : (size : ℕ) (bytes : List ℕ) (r : Result FrameView FrameRefusal) → SpelledWithoutFault → SpelledOnce → IsLinkModulus size → IfOk r (λ v. Spells size (view v) bytes) → result_err r ≡ first_fault size bytes → (f : Frame) → Spells size f bytes → IsOkAnd r (λ v. view v ≡ f)
-reads_only size bytes (Ok v) without once m found refused f h = once size (view v) f bytes m found h
-reads_only size bytes (Err e) without once m found refused f h = absurd (let none = without size f bytes m h in cc)
-
 -- ---- the head alone
 
 pub head_without_fault : octets.SpelledWithoutFault → HeadWithoutFault
@@ -190,10 +185,36 @@ head_without_fault without h os rest spells =
     head_again without h (os ++ rest) rest spells.calls spells.eight (ap (λ x. x ++ rest) spells.spelled) ∙ ap Ok (sym (ap length spells.spelled ∙ addresses_length (addresses h) spells.calls))
 
 -- a head that octets begin with ends where it is said to
-pub ends_there : HeadWithoutFault → (bytes : List ℕ) (h : Head) (end : ℕ) → BeginsWith bytes h end → head_end bytes ≡ Ok end
+ends_there : HeadWithoutFault → (bytes : List ℕ) (h : Head) (end : ℕ) → BeginsWith bytes h end → head_end bytes ≡ Ok end
 ends_there without bytes h end begins =
     let len : length (take end bytes) ≡ end = omega (arith, length-take end bytes, begins.within) in
     ap head_end (sym (take-append-drop end bytes)) ∙ (without h (take end bytes) (drop end bytes) begins.spelled ∙ ap Ok len)
+
+-- octets that spell a frame begin with its head
+spelled_head : (size : ℕ) (f : Frame) (bytes : List ℕ) → Spells size f bytes → BeginsWith bytes f.head (7 * length (addresses f.head))
+spelled_head size f bytes h =
+    let os = addresses_octets (addresses f.head) in
+    let rest = control_octets size f.control ++ (pid_octets f.pid ++ f.info) in
+    let parts = apart size f bytes h in
+    let len = addresses_length (addresses f.head) h.calls in
+    record {
+      within = rw parts (omega (arith, length-append os rest, len));
+      spelled = record { calls = h.calls; eight = h.eight; spelled = ap (take (7 * length (addresses f.head))) parts ∙ take_at os rest (7 * length (addresses f.head)) len };
+    }
+
+-- and begin with it where they begin with any head
+begins_so : HeadWithoutFault → (size : ℕ) (f : Frame) (bytes : List ℕ) (end : ℕ) → head_end bytes ≡ Ok end → Spells size f bytes → BeginsWith bytes f.head end
+begins_so without size f bytes end ends h =
+    let begins = spelled_head size f bytes h in
+    let same : 7 * length (addresses f.head) ≡ end = ok_is (7 * length (addresses f.head)) end (sym (ends_there without bytes f.head (7 * length (addresses f.head)) begins) ∙ ends) in
+    subst (BeginsWith bytes f.head) same begins
+
+-- an answer that is right stands behind the head of the frame that is spelled
+pub reads_only : (size end : ℕ) (bytes : List ℕ) (r : Result Behind FrameRefusal) → HeadWithoutFault → SpelledWithoutFault → SpelledOnce → IsLinkModulus size → head_end bytes ≡ Ok end
+    → IfOk r (λ b. (h : Head) → BeginsWith bytes h end → Spells size (with_head h b) bytes) → result_err r ≡ first_fault size bytes
+    → (f : Frame) → Spells size f bytes → IsOkAnd r (λ b. with_head f.head b ≡ f)
+reads_only size end bytes (Ok b) ended without once m ends found refused f h = once size (with_head f.head b) f bytes m (found f.head (begins_so ended size f bytes end ends h)) h
+reads_only size end bytes (Err e) ended without once m ends found refused f h = absurd (let none = without size f bytes m h in cc)
 
 pub head_spelled_once : octets.SpelledOnce → HeadSpelledOnce
 head_spelled_once one h g os p q =

@@ -7,6 +7,7 @@ use Rattle.ax_address.specs.Callsign.{IsCallsign}
 use Rattle.ax_address.specs.Octets.{address_octets}
 use Rattle.ax_frame.specs.declared.head.Head.{Head}
 use Rattle.ax_frame.specs.declared.control.Control.{Control}
+use Rattle.ax_frame.specs.declared.frame.Behind.{Behind}
 use Rattle.ax_frame.specs.declared.frame.FrameView.{FrameView}
 use Rattle.ax_frame.specs.Reading.{head_end, first_fault}
 use Rattle.ax_frame.specs.Controls.{IsLinkModulus, control_octets, NumbersFit, has_pid, takes_info}
@@ -23,6 +24,10 @@ frame head control pid info = record { head = head; control = control; pid = pid
 
 abbrev pub view : FrameView → Frame
 view v = frame v.head v.control v.pid v.info.now
+
+-- the frame of a head and what stands behind it
+abbrev pub with_head : Head → Behind → Frame
+with_head h b = frame h b.control b.pid b.info.now
 
 abbrev pub head : Address → Address → ArrayVec Address → Head
 head dest source path = record { dest = dest; source = source; path = path }

@@ -12,6 +12,15 @@ pub struct FrameView<'a> {
     pub info: &'a [u8],
 }
 
+/// What stands behind the head of a frame: the control field, the PID and the information, which lies where it was read from.
+#[derive(Debug, Drop, PartialEq, Eq)]
+pub struct Behind<'a> {
+    pub control: Control,
+    /// There for I and UI alone.
+    pub pid: Option<u8>,
+    pub info: &'a [u8],
+}
+
 /// The most octets of a frame: those that a frame of KISS has beside its type byte (this project's profile).
 pub const MAX_FRAME: usize = 1023;
 

@@ -10,7 +10,7 @@ mod show;
 mod write;
 
 pub use control::Control;
-pub use frame::{FrameBytes, FrameRefusal, FrameView, Full, MAX_FRAME};
+pub use frame::{Behind, FrameBytes, FrameRefusal, FrameView, Full, MAX_FRAME};
 pub use head::{Head, is_command};
 pub use read::{read_behind, read_frame, read_head};
 pub use show::show_frame;

@@ -5,11 +5,11 @@ ghost use Rattle.ax_frame.specs.Read.{read_at, read_head_at};
 ghost use Rattle.ax_address.specs.Octets.{SpellsAddress};
 ghost use Rattle.std.specs.Result.{result_err};
 ghost use Rattle.ax_frame.specs.Controls.{IsLinkModulus};
-ghost use Rattle.ax_frame.specs.Frames.{BeginsWith, Frame, Spells, SpellsHead, head, view};
+ghost use Rattle.ax_frame.specs.Frames.{BeginsWith, Frame, Spells, SpellsHead, head, view, with_head};
 ghost use Rattle.ax_frame.specs.Parts.{SpellsLast};
 ghost use Rattle.ax_frame.specs.declared.head.Head.{Head};
 
-use crate::{Control, FrameRefusal, FrameView, Head, laws};
+use crate::{Behind, Control, FrameRefusal, FrameView, Head, laws};
 use ax_address::{Address, AddressRefusal, MAX_REPEATERS, Path, address_fault, read_address};
 use radio_base::Modulus;
 
@@ -87,61 +87,54 @@ pub fn read_frame<M: Modulus>(bytes: &[u8]) -> Result<FrameView<'_>, FrameRefusa
     // By the laws of the spelling no other frame is spelled so, and none that is spelled is refused.
     laws::frame_spelling();
     let (head, at) = read_head(bytes)?;
-    read_behind::<M>(head, at, bytes)
+    let behind = read_behind::<M>(at, bytes)?;
+    Ok(FrameView {
+        head,
+        control: behind.control,
+        pid: behind.pid,
+        info: behind.info,
+    })
 }
 
-/// The frame of octets whose head was read already, with sequence numbers modulo 8 or 128, or the first octet that
-/// can't stand at its place: only what stands behind the head, from `at` on, is read. The information is lent.
+/// What stands behind the head of a frame, which was read already and ends at a place, with sequence numbers modulo 8 or
+/// 128, or the first octet that can't stand at its place. The head stays where it is, since it is long to move, and the
+/// information is lent.
 #[inline(always)]
-pub fn read_behind<M: Modulus>(
-    head: Head,
-    at: usize,
-    bytes: &[u8],
-) -> Result<FrameView<'_>, FrameRefusal>
+pub fn read_behind<M: Modulus>(at: usize, bytes: &[u8]) -> Result<Behind<'_>, FrameRefusal>
     requires modulus { IsLinkModulus M.SIZE }
 
-    // The octets begin with the head, and it ends there, as `read_head` says.
-    requires begins { BeginsWith bytes.now head at }
+    // The addresses end there, as `read_head` says.
+    requires ends { reading.head_end bytes.now ≡ Ok at }
 
-    // What is read is spelled so, the head included.
-    ensures found { IfOk result (λ v. Spells M.SIZE (view v) bytes.now) }
+    // Behind each head with which the octets begin, what is read is spelled so.
+    ensures found { IfOk result (λ b. (h : Head) → BeginsWith bytes.now h at → Spells M.SIZE (with_head h b) bytes.now) }
 
     // What is spelled so is read.
-    ensures only { (f : Frame) → Spells M.SIZE f bytes.now → IsOkAnd result (λ v. view v ≡ f) }
+    ensures only { (f : Frame) → Spells M.SIZE f bytes.now → IsOkAnd result (λ b. with_head f.head b ≡ f) }
 
     // It is refused exactly where an octet is at fault.
     ensures refused { result_err result ≡ reading.first_fault M.SIZE bytes.now }
-    ensures exact { MatchResult result (λ v. read_at M.SIZE bytes.now ≡ Ok (view v)) (λ e. read_at M.SIZE bytes.now ≡ Err e) }
+    ensures exact { (h : Head) → BeginsWith bytes.now h at
+        → MatchResult result (λ b. read_at M.SIZE bytes.now ≡ Ok (with_head h b)) (λ e. read_at M.SIZE bytes.now ≡ Err e) }
 {
-    // By the laws of the spelling octets that begin with a head have no fault in it.
+    // By the laws of the spelling octets that begin with a head end it at one place.
     laws::head_spelling();
     laws::frame_spelling();
-    frame_behind(M::SIZE, head, at, bytes)
+    behind_head(M::SIZE, at, bytes)
 }
 
-/// The frame with this head, by what stands behind it. Callers take it in with the call above, so that the head isn't
-/// moved from one to the next.
+/// What stands behind a head that ends at a place.
 #[inline(always)]
-fn frame_behind(
-    size: u64,
-    head: Head,
-    at: usize,
-    bytes: &[u8],
-) -> Result<FrameView<'_>, FrameRefusal>
+fn behind_head(size: u64, at: usize, bytes: &[u8]) -> Result<Behind<'_>, FrameRefusal>
     requires modulus { IsLinkModulus size }
-    requires begins { BeginsWith bytes.now head at }
+    requires within { at ≤ length bytes.now }
     requires ends { reading.head_end bytes.now ≡ Ok at }
-    ensures found { IfOk result (λ v. Spells size (view v) bytes.now) }
+    ensures found { IfOk result (λ b. (h : Head) → BeginsWith bytes.now h at → Spells size (with_head h b) bytes.now) }
     ensures refused { result_err result ≡ reading.first_fault size bytes.now }
 {
     let (control, pid, at) = parts(size, bytes, at)?;
     let info = &bytes[at..];
-    Ok(FrameView {
-        head,
-        control,
-        pid,
-        info,
-    })
+    Ok(Behind { control, pid, info })
 }
 
 /// What stands between the head, which ends at a place, and the information, and where that begins.
