@@ -1,8 +1,10 @@
 //! What comes in: KISS items, and the frames in them.
 ghost use Rattle.std.specs.Prelude.{◌≡◌, ◌≤◌, [], ◌∷◌, false, OnOk, bit_or, length, slice_index, slice_set, MatchResult, Ok, Err, if◌then◌else◌};
 ghost use Rattle.std.specs.List.{prefix_len};
-ghost use Rattle.ax_frame.specs.Frames.{BeginsWith, view};
+ghost use Rattle.ax_frame.specs.Frames.{BeginsWith, view, with_head};
 ghost use Rattle.ax_frame.specs.Read.{read_at};
+ghost use Rattle.ax_frame.specs.Reading.{head_end};
+ghost use Rattle.ax_frame.specs.declared.head.Head.{Head};
 ghost use Rattle.digi_path.specs.Paths.{action, has_repeated};
 ghost use Rattle.kiss_framing.specs.Feeding.{IsSmall};
 ghost use Rattle.nodes_broadcast.specs.Reading.{nodes_at};
@@ -16,7 +18,7 @@ use crate::NodeEntry;
 use crate::broadcasts::{is_broadcast, is_to_nodes};
 use crate::station::Station;
 use ax_address::{Address, Alias, Call, Entry};
-use ax_frame::{FrameRefusal, FrameView, Head, read_behind, read_head};
+use ax_frame::{Behind, FrameRefusal, FrameView, Head, read_behind, read_head};
 use digi_path::{DigiStep, step};
 use kiss_framing::KissItem;
 use link_table::{Octets, Written, WrittenAs};
@@ -154,9 +156,17 @@ impl Station {
         requires { BeginsWith octets.now head at }
         ensures { OnOk result (Goes (λ n. receiving.take_frame now.0 mine (read_at (receiving.modulus_with head.source.call n) octets.now) n) self.old self.new) }
     {
+        // By the laws of the spelling the head ends there.
+        ax_frame::laws::head_spelling();
         let is_128 = self.is_128(&head.source.call);
-        match read_by(is_128, head, at, octets) {
-            Ok(frame) => {
+        match read_by(is_128, at, octets) {
+            Ok(behind) => {
+                let frame = FrameView {
+                    head,
+                    control: behind.control,
+                    pid: behind.pid,
+                    info: behind.info,
+                };
                 self.take_frame(&frame, mine, now)?;
                 Ok(())
             }
@@ -258,21 +268,17 @@ fn set_h_bit(octets: &mut [u8], at: usize)
     }
 }
 
-/// The frame of these octets, with sequence numbers modulo 128 or modulo 8. Its head was read already, up to a place.
+/// What stands behind the head of these octets, which was read already and ends at a place, with sequence numbers modulo
+/// 128 or modulo 8.
 #[inline(always)]
-fn read_by(
-    is_128: bool,
-    head: Head,
-    at: usize,
-    octets: &[u8],
-) -> Result<FrameView<'_>, FrameRefusal>
-    requires { BeginsWith octets.now head at }
+fn read_by(is_128: bool, at: usize, octets: &[u8]) -> Result<Behind<'_>, FrameRefusal>
+    requires { head_end octets.now ≡ Ok at }
     ensures { let size = (if is_128 then 128 else 8) in
-        MatchResult result (λ v. read_at size octets.now ≡ Ok (view v)) (λ e. read_at size octets.now ≡ Err e) }
+        (h : Head) → BeginsWith octets.now h at → MatchResult result (λ b. read_at size octets.now ≡ Ok (with_head h b)) (λ e. read_at size octets.now ≡ Err e) }
 {
     if is_128 {
-        read_behind::<M128>(head, at, octets)
+        read_behind::<M128>(at, octets)
     } else {
-        read_behind::<M8>(head, at, octets)
+        read_behind::<M8>(at, octets)
     }
 }
