@@ -118,6 +118,10 @@ abbrev pub is_last : Untold → Bool
 is_last (untold.Event (event.Gone id facts)) = true
 is_last _ = false
 
+abbrev pub ends_with : Option Untold → Bool
+ends_with None = false
+ends_with (Some u) = is_last u
+
 -- what is left untold of an end once this was told
 abbrev pub Leaves : Callsign → ℕ → ℕ → sets.Holder → Holder → List Told → Bool → Type 0
 Leaves own ttl id h k rest true = (rest ≡ []) × (h.gone ≡ true)

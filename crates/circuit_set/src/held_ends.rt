@@ -181,14 +181,16 @@ impl HeldEnds {
         first_untold(self.ends.as_slice()).is_none()
     }
 
-    /// What the end with a number tells next.
-    fn told_by(&mut self, id: u64) -> Option<Untold>
-        ensures told { ToldBy id (lookup (nat_eq id) self.old.ends.entries) result self.old.ends.entries self.new.ends.entries }
+    /// What the end with a number tells next, where such an end is held. It is put where it is to stand, here and below, since a
+    /// transport is long to move.
+    fn told_by(&mut self, id: u64, untold: &mut Option<Untold>)
+        requires { untold.old ≡ None }
+        ensures told { ToldBy id (lookup (nat_eq id) self.old.ends.entries) untold.new self.old.ends.entries self.new.ends.entries }
         ensures same { SameNode self.old self.new }
     {
         match self.ends.get_mut(&id) {
-            Some(holder) => Some(holder.next(id)),
-            None => None,
+            Some(holder) => holder.next(id, untold),
+            None => {}
         }
     }
 
@@ -203,25 +205,26 @@ impl HeldEnds {
     }
 
     /// What an end tells next. Once it has told that it is gone it is held no longer.
-    fn next_of(&mut self, id: u64) -> Option<Untold>
-        ensures next { NextOf id (lookup (nat_eq id) self.old.ends.entries) result self.old.ends.entries self.new.ends.entries }
+    fn next_of(&mut self, id: u64, untold: &mut Option<Untold>)
+        requires { untold.old ≡ None }
+        ensures next { NextOf id (lookup (nat_eq id) self.old.ends.entries) untold.new self.old.ends.entries self.new.ends.entries }
         ensures same { SameNode self.old self.new }
     {
-        let told = self.told_by(id)?;
-        self.leave(id, is_last(&told));
-        Some(told)
+        self.told_by(id, untold);
+        self.leave(id, is_last(untold));
     }
 
     /// What is told next, of the first end that has something to tell.
-    pub(crate) fn next(&mut self) -> Option<Untold>
-        ensures gives { (s : SetState) (told : List Told) → HeldStands self.old s told → Gives (record { set = s; told = told }) result self.new }
-        ensures rests { result ≡ None → Rests self.new.ends.entries }
-        ensures falls { FallsBy result (untold_in self.old.ends.entries) (untold_in self.new.ends.entries) }
+    pub(crate) fn next(&mut self, untold: &mut Option<Untold>)
+        requires { untold.old ≡ None }
+        ensures gives { (s : SetState) (told : List Told) → HeldStands self.old s told → Gives (record { set = s; told = told }) untold.new self.new }
+        ensures rests { untold.new ≡ None → Rests self.new.ends.entries }
+        ensures falls { FallsBy untold.new (untold_in self.old.ends.entries) (untold_in self.new.ends.entries) }
         ensures same { SameNode self.old self.new }
     {
         match first_untold(self.ends.as_slice()) {
-            Some(id) => self.next_of(id),
-            None => None,
+            Some(id) => self.next_of(id, untold),
+            None => {}
         }
     }
 }

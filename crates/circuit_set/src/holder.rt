@@ -1,5 +1,5 @@
 //! An end that a node holds.
-ghost use Rattle.std.specs.Prelude.{◌≡◌, ◌+◌, ◌≤◌, false, ◌||◌, ◌&&◌, not, true, Some, None, ℕ, List, nat_lt, length};
+ghost use Rattle.std.specs.Prelude.{◌≡◌, ◌+◌, ◌≤◌, false, ◌||◌, ◌&&◌, not, true, Some, None, ℕ, List, nat_lt, length, is_some, IfSome};
 ghost use Rattle.ax_address.specs.Callsign.{Callsign};
 ghost use Rattle.ax_address.specs.CallOrder.{same_call};
 ghost use Rattle.circuit_l4.specs.EndState.{State};
@@ -33,10 +33,13 @@ pub(crate) enum Untold {
 }
 
 /// Whether this is the last that an end tells: that it is gone.
-pub(crate) fn is_last(told: &Untold) -> bool
-    ensures { result ≡ last.is_last told.now }
+pub(crate) fn is_last(told: &Option<Untold>) -> bool
+    ensures { result ≡ last.ends_with told.now }
 {
-    matches!(told, Untold::Event(SetEvent::Gone { id: _, facts: _ }))
+    matches!(
+        told,
+        Some(Untold::Event(SetEvent::Gone { id: _, facts: _ }))
+    )
 }
 
 /// An end, and what no call of it tells.
@@ -162,32 +165,36 @@ impl Holder {
 
     /// What it tells next, where it has something to tell: that it was made, what it puts out, its notice, that it is gone, in this
     /// order.
-    pub(crate) fn next(&mut self, id: u64) -> Untold
-        ensures tells { (own : Callsign) (ttl : ℕ) (h : sets.Holder) (told : List Told) → Keeps own ttl id self.old h told →
-            is_empty told ≡ false → Tells own ttl id h result self.new told }
-        ensures falls { cost result + left_at result self.new ≤ untold_at self.old }
+    pub(crate) fn next(&mut self, id: u64, untold: &mut Option<Untold>)
+        ensures tells { IfSome untold.new (λ u. (own : Callsign) (ttl : ℕ) (h : sets.Holder) (told : List Told) → Keeps own ttl id self.old h told →
+            is_empty told ≡ false → Tells own ttl id h u self.new told) }
+        ensures falls { IfSome untold.new (λ u. cost u + left_at u self.new ≤ untold_at self.old) }
+        ensures some { is_some untold.new ≡ true }
     {
         if self.unannounced {
             self.unannounced = false;
-            return Untold::Event(SetEvent::Made {
+            *untold = Some(Untold::Event(SetEvent::Made {
                 id,
                 pair: self.pair,
                 partner: self.at,
                 request: None,
-            });
+            }));
+            return;
         }
         if let Some((transport, number)) = self.end.next_out() {
-            return Untold::Out {
+            *untold = Some(Untold::Out {
                 id,
                 number,
                 to: self.at,
                 transport,
-            };
+            });
+            return;
         }
         if let Some(notice) = self.end.notice() {
-            return Untold::Event(SetEvent::Notice { id, notice });
+            *untold = Some(Untold::Event(SetEvent::Notice { id, notice }));
+            return;
         }
         let facts = self.end.facts();
-        Untold::Event(SetEvent::Gone { id, facts })
+        *untold = Some(Untold::Event(SetEvent::Gone { id, facts }));
     }
 }

@@ -87,7 +87,9 @@ impl<C: Carrier> CircuitSet<C> {
         ensures router { OnOk result (SameRouter self.old.router self.new.router) }
         ensures spent { OnOk result (self.new.spent ≡ self.old.spent) }
     {
-        match self.held.next() {
+        let mut untold = None;
+        self.held.next(&mut untold);
+        match untold {
             Some(untold) => self.tell(untold, now, told),
             None => self.ask_router(now, told),
         }
@@ -265,7 +267,10 @@ impl<C: Carrier> CircuitSet<C> {
             Ok(transport) => transport,
             Err(_) => return Ok(()),
         };
-        match self.held.receive(origin, datagram, &transport, now)? {
+        let mut untold = None;
+        self.held
+            .receive(origin, datagram, &transport, now, &mut untold)?;
+        match untold {
             Some(untold) => self.tell(untold, now, told),
             None => Ok(()),
         }

@@ -1,5 +1,5 @@
 //! What comes to the ends of a node: requests, and transports for the ends that they name.
-ghost use Rattle.std.specs.Prelude.{◌≡◌, ◌≤◌, ◌<◌, true, false, [], Some, None, nat_eq, IfOk};
+ghost use Rattle.std.specs.Prelude.{◌≡◌, ◌≤◌, ◌<◌, true, false, [], Some, None, nat_eq, IfOk, OnOk};
 ghost use Rattle.std.specs.Map.{lookup};
 ghost use Rattle.radio_base.specs.declared.modulus.TheConstants.{COUNT_MAX};
 ghost use Rattle.circuit_set.specs.Sets as sets;
@@ -87,7 +87,8 @@ impl HeldEnds {
         Ok(made)
     }
 
-    /// A request came from a node.
+    /// A request came from a node. Few do, so no other call makes room for what this one needs.
+    #[inline(never)]
     fn requested(
         &mut self,
         origin: Call,
@@ -134,18 +135,21 @@ impl HeldEnds {
         datagram: Datagram,
         transport: &Transport,
         now: Moment,
-    ) -> Option<Untold>
-        requires { Rests self.old.ends.entries }
+        untold: &mut Option<Untold>,
+    )
+        requires rests { Rests self.old.ends.entries }
+        requires none { untold.old ≡ None }
         ensures same { SameNode self.old self.new }
         ensures gives { (s : SetState) (h : sets.Holder) → HeldStands self.old s [] → sets.end_of id s.ends ≡ Some h → h.gone ≡ false → h.id ≡ id →
-            Gives (sets.handed s h datagram.items transport.now now.0) result self.new }
-        ensures rests { result ≡ None → Rests self.new.ends.entries }
+            Gives (sets.handed s h datagram.items transport.now now.0) untold.new self.new }
+        ensures rests { untold.new ≡ None → Rests self.new.ends.entries }
         ensures few { Brings (untold_in self.old.ends.entries) (untold_in self.new.ends.entries) }
     {
         if self.hand(id, transport, now) {
-            return Some(Untold::Event(SetEvent::Heeded { id, datagram }));
+            *untold = Some(Untold::Event(SetEvent::Heeded { id, datagram }));
+            return;
         }
-        self.next()
+        self.next(untold)
     }
 
     /// A transport came from a node for the end with a pair.
@@ -156,32 +160,36 @@ impl HeldEnds {
         to: Pair,
         transport: &Transport,
         now: Moment,
-    ) -> Option<Untold>
-        requires { Rests self.old.ends.entries }
+        untold: &mut Option<Untold>,
+    )
+        requires rests { Rests self.old.ends.entries }
+        requires none { untold.old ≡ None }
         ensures same { SameNode self.old self.new }
-        ensures gives { (s : SetState) → HeldStands self.old s [] → Gives (sets.arrives_at s origin.now datagram.items to transport.now now.0) result self.new }
-        ensures rests { result ≡ None → Rests self.new.ends.entries }
+        ensures gives { (s : SetState) → HeldStands self.old s [] → Gives (sets.arrives_at s origin.now datagram.items to transport.now now.0) untold.new self.new }
+        ensures rests { untold.new ≡ None → Rests self.new.ends.entries }
         ensures few { Brings (untold_in self.old.ends.entries) (untold_in self.new.ends.entries) }
     {
         match named_by(self.ends.as_slice(), origin, to) {
-            Some(id) => self.arrives_at(id, datagram, transport, now),
-            None => None,
+            Some(id) => self.arrives_at(id, datagram, transport, now, untold),
+            None => {}
         }
     }
 
-    /// Takes in what came from a node, and gives what is told first of it.
+    /// Takes in what came from a node, and puts what is told first of it where it is to stand.
     pub(crate) fn receive(
         &mut self,
         origin: Call,
         datagram: Datagram,
         transport: &Transport,
         now: Moment,
-    ) -> Result<Option<Untold>, NoMemory>
-        requires { Rests self.old.ends.entries }
-        ensures gives { IfOk result (λ told. (s : SetState) → HeldStands self.old s [] →
-            Gives (sets.received s origin datagram.items transport.now now.0) told self.new) }
-        ensures rests { IfOk result (λ told. told ≡ None → Rests self.new.ends.entries) }
-        ensures few { IfOk result (λ told. Brings (untold_in self.old.ends.entries) (untold_in self.new.ends.entries)) }
+        untold: &mut Option<Untold>,
+    ) -> Result<(), NoMemory>
+        requires rests { Rests self.old.ends.entries }
+        requires none { untold.old ≡ None }
+        ensures gives { OnOk result ((s : SetState) → HeldStands self.old s [] →
+            Gives (sets.received s origin datagram.items transport.now now.0) untold.new self.new) }
+        ensures rests { OnOk result (untold.new ≡ None → Rests self.new.ends.entries) }
+        ensures few { OnOk result (Brings (untold_in self.old.ends.entries) (untold_in self.new.ends.entries)) }
     {
         match transport {
             Transport::Request {
@@ -190,8 +198,8 @@ impl HeldEnds {
                 user: _,
                 node: _,
             } => {
-                let told = self.requested(origin, datagram, *pair, *window, now)?;
-                Ok(told)
+                *untold = self.requested(origin, datagram, *pair, *window, now)?;
+                Ok(())
             }
             Transport::Accept { to, .. }
             | Transport::Refuse { to }
@@ -199,7 +207,8 @@ impl HeldEnds {
             | Transport::Disconnected { to }
             | Transport::Info { to, .. }
             | Transport::InfoAck { to, .. } => {
-                Ok(self.arrives(&origin, datagram, *to, transport, now))
+                self.arrives(&origin, datagram, *to, transport, now, untold);
+                Ok(())
             }
         }
     }

@@ -8,7 +8,7 @@ returns-in-Some-clause-pumps g c =
     let carrier = c.self.inside.router.carrier in
     let none = rw (← c.self.view_is) at c.requires.lost in
     rw (← c.self.view_is)
-    (tells_on g.C.Carrier.made g.met.C.Carrier.none_made old (g.C.Carrier.lost carrier) (g.C.Carrier.waiting carrier) c.args.now.0 c.tell.new.self c.next.new.self c.in-Some.untold c.next.result c.tell.new.told c.tell.result
+    (tells_on g.C.Carrier.made g.met.C.Carrier.none_made old (g.C.Carrier.lost carrier) (g.C.Carrier.waiting carrier) c.args.now.0 c.tell.new.self c.next.new.self c.in-Some.untold c.next.new.untold c.tell.new.told c.tell.result
     none c.in-Some.is c.next.ensures.gives c.tell.ensures.tells)
 
 pub returns-in-None-clause-pumps : goal.returns-in-None-clause-pumps
@@ -17,5 +17,5 @@ returns-in-None-clause-pumps g c =
     let carrier = c.self.inside.router.carrier in
     let none = rw (← c.self.view_is) at c.requires.lost in
     rw (← c.self.view_is)
-    (asks_on g.C.Carrier.made g.met.C.Carrier.none_made old (g.C.Carrier.lost carrier) (g.C.Carrier.waiting carrier) c.args.now.0 c.ask_router.new.self c.next.new.self c.next.result c.ask_router.new.told c.ask_router.result
+    (asks_on g.C.Carrier.made g.met.C.Carrier.none_made old (g.C.Carrier.lost carrier) (g.C.Carrier.waiting carrier) c.args.now.0 c.ask_router.new.self c.next.new.self c.next.new.untold c.ask_router.new.told c.ask_router.result
     none c.in-None.is c.next.ensures.gives c.ask_router.ensures.asks)
