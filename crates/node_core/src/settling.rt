@@ -109,11 +109,14 @@ impl Station {
         laws::parts();
         let before = self.entries.len();
         while !self.set.is_idle() {
-            let Some(event) = self.set.pump(now)? else {
-                return Ok(before < self.entries.len());
-            };
-            self.hear_circuits(&event)?;
-            self.entries.push_back(NodeEntry::Set(event))?;
+            match self.set.pump(now) {
+                Ok(Some(event)) => {
+                    self.hear_circuits(&event)?;
+                    self.entries.push_back(NodeEntry::Set(event))?;
+                }
+                Ok(None) => return Ok(before < self.entries.len()),
+                Err(NoMemory) => return Err(NoMemory),
+            }
         }
         Ok(before < self.entries.len())
     }

@@ -16,38 +16,38 @@ loop-now-preserved c = λ n h.
     let now = c.args.now.0 in
     let i = c.loop-now.invariant n h in
     let s = c.loop-now.self in
-    let event = c.in-Some.event in
-    let pumps = rw c.in-Some.is at c.in_ok-event.ensures.pumps in
-    let x = was_called c.parts.ensures.offers c.parts.ensures.takes c.parts.ensures.less now s c.pump.new.self i.0 _ i.1 c.in_ok-event.ensures.router pumps in
+    let event = c.in-Ok-Some.event in
+    let pumps = rw c.in-Ok-Some.field-0-is at c.in-Ok-Some.ensures.pumps in
+    let x = was_called c.parts.ensures.offers c.parts.ensures.takes c.parts.ensures.less now s c.pump.new.self i.0 _ i.1 c.in-Ok-Some.ensures.router pumps in
     let s1 = record s { set = c.pump.new.self } in
     let s2 = c.hear_circuits.new.self in
     let m : State = called x.q i.0 in
     let ss = hear_circuits m.settings.prompt (seen event) m.sessions in
-    let hears = c.in_ok-hear_circuits.ensures.goes m x.holds in
+    let hears = c.in_ok-hear_circuits-in-Ok-Some.ensures.goes m x.holds in
     let next : State = record m { sessions = ss; entries = i.0.entries ++ Of_set (seen event) ∷ [] } in (
       next,
-      entered s2 (record s2 { entries = c.push_back.new.self }) (Set event) c.in_ok-push_back.ensures.items refl (record m { sessions = ss }) hears,
+      entered s2 (record s2 { entries = c.push_back.new.self }) (Set event) c.in_ok-push_back-in-Ok-Some.ensures.items refl (record m { sessions = ss }) hears,
       ◌∙◌ {c = pump now next} i.2 (told_on now i.0 x.q (seen event) x.told x.leads),
     )
 
-pub returns-in_default-clause-did : goal.returns-in_default-clause-did
-returns-in_default-clause-did c = λ n h.
+pub returns-in-Ok-None-clause-did : goal.returns-in-Ok-None-clause-did
+returns-in-Ok-None-clause-did c = λ n h.
     let now = c.args.now.0 in
     let i = c.loop-now.invariant n h in
     let s = c.loop-now.self in
-    let pumps = rw c.in_default.is at c.in_ok-event.ensures.pumps in
-    let x = was_called c.parts.ensures.offers c.parts.ensures.takes c.parts.ensures.less now s c.pump.new.self i.0 _ i.1 c.in_ok-event.ensures.router pumps in
+    let pumps = rw c.in-Ok-None.field-0-is at c.in-Ok-None.ensures.pumps in
+    let x = was_called c.parts.ensures.offers c.parts.ensures.takes c.parts.ensures.less now s c.pump.new.self i.0 _ i.1 c.in-Ok-None.ensures.router pumps in
     let s1 = record s { set = c.pump.new.self } in
     let held : Holds s1 (pump now n) = subst (Holds s1) (sym (i.2 ∙ pumped_is now i.0 x.q x.told x.leads)) x.holds in
     told_by_length c.args.self.now s1 n (pump now n) c.len-before.result c.len.result h held (c.len-before.ensures ∙ c.args.self.now.entries.ok.0) (c.len.ensures ∙ s.entries.ok.0)
 
-pub returns-in_default-clause-goes : goal.returns-in_default-clause-goes
-returns-in_default-clause-goes c = λ n h.
+pub returns-in-Ok-None-clause-goes : goal.returns-in-Ok-None-clause-goes
+returns-in-Ok-None-clause-goes c = λ n h.
     let now = c.args.now.0 in
     let i = c.loop-now.invariant n h in
     let s = c.loop-now.self in
-    let pumps = rw c.in_default.is at c.in_ok-event.ensures.pumps in
-    let x = was_called c.parts.ensures.offers c.parts.ensures.takes c.parts.ensures.less now s c.pump.new.self i.0 _ i.1 c.in_ok-event.ensures.router pumps in
+    let pumps = rw c.in-Ok-None.field-0-is at c.in-Ok-None.ensures.pumps in
+    let x = was_called c.parts.ensures.offers c.parts.ensures.takes c.parts.ensures.less now s c.pump.new.self i.0 _ i.1 c.in-Ok-None.ensures.router pumps in
     subst (Holds (record s { set = c.pump.new.self })) (sym (i.2 ∙ pumped_is now i.0 x.q x.told x.leads)) x.holds
 
 pub returns-clause-did : goal.returns-clause-did
@@ -69,5 +69,5 @@ returns-clause-goes c = λ n h.
 pub returns-clause-told : goal.returns-clause-told
 returns-clause-told c = λ n. pumped_told c.parts.ensures.offers c.parts.ensures.takes c.parts.ensures.less c.args.now.0 n
 
-pub returns-in_default-clause-told : goal.returns-in_default-clause-told
-returns-in_default-clause-told c = λ n. pumped_told c.parts.ensures.offers c.parts.ensures.takes c.parts.ensures.less c.args.now.0 n
+pub returns-in-Ok-None-clause-told : goal.returns-in-Ok-None-clause-told
+returns-in-Ok-None-clause-told c = λ n. pumped_told c.parts.ensures.offers c.parts.ensures.takes c.parts.ensures.less c.args.now.0 n
