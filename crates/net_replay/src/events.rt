@@ -167,25 +167,25 @@ pub struct NumberedEvent {
 pub fn entry_event(alloc: Global, node: u8, entry: NodeEntry) -> Result<Event, NoMemory>
     ensures { IfOk result (λ event. event_of event ≡ Entry node (entry_of entry)) }
 {
-    match entry {
-        NodeEntry::Set(
-            SetEvent::Sent {
-                id,
-                number,
-                datagram,
-            },
-        ) => {
-            let datagram = end_datagram(alloc, id, &datagram)?;
+    // (an entry is long to move, and so is left where it stands)
+    match &entry {
+        NodeEntry::Set(SetEvent::Sent {
+            id,
+            number,
+            datagram,
+        }) => {
+            let datagram = end_datagram(alloc, *id, datagram)?;
+            let number = *number;
             let sent = Box::new(alloc, SentDatagram { number, datagram })?;
             Ok(Event::Sent { node, sent })
         }
         NodeEntry::Set(SetEvent::Heeded { id, datagram }) => {
-            let datagram = end_datagram(alloc, id, &datagram)?;
+            let datagram = end_datagram(alloc, *id, datagram)?;
             let heeded = Box::new(alloc, datagram)?;
             Ok(Event::Heeded { node, heeded })
         }
-        other => {
-            let entry = Box::new(alloc, other)?;
+        _ => {
+            let entry = Box::new(alloc, entry)?;
             Ok(Event::Entry { node, entry })
         }
     }
