@@ -118,9 +118,10 @@ abbrev pub is_last : Untold → Bool
 is_last (untold.Event (event.Gone id facts)) = true
 is_last _ = false
 
-abbrev pub ends_with : Option Untold → Bool
-ends_with None = false
-ends_with (Some u) = is_last u
+-- the same, where something is told
+abbrev pub is_last_of : Option Untold → Bool
+is_last_of None = false
+is_last_of (Some u) = is_last u
 
 -- what is left untold of an end once this was told
 abbrev pub Leaves : Callsign → ℕ → ℕ → sets.Holder → Holder → List Told → Bool → Type 0

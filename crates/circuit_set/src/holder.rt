@@ -32,9 +32,9 @@ pub(crate) enum Untold {
     },
 }
 
-/// Whether this is the last that an end tells: that it is gone.
+/// Whether this is the last that an end tells, where it tells something: that it is gone.
 pub(crate) fn is_last(told: &Option<Untold>) -> bool
-    ensures { result ≡ last.ends_with told.now }
+    ensures { result ≡ last.is_last_of told.now }
 {
     matches!(
         told,
