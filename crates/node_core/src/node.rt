@@ -1,6 +1,6 @@
 //! A whole node.
 ghost use Rattle.std.specs.Prelude.{◌≡◌, ◌<◌, ◌≤◌, ◌↔◌, ◌++◌, ℕ, List, IfOk, IfSome, OnOk, OnErr, IsErr, IsErrOf, IsTrue, is_some, length, slice_get, take};
-ghost use Rattle.std.specs.Option.{option_map};
+ghost use Rattle.std.specs.Option.{option_copied, option_map};
 ghost use Rattle.ax_link.specs.State.{count_end};
 ghost use Rattle.link_table.specs.Calls as calls;
 ghost use Rattle.link_table.specs.Standing.{NotNoMemory};
@@ -163,6 +163,13 @@ impl Node {
         ensures { (n : NodeState) → NodeStands self.now n → result ≡ is_some (slice_get n.station.entries 0) }
     {
         !self.station.entries.is_empty()
+    }
+
+    /// The next thing that it has to tell, as `trace_entry` would give it, lent. None where there is none.
+    pub fn first_entry(&self) -> Option<&NodeEntry>
+        ensures { (n : NodeState) → NodeStands self.now n → option_map entry_of (option_copied result) ≡ slice_get n.station.entries 0 }
+    {
+        self.station.entries.front()
     }
 
     /// The next thing that it has to tell, the oldest one. None where there is none.
