@@ -1,13 +1,18 @@
 -- The entries of a node, told one after another.
-use Rattle.std.proofs.Common.{◌≡◌, ◌++◌, ◌∙◌, ℕ, refl, sym, ap, List, [], ◌∷◌, map, drop, append_assoc, append-nil}
-use Rattle.std.specs.Prelude.{Option, Some, None, false, is_some, slice_get, slice_set}
+use Rattle.std.proofs.Common.{◌≡◌, ◌<◌, ◌++◌, ◌∙◌, ℕ, refl, sym, ap, subst, List, [], ◌∷◌, length, map, drop, get_or, append_assoc, append-nil}
+use Rattle.std.specs.Prelude.{Option, Some, None, Result, Ok, Err, IfOk, IfSome, false, is_some, slice_get, slice_set}
+use Rattle.std.specs.Option.{option_map}
+use Rattle.radio_base.specs.declared.errors.NoMemory.{NoMemory}
+use Rattle.network_file.specs.declared.plan.declarations.Declaration.{Declaration}
+use Rattle.node_core.specs.Kept.{Kept, NodeStands}
+use Rattle.net_replay.specs.declared.events.Event.{Event as SeenEvent}
 use Rattle.node_core.specs.States as states
 use Rattle.node_core.specs.States.{NodeState}
-use Rattle.net_replay.specs.Events.{Entry, NumberedEvent}
-use Rattle.net_replay.specs.Running.{all_entries, all_entries_of, change, change_of, entry_events, fetched_entry, first_entry}
+use Rattle.net_replay.specs.Events.{Entry, Event, NumberedEvent, event_of}
+use Rattle.net_replay.specs.Running.{Course, IsFirst, Stands, all_entries, all_entries_of, change, change_of, entry_events, fetched_entry, first_entry}
 use Rattle.net_replay.specs.Starting.{Placed}
 use Rattle.net_replay.specs.World.{Input, World, after, all_told, numbered, reach, reaches, tell}
-use Rattle.net_replay.proofs.Placing.{set_itself, set_same, set_twice}
+use Rattle.net_replay.proofs.Placing.{at_place, declared_is, set_itself, set_same, set_twice}
 
 -- ---- what reaches a node, and then its entries
 
@@ -62,6 +67,40 @@ pub one_entry : (line at : ℕ) (v : World) (e : states.Entry) → Some e ≡ fi
     → all_entries line at (tell line (entry_events e (slice_get (change at fetched_entry v).nodes at)) (change at fetched_entry v)) ≡ all_entries line at v
 unfolding all_entries change
 one_entry line at v e first = entry_of_option line at v e (slice_get v.nodes at) refl first
+
+-- so does the event of it
+event_of_option : (line at : ℕ) (v : World) (event : Event) (o : Option Placed) → slice_get v.nodes at ≡ o → IsFirst (Some event) o
+    → all_entries line at (tell line (event ∷ []) (change_of at fetched_entry o v)) ≡ all_entries_of line at o v
+event_of_option line at v event None is first = absurd first
+event_of_option line at v event (Some p) is first =
+    let q : Placed = record p { state = fetched_entry p.state } in
+    let u : World = record v { nodes = slice_set v.nodes at q } in
+    let got : slice_get u.nodes at ≡ Some q = set_same v.nodes at p q is in
+    ap (λ e. all_entries line at (tell line (e ∷ []) u)) first.2
+    ∙ (ap (λ o. all_entries line at (tell line (entry_events first.0 o) u)) (sym got) ∙ entry_case line at v first.0 p p.state.station.entries is refl first.1)
+
+pub one_event : (line at : ℕ) (v : World) (event : Event) → IsFirst (Some event) (slice_get v.nodes at)
+    → all_entries line at (tell line (event ∷ []) (change at fetched_entry v)) ≡ all_entries line at v
+unfolding all_entries change
+one_event line at v event first = event_of_option line at v event (slice_get v.nodes at) refl first
+
+-- what the first entry of a node is told as
+first_is : (c : Course) (w : World) (at : ℕ) (kept : Kept) (d : Declaration) (entry : states.Entry) (event : Option SeenEvent) → at < length c.left.nodes → kept ≡ get_or c.left.nodes at kept
+    → d ≡ get_or c.left.declared at d → ((s : NodeState) → NodeStands kept s → Some entry ≡ slice_get s.station.entries 0) → IfSome event (λ e. event_of e ≡ Entry d.node entry) → Stands c w
+    → IsFirst (option_map event_of event) (slice_get w.nodes at)
+first_is c w at kept d entry None h ke de says is t = tt
+first_is c w at kept d entry (Some e) h ke de says is t =
+    let place = at_place c.left.nodes w.nodes at kept h t.trace.nodes in
+    let p : Placed = place.placed in
+    let first : Some entry ≡ slice_get p.state.station.entries 0 = says p.state (subst (λ k. NodeStands k p.state) (sym ke) place.stands) in
+    let same : p.declared ≡ d = declared_is c w at d p de t place.is_in in
+    subst (λ o. IsFirst (Some (event_of e)) o) (sym place.is_in) (entry, first, is ∙ ap (λ (x : Declaration). Entry x.node entry) (sym same))
+
+pub first_told : (c : Course) (at : ℕ) (kept : Kept) (d : Declaration) (entry : states.Entry) (r : Result (Option SeenEvent) NoMemory) → at < length c.left.nodes → kept ≡ get_or c.left.nodes at kept
+    → d ≡ get_or c.left.declared at d → ((s : NodeState) → NodeStands kept s → Some entry ≡ slice_get s.station.entries 0)
+    → IfOk r (λ event. IfSome event (λ e. event_of e ≡ Entry d.node entry)) → IfOk r (λ event. (w : World) → Stands c w → IsFirst (option_map event_of event) (slice_get w.nodes at))
+first_told c at kept d entry (Ok event) h ke de says is = λ w t. first_is c w at kept d entry event h ke de says is t
+first_told c at kept d entry (Err e) h ke de says is = is
 
 -- ---- none is left
 

@@ -91,6 +91,12 @@ abbrev pub entry_events : states.Entry → Option Placed → List Event
 entry_events entry None = []
 entry_events entry (Some p) = Entry p.declared.node entry ∷ []
 
+-- this event, if it is one, tells the first entry of the node at a place
+abbrev pub IsFirst : Option Event → Option Placed → Type 0
+IsFirst None o = Unit {0}
+IsFirst (Some event) None = ⊥
+IsFirst (Some event) (Some p) = (entry : states.Entry) × (Some entry ≡ first_entry (Some p)) × (event ≡ Entry p.declared.node entry)
+
 abbrev pub all_entries_of : ℕ → ℕ → Option Placed → World → World
 all_entries_of line at None w = w
 all_entries_of line at (Some p) w = tells_entries line at p p.state w

@@ -1,5 +1,5 @@
 //! What there is to tell of a replay.
-ghost use Rattle.std.specs.Prelude.{◌≡◌, IfOk};
+ghost use Rattle.std.specs.Prelude.{◌≡◌, IfOk, IfSome};
 ghost use Rattle.node_core.specs.Standing.{entry_of};
 ghost use Rattle.net_replay.specs.Events.{Entry, event_of};
 
@@ -162,33 +162,39 @@ pub struct NumberedEvent {
     pub event: Event,
 }
 
-/// What the node of that number tells, as an event: of a datagram that an end has sent or taken in no more room is kept than its
-/// octets take.
-pub fn entry_event(alloc: Global, node: u8, entry: NodeEntry) -> Result<Event, NoMemory>
-    ensures { IfOk result (λ event. event_of event ≡ Entry node (entry_of entry)) }
+/// What the node of that number tells, as an event, where it is a datagram that an end has sent or taken in: no more room is kept
+/// than its octets take. An entry is long to move, and so is left where it stands.
+pub fn datagram_event(alloc: Global, node: u8, entry: &NodeEntry) -> Result<Option<Event>, NoMemory>
+    ensures { IfOk result (λ event. IfSome event (λ e. event_of e ≡ Entry node (entry_of entry.now))) }
 {
-    // (an entry is long to move, and so is left where it stands)
-    match &entry {
-        NodeEntry::Set(SetEvent::Sent {
-            id,
-            number,
-            datagram,
-        }) => {
+    match entry {
+        NodeEntry::Set(
+            SetEvent::Sent {
+                id,
+                number,
+                datagram,
+            },
+        ) => {
             let datagram = end_datagram(alloc, *id, datagram)?;
             let number = *number;
             let sent = Box::new(alloc, SentDatagram { number, datagram })?;
-            Ok(Event::Sent { node, sent })
+            Ok(Some(Event::Sent { node, sent }))
         }
         NodeEntry::Set(SetEvent::Heeded { id, datagram }) => {
             let datagram = end_datagram(alloc, *id, datagram)?;
             let heeded = Box::new(alloc, datagram)?;
-            Ok(Event::Heeded { node, heeded })
+            Ok(Some(Event::Heeded { node, heeded }))
         }
-        _ => {
-            let entry = Box::new(alloc, entry)?;
-            Ok(Event::Entry { node, entry })
-        }
+        _ => Ok(None),
     }
+}
+
+/// What the node of that number tells, as an event.
+pub fn entry_event(alloc: Global, node: u8, entry: NodeEntry) -> Result<Event, NoMemory>
+    ensures { IfOk result (λ event. event_of event ≡ Entry node (entry_of entry)) }
+{
+    let entry = Box::new(alloc, entry)?;
+    Ok(Event::Entry { node, entry })
 }
 
 /// The datagram of the end of that number.

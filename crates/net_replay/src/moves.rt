@@ -1,5 +1,5 @@
 //! The three moves of which every line is made: something reaches a node, events are told, a node's frames are put in the air.
-ghost use Rattle.std.specs.Prelude.{◌≡◌, ◌∷◌, [], ℕ, List, is_some, IfOk, IfSome, OnOk, length, slice_get, ◌<◌};
+ghost use Rattle.std.specs.Prelude.{◌≡◌, ◌∷◌, [], ℕ, List, true, false, is_some, IfOk, IfSome, OnOk, length, slice_get, ◌<◌};
 ghost use Rattle.std.specs.List.{position_or_len};
 ghost use Rattle.std.specs.Option.{option_map};
 ghost use Rattle.node_core.specs.Standing.{entry_of};
@@ -13,7 +13,7 @@ ghost use Rattle.net_replay.specs.World as worlds;
 use crate::air::Air;
 use crate::answer::{Answer, answer_of};
 use crate::ends::Ends;
-use crate::events::{Event, NumberedEvent, entry_event};
+use crate::events::{Event, NumberedEvent, datagram_event, entry_event};
 use crate::kiss::KissBytes;
 use crate::places::place_of;
 use crate::reasons::ReplayRefusal;
@@ -124,10 +124,54 @@ impl World {
     fn tell_all_entries(&mut self, line: u32, at: usize) -> Result<(), NoMemory>
         ensures { OnOk result (GoesOn (course self.old) (course self.new) (running.all_entries line at)) }
     {
-        while let Some(entry) = self.next_entry(at) {
-            self.tell_entry(line, at, entry)?;
+        loop {
+            match self.first_event(at)? {
+                Some(event) => {
+                    // (the entry was lent, and is taken now)
+                    if self.next_entry(at).is_none() {
+                        return Ok(());
+                    }
+                    self.tell(line, event)?;
+                }
+                None => {
+                    if !self.tell_one(line, at)? {
+                        return Ok(());
+                    }
+                }
+            }
         }
-        Ok(())
+    }
+
+    /// The first thing that the node at a place has to tell, as an event, where it is a datagram that an end has sent or taken in.
+    fn first_event(&self, at: usize) -> Result<Option<Event>, NoMemory>
+        ensures { IfOk result (λ event. (w : worlds.World) → Stands (course self.now) w → running.IsFirst (option_map event_of event) (slice_get w.nodes at)) }
+    {
+        if at >= self.nodes.len() || at >= self.declared.len() {
+            return Ok(None);
+        }
+        let node = self.declared[at].node;
+        match self.nodes[at].first_entry() {
+            Some(entry) => datagram_event(self.alloc, node, entry),
+            None => Ok(None),
+        }
+    }
+
+    /// Tells the first thing that the node at a place has to tell. Whether there was one. Few entries are no datagrams, so no other
+    /// call makes room for what this one needs.
+    #[inline(never)]
+    fn tell_one(&mut self, line: u32, at: usize) -> Result<bool, NoMemory>
+        ensures told { IfOk result (λ told. told ≡ true → (w : worlds.World) → Stands (course self.old) w
+            → (v : worlds.World) × Stands (course self.new) v × (running.all_entries line at v ≡ running.all_entries line at w)) }
+        ensures none { IfOk result (λ told. told ≡ false → GoesOn (course self.old) (course self.new) (running.all_entries line at)) }
+        ensures left { IfOk result (λ told. told ≡ true → running.entries_at at self.new.nodes.items < running.entries_at at self.old.nodes.items) }
+    {
+        match self.next_entry(at) {
+            Some(entry) => {
+                self.tell_entry(line, at, entry)?;
+                Ok(true)
+            }
+            None => Ok(false),
+        }
     }
 
     /// Fetches the first thing that the node at a place has to tell.

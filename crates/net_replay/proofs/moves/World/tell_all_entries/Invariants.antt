@@ -3,8 +3,8 @@ use Rattle.net_replay.specs.Running.{Stands, all_entries, course, entries_at}
 use Rattle.net_replay.specs.World.{World}
 use Rattle.net_replay.proofs.moves.World.tell_all_entries.Given as goal
 
-abbrev pub invariant-loop-entry : goal.invariant-loop-entry
-invariant-loop-entry l = (w : World) → Stands (course l.fn.self) w → (v : World) × Stands (course l.self) v × (all_entries l.line l.at v ≡ all_entries l.line l.at w)
+abbrev pub invariant-loop-event : goal.invariant-loop-event
+invariant-loop-event l = (w : World) → Stands (course l.fn.self) w → (v : World) × Stands (course l.self) v × (all_entries l.line l.at v ≡ all_entries l.line l.at w)
 
-abbrev pub decreases-loop-entry : goal.decreases-loop-entry
-decreases-loop-entry l = entries_at l.at l.self.nodes.items
+abbrev pub decreases-loop-event : goal.decreases-loop-event
+decreases-loop-event l = entries_at l.at l.self.nodes.items
