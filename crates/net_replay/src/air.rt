@@ -16,11 +16,11 @@ use std::marker::Model;
 pub struct Aired {
     /// The node's number.
     pub sender: u8,
-    pub octets: Octets,
     /// It was written with sequence numbers modulo 128, else modulo 8 or without.
     pub modulo128: bool,
     /// It has gone where it goes, or is lost.
     pub settled: bool,
+    pub octets: Octets,
 }
 
 /// The frames in the air, in the order in which they were put there.

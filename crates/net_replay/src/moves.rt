@@ -2,6 +2,7 @@
 ghost use Rattle.std.specs.Prelude.{◌≡◌, ◌∷◌, [], ℕ, List, true, false, is_some, IfOk, IfSome, OnOk, length, slice_get, ◌<◌};
 ghost use Rattle.std.specs.List.{position_or_len};
 ghost use Rattle.std.specs.Option.{option_map};
+ghost use Rattle.network_file.specs.Channels as hearing;
 ghost use Rattle.node_core.specs.Standing.{entry_of};
 ghost use Rattle.node_core.specs.UserActs.{act_of};
 ghost use Rattle.net_replay.specs.Events.{event_of};
@@ -202,7 +203,8 @@ impl World {
         }
     }
 
-    /// Tells an event.
+    /// Tells an event. There are three for a frame, so that callers take this in, and `put_in_air` too.
+    #[inline(always)]
     pub fn tell(&mut self, line: u32, event: Event) -> Result<(), NoMemory>
         ensures goes { OnOk result (GoesOn (course self.old) (course self.new) (worlds.tell line (event_of event ∷ []))) }
         ensures nodes { self.new.nodes.items ≡ self.old.nodes.items }
@@ -215,6 +217,7 @@ impl World {
 
     /// Puts all frames of the node at a place in the air, where it is on a channel. A frame that is repeated was written as the
     /// frame that came.
+    #[inline(always)]
     pub fn put_in_air(
         &mut self,
         channels: &[Channel],
@@ -226,7 +229,7 @@ impl World {
     {
         if at < self.declared.len() {
             let node = self.declared[at].node;
-            self.put_frames(line, at, node, is_on_air(channels, node), came128)
+            self.put_frames(channels, line, at, node, came128)
         } else {
             Ok(())
         }
@@ -234,16 +237,16 @@ impl World {
 
     fn put_frames(
         &mut self,
+        channels: &[Channel],
         line: u32,
         at: usize,
         node: u8,
-        on_air: bool,
         came128: bool,
     ) -> Result<(), ReplayRefusal>
-        ensures { Runs (course self.old) (course self.new) (running.put_by line at node on_air came128) result }
+        ensures { Runs (course self.old) (course self.new) (running.put_by line at node (hearing.is_on_air channels.now node) came128) result }
     {
         while let Some(written) = self.next_frame(at) {
-            self.put_frame(line, node, on_air, came128, written)?;
+            self.put_frame(channels, line, node, came128, written)?;
         }
         Ok(())
     }
@@ -264,16 +267,16 @@ impl World {
     /// Puts a frame of a node in the air, where the node is on a channel.
     fn put_frame(
         &mut self,
+        channels: &[Channel],
         line: u32,
         node: u8,
-        on_air: bool,
         came128: bool,
         written: Written,
     ) -> Result<(), ReplayRefusal>
-        ensures runs { Runs (course self.old) (course self.new) (running.airs line (running.aired_one on_air node came128 written)) result }
+        ensures runs { Runs (course self.old) (course self.new) (running.airs line (running.aired_one (hearing.is_on_air channels.now node) node came128 written)) result }
         ensures nodes { self.new.nodes.items ≡ self.old.nodes.items }
     {
-        if on_air {
+        if is_on_air(channels, node) {
             let modulo128 = is_modulo128(came128, written.how);
             self.air.put(node, written.octets, modulo128)?;
             let frame = self.air.frames().len() as u32;

@@ -1,4 +1,4 @@
-use Rattle.std.proofs.Common.{◌≡◌, ◌∙◌, ◌++◌, ◌∷◌, [], ap, List, length}
+use Rattle.std.proofs.Common.{◌≡◌, ◌∙◌, ◌++◌, ◌∷◌, [], ap, sym, List, length}
 use Rattle.net_replay.specs.declared.air.Aired.{Aired}
 use Rattle.net_replay.specs.Air.{in_air}
 use Rattle.net_replay.specs.Running.{course}
@@ -17,4 +17,4 @@ returns-in_ok-tell-clause-runs c =
     in
     let frame = length c.frames.result.now in
     let count : frame ≡ length c.put.new.self = ap (λ (fs : List Aired). length fs) c.frames.ensures.value in
-    rw c.if-on_air.true (put_one old (course c.tell.new.self) c.args.line node frame c.args.came128 f c.put.new.self air count c.in_ok-tell.ensures.goes)
+    rw (sym c.is_on_air.ensures ∙ c.if-is_on_air.true) (put_one old (course c.tell.new.self) c.args.line node frame c.args.came128 f c.put.new.self air count c.in_ok-tell.ensures.goes)

@@ -13,10 +13,9 @@ returns-then-at-len c =
     let old = course c.args.self.now in
     let channels = c.args.channels.now in
     let d = c.index.result.now in
-    let runs = rw c.is_on_air.ensures at c.put_frames.ensures in
     runs_as old (course c.put_frames.new.self) (put_by c.args.line c.args.at d.node (is_on_air channels d.node) c.args.came128) (put channels c.args.line c.args.at c.args.came128)
     c.put_frames.result
-    (λ w t. put_is channels c.args.line c.args.at d.node c.args.came128 w (λ (p : Placed) is. ap (λ k. k.node) (declared_is old w c.args.at d p c.index.ensures t is))) runs
+    (λ w t. put_is channels c.args.line c.args.at d.node c.args.came128 w (λ (p : Placed) is. ap (λ k. k.node) (declared_is old w c.args.at d p c.index.ensures t is))) c.put_frames.ensures
 
 pub returns-else-at-len : goal.returns-else-at-len
 returns-else-at-len c = λ w t.
