@@ -5,10 +5,10 @@ use Rattle.std.proofs.lemmas.Bool.Decides.{nat_tests}
 use Rattle.std.proofs.lemmas.List.{append-nil}
 use Rattle.std.specs.List.{flat_map}
 use Rattle.kiss_framing.specs.declared.TheConstants.{FEND, FESC}
-use Rattle.kiss_framing.specs.Stream.{unescaped, pieces, items, is_too_long}
+use Rattle.kiss_framing.specs.Stream.{unescaped, pieces, items, is_too_long, last_piece}
 use Rattle.kiss_framing.specs.Enframing.{escape_of}
-use Rattle.kiss_framing.specs.Laws.{FendParts, FramesReadBack, LongFramesAreTooLong}
-use Rattle.kiss_framing.proofs.Pieces.{cut_of, items_behind}
+use Rattle.kiss_framing.specs.Laws.{FendEnds, FendParts, FramesReadBack, LongFramesAreTooLong}
+use Rattle.kiss_framing.proofs.Pieces.{cut_of, items_behind, last_of_front}
 
 -- what is escaped is got back
 unescaped_one : (b : ℕ) (rest : List ℕ) (fend fesc : Bool) → (b == FEND) ≡ fend → (b == FESC) ≡ fesc →
@@ -34,6 +34,11 @@ one_piece [] = refl
 one_piece (b ∷ bytes) =
     ap pieces (append_assoc (escape_of b) (flat_map escape_of bytes) (FEND ∷ []))
     ∙ one_more b (flat_map escape_of bytes ++ FEND ∷ []) _ _ _ _ refl refl (one_piece bytes)
+
+pub fend_ends : FendEnds
+fend_ends before =
+    let c = cut_of before in
+    ap last_piece (c.ended FEND [] refl) ∙ last_of_front (c.front ++ c.last ∷ []) []
 
 pub fend_parts : FendParts
 fend_parts before after =

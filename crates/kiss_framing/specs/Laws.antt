@@ -1,12 +1,16 @@
 -- What holds of every KISS stream and every frame.
 use Rattle.std.specs.Prelude.{◌≡◌, ℕ, ◌≤◌, ◌<◌, List, [], ◌∷◌, ◌++◌, length}
 use Rattle.kiss_framing.specs.declared.TheConstants.{FEND}
-use Rattle.kiss_framing.specs.Stream.{Frame, Too_long, items, given_by_byte}
+use Rattle.kiss_framing.specs.Stream.{Frame, Too_long, items, given_by_byte, open_piece}
 use Rattle.kiss_framing.specs.Enframing.{framed}
 
 -- a stream that goes on keeps its items, and each byte adds what it gives
 abbrev pub BytesAdd : Type 0
 BytesAdd = (stream : List ℕ) (b : ℕ) → items (stream ++ b ∷ []) ≡ items stream ++ given_by_byte stream b
+
+-- a FEND ends the piece that is open
+abbrev pub FendEnds : Type 0
+FendEnds = (before : List ℕ) → open_piece (before ++ FEND ∷ []) ≡ []
 
 -- behind a FEND a stream begins anew
 abbrev pub FendParts : Type 0

@@ -1,6 +1,6 @@
 //! What holds of every stream and every frame.
 ghost use Rattle.std.specs.Prelude.{◌≡◌};
-ghost use Rattle.kiss_framing.specs.Laws.{BytesAdd, FendParts, FramesReadBack, LongFramesAreTooLong};
+ghost use Rattle.kiss_framing.specs.Laws.{BytesAdd, FendEnds, FendParts, FramesReadBack, LongFramesAreTooLong};
 
 use crate::{FEND, FESC, LONGEST, TFEND, TFESC};
 
@@ -8,6 +8,11 @@ use crate::{FEND, FESC, LONGEST, TFEND, TFESC};
 /// bytes, and the 1,025th byte of a piece that it is too long.
 pub fn bytes_add()
     ensures { BytesAdd }
+{}
+
+/// A `FEND` ends the piece that is open: nothing is held behind it.
+pub fn fend_ends()
+    ensures { FendEnds }
 {}
 
 /// Behind a `FEND` a stream begins anew.
