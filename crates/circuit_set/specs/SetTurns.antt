@@ -1,4 +1,4 @@
--- What the inner functions of a set do, of which a call of `pump` is made.
+-- What the inner functions of a set do, of which a call of `pump` is made. No public clause cites it: not for the reader of a contract.
 use Rattle.std.specs.Prelude.{◌≡◌, ℕ, ◌+◌, ◌<◌, ◌≤◌, Bool, false, List, [], ◌∷◌, ◌++◌, length, map, Option, Some, None, is_some, true}
 use Rattle.ax_address.specs.Callsign.{Callsign}
 use Rattle.route_table.specs.Log.{Item}
