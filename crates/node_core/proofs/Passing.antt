@@ -1,14 +1,14 @@
 -- What needn't be looked at: a frame to another station that goes to no node is no broadcast, and is left alone; where no text waits at a
 -- link, nobody is greeted.
-use Rattle.std.proofs.Common.{◌≡◌, ℕ, refl, sym, ap, Bool, true, false, ◌&&◌, List, [], ◌∷◌, length, take, drop, slice_get, Option, None, ◌∙◌, arith}
+use Rattle.std.proofs.Common.{◌≡◌, ℕ, refl, sym, ap, Bool, true, false, ◌&&◌, List, [], ◌∷◌, length, take, drop, slice_get, Option, None, ◌∙◌}
 use Rattle.std.specs.Prelude.{Result, Ok, Err, IsOkAnd}
-use Rattle.std.proofs.lemmas.List.{length-take, take-append-drop}
+use Rattle.std.proofs.lemmas.List.{take-append-drop}
 use Rattle.ax_address.specs.Callsign.{Callsign}
 use Rattle.ax_address.specs.CallOrder.{same_call}
 use Rattle.ax_frame.specs.declared.head.Head.{Head}
 use Rattle.ax_frame.specs.declared.control.Control.{Control}
 use Rattle.ax_frame.specs.declared.frame.FrameRefusal.{FrameRefusal}
-use Rattle.ax_frame.specs.Frames.{BeginsWith, Frame, HeadWithoutFault, frame}
+use Rattle.ax_frame.specs.Frames.{BeginsWith, Frame, frame}
 use Rattle.ax_frame.specs.Read.{SpelledHeadIsRead, head_in, read_at, read_head_at}
 use Rattle.ax_frame.specs.Reading.{◌>>=◌, frame_at, head_end}
 use Rattle.node_core.specs.Broadcasts.{has_netrom_pid, is_ui, nodes_call}
@@ -37,12 +37,6 @@ passes_by now size octets h n = by (head_end octets) (frame_at size octets)
     by (Ok end) (Err e) q s = refl
     by (Ok end) (Ok parts) q s =
         left_alone now (frame (head_in end octets) parts.0 parts.1 (drop parts.2 octets)) n (ap (λ (x : Head). same_call x.dest.call nodes_call) q ∙ s)
-
--- a head that octets begin with ends where it is said to
-pub ends_there : HeadWithoutFault → (octets : List ℕ) (h : Head) (end : ℕ) → BeginsWith octets h end → head_end octets ≡ Ok end
-ends_there without octets h end begins =
-    let len : length (take end octets) ≡ end = omega (arith, length-take end octets, begins.within) in
-    ap head_end (sym (take-append-drop end octets)) ∙ (without h (take end octets) (drop end octets) begins.spelled ∙ ap Ok len)
 
 -- octets that begin with a head are read as it
 pub head_read : SpelledHeadIsRead → (octets : List ℕ) (h : Head) (end : ℕ) → BeginsWith octets h end → IsOkAnd {T = Head × ℕ} (read_head_at octets) (λ x. x.0 ≡ h)

@@ -78,6 +78,7 @@ impl Station {
     ) -> Result<(), NoMemory>
         requires few { length octets.now ≤ 1023 }
         requires begins { BeginsWith octets.now head at }
+        requires ends { head_end octets.now ≡ Ok at }
         ensures { OnOk result (Goes (receiving.take_from now.0 octets.now head) self.old self.new) }
     {
         let own = self.call();
@@ -99,6 +100,7 @@ impl Station {
     ) -> Result<(), NoMemory>
         requires few { length octets.now ≤ 1023 }
         requires begins { BeginsWith octets.now head at }
+        requires ends { head_end octets.now ≡ Ok at }
         ensures { OnOk result (Goes (receiving.take_by_path now.0 octets.now head (action head.path.items head.dest.call own.now)) self.old self.new) }
     {
         match step(&head.path, &head.dest.call, own) {
@@ -118,7 +120,8 @@ impl Station {
         octets: &[u8],
         now: Moment,
     ) -> Result<(), NoMemory>
-        requires { BeginsWith octets.now head at }
+        requires begins { BeginsWith octets.now head at }
+        requires ends { head_end octets.now ≡ Ok at }
         ensures { OnOk result (Goes (λ n. receiving.take_frame now.0 false (read_at (receiving.modulus_with head.source.call n) octets.now) n) self.old self.new) }
     {
         // By the laws of the spelling the frame has this head, and so goes to no node.
@@ -153,11 +156,10 @@ impl Station {
         octets: &[u8],
         now: Moment,
     ) -> Result<(), NoMemory>
-        requires { BeginsWith octets.now head at }
+        requires begins { BeginsWith octets.now head at }
+        requires ends { head_end octets.now ≡ Ok at }
         ensures { OnOk result (Goes (λ n. receiving.take_frame now.0 mine (read_at (receiving.modulus_with head.source.call n) octets.now) n) self.old self.new) }
     {
-        // By the laws of the spelling the head ends there.
-        ax_frame::laws::head_spelling();
         let is_128 = self.is_128(&head.source.call);
         match read_by(is_128, at, octets) {
             Ok(behind) => {

@@ -11,5 +11,5 @@ returns-then-not-is_to_nodes c = λ n h.
     let head = c.args.head in
     let octets = c.args.octets.now in
     let other : same_call head.dest.call nodes_call ≡ false = sym c.is_to_nodes.ensures ∙ c.if-not-is_to_nodes.true in
-    let read = head_read c.head_spelling.ensures.read octets head c.args.at c.requires in
+    let read = head_read c.head_spelling.ensures.read octets head c.args.at c.requires.begins in
     subst (Holds c.args.self.now) (sym (passes_by c.args.now.0 (modulus_with head.source.call n) octets head n read other)) h
