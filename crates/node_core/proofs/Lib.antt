@@ -58,5 +58,6 @@ pub mod FineLines
 pub mod Faithful
 pub mod Reached
 mod FirstLine
+mod Framing
 mod Seeing
 pub mod Passing

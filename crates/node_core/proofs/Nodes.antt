@@ -108,7 +108,7 @@ entry_fetched s s2 e same n h =
 
 -- ---- KISS bytes
 
-items_both : (now : ℕ) (is js : List Item) (n : State) → after_items now (is ++ js) n ≡ after_items now js (after_items now is n)
+pub items_both : (now : ℕ) (is js : List Item) (n : State) → after_items now (is ++ js) n ≡ after_items now js (after_items now is n)
 items_both now [] js n = refl
 items_both now (i ∷ is) js n = items_both now is js (after_item now i n)
 

@@ -1,14 +1,17 @@
 //! A whole node.
-ghost use Rattle.std.specs.Prelude.{◌≡◌, ◌<◌, ◌≤◌, ◌↔◌, ◌++◌, ℕ, List, IfOk, IfSome, OnOk, OnErr, IsErr, IsErrOf, IsTrue, is_some, length, slice_get, take};
+ghost use Rattle.std.specs.Prelude.{◌≡◌, ◌<◌, ◌≤◌, ◌↔◌, ◌++◌, ℕ, List, IfOk, IfSome, Some, OnOk, OnErr, IsErr, IsErrOf, IsTrue, is_some, length, slice_get, take};
 ghost use Rattle.std.specs.Option.{option_copied, option_map};
 ghost use Rattle.ax_link.specs.State.{count_end};
 ghost use Rattle.link_table.specs.Calls as calls;
 ghost use Rattle.link_table.specs.Standing.{NotNoMemory};
 ghost use Rattle.node_core.specs.Configs.{IsConfig, new_node};
 ghost use Rattle.kiss_framing.specs.Deframing as kiss;
+ghost use Rattle.kiss_framing.specs.Enframing.{framed};
+ghost use Rattle.kiss_framing.specs.Feeding.{IsSmall, handed_out};
+ghost use Rattle.kiss_framing.specs.Stream.{items};
 ghost use Rattle.node_core.specs.Inputs as inputs;
 ghost use Rattle.node_core.specs.Kept.{Takes};
-ghost use Rattle.node_core.specs.Standing.{IsDrained, StandsForSome};
+ghost use Rattle.node_core.specs.Standing.{Goes, IsDrained, StandsForSome};
 ghost use Rattle.node_core.specs.States as states;
 ghost use Rattle.node_core.specs.States.{NodeState};
 
@@ -18,7 +21,7 @@ use crate::{ActDone, ActRefusal, NodeConfig, NodeEntry, UserAct, laws};
 use ax_address::{Call, Path};
 use circuit_l4::EndFacts;
 use circuit_set::CircuitSet;
-use kiss_framing::Deframer;
+use kiss_framing::{Deframer, FEND, KissItem, LONGEST};
 use link_table::{LinkTable, PathRefusal, Written};
 use radio_base::{COUNT_MAX, Moment, NoMemory};
 use route_table::RouteTable;
@@ -27,9 +30,10 @@ use std::marker::Model;
 
 /// A NET/ROM node over AX.25 links: a pure machine.
 ///
-/// How to drive it: hand it the KISS bytes as they come, in pieces of any size (`kiss_bytes`), the time about once a second
-/// (`tick`), and what its user does (`act`), each with its moment in milliseconds. After each of them fetch the frames that
-/// are to be sent (`next_frame`) and what it has to tell (`trace_entry`), both until None.
+/// How to drive it: hand it the KISS bytes as they come, in pieces of any size (`kiss_bytes`), or frames where the channel has
+/// no bytes (`kiss_frame`), the time about once a second (`tick`), and what its user does (`act`), each with its moment in
+/// milliseconds. After each of them fetch the frames that are to be sent (`next_frame`) and what it has to tell (`trace_entry`, or
+/// lent, `first_entry`), both until None.
 ///
 /// Once it has answered NoMemory it is spent, and answers that ever after.
 #[derive(Drop)]
@@ -110,6 +114,22 @@ impl Node {
         self.spent = true;
         laws::settles();
         take_bytes(&mut self.deframer, &mut self.station, bytes, moment(now))?;
+        self.spent = false;
+        Ok(())
+    }
+
+    /// Takes in a frame by its octets, as if it had come as KISS bytes: data on port 0. More than 1,023 octets are no frame.
+    pub fn kiss_frame(&mut self, octets: &[u8], now: Moment) -> Result<(), NoMemory>
+        ensures goes { OnOk result (NodeGoes (inputs.after_bytes now.0 (framed 0 0 octets.now)) self.old self.new) }
+        ensures memory { IsErr result ↔ IsTrue self.new.spent }
+        ensures spent { IsTrue self.old.spent → self.new ≡ self.old }
+    {
+        if self.spent {
+            return Err(NoMemory);
+        }
+        self.spent = true;
+        laws::settles();
+        take_kiss_frame(&mut self.deframer, &mut self.station, octets, moment(now))?;
         self.spent = false;
         Ok(())
     }
@@ -239,13 +259,68 @@ fn take_some(
     ensures moves { IfOk result (λ count. 0 < length bytes.now → 0 < count) }
 {
     let (count, item) = deframer.feed_until_item(bytes);
+    take_given(station, item, now)?;
+    Ok(count)
+}
+
+/// Takes in a frame by its octets, as if it had come as KISS bytes. The `FEND` before it ends what came before, and then nothing is
+/// held, nor is behind the frame: so it needn't be written and read again.
+fn take_kiss_frame(
+    deframer: &mut Deframer,
+    station: &mut Station,
+    octets: &[u8],
+    now: Moment,
+) -> Result<(), NoMemory>
+    requires { StandsForSome station.old }
+    ensures fed { OnOk result ((stream : List ℕ) → kiss.StandsFor deframer.old stream → kiss.StandsFor deframer.new (stream ++ framed 0 0 octets.now)) }
+    ensures taken { OnOk result ((stream : List ℕ) → kiss.StandsFor deframer.old stream → Takes now.0 station.old station.new stream (framed 0 0 octets.now)) }
+    ensures drained { OnOk result (IsDrained station.old → IsDrained station.new) }
+{
+    kiss_framing::laws::fend_ends();
+    kiss_framing::laws::fend_parts();
+    take_given(station, deframer.feed(FEND), now)?;
+    take_given(station, Some(read_back(octets)), now)?;
+    Ok(())
+}
+
+/// Takes in an item and settles, if there is one.
+fn take_given(
+    station: &mut Station,
+    item: Option<KissItem<'_>>,
+    now: Moment,
+) -> Result<(), NoMemory>
+    requires some { StandsForSome station.old }
+    requires small { IfSome item IsSmall }
+    ensures goes { OnOk result (Goes (inputs.after_items now.0 (handed_out item.entry)) station.old station.new) }
+    ensures drained { OnOk result (IsDrained station.old → IsDrained station.new) }
+    ensures some { OnOk result (StandsForSome station.new) }
+{
     match item {
         Some(item) => {
             station.take_item(&item, now)?;
             station.settle(now)?;
-            Ok(count)
+            Ok(())
         }
-        None => Ok(count),
+        None => Ok(()),
+    }
+}
+
+/// The item of a frame's KISS bytes, as data on port 0, by its octets.
+fn read_back(octets: &[u8]) -> KissItem<'_>
+    ensures item { items (framed 0 0 octets.now) ≡ handed_out (Some result) }
+    ensures small { IsSmall result }
+{
+    kiss_framing::laws::frames_read_back();
+    kiss_framing::laws::long_frames();
+    kiss_framing::laws::numbers();
+    if octets.len() < LONGEST {
+        KissItem::Frame {
+            port: 0,
+            command: 0,
+            payload: octets,
+        }
+    } else {
+        KissItem::TooLong
     }
 }
 

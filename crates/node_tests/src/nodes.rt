@@ -73,6 +73,7 @@ enum Trial {
     Round,
     SetUpAgain,
     Repeats,
+    WholeFrame,
 }
 
 /// Makes the nodes N0AAA, N0BBB and N0CCC, of which only the first may have links modulo 128, and tries this on them.
@@ -97,14 +98,19 @@ fn play(rt: &impl Abort, trial: Trial, a: &mut Node, b: &mut Node, c: &mut Node)
         Trial::Round => hear_a_round(rt, a, b),
         Trial::SetUpAgain => set_up_again(rt, a),
         Trial::Repeats => repeat(rt, a, b, c),
+        Trial::WholeFrame => hear_a_whole_frame(rt, a, b, c),
     }
 }
 
 /// Hands a frame to a node, as KISS bytes.
 fn hand(rt: &impl Abort, node: &mut Node, frame: &Written) {
-    let mut bytes: ArrayVec<u8, 2050> = ArrayVec::new();
+    take_in(rt, node, kiss_bytes(frame).as_slice());
+}
+
+fn kiss_bytes(frame: &Written) -> ArrayVec<u8, 2050> {
+    let mut bytes = ArrayVec::new();
     let _ = enframe(0, 0, frame.octets.as_slice(), &mut bytes);
-    take_in(rt, node, bytes.as_slice());
+    bytes
 }
 
 /// Bytes come to a node, which has memory enough.
@@ -333,4 +339,34 @@ fn all_hear(rt: &impl Abort, from: &mut Node, second: &mut Node, third: &mut Nod
         }
         None => rt.abort(),
     }
+}
+
+#[test]
+fn a_whole_frame_ends_what_came_in_bytes(rt: HostRuntime) {
+    on_three_nodes(&rt, rt.alloc(), Trial::WholeFrame);
+}
+
+/// The round of N0AAA comes to N0BBB in KISS bytes, but for the last one, and then that of N0CCC as a whole frame. Both are heard.
+fn hear_a_whole_frame(rt: &impl Abort, a: &mut Node, b: &mut Node, c: &mut Node) {
+    done(rt, a, &UserAct::Round);
+    done(rt, c, &UserAct::Round);
+    hand_open(rt, a, b);
+    expect_hop(rt, b, a_call(), None);
+    hand_whole(rt, c, b);
+    expect_hop(rt, b, a_call(), Some(a_call()));
+    expect_hop(rt, b, c_call(), Some(c_call()));
+}
+
+/// The next frame of a node comes to another one in KISS bytes, but for the last.
+fn hand_open(rt: &impl Abort, from: &mut Node, to: &mut Node) {
+    let frame = from.next_frame().expect(rt, "a frame");
+    let bytes = kiss_bytes(&frame);
+    let (most, _) = bytes.as_slice().split_at(bytes.len().saturating_sub(1));
+    take_in(rt, to, most);
+}
+
+/// The next frame of a node comes to another one whole.
+fn hand_whole(rt: &impl Abort, from: &mut Node, to: &mut Node) {
+    let frame = from.next_frame().expect(rt, "a frame");
+    assert!(rt; to.kiss_frame(frame.octets.as_slice(), NOW) == Ok(()));
 }
