@@ -19,15 +19,14 @@ found frames air at f same h e = ap (λ (fs : List Aired). slice_get fs at) (sym
 pub not_found : (frames air : List Aired) (at : ℕ) → frames ≡ air → false ≡ nat_lt at (length frames) → slice_get air at ≡ None
 not_found frames air at same e = ap (λ (fs : List Aired). slice_get fs at) (sym same) ∙ slice_get_past frames at (ltb-false at (length frames) (sym e))
 
-pub delivered : (old mid new : Course) (channels : List Channel) (line at node : ℕ) (f : Aired) (bytes : List ℕ) (r : Result (Unit {0}) ReplayRefusal)
-    → slice_get old.left.air at ≡ Some f → bytes ≡ kiss_bytes f.octets.items → GoesOn old mid (tell line (Delivered (at + 1) node ∷ []))
-    → Runs mid new (hear channels line node bytes f.modulo128) r → Runs old new (deliver_at channels line at node) r
+pub delivered : (old mid new : Course) (channels : List Channel) (line at node : ℕ) (f : Aired) (r : Result (Unit {0}) ReplayRefusal)
+    → slice_get old.left.air at ≡ Some f → GoesOn old mid (tell line (Delivered (at + 1) node ∷ []))
+    → Runs mid new (hear channels line node (kiss_bytes f.octets.items) f.modulo128) r → Runs old new (deliver_at channels line at node) r
 unfolding deliver_at
-delivered old mid new channels line at node f bytes r is same tells hears =
-    runs_as old new (λ w. hear channels line node bytes f.modulo128 (tell line (Delivered (at + 1) node ∷ []) w)) (λ w. deliver_of channels line at node (slice_get w.air at) w) r
-    (λ w t. ap (λ bs. hear channels line node bs f.modulo128 (tell line (Delivered (at + 1) node ∷ []) w)) same
-    ∙ sym (ap (λ o. deliver_of channels line at node o w) (ap (λ (fs : List Aired). slice_get fs at) (sym t.trace.air) ∙ is)))
-    (runs_then old mid new (tell line (Delivered (at + 1) node ∷ [])) (hear channels line node bytes f.modulo128) r tells hears)
+delivered old mid new channels line at node f r is tells hears =
+    runs_as old new (λ w. hear channels line node (kiss_bytes f.octets.items) f.modulo128 (tell line (Delivered (at + 1) node ∷ []) w)) (λ w. deliver_of channels line at node (slice_get w.air at) w) r
+    (λ w t. sym (ap (λ o. deliver_of channels line at node o w) (ap (λ (fs : List Aired). slice_get fs at) (sym t.trace.air) ∙ is)))
+    (runs_then old mid new (tell line (Delivered (at + 1) node ∷ [])) (hear channels line node (kiss_bytes f.octets.items) f.modulo128) r tells hears)
 
 pub not_delivered : (c : Course) (channels : List Channel) (line at node : ℕ) → slice_get c.left.air at ≡ None → GoesOn c c (deliver_at channels line at node)
 unfolding deliver_at

@@ -1,8 +1,10 @@
 //! The lines at one node: what its user does, and its table; and time, which goes on at all of them.
-ghost use Rattle.std.specs.Prelude.{◌≡◌, ℕ, OnOk, IfOk, length, slice_get};
+ghost use Rattle.std.specs.Prelude.{◌≡◌, ℕ, false, OnOk, IfOk, length, slice_get};
 ghost use Rattle.std.specs.Option.{option_map};
+ghost use Rattle.node_core.specs.Broadcasts.{broadcast_octets};
 ghost use Rattle.node_core.specs.UserActs as acts;
 ghost use Rattle.node_core.specs.UserActs.{act_of};
+ghost use Rattle.nodes_broadcast.specs.Nodes.{view};
 ghost use Rattle.net_replay.specs.Lines as lines;
 ghost use Rattle.net_replay.specs.Running as running;
 ghost use Rattle.net_replay.specs.Running.{GoesOn, Runs, Stands, course};
@@ -13,24 +15,27 @@ use crate::events::{Event, Table};
 use crate::moves::World;
 use crate::reasons::ReplayRefusal;
 use crate::stations::shown;
+use ax_address::Call;
 use network_file::Channel;
 use node_core::UserAct;
+use nodes_broadcast::Nodes;
 use radio_base::{Moment, NoMemory};
 
 impl World {
-    /// The KISS bytes that are held reach the node of that number, of a frame that was written modulo 128 or not.
-    pub fn hear(
+    /// The node of that number hears a broadcast.
+    pub fn hear_broadcast(
         &mut self,
         channels: &[Channel],
         line: u32,
         number: u8,
-        modulo128: bool,
+        call: &Call,
+        nodes: &Nodes,
     ) -> Result<(), ReplayRefusal>
-        ensures { Runs (course self.old) (course self.new) (lines.hear channels.now line number self.old.kiss.items modulo128) result }
+        ensures { Runs (course self.old) (course self.new) (lines.hear channels.now line number (lines.kiss_bytes (broadcast_octets call.now (view nodes.now))) false) result }
     {
         let at = self.place_of(number);
-        self.kiss_reaches(line, at)?;
-        self.put_in_air(channels, line, at, modulo128)
+        self.broadcast_reaches(line, at, call, nodes)?;
+        self.put_in_air(channels, line, at, false)
     }
 
     /// A node's user acts, or it is told why that isn't done.

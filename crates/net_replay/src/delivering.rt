@@ -1,12 +1,12 @@
 //! The lines on frames: they go to nodes, are lost, or go where they go by themselves.
 ghost use Rattle.std.specs.Prelude.{◌≡◌, ◌∷◌, [], Some, OnOk, filter, slice_get};
 ghost use Rattle.network_file.specs.Channels.{can_hear, hearers};
+ghost use Rattle.net_replay.specs.declared.air.Aired.{Aired};
 ghost use Rattle.net_replay.specs.Lines as lines;
 ghost use Rattle.net_replay.specs.Running.{GoesOn, Runs, course};
 
 use crate::air::place_of_frame;
 use crate::events::Event;
-use crate::kiss::put_kiss;
 use crate::moves::World;
 use crate::reasons::ReplayRefusal;
 use network_file::{Channel, heard_by};
@@ -83,14 +83,29 @@ impl World {
     {
         match self.air.frames().get(at) {
             Some(frame) => {
-                put_kiss(frame.octets.as_slice(), &mut self.kiss);
                 let modulo128 = frame.modulo128;
                 let frame = (at + 1) as u32;
                 self.tell(line, Event::Delivered { frame, node })?;
-                self.hear(channels, line, node, modulo128)
+                self.hear_frame(channels, line, at, node, modulo128)
             }
             None => Ok(()),
         }
+    }
+
+    /// The node of that number hears the frame at a place, which was written modulo 128 or not.
+    fn hear_frame(
+        &mut self,
+        channels: &[Channel],
+        line: u32,
+        frame_at: usize,
+        number: u8,
+        modulo128: bool,
+    ) -> Result<(), ReplayRefusal>
+        ensures { (f : Aired) → slice_get self.old.air frame_at ≡ Some f → Runs (course self.old) (course self.new) (lines.hear channels.now line number (lines.kiss_bytes f.octets.items) modulo128) result }
+    {
+        let at = self.place_of(number);
+        self.frame_reaches(line, frame_at, at)?;
+        self.put_in_air(channels, line, at, modulo128)
     }
 
     /// So many times, the oldest unsettled frame is settled and goes to each node that hears its sender.

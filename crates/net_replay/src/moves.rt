@@ -5,7 +5,11 @@ ghost use Rattle.std.specs.Option.{option_map};
 ghost use Rattle.network_file.specs.Channels as hearing;
 ghost use Rattle.node_core.specs.Standing.{entry_of};
 ghost use Rattle.node_core.specs.UserActs.{act_of};
+ghost use Rattle.node_core.specs.Broadcasts.{broadcast_octets};
+ghost use Rattle.nodes_broadcast.specs.Nodes.{view};
+ghost use Rattle.net_replay.specs.declared.air.Aired.{Aired};
 ghost use Rattle.net_replay.specs.Events.{event_of};
+ghost use Rattle.net_replay.specs.Lines.{kiss_bytes};
 ghost use Rattle.net_replay.specs.Running as running;
 ghost use Rattle.net_replay.specs.Running.{GoesOn, IsAnswerTo, Runs, Stands, course};
 ghost use Rattle.net_replay.specs.Starting.{has_number};
@@ -15,12 +19,13 @@ use crate::air::Air;
 use crate::answer::{Answer, answer_of};
 use crate::ends::Ends;
 use crate::events::{Event, NumberedEvent, datagram_event, entry_event};
-use crate::kiss::KissBytes;
 use crate::places::place_of;
 use crate::reasons::ReplayRefusal;
+use ax_address::Call;
 use link_table::{Written, WrittenAs};
 use network_file::{Channel, Declaration, is_on_air};
-use node_core::{Node, NodeEntry, UserAct};
+use node_core::{Node, NodeEntry, UserAct, broadcast_frame};
+use nodes_broadcast::Nodes;
 use radio_base::{Moment, NoMemory};
 use std::alloc::Global;
 
@@ -34,8 +39,6 @@ pub struct World {
     pub air: Air,
     pub ends: Ends,
     pub events: Vec<NumberedEvent>,
-    /// The frame that reaches a node, as KISS bytes: the same room serves one frame after another.
-    pub kiss: KissBytes,
 }
 
 impl World {
@@ -46,12 +49,39 @@ impl World {
         place_of(&self.declared, number)
     }
 
-    /// The KISS bytes that are held reach the node at a place, and its entries are told. Its frames stay with it.
-    pub fn kiss_reaches(&mut self, line: u32, at: usize) -> Result<(), NoMemory>
-        ensures { OnOk result (GoesOn (course self.old) (course self.new) (worlds.reach line at (worlds.Bytes self.old.kiss.items))) }
+    /// The frame at a place in the air reaches the node at a place, and its entries are told. Its frames stay with it.
+    pub fn frame_reaches(&mut self, line: u32, frame_at: usize, at: usize) -> Result<(), NoMemory>
+        ensures { (f : Aired) → slice_get self.old.air frame_at ≡ Some f → OnOk result (GoesOn (course self.old) (course self.new) (worlds.reach line at (worlds.Bytes (kiss_bytes f.octets.items)))) }
+    {
+        match self.air.frames().get(frame_at) {
+            Some(frame) => {
+                if at < self.nodes.len() {
+                    self.nodes[at].kiss_frame(frame.octets.as_slice(), self.time)?;
+                    self.tell_entries(line, at)?;
+                    Ok(())
+                } else {
+                    Ok(())
+                }
+            }
+            None => Ok(()),
+        }
+    }
+
+    /// A broadcast reaches the node at a place, and its entries are told. Its frames stay with it. It stands by itself, so that only a
+    /// line that is one makes room for its frame.
+    #[inline(never)]
+    pub fn broadcast_reaches(
+        &mut self,
+        line: u32,
+        at: usize,
+        call: &Call,
+        nodes: &Nodes,
+    ) -> Result<(), NoMemory>
+        ensures { OnOk result (GoesOn (course self.old) (course self.new) (worlds.reach line at (worlds.Bytes (kiss_bytes (broadcast_octets call.now (view nodes.now)))))) }
     {
         if at < self.nodes.len() {
-            self.nodes[at].kiss_bytes(self.kiss.as_slice(), self.time)?;
+            let octets = broadcast_frame(call, nodes);
+            self.nodes[at].kiss_frame(octets.as_slice(), self.time)?;
             self.tell_entries(line, at)?;
             Ok(())
         } else {
@@ -208,7 +238,7 @@ impl World {
     pub fn tell(&mut self, line: u32, event: Event) -> Result<(), NoMemory>
         ensures goes { OnOk result (GoesOn (course self.old) (course self.new) (worlds.tell line (event_of event ∷ []))) }
         ensures nodes { self.new.nodes.items ≡ self.old.nodes.items }
-        ensures kiss { self.new.kiss.items ≡ self.old.kiss.items }
+        ensures air { self.new.air ≡ self.old.air }
     {
         self.ends.note(&event)?;
         self.events.push(NumberedEvent { line, event })?;

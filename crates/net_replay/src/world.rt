@@ -9,7 +9,6 @@ ghost use Rattle.net_replay.specs.Running.{GoesOn, Runs, course};
 ghost use Rattle.net_replay.specs.Running as running;
 ghost use Rattle.net_replay.specs.World as worlds;
 
-use crate::kiss::put_broadcast;
 use crate::moves::World;
 use crate::reasons::ReplayRefusal;
 use crate::stations::is_callsign;
@@ -46,8 +45,7 @@ impl World {
         let channels = network.channels();
         match instruction {
             Instruction::Heard { node, call, nodes } => {
-                put_broadcast(call, nodes.as_nodes(), &mut self.kiss);
-                self.hear(channels, line, *node, false)
+                self.hear_broadcast(channels, line, *node, call, nodes.as_nodes())
             }
             Instruction::Lock {
                 node,

@@ -1,9 +1,8 @@
-use Rattle.std.proofs.Common.{◌≡◌, ◌∙◌, [], ◌∷◌, subst, sym}
-use Rattle.std.specs.Prelude.{None, Some, slice_get}
+use Rattle.std.proofs.Common.{◌∙◌, [], ◌∷◌}
 use Rattle.net_replay.specs.Events.{event_of}
-use Rattle.net_replay.specs.Running.{Stands, change, course, fetched_entry, first_entry}
+use Rattle.net_replay.specs.Running.{change, fetched_entry}
 use Rattle.net_replay.specs.World.{World, tell}
-use Rattle.net_replay.proofs.Entering.{no_entry, one_event}
+use Rattle.net_replay.proofs.Entering.{one_event}
 use Rattle.net_replay.proofs.moves.World.tell_all_entries.Goals as goal
 
 pub loop-event-preserved-in_ok-tell-in-Some : goal.loop-event-preserved-in_ok-tell-in-Some
