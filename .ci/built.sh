@@ -1,0 +1,43 @@
+# Sourced, with `top` naming the repository: what stands in out/, and whether it is of today's sources.
+program=$top/out/wursthatch
+
+# Whether a proved program is kept of which no source is newer. ./wursthatch asks this before each run, so it is done by the shell
+# alone. What a program does hangs on src/ of its crates: an edit of specs/ or proofs/ alone calls for no other program.
+is_built() {
+    [ -x "$program" ] && [ -r "$top/out/sources" ] || return 1
+    . "$top/out/sources"
+    for file in $sources; do
+        [ "$top/$file" -nt "$program" ] && return 1
+    done
+    return 0
+}
+
+# The crates that the program stands on, and its own.
+program_crates() {
+    awk -F '[: ]+' '
+        !/^#/ && NF { named[$1] = 1; for (nth = 2; nth <= NF; nth++) below[$1] = below[$1] " " $nth }
+        END {
+            todo = "wursthatch"
+            while (split(todo, crates, " ")) {
+                todo = ""
+                for (nth in crates) if (crates[nth] in named && !(crates[nth] in is_used)) {
+                    is_used[crates[nth]] = 1
+                    print crates[nth]
+                    todo = todo below[crates[nth]]
+                }
+            }
+        }' "$top/crates.txt" | sort
+}
+
+# sum_of_sources FOLDER: one number for all that is proved of the program in that copy of the repository, and for the kit.
+sum_of_sources() {
+    (
+        crates=$(program_crates)
+        rt version
+        cd "$1" || exit 1
+        for crate in $crates; do
+            grep "^$crate *:" crates.txt
+            find "crates/$crate/src" "crates/$crate/specs" "crates/$crate/proofs" -type f 2>/dev/null | LC_ALL=C sort | xargs -r sha256sum
+        done
+    ) | sha256sum | cut -d ' ' -f 1
+}
