@@ -36,7 +36,7 @@ sum_of_sources() {
         rt version
         cd "$1" || exit 1
         for crate in $crates; do
-            grep "^$crate[ :]" crates.txt
+            grep "^${crate}[ :]" crates.txt
             find "crates/$crate/src" "crates/$crate/specs" "crates/$crate/proofs" -type f 2>/dev/null | LC_ALL=C sort | xargs -r sha256sum
         done
     ) | sha256sum | cut -d ' ' -f 1
