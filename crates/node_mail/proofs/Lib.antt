@@ -1,0 +1,9 @@
+pub mod Calls
+pub mod Each
+pub mod Letters
+pub mod Queues
+pub mod Mailboxes
+pub mod Spelling
+pub mod Holding
+pub mod Steps
+pub mod Once
