@@ -61,7 +61,8 @@ number_for queued posted text =
     else Ok (posted + 1)
 
 abbrev pub post_at : Lists → Callsign → List ℕ → Result ℕ PostRefusal
-post_at s dest text = if same_call dest s.own then Err refusal.Own else number_for (length s.queued) (length s.posted) text
+post_at s dest text =
+    if same_call dest s.own then Err refusal.Own else number_for (length s.queued) (length s.posted) text
 
 abbrev pub with_letter : Lists → Letter → Lists
 with_letter s l = record s { posted = s.posted ++ l ∷ []; queued = s.queued ++ l ∷ [] }
@@ -105,7 +106,8 @@ stored_after stored from text (Stored number to) = stored ++ mail_of from number
 stored_after stored from text _ = stored
 
 abbrev pub kept_after : Lists → Callsign → List ℕ → Heard → Lists
-kept_after s from text heard = record s { queued = queued_after s.queued heard; stored = stored_after s.stored from text heard }
+kept_after s from text heard =
+    record s { queued = queued_after s.queued heard; stored = stored_after s.stored from text heard }
 
 -- what is answered
 abbrev pub answer_to : Heard → Option Wire

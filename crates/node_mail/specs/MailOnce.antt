@@ -18,6 +18,10 @@ numbers_from origin ms = map (λ (m : Mail). m.number) (filter (λ (m : Mail). s
 abbrev pub posted_as : Mail → Callsign → Letter
 posted_as m dest = record { number = m.number; to = m.to; dest = dest; text = m.text.items }
 
+-- where the stored mail is from `origin`, it was posted there so, for `dest`
+abbrev pub WasPosted : Callsign → Callsign → Lists → Mail → Type 0
+WasPosted origin dest from m = m.origin ≡ origin → letter_of m.number from.posted ≡ Some (posted_as m dest)
+
 -- it is queued, or stored
 abbrev pub IsKept : Callsign → Lists → Lists → Letter → Type 0
 IsKept origin from at l = (letter_of l.number from.queued ≡ Some l) ⊎ (is_stored at.stored origin l.number ≡ true)
@@ -27,14 +31,17 @@ pub record MailOnce (origin dest : Callsign) (from at : Lists) : Type 0 where
   -- the mails that `dest` has stored from `origin` have different numbers,
   pub different : AllDiffer (numbers_from origin at.stored)
   -- and each has the user and the text of the mail that `origin` has posted under that number for `dest`
-  pub as_posted : AllByRecursion (λ (m : Mail). m.origin ≡ origin → letter_of m.number from.posted ≡ Some (posted_as m dest)) at.stored
+  pub as_posted : AllByRecursion (WasPosted origin dest from) at.stored
   -- each mail that `origin` has posted for `dest` is queued there or stored here
   pub kept : AllByRecursion (λ (l : Letter). l.dest ≡ dest → IsKept origin from at l) from.posted
 
 -- of all nodes with a store
 abbrev pub HoldsMailOnce : MailRun → Type 0
 HoldsMailOnce w =
-    (origin dest : Callsign) (from at : Lists) → w.store_of origin ≡ Some from → w.store_of dest ≡ Some at → MailOnce origin dest from at
+    (origin dest : Callsign) (from at : Lists) →
+    w.store_of origin ≡ Some from → w.store_of dest ≡ Some at → MailOnce origin dest from at
 
 abbrev pub MailIsStoredOnce : Type 0
-MailIsStoredOnce = (has_store : Callsign → Bool) (events : List Event) → AllByRecursion IsEvent events → HoldsMailOnce (run events (begin has_store))
+MailIsStoredOnce =
+    (has_store : Callsign → Bool) (events : List Event) →
+    AllByRecursion IsEvent events → HoldsMailOnce (run events (begin has_store))

@@ -1,4 +1,5 @@
--- Runs of nodes that hand mail to each other: whatever is written may be heard, often, late, out of order, or never. Own profile.
+-- Runs of nodes that hand mail to each other: whatever is written may be heard, often, late, out of order, or never.
+-- Own profile.
 use Rattle.std.specs.Prelude.{ℕ, List, [], ◌∷◌, ◌++◌, slice_get, Bool, Option, Some, None, if◌then◌else◌}
 use Rattle.ax_address.specs.Callsign.{Callsign, IsCallsign}
 use Rattle.ax_address.specs.CallOrder.{same_call}
@@ -11,7 +12,8 @@ pub record Written : Type 0 where
   pub addressee : Callsign
   pub octets : List ℕ
 
--- where a run has come to: each node with the mail that it keeps, None for a node without a store, and all messages that were ever written
+-- where a run has come to: each node with the mail that it keeps, None for a node without a store, and all messages
+-- that were ever written
 pub record MailRun : Type 0 where
   pub store_of : Callsign → Option Lists
   pub written : List Written
@@ -38,7 +40,8 @@ abbrev pub with_store : MailRun → Callsign → Lists → MailRun
 with_store w node s = record w { store_of = λ c. if same_call c node then Some s else w.store_of c }
 
 abbrev pub with_written : MailRun → Callsign → Callsign → List ℕ → MailRun
-with_written w writer addressee octets = record w { written = w.written ++ record { writer = writer; addressee = addressee; octets = octets } ∷ [] }
+with_written w writer addressee octets =
+    record w { written = w.written ++ record { writer = writer; addressee = addressee; octets = octets } ∷ [] }
 
 abbrev pub posts : MailRun → Callsign → Callsign → Callsign → List ℕ → Option Lists → MailRun
 posts w node to dest text None = w
@@ -62,7 +65,8 @@ answers w m answered (Some wire) = if answered then with_written w m.addressee m
 
 abbrev pub hears_by : MailRun → Bool → Written → Option Lists → MailRun
 hears_by w answered m None = w
-hears_by w answered m (Some s) = answers (with_store w m.addressee (hear_step s m.writer m.octets)) m answered (answer_to (hear_at s m.writer m.octets))
+hears_by w answered m (Some s) =
+    answers (with_store w m.addressee (hear_step s m.writer m.octets)) m answered (answer_to (hear_at s m.writer m.octets))
 
 abbrev pub hears : MailRun → Bool → Option Written → MailRun
 hears w answered None = w

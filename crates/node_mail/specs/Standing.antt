@@ -1,4 +1,5 @@
--- What a store keeps stands for the lists: of the mails that were posted it keeps the number of the last, and those that are queued.
+-- What a store keeps stands for the lists: of the mails that were posted it keeps those that are queued, and the number
+-- of the last.
 use Rattle.std.specs.Prelude.{ℕ, ◌≡◌, List, [], length, Option, Some, None, Result, Err, IsOk}
 use Rattle.ax_address.specs.Callsign.{Callsign}
 use Rattle.node_mail.specs.Wires.{Wire, Spells, wire_octets}
@@ -43,4 +44,5 @@ octets_in (Some wire) = wire_octets wire
 
 -- Cited by no public clause: what is kept after something was heard.
 abbrev pub view_after : StoreView → Callsign → List ℕ → Heard → StoreView
-view_after v from text heard = record v { queued = queued_after v.queued heard; stored = stored_after v.stored from text heard }
+view_after v from text heard =
+    record v { queued = queued_after v.queued heard; stored = stored_after v.stored from text heard }

@@ -1,4 +1,4 @@
--- The messages by which nodes hand mail over, each one message of a circuit: a mail, and the receipt for one. Own profile.
+-- The messages by which nodes hand mail over, each one message of a circuit: a mail, and a receipt. Own profile.
 use Rattle.std.specs.Prelude.{ℕ, ◌≡◌, ◌≤◌, List, [], ◌∷◌, ◌++◌, length, take, drop, Bool, ◌&&◌, ◌==◌, nat_le, Option, Some, None, Result, Ok, Err, if◌then◌else◌}
 use Rattle.std.specs.Int.{w64, to_be_bytes, from_be_bytes}
 use Rattle.radio_base.specs.declared.modulus.TheConstants.{COUNT_MAX}
@@ -6,7 +6,8 @@ use Rattle.ax_address.specs.Callsign.{Callsign, IsCallsign}
 use Rattle.ax_address.specs.NetCalls.{SpellsNetCall, net_call_at, net_call_octets}
 use Rattle.ax_address.specs.declared.octets.AddressRefusal.{AddressRefusal}
 
--- a mail, with the number that it has at the node where it was posted, its user and its text; and a receipt for the mail of a number
+-- a mail, with the number that it has at the node where it was posted, its user and its text; and a receipt for the
+-- mail of a number
 pub data Wire : Type 0 where
   Carries : (number : ℕ) → (to : Callsign) → (text : List ℕ) → Wire
   Receipt : (number : ℕ) → Wire
@@ -32,8 +33,8 @@ pub record SpellsNumber (number : ℕ) (octets : List ℕ) : Type 0 where
   pub eight : length octets ≡ 8
   pub value : from_be_bytes w64 octets ≡ number
 
--- The octets are the mail: the tag, its number, its user and its text. The user's call is spelled as in a datagram: of its last octet
--- bits 4 to 1 alone count.
+-- The octets are the mail: the tag, its number, its user and its text. The user's call is spelled as in a datagram: of
+-- its last octet bits 4 to 1 alone count.
 pub record SpellsMail (number : ℕ) (to : Callsign) (text octets : List ℕ) : Type 0 where
   pub digits : List ℕ
   pub spells_number : SpellsNumber number digits
@@ -86,8 +87,8 @@ receipt_at rest =
     then Some (Receipt (from_be_bytes w64 rest))
     else None
 
--- The message that the octets are, and None where they are none. By the law of `wire_spelling` what spells a message is read as it, and by
--- a clause of `Store::hear` what is read as a message spells it.
+-- The message that the octets are, and None where they are none. By the law of `wire_spelling` what spells a message is
+-- read as it, and by a clause of `Store::hear` what is read as a message spells it.
 unfoldable pub wire_at : List ℕ → Option Wire
 wire_at [] = None
 wire_at (tag ∷ rest) = if tag == mail_tag then mail_at rest else (if tag == receipt_tag then receipt_at rest else None)

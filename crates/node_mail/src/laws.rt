@@ -5,8 +5,8 @@ ghost use Rattle.node_mail.specs.Wires.{SpelledWireIsRead, WrittenWireSpellsIt};
 
 use crate::{MAX_MAIL, MAX_QUEUED, MAX_STORED};
 
-/// Octets that spell a message are read as it, and so spell no other one. What is written for a message spells it. (That what
-/// is read is spelled so is a clause of `Store::hear`.)
+/// Octets that spell a message are read as it, and so spell no other one. What is written for a message spells it.
+/// (That what is read is spelled so is a clause of `Store::hear`.)
 pub fn wire_spelling()
     ensures read { SpelledWireIsRead }
     ensures written { WrittenWireSpellsIt }
@@ -14,9 +14,10 @@ pub fn wire_spelling()
     ax_address::laws::net_call_spelling();
 }
 
-/// In each run, whatever is heard, in whatever order and how often, and whatever nodes without a store write: of any two nodes
-/// with a store, what one has stored from the other has different numbers, and each has the user and the text of the mail that
-/// was posted there under that number for it; and each mail that was posted there for it is queued there or stored here.
+/// In each run, whatever is heard, in whatever order and how often, and whatever nodes without a store write: of any
+/// two nodes with a store, what one has stored from the other has different numbers, and each has the user and the text
+/// of the mail that was posted there under that number for it; and each mail that was posted there for it is queued
+/// there or stored here. That mail arrives isn't promised.
 pub fn mail_once()
     ensures { MailIsStoredOnce }
 {

@@ -1,8 +1,8 @@
-//! Mail that a node keeps for users at other nodes and hands over by circuits. Circuits may fail and mail be offered again: it
-//! is stored once. Own profile.
+//! Mail that a node keeps for users at other nodes and hands over by circuits. Circuits may fail and mail be offered
+//! again: it is stored once. Own profile.
 //!
-//! A `Store` is the mail of one node. It knows no circuits: whoever drives it writes what `Store::wire` gives to the circuits of
-//! the node, and hands it what comes by them with `Store::hear`.
+//! A `Store` is the mail of one node. It knows no circuits: whoever drives it writes what `Store::wire` gives to the
+//! node's circuits, and hands what comes by them to `Store::hear`.
 #![tactic(auto)]
 
 mod hearing;

@@ -22,7 +22,8 @@ fn start_of(mails: &[QueuedMail], number: u64) -> usize
     requires { Rises (letters mails.now) }
     ensures bound { result ≤ length mails.now }
     ensures before { (i : ℕ) (d : Seen) → i < result → (slice_index_or mails.now i d).number < number }
-    ensures after { (i : ℕ) (d : Seen) → result ≤ i → i < length mails.now → number ≤ (slice_index_or mails.now i d).number }
+    ensures after { (i : ℕ) (d : Seen) → result ≤ i → i < length mails.now →
+        number ≤ (slice_index_or mails.now i d).number }
 {
     mails.partition_point(|mail| mail.number < number)
 }

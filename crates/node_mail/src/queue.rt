@@ -84,7 +84,8 @@ impl Queue {
         requires is_number { IsNumber number }
         requires is_text { IsText text.now }
         ensures last { OnOk result (self.new.last ≡ number) }
-        ensures letters { OnOk result (self.new.letters ≡ self.old.letters ++ new_letter number to.now dest.now text.now ∷ []) }
+        ensures letters { let letter = new_letter number to.now dest.now text.now in
+            OnOk result (self.new.letters ≡ self.old.letters ++ letter ∷ []) }
         ensures err { OnErr result (self.new ≡ self.old) }
     {
         let text = Vec::from_slice(alloc, text)?;

@@ -10,15 +10,16 @@ use radio_base::NoMemory;
 use std::alloc::Global;
 use std::marker::Model;
 
-/// The mail that a node keeps: what was posted there for users at other nodes, until it is settled, and what is stored there for
-/// its own users.
+/// The mail that a node keeps: what was posted there for users at other nodes, until it is settled, and what is stored
+/// there for its own users.
 ///
-/// It stands for lists (`StandsFor`): all mails that were ever posted, those that are queued, and those that are stored.
+/// It stands for three lists (`StandsFor`): all mails that were ever posted, those that are queued, and those that are
+/// stored. How to drive it:
 ///
 /// - A user's mail comes in by `post`.
-/// - What is queued for a node (`queued`) is written to a circuit with it, as `wire` gives it; as often as one likes.
-/// - What comes by a circuit from a node is handed to `hear`, and what that puts into `out` is written back.
-/// - `stored` has the mails for the users of this node; `counts` says how many there are.
+/// - What is queued for a node (`queued`) is written to a circuit with that node as `wire` gives it, as often as need be.
+/// - What comes by a circuit is handed to `hear`, with the node that has written it; `out` is then written back.
+/// - `stored` has the mails for the users of this node; `counts` says how many are queued and stored.
 #[derive(Drop)]
 pub struct Store {
     alloc: Global,
@@ -58,8 +59,9 @@ impl Store {
 
     /// Posts a mail for the user `to` at the node `dest`. Its number: 1 for the first, and then one more each.
     ///
-    /// Refused, in this order: `Own` where `dest` is this node, `Empty`, `TooLong` above 1,024 octets, `Full` where 1,000 mails are
-    /// queued, `Exhausted` where the last number was 2^62, `NoMemory`. After a refusal nothing is changed, and no number was given.
+    /// Refused, in this order: `Own` where `dest` is this node, `Empty`, `TooLong` above 1,024 octets, `Full` where
+    /// 1,000 mails are queued, `Exhausted` where the last number was 2^62, `NoMemory`. After a refusal nothing is
+    /// changed, and no number was given.
     pub fn post(&mut self, to: &Call, dest: &Call, text: &[u8]) -> Result<u64, PostRefusal>
         ensures answer { (s : Lists) → StandsFor self.old s → IsPostAnswer result (lists.post_at s dest.now text.now) }
         ensures posted { OnOk result ((s : Lists) → StandsFor self.old s →
@@ -95,26 +97,30 @@ impl Store {
         (self.queue.len(), self.mailbox.len())
     }
 
-    /// Writes the message that offers the queued mail of a number. False where no mail of that number is queued, and `out` is as it was
-    /// then.
+    /// Writes the message that offers the queued mail of a number. False where no mail of that number is queued: then
+    /// `out` is as it was.
     pub fn wire(&self, number: u64, out: &mut Message) -> bool
         ensures answer { (s : Lists) → StandsFor self.now s → result ≡ is_some (lists.letter_of number s.queued) }
         ensures message { (s : Lists) → StandsFor self.now s →
             out.new.items ≡ octets_or out.old.items (lists.letter_of number s.queued) }
 
         // What is written spells the mail.
-        ensures spelled { (s : Lists) → StandsFor self.now s → SpellsOffer (lists.letter_of number s.queued) out.new.items }
+        ensures spelled { (s : Lists) → StandsFor self.now s →
+            SpellsOffer (lists.letter_of number s.queued) out.new.items }
     {
         self.queue.wire(number, out)
     }
 
-    /// Takes in a message that the node `from` has written, and puts the answer to it into `out`, which is empty where there is none.
+    /// Takes in what the node `from` has written, and puts the answer to it into `out`, which is empty where there is
+    /// none. After `NoMemory` nothing is changed, nor is `out`.
     ///
-    /// A mail that is stored already is `Again`, by one look-up. After `NoMemory` nothing is changed, nor is `out`.
+    /// A mail that is stored already is one look-up by hash, a receipt a search by halves.
     pub fn hear(&mut self, from: &Call, bytes: &[u8], out: &mut Message) -> Result<Heard, NoMemory>
-        ensures answer { IfOk result (λ heard. (s : Lists) → StandsFor self.old s → heard ≡ lists.hear_at s from.now bytes.now) }
+        ensures answer { IfOk result (λ heard. (s : Lists) → StandsFor self.old s →
+            heard ≡ lists.hear_at s from.now bytes.now) }
         ensures message { IfOk result (λ heard. out.new.items ≡ octets_in (lists.answer_to heard)) }
-        ensures heard { OnOk result ((s : Lists) → StandsFor self.old s → StandsFor self.new (lists.hear_step s from.now bytes.now)) }
+        ensures heard { OnOk result ((s : Lists) → StandsFor self.old s →
+            StandsFor self.new (lists.hear_step s from.now bytes.now)) }
 
         // What is read as a message spells it.
         ensures spelled { ReadWireIsSpelled bytes.now }
