@@ -1,6 +1,7 @@
 //! Stores at their limits: 1,000 mails queued, 4,096 stored, each of 1,024 octets.
 use crate::stores::{
-    call, expect_counts, expect_heard, expect_posted, expect_queued, expect_wire, store,
+    call, expect_counts, expect_heard, expect_posted, expect_queued, expect_stored, expect_wire,
+    store,
 };
 use ax_address::Call;
 use node_mail::{Heard, PostRefusal, Store};
@@ -72,5 +73,6 @@ fn four_thousand_and_ninety_six_mails_are_stored(rt: HostRuntime) {
         expect_long(&rt, &mut b, number, Heard::Again { number });
     }
     expect_counts(&rt, &b, (0, 4096));
-    assert!(rt; b.stored(4095).is_some() && b.stored(4096).is_none());
+    expect_stored(&rt, &b, 4095, true);
+    expect_stored(&rt, &b, 4096, false);
 }

@@ -2,7 +2,8 @@
 use crate::stores::{
     call, expect_counts, expect_heard, expect_posted, expect_queued, expect_wire, store,
 };
-use node_mail::{Heard, PostRefusal, Store};
+use ax_address::Call;
+use node_mail::{Heard, Mail, PostRefusal, Store};
 use std::process::Abort;
 
 /// Mail 1 for K1ABC: `hello`.
@@ -11,10 +12,24 @@ const HELLO: &[u8; 21] = b"\x4D\x00\x00\x00\x00\x00\x00\x00\x01\x96\x62\x82\x84\
 /// The receipt for mail 1.
 const RECEIPT: &[u8; 9] = b"\x41\x00\x00\x00\x00\x00\x00\x00\x01";
 
+fn is_hello(mail: &Mail, origin: &Call, to: &Call) -> bool {
+    mail.origin == *origin
+        && mail.number == 1
+        && mail.to == *to
+        && mail.text.as_slice() == b"hello".as_slice()
+}
+
+fn stores_hello(store: &Store, nth: usize, origin: &Call, to: &Call) -> bool {
+    match store.stored(nth) {
+        Some(mail) => is_hello(mail, origin, to),
+        None => false,
+    }
+}
+
 fn expect_hello(rt: &impl Abort, store: &Store, nth: usize, origin: &[u8]) {
-    let mail = store.stored(nth).expect(rt, "a mail");
-    assert!(rt; mail.origin == call(rt, origin) && mail.number == 1);
-    assert!(rt; mail.to == call(rt, b"K1ABC") && mail.text.as_slice() == b"hello".as_slice());
+    let (origin, to) = (call(rt, origin), call(rt, b"K1ABC"));
+    let stores = stores_hello(store, nth, &origin, &to);
+    assert!(rt; stores, "{nth}");
 }
 
 #[test]

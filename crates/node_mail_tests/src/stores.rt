@@ -55,3 +55,7 @@ pub fn expect_queued(rt: &impl Abort, store: &Store, nth: usize, wanted: Option<
 pub fn expect_counts(rt: &impl Abort, store: &Store, wanted: (usize, usize)) {
     assert!(rt; store.counts() == wanted, "{wanted:?}");
 }
+
+pub fn expect_stored(rt: &impl Abort, store: &Store, nth: usize, wanted: bool) {
+    assert!(rt; store.stored(nth).is_some() == wanted, "{nth}");
+}
