@@ -3,11 +3,13 @@
 //!
 //! - `links MODULO PEERS COUNT` hands COUNT datagrams from one table of links to PEERS others, in turn;
 //! - `circuits CIRCUITS COUNT` writes COUNT messages over CIRCUITS circuits of one node with another, in turn;
-//! - `node HELD COUNT` hands COUNT frames to a node that holds HELD links and as many ends of circuits.
+//! - `node HELD COUNT` hands COUNT frames to a node that holds HELD links and as many ends of circuits;
+//! - `mail new|again|receipts HELD ROUNDS` has a store of up to HELD mails hear ROUNDS times as many of them, or their receipts.
 #![tactic(auto)]
 
 mod circuits;
 mod links;
+mod mail;
 mod node;
 mod words;
 
@@ -28,7 +30,7 @@ fn main(rt: HostRuntime) -> io::Result<ExitCode> {
     let words = words::given(&rt, alloc)?;
     let Some(job) = job_of(&words) else {
         eprintln!(rt;
-            "usage: links 8|128 PEERS COUNT | circuits CIRCUITS COUNT | node HELD COUNT"
+            "usage: links 8|128 PEERS COUNT | circuits CIRCUITS COUNT | node HELD COUNT | mail new|again|receipts HELD ROUNDS"
         )?;
         return Ok(ExitCode::from(USAGE));
     };
@@ -51,5 +53,10 @@ fn done(alloc: Global, job: &Job) -> Result<u32, NoMemory> {
         } => links::carried(alloc, *modulo128, *peers, *count),
         Job::Circuits { circuits, count } => circuits::carried(alloc, *circuits, *count),
         Job::Node { held, count } => node::taken(alloc, *held, *count),
+        Job::Mail {
+            hearing,
+            held,
+            rounds,
+        } => mail::heard(alloc, *hearing, *held, *rounds),
     }
 }

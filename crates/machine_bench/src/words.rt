@@ -1,4 +1,5 @@
 //! The words that name a job.
+use crate::mail::Hearing;
 use std::alloc::Global;
 use std::{env, io};
 
@@ -20,6 +21,12 @@ pub enum Job {
     Circuits {
         circuits: u8,
         count: u32,
+    },
+    /// So many rounds of so many hearings, 1 to 4,096, at a store.
+    Mail {
+        hearing: Hearing,
+        held: u16,
+        rounds: u32,
     },
 }
 
@@ -48,8 +55,31 @@ pub fn job_of(words: &[String]) -> Option<Job> {
             held: most_64(held)?,
             count: count.as_str().parse().ok()?,
         }),
+        [name, hearing, held, rounds] if name.as_str() == "mail" => Some(Job::Mail {
+            hearing: hearing_of(hearing)?,
+            held: mails_of(held)?,
+            rounds: rounds.as_str().parse().ok()?,
+        }),
         _ => None,
     }
+}
+
+fn hearing_of(word: &String) -> Option<Hearing> {
+    match word.as_str() {
+        "new" => Some(Hearing::New),
+        "again" => Some(Hearing::Again),
+        "receipts" => Some(Hearing::Receipts),
+        _ => None,
+    }
+}
+
+/// A number from 1 to 4,096.
+fn mails_of(word: &String) -> Option<u16> {
+    let mails: u16 = word.as_str().parse().ok()?;
+    if mails == 0 || mails > 4096 {
+        return None;
+    }
+    Some(mails)
 }
 
 fn modulo128_of(word: &String) -> Option<bool> {
