@@ -2,7 +2,7 @@
 use Rattle.std.proofs.Common.{◌≡◌, ◌++◌, ◌∙◌, ◌≤◌, arith, ℕ, List, [], ◌∷◌, refl, sym, ap, append_assoc, append-nil, length, false}
 use Rattle.std.specs.Prelude.{Option, Some, None, ◌≢◌, ◌==◌}
 use Rattle.std.proofs.lemmas.Bool.Decides.{nat_tests}
-use Rattle.std.proofs.lemmas.List.{map-append}
+use Rattle.std.proofs.lemmas.List.{length-append, map-append}
 use Rattle.std.proofs.lemmas.List.Elements.{All-append, All-cons, All-nil}
 use Rattle.std.specs.Io.KnownBytes.{Appends, Consumes}
 use Rattle.std.proofs.KnownBytes.{Appends-trans, Consumes-trans}
@@ -22,8 +22,8 @@ bytes_of-more (read ∷ later) bytes now = ap (λ bs. read.bytes ++ bs) (bytes_o
 -- what is told grows twice
 pub gains-trans : (a b c : Option (List ℕ)) (xs ys : List ℕ) → Gains a b xs → Gains b c ys → Gains a c (xs ++ ys)
 gains-trans None b c xs ys first second = rw first at second
-gains-trans (Some a) None c xs ys first second = rw second _
-gains-trans (Some a) (Some b) None xs ys first second = _
+gains-trans (Some a) None c xs ys first second = rw second (omega (arith, first, length-append xs ys))
+gains-trans (Some a) (Some b) None xs ys first second = omega (arith, second, ap length first, length-append a xs, length-append xs ys)
 gains-trans (Some a) (Some b) (Some c) xs ys first second = second ∙ (ap (λ zs. zs ++ ys) first ∙ append_assoc a xs ys)
 
 -- a read that gave bytes is noted with their number

@@ -1,11 +1,12 @@
 -- What clocks hand out.
-use Rattle.std.specs.Prelude.{ℕ, ◌≡◌, ◌+◌, ◌*◌, ◌-◌, ◌^◌, ◌++◌, List, [], ◌∷◌, zero, suc, min, nat_lt, Option, None, Some, if◌then◌else◌, ⊤}
+use Rattle.std.specs.Prelude.{ℕ, ◌≡◌, ◌+◌, ◌*◌, ◌-◌, ◌^◌, ◌≤◌, ◌++◌, List, [], ◌∷◌, length, zero, suc, min, nat_lt, Option, None, Some, if◌then◌else◌}
 use Rattle.radio_base.specs.Causes.{one_more}
 
--- a list that is told grows by xs, unless it is told no more; one that isn't told stays untold
+-- A clock tells always or never: a list that is told grows by xs, and one that isn't told stays untold. A clock whose count is a `u64`
+-- may end telling where that count ends, once it has handed out 2^64 - 1 moments.
 abbrev pub Gains : Option (List ℕ) → Option (List ℕ) → List ℕ → Type 0
 Gains None new xs = new ≡ None
-Gains (Some old) None xs = ⊤
+Gains (Some old) None xs = 2 ^ 64 - 1 ≤ length old + length xs
 Gains (Some old) (Some new) xs = new ≡ old ++ xs
 
 -- a clock that goes on by a fixed step: where it started, the step, and how many moments it has handed out, short of the largest `u64`

@@ -8,7 +8,7 @@ use std::marker::Model;
 #[derive(Clone, Copy, Debug, PartialEq, Eq, Hash, PartialOrd, Ord)]
 pub struct Moment(pub u64);
 
-/// A clock that never goes back.
+/// A clock that never goes back. It tells what it has handed out always or never, but for the end of a count (`Gains`).
 pub trait Clock {
     /// The moments handed out, in order, where it tells them.
     ghost given: { Self → Option (List ℕ) };
@@ -24,7 +24,7 @@ pub trait Clock {
 }
 
 /// A clock that goes on by a fixed step from one moment to the next, and stands still at 2^64 - 1.
-/// It tells the first 2^64 - 2 moments.
+/// It tells its moments as long as it can count them, which are the first 2^64 - 2.
 #[derive(Drop)]
 pub struct MemClock {
     start: u64,
