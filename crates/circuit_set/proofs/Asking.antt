@@ -66,7 +66,7 @@ module _ (nh : Callsign → Option Callsign) (now : ℕ) (s : SetState) where
 
 -- nothing lies at the router, which isn't asked
 module _ {C : Type 0} (made : C → List CarrierCall → C → Type 0) (old : Circuits C) (log : List Item) (now : ℕ) (s : SetState) where
-  pub asks_idle : (a : Offered) (lost : List Callsign) (waiting : List Parcel) → lost ≡ [] → waiting ≡ [] → made old.router.carrier (Fail None ∷ Collect None ∷ []) old.router.carrier
+  pub asks_idle : (a : Offered) (lost : List Callsign) (waiting : List Parcel) → lost ≡ [] → waiting ≡ [] → made old.router.carrier [] old.router.carrier
       → StandsFor old.router.table log → SetStands old (at_rest s) → DoesPump made old old log None (asks_once (next_hop old.router.table.rules log) now s lost waiting a)
   asks_idle a lost waiting e f calls stands st =
       let nh : Callsign → Option Callsign = next_hop old.router.table.rules log in
@@ -92,17 +92,6 @@ module _ {C : Type 0} (made : C → List CarrierCall → C → Type 0) (more_mad
 
   pub mid_stands : SetStands mid (at_rest s)
   mid_stands = record { ends = st.ends; own = st.own ∙ sym same.own; ttl = st.ttl ∙ sym same.ttl; lost = st.lost; unspent = st.unspent }
-
-  -- nothing lies at the router
-  pub asks_none : (a : Offered) (lost : List Callsign) (waiting : List Parcel) → lost ≡ [] → waiting ≡ []
-      → routers.DoesPump made old.router r1 log None (pumping old.router.own nh lost waiting now a) → DoesPump made old mid log None (asks_once nh now s lost waiting a)
-  asks_none a lost waiting e f does =
-      let at : routers.DoesPump made old.router r1 log None (pumping old.router.own nh [] [] now a) =
-      subst (λ (l : List Callsign). routers.DoesPump made old.router r1 log None (pumping old.router.own nh l [] now a)) e
-      (subst (λ (w : List Parcel). routers.DoesPump made old.router r1 log None (pumping old.router.own nh lost w now a)) f does) in
-      let done : DoesPump made old mid log None (asks_once nh now s [] [] a) = record { told = refl; calls = at.calls; table = at.table; stands = mid_stands } in
-      subst (λ (l : List Callsign). DoesPump made old mid log None (asks_once nh now s l waiting a)) (sym e)
-      (subst (λ (w : List Parcel). DoesPump made old mid log None (asks_once nh now s [] w a)) (sym f) done)
 
   -- a neighbour was lost
   asks_lost : (n : Callsign) (r : Routed) (b : Offered) (e : Option SetEvent) → r ≡ routed.Lost n → made old.router.carrier (Fail (Some n) ∷ []) r1.carrier

@@ -10,7 +10,7 @@ use Rattle.route_table.specs.Table.{next_hop}
 use Rattle.l3_datagram.specs.declared.carrier.Offered.{Offered}
 use Rattle.l3_datagram.specs.declared.carrier.Offered.TheVariants as offered
 use Rattle.l3_datagram.specs.declared.routed.Routed.{Routed}
-use Rattle.l3_datagram.specs.CarrierCall.{CarrierCall, Collect, Fail, Parcel}
+use Rattle.l3_datagram.specs.CarrierCall.{CarrierCall, Parcel}
 use Rattle.circuit_set.specs.declared.event.SetEvent.{SetEvent}
 use Rattle.circuit_set.specs.declared.event.SetEvent.TheVariants as event
 use Rattle.circuit_set.specs.declared.held_ends.HeldEnds.{HeldEnds}
@@ -121,24 +121,24 @@ module _ {C : Type 0} (made : C → List CarrierCall → C → Type 0) (none_mad
   empty_is (t ∷ ts) e = absurd (cc e)
 
   idle_case : (nh : Callsign → Option Callsign) (s : SetState) (ts : List Told) (o : Option Routed) (ls : List Callsign) → ts ≡ [] → o ≡ None → ls ≡ []
-      → ends_with (Fail None ∷ Collect None ∷ []) (silent (at_rest s)) ≡ pumped nh now (record { set = s; untold = ts; lost = o }) ls [] offered.Taken
+      → ends_with [] (silent (at_rest s)) ≡ pumped nh now (record { set = s; untold = ts; lost = o }) ls [] offered.Taken
   idle_case nh s (t ∷ ts) o ls e f g = absurd (cc e)
   idle_case nh s [] (Some r) ls e f g = absurd (cc f)
   idle_case nh s [] None (l ∷ ls) e f g = absurd (cc g)
   idle_case nh s [] None [] e f g = refl
 
-  pub tells_nothing : lost ≡ [] → waiting ≡ [] → made old.router.carrier (Fail None ∷ Collect None ∷ []) old.router.carrier → old.lost ≡ None
+  pub tells_nothing : lost ≡ [] → waiting ≡ [] → old.lost ≡ None
       → ((s : SetState) (ts : List Told) → HeldStands old.held s ts → is_empty ts ≡ true) → Pumps made old old lost waiting now None
-  tells_nothing l w asked n quiet = (
+  tells_nothing l w n quiet = (
     [],
     offered.Taken,
     sym w,
     λ log at stands st.
         let nh = next_hop old.router.table.rules log in
         let none : at.untold ≡ [] = empty_is at.untold (quiet at.set at.untold st.ends) in
-        let done : DoesPump made old old log None (ends_with (Fail None ∷ Collect None ∷ []) (silent (at_rest at.set))) = record {
+        let done : DoesPump made old old log None (ends_with [] (silent (at_rest at.set))) = record {
           told = refl;
-          calls = asked;
+          calls = none_made old.router.carrier;
           table = subst (λ (items : List Item). StandsFor old.router.table items) (sym (append-nil log)) stands;
           stands = record { ends = subst (HeldStands old.held at.set) none st.ends; own = st.own; ttl = st.ttl; lost = sym n; unspent = st.unspent };
         } in

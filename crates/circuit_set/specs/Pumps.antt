@@ -164,9 +164,9 @@ module _ (next_hop : Callsign → Option Callsign) where
       let t : Turn = hears now parcel (at_rest s) in
       after_calls (Fail None ∷ Collect (Some parcel) ∷ offer_of t now answer) (tells_on now (outcome t answer) answer)
 
-  -- one datagram after another is taken, until something is told
+  -- one datagram after another is taken, until something is told; where nothing lies at the router it isn't asked
   abbrev pub takes_all : ℕ → SetState → List (Parcel × Offered) → Pumped
-  takes_all now s [] = ends_with (Fail None ∷ Collect None ∷ []) (silent (at_rest s))
+  takes_all now s [] = ends_with [] (silent (at_rest s))
   takes_all now s (p ∷ ps) =
       let first : Pumped = takes now s p.0 p.1 in
       elim first.told as (λ x. Pumped) [ Some told ↦ first | None ↦ after_calls first.calls (takes_all now first.after.set ps) ]

@@ -9,7 +9,7 @@ use Rattle.l3_datagram.specs.declared.routed.Routed.{Routed}
 use Rattle.l3_datagram.specs.declared.routed.Routed.TheVariants as routed
 use Rattle.l3_datagram.specs.declared.routed.Sending.{Sending}
 use Rattle.l3_datagram.specs.declared.routed.Sending.TheVariants as sending
-use Rattle.l3_datagram.specs.CarrierCall.{CarrierCall, Collect, Fail, Parcel}
+use Rattle.l3_datagram.specs.CarrierCall.{CarrierCall, Fail, Parcel}
 use Rattle.l3_datagram.specs.Routers.{SameRouter}
 use Rattle.circuit_set.specs.declared.event.SetEvent.{SetEvent}
 use Rattle.circuit_set.specs.declared.holder.Untold.{Untold}
@@ -27,7 +27,7 @@ came_to_nothing sending.Dropped = Some routed.Dropped
 -- the router is asked once
 abbrev pub asks_once : (Callsign → Option Callsign) → ℕ → SetState → List Callsign → List Parcel → Offered → Pumped
 asks_once next_hop now s (neighbour ∷ _) waiting answer = ends_with (Fail (Some neighbour) ∷ []) (hears_lost neighbour (at_rest s))
-asks_once next_hop now s [] [] answer = ends_with (Fail None ∷ Collect None ∷ []) (silent (at_rest s))
+asks_once next_hop now s [] [] answer = ends_with [] (silent (at_rest s))
 asks_once next_hop now s [] (parcel ∷ _) answer = takes next_hop now s parcel answer
 
 -- a lost neighbour is told

@@ -1,5 +1,5 @@
 //! What takes datagrams to neighbours, as a trait.
-ghost use Rattle.std.specs.Prelude.{◌≡◌, true, None, List, [], ◌∷◌, ◌++◌, drop, slice_get, IfOk};
+ghost use Rattle.std.specs.Prelude.{◌≡◌, ◌↔◌, true, List, [], ◌∷◌, ◌++◌, drop, slice_get, IfOk};
 ghost use Rattle.l3_datagram.specs.CarrierCall.{CarrierCall, Parcel, Offer, Collect, Fail};
 ghost use Rattle.ax_address.specs.Callsign.{Callsign};
 
@@ -47,12 +47,9 @@ pub trait Carrier {
         ensures lost { lost self.new ≡ drop 1 (lost self.old) }
         ensures waiting { waiting self.new ≡ waiting self.old };
 
-    /// Whether no neighbour is lost and untold, and no datagram waits: to ask for them changes nothing then.
+    /// Whether no neighbour is lost and untold, and no datagram waits.
     fn is_idle(&self) -> bool
-        ensures idle { lost self.now ≡ [] → waiting self.now ≡ [] → result ≡ true }
-        ensures lost { result ≡ true → lost self.now ≡ [] }
-        ensures waiting { result ≡ true → waiting self.now ≡ [] }
-        ensures made { result ≡ true → made self.now (Fail None ∷ Collect None ∷ []) self.now };
+        ensures { result ≡ true ↔ (lost self.now ≡ []) × (waiting self.now ≡ []) };
 
     // No call leads from a carrier to itself.
     ghost none_made: { (c : Self) → made c [] c };

@@ -113,12 +113,9 @@ impl<C: Carrier> Router<C> {
         }
     }
 
-    /// Whether there is nothing to take: `pump` would answer None, and change nothing.
+    /// Whether there is nothing to take, neither a lost neighbour nor a datagram: `pump` answers None exactly then.
     pub fn is_idle(&self) -> bool
-        ensures idle { C.lost self.now.carrier ≡ [] → C.waiting self.now.carrier ≡ [] → result ≡ true }
-        ensures lost { result ≡ true → C.lost self.now.carrier ≡ [] }
-        ensures waiting { result ≡ true → C.waiting self.now.carrier ≡ [] }
-        ensures made { result ≡ true → C.made self.now.carrier (Fail None ∷ Collect None ∷ []) self.now.carrier }
+        ensures { result ≡ true ↔ (C.lost self.now.carrier ≡ []) × (C.waiting self.now.carrier ≡ []) }
     {
         self.carrier.is_idle()
     }

@@ -58,9 +58,6 @@ back t (c ∷ cs) more a = back (call_done c t) cs more a.1
 lost_same : (t : Table) → t.pending.lost ≡ [] → tell_lost t ≡ t
 lost_same t e = ap (λ (xs : List Callsign). record t { pending = record t.pending { lost = xs } }) (ap (drop 1) e ∙ sym e)
 
-waiting_same : (t : Table) → t.pending.waiting ≡ [] → collect t ≡ t
-waiting_same t e = ap (λ (xs : List Parcel). record t { pending = record t.pending { waiting = xs } }) (ap (drop 1) e ∙ sym e)
-
 -- a turn over the links
 turn_over : (now : ℕ) (t : Turn) (answer : Offered) (n : State) → AllAnswer n.links (offer_of t now answer) → after_call (turned now t answer) n ≡ take_turn now t n
 unfolding offer offer_answer
@@ -336,12 +333,10 @@ module _ (offers : OffersLeave) (takes : TakesLower) (less : TellsLess) where
       → Leads now (rested n s) (pumps.takes_all (next_hop n) now s ps)
   all_leads now [] n s e f a =
       let m : State = rested n s in
-      let q = ends_with (Fail None ∷ Collect None ∷ []) (pumps.silent (at_rest s)) in
+      let q = ends_with [] (pumps.silent (at_rest s)) in
       let none : at_router m ≡ 0 = ap (λ (xs : List Callsign). length xs + length n.links.pending.waiting) e ∙ ap (λ (ps : List Parcel). 0 + length ps) (sym f) in
-      let links : collect (tell_lost n.links) ≡ n.links = ap collect (lost_same n.links e) ∙ waiting_same n.links (sym f) in
       let same : after_call q m ≡ m =
-      ap (λ (l : Table). record (after_call q m) { links = l }) links
-      ∙ (ap (λ (is : List Item). record m { log = is; entries = m.entries ++ [] }) (append-nil n.log) ∙ ap (λ (es : List Entry). record m { entries = es }) (append-nil n.entries)) in
+      ap (λ (is : List Item). record m { log = is; entries = m.entries ++ [] }) (append-nil n.log) ∙ ap (λ (es : List Entry). record m { entries = es }) (append-nil n.entries) in
       pumped_nothing offers takes less now m (none_pending s) none ∙ sym same
   all_leads now (p ∷ ps) n s e f a =
       let t = pumps.hears (next_hop n) now p.0 (at_rest s) in

@@ -1,6 +1,6 @@
 use Rattle.l3_datagram.specs.declared.carrier.Offered.TheVariants.{Taken}
 use Rattle.circuit_set.specs.CircuitSets.{Circuits}
-use Rattle.circuit_set.proofs.Asking.{asks_idle, asks_none, asks_some, mid_stands, pick}
+use Rattle.circuit_set.proofs.Asking.{asks_idle, asks_some, mid_stands, pick}
 use Rattle.circuit_set.proofs.set.CircuitSet.ask_once.Goals as goal
 
 pub returns-in_ok-take_in-in-Some-clause-asks : goal.returns-in_ok-take_in-in-Some-clause-asks
@@ -23,22 +23,16 @@ returns-in_ok-take_in-in-Some-clause-asks g c =
 
 pub returns-in-None-clause-asks : goal.returns-in-None-clause-asks
 returns-in-None-clause-asks g c =
-    let old : Circuits g.row.C.Denot = record { router = c.self.inside.router; held = c.self.inside.held; lost = c.self.inside.lost; spent = c.self.inside.spent } in
-    let pumps = rw c.in-None.is at c.in_ok-routed.ensures.pumps in
     let none = rw c.in-None.is at c.in_ok-routed.ensures.none in
-    rw (← c.self.view_is, c.requires.none) (
-      pumps.0,
-      λ log s stands st.
-          asks_none g.C.Carrier.made g.met.C.Carrier.more_made old old c.pump.new.self log c.args.now.0 s st c.in_ok-routed.ensures.same pumps.0 _ _ none.0 none.1 (pumps.1 log stands),
-    )
+    absurd (cc (c.is_idle.ensures.1 none, c.if-is_idle.false))
 
 pub returns-then-is_idle-clause-asks : goal.returns-then-is_idle-clause-asks
 returns-then-is_idle-clause-asks g c =
     let old : Circuits g.row.C.Denot = record { router = c.self.inside.router; held = c.self.inside.held; lost = c.self.inside.lost; spent = c.self.inside.spent } in
     let carrier = c.self.inside.router.carrier in
-    let idle = c.is_idle.ensures in
+    let idle = c.is_idle.ensures.0 c.if-is_idle.true in
     rw (← c.self.view_is, c.requires.none) (
       Taken,
       λ log s stands st.
-          asks_idle g.C.Carrier.made old log c.args.now.0 s Taken (g.C.Carrier.lost carrier) (g.C.Carrier.waiting carrier) (idle.lost c.if-is_idle.true) (idle.waiting c.if-is_idle.true) (idle.made c.if-is_idle.true) stands st,
+          asks_idle g.C.Carrier.made old log c.args.now.0 s Taken (g.C.Carrier.lost carrier) (g.C.Carrier.waiting carrier) idle.0 idle.1 (g.met.C.Carrier.none_made carrier) stands st,
     )
