@@ -185,7 +185,7 @@ pub record Accepted (s : State) (p : Payload) (later : State) : Type 0 where
   pub closing : later.closing ≡ s.closing
   pub acked : later.acked ≡ s.acked
 
-accepted : (s : State) (p : Payload) (now : ℕ) → takes s ≡ true → Accepted s p (step s (Send p) now).link
+pub accepted : (s : State) (p : Payload) (now : ℕ) → takes s ≡ true → Accepted s p (step s (Send p) now).link
 accepted s p now e = rw e (record { given = refl; phase = refl; closing = refl; acked = refl })
 
 halves : (a b : Bool) → a && b ≡ true → (a ≡ true) × (b ≡ true)
@@ -193,7 +193,7 @@ halves true true e = (refl, refl)
 halves true false e = absurd (cc e)
 halves false b e = absurd (cc e)
 
-room_is : (s : State) → sending.takes_texts s ≡ true → room_of s ≡ min (s.acked + 128 - length s.given) (count_end - length s.given)
+pub room_is : (s : State) → sending.takes_texts s ≡ true → room_of s ≡ min (s.acked + 128 - length s.given) (count_end - length s.given)
 room_is s e = rw e refl
 
 takes_one : (s : State) → sending.takes_texts s ≡ true → 1 ≤ room_of s → takes s ≡ true

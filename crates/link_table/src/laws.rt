@@ -3,6 +3,7 @@ ghost use Rattle.std.specs.Prelude.{◌≡◌};
 ghost use Rattle.link_table.specs.Calls.{AnsweredAsDown};
 ghost use Rattle.link_table.specs.Payloads.{CountsPayloads, OffersLeave, TakesLower};
 ghost use Rattle.link_table.specs.Reaching.{FramesAreSpelled};
+ghost use Rattle.link_table.specs.Rooms.{OffersTakeOne, RoomTakesTexts, TextsAreFew};
 ghost use Rattle.link_table.specs.Laws.{CarriesByWeaker, CarriesWhatWasOffered, NewLinkTakes, NumberedWithoutLink, OnlyFramesBring, PiecesAreTheText, SettledAll, TextsAreGiven};
 
 use crate::texts::MAX_TEXT;
@@ -70,6 +71,15 @@ pub fn only_frames_bring()
 /// A text that isn't refused is given to the link whole, in payloads one behind the other.
 pub fn texts_are_given()
     ensures { TextsAreGiven }
+{}
+
+/// A text of at most 8,192 bytes is at most 33 payloads, so each link with room for 33 takes it. A datagram that is offered takes the
+/// place of one payload at most, at the link with the peer to which it goes, and leaves the links with others as they are. So a link
+/// with room for 34 takes a text after a datagram to its own peer, and any other with room for 33 does after one to another peer.
+pub fn room()
+    ensures few { TextsAreFew }
+    ensures texts { RoomTakesTexts }
+    ensures offers { OffersTakeOne }
 {}
 
 /// The pieces of 256 bytes as which a text goes over a link of modulo 8 are the text.
