@@ -1,9 +1,9 @@
 -- Giving a user replies and messages keeps a node fine.
 use Rattle.std.proofs.Common.{◌≡◌, ◌<◌, ◌+◌, ◌∙◌, ◌⊎◌, inl, inr, ℕ, zero, suc, refl, sym, ap, subst, arith, List, [], ◌∷◌, slice_get, slice_set}
-use Rattle.std.specs.Prelude.{Bool, true, false, not, ◌||◌, ◌&&◌, nat_eq, if◌then◌else◌, Option, Some, None, Result, Ok, Err}
+use Rattle.std.specs.Prelude.{Bool, true, false, not, ◌||◌, ◌&&◌, nat_eq, nat_le, if◌then◌else◌, Option, Some, None, Result, Ok, Err}
 use Rattle.std.proofs.lemmas.Bool.Decides.{nat_tests}
 use Rattle.ax_address.specs.Callsign.{Callsign}
-use Rattle.circuit_set.specs.CircuitSets.{facts_at}
+use Rattle.circuit_set.specs.CircuitSets.{facts_at, partner_at}
 use Rattle.circuit_set.specs.Sets as sets
 use Rattle.circuit_set.specs.Sets.{Holder, SetState, end_of}
 use Rattle.circuit_set.specs.Standing as answers
@@ -130,12 +130,20 @@ good_sent : (r : Result (Unit {0}) TextRefusal) → (r ≡ Ok tt) ⊎ (r ≡ Err
 good_sent r (inl e) = rw e tt
 good_sent r (inr e) = rw e tt
 
+-- a link that has room for a message of a circuit has room for 33 payloads
+least_room : (peer : Callsign) (id : ℕ) (n : State) → users.link_has_room_beside peer id n ≡ true → nat_le 33 (links.room peer n.links) ≡ true
+least_room peer id n = by (users.goes_over peer (users.hop_to (partner_at (users.end_at id n)) n))
+  where
+    by : (b : Bool) → nat_le (if b then 34 else 33) (links.room peer n.links) ≡ true → nat_le 33 (links.room peer n.links) ≡ true
+    by true e = grind (arith, nat_tests, e)
+    by false e = e
+
 -- a message that is given to a session's user after this, from a state in which its side had room
 module _ (now nth id : ℕ) (n m : State) (x z : Session) (message : List ℕ) (f : Fine n) (e : session_at nth n ≡ Some x) (is : IsMessage message)
     (user : z.user ≡ x.user) (left : z.left ≡ x.left) (bye : z.bye ≡ x.bye)
     (ends : (u : ℕ) → x.user ≡ AtEnd u → users.end_at u m ≡ users.end_at u n)
     (takes : (peer : Callsign) → TakesTexts peer n.links → TakesTexts peer m.links)
-    (gives : users.can_give x n ≡ true) where
+    (gives : users.can_pass_on x id n ≡ true) where
   heard_at_end : (u : ℕ) → x.user ≡ AtEnd u → users.is_deaf z m ≡ false → IsGood (users.wrote_by (users.write_answer u message m))
   heard_at_end u g deaf =
       let at = user ∙ g in
@@ -143,8 +151,8 @@ module _ (now nth id : ℕ) (n m : State) (x z : Session) (message : List ℕ) (
       let parts = or_parts z.bye (users.has_ended z m) deaf in
       let hears : users.has_ended z m ≡ users.has_ended x n = rw (at, g, same) refl in
       let before : users.is_deaf x n ≡ false = rw (← bye, parts.0) (sym hears ∙ parts.1) in
-      let room : users.has_room x n ≡ true = or_rest (users.is_deaf x n) (users.has_room x n) gives before in
-      let here : users.room_by (facts_at (users.end_at u m)) ≡ true = rw same (subst (λ (y : User). users.has_room_at y x.left n ≡ true) g room) in
+      let room : users.has_room_beside x id n ≡ true = or_rest (users.is_deaf x n) (users.has_room_beside x id n) gives before in
+      let here : users.room_by (facts_at (users.end_at u m)) ≡ true = rw same (subst (λ (y : User). users.has_room_beside_at y id x.left n ≡ true) g room) in
       let spoke : x.bye ≡ false = sym bye ∙ parts.0 in
       let some = spoken_for u x g spoke in
       let unshut = open_end u n nth x f e some in
@@ -156,10 +164,10 @@ module _ (now nth id : ℕ) (n m : State) (x z : Session) (message : List ℕ) (
       let parts = or_parts z.bye (users.has_ended z m) deaf in
       let hears : users.has_ended z m ≡ users.has_ended x n = rw (at, g, left) refl in
       let before : users.is_deaf x n ≡ false = rw (← bye, parts.0) (sym hears ∙ parts.1) in
-      let room : users.has_room x n ≡ true = or_rest (users.is_deaf x n) (users.has_room x n) gives before in
-      let here : users.has_room_at (AtLink peer) x.left n ≡ true = subst (λ (y : User). users.has_room_at y x.left n ≡ true) g room in
-      let both = not_and x.left (users.link_has_room peer n) here in
-      good_sent _ (text_goes peer message m.links (takes peer (with_room peer n.links both.1)) is.1)
+      let room : users.has_room_beside x id n ≡ true = or_rest (users.is_deaf x n) (users.has_room_beside x id n) gives before in
+      let here : users.has_room_beside_at (AtLink peer) id x.left n ≡ true = subst (λ (y : User). users.has_room_beside_at y id x.left n ≡ true) g room in
+      let both = not_and x.left (users.link_has_room_beside peer id n) here in
+      good_sent _ (text_goes peer message m.links (takes peer (with_room peer n.links (least_room peer id n both.1))) is.1)
 
   goes_to : (y : User) → x.user ≡ y → users.is_deaf z m ≡ false → IsGood (users.outcome_at y message m)
   goes_to (AtEnd u) g deaf = heard_at_end u g deaf
@@ -173,7 +181,7 @@ module _ (now nth id : ℕ) (n m : State) (x z : Session) (message : List ℕ) (
       by false d = subst (λ (y : User). IsGood (users.outcome_at y message m)) (sym user) (goes_to x.user refl d)
 
 -- what of a session's circuit came to the node is given to its user
-given_from : (now nth : ℕ) (n : State) (x : Session) (c : Circuit) → Fine n → at_router n ≡ 0 → session_at nth n ≡ Some x → circuit_of x.stage ≡ Some c → users.can_give x n ≡ true
+given_from : (now nth : ℕ) (n : State) (x : Session) (c : Circuit) → Fine n → at_router n ≡ 0 → session_at nth n ≡ Some x → circuit_of x.stage ≡ Some c → users.can_pass_on x c.id n ≡ true
     → Fine (bridging.give_from now nth c.id n).after
 unfolding circuits.acts
 given_from now nth n x c f router e h gives = by (users.took (answers.take_answer (users.end_at c.id n))) refl
@@ -229,12 +237,12 @@ given_from now nth n x c f router e h gives = by (users.took (answers.take_answe
 
 pub given : (now nth : ℕ) (n : State) → Fine n → at_router n ≡ 0 → (o : Option Session) → session_at nth n ≡ o → Fine (bridging.give_of (bridging.giving_circuit o n) now nth n).after
 given now nth n f router None e = f
-given now nth n f router (Some x) e = by (users.can_give x n) refl
+given now nth n f router (Some x) e = of (circuit_of x.stage) refl
   where
-    of : (o : Option Circuit) → circuit_of x.stage ≡ o → users.can_give x n ≡ true → Fine (bridging.give_of o now nth n).after
-    of None h g = f
-    of (Some c) h g = given_from now nth n x c f router e h g
+    by : (c : Circuit) → circuit_of x.stage ≡ Some c → (b : Bool) → users.can_pass_on x c.id n ≡ b → Fine (bridging.give_of (if b then Some c else None) now nth n).after
+    by c h false g = f
+    by c h true g = given_from now nth n x c f router e h g
 
-    by : (b : Bool) → users.can_give x n ≡ b → Fine (bridging.give_of (if b then circuit_of x.stage else None) now nth n).after
-    by false g = f
-    by true g = of (circuit_of x.stage) refl g
+    of : (o : Option Circuit) → circuit_of x.stage ≡ o → Fine (bridging.give_of (bridging.giving_by x o n) now nth n).after
+    of None h = f
+    of (Some c) h = by c h (users.can_pass_on x c.id n) refl

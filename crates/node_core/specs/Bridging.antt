@@ -12,7 +12,7 @@ use Rattle.node_core.specs.declared.sessions.session.Stage.TheVariants.{AtPrompt
 use Rattle.node_core.specs.Sessions.{Bridge, Session, circuit_of}
 use Rattle.node_core.specs.States.{State}
 use Rattle.node_core.specs.Turns.{Turn, done, idle}
-use Rattle.node_core.specs.Users.{Outcome, Taken, Exhausts, Crowds, Unheard, Refused, acts, at_session, can_give, close, end_at, end_has_room, is_gone, said, say, session_at, take_text, took, write_answer, write_to, wrote_by}
+use Rattle.node_core.specs.Users.{Outcome, Taken, Exhausts, Crowds, Unheard, Refused, acts, at_session, can_give, can_pass_on, close, end_at, end_has_room, is_gone, said, say, session_at, take_text, took, write_answer, write_to, wrote_by}
 
 abbrev pub prompt_of : State → Prompt
 prompt_of n = record { alias = n.settings.alias; call = n.settings.call }
@@ -69,9 +69,13 @@ abbrev pub give_from : ℕ → ℕ → ℕ → State → Turn State
 give_from now nth id n = give_end (end_at id n) now nth id n
 
 -- the circuit of a session, where a message of it can be given
+abbrev pub giving_by : Session → Option Circuit → State → Option Circuit
+giving_by s None n = None
+giving_by s (Some c) n = if can_pass_on s c.id n then Some c else None
+
 abbrev pub giving_circuit : Option Session → State → Option Circuit
 giving_circuit None n = None
-giving_circuit (Some s) n = if can_give s n then circuit_of s.stage else None
+giving_circuit (Some s) n = giving_by s (circuit_of s.stage) n
 
 abbrev pub give_of : Option Circuit → ℕ → ℕ → State → Turn State
 give_of None now nth n = idle n

@@ -2,10 +2,11 @@
 -- it. Own profile.
 use Rattle.std.specs.Prelude.{ℕ, Bool, true, false, ◌||◌, ◌&&◌, not, nat_le, if◌then◌else◌, is_none, List, [], ◌∷◌, ◌++◌, take, slice_get, slice_set, Option, Some, None, Result, Ok, Err}
 use Rattle.ax_address.specs.Callsign.{Callsign}
+use Rattle.ax_address.specs.CallOrder.{same_call}
 use Rattle.circuit_l4.specs.declared.plain.EndFacts.{EndFacts}
 use Rattle.circuit_l4.specs.declared.plain.WriteRefusal.TheVariants.{Exhausted}
 use Rattle.circuit_l4.specs.EndState.{is_up}
-use Rattle.circuit_set.specs.CircuitSets.{facts_at}
+use Rattle.circuit_set.specs.CircuitSets.{facts_at, partner_at}
 use Rattle.circuit_set.specs.Sets as sets
 use Rattle.circuit_set.specs.Standing as answers
 use Rattle.circuit_set.specs.declared.event.NoEnd.{NoEnd}
@@ -19,7 +20,7 @@ use Rattle.node_core.specs.Circuits as circuits
 use Rattle.node_core.specs.Links as links
 use Rattle.node_core.specs.Pumping.{pump}
 use Rattle.node_core.specs.Sessions.{Session}
-use Rattle.node_core.specs.States.{State, at_links, at_set}
+use Rattle.node_core.specs.States.{State, at_links, at_set, next_hop}
 use Rattle.node_core.specs.Turns.{Turn, done, idle}
 
 -- ---- sessions by their place
@@ -100,6 +101,23 @@ is_deaf s n = s.bye || has_ended s n
 abbrev pub link_has_room : Callsign → State → Bool
 link_has_room peer n = nat_le 33 (links.room peer n.links)
 
+-- where what goes to a node goes next
+abbrev pub hop_to : Option Callsign → State → Option Callsign
+hop_to None n = None
+hop_to (Some node) n = next_hop n node
+
+abbrev pub goes_over : Callsign → Option Callsign → Bool
+goes_over peer None = false
+goes_over peer (Some hop) = same_call peer hop
+
+-- For how many payloads a link has room that has room for a message of a circuit: for 33, and for one more where the circuit's own
+-- datagrams go over that link, since taking the message may send an acknowledgement first.
+abbrev pub payloads_beside : Callsign → ℕ → State → ℕ
+payloads_beside peer id n = if goes_over peer (hop_to (partner_at (end_at id n)) n) then 34 else 33
+
+abbrev pub link_has_room_beside : Callsign → ℕ → State → Bool
+link_has_room_beside peer id n = nat_le (payloads_beside peer id n) (links.room peer n.links)
+
 abbrev pub has_room_at : User → Bool → State → Bool
 has_room_at (AtEnd id) left n = end_has_room id n
 has_room_at (AtLink peer) left n = not left && link_has_room peer n
@@ -107,9 +125,21 @@ has_room_at (AtLink peer) left n = not left && link_has_room peer n
 abbrev pub has_room : Session → State → Bool
 has_room s n = has_room_at s.user s.left n
 
+-- the same for a message of the circuit of an end
+abbrev pub has_room_beside_at : User → ℕ → Bool → State → Bool
+has_room_beside_at (AtEnd user) id left n = end_has_room user n
+has_room_beside_at (AtLink peer) id left n = not left && link_has_room_beside peer id n
+
+abbrev pub has_room_beside : Session → ℕ → State → Bool
+has_room_beside s id n = has_room_beside_at s.user id s.left n
+
 -- what is for the user can be given to it, or is dropped
 abbrev pub can_give : Session → State → Bool
 can_give s n = is_deaf s n || has_room s n
+
+-- the same of a message of the circuit of an end
+abbrev pub can_pass_on : Session → ℕ → State → Bool
+can_pass_on s id n = is_deaf s n || has_room_beside s id n
 
 -- ---- what is said to a user
 

@@ -77,13 +77,16 @@ impl Station {
         ensures { (n : State) → Told self.now n → result ≡ bridging.giving_circuit (users.session_at nth n) n }
     {
         match self.session(nth) {
-            Some(session) => {
-                if self.can_give(session) {
-                    session.circuit()
-                } else {
-                    None
+            Some(session) => match session.circuit() {
+                Some(circuit) => {
+                    if self.can_pass_on(session, circuit.id) {
+                        Some(circuit)
+                    } else {
+                        None
+                    }
                 }
-            }
+                None => None,
+            },
             None => None,
         }
     }

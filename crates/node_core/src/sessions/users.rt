@@ -1,6 +1,7 @@
 //! The user's side of a session: the end of a circuit that came here, or a link.
 ghost use Rattle.std.specs.Prelude.{◌≡◌, IfOk, OnOk, slice_get};
 ghost use Rattle.std.specs.Option.{option_copied};
+ghost use Rattle.circuit_set.specs.CircuitSets.{partner_at};
 ghost use Rattle.node_core.specs.Users as users;
 ghost use Rattle.link_table.specs.Standing.{TextNotNoMemory};
 ghost use Rattle.node_core.specs.Standing.{SetTold};
@@ -18,8 +19,11 @@ use radio_base::{Moment, NoMemory};
 /// With how many bytes queued at most an end has room for a text.
 const MOST_QUEUED: usize = 57_344;
 
-/// For how many payloads a link has room that has room for a text.
+/// For how many payloads a link has room that has room for a text, which has at most 8,192 bytes.
 const LEAST_ROOM: usize = 33;
+
+/// The same where the acknowledgement of what is taken goes over that link first.
+const LEAST_ROOM_BESIDE: usize = 34;
 
 impl Station {
     ghost use Rattle.node_core.specs.Standing.{Changes, StandsTold, Steps, Told, Turns};
@@ -48,6 +52,37 @@ impl Station {
         self.set.router().carrier().room(peer) >= LEAST_ROOM
     }
 
+    /// Whether the link with a peer has room for a message of the circuit of an end.
+    fn link_has_room_beside(&self, peer: &Call, id: u64) -> bool
+        ensures { (n : State) → Told self.now n → result ≡ users.link_has_room_beside peer.now id n }
+    {
+        self.set.router().carrier().room(peer) >= self.payloads_beside(peer, id)
+    }
+
+    /// For how many payloads that link then has room at least.
+    fn payloads_beside(&self, peer: &Call, id: u64) -> usize
+        ensures { (n : State) → Told self.now n → result ≡ users.payloads_beside peer.now id n }
+    {
+        if self.goes_over(peer, id) {
+            LEAST_ROOM_BESIDE
+        } else {
+            LEAST_ROOM
+        }
+    }
+
+    /// Whether the datagrams of an end go over the link with a peer.
+    fn goes_over(&self, peer: &Call, id: u64) -> bool
+        ensures { (n : State) → Told self.now n → result ≡ users.goes_over peer.now (users.hop_to (partner_at (users.end_at id n)) n) }
+    {
+        match self.set.partner(id) {
+            Some(partner) => match self.set.router().table().next_hop(&partner) {
+                Some(hop) => *peer == hop,
+                None => false,
+            },
+            None => false,
+        }
+    }
+
     /// Whether the user's side has room for a text.
     pub(crate) fn has_room(&self, session: &Session) -> bool
         ensures { (n : State) → Told self.now n → result ≡ users.has_room session.now n }
@@ -56,6 +91,23 @@ impl Station {
             User::AtEnd(id) => self.end_has_room(id),
             User::AtLink(peer) => !session.has_left() && self.link_has_room(&peer),
         }
+    }
+
+    /// Whether it has room for a message of the circuit of an end.
+    fn has_room_beside(&self, session: &Session, id: u64) -> bool
+        ensures { (n : State) → Told self.now n → result ≡ users.has_room_beside session.now id n }
+    {
+        match session.user() {
+            User::AtEnd(user) => self.end_has_room(user),
+            User::AtLink(peer) => !session.has_left() && self.link_has_room_beside(&peer, id),
+        }
+    }
+
+    /// Whether a message of the circuit of an end can be given to the user, or is dropped.
+    pub(crate) fn can_pass_on(&self, session: &Session, id: u64) -> bool
+        ensures { (n : State) → Told self.now n → result ≡ users.can_pass_on session.now id n }
+    {
+        self.is_deaf(session) || self.has_room_beside(session, id)
     }
 
     /// Whether what is for the user can be given to it, or is dropped.
