@@ -22,4 +22,5 @@ pub mod RunStates
 pub mod RunSteps
 pub mod Runs
 pub mod Ways
+pub mod Within
 pub mod Written

@@ -16,7 +16,7 @@ use Rattle.ax_link.specs.Moves.{resume}
 use Rattle.std.specs.Option.{option_to_list}
 use Rattle.ax_link.specs.declared.plain.LinkOut.{LinkOut}
 use Rattle.ax_link.specs.declared.plain.SendRefusal.{SendRefusal}
-use Rattle.ax_link.specs.Standing.{LinkView, Keeps, KeepsEffect, Stands, StandsFor, frame_of, state_of}
+use Rattle.ax_link.specs.Standing.{LinkView, Keeps, KeepsEffect, frame_of, state_of}
 use Rattle.ax_link.specs.Stations.{view_of}
 use Rattle.ax_link.specs.declared.station.Station.{Station}
 use Rattle.ax_link.specs.Table.{Input, Set_up, Send, Arrive, Tick, Close, Take, step, accept, set_up_in, takes}
@@ -135,11 +135,6 @@ bounds_stay s i now b = (of_every s i now b).0.0
 pub every_put : (s : State) (i : Input) (now : ℕ) → Bounded (stock s) → AllByRecursion (IsPutOut every (step s i now).link.rules.size) (step s i now).outs
 every_put s i now b = (of_every s i now b).1
 
--- a step of what is kept is one within the bounds
-pub within : (size : ℕ) (h later : LinkView) (i : Input) (now : ℕ) → ((s : State) → Keeps size h s → KeepsEffect size later (step s i now)) →
-    (s : State) → StandsFor size h s → Stands size later (step s i now)
-within size h later i now does s stands = record { keeps = does s stands.keeps; bounds = bounds_stay s i now stands.bounds }
-
 abbrev nothing : Payload
 nothing = record { pid = 0; info = record { items = [] } }
 
@@ -173,39 +168,36 @@ some_bounds size st fits =
       untaken = (replicate (st.got - length st.inbox.items) nothing, refl);
     }
 
--- what is kept stands for some state
-stands_for_some : {M : Type 0} (size : ℕ) (st : Station M) → st.window < size → StandsFor size (view_of st) (some_state size (view_of st))
-stands_for_some size st fits =
+-- what is kept is that of some state
+kept_of_some : {M : Type 0} (size : ℕ) (st : Station M) → Keeps size (view_of st) (some_state size (view_of st))
+kept_of_some size st =
     record {
-      keeps = record {
-        before = replicate st.acked nothing;
-        received = some_gots (view_of st);
-        acked = length-replicate st.acked nothing;
-        got = some_got (view_of st) st.inbox_was_got;
-        is = refl;
-      };
-      bounds = some_bounds size st fits;
+      before = replicate st.acked nothing;
+      received = some_gots (view_of st);
+      acked = length-replicate st.acked nothing;
+      got = some_got (view_of st) st.inbox_was_got;
+      is = refl;
     }
 
 -- what waits after a step
 pub all_put : {M : Type 0} (size : ℕ) (st : Station M) (later : LinkView) (i : Input) (now : ℕ) → st.window < size →
-    ((s : State) → StandsFor size (view_of st) s → Stands size later (step s i now)) → AllCanBeSent size later.outs
+    ((s : State) → Keeps size (view_of st) s → KeepsEffect size later (step s i now)) → AllCanBeSent size later.outs
 all_put size st later i now fits does =
     let s : State = some_state size (view_of st) in
-    let stands = does s (stands_for_some size st fits) in
+    let keeps = does s (kept_of_some size st) in
     all_back size later.outs
-    (subst (λ (g : Effect). AllByRecursion (IsPutOut every g.link.rules.size) g.outs) stands.keeps.is (every_put s i now (some_bounds size st fits)))
+    (subst (λ (g : Effect). AllByRecursion (IsPutOut every g.link.rules.size) g.outs) keeps.is (every_put s i now (some_bounds size st fits)))
 
 no_notice : (n : Option LinkNotice) → [] ≡ option_to_list n → n ≡ None
 no_notice None e = refl
 no_notice (Some n) e = absurd (cc e)
 
 -- a step that gives no notice leaves none
-pub quiet : {M : Type 0} (size : ℕ) (st : Station M) (later : LinkView) (i : Input) (now : ℕ) → st.window < size → ((s : State) → (step s i now).notes ≡ []) →
-    ((s : State) → StandsFor size (view_of st) s → Stands size later (step s i now)) → later.notice ≡ None
-quiet size st later i now fits none does =
+pub quiet : {M : Type 0} (size : ℕ) (st : Station M) (later : LinkView) (i : Input) (now : ℕ) → ((s : State) → (step s i now).notes ≡ []) →
+    ((s : State) → Keeps size (view_of st) s → KeepsEffect size later (step s i now)) → later.notice ≡ None
+quiet size st later i now none does =
     let s : State = some_state size (view_of st) in
-    no_notice later.notice (sym (none s) ∙ ap (λ (g : Effect). g.notes) (does s (stands_for_some size st fits)).keeps.is)
+    no_notice later.notice (sym (none s) ∙ ap (λ (g : Effect). g.notes) (does s (kept_of_some size st)).is)
 
 set_up_notes : (phase : LinkPhase) (now : ℕ) (s : State) → (set_up_in phase now (begin s)).notes ≡ []
 set_up_notes Down now s = refl

@@ -24,7 +24,7 @@ both_8 v w = grind (arith, nat_tests)
 both_128 : (v w : ℕ) → window_used 128 true v + window_used 128 true w ≤ 128
 both_128 v w = grind (arith, nat_tests)
 
-window_fits : (size : ℕ) (srej : Bool) (w : ℕ) → (size ≡ 8) ⊎ (size ≡ 128) → window_used size srej w < size
+pub window_fits : (size : ℕ) (srej : Bool) (w : ℕ) → (size ≡ 8) ⊎ (size ≡ 128) → window_used size srej w < size
 window_fits size srej w (inl e) = subst (λ n. window_used n srej w < n) (sym e) (fits_8 srej w)
 window_fits size srej w (inr e) = subst (λ n. window_used n srej w < n) (sym e) (fits_128 srej w)
 

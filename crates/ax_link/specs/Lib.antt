@@ -1,5 +1,6 @@
 pub mod Bounds
 pub mod Carrying
+pub mod Kept
 pub mod Kinds
 pub mod Laws
 pub mod Moves
@@ -7,6 +8,7 @@ pub mod Opening
 pub mod Pair
 pub mod Outputs
 pub mod Runs
+pub mod Sizes
 pub mod Standing
 pub mod State
 pub mod Stations

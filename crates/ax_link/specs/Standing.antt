@@ -7,6 +7,7 @@ use Rattle.ax_link.specs.declared.plain.LinkNotice.{LinkNotice}
 use Rattle.ax_link.specs.declared.plain.LinkOut.{LinkOut}
 use Rattle.ax_link.specs.Bounds.{Bounded, stock}
 use Rattle.ax_link.specs.Kinds.{kind_of}
+use Rattle.ax_link.specs.Sizes.{Sized}
 use Rattle.ax_link.specs.State.{Frame, Rules, State, Effect, t1_runs}
 
 -- what is kept: of the payloads that were accepted those that aren't acknowledged, and of what came what wasn't taken
@@ -84,15 +85,17 @@ pub record KeepsEffect (size : ℕ) (h : LinkView) (g : Effect) : Type 0 where
   pub got : length received ≡ h.got
   pub is : g ≡ effect_of size h before received
 
--- what is kept stands for a state within its bounds that differs from it in nothing but what was forgotten
+-- what is kept stands for a state within its bounds and sizes that differs from it in nothing but what was forgotten
 pub record StandsFor (size : ℕ) (h : LinkView) (s : State) : Type 0 where
   pub keeps : Keeps size h s
   pub bounds : Bounded (stock s)
+  pub sized : Sized s
 
 -- the same of a step that was done, with the frames and the notice that wait
 pub record Stands (size : ℕ) (h : LinkView) (g : Effect) : Type 0 where
   pub keeps : KeepsEffect size h g
   pub bounds : Bounded (stock g.link)
+  pub sized : Sized g.link
 
 -- whether T1 runs
 abbrev pub runs : LinkView → Bool

@@ -99,6 +99,7 @@ impl<M: Modulus> Station<M> {
         requires outs { self.old.outs.items ≡ [] }
         ensures answer { result ≡ send_answer (view_of self.old) }
         ensures does { OnOk result (Does M.SIZE (table.accept now payload.now) self.old self.new) }
+        ensures small { OnOk result (length payload.now.info.items ≤ 256) }
         ensures err { OnErr result (view_of self.new ≡ view_of self.old) }
         ensures window { self.new.window ≡ self.old.window }
     {
@@ -121,6 +122,7 @@ impl<M: Modulus> Station<M> {
         requires room { length self.old.queue.items < 128 }
         requires numbers { self.old.acked + length self.old.queue.items < COUNT_MAX }
         ensures does { Does M.SIZE (table.accept now payload.now) self.old self.new }
+        ensures small { length payload.now.info.items ≤ 256 }
         ensures window { self.new.window ≡ self.old.window }
     {
         self.enqueue(payload);
@@ -131,6 +133,7 @@ impl<M: Modulus> Station<M> {
         requires room { length self.old.queue.items < 128 }
         requires numbers { self.old.acked + length self.old.queue.items < COUNT_MAX }
         ensures does { Does M.SIZE (enqueue payload.now) self.old self.new }
+        ensures small { length payload.now.info.items ≤ 256 }
         ensures adds { Adds 0 (view_of self.old) (view_of self.new) }
     {
         push(&mut self.queue, copy_of(payload));

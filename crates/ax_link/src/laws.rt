@@ -10,6 +10,7 @@ ghost use Rattle.ax_link.specs.Pair.{PairSound, Both, Core, Queue, InScope, IsNe
 ghost use Rattle.ax_link.specs.Runs.{CleanRun, Ends, EndsBounded, Event, Safe, Side, Starts, TakenSafe, carrying, losing, new_ends, run, two_new};
 ghost use Rattle.ax_link.specs.Opening.{rules_new};
 ghost use Rattle.ax_link.specs.Carrying.{OpensSo, UpGoesOn};
+ghost use Rattle.ax_link.specs.Kept.{KeepsItsShare};
 ghost use Rattle.ax_link.specs.Laws.{BoundsStay, FramesCanBeWritten, KindsGoOut, NoticesAre, PayloadsStay, SettingsStay};
 ghost use Rattle.ax_link.specs.declared.plain.LinkConfig.{LinkConfig};
 ghost use Rattle.radio_base.specs.declared.payload.Payload.{Payload};
@@ -118,6 +119,11 @@ pub fn steps()
 pub fn up_goes_on()
     ensures up { UpGoesOn }
     ensures opens { OpensSo }
+{}
+
+/// A link keeps at most its share: 50,176 octets of modulo 8, and 65,536 of modulo 128. What waits to be fetched isn't counted.
+pub fn kept()
+    ensures { KeepsItsShare }
 {}
 
 /// Each frame that a step of a link within its bounds puts out can be written, and so be read: its numbers are below the modulus, and it

@@ -5,6 +5,7 @@ ghost use Rattle.ax_link.specs.Kinds.{frame_in};
 ghost use Rattle.ax_link.specs.State.{State, count_end};
 ghost use Rattle.ax_link.specs.Table as table;
 ghost use Rattle.ax_link.specs.Standing.{Stands, StandsFor};
+ghost use Rattle.ax_link.specs.Kept.{kept, share};
 ghost use Rattle.ax_link.specs.Outputs.{CanBeSent};
 ghost use Rattle.ax_link.specs.Opening.{IsDrained, facts_of, opening, rules_new, send_answer};
 
@@ -62,6 +63,7 @@ impl<M: Modulus> Link<M> {
     pub fn set_up(&mut self, now: Moment)
         requires { IsDrained self.old }
         ensures does { (s : State) → StandsFor M.SIZE self.old s → Stands M.SIZE self.new (table.step s table.Set_up now.0) }
+        ensures kept { (s : State) → StandsFor M.SIZE self.old s → kept self.new ≤ share M.SIZE }
         ensures quiet { self.new.notice ≡ None }
     {
         self.station.set_up(moment(now));
@@ -73,6 +75,7 @@ impl<M: Modulus> Link<M> {
         ensures answer { result ≡ send_answer self.old }
         ensures takes { (s : State) → StandsFor M.SIZE self.old s → is_ok result ≡ table.takes s }
         ensures does { OnOk result ((s : State) → StandsFor M.SIZE self.old s → Stands M.SIZE self.new (table.step s (table.Send payload.now) now.0)) }
+        ensures kept { OnOk result ((s : State) → StandsFor M.SIZE self.old s → kept self.new ≤ share M.SIZE) }
         ensures quiet { OnOk result (self.new.notice ≡ None) }
         ensures err { OnErr result (self.new ≡ self.old) }
     {
@@ -90,6 +93,7 @@ impl<M: Modulus> Link<M> {
     )
         requires { IsDrained self.old }
         ensures does { (s : State) → StandsFor M.SIZE self.old s → Stands M.SIZE self.new (table.step s (table.Arrive (frame_in M.SIZE command control.now pid info.now)) now.0) }
+        ensures kept { (s : State) → StandsFor M.SIZE self.old s → kept self.new ≤ share M.SIZE }
     {
         self.station
             .arrive(command, control, pid, info, moment(now));
@@ -99,6 +103,7 @@ impl<M: Modulus> Link<M> {
     pub fn tick(&mut self, now: Moment)
         requires { IsDrained self.old }
         ensures does { (s : State) → StandsFor M.SIZE self.old s → Stands M.SIZE self.new (table.step s table.Tick now.0) }
+        ensures kept { (s : State) → StandsFor M.SIZE self.old s → kept self.new ≤ share M.SIZE }
     {
         self.station.tick(moment(now));
     }
@@ -107,6 +112,7 @@ impl<M: Modulus> Link<M> {
     pub fn close(&mut self, now: Moment)
         requires { IsDrained self.old }
         ensures does { (s : State) → StandsFor M.SIZE self.old s → Stands M.SIZE self.new (table.step s table.Close now.0) }
+        ensures kept { (s : State) → StandsFor M.SIZE self.old s → kept self.new ≤ share M.SIZE }
     {
         self.station.close(moment(now));
     }
@@ -143,6 +149,7 @@ impl<M: Modulus> Link<M> {
     pub fn take(&mut self, now: Moment) -> Option<Payload>
         requires { IsDrained self.old }
         ensures does { (s : State) → StandsFor M.SIZE self.old s → Stands M.SIZE self.new (table.step s table.Take now.0) }
+        ensures kept { (s : State) → StandsFor M.SIZE self.old s → kept self.new ≤ share M.SIZE }
         ensures quiet { self.new.notice ≡ None }
         ensures payload { result ≡ slice_get self.old.inbox 0 }
     {

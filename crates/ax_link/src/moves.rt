@@ -26,7 +26,8 @@ pub(crate) fn payload_of(pid: u8, info: &[u8]) -> Payload
 
 /// A payload with the same text.
 pub(crate) fn copy_of(payload: &Payload) -> Payload
-    ensures { result ≡ payload.now }
+    ensures same { result ≡ payload.now }
+    ensures small { length payload.now.info.items ≤ 256 }
 {
     payload_of(payload.pid, payload.info.as_slice())
 }

@@ -1,3 +1,4 @@
 pub mod Cutting
 pub mod Joins
 pub mod Prefix
+pub mod Kept

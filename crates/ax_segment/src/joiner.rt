@@ -1,27 +1,15 @@
 //! Segments are joined to messages.
-ghost use Rattle.std.specs.Prelude.{◌≡◌, ◌≤◌, IfOk, IfSome};
+ghost use Rattle.std.specs.Prelude.{◌≡◌, ◌≤◌, length, IfOk, IfSome, OnOk, OnErr};
 ghost use Rattle.ax_segment.specs.Joining.{Nothing, join_step, held_of, whole_of};
-ghost use Rattle.ax_segment.specs.Pushing.{StepsTo, answer_of};
+ghost use Rattle.ax_segment.specs.Kept.{IsWithin, kept};
+ghost use Rattle.ax_segment.specs.Pushing.{answer_of};
 
-use crate::gathered::{Gathered, Taken};
+use crate::Joined;
+use crate::gathered::Gathered;
 use crate::whole::whole_by;
 use radio_base::NoMemory;
 use std::alloc::Global;
 use std::marker::Model;
-
-/// What a segment comes to.
-#[derive(Clone, Copy, Debug, PartialEq, Eq)]
-pub enum Joined<'a> {
-    /// The message isn't whole yet.
-    More,
-    /// It is whole.
-    Whole { pid: u8, message: &'a [u8] },
-    /// The segment has no octet, or is a first one without a PID. What was held is gone.
-    Short,
-    /// The first octet isn't the one that had to come: the count `expected`, or that of a first segment where it is
-    /// `None`. The segment is dropped, and what was held is gone.
-    Broken { expected: Option<u8>, found: u8 },
-}
 
 /// Joins the segments of one message after another.
 #[derive(Drop)]
@@ -30,17 +18,20 @@ pub struct Joiner {
 }
 
 impl Model for Joiner {
+    ghost use Rattle.std.specs.Prelude.{◌≡◌, length};
     ghost use Rattle.ax_segment.specs.Joining.{Held};
     ghost use Rattle.ax_segment.specs.Gathering.{held_at};
+    ghost use Rattle.ax_segment.specs.Kept.{kept};
 
     ghost Value = { Held };
 
     ghost view = { λ j. held_at j.gathered };
+
+    // Its buffer has no octet that the model doesn't show.
+    ghost invariant = { λ j. length j.gathered.bytes.items ≡ kept (held_at j.gathered) };
 }
 
 impl Joiner {
-    ghost use Rattle.std.specs.Borrow.{sem};
-
     /// A joiner that holds nothing.
     pub fn new(alloc: Global) -> Joiner
         ensures { result ≡ Nothing }
@@ -54,7 +45,7 @@ impl Joiner {
     pub fn clear(&mut self)
         ensures { self.new ≡ Nothing }
     {
-        self.gathered.to_come = 0;
+        self.gathered.clear();
     }
 
     /// The PID, the number of bytes and the count of segments still to come of what is held: none where nothing is held.
@@ -83,18 +74,13 @@ impl Joiner {
     }
 
     /// Takes in the next segment. Where memory ran out, what is held stays as it was.
-    pub fn push(&mut self, segment: &[u8]) -> Result<Joined<'_>, NoMemory>
-        ensures* step { sem 𝓛 (StepsTo self.entry segment.now result) }
+    pub fn push(&mut self, segment: &[u8]) -> Result<Joined, NoMemory>
+        ensures held { OnOk result (self.new ≡ (join_step self.old segment.now).0) }
         ensures answer { IfOk result (λ joined. answer_of joined ≡ (join_step self.old segment.now).1) }
+        ensures err { OnErr result (self.new ≡ self.old) }
+        ensures within { length segment.now ≤ 256 → IsWithin self.old → IsWithin self.new }
+        ensures kept { length segment.now ≤ 256 → IsWithin self.old → kept self.new ≤ 32639 }
     {
-        match self.gathered.take_in(segment)? {
-            Taken::More => Ok(Joined::More),
-            Taken::Whole => Ok(Joined::Whole {
-                pid: self.gathered.pid,
-                message: self.gathered.bytes.as_slice(),
-            }),
-            Taken::Short => Ok(Joined::Short),
-            Taken::Broken { expected, found } => Ok(Joined::Broken { expected, found }),
-        }
+        self.gathered.take_in(segment)
     }
 }

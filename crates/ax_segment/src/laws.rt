@@ -1,5 +1,6 @@
 //! What holds of every message and its segments.
 ghost use Rattle.std.specs.Prelude.{◌≡◌};
+ghost use Rattle.ax_segment.specs.Kept.{KeepsFew, StaysWithin};
 ghost use Rattle.ax_segment.specs.Laws.{PiecesAreFull, SegmentsJoin, JoinedPrefix};
 
 use crate::{FIRST_BIT, FULL_PIECE, LONGEST_MESSAGE};
@@ -19,6 +20,13 @@ pub fn segments_join()
 /// of those that were split.
 pub fn joined_prefix()
     ensures { JoinedPrefix }
+{}
+
+/// What a joiner holds, with what may still come behind it, is at most 32,639 octets, as long as each segment has at most 256. So it
+/// keeps at most so many.
+pub fn kept_within()
+    ensures stays { StaysWithin }
+    ensures few { KeepsFew }
 {}
 
 /// The bit of a first segment, the most octets behind the first one of a segment, and the most bytes of a message.

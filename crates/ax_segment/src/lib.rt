@@ -7,12 +7,14 @@
 #![tactic(auto)]
 
 mod gathered;
+mod joined;
 mod joiner;
 pub mod laws;
 mod split;
 mod whole;
 
-pub use joiner::{Joined, Joiner};
+pub use joined::Joined;
+pub use joiner::Joiner;
 pub use split::{Split, SplitRefusal};
 
 /// Set in the first octet of a first segment.

@@ -22,8 +22,14 @@ fn octets(alloc: Global, start: &[u8], bytes: &[u8]) -> Result<Vec<u8>, Fail> {
     Ok(octets)
 }
 
+/// A message that is whole.
+fn whole(alloc: Global, pid: u8, message: &[u8]) -> Result<Joined, Fail> {
+    let message = Vec::from_slice(alloc, message)?;
+    Ok(Joined::Whole { pid, message })
+}
+
 /// Asserts what a segment comes to.
-fn expect(rt: &impl Abort, joiner: &mut Joiner, segment: &[u8], wanted: Joined<'_>) {
+fn expect(rt: &impl Abort, joiner: &mut Joiner, segment: &[u8], wanted: Joined) {
     let joined = joiner.push(segment);
     assert!(rt; joined == Ok(wanted), "{segment:?}");
 }
@@ -54,7 +60,7 @@ fn a_message_of_300_bytes(rt: HostRuntime) -> Result<(), Fail> {
         [first, second] => {
             expect_info(&rt, first, b"\x81\xF0", &front);
             expect_info(&rt, second, b"\x00", &back);
-            expect_message(&rt, rt.alloc(), first, second, &message);
+            expect_message(&rt, rt.alloc(), first, second, &message)?;
         }
         _ => assert!(rt; false),
     }
@@ -68,7 +74,7 @@ fn expect_message(
     first: &Payload,
     second: &Payload,
     message: &[u8],
-) {
+) -> Result<(), Fail> {
     let mut joiner = Joiner::new(alloc);
     let (expected, found) = (None, 0);
     expect(
@@ -79,14 +85,10 @@ fn expect_message(
     );
     expect(rt, &mut joiner, &first.info, Joined::More);
     expect_held(rt, &joiner, Some((0xF0, 254, 1)));
-    let pid = 0xF0;
-    expect(
-        rt,
-        &mut joiner,
-        &second.info,
-        Joined::Whole { pid, message },
-    );
+    let wanted = whole(alloc, 0xF0, message)?;
+    expect(rt, &mut joiner, &second.info, wanted);
     expect_held(rt, &joiner, None);
+    Ok(())
 }
 
 #[test]
@@ -96,12 +98,16 @@ fn the_longest_message_and_one_byte_more(rt: HostRuntime) -> Result<(), Fail> {
     assert!(rt; refusal(b"") == Some(SplitRefusal::Empty));
     let longest = &message[..32_639];
     let segments = segments(rt.alloc(), 0xCF, longest)?;
-    expect_longest(&rt, rt.alloc(), &segments, longest);
-    Ok(())
+    expect_longest(&rt, rt.alloc(), &segments, longest)
 }
 
 /// The segments of the longest message join to it, and not before the last one.
-fn expect_longest(rt: &impl Abort, alloc: Global, segments: &[Payload], message: &[u8]) {
+fn expect_longest(
+    rt: &impl Abort,
+    alloc: Global,
+    segments: &[Payload],
+    message: &[u8],
+) -> Result<(), Fail> {
     assert_eq!(rt; segments.len(), 128);
     let mut joiner = Joiner::new(alloc);
     for (at, segment) in segments.iter().enumerate() {
@@ -109,14 +115,15 @@ fn expect_longest(rt: &impl Abort, alloc: Global, segments: &[Payload], message:
         let wanted = if at < 127 {
             Joined::More
         } else {
-            Joined::Whole { pid: 0xCF, message }
+            whole(alloc, 0xCF, message)?
         };
         expect(rt, &mut joiner, &segment.info, wanted);
     }
+    Ok(())
 }
 
 #[test]
-fn a_segment_out_of_turn_empties_the_joiner(rt: HostRuntime) {
+fn a_segment_out_of_turn_empties_the_joiner(rt: HostRuntime) -> Result<(), Fail> {
     let mut joiner = Joiner::new(rt.alloc());
     expect(&rt, &mut joiner, b"\x82\xF0ab", Joined::More);
     let skipped = Joined::Broken {
@@ -130,11 +137,9 @@ fn a_segment_out_of_turn_empties_the_joiner(rt: HostRuntime) {
         found: 1,
     };
     expect(&rt, &mut joiner, b"\x01cd", late);
-    let single = Joined::Whole {
-        pid: 0xF0,
-        message: b"ab",
-    };
+    let single = whole(rt.alloc(), 0xF0, b"ab")?;
     expect(&rt, &mut joiner, b"\x80\xF0ab", single);
+    Ok(())
 }
 
 #[test]

@@ -23,6 +23,10 @@ held_of piece = if is_too_long (unescaped piece) then Skipped else Piece (unesca
 abbrev pub StandsFor : Held → List ℕ → Type 0
 StandsFor held stream = held ≡ held_of (open_piece stream)
 
+-- What a deframer keeps, in octets. Its buffer counts whole, since what was handed out stays in it until the next piece begins.
+abbrev pub kept : Held → ℕ
+kept held = 1024
+
 -- how many unescaped bytes are held
 abbrev pub pending_of : Held → ℕ
 pending_of (Piece bytes in_escape) = length bytes

@@ -1,7 +1,7 @@
 //! A KISS stream becomes frames.
 ghost use Rattle.std.specs.Prelude.{◌≡◌, ℕ, ◌≤◌, List, [], ◌∷◌, ◌++◌, ◌<◌, length, take, IfSome, IfNone};
 ghost use Rattle.kiss_framing.specs.Stream.{items, given_by_byte, frame_of as frame_in};
-ghost use Rattle.kiss_framing.specs.Deframing.{StandsFor, pending_of};
+ghost use Rattle.kiss_framing.specs.Deframing.{StandsFor, kept, pending_of};
 ghost use Rattle.kiss_framing.specs.Stepping.{items_at};
 ghost use Rattle.kiss_framing.specs.Feeding.{GoesOn, IsQuietBefore, IsSmall, handed_out};
 
@@ -29,13 +29,16 @@ pub struct Deframer {
 }
 
 impl Model for Deframer {
-    ghost use Rattle.std.specs.Prelude.{◌≡◌};
-    ghost use Rattle.kiss_framing.specs.Deframing.{Held};
+    ghost use Rattle.std.specs.Prelude.{◌≡◌, ◌≤◌, length};
+    ghost use Rattle.kiss_framing.specs.Deframing.{Held, kept};
     ghost use Rattle.kiss_framing.specs.Stepping.{held_at};
 
     ghost Value = { Held };
 
     ghost view = { λ d. held_at d.piece.place d.piece.bytes.items };
+
+    // Its buffer has no more than it keeps, what was handed out among it.
+    ghost invariant = { λ d. length d.piece.bytes.items ≤ kept (held_at d.piece.place d.piece.bytes.items) };
 }
 
 impl Deframer {
@@ -52,7 +55,8 @@ impl Deframer {
 
     /// The number of unescaped bytes that are held of the piece that is coming: 0 behind a `FEND`, and in a piece that was too long.
     pub fn pending(&self) -> usize
-        ensures { result ≡ pending_of self.now }
+        ensures value { result ≡ pending_of self.now }
+        ensures within { result ≤ kept self.now }
     {
         self.piece.len()
     }

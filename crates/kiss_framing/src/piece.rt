@@ -40,6 +40,7 @@ pub(crate) enum Ends {
 pub(crate) struct Piece {
     pub(crate) bytes: ArrayVec<u8, LONGEST>,
     pub(crate) place: Place,
+    ghost fits: { length bytes.items ≤ 1024 },
 }
 
 impl Piece {
@@ -55,7 +56,8 @@ impl Piece {
 
     /// How many bytes are held.
     pub(crate) fn len(&self) -> usize
-        ensures { result ≡ pending_of (held_at self.now.place self.now.bytes.items) }
+        ensures value { result ≡ pending_of (held_at self.now.place self.now.bytes.items) }
+        ensures within { result ≤ 1024 }
     {
         match self.place {
             Place::Within | Place::Escaped => self.bytes.len(),

@@ -32,6 +32,7 @@ heeded_link size h h1 g s e =
         is = rw e (ap (λ (x : Effect). record x { notes = [] }) s.keeps.is);
       };
       bounds = s.bounds;
+      sized = s.sized;
     }
 
 pub link_rests : (size : ℕ) (h h1 : LinkView) (g : Effect) → Stands size h g → h1 ≡ record h { outs = [] } → StandsFor size h1 g.link
@@ -39,6 +40,7 @@ link_rests size h h1 g s e =
     record {
       keeps = record { before = s.keeps.before; received = s.keeps.received; acked = rw e s.keeps.acked; got = rw e s.keeps.got; is = rw e (ap (λ (x : Effect). x.link) s.keeps.is) };
       bounds = s.bounds;
+      sized = s.sized;
     }
 
 pub relinked : (size : ℕ) (b : Book) (e : End) (s : State) → BookStands size b e → BookStands size b (record e { link = s })

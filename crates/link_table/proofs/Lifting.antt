@@ -5,10 +5,13 @@ use Rattle.std.proofs.lemmas.List.{map-append}
 use Rattle.radio_base.specs.declared.payload.Payload.{Payload}
 use Rattle.ax_link.specs.declared.plain.LinkOut.{LinkOut}
 use Rattle.ax_link.specs.Opening.{IsDrained}
+use Rattle.ax_link.specs.declared.plain.LinkNotice.{LinkNotice}
+use Rattle.ax_link.specs.declared.plain.LinkNotice.TheVariants.{Opened, Reset, Closed, Refused, Failed}
 use Rattle.ax_link.specs.Standing.{LinkView, Stands, StandsFor, frame_of}
 use Rattle.ax_link.specs.State.{Frame, Effect, State}
 use Rattle.ax_link.specs.Table.{Arrive, Input, Take, step}
 use Rattle.ax_segment.specs.Joining.{Held as Joined, join_step}
+use Rattle.ax_segment.specs.Kept.{IsWithin}
 use Rattle.link_table.specs.declared.route.Route.{Route}
 use Rattle.link_table.specs.declared.pending.Pending.{Pending}
 use Rattle.link_table.specs.declared.written.Written.{Written}
@@ -61,6 +64,15 @@ outs_alone old mid new first next =
 pub lifted_drained : (size : ℕ) (route : Route) (old new : LinkView) (j j2 : Joined) (k k2 : Pending) → Lifted size route old new j j2 k k2 → IsDrained new
 lifted_drained size route old new j j2 k k2 l = record { outs = ap (λ (h : LinkView). h.outs) l.link; notice = ap (λ (h : LinkView). h.notice) l.link }
 
+-- a notice leaves what is joined within its bounds
+after_within : (notes : List LinkNotice) (j : Joined) → IsWithin j → IsWithin (joiner_after notes j)
+after_within [] j x = x
+after_within (Reset ∷ notes) j x = tt
+after_within (Opened ∷ notes) j x = after_within notes j x
+after_within (Closed ∷ notes) j x = after_within notes j x
+after_within (Refused ∷ notes) j x = after_within notes j x
+after_within (Failed ∷ notes) j x = after_within notes j x
+
 -- a step of the link and what comes of it are a step of the work
 pub lifts : (size : ℕ) (route : Route) (i : Input) (now : ℕ) (old mid new : LinkView) (j j2 : Joined) (k k2 : Pending) →
     ((s : State) → StandsFor size old s → Stands size mid (step s i now)) → Lifted size route mid new j j2 k k2 →
@@ -77,8 +89,10 @@ lifts size route i now old mid new j j2 k k2 does l w stands =
       link = record {
         keeps = record { before = s.keeps.before; received = s.keeps.received; acked = rw l.link s.keeps.acked; got = rw l.link s.keeps.got; is = rw l.link (ap (λ (x : Effect). x.link) s.keeps.is) };
         bounds = s.bounds;
+        sized = s.sized;
       };
       joiner = rw (notes, stands.joiner) (sym l.joiner);
+      within = subst IsWithin (sym l.joiner) (after_within (option_to_list mid.notice) j stands.within);
       pending = record {
         waiting = l.waiting ∙ stands.pending.waiting;
         lost = rw (l.lost, stands.pending.lost, notes, stands.peer) refl;
@@ -106,6 +120,7 @@ hands size route p h j j2 k k2 u w s = by (p.pid == netrom) (p.pid == segmented)
           path = s.path;
           link = s.link;
           joiner = s.joiner ∙ sym e;
+          within = u.within s.within;
           pending = record { waiting = rw (f, s.pending.waiting, s.peer) refl; lost = u.lost ∙ s.pending.lost; notices = u.notices ∙ s.pending.notices; frames = u.frames ∙ s.pending.frames };
         }
     by false true e f =
@@ -114,6 +129,7 @@ hands size route p h j j2 k k2 u w s = by (p.pid == netrom) (p.pid == segmented)
           path = s.path;
           link = s.link;
           joiner = rw (e, s.joiner) refl;
+          within = u.within s.within;
           pending = record { waiting = f ∙ s.pending.waiting; lost = u.lost ∙ s.pending.lost; notices = u.notices ∙ s.pending.notices; frames = u.frames ∙ s.pending.frames };
         }
     by false false e f =
@@ -122,6 +138,7 @@ hands size route p h j j2 k k2 u w s = by (p.pid == netrom) (p.pid == segmented)
           path = s.path;
           link = s.link;
           joiner = s.joiner ∙ sym e;
+          within = u.within s.within;
           pending = record { waiting = f ∙ s.pending.waiting; lost = u.lost ∙ s.pending.lost; notices = u.notices ∙ s.pending.notices; frames = u.frames ∙ s.pending.frames };
         }
 
@@ -150,6 +167,7 @@ hands_first size route now p q old mid new j j2 j3 k k2 k3 e does quiet u l =
     let up : HandsUp q route j j3 before k3 =
     record {
       joiner = l.joiner ∙ ap (λ x. joiner_after (option_to_list x) j2) quiet ∙ u.joiner;
+      within = λ x. subst IsWithin (sym (l.joiner ∙ ap (λ n. joiner_after (option_to_list n) j2) quiet)) (u.within x);
       waiting = l.waiting ∙ u.waiting;
       lost = refl;
       notices = refl;
@@ -244,6 +262,7 @@ quietly size route i now old mid new fs fs2 does quiet e out s stands =
       link = record {
         keeps = record { before = x.keeps.before; received = x.keeps.received; acked = rw e x.keeps.acked; got = rw e x.keeps.got; is = rw e (ap (λ (g : Effect). g.link) x.keeps.is) };
         bounds = x.bounds;
+        sized = x.sized;
       };
       frames = rw (out, outs) refl;
       notes = ap (λ (g : Effect). g.notes) x.keeps.is ∙ ap option_to_list quiet;

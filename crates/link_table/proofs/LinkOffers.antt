@@ -24,6 +24,7 @@ use Rattle.ax_link.specs.declared.plain.LinkPhase.TheVariants.{Down, SettingUp, 
 use Rattle.ax_link.specs.State.{State, begin}
 use Rattle.ax_link.specs.Table.{Input, Send, Set_up, accept, may_close, set_up_in, step, takes}
 use Rattle.ax_link.specs.Standing.{LinkView, StandsFor}
+use Rattle.ax_segment.specs.Kept.{IsWithin}
 use Rattle.l3_datagram.specs.CarrierCall.{Datagram}
 use Rattle.l3_datagram.specs.declared.carrier.Offered.{Offered}
 use Rattle.l3_datagram.specs.declared.carrier.Offered.TheVariants.{Taken, Dropped}
@@ -54,6 +55,7 @@ entry_quietly i now e e2 k k2 same goes waiting lost notices =
             path = s.path;
             link = q.link;
             joiner = ap (λ ns. joiner_after ns w.linked.joiner) q.notes ∙ s.joiner ∙ sym same.joiner;
+            within = subst IsWithin (sym same.joiner) s.within;
             pending = record {
               waiting = waiting ∙ s.pending.waiting;
               lost = lost ∙ s.pending.lost ∙ sym (append_none w.pending.lost) ∙ sym (ap (λ ns. w.pending.lost ++ lost_by w.linked.peer ns) q.notes);
@@ -150,6 +152,7 @@ offer_at c c2 peer e e2 d now Dropped there same offers waiting lost notices n e
       path = f.stands.path ∙ sym (ap (λ (r : Route). r.path) same.route);
       link = subst (λ m. StandsFor m (held_of e2.link) f.link.link) (sym same.size) (subst (λ (h : LinkView). StandsFor (size_of e.link) h f.link.link) (sym offers.1) f.stands.link);
       joiner = f.stands.joiner ∙ sym same.joiner;
+      within = subst IsWithin (sym same.joiner) f.stands.within;
     } in
     let links : LinksStand c.own (set_value (same_call peer) c.links.entries e2) t.links =
     subst (λ ls. LinksStand c.own (set_value (same_call peer) c.links.entries e2) ls) (with_same peer t.links f.link f.with)

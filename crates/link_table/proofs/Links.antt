@@ -10,6 +10,7 @@ use Rattle.link_table.specs.declared.pending.Pending.{Pending}
 use Rattle.link_table.specs.Fetching.{PendingStands}
 use Rattle.link_table.specs.Calls.{at_link, made, keep, most_links, tick, tick_each}
 use Rattle.ax_segment.specs.Joining.{Nothing}
+use Rattle.ax_segment.specs.Kept.{IsWithin}
 use Rattle.link_table.specs.declared.route.Route.{Route}
 use Rattle.ax_link.specs.State.{State}
 use Rattle.ax_link.specs.Table.{Tick}
@@ -176,7 +177,7 @@ at_link_stands c c2 peer e e2 kept2 part there goes same_pending n entries t s =
     let f : Found c.own peer e t.links = found c.own peer c.links.entries t.links e s.links there in
     let w : Work = record { linked = f.link; pending = t.pending } in
     let w2 : Work = part t.own w in
-    let stands : WorkStands (size_of e.link) (held_of e.link) e.route e.joiner c.pending w = record { peer = f.stands.is ∙ sym f.stands.peer; path = f.stands.path; link = f.stands.link; joiner = f.stands.joiner; pending = s.pending } in
+    let stands : WorkStands (size_of e.link) (held_of e.link) e.route e.joiner c.pending w = record { peer = f.stands.is ∙ sym f.stands.peer; path = f.stands.path; link = f.stands.link; joiner = f.stands.joiner; within = f.stands.within; pending = s.pending } in
     let after : WorkStands (size_of e.link) (held_of e2.link) e.route e2.joiner kept2 w2 =
     subst (λ o. WorkStands (size_of e.link) (held_of e2.link) e.route e2.joiner kept2 (part o w)) (f.stands.own ∙ sym s.own) (goes.goes w stands) in
     let same_peer : e2.route.peer ≡ e.route.peer = ap (λ (r : Route). r.peer) goes.route in
@@ -188,6 +189,7 @@ at_link_stands c c2 peer e e2 kept2 part there goes same_pending n entries t s =
       path = after.path ∙ sym (ap (λ (r : Route). r.path) goes.route);
       link = subst (λ n. StandsFor n (held_of e2.link) w2.linked.link) (sym goes.size) after.link;
       joiner = after.joiner;
+      within = after.within;
     } in
     let links : LinksStand c.own (set_value (same_call peer) c.links.entries e2) (with_link peer w2.linked t.links) =
     set c.own peer c.links.entries t.links e2 w2.linked s.links (λ e3 q g. let same : e3 ≡ e = cc (sym q ∙ there) in one g.key (subst (λ (y : Entry). y.route.peer ≡ g.key) same g.stands.peer)) in
@@ -289,6 +291,7 @@ made_stands c c2 size e route n pending entries own same joiner width_is link t 
         path = sym (ap (λ (r : Route). r.path) same);
         link = rw (s.config, width_is) link;
         joiner = sym joiner;
+        within = subst IsWithin (sym joiner) tt;
       }));
       paths = s.paths ∙ sym n.paths;
       pending = rw pending s.pending;

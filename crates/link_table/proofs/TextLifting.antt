@@ -10,6 +10,7 @@ use Rattle.ax_link.specs.Standing.{LinkView, Stands, StandsFor}
 use Rattle.ax_link.specs.State.{State, count_end}
 use Rattle.ax_link.specs.Table.{Take, may_close, step}
 use Rattle.ax_segment.specs.Joining.{Held as Joined, join_step, whole_of}
+use Rattle.ax_segment.specs.Kept.{IsWithin}
 use Rattle.link_table.specs.declared.entry.Entry.{Entry}
 use Rattle.link_table.specs.declared.held_links.HeldLinks.{HeldLinks}
 use Rattle.link_table.specs.declared.route.Route.{Route}
@@ -30,8 +31,8 @@ not_netrom j p q =
     ap (λ n. if n == plain_text then nat_le 1 (length p.info.items) else if n == segmented then text_by (whole_of (join_step j p.info.items).1) else false) pid
 
 -- a text isn't handed up
-text_handed : (route : Route) (p : Payload) (j j2 : Joined) (k : Pending) → is_text j p ≡ true → j2 ≡ joined_with p j → HandsUp p route j j2 k k
-text_handed route p j j2 k t e = record { joiner = e; waiting = by (p.pid == netrom) refl; lost = refl; notices = refl; frames = refl }
+text_handed : (route : Route) (p : Payload) (j j2 : Joined) (k : Pending) → is_text j p ≡ true → j2 ≡ joined_with p j → (IsWithin j → IsWithin j2) → HandsUp p route j j2 k k
+text_handed route p j j2 k t e within = record { joiner = e; within = within; waiting = by (p.pid == netrom) refl; lost = refl; notices = refl; frames = refl }
   where
     by : (b : Bool) → (p.pid == netrom) ≡ b → k.waiting.items ≡ (if b then k.waiting.items ++ (route.peer, p.info) ∷ [] else k.waiting.items)
     by false q = refl
@@ -47,12 +48,12 @@ was_text j p = by (is_text j p)
 pub text_goes : (size : ℕ) (route : Route) (now : ℕ) (p : Payload) (old mid new new2 : LinkView) (j j2 j3 j4 : Joined) (k k2 k3 : Pending) →
     slice_get old.inbox 0 ≡ Some p → is_some (texts.first_text j (slice_get old.inbox 0)) ≡ true →
     ((s : State) → StandsFor size old s → Stands size mid (step s Take now)) → mid.notice ≡ None → Lifted size route mid new j j2 k k2 →
-    j3 ≡ joined_with p j2 → Goes size route (settle most_taken route.own now) new new2 j3 j4 k2 k3 →
+    j3 ≡ joined_with p j2 → (IsWithin j2 → IsWithin j3) → Goes size route (settle most_taken route.own now) new new2 j3 j4 k2 k3 →
     Goes size route (texts.take_text_of route.own now) old new2 j j4 k k3
-text_goes size route now p old mid new new2 j j2 j3 j4 k k2 k3 first waits does quiet l e more w s =
+text_goes size route now p old mid new new2 j j2 j3 j4 k k2 k3 first waits does quiet l e within more w s =
     let same : j2 ≡ j = l.joiner ∙ ap (λ n. joiner_after (option_to_list n) j) quiet in
     let is : is_text j2 p ≡ true = ap (λ x. is_text x p) same ∙ was_text j p (ap (λ x. is_some (texts.first_text j x)) (sym first) ∙ waits) in
-    let one : Goes size route (take_payload route.own now p) old new j j3 k k2 = takes_one size route now p p old mid new j j2 j3 k k2 k2 refl does l (text_handed route p j2 j3 k2 is e) in
+    let one : Goes size route (take_payload route.own now p) old new j j3 k k2 = takes_one size route now p p old mid new j j2 j3 k k2 k2 refl does l (text_handed route p j2 j3 k2 is e within) in
     let there : slice_get w.linked.link.inbox 0 ≡ Some p = ap (λ (x : State). slice_get x.inbox 0) s.link.keeps.is ∙ first in
     subst (WorkStands size new2 route j4 k3)
     (sym (ap (λ x. elim x as (λ y. Work) [ None ↦ w | Some q ↦ settle most_taken route.own now (take_payload route.own now q w) ]) there))

@@ -7,7 +7,7 @@ use Rattle.ax_link.specs.State.{State}
 use Rattle.l3_datagram.specs.CarrierCall.{Datagram}
 use Rattle.link_table.specs.declared.entry.Entry.{Entry}
 use Rattle.link_table.specs.Calls.{offer}
-use Rattle.link_table.specs.Standing.{Kept, TableStands, held_of}
+use Rattle.link_table.specs.Standing.{TableView, TableStands, held_of}
 use Rattle.link_table.specs.Table.{Linked, Table}
 use Rattle.link_table.specs.Texts.{take_text, text_with}
 
@@ -36,7 +36,7 @@ abbrev pub entry_payloads : List (Callsign × Entry) → ℕ
 entry_payloads [] = 0
 entry_payloads (e ∷ es) = held_payloads (held_of e.1.link) + entry_payloads es
 
-abbrev pub kept_payloads : Kept → ℕ
+abbrev pub kept_payloads : TableView → ℕ
 kept_payloads k = entry_payloads k.links
 
 -- nothing that waits for the node is changed but frames, and no payload that came
@@ -53,4 +53,4 @@ abbrev pub TakesLower : Type 0
 TakesLower = (peer : Callsign) (now : ℕ) (t : Table) → is_some (text_with peer t) ≡ true → payloads (take_text peer now t) < payloads t
 
 abbrev pub CountsPayloads : Type 0
-CountsPayloads = (k : Kept) (t : Table) → TableStands k t → kept_payloads k ≡ payloads t
+CountsPayloads = (k : TableView) (t : Table) → TableStands k t → kept_payloads k ≡ payloads t

@@ -11,6 +11,7 @@ use Rattle.ax_link.specs.Table.{may_close, Input, Send, step, takes}
 use Rattle.l3_datagram.specs.declared.carrier.Offered.{Offered}
 use Rattle.l3_datagram.specs.declared.carrier.Offered.TheVariants.{Taken, Dropped}
 use Rattle.ax_segment.specs.Joining.{Held as Joined, join_step}
+use Rattle.ax_segment.specs.Kept.{IsWithin}
 use Rattle.radio_base.specs.declared.payload.Payload.{Payload}
 use Rattle.l3_datagram.specs.CarrierCall.{Parcel}
 use Rattle.link_table.specs.declared.link_of.LinkOf.{LinkOf}
@@ -51,6 +52,7 @@ pub record WorkStands (size : ℕ) (h : LinkView) (route : Route) (j : Joined) (
   pub path : w.linked.path ≡ route.path
   pub link : StandsFor size h w.linked.link
   pub joiner : w.linked.joiner ≡ j
+  pub within : IsWithin j
   pub pending : PendingStands keep w.pending
 
 -- what was kept goes over to what is kept as the work does
@@ -80,6 +82,7 @@ waiting_with peer p ws = if p.pid == netrom then ws ++ (peer, p.info) ∷ [] els
 
 pub record HandsUp (p : Payload) (route : Route) (j j2 : Joined) (keep kept2 : Pending) : Type 0 where
   pub joiner : j2 ≡ joined_with p j
+  pub within : IsWithin j → IsWithin j2
   pub waiting : kept2.waiting.items ≡ waiting_with route.peer p keep.waiting.items
   pub lost : kept2.lost.items ≡ keep.lost.items
   pub notices : kept2.notices.items ≡ keep.notices.items
@@ -106,6 +109,7 @@ pub record LinkStands (node key : Callsign) (e : Entry) (l : Linked) : Type 0 wh
   pub path : l.path ≡ e.route.path
   pub link : StandsFor (size_of e.link) (held_of e.link) l.link
   pub joiner : l.joiner ≡ e.joiner
+  pub within : IsWithin e.joiner
 
 -- link by link, in their order
 abbrev pub LinksStand : Callsign → List (Callsign × Entry) → List Linked → Type 0
@@ -177,7 +181,7 @@ abbrev pub drop_if_down : Callsign → List (Callsign × Entry) → List (Callsi
 drop_if_down peer es = if down_at peer es then remove_entry (same_call peer) es else es
 
 -- what contracts see of a table of links
-pub record Kept : Type 0 where
+pub record TableView : Type 0 where
   pub own : Callsign
   pub by_links : Bool
   pub wide : Bool
@@ -190,7 +194,7 @@ pub record Kept : Type 0 where
   pub frames : List Written
   pub spent : Bool  -- memory ran out in an earlier call
 
-abbrev pub shown : HeldLinks → Bool → Kept
+abbrev pub shown : HeldLinks → Bool → TableView
 shown c spent =
     record {
       own = c.own;
@@ -207,7 +211,7 @@ shown c spent =
     }
 
 -- it stands for a table where it isn't spent, and holds what the table holds but for what links have forgotten
-pub record TableStands (k : Kept) (t : Table) : Type 0 where
+pub record TableStands (k : TableView) (t : Table) : Type 0 where
   pub spent : k.spent ≡ false
   pub own : t.own ≡ k.own
   pub by_links : t.by_links ≡ k.by_links
@@ -220,12 +224,12 @@ pub record TableStands (k : Kept) (t : Table) : Type 0 where
   pub notices : k.notices ≡ t.pending.notices
   pub frames : k.frames ≡ map written t.pending.frames
 
-abbrev pub TableGoes : (Table → Table) → Kept → Kept → Type 0
+abbrev pub TableGoes : (Table → Table) → TableView → TableView → Type 0
 TableGoes part old new = (t : Table) → TableStands old t → TableStands new (part t)
 
 -- For each table that the carrier before stands for, these calls have these answers, and the carrier after stands for the
 -- table to which they lead.
-abbrev pub Made : Kept → List CarrierCall → Kept → Type 0
+abbrev pub Made : TableView → List CarrierCall → TableView → Type 0
 Made old cs new = (t : Table) → TableStands old t → AllAnswer t cs × TableStands new (after_calls cs t)
 
 all_answer : (t : Table) (cs more : List CarrierCall) → AllAnswer t cs → AllAnswer (after_calls cs t) more → AllAnswer t (cs ++ more)
@@ -236,7 +240,7 @@ after_more : (t : Table) (cs more : List CarrierCall) → after_calls (cs ++ mor
 after_more t [] more = refl
 after_more t (c ∷ cs) more = after_more (after_call c t) cs more
 
-pub more_made : (a b c : Kept) (cs more : List CarrierCall) → Made a cs b → Made b more c → Made a (cs ++ more) c
+pub more_made : (a b c : TableView) (cs more : List CarrierCall) → Made a cs b → Made b more c → Made a (cs ++ more) c
 more_made a b c cs more first next t s =
     let x = first t s in
     let y = next (after_calls cs t) x.1 in

@@ -1,6 +1,7 @@
 //! What the definitions promise by themselves.
 ghost use Rattle.std.specs.Prelude.{◌≡◌};
 ghost use Rattle.link_table.specs.Calls.{AnsweredAsDown};
+ghost use Rattle.link_table.specs.Kept.{KeepsItsShare};
 ghost use Rattle.link_table.specs.Payloads.{CountsPayloads, OffersLeave, TakesLower};
 ghost use Rattle.link_table.specs.Reaching.{FramesAreSpelled};
 ghost use Rattle.link_table.specs.Rooms.{OffersTakeOne, RoomTakesTexts, TextsAreFew};
@@ -81,6 +82,15 @@ pub fn room()
     ensures texts { RoomTakesTexts }
     ensures offers { OffersTakeOne }
 {}
+
+/// A node's links keep at most 98,175 octets each, with what is joined from segments. Frames that wait to be fetched aren't counted,
+/// and datagrams that weren't collected are counted beside.
+pub fn kept()
+    ensures { KeepsItsShare }
+{
+    ax_link::laws::kept();
+    ax_segment::laws::kept_within();
+}
 
 /// The pieces of 256 bytes as which a text goes over a link of modulo 8 are the text.
 pub fn pieces_are_the_text()

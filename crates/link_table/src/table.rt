@@ -9,7 +9,7 @@ ghost use Rattle.link_table.specs.Texts as texts;
 
 use crate::held_links::HeldLinks;
 use crate::pending::Pending;
-use crate::{LinkOf, MAX_ORIGINATED, MAX_PATHS, PathRefusal, TextRefusal, Written};
+use crate::{LinkOf, MAX_ORIGINATED, MAX_PATHS, PathRefusal, TextRefusal, Written, laws};
 use arrayvec::ArrayVec;
 use ax_address::{Call, Path};
 use ax_frame::FrameView;
@@ -36,9 +36,9 @@ pub struct LinkTable {
 
 impl Model for LinkTable {
     ghost use Rattle.std.specs.Prelude.{◌≡◌, false};
-    ghost use Rattle.link_table.specs.Standing.{Kept, Rests, shown};
+    ghost use Rattle.link_table.specs.Standing.{TableView, Rests, shown};
 
-    ghost Value = { Kept };
+    ghost Value = { TableView };
 
     ghost view = { λ t. shown t.core t.spent };
 
@@ -49,6 +49,7 @@ impl LinkTable {
     ghost use Rattle.link_table.specs.Standing.{LentStands, NotNoMemory, TableGoes, TableStands, TextNotNoMemory, text_given, width};
     ghost use Rattle.link_table.specs.Table.{link_with};
     ghost use Rattle.link_table.specs.Fetching.{written};
+    ghost use Rattle.link_table.specs.Kept.{KeepsOn};
     ghost use Rattle.ax_frame.specs.Frames.{view};
     ghost use Rattle.std.specs.Option.{option_copied, option_map};
     ghost use Rattle.link_table.specs.declared.path_refusal.PathRefusal.TheVariants as refusals;
@@ -90,6 +91,8 @@ impl LinkTable {
         ensures goes { OnOk result (TableGoes (calls.with_path peer.now path.now) self.old self.new) }
         ensures answer { NotNoMemory result → (t : Table) → TableStands self.old t → result ≡ calls.path_answer peer.now path.now t }
         ensures err { OnErr result (NotNoMemory result → self.new ≡ self.old) }
+        ensures few { OnOk result (length self.new.links ≤ 64) }
+        ensures kept { OnOk result (KeepsOn self.old self.new) }
         ensures memory { IsErrOf result refusals.NoMemory ↔ IsTrue self.new.spent }
         ensures spent { IsTrue self.old.spent → self.new ≡ self.old }
     {
@@ -102,6 +105,7 @@ impl LinkTable {
         if self.core.paths.len() >= MAX_PATHS && !self.core.paths.contains_key(peer) {
             return Err(PathRefusal::Full);
         }
+        laws::kept();
         self.spent = true;
         if self.core.set_path(peer, path).is_err() {
             return Err(PathRefusal::NoMemory);
@@ -133,12 +137,15 @@ impl LinkTable {
     /// Takes in a frame to this node, whatever it is. It has to be read by the modulus that `is_128` tells of its source.
     pub fn arrive(&mut self, frame: &FrameView<'_>, now: Moment) -> Result<(), NoMemory>
         ensures goes { OnOk result (TableGoes (calls.arrive (view frame.now) now.0) self.old self.new) }
+        ensures few { OnOk result (length self.new.links ≤ 64) }
+        ensures kept { OnOk result (KeepsOn self.old self.new) }
         ensures memory { IsErr result ↔ IsTrue self.new.spent }
         ensures spent { IsTrue self.old.spent → self.new ≡ self.old }
     {
         if self.spent {
             return Err(NoMemory);
         }
+        laws::kept();
         self.spent = true;
         self.core.arrive(frame, now)?;
         self.spent = false;
@@ -148,12 +155,15 @@ impl LinkTable {
     /// Time has passed: each link looks at its timers, in the order in which the links were made.
     pub fn tick(&mut self, now: Moment) -> Result<(), NoMemory>
         ensures goes { OnOk result (TableGoes (calls.tick now.0) self.old self.new) }
+        ensures few { OnOk result (length self.new.links ≤ 64) }
+        ensures kept { OnOk result (KeepsOn self.old self.new) }
         ensures memory { IsErr result ↔ IsTrue self.new.spent }
         ensures spent { IsTrue self.old.spent → self.new ≡ self.old }
     {
         if self.spent {
             return Err(NoMemory);
         }
+        laws::kept();
         self.spent = true;
         self.core.tick(now)?;
         self.spent = false;
@@ -163,12 +173,15 @@ impl LinkTable {
     /// Releases the link with a peer once all is acknowledged. Nothing where no link stands.
     pub fn close(&mut self, peer: &Call, now: Moment) -> Result<(), NoMemory>
         ensures goes { OnOk result (TableGoes (calls.close peer.now now.0) self.old self.new) }
+        ensures few { OnOk result (length self.new.links ≤ 64) }
+        ensures kept { OnOk result (KeepsOn self.old self.new) }
         ensures memory { IsErr result ↔ IsTrue self.new.spent }
         ensures spent { IsTrue self.old.spent → self.new ≡ self.old }
     {
         if self.spent {
             return Err(NoMemory);
         }
+        laws::kept();
         self.spent = true;
         self.core.close(peer, now)?;
         self.spent = false;
@@ -178,12 +191,15 @@ impl LinkTable {
     /// The link with a peer is lost, and nothing is sent: it ends with Failed. Nothing where no link stands.
     pub fn break_link(&mut self, peer: &Call) -> Result<(), NoMemory>
         ensures goes { OnOk result (TableGoes (calls.break_link peer.now) self.old self.new) }
+        ensures few { OnOk result (length self.new.links ≤ 64) }
+        ensures kept { OnOk result (KeepsOn self.old self.new) }
         ensures memory { IsErr result ↔ IsTrue self.new.spent }
         ensures spent { IsTrue self.old.spent → self.new ≡ self.old }
     {
         if self.spent {
             return Err(NoMemory);
         }
+        laws::kept();
         self.spent = true;
         self.core.end(peer, LinkNotice::Failed)?;
         self.spent = false;
@@ -227,12 +243,15 @@ impl LinkTable {
         ensures goes { OnOk result (TableGoes (texts.take_text peer.now now.0) self.old self.new) }
         ensures answer { IfOk result (λ taken. (t : Table) → TableStands self.old t → text_given taken out.new.items ≡ texts.text_with peer.now t) }
         ensures out { IfOk result (λ taken. taken ≡ false → out.new ≡ out.old) }
+        ensures few { OnOk result (length self.new.links ≤ 64) }
+        ensures kept { OnOk result (KeepsOn self.old self.new) }
         ensures memory { IsErr result ↔ IsTrue self.new.spent }
         ensures spent { IsTrue self.old.spent → self.new ≡ self.old }
     {
         if self.spent {
             return Err(NoMemory);
         }
+        laws::kept();
         if !self.core.text_waits(peer) {
             return Ok(false);
         }
@@ -249,6 +268,8 @@ impl LinkTable {
         ensures goes { OnOk result (TableGoes (sending.send_text peer.now text.now now.0) self.old self.new) }
         ensures answer { TextNotNoMemory result → (t : Table) → TableStands self.old t → result ≡ sending.text_answer peer.now text.now t }
         ensures err { OnErr result (TextNotNoMemory result → self.new ≡ self.old) }
+        ensures few { OnOk result (length self.new.links ≤ 64) }
+        ensures kept { OnOk result (KeepsOn self.old self.new) }
         ensures memory { IsErrOf result text_refusals.NoMemory ↔ IsTrue self.new.spent }
         ensures spent { IsTrue self.old.spent → self.new ≡ self.old }
     {
@@ -258,6 +279,7 @@ impl LinkTable {
         if let Err(refusal) = self.core.text_answer(peer, text) {
             return Err(refusal);
         }
+        laws::kept();
         self.spent = true;
         if self.core.send_text(peer, text, now).is_err() {
             return Err(TextRefusal::NoMemory);
@@ -295,6 +317,7 @@ impl LinkTable {
 }
 
 impl Carrier for LinkTable {
+    ghost use Rattle.link_table.specs.Kept.{KeepsOn};
     ghost use Rattle.link_table.specs.Standing.{Made, more_made};
 
     ghost waiting = { λ k. k.waiting };
@@ -304,6 +327,8 @@ impl Carrier for LinkTable {
     ghost made = { Made };
 
     fn offer(&mut self, to: &Call, datagram: &Datagram, now: Moment) -> Result<Offered, NoMemory>
+        ensures few { OnOk result (length self.new.links ≤ 64) }
+        ensures kept { OnOk result (KeepsOn self.old self.new) }
         ensures memory { IsErr result ↔ IsTrue self.new.spent }
         ensures spent { IsTrue self.old.spent → self.new ≡ self.old }
 
@@ -315,6 +340,7 @@ impl Carrier for LinkTable {
         if self.spent {
             return Err(NoMemory);
         }
+        laws::kept();
         self.spent = true;
         let offered = self.core.offer(to, datagram, now)?;
         self.spent = false;

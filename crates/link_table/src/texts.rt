@@ -1,8 +1,9 @@
 //! Texts that come over a link: which payloads are texts, and taking them (the PIDs: AX.25 2.2, section 3.4).
-ghost use Rattle.std.specs.Prelude.{◌≡◌, ◌-◌, [], Some, OnOk, is_some, true, slice_get};
+ghost use Rattle.std.specs.Prelude.{◌≡◌, ◌≤◌, ◌-◌, [], Some, OnOk, is_some, length, true, slice_get};
 ghost use Rattle.ax_frame.specs.Controls.{IsLinkModulus};
 ghost use Rattle.ax_link.specs.Opening.{IsDrained};
 ghost use Rattle.ax_segment.specs.Joining.{join_step, whole_of};
+ghost use Rattle.ax_segment.specs.Kept.{IsWithin};
 ghost use Rattle.link_table.specs.Standing.{Goes, joined_with, room_in};
 ghost use Rattle.link_table.specs.Texts as texts;
 ghost use Rattle.link_table.specs.Works as works;
@@ -87,6 +88,7 @@ pub(crate) fn take_text<M: Modulus>(
 fn hand_out(payload: &Payload, joiner: &mut Joiner, out: &mut Message) -> Result<(), NoMemory>
     requires { works.is_text joiner.old payload.now ≡ true }
     ensures joiner { OnOk result (joiner.new ≡ joined_with payload.now joiner.old) }
+    ensures within { OnOk result (IsWithin joiner.old → IsWithin joiner.new) }
     ensures text { OnOk result (out.new.items ≡ texts.text_of joiner.old payload.now) }
 {
     out.clear();
@@ -100,14 +102,16 @@ fn hand_out(payload: &Payload, joiner: &mut Joiner, out: &mut Message) -> Result
 
 /// Hands out the text that a segment makes whole.
 fn join_out(joiner: &mut Joiner, segment: &[u8], out: &mut Message) -> Result<(), NoMemory>
+    requires few { length segment.now ≤ 256 }
     requires empty { out.old.items ≡ [] }
     requires text { works.text_by (whole_of (join_step joiner.old segment.now).1) ≡ true }
     ensures joiner { OnOk result (joiner.new ≡ (join_step joiner.old segment.now).0) }
+    ensures within { OnOk result (IsWithin joiner.old → IsWithin joiner.new) }
     ensures text { OnOk result (out.new.items ≡ texts.message_of (join_step joiner.old segment.now).1) }
 {
     match joiner.push(segment)? {
         Joined::Whole { message, .. } => {
-            let _ = out.try_extend_from_slice(message);
+            let _ = out.try_extend_from_slice(message.as_slice());
             Ok(())
         }
         _ => Ok(()),

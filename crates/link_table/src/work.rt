@@ -10,6 +10,7 @@ ghost use Rattle.ax_link.specs.Outputs.{CanBeSent};
 ghost use Rattle.ax_link.specs.Standing.{frame_of};
 ghost use Rattle.ax_link.specs.Table as table;
 ghost use Rattle.ax_segment.specs.Joining.{join_step};
+ghost use Rattle.ax_segment.specs.Kept.{IsWithin};
 ghost use Rattle.link_table.specs.Fetching.{written};
 ghost use Rattle.link_table.specs.Frames.{all_sent, fitting, sent_by};
 ghost use Rattle.link_table.specs.Standing.{Goes, HandsUp, Lifted, gone_out};
@@ -143,7 +144,9 @@ pub(crate) fn bring(peer: &Call, octets: &[u8], waiting: &mut Waiting) -> Result
 
 /// Hands a segment to the joiner.
 fn join(joiner: &mut Joiner, segment: &[u8]) -> Result<(), NoMemory>
-    ensures { OnOk result (joiner.new ≡ (join_step joiner.old segment.now).0) }
+    requires { length segment.now ≤ 256 }
+    ensures joiner { OnOk result (joiner.new ≡ (join_step joiner.old segment.now).0) }
+    ensures within { OnOk result (IsWithin joiner.old → IsWithin joiner.new) }
 {
     let _ = joiner.push(segment)?;
     Ok(())

@@ -4,6 +4,7 @@ use crate::segments::{SEGMENTS, SegmentsVector};
 use ax_segment::{Joined, Joiner, Split};
 use std::alloc::Global;
 use std::process::Abort;
+use std::test::Fail;
 
 /// The next segment is this.
 fn expect_segment(rt: &impl Abort, split: &mut Split<'_>, segment: &[u8]) {
@@ -29,26 +30,32 @@ fn messages_are_split(rt: HostRuntime) {
 }
 
 /// A segment comes to this.
-fn expect_joined(rt: &impl Abort, joiner: &mut Joiner, segment: &[u8], wanted: Joined<'_>) {
+fn expect_joined(rt: &impl Abort, joiner: &mut Joiner, segment: &[u8], wanted: Joined) {
     expect(rt, joiner.push(segment) == Ok(wanted), segment);
 }
 
-fn segments_are_joined(rt: &impl Abort, alloc: Global, row: &SegmentsVector) {
-    let whole = Joined::Whole {
-        pid: row.pid,
-        message: row.message,
-    };
+fn segments_are_joined(rt: &impl Abort, alloc: Global, row: &SegmentsVector) -> Result<(), Fail> {
     let mut joiner = Joiner::new(alloc);
     for (at, segment) in row.segments.iter().enumerate() {
         let is_last = at + 1 == row.segments.len();
-        let wanted = if is_last { whole } else { Joined::More };
+        let wanted = if is_last {
+            let message = Vec::from_slice(alloc, row.message)?;
+            Joined::Whole {
+                pid: row.pid,
+                message,
+            }
+        } else {
+            Joined::More
+        };
         expect_joined(rt, &mut joiner, segment, wanted);
     }
+    Ok(())
 }
 
 #[test]
-fn segments_join(rt: HostRuntime) {
+fn segments_join(rt: HostRuntime) -> Result<(), Fail> {
     for row in &SEGMENTS {
-        segments_are_joined(&rt, rt.alloc(), row);
+        segments_are_joined(&rt, rt.alloc(), row)?;
     }
+    Ok(())
 }

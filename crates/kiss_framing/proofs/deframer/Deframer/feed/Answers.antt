@@ -7,3 +7,6 @@ returns c =
     let next = fed _ _ _ _ c.take_in-ends.ensures.stepped in
     rw (← c.self.view_is, c.item_of.ensures.item)
     ((refl, λ _. tt, next.goes_on), record { goes_on = tt; adds = next.adds; exact = next.exact; small = c.item_of.ensures.small })
+
+pub invariant_of-self : goal.invariant_of-self
+invariant_of-self c = c.take_in-ends.new.self.fits

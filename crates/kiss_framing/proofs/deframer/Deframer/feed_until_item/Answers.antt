@@ -17,3 +17,6 @@ returns c =
         small = c.item_of.ensures.small;
       },
     )
+
+pub invariant_of-self : goal.invariant_of-self
+invariant_of-self c = c.take_in_some-count.new.self.fits
