@@ -18,7 +18,7 @@ use Rattle.circuit_l4.specs.declared.machine.Role.TheVariants.{Requester, Respon
 use Rattle.circuit_l4.specs.declared.texts.Owed.{Owed}
 use Rattle.circuit_l4.specs.EndState.{Effect, Out, State, begin, info, info_ack, infos, is_up}
 use Rattle.circuit_l4.specs.EndMoves.{acknowledge, again, answer, answer_all, wait, wait_if_out, on_state, begin_to_close, end_with, fill, fill_count, finish, with_receiving, is_done, note, on_info, on_info_ack, emit, emit_owed, supply, emit_ack}
-use Rattle.circuit_l4.specs.EndTable.{Input, Write, Arrive, Tick, Close, Take, on_accept, common_window, arrive_in, ask_by, close, close_in_turn, due_in, expire, count_expiry, note_activity, is_due, may_close, come_up, release, resume_by, retry, retry_in, step, step_at, take_first, take_from, tick, write_answer, write}
+use Rattle.circuit_l4.specs.EndTable.{Input, Write, Arrive, Tick, Close, Take, on_accept, common_window, arrive_in, ask_by, close, close_in_turn, due_in, expire, note_activity, is_due, may_close, come_up, release, resume_by, retry, retry_in, step, step_at, take_first, take_from, tick, write_answer, write}
 use Rattle.circuit_l4.specs.EndLaws.{Asks, Accepts, DisconnectsWhenAcknowledged, IsNew, followed_by, after_inputs}
 use Rattle.circuit_l4.specs.Sending.{total, written}
 use Rattle.circuit_l4.specs.Receiving.{Appended, Receipt, busy, receive, without_first, inbox, moved_on}
@@ -172,7 +172,7 @@ tries_again Ended now g e c none = no_request (again_later now g) c none
 
 expires : (now : ℕ) (s : State) → Closes s → Sound (expire now (begin s))
 expires now s c =
-    let g = count_expiry (begin s) in
+    let g = begin s in
     either_going Sound (nat_eq s.tries s.config.retries) (end_with FailedRetries g) (retry now g)
     (ends FailedRetries g nothing) (tries_again s.phase now g refl c nothing)
 

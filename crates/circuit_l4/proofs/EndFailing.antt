@@ -16,7 +16,7 @@ use Rattle.circuit_l4.specs.declared.machine.Role.TheVariants.{Requester, Respon
 use Rattle.circuit_l4.specs.declared.texts.Owed.{Owed}
 use Rattle.circuit_l4.specs.EndState.{Effect, State, begin, is_up}
 use Rattle.circuit_l4.specs.EndMoves.{acknowledge, answer, answer_all, on_state, begin_to_close, end_with, fill, fill_count, finish, with_receiving, is_done, note, on_info, on_info_ack, emit_owed, emit_ack}
-use Rattle.circuit_l4.specs.EndTable.{Input, Write, Arrive, Tick, Close, Take, on_accept, common_window, arrive_in, ask_by, close, close_in_turn, due_in, expire, count_expiry, note_activity, is_due, may_close, come_up, release, resume_by, retry, retry_in, step_at, take_first, take_from, tick, write_answer, write}
+use Rattle.circuit_l4.specs.EndTable.{Input, Write, Arrive, Tick, Close, Take, on_accept, common_window, arrive_in, ask_by, close, close_in_turn, due_in, expire, note_activity, is_due, may_close, come_up, release, resume_by, retry, retry_in, step_at, take_first, take_from, tick, write_answer, write}
 use Rattle.circuit_l4.specs.EndLaws.{FailingPutsOutNothing}
 use Rattle.circuit_l4.specs.Receiving.{Appended, Receipt, busy, receive, without_first, inbox, moved_on}
 use Rattle.circuit_l4.proofs.EndParts.{either_going}
@@ -105,7 +105,7 @@ tried_again Ended g e = e
 
 expires : (now : ℕ) (s : State) → Silent (expire now (begin s))
 expires now s =
-    let g = count_expiry (begin s) in
+    let g = begin s in
     either_going Silent (nat_eq s.tries s.config.retries) (end_with FailedRetries g) (retry now g)
     (λ w. refl) (unnoted (retry now g) (tried_again s.phase g refl))
 

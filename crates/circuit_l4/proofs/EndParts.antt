@@ -1,28 +1,27 @@
--- What the parts of an end's step leave as it is: the phase, the configuration, and how the tries were counted.
-use Rattle.std.proofs.Common.{◌≡◌, ℕ, ◌-◌, suc, ◌≤◌, Bool, true, false, nat_lt, if◌then◌else◌, Option, Some, None, refl, arith}
+-- What the parts of an end's step leave as it is: the phase, the configuration, and how the tries count.
+use Rattle.std.proofs.Common.{◌≡◌, ℕ, ◌-◌, ◌<◌, ◌⊎◌, inl, inr, suc, Bool, true, false, nat_lt, if◌then◌else◌, Option, Some, None, refl, ◌∙◌, arith}
+use Rattle.std.proofs.lemmas.Bool.Decides.{nat_tests}
 use Rattle.radio_base.specs.Modulus.{place_of}
 use Rattle.circuit_l4.specs.declared.transport.Flags.{Flags}
 use Rattle.circuit_l4.specs.EndState.{Effect, State}
 use Rattle.circuit_l4.specs.EndMoves.{acknowledge, acknowledge_by, advance, wait, wait_if_out, hold, count_out}
 
--- as many expiries have counted as there were tries, and at most as many as there are retries
-pub record Counted (tries expiries retries : ℕ) : Type 0 where
-  pub same : tries ≡ expiries
-  pub few : tries ≤ retries
+-- more is acknowledged and the tries count anew, or neither
+abbrev pub Counts : State → State → Type 0
+Counts s t = ((s.sending.acked < t.sending.acked) × (t.tries ≡ 0)) ⊎ ((t.sending.acked ≡ s.sending.acked) × (t.tries ≡ s.tries))
 
-abbrev pub IsCounted : State → Type 0
-IsCounted s = Counted s.tries s.expiries s.config.retries
-
--- none has counted
-pub anew : (retries : ℕ) → Counted 0 0 retries
-anew retries = record { same = refl; few = omega arith }
-
--- after a part of a step, the phase is that of s, and the tries are counted if they were in s
+-- after a part of a step, the phase and the retries are those of s, and the tries count on
 abbrev pub Keeps : State → State → Type 0
-Keeps s t = (t.phase ≡ s.phase) × (IsCounted s → IsCounted t)
+Keeps s t = (t.phase ≡ s.phase) × (t.config.retries ≡ s.config.retries) × Counts s t
 
 pub itself : (s : State) → Keeps s s
-itself s = (refl, λ h. h)
+itself s = (refl, refl, inr (refl, refl))
+
+pub counts_on : (s t u : State) → Counts s t → Counts t u → Counts s u
+counts_on s t u (inl a) (inl b) = inl (omega (arith, a.0, b.0), b.1)
+counts_on s t u (inl a) (inr b) = inl (omega (arith, a.0, b.0), b.1 ∙ a.1)
+counts_on s t u (inr a) (inl b) = inl (omega (arith, a.0, b.0), b.1)
+counts_on s t u (inr a) (inr b) = inr (b.0 ∙ a.0, b.1 ∙ a.1)
 
 -- ---- a choice ----
 pub either : (P : State → Type 0) (b : Bool) (s t : State) → P s → P t → P (if b then s else t)
@@ -45,9 +44,15 @@ keeps-counted_out s now many = either (Keeps s) (nat_lt 0 many) _ _ (waits s _ n
 pub keeps-awaited_if_out : (s t : State) (now : ℕ) → Keeps s t → Keeps s (wait_if_out now t)
 keeps-awaited_if_out s t now h = either (Keeps s) (nat_lt t.sending.acked t.sending.sent) _ _ h h
 
+advanced : (s : State) (now x : ℕ) (b : Bool) → nat_lt s.sending.acked x ≡ b
+    → Keeps s (if b then wait_if_out now (record s { sending = record s.sending { acked = x }; tries = 0 }) else s)
+advanced s now x true e =
+    let more : s.sending.acked < x = grind (arith, nat_tests) in
+    keeps-awaited_if_out s (record s { sending = record s.sending { acked = x }; tries = 0 }) now (refl, refl, inl (more, refl))
+advanced s now x false e = itself s
+
 keeps-advanced : (s : State) (now x : ℕ) → Keeps s (advance now x s)
-keeps-advanced s now x =
-    either (Keeps s) (nat_lt s.sending.acked x) _ _ (keeps-awaited_if_out s (record s { sending = record s.sending { acked = x }; tries = 0; expiries = 0 }) now (refl, λ h. anew s.config.retries)) (itself s)
+keeps-advanced s now x = advanced s now x (nat_lt s.sending.acked x) refl
 
 keeps-choked : (s t : State) (now : ℕ) (choke : Bool) → Keeps s t → Keeps s (hold now choke t)
 keeps-choked s t now true h = h

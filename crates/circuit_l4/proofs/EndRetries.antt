@@ -1,5 +1,5 @@
--- An end fails for want of an answer exactly where one expiry more has counted than there are retries.
-use Rattle.std.proofs.Common.{◌≡◌, ℕ, suc, ◌+◌, ◌<◌, ◌⊎◌, inl, inr, ⊎_elim, ◌↔◌, min, Bool, true, false, ◌&&◌, ◌||◌, not, nat_eq, nat_le, nat_lt, if◌then◌else◌, is_ok, List, [], ◌∷◌, ◌++◌, length, Contains, None, refl, arith}
+-- An end fails for want of an answer exactly where there was one expiry more than there are retries.
+use Rattle.std.proofs.Common.{◌≡◌, ℕ, suc, ◌+◌, ◌<◌, ◌≤◌, ◌⊎◌, ◌∙◌, ap, subst, sym, inl, inr, ⊎_elim, ◌↔◌, min, Bool, true, false, ◌&&◌, ◌||◌, not, nat_eq, nat_le, nat_lt, if◌then◌else◌, is_ok, List, [], ◌∷◌, ◌++◌, length, Contains, Option, Some, None, refl, arith}
 use Rattle.std.proofs.lemmas.Bool.Decides.{nat_tests}
 use Rattle.std.proofs.lemmas.List.Elements as elements
 use Rattle.radio_base.specs.declared.modulus.TheConstants.{COUNT_MAX}
@@ -15,27 +15,17 @@ use Rattle.circuit_l4.specs.declared.plain.EndNotice.{EndNotice}
 use Rattle.circuit_l4.specs.declared.plain.EndNotice.TheVariants.{Opened, Refused, Closed, ClosedByPartner, FailedRetries, FailedOversize, FailedInactive}
 use Rattle.circuit_l4.specs.declared.machine.Role.{Role}
 use Rattle.circuit_l4.specs.declared.machine.Role.TheVariants.{Requester, Responder}
-use Rattle.circuit_l4.specs.EndState.{Effect, State, begin, is_up}
-use Rattle.circuit_l4.specs.EndMoves.{acknowledge, answer, answer_all, wait, on_state, end_with, fill, fill_count, finish, again, emit_ack, with_receiving, is_done, emit, note, on_info, on_info_ack, emit_owed, supply}
-use Rattle.circuit_l4.specs.EndTable.{Input, Write, Arrive, Tick, Close, Take, on_accept, common_window, arrive_in, ask_by, close, close_in_turn, due_in, expire, count_expiry, note_activity, is_due, may_close, come_up, release, resume_by, retry, retry_in, step, step_at, take_first, tick, write_answer, write}
+use Rattle.circuit_l4.specs.EndState.{Effect, Out, State, begin, is_up}
+use Rattle.circuit_l4.specs.EndMoves.{acknowledge, answer, answer_all, begin_to_close, wait, wait_if_out, on_state, end_with, fill, fill_count, finish, again, emit_ack, with_receiving, is_done, emit, note, on_info, on_info_ack, emit_owed, supply}
+use Rattle.circuit_l4.specs.EndTable.{Input, Write, Arrive, Tick, Close, Take, on_accept, common_window, arrive_in, ask_by, close, close_in_turn, due_in, expire, note_activity, is_due, may_close, come_up, release, resume_by, retry, retry_in, step, step_at, take_first, tick, write_answer, write}
 use Rattle.circuit_l4.specs.EndLaws.{Asks, Accepts, FailsAfterRetries, IsNew, followed_by, after_inputs}
+use Rattle.circuit_l4.specs.Expiries.{Moment, any_renews, awaits, count, expires, expires_at, expiries, is_anew, is_closing, is_inactive, moments, renews, since_last, tick_of}
 use Rattle.circuit_l4.specs.Sending.{written}
-use Rattle.circuit_l4.specs.Receiving.{Appended, Receipt, busy, receive, without_first, inbox, moved_on}
-use Rattle.circuit_l4.proofs.EndParts.{Counted, IsCounted, anew, either_going, itself, keeps-acknowledged, keeps-awaited_if_out, keeps-counted_out}
+use Rattle.circuit_l4.specs.Receiving.{Appended, Receipt, Receiving, busy, receive, without_first, inbox, moved_on}
+use Rattle.circuit_l4.proofs.EndParts.{Counts, counts_on, either_going, itself, keeps-acknowledged, keeps-awaited_if_out, keeps-counted_out}
 
 abbrev Told : List EndNotice → Type 0
 Told notes = Contains notes FailedRetries
-
--- it hasn't failed so
-abbrev GoesOn : Effect → Type 0
-GoesOn g = IsCounted g.end × (Told g.notes → ⊥)
-
--- it has failed so
-abbrev Failed : Effect → Type 0
-Failed g = (g.end.phase ≡ Ended) × (g.end.expiries ≡ g.end.config.retries + 1) × Told g.notes
-
-abbrev Outcome : Effect → Type 0
-Outcome g = GoesOn g ⊎ Failed g
 
 -- ---- notices ----
 none_told : Told [] → ⊥
@@ -44,130 +34,265 @@ none_told w = let none : w.0 < 0 = w.1 in omega arith
 other_told : (notes : List EndNotice) (n : EndNotice) → (n ≡ FailedRetries → ⊥) → (Told notes → ⊥) → Told (notes ++ n ∷ []) → ⊥
 other_told notes n other h w = ⊎_elim h other (elements.Contains-push_cases notes n FailedRetries w)
 
-ends_otherwise : (why : EndNotice) (g : Effect) → (why ≡ FailedRetries → ⊥) → GoesOn g → GoesOn (end_with why g)
-ends_otherwise why g other h = (h.0, other_told g.notes why other h.1)
+-- ---- whether the tries count anew ----
+or_true : (a : Bool) → (a || true) ≡ true
+or_true true = refl
+or_true false = refl
 
--- ---- what goes on ----
-finishes : (now : ℕ) (g : Effect) → GoesOn g → GoesOn (finish now g)
-finishes now g h = either_going GoesOn (is_done g.end) _ _ (anew g.end.config.retries, h.1) h
+and_not : (a b : Bool) → a ≡ b → (a && not b) ≡ false
+and_not true true e = refl
+and_not true false e = absurd (cc e)
+and_not false b e = refl
 
-fills : (now : ℕ) (g : Effect) → GoesOn g → GoesOn (fill now g)
-fills now g h = ((keeps-counted_out g.end now (fill_count g.end)).1 h.0, h.1)
+more_anew : (s t : State) → s.sending.acked < t.sending.acked → is_anew s t ≡ true
+more_anew s t more = let e : nat_lt s.sending.acked t.sending.acked ≡ true = grind (arith, nat_tests) in simp e refl
 
-supplies : (now : ℕ) (g : Effect) → GoesOn g → GoesOn (supply now g)
-supplies now g h = finishes now (fill now g) (fills now g h)
+same_anew : (s t : State) → t.sending.acked ≡ s.sending.acked → is_closing t.phase ≡ is_closing s.phase → is_anew s t ≡ false
+same_anew s t same closing =
+    let e : nat_lt s.sending.acked t.sending.acked ≡ false = grind (arith, nat_tests) in
+    let f : (is_closing t.phase && not (is_closing s.phase)) ≡ false = and_not (is_closing t.phase) (is_closing s.phase) closing in
+    simp (e, f) refl
 
-acknowledges : (now rx : ℕ) (flags : Flags) (g : Effect) → GoesOn g → GoesOn (record g { end = (acknowledge now rx flags g.end).end })
-acknowledges now rx flags g h = ((keeps-acknowledged g.end now rx flags).1 h.0, h.1)
+over_anew : (s t : State) → t.sending.acked ≡ s.sending.acked → t.phase ≡ Ended → is_anew s t ≡ false
+over_anew s t same over =
+    let e : nat_lt s.sending.acked t.sending.acked ≡ false = grind (arith, nat_tests) in
+    let f : is_closing t.phase ≡ false = ap is_closing over in
+    simp (e, f) refl
 
-acks : (now rx : ℕ) (flags : Flags) (g : Effect) → GoesOn g → GoesOn (on_info_ack now rx flags g)
-acks now rx flags g h =
+-- ---- a step by which nothing expires ----
+-- a part of it, in which the end hasn't begun to close
+pub record Part (s : State) (g : Effect) : Type 0 where
+  pub closing : is_closing g.end.phase ≡ is_closing s.phase
+  pub retries : g.end.config.retries ≡ s.config.retries
+  pub counts : Counts s g.end
+  pub untold : Told g.notes → ⊥
+
+-- the whole of it
+pub record Whole (s : State) (g : Effect) : Type 0 where
+  pub retries : g.end.config.retries ≡ s.config.retries
+  pub counts : ((is_anew s g.end ≡ true) × (g.end.tries ≡ 0)) ⊎ ((is_anew s g.end ≡ false) × (g.end.tries ≡ s.tries))
+  pub untold : Told g.notes → ⊥
+
+begun : (s : State) → Part s (begin s)
+begun s = record { closing = refl; retries = refl; counts = inr (refl, refl); untold = none_told }
+
+whole_by : (s t : State) → is_closing t.phase ≡ is_closing s.phase → Counts s t → ((is_anew s t ≡ true) × (t.tries ≡ 0)) ⊎ ((is_anew s t ≡ false) × (t.tries ≡ s.tries))
+whole_by s t closing (inl a) = inl (more_anew s t a.0, a.1)
+whole_by s t closing (inr a) = inr (same_anew s t a.0 closing, a.1)
+
+whole : (s : State) (g : Effect) → Part s g → Whole s g
+whole s g p = record { retries = p.retries; counts = whole_by s g.end p.closing p.counts; untold = p.untold }
+
+ended_by : (s t : State) → t.phase ≡ Ended → Counts s t → ((is_anew s t ≡ true) × (t.tries ≡ 0)) ⊎ ((is_anew s t ≡ false) × (t.tries ≡ s.tries))
+ended_by s t over (inl a) = inl (more_anew s t a.0, a.1)
+ended_by s t over (inr a) = inr (over_anew s t a.0 over, a.1)
+
+ends_otherwise : (why : EndNotice) (s : State) (g : Effect) → (why ≡ FailedRetries → ⊥) → Part s g → Whole s (end_with why g)
+ends_otherwise why s g other p =
+    let over : State = (end_with why g).end in
+    record { retries = p.retries; counts = ended_by s over refl p.counts; untold = other_told g.notes why other p.untold }
+
+first_of : (a b c : Bool) → (a && b && c) ≡ true → a ≡ true
+first_of true b c e = refl
+first_of false b c e = e
+
+not_closing : (p : EndPhase) → is_up p ≡ true → is_closing p ≡ false
+not_closing Connecting e = refl
+not_closing Up e = refl
+not_closing Closing e = absurd (cc e)
+not_closing Ended e = refl
+
+finished : (done : Bool) (now : ℕ) (s : State) (g : Effect) → is_done g.end ≡ done → Part s g → Whole s (if done then begin_to_close now g else g)
+finished true now s g e p =
+    let up : is_up g.end.phase ≡ true = first_of (is_up g.end.phase) g.end.closing _ e in
+    let before : is_closing s.phase ≡ false = sym p.closing ∙ not_closing g.end.phase up in
+    let anew : is_anew s (begin_to_close now g).end ≡ true = simp before (or_true (nat_lt s.sending.acked g.end.sending.acked)) in
+    record { retries = p.retries; counts = inl (anew, refl); untold = p.untold }
+finished false now s g e p = whole s g p
+
+finishes : (now : ℕ) (s : State) (g : Effect) → Part s g → Whole s (finish now g)
+finishes now s g p = finished (is_done g.end) now s g refl p
+
+fills : (now : ℕ) (s : State) (g : Effect) → Part s g → Part s (fill now g)
+fills now s g p =
+    let k = keeps-counted_out g.end now (fill_count g.end) in
+    record { closing = ap is_closing k.0 ∙ p.closing; retries = k.1 ∙ p.retries; counts = counts_on s g.end (fill now g).end p.counts k.2; untold = p.untold }
+
+supplies : (now : ℕ) (s : State) (g : Effect) → Part s g → Whole s (supply now g)
+supplies now s g p = finishes now s (fill now g) (fills now s g p)
+
+acknowledges : (now rx : ℕ) (flags : Flags) (s : State) (g : Effect) → Part s g → Part s (record g { end = (acknowledge now rx flags g.end).end })
+acknowledges now rx flags s g p =
+    let k = keeps-acknowledged g.end now rx flags in
+    record { closing = ap is_closing k.0 ∙ p.closing; retries = k.1 ∙ p.retries; counts = counts_on s g.end (acknowledge now rx flags g.end).end p.counts k.2; untold = p.untold }
+
+-- what is put out, and what neither the phase nor the tries are
+puts : (s : State) (g : Effect) (outs : List Out) → Part s g → Part s (record g { outs = outs })
+puts s g outs p = record { closing = p.closing; retries = p.retries; counts = p.counts; untold = p.untold }
+
+receives : (s : State) (g : Effect) (r : Receiving) → Part s g → Part s (with_receiving r g)
+receives s g r p = record { closing = p.closing; retries = p.retries; counts = p.counts; untold = p.untold }
+
+acks : (now rx : ℕ) (flags : Flags) (s : State) (g : Effect) → Part s g → Whole s (on_info_ack now rx flags g)
+acks now rx flags s g p =
     let a = acknowledge now rx flags g.end in
-    supplies now (emit_owed a.owed (record g { end = a.end })) (acknowledges now rx flags g h)
+    let h : Effect = record g { end = a.end } in
+    supplies now s (emit_owed a.owed h) (puts s h (emit_owed a.owed h).outs (acknowledges now rx flags s g p))
 
-answers : (now : ℕ) (nak : Bool) (owed : Owed) (g : Effect) → GoesOn g → GoesOn (answer_all now nak owed g)
-answers now nak owed g h =
-    supplies now (emit_owed owed (answer nak owed g)) (either_going GoesOn (nak || nat_eq (owed.many + fill_count g.end) 0) (emit_ack nak g) g h h)
+answers : (now : ℕ) (nak : Bool) (owed : Owed) (s : State) (g : Effect) → Part s g → Whole s (answer_all now nak owed g)
+answers now nak owed s g p =
+    let a = answer nak owed g in
+    let q : Part s a = either_going (Part s) (nak || nat_eq (owed.many + fill_count g.end) 0) (emit_ack nak g) g (puts s g (emit_ack nak g).outs p) p in
+    supplies now s (emit_owed owed a) (puts s a (emit_owed owed a).outs q)
 
-texts : (now : ℕ) (owed : Owed) (c : Receipt) (fits : Bool) (g : Effect) → GoesOn g →
-    GoesOn (if fits then answer_all now c.nak owed (with_receiving c.half g) else end_with FailedOversize (with_receiving c.half g))
-texts now owed c true g h = answers now c.nak owed (with_receiving c.half g) h
-texts now owed c false g h = ends_otherwise FailedOversize (with_receiving c.half g) (λ e. absurd (cc e)) h
+texts : (now : ℕ) (owed : Owed) (c : Receipt) (fits : Bool) (s : State) (g : Effect) → Part s g →
+    Whole s (if fits then answer_all now c.nak owed (with_receiving c.half g) else end_with FailedOversize (with_receiving c.half g))
+texts now owed c true s g p = answers now c.nak owed s (with_receiving c.half g) (receives s g c.half p)
+texts now owed c false s g p = ends_otherwise FailedOversize s (with_receiving c.half g) (λ e. absurd (cc e)) (receives s g c.half p)
 
-infos_go : (now tx rx : ℕ) (flags : Flags) (piece : Piece) (g : Effect) → GoesOn g → GoesOn (on_info now tx rx flags piece g)
-infos_go now tx rx flags piece g h =
+infos_go : (now tx rx : ℕ) (flags : Flags) (piece : Piece) (s : State) (g : Effect) → Part s g → Whole s (on_info now tx rx flags piece g)
+infos_go now tx rx flags piece s g p =
     let a = acknowledge now rx flags g.end in
     let c = receive a.end.window tx piece a.end.receiving in
-    texts now a.owed c c.fits (record g { end = a.end }) (acknowledges now rx flags g h)
+    texts now a.owed c c.fits s (record g { end = a.end }) (acknowledges now rx flags s g p)
 
-opens : (now : ℕ) (to : Pair) (window : ℕ) (g : Effect) → GoesOn g → GoesOn (on_accept now to window g)
-opens now to window g h =
-    let w = common_window g.end.config.window window in
-    finishes now (note (Opened w) (on_state (come_up now to window) g)) (h.0, other_told g.notes (Opened w) (λ e. absurd (cc e)) h.1)
+heard : (now : ℕ) (s : State) → Part s (note_activity now (begin s))
+heard now s = record { closing = refl; retries = refl; counts = inr (refl, refl); untold = none_told }
 
-arrives : (p : EndPhase) (now : ℕ) (t : Transport) (g : Effect) → GoesOn g → GoesOn (arrive_in p now t g)
-arrives Connecting now (Accept to own window) g h = opens now own window g h
-arrives Connecting now (Refuse to) g h = ends_otherwise Refused g (λ e. absurd (cc e)) h
-arrives Connecting now _ g h = h
-arrives Up now (Info to tx rx flags text) g h = infos_go now tx rx flags (record { text = text; more = flags.more }) (note_activity now g) h
-arrives Up now (InfoAck to rx flags) g h = acks now rx flags (note_activity now g) h
-arrives Up now (Disconnect to) g h = ends_otherwise ClosedByPartner (emit (Disconnected g.end.to) g) (λ e. absurd (cc e)) h
-arrives Up now _ g h = h
-arrives Closing now (Disconnect to) g h = ends_otherwise ClosedByPartner (emit (Disconnected g.end.to) g) (λ e. absurd (cc e)) h
-arrives Closing now (Disconnected to) g h = ends_otherwise Closed g (λ e. absurd (cc e)) h
-arrives Closing now _ g h = h
-arrives Ended now t g h = h
+opens : (now : ℕ) (to : Pair) (window : ℕ) (s : State) → s.phase ≡ Connecting → Whole s (on_accept now to window (begin s))
+opens now to window s e =
+    let w = common_window s.config.window window in
+    finishes now s (note (Opened w) (on_state (come_up now to window) (begin s)))
+    (record { closing = sym (ap is_closing e); retries = refl; counts = inr (refl, refl); untold = other_told [] (Opened w) (λ e. absurd (cc e)) none_told })
 
-closes : (now : ℕ) (g : Effect) → GoesOn g → GoesOn (close now g)
-closes now g h = either_going GoesOn (may_close g.end.phase) (close_in_turn now g) g (finishes now (on_state (λ s. record s { closing = true }) g) h) h
+says : (s : State) (t : Transport) → Part s (emit t (begin s))
+says s t = puts s (begin s) ((t, None) ∷ []) (begun s)
 
-resumes : (a : Appended) (fits : Bool) (g : Effect) → GoesOn g → GoesOn (resume_by (record { half = a.half; fits = fits }) g)
-resumes a true g h = h
-resumes a false g h = ends_otherwise FailedOversize (with_receiving a.half g) (λ e. absurd (cc e)) h
+arrives : (p : EndPhase) (now : ℕ) (t : Transport) (s : State) → s.phase ≡ p → Whole s (arrive_in p now t (begin s))
+arrives Connecting now (Accept to own window) s e = opens now own window s e
+arrives Connecting now (Refuse to) s e = ends_otherwise Refused s (begin s) (λ e. absurd (cc e)) (begun s)
+arrives Connecting now _ s e = whole s (begin s) (begun s)
+arrives Up now (Info to tx rx flags text) s e = infos_go now tx rx flags (record { text = text; more = flags.more }) s (note_activity now (begin s)) (heard now s)
+arrives Up now (InfoAck to rx flags) s e = acks now rx flags s (note_activity now (begin s)) (heard now s)
+arrives Up now (Disconnect to) s e = ends_otherwise ClosedByPartner s (emit (Disconnected s.to) (begin s)) (λ e. absurd (cc e)) (says s (Disconnected s.to))
+arrives Up now _ s e = whole s (begin s) (begun s)
+arrives Closing now (Disconnect to) s e = ends_otherwise ClosedByPartner s (emit (Disconnected s.to) (begin s)) (λ e. absurd (cc e)) (says s (Disconnected s.to))
+arrives Closing now (Disconnected to) s e = ends_otherwise Closed s (begin s) (λ e. absurd (cc e)) (begun s)
+arrives Closing now _ s e = whole s (begin s) (begun s)
+arrives Ended now t s e = whole s (begin s) (begun s)
 
-takes : (g : Effect) → GoesOn g → GoesOn (take_first g)
-takes g h =
-    let r = without_first g.end.receiving in
+closes : (now : ℕ) (s : State) → Whole s (close now (begin s))
+closes now s =
+    let g = on_state (λ s. record s { closing = true }) (begin s) in
+    either_going (Whole s) (may_close s.phase) (close_in_turn now (begin s)) (begin s)
+    (finishes now s g (record { closing = refl; retries = refl; counts = inr (refl, refl); untold = none_told })) (whole s (begin s) (begun s))
+
+resumes : (a : Appended) (fits : Bool) (s : State) → Whole s (resume_by (record { half = a.half; fits = fits }) (begin s))
+resumes a true s =
+    let g = with_receiving a.half (begin s) in
+    whole s (emit_ack false g) (puts s g (emit_ack false g).outs (receives s (begin s) a.half (begun s)))
+resumes a false s = ends_otherwise FailedOversize s (with_receiving a.half (begin s)) (λ e. absurd (cc e)) (receives s (begin s) a.half (begun s))
+
+takes : (s : State) → Whole s (take_first (begin s))
+takes s =
+    let r = without_first s.receiving in
     let a = moved_on r in
-    either_going GoesOn (nat_lt 0 (length (inbox g.end.receiving))) _ _
-    (either_going GoesOn (is_up g.end.phase && busy g.end.receiving && not (busy r)) _ _ (resumes a a.fits g h) h) h
+    either_going (Whole s) (nat_lt 0 (length (inbox s.receiving))) _ _
+    (either_going (Whole s) (is_up s.phase && busy s.receiving && not (busy r)) _ _ (resumes a a.fits s) (whole s (with_receiving r (begin s)) (receives s (begin s) r (begun s))))
+    (whole s (begin s) (begun s))
 
--- ---- expiries ----
-asks : (r : Role) (now : ℕ) (g : Effect) → Counted (suc g.end.tries) g.end.expiries g.end.config.retries → (Told g.notes → ⊥) →
-    GoesOn (on_state (λ s. wait now (record s { tries = suc s.tries })) (ask_by r g))
-asks (Requester user node) now g few untold = (few, untold)
-asks Responder now g few untold = (few, untold)
+writes : (now : ℕ) (message : List ℕ) (s : State) → Whole s (step_at now (begin s) (Write message))
+writes now message s =
+    let g = on_state (λ s. record s { last_active = now; sending = written message s.sending }) (begin s) in
+    either_going (Whole s) (is_ok (write_answer s message)) (write now message (begin s)) (begin s)
+    (whole s (fill now g) (fills now s g (record { closing = refl; retries = refl; counts = inr (refl, refl); untold = none_told }))) (whole s (begin s) (begun s))
 
-tries_again : (p : EndPhase) (now : ℕ) (g : Effect) → Counted (suc g.end.tries) g.end.expiries g.end.config.retries → (Told g.notes → ⊥) →
-    GoesOn (on_state (λ s. wait now (record s { tries = suc s.tries })) (retry_in p g))
-tries_again Connecting now g few untold = asks g.end.role now g few untold
-tries_again Up now g few untold = (few, untold)
-tries_again Closing now g few untold = (few, untold)
-tries_again Ended now g few untold = (few, untold)
+-- ---- a tick ----
+-- an expiry: a try more, or none is left
+pub record Expired (s : State) (g : Effect) : Type 0 where
+  pub retries : g.end.config.retries ≡ s.config.retries
+  pub counts : is_anew s g.end ≡ false
+  pub so : ((g.end.tries ≡ suc s.tries) × (s.tries ≡ s.config.retries → ⊥) × (Told g.notes → ⊥)) ⊎ ((g.end.phase ≡ Ended) × (s.tries ≡ s.config.retries) × Told g.notes)
 
-counts : (b : Bool) (now : ℕ) (g : Effect) → nat_eq g.end.tries g.end.config.retries ≡ b → GoesOn g →
-    Outcome (if b then end_with FailedRetries (count_expiry g) else retry now (count_expiry g))
-counts true now g e h =
-    let all : g.end.tries ≡ g.end.config.retries = grind (arith, nat_tests) in
-    inr (refl, omega (arith, h.0.same, all), elements.Contains-push g.notes FailedRetries)
-counts false now g e h =
-    let more : g.end.tries ≡ g.end.config.retries → ⊥ = grind (arith, nat_tests) in
-    inl (tries_again g.end.phase now (count_expiry g) (record { same = omega (arith, h.0.same); few = omega (arith, more, h.0.few) }) h.1)
+abbrev pub Ticked : State → Bool → Effect → Type 0
+Ticked s true g = Expired s g
+Ticked s false g = Whole s g
 
-expires : (now : ℕ) (g : Effect) → GoesOn g → Outcome (expire now g)
-expires now g h = counts (nat_eq g.end.tries g.end.config.retries) now g refl h
+-- what is put out once more changes nothing
+abbrev Puts : Effect → Effect → Type 0
+Puts g h = (h.end ≡ g.end) × (h.notes ≡ g.notes)
 
-releases : (now : ℕ) (g : Effect) → GoesOn g → GoesOn (release now g)
-releases now g h =
-    let a = again (on_state (λ s. record s { choked = false; answer_due = None }) g) in
+asks : (r : Role) (g : Effect) → Puts g (ask_by r g)
+asks (Requester user node) g = (refl, refl)
+asks Responder g = (refl, refl)
+
+tries_again : (p : EndPhase) (g : Effect) → Puts g (retry_in p g)
+tries_again Connecting g = asks g.end.role g
+tries_again Up g = (refl, refl)
+tries_again Closing g = (refl, refl)
+tries_again Ended g = (refl, refl)
+
+retried : (now : ℕ) (s : State) (h : Effect) → Puts (begin s) h → (s.tries ≡ s.config.retries → ⊥) → Expired s (on_state (λ s. wait now (record s { tries = suc s.tries })) h)
+retried now s h p more =
+    let g : Effect = on_state (λ s. wait now (record s { tries = suc s.tries })) h in
+    record {
+      retries = ap (λ (t : State). t.config.retries) p.0;
+      counts = same_anew s g.end (ap (λ (t : State). t.sending.acked) p.0) (ap (λ (t : State). is_closing t.phase) p.0);
+      so = inl (ap (λ (t : State). suc t.tries) p.0, more, λ w. none_told (subst Told p.1 w));
+    }
+
+expired : (b : Bool) (now : ℕ) (s : State) → nat_eq s.tries s.config.retries ≡ b → Expired s (if b then end_with FailedRetries (begin s) else retry now (begin s))
+expired true now s e =
+    let all : s.tries ≡ s.config.retries = grind (arith, nat_tests) in
+    let over : State = (end_with FailedRetries (begin s)).end in
+    record { retries = refl; counts = over_anew s over refl refl; so = inr (refl, all, elements.Contains-push [] FailedRetries) }
+expired false now s e =
+    let more : s.tries ≡ s.config.retries → ⊥ = grind (arith, nat_tests) in
+    retried now s (retry_in s.phase (begin s)) (tries_again s.phase (begin s)) more
+
+expires_now : (now : ℕ) (s : State) → Expired s (expire now (begin s))
+expires_now now s = expired (nat_eq s.tries s.config.retries) now s refl
+
+releases : (now : ℕ) (s : State) → Whole s (release now (begin s))
+releases now s =
+    let b : Effect = on_state (λ s. record s { choked = false; answer_due = None }) (begin s) in
+    let a : Effect = again b in
     let f : Effect = fill now a in
-    let on : GoesOn f = fills now a h in
-    ((keeps-awaited_if_out f.end f.end now (itself f.end)).1 on.0, on.1)
+    let p : Part s f = fills now s a (record { closing = refl; retries = refl; counts = inr (refl, refl); untold = none_told }) in
+    let k = keeps-awaited_if_out f.end f.end now (itself f.end) in
+    let g : Effect = on_state (wait_if_out now) f in
+    whole s g (record { closing = ap is_closing k.0 ∙ p.closing; retries = k.1 ∙ p.retries; counts = counts_on s f.end g.end p.counts k.2; untold = p.untold })
 
-falls_due : (p : EndPhase) (now : ℕ) (g : Effect) → GoesOn g → Outcome (due_in p now g)
-falls_due Connecting now g h = expires now g h
-falls_due Up now g h = either_going Outcome g.end.choked _ _ (inl (releases now g h)) (expires now g h)
-falls_due Closing now g h = expires now g h
-falls_due Ended now g h = inl h
+due_up : (choked : Bool) (now : ℕ) (s : State) → Ticked s (not choked) (if choked then release now (begin s) else expire now (begin s))
+due_up true now s = releases now s
+due_up false now s = expires_now now s
 
-ticks : (now : ℕ) (g : Effect) → GoesOn g → Outcome (tick now g)
-ticks now g h =
-    either_going Outcome (is_up g.end.phase && nat_le (g.end.last_active + g.end.config.inactive) now) _ _
-    (inl (ends_otherwise FailedInactive g (λ e. absurd (cc e)) h))
-    (either_going Outcome (is_due g.end.answer_due now) _ _ (falls_due g.end.phase now g h) (inl h))
+falls_due : (p : EndPhase) (now : ℕ) (s : State) → Ticked s (awaits p s.choked) (due_in p now (begin s))
+falls_due Connecting now s = expires_now now s
+falls_due Up now s = due_up s.choked now s
+falls_due Closing now s = expires_now now s
+falls_due Ended now s = whole s (begin s) (begun s)
+
+ticked : (inactive due : Bool) (now : ℕ) (s : State) → Ticked s (not inactive && due && awaits s.phase s.choked)
+    (if inactive then end_with FailedInactive (begin s) else (if due then due_in s.phase now (begin s) else begin s))
+ticked true due now s = ends_otherwise FailedInactive s (begin s) (λ e. absurd (cc e)) (begun s)
+ticked false true now s = falls_due s.phase now s
+ticked false false now s = whole s (begin s) (begun s)
 
 -- ---- a step ----
-steps : (now : ℕ) (g : Effect) (i : Input) → GoesOn g → Outcome (step_at now g i)
-steps now g (Write message) h = inl (either_going GoesOn (is_ok (write_answer g.end message)) (write now message g) g
-    (fills now (on_state (λ s. record s { last_active = now; sending = written message s.sending }) g) h) h)
-steps now g (Arrive t) h = inl (arrives g.end.phase now t g h)
-steps now g Tick h = ticks now g h
-steps now g Close h = inl (closes now g h)
-steps now g Take h = inl (takes g h)
+abbrev moment_of : State → Input → ℕ → Moment
+moment_of s i now = record { was = s; tick = tick_of i now; is = (step s i now).end }
+
+steps : (s : State) (i : Input) (now : ℕ) → Ticked s (expires (moment_of s i now)) (step s i now)
+steps s (Write message) now = writes (min now COUNT_MAX) message s
+steps s (Arrive t) now = arrives s.phase (min now COUNT_MAX) t s refl
+steps s Tick now = let at : ℕ = min now COUNT_MAX in ticked (is_inactive s at) (is_due s.answer_due at) at s
+steps s Close now = closes (min now COUNT_MAX) s
+steps s Take now = takes s
 
 -- an end that has ended counts no more
 abbrev Stays : State → Effect → Type 0
-Stays s g = (g.end.phase ≡ Ended) × (g.end.expiries ≡ s.expiries) × (g.end.config.retries ≡ s.config.retries)
+Stays s g = (g.end.phase ≡ Ended) × (g.end.sending.acked ≡ s.sending.acked) × (g.end.config.retries ≡ s.config.retries)
 
 stays : (now : ℕ) (s : State) (i : Input) → s.phase ≡ Ended → Stays s (step_at now (begin s) i)
 stays now s (Write message) e = rw e (refl, refl, refl)
@@ -176,28 +301,163 @@ stays now s Tick e = rw e (either_going (Stays s) (is_due s.answer_due now) _ _ 
 stays now s Close e = rw e (refl, refl, refl)
 stays now s Take e = rw e (either_going (Stays s) (nat_lt 0 (length (inbox s.receiving))) _ _ (refl, refl, refl) (refl, refl, refl))
 
+last_false : (a b : Bool) → (a && b && false) ≡ false
+last_false true true = refl
+last_false true false = refl
+last_false false b = refl
+
+awaits_none : (s : State) (tick : Option ℕ) → s.phase ≡ Ended → expires_at s tick ≡ false
+awaits_none s None e = refl
+awaits_none s (Some now) e =
+    let none : awaits s.phase s.choked ≡ false = ap (λ p. awaits p s.choked) e in
+    let at : ℕ = min now COUNT_MAX in
+    ap (λ b. not (is_inactive s at) && is_due s.answer_due at && b) none ∙ last_false (not (is_inactive s at)) (is_due s.answer_due at)
+
+-- ---- the count ----
+-- how many there are after a moment
+abbrev counted : ℕ → Moment → ℕ
+counted n m = if renews m then 0 else (if expires m then suc n else n)
+
+-- as many as there were tries, and at most as many as there are retries; or the end has failed for that
+abbrev Counted : ℕ → State → List EndNotice → Type 0
+Counted n s notes =
+    ((n ≡ s.tries) × (s.tries ≤ s.config.retries) × (Told notes → ⊥))
+    ⊎ ((s.phase ≡ Ended) × (n ≡ s.config.retries + 1) × Told notes)
+
+both_told : (a b : List EndNotice) → (Told a → ⊥) → (Told b → ⊥) → Told (a ++ b) → ⊥
+both_told a b p q w = ⊎_elim p q (elements.Contains-append_cases a b FailedRetries w)
+
+counts_whole : (n : ℕ) (m : Moment) (g : Effect) (notes : List EndNotice) → m.is ≡ g.end → expires m ≡ false → n ≡ m.was.tries → m.was.tries ≤ m.was.config.retries → (Told notes → ⊥) → Whole m.was g
+    → Counted (counted n m) g.end (notes ++ g.notes)
+counts_whole n m g notes is none same few untold w = by w.counts
+  where
+    by : ((is_anew m.was g.end ≡ true) × (g.end.tries ≡ 0)) ⊎ ((is_anew m.was g.end ≡ false) × (g.end.tries ≡ m.was.tries)) → Counted (counted n m) g.end (notes ++ g.notes)
+    by (inl a) =
+        let anew : renews m ≡ true = ap (λ t. is_anew m.was t) is ∙ a.0 in
+        let e : counted n m ≡ 0 = simp anew refl in
+        inl (e ∙ sym a.1, omega (arith, a.1), both_told notes g.notes untold w.untold)
+    by (inr a) =
+        let anew : renews m ≡ false = ap (λ t. is_anew m.was t) is ∙ a.0 in
+        let e : counted n m ≡ n = simp (anew, none) refl in
+        inl (e ∙ same ∙ sym a.1, omega (arith, a.1, few, w.retries), both_told notes g.notes untold w.untold)
+
+counts_expired : (n : ℕ) (m : Moment) (g : Effect) (notes : List EndNotice) → m.is ≡ g.end → expires m ≡ true → n ≡ m.was.tries → m.was.tries ≤ m.was.config.retries → (Told notes → ⊥) → Expired m.was g
+    → Counted (counted n m) g.end (notes ++ g.notes)
+counts_expired n m g notes is some same few untold x = by x.so
+  where
+    anew : renews m ≡ false
+    anew = ap (λ t. is_anew m.was t) is ∙ x.counts
+
+    more : counted n m ≡ suc n
+    more = simp (anew, some) refl
+
+    by : ((g.end.tries ≡ suc m.was.tries) × (m.was.tries ≡ m.was.config.retries → ⊥) × (Told g.notes → ⊥)) ⊎ ((g.end.phase ≡ Ended) × (m.was.tries ≡ m.was.config.retries) × Told g.notes)
+        → Counted (counted n m) g.end (notes ++ g.notes)
+    by (inl a) = inl (more ∙ ap suc same ∙ sym a.0, omega (arith, a.0, a.1, few, x.retries), both_told notes g.notes untold a.2)
+    by (inr a) = inr (a.0, omega (arith, more, same, a.1, x.retries), elements.Contains-append_right notes g.notes FailedRetries a.2)
+
+counts_by : (b : Bool) (n : ℕ) (m : Moment) (g : Effect) (notes : List EndNotice) → expires m ≡ b → m.is ≡ g.end → n ≡ m.was.tries → m.was.tries ≤ m.was.config.retries → (Told notes → ⊥) → Ticked m.was b g
+    → Counted (counted n m) g.end (notes ++ g.notes)
+counts_by true n m g notes e is same few untold x = counts_expired n m g notes is e same few untold x
+counts_by false n m g notes e is same few untold w = counts_whole n m g notes is e same few untold w
+
+-- a step counts so
+counts_step : (n : ℕ) (s : State) (i : Input) (now : ℕ) (notes : List EndNotice) → Counted n s notes → Counted (counted n (moment_of s i now)) (step s i now).end (notes ++ (step s i now).notes)
+counts_step n s i now notes (inl a) = let m : Moment = moment_of s i now in counts_by (expires m) n m (step s i now) notes refl refl a.0 a.1 a.2 (steps s i now)
+counts_step n s i now notes (inr a) =
+    let m : Moment = moment_of s i now in
+    let g : Effect = step s i now in
+    let on : Stays s g = stays (min now COUNT_MAX) s i a.0 in
+    let anew : renews m ≡ false = over_anew s g.end on.1 on.0 in
+    let none : expires m ≡ false = awaits_none s m.tick a.0 in
+    let e : counted n m ≡ n = simp (anew, none) refl in
+    inr (on.0, omega (arith, e, a.1, on.2), elements.Contains-append_left notes g.notes FailedRetries a.2)
+
+counts_tell : (n : ℕ) (s : State) (notes : List EndNotice) → Counted n s notes → Told notes ↔ (n ≡ s.config.retries + 1)
+counts_tell n s notes (inl a) = (λ w. absurd (a.2 w), λ e. absurd (omega (arith, e, a.0, a.1)))
+counts_tell n s notes (inr a) = (λ w. a.1, λ e. a.2)
+
+-- ---- one moment after another ----
+abbrev all_counted : ℕ → List Moment → ℕ
+all_counted n [] = n
+all_counted n (m ∷ ms) = all_counted (counted n m) ms
+
+since_all : (ms : List Moment) → any_renews ms ≡ false → since_last ms ≡ ms
+since_all [] e = refl
+since_all (m ∷ ms) e =
+    let none : (renews m || any_renews ms) ≡ false = e in
+    let parts = neither (renews m) (any_renews ms) none in
+    simp (parts.0, parts.1) refl
+  where
+    neither : (a b : Bool) → (a || b) ≡ false → (a ≡ false) × (b ≡ false)
+    neither true b e = absurd (cc e)
+    neither false b e = (refl, e)
+
+all_case : (a b c : Bool) (n : ℕ) (m : Moment) (ms : List Moment) → any_renews ms ≡ a → renews m ≡ b → expires m ≡ c
+    → ((k : ℕ) → all_counted k ms ≡ (if any_renews ms then 0 else k) + expiries ms) → all_counted n (m ∷ ms) ≡ (if any_renews (m ∷ ms) then 0 else n) + expiries (m ∷ ms)
+all_case true b c n m ms e f g later =
+    let or : any_renews (m ∷ ms) ≡ true = simp e (or_true (renews m)) in
+    let first : all_counted n (m ∷ ms) ≡ 0 + expiries ms = subst (λ (x : Bool). all_counted (counted n m) ms ≡ (if x then 0 else counted n m) + expiries ms) e (later (counted n m)) in
+    let rest : expiries (m ∷ ms) ≡ expiries ms = simp e refl in
+    let none : (if any_renews (m ∷ ms) then 0 else n) ≡ 0 = ap (λ (x : Bool). if x then 0 else n) or in
+    omega (arith, first, rest, none)
+all_case false true c n m ms e f g later =
+    let or : any_renews (m ∷ ms) ≡ true = simp f refl in
+    let all : since_last ms ≡ ms = since_all ms e in
+    let anew : counted n m ≡ 0 = simp f refl in
+    let first : all_counted n (m ∷ ms) ≡ 0 + expiries ms =
+    subst (λ (k : ℕ). all_counted k ms ≡ 0 + expiries ms) (sym anew) (subst (λ (x : Bool). all_counted 0 ms ≡ (if x then 0 else 0) + expiries ms) e (later 0)) in
+    let here : expiries ms ≡ count ms = ap count all in
+    let rest : expiries (m ∷ ms) ≡ count ms = simp (e, f) refl in
+    let none : (if any_renews (m ∷ ms) then 0 else n) ≡ 0 = ap (λ (x : Bool). if x then 0 else n) or in
+    omega (arith, first, here, rest, none)
+all_case false false c n m ms e f g later =
+    let or : any_renews (m ∷ ms) ≡ false = simp (e, f) refl in
+    let all : since_last ms ≡ ms = since_all ms e in
+    let one : counted n m ≡ (if c then suc n else n) = simp (f, g) refl in
+    let first : all_counted n (m ∷ ms) ≡ counted n m + expiries ms = subst (λ (x : Bool). all_counted (counted n m) ms ≡ (if x then 0 else counted n m) + expiries ms) e (later (counted n m)) in
+    let here : expiries ms ≡ count ms = ap count all in
+    let rest : expiries (m ∷ ms) ≡ (if c then 1 else 0) + count ms = simp (e, f, g) refl in
+    let none : (if any_renews (m ∷ ms) then 0 else n) ≡ n = ap (λ (x : Bool). if x then 0 else n) or in
+    by c one first here rest none
+  where
+    by : (c : Bool) → counted n m ≡ (if c then suc n else n) → all_counted n (m ∷ ms) ≡ counted n m + expiries ms → expiries ms ≡ count ms → expiries (m ∷ ms) ≡ (if c then 1 else 0) + count ms
+        → (if any_renews (m ∷ ms) then 0 else n) ≡ n → all_counted n (m ∷ ms) ≡ (if any_renews (m ∷ ms) then 0 else n) + expiries (m ∷ ms)
+    by true one first here rest none = let up : counted n m ≡ suc n = one in let on : expiries (m ∷ ms) ≡ 1 + count ms = rest in omega (arith, first, here, up, on, none)
+    by false one first here rest none = let up : counted n m ≡ n = one in let on : expiries (m ∷ ms) ≡ 0 + count ms = rest in omega (arith, first, here, up, on, none)
+
+all_are : (n : ℕ) (ms : List Moment) → all_counted n ms ≡ (if any_renews ms then 0 else n) + expiries ms
+all_are n [] = omega arith
+all_are n (m ∷ ms) = all_case (any_renews ms) (renews m) (expires m) n m ms refl refl refl (λ k. all_are k ms)
+
+zero_case : (b : Bool) (n : ℕ) → (if b then 0 else 0) + n ≡ n
+zero_case true n = omega arith
+zero_case false n = omega arith
+
+counted_from_none : (ms : List Moment) → all_counted 0 ms ≡ expiries ms
+counted_from_none ms = all_are 0 ms ∙ zero_case (any_renews ms) (expiries ms)
+
 -- ---- a life ----
-follows : (g h : Effect) → (Told g.notes → ⊥) → Outcome h → Outcome (followed_by g h)
-follows g h untold (inl on) = inl (on.0, λ w. ⊎_elim untold on.1 (elements.Contains-append_cases g.notes h.notes FailedRetries w))
-follows g h untold (inr f) = inr (f.0, f.1, elements.Contains-append_right g.notes h.notes FailedRetries f.2)
+lives : (n : ℕ) (g : Effect) (inputs : List (Input × ℕ)) → Counted n g.end g.notes → Counted (all_counted n (moments g.end inputs)) (after_inputs g inputs).end (after_inputs g inputs).notes
+lives n g [] c = c
+lives n g (i ∷ inputs) c = lives (counted n (moment_of g.end i.0 i.1)) (followed_by g (step g.end i.0 i.1)) inputs (counts_step n g.end i.0 i.1 g.notes c)
 
-resume : (g : Effect) (i : Input) (now : ℕ) → Outcome g → Outcome (followed_by g (step g.end i now))
-resume g i now (inl on) = follows g (step g.end i now) on.1 (steps (min now COUNT_MAX) (begin g.end) i (on.0, none_told))
-resume g i now (inr f) =
-    let s = stays (min now COUNT_MAX) g.end i f.0 in
-    inr (s.0, omega (arith, s.1, s.2, f.1), elements.Contains-append_left g.notes _ FailedRetries f.2)
+begins : (g : Effect) → IsNew g → Counted 0 g.end g.notes
+begins _ (Asks pair user node config now) = inl (refl, omega arith, none_told)
+begins _ (Accepts pair partner proposed config now) = inl (refl, omega arith, other_told [] _ (λ e. absurd (cc e)) none_told)
 
-lives : (g : Effect) (inputs : List (Input × ℕ)) → Outcome g → Outcome (after_inputs g inputs)
-lives g [] h = h
-lives g (i ∷ inputs) h = lives (followed_by g (step g.end i.0 i.1)) inputs (resume g i.0 i.1 h)
+step_retries : (s : State) (i : Input) (now : ℕ) (b : Bool) → Ticked s b (step s i now) → (step s i now).end.config.retries ≡ s.config.retries
+step_retries s i now true x = x.retries
+step_retries s i now false x = x.retries
 
-begins : (g : Effect) → IsNew g → GoesOn g
-begins _ (Asks pair user node config now) = (anew config.retries, none_told)
-begins _ (Accepts pair partner proposed config now) = (anew config.retries, other_told [] _ (λ e. absurd (cc e)) none_told)
-
-tells : (g : Effect) → Outcome g → Told g.notes ↔ (g.end.expiries ≡ g.end.config.retries + 1)
-tells g (inl on) = (λ w. absurd (on.1 w), λ e. absurd (omega (arith, e, on.0.same, on.0.few)))
-tells g (inr f) = (λ w. f.1, λ e. f.2)
+same_retries : (g : Effect) (inputs : List (Input × ℕ)) → (after_inputs g inputs).end.config.retries ≡ g.end.config.retries
+same_retries g [] = refl
+same_retries g (i ∷ inputs) = same_retries (followed_by g (step g.end i.0 i.1)) inputs ∙ step_retries g.end i.0 i.1 (expires (moment_of g.end i.0 i.1)) (steps g.end i.0 i.1)
 
 pub fails_after_retries : FailsAfterRetries
-fails_after_retries g new inputs = tells (after_inputs g inputs) (lives g inputs (inl (begins g new)))
+fails_after_retries g new inputs =
+    let c = lives 0 g inputs (begins g new) in
+    let n : all_counted 0 (moments g.end inputs) ≡ expiries (moments g.end inputs) = counted_from_none (moments g.end inputs) in
+    let retries : (after_inputs g inputs).end.config.retries ≡ g.end.config.retries = same_retries g inputs in
+    let t = counts_tell _ (after_inputs g inputs).end (after_inputs g inputs).notes c in
+    (λ w. sym n ∙ t.0 w ∙ ap (λ k. k + 1) retries, λ e. t.1 (n ∙ e ∙ ap (λ k. k + 1) (sym retries)))

@@ -16,7 +16,6 @@ begins k s drained h =
     record {
       written = h.written;
       came = h.came;
-      expiries = h.expiries;
       sending = h.sending;
       receiving = h.receiving;
       is = ap begin h.is ∙ rw (drained.outs, drained.notice) refl;

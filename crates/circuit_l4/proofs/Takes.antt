@@ -19,8 +19,8 @@ goes true false later on off e f x = x
 goes true true later on off e f x = absurd (cc f)
 goes false now later on off e f x = absurd (cc e)
 
-pub taken_on : (k later : EndView) (s : Sending) (r : Receiving) (n : ℕ) → nat_lt 0 (length (inbox r)) ≡ true → (is_up k.phase && busy r) ≡ true → busy (without_first r) ≡ false →
-    Stands later (resume (effect_of k s (without_first r) n)) → Stands later (take_first (effect_of k s r n))
-taken_on k later s r n some was now x =
-    some_taken (nat_lt 0 (length (inbox r))) later (effect_of k s r n) (take_from (without_first r) (effect_of k s r n)) some
-    (goes (is_up k.phase && busy r) (busy (without_first r)) later (resume (with_receiving (without_first r) (effect_of k s r n))) (with_receiving (without_first r) (effect_of k s r n)) was now x)
+pub taken_on : (k later : EndView) (s : Sending) (r : Receiving) → nat_lt 0 (length (inbox r)) ≡ true → (is_up k.phase && busy r) ≡ true → busy (without_first r) ≡ false →
+    Stands later (resume (effect_of k s (without_first r))) → Stands later (take_first (effect_of k s r))
+taken_on k later s r some was now x =
+    some_taken (nat_lt 0 (length (inbox r))) later (effect_of k s r) (take_from (without_first r) (effect_of k s r)) some
+    (goes (is_up k.phase && busy r) (busy (without_first r)) later (resume (with_receiving (without_first r) (effect_of k s r))) (with_receiving (without_first r) (effect_of k s r)) was now x)

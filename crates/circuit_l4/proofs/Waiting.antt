@@ -70,7 +70,6 @@ puts_stand k later o e g h =
     (record {
       written = h.written;
       came = h.came;
-      expiries = h.expiries;
       sending = h.sending;
       receiving = h.receiving;
       is = ap (emits k.outgoing o) h.is;
@@ -90,20 +89,20 @@ as_info : (s : State) (n rx : ℕ) (choke : Bool) (x : Option Fragment) (f : Fra
     with_text s.to n rx choke (unwrap_or x ([], false)) ∷ [] ≡ info s n x
 as_info s n rx choke x f e a b = rw (e, a, b) refl
 
-pub info_waits : (k : EndView) (s : Sending) (r : Receiving) (n number rx : ℕ) (choke : Bool) → IsSending k.outgoing s → k.outgoing.acked ≤ number → number < k.outgoing.total →
-    rx ≡ r.got % 256 → choke ≡ busy r → emits k.outgoing (Info k.to number rx choke) (effect_of k s r n) ≡ emit_infos number 1 (effect_of k s r n)
-info_waits k s r n number rx choke h from to a b =
+pub info_waits : (k : EndView) (s : Sending) (r : Receiving) (number rx : ℕ) (choke : Bool) → IsSending k.outgoing s → k.outgoing.acked ≤ number → number < k.outgoing.total →
+    rx ≡ r.got % 256 → choke ≡ busy r → emits k.outgoing (Info k.to number rx choke) (effect_of k s r) ≡ emit_infos number 1 (effect_of k s r)
+info_waits k s r number rx choke h from to a b =
     let there : number < length (fragments s) = omega (arith, h.total, to) in
     let none : Fragment = ([], false) in
     let same = found_behind k.outgoing s number from h in
-    let out = as_info (effect_of k s r n).end number rx choke (slice_get (fragments s) number) _ (slice_get-get_or (fragments s) number none there) a b in
-    ap (λ outs. record (effect_of k s r n) { outs = k.outs ++ outs })
-    (ap (λ x. with_text k.to number rx choke (unwrap_or x ([], false)) ∷ []) same ∙ out ∙ sym (append-nil (info (effect_of k s r n).end number (slice_get (fragments s) number))))
+    let out = as_info (effect_of k s r).end number rx choke (slice_get (fragments s) number) _ (slice_get-get_or (fragments s) number none there) a b in
+    ap (λ outs. record (effect_of k s r) { outs = k.outs ++ outs })
+    (ap (λ x. with_text k.to number rx choke (unwrap_or x ([], false)) ∷ []) same ∙ out ∙ sym (append-nil (info (effect_of k s r).end number (slice_get (fragments s) number))))
 
-pub none_waits : (k : EndView) (s : Sending) (r : Receiving) (n number : ℕ) → IsSending k.outgoing s → k.outgoing.total ≤ number → effect_of k s r n ≡ emit_infos number 1 (effect_of k s r n)
-none_waits k s r n number h past =
+pub none_waits : (k : EndView) (s : Sending) (r : Receiving) (number : ℕ) → IsSending k.outgoing s → k.outgoing.total ≤ number → effect_of k s r ≡ emit_infos number 1 (effect_of k s r)
+none_waits k s r number h past =
     let none : slice_get (fragments s) number ≡ None = slice_get_past (fragments s) number (omega (arith, h.total, past)) in
-    rw none (ap (λ outs. record (effect_of k s r n) { outs = outs }) (sym (append-nil k.outs)))
+    rw none (ap (λ outs. record (effect_of k s r) { outs = outs }) (sym (append-nil k.outs)))
 
 -- ---- a fragment is fetched ----
 pub fetched : (r : Option Piece) (x : Option Fragment) (p : Piece) → option_map fragment_in r ≡ x → fragment_in p ≡ ([], false) → fragment_in (unwrap_or r p) ≡ unwrap_or x ([], false)

@@ -8,6 +8,7 @@ use Rattle.circuit_l4.specs.declared.plain.EndNotice.TheVariants.{FailedRetries,
 use Rattle.circuit_l4.specs.EndState.{Effect, State}
 use Rattle.circuit_l4.specs.EndTable.{Input, step}
 use Rattle.circuit_l4.specs.EndOpening.{requesting, responding}
+use Rattle.circuit_l4.specs.Expiries.{expiries, moments}
 use Rattle.circuit_l4.specs.Sending.{total}
 
 -- a step more: what it puts out and the notices that it gives stand behind the earlier ones
@@ -24,12 +25,12 @@ pub data IsNew : Effect → Type 0 where
   Asks : (pair : Pair) (user node : Callsign) (config : EndConfig) (now : ℕ) → IsNew (requesting pair user node config now)
   Accepts : (pair partner : Pair) (proposed : ℕ) (config : EndConfig) (now : ℕ) → IsNew (responding pair partner proposed config now)
 
--- FailedRetries is told exactly where one expiry more has counted than there are retries, since the end was made, an
--- acknowledgement came, or it began to close
+-- FailedRetries is told exactly where there was one expiry more than there are retries, since the end was made, since more was
+-- acknowledged, or since it began to close
 abbrev pub FailsAfterRetries : Type 0
 FailsAfterRetries =
     (g : Effect) → IsNew g → (inputs : List (Input × ℕ)) →
-    Contains (after_inputs g inputs).notes FailedRetries ↔ ((after_inputs g inputs).end.expiries ≡ (after_inputs g inputs).end.config.retries + 1)
+    Contains (after_inputs g inputs).notes FailedRetries ↔ (expiries (moments g.end inputs) ≡ g.end.config.retries + 1)
 
 -- a step by which the circuit fails puts out nothing
 abbrev pub FailingPutsOutNothing : Type 0

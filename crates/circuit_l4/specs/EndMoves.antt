@@ -67,7 +67,7 @@ fill now g = fill_with now (fill_count g.end) g
 
 -- Finish: once all is acknowledged, an end that is to close begins to
 abbrev pub to_closing : ℕ → State → State
-to_closing now s = wait now (record s { phase = Closing; choked = false; tries = 0; expiries = 0 })
+to_closing now s = wait now (record s { phase = Closing; choked = false; tries = 0 })
 
 abbrev pub begin_to_close : ℕ → Effect → Effect
 begin_to_close now g = emit (Disconnect g.end.to) (on_state (to_closing now) g)
@@ -92,7 +92,7 @@ again g = emit_infos g.end.sending.acked (g.end.sending.sent - g.end.sending.ack
 abbrev pub advance : ℕ → ℕ → State → State
 advance now x s =
     if nat_lt s.sending.acked x
-    then wait_if_out now (record s { sending = record s.sending { acked = x }; tries = 0; expiries = 0 })
+    then wait_if_out now (record s { sending = record s.sending { acked = x }; tries = 0 })
     else s
 
 -- with choke the other end takes no text for now; without it, it takes text again

@@ -45,7 +45,6 @@ new b config now =
       choked = false;
       closing = false;
       tries = 0;
-      expiries = 0;
       answer_due = None;
       last_active = now;
     }

@@ -1,5 +1,5 @@
 -- What the code keeps of an end of a circuit stands for every state that agrees with it: of the halves it has forgotten the
--- messages that were wholly acknowledged and those that were taken, and of the rest how many expiries counted.
+-- messages that were wholly acknowledged and those that were taken.
 use Rattle.std.specs.Prelude.{◌≡◌, ℕ, ◌-◌, Bool, List, [], Option, None}
 use Rattle.std.specs.Option.{option_to_list}
 use Rattle.circuit_l4.specs.declared.machine.Machine.{Machine}
@@ -52,9 +52,9 @@ view_of m =
       notice = m.notice;
     }
 
--- the state in which these are the halves, and so many expiries counted
-abbrev pub state_of : EndView → Sending → Receiving → ℕ → State
-state_of m sending receiving expiries =
+-- the state in which these are the halves
+abbrev pub state_of : EndView → Sending → Receiving → State
+state_of m sending receiving =
     record {
       role = m.role;
       pair = m.pair;
@@ -67,32 +67,29 @@ state_of m sending receiving expiries =
       choked = m.choked;
       closing = m.closing;
       tries = m.tries;
-      expiries = expiries;
       answer_due = m.answer_due;
       last_active = m.last_active;
     }
 
 -- the same, with the outputs and the notice that wait
-abbrev pub effect_of : EndView → Sending → Receiving → ℕ → Effect
-effect_of m sending receiving expiries =
-    record { end = state_of m sending receiving expiries; outs = m.outs; notes = option_to_list m.notice }
+abbrev pub effect_of : EndView → Sending → Receiving → Effect
+effect_of m sending receiving =
+    record { end = state_of m sending receiving; outs = m.outs; notes = option_to_list m.notice }
 
 pub record StandsFor (m : EndView) (s : State) : Type 0 where
   pub written : Sending
   pub came : Receiving
-  pub expiries : ℕ
   pub sending : IsSending m.outgoing written
   pub receiving : IsReceiving m.incoming came
-  pub is : s ≡ state_of m written came expiries
+  pub is : s ≡ state_of m written came
 
 -- the same of a step under way
 pub record Stands (m : EndView) (g : Effect) : Type 0 where
   pub written : Sending
   pub came : Receiving
-  pub expiries : ℕ
   pub sending : IsSending m.outgoing written
   pub receiving : IsReceiving m.incoming came
-  pub is : g ≡ effect_of m written came expiries
+  pub is : g ≡ effect_of m written came
 
 -- no output and no notice waits
 pub record IsDrained (m : EndView) : Type 0 where

@@ -23,8 +23,7 @@ pub record State : Type 0 where
   pub receiving : Receiving
   pub choked : Bool  -- the other end takes no text for now
   pub closing : Bool
-  pub tries : ℕ
-  pub expiries : ℕ  -- how many expiries counted since the end was made, an acknowledgement came, or it began to close
+  pub tries : ℕ  -- how often it has asked again since it was made, since more was acknowledged, or since it began to close
   pub answer_due : Option ℕ  -- when an answer is waited for no longer
   pub last_active : ℕ  -- when it was opened, last written to, or last heard text or an acknowledgement
 

@@ -89,13 +89,10 @@ ask_once_more g = retry_in g.end.phase g
 abbrev pub retry : ℕ → Effect → Effect
 retry now g = on_state (λ s. wait now (record s { tries = suc s.tries })) (ask_once_more g)
 
-abbrev pub count_expiry : Effect → Effect
-count_expiry g = on_state (λ s. record s { expiries = suc s.expiries }) g
-
 -- an answer hasn't come: it is waited for once more, or no longer
 abbrev pub expire : ℕ → Effect → Effect
 expire now g =
-    if nat_eq g.end.tries g.end.config.retries then end_with FailedRetries (count_expiry g) else retry now (count_expiry g)
+    if nat_eq g.end.tries g.end.config.retries then end_with FailedRetries g else retry now g
 
 -- an end that was held long enough goes on. Its expiry doesn't count
 abbrev pub release : ℕ → Effect → Effect

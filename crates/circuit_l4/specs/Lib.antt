@@ -14,5 +14,6 @@ pub mod EndOpening
 pub mod EndStanding
 pub mod Forgetting
 pub mod Outboxes
+pub mod Expiries
 pub mod EndLaws
 pub mod EndCalls

@@ -16,9 +16,9 @@ pub fn transport_spelling()
     ax_address::laws::net_call_spelling();
 }
 
-/// Whatever an end is given: it fails for want of an answer exactly where one expiry more has counted than there are
-/// retries; a step by which it fails puts out nothing; and it puts out a disconnect request only once all that was ever
-/// written is acknowledged.
+/// Whatever an end is given: it fails for want of an answer exactly where there was one expiry more than there are retries,
+/// counted over its inputs since it was made, since more was acknowledged, or since it began to close; a step by which it
+/// fails puts out nothing; and it puts out a disconnect request only once all that was ever written is acknowledged.
 pub fn endings()
     ensures retries { end_law.FailsAfterRetries }
     ensures silent { end_law.FailingPutsOutNothing }

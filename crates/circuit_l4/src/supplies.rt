@@ -16,8 +16,8 @@ impl Machine {
 
     /// How many fragments may be put out.
     pub(crate) fn fill_count(&self) -> u64
-        ensures exact { (s : Sending) (r : Receiving) (expiries : ℕ) → IsSending self.now.outgoing s →
-            result ≡ moves.fill_count (state_of (view_of self.now) s r expiries) }
+        ensures exact { (s : Sending) (r : Receiving) → IsSending self.now.outgoing s →
+            result ≡ moves.fill_count (state_of (view_of self.now) s r) }
         ensures window { self.now.outgoing.sent + result ≤ self.now.outgoing.acked + self.now.config.window }
         ensures written { self.now.outgoing.sent + result ≤ self.now.outgoing.total }
     {
@@ -70,8 +70,8 @@ impl Machine {
     }
 
     fn is_done(&self) -> bool
-        ensures { (s : Sending) (r : Receiving) (expiries : ℕ) → IsSending self.now.outgoing s →
-            result ≡ moves.is_done (state_of (view_of self.now) s r expiries) }
+        ensures { (s : Sending) (r : Receiving) → IsSending self.now.outgoing s →
+            result ≡ moves.is_done (state_of (view_of self.now) s r) }
     {
         self.is_up() && self.closing && self.outgoing.acked() == self.outgoing.total()
     }

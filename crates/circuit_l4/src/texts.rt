@@ -139,8 +139,8 @@ impl Machine {
     }
 
     fn nothing_owed(&self) -> Owed
-        ensures exact { (s : Sending) (r : Receiving) (expiries : ℕ) → IsSending self.now.outgoing s →
-            result ≡ moves.nothing_owed (state_of (view_of self.now) s r expiries) }
+        ensures exact { (s : Sending) (r : Receiving) → IsSending self.now.outgoing s →
+            result ≡ moves.nothing_owed (state_of (view_of self.now) s r) }
         ensures owed { IsOwed result self.now }
     {
         Owed {
@@ -152,8 +152,8 @@ impl Machine {
     fn owed_by(&self, flags: Flags, below: u64) -> Owed
         requires from { self.now.outgoing.acked ≤ below }
         requires to { below ≤ self.now.outgoing.sent }
-        ensures exact { (s : Sending) (r : Receiving) (expiries : ℕ) → IsSending self.now.outgoing s →
-            result ≡ moves.owed_by flags below (state_of (view_of self.now) s r expiries) }
+        ensures exact { (s : Sending) (r : Receiving) → IsSending self.now.outgoing s →
+            result ≡ moves.owed_by flags below (state_of (view_of self.now) s r) }
         ensures owed { IsOwed result self.now }
     {
         if flags.choke {
@@ -215,8 +215,8 @@ impl Machine {
     /// Whether no text goes out.
     fn is_silent(&self, owed: Owed) -> bool
         requires { IsOwed owed self.now }
-        ensures { (s : Sending) (r : Receiving) (expiries : ℕ) → IsSending self.now.outgoing s →
-            result ≡ moves.is_silent owed (state_of (view_of self.now) s r expiries) }
+        ensures { (s : Sending) (r : Receiving) → IsSending self.now.outgoing s →
+            result ≡ moves.is_silent owed (state_of (view_of self.now) s r) }
     {
         owed.many + self.fill_count() == 0
     }

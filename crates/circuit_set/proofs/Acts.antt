@@ -33,11 +33,11 @@ use Rattle.circuit_set.proofs.Invariant.{AloneOk, CircuitOk, EndInv, Kept, Lived
 use Rattle.circuit_set.proofs.Moved.{moved}
 
 -- ---- a life goes on ----
-lived_on : (g : Effect) (inputs : List (Input × ℕ)) (i : Input) (now : ℕ) → after_inputs g (inputs ++ (i, now) ∷ []) ≡ followed_by (after_inputs g inputs) (step (after_inputs g inputs).end i now)
+pub lived_on : (g : Effect) (inputs : List (Input × ℕ)) (i : Input) (now : ℕ) → after_inputs g (inputs ++ (i, now) ∷ []) ≡ followed_by (after_inputs g inputs) (step (after_inputs g inputs).end i now)
 lived_on g [] i now = refl
 lived_on g (j ∷ inputs) i now = lived_on (followed_by g (step g.end j.0 j.1)) inputs i now
 
-pub lives_on : (e : State) (notes : List EndNotice) (i : Input) (now : ℕ) → Lived e notes → Lived (step e i now).end (notes ++ (step e i now).notes)
+unfoldable pub lives_on : (e : State) (notes : List EndNotice) (i : Input) (now : ℕ) → Lived e notes → Lived (step e i now).end (notes ++ (step e i now).notes)
 lives_on e notes i now l = record {
   first = l.first;
   new = l.new;

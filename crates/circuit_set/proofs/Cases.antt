@@ -17,6 +17,7 @@ use Rattle.circuit_l4.specs.declared.plain.EndNotice.{EndNotice}
 use Rattle.circuit_l4.specs.declared.machine.Role.{Role}
 use Rattle.circuit_l4.specs.declared.machine.Role.TheVariants.{Requester, Responder}
 use Rattle.circuit_l4.specs.EndState.{Effect, State}
+use Rattle.circuit_l4.specs.EndLaws as laws
 use Rattle.circuit_l4.specs.EndLaws.{Accepts, Asks}
 use Rattle.circuit_l4.specs.EndTable.{Arrive, step}
 use Rattle.circuit_l4.specs.EndOpening.{facts_of, requesting, responding}
@@ -94,6 +95,30 @@ arrival_says h d (Disconnected to) now read = other_says h d (Disconnected to) n
 arrival_says h d (Info to tx rx flags text) now read = other_says h d (Info to tx rx flags text) now refl
 arrival_says h d (InfoAck to rx flags) now read = other_says h d (InfoAck to rx flags) now refl
 
+-- what has moved it: a call of it, or a datagram that has come
+abbrev pub MovedBy : Act → Holder → Effect → Type 0
+MovedBy (Calls id call now) h g = (id ≡ h.id) × (g ≡ step h.end (input_of call) now)
+MovedBy (Comes d now) h g = ((t : Transport) × (g ≡ step h.end (Arrive t) now)) ⊎ ((g.end ≡ h.end) × (g.notes ≡ []))
+MovedBy (Connect dest now) h g = ⊥
+MovedBy (Discard id) h g = ⊥
+MovedBy (Restart pair more) h g = ⊥
+
+-- no end that is held is called
+abbrev pub Idle : SetState → Act → Type 0
+Idle s (Calls id call now) = (h : Holder) → end_of id s.ends ≡ Some h → h.gone ≡ true
+Idle s (Comes d now) = Unit {0}
+Idle s (Connect dest now) = Unit {0}
+Idle s (Discard id) = Unit {0}
+Idle s (Restart pair more) = Unit {0}
+
+-- no end is called
+abbrev pub NoCall : Act → Type 0
+NoCall (Calls id call now) = ⊥
+NoCall (Comes d now) = Unit {0}
+NoCall (Connect dest now) = Unit {0}
+NoCall (Discard id) = Unit {0}
+NoCall (Restart pair more) = Unit {0}
+
 -- it has come here by its inputs
 abbrev pub Lives : State → Effect → Type 0
 Lives e g = (ns : List EndNotice) → Lived e ns → Lived g.end (ns ++ g.notes)
@@ -112,6 +137,7 @@ pub record IsNew (s : SetState) (asked : Option Pair) (request : Option (List �
   pub told : any_ends g.notes ≡ false
   pub asks : asked ≡ None → opened_window g.notes ≡ None
   pub lives : Lived g.end g.notes
+  pub born : laws.IsNew g
 
 pub record Cases (s : SetState) (P : SetDone → Type 0) : Type 0 where
   pub rests : P (untold s)
@@ -149,11 +175,11 @@ MadeBy s a at role (Some pair) (Some d) = Opener s a at pair d × (role ≡ Resp
 MadeBy s a at role _ _ = ⊥
 
 pub record Every (s : SetState) (a : Act) (P : SetDone → Type 0) : Type 0 where
-  pub rests : P (untold s)
-  pub refuses : (at : Callsign) (pair : Pair) → IsCallsign at.letters at.ssid → P (record { set = s; told = Sent 0 None (datagram_to s at (Refuse pair)) ∷ [] })
+  pub rests : Idle s a → P (untold s)
+  pub refuses : (at : Callsign) (pair : Pair) → IsCallsign at.letters at.ssid → NoCall a → P (record { set = s; told = Sent 0 None (datagram_to s at (Refuse pair)) ∷ [] })
   pub moves : (h : Holder) (heeded : Bool) (d : List ℕ) (g : Effect) → end_of h.id s.ends ≡ Some h → h.gone ≡ false → SameEnd h.end g.end → Ends h.end g → Says h heeded d g → Lives h.end g
-      → asking.Asks h.end g.outs → P (goes_to s h (if heeded then Heeded h.id d ∷ [] else []) g)
-  pub leaves : (h : Holder) → end_of h.id s.ends ≡ Some h → h.gone ≡ false → has_ended h.end.phase ≡ true
+      → asking.Asks h.end g.outs → MovedBy a h g → P (goes_to s h (if heeded then Heeded h.id d ∷ [] else []) g)
+  pub leaves : (h : Holder) → end_of h.id s.ends ≡ Some h → h.gone ≡ false → has_ended h.end.phase ≡ true → NoCall a
       → P (record { set = record s { ends = with_end (record h { gone = true }) s.ends }; told = Gone h.id (facts_of h.end) ∷ [] })
   pub makes : (at : Callsign) (asked : Option Pair) (request : Option (List ℕ)) (g : Effect) → IsNew s asked request g → MadeBy s a at g.end.role asked request → asking.Asks g.end g.outs
       → P (made s at asked request g)
@@ -177,26 +203,32 @@ is_true false e = cc
 
 module _ (s : SetState) (one : (h : Holder) → InEnds h s.ends → end_of h.id s.ends ≡ Some h) (a : Act) (P : SetDone → Type 0) (k : Every s a P) where
   -- ---- calls ----
-  call_case : (h : Holder) (call : Call) (now : ℕ) (b : Bool) → h.gone ≡ b → end_of h.id s.ends ≡ Some h → P (if b then untold s else goes_to s h [] (step h.end (input_of call) now))
-  call_case h call now true e there = k.rests
-  call_case h call now false e there =
+  gone_one : (id : ℕ) (h j : Holder) → end_of id s.ends ≡ Some h → h.gone ≡ true → end_of id s.ends ≡ Some j → j.gone ≡ true
+  gone_one id h j there e q = let two : Some h ≡ Some j = sym there ∙ q in let same : h ≡ j = cc two in subst (λ (x : Holder). x.gone ≡ true) same e
+
+  call_case : (h : Holder) (call : Call) (now : ℕ) (b : Bool) → a ≡ Calls h.id call now → h.gone ≡ b → end_of h.id s.ends ≡ Some h → P (if b then untold s else goes_to s h [] (step h.end (input_of call) now))
+  call_case h call now true i e there = k.rests (subst (Idle s) (sym i) (λ j q. gone_one h.id h j there e q))
+  call_case h call now false i e there =
       let names = call_names h.end call now in
       let same : SameEnd h.end (step h.end (input_of call) now).end = record { role = ap (λ (n : Named). n.role) names; pair = ap (λ (n : Named). n.pair) names; config = ap (λ (n : Named). n.config) names } in
       k.moves h false [] (step h.end (input_of call) now) there e same (step_ends h.end (input_of call) now (accepts_none call)) (inl (step_sends_on h.end (input_of call) now (accepts_none call)))
       (λ ns l. lives_on h.end ns (input_of call) now l) (asking.step_asks h.end (input_of call) now)
+      (subst (λ (b : Act). MovedBy b h (step h.end (input_of call) now)) (sym i) (refl, refl))
 
-  called_so : (id : ℕ) (call : Call) (now : ℕ) (o : Option Holder) → end_of id s.ends ≡ o → P (called s o call now)
-  called_so id call now None e = k.rests
-  called_so id call now (Some h) e = call_case h call now h.gone refl (ap (λ i. end_of i s.ends) (number_of id h s.ends e) ∙ e)
+  called_so : (id : ℕ) (call : Call) (now : ℕ) (o : Option Holder) → a ≡ Calls id call now → end_of id s.ends ≡ o → P (called s o call now)
+  called_so id call now None i e = k.rests (subst (Idle s) (sym i) (λ j q. let bad : None ≡ Some j = sym e ∙ q in absurd (cc bad)))
+  called_so id call now (Some h) i e =
+      let number : h.id ≡ id = number_of id h s.ends e in
+      call_case h call now h.gone (i ∙ ap (λ n. Calls n call now) (sym number)) refl (ap (λ i. end_of i s.ends) number ∙ e)
 
-  discard_case : (h : Holder) (b : Bool) → (not h.gone && has_ended h.end.phase) ≡ b → end_of h.id s.ends ≡ Some h
+  discard_case : (h : Holder) (b : Bool) → Idle s a → NoCall a → (not h.gone && has_ended h.end.phase) ≡ b → end_of h.id s.ends ≡ Some h
       → P (if b then record { set = record s { ends = with_end (record h { gone = true }) s.ends }; told = Gone h.id (facts_of h.end) ∷ [] } else untold s)
-  discard_case h false e there = k.rests
-  discard_case h true e there = let r = and_parts (not h.gone) (has_ended h.end.phase) e in k.leaves h there (is_false h.gone r.0) r.1
+  discard_case h false i none e there = k.rests i
+  discard_case h true i none e there = let r = and_parts (not h.gone) (has_ended h.end.phase) e in k.leaves h there (is_false h.gone r.0) r.1 none
 
-  discard_so : (id : ℕ) (o : Option Holder) → end_of id s.ends ≡ o → P (discarded s o)
-  discard_so id None e = k.rests
-  discard_so id (Some h) e = discard_case h (not h.gone && has_ended h.end.phase) refl (ap (λ i. end_of i s.ends) (number_of id h s.ends e) ∙ e)
+  discard_so : (id : ℕ) (o : Option Holder) → Idle s a → NoCall a → end_of id s.ends ≡ o → P (discarded s o)
+  discard_so id None i none e = k.rests i
+  discard_so id (Some h) i none e = discard_case h (not h.gone && has_ended h.end.phase) i none refl (ap (λ i. end_of i s.ends) (number_of id h s.ends e) ∙ e)
 
   -- ---- what comes ----
   open_one : (test : Holder → Bool) (h : Holder) → first_open test s.ends ≡ Some h → (end_of h.id s.ends ≡ Some h) × (h.gone ≡ false)
@@ -206,20 +238,24 @@ module _ (s : SetState) (one : (h : Holder) → InEnds h s.ends → end_of h.id 
       (one h f.0, is_false h.gone (and_parts (not h.gone) (not (has_ended h.end.phase)) lasts).0)
 
   module _ (d : List ℕ) (c : Comer s a d) where
+    idle : Idle s a
+    idle = subst (Idle s) (sym c.came) tt
+
     arrives_case : (to : Pair) (t : Transport) (o : Option Holder) → transport_at (drop 15 d) ≡ Ok t → first_open (named_by c.head.origin to) s.ends ≡ o
         → P (elim o as (λ x. SetDone) [ Some h ↦ handed s h d t c.now | None ↦ untold s ])
-    arrives_case to t None read e = k.rests
+    arrives_case to t None read e = k.rests idle
     arrives_case to t (Some h) read e =
         let f = open_one (named_by c.head.origin to) h e in
         let says = arrival_says h d t c.now read in
         k.moves h (heeds h.end.phase t) d (step h.end (Arrive t) c.now) f.0 f.1 (arrival_same h.end t c.now) says.0 says.1 (λ ns l. lives_on h.end ns (Arrive t) c.now l) (asking.step_asks h.end (Arrive t) c.now)
+        (subst (λ (b : Act). MovedBy b h (step h.end (Arrive t) c.now)) (sym c.came) (inl (t, refl)))
 
     arrives_so : (to : Pair) (t : Transport) → transport_at (drop 15 d) ≡ Ok t → P (arrives_at s c.head.origin d to t c.now)
     arrives_so to t read = arrives_case to t (first_open (named_by c.head.origin to) s.ends) read refl
 
     anew_case : (pair : Pair) (window : ℕ) (b : Bool) → is_full s ≡ b → Opener s a c.head.origin pair d
         → P (if b then record { set = s; told = Sent 0 None (datagram_to s c.head.origin (Refuse pair)) ∷ [] } else responds s c.head.origin d pair window c.now)
-    anew_case pair window true e o = k.refuses c.head.origin pair (origin_read d c.head c.read)
+    anew_case pair window true e o = k.refuses c.head.origin pair (origin_read d c.head c.read) (subst NoCall (sym c.came) tt)
     anew_case pair window false e o =
         let g : Effect = responding (new_pair s) pair window s.config (min c.now COUNT_MAX) in
         k.makes c.head.origin (Some pair) (Some d) g (record {
@@ -230,6 +266,7 @@ module _ (s : SetState) (one : (h : Holder) → InEnds h s.ends → end_of h.id 
           told = refl;
           asks = λ e. cc;
           lives = record { first = g; new = Accepts (new_pair s) pair window s.config (min c.now COUNT_MAX); inputs = []; end = refl; notes_are = refl };
+          born = Accepts (new_pair s) pair window s.config (min c.now COUNT_MAX);
         }) (o, refl) ((refl, refl), tt)
 
     requested_case : (pair : Pair) (window : ℕ) (user node : Callsign) (o : Option Holder) → first_open (opened_by c.head.origin pair) s.ends ≡ o → transport_at (drop 15 d) ≡ Ok (Request pair window user node)
@@ -239,7 +276,7 @@ module _ (s : SetState) (one : (h : Holder) → InEnds h s.ends → end_of h.id 
     requested_case pair window user node (Some h) e read =
         let o = open_one (opened_by c.head.origin pair) h e in
         k.moves h false [] (accept_again h.end) o.0 o.1 (record { role = refl; pair = refl; config = refl }) (record { told = λ e. cc; stays = λ e. e; says = λ e. inl e }) (inl (record { unopened = refl; to = refl }))
-        (λ ns l. lives_same h.end ns l) ((refl, refl), tt)
+        (λ ns l. lives_same h.end ns l) ((refl, refl), tt) (subst (λ (b : Act). MovedBy b h (accept_again h.end)) (sym c.came) (inr (refl, refl)))
 
     received_so : (t : Transport) → transport_at (drop 15 d) ≡ Ok t → P (received s c.head.origin d t c.now)
     received_so (Request pair window user node) read = requested_case pair window user node (first_open (opened_by c.head.origin pair) s.ends) refl read
@@ -251,23 +288,23 @@ module _ (s : SetState) (one : (h : Holder) → InEnds h s.ends → end_of h.id 
     received_so (InfoAck to rx flags) read = arrives_so to (InfoAck to rx flags) read
 
     read_so : (r : Result Transport TransportRefusal) → transport_at (drop 15 d) ≡ r → P (read_as s c.head.origin d r c.now)
-    read_so (Err e) read = k.rests
+    read_so (Err e) read = k.rests idle
     read_so (Ok t) read = received_so t read
 
   handed_case : (d : List ℕ) (head : DatagramHead) (now : ℕ) (v w : Bool) → a ≡ Comes d now → head_at d ≡ Ok head → same_call head.origin s.own ≡ v → not (same_call head.dest s.own) ≡ w
       → P (if v || w then untold s else read_as s head.origin d (transport_at (drop 15 d)) now)
-  handed_case d head now true w i e f g = k.rests
-  handed_case d head now false true i e f g = k.rests
+  handed_case d head now true w i e f g = k.rests (subst (Idle s) (sym i) tt)
+  handed_case d head now false true i e f g = k.rests (subst (Idle s) (sym i) tt)
   handed_case d head now false false i e f g =
       read_so d (record { now = now; came = i; head = head; read = e; other = f; mine = is_true (same_call head.dest s.own) g }) (transport_at (drop 15 d)) refl
 
   handed_so : (d : List ℕ) (r : Result DatagramHead DatagramRefusal) (now : ℕ) → a ≡ Comes d now → head_at d ≡ r → P (handed_up s d r now)
-  handed_so d (Err e) now i h = k.rests
+  handed_so d (Err e) now i h = k.rests (subst (Idle s) (sym i) tt)
   handed_so d (Ok head) now i h = handed_case d head now (same_call head.origin s.own) (not (same_call head.dest s.own)) i h refl refl
 
   connected_case : (dest : Callsign) (now : ℕ) (v w : Bool) → a ≡ Connect dest now → is_full s ≡ w → P (if v || w then untold s else requests s dest now)
-  connected_case dest now true w i e = k.rests
-  connected_case dest now false true i e = k.rests
+  connected_case dest now true w i e = k.rests (subst (Idle s) (sym i) tt)
+  connected_case dest now false true i e = k.rests (subst (Idle s) (sym i) tt)
   connected_case dest now false false i e =
       let g : Effect = requesting (new_pair s) s.user s.own s.config (min now COUNT_MAX) in
       k.makes dest None None g (record {
@@ -278,13 +315,14 @@ module _ (s : SetState) (one : (h : Holder) → InEnds h s.ends → end_of h.id 
         told = refl;
         asks = λ e. refl;
         lives = record { first = g; new = Asks (new_pair s) s.user s.own s.config (min now COUNT_MAX); inputs = []; end = refl; notes_are = refl };
+        born = Asks (new_pair s) s.user s.own s.config (min now COUNT_MAX);
       }) (now, i, refl) ((refl, refl, refl, refl), tt)
 
   step_by : (b : Act) → a ≡ b → IsUp b → P (set_step s b)
   step_by (Connect dest now) e up = connected_case dest now (same_call dest s.own) (is_full s) e refl
   step_by (Comes d now) e up = handed_so d (head_at d) now e refl
-  step_by (Calls id call now) e up = called_so id call now (end_of id s.ends) refl
-  step_by (Discard id) e up = discard_so id (end_of id s.ends) refl
+  step_by (Calls id call now) e up = called_so id call now (end_of id s.ends) e refl
+  step_by (Discard id) e up = discard_so id (end_of id s.ends) (subst (Idle s) (sym e) tt) (subst NoCall (sym e) tt) refl
   step_by (Restart pair more) e up = absurd up
 
   pub step_every : IsUp a → P (set_step s a)
@@ -293,9 +331,9 @@ module _ (s : SetState) (one : (h : Holder) → InEnds h s.ends → end_of h.id 
 pub step_cases : (s : SetState) → ((h : Holder) → InEnds h s.ends → end_of h.id s.ends ≡ Some h) → (P : SetDone → Type 0) → Cases s P → (a : Act) → IsUp a → P (set_step s a)
 step_cases s one P k a =
     step_every s one a P (record {
-      rests = k.rests;
-      refuses = λ at pair call. k.refuses (datagram_to s at (Refuse pair));
-      moves = λ h heeded d g there held same ends says lives asks. k.moves h heeded d g there held same ends says lives;
-      leaves = λ h there held ended. k.leaves h there held;
+      rests = λ idle. k.rests;
+      refuses = λ at pair call none. k.refuses (datagram_to s at (Refuse pair));
+      moves = λ h heeded d g there held same ends says lives asks by. k.moves h heeded d g there held same ends says lives;
+      leaves = λ h there held ended none. k.leaves h there held;
       makes = λ at asked request g new by asks. k.makes at asked request g new;
     })

@@ -17,7 +17,7 @@ use Rattle.circuit_l4.specs.declared.texts.Owed.{Owed}
 use Rattle.circuit_l4.specs.EndState.{Effect, State, begin, is_up}
 use Rattle.circuit_l4.specs.EndMoves.{acknowledge, again, answer, answer_all, wait_if_out, on_state, begin_to_close, end_with, fill, finish, with_receiving, is_done, is_silent, note, on_info, on_info_ack, emit, emit_owed, supply, emit_ack}
 use Rattle.circuit_l4.specs.EndLaws.{Accepts, Asks, IsNew, after_inputs, followed_by}
-use Rattle.circuit_l4.specs.EndTable.{Input, Write, Arrive, Tick, Close, Take, arrive_in, ask_by, close_in_turn, due_in, expire, count_expiry, note_activity, is_due, may_close, release, common_window, come_up, resume_by, retry, retry_in, step, step_at, take_from, write_answer, write}
+use Rattle.circuit_l4.specs.EndTable.{Input, Write, Arrive, Tick, Close, Take, arrive_in, ask_by, close_in_turn, due_in, expire, note_activity, is_due, may_close, release, common_window, come_up, resume_by, retry, retry_in, step, step_at, take_from, write_answer, write}
 use Rattle.circuit_l4.specs.Receiving.{Appended, Receipt, busy, receive, without_first, inbox, moved_on}
 use Rattle.circuit_l4.specs.Sending.{total, written}
 use Rattle.circuit_set.specs.Books.{any_ends, ends_it}
@@ -154,7 +154,7 @@ retries_go Ended s g k = k
 
 expires_go : (s : State) (now : ℕ) → Goes s (expire now (begin s))
 expires_go s now =
-    let g : Effect = count_expiry (begin s) in
+    let g : Effect = begin s in
     either_going (Goes s) (nat_eq s.tries s.config.retries) (end_with FailedRetries g) (retry now g) (over s FailedRetries g refl refl)
     (same_phase s (retry_in s.phase g) (retry now g) refl refl (retries_go s.phase s g (rests s g refl refl)))
 

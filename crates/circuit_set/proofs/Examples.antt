@@ -7,7 +7,7 @@ use Rattle.circuit_l4.specs.Reading as reading
 use Rattle.circuit_l4.specs.Reading.{transport_at}
 use Rattle.circuit_set.specs.Sets.{Holder}
 use Rattle.circuit_set.specs.Books.{Fresh, MadeNote, Name, Timely, empty, partner}
-use Rattle.circuit_set.specs.Runs.{Net, Safe, SafeAlone, SafeEnd, SafeWith, allowed, begins, end_at, events_of, net_run}
+use Rattle.circuit_set.specs.Runs.{Net, Safe, SafeAlone, SafeEnd, SafeWith, allowed, begins, end_at, events_of, expiries_in, net_run}
 use Rattle.circuit_set.specs.Examples.{ForgedIsUnsafe, OneMoreIsTooMany, RestartIsStale, again_at, forged, here, node, pair_of, there}
 
 abbrev first : Name
@@ -28,10 +28,10 @@ alone : partner forged_net.book first ≡ None
 unfolding head_at transport_at reading.accept_at
 alone = refl
 
-unsafe_case : (o : Option Holder) → end_at forged_net first ≡ o → received_by o ≡ (88 ∷ []) ∷ [] → Safe forged_net → ⊥
+unsafe_case : (o : Option Holder) → end_at forged_net first ≡ o → received_by o ≡ (88 ∷ []) ∷ [] → Safe (node here ∷ []) forged → ⊥
 unsafe_case None e r safe = cc r
 unsafe_case (Some h) e r safe =
-    let s : SafeEnd forged_net first h = safe first h e in
+    let s : SafeEnd forged_net (expiries_in (node here ∷ []) forged first) first h = safe first h e in
     let a : SafeAlone h.end = subst (λ (p : Option Name). SafeWith forged_net first h p) alone s.circuit in
     let z : [] ≡ (88 ∷ []) ∷ [] = sym a.received ∙ r in
     cc z

@@ -278,7 +278,7 @@ pub runs_numbers : (acts : List Act) (s : SetState) → Numbers s → Numbers (r
 runs_numbers [] s n = n
 runs_numbers (a ∷ acts) s n = runs_numbers acts (set_step s a).set (step_numbers s n a)
 
-runs_given : (acts : List Act) (s : SetState) → Numbers s → StaysUp acts → GivenBy s (runs acts s)
+pub runs_given : (acts : List Act) (s : SetState) → Numbers s → StaysUp acts → GivenBy s (runs acts s)
 runs_given [] s n up = record { changes = []; pairs = refl; stands = refl }
 runs_given (a ∷ acts) s n up =
     let x : Fine s (set_step s a) = step_cases s (one s n) (Fine s) (cases s n) a up.0 in and_then s n a acts x.0 (runs_given acts (set_step s a).set x.1 up.1)

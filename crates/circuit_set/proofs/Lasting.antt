@@ -16,7 +16,7 @@ use Rattle.circuit_l4.specs.declared.machine.Role.TheVariants.{Requester, Respon
 use Rattle.circuit_l4.specs.declared.texts.Owed.{Owed}
 use Rattle.circuit_l4.specs.EndState.{Effect, State, begin, is_up}
 use Rattle.circuit_l4.specs.EndMoves.{acknowledge, acknowledge_by, advance, again, answer, answer_all, wait, wait_if_out, on_state, hold, begin_to_close, end_with, fill, fill_count, finish, with_receiving, note, is_done, is_silent, on_info, on_info_ack, put_out, emit_owed, supply, emit_ack}
-use Rattle.circuit_l4.specs.EndTable.{common_window, come_up, Input, Write, Arrive, Tick, Close, Take, arrive_in, ask_by, close_in_turn, due_in, expire, count_expiry, note_activity, is_due, may_close, release, resume_by, retry, retry_in, step, step_at, take_from, write_answer, write}
+use Rattle.circuit_l4.specs.EndTable.{common_window, come_up, Input, Write, Arrive, Tick, Close, Take, arrive_in, ask_by, close_in_turn, due_in, expire, note_activity, is_due, may_close, release, resume_by, retry, retry_in, step, step_at, take_from, write_answer, write}
 use Rattle.circuit_reassembly.specs.Gathering.{Answer, More, Whole, Too_long, gather_step}
 use Rattle.circuit_l4.specs.Receiving.{Appended, Receipt, Receiving, append, appended, busy, receive, receive_at, receive_early, receive_next, without_first, ignored, inbox, move_on, moved_on, next_early}
 use Rattle.circuit_l4.specs.Sending.{written}
@@ -101,8 +101,8 @@ module _ (R : Core → Core → Type 0) (self : (c : Core) → R c c) (further :
 
   advances : (s : State) (now x : ℕ) → Same s (advance now x s)
   advances s now x =
-      either (Same s) (nat_lt s.sending.acked x) (wait_if_out now (record s { sending = record s.sending { acked = x }; tries = 0; expiries = 0 })) s
-      (if_out s (record s { sending = record s.sending { acked = x }; tries = 0; expiries = 0 }) now (self (core s))) (self (core s))
+      either (Same s) (nat_lt s.sending.acked x) (wait_if_out now (record s { sending = record s.sending { acked = x }; tries = 0 })) s
+      (if_out s (record s { sending = record s.sending { acked = x }; tries = 0 }) now (self (core s))) (self (core s))
 
   chokes : (s t : State) (now : ℕ) (choke : Bool) → Same s t → Same s (hold now choke t)
   chokes s t now true h = h
@@ -184,8 +184,8 @@ module _ (R : Core → Core → Type 0) (self : (c : Core) → R c c) (further :
 
     expires_same : (s : State) (now : ℕ) → SameIn s (expire now (begin s))
     expires_same s now =
-        either_going (SameIn s) (nat_eq s.tries s.config.retries) (end_with FailedRetries (count_expiry (begin s))) (retry now (count_expiry (begin s))) (ends s)
-        (retries_same s.phase s (count_expiry (begin s)) (self (core s)))
+        either_going (SameIn s) (nat_eq s.tries s.config.retries) (end_with FailedRetries (begin s)) (retry now (begin s)) (ends s)
+        (retries_same s.phase s (begin s) (self (core s)))
 
     releases_same : (s : State) (now : ℕ) → SameIn s (release now (begin s))
     releases_same s now =

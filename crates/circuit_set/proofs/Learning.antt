@@ -321,10 +321,10 @@ module _ (net : Net) (k : Known net) (n : ℕ) (s : SetState) (here : slice_get 
   pub step_known : (a : Act) → IsAct a → IsUp a → P (set_step s a)
   step_known a is_act up =
       step_every s (one s nums) a P (record {
-        rests = beside net.book refl k.sent;
-        refuses = refused_so;
-        moves = moves_so;
-        leaves = leaves_so;
+        rests = λ idle. beside net.book refl k.sent;
+        refuses = λ at pair call none. refused_so at pair call;
+        moves = λ h heeded d g there held same ends says lives asks by. moves_so h heeded d g there held same ends says lives asks;
+        leaves = λ h there held ended none. leaves_so h there held ended;
         makes = λ at asked request g fresh by asks. new_known a is_act at asked request g fresh asks by;
       }) up
 

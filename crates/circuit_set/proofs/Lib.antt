@@ -52,11 +52,13 @@ pub mod Turning
 pub mod Asking
 pub mod Looping
 pub mod GoingOn
+pub mod Shown
 pub mod Looking
 pub mod ByInputs
 pub mod Ended
 pub mod Cases
 pub mod Given
+pub mod HoldsFew
 pub mod Unused
 pub mod Stepped
 pub mod Fair
@@ -64,6 +66,8 @@ pub mod NewName
 pub mod NamesOne
 pub mod SendsTo
 pub mod Retries
+pub mod Onward
+pub mod Expiring
 pub mod Sendings
 pub mod Heedings
 pub mod Requests

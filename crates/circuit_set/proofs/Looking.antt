@@ -12,12 +12,11 @@ use Rattle.circuit_set.specs.declared.holder.Holder.{Holder}
 use Rattle.circuit_set.specs.declared.held_ends.HeldEnds.{HeldEnds}
 use Rattle.circuit_set.specs.Sets as sets
 use Rattle.circuit_set.specs.Sets.{SetState, Told, end_of}
-use Rattle.circuit_set.specs.Pumps.{at_rest}
+use Rattle.circuit_set.specs.Pumps.{Waiting, at_rest}
 use Rattle.circuit_set.specs.Inputs.{ticked, ticks, ticks_of}
 use Rattle.circuit_set.specs.Standing.{Held, HeldStands, Here, Keeps, Past, Rests, SameNode, of_holder}
-use Rattle.circuit_set.specs.CircuitSets.{Circuits, Goes, IsDrained, IsUnchanged, LentStands, SetStands, facts_at, held_ids, partner_at}
-use Rattle.circuit_set.proofs.Holding.{stood}
-use Rattle.circuit_set.proofs.Moving.{IsQuiet, Stood, missing_at, not_gone, nothing, quiet, stood_at}
+use Rattle.circuit_set.specs.CircuitSets.{Circuits, Goes, IsDrained, IsUnchanged, LentStands, SetStands, facts_at, held_by, held_ids, partner_at}
+use Rattle.circuit_set.proofs.Shown.{FoundAt, Shown, find, ids, keys, miss, shown}
 use Rattle.circuit_set.proofs.Owning.{SameOwn, runs_own}
 
 -- ---- an end of a number ----
@@ -33,77 +32,59 @@ lent_none : (o : Option sets.Holder) → ((x : sets.Holder) → o ≡ Some x →
 lent_none None f = tt
 lent_none (Some h) f = f h refl
 
-module _ {C : Type 0} (c : Circuits C) (id : ℕ) (s : SetState) (st : SetStands c (at_rest s)) where
-  module _ (missing : lookup (nat_eq id) c.held.ends.entries ≡ None) where
-    pub no_facts : None ≡ facts_at (end_of id s.ends)
-    no_facts = facts_none (end_of id s.ends) (missing_at c.held id missing s st.ends)
-
-    pub no_partner : None ≡ partner_at (end_of id s.ends)
-    no_partner = partner_none (end_of id s.ends) (missing_at c.held id missing s st.ends)
-
-    pub no_end : LentStands None (end_of id s.ends)
-    no_end = lent_none (end_of id s.ends) (missing_at c.held id missing s st.ends)
-
-  module _ (k : Holder) (found : lookup (nat_eq id) c.held.ends.entries ≡ Some k) where
-    here : Stood s id k
-    here = stood_at c.held id k found s st.ends
-
-    pub some_facts : (f : EndFacts) → ((x : State) → StandsFor k.end x → f ≡ facts_of x) → Some f ≡ facts_at (end_of id s.ends)
-    some_facts f e =
-        let h : sets.Holder = of_holder id k here.g in
-        let held : facts_at (Some h) ≡ Some (facts_of here.g.end) = simp (not_gone id k here.g here.quiet) refl in
-        ap Some (e here.g.end (stood k.end here.g here.stands)) ∙ sym held ∙ ap facts_at (sym here.is)
-
-    pub some_partner : Some k.at ≡ partner_at (end_of id s.ends)
-    some_partner =
-        let h : sets.Holder = of_holder id k here.g in
-        let held : partner_at (Some h) ≡ Some k.at = simp (not_gone id k here.g here.quiet) refl in
-        sym held ∙ ap partner_at (sym here.is)
-
-    pub some_end : LentStands (Some k.end) (end_of id s.ends)
-    some_end = subst (λ (o : Option sets.Holder). LentStands (Some k.end) o) (sym here.is) (not_gone id k here.g here.quiet, stood k.end here.g here.stands)
-
--- ---- the numbers of the ends that are held ----
-abbrev keys : List (ℕ × Holder) → List ℕ
-keys [] = []
-keys (e ∷ es) = e.0 ∷ keys es
-
-module _ (own : Callsign) (ttl : ℕ) where
-  ids_here : (k : Holder) (h : sets.Holder) (hs : List sets.Holder) (ids : List ℕ) → Keeps own ttl h.id k h [] → held_ids hs ≡ ids → held_ids (h ∷ hs) ≡ h.id ∷ ids
-  ids_here k h hs ids keep e =
-      let g : Effect = keep.going in
-      let q : IsQuiet k g = quiet own ttl h.id k g keep.untold in
-      let held : h.gone ≡ false = ap (λ (x : sets.Holder). x.gone) keep.is ∙ not_gone h.id k g q in
-      simp (held, e) refl
-
-  ids_past : (h : sets.Holder) (hs : List sets.Holder) (ids : List ℕ) → h.gone ≡ true → held_ids hs ≡ ids → held_ids (h ∷ hs) ≡ ids
-  ids_past h hs ids g e = simp (g, e) refl
-
-  abbrev Ids : ℕ → ℕ → List sets.Holder → Type 0
-  Ids hi lo hs = (es : List (ℕ × Holder)) → Held own ttl hi lo es hs [] → held_ids hs ≡ keys es
-
-  ids_case : (hi : ℕ) (h : sets.Holder) (es : List (ℕ × Holder)) (hs : List sets.Holder)
-      → (Past (λ rest theirs. Held own ttl hi (suc h.id) rest hs theirs) h es [] ⊎ Here own ttl (λ rest theirs. Held own ttl hi (suc h.id) rest hs theirs) h es [])
-      → Ids hi (suc h.id) hs → held_ids (h ∷ hs) ≡ keys es
-  ids_case hi h es hs (inl p) later = ids_past h hs (keys es) p.gone (later es p.others)
-  ids_case hi h es hs (inr p) later =
-      let two = nothing p.mine p.theirs p.both in
-      let keep : Keeps own ttl h.id p.k h [] = subst (λ ts. Keeps own ttl h.id p.k h ts) two.0 p.keeps in
-      let rest : held_ids hs ≡ keys p.rest = later p.rest (subst (λ ts. Held own ttl hi (suc h.id) p.rest hs ts) two.1 p.others) in
-      ids_here p.k h hs (keys p.rest) keep rest ∙ ap keys (sym p.is)
-
-  ids_same : (hi lo : ℕ) (hs : List sets.Holder) → Ids hi lo hs
-  ids_same hi lo [] es s = ap keys (sym s.0)
-  ids_same hi lo (h ∷ hs) es s = ids_case hi h es hs s.1 (ids_same hi (suc h.id) hs)
-
 nth_key : (n : ℕ) (es : List (ℕ × Holder)) → option_map (λ e. e.0) (slice_get es n) ≡ slice_get (keys es) n
 nth_key n [] = refl
 nth_key zero (e ∷ es) = refl
 nth_key (suc n) (e ∷ es) = nth_key n es
 
-pub nth_held : {C : Type 0} (c : Circuits C) (n : ℕ) (s : SetState) → SetStands c (at_rest s) → option_map (λ e. e.0) (slice_get c.held.ends.entries n) ≡ slice_get (held_ids s.ends) n
-nth_held c n s st =
-    nth_key n c.held.ends.entries ∙ ap (λ (ids : List ℕ). slice_get ids n) (sym (ids_same s.own s.ttl s.number 0 s.ends c.held.ends.entries st.ends.ends))
+facts_some : (o : Option sets.Holder) (h : sets.Holder) → o ≡ Some h → h.gone ≡ false → Some (facts_of h.end) ≡ facts_at o
+facts_some o h is e = let at : facts_at (Some h) ≡ Some (facts_of h.end) = simp e refl in sym at ∙ ap facts_at (sym is)
+
+partner_some : (o : Option sets.Holder) (h : sets.Holder) → o ≡ Some h → h.gone ≡ false → Some h.at ≡ partner_at o
+partner_some o h is e = let at : partner_at (Some h) ≡ Some h.at = simp e refl in sym at ∙ ap partner_at (sym is)
+
+module _ {C : Type 0} (c : Circuits C) (w : Waiting) (st : SetStands c w) where
+  abbrev own : Callsign
+  own = w.set.own
+
+  abbrev ttl : ℕ
+  ttl = w.set.ttl
+
+  all : Shown own ttl 0 c.held.ends.entries (held_by w.untold w.set.ends)
+  all = shown own ttl w.set.number 0 w.set.ends c.held.ends.entries w.untold st.ends.ends
+
+  module _ (id : ℕ) where
+    abbrev it : Option sets.Holder
+    it = end_of id (held_by w.untold w.set.ends)
+
+    module _ (missing : lookup (nat_eq id) c.held.ends.entries ≡ None) where
+      none : (x : sets.Holder) → it ≡ Some x → x.gone ≡ true
+      none = miss own ttl 0 id (held_by w.untold w.set.ends) c.held.ends.entries all missing
+
+      pub no_facts : None ≡ facts_at it
+      no_facts = facts_none it none
+
+      pub no_partner : None ≡ partner_at it
+      no_partner = partner_none it none
+
+      pub no_end : LentStands None it
+      no_end = lent_none it none
+
+    module _ (k : Holder) (found : lookup (nat_eq id) c.held.ends.entries ≡ Some k) where
+      here : FoundAt own ttl 0 id k (held_by w.untold w.set.ends)
+      here = find own ttl 0 id k (held_by w.untold w.set.ends) c.held.ends.entries all found
+
+      pub some_facts : (f : EndFacts) → ((x : State) → StandsFor k.end x → f ≡ facts_of x) → Some f ≡ facts_at it
+      some_facts f e = ap Some (e here.h.end here.shows.stands) ∙ facts_some it here.h here.is here.shows.held
+
+      pub some_partner : Some k.at ≡ partner_at it
+      some_partner = ap Some (sym here.shows.at) ∙ partner_some it here.h here.is here.shows.held
+
+      pub some_end : LentStands (Some k.end) it
+      some_end = subst (λ (o : Option sets.Holder). LentStands (Some k.end) o) (sym here.is) (here.shows.held, here.shows.stands)
+
+  pub nth_held : (n : ℕ) → option_map (λ e. e.0) (slice_get c.held.ends.entries n) ≡ slice_get (held_ids (held_by w.untold w.set.ends)) n
+  nth_held n = nth_key n c.held.ends.entries ∙ ap (λ (xs : List ℕ). slice_get xs n) (sym (ids own ttl 0 (held_by w.untold w.set.ends) c.held.ends.entries all))
 
 -- ---- what a refusal leaves ----
 rests_same : (es fs : List (ℕ × Holder)) → fs ≡ es → Rests es → Rests fs

@@ -14,7 +14,7 @@ use Rattle.circuit_l4.specs.declared.machine.Role.TheVariants.{Requester, Respon
 use Rattle.circuit_l4.specs.declared.texts.Owed.{Owed}
 use Rattle.circuit_l4.specs.EndState.{Effect, State, begin, is_up}
 use Rattle.circuit_l4.specs.EndMoves.{acknowledge, acknowledge_by, advance, again, answer, answer_all, wait, wait_if_out, on_state, hold, begin_to_close, end_with, fill, fill_count, finish, with_receiving, is_done, is_silent, on_info, on_info_ack, put_out, emit_owed, supply, emit_ack}
-use Rattle.circuit_l4.specs.EndTable.{Input, Write, Arrive, Tick, Close, Take, arrive_in, ask_by, close_in_turn, due_in, expire, count_expiry, note_activity, is_due, may_close, release, resume_by, retry, retry_in, step, step_at, take_from, write_answer, write}
+use Rattle.circuit_l4.specs.EndTable.{Input, Write, Arrive, Tick, Close, Take, arrive_in, ask_by, close_in_turn, due_in, expire, note_activity, is_due, may_close, release, resume_by, retry, retry_in, step, step_at, take_from, write_answer, write}
 use Rattle.circuit_l4.specs.Receiving.{Appended, Receipt, busy, receive, without_first, inbox, moved_on}
 use Rattle.circuit_l4.specs.Sending.{written}
 use Rattle.std.proofs.Common.{sym, ap, ◌∙◌}
@@ -45,8 +45,8 @@ if_out p t now h = on_due (Met p) (nat_lt t.sending.acked t.sending.sent) now t 
 
 advances : (p : Pair) (s : State) (now x : ℕ) → Met p s → Met p (advance now x s)
 advances p s now x h =
-    either (Met p) (nat_lt s.sending.acked x) (wait_if_out now (record s { sending = record s.sending { acked = x }; tries = 0; expiries = 0 })) s
-    (if_out p (record s { sending = record s.sending { acked = x }; tries = 0; expiries = 0 }) now h) h
+    either (Met p) (nat_lt s.sending.acked x) (wait_if_out now (record s { sending = record s.sending { acked = x }; tries = 0 })) s
+    (if_out p (record s { sending = record s.sending { acked = x }; tries = 0 }) now h) h
 
 chokes : (p : Pair) (t : State) (now : ℕ) (choke : Bool) → Met p t → Met p (hold now choke t)
 chokes p t now true h = h
@@ -111,8 +111,8 @@ retries_met Ended p g h = h
 
 expires_met : (p : Pair) (s : State) (now : ℕ) → Met p s → MetIn p (expire now (begin s))
 expires_met p s now h =
-    either_going (MetIn p) (nat_eq s.tries s.config.retries) (end_with FailedRetries (count_expiry (begin s))) (retry now (count_expiry (begin s))) (refl, h.1)
-    (retries_met s.phase p (count_expiry (begin s)) h)
+    either_going (MetIn p) (nat_eq s.tries s.config.retries) (end_with FailedRetries (begin s)) (retry now (begin s)) (refl, h.1)
+    (retries_met s.phase p (begin s) h)
 
 releases_met : (p : Pair) (s : State) (now : ℕ) → Met p s → MetIn p (release now (begin s))
 releases_met p s now h =

@@ -1,18 +1,14 @@
 -- In every run each end has come where it is by its inputs alone, and was told what they tell.
-use Rattle.std.specs.Prelude.{◌≡◌, ℕ, suc, ◌+◌, ◌⊎◌, ◌||◌, ◌↔◌, Bool, true, false, nat_eq, if◌then◌else◌, List, [], ◌∷◌, ◌++◌, slice_get, slice_set, Contains, Option, Some, None, refl}
+use Rattle.std.specs.Prelude.{◌≡◌, ℕ, suc, ◌+◌, ◌⊎◌, ◌||◌, Bool, true, false, nat_eq, if◌then◌else◌, List, [], ◌∷◌, ◌++◌, slice_get, slice_set, Option, Some, None, refl}
 use Rattle.std.proofs.Common.{sym, ◌∙◌, ap, subst, inl, inr}
 use Rattle.ax_address.specs.Callsign.{Callsign}
 use Rattle.circuit_l4.specs.declared.transport.Pair.{Pair}
 use Rattle.circuit_l4.specs.declared.plain.EndNotice.{EndNotice}
-use Rattle.circuit_l4.specs.declared.plain.EndNotice.TheVariants.{FailedRetries}
 use Rattle.circuit_l4.specs.EndState.{Effect, State}
 use Rattle.circuit_l4.specs.EndOpening.{facts_of}
-use Rattle.circuit_l4.specs.EndLaws.{after_inputs}
-use Rattle.circuit_l4.proofs.EndRetries.{fails_after_retries}
 use Rattle.circuit_set.specs.Sets.{Act, Calls, Comes, Connect, Discard, Restart, Made, Sent, Heeded, Gone, Restarted, Holder, SetDone, SetState, end_of, goes_to, holder_of, is_over, losses, made, new_pair, restarted, set_step, told_by, with_end}
 use Rattle.circuit_set.specs.Books.{Book, Name, noted, noted_all}
-use Rattle.circuit_set.specs.Runs.{AreStarts, Net, Step, begins, end_at, events_at, net_run, net_step, sets_at, told_at, told_to}
-use Rattle.circuit_set.specs.Retries.{RetriesAreTold}
+use Rattle.circuit_set.specs.Runs.{AreStarts, Net, Step, begins, end_at, events_at, sets_at, told_at, told_to}
 use Rattle.circuit_set.proofs.Acts.{set_self}
 use Rattle.circuit_set.proofs.Bridge.{name_itself}
 use Rattle.circuit_set.proofs.Cases.{Cases, IsNew, Lives, Says, step_cases}
@@ -166,19 +162,8 @@ pub step_lives : (net : Net) (st : Step) (o : Option SetState) → Both net → 
 step_lives net st None b e = b
 step_lives net st (Some s) b e = (act_sets net b.0 b.1 st.node s e st.act, act_lives net b.0 b.1 st.node s e st.act)
 
-run_lives : (net : Net) (steps : List Step) → Both net → Both (net_run net steps)
-run_lives net [] b = b
-run_lives net (st ∷ sts) b = run_lives (net_step net st) sts (step_lives net st (slice_get net.sets st.node) b refl)
-
 pub start_lives : (sets : List SetState) → AreStarts sets → Both (begins sets)
 start_lives sets a = (
   λ n s e. start_numbers s (starts_at sets n s a e),
   λ x h e. (let none : end_at (begins sets) x ≡ None = none_case sets x (slice_get sets x.node) a refl in let bad : None ≡ Some h = sym none ∙ e in cc),
 )
-
-pub retries_are_told : RetriesAreTold
-retries_are_told sets starts steps are x h e =
-    let b : Both (net_run (begins sets) steps) = run_lives (begins sets) steps (start_lives sets starts) in
-    let l : Lived h.end (told_to (net_run (begins sets) steps).book.made x) = (b.1 x h e).lived in
-    subst (λ ns. Contains ns FailedRetries ↔ (h.end.expiries ≡ h.end.config.retries + 1)) l.notes_are
-    (subst (λ (s : State). Contains (after_inputs l.first l.inputs).notes FailedRetries ↔ (s.expiries ≡ s.config.retries + 1)) l.end (fails_after_retries l.first l.new l.inputs))

@@ -104,12 +104,12 @@ module _ (net : Net) (k : Known net) (both : Both net) (before : List Event) (di
 
   every : Every s a P
   every = record {
-    rests = λ post all. tt;
-    refuses = λ at pair call post all. (inl tt, tt);
-    moves = λ h heeded d g there held same ends says lives asks post all.
+    rests = λ idle post all. tt;
+    refuses = λ at pair call none post all. (inl tt, tt);
+    moves = λ h heeded d g there held same ends says lives asks by post all.
         none_made ((if heeded then Heeded h.id d ∷ [] else []) ++ told_by s h g) net.book lost n s.own
         (none_append (if heeded then Heeded h.id d ∷ [] else []) (told_by s h g) (heard_none heeded h.id d) (told_none s h g));
-    leaves = λ h there held ended post all. (inl tt, tt);
+    leaves = λ h there held ended none post all. (inl tt, tt);
     makes = λ at asked request g new by asks. makes_so at asked request g by;
   }
 

@@ -1,18 +1,14 @@
--- At each moment of a timely run Safe holds.
-use Rattle.std.specs.Prelude.{◌≡◌, ℕ, zero, suc, ◌+◌, ◌≤◌, ◌↔◌, List, [], ◌∷◌, slice_get, Contains, Option, Some, None, refl}
+-- At each moment of a timely run each end and its partner have what Safe says of them.
+use Rattle.std.specs.Prelude.{◌≡◌, ℕ, zero, suc, ◌+◌, ◌≤◌, List, [], ◌∷◌, ◌++◌, slice_get, Option, Some, None, refl}
 use Rattle.std.proofs.Common.{sym, ◌∙◌, ap, subst, arith}
-use Rattle.circuit_l4.specs.declared.plain.EndNotice.TheVariants.{FailedRetries}
-use Rattle.circuit_l4.specs.EndState.{State}
-use Rattle.circuit_l4.specs.EndLaws.{after_inputs}
-use Rattle.circuit_l4.proofs.EndRetries.{fails_after_retries}
 use Rattle.circuit_set.specs.Circuits.{SafeTo}
 use Rattle.circuit_set.specs.Sets.{Holder, SetState, end_of}
-use Rattle.circuit_set.specs.Books.{Name, partner}
-use Rattle.circuit_set.specs.Runs.{AreStarts, CircuitsSafe, IsStart, Net, Safe, SafeWith, PartnersStay, WindowsFit, begins, end_at, end_in, net_run, told_to}
+use Rattle.circuit_set.specs.Books.{Name, Timely, empty, partner}
+use Rattle.circuit_set.specs.Runs.{AreStarts, AreSteps, IsStart, Net, SafeWith, Step, allowed, events_of, PartnersStay, WindowsFit, begins, end_at, end_in, net_run}
 use Rattle.circuit_set.proofs.Lonely.{alone_safe}
 use Rattle.circuit_set.proofs.Lookups.{InEnds}
 use Rattle.circuit_set.proofs.Whole.{safe_of}
-use Rattle.circuit_set.proofs.Invariant.{PairInv, AloneOk, CircuitOk, EndInv, Kept, Lived, SetInv, side_of}
+use Rattle.circuit_set.proofs.Invariant.{PairInv, AloneOk, CircuitOk, EndInv, Kept, SetInv, side_of}
 use Rattle.circuit_set.proofs.Opens.{run_kept, later_stays}
 
 pub starts_at : (ss : List SetState) (n : ℕ) (s : SetState) → AreStarts ss → slice_get ss n ≡ Some s → IsStart s
@@ -61,19 +57,12 @@ circuit_case net k x h i (Some y) e =
     let safe : SafeTo (side_of net.book k.past x h.end) (side_of net.book k.past y q.end.end) = safe_of q.window (side_of net.book k.past x h.end) (side_of net.book k.past y q.end.end) q.kept in
     (q.end, q.there, record { received = safe.received; acked = safe.acked; closed = safe.closed })
 
-pub safe_now : (net : Net) → Kept net → Safe net
-safe_now net k x h e =
-    let i : EndInv net k.past x h = k.ends x h e in
-    let l : Lived h.end (told_to net.book.made x) = i.lives in
-    record {
-      circuit = circuit_case net k x h i (partner net.book x) refl;
-      retries =
-          subst (λ ns. Contains ns FailedRetries ↔ (h.end.expiries ≡ h.end.config.retries + 1)) l.notes_are
-          (subst (λ (s : State). Contains (after_inputs l.first l.inputs).notes FailedRetries ↔ (s.expiries ≡ s.config.retries + 1)) l.end (fails_after_retries l.first l.new l.inputs));
-    }
+-- what each end and its partner have
+pub circuits_now : (net : Net) → Kept net → (x : Name) (h : Holder) → end_at net x ≡ Some h → SafeWith net x h (partner net.book x)
+circuits_now net k x h e = circuit_case net k x h (k.ends x h e) (partner net.book x) refl
 
-pub circuits_safe : CircuitsSafe
-circuits_safe sets starts steps later are timely fresh = safe_now (net_run (begins sets) steps) (run_kept (begins sets) steps later (start_kept sets starts) are timely)
+pub circuits_kept : (sets : List SetState) → AreStarts sets → (steps later : List Step) → AreSteps (steps ++ later) → Timely allowed empty (events_of sets (steps ++ later)) → Kept (net_run (begins sets) steps)
+circuits_kept sets starts steps later are timely = run_kept (begins sets) steps later (start_kept sets starts) are timely
 
 pub windows_fit : WindowsFit
 windows_fit w some most = omega arith

@@ -220,9 +220,9 @@ abbrev pub acked_to : State → ℕ → State → Type 0
 acked_to s h t = AckedTo s h (names t) t.phase t.sending t.receiving
 
 advanced_case : (s : State) (now x : ℕ) (b : Bool) → nat_lt s.sending.acked x ≡ b → s.sending.acked ≤ x
-    → acked_to s x (if b then wait_if_out now (record s { sending = record s.sending { acked = x }; tries = 0; expiries = 0 }) else s)
+    → acked_to s x (if b then wait_if_out now (record s { sending = record s.sending { acked = x }; tries = 0 }) else s)
 advanced_case s now x true e low =
-    let t : State = record s { sending = record s.sending { acked = x }; tries = 0; expiries = 0 } in
+    let t : State = record s { sending = record s.sending { acked = x }; tries = 0 } in
     let done : acked_to s x t = record { same = refl; in_phase = refl; half = refl; wrote = refl; sent = refl; acked = refl } in
     on_due (acked_to s x) (nat_lt t.sending.acked t.sending.sent) now t done done
 advanced_case s now x false e low = record { same = refl; in_phase = refl; half = refl; wrote = refl; sent = refl; acked = grind (arith, nat_tests) }

@@ -12,7 +12,7 @@ use Rattle.circuit_l4.specs.EndState.{Effect, Out, State}
 use Rattle.circuit_l4.specs.EndStanding.{IsDrained, EndView, Stands, StandsFor}
 use Rattle.circuit_set.specs.declared.holder.Holder.{Holder}
 use Rattle.circuit_set.specs.Sets as sets
-use Rattle.circuit_set.specs.Sets.{Told, is_over, notices}
+use Rattle.circuit_set.specs.Sets.{Told, is_over}
 use Rattle.circuit_set.specs.Pumps.{is_empty}
 use Rattle.circuit_set.specs.Standing.{Keeps, datagram_by, if_so, untold_of}
 
@@ -68,7 +68,6 @@ module _ (own : Callsign) (ttl id : ℕ) (k : Holder) (h : sets.Holder) (told : 
       let st : Stands m3 g2 = record {
         written = s.stands.written;
         came = s.stands.came;
-        expiries = s.stands.expiries;
         sending = s.stands.sending;
         receiving = s.stands.receiving;
         is = ap (λ (x : Effect). record x { outs = drop 1 k.end.outs }) s.stands.is;
@@ -92,7 +91,6 @@ module _ (own : Callsign) (ttl id : ℕ) (k : Holder) (h : sets.Holder) (told : 
       let st : Stands m3 g2 = record {
         written = s.stands.written;
         came = s.stands.came;
-        expiries = s.stands.expiries;
         sending = s.stands.sending;
         receiving = s.stands.receiving;
         is = ap (λ (x : Effect). record x { outs = drop 1 k.end.outs; notes = [] }) s.stands.is;
@@ -120,7 +118,6 @@ module _ (own : Callsign) (ttl id : ℕ) (k : Holder) (h : sets.Holder) (told : 
       let stands : StandsFor (record k.end { outs = drop 1 k.end.outs; notice = None }) g.end = record {
         written = s.stands.written;
         came = s.stands.came;
-        expiries = s.stands.expiries;
         sending = s.stands.sending;
         receiving = s.stands.receiving;
         is = ap (λ (x : Effect). x.end) s.stands.is;

@@ -1,5 +1,5 @@
 -- What contracts see of a set, for which states of its machine it stands, and what its calls answer.
-use Rattle.std.specs.Prelude.{◌≡◌, ℕ, ◌+◌, ◌*◌, ◌<◌, ◌⊎◌, Bool, true, false, List, [], ◌∷◌, ◌++◌, length, map, if◌then◌else◌, Option, Some, None, is_some}
+use Rattle.std.specs.Prelude.{◌≡◌, ℕ, ◌+◌, ◌*◌, ◌<◌, ◌⊎◌, Bool, true, false, nat_eq, List, [], ◌∷◌, ◌++◌, length, map, if◌then◌else◌, Option, Some, None, is_some}
 use Rattle.std.specs.Option.{option_map}
 use Rattle.ax_address.specs.Callsign.{Callsign}
 use Rattle.route_table.specs.Log.{Item}
@@ -14,7 +14,7 @@ use Rattle.circuit_l4.specs.EndOpening.{facts_of}
 use Rattle.circuit_l4.specs.EndStanding as end
 use Rattle.circuit_set.specs.declared.event.SetEvent.{SetEvent}
 use Rattle.circuit_set.specs.declared.held_ends.HeldEnds.{HeldEnds}
-use Rattle.circuit_set.specs.Sets.{Act, Holder, SetState}
+use Rattle.circuit_set.specs.Sets.{Act, Holder, SetState, Told, Gone}
 use Rattle.circuit_set.specs.Pumps.{Pumped, Waiting, at_rest, pumped}
 use Rattle.circuit_set.specs.Inputs.{acts}
 use Rattle.circuit_set.specs.Standing.{HeldStands, Rests, SameNode, seen, untold_in}
@@ -87,6 +87,17 @@ Falls lost waiting old new =
     untold_by (lost new.router.carrier) (waiting new.router.carrier) new < untold_by (lost old.router.carrier) (waiting old.router.carrier) old
 
 -- ---- answers ----
+-- the end of a number is held still
+abbrev pub with_held : ℕ → List Holder → List Holder
+with_held id [] = []
+with_held id (h ∷ hs) = (if nat_eq h.id id then record h { gone = false } else h) ∷ with_held id hs
+
+-- The ends as they are held while this is untold: one that is gone is held until that is told.
+abbrev pub held_by : List Told → List Holder → List Holder
+held_by [] hs = hs
+held_by (Gone id facts ∷ ts) hs = held_by ts (with_held id hs)
+held_by (t ∷ ts) hs = held_by ts hs
+
 -- what an end tells of itself, where it is held
 abbrev pub facts_at : Option Holder → Option EndFacts
 facts_at None = None

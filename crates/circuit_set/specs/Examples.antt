@@ -11,7 +11,7 @@ use Rattle.circuit_l4.specs.Transports.{transport_octets}
 use Rattle.circuit_set.specs.Sets.{Calls, Comes, Connect, Restart, SetState, Ticks, started}
 use Rattle.circuit_set.specs.Books.{Fresh, Timely, empty}
 use Rattle.circuit_set.specs.Returning.{IsUnbroken}
-use Rattle.circuit_set.specs.Runs.{Safe, Step, allowed, begins, events_of, net_run}
+use Rattle.circuit_set.specs.Runs.{Safe, Step, allowed, events_of}
 
 -- N0AAA and N0BBB
 abbrev pub here : Callsign
@@ -43,7 +43,7 @@ forged =
 -- The run isn't timely, and isn't safe: the end has received what no partner wrote.
 pub record ForgedIsUnsafe : Type 0 where
   pub late : Timely allowed empty (events_of (node here ∷ []) forged) → ⊥
-  pub unsafe : Safe (net_run (begins (node here ∷ [])) forged) → ⊥
+  pub unsafe : Safe (node here ∷ []) forged → ⊥
 
 -- N0AAA asks for a circuit with N0BBB, whose end is opened by that. Then N0AAA starts again at this pair and asks once more.
 abbrev pub again_at : ℕ → List Step

@@ -15,6 +15,7 @@ pub mod Standing
 pub mod CircuitSets
 pub mod SetTurns
 pub mod Givings
+pub mod Kept
 pub mod Naming
 pub mod Retries
 pub mod Sendings

@@ -1,5 +1,5 @@
 -- A run of sets at nodes, in which any datagram whatever may arrive and any node may start again, and Safe.
-use Rattle.std.specs.Prelude.{◌≡◌, ◌≢◌, ℕ, ◌+◌, ◌-◌, ◌*◌, ◌≤◌, ◌⊎◌, ◌↔◌, if◌then◌else◌, List, [], ◌∷◌, ◌++◌, take, slice_get, slice_set, Contains, Option, Some, None}
+use Rattle.std.specs.Prelude.{◌≡◌, ◌≢◌, ℕ, ◌+◌, ◌-◌, ◌*◌, ◌≤◌, ◌⊎◌, ◌↔◌, if◌then◌else◌, List, [], ◌∷◌, ◌++◌, nat_eq, take, slice_get, slice_set, Contains, Option, Some, None}
 use Rattle.ax_address.specs.Callsign.{Callsign, IsCallsign}
 use Rattle.circuit_l4.specs.declared.plain.EndNotice.{EndNotice}
 use Rattle.circuit_l4.specs.declared.plain.EndNotice.TheVariants.{Opened, Closed, ClosedByPartner, FailedRetries}
@@ -8,7 +8,8 @@ use Rattle.circuit_l4.specs.EndOpening.{IsConfig}
 use Rattle.circuit_set.specs.Heaps.{wholes}
 use Rattle.circuit_set.specs.Circuits.{IsBeginning}
 use Rattle.circuit_set.specs.Pairs.{IsPair}
-use Rattle.circuit_set.specs.Sets.{Act, Connect, Restart, Holder, SetState, Told, end_of, set_step}
+use Rattle.circuit_l4.specs.Expiries.{Moment, expiries}
+use Rattle.circuit_set.specs.Sets.{Act, Call, Calls, Closes, Comes, Connect, Discard, Restart, Takes, Ticks, Writes, Holder, SetState, Told, end_of, set_step}
 use Rattle.circuit_set.specs.Books.{Book, Event, Fresh, MadeNote, Name, Timely, empty, noted_all, partner, same_name, was_asked}
 
 pub record Net : Type 0 where
@@ -74,7 +75,7 @@ abbrev pub AreSteps : List Step → Type 0
 AreSteps [] = Unit {0}
 AreSteps (st ∷ sts) = IsAct st.act × AreSteps sts
 
--- ---- Safe ----
+-- ---- ends by name ----
 abbrev pub end_in : Option SetState → ℕ → Option Holder
 end_in None id = None
 end_in (Some s) id = end_of id s.ends
@@ -87,6 +88,41 @@ abbrev pub told_to : List MadeNote → Name → List EndNotice
 told_to [] x = []
 told_to (m ∷ ms) x = if same_name m.who x then m.told else told_to ms x
 
+-- ---- expiries ----
+-- when a call of an end was a tick
+abbrev pub tick_by : Call → ℕ → Option ℕ
+tick_by (Writes message) now = None
+tick_by Ticks now = Some now
+tick_by Closes now = None
+tick_by Takes now = None
+
+-- when an input of a set was a tick of the end of this number
+abbrev pub tick_of : Act → ℕ → Option ℕ
+tick_of (Connect dest now) id = None
+tick_of (Comes datagram now) id = None
+tick_of (Calls called call now) id = if nat_eq called id then tick_by call now else None
+tick_of (Discard called) id = None
+tick_of (Restart pair more) id = None
+
+abbrev pub tick_at : Step → Name → Option ℕ
+tick_at st x = if nat_eq st.node x.node then tick_of st.act x.id else None
+
+-- an end before and after a step; nothing comes to one that is held no longer
+abbrev pub between : Option Holder → Option ℕ → Option Holder → List Moment
+between None tick after = []
+between (Some h) tick None = []
+between (Some h) tick (Some k) = if h.gone then [] else record { was = h.end; tick = tick; is = k.end } ∷ []
+
+-- what has become of an end, step by step from its making
+abbrev pub moments : Net → List Step → Name → List Moment
+moments net [] x = []
+moments net (st ∷ sts) x = between (end_at net x) (tick_at st x) (end_at (net_step net st) x) ++ moments (net_step net st) sts x
+
+-- how many expiries there were since the last advance of what is acknowledged, since the end began to close, or else since its making
+abbrev pub expiries_in : List SetState → List Step → Name → ℕ
+expiries_in sets steps x = expiries (moments (begins sets) steps x)
+
+-- ---- Safe ----
 -- (a) to (c): what x wrote and its partner y received
 pub record SafeBetween (x y : State) (to_x to_y : List EndNotice) : Type 0 where
   pub received : IsBeginning y.receiving.received x.sending.wrote
@@ -102,12 +138,16 @@ SafeWith net x h None = SafeAlone h.end
 SafeWith net x h (Some y) =
     (k : Holder) × (end_at net y ≡ Some k) × SafeBetween h.end k.end (told_to net.book.made x) (told_to net.book.made y)
 
-pub record SafeEnd (net : Net) (x : Name) (h : Holder) : Type 0 where
+-- and it was told that its retries are used up exactly where there was one expiry more than there are retries
+pub record SafeEnd (net : Net) (expired : ℕ) (x : Name) (h : Holder) : Type 0 where
   pub circuit : SafeWith net x h (partner net.book x)
-  pub retries : Contains (told_to net.book.made x) FailedRetries ↔ (h.end.expiries ≡ h.end.config.retries + 1)
+  pub retries : Contains (told_to net.book.made x) FailedRetries ↔ (expired ≡ h.end.config.retries + 1)
 
-abbrev pub Safe : Net → Type 0
-Safe net = (x : Name) (h : Holder) → end_at net x ≡ Some h → SafeEnd net x h
+-- what the steps have come to
+abbrev pub Safe : List SetState → List Step → Type 0
+Safe sets steps =
+    let net : Net = net_run (begins sets) steps in
+    (x : Name) (h : Holder) → end_at net x ≡ Some h → SafeEnd net (expiries_in sets steps x) x h
 
 -- the window that is told at an opening
 abbrev pub opened_window : List EndNotice → Option ℕ
@@ -132,7 +172,7 @@ abbrev pub CircuitsSafe : Type 0
 CircuitsSafe =
     (sets : List SetState) → AreStarts sets → (steps later : List Step) → AreSteps (steps ++ later)
     → Timely allowed empty (events_of sets (steps ++ later)) → Fresh empty (events_of sets (steps ++ later))
-    → Safe (net_run (begins sets) steps)
+    → Safe sets steps
 
 -- a partner stays, and partners are two ends of which each is the other's
 abbrev pub PartnersStay : Type 0

@@ -210,6 +210,11 @@ discard_answer None = Err discard_refusal.NoEnd
 discard_answer (Some h) =
     if h.gone then Err discard_refusal.NoEnd else (if sets.has_ended h.end.phase then Ok tt else Err discard_refusal.NotEnded)
 
+-- there is an end, and it has ended
+abbrev pub HasEnded : Option Holder → Type 0
+HasEnded None = ⊥
+HasEnded (Some k) = (x : State) → StandsFor k.end x → true ≡ sets.has_ended x.phase
+
 -- ---- looking for an end ----
 -- whether an end has nothing to tell
 abbrev pub IsSilent : Holder → Bool → Type 0

@@ -38,7 +38,7 @@ impl HeldEnds {
     ghost use Rattle.circuit_set.specs.Inputs.{ticked};
     ghost use Rattle.circuit_set.specs.declared.event.SetRefusal.TheVariants as refusals;
     ghost use Rattle.circuit_set.specs.Sets.{SetState, Told};
-    ghost use Rattle.circuit_set.specs.Standing.{Gives, Goes, Holds, RestsAt, TicksNth, HeldStands, NextOf, ToldBy, Rests, FallsBy, untold_in, SameNode, close_answer, discard_answer, message_at, take_answer, write_answer};
+    ghost use Rattle.circuit_set.specs.Standing.{Gives, Goes, HasEnded, Holds, RestsAt, TicksNth, HeldStands, NextOf, ToldBy, Rests, FallsBy, untold_in, SameNode, close_answer, discard_answer, message_at, take_answer, write_answer};
 
     pub(crate) fn new_pair(&self) -> Pair
         ensures { (s : SetState) → HeldStands self.now s [] → result ≡ sets.new_pair s }
@@ -103,6 +103,7 @@ impl HeldEnds {
         ensures message { (s : SetState) → HeldStands self.old s [] → out.new.items ≡ message_at out.old.items (sets.end_of id s.ends) }
         ensures same { SameNode self.old self.new }
         ensures goes { Goes (sets.Calls id sets.Takes now.0) self.old self.new }
+        ensures err { OnErr result ((self.new ≡ self.old) × (out.new ≡ out.old)) }
     {
         match self.ends.get_mut(&id) {
             Some(holder) => Ok(holder.take(out, now)),
@@ -123,6 +124,7 @@ impl HeldEnds {
         ensures answer { (s : SetState) → HeldStands self.old s [] → result ≡ close_answer (sets.end_of id s.ends) }
         ensures same { SameNode self.old self.new }
         ensures goes { Goes (sets.Calls id sets.Closes now.0) self.old self.new }
+        ensures err { OnErr result (self.new ≡ self.old) }
     {
         match self.ends.get_mut(&id) {
             Some(holder) => {
@@ -133,21 +135,30 @@ impl HeldEnds {
         }
     }
 
-    pub(crate) fn discard(&mut self, id: u64) -> Result<(), DiscardRefusal>
-        ensures answer { (s : SetState) → HeldStands self.old s [] → result ≡ discard_answer (sets.end_of id s.ends) }
-        ensures same { SameNode self.old self.new }
-        ensures err { OnErr result (self.new.ends.entries ≡ self.old.ends.entries) }
-        ensures goes { OnOk result (Goes (sets.Discard id) self.old self.new) }
+    /// Whether the end with a number may be discarded.
+    pub(crate) fn may_discard(&self, id: u64) -> Result<(), DiscardRefusal>
+        ensures answer { (s : SetState) → HeldStands self.now s [] → result ≡ discard_answer (sets.end_of id s.ends) }
+        ensures ended { OnOk result (HasEnded (lookup (nat_eq id) self.now.ends.entries)) }
     {
-        match self.ends.get_mut(&id) {
+        match self.ends.get(&id) {
             Some(holder) => {
                 if !holder.has_ended() {
                     return Err(DiscardRefusal::NotEnded);
                 }
-                holder.discarded = true;
                 Ok(())
             }
             None => Err(DiscardRefusal::NoEnd),
+        }
+    }
+
+    /// Discards the end with a number, which has ended.
+    pub(crate) fn discard(&mut self, id: u64)
+        requires { HasEnded (lookup (nat_eq id) self.old.ends.entries) }
+        ensures same { SameNode self.old self.new }
+        ensures goes { Goes (sets.Discard id) self.old self.new }
+    {
+        if let Some(holder) = self.ends.get_mut(&id) {
+            holder.discarded = true;
         }
     }
 

@@ -4,6 +4,7 @@ ghost use Rattle.circuit_set.specs.Lines.{Line, Infos, over, at_place};
 ghost use Rattle.circuit_set.specs.Laws.{OneCircuitSafe};
 ghost use Rattle.circuit_set.specs.Pairs.{PairsDiffer};
 ghost use Rattle.circuit_set.specs.Givings.{MadeAreGiven, MadeDiffer};
+ghost use Rattle.circuit_set.specs.Kept.{HoldsFew};
 ghost use Rattle.circuit_set.specs.Naming.{PairNamesOne, RequestersSend};
 ghost use Rattle.circuit_set.specs.Retries.{RetriesAreTold};
 ghost use Rattle.circuit_set.specs.Returning.{CopiesAloneReturn};
@@ -16,10 +17,13 @@ ghost use Rattle.circuit_set.specs.Runs.{CircuitsSafe, NarrowIsTimely, PartnersS
 /// At each moment of every run of several nodes' ends, in which any datagram whatever may come to any node and any node may
 /// start again, and which is timely and fresh (`Timely` and `Fresh` in `specs/Books.antt`): each end that has a partner has
 /// received a beginning of what its partner wrote, with every message that is acknowledged in it, and all of it after an orderly
-/// close; an end that has none has received nothing; and an end is told that its retries are used up exactly where they are.
+/// close; an end that has none has received nothing; and an end is told that its retries are used up exactly where there was one
+/// expiry more than there are retries.
 pub fn circuits_safe()
     ensures { CircuitsSafe }
-{}
+{
+    retries_are_told();
+}
 
 /// In a timely run an end keeps its partner once it has one, and partners are two ends of which each is the other's: so no two
 /// ends have the same partner.
@@ -27,10 +31,14 @@ pub fn partners_stay()
     ensures { PartnersStay }
 {}
 
-/// At each moment of every run, timely or not, an end was told that its retries are used up exactly where they are.
+/// At each moment of every run, timely or not, an end was told that its retries are used up exactly where there was one expiry more
+/// than there are retries: counted over the steps of the run since the end was made, since more was acknowledged, or since it began
+/// to close.
 pub fn retries_are_told()
     ensures { RetriesAreTold }
-{}
+{
+    circuit_l4::laws::endings();
+}
 
 /// In a timely run a requester's end that was told that its circuit is open has a partner, and sends to its partner's pair.
 pub fn requesters_send()
@@ -84,6 +92,11 @@ pub fn pairs_differ()
 pub fn made_are_given()
     ensures given { MadeAreGiven }
     ensures differ { MadeDiffer }
+{}
+
+/// Whatever a set is given from its start on, it holds at most 64 ends.
+pub fn holds_few()
+    ensures { HoldsFew }
 {}
 
 /// Of each window from 1 to 127: twice the window and the allowance for overtakers are at most 256 together, as many as there are

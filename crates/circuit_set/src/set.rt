@@ -101,7 +101,7 @@ impl<C: Carrier> CircuitSet<C> {
     ghost use Rattle.circuit_set.specs.Pumps.{Waiting, at_rest, is_drained};
     ghost use Rattle.circuit_set.specs.Inputs.{connect_answer, ticks};
     ghost use Rattle.circuit_set.specs.Standing.{close_answer, discard_answer, message_at, take_answer, write_answer};
-    ghost use Rattle.circuit_set.specs.CircuitSets.{Circuits, Goes, GoesBy, IsDrained, IsUnchanged, LentStands, Pumps, SetStands, facts_at, held_ids, partner_at};
+    ghost use Rattle.circuit_set.specs.CircuitSets.{Circuits, Goes, GoesBy, IsDrained, IsUnchanged, LentStands, Pumps, SetStands, facts_at, held_by, held_ids, partner_at};
     ghost use Rattle.circuit_set.specs.SetTurns.{Asks};
 
     /// Asks for a circuit with a node, and gives the number of the end that is made for it.
@@ -156,6 +156,7 @@ impl<C: Carrier> CircuitSet<C> {
         ensures goes { OnOk result (Goes self.old self.new (λ s. ticks now.0 (at_rest s))) }
         ensures memory { IsErr result ↔ IsTrue self.old.spent }
         ensures err { OnErr result (self.new ≡ self.old) }
+        ensures unspent { self.new.spent ≡ self.old.spent }
     {
         if self.spent {
             return Err(NoMemory);
@@ -172,6 +173,8 @@ impl<C: Carrier> CircuitSet<C> {
         ensures goes { OnOk result (GoesBy (sets.Calls id (sets.Writes message.now) now.0) self.old self.new) }
         ensures err { OnErr result (IsUnchanged self.old self.new) }
         ensures memory { IsErrOf result refusals.NoMemory ↔ IsTrue self.old.spent }
+        ensures unspent { self.new.spent ≡ self.old.spent }
+        ensures spent { IsTrue self.old.spent → self.new ≡ self.old }
     {
         if self.spent {
             return Err(SetRefusal::NoMemory);
@@ -179,12 +182,16 @@ impl<C: Carrier> CircuitSet<C> {
         self.held.write(id, message, now)
     }
 
-    /// Takes the first message that has come to an end; false where none waits, and `out` stays as it was.
+    /// Takes the first message that has come to an end; false where none waits or the set is spent, and `out` stays as it was then. A
+    /// refusal changes nothing, and nor does a call of a set that is spent.
     pub fn take(&mut self, id: u64, out: &mut Message, now: Moment) -> Result<bool, NoEnd>
         requires { IsDrained self.old }
         ensures answer { (s : SetState) → SetStands self.old (at_rest s) → result ≡ take_answer (sets.end_of id s.ends) }
         ensures message { (s : SetState) → SetStands self.old (at_rest s) → out.new.items ≡ message_at out.old.items (sets.end_of id s.ends) }
         ensures goes { GoesBy (sets.Calls id sets.Takes now.0) self.old self.new }
+        ensures err { OnErr result ((self.new ≡ self.old) × (out.new ≡ out.old)) }
+        ensures unspent { self.new.spent ≡ self.old.spent }
+        ensures spent { IsTrue self.old.spent → (self.new ≡ self.old) × (out.new ≡ out.old) × IfOk result (λ took. took ≡ false) }
     {
         if self.spent {
             self.held.known(id)?;
@@ -193,11 +200,15 @@ impl<C: Carrier> CircuitSet<C> {
         self.held.take(id, out, now)
     }
 
-    /// Closes a circuit once all that was written is acknowledged.
+    /// Closes a circuit once all that was written is acknowledged. A refusal changes nothing, and nor does a call of a set that is
+    /// spent.
     pub fn close(&mut self, id: u64, now: Moment) -> Result<(), NoEnd>
         requires { IsDrained self.old }
         ensures answer { (s : SetState) → SetStands self.old (at_rest s) → result ≡ close_answer (sets.end_of id s.ends) }
         ensures goes { GoesBy (sets.Calls id sets.Closes now.0) self.old self.new }
+        ensures err { OnErr result (self.new ≡ self.old) }
+        ensures unspent { self.new.spent ≡ self.old.spent }
+        ensures spent { IsTrue self.old.spent → self.new ≡ self.old }
     {
         if self.spent {
             return self.held.known(id);
@@ -205,19 +216,26 @@ impl<C: Carrier> CircuitSet<C> {
         self.held.close(id, now)
     }
 
-    /// Holds an end that has ended no longer, whatever waits at it. A refusal changes nothing.
+    /// Holds an end that has ended no longer, whatever waits at it. A refusal changes nothing, and nor does a call of a set that is
+    /// spent.
     pub fn discard(&mut self, id: u64) -> Result<(), DiscardRefusal>
         requires { IsDrained self.old }
         ensures answer { (s : SetState) → SetStands self.old (at_rest s) → result ≡ discard_answer (sets.end_of id s.ends) }
         ensures goes { OnOk result (GoesBy (sets.Discard id) self.old self.new) }
-        ensures err { OnErr result (IsUnchanged self.old self.new) }
+        ensures err { OnErr result (self.new ≡ self.old) }
+        ensures unspent { self.new.spent ≡ self.old.spent }
+        ensures spent { IsTrue self.old.spent → self.new ≡ self.old }
     {
-        self.held.discard(id)
+        self.held.may_discard(id)?;
+        if !self.spent {
+            self.held.discard(id);
+        }
+        Ok(())
     }
 
     /// What an end tells of itself: None where no end of that number is held.
     pub fn facts(&self, id: u64) -> Option<EndFacts>
-        ensures { (s : SetState) → SetStands self.now (at_rest s) → result ≡ facts_at (sets.end_of id s.ends) }
+        ensures { (w : Waiting) → SetStands self.now w → result ≡ facts_at (sets.end_of id (held_by w.untold w.set.ends)) }
     {
         match self.held.ends.get(&id) {
             Some(holder) => Some(holder.end.facts()),
@@ -227,7 +245,7 @@ impl<C: Carrier> CircuitSet<C> {
 
     /// The node of an end's partner.
     pub fn partner(&self, id: u64) -> Option<Call>
-        ensures { (s : SetState) → SetStands self.now (at_rest s) → result ≡ partner_at (sets.end_of id s.ends) }
+        ensures { (w : Waiting) → SetStands self.now w → result ≡ partner_at (sets.end_of id (held_by w.untold w.set.ends)) }
     {
         match self.held.ends.get(&id) {
             Some(holder) => Some(holder.at),
@@ -237,7 +255,7 @@ impl<C: Carrier> CircuitSet<C> {
 
     /// The end of a number.
     pub fn end(&self, id: u64) -> Option<&End>
-        ensures { (s : SetState) → SetStands self.now (at_rest s) → LentStands (option_copied result) (sets.end_of id s.ends) }
+        ensures { (w : Waiting) → SetStands self.now w → LentStands (option_copied result) (sets.end_of id (held_by w.untold w.set.ends)) }
     {
         match self.held.ends.get(&id) {
             Some(holder) => Some(&holder.end),
@@ -247,7 +265,7 @@ impl<C: Carrier> CircuitSet<C> {
 
     /// The number of the nth end that is held.
     pub fn held(&self, nth: usize) -> Option<u64>
-        ensures { (s : SetState) → SetStands self.now (at_rest s) → result ≡ slice_get (held_ids s.ends) nth }
+        ensures { (w : Waiting) → SetStands self.now w → result ≡ slice_get (held_ids (held_by w.untold w.set.ends)) nth }
     {
         match self.held.ends.get_index(nth) {
             Some((id, _)) => Some(*id),

@@ -1,5 +1,5 @@
-use Rattle.circuit_set.proofs.Retries.{retries_are_told}
+use Rattle.circuit_set.proofs.Expiring.{retries_are_told}
 use Rattle.circuit_set.proofs.laws.retries_are_told.Goals as goal
 
 pub returns : goal.returns
-returns c = retries_are_told
+returns c = retries_are_told c.endings.ensures.retries

@@ -15,6 +15,6 @@ returns-clause-does c =
     let o : Outbox = c.write.new.self in
     let outs : List Out = outs_of o.queue (o.acked - o.done) c.args.self.now.outs.items in
     let same : k.outs ≡ outs = same_none _ _ _ _ c.args.self.now.outs.items c.requires.outs in
-    standing k _ (write c.args.now c.args.message.now) (λ s r n a b.
+    standing k _ (write c.args.now c.args.message.now) (λ s r a b.
     rw same
-    (c.fill.ensures.does _ (itself (record k { last_active = c.args.now; outgoing = o; outs = outs }) (written c.args.message.now s) r n (c.write.ensures.does s a) b)))
+    (c.fill.ensures.does _ (itself (record k { last_active = c.args.now; outgoing = o; outs = outs }) (written c.args.message.now s) r (c.write.ensures.does s a) b)))

@@ -7,15 +7,15 @@ use Rattle.circuit_l4.proofs.machine.Machine.acknowledge.Goals as goal
 pub returns-in-Some-clause-does : goal.returns-in-Some-clause-does
 returns-in-Some-clause-does c =
     let k : EndView = view_of c.args.self.now in
-    standing_all k _ (λ s r n a b.
-    subst (λ (found : Option ℕ). Stands (view_of c.acknowledge_at.new.self) (on_state (λ x. (acknowledge_by c.args.now c.args.flags found x).end) (effect_of k s r n))
-    × (c.acknowledge_at.result ≡ (acknowledge_by c.args.now c.args.flags found (effect_of k s r n).end).owed))
-    (c.in-Some.ensures.exact s a) (c.acknowledge_at.ensures.does _ (itself k s r n a b)))
+    standing_all k _ (λ s r a b.
+    subst (λ (found : Option ℕ). Stands (view_of c.acknowledge_at.new.self) (on_state (λ x. (acknowledge_by c.args.now c.args.flags found x).end) (effect_of k s r))
+    × (c.acknowledge_at.result ≡ (acknowledge_by c.args.now c.args.flags found (effect_of k s r).end).owed))
+    (c.in-Some.ensures.exact s a) (c.acknowledge_at.ensures.does _ (itself k s r a b)))
 
 pub returns-in-None-clause-does : goal.returns-in-None-clause-does
 returns-in-None-clause-does c =
     let k : EndView = view_of c.args.self.now in
-    standing_all k _ (λ s r n a b.
-    subst (λ (found : Option ℕ). Stands k (on_state (λ x. (acknowledge_by c.args.now c.args.flags found x).end) (effect_of k s r n))
-    × (c.nothing_owed.result ≡ (acknowledge_by c.args.now c.args.flags found (effect_of k s r n).end).owed))
-    (c.in-None.ensures.exact s a) (itself k s r n a b, c.nothing_owed.ensures.exact s r n a))
+    standing_all k _ (λ s r a b.
+    subst (λ (found : Option ℕ). Stands k (on_state (λ x. (acknowledge_by c.args.now c.args.flags found x).end) (effect_of k s r))
+    × (c.nothing_owed.result ≡ (acknowledge_by c.args.now c.args.flags found (effect_of k s r).end).owed))
+    (c.in-None.ensures.exact s a) (itself k s r a b, c.nothing_owed.ensures.exact s r a))

@@ -6,6 +6,6 @@ pub returns-clause-does : goal.returns-clause-does
 returns-clause-does c = λ g h.
     let advance = c.advance.ensures.does g h in (
       c.hold.ensures.does _ advance,
-      c.owed_by-owed.ensures.exact advance.written advance.came advance.expiries advance.sending
+      c.owed_by-owed.ensures.exact advance.written advance.came advance.sending
           ∙ sym (ap (λ x. owed_by c.args.flags c.args.below x.end) advance.is),
     )

@@ -15,8 +15,8 @@ returns-then-acked-below-clause-does c =
     let o : Outbox = c.acknowledge.new.self in
     let outs : List Out = outs_of o.queue (o.acked - o.done) c.args.self.now.outs.items in
     let same : k.outs ≡ outs = same_none _ _ _ _ c.args.self.now.outs.items c.requires.outs in
-    standing k _ (on_state (advance c.args.now c.args.below)) (λ s r n a b.
+    standing k _ (on_state (advance c.args.now c.args.below)) (λ s r a b.
     let test : nat_lt s.acked c.args.below ≡ true = grind (arith, nat_tests, c.if-acked-below.true, c.acked.ensures, a.acked) in
     rw (test, same)
     (c.wait_if_out.ensures.does _
-    (itself (record k { outgoing = o; tries = 0; outs = outs }) (record s { acked = c.args.below }) r 0 (c.acknowledge.ensures.does s a) b)))
+    (itself (record k { outgoing = o; tries = 0; outs = outs }) (record s { acked = c.args.below }) r (c.acknowledge.ensures.does s a) b)))

@@ -12,12 +12,12 @@ returns-then-nak-clause-does c =
     elim c.then-nak.branch [
       | then-nak-via-then-nak w ↦ λ g h. told_by c.args.nak _ _ _ _ w.if-nak.true (c.emit_ack.ensures.does g h)
       | then-nak-via-else-nak+then-is_silent w ↦
-          standing k _ (answer c.args.nak c.args.owed) (λ s r n a b.
-          silent_by c.args.nak _ _ _ _ (sym (w.is_silent.ensures s r n a) ∙ w.if-is_silent.true) (c.emit_ack.ensures.does _ (itself k s r n a b)))
+          standing k _ (answer c.args.nak c.args.owed) (λ s r a b.
+          silent_by c.args.nak _ _ _ _ (sym (w.is_silent.ensures s r a) ∙ w.if-is_silent.true) (c.emit_ack.ensures.does _ (itself k s r a b)))
     ]
 
 pub returns-else-is_silent-clause-does : goal.returns-else-is_silent-clause-does
 returns-else-is_silent-clause-does c =
     let k : EndView = view_of c.args.self.now in
-    standing k k (answer c.args.nak c.args.owed) (λ s r n a b.
-    untold_by c.args.nak _ _ _ _ c.if-nak.false (sym (c.is_silent.ensures s r n a) ∙ c.if-is_silent.false) (itself k s r n a b))
+    standing k k (answer c.args.nak c.args.owed) (λ s r a b.
+    untold_by c.args.nak _ _ _ _ c.if-nak.false (sym (c.is_silent.ensures s r a) ∙ c.if-is_silent.false) (itself k s r a b))

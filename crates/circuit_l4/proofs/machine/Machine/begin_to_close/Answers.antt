@@ -9,7 +9,7 @@ pub returns-clause-does : goal.returns-clause-does
 returns-clause-does c =
     let k : EndView = view_of c.args.self.now in
     let told : EndView = view_of c.emit.new.self in
-    standing k _ (begin_to_close c.args.now) (λ s r n a b.
+    standing k _ (begin_to_close c.args.now) (λ s r a b.
     c.wait.ensures.does _
-    (changes told (record told { phase = Closing; choked = false; tries = 0 }) (on_state (λ x. record x { phase = Closing; choked = false; tries = 0; expiries = 0 }))
-    (λ _. 0) refl refl (λ _ _ _. refl) _ (c.emit.ensures.does _ (itself k s r n a b))))
+    (changes told (record told { phase = Closing; choked = false; tries = 0 }) (on_state (λ x. record x { phase = Closing; choked = false; tries = 0 }))
+    refl refl (λ _ _. refl) _ (c.emit.ensures.does _ (itself k s r a b))))

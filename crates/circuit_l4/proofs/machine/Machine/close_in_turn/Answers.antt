@@ -7,4 +7,4 @@ use Rattle.circuit_l4.proofs.machine.Machine.close_in_turn.Goals as goal
 pub returns-clause-does : goal.returns-clause-does
 returns-clause-does c = λ g h.
     let k : EndView = view_of c.args.self.now in
-    c.finish.ensures.does _ (changes k (record k { closing = true }) (on_state (λ x. record x { closing = true })) (λ n. n) refl refl (λ _ _ _. refl) g h)
+    c.finish.ensures.does _ (changes k (record k { closing = true }) (on_state (λ x. record x { closing = true })) refl refl (λ _ _. refl) g h)

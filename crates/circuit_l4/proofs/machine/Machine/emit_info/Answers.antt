@@ -9,14 +9,14 @@ use Rattle.circuit_l4.proofs.machine.Machine.emit_info.Goals as goal
 pub returns-then-number-total-clause-does : goal.returns-then-number-total-clause-does
 returns-then-number-total-clause-does c =
     let k : EndView = view_of c.args.self.now in
-    standing k _ (emit_infos c.args.number 1) (λ s r n a b.
+    standing k _ (emit_infos c.args.number 1) (λ s r a b.
     let there : c.args.number < c.args.self.now.outgoing.total = omega (arith, c.if-number-total.true, c.total.ensures) in
     subst (λ (g : Effect). Stands (view_of c.emit.new.self) g)
-    (info_waits k s r n c.args.number _ _ a c.requires.waits there (c.wire.ensures ∙ ap (λ (got : ℕ). got % 256) (c.got.ensures ∙ b.got)) (c.is_busy.ensures r b))
-    (c.emit.ensures.does _ (itself k s r n a b)))
+    (info_waits k s r c.args.number _ _ a c.requires.waits there (c.wire.ensures ∙ ap (λ (got : ℕ). got % 256) (c.got.ensures ∙ b.got)) (c.is_busy.ensures r b))
+    (c.emit.ensures.does _ (itself k s r a b)))
 
 pub returns-else-number-total-clause-does : goal.returns-else-number-total-clause-does
 returns-else-number-total-clause-does c =
     let k : EndView = view_of c.args.self.now in
-    standing k k (emit_infos c.args.number 1) (λ s r n a b.
-    subst (λ (g : Effect). Stands k g) (none_waits k s r n c.args.number a (omega (arith, c.if-number-total.false, c.total.ensures))) (itself k s r n a b))
+    standing k k (emit_infos c.args.number 1) (λ s r a b.
+    subst (λ (g : Effect). Stands k g) (none_waits k s r c.args.number a (omega (arith, c.if-number-total.false, c.total.ensures))) (itself k s r a b))

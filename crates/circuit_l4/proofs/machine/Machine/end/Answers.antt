@@ -8,4 +8,4 @@ use Rattle.circuit_l4.proofs.machine.Machine.end.Goals as goal
 pub returns-clause-does : goal.returns-clause-does
 returns-clause-does c = λ g h.
     let k : EndView = view_of c.args.self.now in
-    c.note.ensures.does _ (changes k (record k { phase = Ended }) (on_state (λ s. record s { phase = Ended })) (λ n. n) refl refl (λ s r n. refl) g h)
+    c.note.ensures.does _ (changes k (record k { phase = Ended }) (on_state (λ s. record s { phase = Ended })) refl refl (λ s r. refl) g h)

@@ -9,16 +9,16 @@ use Rattle.circuit_l4.proofs.machine.Machine.fall_due.Goals as goal
 pub returns-in-Connecting-clause-does : goal.returns-in-Connecting-clause-does
 returns-in-Connecting-clause-does c =
     let k : EndView = view_of c.args.self.now in
-    standing k _ (fall_due c.args.now) (λ s r n a b.
-    let expires = c.expire.ensures.does _ (itself k s r n a b) in
+    standing k _ (fall_due c.args.now) (λ s r a b.
+    let expires = c.expire.ensures.does _ (itself k s r a b) in
     elim c.in-Connecting.is [
-      | inl e ↦ subst (λ (p : EndPhase). Stands (view_of c.expire.new.self) (due_in p c.args.now (effect_of k s r n))) (sym e) expires
-      | inr e ↦ subst (λ (p : EndPhase). Stands (view_of c.expire.new.self) (due_in p c.args.now (effect_of k s r n))) (sym e) expires
+      | inl e ↦ subst (λ (p : EndPhase). Stands (view_of c.expire.new.self) (due_in p c.args.now (effect_of k s r))) (sym e) expires
+      | inr e ↦ subst (λ (p : EndPhase). Stands (view_of c.expire.new.self) (due_in p c.args.now (effect_of k s r))) (sym e) expires
     ])
 
 pub returns-in-Up-clause-does : goal.returns-in-Up-clause-does
 returns-in-Up-clause-does c =
     let k : EndView = view_of c.args.self.now in
-    standing k _ (fall_due c.args.now) (λ s r n a b.
-    subst (λ (p : EndPhase). Stands (view_of c.fall_due_up.new.self) (due_in p c.args.now (effect_of k s r n))) (sym c.in-Up.is)
-    (c.fall_due_up.ensures.does _ (itself k s r n a b)))
+    standing k _ (fall_due c.args.now) (λ s r a b.
+    subst (λ (p : EndPhase). Stands (view_of c.fall_due_up.new.self) (due_in p c.args.now (effect_of k s r))) (sym c.in-Up.is)
+    (c.fall_due_up.ensures.does _ (itself k s r a b)))

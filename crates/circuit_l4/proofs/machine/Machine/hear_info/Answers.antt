@@ -7,4 +7,4 @@ use Rattle.circuit_l4.proofs.machine.Machine.hear_info.Goals as goal
 pub returns-clause-does : goal.returns-clause-does
 returns-clause-does c = λ g h.
     let k : EndView = view_of c.args.self.now in
-    c.on_info.ensures.does _ (changes k (record k { last_active = c.args.now }) (note_activity c.args.now) (λ n. n) refl refl (λ _ _ _. refl) g h)
+    c.on_info.ensures.does _ (changes k (record k { last_active = c.args.now }) (note_activity c.args.now) refl refl (λ _ _. refl) g h)

@@ -9,7 +9,7 @@ use Rattle.circuit_l4.proofs.machine.Machine.on_accept.Goals as goal
 pub returns-clause-does : goal.returns-clause-does
 returns-clause-does c =
     let k : EndView = view_of c.args.self.now in
-    standing k _ (on_accept c.args.now c.args.own c.args.window) (λ s r n a b.
+    standing k _ (on_accept c.args.now c.args.own c.args.window) (λ s r a b.
     rw (← c.common_window-self.ensures) (c.finish.ensures.does _ (c.note.ensures.does _
     (changes k (record k { to = c.args.own; window = c.common_window-self.result; phase = Up; answer_due = None; last_active = c.args.now }) (on_state (λ x. record x { to = c.args.own; window = c.common_window-self.result; phase = Up; answer_due = None; last_active = c.args.now }))
-    (λ m. m) refl refl (λ _ _ _. refl) (effect_of k s r n) (itself k s r n a b)))))
+    refl refl (λ _ _. refl) (effect_of k s r) (itself k s r a b)))))

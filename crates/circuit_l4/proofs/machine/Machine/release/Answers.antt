@@ -8,4 +8,4 @@ pub returns-clause-does : goal.returns-clause-does
 returns-clause-does c = λ g h.
     let k : EndView = view_of c.args.self.now in
     c.wait_if_out.ensures.does _ (c.fill.ensures.does _ (c.again.ensures.does _
-    (changes k (record k { choked = false; answer_due = None }) (on_state (λ x. record x { choked = false; answer_due = None })) (λ n. n) refl refl (λ _ _ _. refl) g h)))
+    (changes k (record k { choked = false; answer_due = None }) (on_state (λ x. record x { choked = false; answer_due = None })) refl refl (λ _ _. refl) g h)))

@@ -10,9 +10,9 @@ use Rattle.circuit_l4.proofs.machine.Machine.take.Goals as goal
 pub returns-then-not-is_busy-clause-does : goal.returns-then-not-is_busy-clause-does
 returns-then-not-is_busy-clause-does c =
     let k : EndView = view_of c.args.self.now in
-    standing k _ take_first (λ s r n a b.
+    standing k _ take_first (λ s r a b.
     let first = c.if-not-take.ensures.does r b in
     let some : nat_lt 0 (length (inbox r)) ≡ true = ap (λ ms. nat_lt 0 (length ms)) (sym b.messages) ∙ sym c.if-not-take.ensures.answer in
     let was : (is_up k.phase && busy r) ≡ true = sym (c.is_up_and_busy-was_busy.ensures r b) ∙ c.if-was_busy.true in
     let now : busy (without_first r) ≡ false = sym (c.is_busy.ensures (without_first r) first) ∙ c.if-not-is_busy.true in
-    taken_on k _ s r n some was now (c.resume.ensures.does _ (itself (record k { incoming = c.take.new.self }) s (without_first r) n a first)))
+    taken_on k _ s r some was now (c.resume.ensures.does _ (itself (record k { incoming = c.take.new.self }) s (without_first r) a first)))

@@ -6,9 +6,9 @@ use Rattle.circuit_set.proofs.set.CircuitSet.facts.Goals as goal
 pub returns-in-Some : goal.returns-in-Some
 returns-in-Some g c =
     let now : Circuits g.row.C.Denot = record { router = c.self.inside.router; held = c.self.inside.held; lost = c.self.inside.lost; spent = c.self.inside.spent } in
-    rw (← c.self.view_is) (λ s st. some_facts now c.args.id s st c.in-Some.holder.now (sym c.in-Some.ensures.value) (c.facts.result) c.facts.ensures)
+    rw (← c.self.view_is) (λ w st. some_facts now w st c.args.id c.in-Some.holder.now (sym c.in-Some.ensures.value) (c.facts.result) c.facts.ensures)
 
 pub returns-in-None : goal.returns-in-None
 returns-in-None g c =
     let now : Circuits g.row.C.Denot = record { router = c.self.inside.router; held = c.self.inside.held; lost = c.self.inside.lost; spent = c.self.inside.spent } in
-    rw (← c.self.view_is) (λ s st. no_facts now c.args.id s st (sym c.in-None.ensures.value))
+    rw (← c.self.view_is) (λ w st. no_facts now w st c.args.id (sym c.in-None.ensures.value))
