@@ -24,7 +24,7 @@ use Rattle.net_replay.specs.Circuits.{CircuitEvent}
 use Rattle.net_replay.specs.Events as events
 use Rattle.net_replay.specs.Events.{Event, NumberedEvent}
 use Rattle.net_replay.proofs.Containing.{at_name, event_by, events_by, is_named, told_by}
-use Rattle.net_replay.proofs.Flying.{both, one_of}
+use Rattle.net_replay.proofs.Lists.{both, one_of}
 
 -- ---- the origin that is read
 
@@ -78,40 +78,49 @@ origin_is written read own ttl sent d head c f e h =
 
 -- ---- who tells of circuits
 
-abbrev ByCall : CircuitEvent → Type 0
-ByCall e = IsCall e.event.own
+-- what holds of all that the nodes tell
+module _ (P : CircuitEvent → Type 0) (ds : List Declaration) (each : (line k : ℕ) (d : Declaration) (told : Told) → slice_get ds k ≡ Some d → P (record { line = line; event = record { node = k; own = d.call; told = told } })) where
+  name_all : (line k : ℕ) (told : Told) (o : Option Declaration) → slice_get ds k ≡ o → AllByRecursion P (at_name line k o told)
+  name_all line k told None e = tt
+  name_all line k told (Some d) e = (each line k d told e, tt)
 
-name_calls : (ds : List Declaration) (line at k : ℕ) (told : Told) → AllByRecursion (λ (d : Declaration). IsCall d.call) ds → (o : Option Declaration) → slice_get ds k ≡ o → AllByRecursion ByCall (at_name line at o told)
-name_calls ds line at k told a None e = tt
-name_calls ds line at k told a (Some d) e = (one_of (λ (x : Declaration). IsCall x.call) ds k d a e, tt)
+  told_all : (line number : ℕ) (told : Told) → AllByRecursion P (told_by ds line number told)
+  told_all line number told = let k : ℕ = position_or_len (is_named number) ds in name_all line k told (slice_get ds k) refl
 
-told_calls : (ds : List Declaration) (line number : ℕ) (told : Told) → AllByRecursion (λ (d : Declaration). IsCall d.call) ds → AllByRecursion ByCall (told_by ds line number told)
-told_calls ds line number told a = let k : ℕ = position_or_len (is_named number) ds in name_calls ds line k k told a (slice_get ds k) refl
+  event_all : (line : ℕ) (e : Event) → AllByRecursion P (event_by ds line e)
+  event_all line (events.Entry node (states.Of_set (pumps.Of told))) = told_all line node told
+  event_all line (events.Entry node (states.Of_set (pumps.Dropped routed))) = tt
+  event_all line (events.Entry node (states.Of_set (pumps.Lost call))) = tt
+  event_all line (events.Entry node (states.Of_link peer notice)) = tt
+  event_all line (events.Entry node (states.Overflow live would_be)) = tt
+  event_all line (events.InAir frame) = tt
+  event_all line (events.Delivered frame node) = tt
+  event_all line (events.Shown table) = tt
+  event_all line (events.Took node end message) = tt
+  event_all line (events.Wrote node end count) = tt
+  event_all line (events.Restarted node pair) = told_all line node (sets.Restarted pair)
+  event_all line (events.Lost node end facts) = told_all line node (sets.Lost end facts)
+  event_all line (events.Refused why) = tt
 
-event_calls : (ds : List Declaration) (line : ℕ) (e : Event) → AllByRecursion (λ (d : Declaration). IsCall d.call) ds → AllByRecursion ByCall (event_by ds line e)
-event_calls ds line (events.Entry node (states.Of_set (pumps.Of told))) a = told_calls ds line node told a
-event_calls ds line (events.Entry node (states.Of_set (pumps.Dropped routed))) a = tt
-event_calls ds line (events.Entry node (states.Of_set (pumps.Lost call))) a = tt
-event_calls ds line (events.Entry node (states.Of_link peer notice)) a = tt
-event_calls ds line (events.Entry node (states.Overflow live would_be)) a = tt
-event_calls ds line (events.InAir frame) a = tt
-event_calls ds line (events.Delivered frame node) a = tt
-event_calls ds line (events.Shown table) a = tt
-event_calls ds line (events.Took node end message) a = tt
-event_calls ds line (events.Wrote node end count) a = tt
-event_calls ds line (events.Restarted node pair) a = told_calls ds line node (sets.Restarted pair) a
-event_calls ds line (events.Lost node end facts) a = told_calls ds line node (sets.Lost end facts) a
-event_calls ds line (events.Refused why) a = tt
+  events_all : (es : List NumberedEvent) → AllByRecursion P (events_by ds es)
+  events_all [] = tt
+  events_all (e ∷ es) = both P (event_by ds e.line e.event) (events_by ds es) (event_all e.line e.event) (events_all es)
 
-events_calls : (ds : List Declaration) (es : List NumberedEvent) → AllByRecursion (λ (d : Declaration). IsCall d.call) ds → AllByRecursion ByCall (events_by ds es)
-events_calls ds [] a = tt
-events_calls ds (e ∷ es) a = both ByCall (event_by ds e.line e.event) (events_by ds es) (event_calls ds e.line e.event a) (events_calls ds es a)
-
-plain_calls : (es : List CircuitEvent) → AllByRecursion ByCall es → AllByRecursion (λ (e : books.Event). IsCall e.own) (map (λ (e : CircuitEvent). e.event) es)
-plain_calls [] a = tt
-plain_calls (e ∷ es) a = (a.0, plain_calls es a.1)
+plain_all : (Q : books.Event → Type 0) (es : List CircuitEvent) → AllByRecursion (λ (e : CircuitEvent). Q e.event) es → AllByRecursion Q (map (λ (e : CircuitEvent). e.event) es)
+plain_all Q [] a = tt
+plain_all Q (e ∷ es) a = (a.0, plain_all Q es a.1)
 
 -- all that is told of circuits is told by calls
 pub told_by_calls : (ds : List Declaration) (es : List NumberedEvent) (ts : List books.Event) → AllByRecursion (λ (d : Declaration). IsCall d.call) ds
     → map (λ (e : CircuitEvent). e.event) (events_by ds es) ≡ ts → AllByRecursion (λ (e : books.Event). IsCall e.own) ts
-told_by_calls ds es ts a e = subst (AllByRecursion (λ (x : books.Event). IsCall x.own)) e (plain_calls (events_by ds es) (events_calls ds es a))
+told_by_calls ds es ts a e =
+    subst (AllByRecursion (λ (x : books.Event). IsCall x.own)) e
+    (plain_all (λ (x : books.Event). IsCall x.own) (events_by ds es) (events_all (λ (x : CircuitEvent). IsCall x.event.own) ds (λ line k d told f. one_of (λ (x : Declaration). IsCall x.call) ds k d a f) es))
+
+-- and by the nodes at their places
+abbrev pub IsNamed : List Declaration → books.Event → Type 0
+IsNamed ds e = (d : Declaration) × (slice_get ds e.node ≡ Some d) × (e.own ≡ d.call)
+
+pub told_by_names : (ds : List Declaration) (es : List NumberedEvent) (ts : List books.Event) → map (λ (e : CircuitEvent). e.event) (events_by ds es) ≡ ts → AllByRecursion (IsNamed ds) ts
+told_by_names ds es ts e =
+    subst (AllByRecursion (IsNamed ds)) e (plain_all (IsNamed ds) (events_by ds es) (events_all (λ (x : CircuitEvent). IsNamed ds x.event) ds (λ line k d told f. (d, f, refl)) es))

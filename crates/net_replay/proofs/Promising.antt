@@ -16,7 +16,7 @@ use Rattle.network_file.specs.Keys.{Assignment, takes}
 use Rattle.network_file.specs.Laws.{SettingsFit}
 use Rattle.network_file.specs.Plan.{Plan, version_of}
 use Rattle.network_file.specs.Settings.{is_of, same_key, value_of}
-use Rattle.net_replay.specs.CircuitRuns.{RunsThrough, WorldsAreRuns, first_sets, set_of}
+use Rattle.net_replay.specs.CircuitRuns.{IsSound, NetworksAreSound, RunsThrough, WorldsAreRuns, first_sets, set_of}
 use Rattle.net_replay.specs.Circuits.{CircuitEvent, allowance_of, judged}
 use Rattle.net_replay.specs.Promises.{InTimeIsSafe}
 use Rattle.net_replay.specs.Starting.{by_number, new_placed}
@@ -63,9 +63,10 @@ timely_case plan true v narrow starts low steps are t =
 timely_case plan false v narrow starts low steps are t =
     narrow (first_sets plan) starts (low v) steps are (subst (λ b. Timely (verdicts_on.allowance_of (cond b verdicts_at.OfWindow verdicts_at.Fixed)) empty (events_of (first_sets plan) steps)) v t)
 
-pub in_time_is_safe : WorldsAreRuns → CircuitsSafe → NarrowIsTimely → SettingsFit → InTimeIsSafe
-in_time_is_safe runs safe narrow fit bytes plan e sound v done later is =
-    let r : RunsThrough plan done later = runs bytes plan e sound done later is in
+pub in_time_is_safe : NetworksAreSound → WorldsAreRuns → CircuitsSafe → NarrowIsTimely → SettingsFit → InTimeIsSafe
+in_time_is_safe sounds runs safe narrow fit bytes plan e v done later is =
+    let sound : IsSound plan = sounds bytes plan e in
+    let r : RunsThrough plan done later = runs bytes plan e done later is in
     let all : List Step = r.steps ++ r.then in
     let told : verdicts.events_of v.events ≡ events_of (first_sets plan) all =
     sym (told_are v.events) ∙ (ap (map (λ (x : CircuitEvent). x.event)) v.are ∙ r.all.told) in

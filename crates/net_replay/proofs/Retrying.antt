@@ -1,19 +1,19 @@
--- In each network an end is told that its retries are used up exactly where they are.
+-- In each network an end is told that its retries are used up exactly where there was one expiry more than there are retries.
 use Rattle.std.proofs.Common.{subst, List, [], ◌∷◌, ◌++◌}
 use Rattle.circuit_set.specs.Retries as sets
 use Rattle.circuit_set.specs.Runs.{AreSteps, Step}
-use Rattle.net_replay.specs.CircuitRuns.{RunsThrough, WorldsAreRuns, first_sets}
+use Rattle.net_replay.specs.CircuitRuns.{NetworksAreSound, RunsThrough, WorldsAreRuns, first_sets}
 use Rattle.net_replay.specs.Promises.{EachTellsRetries}
 
 front_steps : (xs ys : List Step) → AreSteps (xs ++ ys) → AreSteps xs
 front_steps [] ys a = tt
 front_steps (x ∷ xs) ys a = (a.0, front_steps xs ys a.1)
 
-pub each_tells_retries : WorldsAreRuns → sets.RetriesAreTold → EachTellsRetries
-each_tells_retries runs told bytes plan e sound done later is =
-    let r : RunsThrough plan done later = runs bytes plan e sound done later is in
+pub each_tells_retries : NetworksAreSound → WorldsAreRuns → sets.RetriesAreTold → EachTellsRetries
+each_tells_retries sounds runs told bytes plan e done later is =
+    let r : RunsThrough plan done later = runs bytes plan e done later is in
     record {
       steps = r.steps;
       run = r.is;
-      told = λ before after s. told (first_sets plan) sound.starts before (front_steps before after (subst AreSteps s r.is.are));
+      told = λ before after s. told (first_sets plan) (sounds bytes plan e).starts before (front_steps before after (subst AreSteps s r.is.are));
     }

@@ -15,14 +15,14 @@ use Rattle.network_file.specs.declared.plan.declarations.Declaration.{Declaratio
 use Rattle.network_file.specs.Laws.{CallsDeclaredOnce, DeclaredOnce, HaveOwnCalls}
 use Rattle.network_file.specs.Places.{has_call}
 use Rattle.network_file.specs.Plan.{Plan}
-use Rattle.net_replay.specs.CircuitRuns.{first_sets, set_of}
+use Rattle.net_replay.specs.CircuitRuns.{NetworksAreSound, first_sets, set_of}
 use Rattle.net_replay.specs.Datagrams.{DatagramsSent, SendsAll}
 use Rattle.net_replay.specs.Lines.{do_lines}
 use Rattle.net_replay.specs.Returning.{CopiesAloneReturn, told_of_circuits}
 use Rattle.net_replay.specs.Starting.{by_number, new_nodes, new_placed}
 use Rattle.net_replay.specs.World.{start}
 use Rattle.net_replay.proofs.Containing.{AreApart, is_named, names}
-use Rattle.net_replay.proofs.Flying.{one_of}
+use Rattle.net_replay.proofs.Lists.{one_of}
 use Rattle.net_replay.proofs.LineRuns.{nodes_apart, placed_names}
 use Rattle.net_replay.proofs.Moving.{set_is}
 use Rattle.net_replay.proofs.SentBefore.{by_number_all}
@@ -97,12 +97,12 @@ module _ (plan : Plan) (own : HaveOwnCalls plan.declared) (apart : AreApart (nam
 
 -- ---- the law
 
-pub copies_alone_return : DatagramsSent → returning.CopiesAloneReturn → DeclaredOnce → CallsDeclaredOnce → CopiesAloneReturn
-copies_alone_return sends returns declared calls bytes plan size e sound of done later is on few =
-    let s : SendsAll plan done = sends bytes plan size e sound of done later is in
+pub copies_alone_return : NetworksAreSound → DatagramsSent → returning.CopiesAloneReturn → DeclaredOnce → CallsDeclaredOnce → CopiesAloneReturn
+copies_alone_return sounds sends returns declared calls bytes plan size e of done later is on few =
+    let s : SendsAll plan size done = sends bytes plan size e of done later is in
     let told : told_of_circuits (do_lines plan done (start plan)) ≡ events_of (first_sets plan) s.steps = s.run.told in
     subst FreshBut (sym told)
-    (returns (first_sets plan) sound.starts s.steps s.run.are
+    (returns (first_sets plan) (sounds bytes plan e).starts s.steps s.run.are
     (record {
       apart = calls_differ plan (calls bytes plan e) (nodes_apart plan (declared bytes plan e));
       up = s.up on;

@@ -1,16 +1,13 @@
 -- Each datagram that reaches its node was sent before.
-use Rattle.std.proofs.Common.{◌≡◌, ◌∙◌, ◌≤◌, ℕ, zero, suc, refl, sym, ap, subst, arith, List, [], ◌∷◌, ◌++◌, append_assoc, append-nil, filter, map, Bool, true, false, inl, inr}
-use Rattle.std.specs.Prelude.{◌&&◌, ◌||◌, ◌==◌, ◌⊎◌, nat_le, slice_get, Option, Some, None}
+use Rattle.std.proofs.Common.{◌≡◌, ◌∙◌, ◌<◌, ℕ, zero, suc, refl, sym, ap, subst, arith, List, [], ◌∷◌, ◌++◌, length, filter, map, inl, inr}
+use Rattle.std.specs.Prelude.{◌==◌, ◌⊎◌, slice_get, slice_index_or, Contains, Option, Some, None}
 use Rattle.std.specs.List.{AllByRecursion}
-use Rattle.std.proofs.lemmas.Bool.Decides.{nat_tests}
 use Rattle.ax_address.specs.Callsign.{Callsign, IsCallsign}
 use Rattle.ax_address.specs.NetCalls.{SpelledNetCallIsRead, WrittenNetCallSpellsIt}
-use Rattle.net_replay.specs.Circuits.{CircuitEvent}
+use Rattle.net_replay.specs.Circuits.{CircuitEvent, circuit_events}
 use Rattle.net_replay.specs.Events.{NumberedEvent}
 use Rattle.circuit_set.specs.Books as books
-use Rattle.circuit_set.specs.Books.{is_copy}
 use Rattle.circuit_set.specs.Pairs.{IsPair}
-use Rattle.circuit_set.specs.Returning as returning
 use Rattle.circuit_set.specs.Runs as net
 use Rattle.circuit_set.specs.Runs.{AreStarts, Step, events_of}
 use Rattle.circuit_set.specs.Heedings.{SetsHeedPartners}
@@ -28,14 +25,15 @@ use Rattle.network_file.specs.declared.plan.keys.Key.TheVariants.{Modulo}
 use Rattle.network_file.specs.Laws.{CallsAreCalls, DeclaredOnce, HasCalls, NamesCalls}
 use Rattle.network_file.specs.Plan.{Plan}
 use Rattle.network_file.specs.Settings.{value_of}
-use Rattle.node_core.specs.Carried.{ActsCarry, BytesCarry, CarriedFurther, TicksCarry, comes_of, is_traced, ttl_of}
+use Rattle.node_core.specs.Carried.{ActsCarry, BytesCarry, CarriedFurther, TicksCarry}
 use Rattle.node_core.specs.Runs.{ActsRun, BytesRun, InputsAreSteps, TicksRun}
-use Rattle.net_replay.specs.CircuitRuns.{IsInstruction, IsSound, first_sets, set_of}
-use Rattle.net_replay.specs.Datagrams.{DatagramsSent, IsOfModulus, SendsAll}
+use Rattle.net_replay.specs.CircuitRuns.{IsInstruction, IsSound, NetworksAreSound, first_sets, set_of}
+use Rattle.net_replay.specs.Datagrams.{DatagramsSent, IsOfModulus, SendsAll, WasSent}
 use Rattle.net_replay.specs.Lines.{do_lines}
 use Rattle.net_replay.specs.Starting.{Placed, by_number, has_number, new_nodes, new_placed}
 use Rattle.net_replay.specs.World.{World, start}
 use Rattle.net_replay.proofs.Containing.{AreApart, events_append, events_by, name_at, names, sets_run}
+use Rattle.net_replay.proofs.Lists as lists
 use Rattle.net_replay.proofs.Flying as flying
 use Rattle.net_replay.proofs.Flying.{Flies, NodeFlies}
 use Rattle.net_replay.proofs.GoingOn.{lines_on}
@@ -43,7 +41,9 @@ use Rattle.net_replay.proofs.LineRuns as runs
 use Rattle.net_replay.proofs.LineWalks.{LineIs, lines_lead}
 use Rattle.net_replay.proofs.Moving.{set_is}
 use Rattle.net_replay.proofs.Origins.{origin_is, told_by_calls}
-use Rattle.net_replay.proofs.Traced.{IsTracedAct, StepsTraced, sent_both, sent_by}
+use Rattle.net_replay.proofs.Comings.{StepsCame, came_at}
+use Rattle.net_replay.proofs.Heeding.{contains_map, heeded_came}
+use Rattle.net_replay.proofs.Hopping.{Known, came_copy, came_ttl}
 
 -- ---- what is sent is from its node
 
@@ -72,78 +72,27 @@ events_from : SetsSendTheirOwn → (ss : List SetState) (steps : List Step) → 
 events_from law ss [] = tt
 events_from law ss (st ∷ sts) =
     let then_sets = net.sets_at ss st.node (slice_get ss st.node) st.act in
-    flying.both FromNode (net.told_at ss st.node (slice_get ss st.node) st.act) (events_of then_sets sts) (step_from law ss st.node (slice_get ss st.node) st.act) (events_from law then_sets sts)
+    lists.both FromNode (net.told_at ss st.node (slice_get ss st.node) st.act) (events_of then_sets sts) (step_from law ss st.node (slice_get ss st.node) st.act) (events_from law then_sets sts)
 
--- ---- a datagram that comes of one that was sent
+-- ---- a datagram that was sent has its node's call
 
-record Found (es : List books.Event) (d : List ℕ) : Type 0 where
-  sending : returning.WasSent es d
-  ttl : ℕ
-  from : IsFrom sending.own ttl sending.sent
-  call : IsCall sending.own
-  hops : ttl_of d ≤ ttl_of sending.sent
-
-found_later : (e : books.Event) (es : List books.Event) (d : List ℕ) → Found es d → Found (e ∷ es) d
-found_later e es d f =
-    let s = f.sending in
-    record {
-      sending = record { node = s.node; own = s.own; id = s.id; number = s.number; sent = s.sent; told = (suc s.told.0, (let low = s.told.1 in omega (arith, low)), s.told.2); copy = s.copy };
-      ttl = f.ttl;
-      from = f.from;
-      call = f.call;
-      hops = f.hops;
-    }
-
-and_both : (a b : Bool) → (a && b) ≡ true → (a ≡ true) × (b ≡ true)
-and_both true b e = (refl, e)
-and_both false b e = absurd (cc e)
-
-found_here : (node : ℕ) (own : Callsign) (id : ℕ) (number : Option ℕ) (s d : List ℕ) (es : List books.Event) (b : Bool) → IsCall own → ((ttl : ℕ) × IsFrom own ttl s) → comes_of s d ≡ b → (b || is_traced (sent_by es) d) ≡ true
-    → (is_traced (sent_by es) d ≡ true → Found es d) → Found (record { node = node; own = own; told = sets.Sent id number s } ∷ es) d
-found_here node own id number s d es true call f c e rest =
-    let both = and_both (is_copy d s) (nat_le (ttl_of d) (ttl_of s)) c in
-    record {
-      sending = record { node = node; own = own; id = id; number = number; sent = s; told = (0, omega arith, refl); copy = both.0 };
-      ttl = f.0;
-      from = f.1;
-      call = call;
-      hops = (let low = both.1 in grind (arith, nat_tests, low));
-    }
-found_here node own id number s d es false call f c e rest = found_later _ es d (rest e)
-
-found_by : (node : ℕ) (own : Callsign) (t : Told) (es : List books.Event) (d : List ℕ) → IsCall own → FromTold own t → is_traced (sent_by (record { node = node; own = own; told = t } ∷ es)) d ≡ true
-    → (is_traced (sent_by es) d ≡ true → Found es d) → Found (record { node = node; own = own; told = t } ∷ es) d
-found_by node own (sets.Sent id number s) es d call f e rest = found_here node own id number s d es (comes_of s d) call f refl e rest
-found_by node own (sets.Made id pair partner request) es d call f e rest = found_later _ es d (rest e)
-found_by node own (sets.Heeded id h) es d call f e rest = found_later _ es d (rest e)
-found_by node own (sets.Notice id notice) es d call f e rest = found_later _ es d (rest e)
-found_by node own (sets.Gone id facts) es d call f e rest = found_later _ es d (rest e)
-found_by node own (sets.Restarted pair) es d call f e rest = found_later _ es d (rest e)
-found_by node own (sets.Lost id facts) es d call f e rest = found_later _ es d (rest e)
-
-found : (es : List books.Event) (d : List ℕ) → AllByRecursion FromNode es → AllByRecursion (λ (e : books.Event). IsCall e.own) es → is_traced (sent_by es) d ≡ true → Found es d
-found [] d a b e = absurd (cc e)
-found (x ∷ es) d a b e = found_by x.node x.own x.told es d b.0 a.0 e (found es d a.1 b.1)
-
--- ---- step by step
-
-traced_at : (ds : List (List ℕ)) (ss : List SetState) (xs : List Step) (y : Step) (ys : List Step) → StepsTraced ds ss (xs ++ y ∷ ys) → IsTracedAct (ds ++ sent_by (events_of ss xs)) y.act
-traced_at ds ss [] y ys t = subst (λ x. IsTracedAct x y.act) (sym (append-nil ds)) t.0
-traced_at ds ss (x ∷ xs) y ys t =
-    let now = net.told_at ss x.node (slice_get ss x.node) x.act in
-    let then_sets = net.sets_at ss x.node (slice_get ss x.node) x.act in
-    subst (λ z. IsTracedAct z y.act) (append_assoc ds (sent_by now) (sent_by (events_of then_sets xs)) ∙ ap (λ z. ds ++ z) (sym (sent_both now (events_of then_sets xs))))
-    (traced_at (ds ++ sent_by now) then_sets xs y ys t.1)
+from_at : (es : List books.Event) (e : books.Event) → AllByRecursion FromNode es → AllByRecursion (λ (x : books.Event). IsCall x.own) es → Contains es e → FromNode e × IsCall e.own
+from_at [] e a b c = (let low = c.1 in absurd (omega (arith, low)))
+from_at (x ∷ es) e a b c = by c.0 c.1 c.2 (from_at es e a.1 b.1)
+  where
+    by : (k : ℕ) → k < length (x ∷ es) → slice_index_or (x ∷ es) k e ≡ e → (Contains es e → FromNode e × IsCall e.own) → FromNode e × IsCall e.own
+    by zero low is rest = (subst FromNode is a.0, subst (λ (y : books.Event). IsCall y.own) is b.0)
+    by (suc k) low is rest = rest (k, omega (arith, low), is)
 
 -- ---- the nodes of the network
 
 numbered_all : (P : Declaration → Type 0) (n : ℕ) (ds : List Declaration) → AllByRecursion P ds → AllByRecursion P (filter (has_number n) ds)
-numbered_all P n ds a = flying.kept_by P (has_number n) ds a
+numbered_all P n ds a = lists.kept_by P (has_number n) ds a
 
 pub by_number_all : (P : Declaration → Type 0) (ds : List Declaration) (count n : ℕ) → AllByRecursion P ds → AllByRecursion P (by_number ds n count)
 unfolding by_number
 by_number_all P ds zero n a = tt
-by_number_all P ds (suc count) n a = flying.both P (filter (has_number n) ds) (by_number ds (suc n) count) (numbered_all P n ds a) (by_number_all P ds count (suc n) a)
+by_number_all P ds (suc count) n a = lists.both P (filter (has_number n) ds) (by_number ds (suc n) count) (numbered_all P n ds a) (by_number_all P ds count (suc n) a)
 
 own_calls : (plan : Plan) (ds : List Declaration) → AreStarts (map set_of (map (new_placed plan) ds)) → AllByRecursion (λ (d : Declaration). IsCall d.call) ds
 own_calls plan [] s = tt
@@ -153,7 +102,7 @@ width_is : (size k : ℕ) → (size ≡ 8) ⊎ (size ≡ 128) → k ≡ size →
 width_is size k (inl e) f = rw (f, e) refl
 width_is size k (inr e) f = rw (f, e) refl
 
-module _ (are_steps : InputsAreSteps) (bytes : BytesRun) (ticks : TicksRun) (acts_run : ActsRun) (declared : DeclaredOnce) (calls_are : CallsAreCalls)
+module _ (sounds : NetworksAreSound) (are_steps : InputsAreSteps) (bytes : BytesRun) (ticks : TicksRun) (acts_run : ActsRun) (declared : DeclaredOnce) (calls_are : CallsAreCalls)
     (parts : FendParts) (read_back : FramesReadBack) (too_long : LongFramesAreTooLong) (bytes_carry : BytesCarry) (ticks_carry : TicksCarry) (acts_carry : ActsCarry) (further : CarriedFurther) (sendings : SetsSendTheirOwn) (heedings : SetsHeedPartners) (written : WrittenNetCallSpellsIt) (read : SpelledNetCallIsRead) where
   abbrev IsNode : ℕ → Plan → Declaration → Type 0
   IsNode size plan d = IsCall d.call × (width (value_of plan.settings d.node Modulo == 128) ≡ size)
@@ -167,7 +116,7 @@ module _ (are_steps : InputsAreSteps) (bytes : BytesRun) (ticks : TicksRun) (act
       both_all (λ (d : Declaration). IsCall d.call) (λ (d : Declaration). width (value_of plan.settings d.node Modulo == 128) ≡ size) (by_number plan.declared 1 16)
       (own_calls plan (by_number plan.declared 1 16) sound.starts)
       (by_number_all (λ (d : Declaration). width (value_of plan.settings d.node Modulo == 128) ≡ size) plan.declared 16 1
-      (flying.every (λ (d : Declaration). value_of plan.settings d.node Modulo ≡ size) (λ (d : Declaration). width (value_of plan.settings d.node Modulo == 128) ≡ size)
+      (lists.every (λ (d : Declaration). value_of plan.settings d.node Modulo ≡ size) (λ (d : Declaration). width (value_of plan.settings d.node Modulo == 128) ≡ size)
       (λ d e. width_is size (value_of plan.settings d.node Modulo) of.modulus e) plan.declared of.nodes))
 
   line_is : (i : Instruction) → IsInstruction i → NamesCalls i → LineIs IsCall IsCall IsPair i
@@ -197,22 +146,22 @@ module _ (are_steps : InputsAreSteps) (bytes : BytesRun) (ticks : TicksRun) (act
   module _ (size : ℕ) (plan : Plan) (sound : IsSound plan) (calls : HasCalls plan) (of : IsOfModulus size plan) (apart : AreApart (names (new_nodes plan))) where
     starts : (d : Declaration) (at : ℕ) → slice_get (names (new_nodes plan)) at ≡ Some d → IsNode size plan d
     starts d at e =
-        flying.one_of (IsNode size plan) (by_number plan.declared 1 16) at d (all_nodes size plan sound of) (ap (λ ds. slice_get ds at) (sym (runs.placed_names plan (by_number plan.declared 1 16))) ∙ e)
+        lists.one_of (IsNode size plan) (by_number plan.declared 1 16) at d (all_nodes size plan sound of) (ap (λ ds. slice_get ds at) (sym (runs.placed_names plan (by_number plan.declared 1 16))) ∙ e)
 
     abbrev Under : List Step → World → Type 0
     Under steps w = Flies plan size apart are_steps bytes ticks acts_run parts read_back too_long bytes_carry ticks_carry acts_carry further of.modulus starts calls.vias steps w
 
     start_node : (at : ℕ) (p : Placed) → slice_get (new_nodes plan) at ≡ Some p
-        → NodeFlies plan size apart are_steps bytes ticks acts_run parts read_back too_long bytes_carry ticks_carry acts_carry further of.modulus starts calls.vias [] p
+        → NodeFlies plan size apart are_steps bytes ticks acts_run parts read_back too_long bytes_carry ticks_carry acts_carry further of.modulus starts calls.vias [] [] p
     start_node at p e =
         let from = runs.placed_at plan apart are_steps bytes ticks acts_run (by_number plan.declared 1 16) at p e in
         let named : slice_get (names (new_nodes plan)) at ≡ Some from.0 = name_at (new_nodes plan) at p e ∙ ap (λ (x : Placed). Some x.declared) (sym from.1) in
-        subst (NodeFlies plan size apart are_steps bytes ticks acts_run parts read_back too_long bytes_carry ticks_carry acts_carry further of.modulus starts calls.vias []) from.1
-        (flying.started_flies plan size apart are_steps bytes ticks acts_run parts read_back too_long bytes_carry ticks_carry acts_carry further of.modulus starts calls.vias [] from.0 (record { index = 1; ident = 1 }) 1
+        subst (NodeFlies plan size apart are_steps bytes ticks acts_run parts read_back too_long bytes_carry ticks_carry acts_carry further of.modulus starts calls.vias [] []) from.1
+        (flying.started_flies plan size apart are_steps bytes ticks acts_run parts read_back too_long bytes_carry ticks_carry acts_carry further of.modulus starts calls.vias [] [] from.0 (record { index = 1; ident = 1 }) 1
         (starts from.0 at named))
 
     start_flies : Under [] (start plan)
-    start_flies = record { contains = runs.start_contains plan apart are_steps bytes ticks acts_run; traced = tt; nodes = start_node; air = tt }
+    start_flies = record { contains = runs.start_contains plan apart are_steps bytes ticks acts_run; came = tt; nodes = start_node; air = tt; known = λ to d e. absurd (cc e) }
 
     front_all : (P : books.Event → Type 0) (xs ys : List books.Event) → AllByRecursion P (xs ++ ys) → AllByRecursion P xs
     front_all P [] ys a = tt
@@ -227,23 +176,43 @@ module _ (are_steps : InputsAreSteps) (bytes : BytesRun) (ticks : TicksRun) (act
         front_all (λ (x : books.Event). IsCall x.own) (events_of (first_sets plan) before) (events_of (sets_run (first_sets plan) before) after)
         (told_by_calls (names (new_nodes plan)) told _ named (are ∙ (ap (events_of (first_sets plan)) e ∙ events_append before after (first_sets plan))))
 
-    through : (done later : List NumberedInstruction) → plan.instructions ≡ done ++ later → SendsAll plan done
+    through : (done later : List NumberedInstruction) → plan.instructions ≡ done ++ later → SendsAll plan size done
     through done later is =
         let goods = runs.front_all plan apart are_steps bytes ticks acts_run done later (λ (l : NumberedInstruction). IsInstruction l.instruction) (subst (AllByRecursion (λ (l : NumberedInstruction). IsInstruction l.instruction)) is sound.instructions) in
         let named = runs.front_all plan apart are_steps bytes ticks acts_run done later (λ (l : NumberedInstruction). NamesCalls l.instruction) (subst (AllByRecursion (λ (l : NumberedInstruction). NamesCalls l.instruction)) is calls.lines) in
         let w : World = do_lines plan done (start plan) in
         let a = lines_lead plan IsCall IsCall IsPair (flying.Goes plan size apart are_steps bytes ticks acts_run parts read_back too_long bytes_carry ticks_carry acts_carry further of.modulus starts calls.vias)
         (flying.moves plan size apart are_steps bytes ticks acts_run parts read_back too_long bytes_carry ticks_carry acts_carry further of.modulus starts calls.vias) done (start plan) (lines_are done goods.0 named.0) [] start_flies in
+        let sent : (before after : List Step) (node now : ℕ) (d : List ℕ) → a.0 ≡ before ++ record { node = node; act = sets.Comes d now } ∷ after → WasSent plan size w.air before node d =
+        λ before after node now d e.
+        (let es : List books.Event = events_of (first_sets plan) before in
+        let step : Step = record { node = node; act = sets.Comes d now } in
+        let c = came_at plan size [] w.air (first_sets plan) before step after (subst (StepsCame plan size [] w.air (first_sets plan)) e a.1.came) in
+        let k : Known plan size es w.air c.0.call d = c.2 in
+        let was = from_at es (record { node = k.node; own = k.own; told = sets.Sent k.id k.number k.sent }) (events_from sendings (first_sets plan) before)
+        (front_calls before (step ∷ after) a.0 e w.told a.1.contains.events_are) k.told in
+        let copy = came_copy plan size w.air k.own k.sent k.hops c.0.call d k.long k.came in
+        record {
+          sending = record { node = k.node; own = k.own; id = k.id; number = k.number; sent = k.sent; told = k.told; copy = copy };
+          ttl = was.0.0;
+          from = was.0.1;
+          origin = λ head h. origin_is written read k.own was.0.0 k.sent d head was.1 was.0.1 copy h;
+          node = c.0;
+          is = c.1;
+          hops = k.hops;
+          came = k.came;
+          left = came_ttl plan size w.air k.own k.sent k.hops c.0.call d k.came;
+        }) in
         record {
           steps = a.0;
           run = runs.is_run plan apart are_steps bytes ticks acts_run a.0 w a.1.contains;
-          sent = λ before after node now d e.
-              (let f = found (events_of (first_sets plan) before) d (events_from sendings (first_sets plan) before) (front_calls before (record { node = node; act = sets.Comes d now } ∷ after) a.0 e w.told a.1.contains.events_are)
-              (traced_at [] (first_sets plan) before (record { node = node; act = sets.Comes d now }) after (subst (StepsTraced [] (first_sets plan)) e a.1.traced)) in
-              record { sending = f.sending; ttl = f.ttl; from = f.from; origin = λ head h. origin_is written read f.sending.own f.ttl f.sending.sent d head f.call f.from f.sending.copy h; hops = f.hops });
+          sent = sent;
+          told = λ e id d c told.
+              (let at = heeded_came heedings (first_sets plan) a.0 e.event id d (subst (λ xs. Contains xs e.event) (runs.is_run plan apart are_steps bytes ticks acts_run a.0 w a.1.contains).told (contains_map (λ (x : CircuitEvent). x.event) (circuit_events w) e c)) told in
+              record { before = at.0; after = at.1; now = at.2; step = at.3; was = sent at.0 at.1 e.event.node at.2 d at.3 });
           heeded = λ before after step s e g. heedings s step.act;
           up = λ on. a.1.contains.up (lines_on plan done (start plan) goods.0 on tt);
         }
 
   pub datagrams_sent : DatagramsSent
-  datagrams_sent bytes2 plan size e sound of done later is = through size plan sound (calls_are bytes2 plan e) of (runs.nodes_apart plan (declared bytes2 plan e)) done later is
+  datagrams_sent bytes2 plan size e of done later is = through size plan (sounds bytes2 plan e) (calls_are bytes2 plan e) of (runs.nodes_apart plan (declared bytes2 plan e)) done later is

@@ -60,7 +60,11 @@ pub record IsSound (plan : Plan) : Type 0 where
   pub starts : AreStarts (first_sets plan)
   pub instructions : AllByRecursion IsLine plan.instructions
 
--- ---- the law
+-- ---- the laws
+
+-- so is each that a file lays down
+abbrev pub NetworksAreSound : Type 0
+NetworksAreSound = (bytes : List ℕ) (plan : Plan) → network_of bytes ≡ Ok plan → IsSound plan
 
 -- what each front of a file's lines has come to is such a run, and what comes after it goes on with that run
 pub record RunsThrough (plan : Plan) (done later : List NumberedInstruction) : Type 0 where
@@ -71,5 +75,5 @@ pub record RunsThrough (plan : Plan) (done later : List NumberedInstruction) : T
 
 abbrev pub WorldsAreRuns : Type 0
 WorldsAreRuns =
-    (bytes : List ℕ) (plan : Plan) → network_of bytes ≡ Ok plan → IsSound plan
+    (bytes : List ℕ) (plan : Plan) → network_of bytes ≡ Ok plan
     → (done later : List NumberedInstruction) → plan.instructions ≡ done ++ later → RunsThrough plan done later

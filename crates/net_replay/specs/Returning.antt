@@ -6,7 +6,6 @@ use Rattle.circuit_set.specs.Returning.{FreshBut, given_by}
 use Rattle.network_file.specs.declared.network.NumberedInstruction.{NumberedInstruction}
 use Rattle.network_file.specs.Networks.{network_of}
 use Rattle.network_file.specs.Plan.{Plan}
-use Rattle.net_replay.specs.CircuitRuns.{IsSound}
 use Rattle.net_replay.specs.Circuits.{circuit_events}
 use Rattle.net_replay.specs.Datagrams.{IsOfModulus, LineRestartsNone}
 use Rattle.net_replay.specs.Lines.{do_lines}
@@ -20,7 +19,7 @@ told_of_circuits w = map (λ e. e.event) (circuit_events w)
 -- may stand twice: whatever is lost, repeated, delayed or reordered, it is fresh, but where a copy of a connect request returns.
 abbrev pub CopiesAloneReturn : Type 0
 CopiesAloneReturn =
-    (bytes : List ℕ) (plan : Plan) (size : ℕ) → network_of bytes ≡ Ok plan → IsSound plan → IsOfModulus size plan
+    (bytes : List ℕ) (plan : Plan) (size : ℕ) → network_of bytes ≡ Ok plan → IsOfModulus size plan
     → (done later : List NumberedInstruction) → plan.instructions ≡ done ++ later → AllByRecursion LineRestartsNone done
     → let events : List books.Event = told_of_circuits (do_lines plan done (start plan)) in
     ((node : ℕ) → given_by node events ≤ 48960) → FreshBut events

@@ -1,14 +1,23 @@
 //! What is promised of every network.
-ghost use Rattle.net_replay.specs.CircuitRuns.{WorldsAreRuns};
+ghost use Rattle.net_replay.specs.CircuitRuns.{NetworksAreSound, WorldsAreRuns};
 ghost use Rattle.net_replay.specs.Datagrams.{DatagramsSent};
+ghost use Rattle.net_replay.specs.Hops.{HopsTakeOne};
 ghost use Rattle.net_replay.specs.Promises.{EachTellsRetries, InTimeIsSafe};
 ghost use Rattle.net_replay.specs.Returning.{CopiesAloneReturn};
+
+/// In every network of a file the nodes' circuits start as circuits do; a circuit is asked for with a call, and a node starts again at a pair.
+pub fn networks_are_sound()
+    ensures { NetworksAreSound }
+{
+    network_file::laws::networks_fit();
+}
 
 /// What happens in a network is a run of its nodes' circuits: at each line they have come by some steps to what the world has of them, and what
 /// these steps told is what the world has told of circuits.
 pub fn worlds_are_circuit_runs()
     ensures { WorldsAreRuns }
 {
+    networks_are_sound();
     node_core::laws::inputs_are_circuit_runs();
     node_core::laws::inputs_are_steps();
     network_file::laws::networks_fit();
@@ -19,19 +28,29 @@ pub fn worlds_are_circuit_runs()
 pub fn in_time_is_safe()
     ensures { InTimeIsSafe }
 {
+    networks_are_sound();
     worlds_are_circuit_runs();
     circuit_set::laws::circuits_safe();
     circuit_set::laws::narrow_is_timely();
     network_file::laws::networks_fit();
 }
 
+/// Each hop takes one from the time to live. So a datagram that comes with the time to live that it was sent with has come from its origin, which put it
+/// in the air for that node: a node that passes it on and leaves the time to live as it is makes that false.
+pub fn hops_take_one()
+    ensures { HopsTakeOne }
+{}
+
 /// In a network whose nodes all have one modulus, whatever is lost, repeated, delayed or reordered and whichever node starts again: each datagram
 /// that reaches its node, so that the circuits there are handed it, was sent before by the node that is its origin, by an end of it or by its set as
-/// a refusal, and came as it was sent but for its time to live, which is no greater. And one that an end heeds is from the node of its partner, and
-/// names that end's pair. In the run of the nodes' circuits that this is said of, a node starts again only where a line says so.
+/// a refusal; so was each that an end heeds, as the network's events tell. By frames in the air it came over so many hops, each a node that passed it
+/// on with one less to live, and all else as it was: these and its time to live make up the one that it was sent with. And one that an end heeds is
+/// from the node of its partner, and names that end's pair. In the run of the nodes' circuits that this is said of, a node starts again only where a
+/// line says so.
 pub fn datagrams_sent()
     ensures { DatagramsSent }
 {
+    networks_are_sound();
     node_core::laws::inputs_are_circuit_runs();
     node_core::laws::inputs_are_steps();
     node_core::laws::datagrams_are_carried();
@@ -45,10 +64,12 @@ pub fn datagrams_sent()
     kiss_framing::laws::long_frames();
 }
 
-/// Whatever comes back too late: at each line, an end was told that its retries are used up exactly where they are.
+/// Whatever comes back too late: at each line, an end was told that its retries are used up exactly where there was one expiry more than
+/// there are retries, counted over what came to it.
 pub fn retries_are_told()
     ensures { EachTellsRetries }
 {
+    networks_are_sound();
     worlds_are_circuit_runs();
     circuit_set::laws::retries_are_told();
 }
@@ -59,6 +80,7 @@ pub fn retries_are_told()
 pub fn copies_alone_return()
     ensures { CopiesAloneReturn }
 {
+    networks_are_sound();
     datagrams_sent();
     circuit_set::laws::copies_alone_return();
     network_file::laws::networks_fit();

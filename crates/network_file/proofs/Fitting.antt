@@ -1,5 +1,5 @@
 -- Each node is declared once, with a call of its own, what stands for calls are calls, and the version of a file stands before its settings, each of which is one that files of that version may have.
-use Rattle.std.proofs.Common.{◌≡◌, ℕ, suc, refl, sym, subst, List, [], ◌∷◌, ◌++◌, length, arith, Bool, true, false, cond}
+use Rattle.std.proofs.Common.{◌≡◌, ◌≤◌, ℕ, suc, refl, sym, subst, List, [], ◌∷◌, ◌++◌, length, arith, Bool, true, false, cond}
 use Rattle.std.specs.Prelude.{◌&&◌, ◌==◌, not, nat_eq, nat_lt, is_none, Result, Ok, Err}
 use Rattle.std.specs.Cmp.Lexicographic.{pointwise}
 use Rattle.std.specs.Str.Lines.{lines}
@@ -18,19 +18,21 @@ use Rattle.network_file.specs.declared.plan.vias.Via.{Via}
 use Rattle.network_file.specs.declared.reasons.What.{What}
 use Rattle.network_file.specs.declared.reasons.What.TheVariants as whats
 use Rattle.network_file.specs.Keys.{Assignment, key_at, least_of, most_of, takes}
-use Rattle.network_file.specs.Laws.{AreDifferent, CallsAreCalls, CallsDeclaredOnce, DeclaredOnce, HasCalls, HaveOwnCalls, IsCall, NamesCalls, SettingsFit}
+use Rattle.network_file.specs.Laws.{AreDifferent, ArePairNumbers, CallsAreCalls, CallsDeclaredOnce, DeclaredOnce, HasCalls, HaveOwnCalls, IsCall, IsInRange, NamesCalls, NamesPair, PairsArePairs, SettingsFit, SettingsInRange}
 use Rattle.network_file.specs.Lines.{Kind, all_kinds, in_time, line_at, line_by, line_of}
 use Rattle.network_file.specs.Lines.Circuits.{burst_at, end_alone, end_at, burst_line, close_line, open_line, say_at, say_line, take_line}
 use Rattle.network_file.specs.Lines.Declaring.{are_members, are_repeaters, calls_at, channel_line, members_at, declaration_at, node_line, set_line, setting_at, version_at, version_line, via_at, via_line}
 use Rattle.network_file.specs.Lines.Frames.{again_line, count_alone, frame_alone, frame_and_node, cut_line, deliver_line, flow_line, lose_line}
 use Rattle.network_file.specs.Lines.Heard.{are_entries, broadcast_at, entries_at, heard_line}
-use Rattle.network_file.specs.Lines.Nodes.{linkfail_line, node_alone, node_and_call, lock_at, lock_line, restart_at, restart_line, round_line, show_line, tick_at, tick_line}
+use Rattle.network_file.specs.Lines.Nodes.{linkfail_line, node_alone, node_and_call, node_and_call_at, lock_at, lock_line, restart_at, restart_line, round_line, show_line, tick_at, tick_line}
 use Rattle.network_file.proofs.Declared.{more_calls, more_different}
+use Rattle.network_file.proofs.Ranges.{ranged}
 use Rattle.network_file.specs.Networks.{Bad, after_line, after_lines, and_then, network_of, nothing, with_line, with_said}
 use Rattle.network_file.specs.Places.{◌>>=◌, alias_at, call_at, has_call, has_node, known, needs, new_call_at, new_node_at, new_peer_at, node_at, number_at, value_at}
 use Rattle.network_file.specs.Settings.{set_to}
 use Rattle.network_file.specs.Plan.{Plan, is_untouched, may_declare, version_of}
 use Rattle.text_lines.specs.Lines.{is_skipped, is_text}
+use Rattle.text_lines.specs.Numbers.{is_number}
 use Rattle.text_lines.specs.Words.{words_of}
 use Rattle.network_file.specs.Lines.Circuits.{said_text}
 
@@ -38,11 +40,11 @@ use Rattle.network_file.specs.Lines.Circuits.{said_text}
 -- declared node
 abbrev Fits : Plan → Line → Type 0
 Fits plan (said.Version v) = is_untouched plan ≡ true
-Fits plan (said.Node d) = (has_node plan.declared d.node ≡ false) × (has_call plan.declared d.call ≡ false)
-Fits plan (said.Set s) = (takes (version_of plan) s.key s.value ≡ true) × (has_node plan.declared s.node ≡ true)
+Fits plan (said.Node d) = (has_node plan.declared d.node ≡ false) × (has_call plan.declared d.call ≡ false) × IsCall d.call
+Fits plan (said.Set s) = (takes (version_of plan) s.key s.value ≡ true) × (has_node plan.declared s.node ≡ true) × IsInRange s
 Fits plan (said.Channel c) = Unit {0}
 Fits plan (said.Via v) = AllByRecursion IsCall v.repeaters.items
-Fits plan (said.Instruction i) = NamesCalls i
+Fits plan (said.Instruction i) = NamesCalls i × NamesPair i
 
 -- ---- the parts of a reading
 
@@ -53,10 +55,10 @@ bound P (Err w) f h y e = absurd (cc e)
 last : {B : Type 0} (P : B → Type 0) (x : B) → P x → (y : B) → ◌≡◌ {A = Result B What} (Ok x) (Ok y) → P y
 last P x p y e = let same : x ≡ y = cc e in subst P same p
 
-done : (plan : Plan) (i : Instruction) (y : Line) → ◌≡◌ {A = Result Line What} (Ok (said.Instruction i)) (Ok y) → NamesCalls i → Fits plan y
-done plan i y e n = last (Fits plan) (said.Instruction i) n y e
+done : (plan : Plan) (i : Instruction) (y : Line) → ◌≡◌ {A = Result Line What} (Ok (said.Instruction i)) (Ok y) → NamesCalls i → NamesPair i → Fits plan y
+done plan i y e n p = last (Fits plan) (said.Instruction i) (n, p) y e
 
-declares : (plan : Plan) (d : Declaration) → (has_node plan.declared d.node ≡ false) × (has_call plan.declared d.call ≡ false) → (y : Line) → ◌≡◌ {A = Result Line What} (Ok (said.Node d)) (Ok y) → Fits plan y
+declares : (plan : Plan) (d : Declaration) → (has_node plan.declared d.node ≡ false) × (has_call plan.declared d.call ≡ false) × IsCall d.call → (y : Line) → ◌≡◌ {A = Result Line What} (Ok (said.Node d)) (Ok y) → Fits plan y
 declares plan d new = last (Fits plan) (said.Node d) new
 
 joins : (plan : Plan) (c : Channel) (y : Line) → ◌≡◌ {A = Result Line What} (Ok (said.Channel c)) (Ok y) → Fits plan y
@@ -87,6 +89,11 @@ unfolding new_call_at
 new_call ds word = bound (λ c. has_call ds c ≡ false) (call_at word) _ (λ c _. bound (λ c. has_call ds c ≡ false) (needs (not (has_call ds c)) whats.Twice) _ (λ u e.
     last (λ c. has_call ds c ≡ false) c (negated (has_call ds c) (needed (not (has_call ds c)) whats.Twice u e))))
 
+-- a value is within its range
+value_ranged : (least most : ℕ) (word : List ℕ) (n : ℕ) → value_at least most word ≡ Ok n → (least ≤ n) × (n ≤ most)
+unfolding value_at
+value_ranged least most word = bound (λ n. (least ≤ n) × (n ≤ most)) (needs (is_number word) whats.Number) _ (λ u _ n e. ranged whats.Value least most word n e)
+
 -- ---- each kind of line
 
 version_fits : (plan : Plan) → is_untouched plan ≡ true → (words : List (List ℕ)) (l : Line) → version_line words ≡ Ok l → Fits plan l
@@ -94,17 +101,11 @@ unfolding version_at
 version_fits plan h (word ∷ []) l e = bound (Fits plan) (value_at 1 3 word) _ (λ v _. last (Fits plan) (said.Version v) h) l e
 version_fits plan h other l e = absurd (cc e)
 
-node_fits : (plan : Plan) (words : List (List ℕ)) (l : Line) → node_line plan words ≡ Ok l → Fits plan l
-unfolding declaration_at
-node_fits plan (number ∷ name ∷ nick ∷ []) l e =
-    bound (Fits plan) (new_node_at plan.declared number) _ (λ n new. bound (Fits plan) (new_call_at plan.declared name) _ (λ c other. bound (Fits plan) (alias_at nick) _ (λ a _. declares plan (record { node = n; call = c; alias = a }) (new_at plan.declared number n new, new_call plan.declared name c other)))) l e
-node_fits plan other l e = absurd (cc e)
-
 set_fits : (plan : Plan) (words : List (List ℕ)) (l : Line) → set_line plan words ≡ Ok l → Fits plan l
 unfolding setting_at
 set_fits plan (number ∷ key ∷ word ∷ []) l e =
-    bound (Fits plan) (node_at plan.declared number) _ (λ n known. bound (Fits plan) (key_at key) _ (λ k _. bound (Fits plan) (needs (is_none (set_to plan.settings n k)) whats.Twice) _ (λ u _. bound (Fits plan) (value_at (least_of k) (most_of k) word) _ (λ v _. bound (Fits plan) (needs (takes (version_of plan) k v) whats.Value) _ (λ w may.
-    last (Fits plan) (said.Set (record { node = n; key = k; value = v })) (needed (takes (version_of plan) k v) whats.Value w may, declared_at plan.declared number n known)))))) l e
+    bound (Fits plan) (node_at plan.declared number) _ (λ n known. bound (Fits plan) (key_at key) _ (λ k _. bound (Fits plan) (needs (is_none (set_to plan.settings n k)) whats.Twice) _ (λ u _. bound (Fits plan) (value_at (least_of k) (most_of k) word) _ (λ v range. bound (Fits plan) (needs (takes (version_of plan) k v) whats.Value) _ (λ w may.
+    last (Fits plan) (said.Set (record { node = n; key = k; value = v })) (needed (takes (version_of plan) k v) whats.Value w may, declared_at plan.declared number n known, value_ranged (least_of k) (most_of k) word v range)))))) l e
 set_fits plan other l e = absurd (cc e)
 
 channel_fits : (plan : Plan) (words : List (List ℕ)) (l : Line) → channel_line plan words ≡ Ok l → Fits plan l
@@ -124,6 +125,16 @@ module _ (reads : ReadsCallTexts) where
   are_calls (word ∷ words) =
       bound (AllByRecursion IsCall) (call_at word) _ (λ c q. bound (AllByRecursion IsCall) (calls_at words) _ (λ cs r. last (AllByRecursion IsCall) (c ∷ cs) (is_call word c q, are_calls words cs r)))
 
+  new_call_is : (ds : List Declaration) (word : List ℕ) (c : Callsign) → new_call_at ds word ≡ Ok c → IsCall c
+  unfolding new_call_at
+  new_call_is ds word = bound IsCall (call_at word) _ (λ c q. bound IsCall (needs (not (has_call ds c)) whats.Twice) _ (λ u _. last IsCall c (is_call word c q)))
+
+  node_fits : (plan : Plan) (words : List (List ℕ)) (l : Line) → node_line plan words ≡ Ok l → Fits plan l
+  unfolding declaration_at
+  node_fits plan (number ∷ name ∷ nick ∷ []) l e =
+      bound (Fits plan) (new_node_at plan.declared number) _ (λ n new. bound (Fits plan) (new_call_at plan.declared name) _ (λ c other. bound (Fits plan) (alias_at nick) _ (λ a _. declares plan (record { node = n; call = c; alias = a }) (new_at plan.declared number n new, new_call plan.declared name c other, new_call_is plan.declared name c other)))) l e
+  node_fits plan other l e = absurd (cc e)
+
   via_fits : (plan : Plan) (words : List (List ℕ)) (l : Line) → via_line plan words ≡ Ok l → Fits plan l
   unfolding via_at
   via_fits plan (number ∷ name ∷ words) l e =
@@ -133,78 +144,90 @@ module _ (reads : ReadsCallTexts) where
   heard_fits : (plan : Plan) (words : List (List ℕ)) (l : Line) → heard_line plan words ≡ Ok l → Fits plan l
   unfolding broadcast_at
   heard_fits plan (number ∷ name ∷ nick ∷ rest) l e =
-      bound (Fits plan) (needs (are_entries rest) whats.Count) _ (λ u _. bound (Fits plan) (node_at plan.declared number) _ (λ n _. bound (Fits plan) (call_at name) _ (λ c q. bound (Fits plan) (alias_at nick) _ (λ a _. bound (Fits plan) (entries_at rest) _ (λ es _ y z. done plan _ y z (is_call name c q)))))) l e
+      bound (Fits plan) (needs (are_entries rest) whats.Count) _ (λ u _. bound (Fits plan) (node_at plan.declared number) _ (λ n _. bound (Fits plan) (call_at name) _ (λ c q. bound (Fits plan) (alias_at nick) _ (λ a _. bound (Fits plan) (entries_at rest) _ (λ es _ y z. done plan _ y z (is_call name c q) tt))))) l e
   heard_fits plan other l e = absurd (cc e)
 
   lock_fits : (plan : Plan) (words : List (List ℕ)) (l : Line) → lock_line plan words ≡ Ok l → Fits plan l
   unfolding lock_at
   lock_fits plan (number ∷ dest ∷ nick ∷ neighbour ∷ quality ∷ []) l e =
-      bound (Fits plan) (node_at plan.declared number) _ (λ n _. bound (Fits plan) (call_at dest) _ (λ d _. bound (Fits plan) (alias_at nick) _ (λ a _. bound (Fits plan) (call_at neighbour) _ (λ b is. bound (Fits plan) (number_at 0 255 quality) _ (λ q _ y z. done plan _ y z (is_call neighbour b is)))))) l e
+      bound (Fits plan) (node_at plan.declared number) _ (λ n _. bound (Fits plan) (call_at dest) _ (λ d _. bound (Fits plan) (alias_at nick) _ (λ a _. bound (Fits plan) (call_at neighbour) _ (λ b is. bound (Fits plan) (number_at 0 255 quality) _ (λ q _ y z. done plan _ y z (is_call neighbour b is) tt))))) l e
   lock_fits plan other l e = absurd (cc e)
 
   round_fits : (plan : Plan) (words : List (List ℕ)) (l : Line) → round_line plan words ≡ Ok l → Fits plan l
   unfolding round_line
-  round_fits plan words l e = bound (Fits plan) (node_alone plan words) _ (λ n _ y z. done plan _ y z tt) l e
+  round_fits plan words l e = bound (Fits plan) (node_alone plan words) _ (λ n _ y z. done plan _ y z tt tt) l e
 
   linkfail_fits : (plan : Plan) (words : List (List ℕ)) (l : Line) → linkfail_line plan words ≡ Ok l → Fits plan l
   unfolding linkfail_line
-  linkfail_fits plan words l e = bound (Fits plan) (node_and_call plan words) _ (λ n _ y z. done plan _ y z tt) l e
+  linkfail_fits plan words l e = bound (Fits plan) (node_and_call plan words) _ (λ n _ y z. done plan _ y z tt tt) l e
 
   show_fits : (plan : Plan) (words : List (List ℕ)) (l : Line) → show_line plan words ≡ Ok l → Fits plan l
   unfolding show_line
-  show_fits plan words l e = bound (Fits plan) (node_alone plan words) _ (λ n _ y z. done plan _ y z tt) l e
+  show_fits plan words l e = bound (Fits plan) (node_alone plan words) _ (λ n _ y z. done plan _ y z tt tt) l e
 
   tick_fits : (plan : Plan) (words : List (List ℕ)) (l : Line) → tick_line words ≡ Ok l → Fits plan l
   unfolding tick_at
-  tick_fits plan (word ∷ []) l e = bound (Fits plan) (number_at 1 86400000 word) _ (λ n _ y z. done plan _ y z tt) l e
+  tick_fits plan (word ∷ []) l e = bound (Fits plan) (number_at 1 86400000 word) _ (λ n _ y z. done plan _ y z tt tt) l e
   tick_fits plan other l e = absurd (cc e)
+
+  restarts : (i d : ℕ) → (1 ≤ i) × (i ≤ 255) → (1 ≤ d) × (d ≤ 255) → ArePairNumbers (record { index = i; ident = d })
+  restarts i d a b = record { index_some = a.0; index_most = a.1; ident_some = b.0; ident_most = b.1 }
 
   restart_fits : (plan : Plan) (words : List (List ℕ)) (l : Line) → restart_line plan words ≡ Ok l → Fits plan l
   unfolding restart_at
   restart_fits plan (number ∷ index ∷ ident ∷ []) l e =
-      bound (Fits plan) (node_at plan.declared number) _ (λ n _. bound (Fits plan) (number_at 1 255 index) _ (λ i _. bound (Fits plan) (number_at 1 255 ident) _ (λ d _ y z. done plan _ y z tt))) l e
+      bound (Fits plan) (node_at plan.declared number) _ (λ n _. bound (Fits plan) (number_at 1 255 index) _ (λ i first. bound (Fits plan) (number_at 1 255 ident) _ (λ d second y z. done plan _ y z tt (restarts i d (ranged whats.Number 1 255 index i first) (ranged whats.Number 1 255 ident d second))))) l e
   restart_fits plan other l e = absurd (cc e)
+
+  called_at : (plan : Plan) (number name : List ℕ) (way : ℕ × Callsign) → node_and_call_at plan number name ≡ Ok way → IsCall way.1
+  unfolding node_and_call_at
+  called_at plan number name =
+      bound (λ (w : ℕ × Callsign). IsCall w.1) (node_at plan.declared number) _ (λ n _. bound (λ (w : ℕ × Callsign). IsCall w.1) (call_at name) _ (λ c q. last (λ (w : ℕ × Callsign). IsCall w.1) (n, c) (is_call name c q)))
+
+  called : (plan : Plan) (words : List (List ℕ)) (way : ℕ × Callsign) → node_and_call plan words ≡ Ok way → IsCall way.1
+  called plan (number ∷ name ∷ []) way e = called_at plan number name way e
+  called plan other way e = absurd (cc e)
 
   open_fits : (plan : Plan) (words : List (List ℕ)) (l : Line) → open_line plan words ≡ Ok l → Fits plan l
   unfolding open_line
-  open_fits plan words l e = bound (Fits plan) (node_and_call plan words) _ (λ n _ y z. done plan _ y z tt) l e
+  open_fits plan words l e = bound (Fits plan) (node_and_call plan words) _ (λ way q y z. done plan _ y z (called plan words way q) tt) l e
 
   burst_fits : (plan : Plan) (words : List (List ℕ)) (l : Line) → burst_line plan words ≡ Ok l → Fits plan l
   unfolding burst_at
-  burst_fits plan (number ∷ nth ∷ count ∷ []) l e = bound (Fits plan) (end_at plan number nth) _ (λ n _. bound (Fits plan) (number_at 1 10000 count) _ (λ c _ y z. done plan _ y z tt)) l e
+  burst_fits plan (number ∷ nth ∷ count ∷ []) l e = bound (Fits plan) (end_at plan number nth) _ (λ n _. bound (Fits plan) (number_at 1 10000 count) _ (λ c _ y z. done plan _ y z tt tt)) l e
   burst_fits plan other l e = absurd (cc e)
 
   take_fits : (plan : Plan) (words : List (List ℕ)) (l : Line) → take_line plan words ≡ Ok l → Fits plan l
   unfolding take_line
-  take_fits plan words l e = bound (Fits plan) (end_alone plan words) _ (λ n _ y z. done plan _ y z tt) l e
+  take_fits plan words l e = bound (Fits plan) (end_alone plan words) _ (λ n _ y z. done plan _ y z tt tt) l e
 
   close_fits : (plan : Plan) (words : List (List ℕ)) (l : Line) → close_line plan words ≡ Ok l → Fits plan l
   unfolding close_line
-  close_fits plan words l e = bound (Fits plan) (end_alone plan words) _ (λ n _ y z. done plan _ y z tt) l e
+  close_fits plan words l e = bound (Fits plan) (end_alone plan words) _ (λ n _ y z. done plan _ y z tt tt) l e
 
   deliver_fits : (plan : Plan) (words : List (List ℕ)) (l : Line) → deliver_line plan words ≡ Ok l → Fits plan l
   unfolding deliver_line
-  deliver_fits plan words l e = bound (Fits plan) (frame_and_node plan words) _ (λ n _ y z. done plan _ y z tt) l e
+  deliver_fits plan words l e = bound (Fits plan) (frame_and_node plan words) _ (λ n _ y z. done plan _ y z tt tt) l e
 
   again_fits : (plan : Plan) (words : List (List ℕ)) (l : Line) → again_line plan words ≡ Ok l → Fits plan l
   unfolding again_line
-  again_fits plan words l e = bound (Fits plan) (frame_and_node plan words) _ (λ n _ y z. done plan _ y z tt) l e
+  again_fits plan words l e = bound (Fits plan) (frame_and_node plan words) _ (λ n _ y z. done plan _ y z tt tt) l e
 
   lose_fits : (plan : Plan) (words : List (List ℕ)) (l : Line) → lose_line words ≡ Ok l → Fits plan l
   unfolding lose_line
-  lose_fits plan words l e = bound (Fits plan) (frame_alone words) _ (λ n _ y z. done plan _ y z tt) l e
+  lose_fits plan words l e = bound (Fits plan) (frame_alone words) _ (λ n _ y z. done plan _ y z tt tt) l e
 
   flow_fits : (plan : Plan) (words : List (List ℕ)) (l : Line) → flow_line words ≡ Ok l → Fits plan l
   unfolding flow_line
-  flow_fits plan words l e = bound (Fits plan) (count_alone words) _ (λ n _ y z. done plan _ y z tt) l e
+  flow_fits plan words l e = bound (Fits plan) (count_alone words) _ (λ n _ y z. done plan _ y z tt tt) l e
 
   cut_fits : (plan : Plan) (words : List (List ℕ)) (l : Line) → cut_line words ≡ Ok l → Fits plan l
   unfolding cut_line
-  cut_fits plan words l e = bound (Fits plan) (count_alone words) _ (λ n _ y z. done plan _ y z tt) l e
+  cut_fits plan words l e = bound (Fits plan) (count_alone words) _ (λ n _ y z. done plan _ y z tt tt) l e
 
   say_fits : (plan : Plan) (line : List ℕ) (words : List (List ℕ)) (l : Line) → say_line plan line words ≡ Ok l → Fits plan l
   unfolding say_at
-  say_fits plan line (number ∷ nth ∷ more) l e = bound (Fits plan) (known whats.Count (said_text line)) _ (λ text _. bound (Fits plan) (end_at plan number nth) _ (λ n _ y z. done plan _ y z tt)) l e
+  say_fits plan line (number ∷ nth ∷ more) l e = bound (Fits plan) (known whats.Count (said_text line)) _ (λ text _. bound (Fits plan) (end_at plan number nth) _ (λ n _ y z. done plan _ y z tt tt)) l e
   say_fits plan line other l e = absurd (cc e)
 
   -- ---- all kinds
@@ -276,10 +299,12 @@ module _ (reads : ReadsCallTexts) where
 
   record IsFit (plan : Plan) : Type 0 where
     settings : AllByRecursion (λ (s : Assignment). takes (version_of plan) s.key s.value ≡ true) plan.settings
+    ranges : AllByRecursion IsInRange plan.settings
     none : plan.declared ≡ [] → plan.settings ≡ []
     different : AreDifferent plan.declared
     own_calls : HaveOwnCalls plan.declared
     calls : HasCalls plan
+    pairs : AllByRecursion (λ (l : NumberedInstruction). NamesPair l.instruction) plan.instructions
 
   all_append : {A : Type 0} (P : A → Type 0) (xs : List A) (y : A) → AllByRecursion P xs → P y → AllByRecursion P (xs ++ y ∷ [])
   all_append P [] y all p = (p, tt)
@@ -306,40 +331,66 @@ module _ (reads : ReadsCallTexts) where
       let none = fit.none (untouched plan f) in
       record {
         settings = subst (AllByRecursion (λ (s : Assignment). takes v s.key s.value ≡ true)) (sym none) tt;
+        ranges = fit.ranges;
         none = fit.none;
         different = fit.different;
         own_calls = fit.own_calls;
-        calls = record { vias = fit.calls.vias; lines = fit.calls.lines };
+        calls = record { nodes = fit.calls.nodes; vias = fit.calls.vias; lines = fit.calls.lines };
+        pairs = fit.pairs;
       }
   line_keeps n (said.Node d) plan f fit = record {
     settings = fit.settings;
+    ranges = fit.ranges;
     none = λ e. absurd (never_empty plan.declared d e);
     different = more_different plan.declared d f.0 fit.different;
     own_calls = more_calls plan.declared d f.1 fit.own_calls;
-    calls = record { vias = fit.calls.vias; lines = fit.calls.lines };
+    calls = record { nodes = all_append (λ (x : Declaration). IsCall x.call) plan.declared d fit.calls.nodes f.2; vias = fit.calls.vias; lines = fit.calls.lines };
+    pairs = fit.pairs;
   }
-  line_keeps n (said.Channel c) plan f fit = record { settings = fit.settings; none = fit.none; different = fit.different; own_calls = fit.own_calls; calls = record { vias = fit.calls.vias; lines = fit.calls.lines } }
+  line_keeps n (said.Channel c) plan f fit = record {
+    settings = fit.settings;
+    ranges = fit.ranges;
+    none = fit.none;
+    different = fit.different;
+    own_calls = fit.own_calls;
+    calls = record { nodes = fit.calls.nodes; vias = fit.calls.vias; lines = fit.calls.lines };
+    pairs = fit.pairs;
+  }
   line_keeps n (said.Set s) plan f fit =
       record {
         settings = all_append _ plan.settings s fit.settings f.0;
+        ranges = all_append IsInRange plan.settings s fit.ranges f.2;
         none = λ e. absurd (cc (subst (λ ds. has_node ds s.node ≡ true) e f.1));
         different = fit.different;
         own_calls = fit.own_calls;
-        calls = record { vias = fit.calls.vias; lines = fit.calls.lines };
+        calls = record { nodes = fit.calls.nodes; vias = fit.calls.vias; lines = fit.calls.lines };
+        pairs = fit.pairs;
       }
   line_keeps n (said.Via v) plan f fit = record {
     settings = fit.settings;
+    ranges = fit.ranges;
     none = fit.none;
     different = fit.different;
     own_calls = fit.own_calls;
-    calls = record { vias = all_append (λ (x : Via). AllByRecursion IsCall x.repeaters.items) plan.vias v fit.calls.vias f; lines = fit.calls.lines };
+    calls = record {
+      nodes = fit.calls.nodes;
+      vias = all_append (λ (x : Via). AllByRecursion IsCall x.repeaters.items) plan.vias v fit.calls.vias f;
+      lines = fit.calls.lines;
+    };
+    pairs = fit.pairs;
   }
   line_keeps n (said.Instruction i) plan f fit = record {
     settings = fit.settings;
+    ranges = fit.ranges;
     none = fit.none;
     different = fit.different;
     own_calls = fit.own_calls;
-    calls = record { vias = fit.calls.vias; lines = all_append (λ (x : NumberedInstruction). NamesCalls x.instruction) plan.instructions _ fit.calls.lines f };
+    calls = record {
+      nodes = fit.calls.nodes;
+      vias = fit.calls.vias;
+      lines = all_append (λ (x : NumberedInstruction). NamesCalls x.instruction) plan.instructions _ fit.calls.lines f.0;
+    };
+    pairs = all_append (λ (x : NumberedInstruction). NamesPair x.instruction) plan.instructions _ fit.pairs f.1;
   }
 
   said_keeps : (n : ℕ) (plan : Plan) (r : Result Line What) → ((l : Line) → r ≡ Ok l → Fits plan l) → IsFit plan → (p : Plan) → with_said n plan r ≡ Ok p → IsFit p
@@ -368,7 +419,7 @@ module _ (reads : ReadsCallTexts) where
 
   plan_fits : (bytes : List ℕ) (plan : Plan) → network_of bytes ≡ Ok plan → IsFit plan
   unfolding network_of
-  plan_fits bytes = lines_keep 0 (lines bytes) nothing (record { settings = tt; none = λ _. refl; different = tt; own_calls = tt; calls = record { vias = tt; lines = tt } })
+  plan_fits bytes = lines_keep 0 (lines bytes) nothing (record { settings = tt; ranges = tt; none = λ _. refl; different = tt; own_calls = tt; calls = record { nodes = tt; vias = tt; lines = tt }; pairs = tt })
 
   pub settings_fit : SettingsFit
   settings_fit bytes plan e = (plan_fits bytes plan e).settings
@@ -381,3 +432,9 @@ module _ (reads : ReadsCallTexts) where
 
   pub calls_are_calls : CallsAreCalls
   calls_are_calls bytes plan e = (plan_fits bytes plan e).calls
+
+  pub settings_in_range : SettingsInRange
+  settings_in_range bytes plan e = (plan_fits bytes plan e).ranges
+
+  pub pairs_are_pairs : PairsArePairs
+  pairs_are_pairs bytes plan e = (plan_fits bytes plan e).pairs

@@ -1,5 +1,5 @@
 -- What holds of every network that a file lays down. Own profile.
-use Rattle.std.specs.Prelude.{ℕ, ◌≡◌, List, [], ◌∷◌, Ok, true, false}
+use Rattle.std.specs.Prelude.{ℕ, ◌≡◌, ◌≤◌, List, [], ◌∷◌, Ok, true, false}
 use Rattle.std.specs.List.{AllByRecursion}
 use Rattle.ax_address.specs.Callsign.{Callsign, IsCallsign}
 use Rattle.network_file.specs.declared.network.NumberedInstruction.{NumberedInstruction}
@@ -7,8 +7,9 @@ use Rattle.network_file.specs.declared.plan.declarations.Declaration.{Declaratio
 use Rattle.network_file.specs.declared.plan.instructions.Instruction.{Instruction}
 use Rattle.network_file.specs.declared.plan.instructions.Instruction.TheVariants as instructions
 use Rattle.network_file.specs.declared.plan.vias.Via.{Via}
-use Rattle.network_file.specs.Keys.{Assignment, takes}
+use Rattle.network_file.specs.Keys.{Assignment, least_of, most_of, takes}
 use Rattle.network_file.specs.Networks.{network_of}
+use Rattle.network_file.specs.Pairs.{PairNumbers}
 use Rattle.network_file.specs.Places.{has_call, has_node}
 use Rattle.network_file.specs.Plan.{Plan, version_of}
 
@@ -17,6 +18,13 @@ abbrev pub SettingsFit : Type 0
 SettingsFit =
     (bytes : List ℕ) (plan : Plan) → network_of bytes ≡ Ok plan
     → AllByRecursion (λ (s : Assignment). takes (version_of plan) s.key s.value ≡ true) plan.settings
+
+-- and its value is within the range of its key
+abbrev pub IsInRange : Assignment → Type 0
+IsInRange s = (least_of s.key ≤ s.value) × (s.value ≤ most_of s.key)
+
+abbrev pub SettingsInRange : Type 0
+SettingsInRange = (bytes : List ℕ) (plan : Plan) → network_of bytes ≡ Ok plan → AllByRecursion IsInRange plan.settings
 
 -- no two of them have one number
 abbrev pub AreDifferent : List Declaration → Type 0
@@ -40,16 +48,34 @@ CallsDeclaredOnce = (bytes : List ℕ) (plan : Plan) → network_of bytes ≡ Ok
 abbrev pub IsCall : Callsign → Type 0
 IsCall c = IsCallsign c.letters c.ssid
 
--- who is heard, and to whom a route is locked
+-- who is heard, to whom a route is locked, and for whom a circuit is asked
 abbrev pub NamesCalls : Instruction → Type 0
 NamesCalls (instructions.Heard node call nodes) = IsCall call
 NamesCalls (instructions.Lock node dest alias neighbour quality) = IsCall neighbour
+NamesCalls (instructions.Open node dest) = IsCall dest
 NamesCalls _ = Unit {0}
 
--- these are calls, and all repeaters
+-- these are calls, those of the nodes, and all repeaters
 pub record HasCalls (plan : Plan) : Type 0 where
+  pub nodes : AllByRecursion (λ (d : Declaration). IsCall d.call) plan.declared
   pub vias : AllByRecursion (λ (v : Via). AllByRecursion IsCall v.repeaters.items) plan.vias
   pub lines : AllByRecursion (λ (l : NumberedInstruction). NamesCalls l.instruction) plan.instructions
 
 abbrev pub CallsAreCalls : Type 0
 CallsAreCalls = (bytes : List ℕ) (plan : Plan) → network_of bytes ≡ Ok plan → HasCalls plan
+
+-- a node starts again at two numbers from 1 to 255
+pub record ArePairNumbers (p : PairNumbers) : Type 0 where
+  pub index_some : 1 ≤ p.index
+  pub index_most : p.index ≤ 255
+  pub ident_some : 1 ≤ p.ident
+  pub ident_most : p.ident ≤ 255
+
+abbrev pub NamesPair : Instruction → Type 0
+NamesPair (instructions.Restart node pair) = ArePairNumbers pair
+NamesPair _ = Unit {0}
+
+abbrev pub PairsArePairs : Type 0
+PairsArePairs =
+    (bytes : List ℕ) (plan : Plan) → network_of bytes ≡ Ok plan
+    → AllByRecursion (λ (l : NumberedInstruction). NamesPair l.instruction) plan.instructions

@@ -1,13 +1,16 @@
 //! What holds of every network that a file lays down.
-ghost use Rattle.network_file.specs.Laws.{CallsAreCalls, CallsDeclaredOnce, DeclaredOnce, SettingsFit};
+ghost use Rattle.network_file.specs.Laws.{CallsAreCalls, CallsDeclaredOnce, DeclaredOnce, PairsArePairs, SettingsFit, SettingsInRange};
 
 /// Each node is declared once, and no two have one call. The version of a file stands before its settings, and each of them is one that files of that version
-/// may have: before version 3 no window of a circuit is above 64. Who is heard, to whom a route is locked, and all repeaters are calls.
+/// may have, within the range of its key: before version 3 no window of a circuit is above 64. The nodes' calls, who is heard, to whom a route is locked, for
+/// whom a circuit is asked, and all repeaters are calls. A node starts again at a pair of two numbers from 1 to 255.
 pub fn networks_fit()
     ensures declared { DeclaredOnce }
     ensures differ { CallsDeclaredOnce }
     ensures settings { SettingsFit }
+    ensures ranges { SettingsInRange }
     ensures calls { CallsAreCalls }
+    ensures pairs { PairsArePairs }
 {
     ax_address::laws::call_texts();
 }

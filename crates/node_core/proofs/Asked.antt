@@ -8,7 +8,7 @@ use Rattle.circuit_set.specs.Pumps.{at_rest}
 use Rattle.circuit_set.specs.Sets.{SetState}
 use Rattle.circuit_set.specs.declared.event.ConnectRefusal.{ConnectRefusal}
 use Rattle.circuit_set.specs.declared.event.ConnectRefusal.TheVariants as connecting
-use Rattle.link_table.specs.Standing.{Kept}
+use Rattle.link_table.specs.Standing.{TableView as Kept}
 use Rattle.route_table.specs.Held.{StandsFor}
 use Rattle.route_table.specs.Log.{Item}
 use Rattle.route_table.specs.Table as routes

@@ -1,9 +1,11 @@
 -- Serving a session keeps a node fine.
-use Rattle.std.proofs.Common.{◌≡◌, ◌≤◌, ◌+◌, ℕ, zero, suc, refl, sym, subst, arith, length, List, [], ◌∷◌}
-use Rattle.std.specs.Prelude.{Bool, true, false, not, ◌&&◌, nat_eq, filter, if◌then◌else◌, Option, Some, None}
+use Rattle.std.proofs.Common.{◌≡◌, ◌≤◌, ◌+◌, ◌∙◌, ℕ, zero, suc, refl, sym, subst, arith, length, List, [], ◌∷◌}
+use Rattle.std.specs.Prelude.{Bool, true, false, not, ◌&&◌, nat_eq, nat_lt, filter, if◌then◌else◌, Option, Some, None}
 use Rattle.std.proofs.lemmas.Bool.Decides.{nat_tests}
 use Rattle.ax_address.specs.Callsign.{Callsign}
 use Rattle.circuit_set.specs.Inputs.{TellsLess}
+use Rattle.ax_address.specs.CallReading.{ReadsCallTexts}
+use Rattle.link_table.specs.Laws.{CarriesWhatWasOffered}
 use Rattle.link_table.specs.Payloads.{OffersLeave, TakesLower}
 use Rattle.node_core.specs.declared.sessions.session.Circuit.{Circuit}
 use Rattle.node_core.specs.declared.sessions.session.Reply.{Reply}
@@ -25,10 +27,14 @@ use Rattle.node_core.proofs.Falling as falling
 use Rattle.node_core.proofs.Lowering as lowering
 use Rattle.node_core.proofs.Resting.{pumped_dry as dried}
 use Rattle.node_core.proofs.Fine.{Fine, close_fine, pumped, session_fine}
-use Rattle.node_core.proofs.Soundness.{Every, Sound, changed_here, filter_every, greeted_every, sound_closed, sound_new}
+use Rattle.node_core.proofs.Given.{Given, IsDone, away, given_closed, given_new, gone_is}
+use Rattle.node_core.proofs.Soundness.{Every, Sound, changed_here, filter_every, push_every, sound_closed, sound_new}
 use Rattle.node_core.proofs.Owning.{Fewer, Less, at_least, few_itself, filter_less, greets, one, opens_by, owned_by, owns_fewer, then_fewer}
 use Rattle.node_core.proofs.FineGiving.{shut_end, replied, given}
 use Rattle.node_core.proofs.FineLines.{and_no, taken_up}
+use Rattle.node_core.proofs.Served.{serve_on}
+use Rattle.node_core.proofs.Wrote.{Written, written_closed, written_new}
+use Rattle.node_core.proofs.Short.{Goes, IsShort, text_is_short, walks}
 
 -- ---- the end of a circuit
 
@@ -60,11 +66,11 @@ its_circuit x c e = by x.stage refl e
     by (Failed d) g h = let same : d ≡ c = cc h in rw (g, same) refl
     by (Connected d) g h = let same : d ≡ c = cc h in rw (g, same) refl
 
-closed_one : (now nth : ℕ) (n : State) (x : Session) (c : Circuit) → Fine n → session_at nth n ≡ Some x → circuit_of x.stage ≡ Some c → Fine (users.close now c.id (at_session nth bridging.note_closed n))
-closed_one now nth n x c f e h =
+closed_one : (now nth : ℕ) (n : State) (x : Session) (c : Circuit) → Fine n → session_at nth n ≡ Some x → circuit_of x.stage ≡ Some c → IsDone n.set.set x → Fine (users.close now c.id (at_session nth bridging.note_closed n))
+closed_one now nth n x c f e h done =
     let m : State = at_session nth bridging.note_closed n in
     let z : Session = bridging.note_closed x in
-    let fine = session_fine nth bridging.note_closed n (λ y k s. sound_closed y s) closed_less f in
+    let fine = session_fine nth bridging.note_closed n (λ y k s. sound_closed y s) (λ y k g. let found : Some x ≡ Some y = sym e ∙ k in let same : x ≡ y = cc found in given_closed n.set.set y (subst (IsDone n.set.set) same done) g) (λ y w. written_closed n.set.set y w) closed_less f in
     let at = changed_here bridging.note_closed n.sessions nth x e in
     let its = its_circuit x c h in
     let self : nat_eq c.id c.id ≡ true = grind (arith, nat_tests) in
@@ -83,13 +89,22 @@ closes : (now nth : ℕ) (n : State) → Fine n → (o : Option Session) → ses
 closes now nth n f None e = f
 closes now nth n f (Some x) e = of (circuit_of x.stage) refl
   where
-    may : (c : Circuit) → circuit_of x.stage ≡ Some c → (b : Bool) → Fine (bridging.close_by (if b then Some c else None) now nth n).after
-    may c h true = closed_one now nth n x c f e h
-    may c h false = f
+    none_left : (bs : List ℕ) → not (nat_lt 0 (length bs)) ≡ true → bs ≡ []
+    none_left [] g = refl
+    none_left (b ∷ bs) g = absurd (grind (arith, nat_tests, g))
+
+    done_by : (a b : Bool) (bs : List ℕ) → (not a && (b && not (nat_lt 0 (length bs)))) ≡ true → b ≡ away x.user x.left n.set.set → (bs ≡ []) × (away x.user x.left n.set.set ≡ true)
+    done_by true b bs g k = absurd (cc g)
+    done_by false false bs g k = absurd (cc g)
+    done_by false true bs g k = (none_left bs g, sym k)
+
+    may : (c : Circuit) → circuit_of x.stage ≡ Some c → (b : Bool) → bridging.may_close x c n ≡ b → Fine (bridging.close_by (if b then Some c else None) now nth n).after
+    may c h true g = closed_one now nth n x c f e h (done_by c.closed (users.is_gone x n) x.rest g (gone_is x n))
+    may c h false g = f
 
     of : (o : Option Circuit) → circuit_of x.stage ≡ o → Fine (bridging.close_by (bridging.if_may_close x o n) now nth n).after
     of None h = f
-    of (Some c) h = may c h (bridging.may_close x c n)
+    of (Some c) h = may c h (bridging.may_close x c n) refl
 
 -- ---- serving
 
@@ -104,45 +119,53 @@ else_fine first after n f idle more = by (first n).did refl
     by true e = f
     by false e = subst (λ (m : State). Fine (after m).after) (sym (idle e)) (more e)
 
-module _ (offers : OffersLeave) (takes : TakesLower) (less : TellsLess) where
-  once : (now nth : ℕ) (n : State) → Fine n → at_router n ≡ 0 → Fine (serving.serve_once now nth n).after
-  once now nth n f router =
+module _ (offers : OffersLeave) (takes : TakesLower) (less : TellsLess) (law : CarriesWhatWasOffered) (reads : ReadsCallTexts) where
+  once : (now nth : ℕ) (n : State) → Fine n → IsShort n.links → at_router n ≡ 0 → Fine (serving.serve_once now nth n).after
+  once now nth n f short router =
       else_fine (bridging.give_reply now nth) (or_else (bridging.give_message now nth) (or_else (serving.take_up now nth) (bridging.close_circuit now nth))) n
       (replied (bridging.next_reply (session_at nth n) n) now nth n f) (lowering.replied offers takes less now nth n (session_at nth n) refl).idle
       (λ e. else_fine (bridging.give_message now nth) (or_else (serving.take_up now nth) (bridging.close_circuit now nth)) n
       (given now nth n f router (session_at nth n) refl) (lowering.given offers takes less now nth n (bridging.giving_circuit (session_at nth n) n)).idle
       (λ g. else_fine (serving.take_up now nth) (bridging.close_circuit now nth) n
-      (taken_up now nth n f router (no_reply (bridging.next_reply (session_at nth n) n) now nth n e) (session_at nth n) refl) (falling.taken_up offers takes less (serving.stage_of (session_at nth n)) now nth n).idle
+      (taken_up now nth n f (λ peer e. text_is_short peer n.links short e) router (no_reply (bridging.next_reply (session_at nth n) n) now nth n e) (session_at nth n) refl) (falling.taken_up offers takes less (serving.stage_of (session_at nth n)) now nth n).idle
       (λ h. closes now nth n f (session_at nth n) refl)))
 
-  each : (now nth k : ℕ) (n : State) → Fine n → at_router n ≡ 0 → Fine (serving.serve_each now nth k n).after
-  each now nth zero n f router = f
-  each now nth (suc k) n f router =
+  each : (now nth k : ℕ) (n : State) → Fine n → IsShort n.links → at_router n ≡ 0 → Fine (serving.serve_each now nth k n).after
+  each now nth zero n f short router = f
+  each now nth (suc k) n f short router =
       let m : State = (serving.serve_once now nth n).after in
-      each now (suc nth) k (pump now m) (pumped now m (once now nth n f router)) (dried offers takes less now m).router
+      each now (suc nth) k (pump now m) (pumped now m (once now nth n f short router)) (serve_on Goes (walks law).serves reads now nth n short) (dried offers takes less now m).router
 
-  greeted : (b : Bool) (peers : List Callsign) (ss : List Session) → Fewer ss (serving.greet_each b peers ss) × (Every Sound ss → Every Sound (serving.greet_each b peers ss))
-  greeted b [] ss = (few_itself ss, λ s. s)
-  greeted b (peer ∷ peers) ss =
-      let one = by (serving.is_served_link peer ss) in
-      let rest = greeted b peers (serving.greet_link b peer ss) in
-      (then_fewer ss (serving.greet_link b peer ss) _ one.0 rest.0, λ s. rest.1 (one.1 s))
+  greeted : (b : Bool) (peers : List Callsign) (ss : List Session) → Fewer ss (serving.greet_each b peers ss)
+  greeted b [] ss = few_itself ss
+  greeted b (peer ∷ peers) ss = then_fewer ss (serving.greet_link b peer ss) _ (by (serving.is_served_link peer ss)) (greeted b peers (serving.greet_link b peer ss))
     where
-      by : (c : Bool) → Fewer ss (if c then ss else sessions.greet b (AtLink peer) ss) × (Every Sound ss → Every Sound (if c then ss else sessions.greet b (AtLink peer) ss))
-      by true = (few_itself ss, λ s. s)
-      by false = (
-        record { owned = λ id. let g = greets b id (AtLink peer) ss in omega (arith, g.owned); opens = λ id. let g = greets b id (AtLink peer) ss in omega (arith, g.opens) },
-        λ s. greeted_every Sound sound_new b (AtLink peer) ss s,
-      )
+      by : (c : Bool) → Fewer ss (if c then ss else sessions.greet b (AtLink peer) ss)
+      by true = few_itself ss
+      by false = record { owned = λ id. let g = greets b id (AtLink peer) ss in omega (arith, g.owned); opens = λ id. let g = greets b id (AtLink peer) ss in omega (arith, g.opens) }
 
-  pub sessions_fine : (now : ℕ) (n : State) → Fine n → at_router n ≡ 0 → Fine (serving.serve_sessions now n).after
+  greeted_all : (P : Session → Type 0) → ((peer : Callsign) → P (sessions.new_session (AtLink peer))) → (b : Bool) (peers : List Callsign) (ss : List Session) → Every P ss → Every P (serving.greet_each b peers ss)
+  greeted_all P new b [] ss e = e
+  greeted_all P new b (peer ∷ peers) ss e = greeted_all P new b peers (serving.greet_link b peer ss) (by (serving.is_served_link peer ss) b)
+    where
+      by : (c d : Bool) → Every P (if c then ss else sessions.greet d (AtLink peer) ss)
+      by true d = e
+      by false true = push_every P ss (sessions.new_session (AtLink peer)) e (new peer)
+      by false false = e
+
+  pub sessions_fine : (now : ℕ) (n : State) → Fine n → IsShort n.links → at_router n ≡ 0 → Fine (serving.serve_sessions now n).after
   unfolding serving.serve_sessions
-  sessions_fine now n f router =
+  sessions_fine now n f short router =
       let a : State = serving.greet_links n in
-      let g = greeted n.settings.prompt (links.text_peers n.links) n.sessions in
-      let b : State = (serving.serve_all now a).after in
-      let fine = each now 0 (length a.sessions) a (owns_fewer n.set.set n.set.untold n.sessions a.sessions f.0 g.0, g.1 f.1) router in
-      let test = λ (x : Session). not (serving.is_over b x) in (
-        owns_fewer b.set.set b.set.untold b.sessions (filter test b.sessions) fine.0 (record { owned = λ id. filter_less (owned_by id) test b.sessions; opens = λ id. filter_less (opens_by id) test b.sessions }),
-        filter_every Sound test b.sessions fine.1,
+      let b : Bool = n.settings.prompt in
+      let peers = links.text_peers n.links in
+      let g = greeted b peers n.sessions in
+      let sound = greeted_all Sound (λ peer. sound_new (AtLink peer)) b peers n.sessions f.1.0 in
+      let given = greeted_all (Given n.set.set) (λ peer. given_new n.set.set (AtLink peer) (λ id e. absurd (cc e))) b peers n.sessions f.1.1.0 in
+      let wrote = greeted_all (Written n.set.set) (λ peer. written_new n.set.set (AtLink peer)) b peers n.sessions f.1.1.1 in
+      let c : State = (serving.serve_all now a).after in
+      let fine = each now 0 (length a.sessions) a (owns_fewer n.set.set n.set.untold n.sessions a.sessions f.0 g, (sound, (given, wrote))) short router in
+      let test = λ (x : Session). not (serving.is_over c x) in (
+        owns_fewer c.set.set c.set.untold c.sessions (filter test c.sessions) fine.0 (record { owned = λ id. filter_less (owned_by id) test c.sessions; opens = λ id. filter_less (opens_by id) test c.sessions }),
+        (filter_every Sound test c.sessions fine.1.0, (filter_every (Given c.set.set) test c.sessions fine.1.1.0, filter_every (Written c.set.set) test c.sessions fine.1.1.1)),
       )

@@ -193,7 +193,7 @@ module _ (offers : OffersLeave) (takes : TakesLower) (less : TellsLess) where
 
   -- ---- all of them
 
-  served : (now nth : ℕ) (n : State) → Serves now n (serving.serve now nth n)
+  pub served : (now nth : ℕ) (n : State) → Serves now n (serving.serve now nth n)
   served now nth n =
       let t : Turn State = serving.serve_once now nth n in
       let x = served_once now nth n in
@@ -215,7 +215,7 @@ module _ (offers : OffersLeave) (takes : TakesLower) (less : TellsLess) where
   one_of true b e = inl refl
   one_of false b e = inr e
 
-  served_each : (now nth k : ℕ) (n : State) → Serves now n (serving.serve_each now nth k n)
+  pub served_each : (now nth k : ℕ) (n : State) → Serves now n (serving.serve_each now nth k n)
   served_each now nth zero n = record { most = omega arith; less = λ e. absurd (cc e); idle = λ e f. refl }
   served_each now nth (suc k) n =
       let t : Turn State = serving.serve now nth n in
@@ -249,7 +249,7 @@ module _ (offers : OffersLeave) (takes : TakesLower) (less : TellsLess) where
       by false = greeted_same b (AtLink peer) ss
 
   -- two nodes of which pumping does as little
-  pumps_alike : (now : ℕ) (n : State) (ss : List Session) → circuits.pending n.set ≡ 0 → at_router n ≡ 0 → IsPumped now (record n { sessions = ss })
+  pub pumps_alike : (now : ℕ) (n : State) (ss : List Session) → circuits.pending n.set ≡ 0 → at_router n ≡ 0 → IsPumped now (record n { sessions = ss })
   pumps_alike now n ss e f = pumped_nothing offers takes less now (record n { sessions = ss }) (rw e refl) f
 
   pub sessions_served : (now : ℕ) (n : State) → ServesAll n (serving.serve_sessions now n)

@@ -29,15 +29,17 @@ use Rattle.node_core.specs.Sessions.{Session, hear_circuits}
 use Rattle.node_core.specs.States.{State, at_set}
 use Rattle.node_core.specs.Users as users
 use Rattle.node_core.specs.Users.{Outcome, Taken, Exhausts, at_session, changed, session_at}
-use Rattle.node_core.proofs.Holders.{Any, Keeps, Other, closes_keep, comes_keeps, takes_keep, writes_keep}
+use Rattle.node_core.proofs.Given.{Given, given_heard, given_later}
+use Rattle.node_core.proofs.Holders.{Any, Keeps, Differs, closes_keep, comes_keeps, takes_keep, writes_keep}
 use Rattle.node_core.proofs.Soundness.{Every, Hears, Placed, Sound, changed_every, every_at, heard_every, heard_place, sound_hears, sound_new}
 use Rattle.node_core.proofs.Making.{step_ok}
 use Rattle.node_core.proofs.Owning.{Fewer, Less, Owns, changed_less, mades, none_made, opens_by, owned_by, owns_fewer, owns_input, owns_told, total}
 use Rattle.node_core.proofs.Pumped.{dry_keeps, pump_keeps}
 use Rattle.node_core.proofs.Unclosed.{IsMessage, Messages}
+use Rattle.node_core.proofs.Wrote.{KeepsWrote, NotIts, Written, alone, closes_wrote, comes_wrote, takes_wrote, written_hears, written_later, written_new, written_others}
 
 abbrev pub All : SetState → List Told → List Session → Type 0
-All set ts ss = Owns set ts ss × Every Sound ss
+All set ts ss = Owns set ts ss × (Every Sound ss × (Every (Given set) ss × Every (Written set) ss))
 
 abbrev pub Fine : State → Type 0
 Fine n = All n.set.set n.set.untold n.sessions
@@ -45,11 +47,16 @@ Fine n = All n.set.set n.set.untold n.sessions
 -- ---- the pumping
 
 tell_all : (prompt : Bool) (set : SetState) (t : Told) (ts : List Told) (ss : List Session) → All set (t ∷ ts) ss → All set ts (hear_circuits prompt (Of t) ss)
-tell_all prompt set t ts ss a = (owns_told prompt set t ts ss a.0, heard_every Sound sound_hears sound_new prompt t ss a.1)
+tell_all prompt set t ts ss a = (owns_told prompt set t ts ss a.0, (heard_every Sound sound_hears sound_new prompt t ss a.1.0, (given_heard set prompt t ts ss a.0 a.1.1.0, heard_every (Written set) (written_hears set) (written_new set) prompt t ss a.1.1.1)))
+
+-- what the sessions keep as the set goes on
+pub goes_on : (admits : ℕ → Type 0) (set new : SetState) (ts : List Told) (ss : List Session) → Keeps admits set new → KeepsWrote set new → All set ts ss → Every Sound ss × (Every (Given new) ss × Every (Written new) ss)
+goes_on admits set new ts ss k kw a = (a.1.0, (given_later set new k.number (λ id low e. k.ended id a.0.once low e) (λ id low e. k.away id a.0.once low e) ss a.1.1.0, written_later set new kw a.0.once ss a.1.1.1))
 
 come_all : (set : SetState) (ts : List Told) (ss : List Session) (d : List ℕ) (now : ℕ) → All set ts ss → All (set_step set (sets.Comes d now)).set (ts ++ (set_step set (sets.Comes d now)).told) ss
 come_all set ts ss d now a =
-    (owns_input Any set (set_step set (sets.Comes d now)) ts ss a.0 (comes_keeps set d now) (step_ok set (sets.Comes d now) tt).made (λ id some. tt) (λ id some. tt), a.1)
+    let k = comes_keeps set d now in
+    (owns_input Any set (set_step set (sets.Comes d now)) ts ss a.0 k (step_ok set (sets.Comes d now) tt).made (λ id some. tt) (λ id some. tt), goes_on Any set _ ts ss k (comes_wrote set d now) a)
 
 pub pumped : (now : ℕ) (n : State) → Fine n → Fine (pump now n)
 pumped now n f = pump_keeps All tell_all come_all now n f
@@ -79,25 +86,45 @@ fewer_at nth f ss o e less = record {
   opens = λ id. changed_less (opens_by id) f ss nth o e (λ x. (less x).opens id);
 }
 
-pub session_fine : (nth : ℕ) (f : Session → Session) (n : State) → ((x : Session) → session_at nth n ≡ Some x → Sound x → Sound (f x)) → ((x : Session) → Less x (f x)) → Fine n → Fine (at_session nth f n)
-session_fine nth f n on less a =
+pub session_fine : (nth : ℕ) (f : Session → Session) (n : State) → ((x : Session) → session_at nth n ≡ Some x → Sound x → Sound (f x)) → ((x : Session) → session_at nth n ≡ Some x → Given n.set.set x → Given n.set.set (f x))
+    → ((x : Session) → Written n.set.set x → Written n.set.set (f x)) → ((x : Session) → Less x (f x)) → Fine n → Fine (at_session nth f n)
+session_fine nth f n on given wrote less a =
     let o = slice_get n.sessions nth in (
       owns_fewer n.set.set n.set.untold n.sessions _ a.0 (fewer_at nth f n.sessions o refl less),
-      changed_every Sound f n.sessions nth o (λ x e. on x e (every_at Sound n.sessions nth x a.1 e)) a.1,
+      (
+        changed_every Sound f n.sessions nth o (λ x e. on x e (every_at Sound n.sessions nth x a.1.0 e)) a.1.0,
+        (
+          changed_every (Given n.set.set) f n.sessions nth o (λ x e. given x e (every_at (Given n.set.set) n.sessions nth x a.1.1.0 e)) a.1.1.0,
+          changed_every (Written n.set.set) f n.sessions nth o (λ x e. wrote x (every_at (Written n.set.set) n.sessions nth x a.1.1.1 e)) a.1.1.1,
+        ),
+      ),
     )
 
 -- ---- inputs of the circuits
 
-pub acted : (a : sets.Act) (n : State) → Keeps Any n.set.set (set_step n.set.set a).set → MadeFrom n.set.set.number (set_step n.set.set a).told (set_step n.set.set a).set.number
+pub acted : (a : sets.Act) (n : State) → Keeps Any n.set.set (set_step n.set.set a).set → KeepsWrote n.set.set (set_step n.set.set a).set → MadeFrom n.set.set.number (set_step n.set.set a).told (set_step n.set.set a).set.number
     → Fine n → Fine (at_set (circuits.acts a) n)
 unfolding circuits.acts
-acted a n k made f = (owns_input Any n.set.set (set_step n.set.set a) n.set.untold n.sessions f.0 k made (λ id some. tt) (λ id some. tt), f.1)
+acted a n k kw made f =
+    (owns_input Any n.set.set (set_step n.set.set a) n.set.untold n.sessions f.0 k made (λ id some. tt) (λ id some. tt), goes_on Any n.set.set _ n.set.untold n.sessions k kw f)
 
 pub takes_fine : (now id : ℕ) (n : State) → Fine n → Fine (at_set (circuits.acts (sets.Calls id sets.Takes now)) n)
-takes_fine now id n f = acted (sets.Calls id sets.Takes now) n (takes_keep n.set.set now id) (step_ok n.set.set (sets.Calls id sets.Takes now) tt).made f
+takes_fine now id n f = acted (sets.Calls id sets.Takes now) n (takes_keep n.set.set now id) (takes_wrote n.set.set now id) (step_ok n.set.set (sets.Calls id sets.Takes now) tt).made f
 
-pub writes_fine : (now id : ℕ) (text : List ℕ) (n : State) → Fine n → Fine (at_set (circuits.acts (sets.Calls id (sets.Writes text) now)) n)
-writes_fine now id text n f = acted (sets.Calls id (sets.Writes text) now) n (writes_keep n.set.set text now id) (step_ok n.set.set (sets.Calls id (sets.Writes text) now) tt).made f
+pub writes_fine : (now id : ℕ) (text : List ℕ) (n : State) → Every (NotIts id) n.sessions → Fine n → Fine (at_set (circuits.acts (sets.Calls id (sets.Writes text) now)) n)
+unfolding circuits.acts
+writes_fine now id text n none f =
+    let a : sets.Act = sets.Calls id (sets.Writes text) now in
+    let k = writes_keep n.set.set text now id in (
+      owns_input Any n.set.set (set_step n.set.set a) n.set.untold n.sessions f.0 k (step_ok n.set.set a tt).made (λ i some. tt) (λ i some. tt),
+      (
+        f.1.0,
+        (
+          given_later n.set.set (set_step n.set.set a).set k.number (λ i low e. k.ended i f.0.once low e) (λ i low e. k.away i f.0.once low e) n.sessions f.1.1.0,
+          written_others n.set.set text now id n.sessions none f.1.1.1,
+        ),
+      ),
+    )
 
 same_number : (set : SetState) (now : ℕ) (o : Option Holder) → (sets.called set o sets.Closes now).set.number ≡ set.number
 same_number set now None = refl
@@ -119,35 +146,44 @@ closes_fine now id n none f =
     let d : SetDone = set_step set (sets.Calls id sets.Closes now) in
     let made : MadeFrom set.number d.told d.set.number = (step_ok set (sets.Calls id sets.Closes now) tt).made in
     let still : MadeFrom set.number d.told set.number = subst (MadeFrom set.number d.told) (same_number set now (end_of id set.ends)) made in (
-      owns_input (Other id) set d n.set.untold n.sessions f.0 (closes_keep set now id) made
+      owns_input (Differs id) set d n.set.untold n.sessions f.0 (closes_keep set now id) made
           (λ k some. other_by id k (nat_eq id k) refl (λ same. let gone : total (opens_by k) n.sessions + mades k n.set.untold ≡ 0 = subst (λ j. total (opens_by j) n.sessions + mades j n.set.untold ≡ 0) same none in absurd (omega (arith, some, gone))))
           (λ k some. let gone = none_made set.number d.told still k in absurd (omega (arith, some, gone))),
-      f.1,
+      goes_on (Differs id) set d.set n.set.untold n.sessions (closes_keep set now id) (closes_wrote set now id) f,
     )
 
 pub close_fine : (now id : ℕ) (n : State) → total (opens_by id) n.sessions + mades id n.set.untold ≡ 0 → Fine n → Fine (users.close now id n)
 close_fine now id n none f = pumped now (at_set (circuits.acts (sets.Calls id sets.Closes now)) n) (closes_fine now id n none f)
 
-written_fine : (now id : ℕ) (text : List ℕ) (r : Result (Unit {0}) SetRefusal) (n : State) → Fine n → Fine (users.written r (sets.Calls id (sets.Writes text) now) n)
-written_fine now id text (Ok _) n f = writes_fine now id text n f
-written_fine now id text (Err why) n f = f
+written_fine : (now id : ℕ) (text : List ℕ) (r : Result (Unit {0}) SetRefusal) (n : State) → Every (NotIts id) n.sessions → Fine n → Fine (users.written r (sets.Calls id (sets.Writes text) now) n)
+written_fine now id text (Ok _) n none f = writes_fine now id text n none f
+written_fine now id text (Err why) n none f = f
 
-pub wrote_fine : (now id : ℕ) (text : List ℕ) (n : State) → Fine n → Fine (users.write_to now id text n)
-wrote_fine now id text n f =
+wrote_fine : (now id : ℕ) (text : List ℕ) (n : State) → Every (NotIts id) n.sessions → Fine n → Fine (users.write_to now id text n)
+wrote_fine now id text n none f =
     let m : State = users.written (users.write_answer id text n) (sets.Calls id (sets.Writes text) now) n in
-    pumped now m (written_fine now id text (users.write_answer id text n) n f)
+    pumped now m (written_fine now id text (users.write_answer id text n) n none f)
 
 sent_fine : (now : ℕ) (peer : Callsign) (text : List ℕ) (r : Result (Unit {0}) TextRefusal) (n : State) → Fine n → Fine (users.sent r peer text now n)
 sent_fine now peer text (Ok _) n f = f
 sent_fine now peer text (Err why) n f = f
 
-said_to : (o : Option User) (now : ℕ) (text : List ℕ) (n : State) → Fine n → Fine (users.say_if o now text n)
-said_to None now text n f = f
-said_to (Some (AtEnd id)) now text n f = wrote_fine now id text n f
-said_to (Some (AtLink peer)) now text n f = sent_fine now peer text (links.text_answer peer text n.links) n f
+-- the end of a user is no session's circuit
+speaks : (n : State) → Fine n → (nth : ℕ) (o : Option Session) → session_at nth n ≡ o → (id : ℕ) → users.listener o n ≡ Some (AtEnd id) → Every (NotIts id) n.sessions
+speaks n f nth None e id g = absurd (cc g)
+speaks n f nth (Some x) e id g = by (users.is_deaf x n) g
+  where
+    by : (b : Bool) → (if b then None else Some x.user) ≡ Some (AtEnd id) → Every (NotIts id) n.sessions
+    by true h = absurd (cc h)
+    by false h = let user : x.user ≡ AtEnd id = cc h in alone n.set.set n.set.untold n.sessions nth id x f.0 e user
+
+said_to : (o : Option User) (now : ℕ) (text : List ℕ) (n : State) → ((id : ℕ) → o ≡ Some (AtEnd id) → Every (NotIts id) n.sessions) → Fine n → Fine (users.say_if o now text n)
+said_to None now text n none f = f
+said_to (Some (AtEnd id)) now text n none f = wrote_fine now id text n (none id refl) f
+said_to (Some (AtLink peer)) now text n none f = sent_fine now peer text (links.text_answer peer text n.links) n f
 
 pub said : (now nth : ℕ) (text : List ℕ) (n : State) → Fine n → Fine (users.say now nth text n)
-said now nth text n f = said_to (users.listener (session_at nth n) n) now text n f
+said now nth text n f = said_to (users.listener (session_at nth n) n) now text n (λ id e. speaks n f nth (session_at nth n) refl id e) f
 
 -- what a session keeps as it hears, it keeps while something is said
 written_sessions : (now id : ℕ) (text : List ℕ) (r : Result (Unit {0}) SetRefusal) (n : State) → (users.written r (sets.Calls id (sets.Writes text) now) n).sessions ≡ n.sessions

@@ -26,10 +26,12 @@ use Rattle.node_core.specs.Users.{Outcome, at_session, changed, session_at}
 use Rattle.node_core.proofs.Crowding.{TakesTexts, offers_on, text_goes, with_room}
 use Rattle.node_core.proofs.Fine.{Dry, Fine, Goes, pumped, pumped_dry, said, session_fine, takes_fine, took_message, write_goes}
 use Rattle.node_core.proofs.Holders.{AreOpen, end_in, every_in, number_of, others_stay}
-use Rattle.node_core.proofs.Soundness.{IsGood, Same, changed_here, same_hears, same_itself, sound_gave, sound_reply}
+use Rattle.node_core.proofs.Given.{Given, IsGood, deaf, deaf_is, given_gave, given_reply}
+use Rattle.node_core.proofs.Soundness.{Same, changed_here, same_hears, same_itself, sound_gave, sound_reply}
 use Rattle.node_core.proofs.Owning.{Less, at_least, but_here, mades, opens_by, owned_by, total}
 use Rattle.node_core.proofs.Pumped.{dry_links}
 use Rattle.node_core.proofs.Unclosed.{IsMessage, Messages}
+use Rattle.node_core.proofs.Wrote.{written_gave, written_same}
 
 -- ---- a session in its place
 
@@ -106,7 +108,7 @@ pub replied : (o : Option Reply) (now nth : ℕ) (n : State) → Fine n → Fine
 replied None now nth n f = f
 replied (Some r) now nth n f =
     let m : State = at_session nth bridging.drop_reply n in
-    said now nth _ m (session_fine nth bridging.drop_reply n (λ x e s. sound_reply x s) (λ x. less_same x (bridging.drop_reply x) refl refl refl) f)
+    said now nth _ m (session_fine nth bridging.drop_reply n (λ x e s. sound_reply x s) (λ x e g. given_reply n.set.set x g) (λ x w. written_same n.set.set x (bridging.drop_reply x) refl refl w) (λ x. less_same x (bridging.drop_reply x) refl refl refl) f)
 
 -- ---- messages
 
@@ -122,13 +124,13 @@ pub not_and : (a b : Bool) → (not a && b) ≡ true → (a ≡ false) × (b ≡
 not_and true b e = absurd (cc e)
 not_and false b e = (refl, e)
 
-good_wrote : (o : Outcome) → Goes o → IsGood o
-good_wrote o (inl e) = rw e tt
-good_wrote o (inr e) = rw e tt
+good_wrote : (set : SetState) (d : Bool) (o : Outcome) → Goes o → IsGood set d o
+good_wrote set d o (inl e) = rw e tt
+good_wrote set d o (inr e) = rw e tt
 
-good_sent : (r : Result (Unit {0}) TextRefusal) → (r ≡ Ok tt) ⊎ (r ≡ Err Full) → IsGood (users.sent_by r)
-good_sent r (inl e) = rw e tt
-good_sent r (inr e) = rw e tt
+good_sent : (set : SetState) (d : Bool) (r : Result (Unit {0}) TextRefusal) → (r ≡ Ok tt) ⊎ (r ≡ Err Full) → IsGood set d (users.sent_by r)
+good_sent set d r (inl e) = rw e tt
+good_sent set d r (inr e) = rw e tt
 
 -- a link that has room for a message of a circuit has room for 33 payloads
 least_room : (peer : Callsign) (id : ℕ) (n : State) → users.link_has_room_beside peer id n ≡ true → nat_le 33 (links.room peer n.links) ≡ true
@@ -144,7 +146,10 @@ module _ (now nth id : ℕ) (n m : State) (x z : Session) (message : List ℕ) (
     (ends : (u : ℕ) → x.user ≡ AtEnd u → users.end_at u m ≡ users.end_at u n)
     (takes : (peer : Callsign) → TakesTexts peer n.links → TakesTexts peer m.links)
     (gives : users.can_pass_on x id n ≡ true) where
-  heard_at_end : (u : ℕ) → x.user ≡ AtEnd u → users.is_deaf z m ≡ false → IsGood (users.wrote_by (users.write_answer u message m))
+  abbrev IsFine : Outcome → Type 0
+  IsFine o = IsGood m.set.set (users.is_deaf z m) o
+
+  heard_at_end : (u : ℕ) → x.user ≡ AtEnd u → users.is_deaf z m ≡ false → IsFine (users.wrote_by (users.write_answer u message m))
   heard_at_end u g deaf =
       let at = user ∙ g in
       let same = ends u g in
@@ -156,9 +161,9 @@ module _ (now nth id : ℕ) (n m : State) (x z : Session) (message : List ℕ) (
       let spoke : x.bye ≡ false = sym bye ∙ parts.0 in
       let some = spoken_for u x g spoke in
       let unshut = open_end u n nth x f e some in
-      good_wrote _ (write_goes (users.end_at u m) message here (λ h k. closing_of u n.set.set.ends h unshut (sym same ∙ k)) is)
+      good_wrote m.set.set (users.is_deaf z m) _ (write_goes (users.end_at u m) message here (λ h k. closing_of u n.set.set.ends h unshut (sym same ∙ k)) is)
 
-  heard_at_link : (peer : Callsign) → x.user ≡ AtLink peer → users.is_deaf z m ≡ false → IsGood (users.sent_by (links.text_answer peer message m.links))
+  heard_at_link : (peer : Callsign) → x.user ≡ AtLink peer → users.is_deaf z m ≡ false → IsFine (users.sent_by (links.text_answer peer message m.links))
   heard_at_link peer g deaf =
       let at = user ∙ g in
       let parts = or_parts z.bye (users.has_ended z m) deaf in
@@ -167,18 +172,18 @@ module _ (now nth id : ℕ) (n m : State) (x z : Session) (message : List ℕ) (
       let room : users.has_room_beside x id n ≡ true = or_rest (users.is_deaf x n) (users.has_room_beside x id n) gives before in
       let here : users.has_room_beside_at (AtLink peer) id x.left n ≡ true = subst (λ (y : User). users.has_room_beside_at y id x.left n ≡ true) g room in
       let both = not_and x.left (users.link_has_room_beside peer id n) here in
-      good_sent _ (text_goes peer message m.links (takes peer (with_room peer n.links (least_room peer id n both.1))) is.1)
+      good_sent m.set.set (users.is_deaf z m) _ (text_goes peer message m.links (takes peer (with_room peer n.links (least_room peer id n both.1))) is.1)
 
-  goes_to : (y : User) → x.user ≡ y → users.is_deaf z m ≡ false → IsGood (users.outcome_at y message m)
+  goes_to : (y : User) → x.user ≡ y → users.is_deaf z m ≡ false → IsFine (users.outcome_at y message m)
   goes_to (AtEnd u) g deaf = heard_at_end u g deaf
   goes_to (AtLink peer) g deaf = heard_at_link peer g deaf
 
-  good_said : IsGood (users.outcome_if (users.listener (Some z) m) message m)
+  good_said : IsFine (users.outcome_if (users.listener (Some z) m) message m)
   good_said = by (users.is_deaf z m) refl
     where
-      by : (b : Bool) → users.is_deaf z m ≡ b → IsGood (users.outcome_if (if b then None else Some z.user) message m)
-      by true d = tt
-      by false d = subst (λ (y : User). IsGood (users.outcome_at y message m)) (sym user) (goes_to x.user refl d)
+      by : (b : Bool) → users.is_deaf z m ≡ b → IsFine (users.outcome_if (if b then None else Some z.user) message m)
+      by true d = d
+      by false d = subst (λ (y : User). IsFine (users.outcome_at y message m)) (sym user) (goes_to x.user refl d)
 
 -- what of a session's circuit came to the node is given to its user
 given_from : (now nth : ℕ) (n : State) (x : Session) (c : Circuit) → Fine n → at_router n ≡ 0 → session_at nth n ≡ Some x → circuit_of x.stage ≡ Some c → users.can_pass_on x c.id n ≡ true
@@ -218,21 +223,30 @@ given_from now nth n x c f router e h gives = by (users.took (answers.take_answe
     outcome : Outcome
     outcome = users.said nth message got
 
-    good : IsMessage message → IsGood outcome
+    good : IsMessage message → IsGood told.set.set (users.is_deaf z got) outcome
     good is =
-        subst (λ (o : Option Session). IsGood (users.outcome_if (users.listener o got) message got)) (sym at_got)
+        subst (λ (o : Option Session). IsGood told.set.set (users.is_deaf z got) (users.outcome_if (users.listener o got) message got)) (sym at_got)
         (good_said now nth c.id n got x z message f e is dry.placed.holds.user dry.placed.holds.left dry.placed.holds.bye ends takes gives)
 
     gave : State
     gave = at_session nth (bridging.log_gave outcome message) got
 
+    both : Session → Session
+    both y = bridging.log_gave outcome message (bridging.log_got message y)
+
+    given_both : IsMessage message → (y : Session) → session_at nth told ≡ Some y → Given told.set.set y → Given told.set.set (both y)
+    given_both is y k g =
+        let found : Some dry.placed.x ≡ Some y = sym dry.placed.is ∙ k in
+        let same : dry.placed.x ≡ y = cc found in
+        let heard : IsGood told.set.set (deaf told.set.set z) outcome = subst (λ (d : Bool). IsGood told.set.set d outcome) (deaf_is z got) (good is) in
+        given_gave told.set.set outcome message y (subst (λ (w : Session). IsGood told.set.set (deaf told.set.set w) outcome) same heard) g
+
     by : (b : Bool) → users.took (answers.take_answer (users.end_at c.id n)) ≡ b → Fine (if b then done (users.say now nth message gave) else idle n).after
     by false t = f
     by true t =
         let is = took_message (users.end_at c.id n) t (messages_of c.id n f) in
-        let both = λ (y : Session). bridging.log_gave outcome message (bridging.log_got message y) in
         let same : gave ≡ at_session nth both told = both_changed (bridging.log_got message) (bridging.log_gave outcome message) told nth dry.placed.x dry.placed.is in
-        let fine = session_fine nth both told (λ y k s. sound_gave outcome message y (good is) s) (λ y. less_same y (both y) refl refl refl) (pumped now took (takes_fine now c.id n f)) in
+        let fine = session_fine nth both told (λ y k s. sound_gave outcome message y s) (given_both is) (λ y w. written_gave told.set.set outcome message y w) (λ y. less_same y (both y) refl refl refl) (pumped now took (takes_fine now c.id n f)) in
         said now nth message gave (subst Fine (sym same) fine)
 
 pub given : (now nth : ℕ) (n : State) → Fine n → at_router n ≡ 0 → (o : Option Session) → session_at nth n ≡ o → Fine (bridging.give_of (bridging.giving_circuit o n) now nth n).after

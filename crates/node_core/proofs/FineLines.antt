@@ -15,17 +15,19 @@ use Rattle.node_core.specs.Bridging as bridging
 use Rattle.node_core.specs.Pumping.{at_router}
 use Rattle.node_core.specs.Serving as serving
 use Rattle.node_core.specs.Serving.{is_at_end}
-use Rattle.node_core.specs.Sessions.{Session, circuit_of}
+use Rattle.node_core.specs.Sessions.{Session}
 use Rattle.node_core.specs.States.{State, next_hop}
 use Rattle.node_core.specs.Turns.{Turn, done, idle}
 use Rattle.node_core.specs.Users as users
 use Rattle.node_core.specs.Users.{at_session, session_at}
 use Rattle.node_core.proofs.Fine.{Fine, close_fine, placed_said, said, session_fine}
+use Rattle.node_core.proofs.Given.{Given, given_bye, given_cut, given_dropped}
 use Rattle.node_core.proofs.Soundness.{Idle, Placed, changed_here, idle_hears, sound_at_prompt}
 use Rattle.node_core.proofs.Trying.{tried}
 use Rattle.node_core.proofs.Owning.{Less, mades, opens_by, owned_by, total}
 use Rattle.node_core.proofs.FineGiving.{less_same, shut_end}
-use Rattle.node_core.proofs.FineTexts.{Next, same_session, next, text_written}
+use Rattle.node_core.proofs.Wrote.{written_same}
+use Rattle.node_core.proofs.FineTexts.{Next, TextsFit, same_session, next, text_written}
 
 -- ---- lines
 
@@ -37,15 +39,16 @@ none_waits y i = let same = ap (λ (rs : List Reply). length rs) i.replies in om
 
 -- at the prompt what is left of a text may be cut
 at_prompt_fine : (nth : ℕ) (step : Session → Session) (m : State) (y : Session) → Fine m → session_at nth m ≡ Some y → Idle y
-    → ((z : Session) → (step z).stage ≡ z.stage) → ((z : Session) → (step z).replies ≡ z.replies) → ((z : Session) → length (step z).rest ≤ length z.rest) → ((z : Session) → Less z (step z)) → Fine (at_session nth step m)
-at_prompt_fine nth step m y f e i stages replies shorter less =
+    → ((z : Session) → (step z).stage ≡ z.stage) → ((z : Session) → (step z).replies ≡ z.replies) → ((z : Session) → length (step z).rest ≤ length z.rest)
+    → ((z : Session) → Given m.set.set z → Given m.set.set (step z)) → ((z : Session) → (step z).bridge.wrote ≡ z.bridge.wrote) → ((z : Session) → Less z (step z)) → Fine (at_session nth step m)
+at_prompt_fine nth step m y f e i stages replies shorter given wrote less =
     session_fine nth step m (λ z k s.
     let same = same_session nth m y z e k in
     let at : z.stage ≡ AtPrompt = subst (λ (w : Session). w.stage ≡ AtPrompt) same i.stage in
     let none = subst Idle same i in
     let few = none_waits z none in
     let here = ap (λ (rs : List Reply). length rs) (replies z) in
-    sound_at_prompt (step z) (stages z ∙ at) (omega (arith, shorter z, s.rest)) (omega (arith, here, few))) less f
+    sound_at_prompt (step z) (stages z ∙ at) (omega (arith, shorter z, s.rest)) (omega (arith, here, few))) (λ z k g. given z g) (λ z w. written_same m.set.set z (step z) (stages z) (wrote z) w) less f
 
 pub and_no : (a : Bool) → (a && false) ≡ false
 and_no true = refl
@@ -77,7 +80,7 @@ said_bye now nth text m y f e i = subst (λ (o : Option Session). Fine (users.cl
     at_left = changed_here asking.leaves told.sessions nth p.x p.is
 
     fine : Fine left
-    fine = at_prompt_fine nth asking.leaves told p.x (said now nth text m f) p.is p.holds (λ w. refl) (λ w. refl) (λ w. omega arith) bye_less
+    fine = at_prompt_fine nth asking.leaves told p.x (said now nth text m f) p.is p.holds (λ w. refl) (λ w. refl) (λ w. omega arith) (given_bye told.set.set) (λ w. refl) bye_less
 
     shut : (u : ℕ) → z.user ≡ AtEnd u → total (opens_by u) left.sessions + mades u left.set.untold ≡ 0
     shut u g =
@@ -119,19 +122,19 @@ behind_most (b ∷ bs) = by (nat_eq b 13) (behind_most bs)
 line_done : (now nth : ℕ) (m : State) (y : Session) → Fine m → session_at nth m ≡ Some y → Idle y → Fine (asking.do_line now nth m)
 line_done now nth m y f e i =
     let cut : State = at_session nth asking.cut_line m in
-    let fine = at_prompt_fine nth asking.cut_line m y f e i (λ z. refl) (λ z. refl) (λ z. behind_most z.rest) (λ z. less_same z (asking.cut_line z) refl refl refl) in
+    let fine = at_prompt_fine nth asking.cut_line m y f e i (λ z. refl) (λ z. refl) (λ z. behind_most z.rest) (given_cut m.set.set) (λ z. refl) (λ z. less_same z (asking.cut_line z) refl refl refl) in
     acting now nth (asking.action_at (session_at nth m) m) cut (asking.cut_line y) fine (changed_here asking.cut_line m.sessions nth y e) (record { stage = i.stage; replies = i.replies })
 
 -- what is done with the next text of a user at the prompt
-if_text : (now nth : ℕ) (n : State) (x : Session) (step : State → State) → Fine n → at_router n ≡ 0 → session_at nth n ≡ Some x → Idle x
+if_text : (now nth : ℕ) (n : State) (x : Session) (step : State → State) → Fine n → TextsFit n.links → at_router n ≡ 0 → session_at nth n ≡ Some x → Idle x
     → ((m : State) (y : Session) → Fine m → session_at nth m ≡ Some y → Idle y → Fine (step m)) → Fine (asking.if_text (bridging.next_text now nth n) step).after
-if_text now nth n x step f router e i does = by t.did refl
+if_text now nth n x step f fits router e i does = by t.did refl
   where
     t : Turn State
     t = bridging.next_text now nth n
 
     k : Next nth Idle n x t
-    k = next Idle idle_hears idle_text now nth n x f router e i
+    k = next Idle idle_hears idle_text now nth n x f fits router e i
 
     by : (b : Bool) → t.did ≡ b → Fine (if b then done (step t.after) else idle t.after).after
     by false d = k.fine
@@ -149,32 +152,32 @@ or_true : (a : Bool) → (a || true) ≡ true
 or_true true = refl
 or_true false = refl
 
-lined : (now nth : ℕ) (n : State) (x : Session) → Fine n → at_router n ≡ 0 → session_at nth n ≡ Some x → x.stage ≡ AtPrompt → bridging.next_reply (Some x) n ≡ None → Fine (asking.take_line now nth n).after
-lined now nth n x f router e g none =
+lined : (now nth : ℕ) (n : State) (x : Session) → Fine n → TextsFit n.links → at_router n ≡ 0 → session_at nth n ≡ Some x → x.stage ≡ AtPrompt → bridging.next_reply (Some x) n ≡ None → Fine (asking.take_line now nth n).after
+lined now nth n x f fits router e g none =
     subst (λ (o : Option Session). Fine (if asking.is_deaf_at o n then asking.drop_text_of now nth n else (if asking.has_room_at o n then asking.do_next_line now nth n else idle n)).after) (sym e)
     (by (users.is_deaf x n) (users.has_room x n) refl refl)
   where
     dropped : (m : State) (y : Session) → Fine m → session_at nth m ≡ Some y → Idle y → Fine (at_session nth bridging.drop_rest m)
-    dropped m y h k i = at_prompt_fine nth bridging.drop_rest m y h k i (λ z. refl) (λ z. refl) (λ z. omega arith) (λ z. less_same z (bridging.drop_rest z) refl refl refl)
+    dropped m y h k i = at_prompt_fine nth bridging.drop_rest m y h k i (λ z. refl) (λ z. refl) (λ z. omega arith) (given_dropped m.set.set) (λ z. refl) (λ z. less_same z (bridging.drop_rest z) refl refl refl)
 
     by : (a b : Bool) → users.is_deaf x n ≡ a → users.has_room x n ≡ b → Fine (if a then asking.drop_text_of now nth n else (if b then asking.do_next_line now nth n else idle n)).after
     by true b d r =
         let gives : users.can_give x n ≡ true = rw d refl in
-        if_text now nth n x (at_session nth bridging.drop_rest) f router e (record { stage = g; replies = none_given x n none gives }) dropped
+        if_text now nth n x (at_session nth bridging.drop_rest) f fits router e (record { stage = g; replies = none_given x n none gives }) dropped
     by false true d r =
         let gives : users.can_give x n ≡ true = rw (d, r) refl in
-        if_text now nth n x (asking.do_line now nth) f router e (record { stage = g; replies = none_given x n none gives }) (line_done now nth)
+        if_text now nth n x (asking.do_line now nth) f fits router e (record { stage = g; replies = none_given x n none gives }) (line_done now nth)
     by false false d r = f
 
-pub taken_up : (now nth : ℕ) (n : State) → Fine n → at_router n ≡ 0 → bridging.next_reply (session_at nth n) n ≡ None → (o : Option Session) → session_at nth n ≡ o → Fine (serving.take_up_by (serving.stage_of o) now nth n).after
-taken_up now nth n f router none None e = f
-taken_up now nth n f router none (Some x) e = by x.stage refl
+pub taken_up : (now nth : ℕ) (n : State) → Fine n → TextsFit n.links → at_router n ≡ 0 → bridging.next_reply (session_at nth n) n ≡ None → (o : Option Session) → session_at nth n ≡ o → Fine (serving.take_up_by (serving.stage_of o) now nth n).after
+taken_up now nth n f fits router none None e = f
+taken_up now nth n f fits router none (Some x) e = by x.stage refl
   where
     here : bridging.next_reply (Some x) n ≡ None
     here = subst (λ (o : Option Session). bridging.next_reply o n ≡ None) e none
 
     by : (stage : Stage) → x.stage ≡ stage → Fine (serving.take_up_at stage now nth n).after
-    by AtPrompt g = lined now nth n x f router e g here
+    by AtPrompt g = lined now nth n x f fits router e g here
     by (Trying c) g = f
     by (Failed c) g = f
-    by (Connected c) g = text_written now nth c n x f router e (ap circuit_of g)
+    by (Connected c) g = text_written now nth c n x f fits router e g

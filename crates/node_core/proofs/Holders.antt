@@ -1,18 +1,20 @@
--- What an input of a set leaves of its ends: their numbers, whether they are closing, and the messages that came to them.
-use Rattle.std.proofs.Common.{◌≡◌, ◌≤◌, ◌<◌, ◌+◌, ◌∙◌, ◌⊎◌, inl, inr, ℕ, refl, sym, subst, arith, drop, List, [], ◌∷◌, ◌++◌}
-use Rattle.std.specs.Prelude.{Bool, true, false, not, ◌||◌, ◌&&◌, nat_eq, min, if◌then◌else◌, Option, Some, None, Result, Ok, Err}
+-- What an input of a set leaves of its ends: their numbers, no two alike, whether they are closing or have ended, and the messages that came
+-- to them.
+use Rattle.std.proofs.Common.{◌≡◌, ◌≤◌, ◌<◌, ◌+◌, ◌∙◌, ◌⊎◌, inl, inr, ℕ, refl, sym, ap, subst, arith, drop, List, [], ◌∷◌, ◌++◌}
+use Rattle.std.specs.Prelude.{Bool, true, false, not, ◌||◌, ◌&&◌, is_none, nat_eq, min, if◌then◌else◌, Option, Some, None, Result, Ok, Err}
 use Rattle.std.proofs.lemmas.Bool.Decides.{nat_tests}
 use Rattle.radio_base.specs.declared.modulus.TheConstants.{COUNT_MAX}
 use Rattle.ax_address.specs.Callsign.{Callsign}
 use Rattle.ax_address.specs.CallOrder.{same_call}
-use Rattle.circuit_l4.specs.EndOpening.{requesting, responding}
-use Rattle.circuit_l4.specs.EndState.{Effect}
+use Rattle.circuit_l4.specs.EndOpening.{facts_of, requesting, responding}
+use Rattle.circuit_l4.specs.EndState.{Effect, State}
 use Rattle.circuit_l4.specs.EndTable as end
 use Rattle.circuit_l4.specs.Reading.{transport_at}
 use Rattle.circuit_l4.specs.declared.transport.Pair.{Pair}
 use Rattle.circuit_l4.specs.declared.transport.Transport.{Transport}
 use Rattle.circuit_l4.specs.declared.transport.Transport.TheVariants.{Request, Accept, Refuse, Disconnect, Disconnected, Info, InfoAck}
 use Rattle.circuit_l4.specs.declared.transport.TransportRefusal.{TransportRefusal}
+use Rattle.circuit_set.specs.CircuitSets.{facts_at}
 use Rattle.circuit_set.specs.Circuits.{heeds}
 use Rattle.circuit_set.specs.Sets as s
 use Rattle.circuit_set.specs.Sets.{Call, Calls, Comes, Connect, Holder, SetDone, SetState, Told, Closes, Takes, Ticks, Writes}
@@ -20,6 +22,7 @@ use Rattle.l3_datagram.specs.declared.datagram.DatagramHead.{DatagramHead}
 use Rattle.l3_datagram.specs.declared.datagram.DatagramRefusal.{DatagramRefusal}
 use Rattle.l3_datagram.specs.declared.datagram.TheConstants.{HEAD_SIZE}
 use Rattle.l3_datagram.specs.Datagrams.{head_at}
+use Rattle.node_core.specs.Users.{ended_by}
 use Rattle.node_core.proofs.Unclosed as one
 use Rattle.node_core.proofs.Unclosed.{Leaves, Messages}
 
@@ -90,6 +93,90 @@ other_end id k (x ∷ xs) e = by (nat_eq x.id k.id) refl (other_end id k xs e)
         rw (e, other) rest
     by false f rest = rw rest refl
 
+-- ---- each number is that of one end
+
+abbrev Other : ℕ → Holder → Type 0
+Other id h = nat_eq h.id id ≡ false
+
+abbrev pub Once : List Holder → Type 0
+Once [] = Unit {0}
+Once (h ∷ hs) = Every (Other h.id) hs × Once hs
+
+with_ids : (P : ℕ → Type 0) (k : Holder) (hs : List Holder) → Every (λ x. P x.id) hs → Every (λ x. P x.id) (s.with_end k hs)
+with_ids P k [] e = tt
+with_ids P k (x ∷ xs) e = (by (nat_eq x.id k.id) refl, with_ids P k xs e.1)
+  where
+    by : (b : Bool) → nat_eq x.id k.id ≡ b → P (if b then k else x).id
+    by true f = let same : x.id ≡ k.id = grind (arith, nat_tests, f) in subst P same e.0
+    by false f = e.0
+
+put_once : (k : Holder) (hs : List Holder) → Once hs → Once (s.with_end k hs)
+put_once k [] o = tt
+put_once k (x ∷ xs) o = by (nat_eq x.id k.id) refl (put_once k xs o.1)
+  where
+    others : Every (Other x.id) (s.with_end k xs)
+    others = with_ids (λ id. nat_eq id x.id ≡ false) k xs o.0
+
+    by : (b : Bool) → nat_eq x.id k.id ≡ b → Once (s.with_end k xs) → Once ((if b then k else x) ∷ s.with_end k xs)
+    by true f rest = let same : x.id ≡ k.id = grind (arith, nat_tests, f) in (subst (λ id. Every (Other id) (s.with_end k xs)) same others, rest)
+    by false f rest = (others, rest)
+
+push_once : (k : Holder) (hs : List Holder) → Every (λ x. nat_eq k.id x.id ≡ false) hs → Once hs → Once (hs ++ k ∷ [])
+push_once k [] e o = (tt, tt)
+push_once k (x ∷ xs) e o = (push_in (Other x.id) k xs e.0 o.0, push_once k xs e.1 o.1)
+
+differ : (a b : ℕ) → b < a → nat_eq a b ≡ false
+differ a b less = by (nat_eq a b) refl
+  where
+    by : (c : Bool) → nat_eq a b ≡ c → nat_eq a b ≡ false
+    by true e = let same : a ≡ b = grind (arith, nat_tests, e) in absurd (omega (arith, same, less))
+    by false e = e
+
+-- an end among them is the one of its number
+pub is_end : (id : ℕ) (h : Holder) (hs : List Holder) → Once hs → In h hs → nat_eq h.id id ≡ true → s.end_of id hs ≡ Some h
+is_end id h [] o i e = absurd i
+is_end id h (x ∷ xs) o (inl same) e =
+    let here : nat_eq x.id id ≡ true = subst (λ (k : Holder). nat_eq k.id id ≡ true) (sym same) e in
+    ap (λ b. if b then Some x else s.end_of id xs) here ∙ ap (λ (k : Holder). Some k) same
+is_end id h (x ∷ xs) o (inr i) e = by (nat_eq x.id id) refl (is_end id h xs o.1 i e)
+  where
+    by : (b : Bool) → nat_eq x.id id ≡ b → s.end_of id xs ≡ Some h → (if b then Some x else s.end_of id xs) ≡ Some h
+    by true f rest =
+        let apart : nat_eq h.id x.id ≡ false = every_in (Other x.id) h xs o.0 i in
+        let one : h.id ≡ id = grind (arith, nat_tests, e) in
+        let two : x.id ≡ id = grind (arith, nat_tests, f) in
+        absurd (grind (arith, nat_tests, apart, one, two))
+    by false f rest = rest
+
+-- an end in the place of the one of its number
+pub end_here : (id : ℕ) (k h : Holder) (hs : List Holder) → s.end_of id hs ≡ Some h → nat_eq k.id id ≡ true → s.end_of id (s.with_end k hs) ≡ Some k
+end_here id k h [] e f = absurd (cc e)
+end_here id k h (x ∷ xs) e f = by (nat_eq x.id id) refl e (λ g. end_here id k h xs g f)
+  where
+    by : (b : Bool) → nat_eq x.id id ≡ b → (if b then Some x else s.end_of id xs) ≡ Some h → (s.end_of id xs ≡ Some h → s.end_of id (s.with_end k xs) ≡ Some k)
+        → s.end_of id ((if nat_eq x.id k.id then k else x) ∷ s.with_end k xs) ≡ Some k
+    by true t g rest =
+        let here : nat_eq x.id k.id ≡ true = grind (arith, nat_tests, t, f) in
+        rw (here, f) refl
+    by false t g rest =
+        let apart : nat_eq x.id k.id ≡ false = other (nat_eq x.id k.id) refl t in
+        rw (apart, t) (rest g)
+      where
+        other : (c : Bool) → nat_eq x.id k.id ≡ c → nat_eq x.id id ≡ false → nat_eq x.id k.id ≡ false
+        other true u v =
+            let one : x.id ≡ k.id = grind (arith, nat_tests, u) in
+            let two : k.id ≡ id = grind (arith, nat_tests, f) in
+            absurd (grind (arith, nat_tests, one, two, v))
+        other false u v = u
+
+end_before : (id : ℕ) (k : Holder) (hs : List Holder) → nat_eq k.id id ≡ false → s.end_of id (hs ++ k ∷ []) ≡ s.end_of id hs
+end_before id k [] f = rw f refl
+end_before id k (x ∷ xs) f = by (nat_eq x.id id) (end_before id k xs f)
+  where
+    by : (b : Bool) → s.end_of id (xs ++ k ∷ []) ≡ s.end_of id xs → (if b then Some x else s.end_of id (xs ++ k ∷ [])) ≡ (if b then Some x else s.end_of id xs)
+    by true rest = refl
+    by false rest = rest
+
 -- ---- what an input leaves
 
 abbrev pub Below : SetState → Type 0
@@ -106,44 +193,76 @@ AreOpen id hs = Every (λ h. h.id ≡ id → h.end.closing ≡ false) hs
 pub none_closing : (number id : ℕ) (hs : List Holder) → Every (λ h. h.id < number) hs → number ≤ id → AreOpen id hs
 none_closing number id hs below over = weaker _ _ (λ h low same. absurd (omega (arith, low, over, same))) hs below
 
--- the numbers go up, and of each number that `test` admits no end is closing where none was
+-- the end of a number has ended, or is held no longer
+abbrev pub is_ended : ℕ → SetState → Bool
+is_ended id set = ended_by (facts_at (s.end_of id set.ends))
+
+-- the end of a number is held no longer, or never was
+abbrev pub is_away : ℕ → SetState → Bool
+is_away id set = is_none (facts_at (s.end_of id set.ends))
+
+-- the numbers go up, what has ended or is away stays so, and of each number that `test` admits no end is closing where none was
 pub record Keeps (admits : ℕ → Type 0) (old new : SetState) : Type 0 where
   pub number : old.number ≤ new.number
   pub below : Below old → Below new
+  pub once : Below old → Once old.ends → Once new.ends
+  pub ended : (id : ℕ) → Once old.ends → id < old.number → is_ended id old ≡ true → is_ended id new ≡ true
+  pub away : (id : ℕ) → Once old.ends → id < old.number → is_away id old ≡ true → is_away id new ≡ true
   pub messages : HaveMessages old.ends → HaveMessages new.ends
   pub unshut : (id : ℕ) → admits id → AreOpen id old.ends → AreOpen id new.ends
 
 abbrev pub Any : ℕ → Type 0
 Any id = Unit {0}
 
+-- a step of an end that is held, after which one that has ended has
+pub record Alive (h : Holder) (g : Effect) : Type 0 where
+  pub held : h.gone ≡ false
+  pub ended : s.has_ended h.end.phase ≡ true → s.has_ended g.end.phase ≡ true
+
+open_alive : (test : Holder → Bool) (hs : List Holder) (h : Holder) (g : Effect) → s.first_open test hs ≡ Some h → Alive h g
+open_alive test [] h g e = absurd (cc e)
+open_alive test (x ∷ xs) h g e = by x.gone (s.has_ended x.end.phase) (test x) refl refl e (open_alive test xs h g)
+  where
+    by : (a b c : Bool) → x.gone ≡ a → s.has_ended x.end.phase ≡ b → (if (not a && not b) && c then Some x else s.first_open test xs) ≡ Some h → (s.first_open test xs ≡ Some h → Alive h g) → Alive h g
+    by true b c p q f rest = rest f
+    by false true c p q f rest = rest f
+    by false false false p q f rest = rest f
+    by false false true p q f rest =
+        let same : x ≡ h = cc f in
+        record { held = subst (λ (k : Holder). k.gone ≡ false) same p; ended = λ t. absurd (cc (t, subst (λ (k : Holder). s.has_ended k.end.phase ≡ false) same q)) }
+
 -- whatever it is of, it is left by each thing that an input may do
 module _ (P : SetState → Type 0) (set : SetState) (stays : P set)
-    (steps : (h : Holder) (first : List Told) (g : Effect) → In h set.ends → Leaves h.end g.end → P (s.goes_to set h first g).set)
+    (L : State → State → Type 0) (same : (u : State) → L u u) (arrives : (u : State) (t : Transport) (now : ℕ) → L u (end.step u (end.Arrive t) now).end)
+    (steps : (h : Holder) (first : List Told) (g : Effect) → In h set.ends → Alive h g → L h.end g.end → P (s.goes_to set h first g).set)
     (makes : (at : Callsign) (asked : Option Pair) (request : Option (List ℕ)) (g : Effect) → g.end.closing ≡ false → g.end.receiving.received ≡ [] → P (s.made set at asked request g).set) where
   either : (x y : SetDone) (b : Bool) → P x.set → P y.set → P (if b then x else y).set
   either x y true p q = p
   either x y false p q = q
 
-  at_by : (d : List ℕ) (t : Transport) (now : ℕ) (o : Option Holder) → ((h : Holder) → o ≡ Some h → In h set.ends) → P (elim o as (λ x. SetDone) [ Some h ↦ s.handed set h d t now | None ↦ s.untold set ]).set
-  at_by d t now None i = stays
-  at_by d t now (Some h) i = steps h (if heeds h.end.phase t then s.Heeded h.id d ∷ [] else []) (end.step h.end (end.Arrive t) now) (i h refl) (one.arrives h.end t now)
+  at_by : (d : List ℕ) (t : Transport) (now : ℕ) (o : Option Holder) → ((h : Holder) → o ≡ Some h → In h set.ends) → ((h : Holder) (g : Effect) → o ≡ Some h → Alive h g) → P (elim o as (λ x. SetDone) [ Some h ↦ s.handed set h d t now | None ↦ s.untold set ]).set
+  at_by d t now None i a = stays
+  at_by d t now (Some h) i a =
+      let g : Effect = end.step h.end (end.Arrive t) now in
+      steps h (if heeds h.end.phase t then s.Heeded h.id d ∷ [] else []) g (i h refl) (a h g refl) (arrives h.end t now)
 
   at_end : (origin : Callsign) (d : List ℕ) (to : Pair) (t : Transport) (now : ℕ) → P (s.arrives_at set origin d to t now).set
-  at_end origin d to t now = at_by d t now (s.first_open (s.named_by origin to) set.ends) (λ h e. open_in (s.named_by origin to) set.ends h e)
+  at_end origin d to t now = at_by d t now (s.first_open (s.named_by origin to) set.ends) (λ h e. open_in (s.named_by origin to) set.ends h e) (λ h g e. open_alive (s.named_by origin to) set.ends h g e)
 
   anew : (origin : Callsign) (d : List ℕ) (pair : Pair) (window now : ℕ) → P (s.requested_anew set origin d pair window now).set
   anew origin d pair window now =
       either (record { set = set; told = s.Sent 0 None (s.datagram_to set origin (Refuse pair)) ∷ [] }) (s.responds set origin d pair window now) (s.is_full set) stays
       (makes origin (Some pair) (Some d) (responding (s.new_pair set) pair window set.config (min now COUNT_MAX)) refl refl)
 
-  requested_by : (origin : Callsign) (d : List ℕ) (pair : Pair) (window now : ℕ) (o : Option Holder) → ((h : Holder) → o ≡ Some h → In h set.ends)
+  requested_by : (origin : Callsign) (d : List ℕ) (pair : Pair) (window now : ℕ) (o : Option Holder) → ((h : Holder) → o ≡ Some h → In h set.ends) → ((h : Holder) (g : Effect) → o ≡ Some h → Alive h g)
       → P (elim o as (λ x. SetDone) [ Some h ↦ s.goes_to set h [] (s.accept_again h.end) | None ↦ s.requested_anew set origin d pair window now ]).set
-  requested_by origin d pair window now None i = anew origin d pair window now
-  requested_by origin d pair window now (Some h) i = steps h [] (s.accept_again h.end) (i h refl) (record { closing = refl; messages = λ p. p })
+  requested_by origin d pair window now None i a = anew origin d pair window now
+  requested_by origin d pair window now (Some h) i a = steps h [] (s.accept_again h.end) (i h refl) (a h (s.accept_again h.end) refl) (same h.end)
 
   received : (origin : Callsign) (d : List ℕ) (t : Transport) (now : ℕ) → P (s.received set origin d t now).set
   received origin d (Request pair window user node) now =
       requested_by origin d pair window now (s.first_open (s.opened_by origin pair) set.ends) (λ h e. open_in (s.opened_by origin pair) set.ends h e)
+      (λ h g e. open_alive (s.opened_by origin pair) set.ends h g e)
   received origin d (Accept to own window) now = at_end origin d to (Accept to own window) now
   received origin d (Refuse to) now = at_end origin d to (Refuse to) now
   received origin d (Disconnect to) now = at_end origin d to (Disconnect to) now
@@ -169,26 +288,77 @@ module _ (P : SetState → Type 0) (set : SetState) (stays : P set)
       either (s.untold set) (s.requests set dest now) (same_call dest set.own || s.is_full set) stays
       (makes dest None None (requesting (s.new_pair set) set.user set.own set.config (min now COUNT_MAX)) refl refl)
 
-  called_by : (h : Holder) (call : Call) (now : ℕ) → In h set.ends → Leaves h.end (end.step h.end (s.input_of call) now).end → P (s.called set (Some h) call now).set
-  called_by h call now i l = either (s.untold set) (s.goes_to set h [] (end.step h.end (s.input_of call) now)) h.gone stays (steps h [] (end.step h.end (s.input_of call) now) i l)
+  called_by : (h : Holder) (call : Call) (now : ℕ) → In h set.ends → L h.end (end.step h.end (s.input_of call) now).end → P (s.called set (Some h) call now).set
+  called_by h call now i l = by h.gone refl
+    where
+      g : Effect
+      g = end.step h.end (s.input_of call) now
 
-  called : (call : Call) (now : ℕ) (o : Option Holder) → ((h : Holder) → o ≡ Some h → In h set.ends) → ((h : Holder) → Leaves h.end (end.step h.end (s.input_of call) now).end) → P (s.called set o call now).set
+      by : (b : Bool) → h.gone ≡ b → P (if b then s.untold set else s.goes_to set h [] g).set
+      by true e = stays
+      by false e = steps h [] g i (record { held = e; ended = one.ended_stays h.end (s.input_of call) now }) l
+
+  called : (call : Call) (now : ℕ) (o : Option Holder) → ((h : Holder) → o ≡ Some h → In h set.ends) → ((h : Holder) → L h.end (end.step h.end (s.input_of call) now).end) → P (s.called set o call now).set
   called call now None i l = stays
   called call now (Some h) i l = called_by h call now (i h refl) (l h)
 
-  pub calls : (id : ℕ) (call : Call) (now : ℕ) → ((h : Holder) → Leaves h.end (end.step h.end (s.input_of call) now).end) → P (s.set_step set (Calls id call now)).set
+  pub calls : (id : ℕ) (call : Call) (now : ℕ) → ((h : Holder) → L h.end (end.step h.end (s.input_of call) now).end) → P (s.set_step set (Calls id call now)).set
   calls id call now l = called call now (s.end_of id set.ends) (λ h e. end_in id set.ends h e) l
 
 -- ---- each of them leaves that
 
 kept : (set : SetState) → Keeps Any set set
-kept set = record { number = omega arith; below = λ p. p; messages = λ p. p; unshut = λ id a p. p }
+kept set = record { number = omega arith; below = λ p. p; once = λ b o. o; ended = λ id o low e. e; away = λ id o low e. e; messages = λ p. p; unshut = λ id a p. p }
 
-kept_at : (set : SetState) (h : Holder) (first : List Told) (g : Effect) → In h set.ends → Leaves h.end g.end → Keeps Any set (s.goes_to set h first g).set
-kept_at set h first g i l =
+-- what has ended stays so where one end goes on
+over_held : (o : Option Holder) (h : Holder) → o ≡ Some h → h.gone ≡ false → ended_by (facts_at o) ≡ true → s.has_ended h.end.phase ≡ true
+over_held None h e held f = absurd (cc e)
+over_held (Some x) h e held f =
+    let same : x ≡ h = cc e in
+    let gone : x.gone ≡ false = subst (λ (k : Holder). k.gone ≡ false) (sym same) held in
+    subst (λ (k : Holder). s.has_ended k.end.phase ≡ true) same (sym (ap (λ b. ended_by (if b then None else Some (facts_of x.end))) gone) ∙ f)
+
+over_settled : (o : Option Holder) (k : Holder) → o ≡ Some k → s.has_ended k.end.phase ≡ true → ended_by (facts_at o) ≡ true
+over_settled o k e f = ap (λ (x : Option Holder). ended_by (facts_at x)) e ∙ by k.gone
+  where
+    by : (b : Bool) → ended_by (if b then None else Some (facts_of k.end)) ≡ true
+    by true = refl
+    by false = f
+
+ended_at : (set : SetState) (h : Holder) (first : List Told) (g : Effect) (id : ℕ) → In h set.ends → Alive h g → Once set.ends → is_ended id set ≡ true → is_ended id (s.goes_to set h first g).set ≡ true
+ended_at set h first g id i a o e = by (nat_eq h.id id) refl
+  where
+    k : Holder
+    k = s.settled h g
+
+    by : (b : Bool) → nat_eq h.id id ≡ b → ended_by (facts_at (s.end_of id (s.with_end k set.ends))) ≡ true
+    by true f =
+        let was = is_end id h set.ends o i f in
+        over_settled (s.end_of id (s.with_end k set.ends)) k (end_here id k h set.ends was f) (a.ended (over_held (s.end_of id set.ends) h was a.held e))
+    by false f = ap (λ (x : Option Holder). ended_by (facts_at x)) (other_end id k set.ends f) ∙ e
+
+not_away : (o : Option Holder) (h : Holder) → o ≡ Some h → h.gone ≡ false → is_none (facts_at o) ≡ true → ⊥
+not_away None h e held f = absurd (cc e)
+not_away (Some x) h e held f =
+    let same : x ≡ h = cc e in
+    let gone : x.gone ≡ false = subst (λ (k : Holder). k.gone ≡ false) (sym same) held in
+    absurd (cc (sym (ap (λ b. is_none (if b then None else Some (facts_of x.end))) gone) ∙ f))
+
+away_at : (set : SetState) (h : Holder) (first : List Told) (g : Effect) (id : ℕ) → In h set.ends → Alive h g → Once set.ends → is_away id set ≡ true → is_away id (s.goes_to set h first g).set ≡ true
+away_at set h first g id i a o e = by (nat_eq h.id id) refl
+  where
+    by : (b : Bool) → nat_eq h.id id ≡ b → is_none (facts_at (s.end_of id (s.with_end (s.settled h g) set.ends))) ≡ true
+    by true f = absurd (not_away (s.end_of id set.ends) h (is_end id h set.ends o i f) a.held e)
+    by false f = ap (λ (x : Option Holder). is_none (facts_at x)) (other_end id (s.settled h g) set.ends f) ∙ e
+
+kept_at : (set : SetState) (h : Holder) (first : List Told) (g : Effect) → In h set.ends → Alive h g → Leaves h.end g.end → Keeps Any set (s.goes_to set h first g).set
+kept_at set h first g i v l =
     let k : Holder = s.settled h g in
     record {
       number = omega arith;
+      once = λ b o. put_once k set.ends o;
+      ended = λ id o low e. ended_at set h first g id i v o e;
+      away = λ id o low e. away_at set h first g id i v o e;
       below = λ p. put_in (λ x. x.id < set.number) k set.ends (every_in (λ x. x.id < set.number) h set.ends p i) p;
       messages = λ p. put_in (λ x. Messages x.end.receiving.received) k set.ends (l.messages (every_in (λ x. Messages x.end.receiving.received) h set.ends p i)) p;
       unshut = λ id a p. put_in (λ x. x.id ≡ id → x.end.closing ≡ false) k set.ends (λ e. l.closing ∙ every_in (λ x. x.id ≡ id → x.end.closing ≡ false) h set.ends p i e) p;
@@ -199,19 +369,22 @@ kept_made set at asked request g shut none =
     let k : Holder = s.holder_of set at asked g in
     record {
       number = omega arith;
+      once = λ b o. push_once k set.ends (weaker (λ x. x.id < set.number) (λ x. nat_eq set.number x.id ≡ false) (λ x low. differ set.number x.id low) set.ends b) o;
+      ended = λ id o low e. ap (λ (x : Option Holder). ended_by (facts_at x)) (end_before id k set.ends (differ set.number id low)) ∙ e;
+      away = λ id o low e. ap (λ (x : Option Holder). is_none (facts_at x)) (end_before id k set.ends (differ set.number id low)) ∙ e;
       below = λ p. push_in (λ x. x.id < set.number + 1) k set.ends (omega arith) (weaker (λ x. x.id < set.number) (λ x. x.id < set.number + 1) (λ x low. omega (arith, low)) set.ends p);
       messages = λ p. push_in (λ x. Messages x.end.receiving.received) k set.ends (rw none tt) p;
       unshut = λ id a p. push_in (λ x. x.id ≡ id → x.end.closing ≡ false) k set.ends (λ e. shut) p;
     }
 
 pub comes_keeps : (set : SetState) (d : List ℕ) (now : ℕ) → Keeps Any set (s.set_step set (Comes d now)).set
-comes_keeps set d now = comes (Keeps Any set) set (kept set) (kept_at set) (kept_made set) d now
+comes_keeps set d now = comes (Keeps Any set) set (kept set) Leaves one.itself one.arrives (kept_at set) (kept_made set) d now
 
 pub connects_keeps : (set : SetState) (dest : Callsign) (now : ℕ) → Keeps Any set (s.set_step set (Connect dest now)).set
-connects_keeps set dest now = connects (Keeps Any set) set (kept set) (kept_at set) (kept_made set) dest now
+connects_keeps set dest now = connects (Keeps Any set) set (kept set) Leaves one.itself one.arrives (kept_at set) (kept_made set) dest now
 
 calls_keep : (set : SetState) (id : ℕ) (call : Call) (now : ℕ) → ((h : Holder) → Leaves h.end (end.step h.end (s.input_of call) now).end) → Keeps Any set (s.set_step set (Calls id call now)).set
-calls_keep set id call now l = calls (Keeps Any set) set (kept set) (kept_at set) (kept_made set) id call now l
+calls_keep set id call now l = calls (Keeps Any set) set (kept set) Leaves one.itself one.arrives (kept_at set) (kept_made set) id call now l
 
 pub writes_keep : (set : SetState) (text : List ℕ) (now id : ℕ) → Keeps Any set (s.set_step set (Calls id (Writes text) now)).set
 writes_keep set text now id = calls_keep set id (Writes text) now (λ h. one.writes h.end text now)
@@ -223,12 +396,12 @@ pub takes_keep : (set : SetState) (now id : ℕ) → Keeps Any set (s.set_step s
 takes_keep set now id = calls_keep set id Takes now (λ h. one.takes h.end now)
 
 -- a close leaves the ends of other numbers
-abbrev pub Other : ℕ → ℕ → Type 0
-Other id k = nat_eq id k ≡ false
+abbrev pub Differs : ℕ → ℕ → Type 0
+Differs id k = nat_eq id k ≡ false
 
-shut_by : (set : SetState) (now id : ℕ) (o : Option Holder) → s.end_of id set.ends ≡ o → Keeps (Other id) set (s.called set o Closes now).set
-shut_by set now id None e = record { number = omega arith; below = λ p. p; messages = λ p. p; unshut = λ k a p. p }
-shut_by set now id (Some h) e = by h.gone
+shut_by : (set : SetState) (now id : ℕ) (o : Option Holder) → s.end_of id set.ends ≡ o → Keeps (Differs id) set (s.called set o Closes now).set
+shut_by set now id None e = record { number = omega arith; below = λ p. p; once = λ b o. o; ended = λ k o low f. f; away = λ k o low f. f; messages = λ p. p; unshut = λ k a p. p }
+shut_by set now id (Some h) e = by h.gone refl
   where
     g : Effect
     g = end.step h.end end.Close now
@@ -236,20 +409,23 @@ shut_by set now id (Some h) e = by h.gone
     i : In h set.ends
     i = end_in id set.ends h e
 
-    by : (b : Bool) → Keeps (Other id) set (if b then s.untold set else s.goes_to set h [] g).set
-    by true = record { number = omega arith; below = λ p. p; messages = λ p. p; unshut = λ k a p. p }
-    by false =
+    by : (b : Bool) → h.gone ≡ b → Keeps (Differs id) set (if b then s.untold set else s.goes_to set h [] g).set
+    by true held = record { number = omega arith; below = λ p. p; once = λ b o. o; ended = λ k o low f. f; away = λ k o low f. f; messages = λ p. p; unshut = λ k a p. p }
+    by false held =
         let k : Holder = s.settled h g in
         let mine = number_of id set.ends h e in
         let half = one.closes h.end now in
         record {
           number = omega arith;
+          once = λ b o. put_once k set.ends o;
+          ended = λ other o low f. ended_at set h [] g other i (record { held = held; ended = one.ended_stays h.end end.Close now }) o f;
+          away = λ other o low f. away_at set h [] g other i (record { held = held; ended = one.ended_stays h.end end.Close now }) o f;
           below = λ p. put_in (λ x. x.id < set.number) k set.ends (every_in (λ x. x.id < set.number) h set.ends p i) p;
           messages = λ p. put_in (λ x. Messages x.end.receiving.received) k set.ends (rw half (every_in (λ x. Messages x.end.receiving.received) h set.ends p i)) p;
           unshut = λ other a p. put_in (λ x. x.id ≡ other → x.end.closing ≡ false) k set.ends (λ f. let same : id ≡ other = sym mine ∙ f in absurd (grind (arith, nat_tests, a, same))) p;
         }
 
-pub closes_keep : (set : SetState) (now id : ℕ) → Keeps (Other id) set (s.set_step set (Calls id Closes now)).set
+pub closes_keep : (set : SetState) (now id : ℕ) → Keeps (Differs id) set (s.set_step set (Calls id Closes now)).set
 closes_keep set now id = shut_by set now id (s.end_of id set.ends) refl
 
 -- ---- a call of another end leaves this one

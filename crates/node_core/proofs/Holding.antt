@@ -15,7 +15,7 @@ use Rattle.link_table.specs.Calls.{fetch}
 use Rattle.link_table.specs.Fetching.{written}
 use Rattle.link_table.specs.Frames.{Sent}
 use Rattle.link_table.specs.declared.written.Written.{Written}
-use Rattle.link_table.specs.Standing.{Kept, TableGoes}
+use Rattle.link_table.specs.Standing.{TableView as Kept, TableGoes}
 use Rattle.link_table.specs.Table.{Table}
 use Rattle.route_table.specs.Held.{GoesOn, HasRoom, Held, IsFull, SameNode, StandsFor}
 use Rattle.route_table.specs.Log.{Item, broadcast}

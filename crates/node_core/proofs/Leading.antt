@@ -13,7 +13,7 @@ use Rattle.l3_datagram.specs.Routers.{SameRouter}
 use Rattle.l3_datagram.specs.declared.carrier.Offered.{Offered}
 use Rattle.link_table.specs.Carrying.{AllAnswer, after_calls}
 use Rattle.link_table.specs.Payloads.{OffersLeave, TakesLower}
-use Rattle.link_table.specs.Standing.{Kept, Made}
+use Rattle.link_table.specs.Standing.{TableView as Kept, Made}
 use Rattle.route_table.specs.Table as routes
 use Rattle.node_core.specs.declared.station.Station.{Station}
 use Rattle.node_core.specs.Pumping.{pump, told_entries}

@@ -15,6 +15,7 @@ pub mod Working
 pub mod Using
 pub mod Lowering
 pub mod Falling
+pub mod Waiting
 pub mod Settled
 pub mod Paging
 pub mod Refusing
@@ -38,6 +39,7 @@ pub mod Naming
 pub mod Trails
 pub mod Pumps
 pub mod Moves
+pub mod Bearing
 pub mod Carrying
 pub mod Further
 pub mod Steps
@@ -49,7 +51,10 @@ pub mod Holders
 pub mod Owning
 pub mod Pumped
 pub mod Soundness
+pub mod Given
+pub mod Wrote
 pub mod Crowding
+pub mod Short
 pub mod Fine
 pub mod Trying
 pub mod FineGiving

@@ -157,7 +157,7 @@ supplies now g = finishes now (m.fill now g) ∙ fills now g
 
 advances : (now x : ℕ) (s : State) → Same s (m.advance now x s)
 advances now x s =
-    let u : State = record s { sending = record s.sending { acked = x }; tries = 0; expiries = 0 } in
+    let u : State = record s { sending = record s.sending { acked = x }; tries = 0 } in
     either s _ _ (nat_lt s.sending.acked x) (wait_if_out now u) refl
 
 holds : (now : ℕ) (choke : Bool) (s : State) → Same s (m.hold now choke s)

@@ -2,6 +2,7 @@
 use Rattle.std.proofs.Common.{◌≡◌, ℕ, refl, sym, ap, subst, List, [], ◌∷◌, ◌++◌, append-nil, inl, inr, arith}
 use Rattle.std.specs.Prelude.{Bool, true, false, if◌then◌else◌, nat_eq, map, Option}
 use Rattle.std.specs.List.{AllByRecursion, range_with_len}
+use Rattle.radio_base.specs.declared.payload.Payload.{Payload}
 use Rattle.ax_address.specs.Callsign.{Callsign}
 use Rattle.ax_address.specs.declared.alias.Alias.{Alias}
 use Rattle.ax_address.specs.declared.Entry.{Entry as Said}
@@ -22,8 +23,8 @@ use Rattle.node_core.specs.Acts as acts
 use Rattle.ax_link.specs.declared.plain.LinkNotice.{LinkNotice}
 use Rattle.link_table.specs.Reaching.{FramesAreSpelled, IsCall, IsSpelled, Reaches}
 use Rattle.node_core.proofs.Names.{nodes_is_call}
-use Rattle.node_core.specs.Broadcasts.{broadcast_frame, broadcast_octets, entries_of_frame, nodes_call, frame_count, round_frame, round_frames}
-use Rattle.node_core.specs.Carried.{CarriesTraced, ComeTraced, IsCarried, NamesCall, brings_traced, offers_traced, sends_in}
+use Rattle.node_core.specs.Broadcasts.{broadcast_frame, broadcast_octets, entries_of_frame, frame_count, round_frame, round_frames}
+use Rattle.node_core.specs.Carried.{CarriesTraced, IsCarried, IsOfNode, NamesCall, Place, WasBorne, brings_traced, offers_traced}
 use Rattle.node_core.specs.Circuits as circuits
 use Rattle.node_core.specs.Links as links
 use Rattle.node_core.specs.Rounds as rounds
@@ -39,45 +40,62 @@ use Rattle.node_core.proofs.Tracing.{all_both}
 use Rattle.node_core.proofs.Trails.{Goes, LinksCarry, LinksHold, OwnCarried, input, quiet, still, follows}
 use Rattle.node_core.proofs.Walking.{Walks}
 
-module _ (size : ℕ) (law : CarriesWhatWasOffered) (weaker : CarriesByWeaker) (spelled : FramesAreSpelled) (one_hop : GoesOneHopOn) where
-  on : (sent : List (List ℕ)) → CarriesOn (offers_traced sent) (brings_traced sent) (nat_eq size)
-  on sent = law (offers_traced sent) (brings_traced sent) (nat_eq size)
+-- a broadcast of a call carries nothing
+pub broadcast_carried : (size : ℕ) (offers : Callsign → Payload → Bool) (own : Callsign) (b : Broadcast) → IsCall own → IsCarried size offers (broadcast_octets own b)
+broadcast_carried size offers own b c = record {
+  frame = record { size = 8; frame = broadcast_frame own b };
+  are = refl;
+  spelled = record {
+    spelled = record {
+      calls = (nodes_is_call, (c, tt));
+      eight = omega arith;
+      parts = record { numbers = tt; pid_there = refl; no_info = λ e. absurd (cc e) };
+      spelled = refl;
+    };
+    sets_up = λ n e. absurd (cc e);
+  };
+  fit = inl refl;
+}
+
+module _ (here : Place) (law : CarriesWhatWasOffered) (weaker : CarriesByWeaker) (spelled : FramesAreSpelled) (one_hop : GoesOneHopOn) where
+  on : (sent : List (List ℕ)) → CarriesOn (offers_traced here sent) (brings_traced here) (nat_eq here.size)
+  on sent = law (offers_traced here sent) (brings_traced here) (nat_eq here.size)
 
   -- ---- the links
 
-  links_go : (n : State) (t : Table) → ((sent : List (List ℕ)) → LinksCarry size sent n.links → LinksCarry size sent t) → (Reaches size n.links → Reaches size t) → Goes size n (record n { links = t })
+  links_go : (n : State) (t : Table) → ((sent : List (List ℕ)) → LinksCarry here sent n.links → LinksCarry here sent t) → (Reaches here.size n.links → Reaches here.size t) → Goes here n (record n { links = t })
   links_go n t f g =
-      quiet size n (record n { links = t }) [] (sym (append-nil n.entries)) refl refl refl
+      quiet here n (record n { links = t }) [] (sym (append-nil n.entries)) refl refl refl
       (λ sent x. record { links = f sent x.links; reaches = g x.reaches; own = x.own; untold = x.untold; names = x.names; call = x.call })
 
-  text_taken : (peer : Callsign) (now : ℕ) (n : State) → Goes size n (at_links (links.take_text peer now) n)
+  text_taken : (peer : Callsign) (now : ℕ) (n : State) → Goes here n (at_links (links.take_text peer now) n)
   unfolding links.take_text
-  text_taken peer now n = links_go n _ (λ sent c. (on sent).takes n.links peer now c) (λ r. (spelled size).takes n.links peer now r)
+  text_taken peer now n = links_go n _ (λ sent c. (on sent).takes n.links peer now c) (λ r. (spelled here.size).takes n.links peer now r)
 
-  text_sent : (peer : Callsign) (text : List ℕ) (now : ℕ) (n : State) → Goes size n (at_links (links.send_text peer text now) n)
+  text_sent : (peer : Callsign) (text : List ℕ) (now : ℕ) (n : State) → Goes here n (at_links (links.send_text peer text now) n)
   unfolding links.send_text
-  text_sent peer text now n = links_go n _ (λ sent c. (on sent).sends n.links peer text now c) (λ r. (spelled size).sends n.links peer text now r)
+  text_sent peer text now n = links_go n _ (λ sent c. (on sent).sends n.links peer text now c) (λ r. (spelled here.size).sends n.links peer text now r)
 
-  closed : (peer : Callsign) (now : ℕ) (n : State) → Goes size n (at_links (links.close peer now) n)
+  closed : (peer : Callsign) (now : ℕ) (n : State) → Goes here n (at_links (links.close peer now) n)
   unfolding links.close
-  closed peer now n = links_go n _ (λ sent c. (on sent).closes n.links peer now c) (λ r. (spelled size).closes n.links peer now r)
+  closed peer now n = links_go n _ (λ sent c. (on sent).closes n.links peer now c) (λ r. (spelled here.size).closes n.links peer now r)
 
-  failed : (peer : Callsign) (n : State) → Goes size n (acts.fail_link peer n)
+  failed : (peer : Callsign) (n : State) → Goes here n (acts.fail_link peer n)
   unfolding links.break_link
   failed peer n =
-      quiet size n (acts.fail_link peer n) [] (sym (append-nil n.entries)) refl refl refl
+      quiet here n (acts.fail_link peer n) [] (sym (append-nil n.entries)) refl refl refl
       (λ sent x. record {
         links = (on sent).breaks n.links peer x.links;
-        reaches = (spelled size).breaks n.links peer x.reaches;
+        reaches = (spelled here.size).breaks n.links peer x.reaches;
         own = x.own;
         untold = x.untold;
         names = all_both NamesCall n.log (logs.Failure peer ∷ []) x.names (tt, tt);
         call = x.call;
       })
 
-  noticed : (n : State) → Goes size n (s.enter_notices n)
+  noticed : (n : State) → Goes here n (s.enter_notices n)
   noticed n =
-      quiet size n (s.enter_notices n) (map (λ (x : Callsign × LinkNotice). Of_link x.0 x.1) n.links.pending.notices) refl refl (ap (λ ts. ts ++ n.set.untold) (none_of_links n.links.pending.notices)) refl
+      quiet here n (s.enter_notices n) (map (λ (x : Callsign × LinkNotice). Of_link x.0 x.1) n.links.pending.notices) refl refl (ap (λ ts. ts ++ n.set.untold) (none_of_links n.links.pending.notices)) refl
       (λ sent x. record {
         links = record { modulus = x.links.modulus; size = x.links.size; links = x.links.links; waiting = x.links.waiting; frames = x.links.frames };
         reaches = record { modulus = x.reaches.modulus; of_size = x.reaches.of_size; own = x.reaches.own; links = x.reaches.links; paths = x.reaches.paths; frames = x.reaches.frames };
@@ -89,52 +107,39 @@ module _ (size : ℕ) (law : CarriesWhatWasOffered) (weaker : CarriesByWeaker) (
 
   -- ---- frames of the node itself
 
-  all_written : (sent : List (List ℕ)) (ss : List frames.Sent) → AllByRecursion (FrameHolds (offers_traced sent) (brings_traced sent) (nat_eq size)) ss → AllByRecursion (IsSpelled size) ss
-      → OwnCarried size sent (map written ss)
+  all_written : (sent : List (List ℕ)) (ss : List frames.Sent) → AllByRecursion (FrameHolds (offers_traced here sent) (brings_traced here) (nat_eq here.size)) ss → AllByRecursion (IsSpelled here.size) ss
+      → OwnCarried here sent (map written ss)
   all_written sent [] a b = tt
-  all_written sent (f ∷ ss) a b = (record { frame = f; are = refl; spelled = b.0; fit = inr a.0 }, all_written sent ss a.1 b.1)
+  all_written sent (f ∷ ss) a b = (record { frame = f; are = refl; spelled = b.0; fit = inr (record { payload = a.0.payload; size = a.0.size }) }, all_written sent ss a.1 b.1)
 
   -- all frames of a node
-  pub all_carried : (sent : List (List ℕ)) (n : State) → CarriesTraced size sent n → OwnCarried size sent (states.frames n)
+  pub all_carried : (sent : List (List ℕ)) (n : State) → CarriesTraced here sent n → OwnCarried here sent (states.frames n)
   all_carried sent n x =
-      all_both (λ (f : Written). IsCarried size sent f.octets.items) n.own (map written n.links.pending.frames) x.own (all_written sent n.links.pending.frames x.links.frames x.reaches.frames)
+      all_both (λ (f : Written). IsOfNode here sent f.octets.items) n.own (map written n.links.pending.frames) x.own (all_written sent n.links.pending.frames x.links.frames x.reaches.frames)
 
   -- they were fetched
-  pub fetched_links : (sent : List (List ℕ)) (n : State) → CarriesTraced size sent n → LinksHold size sent (links.all_fetched n.links)
+  pub fetched_links : (sent : List (List ℕ)) (n : State) → CarriesTraced here sent n → LinksHold here sent (links.all_fetched n.links)
   fetched_links sent n x = (
     record { modulus = x.links.modulus; size = x.links.size; links = x.links.links; waiting = x.links.waiting; frames = tt },
     record { modulus = x.reaches.modulus; of_size = x.reaches.of_size; own = x.reaches.own; links = x.reaches.links; paths = x.reaches.paths; frames = tt },
   )
 
-  pub put_carries : (sent : List (List ℕ)) (f : Written) (n : State) → IsCarried size sent f.octets.items → CarriesTraced size sent n → CarriesTraced size sent (put f n)
+  pub put_carries : (sent : List (List ℕ)) (f : Written) (n : State) → IsOfNode here sent f.octets.items → CarriesTraced here sent n → CarriesTraced here sent (put f n)
   put_carries sent f n g x = record {
     links = (fetched_links sent n x).0;
     reaches = (fetched_links sent n x).1;
-    own = all_both (λ (y : Written). IsCarried size sent y.octets.items) (states.frames n) (f ∷ []) (all_carried sent n x) (g, tt);
+    own = all_both (λ (y : Written). IsOfNode here sent y.octets.items) (states.frames n) (f ∷ []) (all_carried sent n x) (g, tt);
     untold = x.untold;
     names = x.names;
     call = x.call;
   }
 
-  put_goes : (f : Written) (n : State) → ((sent : List (List ℕ)) → CarriesTraced size sent n → IsCarried size sent f.octets.items) → Goes size n (put f n)
-  put_goes f n g = quiet size n (put f n) [] (sym (append-nil n.entries)) refl refl refl (λ sent x. put_carries sent f n (g sent x) x)
+  put_goes : (f : Written) (n : State) → ((sent : List (List ℕ)) → CarriesTraced here sent n → IsOfNode here sent f.octets.items) → Goes here n (put f n)
+  put_goes f n g = quiet here n (put f n) [] (sym (append-nil n.entries)) refl refl refl (λ sent x. put_carries sent f n (g sent x) x)
 
   -- a broadcast of a call is carried
-  pub broadcast_carried : (sent : List (List ℕ)) (own : Callsign) (b : Broadcast) → IsCall own → IsCarried size sent (broadcast_octets own b)
-  broadcast_carried sent own b c = record {
-    frame = record { size = 8; frame = broadcast_frame own b };
-    are = refl;
-    spelled = record {
-      spelled = record {
-        calls = (nodes_is_call, (c, tt));
-        eight = omega arith;
-        parts = record { numbers = tt; pid_there = refl; no_info = λ e. absurd (cc e) };
-        spelled = refl;
-      };
-      sets_up = λ n e. absurd (cc e);
-    };
-    fit = inl refl;
-  }
+  broadcast_carries : (sent : List (List ℕ)) (own : Callsign) (b : Broadcast) → IsCall own → IsOfNode here sent (broadcast_octets own b)
+  broadcast_carries sent own b c = broadcast_carried here.size (offers_traced here sent) own b c
 
   abbrev OwnRound : Callsign → Written → Type 0
   OwnRound own f = (b : Broadcast) × (f.octets.items ≡ broadcast_octets own b)
@@ -143,31 +148,31 @@ module _ (size : ℕ) (law : CarriesWhatWasOffered) (weaker : CarriesByWeaker) (
   own_rounds c alias es [] = tt
   own_rounds c alias es (k ∷ ks) = ((record { alias = alias; entries = entries_of_frame es k }, refl), own_rounds c alias es ks)
 
-  all_put : (fs : List Written) (n : State) → AllByRecursion (OwnRound n.settings.call) fs → Goes size n (rounds.put_all fs n)
-  all_put [] n a = still size n
+  all_put : (fs : List Written) (n : State) → AllByRecursion (OwnRound n.settings.call) fs → Goes here n (rounds.put_all fs n)
+  all_put [] n a = still here n
   all_put (f ∷ fs) n a =
-      follows size n (put f n) _ (put_goes f n (λ sent x. subst (IsCarried size sent) (sym a.0.1) (broadcast_carried sent n.settings.call a.0.0 x.call))) (all_put fs (put f n) a.1)
+      follows here n (put f n) _ (put_goes f n (λ sent x. subst (IsOfNode here sent) (sym a.0.1) (broadcast_carries sent n.settings.call a.0.0 (subst IsCall (sym x.call.0) x.call.1)))) (all_put fs (put f n) a.1)
 
-  pub logged : (items : List Item) (n : State) → AllByRecursion NamesCall items → Goes size n (with_items items n)
+  pub logged : (items : List Item) (n : State) → AllByRecursion NamesCall items → Goes here n (with_items items n)
   logged items n a =
-      quiet size n (with_items items n) [] (sym (append-nil n.entries)) refl refl refl
+      quiet here n (with_items items n) [] (sym (append-nil n.entries)) refl refl refl
       (λ sent x. record { links = x.links; reaches = x.reaches; own = x.own; untold = x.untold; names = all_both NamesCall n.log items x.names a; call = x.call })
 
-  round_goes : (n : State) → Goes size n (rounds.do_round n)
+  round_goes : (n : State) → Goes here n (rounds.do_round n)
   round_goes n =
       let m : State = with_items (logs.Round ∷ []) n in
       let es = to_broadcast m.settings.rules m.log in
-      follows size n m _ (logged (logs.Round ∷ []) n (tt, tt))
+      follows here n m _ (logged (logs.Round ∷ []) n (tt, tt))
       (all_put (round_frames m.settings.call m.settings.alias es) m (own_rounds m.settings.call m.settings.alias es (range_with_len 0 (frame_count es))))
 
   -- ---- inputs of the circuits
 
-  one_come : (sent : List (List ℕ)) (set : SetState) (a : Act) → IsAsking a → ComeTraced sent set (a ∷ [])
-  one_come sent set (sets.Connect dest now) i = tt
-  one_come sent set (sets.Comes d now) i = absurd i
-  one_come sent set (sets.Calls id call now) i = tt
-  one_come sent set (sets.Discard id) i = tt
-  one_come sent set (sets.Restart pair more) i = absurd i
+  one_come : (a : Act) → IsAsking a → AllByRecursion (WasBorne here) (a ∷ [])
+  one_come (sets.Connect dest now) i = (tt, tt)
+  one_come (sets.Comes d now) i = absurd i
+  one_come (sets.Calls id call now) i = (tt, tt)
+  one_come (sets.Discard id) i = (tt, tt)
+  one_come (sets.Restart pair more) i = absurd i
 
   is_input : (a : Act) → IsAsking a → IsInput a
   is_input (sets.Connect dest now) i = i
@@ -176,11 +181,11 @@ module _ (size : ℕ) (law : CarriesWhatWasOffered) (weaker : CarriesByWeaker) (
   is_input (sets.Discard id) i = tt
   is_input (sets.Restart pair more) i = absurd i
 
-  asked : (a : Act) (n : State) → IsAsking a → Goes size n (at_set (circuits.acts a) n)
+  asked : (a : Act) (n : State) → IsAsking a → Goes here n (at_set (circuits.acts a) n)
   unfolding circuits.acts
   asked a n i sent x =
-      input size weaker sent n (at_set (circuits.acts a) n) (a ∷ []) (is_input a i, tt) refl refl (ap (λ ts. n.set.untold ++ ts) (sym (append-nil (set_step n.set.set a).told))) refl refl
-      (one_come sent n.set.set a i) (x.links, x.reaches) x.names x
+      input here weaker sent n (at_set (circuits.acts a) n) (a ∷ []) (is_input a i, tt) refl refl (ap (λ ts. n.set.untold ++ ts) (sym (append-nil (set_step n.set.set a).told))) refl refl
+      (one_come a i) (x.links, x.reaches) x.names x
 
   ticks_input : (now : ℕ) (hs : List Holder) → AllByRecursion IsInput (ticks_of now hs)
   ticks_input now [] = tt
@@ -190,39 +195,36 @@ module _ (size : ℕ) (law : CarriesWhatWasOffered) (weaker : CarriesByWeaker) (
       by true a = a
       by false a = (tt, a)
 
-  ticks_come : (now : ℕ) (hs : List Holder) (sent : List (List ℕ)) (set : SetState) → ComeTraced sent set (ticks_of now hs)
-  ticks_come now [] sent set = tt
-  ticks_come now (h ∷ hs) sent set =
-      let t = set_step set (sets.Calls h.id sets.Ticks now) in
-      by h.gone (ticks_come now hs sent set) (ticks_come now hs (sent ++ sends_in t.told) t.set)
+  ticks_come : (now : ℕ) (hs : List Holder) → AllByRecursion (WasBorne here) (ticks_of now hs)
+  ticks_come now [] = tt
+  ticks_come now (h ∷ hs) = by h.gone (ticks_come now hs)
     where
-      by : (b : Bool) → ComeTraced sent set (ticks_of now hs) → ComeTraced sent set (sets.Calls h.id sets.Ticks now ∷ ticks_of now hs)
-          → ComeTraced sent set (if b then ticks_of now hs else sets.Calls h.id sets.Ticks now ∷ ticks_of now hs)
-      by true a b = a
-      by false a b = b
+      by : (b : Bool) → AllByRecursion (WasBorne here) (ticks_of now hs) → AllByRecursion (WasBorne here) (if b then ticks_of now hs else sets.Calls h.id sets.Ticks now ∷ ticks_of now hs)
+      by true a = a
+      by false a = (tt, a)
 
-  ticked : (now : ℕ) (n : State) → Goes size n (at_set (circuits.ticks now) (at_links (links.tick_links now) n))
+  ticked : (now : ℕ) (n : State) → Goes here n (at_set (circuits.ticks now) (at_links (links.tick_links now) n))
   unfolding circuits.ticks links.tick_links
   ticked now n sent x =
-      input size weaker sent n (at_set (circuits.ticks now) (at_links (links.tick_links now) n)) (ticks_of now n.set.set.ends) (ticks_input now n.set.set.ends) refl refl refl refl refl
-      (ticks_come now n.set.set.ends sent n.set.set) ((on sent).ticks n.links now x.links, (spelled size).ticks n.links now x.reaches) x.names x
+      input here weaker sent n (at_set (circuits.ticks now) (at_links (links.tick_links now) n)) (ticks_of now n.set.set.ends) (ticks_input now n.set.set.ends) refl refl refl refl refl
+      (ticks_come now n.set.set.ends) ((on sent).ticks n.links now x.links, (spelled here.size).ticks n.links now x.reaches) x.names x
 
   -- ---- all of them
 
-  set_sessions : (n : State) (ss : List Session) → Goes size n (record n { sessions = ss })
-  set_sessions n ss = quiet size n (record n { sessions = ss }) [] (sym (append-nil n.entries)) refl refl refl (λ sent x. record { links = x.links; reaches = x.reaches; own = x.own; untold = x.untold; names = x.names; call = x.call })
+  set_sessions : (n : State) (ss : List Session) → Goes here n (record n { sessions = ss })
+  set_sessions n ss = quiet here n (record n { sessions = ss }) [] (sym (append-nil n.entries)) refl refl refl (λ sent x. record { links = x.links; reaches = x.reaches; own = x.own; untold = x.untold; names = x.names; call = x.call })
 
-  set_due : (due : Option ℕ) (n : State) → Goes size n (record n { next_round = due })
-  set_due due n = quiet size n (record n { next_round = due }) [] (sym (append-nil n.entries)) refl refl refl (λ sent x. record { links = x.links; reaches = x.reaches; own = x.own; untold = x.untold; names = x.names; call = x.call })
+  set_due : (due : Option ℕ) (n : State) → Goes here n (record n { next_round = due })
+  set_due due n = quiet here n (record n { next_round = due }) [] (sym (append-nil n.entries)) refl refl refl (λ sent x. record { links = x.links; reaches = x.reaches; own = x.own; untold = x.untold; names = x.names; call = x.call })
 
-  pub walks : Walks (Goes size) NamesCall
+  pub walks : Walks (Goes here) NamesCall
   walks = record {
     serves = record {
-      still = still size;
-      follows = follows size;
+      still = still here;
+      follows = follows here;
       sessions = set_sessions;
       acts = asked;
-      pumps = pumped size law weaker spelled one_hop;
+      pumps = pumped here law weaker spelled one_hop;
       takes_text = text_taken;
       sends_text = text_sent;
       closes_link = closed;

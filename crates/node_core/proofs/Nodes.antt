@@ -10,7 +10,7 @@ use Rattle.kiss_framing.specs.Stream.{Item, items}
 use Rattle.kiss_framing.specs.declared.deframer.KissItem.{KissItem}
 use Rattle.kiss_framing.specs.declared.deframer.KissItem.TheVariants as kiss_items
 use Rattle.l3_datagram.specs.Routers.{Routing}
-use Rattle.link_table.specs.Standing.{NotNoMemory, TableGoes, TableStands, Kept as LinkTable}
+use Rattle.link_table.specs.Standing.{NotNoMemory, TableGoes, TableStands, TableView as LinkTable}
 use Rattle.link_table.specs.Table.{Table}
 use Rattle.link_table.specs.declared.path_refusal.PathRefusal.{PathRefusal}
 use Rattle.link_table.specs.declared.path_refusal.PathRefusal.TheVariants as paths

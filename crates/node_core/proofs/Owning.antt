@@ -19,7 +19,7 @@ use Rattle.node_core.specs.Serving.{is_at_end, is_circuit}
 use Rattle.node_core.specs.Sessions as s
 use Rattle.node_core.specs.Sessions.{Session, circuit_of}
 use Rattle.node_core.specs.Users.{changed}
-use Rattle.node_core.proofs.Holders.{AreOpen, Below, HaveMessages, Keeps, none_closing}
+use Rattle.node_core.proofs.Holders.{AreOpen, Below, HaveMessages, Keeps, Once, none_closing}
 
 -- ---- what the sessions own
 
@@ -54,6 +54,7 @@ mades id (t ∷ ts) = made_by id t + mades id ts
 
 pub record Owns (set : SetState) (untold : List Told) (ss : List Session) : Type 0 where
   pub below : Below set
+  pub once : Once set.ends
   pub messages : HaveMessages set.ends
   pub few : (id : ℕ) → total (owned_by id) ss + mades id untold ≤ 1
   pub fresh : (id : ℕ) → set.number ≤ id → total (owned_by id) ss + mades id untold ≡ 0
@@ -142,7 +143,7 @@ by_stage x y e f owned opens = record {
       omega (arith, a, opens id);
 }
 
-staged : (c : Circuit) (notice : EndNotice) → circuit_of (s.stage_by c notice) ≡ Some c
+pub staged : (c : Circuit) (notice : EndNotice) → circuit_of (s.stage_by c notice) ≡ Some c
 staged c (end.Opened window) = refl
 staged c end.Refused = refl
 staged c end.Closed = refl
@@ -236,6 +237,7 @@ pub owns_less : (set : SetState) (ts us : List Told) (ss xs : List Session) → 
     → ((id : ℕ) → total (opens_by id) xs + mades id us ≤ total (opens_by id) ss + mades id ts) → Owns set us xs
 owns_less set ts us ss xs o owned opens = record {
   below = o.below;
+  once = o.once;
   messages = o.messages;
   few = λ id. omega (arith, o.few id, owned id);
   fresh = λ id over. omega (arith, o.fresh id over, owned id);
@@ -324,7 +326,7 @@ numbered first next (Gone at facts ∷ ts) e = passes first next (Gone at facts)
 numbered first next (Restarted pair ∷ ts) e = passes first next (Restarted pair) ts (λ id. refl) (numbered first next ts e)
 numbered first next (Lost at facts ∷ ts) e = passes first next (Lost at facts) ts (λ id. refl) (numbered first next ts e)
 
-below_or : (a b : ℕ) → (a < b) ⊎ (b ≤ a)
+pub below_or : (a b : ℕ) → (a < b) ⊎ (b ≤ a)
 below_or a b = by (nat_lt a b) refl
   where
     by : (c : Bool) → nat_lt a b ≡ c → (a < b) ⊎ (b ≤ a)
@@ -350,6 +352,7 @@ owns_input admits set d ts ss o k made known later =
     let n = numbered set.number d.set.number d.told made in
     record {
       below = k.below o.below;
+      once = k.once o.below o.once;
       messages = k.messages o.messages;
       few = λ id. few id (le id);
       fresh = λ id high.

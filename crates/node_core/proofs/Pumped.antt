@@ -16,7 +16,7 @@ use Rattle.l3_datagram.specs.declared.datagram.DatagramHead.{DatagramHead}
 use Rattle.l3_datagram.specs.declared.datagram.DatagramRefusal.{DatagramRefusal}
 use Rattle.l3_datagram.specs.declared.routed.Routed.{Routed}
 use Rattle.l3_datagram.specs.declared.routed.Routed.TheVariants as routed
-use Rattle.link_table.specs.Calls.{collect}
+use Rattle.link_table.specs.Calls.{collect, tell_lost}
 use Rattle.link_table.specs.Table.{Table}
 use Rattle.node_core.specs.Circuits as circuits
 use Rattle.node_core.specs.Links as links
@@ -125,7 +125,7 @@ module _ (R : SetState → List Told → List Session → Type 0)
     unfolding p.pump
     pump_keeps now n r = times_on now (p.at_router n) (p.tell_all now n) (all_on now n r)
 
--- ---- the links, where nothing waits at the router
+-- ---- the links
 
 module _ (L : Table → Type 0) (offer : (to : Callsign) (d : Datagram) (now : ℕ) (t : Table) → L t → L (links.offer to d now t)) where
   take_links : (now : ℕ) (m : State) (t : Turn) → L m.links → L (p.take_turn now t m).links
@@ -136,6 +136,24 @@ module _ (L : Table → Type 0) (offer : (to : Callsign) (d : Datagram) (now : �
   links_by now m true x = take_links now m (circuits.tells (next_hop m) m.set) x
   links_by now m false x = x
 
+  all_links : (now : ℕ) (n : State) → L n.links → L (p.tell_all now n).links
+  all_links now n x = kept (p.tell_turn now) p.pending (λ m. L m.links) (λ m y. links_by now m (nat_lt 0 (p.pending m)) y) n x
+
+  -- where nothing waits at the router
   pub dry_links : (now : ℕ) (n : State) → p.at_router n ≡ 0 → L n.links → L (p.pump now n).links
   unfolding p.pump
-  dry_links now n e x = rw e (kept (p.tell_turn now) p.pending (λ m. L m.links) (λ m y. links_by now m (nat_lt 0 (p.pending m)) y) n x)
+  dry_links now n e x = rw e (all_links now n x)
+
+  module _ (collects : (t : Table) → L t → L (collect t)) (tells : (t : Table) → L t → L (tell_lost t)) where
+    asked_links : (now : ℕ) (n : State) (lost : List Callsign) (waiting : List Parcel) → L n.links → L (p.ask_for now lost waiting n).links
+    asked_links now n (c ∷ cs) waiting x = tells n.links x
+    asked_links now n [] (parcel ∷ parcels) x = take_links now (at_links collect n) (circuits.hears (next_hop n) now parcel n.set) (collects n.links x)
+    asked_links now n [] [] x = x
+
+    times_links : (now k : ℕ) (n : State) → L n.links → L (p.ask_times now k n).links
+    times_links now zero n x = x
+    times_links now (suc k) n x = times_links now k (p.tell_all now (p.ask now n)) (all_links now (p.ask now n) (asked_links now n n.links.pending.lost n.links.pending.waiting x))
+
+    pub pump_links : (now : ℕ) (n : State) → L n.links → L (p.pump now n).links
+    unfolding p.pump
+    pump_links now n x = times_links now (p.at_router n) (p.tell_all now n) (all_links now n x)

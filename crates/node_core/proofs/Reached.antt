@@ -1,7 +1,7 @@
 -- Every node that inputs may have led to is fine.
-use Rattle.std.proofs.Common.{◌≡◌, ℕ, refl, sym, ap, subst, arith, List, [], ◌∷◌, ◌++◌, append-nil, append_assoc}
+use Rattle.std.proofs.Common.{◌≡◌, ◌∙◌, ℕ, refl, sym, ap, subst, arith, length, List, [], ◌∷◌, ◌++◌, append-nil, append_assoc}
 use Rattle.std.specs.List.{AllByRecursion}
-use Rattle.std.specs.Prelude.{Bool, true, false, ◌||◌, ◌&&◌, ◌==◌, is_some, nat_le, nat_lt, if◌then◌else◌, Option, Some, None, Result, Ok, Err}
+use Rattle.std.specs.Prelude.{Bool, true, false, ◌||◌, ◌&&◌, ◌==◌, is_none, is_some, not, nat_le, nat_lt, if◌then◌else◌, Option, Some, None, Result, Ok, Err}
 use Rattle.ax_address.specs.Callsign.{Callsign}
 use Rattle.ax_address.specs.CallOrder.{same_call}
 use Rattle.ax_frame.specs.declared.head.Head.{Head}
@@ -10,15 +10,22 @@ use Rattle.ax_frame.specs.Frames.{Frame}
 use Rattle.ax_frame.specs.Read.{read_head_at, read_at}
 use Rattle.circuit_l4.specs.EndOpening.{facts_of}
 use Rattle.circuit_l4.specs.EndTable.{Close, step}
+use Rattle.circuit_l4.specs.Receiving.{inbox}
+use Rattle.node_core.specs.declared.sessions.session.User.{User}
+use Rattle.node_core.specs.declared.sessions.session.User.TheVariants.{AtEnd, AtLink}
 use Rattle.circuit_set.specs.CircuitSets.{facts_at}
 use Rattle.circuit_set.specs.Inputs.{TellsLess, connect_answer, runs, ticks_of}
 use Rattle.circuit_set.specs.Sets as sets
 use Rattle.circuit_set.specs.Sets.{Act, Holder, SetDone, SetState, Told, set_step}
-use Rattle.circuit_set.specs.Standing.{write_answer}
+use Rattle.circuit_set.specs.Standing.{by_write, take_answer, write_answer}
+use Rattle.circuit_l4.specs.EndTable as ends
+use Rattle.circuit_set.specs.declared.event.SetRefusal.TheVariants as set_refusal
 use Rattle.circuit_set.specs.declared.event.ConnectRefusal.{ConnectRefusal}
 use Rattle.circuit_set.specs.declared.event.SetRefusal.{SetRefusal}
 use Rattle.digi_path.specs.Paths.{Action, For_me, Repeat, Not_yet, Heard}
 use Rattle.kiss_framing.specs.Stream as kiss
+use Rattle.ax_address.specs.CallReading.{ReadsCallTexts}
+use Rattle.link_table.specs.Laws.{CarriesWhatWasOffered}
 use Rattle.link_table.specs.Payloads.{OffersLeave, TakesLower}
 use Rattle.link_table.specs.declared.written.Written.{Written}
 use Rattle.nodes_broadcast.specs.declared.nodes.NodesRefusal.{NodesRefusal}
@@ -31,7 +38,9 @@ use Rattle.node_core.specs.declared.acts.ActRefusal.TheVariants as refusal
 use Rattle.node_core.specs.declared.config.NodeConfig.{NodeConfig}
 use Rattle.node_core.specs.Acts as acts
 use Rattle.node_core.specs.Acts.{Answered}
-use Rattle.node_core.specs.Bridged.{Acts, Bytes, EverySession, Fetches_entry, Fetches_frame, Input, IsBounded, IsBridged, Paths, SessionsBounded, SessionsBridged, Ticks, after, after_all}
+use Rattle.node_core.specs.declared.sessions.session.Stage.{Stage}
+use Rattle.node_core.specs.declared.sessions.session.Stage.TheVariants.{AtPrompt, Trying, Failed, Connected}
+use Rattle.node_core.specs.Bridged.{Acts, BridgedAt, Bytes, EverySession, Fetches_entry, Fetches_frame, Input, IsBounded, IsBridged, IsClosedLast, IsEndsWriter, Paths, SessionsBounded, SessionsBridged, SessionsClosedLast, SessionsWriteTheirEnds, Ticks, after, after_all}
 use Rattle.node_core.specs.Broadcasts.{is_broadcast, round_frames}
 use Rattle.node_core.specs.Circuits as circuits
 use Rattle.node_core.specs.Configs.{new_node, new_station}
@@ -41,31 +50,39 @@ use Rattle.node_core.specs.Pumping.{pump}
 use Rattle.node_core.specs.Receiving as receiving
 use Rattle.node_core.specs.Rounds as rounds
 use Rattle.node_core.specs.Serving.{is_at_end, is_circuit, is_served, serve_sessions}
-use Rattle.node_core.specs.Sessions.{Session, circuit_of}
+use Rattle.node_core.specs.Sessions.{Session, circuit_of, leaves}
 use Rattle.node_core.specs.Settling as s
 use Rattle.node_core.specs.Standing.{IsTold}
 use Rattle.node_core.specs.States.{NodeState, State, at_links, at_set, fetch_own, next_hop, put, with_items}
 use Rattle.node_core.specs.UserActs as user
 use Rattle.node_core.specs.UserActs.{UserAct}
-use Rattle.node_core.specs.Users.{facts}
+use Rattle.node_core.specs.Users.{facts, took}
+use Rattle.node_core.specs.Waits.{has_text_at}
 use Rattle.node_core.proofs.Faithful.{sessions_fine}
-use Rattle.node_core.proofs.Fine.{All, Fine, acted, closes_fine, pumped, takes_fine, writes_fine}
+use Rattle.node_core.proofs.Fine.{All, Fine, goes_on, acted, closes_fine, pumped, takes_fine, writes_fine}
 use Rattle.node_core.proofs.Holders.{Any, connects_keeps, ticks_keep}
-use Rattle.node_core.proofs.Soundness.{Every, Sound, links_every, sound_leaves}
+use Rattle.node_core.proofs.Given.{Given, GivesAt, away, deaf, deaf_is, given_left}
+use Rattle.node_core.proofs.Soundness.{Every, Sound, WritesAt, links_every, sound_leaves}
 use Rattle.node_core.proofs.Making.{connected_ok, step_ok}
 use Rattle.node_core.proofs.Nodes.{items_told, told_after}
-use Rattle.node_core.proofs.Owning.{Owns, all_opens, links_fewer, mades, owned_by, owns_fewer, owns_input, total}
+use Rattle.node_core.proofs.Owning.{all_opens, links_fewer, mades, owned_by, owns_fewer, owns_input, total}
 use Rattle.node_core.proofs.Resting.{pumped_dry}
 use Rattle.node_core.proofs.Settled.{nothing_left}
+use Rattle.node_core.proofs.Short.{Goes, IsShort, act_short, fetched_short, item_short, path_short, starts_short, walks}
+use Rattle.node_core.proofs.Walking.{tick_on, turn_on}
+use Rattle.node_core.proofs.Wrote.{NotIts, Written as WritesAll, WrittenAt, WroteAt, connects_wrote, ticks_wrote, written_same}
 use Rattle.node_core.proofs.Turns.{kept}
 
 -- ---- the settling
 
-module _ (offers : OffersLeave) (takes : TakesLower) (less : TellsLess) where
+module _ (offers : OffersLeave) (takes : TakesLower) (less : TellsLess) (law : CarriesWhatWasOffered) (reads : ReadsCallTexts) where
+  abbrev Ready : State → Type 0
+  Ready n = Fine n × IsShort n.links
+
   noticed : (n : State) → Fine n → Fine (s.enter_notices n)
   noticed n f =
       let ns = n.links.pending.notices in
-      (owns_fewer n.set.set n.set.untold n.sessions _ f.0 (links_fewer ns n.sessions), links_every Sound sound_leaves ns n.sessions f.1)
+      (owns_fewer n.set.set n.set.untold n.sessions _ f.0 (links_fewer ns n.sessions), (links_every Sound sound_leaves ns n.sessions f.1.0, (links_every (Given n.set.set) (given_left n.set.set) ns n.sessions f.1.1.0, links_every (WritesAll n.set.set) (λ x w. written_same n.set.set x (leaves x) refl refl w) ns n.sessions f.1.1.1)))
 
   drop_fine : (now : ℕ) (n : State) (peers : List Callsign) → Fine n → Fine (s.drop_first now peers n).after
   drop_fine now n [] f = f
@@ -74,8 +91,8 @@ module _ (offers : OffersLeave) (takes : TakesLower) (less : TellsLess) where
   dropped : (now : ℕ) (n : State) → Fine n → Fine (s.drop_texts now n)
   dropped now n f = kept (s.drop_text now) s.payloads Fine (λ m g. drop_fine now m (links.text_peers m.links) g) n f
 
-  turned : (now : ℕ) (n : State) → Fine n → Fine (s.turn now n).after
-  turned now n f = by b.settings.prompt
+  turned : (now : ℕ) (n : State) → Fine n → IsShort n.links → Fine (s.turn now n).after
+  turned now n f short = by b.settings.prompt
     where
       a : State
       a = s.enter_notices n
@@ -86,13 +103,16 @@ module _ (offers : OffersLeave) (takes : TakesLower) (less : TellsLess) where
       fine : Fine b
       fine = pumped now a (noticed n f)
 
+      still : IsShort b.links
+      still = (walks law).serves.pumps now a ((walks law).notices n short)
+
       by : (c : Bool) → Fine (if c then serve_sessions now b else s.drop_turn now b).after
-      by true = sessions_fine offers takes less now b fine (pumped_dry offers takes less now a).router
+      by true = sessions_fine offers takes less law reads now b fine still (pumped_dry offers takes less now a).router
       by false = dropped now b fine
 
-  settled : (now : ℕ) (n : State) → Fine n → Fine (s.after_input now n)
+  settled : (now : ℕ) (n : State) → Ready n → Ready (s.after_input now n)
   unfolding s.after_input
-  settled now n f = kept (s.turn now) s.left Fine (turned now) n f
+  settled now n r = kept (s.turn now) s.left Ready (λ m q. (turned now m q.0 q.1, turn_on Goes (λ item. Unit {0}) (walks law) reads now m q.1)) n r
 
   -- ---- KISS items
 
@@ -125,9 +145,9 @@ module _ (offers : OffersLeave) (takes : TakesLower) (less : TellsLess) where
   item_fine now (kiss.Frame port command payload) n f = either _ n ((port == 0) && (command == 0)) (headed now payload (read_head_at payload) n f) f
   item_fine now kiss.Too_long n f = f
 
-  items_fine : (now : ℕ) (items : List kiss.Item) (n : State) → Fine n → Fine (after_items now items n)
-  items_fine now [] n f = f
-  items_fine now (item ∷ more) n f = items_fine now more (after_item now item n) (settled now (receiving.take_item now item n) (item_fine now item n f))
+  items_ready : (now : ℕ) (items : List kiss.Item) (n : State) → Ready n → Ready (after_items now items n)
+  items_ready now [] n r = r
+  items_ready now (item ∷ more) n r = items_ready now more (after_item now item n) (settled now (receiving.take_item now item n) (item_fine now item n r.0, item_short law now item n r.1))
 
   -- ---- ticks
 
@@ -145,29 +165,31 @@ module _ (offers : OffersLeave) (takes : TakesLower) (less : TellsLess) where
   due_fine now (Some due) n f = either _ n (nat_le due now) (round_fine n f) f
 
   abbrev Ticked : SetState → List Told → List Session → List Act → Type 0
-  Ticked set ts ss inputs = Owns (runs inputs set).set (ts ++ (runs inputs set).told) ss
+  Ticked set ts ss inputs = All (runs inputs set).set (ts ++ (runs inputs set).told) ss
 
-  ticks_own : (now : ℕ) (hs : List Holder) (set : SetState) (ts : List Told) (ss : List Session) → Owns set ts ss
-      → Owns (runs (ticks_of now hs) set).set (ts ++ (runs (ticks_of now hs) set).told) ss
-  ticks_own now [] set ts ss o = subst (λ (us : List Told). Owns set us ss) (sym (append-nil ts)) o
-  ticks_own now (h ∷ hs) set ts ss o = by h.gone (λ set2 ts2 o2. ticks_own now hs set2 ts2 ss o2)
+  ticks_all : (now : ℕ) (hs : List Holder) (set : SetState) (ts : List Told) (ss : List Session) → All set ts ss
+      → All (runs (ticks_of now hs) set).set (ts ++ (runs (ticks_of now hs) set).told) ss
+  ticks_all now [] set ts ss o = subst (λ (us : List Told). All set us ss) (sym (append-nil ts)) o
+  ticks_all now (h ∷ hs) set ts ss o = by h.gone (λ set2 ts2 o2. ticks_all now hs set2 ts2 ss o2)
     where
       d : SetDone
       d = set_step set (sets.Calls h.id sets.Ticks now)
 
-      one_tick : Owns d.set (ts ++ d.told) ss
-      one_tick = owns_input Any set d ts ss o (ticks_keep set now h.id) (step_ok set (sets.Calls h.id sets.Ticks now) tt).made (λ id some. tt) (λ id some. tt)
+      one_tick : All d.set (ts ++ d.told) ss
+      one_tick =
+          let k = ticks_keep set now h.id in
+          (owns_input Any set d ts ss o.0 k (step_ok set (sets.Calls h.id sets.Ticks now) tt).made (λ id some. tt) (λ id some. tt), goes_on Any set d.set ts ss k (ticks_wrote set now h.id) o)
 
-      by : (b : Bool) → ((set2 : SetState) (ts2 : List Told) → Owns set2 ts2 ss → Ticked set2 ts2 ss (ticks_of now hs))
+      by : (b : Bool) → ((set2 : SetState) (ts2 : List Told) → All set2 ts2 ss → Ticked set2 ts2 ss (ticks_of now hs))
           → Ticked set ts ss (if b then ticks_of now hs else sets.Calls h.id sets.Ticks now ∷ ticks_of now hs)
       by true more = more set ts o
       by false more =
           let rest : SetDone = runs (ticks_of now hs) d.set in
-          subst (λ (us : List Told). Owns rest.set us ss) (append_assoc ts d.told rest.told) (more d.set (ts ++ d.told) one_tick)
+          subst (λ (us : List Told). All rest.set us ss) (append_assoc ts d.told rest.told) (more d.set (ts ++ d.told) one_tick)
 
   set_ticked : (now : ℕ) (n : State) → Fine n → Fine (at_set (circuits.ticks now) n)
   unfolding circuits.ticks
-  set_ticked now n f = (ticks_own now n.set.set.ends n.set.set n.set.untold n.sessions f.0, f.1)
+  set_ticked now n f = ticks_all now n.set.set.ends n.set.set n.set.untold n.sessions f
 
   tick_fine : (now : ℕ) (n : State) → Fine n → Fine (rounds.tick now n)
   tick_fine now n f =
@@ -187,12 +209,12 @@ module _ (offers : OffersLeave) (takes : TakesLower) (less : TellsLess) where
       (answered _ _ (nat_lt quality n.settings.rules.minq) f (answered (acts.done (with_items (item ∷ []) n)) _ (receiving.has_room (item ∷ []) n) f f))
 
   connected : (now : ℕ) (dest : Callsign) (r : Result ℕ ConnectRefusal) (n : State) → Fine n → Fine (acts.connect_by r (sets.Connect dest now) n).node
-  connected now dest (Ok id) n f = acted (sets.Connect dest now) n (connects_keeps n.set.set dest now) (connected_ok n.set.set dest now).made f
+  connected now dest (Ok id) n f = acted (sets.Connect dest now) n (connects_keeps n.set.set dest now) (connects_wrote n.set.set dest now) (connected_ok n.set.set dest now).made f
   connected now dest (Err why) n f = f
 
-  wrote : (now id : ℕ) (message : List ℕ) (r : Result (Unit {0}) SetRefusal) (n : State) → Fine n → Fine (acts.write_by r (sets.Calls id (sets.Writes message) now) n).node
-  wrote now id message (Ok _) n f = writes_fine now id message n f
-  wrote now id message (Err why) n f = f
+  wrote : (now id : ℕ) (message : List ℕ) (r : Result (Unit {0}) SetRefusal) (n : State) → Every (NotIts id) n.sessions → Fine n → Fine (acts.write_by r (sets.Calls id (sets.Writes message) now) n).node
+  wrote now id message (Ok _) n none f = writes_fine now id message n none f
+  wrote now id message (Err why) n none f = f
 
   or_none : (a b : Bool) → (a || b) ≡ false → (a ≡ false) × (b ≡ false)
   or_none true b e = absurd (cc e)
@@ -206,6 +228,32 @@ module _ (offers : OffersLeave) (takes : TakesLower) (less : TellsLess) where
       let none : owned_by id x ≡ 0 = rw (both.0, both.1) refl in
       let rest = unserved id ss parts.1 in
       omega (arith, none, rest)
+
+  unserved_none : (id : ℕ) (ss : List Session) → is_served id ss ≡ false → Every (NotIts id) ss
+  unserved_none id [] e = tt
+  unserved_none id (x ∷ ss) e =
+      let parts = or_none (is_at_end id x.user || is_circuit id (circuit_of x.stage)) (is_served id ss) e in
+      let both = or_none (is_at_end id x.user) (is_circuit id (circuit_of x.stage)) parts.0 in
+      (both.1, unserved_none id ss parts.1)
+
+  -- nothing is written to an end that isn't held
+  not_written : (now id : ℕ) (message : List ℕ) (n : State) (o : Option Holder) → is_some (facts_at o) ≡ false → Fine n → Fine (acts.write_by (write_answer o message) (sets.Calls id (sets.Writes message) now) n).node
+  not_written now id message n None e f = f
+  not_written now id message n (Some h) e f = by h.gone e
+    where
+      by : (b : Bool) → is_some (if b then None else Some (facts_of h.end)) ≡ false
+          → Fine (acts.write_by (if b then Err set_refusal.NoEnd else by_write (ends.write_answer h.end message)) (sets.Calls id (sets.Writes message) now) n).node
+      by true g = f
+      by false g = absurd (cc g)
+
+  written_by : (now id : ℕ) (message : List ℕ) (n : State) (a b : Bool) → is_some (facts id n) ≡ a → is_served id n.sessions ≡ b → (a && b) ≡ false → Fine n → Fine (acts.write now id message n).node
+  written_by now id message n true true e g h f = absurd (cc h)
+  written_by now id message n false b e g h f = not_written now id message n (sets.end_of id n.set.set.ends) e f
+  written_by now id message n true false e g h f = wrote now id message (write_answer (sets.end_of id n.set.set.ends) message) n (unserved_none id n.sessions g) f
+
+  writes : (now id : ℕ) (message : List ℕ) (n : State) → Fine n → (b : Bool) → acts.is_kept id n ≡ b → Fine (if b then acts.refuse refusal.Served n else acts.write now id message n).node
+  writes now id message n f true e = f
+  writes now id message n f false e = written_by now id message n (is_some (facts id n)) (is_served id n.sessions) refl refl e f
 
   -- an end that isn't held is left as it is
   not_held : (set : SetState) (o : Option Holder) (now : ℕ) → is_some (facts_at o) ≡ false → sets.called set o sets.Closes now ≡ sets.untold set
@@ -242,33 +290,33 @@ module _ (offers : OffersLeave) (takes : TakesLower) (less : TellsLess) where
   act_fine now (user.Lock dest alias neighbour quality) n t f = locked dest (logs.Lock dest alias neighbour quality) quality n f
   act_fine now (user.Connect dest) n t f = connected now dest (connect_answer (next_hop n) dest n.set.set) n f
   act_fine now (user.Write id message) n t f =
-      answered _ _ (acts.is_kept id n) f (wrote now id message (write_answer (sets.end_of id n.set.set.ends) message) n f)
+      writes now id message n f (acts.is_kept id n) refl
   act_fine now (user.Take id) n t f = answered _ _ (acts.is_kept id n) f (takes_fine now id n f)
   act_fine now (user.Close id) n t f = closes now id n t f (acts.is_kept id n) refl
 
   -- ---- every node
 
   record Reached (n : State) : Type 0 where
-    fine : Fine n
+    ready : Ready n
     told : IsTold n
 
   fetched : (own : List Written) (n : State) → Reached n → Reached (fetch_own own n)
-  fetched [] n r = record { fine = r.fine; told = r.told }
-  fetched (x ∷ fs) n r = record { fine = r.fine; told = r.told }
+  fetched [] n r = record { ready = (r.ready.0, fetched_short law [] n r.ready.1); told = r.told }
+  fetched (x ∷ fs) n r = record { ready = r.ready; told = r.told }
 
   reaches : (i : Input) (n : NodeState) → Reached n.station → Reached (after i n).station
   reaches (Bytes now bytes) n r =
       let items = new_items n.stream bytes in
-      record { fine = items_fine (moment now) items n.station r.fine; told = items_told (nothing_left offers takes less) (moment now) items n.station r.told }
+      record { ready = items_ready (moment now) items n.station r.ready; told = items_told (nothing_left offers takes less) (moment now) items n.station r.told }
   reaches (Ticks now) n r =
       let m : State = rounds.tick (moment now) n.station in
-      record { fine = settled (moment now) m (tick_fine (moment now) n.station r.fine); told = told_after (nothing_left offers takes less) (moment now) m }
+      record { ready = settled (moment now) m (tick_fine (moment now) n.station r.ready.0, tick_on Goes (λ item. Unit {0}) (walks law) (moment now) n.station r.ready.1); told = told_after (nothing_left offers takes less) (moment now) m }
   reaches (Acts now act) n r =
       let m : State = (acts.do_act (moment now) act n.station).node in
-      record { fine = settled (moment now) m (act_fine (moment now) act n.station r.told r.fine); told = told_after (nothing_left offers takes less) (moment now) m }
-  reaches (Paths peer path) n r = record { fine = r.fine; told = r.told }
+      record { ready = settled (moment now) m (act_fine (moment now) act n.station r.told r.ready.0, act_short law (moment now) act n.station r.ready.1); told = told_after (nothing_left offers takes less) (moment now) m }
+  reaches (Paths peer path) n r = record { ready = (r.ready.0, path_short law peer path n.station r.ready.1); told = r.told }
   reaches Fetches_frame n r = fetched n.station.own n.station r
-  reaches Fetches_entry n r = record { fine = r.fine; told = r.told }
+  reaches Fetches_entry n r = record { ready = r.ready; told = r.told }
 
   reached : (inputs : List Input) (n : NodeState) → Reached n.station → Reached (after_all inputs n).station
   reached [] n r = r
@@ -276,28 +324,72 @@ module _ (offers : OffersLeave) (takes : TakesLower) (less : TellsLess) where
 
   starts : (c : NodeConfig) → Reached (new_station c)
   starts c = record {
-    fine = (
-      record {
-        below = tt;
-        messages = tt;
-        few = λ id. omega arith;
-        fresh = λ id over. omega arith;
-        unshut = λ id some. tt;
-      },
-      tt,
+    ready = (
+      (
+        record {
+          below = tt;
+          once = tt;
+          messages = tt;
+          few = λ id. omega arith;
+          fresh = λ id over. omega arith;
+          unshut = λ id some. tt;
+        },
+        (tt, (tt, tt)),
+      ),
+      starts_short c,
     );
     told = refl;
   }
 
-  all_of : (P : Session → Type 0) → ((x : Session) → Sound x → P x) → (ss : List Session) → Every Sound ss → AllByRecursion P ss
-  all_of P f [] e = tt
-  all_of P f (x ∷ ss) e = (f x e.0, all_of P f ss e.1)
+  all_of : (P : Session → Type 0) (set : SetState) → ((x : Session) → Sound x → Given set x → WritesAll set x → P x) → (ss : List Session) → Every Sound ss → Every (Given set) ss → Every (WritesAll set) ss → AllByRecursion P ss
+  all_of P set f [] e g w = tt
+  all_of P set f (x ∷ ss) e g w = (f x e.0 g.0 w.0, all_of P set f ss e.1 g.1 w.1)
 
-  every : (P : Session → Type 0) → ((x : Session) → Sound x → P x) → EverySession P
-  every P f c inputs = let n : NodeState = after_all inputs (new_node c) in all_of P f n.station.sessions (reached inputs (new_node c) (starts c)).fine.1
+  every : (P : State → Session → Type 0) → ((n : State) (x : Session) → Sound x → Given n.set.set x → WritesAll n.set.set x → P n x) → EverySession P
+  every P f c inputs =
+      let n : State = (after_all inputs (new_node c)).station in
+      let fine = (reached inputs (new_node c) (starts c)).ready.0 in
+      all_of (P n) n.set.set (f n) n.sessions fine.1.0 fine.1.1.0 fine.1.1.1
+
+  is_bridged : (n : State) (x : Session) → Sound x → Given n.set.set x → WritesAll n.set.set x → IsBridged n x
+  is_bridged n x p g w = by x.stage p.writes g.gives
+    where
+      by : (stage : Stage) → WritesAt stage x → GivesAt stage x.bridge (deaf n.set.set x) → BridgedAt stage n x
+      by AtPrompt w f = tt
+      by (Trying c) w f = tt
+      by (Failed c) w f = tt
+      by (Connected c) w f = record { writes = w; gives = λ a b d. f a b (sym (deaf_is x n) ∙ d) }
 
   pub bridged : SessionsBridged
-  bridged = every IsBridged (λ x p. p.bridged)
+  bridged = every IsBridged is_bridged
+
+  is_closed_last : (n : State) (x : Session) → Sound x → Given n.set.set x → WritesAll n.set.set x → IsClosedLast n x
+  is_closed_last n x p g w c h k =
+      let d = g.closed c h k in
+      ap (λ (bs : List ℕ). nat_lt 0 (length bs) || (not x.left && has_text_at x.user n)) d.0 ∙ by x.user x.left d.1
+    where
+      none : (o : Option Holder) → is_none (facts_at o) ≡ true → took (take_answer o) ≡ false
+      none None e = refl
+      none (Some w) e = held w.gone e
+        where
+          held : (b : Bool) → is_none (if b then None else Some (facts_of w.end)) ≡ true → took (if b then Err (record {}) else Ok (nat_lt 0 (length (inbox w.end.receiving)))) ≡ false
+          held true f = refl
+          held false f = absurd (cc f)
+
+      by : (u : User) (left : Bool) → away u left n.set.set ≡ true → (not left && has_text_at u n) ≡ false
+      by (AtEnd id) true e = refl
+      by (AtEnd id) false e = none (sets.end_of id n.set.set.ends) e
+      by (AtLink peer) true e = refl
+      by (AtLink peer) false e = absurd (cc e)
+
+  is_writer : (n : State) (x : Session) → Sound x → Given n.set.set x → WritesAll n.set.set x → IsEndsWriter n x
+  is_writer n x p g w c h = let here : WroteAt n.set.set c.id x.bridge.wrote = subst (λ (stage : Stage). WrittenAt n.set.set stage x.bridge) h w.all in (here.holder, here.is, here.wrote)
+
+  pub writes_ends : SessionsWriteTheirEnds
+  writes_ends = every IsEndsWriter is_writer
+
+  pub closed_last : SessionsClosedLast
+  closed_last = every IsClosedLast is_closed_last
 
   pub bounded : SessionsBounded
-  bounded = every IsBounded (λ x p. record { rest = p.rest; replies = p.replies })
+  bounded = every (λ n. IsBounded) (λ n x p g w. record { rest = p.rest; replies = p.replies })

@@ -5,6 +5,7 @@ use Rattle.std.specs.List.{AllByRecursion, prefix_len}
 use Rattle.std.specs.Int.Bits.{bit_and, bit_or, and_zero_r}
 use Rattle.std.proofs.lemmas.Nat.{and_block, or_disjoint}
 use Rattle.std.proofs.lemmas.List.{length-append, length-map, length-replicate}
+use Rattle.radio_base.specs.declared.payload.Payload.{Payload}
 use Rattle.ax_address.specs.Callsign.{Callsign, IsCallsign, name_in}
 use Rattle.ax_address.specs.CallOrder.{same_call}
 use Rattle.ax_address.specs.declared.address.Address.{Address}
@@ -16,7 +17,7 @@ use Rattle.link_table.specs.Frames as frames
 use Rattle.link_table.specs.Frames.{octets_of}
 use Rattle.link_table.specs.Laws.{FrameHolds}
 use Rattle.node_core.specs.Broadcasts.{is_broadcast}
-use Rattle.node_core.specs.Carried.{IsCarried, brings_traced, offers_traced}
+use Rattle.node_core.specs.Carried.{IsCarried}
 use Rattle.node_core.specs.Receiving.{repeated_octets}
 use Rattle.node_core.proofs.Spelling.{parted}
 
@@ -153,10 +154,10 @@ module _ (dest own : Callsign) (rest : List ℕ) where
 
 -- ---- a frame
 
-pub repeat_carried : (size : ℕ) (sent : List (List ℕ)) (own : Callsign) (octets : List ℕ) (p : List Address) → (x : IsCarried size sent octets)
-    → action x.frame.frame.head.path.items x.frame.frame.head.dest.call own ≡ Repeat p → IsCarried size sent (repeated_octets x.frame.frame.head.path.items octets)
+pub repeat_carried : (size : ℕ) (offers : Callsign → Payload → Bool) (own : Callsign) (octets : List ℕ) (p : List Address) → (x : IsCarried size offers octets)
+    → action x.frame.frame.head.path.items x.frame.frame.head.dest.call own ≡ Repeat p → IsCarried size offers (repeated_octets x.frame.frame.head.path.items octets)
 unfolding raised
-repeat_carried size sent own octets p x q =
+repeat_carried size offers own octets p x q =
     let f : Frame = x.frame.frame in
     let rest : List ℕ = control_octets x.frame.size f.control ++ (pid_octets f.pid ++ f.info) in
     let n : ℕ = 7 * prefix_len has_repeated f.head.path.items + 6 in
@@ -183,8 +184,8 @@ repeat_carried size sent own octets p x q =
       fit = by x.fit;
     }
   where
-    by : (is_broadcast x.frame.frame ≡ true) ⊎ FrameHolds (offers_traced sent) (brings_traced sent) (nat_eq size) x.frame
-        → (is_broadcast x.frame.frame ≡ true) ⊎ FrameHolds (offers_traced sent) (brings_traced sent) (nat_eq size)
+    by : (is_broadcast x.frame.frame ≡ true) ⊎ FrameHolds offers offers (nat_eq size) x.frame
+        → (is_broadcast x.frame.frame ≡ true) ⊎ FrameHolds offers offers (nat_eq size)
         (record { size = x.frame.size; frame = frame (head x.frame.frame.head.dest x.frame.frame.head.source (record { items = p })) x.frame.frame.control x.frame.frame.pid x.frame.frame.info })
     by (inl b) = inl b
     by (inr h) = inr (record { payload = h.payload; size = h.size })

@@ -302,7 +302,7 @@ module _ (P : State → State → Type 0) (w : Serves P) (reads : ReadsCallTexts
       (λ b. else_on (serving.take_up now nth) (bridging.close_circuit now nth) b (λ m. up_on (serving.stage_of (session_at nth m)) now nth m)
       (λ m. closed_on (bridging.circuit_to_close (session_at nth m) m) now nth m)))
 
-  serve_on : (now nth : ℕ) (n : State) → TurnOn n (serving.serve now nth n)
+  pub serve_on : (now nth : ℕ) (n : State) → TurnOn n (serving.serve now nth n)
   serve_on now nth n = w.follows n _ _ (once_on now nth n) (w.pumps now _)
 
   each_on : (now nth k : ℕ) (n : State) → TurnOn n (serving.serve_each now nth k n)

@@ -1,5 +1,6 @@
 -- A node comes to rest after each input.
-use Rattle.std.proofs.Common.{◌≡◌, ◌≤◌, ◌<◌, ◌∙◌, ℕ, zero, suc, refl, ap, arith, length, sym, slice_get, List, [], ◌∷◌}
+use Rattle.std.proofs.Common.{◌≡◌, ◌≤◌, ◌<◌, ◌∙◌, ℕ, zero, suc, refl, ap, subst, arith, length, sym, slice_get, List, [], ◌∷◌}
+use Rattle.std.specs.List.{AllByRecursion}
 use Rattle.std.specs.Prelude.{Bool, true, false, not, filter, None, ◌||◌, if◌then◌else◌}
 use Rattle.ax_address.specs.Callsign.{Callsign}
 use Rattle.circuit_set.specs.Inputs.{TellsLess}
@@ -14,12 +15,14 @@ use Rattle.node_core.specs.Settling as s
 use Rattle.node_core.specs.Settling.{work}
 use Rattle.node_core.specs.States.{State}
 use Rattle.node_core.specs.Turns.{Falls, Turn, idle}
+use Rattle.node_core.specs.Waits.{WaitsForRoom}
 use Rattle.node_core.proofs.Falling.{ServesAll, sessions_served}
 use Rattle.node_core.proofs.Parts.{noticed_payloads, untaken}
 use Rattle.node_core.proofs.Passing.{nobody_greeted}
 use Rattle.node_core.proofs.Resting.{drop_falls, dropped_none, dry_is_quiet, or_false, pumped_dry, Quiet, quiet_is, quiet_pumped, same_entries}
 use Rattle.node_core.proofs.Texting.{text_leaves_less}
 use Rattle.node_core.proofs.Turns.{goes_on, kept, rests, unfolds}
+use Rattle.node_core.proofs.Waiting.{sessions_rest}
 use Rattle.node_core.proofs.Working.{links_less, pumped_below}
 
 drop_set : (now : ℕ) (o n : State) (peers : List Callsign) → n.set ≡ o.set → (s.drop_first now peers n).after.set ≡ o.set
@@ -188,6 +191,38 @@ module _ (offers : OffersLeave) (takes : TakesLower) (less : TellsLess) where
   last_false false true c e = absurd (cc e)
   last_false false false c e = e
 
+  record Rested (now : ℕ) (n : State) : Type 0 where
+    served : s.serve_users now n ≡ idle n
+    greeted : n.settings.prompt ≡ true → AllByRecursion (λ peer. serving.is_served_link peer n.sessions ≡ true) (links.text_peers n.links)
+    sessions : n.settings.prompt ≡ true → AllByRecursion (WaitsForRoom n) n.sessions
+
+  sessions_prompt : (now : ℕ) (m n : State) (ss : List Session) → n ≡ record m { sessions = ss } → n.settings.prompt ≡ m.settings.prompt
+  sessions_prompt now m n ss e = ap (λ (x : State). x.settings.prompt) e
+
+  -- when the users were served and nothing could be done
+  rested : (now : ℕ) (m : State) → circuits.pending m.set ≡ 0 → p.at_router m ≡ 0 → (b : Bool) → m.settings.prompt ≡ b
+      → (if b then serving.serve_sessions now m else s.drop_turn now m).did ≡ false → Rested now (if b then serving.serve_sessions now m else s.drop_turn now m).after
+  rested now m told router true prompt e =
+      let r = sessions_rest offers takes less now m prompt told router e in
+      let y = (sessions_served offers takes less now m).idle e told router in
+      let n : State = (serving.serve_sessions now m).after in
+      let still : n.settings.prompt ≡ true = sessions_prompt now m n y.0 y.1 ∙ prompt in
+      record {
+        served = ap (λ (b : Bool). if b then serving.serve_sessions now n else s.drop_turn now n) still ∙ r.served;
+        greeted = λ on. r.greeted;
+        sessions = λ on. r.sessions;
+      }
+  rested now m told router false prompt e =
+      let same : s.drop_texts now m ≡ m = dropped_none offers takes less now m e in
+      let none : s.drop_turn now m ≡ idle m = rw (e, same) refl in
+      let at : Rested now m =
+      record {
+        served = ap (λ (b : Bool). if b then serving.serve_sessions now m else s.drop_turn now m) prompt ∙ none;
+        greeted = λ on. absurd (cc (on, prompt));
+        sessions = λ on. absurd (cc (on, prompt));
+      } in
+      subst (Rested now) (sym same) at
+
   -- after an input nothing is left to be done
   pub nothing_left : (now : ℕ) (n : State) → NothingLeft now (s.after_input now n)
   unfolding s.after_input
@@ -199,12 +234,15 @@ module _ (offers : OffersLeave) (takes : TakesLower) (less : TellsLess) where
       last_false (s.has_some r.last.links.pending.notices) (s.has_told (s.enter_notices r.last) m) (s.serve_users now m).did r.nothing in
       let y = (users_served now m).idle none dry.pending dry.router in
       let is = r.is ∙ y.1 in
+      let rest = subst (Rested now) (sym r.is) (rested now m dry.pending dry.router m.settings.prompt refl none) in
       record {
         notices = ap (λ (x : State). x.links.pending.notices) is ∙ dry.notices;
         pending = ap (λ (x : State). p.pending x) is ∙ dry.pending;
         lost = ap (λ (x : State). x.links.pending.lost) is ∙ no_list (m.links.pending.lost) (omega (arith, dry.router));
         waiting = ap (λ (x : State). x.links.pending.waiting) is ∙ no_list (m.links.pending.waiting) (omega (arith, dry.router));
-        served = record { last = m; nothing = none; is = r.is };
+        served = rest.served;
+        greeted = rest.greeted;
+        sessions = rest.sessions;
       }
 
   pub nothing_is_left : NothingLeftAfterInputs

@@ -1,4 +1,4 @@
--- A session that is bridged and bounded stays so as it hears, and as texts and messages go over its bridge.
+-- A session that has written what was taken, and is bounded, stays so as it hears, and as texts and messages go over its bridge.
 use Rattle.std.proofs.Common.{◌≡◌, ◌≤◌, ◌∙◌, ◌⊎◌, inl, inr, ℕ, zero, suc, refl, sym, ap, subst, arith, append-nil, length, length-append, length-drop, length-take, take, List, [], ◌∷◌, ◌++◌, map, slice_get, slice_set}
 use Rattle.std.specs.Prelude.{Bool, true, false, nat_eq, filter, if◌then◌else◌, Option, Some, None}
 use Rattle.ax_address.specs.Callsign.{Callsign}
@@ -13,15 +13,21 @@ use Rattle.node_core.specs.declared.sessions.session.Stage.{Stage}
 use Rattle.node_core.specs.declared.sessions.session.Stage.TheVariants.{AtPrompt, Trying, Failed, Connected}
 use Rattle.node_core.specs.declared.sessions.session.User.{User}
 use Rattle.node_core.specs.declared.sessions.session.User.TheVariants.{AtEnd}
-use Rattle.node_core.specs.Bridged.{Bridged, BridgedAt, IsBridged, WritesTaken, most_replies}
+use Rattle.node_core.specs.Bridged.{WritesTaken, most_replies}
 use Rattle.node_core.specs.Bridging as bridging
 use Rattle.node_core.specs.Sessions as s
 use Rattle.node_core.specs.Sessions.{Bridge, Session, circuit_of, opened, waits}
 use Rattle.node_core.specs.Users as users
 use Rattle.node_core.specs.Users.{Outcome, Taken, Exhausts, Crowds, Unheard, Refused, changed}
 
+abbrev pub WritesAt : Stage → Session → Type 0
+WritesAt AtPrompt x = Unit {0}
+WritesAt (Trying c) x = Unit {0}
+WritesAt (Failed c) x = Unit {0}
+WritesAt (Connected c) x = WritesTaken x.bridge x.rest
+
 pub record Sound (x : Session) : Type 0 where
-  pub bridged : IsBridged x
+  pub writes : WritesAt x.stage x
   pub rest : length x.rest ≤ 8192
   pub replies : length x.replies ≤ most_replies x.stage
 
@@ -36,8 +42,8 @@ pub record Hears (P : Session → Type 0) : Type 0 where
   pub notice : (id : ℕ) (notice : EndNotice) (x : Session) → P x → P (s.hear_notice id notice x)
   pub gone : (id : ℕ) (x : Session) → P x → P (s.hear_gone id x)
 
-opened_bridge : (c : Circuit) (notice : EndNotice) (x : Session) → BridgedAt (s.stage_by c notice) (record x { stage = s.stage_by c notice; bridge = opened x.rest })
-opened_bridge c (end.Opened window) x = record { writes = λ e. refl; gives = λ e f g. refl }
+opened_bridge : (c : Circuit) (notice : EndNotice) (x : Session) → WritesAt (s.stage_by c notice) (record x { stage = s.stage_by c notice; bridge = opened x.rest })
+opened_bridge c (end.Opened window) x = λ e. refl
 opened_bridge c end.Refused x = tt
 opened_bridge c end.Closed x = tt
 opened_bridge c end.ClosedByPartner x = tt
@@ -55,17 +61,17 @@ one_reply c end.FailedOversize = refl
 one_reply c end.FailedInactive = refl
 
 -- the bridge doesn't look at its replies
-same_bridge : (stage : Stage) (x y : Session) → y.bridge ≡ x.bridge → y.rest ≡ x.rest → BridgedAt stage x → BridgedAt stage y
+same_bridge : (stage : Stage) (x y : Session) → y.bridge ≡ x.bridge → y.rest ≡ x.rest → WritesAt stage x → WritesAt stage y
 same_bridge AtPrompt x y e f b = tt
 same_bridge (Trying c) x y e f b = tt
 same_bridge (Failed c) x y e f b = tt
-same_bridge (Connected c) x y e f b = record { writes = rw (e, f) b.writes; gives = rw e b.gives }
+same_bridge (Connected c) x y e f b = rw (e, f) b
 
 heard_tried : (c : Circuit) (notice : EndNotice) (x : Session) → x.stage ≡ Trying c → Sound x → Sound (s.hear_tried c notice x)
 heard_tried c notice x e p =
     let few = ap most_replies e in
     record {
-      bridged = same_bridge (s.stage_by c notice) (record x { stage = s.stage_by c notice; bridge = opened x.rest }) (s.hear_tried c notice x) refl refl (opened_bridge c notice x);
+      writes = same_bridge (s.stage_by c notice) (record x { stage = s.stage_by c notice; bridge = opened x.rest }) (s.hear_tried c notice x) refl refl (opened_bridge c notice x);
       rest = p.rest;
       replies = omega (arith, p.replies, few, one_reply c notice, length-append x.replies (s.told_by c.dest notice ∷ []));
     }
@@ -84,13 +90,13 @@ gone_at : (id : ℕ) (x : Session) (stage : Stage) → x.stage ≡ stage → Sou
 gone_at id x AtPrompt e p = p
 gone_at id x (Trying c) e p =
     let few = ap most_replies e in
-    either Sound x (s.at_prompt x) (nat_eq c.id id) p (record { bridged = tt; rest = p.rest; replies = omega (arith, p.replies, few) })
+    either Sound x (s.at_prompt x) (nat_eq c.id id) p (record { writes = tt; rest = p.rest; replies = omega (arith, p.replies, few) })
 gone_at id x (Failed c) e p =
     let few = ap most_replies e in
-    either Sound x (s.at_prompt x) (nat_eq c.id id) p (record { bridged = tt; rest = p.rest; replies = omega (arith, p.replies, few) })
+    either Sound x (s.at_prompt x) (nat_eq c.id id) p (record { writes = tt; rest = p.rest; replies = omega (arith, p.replies, few) })
 gone_at id x (Connected c) e p =
     let few = ap most_replies e in
-    either Sound x (s.hear_end c x) (nat_eq c.id id) p (record { bridged = tt; rest = p.rest; replies = omega (arith, p.replies, few, length-append x.replies (reply.Ended c.dest ∷ [])) })
+    either Sound x (s.hear_end c x) (nat_eq c.id id) p (record { writes = tt; rest = p.rest; replies = omega (arith, p.replies, few, length-append x.replies (reply.Ended c.dest ∷ [])) })
 
 pub sound_hears : Hears Sound
 sound_hears = record {
@@ -99,18 +105,18 @@ sound_hears = record {
 }
 
 pub sound_new : (user : User) → Sound (s.new_session user)
-sound_new user = record { bridged = tt; rest = omega arith; replies = omega arith }
+sound_new user = record { writes = tt; rest = omega arith; replies = omega arith }
 
 pub sound_leaves : (x : Session) → Sound x → Sound (s.leaves x)
-sound_leaves x p = record { bridged = same_bridge x.stage x (s.leaves x) refl refl p.bridged; rest = p.rest; replies = p.replies }
+sound_leaves x p = record { writes = same_bridge x.stage x (s.leaves x) refl refl p.writes; rest = p.rest; replies = p.replies }
 
 -- ---- all of them
 
-map_every : (P : Session → Type 0) (f : Session → Session) → ((x : Session) → P x → P (f x)) → (ss : List Session) → Every P ss → Every P (map f ss)
+pub map_every : (P : Session → Type 0) (f : Session → Session) → ((x : Session) → P x → P (f x)) → (ss : List Session) → Every P ss → Every P (map f ss)
 map_every P f on [] e = tt
 map_every P f on (x ∷ ss) e = (on x e.0, map_every P f on ss e.1)
 
-push_every : (P : Session → Type 0) (ss : List Session) (x : Session) → Every P ss → P x → Every P (ss ++ x ∷ [])
+pub push_every : (P : Session → Type 0) (ss : List Session) (x : Session) → Every P ss → P x → Every P (ss ++ x ∷ [])
 push_every P [] x e p = (p, tt)
 push_every P (y ∷ ss) x e p = (e.0, push_every P ss x e.1 p)
 
@@ -246,24 +252,22 @@ idle_hears = record { notice = λ id notice x p. idle_notice id notice x x.stage
 
 -- ---- what goes over the bridge
 
--- nothing but want of numbers or of room, or that nobody hears it, keeps a text from going
-abbrev pub IsGood : Outcome → Type 0
-IsGood Refused = ⊥
-IsGood _ = Unit {0}
-
 waits_some : (text : List ℕ) → 1 ≤ length text → waits text ≡ text ∷ []
 waits_some [] e = absurd (omega (arith, e))
 waits_some (b ∷ bs) e = refl
 
+take_whole : (k : ℕ) (xs : List ℕ) → length xs ≤ k → take k xs ≡ xs
+take_whole zero [] few = refl
+take_whole zero (x ∷ xs) few = absurd (omega (arith, few))
+take_whole (suc k) [] few = refl
+take_whole (suc k) (x ∷ xs) few = ap (λ (ys : List ℕ). x ∷ ys) (take_whole k xs (omega (arith, few)))
+
 -- a text was taken, where none was left
-pub sound_text : (text : List ℕ) (x : Session) → 1 ≤ length text → length x.rest ≤ 0 → Sound x → Sound (users.with_text text x)
-sound_text text x some none p = record { bridged = by x.stage p.bridged; rest = few; replies = p.replies }
+pub sound_text : (text : List ℕ) (x : Session) → 1 ≤ length text → length text ≤ 8192 → length x.rest ≤ 0 → Sound x → Sound (users.with_text text x)
+sound_text text x some short none p = record { writes = by x.stage p.writes; rest = few; replies = p.replies }
   where
     few : length (take 8192 text) ≤ 8192
     few = let l = length-take 8192 text in grind (arith, l)
-
-    held : (xs : List ℕ) → 1 ≤ length xs → 1 ≤ length (take 8192 xs)
-    held xs e = let l = length-take 8192 xs in grind (arith, l)
 
     gone : (xs : List ℕ) → length xs ≤ 0 → xs ≡ []
     gone [] e = refl
@@ -273,58 +277,59 @@ sound_text text x some none p = record { bridged = by x.stage p.bridged; rest = 
     writes w e =
         let before : x.bridge.taken ≡ x.bridge.wrote ++ [] = w e ∙ ap (λ (r : List ℕ). x.bridge.wrote ++ waits r) (gone x.rest none) in
         let all : x.bridge.taken ≡ x.bridge.wrote = before ∙ append-nil x.bridge.wrote in
-        rw (waits_some (take 8192 text) (held text some), all) refl
+        let whole : take 8192 text ≡ text = take_whole 8192 text short in
+        rw (whole, waits_some text some, all) refl
 
-    by : (stage : Stage) → BridgedAt stage x → BridgedAt stage (users.with_text text x)
+    by : (stage : Stage) → WritesAt stage x → WritesAt stage (users.with_text text x)
     by AtPrompt b = tt
     by (Trying c) b = tt
     by (Failed c) b = tt
-    by (Connected c) b = record { writes = writes b.writes; gives = b.gives }
+    by (Connected c) b = writes b
 
 -- what is left was written
 pub sound_wrote : (outcome : Outcome) (text : List ℕ) (x : Session) → x.rest ≡ text → 1 ≤ length text → (outcome ≡ Taken) ⊎ (outcome ≡ Exhausts) → Sound x
     → Sound (bridging.log_wrote outcome text x)
-sound_wrote outcome text x e some good p = record { bridged = by x.stage p.bridged; rest = omega arith; replies = p.replies }
+sound_wrote outcome text x e some good p = record { writes = by x.stage p.writes; rest = omega arith; replies = p.replies }
   where
     taken : WritesTaken x.bridge x.rest → x.bridge.exhausted ≡ false → x.bridge.taken ≡ (x.bridge.wrote ++ text ∷ []) ++ []
     taken w f = w f ∙ (ap (λ (r : List ℕ). x.bridge.wrote ++ waits r) e ∙ (ap (λ (r : List (List ℕ)). x.bridge.wrote ++ r) (waits_some text some) ∙ sym (append-nil (x.bridge.wrote ++ text ∷ []))))
 
-    goes : (outcome ≡ Taken) ⊎ (outcome ≡ Exhausts) → Bridged x → Bridged (bridging.log_wrote outcome text x)
-    goes (inl f) b = rw f (record { writes = λ g. taken b.writes g; gives = b.gives })
-    goes (inr f) b = rw f (record { writes = λ g. absurd (cc g); gives = λ g. absurd (cc g) })
+    goes : (outcome ≡ Taken) ⊎ (outcome ≡ Exhausts) → WritesTaken x.bridge x.rest → WritesTaken (bridging.wrote outcome text x.bridge) []
+    goes (inl f) b = rw f (λ g. taken b g)
+    goes (inr f) b = rw f (λ g. absurd (cc g))
 
-    by : (stage : Stage) → BridgedAt stage x → BridgedAt stage (bridging.log_wrote outcome text x)
+    by : (stage : Stage) → WritesAt stage x → WritesAt stage (bridging.log_wrote outcome text x)
     by AtPrompt b = tt
     by (Trying c) b = tt
     by (Failed c) b = tt
     by (Connected c) b = goes good b
 
 -- a message was taken from the circuit, and went to the user or was dropped
-pub sound_gave : (outcome : Outcome) (message : List ℕ) (x : Session) → IsGood outcome → Sound x → Sound (bridging.log_gave outcome message (bridging.log_got message x))
-sound_gave outcome message x good p = record { bridged = by x.stage p.bridged; rest = p.rest; replies = p.replies }
+pub sound_gave : (outcome : Outcome) (message : List ℕ) (x : Session) → Sound x → Sound (bridging.log_gave outcome message (bridging.log_got message x))
+sound_gave outcome message x p = record { writes = by x.stage p.writes; rest = p.rest; replies = p.replies }
   where
-    goes : (o : Outcome) → IsGood o → Bridged x → Bridged (bridging.log_gave o message (bridging.log_got message x))
-    goes Taken g b = record { writes = b.writes; gives = λ e f h. ap (λ (r : List (List ℕ)). r ++ message ∷ []) (b.gives e f h) }
-    goes Exhausts g b = record { writes = λ e. absurd (cc e); gives = λ e. absurd (cc e) }
-    goes Crowds g b = record { writes = b.writes; gives = λ e f h. absurd (cc h) }
-    goes Unheard g b = record { writes = b.writes; gives = λ e f. absurd (cc f) }
-    goes Refused g b = absurd g
+    goes : (o : Outcome) → WritesTaken x.bridge x.rest → WritesTaken (bridging.log_gave o message (bridging.log_got message x)).bridge x.rest
+    goes Taken w = w
+    goes Exhausts w = λ e. absurd (cc e)
+    goes Crowds w = w
+    goes Unheard w = w
+    goes Refused w = w
 
-    by : (stage : Stage) → BridgedAt stage x → BridgedAt stage (bridging.log_gave outcome message (bridging.log_got message x))
+    by : (stage : Stage) → WritesAt stage x → WritesAt stage (bridging.log_gave outcome message (bridging.log_got message x))
     by AtPrompt b = tt
     by (Trying c) b = tt
     by (Failed c) b = tt
-    by (Connected c) b = goes outcome good b
+    by (Connected c) b = goes outcome b
 
 -- its circuit was closed
 pub sound_closed : (x : Session) → Sound x → Sound (bridging.note_closed x)
-sound_closed x p = record { bridged = by x.stage refl p.bridged; rest = p.rest; replies = few x.stage refl }
+sound_closed x p = record { writes = by x.stage refl p.writes; rest = p.rest; replies = few x.stage refl }
   where
-    by : (stage : Stage) → x.stage ≡ stage → BridgedAt stage x → BridgedAt (bridging.stage_closed x.stage) (bridging.note_closed x)
+    by : (stage : Stage) → x.stage ≡ stage → WritesAt stage x → WritesAt (bridging.stage_closed x.stage) (bridging.note_closed x)
     by AtPrompt e b = rw e tt
     by (Trying c) e b = rw e tt
     by (Failed c) e b = rw e tt
-    by (Connected c) e b = rw e (record { writes = b.writes; gives = b.gives })
+    by (Connected c) e b = rw e b
 
     few : (stage : Stage) → x.stage ≡ stage → length x.replies ≤ most_replies (bridging.stage_closed x.stage)
     few AtPrompt e = let r = ap most_replies e in rw e (omega (arith, p.replies, r))
@@ -334,11 +339,11 @@ sound_closed x p = record { bridged = by x.stage refl p.bridged; rest = p.rest; 
 
 pub sound_reply : (x : Session) → Sound x → Sound (bridging.drop_reply x)
 sound_reply x p = record {
-  bridged = same_bridge x.stage x (bridging.drop_reply x) refl refl p.bridged;
+  writes = same_bridge x.stage x (bridging.drop_reply x) refl refl p.writes;
   rest = p.rest;
   replies = omega (arith, p.replies, length-drop 1 x.replies);
 }
 
 -- at the prompt its text may be cut
 pub sound_at_prompt : (x : Session) → x.stage ≡ AtPrompt → length x.rest ≤ 8192 → length x.replies ≤ 2 → Sound x
-sound_at_prompt x e few r = record { bridged = rw e tt; rest = few; replies = rw e r }
+sound_at_prompt x e few r = record { writes = rw e tt; rest = few; replies = rw e r }

@@ -4,6 +4,7 @@ use Rattle.std.specs.Prelude.{Bool, true, false, ◌&&◌, ◌==◌, ◌⊎◌, 
 use Rattle.std.specs.List.{AllByRecursion, find}
 use Rattle.std.proofs.lemmas.Bool.Decides.{nat_tests}
 use Rattle.radio_base.specs.declared.payload.Payload.{Payload}
+use Rattle.ax_address.specs.Callsign.{Callsign}
 use Rattle.ax_frame.specs.declared.control.Control.{Control}
 use Rattle.ax_frame.specs.declared.control.Control.TheVariants as control
 use Rattle.ax_frame.specs.declared.frame.FrameRefusal.{FrameRefusal}
@@ -18,11 +19,11 @@ use Rattle.link_table.specs.Frames.{is_numbered}
 use Rattle.link_table.specs.Laws.{Brings, FrameHolds}
 use Rattle.link_table.specs.Reaching.{ComesFrom, IsWay}
 use Rattle.node_core.specs.Broadcasts.{is_broadcast, is_ui}
-use Rattle.node_core.specs.Carried.{IsCarried, brings_traced, offers_traced}
+use Rattle.node_core.specs.Carried.{Borne, IsAloft, IsCarried, brings_to, is_aloft}
 
--- a frame as it is read: a broadcast, or what it brings comes of datagrams that were sent, and it sets up a link of this modulus alone
-abbrev pub IsFit : ℕ → List (List ℕ) → Frame → Type 0
-IsFit size sent f = (is_broadcast f ≡ true) ⊎ Brings (offers_traced sent) (brings_traced sent) (nat_eq size) f
+-- a frame as it is read: a broadcast, or what it brings was carried to the node to which it goes, and it sets up a link of this modulus alone
+abbrev pub IsFit : ℕ → List Borne → Frame → Type 0
+IsFit size borne f = (is_broadcast f ≡ true) ⊎ Brings (is_aloft borne) (brings_to borne f.head.dest.call) (nat_eq size) f
 
 -- the octets of a frame, part by part
 pub parted : (k : ℕ) (f : Frame) → frame_octets k f ≡ addresses_octets (addresses f.head) ++ (control_octets k f.control ++ (pid_octets f.pid ++ f.info))
@@ -31,10 +32,10 @@ parted k f =
     append_assoc (front ++ control_octets k f.control) (pid_octets f.pid) f.info ∙ append_assoc front (control_octets k f.control) (pid_octets f.pid ++ f.info)
 
 -- so they are read by this modulus; and by modulo 8, by which they are read where no link stands with their sender
-pub record MayCome (size : ℕ) (sent : List (List ℕ)) (octets : List ℕ) : Type 0 where
-  pub read : (f : Frame) → read_at size octets ≡ Ok f → IsFit size sent f × ComesFrom size f
+pub record MayCome (size : ℕ) (borne : List Borne) (octets : List ℕ) : Type 0 where
+  pub read : (f : Frame) → read_at size octets ≡ Ok f → IsFit size borne f × ComesFrom size f
   pub source : (k : ℕ) (f : Frame) → read_at k octets ≡ Ok f → IsAddress f.head.source
-  pub unlinked : (f : Frame) → read_at 8 octets ≡ Ok f → ((is_numbered f.control ≡ true) ⊎ IsFit size sent f) × ComesFrom size f
+  pub unlinked : (f : Frame) → read_at 8 octets ≡ Ok f → ((is_numbered f.control ≡ true) ⊎ IsFit size borne f) × ComesFrom size f
 
 -- ---- frames without numbers are the same by either modulus
 
@@ -70,7 +71,7 @@ same_octets k m (control.Ui pf) e = refl
 same_octets k m (control.Xid pf) e = refl
 same_octets k m (control.Test pf) e = refl
 
-any_modulus : (k m : ℕ) (f : Frame) (octets : List ℕ) → is_numbered f.control ≡ false → Spells m f octets → Spells k f octets
+pub any_modulus : (k m : ℕ) (f : Frame) (octets : List ℕ) → is_numbered f.control ≡ false → Spells m f octets → Spells k f octets
 any_modulus k m f octets e s = record {
   calls = s.calls;
   eight = s.eight;
@@ -195,7 +196,35 @@ parcel (Some pid) info p e = by (nat_le (length info) 256) e
         (ap (λ (x : Payload). Some x.pid) same, ap (λ (x : Payload). x.info.items) same)
     by false q = absurd (cc q)
 
-module _ (is_read : SpelledIsRead) (head_is_read : SpelledHeadIsRead) (without : HeadWithoutFault) (size : ℕ) (sent : List (List ℕ)) (octets : List ℕ) (m : IsLinkModulus size) (x : IsCarried size sent octets) where
+is_ui_not : (c : Control) → is_numbered c ≡ true → is_ui c ≡ false
+is_ui_not (control.I ns nr pf) e = refl
+is_ui_not (control.Rr nr pf) e = refl
+is_ui_not (control.Rnr nr pf) e = refl
+is_ui_not (control.Rej nr pf) e = refl
+is_ui_not (control.Srej nr pf) e = refl
+is_ui_not (control.Sabm pf) e = absurd (cc e)
+is_ui_not (control.Sabme pf) e = absurd (cc e)
+is_ui_not (control.Disc pf) e = absurd (cc e)
+is_ui_not (control.Dm pf) e = absurd (cc e)
+is_ui_not (control.Ua pf) e = absurd (cc e)
+is_ui_not (control.Frmr pf) e = absurd (cc e)
+is_ui_not (control.Ui pf) e = absurd (cc e)
+is_ui_not (control.Xid pf) e = absurd (cc e)
+is_ui_not (control.Test pf) e = absurd (cc e)
+
+false_and : (a b : Bool) → a ≡ false → (a && b) ≡ true → ⊥
+false_and true b e f = cc e
+false_and false b e f = cc f
+
+-- a frame with numbers is of the network's modulus
+pub own_size : (size : ℕ) (offers : Callsign → Payload → Bool) (octets : List ℕ) (x : IsCarried size offers octets) → is_numbered x.frame.frame.control ≡ true → x.frame.size ≡ size
+own_size size offers octets x e = by x.fit
+  where
+    by : (is_broadcast x.frame.frame ≡ true) ⊎ FrameHolds offers offers (nat_eq size) x.frame → x.frame.size ≡ size
+    by (inl b) = absurd (false_and (is_ui x.frame.frame.control) _ (is_ui_not x.frame.frame.control e) b)
+    by (inr h) = let is : nat_eq size x.frame.size ≡ true = h.size e in grind (arith, nat_tests, is)
+
+module _ (is_read : SpelledIsRead) (head_is_read : SpelledHeadIsRead) (without : HeadWithoutFault) (size : ℕ) (borne : List Borne) (octets : List ℕ) (m : IsLinkModulus size) (x : IsAloft size borne octets) where
   abbrev rest_of : ℕ → List ℕ
   rest_of k = control_octets k x.frame.frame.control ++ (pid_octets x.frame.frame.pid ++ x.frame.frame.info)
 
@@ -235,48 +264,20 @@ module _ (is_read : SpelledIsRead) (head_is_read : SpelledHeadIsRead) (without :
       let pair : (x.frame.frame.head, length front) ≡ (h, end) = cc both in
       ap (λ (z : Head × ℕ). z.0) pair
 
-  fits : IsFit size sent x.frame.frame
+  fits : IsFit size borne x.frame.frame
   fits = by x.fit
     where
-      by : (is_broadcast x.frame.frame ≡ true) ⊎ FrameHolds (offers_traced sent) (brings_traced sent) (nat_eq size) x.frame → IsFit size sent x.frame.frame
+      by : (is_broadcast x.frame.frame ≡ true) ⊎ FrameHolds (is_aloft borne) (is_aloft borne) (nat_eq size) x.frame → IsFit size borne x.frame.frame
       by (inl b) = inl b
       by (inr h) = inr (record {
         payload = λ p e. (let both = parcel x.frame.frame.pid x.frame.frame.info p e in h.payload p both.0 both.1);
         size = λ n e. (let is : n ≡ size = x.spelled.sets_up n e in grind (arith, nat_tests, is));
       })
 
-  as_it_is : (k : ℕ) (f : Frame) → IsLinkModulus k → Spells k x.frame.frame octets → read_at k octets ≡ Ok f → IsFit size sent f × ComesFrom size f
+  as_it_is : (k : ℕ) (f : Frame) → IsLinkModulus k → Spells k x.frame.frame octets → read_at k octets ≡ Ok f → IsFit size borne f × ComesFrom size f
   as_it_is k f l sp r =
       let same : x.frame.frame ≡ f = (let both : Ok x.frame.frame ≡ Ok f = sym (is_read k x.frame.frame octets l sp) ∙ r in cc both) in
-      (subst (IsFit size sent) same fits, from k f r (λ n e. x.spelled.sets_up n (ap (λ (y : Frame). set_up_size y.control) same ∙ e)))
-
-  is_ui_not : (c : Control) → is_numbered c ≡ true → is_ui c ≡ false
-  is_ui_not (control.I ns nr pf) e = refl
-  is_ui_not (control.Rr nr pf) e = refl
-  is_ui_not (control.Rnr nr pf) e = refl
-  is_ui_not (control.Rej nr pf) e = refl
-  is_ui_not (control.Srej nr pf) e = refl
-  is_ui_not (control.Sabm pf) e = absurd (cc e)
-  is_ui_not (control.Sabme pf) e = absurd (cc e)
-  is_ui_not (control.Disc pf) e = absurd (cc e)
-  is_ui_not (control.Dm pf) e = absurd (cc e)
-  is_ui_not (control.Ua pf) e = absurd (cc e)
-  is_ui_not (control.Frmr pf) e = absurd (cc e)
-  is_ui_not (control.Ui pf) e = absurd (cc e)
-  is_ui_not (control.Xid pf) e = absurd (cc e)
-  is_ui_not (control.Test pf) e = absurd (cc e)
-
-  false_and : (a b : Bool) → a ≡ false → (a && b) ≡ true → ⊥
-  false_and true b e f = cc e
-  false_and false b e f = cc f
-
-  -- a frame with numbers is of the network's modulus
-  own_size : is_numbered x.frame.frame.control ≡ true → x.frame.size ≡ size
-  own_size e = by x.fit
-    where
-      by : (is_broadcast x.frame.frame ≡ true) ⊎ FrameHolds (offers_traced sent) (brings_traced sent) (nat_eq size) x.frame → x.frame.size ≡ size
-      by (inl b) = absurd (false_and (is_ui x.frame.frame.control) _ (is_ui_not x.frame.frame.control e) b)
-      by (inr h) = let is : nat_eq size x.frame.size ≡ true = h.size e in grind (arith, nat_tests, is)
+      (subst (IsFit size borne) same fits, from k f r (λ n e. x.spelled.sets_up n (ap (λ (y : Frame). set_up_size y.control) same ∙ e)))
 
   none_set_up : (c : Control) (n : ℕ) → is_numbered c ≡ true → set_up_size c ≡ Some n → n ≡ size
   none_set_up (control.I ns nr pf) n e u = absurd (cc u)
@@ -294,14 +295,14 @@ module _ (is_read : SpelledIsRead) (head_is_read : SpelledHeadIsRead) (without :
   none_set_up (control.Xid pf) n e u = absurd (cc u)
   none_set_up (control.Test pf) n e u = absurd (cc u)
 
-  misread : (f : Frame) → is_numbered x.frame.frame.control ≡ true → IsLinkModulus size → read_at 8 octets ≡ Ok f → ((is_numbered f.control ≡ true) ⊎ IsFit size sent f) × ComesFrom size f
+  misread : (f : Frame) → is_numbered x.frame.frame.control ≡ true → IsLinkModulus size → read_at 8 octets ≡ Ok f → ((is_numbered f.control ≡ true) ⊎ IsFit size borne f) × ComesFrom size f
   unfolding front
   misread f e (inl eight) r =
-      let both = as_it_is 8 f (inl refl) (subst (λ k. Spells k x.frame.frame octets) (own_size e ∙ eight) spells) r in
+      let both = as_it_is 8 f (inl refl) (subst (λ k. Spells k x.frame.frame octets) (own_size size (is_aloft borne) octets x e ∙ eight) spells) r in
       (inr both.0, both.1)
   misread f e (inr wide) r =
       let c = first_of x.frame.frame.control e in
-      let sp : Spells 128 x.frame.frame octets = subst (λ k. Spells k x.frame.frame octets) (own_size e ∙ wide) spells in
+      let sp : Spells 128 x.frame.frame octets = subst (λ k. Spells k x.frame.frame octets) (own_size size (is_aloft borne) octets x e ∙ wide) spells in
       let there : slice_get octets (length front) ≡ Some c.octet =
       ap (λ os. slice_get os (length front))
       (sp.spelled ∙ (parted 128 x.frame.frame ∙ ap (λ cs. addresses_octets (addresses x.frame.frame.head) ++ (cs ++ (pid_octets x.frame.frame.pid ++ x.frame.frame.info))) c.are))
@@ -309,13 +310,13 @@ module _ (is_read : SpelledIsRead) (head_is_read : SpelledHeadIsRead) (without :
       let some : is_numbered f.control ≡ true = numbers_stay octets (length front) c.octet f head_ends there c.low r in
       (inl some, from 8 f r (λ n u. none_set_up f.control n some u))
 
-  pub may_come : MayCome size sent octets
+  pub may_come : MayCome size borne octets
   may_come = by (is_numbered x.frame.frame.control) refl
     where
-      by : (b : Bool) → is_numbered x.frame.frame.control ≡ b → MayCome size sent octets
+      by : (b : Bool) → is_numbered x.frame.frame.control ≡ b → MayCome size borne octets
       by true e = record {
         source = source_of;
-        read = λ f r. as_it_is size f m (subst (λ k. Spells k x.frame.frame octets) (own_size e) spells) r;
+        read = λ f r. as_it_is size f m (subst (λ k. Spells k x.frame.frame octets) (own_size size (is_aloft borne) octets x e) spells) r;
         unlinked = λ f r. misread f e m r;
       }
       by false e = record {

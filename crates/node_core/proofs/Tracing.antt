@@ -1,11 +1,13 @@
--- Datagrams that come of those that were sent: of more that were, and one hop on.
+-- Datagrams that were sent or that the air has carried: of more of them, and one hop on.
 use Rattle.std.proofs.Common.{◌≡◌, ◌∙◌, ◌≤◌, ◌<◌, ◌+◌, ℕ, zero, suc, refl, ap, arith, List, [], ◌∷◌, ◌++◌, length, take, drop}
-use Rattle.std.specs.Prelude.{Bool, true, false, ◌&&◌, ◌||◌, nat_eq, nat_le, slice_get, slice_index, Result, Ok, Err, nat_lt, if◌then◌else◌}
+use Rattle.std.specs.Prelude.{Bool, true, false, ◌&&◌, ◌||◌, nat_eq, nat_le, slice_get, Result, Ok, Err, nat_lt, if◌then◌else◌}
 use Rattle.std.specs.Cmp.Lexicographic.{pointwise}
 use Rattle.std.specs.List.{AllByRecursion}
 use Rattle.std.proofs.lemmas.Bool.Decides.{nat_tests}
 use Rattle.std.proofs.lemmas.Bool.{ltb-false}
 use Rattle.std.proofs.lemmas.Cmp.{nat_list_eq_equiv}
+use Rattle.ax_address.specs.Callsign.{Callsign}
+use Rattle.ax_address.specs.CallOrder.{same_call}
 use Rattle.circuit_set.specs.Books.{is_copy}
 use Rattle.circuit_set.specs.Sets as sets
 use Rattle.circuit_set.specs.Sets.{Told}
@@ -14,61 +16,93 @@ use Rattle.l3_datagram.specs.Onward.{IsOneHopOn}
 use Rattle.l3_datagram.specs.declared.datagram.DatagramHead.{DatagramHead}
 use Rattle.l3_datagram.specs.declared.datagram.DatagramRefusal.{DatagramRefusal}
 use Rattle.l3_datagram.specs.declared.datagram.DatagramRefusal.TheVariants.{Short, TooLong}
-use Rattle.node_core.specs.Carried.{comes_of, is_traced, sends_in, ttl_of}
+use Rattle.node_core.specs.Carried.{Borne, is_borne, is_hop, is_passed, is_sent, sends_in, ttl_of}
 
--- ---- more that were sent
+-- ---- more that were sent, or that the air has carried
 
 or_right : (a b : Bool) → b ≡ true → (a || b) ≡ true
 or_right true b e = refl
 or_right false b e = e
 
-or_map : (a b c : Bool) → (b ≡ true → c ≡ true) → (a || b) ≡ true → (a || c) ≡ true
+pub or_map : (a b c : Bool) → (b ≡ true → c ≡ true) → (a || b) ≡ true → (a || c) ≡ true
 or_map true b c f e = refl
 or_map false b c f e = f e
 
-or_both : (a b c d : Bool) → (a ≡ true → c ≡ true) → (b ≡ true → d ≡ true) → (a || b) ≡ true → (c || d) ≡ true
+pub or_both : (a b c d : Bool) → (a ≡ true → c ≡ true) → (b ≡ true → d ≡ true) → (a || b) ≡ true → (c || d) ≡ true
 or_both true b c d f g e = let one : c ≡ true = f refl in ap (λ x. x || d) one
 or_both false b c d f g e = or_right c d (g e)
 
-pub traced_more : (sent more : List (List ℕ)) (d : List ℕ) → is_traced sent d ≡ true → is_traced (sent ++ more) d ≡ true
-traced_more [] more d e = absurd (cc e)
-traced_more (s ∷ sent) more d e = or_map (comes_of s d) (is_traced sent d) (is_traced (sent ++ more) d) (traced_more sent more d) e
+pub or_first : (a b : Bool) → a ≡ true → (a || b) ≡ true
+or_first a b e = ap (λ x. x || b) e
 
-pub traced_behind : (sent more : List (List ℕ)) (d : List ℕ) → is_traced more d ≡ true → is_traced (sent ++ more) d ≡ true
-traced_behind [] more d e = e
-traced_behind (s ∷ sent) more d e = or_right (comes_of s d) (is_traced (sent ++ more) d) (traced_behind sent more d e)
+pub or_second : (a b : Bool) → b ≡ true → (a || b) ≡ true
+or_second a b e = or_right a b e
 
--- ---- one that was sent comes of itself
+pub sent_more : (sent more : List (List ℕ)) (d : List ℕ) → is_sent sent d ≡ true → is_sent (sent ++ more) d ≡ true
+sent_more [] more d e = absurd (cc e)
+sent_more (s ∷ sent) more d e = or_map (pointwise nat_eq s d && nat_le 15 (length d)) (is_sent sent d) (is_sent (sent ++ more) d) (sent_more sent more d) e
 
-all_true : (a b c d : Bool) → a ≡ true → b ≡ true → c ≡ true → d ≡ true → (a && b && c && d) ≡ true
-all_true a b c d p q r s = rw (p, q, r, s) refl
+sent_behind : (sent more : List (List ℕ)) (d : List ℕ) → is_sent more d ≡ true → is_sent (sent ++ more) d ≡ true
+sent_behind [] more d e = e
+sent_behind (s ∷ sent) more d e = or_right (pointwise nat_eq s d && nat_le 15 (length d)) (is_sent (sent ++ more) d) (sent_behind sent more d e)
 
-pub own_copy : (d : List ℕ) → 15 ≤ length d → comes_of d d ≡ true
-own_copy d long =
+pub borne_more : (borne more : List Borne) (to : Callsign) (d : List ℕ) → is_borne borne to d ≡ true → is_borne (borne ++ more) to d ≡ true
+borne_more [] more to d e = absurd (cc e)
+borne_more (b ∷ bs) more to d e = or_map (same_call b.to to && pointwise nat_eq b.datagram d) (is_borne bs to d) (is_borne (bs ++ more) to d) (borne_more bs more to d) e
+
+pub borne_behind : (borne more : List Borne) (to : Callsign) (d : List ℕ) → is_borne more to d ≡ true → is_borne (borne ++ more) to d ≡ true
+borne_behind [] more to d e = e
+borne_behind (b ∷ bs) more to d e = or_right (same_call b.to to && pointwise nat_eq b.datagram d) (is_borne (bs ++ more) to d) (borne_behind bs more to d e)
+
+pub passed_more : (borne more : List Borne) (own : Callsign) (d : List ℕ) → is_passed borne own d ≡ true → is_passed (borne ++ more) own d ≡ true
+passed_more [] more own d e = absurd (cc e)
+passed_more (b ∷ bs) more own d e = or_map (same_call b.to own && is_hop b.datagram d) (is_passed bs own d) (is_passed (bs ++ more) own d) (passed_more bs more own d) e
+
+-- ---- one that was sent is one of those
+
+pub and_left : (a b : Bool) → (a && b) ≡ true → a ≡ true
+and_left true b e = refl
+and_left false b e = absurd (cc e)
+
+pub and_right : (a b : Bool) → (a && b) ≡ true → b ≡ true
+and_right true b e = e
+and_right false b e = absurd (cc e)
+
+pub same_list : (xs ys : List ℕ) → pointwise nat_eq xs ys ≡ true → xs ≡ ys
+same_list [] [] e = refl
+same_list [] (y ∷ ys) e = absurd (cc e)
+same_list (x ∷ xs) [] e = absurd (cc e)
+same_list (x ∷ xs) (y ∷ ys) e =
+    let first : x ≡ y = (let f : nat_eq x y ≡ true = and_left (nat_eq x y) (pointwise nat_eq xs ys) e in grind (arith, nat_tests, f)) in
+    ap (λ zs. x ∷ zs) (same_list xs ys (and_right (nat_eq x y) (pointwise nat_eq xs ys) e)) ∙ ap (λ z. z ∷ ys) first
+
+pub and_of : (a b : Bool) → a ≡ true → b ≡ true → (a && b) ≡ true
+and_of a b p q = rw (p, q) refl
+
+own_one : (d : List ℕ) → 15 ≤ length d → (pointwise nat_eq d d && nat_le 15 (length d)) ≡ true
+own_one d long =
     let size : nat_le 15 (length d) ≡ true = grind (arith, nat_tests, long) in
-    let ttl : nat_le (ttl_of d) (ttl_of d) ≡ true = grind (arith, nat_tests) in
-    let copy : is_copy d d ≡ true = all_true _ _ _ _ (nat_list_eq_equiv.refl (take 14 d)) (nat_list_eq_equiv.refl (drop 15 d)) size size in
-    rw (copy, ttl) refl
+    and_of (pointwise nat_eq d d) (nat_le 15 (length d)) (nat_list_eq_equiv.refl d) size
 
--- those that may be read come of these
+-- those that may be read are among these
 abbrev pub AreTraced : List (List ℕ) → List (List ℕ) → Type 0
-AreTraced sent ds = AllByRecursion (λ (d : List ℕ). 15 ≤ length d → is_traced sent d ≡ true) ds
+AreTraced sent ds = AllByRecursion (λ (d : List ℕ). 15 ≤ length d → is_sent sent d ≡ true) ds
 
-more_traced : (sent sent2 ds : List (List ℕ)) → ((d : List ℕ) → is_traced sent d ≡ true → is_traced sent2 d ≡ true) → AreTraced sent ds
+more_traced : (sent sent2 ds : List (List ℕ)) → ((d : List ℕ) → is_sent sent d ≡ true → is_sent sent2 d ≡ true) → AreTraced sent ds
     → AreTraced sent2 ds
 more_traced sent sent2 [] f a = tt
 more_traced sent sent2 (d ∷ ds) f a = (λ long. f d (a.0 long), more_traced sent sent2 ds f a.1)
 
 pub all_more : (sent more ds : List (List ℕ)) → AreTraced sent ds → AreTraced (sent ++ more) ds
-all_more sent more ds a = more_traced sent (sent ++ more) ds (traced_more sent more) a
+all_more sent more ds a = more_traced sent (sent ++ more) ds (sent_more sent more) a
 
 pub own_traced : (ds : List (List ℕ)) → AreTraced ds ds
 own_traced [] = tt
 own_traced (d ∷ ds) =
-    (λ long. ap (λ b. b || is_traced ds d) (own_copy d long), more_traced ds (d ∷ ds) ds (λ e. or_right (comes_of d e) (is_traced ds e)) (own_traced ds))
+    (λ long. ap (λ b. b || is_sent ds d) (own_one d long), more_traced ds (d ∷ ds) ds (λ e. or_right (pointwise nat_eq d e && nat_le 15 (length e)) (is_sent ds e)) (own_traced ds))
 
 pub all_behind : (sent more : List (List ℕ)) → AreTraced (sent ++ more) more
-all_behind sent more = more_traced more (sent ++ more) more (traced_behind sent more) (own_traced more)
+all_behind sent more = more_traced more (sent ++ more) more (sent_behind sent more) (own_traced more)
 
 -- ---- what is told
 
@@ -116,33 +150,29 @@ drop_same (suc k) [] (y ∷ ys) e f = absurd (omega (arith, e))
 drop_same (suc k) (x ∷ xs) [] e f = absurd (omega (arith, e))
 drop_same (suc k) (x ∷ xs) (y ∷ ys) e f = drop_same k xs ys (omega (arith, e)) (λ at l. f (suc at) (omega (arith, l)))
 
-and_left : (a b : Bool) → (a && b) ≡ true → a ≡ true
-and_left true b e = refl
-and_left false b e = absurd (cc e)
+all_true : (a b c d : Bool) → a ≡ true → b ≡ true → c ≡ true → d ≡ true → (a && b && c && d) ≡ true
+all_true a b c d p q r s = rw (p, q, r, s) refl
 
-and_right : (a b : Bool) → (a && b) ≡ true → b ≡ true
-and_right true b e = e
-and_right false b e = absurd (cc e)
-
-lower : (s : ℕ) (old new : List ℕ) → slice_index new 14 + 1 ≡ slice_index old 14 → nat_le (slice_index old 14) s ≡ true → nat_le (slice_index new 14) s ≡ true
-lower s old new e f = grind (arith, nat_tests, e, f)
-
-one_comes : (s old new : List ℕ) → IsOneHopOn old new → comes_of s old ≡ true → comes_of s new ≡ true
-one_comes s old new h e =
+pub hop_is : (old new : List ℕ) → IsOneHopOn old new → 15 ≤ length old → is_hop old new ≡ true
+hop_is old new h long =
     let front : take 14 new ≡ take 14 old = take_same 14 old new h.size (λ at l. h.others at (λ same. (let bad : ⊥ = omega (arith, l, same) in bad))) in
     let back : drop 15 new ≡ drop 15 old = drop_same 15 old new h.size (λ at l. h.others at (λ same. (let bad : ⊥ = omega (arith, l, same) in bad))) in
-    let copy : is_copy new s ≡ is_copy old s =
-    ap (λ xs. pointwise nat_eq xs (take 14 s) && pointwise nat_eq (drop 15 new) (drop 15 s) && nat_le 15 (length new) && nat_le 15 (length s)) front
-    ∙ (ap (λ xs. pointwise nat_eq (take 14 old) (take 14 s) && pointwise nat_eq xs (drop 15 s) && nat_le 15 (length new) && nat_le 15 (length s)) back
-    ∙ ap (λ k. pointwise nat_eq (take 14 old) (take 14 s) && pointwise nat_eq (drop 15 old) (drop 15 s) && nat_le 15 k && nat_le 15 (length s)) h.size) in
-    let was : is_copy old s ≡ true = and_left (is_copy old s) _ e in
-    let ttl : nat_le (ttl_of new) (ttl_of s) ≡ true = lower (ttl_of s) old new h.ttl (and_right (is_copy old s) _ e) in
-    rw (copy, was, ttl) refl
+    let size : nat_le 15 (length old) ≡ true = grind (arith, nat_tests, long) in
+    let size2 : nat_le 15 (length new) ≡ true = ap (nat_le 15) h.size ∙ size in
+    let first : pointwise nat_eq (take 14 new) (take 14 old) ≡ true = ap (λ xs. pointwise nat_eq xs (take 14 old)) front ∙ nat_list_eq_equiv.refl (take 14 old) in
+    let second : pointwise nat_eq (drop 15 new) (drop 15 old) ≡ true = ap (λ xs. pointwise nat_eq xs (drop 15 old)) back ∙ nat_list_eq_equiv.refl (drop 15 old) in
+    let copy : is_copy new old ≡ true = all_true _ _ _ _ first second size2 size in
+    let ttl : nat_eq (ttl_of new + 1) (ttl_of old) ≡ true = (let e = h.ttl in grind (arith, nat_tests, e)) in
+    and_of (is_copy new old) (nat_eq (ttl_of new + 1) (ttl_of old)) copy ttl
 
-pub traced_on : (sent : List (List ℕ)) (old new : List ℕ) → IsOneHopOn old new → is_traced sent old ≡ true → is_traced sent new ≡ true
-traced_on [] old new h e = absurd (cc e)
-traced_on (s ∷ sent) old new h e =
-    or_both (comes_of s old) (is_traced sent old) (comes_of s new) (is_traced sent new) (one_comes s old new h) (traced_on sent old new h) e
+-- what came to a node is passed on by it
+pub passed_on : (borne : List Borne) (own : Callsign) (old new : List ℕ) → is_hop old new ≡ true → is_borne borne own old ≡ true → is_passed borne own new ≡ true
+passed_on [] own old new h e = absurd (cc e)
+passed_on (b ∷ bs) own old new h e =
+    or_both (same_call b.to own && pointwise nat_eq b.datagram old) (is_borne bs own old) (same_call b.to own && is_hop b.datagram new) (is_passed bs own new)
+    (λ f. and_of (same_call b.to own) (is_hop b.datagram new) (and_left (same_call b.to own) _ f)
+    (ap (λ d. is_hop d new) (same_list b.datagram old (and_right (same_call b.to own) _ f)) ∙ h))
+    (passed_on bs own old new h) e
 
 -- ---- what can be read as a datagram has a head's octets
 

@@ -1,99 +1,93 @@
 -- From one state of a node to another by inputs of its circuits, with all that it carries.
 use Rattle.std.proofs.Common.{◌≡◌, ◌∙◌, ◌≤◌, ℕ, refl, sym, ap, subst, List, [], ◌∷◌, ◌++◌, length, append_assoc, append-nil, inl, inr}
-use Rattle.std.specs.Prelude.{Bool, true, false, ◌||◌, ◌==◌, ◌⊎◌, not, nat_eq}
+use Rattle.std.specs.Prelude.{Bool, true, ◌==◌, ◌⊎◌, not, nat_eq}
 use Rattle.std.specs.List.{AllByRecursion}
 use Rattle.radio_base.specs.declared.payload.Payload.{Payload}
 use Rattle.ax_address.specs.Callsign.{Callsign}
 use Rattle.ax_link.specs.Outputs.{Has}
 use Rattle.circuit_set.specs.Inputs.{runs}
-use Rattle.circuit_set.specs.Sets as sets
-use Rattle.circuit_set.specs.Sets.{Act, SetState, Told, set_step}
-use Rattle.link_table.specs.Frames as frames
+use Rattle.circuit_set.specs.Sets.{Act, SetState, Told}
 use Rattle.link_table.specs.Frames.{netrom}
 use Rattle.link_table.specs.Laws.{Carries, CarriesByWeaker, FrameHolds, goes_to}
 use Rattle.link_table.specs.Reaching.{IsCall, Reaches}
 use Rattle.link_table.specs.Table.{Table}
 use Rattle.link_table.specs.declared.written.Written.{Written}
 use Rattle.node_core.specs.Broadcasts.{is_broadcast}
-use Rattle.node_core.specs.Carried.{CarriesTraced, ComeTraced, IsCarried, NamesCall, brings_traced, is_traced, offers_traced, sends_in}
+use Rattle.node_core.specs.Carried.{Borne, CarriesTraced, IsAloft, IsCarried, IsOfNode, NamesCall, Place, WasBorne, brings_traced, is_aloft, is_borne, is_of_node, is_passed, is_sent, offers_traced, sends_in, with_borne}
 use Rattle.node_core.specs.Runs.{circuits_told}
 use Rattle.node_core.specs.States.{Entry, Settings, State}
 use Rattle.node_core.proofs.Coming as coming
 use Rattle.node_core.proofs.Inputs.{IsInput, set_of_both, told_of_both}
-use Rattle.node_core.proofs.Tracing.{all_behind, all_both, all_more, sends_append, traced_more}
+use Rattle.node_core.proofs.Tracing.{all_behind, all_both, all_more, borne_behind, borne_more, or_both, or_map, passed_more, sends_append, sent_more}
 
--- ---- of more that were sent
+-- ---- of more that were sent, and more in the air
 
-or_more : (a b c : Bool) → (b ≡ true → c ≡ true) → (a || b) ≡ true → (a || c) ≡ true
-or_more true b c f e = refl
-or_more false b c f e = f e
+abbrev More : Place → Place → List (List ℕ) → List (List ℕ) → Type 0
+More here there sent sent2 = (d : List ℕ) → is_of_node here sent d ≡ true → is_of_node there sent2 d ≡ true
 
-brings_more : (sent more : List (List ℕ)) (call : Callsign) (p : Payload) → Has (brings_traced sent call) p → Has (brings_traced (sent ++ more) call) p
-brings_more sent more call p a =
-    or_more (not (p.pid == netrom)) (is_traced sent p.info.items) (is_traced (sent ++ more) p.info.items) (traced_more sent more p.info.items) a
+abbrev MoreBorne : Place → Place → Type 0
+MoreBorne here there = (to : Callsign) (d : List ℕ) → is_borne here.borne to d ≡ true → is_borne there.borne to d ≡ true
 
-goes_more : (size : ℕ) (sent more : List (List ℕ)) (call : Callsign) (p : Payload) → Has (goes_to (offers_traced sent) (brings_traced sent) (nat_eq size) call) p
-    → Has (goes_to (offers_traced (sent ++ more)) (brings_traced (sent ++ more)) (nat_eq size) call) p
-goes_more size sent more call p a =
-    or_more (not (p.pid == netrom)) (is_traced sent p.info.items) (is_traced (sent ++ more) p.info.items) (traced_more sent more p.info.items) a
+sent_of_node : (here : Place) (sent more : List (List ℕ)) → More here here sent (sent ++ more)
+sent_of_node here sent more d e =
+    or_both (is_sent sent d) (is_passed here.borne here.own d) (is_sent (sent ++ more) d) (is_passed here.borne here.own d) (sent_more sent more d) (λ f. f) e
+
+borne_of_node : (here : Place) (sent : List (List ℕ)) (borne : List Borne) → More here (with_borne borne here) sent sent
+borne_of_node here sent borne d e =
+    or_map (is_sent sent d) (is_passed here.borne here.own d) (is_passed (here.borne ++ borne) here.own d) (passed_more here.borne borne here.own d) e
+
+offers_more : (here there : Place) (sent sent2 : List (List ℕ)) → More here there sent sent2 → MoreBorne here there → (call : Callsign) (p : Payload) → Has (offers_traced here sent call) p → Has (offers_traced there sent2 call) p
+offers_more here there sent sent2 f g call p a =
+    or_both (is_of_node here sent p.info.items) (is_borne here.borne call p.info.items) (is_of_node there sent2 p.info.items) (is_borne there.borne call p.info.items) (f p.info.items) (g call p.info.items) a
+
+goes_more : (offers offers2 : Callsign → Payload → Bool) (size : ℕ) → ((call : Callsign) (p : Payload) → Has (offers call) p → Has (offers2 call) p) → (call : Callsign) (p : Payload)
+    → Has (goes_to offers offers (nat_eq size) call) p → Has (goes_to offers2 offers2 (nat_eq size) call) p
+goes_more offers offers2 size f call p a = or_map (not (p.pid == netrom)) (offers call p) (offers2 call p) (f call p) a
 
 -- the links of a node
-abbrev pub LinksCarry : ℕ → List (List ℕ) → Table → Type 0
-LinksCarry size sent t = Carries (offers_traced sent) (brings_traced sent) (nat_eq size) t
+abbrev pub LinksCarry : Place → List (List ℕ) → Table → Type 0
+LinksCarry here sent t = Carries (offers_traced here sent) (brings_traced here) (nat_eq here.size) t
 
-abbrev pub LinksHold : ℕ → List (List ℕ) → Table → Type 0
-LinksHold size sent t = LinksCarry size sent t × Reaches size t
+abbrev pub LinksHold : Place → List (List ℕ) → Table → Type 0
+LinksHold here sent t = LinksCarry here sent t × Reaches here.size t
 
-frame_more : (size : ℕ) (sent more : List (List ℕ)) (s : frames.Sent) → FrameHolds (offers_traced sent) (brings_traced sent) (nat_eq size) s
-    → FrameHolds (offers_traced (sent ++ more)) (brings_traced (sent ++ more)) (nat_eq size) s
-frame_more size sent more s h = record { payload = λ p q i. goes_more size sent more s.frame.head.dest.call p (h.payload p q i); size = h.size }
-
-pub carried_more : (size : ℕ) (sent more : List (List ℕ)) (octets : List ℕ) → IsCarried size sent octets → IsCarried size (sent ++ more) octets
-carried_more size sent more octets x = record { frame = x.frame; are = x.are; spelled = x.spelled; fit = by x.fit }
+-- frames of which more is carried by a weaker property
+pub carried_weaker : (offers offers2 : Callsign → Payload → Bool) (size : ℕ) (octets : List ℕ) → ((call : Callsign) (p : Payload) → Has (offers call) p → Has (offers2 call) p) → IsCarried size offers octets
+    → IsCarried size offers2 octets
+carried_weaker offers offers2 size octets f x = record { frame = x.frame; are = x.are; spelled = x.spelled; fit = by x.fit }
   where
-    by : (is_broadcast x.frame.frame ≡ true) ⊎ FrameHolds (offers_traced sent) (brings_traced sent) (nat_eq size) x.frame
-        → (is_broadcast x.frame.frame ≡ true) ⊎ FrameHolds (offers_traced (sent ++ more)) (brings_traced (sent ++ more)) (nat_eq size) x.frame
+    by : (is_broadcast x.frame.frame ≡ true) ⊎ FrameHolds offers offers (nat_eq size) x.frame → (is_broadcast x.frame.frame ≡ true) ⊎ FrameHolds offers2 offers2 (nat_eq size) x.frame
     by (inl b) = inl b
-    by (inr h) = inr (frame_more size sent more x.frame h)
+    by (inr h) = inr (record { payload = λ p q i. goes_more offers offers2 size f x.frame.frame.head.dest.call p (h.payload p q i); size = h.size })
 
-abbrev pub OwnCarried : ℕ → List (List ℕ) → List Written → Type 0
-OwnCarried size sent fs = AllByRecursion (λ (f : Written). IsCarried size sent f.octets.items) fs
+pub aloft_more : (size : ℕ) (borne more : List Borne) (octets : List ℕ) → IsAloft size borne octets → IsAloft size (borne ++ more) octets
+aloft_more size borne more octets x = carried_weaker (is_aloft borne) (is_aloft (borne ++ more)) size octets (λ call p a. borne_more borne more call p.info.items a) x
 
-all_own_more : (size : ℕ) (sent more : List (List ℕ)) (fs : List Written) → OwnCarried size sent fs → OwnCarried size (sent ++ more) fs
-all_own_more size sent more [] a = tt
-all_own_more size sent more (f ∷ fs) a = (carried_more size sent more f.octets.items a.0, all_own_more size sent more fs a.1)
+pub aloft_behind : (size : ℕ) (borne more : List Borne) (octets : List ℕ) → IsAloft size more octets → IsAloft size (borne ++ more) octets
+aloft_behind size borne more octets x = carried_weaker (is_aloft more) (is_aloft (borne ++ more)) size octets (λ call p a. borne_behind borne more call p.info.items a) x
+
+abbrev pub OwnCarried : Place → List (List ℕ) → List Written → Type 0
+OwnCarried here sent fs = AllByRecursion (λ (f : Written). IsOfNode here sent f.octets.items) fs
+
+own_weaker : (here there : Place) (sent sent2 : List (List ℕ)) (fs : List Written) → here.size ≡ there.size → More here there sent sent2 → MoreBorne here there → OwnCarried here sent fs → OwnCarried there sent2 fs
+own_weaker here there sent sent2 [] e f g a = tt
+own_weaker here there sent sent2 (x ∷ fs) e f g a = (
+  subst (λ k. IsCarried k (offers_traced there sent2) x.octets.items) e
+      (carried_weaker (offers_traced here sent) (offers_traced there sent2) here.size x.octets.items (offers_more here there sent sent2 f g) a.0),
+  own_weaker here there sent sent2 fs e f g a.1,
+)
+
+all_own_more : (here : Place) (sent more : List (List ℕ)) (fs : List Written) → OwnCarried here sent fs → OwnCarried here (sent ++ more) fs
+all_own_more here sent more fs a = own_weaker here here sent (sent ++ more) fs refl (sent_of_node here sent more) (λ to d e. e) a
 
 -- ---- what is handed up, by inputs one behind the other
 
 pub step_sends : (sent : List (List ℕ)) (xs ys : List Told) → (sent ++ sends_in xs) ++ sends_in ys ≡ sent ++ sends_in (xs ++ ys)
 step_sends sent xs ys = append_assoc sent (sends_in xs) (sends_in ys) ∙ ap (λ ds. sent ++ ds) (sym (sends_append xs ys))
 
-come_first : (sent : List (List ℕ)) (s : SetState) (ys : List Act) → ComeTraced (sent ++ []) s ys → ComeTraced sent s ys
-come_first sent s ys c = subst (λ ss. ComeTraced ss s ys) (append-nil sent) c
-
-pub come_both : (sent : List (List ℕ)) (s : SetState) (xs ys : List Act) → ComeTraced sent s xs → ComeTraced (sent ++ sends_in (runs xs s).told) (runs xs s).set ys → ComeTraced sent s (xs ++ ys)
-come_both sent s [] ys a b = come_first sent s ys b
-come_both sent s (sets.Comes d now ∷ xs) ys a b = (
-  a.0,
-  (let t = set_step s (sets.Comes d now) in
-      come_both (sent ++ sends_in t.told) t.set xs ys a.1 (subst (λ ss. ComeTraced ss (runs xs t.set).set ys) (sym (step_sends sent t.told (runs xs t.set).told)) b)),
-)
-come_both sent s (sets.Connect dest now ∷ xs) ys a b =
-    let t = set_step s (sets.Connect dest now) in
-    come_both (sent ++ sends_in t.told) t.set xs ys a (subst (λ ss. ComeTraced ss (runs xs t.set).set ys) (sym (step_sends sent t.told (runs xs t.set).told)) b)
-come_both sent s (sets.Calls id call now ∷ xs) ys a b =
-    let t = set_step s (sets.Calls id call now) in
-    come_both (sent ++ sends_in t.told) t.set xs ys a (subst (λ ss. ComeTraced ss (runs xs t.set).set ys) (sym (step_sends sent t.told (runs xs t.set).told)) b)
-come_both sent s (sets.Discard id ∷ xs) ys a b =
-    let t = set_step s (sets.Discard id) in
-    come_both (sent ++ sends_in t.told) t.set xs ys a (subst (λ ss. ComeTraced ss (runs xs t.set).set ys) (sym (step_sends sent t.told (runs xs t.set).told)) b)
-come_both sent s (sets.Restart pair more ∷ xs) ys a b =
-    let t = set_step s (sets.Restart pair more) in
-    come_both (sent ++ sends_in t.told) t.set xs ys a (subst (λ ss. ComeTraced ss (runs xs t.set).set ys) (sym (step_sends sent t.told (runs xs t.set).told)) b)
-
 -- ---- from one state to another
 
-module _ (size : ℕ) where
+module _ (here : Place) where
   pub record Trail (sent : List (List ℕ)) (n m : State) : Type 0 where
     pub inputs : List Act
     pub more : List Entry
@@ -102,15 +96,15 @@ module _ (size : ℕ) where
     pub set : m.set.set ≡ (runs inputs n.set.set).set
     pub given : circuits_told more ++ m.set.untold ≡ n.set.untold ++ (runs inputs n.set.set).told
     pub settings : m.settings ≡ n.settings
-    pub come : ComeTraced sent n.set.set inputs
-    pub carries : CarriesTraced size (sent ++ sends_in (runs inputs n.set.set).told) m
+    pub come : AllByRecursion (WasBorne here) inputs
+    pub carries : CarriesTraced here (sent ++ sends_in (runs inputs n.set.set).told) m
 
   abbrev pub Goes : State → State → Type 0
-  Goes n m = (sent : List (List ℕ)) → CarriesTraced size sent n → Trail sent n m
+  Goes n m = (sent : List (List ℕ)) → CarriesTraced here sent n → Trail sent n m
 
   -- no input: what was told was untold before
   pub quiet : (n m : State) (more : List Entry) → m.entries ≡ n.entries ++ more → m.set.set ≡ n.set.set → circuits_told more ++ m.set.untold ≡ n.set.untold → m.settings ≡ n.settings
-      → ((sent : List (List ℕ)) → CarriesTraced size sent n → CarriesTraced size sent m) → Goes n m
+      → ((sent : List (List ℕ)) → CarriesTraced here sent n → CarriesTraced here sent m) → Goes n m
   quiet n m more e s u k f sent x = record {
     inputs = [];
     more = more;
@@ -120,7 +114,7 @@ module _ (size : ℕ) where
     given = u ∙ sym (append-nil n.set.untold);
     settings = k;
     come = tt;
-    carries = subst (λ ss. CarriesTraced size ss m) (sym (append-nil sent)) (f sent x);
+    carries = subst (λ ss. CarriesTraced here ss m) (sym (append-nil sent)) (f sent x);
   }
 
   pub still : (n : State) → Goes n n
@@ -145,8 +139,8 @@ module _ (size : ℕ) where
             ∙ (ap (λ (s : SetState). a.set.untold ++ (first.told ++ (runs u.inputs s).told)) t.set
             ∙ ap (λ (ts : List Told). a.set.untold ++ ts) (sym (told_of_both t.inputs u.inputs a.set.set))))))));
         settings = u.settings ∙ t.settings;
-        come = come_both sent a.set.set t.inputs u.inputs t.come (subst (λ (s : SetState). ComeTraced (sent ++ sends_in first.told) s u.inputs) t.set u.come);
-        carries = subst (λ ss. CarriesTraced size ss c)
+        come = all_both (WasBorne here) t.inputs u.inputs t.come u.come;
+        carries = subst (λ ss. CarriesTraced here ss c)
             (step_sends sent first.told (runs u.inputs b.set.set).told
             ∙ (ap (λ (s : SetState). sent ++ sends_in (first.told ++ (runs u.inputs s).told)) t.set ∙ ap (λ ts. sent ++ sends_in ts) (sym (told_of_both t.inputs u.inputs a.set.set))))
             u.carries;
@@ -158,16 +152,16 @@ module _ (size : ℕ) where
   -- ---- inputs of the circuits
 
   module _ (weaker : CarriesByWeaker) where
-    links_more : (sent more : List (List ℕ)) (t : Table) → LinksCarry size sent t → LinksCarry size (sent ++ more) t
+    links_more : (sent more : List (List ℕ)) (t : Table) → LinksCarry here sent t → LinksCarry here (sent ++ more) t
     links_more sent more t c =
-        weaker (offers_traced sent) (offers_traced (sent ++ more)) (brings_traced sent) (brings_traced (sent ++ more)) (nat_eq size) t
-        (λ call p a. traced_more sent more p.info.items a) (λ call p a. brings_more sent more call p a) c
+        weaker (offers_traced here sent) (offers_traced here (sent ++ more)) (brings_traced here) (brings_traced here) (nat_eq here.size) t
+        (offers_more here here sent (sent ++ more) (sent_of_node here sent more) (λ to d e. e)) (λ call p a. a) c
 
-    pub all_carried_more : (sent more : List (List ℕ)) (n : State) → CarriesTraced size sent n → CarriesTraced size (sent ++ more) n
+    pub all_carried_more : (sent more : List (List ℕ)) (n : State) → CarriesTraced here sent n → CarriesTraced here (sent ++ more) n
     all_carried_more sent more n x = record {
       links = links_more sent more n.links x.links;
       reaches = x.reaches;
-      own = all_own_more size sent more n.own x.own;
+      own = all_own_more here sent more n.own x.own;
       untold = all_more sent more (sends_in n.set.untold) x.untold;
       names = x.names;
       call = x.call;
@@ -175,11 +169,11 @@ module _ (size : ℕ) where
 
     -- what they tell is untold behind what was
     pub input : (sent : List (List ℕ)) (n m : State) (inputs : List Act) → AllByRecursion IsInput inputs → m.entries ≡ n.entries → m.set.set ≡ (runs inputs n.set.set).set
-        → m.set.untold ≡ n.set.untold ++ (runs inputs n.set.set).told → m.settings ≡ n.settings → m.own ≡ n.own → ComeTraced sent n.set.set inputs → LinksHold size sent m.links
-        → AllByRecursion NamesCall m.log → CarriesTraced size sent n → Trail sent n m
+        → m.set.untold ≡ n.set.untold ++ (runs inputs n.set.set).told → m.settings ≡ n.settings → m.own ≡ n.own → AllByRecursion (WasBorne here) inputs → LinksHold here sent m.links
+        → AllByRecursion NamesCall m.log → CarriesTraced here sent n → Trail sent n m
     input sent n m inputs are e s u k o come links names x =
         let ts = (runs inputs n.set.set).told in
-        let own : OwnCarried size sent m.own = subst (OwnCarried size sent) (sym o) x.own in
+        let own : OwnCarried here sent m.own = subst (OwnCarried here sent) (sym o) x.own in
         record {
           inputs = inputs;
           more = [];
@@ -192,12 +186,26 @@ module _ (size : ℕ) where
           carries = record {
             links = links_more sent (sends_in ts) m.links links.0;
             reaches = links.1;
-            own = all_own_more size sent (sends_in ts) m.own own;
+            own = all_own_more here sent (sends_in ts) m.own own;
             names = names;
-            call = subst (λ (y : Settings). IsCall y.call) (sym k) x.call;
+            call = subst (λ (y : Settings). (y.call ≡ here.own) × IsCall here.own) (sym k) x.call;
             untold =
-                subst (λ ds. AllByRecursion (λ (d : List ℕ). 15 ≤ length d → is_traced (sent ++ sends_in ts) d ≡ true) ds) (sym (ap sends_in u ∙ sends_append n.set.untold ts))
-                (all_both (λ (d : List ℕ). 15 ≤ length d → is_traced (sent ++ sends_in ts) d ≡ true) (sends_in n.set.untold) (sends_in ts)
+                subst (λ ds. AllByRecursion (λ (d : List ℕ). 15 ≤ length d → is_sent (sent ++ sends_in ts) d ≡ true) ds) (sym (ap sends_in u ∙ sends_append n.set.untold ts))
+                (all_both (λ (d : List ℕ). 15 ≤ length d → is_sent (sent ++ sends_in ts) d ≡ true) (sends_in n.set.untold) (sends_in ts)
                 (all_more sent (sends_in ts) (sends_in n.set.untold) x.untold) (all_behind sent (sends_in ts)));
           };
         }
+
+    -- more is in the air
+    pub around_more : (borne : List Borne) (sent : List (List ℕ)) (n : State) → CarriesTraced here sent n → CarriesTraced (with_borne borne here) sent n
+    around_more borne sent n x = record {
+      links =
+          weaker (offers_traced here sent) (offers_traced (with_borne borne here) sent) (brings_traced here) (brings_traced (with_borne borne here)) (nat_eq here.size) n.links
+          (offers_more here (with_borne borne here) sent sent (borne_of_node here sent borne) (borne_more here.borne borne))
+          (λ call p a. or_map (not (p.pid == netrom)) (is_borne here.borne here.own p.info.items) (is_borne (here.borne ++ borne) here.own p.info.items) (borne_more here.borne borne here.own p.info.items) a) x.links;
+      reaches = x.reaches;
+      own = own_weaker here (with_borne borne here) sent sent n.own refl (borne_of_node here sent borne) (borne_more here.borne borne) x.own;
+      untold = x.untold;
+      names = x.names;
+      call = x.call;
+    }

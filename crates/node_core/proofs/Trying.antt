@@ -1,5 +1,5 @@
 -- A circuit that a session asks for, in a node that is fine.
-use Rattle.std.proofs.Common.{◌≡◌, ◌≤◌, ◌<◌, ◌+◌, ◌∙◌, ◌⊎◌, inl, inr, ℕ, zero, suc, refl, sym, ap, subst, arith, List, ◌++◌, slice_get, length}
+use Rattle.std.proofs.Common.{◌≡◌, ◌≤◌, ◌<◌, ◌+◌, ◌∙◌, ◌⊎◌, inl, inr, ℕ, zero, suc, refl, sym, ap, subst, arith, List, [], ◌++◌, slice_get, length}
 use Rattle.std.specs.Prelude.{Bool, true, false, ◌||◌, ◌&&◌, min, nat_eq, is_none, if◌then◌else◌, Option, Some, None, Result, Ok, Err}
 use Rattle.std.proofs.lemmas.Bool.Decides.{nat_tests}
 use Rattle.ax_address.specs.Callsign.{Callsign}
@@ -23,8 +23,10 @@ use Rattle.node_core.specs.Sessions.{Session}
 use Rattle.node_core.specs.States.{State, at_set, next_hop}
 use Rattle.node_core.specs.Users as users
 use Rattle.node_core.specs.Users.{at_session, changed, session_at}
-use Rattle.node_core.proofs.Fine.{Fine, pumped, said}
+use Rattle.node_core.proofs.Fine.{Fine, goes_on, pumped, said}
+use Rattle.node_core.proofs.Given.{Given, given_tries}
 use Rattle.node_core.proofs.Holders.{Any, AreOpen, Keeps, connects_keeps, none_closing}
+use Rattle.node_core.proofs.Wrote.{WroteAt, Written, asked_wrote, connects_wrote, written_tries}
 use Rattle.node_core.proofs.Soundness.{Idle, Sound, changed_every, every_at}
 use Rattle.node_core.proofs.Making.{connected_ok}
 use Rattle.node_core.proofs.Owning.{Owns, mades, mades_both, none_made, one, opens_by, owned_by, placed, total}
@@ -100,6 +102,7 @@ tried_owns : (dest : Callsign) (now id nth : ℕ) (n : State) (x : Session) → 
     → (let d : SetDone = set_step n.set.set (sets.Connect dest now) in Owns d.set (n.set.untold ++ d.told) (at_session nth (asking.tries id dest) n).sessions)
 tried_owns dest now id nth n x f e i ok = record {
   below = keeps.below f.0.below;
+  once = keeps.once f.0.below f.0.once;
   messages = keeps.messages f.0.messages;
   few = λ k. by_number k (number_test id k);
   fresh = λ k high.
@@ -152,16 +155,25 @@ tried_owns dest now id nth n x f e i ok = record {
 tried_sound : (id : ℕ) (dest : Callsign) (x : Session) → Idle x → Sound x → Sound (asking.tries id dest x)
 tried_sound id dest x i s =
     let none = ap (λ (rs : List Reply). length rs) i.replies in
-    record { bridged = tt; rest = s.rest; replies = omega (arith, none) }
+    record { writes = tt; rest = s.rest; replies = omega (arith, none) }
 
 asked_fine : (dest : Callsign) (now id nth : ℕ) (n : State) (x : Session) → Fine n → session_at nth n ≡ Some x → Idle x → Accepted dest now id n.set.set
     → Fine (at_set (circuits.acts (sets.Connect dest now)) (at_session nth (asking.tries id dest) n))
 unfolding circuits.acts
-asked_fine dest now id nth n x f e i ok = (
-  tried_owns dest now id nth n x f e i ok,
-  changed_every Sound (asking.tries id dest) n.sessions nth (slice_get n.sessions nth)
-      (λ z k. let same : Some x ≡ Some z = sym e ∙ k in let is : x ≡ z = cc same in tried_sound id dest z (subst Idle is i) (every_at Sound n.sessions nth z f.1 k)) f.1,
-)
+asked_fine dest now id nth n x f e i ok =
+    let set : SetState = (set_step n.set.set (sets.Connect dest now)).set in
+    let on = goes_on Any n.set.set set n.set.untold n.sessions (connects_keeps n.set.set dest now) (connects_wrote n.set.set dest now) f in
+    let new : WroteAt set id [] = subst (λ k. WroteAt set k []) (sym ok.number) (subst (λ (d : SetDone). WroteAt d.set n.set.set.number []) (sym ok.is) (asked_wrote n.set.set dest now f.0.below)) in (
+      tried_owns dest now id nth n x f e i ok,
+      (
+        changed_every Sound (asking.tries id dest) n.sessions nth (slice_get n.sessions nth)
+            (λ z k. let same : Some x ≡ Some z = sym e ∙ k in let is : x ≡ z = cc same in tried_sound id dest z (subst Idle is i) (every_at Sound n.sessions nth z on.0 k)) on.0,
+        (
+          changed_every (Given set) (asking.tries id dest) n.sessions nth (slice_get n.sessions nth) (λ z k. given_tries set id dest z (every_at (Given set) n.sessions nth z on.1.0 k)) on.1.0,
+          changed_every (Written set) (asking.tries id dest) n.sessions nth (slice_get n.sessions nth) (λ z k. written_tries set id dest z new) on.1.1,
+        ),
+      ),
+    )
 
 pub tried : (now nth : ℕ) (dest : Callsign) (r : Result ℕ ConnectRefusal) (n : State) (x : Session) → connect_answer (next_hop n) dest n.set.set ≡ r → Fine n → session_at nth n ≡ Some x → Idle x
     → Fine (asking.tried now nth dest r n)

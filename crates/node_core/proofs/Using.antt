@@ -10,7 +10,7 @@ use Rattle.circuit_set.specs.Sets as s
 use Rattle.circuit_set.specs.declared.event.SetRefusal.{SetRefusal}
 use Rattle.circuit_set.specs.Standing as answers
 use Rattle.link_table.specs.Sending as sending
-use Rattle.link_table.specs.Standing.{Kept, TableGoes, TableStands, TextNotNoMemory, text_given}
+use Rattle.link_table.specs.Standing.{TableView as Kept, TableGoes, TableStands, TextNotNoMemory, text_given}
 use Rattle.link_table.specs.Texts as texts
 use Rattle.link_table.specs.Table.{Table}
 use Rattle.link_table.specs.declared.text_refusal.TextRefusal.{TextRefusal}

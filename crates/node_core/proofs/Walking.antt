@@ -68,7 +68,7 @@ module _ (P : State → State → Type 0) (Q : Item → Type 0) (w : Walks P Q) 
   either_turn n t u true c d = c
   either_turn n t u false c d = d
 
-  turn_on : ReadsCallTexts → (now : ℕ) (n : State) → P n (s.turn now n).after
+  pub turn_on : ReadsCallTexts → (now : ℕ) (n : State) → P n (s.turn now n).after
   turn_on reads now n =
       let a : State = s.enter_notices n in
       let b : State = p.pump now a in

@@ -1,44 +1,48 @@
 -- What goes between a user and its circuit arrives whole and in order, each way; and what a session keeps is bounded. Own profile.
-use Rattle.std.specs.Prelude.{ℕ, ◌≡◌, ◌≤◌, false, List, [], ◌∷◌, ◌++◌, length}
+use Rattle.std.specs.Prelude.{ℕ, ◌≡◌, ◌≤◌, true, false, Some, List, [], ◌∷◌, ◌++◌, length}
 use Rattle.std.specs.List.{AllByRecursion}
 use Rattle.ax_address.specs.Callsign.{Callsign}
 use Rattle.ax_address.specs.declared.address.Address.{Address}
 use Rattle.arrayvec.specs.ArrayVec.{ArrayVec}
+use Rattle.circuit_set.specs.Sets.{Holder}
 use Rattle.link_table.specs.Calls.{with_path}
 use Rattle.node_core.specs.declared.config.NodeConfig.{NodeConfig}
+use Rattle.node_core.specs.declared.sessions.session.Circuit.{Circuit}
 use Rattle.node_core.specs.declared.sessions.session.Stage.{Stage}
 use Rattle.node_core.specs.declared.sessions.session.Stage.TheVariants.{AtPrompt, Trying, Failed, Connected}
 use Rattle.node_core.specs.Configs.{new_node}
 use Rattle.node_core.specs.Inputs.{after_act, after_bytes, after_tick}
-use Rattle.node_core.specs.Sessions.{Bridge, Session, waits}
+use Rattle.node_core.specs.Sessions.{Bridge, Session, circuit_of, waits}
 use Rattle.node_core.specs.UserActs.{UserAct}
-use Rattle.node_core.specs.States.{NodeState, at_links, fetch_entry, fetch_frame}
+use Rattle.node_core.specs.States.{NodeState, State, at_links, fetch_entry, fetch_frame}
+use Rattle.node_core.specs.Users.{end_at, is_deaf}
+use Rattle.node_core.specs.Waits.{has_text}
 
 -- ---- one session
 
--- What was taken from the user since its circuit stood was written to the circuit, one message each and in order, but for what is left
--- of the text that was taken last, which waits; unless something was refused, since the numbers of fragments have come to their end.
+-- Each text that was taken from the user since its circuit stood was written to the circuit whole, as one message and in order, but for
+-- what is left of the text that was taken last, which waits; unless something was refused, since the numbers of fragments have come to their end.
 abbrev pub WritesTaken : Bridge → List ℕ → Type 0
 WritesTaken b rest = b.exhausted ≡ false → b.taken ≡ b.wrote ++ waits rest
 
--- What was taken from the circuit was given to the user, in order; unless a message was dropped, since nothing is said to the user any
--- more, or its link had no room for it any more, or the numbers of fragments have come to their end.
-abbrev pub GivesGot : Bridge → Type 0
-GivesGot b = b.exhausted ≡ false → b.unheard ≡ false → b.crowded ≡ false → b.gave ≡ b.got
+-- What was taken from the circuit was given to the user, in order, where the user's side hasn't ended and the user hasn't said BYE; unless
+-- its link had no room for a message any more, or the numbers of fragments have come to their end.
+abbrev pub GivesGot : State → Session → Type 0
+GivesGot n s = s.bridge.exhausted ≡ false → s.bridge.crowded ≡ false → is_deaf s n ≡ false → s.bridge.gave ≡ s.bridge.got
 
-pub record Bridged (s : Session) : Type 0 where
+pub record Bridged (n : State) (s : Session) : Type 0 where
   pub writes : WritesTaken s.bridge s.rest
-  pub gives : GivesGot s.bridge
+  pub gives : GivesGot n s
 
 -- so it is while the circuit stands
-abbrev pub BridgedAt : Stage → Session → Type 0
-BridgedAt AtPrompt s = Unit {0}
-BridgedAt (Trying c) s = Unit {0}
-BridgedAt (Failed c) s = Unit {0}
-BridgedAt (Connected c) s = Bridged s
+abbrev pub BridgedAt : Stage → State → Session → Type 0
+BridgedAt AtPrompt n s = Unit {0}
+BridgedAt (Trying c) n s = Unit {0}
+BridgedAt (Failed c) n s = Unit {0}
+BridgedAt (Connected c) n s = Bridged n s
 
-abbrev pub IsBridged : Session → Type 0
-IsBridged s = BridgedAt s.stage s
+abbrev pub IsBridged : State → Session → Type 0
+IsBridged n s = BridgedAt s.stage n s
 
 -- how many replies may wait: at the prompt that a circuit stood, or didn't, and that it has ended
 abbrev pub most_replies : Stage → ℕ
@@ -51,6 +55,14 @@ most_replies (Connected c) = 1
 pub record IsBounded (s : Session) : Type 0 where
   pub rest : length s.rest ≤ 8192
   pub replies : length s.replies ≤ most_replies s.stage
+
+-- what was ever written to the end of its circuit is what the session has written
+abbrev pub IsEndsWriter : State → Session → Type 0
+IsEndsWriter n s = (c : Circuit) → s.stage ≡ Connected c → (h : Holder) × (end_at c.id n ≡ Some h) × (h.end.sending.wrote ≡ s.bridge.wrote)
+
+-- a circuit is closed here last: no text waits for it
+abbrev pub IsClosedLast : State → Session → Type 0
+IsClosedLast n s = (c : Circuit) → circuit_of s.stage ≡ Some c → c.closed ≡ true → has_text s n ≡ false
 
 -- ---- every node
 
@@ -75,12 +87,18 @@ abbrev pub after_all : List Input → NodeState → NodeState
 after_all [] n = n
 after_all (i ∷ more) n = after_all more (after i n)
 
--- each session that a node comes to from its start
-abbrev pub EverySession : (Session → Type 0) → Type 0
-EverySession P = (c : NodeConfig) (inputs : List Input) → AllByRecursion P (after_all inputs (new_node c)).station.sessions
+-- each session that a node comes to from its start, with the node
+abbrev pub EverySession : (State → Session → Type 0) → Type 0
+EverySession P = (c : NodeConfig) (inputs : List Input) → let n : State = (after_all inputs (new_node c)).station in AllByRecursion (P n) n.sessions
 
 abbrev pub SessionsBridged : Type 0
 SessionsBridged = EverySession IsBridged
 
+abbrev pub SessionsWriteTheirEnds : Type 0
+SessionsWriteTheirEnds = EverySession IsEndsWriter
+
+abbrev pub SessionsClosedLast : Type 0
+SessionsClosedLast = EverySession IsClosedLast
+
 abbrev pub SessionsBounded : Type 0
-SessionsBounded = EverySession IsBounded
+SessionsBounded = EverySession (λ n. IsBounded)

@@ -49,7 +49,7 @@ abbrev pub gave : Outcome → List ℕ → Bridge → Bridge
 gave Taken message b = record b { gave = b.gave ++ message ∷ [] }
 gave Exhausts message b = record b { exhausted = true }
 gave Crowds message b = record b { crowded = true }
-gave Unheard message b = record b { unheard = true }
+gave Unheard message b = b
 gave Refused message b = b
 
 abbrev pub log_gave : Outcome → List ℕ → Session → Session

@@ -1,11 +1,17 @@
--- Where the datagrams are from that a node carries: of those that nodes of its network have sent so far. Own profile.
-use Rattle.std.specs.Prelude.{ℕ, ◌≡◌, ◌≤◌, ◌==◌, ◌&&◌, ◌||◌, ◌⊎◌, not, nat_eq, nat_le, Bool, true, false, List, [], ◌∷◌, ◌++◌, length, slice_index}
+-- Where the datagrams are from that a node carries: it has sent them, or frames in the air of its network have carried them. Own profile.
+use Rattle.std.specs.Prelude.{ℕ, ◌≡◌, ◌+◌, ◌≤◌, ◌==◌, ◌&&◌, ◌||◌, ◌⊎◌, not, nat_eq, nat_le, Bool, true, false, List, [], ◌∷◌, ◌++◌, length, slice_index, Result, Ok, Err, if◌then◌else◌}
+use Rattle.std.specs.Cmp.Lexicographic.{pointwise}
 use Rattle.std.specs.List.{AllByRecursion}
 use Rattle.radio_base.specs.declared.payload.Payload.{Payload}
 use Rattle.ax_address.specs.Callsign.{Callsign}
+use Rattle.ax_address.specs.CallOrder.{same_call}
+use Rattle.ax_frame.specs.declared.frame.FrameRefusal.{FrameRefusal}
+use Rattle.ax_frame.specs.Frames.{Frame}
+use Rattle.ax_frame.specs.Read.{read_at}
+use Rattle.ax_link.specs.Outputs.{Has}
 use Rattle.circuit_set.specs.Books.{is_copy}
 use Rattle.circuit_set.specs.Inputs.{runs}
-use Rattle.circuit_set.specs.Sets.{Act, Comes, Sent, SetState, Told, set_step}
+use Rattle.circuit_set.specs.Sets.{Act, Comes, Sent, Told}
 use Rattle.kiss_framing.specs.Stream as kiss
 use Rattle.link_table.specs.Frames as frames
 use Rattle.link_table.specs.Frames.{netrom, octets_of}
@@ -20,7 +26,7 @@ use Rattle.ax_address.specs.declared.address.Address.{Address}
 use Rattle.link_table.specs.Calls.{with_path}
 use Rattle.link_table.specs.Standing.{width}
 use Rattle.node_core.specs.declared.config.NodeConfig.{NodeConfig}
-use Rattle.node_core.specs.Broadcasts.{broadcast_octets, is_broadcast}
+use Rattle.node_core.specs.Broadcasts.{broadcast_octets, has_netrom_pid, is_broadcast}
 use Rattle.node_core.specs.Configs.{new_station}
 use Rattle.node_core.specs.Links.{all_fetched}
 use Rattle.node_core.specs.Inputs.{after_act, after_bytes, after_tick, new_items}
@@ -31,20 +37,55 @@ use Rattle.node_core.specs.States.{NodeState, State, at_links}
 use Rattle.node_core.specs.UserActs as acts
 use Rattle.node_core.specs.UserActs.{UserAct}
 
--- ---- datagrams that were sent
+-- ---- what frames carry
+
+-- a datagram that a frame in the air carries to the node of a call
+pub record Borne : Type 0 where
+  pub to : Callsign
+  pub datagram : List ℕ
+
+-- a frame with NET/ROM's PID that is no broadcast carries one
+abbrev pub borne_by : Frame → List Borne
+borne_by f = if is_broadcast f then [] else (if has_netrom_pid f.pid then record { to = f.head.dest.call; datagram = f.info } ∷ [] else [])
+
+abbrev pub borne_of : Result Frame FrameRefusal → List Borne
+borne_of (Ok f) = borne_by f
+borne_of (Err why) = []
+
+-- octets in the air of a network whose links are of this modulus
+abbrev pub borne_in : ℕ → List ℕ → List Borne
+borne_in size octets = borne_of (read_at size octets)
+
+-- Where a node stands: the modulus of its network's links, its call, and what frames in the air have carried so far.
+pub record Place : Type 0 where
+  pub size : ℕ
+  pub own : Callsign
+  pub borne : List Borne
+
+-- one of these carries this datagram to the node of that call
+abbrev pub is_borne : List Borne → Callsign → List ℕ → Bool
+is_borne [] to datagram = false
+is_borne (b ∷ bs) to datagram = (same_call b.to to && pointwise nat_eq b.datagram datagram) || is_borne bs to datagram
+
+-- ---- datagrams that a node may put in the air
 
 -- the octet of the time to live
 abbrev pub ttl_of : List ℕ → ℕ
 ttl_of datagram = slice_index datagram 14
 
--- A datagram as it may come of one that was sent: a copy but for the time to live, of which each node that passed it on took one.
-abbrev pub comes_of : List ℕ → List ℕ → Bool
-comes_of sent datagram = is_copy datagram sent && nat_le (ttl_of datagram) (ttl_of sent)
+-- it is one of these, which have a head
+abbrev pub is_sent : List (List ℕ) → List ℕ → Bool
+is_sent [] datagram = false
+is_sent (s ∷ sent) datagram = (pointwise nat_eq s datagram && nat_le 15 (length datagram)) || is_sent sent datagram
 
--- it comes of one of these
-abbrev pub is_traced : List (List ℕ) → List ℕ → Bool
-is_traced [] datagram = false
-is_traced (s ∷ sent) datagram = comes_of s datagram || is_traced sent datagram
+-- a hop: the same but for the time to live, of which the node that passes it on takes one
+abbrev pub is_hop : List ℕ → List ℕ → Bool
+is_hop came onward = is_copy onward came && nat_eq (ttl_of onward + 1) (ttl_of came)
+
+-- one of these came to the node of this call, and it is that, one hop on
+abbrev pub is_passed : List Borne → Callsign → List ℕ → Bool
+is_passed [] own datagram = false
+is_passed (b ∷ bs) own datagram = (same_call b.to own && is_hop b.datagram datagram) || is_passed bs own datagram
 
 -- the datagrams that were sent, in what a set tells
 abbrev pub sends_in : List Told → List (List ℕ)
@@ -52,34 +93,50 @@ sends_in [] = []
 sends_in (Sent id number datagram ∷ ts) = datagram ∷ sends_in ts
 sends_in (t ∷ ts) = sends_in ts
 
--- each datagram that the router hands up comes of one that was sent before: by another node, or by these inputs
-abbrev pub ComeTraced : List (List ℕ) → SetState → List Act → Type 0
-ComeTraced sent s [] = Unit {0}
-ComeTraced sent s (Comes datagram now ∷ acts) =
-    (is_traced sent datagram ≡ true)
-    × ComeTraced (sent ++ sends_in (set_step s (Comes datagram now)).told) (set_step s (Comes datagram now)).set acts
-ComeTraced sent s (act ∷ acts) = ComeTraced (sent ++ sends_in (set_step s act).told) (set_step s act).set acts
+-- a datagram of the node: it has sent it, or it came and is passed on
+abbrev pub is_of_node : Place → List (List ℕ) → List ℕ → Bool
+is_of_node here sent datagram = is_sent sent datagram || is_passed here.borne here.own datagram
 
--- ---- what carries them
+-- what it puts in the air for the node of a call: one of its own, or one in the air that it repeats
+abbrev pub offers_traced : Place → List (List ℕ) → Callsign → Payload → Bool
+offers_traced here sent to p = is_of_node here sent p.info.items || is_borne here.borne to p.info.items
 
--- a payload with the PID of NET/ROM is such a datagram
-abbrev pub offers_traced : List (List ℕ) → Callsign → Payload → Bool
-offers_traced sent call p = is_traced sent p.info.items
+-- what comes up with NET/ROM's PID was carried to it
+abbrev pub brings_to : List Borne → Callsign → Callsign → Payload → Bool
+brings_to borne own from p = not (p.pid == netrom) || is_borne borne own p.info.items
 
-abbrev pub brings_traced : List (List ℕ) → Callsign → Payload → Bool
-brings_traced sent call p = not (p.pid == netrom) || is_traced sent p.info.items
+abbrev pub brings_traced : Place → Callsign → Payload → Bool
+brings_traced here = brings_to here.borne here.own
 
--- Octets as they may be in the air of a network of this modulus: they spell a frame that is a broadcast, or that carries such datagrams alone
--- as NET/ROM's.
-pub record IsCarried (size : ℕ) (sent : List (List ℕ)) (octets : List ℕ) : Type 0 where
+-- each datagram that is handed up to its circuits was carried to it
+abbrev pub WasBorne : Place → Act → Type 0
+WasBorne here (Comes datagram now) = is_borne here.borne here.own datagram ≡ true
+WasBorne here act = Unit {0}
+
+-- ---- frames
+
+-- Octets as a network of this modulus may have them in the air: they spell a frame that is a broadcast, or of which all that it carries as
+-- NET/ROM's has this property.
+pub record IsCarried (size : ℕ) (offers : Callsign → Payload → Bool) (octets : List ℕ) : Type 0 where
   pub frame : frames.Sent
   pub are : octets ≡ octets_of frame
   pub spelled : IsSpelled size frame
-  pub fit : (is_broadcast frame.frame ≡ true) ⊎ FrameHolds (offers_traced sent) (brings_traced sent) (nat_eq size) frame
+  pub fit : (is_broadcast frame.frame ≡ true) ⊎ FrameHolds offers offers (nat_eq size) frame
 
-abbrev pub ItemCarried : ℕ → List (List ℕ) → kiss.Item → Type 0
-ItemCarried size sent (kiss.Frame port command payload) = IsCarried size sent payload
-ItemCarried size sent kiss.Too_long = Unit {0}
+-- what it carries is among what the air has carried
+abbrev pub is_aloft : List Borne → Callsign → Payload → Bool
+is_aloft borne to p = is_borne borne to p.info.items
+
+abbrev pub IsAloft : ℕ → List Borne → List ℕ → Type 0
+IsAloft size borne octets = IsCarried size (is_aloft borne) octets
+
+-- a frame that a node puts in the air
+abbrev pub IsOfNode : Place → List (List ℕ) → List ℕ → Type 0
+IsOfNode here sent octets = IsCarried here.size (offers_traced here sent) octets
+
+abbrev pub ItemAloft : Place → kiss.Item → Type 0
+ItemAloft here (kiss.Frame port command payload) = IsAloft here.size here.borne payload
+ItemAloft here kiss.Too_long = Unit {0}
 
 -- ---- a node
 
@@ -90,33 +147,33 @@ NamesCall (logs.Lock dest alias neighbour quality) = IsCall neighbour
 NamesCall logs.Round = Unit {0}
 NamesCall (logs.Failure neighbour) = Unit {0}
 
--- A node of a network of this modulus: what its links hold and put out, and what it has put out before, carries such datagrams alone; and
--- what its circuits have to send is among what was sent.
-pub record CarriesTraced (size : ℕ) (sent : List (List ℕ)) (n : State) : Type 0 where
-  pub links : Carries (offers_traced sent) (brings_traced sent) (nat_eq size) n.links
-  pub reaches : Reaches size n.links
-  pub own : AllByRecursion (λ (f : Written). IsCarried size sent f.octets.items) n.own
-  pub untold : AllByRecursion (λ (d : List ℕ). 15 ≤ length d → is_traced sent d ≡ true) (sends_in n.set.untold)
+-- A node of such a network: what its links hold and put out, and what it has put out before, carries such datagrams alone; and what its
+-- circuits have to send is among what was sent.
+pub record CarriesTraced (here : Place) (sent : List (List ℕ)) (n : State) : Type 0 where
+  pub links : Carries (offers_traced here sent) (brings_traced here) (nat_eq here.size) n.links
+  pub reaches : Reaches here.size n.links
+  pub own : AllByRecursion (λ (f : Written). IsOfNode here sent f.octets.items) n.own
+  pub untold : AllByRecursion (λ (d : List ℕ). 15 ≤ length d → is_sent sent d ≡ true) (sends_in n.set.untold)
   pub names : AllByRecursion NamesCall n.log
-  pub call : IsCall n.settings.call
+  pub call : (n.settings.call ≡ here.own) × IsCall here.own
 
--- A node has come from one state to another by inputs of its circuits: each datagram that was handed up to them comes of one that was
--- sent before, and so does all that the node carries then, with those that these inputs have sent.
-pub record CarriedOn (size : ℕ) (sent : List (List ℕ)) (old new : State) : Type 0 where
+-- A node has come from one state to another by inputs of its circuits: each datagram that was handed up to them was carried to it, and what
+-- the node carries then is such again, with what these inputs have sent.
+pub record CarriedOn (here : Place) (sent : List (List ℕ)) (old new : State) : Type 0 where
   pub run : RunsOn old new
-  pub come : ComeTraced sent old.set.set run.inputs
-  pub carries : CarriesTraced size (sent ++ sends_in (runs run.inputs old.set.set).told) new
+  pub come : AllByRecursion (WasBorne here) run.inputs
+  pub carries : CarriesTraced here (sent ++ sends_in (runs run.inputs old.set.set).told) new
 
--- so it is with each input of a node that is at rest, where what comes is fit
+-- so it is with each input of a node that is at rest, where what comes was in the air
 abbrev pub BytesCarry : Type 0
 BytesCarry =
-    (size : ℕ) (sent : List (List ℕ)) (now : ℕ) (bytes : List ℕ) (n : NodeState) → IsTold n.station → CarriesTraced size sent n.station
-    → AllByRecursion (ItemCarried size sent) (new_items n.stream bytes) → CarriedOn size sent n.station (after_bytes now bytes n).station
+    (here : Place) (sent : List (List ℕ)) (now : ℕ) (bytes : List ℕ) (n : NodeState) → IsTold n.station → CarriesTraced here sent n.station
+    → AllByRecursion (ItemAloft here) (new_items n.stream bytes) → CarriedOn here sent n.station (after_bytes now bytes n).station
 
 abbrev pub TicksCarry : Type 0
 TicksCarry =
-    (size : ℕ) (sent : List (List ℕ)) (now : ℕ) (n : NodeState) → IsTold n.station → CarriesTraced size sent n.station
-    → CarriedOn size sent n.station (after_tick now n).station
+    (here : Place) (sent : List (List ℕ)) (now : ℕ) (n : NodeState) → IsTold n.station → CarriesTraced here sent n.station
+    → CarriedOn here sent n.station (after_tick now n).station
 
 -- a route is locked to a call
 abbrev pub LocksCall : UserAct → Type 0
@@ -125,19 +182,31 @@ LocksCall _ = Unit {0}
 
 abbrev pub ActsCarry : Type 0
 ActsCarry =
-    (size : ℕ) (sent : List (List ℕ)) (now : ℕ) (act : UserAct) (n : NodeState) → IsUserAct act → LocksCall act → IsTold n.station → CarriesTraced size sent n.station
-    → CarriedOn size sent n.station (after_act now act n).station
+    (here : Place) (sent : List (List ℕ)) (now : ℕ) (act : UserAct) (n : NodeState) → IsUserAct act → LocksCall act → IsTold n.station → CarriesTraced here sent n.station
+    → CarriedOn here sent n.station (after_act now act n).station
 
--- So it stays where more was sent, as frames are fetched and entries are told; a broadcast of a call is carried; and so a node starts.
+-- more was in the air
+abbrev pub with_borne : List Borne → Place → Place
+with_borne more here = record here { borne = here.borne ++ more }
+
+-- what has the property, as NET/ROM's for the node to which a frame carries it
+abbrev pub Offered : (Callsign → Payload → Bool) → Borne → Type 0
+Offered offers b = Has (offers b.to) (record { pid = netrom; info = record { items = b.datagram } })
+
+-- So it stays where more was sent and more was in the air, as frames are fetched and entries are told; what such a frame carries has its
+-- property, and is in the air with it; a broadcast of a call carries nothing; and so a node starts.
 pub record CarriedFurther : Type 0 where
-  pub more : (size : ℕ) (sent more : List (List ℕ)) (n : State) → CarriesTraced size sent n → CarriesTraced size (sent ++ more) n
-  pub octets : (size : ℕ) (sent more : List (List ℕ)) (octets : List ℕ) → IsCarried size sent octets → IsCarried size (sent ++ more) octets
-  pub frames : (size : ℕ) (sent : List (List ℕ)) (n : State) → CarriesTraced size sent n
-      → AllByRecursion (λ (f : Written). IsCarried size sent f.octets.items) (states.frames n)
-  pub fetched : (size : ℕ) (sent : List (List ℕ)) (n : State) → CarriesTraced size sent n → CarriesTraced size sent (record n { own = []; links = all_fetched n.links })
-  pub told : (size : ℕ) (sent : List (List ℕ)) (n : State) → CarriesTraced size sent n → CarriesTraced size sent (record n { entries = [] })
-  pub broadcasts : (size : ℕ) (sent : List (List ℕ)) (own : Callsign) (b : Broadcast) → IsCall own → IsCarried size sent (broadcast_octets own b)
-  pub starts : (size : ℕ) (sent : List (List ℕ)) (c : NodeConfig) → IsCall c.call → (size ≡ 8) ⊎ (size ≡ 128) → width c.modulo128 ≡ size
-      → CarriesTraced size sent (new_station c)
-  pub paths : (size : ℕ) (sent : List (List ℕ)) (peer : Callsign) (path : ArrayVec Address) (n : State) → IsWay path → CarriesTraced size sent n
-      → CarriesTraced size sent (at_links (with_path peer path) n)
+  pub more : (here : Place) (sent more : List (List ℕ)) (borne : List Borne) (n : State) → CarriesTraced here sent n → CarriesTraced (with_borne borne here) (sent ++ more) n
+  pub aloft : (size : ℕ) (borne more : List Borne) (octets : List ℕ) → IsAloft size borne octets → IsAloft size (borne ++ more) octets
+  pub behind : (size : ℕ) (borne more : List Borne) (octets : List ℕ) → IsAloft size more octets → IsAloft size (borne ++ more) octets
+  pub bears : (size : ℕ) (offers : Callsign → Payload → Bool) (octets : List ℕ) → (size ≡ 8) ⊎ (size ≡ 128) → IsCarried size offers octets
+      → AllByRecursion (Offered offers) (borne_in size octets) × IsAloft size (borne_in size octets) octets
+  pub frames : (here : Place) (sent : List (List ℕ)) (n : State) → CarriesTraced here sent n
+      → AllByRecursion (λ (f : Written). IsOfNode here sent f.octets.items) (states.frames n)
+  pub fetched : (here : Place) (sent : List (List ℕ)) (n : State) → CarriesTraced here sent n → CarriesTraced here sent (record n { own = []; links = all_fetched n.links })
+  pub told : (here : Place) (sent : List (List ℕ)) (n : State) → CarriesTraced here sent n → CarriesTraced here sent (record n { entries = [] })
+  pub broadcasts : (size : ℕ) (borne : List Borne) (own : Callsign) (b : Broadcast) → IsCall own → IsAloft size borne (broadcast_octets own b)
+  pub starts : (here : Place) (sent : List (List ℕ)) (c : NodeConfig) → c.call ≡ here.own → IsCall c.call → (here.size ≡ 8) ⊎ (here.size ≡ 128) → width c.modulo128 ≡ here.size
+      → CarriesTraced here sent (new_station c)
+  pub paths : (here : Place) (sent : List (List ℕ)) (peer : Callsign) (path : ArrayVec Address) (n : State) → IsWay path → CarriesTraced here sent n
+      → CarriesTraced here sent (at_links (with_path peer path) n)

@@ -3,7 +3,7 @@ use Rattle.std.specs.Prelude.{ℕ, ◌≡◌, ◌+◌, ◌++◌, Bool, false, Li
 use Rattle.circuit_set.specs.CircuitSets.{Circuits}
 use Rattle.kiss_framing.specs.Deframing as kiss
 use Rattle.kiss_framing.specs.Stream.{Item, items}
-use Rattle.link_table.specs.Standing.{Kept as LinkTable}
+use Rattle.link_table.specs.Standing.{TableView as LinkTable}
 use Rattle.node_core.specs.declared.station.Station.{Station}
 use Rattle.node_core.specs.Inputs.{after_items}
 use Rattle.node_core.specs.Standing.{Goes, Holds, IsDrained, IsTold}

@@ -10,6 +10,7 @@ pub mod Views
 pub mod Asking
 pub mod Serving
 pub mod Settling
+pub mod Waits
 pub mod Broadcasts
 pub mod Receiving
 pub mod Rounds

@@ -8,7 +8,7 @@ use Rattle.circuit_set.specs.Standing.{seen}
 use Rattle.kiss_framing.specs.Stream.{Item, Frame, Too_long}
 use Rattle.kiss_framing.specs.declared.deframer.KissItem.{KissItem}
 use Rattle.kiss_framing.specs.declared.deframer.KissItem.TheVariants as items
-use Rattle.link_table.specs.Standing.{Kept, TableStands}
+use Rattle.link_table.specs.Standing.{TableView as Kept, TableStands}
 use Rattle.route_table.specs.Held.{StandsFor}
 use Rattle.node_core.specs.declared.acts.ActDone.{ActDone}
 use Rattle.node_core.specs.declared.acts.ActRefusal.{ActRefusal}

@@ -199,13 +199,13 @@ said nth text n = outcome_if (listener (session_at nth n) n) text n
 
 -- ---- what comes from a user
 
--- a text has at most 8,192 bytes
+-- what is left of a text: a session keeps at most 8,192 bytes, and no text has more
 abbrev pub with_rest : List ℕ → Session → Session
 with_rest text s = record s { rest = take 8192 text }
 
--- one that was taken
+-- one was taken
 abbrev pub with_text : List ℕ → Session → Session
-with_text text s = record s { rest = take 8192 text; bridge = record s.bridge { taken = s.bridge.taken ++ take 8192 text ∷ [] } }
+with_text text s = record s { rest = take 8192 text; bridge = record s.bridge { taken = s.bridge.taken ++ text ∷ [] } }
 
 abbrev pub took : Result Bool NoEnd → Bool
 took (Ok taken) = taken

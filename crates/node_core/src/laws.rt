@@ -1,7 +1,7 @@
 //! What the definitions promise by themselves.
 ghost use Rattle.circuit_set.specs.Inputs.{TellsLess};
 ghost use Rattle.link_table.specs.Payloads.{CountsPayloads, OffersLeave, TakesLower};
-ghost use Rattle.node_core.specs.Bridged.{SessionsBounded, SessionsBridged};
+ghost use Rattle.node_core.specs.Bridged.{SessionsBounded, SessionsBridged, SessionsClosedLast, SessionsWriteTheirEnds};
 ghost use Rattle.node_core.specs.Carried.{ActsCarry, BytesCarry, CarriedFurther, TicksCarry};
 ghost use Rattle.node_core.specs.Fetching.{FetchesAllEntries, FetchesAllFrames, FramesInOrder};
 ghost use Rattle.node_core.specs.Runs.{ActsRun, BytesRun, InputsAreSteps, TicksRun};
@@ -28,9 +28,9 @@ pub fn inputs_are_circuit_runs()
     ax_address::laws::call_texts();
 }
 
-/// Of the datagrams that were sent in a network whose links are of one modulus: each input of a node is inputs of its circuits as above, each
-/// datagram that is handed up to them comes of one that was sent before, the same but for a time to live that is no greater, and so does all
-/// that its links then hold and put out as NET/ROM's, where that was so of it before and what comes is fit.
+/// Of a node in a network whose links are of one modulus: each input of it is inputs of its circuits as above. Each datagram that is handed up to
+/// them was carried to it by a frame in the air. Each that its links then hold and put out as NET/ROM's it has sent; or it was carried to it and goes
+/// on with one less to live, and else as it came; or it is repeated. So it is where what comes was in the air.
 pub fn datagrams_are_carried()
     ensures bytes { BytesCarry }
     ensures ticks { TicksCarry }
@@ -46,11 +46,13 @@ pub fn datagrams_are_carried()
     l3_datagram::laws::one_hop_on();
 }
 
-/// What a node carries comes of datagrams that were sent, too, where more was sent, as its frames are fetched and its entries told, and as
-/// repeaters are set; each of its frames is carried, and so is a broadcast of a call; and a node starts so.
+/// What a node carries is such, too, where more was sent and more was in the air, as its frames are fetched and its entries told, and as repeaters
+/// are set; each of its frames is such, and what such a frame carries is as its octets are read; a broadcast of a call carries nothing; and a node
+/// starts so.
 pub fn carried_further()
     ensures { CarriedFurther }
 {
+    ax_frame::laws::frame_spelling();
     link_table::laws::carried();
     link_table::laws::carried_by_weaker();
     link_table::laws::frames_are_spelled();
@@ -69,15 +71,20 @@ pub fn fetching_empties()
     ensures entries { FetchesAllEntries }
 {}
 
-/// Of every session of every node that inputs may have led to: while its circuit stands, what was taken from the user was written to
-/// the circuit, one message each and in order, but for what is left of the text that was taken last; and what was taken from the
-/// circuit was given to the user, in order. What keeps a message from that is said in `Bridged`. And a session keeps at most 8,192
-/// bytes and two replies.
+/// Of every session of every node that inputs may have led to: while its circuit stands, each text that was taken from the user was
+/// written to the circuit whole, as one message and in order, but for what is left of the text that was taken last; and what was taken
+/// from the circuit was given to the user, in order, where the user's side hasn't ended and the user hasn't said BYE. What else keeps a
+/// message from that is said in `Bridged`. To the end of its circuit just that was ever written. No text waits for a circuit that the
+/// session has closed. And a session keeps at most 8,192 bytes and two replies.
 pub fn bridged()
     ensures bridged { SessionsBridged }
+    ensures ends { SessionsWriteTheirEnds }
+    ensures closed { SessionsClosedLast }
     ensures bounded { SessionsBounded }
 {
     parts();
+    link_table::laws::carried();
+    ax_address::laws::call_texts();
 }
 
 /// What it rests on: a datagram that is handed down brings nothing up, a text that is taken leaves fewer payloads, which the code
