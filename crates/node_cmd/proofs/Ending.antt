@@ -6,12 +6,12 @@ use Rattle.network_soak.specs.Files.{soak_file}
 use Rattle.network_soak.specs.Laws.{AreNetworks}
 use Rattle.node_cmd.specs.declared.outcomes.Printed.TheVariants.{Report, SoakLine}
 use Rattle.node_cmd.specs.declared.ran.Ran.{Ran}
-use Rattle.node_cmd.specs.declared.status.Status.{Status}
+use Rattle.cmd_streams.specs.declared.status.Status.{Status}
 use Rattle.node_cmd.specs.Outcomes.{IsNetwork, NetworkEnds}
-use Rattle.node_cmd.specs.Reading.{ReadsAll}
+use Rattle.cmd_streams.specs.Reading.{ReadsAll}
 use Rattle.node_cmd.specs.Replays.{Tells}
 use Rattle.node_cmd.specs.Run.{ReplayEnds, SoakEnds}
-use Rattle.node_cmd.specs.Told.{told}
+use Rattle.cmd_streams.specs.Told.{told}
 use Rattle.node_cmd.proofs.Verdicts.{told_whole}
 
 module _ (left left' sizes sizes' : Option (List ℕ)) (reads reads' : ℕ) (written written' : Option (List ℕ)) (writes writes' : ℕ) (notes notes' : Option (List ℕ)) (note_faults note_faults' : ℕ) (ran : Ran) (status : Status) where

@@ -3,10 +3,10 @@ use Rattle.std.proofs.Common.{List, ℕ, inl, inr}
 use Rattle.std.specs.Prelude.{◌≢◌, Option}
 use Rattle.network_file.specs.declared.plan.live.LiveNode.{LiveNode}
 use Rattle.node_cmd.specs.declared.ran.Ran.{Ran}
-use Rattle.node_cmd.specs.declared.status.Status.{Status}
-use Rattle.node_cmd.specs.declared.status.Status.TheVariants.{Usage}
+use Rattle.cmd_streams.specs.declared.status.Status.{Status}
+use Rattle.cmd_streams.specs.declared.status.Status.TheVariants.{Usage}
 use Rattle.node_cmd.specs.Run.{NodeEnds}
-use Rattle.node_cmd.specs.Told.{Told}
+use Rattle.cmd_streams.specs.Told.{Told}
 
 pub never_usage : (declared : LiveNode) (moments moments' : Option (List ℕ)) (before after : Told) (ran : Ran) (status : Status) → NodeEnds declared moments moments' before after ran status → status ≢ Usage
 never_usage declared moments moments' before after ran status (inl starved) = λ is. absurd (cc (starved.starved, is))

@@ -1,7 +1,7 @@
 -- Lines and items, as they come.
 use Rattle.std.proofs.Common.{◌≡◌, ◌++◌, ◌∙◌, ◌-◌, take, drop, take_all, length-drop, arith, ℕ, List, [], ◌∷◌, sym, ap, subst, append_assoc, append-nil, length}
 use Rattle.kiss_framing.specs.Stream.{Item}
-use Rattle.node_cmd.specs.Listing.{Lists}
+use Rattle.frame_lines.specs.Listing.{Lists}
 use Rattle.std.proofs.lemmas.List.{append_cancel_left}
 
 -- a slice from a place on is all that stands there
@@ -19,7 +19,3 @@ pub lists-more : (size : ℕ) (is new : List Item) (old behind text more : List 
 lists-more size is new old behind text more grown before adds =
     let same : adds.0 ≡ more = append_cancel_left old adds.0 more (sym adds.2 ∙ grown) in
     lists-append size is new text more before (subst (λ xs. Lists size new xs) same adds.1)
-
--- where nothing was added it was nothing
-pub nothing_more : (text more : List ℕ) → text ≡ text ++ more → more ≡ []
-nothing_more text more e = append_cancel_left text more [] (sym e ∙ sym (append-nil text))

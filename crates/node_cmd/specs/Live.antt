@@ -11,7 +11,7 @@ use Rattle.node_core.specs.Kept.{NodeStands}
 use Rattle.node_core.specs.States.{NodeState, frames}
 use Rattle.node_cmd.specs.declared.ran.Ran.{Ran}
 use Rattle.node_cmd.specs.declared.ran.Ran.TheVariants.{Nothing, Replayed, Served}
-use Rattle.node_cmd.specs.Streams.{Read}
+use Rattle.cmd_streams.specs.Streams.{Read}
 
 -- a read brings its bytes and then a tick, both at the moment behind it
 abbrev pub after_read : Read → NodeState → NodeState

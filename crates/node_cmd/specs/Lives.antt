@@ -7,8 +7,8 @@ use Rattle.link_life.specs.Reports.{life_text}
 use Rattle.link_life.specs.Scripts.{Bad, script_of}
 use Rattle.node_cmd.specs.declared.lives.words.LifeSettings.{LifeSettings}
 use Rattle.node_cmd.specs.FrameModuli.{size_of}
-use Rattle.node_cmd.specs.Notes.{bad_line_note}
-use Rattle.node_cmd.specs.Reading.{ReadsFile, TellsFile}
+use Rattle.cmd_streams.specs.Notes.{bad_line_note}
+use Rattle.cmd_streams.specs.Reading.{ReadsFile, TellsFile}
 
 -- the report of the life of a script, by these settings
 abbrev pub report_of : LifeSettings → List NumberedAct → List ℕ

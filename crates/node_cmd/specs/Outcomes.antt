@@ -21,10 +21,10 @@ use Rattle.node_cmd.specs.declared.outcomes.ReportRefusal.{ReportRefusal}
 use Rattle.node_cmd.specs.declared.outcomes.ReportRefusal.TheVariants.{BadLine, TooManyFrames, NoMemory}
 use Rattle.node_cmd.specs.declared.ran.Ran.{Ran}
 use Rattle.node_cmd.specs.declared.ran.Ran.TheVariants.{Nothing, Replayed, Served}
-use Rattle.node_cmd.specs.declared.status.Status.{Status}
-use Rattle.node_cmd.specs.declared.status.Status.TheVariants as statuses
-use Rattle.node_cmd.specs.Notes.{bad_line_note}
-use Rattle.node_cmd.specs.Writing.{AppendsFront, Says}
+use Rattle.cmd_streams.specs.declared.status.Status.{Status}
+use Rattle.cmd_streams.specs.declared.status.Status.TheVariants as statuses
+use Rattle.cmd_streams.specs.Notes.{bad_line_note}
+use Rattle.cmd_streams.specs.Writing.{AppendsFront, Says}
 
 -- what is written of a network, with the verdict on it: its report, or the line on the soak of a number
 abbrev pub text_of : Printed → World → Option Late → List ℕ

@@ -3,7 +3,7 @@ use Rattle.std.specs.Prelude.{ℕ, ◌≡◌, List, Option, Err}
 use Rattle.network_file.specs.Networks.{Bad, network_of}
 use Rattle.network_file.specs.Plan.{Plan}
 use Rattle.node_cmd.specs.Outcomes.{AirsTooMany, IsBadFile, IsInTime, IsLate, IsNetwork}
-use Rattle.node_cmd.specs.Reading.{ReadsFile, TellsFile}
+use Rattle.cmd_streams.specs.Reading.{ReadsFile, TellsFile}
 
 -- a file was read to its end, and it is one of a network of which P holds
 abbrev pub ReadsNetwork : Option (List ℕ) → Option (List ℕ) → (Plan → Type 0) → Type 0

@@ -1,15 +1,14 @@
 //! The command `frames`.
 ghost use Rattle.std.specs.Prelude.{◌≡◌};
-ghost use Rattle.node_cmd.specs.Writing.{Says};
-ghost use Rattle.node_cmd.specs.StatusNotes.{HasNote, IsSilent};
-ghost use Rattle.node_cmd.specs.Told.{told};
+ghost use Rattle.cmd_streams.specs.Writing.{Says};
+ghost use Rattle.cmd_streams.specs.StatusNotes.{HasNote, IsSilent};
+ghost use Rattle.cmd_streams.specs.Told.{told};
 ghost use Rattle.node_cmd.specs.Run.{FramesEnd};
 ghost use Rattle.node_cmd.specs.FrameModuli.{size_of};
 
-use crate::items::{ItemTaker, answer_items};
-use crate::listing::add_item;
-use crate::status::Status;
 use crate::words::FrameModulus;
+use cmd_streams::{ItemTaker, Status, answer_items};
+use frame_lines::add_item;
 use kiss_framing::KissItem;
 use radio_base::{M8, M128, NoMemory, Sink, Source, TextOut};
 use std::alloc::Global;
@@ -25,7 +24,7 @@ struct Lister {
 
 impl ItemTaker for Lister {
     ghost use Rattle.std.specs.Prelude.{◌≡◌};
-    ghost use Rattle.node_cmd.specs.Listing.{Lists};
+    ghost use Rattle.frame_lines.specs.Listing.{Lists};
     ghost use Rattle.node_cmd.specs.FrameModuli.{size_of};
 
     ghost took = { λ first last items text. (last.modulo ≡ first.modulo) × Lists (size_of first.modulo) items text };

@@ -1,17 +1,16 @@
 //! The command `ip`.
 ghost use Rattle.std.specs.Prelude.{◌≡◌};
 ghost use Rattle.ax_ip.specs.Machine.{state};
-ghost use Rattle.node_cmd.specs.Writing.{Says};
-ghost use Rattle.node_cmd.specs.StatusNotes.{HasNote, IsSilent};
-ghost use Rattle.node_cmd.specs.Told.{told};
+ghost use Rattle.cmd_streams.specs.Writing.{Says};
+ghost use Rattle.cmd_streams.specs.StatusNotes.{HasNote, IsSilent};
+ghost use Rattle.cmd_streams.specs.Told.{told};
 ghost use Rattle.node_cmd.specs.Run.{IpEnds};
 
 pub mod gateway;
 pub mod texts;
 pub mod words;
 
-use crate::items::answer_items;
-use crate::status::Status;
+use cmd_streams::{Status, answer_items};
 use gateway::Gateway;
 use radio_base::{Sink, Source};
 use std::alloc::Global;

@@ -2,19 +2,16 @@
 ghost use Rattle.std.specs.Prelude.{◌≡◌, ◌≢◌, ◌≤◌, length, Ok, Err, IfOk, IfErr};
 ghost use Rattle.link_life.specs.Scripts.{ReadAs, script_of};
 ghost use Rattle.node_cmd.specs.Lives.{IsScript, report_of};
-ghost use Rattle.node_cmd.specs.Reading.{max_file};
+ghost use Rattle.cmd_streams.specs.Reading.{max_file};
 ghost use Rattle.node_cmd.specs.Run.{LifeEnds};
-ghost use Rattle.node_cmd.specs.StatusNotes.{HasNote, IsSilent};
-ghost use Rattle.node_cmd.specs.Told.{told};
-ghost use Rattle.node_cmd.specs.Writing.{Says};
+ghost use Rattle.cmd_streams.specs.StatusNotes.{HasNote, IsSilent};
+ghost use Rattle.cmd_streams.specs.Told.{told};
+ghost use Rattle.cmd_streams.specs.Writing.{Says};
 
 pub mod words;
 
-use crate::reading::read_file;
-use crate::refusals::{refuse_input, refuse_line};
-use crate::status::Status;
 use crate::words::FrameModulus;
-use crate::writing::write_all;
+use cmd_streams::{Status, read_file, refuse_input, refuse_line, write_all};
 use link_life::{LifeFileRefusal, LifeScript, read_life, run_life};
 use radio_base::{M8, M128, NoMemory, Sink, Source, TextOut};
 use std::alloc::Global;

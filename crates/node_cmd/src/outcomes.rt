@@ -10,17 +10,14 @@ ghost use Rattle.net_replay.specs.Promises.{RetriesAreTold, SafeThroughout};
 ghost use Rattle.net_replay.specs.Traces.{IsTraceOf, allowance_in, left_of};
 ghost use Rattle.net_replay.specs.World.{World};
 ghost use Rattle.node_cmd.specs.Outcomes.{IsOutcome, NetworkEnds, NotReported, text_of};
-ghost use Rattle.node_cmd.specs.Reading.{max_file};
-ghost use Rattle.node_cmd.specs.StatusNotes.{HasNote, IsSilent};
-ghost use Rattle.node_cmd.specs.Writing.{Says};
+ghost use Rattle.cmd_streams.specs.Reading.{max_file};
+ghost use Rattle.cmd_streams.specs.StatusNotes.{HasNote, IsSilent};
+ghost use Rattle.cmd_streams.specs.Writing.{Says};
 ghost use Rattle.node_cmd.specs.declared.outcomes.ReportRefusal.TheVariants as Refusal;
 ghost use Rattle.node_cmd.specs.declared.ran.Ran.TheVariants as rans;
 
-use crate::notes::{TOO_LONG, say};
 use crate::ran::Ran;
-use crate::refusals::refuse_line;
-use crate::status::Status;
-use crate::writing::write_all;
+use cmd_streams::{Status, TOO_LONG, refuse_line, say, write_all};
 use net_replay::{
     Late, Network, NetworkRefusal, ReplayRefusal, Trace, What, read_network, replay, report,
     soak_line, too_late,

@@ -1,16 +1,14 @@
 //! The command `replay`.
 ghost use Rattle.std.specs.Prelude.{◌≡◌, ◌≢◌};
-ghost use Rattle.node_cmd.specs.Writing.{Says};
-ghost use Rattle.node_cmd.specs.StatusNotes.{HasNote, IsSilent};
-ghost use Rattle.node_cmd.specs.Told.{told};
+ghost use Rattle.cmd_streams.specs.Writing.{Says};
+ghost use Rattle.cmd_streams.specs.StatusNotes.{HasNote, IsSilent};
+ghost use Rattle.cmd_streams.specs.Told.{told};
 ghost use Rattle.node_cmd.specs.Run.{ReplayEnds};
 ghost use Rattle.node_cmd.specs.declared.ran.Ran.TheVariants as rans;
 
 use crate::outcomes::{Printed, print_network};
 use crate::ran::Ran;
-use crate::reading::read_file;
-use crate::refusals::refuse_input;
-use crate::status::Status;
+use cmd_streams::{Status, read_file, refuse_input};
 use radio_base::{Sink, Source};
 use std::alloc::Global;
 

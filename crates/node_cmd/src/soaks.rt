@@ -1,13 +1,13 @@
 //! The command `soak`.
 ghost use Rattle.std.specs.Prelude.{◌≡◌, ◌≢◌};
-ghost use Rattle.node_cmd.specs.Writing.{Says};
-ghost use Rattle.node_cmd.specs.StatusNotes.{HasNote, IsSilent};
+ghost use Rattle.cmd_streams.specs.Writing.{Says};
+ghost use Rattle.cmd_streams.specs.StatusNotes.{HasNote, IsSilent};
 ghost use Rattle.node_cmd.specs.Run.{SoakEnds};
 ghost use Rattle.node_cmd.specs.declared.ran.Ran.TheVariants as rans;
 
 use crate::outcomes::{Printed, print_network};
 use crate::ran::Ran;
-use crate::status::Status;
+use cmd_streams::Status;
 use net_replay::soak_file;
 use radio_base::Sink;
 use std::alloc::Global;

@@ -9,21 +9,22 @@ ghost use Rattle.node_cmd.specs.declared.words.FrameModulus.{FrameModulus};
 ghost use Rattle.network_file.specs.declared.plan.live.LiveNode.{LiveNode};
 ghost use Rattle.node_cmd.specs.Words.{AskFor, AskForLife, AskForNode, AskForStream};
 ghost use Rattle.node_cmd.specs.FrameModuli.{size_of};
-ghost use Rattle.node_cmd.specs.Writing.{Says};
-ghost use Rattle.node_cmd.specs.StatusNotes.{HasNote, IsSilent};
-ghost use Rattle.node_cmd.specs.Told.{told};
+ghost use Rattle.cmd_streams.specs.Writing.{Says};
+ghost use Rattle.cmd_streams.specs.StatusNotes.{HasNote, IsSilent};
+ghost use Rattle.cmd_streams.specs.Told.{told};
+ghost use Rattle.node_cmd.specs.Usage.{usage_note};
 ghost use Rattle.node_cmd.specs.Run.{FramesEnd, IpEnds, LifeEnds, NodeEnds, ReplayEnds, SoakEnds};
 
 use crate::frames::frames_of_stream;
 use crate::ip::ip_over_stream;
 use crate::live::run_node;
 use crate::lives::life_of_file;
-use crate::notes::{USAGE, say};
 use crate::ran::Ran;
 use crate::replays::replay_file;
 use crate::soaks::soak;
-use crate::status::Status;
+use crate::usage::USAGE;
 use crate::words::{Command, command_of};
+use cmd_streams::{Status, say};
 use radio_base::{Clock, Sink, Source};
 use std::alloc::Global;
 
@@ -82,6 +83,7 @@ pub fn run<S: Source, K: Sink, N: Sink, C: Clock>(
 
     // The notes are those of the status, and no others.
     ensures noted { HasNote result (Says (N.written notes.old) (N.written notes.new) (N.faults notes.old) (N.faults notes.new)) }
+    ensures usage_noted { result ≡ Status.Usage → Says (N.written notes.old) (N.written notes.new) (N.faults notes.old) (N.faults notes.new) usage_note }
     ensures silent { IsSilent result → notes.new ≡ notes.old }
 
     // No command but `node` asks the clock.

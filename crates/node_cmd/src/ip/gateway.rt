@@ -8,11 +8,11 @@ ghost use Rattle.ax_ip.specs.declared.route.Route.{Route};
 ghost use Rattle.ax_ip.specs.Routes as routes;
 ghost use Rattle.node_cmd.specs.Gateways as gateways;
 
-use crate::items::ItemTaker;
 use arrayvec::ArrayVec;
 use ax_address::{Address, Call, Path};
 use ax_frame::{Control, FrameBytes, Head, read_frame, write_frame};
 use ax_ip::{Forwarder, IpOut, RouteRefusal};
+use cmd_streams::ItemTaker;
 use kiss_framing::{KissItem, enframe};
 use radio_base::{M8, NoMemory, TextOut};
 

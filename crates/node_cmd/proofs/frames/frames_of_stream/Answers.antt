@@ -1,4 +1,4 @@
-use Rattle.node_cmd.proofs.StreamEnding.{ends-map}
+use Rattle.cmd_streams.specs.Wider.{ends-map}
 use Rattle.node_cmd.proofs.frames.frames_of_stream.Goals as goal
 
 pub returns-clause-ends : goal.returns-clause-ends

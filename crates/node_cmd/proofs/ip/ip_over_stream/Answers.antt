@@ -1,6 +1,6 @@
 use Rattle.std.proofs.Common.{sym, ap, ℕ, List}
 use Rattle.ax_ip.specs.Machine.{State}
-use Rattle.node_cmd.proofs.StreamEnding.{ends-map}
+use Rattle.cmd_streams.specs.Wider.{ends-map}
 use Rattle.node_cmd.proofs.ip.ip_over_stream.Goals as goal
 
 pub returns-clause-ends : goal.returns-clause-ends

@@ -1,6 +1,6 @@
 use Rattle.std.proofs.Common.{inr}
 use Rattle.net_replay.specs.Starting.{live_started}
-use Rattle.node_cmd.proofs.StreamEnding.{answers-map, ends-map}
+use Rattle.cmd_streams.specs.Wider.{answers-map, ends-map}
 use Rattle.node_cmd.proofs.live.run_node.Goals as goal
 
 pub returns-in-Done-clause-ends : goal.returns-in-Done-clause-ends

@@ -176,6 +176,9 @@ returns-in-Some-Node-clause-unread g c = λ is. absurd (never_usage _ _ _ _ _ _ 
 pub returns-in-Some-Node-clause-unwritten : goal.returns-in-Some-Node-clause-unwritten
 returns-in-Some-Node-clause-unwritten g c = λ is. absurd (never_usage _ _ _ _ _ _ _ c.run_node.ensures.ends is)
 
+pub returns-in-Some-Node-clause-usage_noted : goal.returns-in-Some-Node-clause-usage_noted
+returns-in-Some-Node-clause-usage_noted g c = λ is. absurd (never_usage _ _ _ _ _ _ _ c.run_node.ensures.ends is)
+
 pub returns-in-Some-Node-clause-whole : goal.returns-in-Some-Node-clause-whole
 returns-in-Some-Node-clause-whole g c = λ stream live. absurd (live (c.in-Some-Node.declared, rw c.in-Some-Node.field-0-is at c.in-Some-Node.ensures.found))
 

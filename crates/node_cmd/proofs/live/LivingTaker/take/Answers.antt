@@ -4,7 +4,7 @@ use Rattle.node_core.specs.Fetching.{heard, sent}
 use Rattle.node_core.specs.Kept.{NodeStands}
 use Rattle.node_core.specs.States.{NodeState}
 use Rattle.node_cmd.specs.Live.{after_read, after_reads, answer_to, answer_to_reads}
-use Rattle.node_cmd.specs.Streams.{Read, read_of}
+use Rattle.cmd_streams.specs.Streams.{Read, read_of}
 use Rattle.node_cmd.proofs.Fetched.{after_reads-more, answer_to_reads-more}
 use Rattle.node_cmd.proofs.live.LivingTaker.take.Goals as goal
 

@@ -1,0 +1,3 @@
+pub mod WritingLemmas
+pub mod StreamItems
+pub mod StreamReads

@@ -1,0 +1,10 @@
+pub mod Answering
+pub mod Notes
+pub mod Reading
+pub mod StatusNotes
+pub mod Statuses
+pub mod StreamEnds
+pub mod Streams
+pub mod Told
+pub mod Wider
+pub mod Writing

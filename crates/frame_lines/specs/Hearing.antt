@@ -1,0 +1,56 @@
+-- What a listener writes for the items of a KISS stream: the line of each item, and below that of a frame what it carries. Own profile.
+use Rattle.std.specs.Prelude.{ℕ, List, [], ◌∷◌, ◌++◌, length, ◌==◌, codes, Result, Ok, Err, if◌then◌else◌}
+use Rattle.ax_frame.specs.declared.frame.FrameRefusal.{FrameRefusal}
+use Rattle.ax_frame.specs.declared.head.Head.{Head}
+use Rattle.ax_frame.specs.Frames.{Frame}
+use Rattle.ax_frame.specs.Read.{read_at, read_head_at}
+use Rattle.kiss_framing.specs.declared.deframer.KissItem.{KissItem}
+use Rattle.kiss_framing.specs.declared.deframer.KissItem.TheVariants as kiss
+use Rattle.kiss_framing.specs.Stream.{Item, Frame as Piece, Too_long}
+use Rattle.frame_lines.specs.declared.listener.Modulo.{Modulo}
+use Rattle.frame_lines.specs.declared.listener.Modulo.TheVariants.{Auto, M8, M128}
+use Rattle.frame_lines.specs.declared.moduli.Stations.{Stations}
+use Rattle.frame_lines.specs.Contents.{contents}
+use Rattle.frame_lines.specs.Listing.{bad_line, command_line, frame_line}
+use Rattle.frame_lines.specs.Moduli.{after_frame, modulus_of}
+
+-- how sequence numbers are read, and the pairs of stations that have them modulo 128
+pub record Listening : Type 0 where
+  pub modulo : Modulo
+  pub extended : List Stations
+
+abbrev pub by_head : Result (Head × ℕ) FrameRefusal → List Stations → ℕ
+by_head (Ok head) pairs = modulus_of head.0 pairs
+by_head (Err e) pairs = 8
+
+-- the modulus by which these octets are read
+abbrev pub size_by : Modulo → List Stations → List ℕ → ℕ
+size_by Auto pairs octets = by_head (read_head_at octets) pairs
+size_by M8 pairs octets = 8
+size_by M128 pairs octets = 128
+
+abbrev pub size_for : Listening → List ℕ → ℕ
+size_for l octets = size_by l.modulo l.extended octets
+
+-- what is known behind a frame, and its lines
+abbrev pub by_read : Listening → ℕ → Result Frame FrameRefusal → Listening × List ℕ
+by_read l port (Ok f) = (record l { extended = after_frame f.head f.control l.extended }, frame_line port f ++ contents f)
+by_read l port (Err e) = (l, bad_line port e)
+
+-- command 0 is data
+abbrev pub by_item : Listening → Item → Listening × List ℕ
+by_item l (Piece port command payload) =
+    if command == 0 then by_read l port (read_at (size_for l payload) payload) else (l, command_line port command (length payload))
+by_item l Too_long = (l, codes "too long\n")
+
+abbrev pub item_of : KissItem → Item
+item_of (kiss.Frame port command payload) = Piece port command payload.now
+item_of kiss.TooLong = Too_long
+
+-- item by item
+abbrev pub by_items : Listening → List Item → Listening × List ℕ
+by_items l [] = (l, [])
+by_items l (item ∷ later) =
+    let first = by_item l item in
+    let rest = by_items first.0 later in
+    (rest.0, first.1 ++ rest.1)

@@ -1,0 +1,10 @@
+pub mod Listing
+pub mod Words
+pub mod NodesLines
+pub mod TransportLines
+pub mod DatagramLines
+pub mod PacketLines
+pub mod TextLines
+pub mod Contents
+pub mod Moduli
+pub mod Hearing

@@ -1,0 +1,12 @@
+//! What there is to look at: the top call `look`, and the reason of each status.
+//!
+//! The program itself is the crate `wursthatch_look`.
+#![tactic(auto)]
+
+mod listens;
+mod top;
+mod usage;
+mod words;
+
+pub use cmd_streams::{Reading, Status, Writing};
+pub use top::look;

@@ -1,0 +1,57 @@
+//! The command `listen`.
+ghost use Rattle.std.specs.Prelude.{◌≡◌};
+ghost use Rattle.cmd_streams.specs.StatusNotes.{HasNote, IsSilent};
+ghost use Rattle.cmd_streams.specs.Told.{told};
+ghost use Rattle.cmd_streams.specs.Writing.{Says};
+ghost use Rattle.look_cmd.specs.Look.{ListenEnds};
+
+use cmd_streams::{ItemTaker, Status, answer_items};
+use frame_lines::{Listener, Modulo};
+use kiss_framing::KissItem;
+use radio_base::{NoMemory, Sink, Source, TextOut};
+use std::alloc::Global;
+
+/// The most bytes that are read at a time.
+const READ_SIZE: usize = 16_384;
+
+/// Listens to the items of a stream.
+#[derive(Drop)]
+struct Hearer {
+    listener: Listener,
+}
+
+impl ItemTaker for Hearer {
+    ghost use Rattle.std.specs.Prelude.{◌≡◌};
+    ghost use Rattle.frame_lines.specs.Hearing.{by_items};
+
+    ghost took = { λ first last items text. by_items first.listener items ≡ (last.listener, text) };
+
+    fn take_item(&mut self, item: &KissItem<'_>, answer: &mut TextOut) -> Result<(), NoMemory> {
+        self.listener.hear(item, answer)?;
+        Ok(())
+    }
+}
+
+/// Tells what a KISS stream carries, read from the source to its end: the lines of each read are written before the next read.
+///
+/// The status says how it ended, and where the input was refused the notes say why.
+pub fn listen_to_stream<S: Source, K: Sink, N: Sink>(
+    alloc: Global,
+    modulo: Modulo,
+    source: &mut S,
+    sink: &mut K,
+    notes: &mut N,
+) -> Status
+    // How it ends: the lines written are those of the stream, and each status has its reason.
+    ensures ends { ListenEnds modulo
+        (told (S.left source.old) (S.reads source.old) (S.faults source.old) (K.written sink.old) (K.faults sink.old) (N.written notes.old) (N.faults notes.old))
+        (told (S.left source.new) (S.reads source.new) (S.faults source.new) (K.written sink.new) (K.faults sink.new) (N.written notes.new) (N.faults notes.new)) result }
+
+    // Nothing else is noted.
+    ensures noted { HasNote result (Says (N.written notes.old) (N.written notes.new) (N.faults notes.old) (N.faults notes.new)) }
+    ensures silent { IsSilent result → notes.new ≡ notes.old }
+{
+    let mut buf = [0u8; READ_SIZE];
+    let listener = Listener::new(alloc, modulo);
+    answer_items(alloc, &mut buf, Hearer { listener }, source, sink, notes)
+}
