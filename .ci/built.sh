@@ -1,4 +1,5 @@
-# Sourced, with `top` naming the repository: what stands in out/, and whether it is of today's sources.
+# Sourced, with `top` naming the repository: what stands in out/, and whether it is of today's sources. There are two programs, which
+# are built together: wursthatch, and wursthatch-look of the crate wursthatch_look.
 program=$top/out/wursthatch
 
 # Whether a proved program is kept of which no source is newer. ./wursthatch asks this before each run, so it is done by the shell
@@ -12,12 +13,12 @@ is_built() {
     return 0
 }
 
-# The crates that the program stands on, and its own.
+# The crates that the programs stand on, and their own.
 program_crates() {
     awk -F '[: ]+' '
         !/^#/ && NF { named[$1] = 1; for (nth = 2; nth <= NF; nth++) below[$1] = below[$1] " " $nth }
         END {
-            todo = "wursthatch"
+            todo = "wursthatch wursthatch_look"
             while (split(todo, crates, " ")) {
                 todo = ""
                 for (nth in crates) if (crates[nth] in named && !(crates[nth] in is_used)) {
@@ -29,7 +30,7 @@ program_crates() {
         }' "$top/crates.txt" | sort
 }
 
-# sum_of_sources FOLDER: one number for all that is proved of the program in that copy of the repository, and for the kit.
+# sum_of_sources FOLDER: one number for all that is proved of the programs in that copy of the repository, and for the kit.
 sum_of_sources() {
     (
         crates=$(program_crates)

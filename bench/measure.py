@@ -18,8 +18,8 @@ sys.exit(status != 0)
 
 
 def program(crate):
-    """The built program of a crate: ./build leaves wursthatch at the top."""
-    if crate == "wursthatch":
+    """The built program of a crate, or the one that ./build leaves in out/ under this name."""
+    if crate in ("wursthatch", "wursthatch-look"):
         return os.path.join(TOP, "out", crate)
     return os.path.join(TOP, "crates", crate, "out", crate)
 
