@@ -36,7 +36,8 @@ use Rattle.node_core.proofs.Making.{step_ok}
 use Rattle.node_core.proofs.Owning.{Fewer, Less, Owns, changed_less, mades, none_made, opens_by, owned_by, owns_fewer, owns_input, owns_told, total}
 use Rattle.node_core.proofs.Pumped.{dry_keeps, pump_keeps}
 use Rattle.node_core.proofs.Unclosed.{IsMessage, Messages}
-use Rattle.node_core.proofs.Wrote.{KeepsWrote, NotIts, Written, alone, closes_wrote, comes_wrote, takes_wrote, written_hears, written_later, written_new, written_others}
+use Rattle.node_core.proofs.Others.{NotIts, alone}
+use Rattle.node_core.proofs.Wrote.{KeepsWrote, Written, closes_wrote, comes_wrote, written_hears, written_later, written_new, written_others}
 
 abbrev pub All : SetState → List Told → List Session → Type 0
 All set ts ss = Owns set ts ss × (Every Sound ss × (Every (Given set) ss × Every (Written set) ss))
@@ -108,23 +109,26 @@ unfolding circuits.acts
 acted a n k kw made f =
     (owns_input Any n.set.set (set_step n.set.set a) n.set.untold n.sessions f.0 k made (λ id some. tt) (λ id some. tt), goes_on Any n.set.set _ n.set.untold n.sessions k kw f)
 
-pub takes_fine : (now id : ℕ) (n : State) → Fine n → Fine (at_set (circuits.acts (sets.Calls id sets.Takes now)) n)
-takes_fine now id n f = acted (sets.Calls id sets.Takes now) n (takes_keep n.set.set now id) (takes_wrote n.set.set now id) (step_ok n.set.set (sets.Calls id sets.Takes now) tt).made f
-
-pub writes_fine : (now id : ℕ) (text : List ℕ) (n : State) → Every (NotIts id) n.sessions → Fine n → Fine (at_set (circuits.acts (sets.Calls id (sets.Writes text) now)) n)
+-- a call of an end that is no session's circuit
+call_fine : (call : sets.Call) (now id : ℕ) (n : State) → Keeps Any n.set.set (set_step n.set.set (sets.Calls id call now)).set → Every (NotIts id) n.sessions → Fine n → Fine (at_set (circuits.acts (sets.Calls id call now)) n)
 unfolding circuits.acts
-writes_fine now id text n none f =
-    let a : sets.Act = sets.Calls id (sets.Writes text) now in
-    let k = writes_keep n.set.set text now id in (
+call_fine call now id n k none f =
+    let a : sets.Act = sets.Calls id call now in (
       owns_input Any n.set.set (set_step n.set.set a) n.set.untold n.sessions f.0 k (step_ok n.set.set a tt).made (λ i some. tt) (λ i some. tt),
       (
         f.1.0,
         (
           given_later n.set.set (set_step n.set.set a).set k.number (λ i low e. k.ended i f.0.once low e) (λ i low e. k.away i f.0.once low e) n.sessions f.1.1.0,
-          written_others n.set.set text now id n.sessions none f.1.1.1,
+          written_others n.set.set call now id n.sessions none f.1.1.1,
         ),
       ),
     )
+
+pub takes_fine : (now id : ℕ) (n : State) → Every (NotIts id) n.sessions → Fine n → Fine (at_set (circuits.acts (sets.Calls id sets.Takes now)) n)
+takes_fine now id n none f = call_fine sets.Takes now id n (takes_keep n.set.set now id) none f
+
+pub writes_fine : (now id : ℕ) (text : List ℕ) (n : State) → Every (NotIts id) n.sessions → Fine n → Fine (at_set (circuits.acts (sets.Calls id (sets.Writes text) now)) n)
+writes_fine now id text n none f = call_fine (sets.Writes text) now id n (writes_keep n.set.set text now id) none f
 
 same_number : (set : SetState) (now : ℕ) (o : Option Holder) → (sets.called set o sets.Closes now).set.number ≡ set.number
 same_number set now None = refl

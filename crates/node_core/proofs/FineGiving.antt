@@ -1,11 +1,12 @@
 -- Giving a user replies and messages keeps a node fine.
-use Rattle.std.proofs.Common.{◌≡◌, ◌<◌, ◌+◌, ◌∙◌, ◌⊎◌, inl, inr, ℕ, zero, suc, refl, sym, ap, subst, arith, List, [], ◌∷◌, slice_get, slice_set}
+use Rattle.std.proofs.Common.{◌≡◌, ◌<◌, ◌+◌, ◌∙◌, ◌⊎◌, inl, inr, ℕ, zero, suc, refl, sym, ap, subst, arith, List, [], ◌∷◌, ◌++◌, slice_get, slice_set}
 use Rattle.std.specs.Prelude.{Bool, true, false, not, ◌||◌, ◌&&◌, nat_eq, nat_le, if◌then◌else◌, Option, Some, None, Result, Ok, Err}
 use Rattle.std.proofs.lemmas.Bool.Decides.{nat_tests}
 use Rattle.ax_address.specs.Callsign.{Callsign}
 use Rattle.circuit_set.specs.CircuitSets.{facts_at, partner_at}
 use Rattle.circuit_set.specs.Sets as sets
-use Rattle.circuit_set.specs.Sets.{Holder, SetState, end_of}
+use Rattle.circuit_set.specs.Pumps.{Of}
+use Rattle.circuit_set.specs.Sets.{Holder, SetState, Told, end_of, set_step}
 use Rattle.circuit_set.specs.Standing as answers
 use Rattle.link_table.specs.declared.text_refusal.TextRefusal.{TextRefusal}
 use Rattle.link_table.specs.declared.text_refusal.TextRefusal.TheVariants.{Full}
@@ -18,20 +19,22 @@ use Rattle.node_core.specs.Circuits as circuits
 use Rattle.node_core.specs.Links as links
 use Rattle.node_core.specs.Pumping.{at_router, pump}
 use Rattle.node_core.specs.Serving.{is_at_end, is_circuit}
-use Rattle.node_core.specs.Sessions.{Session, circuit_of}
+use Rattle.node_core.specs.Sessions.{Session, circuit_of, hear_circuits}
 use Rattle.node_core.specs.States.{State, at_set}
 use Rattle.node_core.specs.Turns.{done, idle}
 use Rattle.node_core.specs.Users as users
 use Rattle.node_core.specs.Users.{Outcome, at_session, changed, session_at}
 use Rattle.node_core.proofs.Crowding.{TakesTexts, offers_on, text_goes, with_room}
-use Rattle.node_core.proofs.Fine.{Dry, Fine, Goes, pumped, pumped_dry, said, session_fine, takes_fine, took_message, write_goes}
-use Rattle.node_core.proofs.Holders.{AreOpen, end_in, every_in, number_of, others_stay}
-use Rattle.node_core.proofs.Given.{Given, IsGood, deaf, deaf_is, given_gave, given_reply}
-use Rattle.node_core.proofs.Soundness.{Same, changed_here, same_hears, same_itself, sound_gave, sound_reply}
-use Rattle.node_core.proofs.Owning.{Less, at_least, but_here, mades, opens_by, owned_by, total}
-use Rattle.node_core.proofs.Pumped.{dry_links}
+use Rattle.node_core.proofs.Fine.{Dry, Fine, Goes, fewer_at, pumped_dry, said, session_fine, took_message, write_goes}
+use Rattle.node_core.proofs.Holders.{Any, AreOpen, end_in, every_in, number_of, others_stay, takes_keep}
+use Rattle.node_core.proofs.Given.{Given, IsGood, deaf, deaf_is, given_gave, given_heard, given_later, given_reply}
+use Rattle.node_core.proofs.Making.{step_ok}
+use Rattle.node_core.proofs.Others.{But, NotIts, but_hear, but_on, but_whole, only}
+use Rattle.node_core.proofs.Soundness.{Every, Placed, Same, Sound, changed_every, changed_here, every_at, heard_every, heard_place, same_hears, same_itself, sound_gave, sound_hears, sound_new, sound_reply}
+use Rattle.node_core.proofs.Owning.{Less, Owns, at_least, but_here, mades, opens_by, owned_by, owns_fewer, owns_input, owns_told, total}
+use Rattle.node_core.proofs.Pumped.{dry_keeps, dry_links}
 use Rattle.node_core.proofs.Unclosed.{IsMessage, Messages}
-use Rattle.node_core.proofs.Wrote.{written_gave, written_same}
+use Rattle.node_core.proofs.Wrote.{WillBe, Written, its_taken, will_hear, written_gave, written_hears, written_new, written_other, written_same}
 
 -- ---- a session in its place
 
@@ -108,7 +111,7 @@ pub replied : (o : Option Reply) (now nth : ℕ) (n : State) → Fine n → Fine
 replied None now nth n f = f
 replied (Some r) now nth n f =
     let m : State = at_session nth bridging.drop_reply n in
-    said now nth _ m (session_fine nth bridging.drop_reply n (λ x e s. sound_reply x s) (λ x e g. given_reply n.set.set x g) (λ x w. written_same n.set.set x (bridging.drop_reply x) refl refl w) (λ x. less_same x (bridging.drop_reply x) refl refl refl) f)
+    said now nth _ m (session_fine nth bridging.drop_reply n (λ x e s. sound_reply x s) (λ x e g. given_reply n.set.set x g) (λ x w. written_same n.set.set x (bridging.drop_reply x) refl refl refl w) (λ x. less_same x (bridging.drop_reply x) refl refl refl) f)
 
 -- ---- messages
 
@@ -185,6 +188,68 @@ module _ (now nth id : ℕ) (n m : State) (x z : Session) (message : List ℕ) (
       by true d = d
       by false d = subst (λ (y : User). IsFine (users.outcome_at y message m)) (sym user) (goes_to x.user refl d)
 
+-- a message was taken from the circuit of the session in a place, and isn't noted there: all else is fine, and so will that be once it is
+record IsTaking (old : SetState) (message : List ℕ) (nth : ℕ) (set : SetState) (ts : List Told) (ss : List Session) : Type 0 where
+  same : set ≡ old
+  owns : Owns set ts ss
+  sound : Every Sound ss
+  given : Every (Given set) ss
+  others : But (Written set) nth ss
+  its : Placed (WillBe set message) nth ss
+
+taking_told : (old : SetState) (message : List ℕ) (nth : ℕ) (prompt : Bool) (set : SetState) (t : Told) (ts : List Told) (ss : List Session) → IsTaking old message nth set (t ∷ ts) ss
+    → IsTaking old message nth set ts (hear_circuits prompt (Of t) ss)
+taking_told old message nth prompt set t ts ss a = record {
+  same = a.same;
+  owns = owns_told prompt set t ts ss a.owns;
+  sound = heard_every Sound sound_hears sound_new prompt t ss a.sound;
+  given = given_heard set prompt t ts ss a.owns a.given;
+  others = but_hear (Written set) (written_hears set) (written_new set) nth prompt t ss a.others;
+  its = heard_place (WillBe set message) (will_hear set message) prompt t nth ss a.its;
+}
+
+taking : (now nth : ℕ) (n : State) (x : Session) (c : Circuit) → Fine n → session_at nth n ≡ Some x → circuit_of x.stage ≡ Some c → users.took (answers.take_answer (users.end_at c.id n)) ≡ true
+    → (let d = set_step n.set.set (sets.Calls c.id sets.Takes now) in IsTaking d.set (answers.message_at [] (users.end_at c.id n)) nth d.set (n.set.untold ++ d.told) n.sessions)
+taking now nth n x c f e h t =
+    let set : SetState = n.set.set in
+    let a : sets.Act = sets.Calls c.id sets.Takes now in
+    let d = set_step set a in
+    let k = takes_keep set now c.id in
+    let its = only set n.set.untold n.sessions nth c x f.0 e h in
+    record {
+      same = refl;
+      owns = owns_input Any set d n.set.untold n.sessions f.0 k (step_ok set a tt).made (λ i some. tt) (λ i some. tt);
+      sound = f.1.0;
+      given = given_later set d.set k.number (λ i low g. k.ended i f.0.once low g) (λ i low g. k.away i f.0.once low g) n.sessions f.1.1.0;
+      others = but_on (NotIts c.id) (Written set) (Written d.set) (λ y other w. written_other set sets.Takes now c.id y other w) nth n.sessions its f.1.1.1;
+      its = record { x = x; is = e; holds = its_taken set now c x t h (every_at (Written set) n.sessions nth x f.1.1.1 e) };
+    }
+
+-- once it is noted, all is fine
+taken_fine : (old : SetState) (message : List ℕ) (nth : ℕ) (n : State) (outcome : Outcome) → IsTaking old message nth n.set.set n.set.untold n.sessions
+    → ((y : Session) → session_at nth n ≡ Some y → Given n.set.set y → Given n.set.set (bridging.log_gave outcome message (bridging.log_got message y)))
+    → Fine (at_session nth (λ y. bridging.log_gave outcome message (bridging.log_got message y)) n)
+taken_fine old message nth n outcome a given = (
+  owns_fewer set n.set.untold ss _ a.owns (fewer_at nth both ss (slice_get ss nth) refl (λ y. less_same y (both y) refl refl refl)),
+  (
+    changed_every Sound both ss nth (slice_get ss nth) (λ y k. sound_gave outcome message y (every_at Sound ss nth y a.sound k)) a.sound,
+    (
+      changed_every (Given set) both ss nth (slice_get ss nth) (λ y k. given y k (every_at (Given set) ss nth y a.given k)) a.given,
+      subst (λ (o : Option Session). Every (Written set) (changed o nth both ss)) (sym a.its.is)
+          (but_whole (Written set) nth (both a.its.x) ss (written_gave set outcome message (bridging.log_got message a.its.x) a.its.holds) a.others),
+    ),
+  ),
+)
+  where
+    set : SetState
+    set = n.set.set
+
+    ss : List Session
+    ss = n.sessions
+
+    both : Session → Session
+    both y = bridging.log_gave outcome message (bridging.log_got message y)
+
 -- what of a session's circuit came to the node is given to its user
 given_from : (now nth : ℕ) (n : State) (x : Session) (c : Circuit) → Fine n → at_router n ≡ 0 → session_at nth n ≡ Some x → circuit_of x.stage ≡ Some c → users.can_pass_on x c.id n ≡ true
     → Fine (bridging.give_from now nth c.id n).after
@@ -246,7 +311,8 @@ given_from now nth n x c f router e h gives = by (users.took (answers.take_answe
     by true t =
         let is = took_message (users.end_at c.id n) t (messages_of c.id n f) in
         let same : gave ≡ at_session nth both told = both_changed (bridging.log_got message) (bridging.log_gave outcome message) told nth dry.placed.x dry.placed.is in
-        let fine = session_fine nth both told (λ y k s. sound_gave outcome message y s) (given_both is) (λ y w. written_gave told.set.set outcome message y w) (λ y. less_same y (both y) refl refl refl) (pumped now took (takes_fine now c.id n f)) in
+        let taken = dry_keeps (IsTaking took.set.set message nth) (taking_told took.set.set message nth) now took router (taking now nth n x c f e h t) in
+        let fine = taken_fine took.set.set message nth told outcome taken (given_both is) in
         said now nth message gave (subst Fine (sym same) fine)
 
 pub given : (now nth : ℕ) (n : State) → Fine n → at_router n ≡ 0 → (o : Option Session) → session_at nth n ≡ o → Fine (bridging.give_of (bridging.giving_circuit o n) now nth n).after

@@ -15,7 +15,7 @@ use Rattle.node_core.specs.Bridging as bridging
 use Rattle.node_core.specs.Pumping.{at_router}
 use Rattle.node_core.specs.Serving as serving
 use Rattle.node_core.specs.Serving.{is_at_end}
-use Rattle.node_core.specs.Sessions.{Session}
+use Rattle.node_core.specs.Sessions.{Bridge, Session}
 use Rattle.node_core.specs.States.{State, next_hop}
 use Rattle.node_core.specs.Turns.{Turn, done, idle}
 use Rattle.node_core.specs.Users as users
@@ -40,15 +40,15 @@ none_waits y i = let same = ap (λ (rs : List Reply). length rs) i.replies in om
 -- at the prompt what is left of a text may be cut
 at_prompt_fine : (nth : ℕ) (step : Session → Session) (m : State) (y : Session) → Fine m → session_at nth m ≡ Some y → Idle y
     → ((z : Session) → (step z).stage ≡ z.stage) → ((z : Session) → (step z).replies ≡ z.replies) → ((z : Session) → length (step z).rest ≤ length z.rest)
-    → ((z : Session) → Given m.set.set z → Given m.set.set (step z)) → ((z : Session) → (step z).bridge.wrote ≡ z.bridge.wrote) → ((z : Session) → Less z (step z)) → Fine (at_session nth step m)
-at_prompt_fine nth step m y f e i stages replies shorter given wrote less =
+    → ((z : Session) → Given m.set.set z → Given m.set.set (step z)) → ((z : Session) → (step z).bridge ≡ z.bridge) → ((z : Session) → Less z (step z)) → Fine (at_session nth step m)
+at_prompt_fine nth step m y f e i stages replies shorter given bridges less =
     session_fine nth step m (λ z k s.
     let same = same_session nth m y z e k in
     let at : z.stage ≡ AtPrompt = subst (λ (w : Session). w.stage ≡ AtPrompt) same i.stage in
     let none = subst Idle same i in
     let few = none_waits z none in
     let here = ap (λ (rs : List Reply). length rs) (replies z) in
-    sound_at_prompt (step z) (stages z ∙ at) (omega (arith, shorter z, s.rest)) (omega (arith, here, few))) (λ z k g. given z g) (λ z w. written_same m.set.set z (step z) (stages z) (wrote z) w) less f
+    sound_at_prompt (step z) (stages z ∙ at) (omega (arith, shorter z, s.rest)) (omega (arith, here, few))) (λ z k g. given z g) (λ z w. written_same m.set.set z (step z) (stages z) (ap (λ (b : Bridge). b.wrote) (bridges z)) (ap (λ (b : Bridge). b.got) (bridges z)) w) less f
 
 pub and_no : (a : Bool) → (a && false) ≡ false
 and_no true = refl

@@ -34,7 +34,8 @@ use Rattle.node_core.proofs.Fine.{Dry, Fine, fewer_at, pumped, pumped_dry, sessi
 use Rattle.node_core.proofs.Holders.{Any, AreOpen, others_stay, takes_keep, writes_keep}
 use Rattle.node_core.proofs.Making.{step_ok}
 use Rattle.node_core.proofs.Pumped.{pump_keeps}
-use Rattle.node_core.proofs.Wrote.{OthersNot, Written, its_written, only, others_changed, others_hear, written_same}
+use Rattle.node_core.proofs.Others.{OthersNot, alone, only, others_changed, others_hear}
+use Rattle.node_core.proofs.Wrote.{Written, its_written, written_same}
 use Rattle.node_core.proofs.Given.{Given, IsDone, Unclosed, away, given_later, given_text, given_wrote}
 use Rattle.node_core.proofs.Soundness.{Every, Hears, Same, Sound, changed_every, changed_here, every_at, same_hears, same_itself, sound_text, sound_wrote}
 use Rattle.node_core.proofs.Owning.{opens_by, owns_fewer, owns_input}
@@ -116,7 +117,7 @@ module _ (P : Session → Type 0) (hears : Hears P) (texts_leave : (text : List 
             fine =
                 pumped now begun
                 (session_fine nth (users.with_text text) took (λ y k s. sound_text text y is.0 is.1 (subst (λ (w : Session). length w.rest ≤ 0) (same_session nth n x y e k) none) s)
-                (λ y k g. given_text took.set.set text y (still_open nth n x y f e k (λ d. took_held (users.end_at u n) t (subst (λ (w : User). away w x.left n.set.set ≡ true) at d.1))) g) (λ y w. written_same took.set.set y (users.with_text text y) refl refl w) (λ y. less_same y (users.with_text text y) refl refl refl) (takes_fine now u n f));
+                (λ y k g. given_text took.set.set text y (still_open nth n x y f e k (λ d. took_held (users.end_at u n) t (subst (λ (w : User). away w x.left n.set.set ≡ true) at d.1))) g) (λ y w. written_same took.set.set y (users.with_text text y) refl refl refl w) (λ y. less_same y (users.with_text text y) refl refl refl) (takes_fine now u n (alone n.set.set n.set.untold n.sessions nth u x f.0 e at) f));
             some = λ d. (held.placed.x, held.placed.is, rw rest bytes, held.placed.holds);
             ends = λ id differ. ap (λ (set : SetState). end_of id set.ends) dry.set ∙ others_stay n.set.set id u sets.Takes now (other_number u id (differ u at));
             unshut = λ id o. rw dry.set ((takes_keep n.set.set now u).unshut id tt o);
@@ -142,7 +143,7 @@ module _ (P : Session → Type 0) (hears : Hears P) (texts_leave : (text : List 
           record {
             fine =
                 session_fine nth (users.with_text text) took (λ y k s. sound_text text y bytes (fits peer t) (subst (λ (w : Session). length w.rest ≤ 0) (same_session nth n x y e k) none) s)
-                (λ y k g. given_text took.set.set text y (still_open nth n x y f e k (λ d. absurd (cc (sym present ∙ subst (λ (w : User). away w x.left n.set.set ≡ true) at d.1)))) g) (λ y w. written_same took.set.set y (users.with_text text y) refl refl w) (λ y. less_same y (users.with_text text y) refl refl refl) f;
+                (λ y k g. given_text took.set.set text y (still_open nth n x y f e k (λ d. absurd (cc (sym present ∙ subst (λ (w : User). away w x.left n.set.set ≡ true) at d.1)))) g) (λ y w. written_same took.set.set y (users.with_text text y) refl refl refl w) (λ y. less_same y (users.with_text text y) refl refl refl) f;
             some = λ d. (users.with_text text x, changed_here (users.with_text text) n.sessions nth x e, some_taken text bytes, texts_leave text x p);
             ends = λ id differ. refl;
             unshut = λ id o. o;
@@ -197,7 +198,7 @@ module _ (now nth : ℕ) (c : Circuit) (m : State) (y : Session) (f : Fine m) (e
   -- a text that isn't written
   refused : (outcome : Outcome) → (outcome ≡ Taken → ⊥) → (outcome ≡ Taken) ⊎ (outcome ≡ Exhausts) → Fine (at_session nth (step outcome) m)
   refused outcome none goes =
-      session_fine nth (step outcome) m (sounds outcome goes) (λ z k g. given_wrote m.set.set outcome y.rest z g) (λ z w. written_same m.set.set z (step outcome z) refl (same outcome none z.bridge) w)
+      session_fine nth (step outcome) m (sounds outcome goes) (λ z k g. given_wrote m.set.set outcome y.rest z g) (λ z w. written_same m.set.set z (step outcome z) refl (same outcome none z.bridge) (got outcome z.bridge) w)
       (λ z. less_same z (step outcome z) refl refl refl) f
     where
       same : (o : Outcome) → (o ≡ Taken → ⊥) → (b : Bridge) → (bridging.wrote o y.rest b).wrote ≡ b.wrote
@@ -206,6 +207,13 @@ module _ (now nth : ℕ) (c : Circuit) (m : State) (y : Session) (f : Fine m) (e
       same Crowds n b = refl
       same Unheard n b = refl
       same Refused n b = refl
+
+      got : (o : Outcome) (b : Bridge) → (bridging.wrote o y.rest b).got ≡ b.got
+      got Taken b = refl
+      got Exhausts b = refl
+      got Crowds b = refl
+      got Unheard b = refl
+      got Refused b = refl
 
   accepted : users.write_answer c.id y.rest m ≡ Ok tt → Fine (at_set (circuits.acts (sets.Calls c.id (sets.Writes y.rest) now)) (at_session nth (step Taken) m))
   unfolding circuits.acts

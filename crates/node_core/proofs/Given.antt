@@ -46,7 +46,7 @@ Gives b is_deaf = b.exhausted ≡ false → b.crowded ≡ false → is_deaf ≡ 
 
 abbrev pub GivesAt : Stage → Bridge → Bool → Type 0
 GivesAt AtPrompt b is_deaf = Unit {0}
-GivesAt (Trying c) b is_deaf = Unit {0}
+GivesAt (Trying c) b is_deaf = Gives b is_deaf
 GivesAt (Failed c) b is_deaf = Unit {0}
 GivesAt (Connected c) b is_deaf = Gives b is_deaf
 
@@ -77,7 +77,7 @@ pub record Given (set : SetState) (x : Session) : Type 0 where
 
 on_gives : (stage : Stage) (b c : Bridge) (d e : Bool) → (Gives b d → Gives c e) → GivesAt stage b d → GivesAt stage c e
 on_gives AtPrompt b c d e f g = tt
-on_gives (Trying k) b c d e f g = tt
+on_gives (Trying k) b c d e f g = f g
 on_gives (Failed k) b c d e f g = tt
 on_gives (Connected k) b c d e f g = f g
 
@@ -130,7 +130,7 @@ module _ (set : SetState) where
   pub given_tries : (id : ℕ) (dest : Callsign) (x : Session) → Given set x → Given set (asking.tries id dest x)
   given_tries id dest x g = record {
     known = g.known;
-    gives = tt;
+    gives = λ a b d. refl;
     closed = λ c h k.
         let same : asking.circuit_to id dest ≡ c = cc h in
         let fresh : false ≡ c.closed = ap (λ (d : Circuit). d.closed) same in
@@ -159,7 +159,7 @@ module _ (set : SetState) where
     where
       by : (stage : Stage) → GivesAt stage x.bridge (deaf set x) → GivesAt (bridging.stage_closed stage) x.bridge (deaf set x)
       by AtPrompt f = tt
-      by (Trying c) f = tt
+      by (Trying c) f = f
       by (Failed c) f = tt
       by (Connected c) f = f
 
@@ -200,14 +200,14 @@ module _ (set : SetState) where
   either x y true p q = q
   either x y false p q = p
 
-  opened : (c : Circuit) (notice : EndNotice) (rest : List ℕ) (d : Bool) → GivesAt (s.stage_by c notice) (s.opened rest) d
-  opened c (end.Opened window) rest d = λ a b e. refl
-  opened c end.Refused rest d = tt
-  opened c end.Closed rest d = tt
-  opened c end.ClosedByPartner rest d = tt
-  opened c end.FailedRetries rest d = tt
-  opened c end.FailedOversize rest d = tt
-  opened c end.FailedInactive rest d = tt
+  opened : (c : Circuit) (notice : EndNotice) (rest : List ℕ) (b : Bridge) (d : Bool) → Gives b d → GivesAt (s.stage_by c notice) (s.opened rest b) d
+  opened c (end.Opened window) rest b d f = f
+  opened c end.Refused rest b d f = tt
+  opened c end.Closed rest b d f = tt
+  opened c end.ClosedByPartner rest b d f = tt
+  opened c end.FailedRetries rest b d f = tt
+  opened c end.FailedOversize rest b d f = tt
+  opened c end.FailedInactive rest b d f = tt
 
   noticed_at : (id : ℕ) (notice : EndNotice) (x : Session) (stage : Stage) → x.stage ≡ stage → Given set x → Given set (s.notice_at stage id notice x)
   noticed_at id notice x AtPrompt e g = g
@@ -215,7 +215,7 @@ module _ (set : SetState) where
   noticed_at id notice x (Connected c) e g = g
   noticed_at id notice x (Trying c) e g =
       either x (s.hear_tried c notice x) (nat_eq c.id id) g
-      (record { known = g.known; gives = opened c notice x.rest (deaf set x); closed = λ d h k. g.closed d (ap circuit_of e ∙ (sym (staged c notice) ∙ h)) k })
+      (record { known = g.known; gives = opened c notice x.rest x.bridge (deaf set x) (subst (λ (st : Stage). GivesAt st x.bridge (deaf set x)) e g.gives); closed = λ d h k. g.closed d (ap circuit_of e ∙ (sym (staged c notice) ∙ h)) k })
 
   gone_at : (id : ℕ) (x : Session) (stage : Stage) → Given set x → Given set (s.gone_at stage id x)
   gone_at id x AtPrompt g = g

@@ -23,8 +23,10 @@ use Rattle.l3_datagram.specs.declared.datagram.DatagramRefusal.{DatagramRefusal}
 use Rattle.l3_datagram.specs.declared.datagram.TheConstants.{HEAD_SIZE}
 use Rattle.l3_datagram.specs.Datagrams.{head_at}
 use Rattle.node_core.specs.Users.{ended_by}
+use Rattle.node_core.proofs.Growing as grown
+use Rattle.node_core.proofs.Growing.{Leaves}
 use Rattle.node_core.proofs.Unclosed as one
-use Rattle.node_core.proofs.Unclosed.{Leaves, Messages}
+use Rattle.node_core.proofs.Unclosed.{IsMessage, Messages}
 
 -- ---- all ends
 
@@ -307,6 +309,17 @@ module _ (P : SetState → Type 0) (set : SetState) (stays : P set)
 
 -- ---- each of them leaves that
 
+abbrev AreMessages : List (List ℕ) → ℕ → Type 0
+AreMessages ms taken = Messages ms
+
+one_more : (ms : List (List ℕ)) (taken : ℕ) (x : List ℕ) → IsMessage x → AreMessages ms taken → AreMessages (ms ++ x ∷ []) taken
+one_more [] taken x i a = (i, tt)
+one_more (m ∷ ms) taken x i a = (a.0, one_more ms taken x i a.1)
+
+-- an end is closing where it was, and what it received are messages
+abbrev LeavesOne : State → State → Type 0
+LeavesOne s u = Leaves AreMessages s u
+
 kept : (set : SetState) → Keeps Any set set
 kept set = record { number = omega arith; below = λ p. p; once = λ b o. o; ended = λ id o low e. e; away = λ id o low e. e; messages = λ p. p; unshut = λ id a p. p }
 
@@ -351,7 +364,7 @@ away_at set h first g id i a o e = by (nat_eq h.id id) refl
     by true f = absurd (not_away (s.end_of id set.ends) h (is_end id h set.ends o i f) a.held e)
     by false f = ap (λ (x : Option Holder). is_none (facts_at x)) (other_end id (s.settled h g) set.ends f) ∙ e
 
-kept_at : (set : SetState) (h : Holder) (first : List Told) (g : Effect) → In h set.ends → Alive h g → Leaves h.end g.end → Keeps Any set (s.goes_to set h first g).set
+kept_at : (set : SetState) (h : Holder) (first : List Told) (g : Effect) → In h set.ends → Alive h g → LeavesOne h.end g.end → Keeps Any set (s.goes_to set h first g).set
 kept_at set h first g i v l =
     let k : Holder = s.settled h g in
     record {
@@ -360,7 +373,7 @@ kept_at set h first g i v l =
       ended = λ id o low e. ended_at set h first g id i v o e;
       away = λ id o low e. away_at set h first g id i v o e;
       below = λ p. put_in (λ x. x.id < set.number) k set.ends (every_in (λ x. x.id < set.number) h set.ends p i) p;
-      messages = λ p. put_in (λ x. Messages x.end.receiving.received) k set.ends (l.messages (every_in (λ x. Messages x.end.receiving.received) h set.ends p i)) p;
+      messages = λ p. put_in (λ x. Messages x.end.receiving.received) k set.ends (l.received (every_in (λ x. Messages x.end.receiving.received) h set.ends p i)) p;
       unshut = λ id a p. put_in (λ x. x.id ≡ id → x.end.closing ≡ false) k set.ends (λ e. l.closing ∙ every_in (λ x. x.id ≡ id → x.end.closing ≡ false) h set.ends p i e) p;
     }
 
@@ -378,22 +391,22 @@ kept_made set at asked request g shut none =
     }
 
 pub comes_keeps : (set : SetState) (d : List ℕ) (now : ℕ) → Keeps Any set (s.set_step set (Comes d now)).set
-comes_keeps set d now = comes (Keeps Any set) set (kept set) Leaves one.itself one.arrives (kept_at set) (kept_made set) d now
+comes_keeps set d now = comes (Keeps Any set) set (kept set) LeavesOne (grown.itself AreMessages one_more) (grown.arrives AreMessages one_more) (kept_at set) (kept_made set) d now
 
 pub connects_keeps : (set : SetState) (dest : Callsign) (now : ℕ) → Keeps Any set (s.set_step set (Connect dest now)).set
-connects_keeps set dest now = connects (Keeps Any set) set (kept set) Leaves one.itself one.arrives (kept_at set) (kept_made set) dest now
+connects_keeps set dest now = connects (Keeps Any set) set (kept set) LeavesOne (grown.itself AreMessages one_more) (grown.arrives AreMessages one_more) (kept_at set) (kept_made set) dest now
 
-calls_keep : (set : SetState) (id : ℕ) (call : Call) (now : ℕ) → ((h : Holder) → Leaves h.end (end.step h.end (s.input_of call) now).end) → Keeps Any set (s.set_step set (Calls id call now)).set
-calls_keep set id call now l = calls (Keeps Any set) set (kept set) Leaves one.itself one.arrives (kept_at set) (kept_made set) id call now l
+calls_keep : (set : SetState) (id : ℕ) (call : Call) (now : ℕ) → ((h : Holder) → LeavesOne h.end (end.step h.end (s.input_of call) now).end) → Keeps Any set (s.set_step set (Calls id call now)).set
+calls_keep set id call now l = calls (Keeps Any set) set (kept set) LeavesOne (grown.itself AreMessages one_more) (grown.arrives AreMessages one_more) (kept_at set) (kept_made set) id call now l
 
 pub writes_keep : (set : SetState) (text : List ℕ) (now id : ℕ) → Keeps Any set (s.set_step set (Calls id (Writes text) now)).set
-writes_keep set text now id = calls_keep set id (Writes text) now (λ h. one.writes h.end text now)
+writes_keep set text now id = calls_keep set id (Writes text) now (λ h. grown.writes AreMessages one_more h.end text now)
 
 pub ticks_keep : (set : SetState) (now id : ℕ) → Keeps Any set (s.set_step set (Calls id Ticks now)).set
-ticks_keep set now id = calls_keep set id Ticks now (λ h. one.ticks h.end now)
+ticks_keep set now id = calls_keep set id Ticks now (λ h. grown.ticks AreMessages one_more h.end now)
 
 pub takes_keep : (set : SetState) (now id : ℕ) → Keeps Any set (s.set_step set (Calls id Takes now)).set
-takes_keep set now id = calls_keep set id Takes now (λ h. one.takes h.end now)
+takes_keep set now id = calls_keep set id Takes now (λ h. grown.takes AreMessages one_more h.end now (λ p. p))
 
 -- a close leaves the ends of other numbers
 abbrev pub Differs : ℕ → ℕ → Type 0

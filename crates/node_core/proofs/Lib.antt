@@ -47,11 +47,13 @@ pub mod Fetching
 pub mod Serving
 pub mod Asked
 pub mod Unclosed
+pub mod Growing
 pub mod Holders
 pub mod Owning
 pub mod Pumped
 pub mod Soundness
 pub mod Given
+pub mod Others
 pub mod Wrote
 pub mod Crowding
 pub mod Short

@@ -9,7 +9,7 @@ use Rattle.ax_frame.specs.declared.frame.FrameRefusal.{FrameRefusal}
 use Rattle.ax_frame.specs.Frames.{Frame}
 use Rattle.ax_frame.specs.Read.{read_head_at, read_at}
 use Rattle.circuit_l4.specs.EndOpening.{facts_of}
-use Rattle.circuit_l4.specs.EndTable.{Close, step}
+use Rattle.circuit_l4.specs.EndTable.{step}
 use Rattle.circuit_l4.specs.Receiving.{inbox}
 use Rattle.node_core.specs.declared.sessions.session.User.{User}
 use Rattle.node_core.specs.declared.sessions.session.User.TheVariants.{AtEnd, AtLink}
@@ -40,7 +40,7 @@ use Rattle.node_core.specs.Acts as acts
 use Rattle.node_core.specs.Acts.{Answered}
 use Rattle.node_core.specs.declared.sessions.session.Stage.{Stage}
 use Rattle.node_core.specs.declared.sessions.session.Stage.TheVariants.{AtPrompt, Trying, Failed, Connected}
-use Rattle.node_core.specs.Bridged.{Acts, BridgedAt, Bytes, EverySession, Fetches_entry, Fetches_frame, Input, IsBounded, IsBridged, IsClosedLast, IsEndsWriter, Paths, SessionsBounded, SessionsBridged, SessionsClosedLast, SessionsWriteTheirEnds, Ticks, after, after_all}
+use Rattle.node_core.specs.Bridged.{Acts, BridgedAt, Bytes, EverySession, Fetches_entry, Fetches_frame, Input, IsBounded, IsBridged, IsClosedLast, IsEndsReader, IsEndsWriter, Paths, SessionsBounded, SessionsBridged, SessionsClosedLast, SessionsReadTheirEnds, SessionsWriteTheirEnds, Ticks, after, after_all}
 use Rattle.node_core.specs.Broadcasts.{is_broadcast, round_frames}
 use Rattle.node_core.specs.Circuits as circuits
 use Rattle.node_core.specs.Configs.{new_node, new_station}
@@ -70,7 +70,8 @@ use Rattle.node_core.proofs.Resting.{pumped_dry}
 use Rattle.node_core.proofs.Settled.{nothing_left}
 use Rattle.node_core.proofs.Short.{Goes, IsShort, act_short, fetched_short, item_short, path_short, starts_short, walks}
 use Rattle.node_core.proofs.Walking.{tick_on, turn_on}
-use Rattle.node_core.proofs.Wrote.{NotIts, Written as WritesAll, WrittenAt, WroteAt, connects_wrote, ticks_wrote, written_same}
+use Rattle.node_core.proofs.Others.{NotIts}
+use Rattle.node_core.proofs.Wrote.{Written as WritesAll, WrittenAt, WroteAt, connects_wrote, rest_waits, ticks_wrote, written_same}
 use Rattle.node_core.proofs.Turns.{kept}
 
 -- ---- the settling
@@ -82,7 +83,7 @@ module _ (offers : OffersLeave) (takes : TakesLower) (less : TellsLess) (law : C
   noticed : (n : State) → Fine n → Fine (s.enter_notices n)
   noticed n f =
       let ns = n.links.pending.notices in
-      (owns_fewer n.set.set n.set.untold n.sessions _ f.0 (links_fewer ns n.sessions), (links_every Sound sound_leaves ns n.sessions f.1.0, (links_every (Given n.set.set) (given_left n.set.set) ns n.sessions f.1.1.0, links_every (WritesAll n.set.set) (λ x w. written_same n.set.set x (leaves x) refl refl w) ns n.sessions f.1.1.1)))
+      (owns_fewer n.set.set n.set.untold n.sessions _ f.0 (links_fewer ns n.sessions), (links_every Sound sound_leaves ns n.sessions f.1.0, (links_every (Given n.set.set) (given_left n.set.set) ns n.sessions f.1.1.0, links_every (WritesAll n.set.set) (λ x w. written_same n.set.set x (leaves x) refl refl refl w) ns n.sessions f.1.1.1)))
 
   drop_fine : (now : ℕ) (n : State) (peers : List Callsign) → Fine n → Fine (s.drop_first now peers n).after
   drop_fine now n [] f = f
@@ -256,24 +257,24 @@ module _ (offers : OffersLeave) (takes : TakesLower) (less : TellsLess) (law : C
   writes now id message n f false e = written_by now id message n (is_some (facts id n)) (is_served id n.sessions) refl refl e f
 
   -- an end that isn't held is left as it is
-  not_held : (set : SetState) (o : Option Holder) (now : ℕ) → is_some (facts_at o) ≡ false → sets.called set o sets.Closes now ≡ sets.untold set
-  not_held set None now e = refl
-  not_held set (Some h) now e = by h.gone e
+  not_held : (set : SetState) (call : sets.Call) (o : Option Holder) (now : ℕ) → is_some (facts_at o) ≡ false → sets.called set o call now ≡ sets.untold set
+  not_held set call None now e = refl
+  not_held set call (Some h) now e = by h.gone e
     where
-      by : (b : Bool) → is_some (if b then None else Some (facts_of h.end)) ≡ false → (if b then sets.untold set else sets.goes_to set h [] (step h.end Close now)) ≡ sets.untold set
+      by : (b : Bool) → is_some (if b then None else Some (facts_of h.end)) ≡ false → (if b then sets.untold set else sets.goes_to set h [] (step h.end (sets.input_of call) now)) ≡ sets.untold set
       by true g = refl
       by false g = absurd (cc g)
 
-  closed_none : (now id : ℕ) (n : State) → is_some (facts id n) ≡ false → Fine n → Fine (at_set (circuits.acts (sets.Calls id sets.Closes now)) n)
+  called_none : (call : sets.Call) (now id : ℕ) (n : State) → is_some (facts id n) ≡ false → Fine n → Fine (at_set (circuits.acts (sets.Calls id call now)) n)
   unfolding circuits.acts
-  closed_none now id n e f =
-      let same = not_held n.set.set (sets.end_of id n.set.set.ends) now e in
+  called_none call now id n e f =
+      let same = not_held n.set.set call (sets.end_of id n.set.set.ends) now e in
       subst (λ (d : SetDone). All d.set (n.set.untold ++ d.told) n.sessions) (sym same) (subst (λ (ts : List Told). All n.set.set ts n.sessions) (sym (append-nil n.set.untold)) f)
 
   closed_by : (now id : ℕ) (n : State) (a b : Bool) → is_some (facts id n) ≡ a → is_served id n.sessions ≡ b → (a && b) ≡ false → IsTold n → Fine n
       → Fine (at_set (circuits.acts (sets.Calls id sets.Closes now)) n)
   closed_by now id n true true e g h t f = absurd (cc h)
-  closed_by now id n false b e g h t f = closed_none now id n e f
+  closed_by now id n false b e g h t f = called_none sets.Closes now id n e f
   closed_by now id n true false e g h t f =
       let none = unserved id n.sessions g in
       let opens = all_opens id n.sessions in
@@ -284,6 +285,15 @@ module _ (offers : OffersLeave) (takes : TakesLower) (less : TellsLess) (law : C
   closes now id n t f true e = f
   closes now id n t f false e = closed_by now id n (is_some (facts id n)) (is_served id n.sessions) refl refl e t f
 
+  taken_by : (now id : ℕ) (n : State) (a b : Bool) → is_some (facts id n) ≡ a → is_served id n.sessions ≡ b → (a && b) ≡ false → Fine n → Fine (at_set (circuits.acts (sets.Calls id sets.Takes now)) n)
+  taken_by now id n true true e g h f = absurd (cc h)
+  taken_by now id n false b e g h f = called_none sets.Takes now id n e f
+  taken_by now id n true false e g h f = takes_fine now id n (unserved_none id n.sessions g) f
+
+  takes_act : (now id : ℕ) (n : State) → Fine n → (b : Bool) → acts.is_kept id n ≡ b → Fine (if b then acts.refuse refusal.Served n else acts.take now id n).node
+  takes_act now id n f true e = f
+  takes_act now id n f false e = taken_by now id n (is_some (facts id n)) (is_served id n.sessions) refl refl e f
+
   act_fine : (now : ℕ) (act : UserAct) (n : State) → IsTold n → Fine n → Fine (acts.do_act now act n).node
   act_fine now user.Round n t f = round_fine n f
   act_fine now (user.LinkFail peer) n t f = f
@@ -291,7 +301,7 @@ module _ (offers : OffersLeave) (takes : TakesLower) (less : TellsLess) (law : C
   act_fine now (user.Connect dest) n t f = connected now dest (connect_answer (next_hop n) dest n.set.set) n f
   act_fine now (user.Write id message) n t f =
       writes now id message n f (acts.is_kept id n) refl
-  act_fine now (user.Take id) n t f = answered _ _ (acts.is_kept id n) f (takes_fine now id n f)
+  act_fine now (user.Take id) n t f = takes_act now id n f (acts.is_kept id n) refl
   act_fine now (user.Close id) n t f = closes now id n t f (acts.is_kept id n) refl
 
   -- ---- every node
@@ -383,7 +393,15 @@ module _ (offers : OffersLeave) (takes : TakesLower) (less : TellsLess) (law : C
       by (AtLink peer) false e = absurd (cc e)
 
   is_writer : (n : State) (x : Session) → Sound x → Given n.set.set x → WritesAll n.set.set x → IsEndsWriter n x
-  is_writer n x p g w c h = let here : WroteAt n.set.set c.id x.bridge.wrote = subst (λ (stage : Stage). WrittenAt n.set.set stage x.bridge) h w.all in (here.holder, here.is, here.wrote)
+  is_writer n x p g w c h = let here : WroteAt n.set.set c.id x.bridge.wrote x.bridge.got = subst (λ (stage : Stage). WrittenAt n.set.set stage x.bridge) h w.all in (here.holder, here.is, here.wrote)
+
+  is_reader : (n : State) (x : Session) → Sound x → Given n.set.set x → WritesAll n.set.set x → IsEndsReader n x
+  is_reader n x p g w c h =
+      let here : WroteAt n.set.set c.id x.bridge.wrote x.bridge.got = subst (λ (stage : Stage). WrittenAt n.set.set stage x.bridge) h w.all in
+      (here.holder, here.is, rest_waits x.bridge.got here.holder.end.receiving here.taken)
+
+  pub reads_ends : SessionsReadTheirEnds
+  reads_ends = every IsEndsReader is_reader
 
   pub writes_ends : SessionsWriteTheirEnds
   writes_ends = every IsEndsWriter is_writer

@@ -42,7 +42,7 @@ pub record Hears (P : Session → Type 0) : Type 0 where
   pub notice : (id : ℕ) (notice : EndNotice) (x : Session) → P x → P (s.hear_notice id notice x)
   pub gone : (id : ℕ) (x : Session) → P x → P (s.hear_gone id x)
 
-opened_bridge : (c : Circuit) (notice : EndNotice) (x : Session) → WritesAt (s.stage_by c notice) (record x { stage = s.stage_by c notice; bridge = opened x.rest })
+opened_bridge : (c : Circuit) (notice : EndNotice) (x : Session) → WritesAt (s.stage_by c notice) (record x { stage = s.stage_by c notice; bridge = opened x.rest x.bridge })
 opened_bridge c (end.Opened window) x = λ e. refl
 opened_bridge c end.Refused x = tt
 opened_bridge c end.Closed x = tt
@@ -71,7 +71,7 @@ heard_tried : (c : Circuit) (notice : EndNotice) (x : Session) → x.stage ≡ T
 heard_tried c notice x e p =
     let few = ap most_replies e in
     record {
-      writes = same_bridge (s.stage_by c notice) (record x { stage = s.stage_by c notice; bridge = opened x.rest }) (s.hear_tried c notice x) refl refl (opened_bridge c notice x);
+      writes = same_bridge (s.stage_by c notice) (record x { stage = s.stage_by c notice; bridge = opened x.rest x.bridge }) (s.hear_tried c notice x) refl refl (opened_bridge c notice x);
       rest = p.rest;
       replies = omega (arith, p.replies, few, one_reply c notice, length-append x.replies (s.told_by c.dest notice ∷ []));
     }

@@ -163,7 +163,7 @@ unfolding circuits.acts
 asked_fine dest now id nth n x f e i ok =
     let set : SetState = (set_step n.set.set (sets.Connect dest now)).set in
     let on = goes_on Any n.set.set set n.set.untold n.sessions (connects_keeps n.set.set dest now) (connects_wrote n.set.set dest now) f in
-    let new : WroteAt set id [] = subst (λ k. WroteAt set k []) (sym ok.number) (subst (λ (d : SetDone). WroteAt d.set n.set.set.number []) (sym ok.is) (asked_wrote n.set.set dest now f.0.below)) in (
+    let new : WroteAt set id [] [] = subst (λ k. WroteAt set k [] []) (sym ok.number) (subst (λ (d : SetDone). WroteAt d.set n.set.set.number [] []) (sym ok.is) (asked_wrote n.set.set dest now f.0.below)) in (
       tried_owns dest now id nth n x f e i ok,
       (
         changed_every Sound (asking.tries id dest) n.sessions nth (slice_get n.sessions nth)

@@ -1,5 +1,4 @@
--- What a step of an end leaves: only a close makes it closing, one that has ended stays so, and each message that came whole has 1 to 8,192
--- bytes.
+-- What a step of an end leaves: only a close makes it closing, one that has ended stays so, and what was written to it stays, but for a write.
 use Rattle.std.proofs.Common.{◌≡◌, ◌≤◌, ◌∙◌, ℕ, zero, suc, refl, sym, ap, subst, arith, length, List, [], ◌∷◌, ◌++◌}
 use Rattle.std.proofs.lemmas.Bool.Decides.{nat_tests}
 use Rattle.std.specs.List.{AllByRecursion}
@@ -33,106 +32,19 @@ IsMessage m = (1 ≤ length m) × (length m ≤ 8192)
 abbrev pub Messages : List (List ℕ) → Type 0
 Messages ms = AllByRecursion IsMessage ms
 
--- ---- the receiving half
-
-abbrev Sound : Receiving → Type 0
-Sound h = Messages h.received
-
-more : (ms : List (List ℕ)) (x : List ℕ) → Messages ms → IsMessage x → Messages (ms ++ x ∷ [])
-more [] x a i = (i, tt)
-more (y ∷ ms) x a i = (a.0, more ms x a.1 i)
-
-with_sound : (x : List ℕ) (ms : List (List ℕ)) → length x ≤ 8192 → Messages ms → Messages (r.with_message x ms)
-with_sound [] ms few a = a
-with_sound (b ∷ bs) ms few a = more ms (b ∷ bs) a (omega arith, few)
-
-abbrev Fits : Answer → Type 0
-Fits More = Unit {0}
-Fits (Whole x) = length x ≤ 8192
-Fits Too_long = Unit {0}
-
-abbrev Fitting : List ℕ × Answer → Type 0
-Fitting g = Fits g.1
-
-gather_fits : (held piece : List ℕ) (on : Bool) → Fitting (gather_step held piece on)
-gather_fits held piece on = by (nat_lt LONGEST (length (held ++ piece))) on refl
-  where
-    by : (b c : Bool) → nat_lt LONGEST (length (held ++ piece)) ≡ b → Fitting (if b then (held, Too_long) else (if c then (held ++ piece, More) else ([], Whole (held ++ piece))))
-    by true c e = tt
-    by false true e = tt
-    by false false e = grind (arith, nat_tests, e)
-
-appended_sound : (h : Receiving) (g : List ℕ × Answer) → Fitting g → Sound h → Sound (r.appended h g).half
-appended_sound h (held, More) f a = a
-appended_sound h (held, Whole x) f a = with_sound x h.received f a
-appended_sound h (held, Too_long) f a = a
-
-append_sound : (text : List ℕ) (on : Bool) (h : Receiving) → Sound h → Sound (r.append text on h).half
-append_sound text on h a = appended_sound h (gather_step h.gathered text on) (gather_fits h.gathered text on) a
-
-moved_if : (k : ℕ) (a : Appended) (b : Bool) → a.fits ≡ b → Sound a.half → ((g : Receiving) → Sound g → Sound (r.move_on k g).half)
-    → Sound (if a.fits then r.move_on k a.half else a).half
-moved_if k a true e s on = rw e (on a.half s)
-moved_if k a false e s on = rw e s
-
-moved_by : (k : ℕ) (h : Receiving) (o : Option Piece) → Sound h → ((g : Receiving) → Sound g → Sound (r.move_on k g).half)
-    → Sound (elim o as (λ x. Appended) [ None ↦ record { half = h; fits = true } | Some p ↦ (let a = r.append p.text.items p.more h in if a.fits then r.move_on k a.half else a) ]).half
-moved_by k h None s on = s
-moved_by k h (Some p) s on =
-    let a : Appended = r.append p.text.items p.more h in
-    moved_if k a a.fits refl (append_sound p.text.items p.more h s) on
-
-moved_sound : (k : ℕ) (h : Receiving) → Sound h → Sound (r.move_on k h).half
-moved_sound zero h s = s
-moved_sound (suc k) h s = moved_by k h (r.next_early h) s (moved_sound k)
-
-next_if : (a : Appended) (b : Bool) → a.fits ≡ b → Sound a.half → Sound (if a.fits then r.moved_on a.half else a).half
-next_if a true e s = rw e (moved_sound (length a.half.early) a.half s)
-next_if a false e s = rw e s
-
-next_sound : (text : List ℕ) (on : Bool) (h : Receiving) → Sound h → Sound (r.append_next text on h).half
-next_sound text on h s = let a : Appended = r.append text on h in next_if a a.fits refl (append_sound text on h s)
-
-at_sound : (n : ℕ) (piece : Piece) (h : Receiving) (b : Bool) → Sound h → Sound (if b then r.receive_early n piece h else r.receive_next piece h).half
-at_sound n piece h true s = s
-at_sound n piece h false s = next_sound piece.text.items piece.more h s
-
-placed_sound : (piece : Piece) (h : Receiving) (o : Option ℕ) → Sound h → Sound (elim o as (λ x. Receipt) [ None ↦ r.ignored h | Some n ↦ r.receive_at n piece h ]).half
-placed_sound piece h None s = s
-placed_sound piece h (Some n) s = at_sound n piece h (nat_lt h.got n) s
-
-came_if : (window tx : ℕ) (piece : Piece) (h : Receiving) (b : Bool) → Sound h
-    → Sound (if b then r.ignored h else (elim (place_of 256 tx h.got window) as (λ x. Receipt) [ None ↦ r.ignored h | Some n ↦ r.receive_at n piece h ])).half
-came_if window tx piece h true s = s
-came_if window tx piece h false s = placed_sound piece h (place_of 256 tx h.got window) s
-
-received_sound : (window tx : ℕ) (piece : Piece) (h : Receiving) → Sound h → Sound (r.receive window tx piece h).half
-received_sound window tx piece h s = came_if window tx piece h (r.busy h || nat_le (2 ^ 62) h.got) s
-
 -- ---- an end
 
--- it is closing where it was, and its messages are such where they were
-pub record Leaves (s u : State) : Type 0 where
-  pub closing : u.closing ≡ s.closing
-  pub messages : Messages s.receiving.received → Messages u.receiving.received
-
 -- the receiving half stays
-record Same (s u : State) : Type 0 where
-  closing : u.closing ≡ s.closing
-  receiving : u.receiving ≡ s.receiving
-  wrote : u.sending.wrote ≡ s.sending.wrote
+pub record Same (s u : State) : Type 0 where
+  pub closing : u.closing ≡ s.closing
+  pub receiving : u.receiving ≡ s.receiving
+  pub wrote : u.sending.wrote ≡ s.sending.wrote
 
-same : (s u : State) → u.closing ≡ s.closing → u.receiving ≡ s.receiving → u.sending.wrote ≡ s.sending.wrote → Same s u
+pub same : (s u : State) → u.closing ≡ s.closing → u.receiving ≡ s.receiving → u.sending.wrote ≡ s.sending.wrote → Same s u
 same s u e f g = record { closing = e; receiving = f; wrote = g }
 
 then_same : (a b c : State) → Same a b → Same b c → Same a c
 then_same a b c x y = record { closing = y.closing ∙ x.closing; receiving = y.receiving ∙ x.receiving; wrote = y.wrote ∙ x.wrote }
-
-leaves : (s u : State) → Same s u → Leaves s u
-leaves s u e = record { closing = e.closing; messages = λ a. subst (λ (h : Receiving). Messages h.received) (sym e.receiving) a }
-
-then_leaves : (a b c : State) → Leaves a b → Leaves b c → Leaves a c
-then_leaves a b c x y = record { closing = y.closing ∙ x.closing; messages = λ p. y.messages (x.messages p) }
 
 either : (s x y : State) (b : Bool) → Same s x → Same s y → Same s (if b then x else y)
 either s x y true e f = e
@@ -141,10 +53,6 @@ either s x y false e f = f
 either_effect : (s : State) (x y : Effect) (b : Bool) → Same s x.end → Same s y.end → Same s (if b then x else y).end
 either_effect s x y true e f = e
 either_effect s x y false e f = f
-
-either_leaves : (s : State) (x y : Effect) (b : Bool) → Leaves s x.end → Leaves s y.end → Leaves s (if b then x else y).end
-either_leaves s x y true e f = e
-either_leaves s x y false e f = f
 
 wait_if_out : (now : ℕ) (s : State) → Same s (m.wait_if_out now s)
 wait_if_out now s = either s _ _ (nat_lt s.sending.acked s.sending.sent) (same s (m.wait now s) refl refl refl) (same s (record s { answer_due = None }) refl refl refl)
@@ -159,10 +67,10 @@ counts_out now many s =
     let x = either u _ _ (nat_lt 0 many) (waits_by now u u.answer_due) (same u u refl refl refl) in
     same s (m.count_out now many s) x.closing x.receiving x.wrote
 
-fills : (now : ℕ) (g : Effect) → Same g.end (m.fill now g).end
+pub fills : (now : ℕ) (g : Effect) → Same g.end (m.fill now g).end
 fills now g = counts_out now (m.fill_count g.end) g.end
 
-finishes : (now : ℕ) (g : Effect) → Same g.end (m.finish now g).end
+pub finishes : (now : ℕ) (g : Effect) → Same g.end (m.finish now g).end
 finishes now g = either_effect g.end (m.begin_to_close now g) g (m.is_done g.end) (same g.end _ refl refl refl) (same g.end g.end refl refl refl)
 
 supplies : (now : ℕ) (g : Effect) → Same g.end (m.supply now g).end
@@ -184,96 +92,22 @@ acknowledges : (now : ℕ) (flags : Flags) (o : Option ℕ) (s : State) → Same
 acknowledges now flags None s = same s s refl refl refl
 acknowledges now flags (Some x) s = then_same s (m.advance now x s) _ (advances now x s) (holds now flags.choke (m.advance now x s))
 
-acknowledged : (now rx : ℕ) (flags : Flags) (s : State) → Same s (m.acknowledge now rx flags s).end
+pub acknowledged : (now rx : ℕ) (flags : Flags) (s : State) → Same s (m.acknowledge now rx flags s).end
 acknowledged now rx flags s = acknowledges now flags (place_of 256 rx s.sending.acked (suc (s.sending.sent - s.sending.acked))) s
 
-answers : (now : ℕ) (nak : Bool) (owed : Owed) (g : Effect) → Same g.end (m.answer_all now nak owed g).end
+pub answers : (now : ℕ) (nak : Bool) (owed : Owed) (g : Effect) → Same g.end (m.answer_all now nak owed g).end
 answers now nak owed g =
     let a : Effect = m.answer nak owed g in
     let x = either_effect g.end (m.emit_ack nak g) g (nak || m.is_silent owed g.end) (same g.end g.end refl refl refl) (same g.end g.end refl refl refl) in
     let y = supplies now (m.emit_owed owed a) in
     record { closing = y.closing ∙ x.closing; receiving = y.receiving ∙ x.receiving; wrote = y.wrote ∙ x.wrote }
 
-with_half : (s : State) (h : Receiving) → (Messages s.receiving.received → Messages h.received) → Leaves s (record s { receiving = h })
-with_half s h f = record { closing = refl; messages = f }
-
-texts_by : (now : ℕ) (owed : Owed) (c : Receipt) (g : Effect) (b : Bool) → (Messages g.end.receiving.received → Messages c.half.received)
-    → Leaves g.end (if b then m.answer_all now c.nak owed (m.with_receiving c.half g) else m.end_with FailedOversize (m.with_receiving c.half g)).end
-texts_by now owed c g true f =
-    let h : Effect = m.with_receiving c.half g in
-    then_leaves g.end h.end _ (with_half g.end c.half f) (leaves h.end _ (answers now c.nak owed h))
-texts_by now owed c g false f = record { closing = refl; messages = f }
-
-infos : (now tx rx : ℕ) (flags : Flags) (piece : Piece) (g : Effect) → Leaves g.end (m.on_info now tx rx flags piece g).end
-infos now tx rx flags piece g =
-    let a = m.acknowledge now rx flags g.end in
-    let c : Receipt = r.receive a.end.window tx piece a.end.receiving in
-    let h : Effect = record g { end = a.end } in
-    then_leaves g.end a.end _ (leaves g.end a.end (acknowledged now rx flags g.end))
-    (texts_by now a.owed c h c.fits (λ p. received_sound a.end.window tx piece a.end.receiving p))
-
-acks : (now rx : ℕ) (flags : Flags) (g : Effect) → Same g.end (m.on_info_ack now rx flags g).end
+pub acks : (now rx : ℕ) (flags : Flags) (g : Effect) → Same g.end (m.on_info_ack now rx flags g).end
 acks now rx flags g =
     let a = m.acknowledge now rx flags g.end in
     let x = supplies now (m.emit_owed a.owed (record g { end = a.end })) in
     let y = acknowledged now rx flags g.end in
     record { closing = x.closing ∙ y.closing; receiving = x.receiving ∙ y.receiving; wrote = x.wrote ∙ y.wrote }
-
-pub itself : (s : State) → Leaves s s
-itself s = record { closing = refl; messages = λ p. p }
-
-connecting : (now : ℕ) (x : Transport) (s : State) → Leaves s (t.arrive_connecting now x (begin s)).end
-connecting now (Accept to own window) s =
-    let h : Effect = m.note (Opened (t.common_window s.config.window window)) (m.on_state (t.come_up now own window) (begin s)) in
-    let x = finishes now h in
-    leaves s (m.finish now h).end (same s (m.finish now h).end x.closing x.receiving x.wrote)
-connecting now (Refuse to) s = record { closing = refl; messages = λ p. p }
-connecting now (Request pair window user node) s = itself s
-connecting now (Disconnect to) s = itself s
-connecting now (Disconnected to) s = itself s
-connecting now (Info to tx rx flags text) s = itself s
-connecting now (InfoAck to rx flags) s = itself s
-
-up : (now : ℕ) (x : Transport) (s : State) → Leaves s (t.arrive_up now x (begin s)).end
-up now (Info to tx rx flags text) s =
-    let g : Effect = t.note_activity now (begin s) in
-    let x = infos now tx rx flags (record { text = text; more = flags.more }) g in
-    record { closing = x.closing; messages = x.messages }
-up now (InfoAck to rx flags) s =
-    let g : Effect = t.note_activity now (begin s) in
-    let x = leaves g.end _ (acks now rx flags g) in
-    record { closing = x.closing; messages = x.messages }
-up now (Disconnect to) s = record { closing = refl; messages = λ p. p }
-up now (Request pair window user node) s = itself s
-up now (Accept to own window) s = itself s
-up now (Refuse to) s = itself s
-up now (Disconnected to) s = itself s
-
-closing_arrives : (x : Transport) (s : State) → Leaves s (t.arrive_closing x (begin s)).end
-closing_arrives (Disconnect to) s = record { closing = refl; messages = λ p. p }
-closing_arrives (Disconnected to) s = record { closing = refl; messages = λ p. p }
-closing_arrives (Request pair window user node) s = itself s
-closing_arrives (Accept to own window) s = itself s
-closing_arrives (Refuse to) s = itself s
-closing_arrives (Info to tx rx flags text) s = itself s
-closing_arrives (InfoAck to rx flags) s = itself s
-
-arrives_in : (phase : EndPhase) (now : ℕ) (x : Transport) (s : State) → Leaves s (t.arrive_in phase now x (begin s)).end
-arrives_in Connecting now x s = connecting now x s
-arrives_in Up now x s = up now x s
-arrives_in Closing now x s = closing_arrives x s
-arrives_in Ended now x s = itself s
-
-pub arrives : (s : State) (x : Transport) (now : ℕ) → Leaves s (t.step s (t.Arrive x) now).end
-arrives s x now = arrives_in s.phase (min now (2 ^ 62)) x s
-
-pub writes : (s : State) (message : List ℕ) (now : ℕ) → Leaves s (t.step s (t.Write message) now).end
-writes s message now =
-    let at = min now (2 ^ 62) in
-    let h : Effect = m.on_state (λ x. record x { last_active = at; sending = written message x.sending }) (begin s) in
-    let x = fills at h in
-    either_leaves s (t.write at message (begin s)) (begin s) (is_ok (t.write_answer s message))
-    (record { closing = x.closing; messages = λ a. subst (λ (k : Receiving). Messages k.received) (sym x.receiving) a }) (itself s)
 
 -- ---- time
 
@@ -307,33 +141,12 @@ due_in Up now g = either_effect g.end (t.release now g) (t.expire now g) g.end.c
 due_in Closing now g = expires now g
 due_in Ended now g = same g.end g.end refl refl refl
 
-ticks_same : (s : State) (now : ℕ) → Same s (t.step s t.Tick now).end
+pub ticks_same : (s : State) (now : ℕ) → Same s (t.step s t.Tick now).end
 ticks_same s now =
     let at = min now (2 ^ 62) in
     let g : Effect = begin s in
     (either_effect s (m.end_with FailedInactive g) _ (is_up s.phase && nat_le (s.last_active + s.config.inactive) at) (same s _ refl refl refl)
     (either_effect s (t.fall_due at g) g (t.is_due s.answer_due at) (due_in s.phase at g) (same s s refl refl refl)))
-
-pub ticks : (s : State) (now : ℕ) → Leaves s (t.step s t.Tick now).end
-ticks s now = leaves s _ (ticks_same s now)
-
--- ---- takes
-
-resumes : (s : State) (a : Appended) (g : Effect) (b : Bool) → g.end.closing ≡ s.closing → (Messages s.receiving.received → Messages a.half.received)
-    → Leaves s (if b then m.emit_ack false (m.with_receiving a.half g) else m.end_with FailedOversize (m.with_receiving a.half g)).end
-resumes s a g true e f = record { closing = e; messages = f }
-resumes s a g false e f = record { closing = e; messages = f }
-
-takes_by : (s : State) (b : Bool) → (let h = r.without_first s.receiving in Leaves s (if b then t.resume (m.with_receiving h (begin s)) else m.with_receiving h (begin s)).end)
-takes_by s true =
-    let h : Receiving = r.without_first s.receiving in
-    resumes s (r.moved_on h) (m.with_receiving h (begin s)) (r.moved_on h).fits refl (λ p. moved_sound (length h.early) h p)
-takes_by s false = record { closing = refl; messages = λ p. p }
-
-pub takes : (s : State) (now : ℕ) → Leaves s (t.step s t.Take now).end
-takes s now =
-    either_leaves s _ (begin s) (nat_lt 0 (length (inbox s.receiving)))
-    (takes_by s (is_up s.phase && r.busy s.receiving && not (r.busy (r.without_first s.receiving)))) (itself s)
 
 -- a close leaves the receiving half
 pub closes : (s : State) (now : ℕ) → (t.step s t.Close now).end.receiving ≡ s.receiving
@@ -473,6 +286,24 @@ takes_wrote s now = by (nat_lt 0 (length (inbox s.receiving))) (is_up s.phase &&
     k = m.with_receiving h (begin s)
 
     by : (b c d : Bool) → (if b then (if c then (if d then m.emit_ack false (m.with_receiving a.half k) else m.end_with FailedOversize (m.with_receiving a.half k)) else k) else begin s).end.sending.wrote ≡ s.sending.wrote
+    by false c d = refl
+    by true false d = refl
+    by true true true = refl
+    by true true false = refl
+
+pub takes_closing : (s : State) (now : ℕ) → (t.step s t.Take now).end.closing ≡ s.closing
+takes_closing s now = by (nat_lt 0 (length (inbox s.receiving))) (is_up s.phase && r.busy s.receiving && not (r.busy h)) a.fits
+  where
+    h : Receiving
+    h = r.without_first s.receiving
+
+    a : Appended
+    a = r.moved_on h
+
+    k : Effect
+    k = m.with_receiving h (begin s)
+
+    by : (b c d : Bool) → (if b then (if c then (if d then m.emit_ack false (m.with_receiving a.half k) else m.end_with FailedOversize (m.with_receiving a.half k)) else k) else begin s).end.closing ≡ s.closing
     by false c d = refl
     by true false d = refl
     by true true true = refl

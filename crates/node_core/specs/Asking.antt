@@ -14,7 +14,7 @@ use Rattle.node_prompt.specs.declared.action.Trouble.TheVariants as trouble
 use Rattle.node_core.specs.declared.sessions.session.Circuit.{Circuit}
 use Rattle.node_core.specs.declared.sessions.session.Stage.TheVariants.{Trying}
 use Rattle.node_core.specs.Bridging.{drop_rest, next_text, prompt_of}
-use Rattle.node_core.specs.Sessions.{Session}
+use Rattle.node_core.specs.Sessions.{Session, unused}
 use Rattle.node_core.specs.States.{State, next_hop}
 use Rattle.node_core.specs.Turns.{Turn, done, idle}
 use Rattle.node_core.specs.Users.{acts, at_session, close_user, has_room, is_deaf, say, session_at}
@@ -51,7 +51,7 @@ abbrev pub circuit_to : ℕ → Callsign → Circuit
 circuit_to id dest = record { id = id; dest = dest; closed = false }
 
 abbrev pub tries : ℕ → Callsign → Session → Session
-tries id dest s = record s { stage = Trying (circuit_to id dest) }
+tries id dest s = record s { stage = Trying (circuit_to id dest); bridge = unused }
 
 -- the request leaves before the user is told that the circuit is tried
 abbrev pub tried : ℕ → ℕ → Callsign → Result ℕ ConnectRefusal → State → State

@@ -4,6 +4,7 @@ use Rattle.std.specs.List.{AllByRecursion}
 use Rattle.ax_address.specs.Callsign.{Callsign}
 use Rattle.ax_address.specs.declared.address.Address.{Address}
 use Rattle.arrayvec.specs.ArrayVec.{ArrayVec}
+use Rattle.circuit_l4.specs.Receiving.{inbox}
 use Rattle.circuit_set.specs.Sets.{Holder}
 use Rattle.link_table.specs.Calls.{with_path}
 use Rattle.node_core.specs.declared.config.NodeConfig.{NodeConfig}
@@ -60,6 +61,10 @@ pub record IsBounded (s : Session) : Type 0 where
 abbrev pub IsEndsWriter : State → Session → Type 0
 IsEndsWriter n s = (c : Circuit) → s.stage ≡ Connected c → (h : Holder) × (end_at c.id n ≡ Some h) × (h.end.sending.wrote ≡ s.bridge.wrote)
 
+-- what was ever taken of what the end of its circuit received is what the session has got: the rest of it wasn't taken
+abbrev pub IsEndsReader : State → Session → Type 0
+IsEndsReader n s = (c : Circuit) → s.stage ≡ Connected c → (h : Holder) × (end_at c.id n ≡ Some h) × (h.end.receiving.received ≡ s.bridge.got ++ inbox h.end.receiving)
+
 -- a circuit is closed here last: no text waits for it
 abbrev pub IsClosedLast : State → Session → Type 0
 IsClosedLast n s = (c : Circuit) → circuit_of s.stage ≡ Some c → c.closed ≡ true → has_text s n ≡ false
@@ -96,6 +101,9 @@ SessionsBridged = EverySession IsBridged
 
 abbrev pub SessionsWriteTheirEnds : Type 0
 SessionsWriteTheirEnds = EverySession IsEndsWriter
+
+abbrev pub SessionsReadTheirEnds : Type 0
+SessionsReadTheirEnds = EverySession IsEndsReader
 
 abbrev pub SessionsClosedLast : Type 0
 SessionsClosedLast = EverySession IsClosedLast

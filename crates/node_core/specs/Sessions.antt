@@ -17,7 +17,7 @@ use Rattle.node_core.specs.declared.sessions.session.Stage.TheVariants.{AtPrompt
 use Rattle.node_core.specs.declared.sessions.session.User.{User}
 use Rattle.node_core.specs.declared.sessions.session.User.TheVariants.{AtEnd, AtLink}
 
--- What went between a user and its circuit since that stood, in whole. No node keeps it.
+-- What went between a user and its circuit: texts since that stood, messages since it was asked for, in whole. No node keeps it.
 pub record Bridge : Type 0 where
   pub taken : List (List ℕ)  -- texts that were taken from the user
   pub wrote : List (List ℕ)  -- messages that were written to the circuit
@@ -34,9 +34,9 @@ abbrev pub waits : List ℕ → List (List ℕ)
 waits [] = []
 waits (b ∷ bs) = (b ∷ bs) ∷ []
 
--- what is left of the text that asked for the circuit is the first that goes to it
-abbrev pub opened : List ℕ → Bridge
-opened rest = record unused { taken = waits rest }
+-- a circuit stands: what is left of the text that asked for it is the first that goes to it
+abbrev pub opened : List ℕ → Bridge → Bridge
+opened rest b = record b { taken = waits rest; wrote = [] }
 
 pub record Session : Type 0 where
   pub user : User
@@ -76,7 +76,7 @@ stage_by c (end.Opened window) = Connected c
 stage_by c _ = Failed c
 
 abbrev pub hear_tried : Circuit → EndNotice → Session → Session
-hear_tried c notice s = record s { stage = stage_by c notice; replies = s.replies ++ told_by c.dest notice ∷ []; bridge = opened s.rest }
+hear_tried c notice s = record s { stage = stage_by c notice; replies = s.replies ++ told_by c.dest notice ∷ []; bridge = opened s.rest s.bridge }
 
 abbrev pub notice_at : Stage → ℕ → EndNotice → Session → Session
 notice_at (Trying c) id notice s = if nat_eq c.id id then hear_tried c notice s else s

@@ -1,7 +1,7 @@
 //! What the definitions promise by themselves.
 ghost use Rattle.circuit_set.specs.Inputs.{TellsLess};
 ghost use Rattle.link_table.specs.Payloads.{CountsPayloads, OffersLeave, TakesLower};
-ghost use Rattle.node_core.specs.Bridged.{SessionsBounded, SessionsBridged, SessionsClosedLast, SessionsWriteTheirEnds};
+ghost use Rattle.node_core.specs.Bridged.{SessionsBounded, SessionsBridged, SessionsClosedLast, SessionsReadTheirEnds, SessionsWriteTheirEnds};
 ghost use Rattle.node_core.specs.Carried.{ActsCarry, BytesCarry, CarriedFurther, TicksCarry};
 ghost use Rattle.node_core.specs.Fetching.{FetchesAllEntries, FetchesAllFrames, FramesInOrder};
 ghost use Rattle.node_core.specs.Runs.{ActsRun, BytesRun, InputsAreSteps, TicksRun};
@@ -74,11 +74,12 @@ pub fn fetching_empties()
 /// Of every session of every node that inputs may have led to: while its circuit stands, each text that was taken from the user was
 /// written to the circuit whole, as one message and in order, but for what is left of the text that was taken last; and what was taken
 /// from the circuit was given to the user, in order, where the user's side hasn't ended and the user hasn't said BYE. What else keeps a
-/// message from that is said in `Bridged`. To the end of its circuit just that was ever written. No text waits for a circuit that the
-/// session has closed. And a session keeps at most 8,192 bytes and two replies.
+/// message from that is said in `Bridged`. To the end of its circuit just that was ever written, and of what that end received just
+/// that was ever taken. No text waits for a circuit that the session has closed. And a session keeps at most 8,192 bytes and two replies.
 pub fn bridged()
     ensures bridged { SessionsBridged }
     ensures ends { SessionsWriteTheirEnds }
+    ensures read { SessionsReadTheirEnds }
     ensures closed { SessionsClosedLast }
     ensures bounded { SessionsBounded }
 {

@@ -1,4 +1,4 @@
-use Rattle.node_core.proofs.Reached.{bounded, bridged, closed_last, writes_ends}
+use Rattle.node_core.proofs.Reached.{bounded, bridged, closed_last, reads_ends, writes_ends}
 use Rattle.node_core.proofs.laws.bridged.Goals as goal
 
 pub returns-clause-bridged : goal.returns-clause-bridged
@@ -12,3 +12,6 @@ returns-clause-closed c = closed_last c.parts.ensures.offers c.parts.ensures.tak
 
 pub returns-clause-ends : goal.returns-clause-ends
 returns-clause-ends c = writes_ends c.parts.ensures.offers c.parts.ensures.takes c.parts.ensures.less c.carried.ensures c.call_texts.ensures
+
+pub returns-clause-read : goal.returns-clause-read
+returns-clause-read c = reads_ends c.parts.ensures.offers c.parts.ensures.takes c.parts.ensures.less c.carried.ensures c.call_texts.ensures
