@@ -13,6 +13,7 @@ use Rattle.node_core.specs.declared.sessions.session.Stage.{Stage}
 use Rattle.node_core.specs.declared.sessions.session.Stage.TheVariants.{AtPrompt, Trying, Failed, Connected}
 use Rattle.node_core.specs.declared.sessions.session.User.TheVariants.{AtLink}
 use Rattle.node_core.specs.Bridging as bridging
+use Rattle.node_core.specs.Circuits as circuits
 use Rattle.node_core.specs.Links as links
 use Rattle.node_core.specs.Pumping.{at_router, pump}
 use Rattle.node_core.specs.Serving as serving
@@ -32,6 +33,7 @@ use Rattle.node_core.proofs.Soundness.{Every, Sound, changed_here, filter_every,
 use Rattle.node_core.proofs.Owning.{Fewer, Less, at_least, few_itself, filter_less, greets, one, opens_by, owned_by, owns_fewer, then_fewer}
 use Rattle.node_core.proofs.FineGiving.{shut_end, replied, given}
 use Rattle.node_core.proofs.FineLines.{and_no, taken_up}
+use Rattle.node_core.proofs.Rooms.{none_untold}
 use Rattle.node_core.proofs.Served.{serve_on}
 use Rattle.node_core.proofs.Wrote.{Written, written_closed, written_new}
 use Rattle.node_core.proofs.Short.{Goes, IsShort, text_is_short, walks}
@@ -120,21 +122,22 @@ else_fine first after n f idle more = by (first n).did refl
     by false e = subst (λ (m : State). Fine (after m).after) (sym (idle e)) (more e)
 
 module _ (offers : OffersLeave) (takes : TakesLower) (less : TellsLess) (law : CarriesWhatWasOffered) (reads : ReadsCallTexts) where
-  once : (now nth : ℕ) (n : State) → Fine n → IsShort n.links → at_router n ≡ 0 → Fine (serving.serve_once now nth n).after
-  once now nth n f short router =
+  once : (now nth : ℕ) (n : State) → Fine n → IsShort n.links → at_router n ≡ 0 → circuits.pending n.set ≡ 0 → Fine (serving.serve_once now nth n).after
+  once now nth n f short router told =
       else_fine (bridging.give_reply now nth) (or_else (bridging.give_message now nth) (or_else (serving.take_up now nth) (bridging.close_circuit now nth))) n
       (replied (bridging.next_reply (session_at nth n) n) now nth n f) (lowering.replied offers takes less now nth n (session_at nth n) refl).idle
       (λ e. else_fine (bridging.give_message now nth) (or_else (serving.take_up now nth) (bridging.close_circuit now nth)) n
-      (given now nth n f router (session_at nth n) refl) (lowering.given offers takes less now nth n (bridging.giving_circuit (session_at nth n) n)).idle
+      (given now nth n f router (none_untold n.set told) (session_at nth n) refl) (lowering.given offers takes less now nth n (bridging.giving_circuit (session_at nth n) n)).idle
       (λ g. else_fine (serving.take_up now nth) (bridging.close_circuit now nth) n
-      (taken_up now nth n f (λ peer e. text_is_short peer n.links short e) router (no_reply (bridging.next_reply (session_at nth n) n) now nth n e) (session_at nth n) refl) (falling.taken_up offers takes less (serving.stage_of (session_at nth n)) now nth n).idle
+      (taken_up reads now nth n f (λ peer e. text_is_short peer n.links short e) router (no_reply (bridging.next_reply (session_at nth n) n) now nth n e) (session_at nth n) refl) (falling.taken_up offers takes less (serving.stage_of (session_at nth n)) now nth n).idle
       (λ h. closes now nth n f (session_at nth n) refl)))
 
-  each : (now nth k : ℕ) (n : State) → Fine n → IsShort n.links → at_router n ≡ 0 → Fine (serving.serve_each now nth k n).after
-  each now nth zero n f short router = f
-  each now nth (suc k) n f short router =
+  each : (now nth k : ℕ) (n : State) → Fine n → IsShort n.links → at_router n ≡ 0 → circuits.pending n.set ≡ 0 → Fine (serving.serve_each now nth k n).after
+  each now nth zero n f short router told = f
+  each now nth (suc k) n f short router told =
       let m : State = (serving.serve_once now nth n).after in
-      each now (suc nth) k (pump now m) (pumped now m (once now nth n f short router)) (serve_on Goes (walks law).serves reads now nth n short) (dried offers takes less now m).router
+      let dry = dried offers takes less now m in
+      each now (suc nth) k (pump now m) (pumped now m (once now nth n f short router told)) (serve_on Goes (walks law).serves reads now nth n short) dry.router dry.pending
 
   greeted : (b : Bool) (peers : List Callsign) (ss : List Session) → Fewer ss (serving.greet_each b peers ss)
   greeted b [] ss = few_itself ss
@@ -153,9 +156,9 @@ module _ (offers : OffersLeave) (takes : TakesLower) (less : TellsLess) (law : C
       by false true = push_every P ss (sessions.new_session (AtLink peer)) e (new peer)
       by false false = e
 
-  pub sessions_fine : (now : ℕ) (n : State) → Fine n → IsShort n.links → at_router n ≡ 0 → Fine (serving.serve_sessions now n).after
+  pub sessions_fine : (now : ℕ) (n : State) → Fine n → IsShort n.links → at_router n ≡ 0 → circuits.pending n.set ≡ 0 → Fine (serving.serve_sessions now n).after
   unfolding serving.serve_sessions
-  sessions_fine now n f short router =
+  sessions_fine now n f short router told =
       let a : State = serving.greet_links n in
       let b : Bool = n.settings.prompt in
       let peers = links.text_peers n.links in
@@ -164,7 +167,7 @@ module _ (offers : OffersLeave) (takes : TakesLower) (less : TellsLess) (law : C
       let given = greeted_all (Given n.set.set) (λ peer. given_new n.set.set (AtLink peer) (λ id e. absurd (cc e))) b peers n.sessions f.1.1.0 in
       let wrote = greeted_all (Written n.set.set) (λ peer. written_new n.set.set (AtLink peer)) b peers n.sessions f.1.1.1 in
       let c : State = (serving.serve_all now a).after in
-      let fine = each now 0 (length a.sessions) a (owns_fewer n.set.set n.set.untold n.sessions a.sessions f.0 g, (sound, (given, wrote))) short router in
+      let fine = each now 0 (length a.sessions) a (owns_fewer n.set.set n.set.untold n.sessions a.sessions f.0 g, (sound, (given, wrote))) short router told in
       let test = λ (x : Session). not (serving.is_over c x) in (
         owns_fewer c.set.set c.set.untold c.sessions (filter test c.sessions) fine.0 (record { owned = λ id. filter_less (owned_by id) test c.sessions; opens = λ id. filter_less (opens_by id) test c.sessions }),
         (filter_every Sound test c.sessions fine.1.0, (filter_every (Given c.set.set) test c.sessions fine.1.1.0, filter_every (Written c.set.set) test c.sessions fine.1.1.1)),

@@ -1,15 +1,14 @@
 -- Giving a user replies and messages keeps a node fine.
-use Rattle.std.proofs.Common.{◌≡◌, ◌<◌, ◌+◌, ◌∙◌, ◌⊎◌, inl, inr, ℕ, zero, suc, refl, sym, ap, subst, arith, List, [], ◌∷◌, ◌++◌, slice_get, slice_set}
-use Rattle.std.specs.Prelude.{Bool, true, false, not, ◌||◌, ◌&&◌, nat_eq, nat_le, if◌then◌else◌, Option, Some, None, Result, Ok, Err}
+use Rattle.std.proofs.Common.{◌≡◌, ◌≤◌, ◌<◌, ◌+◌, ◌∙◌, inl, inr, ℕ, zero, suc, refl, sym, ap, subst, arith, List, [], ◌∷◌, ◌++◌, slice_get, slice_set}
+use Rattle.std.specs.Prelude.{Bool, true, false, not, ◌||◌, ◌&&◌, nat_eq, if◌then◌else◌, Option, Some, None, Result, Ok}
 use Rattle.std.proofs.lemmas.Bool.Decides.{nat_tests}
 use Rattle.ax_address.specs.Callsign.{Callsign}
-use Rattle.circuit_set.specs.CircuitSets.{facts_at, partner_at}
+use Rattle.circuit_set.specs.CircuitSets.{facts_at}
 use Rattle.circuit_set.specs.Sets as sets
 use Rattle.circuit_set.specs.Pumps.{Of}
 use Rattle.circuit_set.specs.Sets.{Holder, SetState, Told, end_of, set_step}
 use Rattle.circuit_set.specs.Standing as answers
 use Rattle.link_table.specs.declared.text_refusal.TextRefusal.{TextRefusal}
-use Rattle.link_table.specs.declared.text_refusal.TextRefusal.TheVariants.{Full}
 use Rattle.node_core.specs.declared.sessions.session.Circuit.{Circuit}
 use Rattle.node_core.specs.declared.sessions.session.Reply.{Reply}
 use Rattle.node_core.specs.declared.sessions.session.User.{User}
@@ -24,7 +23,6 @@ use Rattle.node_core.specs.States.{State, at_set}
 use Rattle.node_core.specs.Turns.{done, idle}
 use Rattle.node_core.specs.Users as users
 use Rattle.node_core.specs.Users.{Outcome, at_session, changed, session_at}
-use Rattle.node_core.proofs.Crowding.{TakesTexts, offers_on, text_goes, with_room}
 use Rattle.node_core.proofs.Fine.{Dry, Fine, Goes, fewer_at, pumped_dry, said, session_fine, took_message, write_goes}
 use Rattle.node_core.proofs.Holders.{Any, AreOpen, end_in, every_in, number_of, others_stay, takes_keep}
 use Rattle.node_core.proofs.Given.{Given, IsGood, deaf, deaf_is, given_gave, given_heard, given_later, given_reply}
@@ -32,7 +30,8 @@ use Rattle.node_core.proofs.Making.{step_ok}
 use Rattle.node_core.proofs.Others.{But, NotIts, but_hear, but_on, but_whole, only}
 use Rattle.node_core.proofs.Soundness.{Every, Placed, Same, Sound, changed_every, changed_here, every_at, heard_every, heard_place, same_hears, same_itself, sound_gave, sound_hears, sound_new, sound_reply}
 use Rattle.node_core.proofs.Owning.{Less, Owns, at_least, but_here, mades, opens_by, owned_by, owns_fewer, owns_input, owns_told, total}
-use Rattle.node_core.proofs.Pumped.{dry_keeps, dry_links}
+use Rattle.node_core.proofs.Pumped.{dry_keeps}
+use Rattle.node_core.proofs.Rooms.{room_after, text_goes}
 use Rattle.node_core.proofs.Unclosed.{IsMessage, Messages}
 use Rattle.node_core.proofs.Wrote.{WillBe, Written, its_taken, will_hear, written_gave, written_hears, written_new, written_other, written_same}
 
@@ -131,23 +130,14 @@ good_wrote : (set : SetState) (d : Bool) (o : Outcome) → Goes o → IsGood set
 good_wrote set d o (inl e) = rw e tt
 good_wrote set d o (inr e) = rw e tt
 
-good_sent : (set : SetState) (d : Bool) (r : Result (Unit {0}) TextRefusal) → (r ≡ Ok tt) ⊎ (r ≡ Err Full) → IsGood set d (users.sent_by r)
-good_sent set d r (inl e) = rw e tt
-good_sent set d r (inr e) = rw e tt
-
--- a link that has room for a message of a circuit has room for 33 payloads
-least_room : (peer : Callsign) (id : ℕ) (n : State) → users.link_has_room_beside peer id n ≡ true → nat_le 33 (links.room peer n.links) ≡ true
-least_room peer id n = by (users.goes_over peer (users.hop_to (partner_at (users.end_at id n)) n))
-  where
-    by : (b : Bool) → nat_le (if b then 34 else 33) (links.room peer n.links) ≡ true → nat_le 33 (links.room peer n.links) ≡ true
-    by true e = grind (arith, nat_tests, e)
-    by false e = e
+good_sent : (set : SetState) (d : Bool) (r : Result (Unit {0}) TextRefusal) → r ≡ Ok tt → IsGood set d (users.sent_by r)
+good_sent set d r e = rw e tt
 
 -- a message that is given to a session's user after this, from a state in which its side had room
 module _ (now nth id : ℕ) (n m : State) (x z : Session) (message : List ℕ) (f : Fine n) (e : session_at nth n ≡ Some x) (is : IsMessage message)
     (user : z.user ≡ x.user) (left : z.left ≡ x.left) (bye : z.bye ≡ x.bye)
     (ends : (u : ℕ) → x.user ≡ AtEnd u → users.end_at u m ≡ users.end_at u n)
-    (takes : (peer : Callsign) → TakesTexts peer n.links → TakesTexts peer m.links)
+    (room : (peer : Callsign) → users.link_has_room_beside peer id n ≡ true → 33 ≤ links.room peer m.links)
     (gives : users.can_pass_on x id n ≡ true) where
   abbrev IsFine : Outcome → Type 0
   IsFine o = IsGood m.set.set (users.is_deaf z m) o
@@ -172,10 +162,10 @@ module _ (now nth id : ℕ) (n m : State) (x z : Session) (message : List ℕ) (
       let parts = or_parts z.bye (users.has_ended z m) deaf in
       let hears : users.has_ended z m ≡ users.has_ended x n = rw (at, g, left) refl in
       let before : users.is_deaf x n ≡ false = rw (← bye, parts.0) (sym hears ∙ parts.1) in
-      let room : users.has_room_beside x id n ≡ true = or_rest (users.is_deaf x n) (users.has_room_beside x id n) gives before in
-      let here : users.has_room_beside_at (AtLink peer) id x.left n ≡ true = subst (λ (y : User). users.has_room_beside_at y id x.left n ≡ true) g room in
+      let has : users.has_room_beside x id n ≡ true = or_rest (users.is_deaf x n) (users.has_room_beside x id n) gives before in
+      let here : users.has_room_beside_at (AtLink peer) id x.left n ≡ true = subst (λ (y : User). users.has_room_beside_at y id x.left n ≡ true) g has in
       let both = not_and x.left (users.link_has_room_beside peer id n) here in
-      good_sent m.set.set (users.is_deaf z m) _ (text_goes peer message m.links (takes peer (with_room peer n.links (least_room peer id n both.1))) is.1)
+      good_sent m.set.set (users.is_deaf z m) _ (text_goes peer message m.links is.1 (room peer both.1))
 
   goes_to : (y : User) → x.user ≡ y → users.is_deaf z m ≡ false → IsFine (users.outcome_at y message m)
   goes_to (AtEnd u) g deaf = heard_at_end u g deaf
@@ -251,10 +241,10 @@ taken_fine old message nth n outcome a given = (
     both y = bridging.log_gave outcome message (bridging.log_got message y)
 
 -- what of a session's circuit came to the node is given to its user
-given_from : (now nth : ℕ) (n : State) (x : Session) (c : Circuit) → Fine n → at_router n ≡ 0 → session_at nth n ≡ Some x → circuit_of x.stage ≡ Some c → users.can_pass_on x c.id n ≡ true
+given_from : (now nth : ℕ) (n : State) (x : Session) (c : Circuit) → Fine n → at_router n ≡ 0 → n.set.untold ≡ [] → session_at nth n ≡ Some x → circuit_of x.stage ≡ Some c → users.can_pass_on x c.id n ≡ true
     → Fine (bridging.give_from now nth c.id n).after
 unfolding circuits.acts
-given_from now nth n x c f router e h gives = by (users.took (answers.take_answer (users.end_at c.id n))) refl
+given_from now nth n x c f router none e h gives = by (users.took (answers.take_answer (users.end_at c.id n))) refl
   where
     message : List ℕ
     message = answers.message_at [] (users.end_at c.id n)
@@ -282,16 +272,16 @@ given_from now nth n x c f router e h gives = by (users.took (answers.take_answe
         ap (λ (set : SetState). end_of u set.ends) dry.set
         ∙ others_stay n.set.set u c.id sets.Takes now (other_number c.id u (ends_differ u n nth x f e g c h))
 
-    takes : (peer : Callsign) → TakesTexts peer n.links → TakesTexts peer got.links
-    takes peer t = dry_links (TakesTexts peer) (λ to d at t y. offers_on peer to d at t y) now took router t
+    room : users.took (answers.take_answer (users.end_at c.id n)) ≡ true → (peer : Callsign) → users.link_has_room_beside peer c.id n ≡ true → 33 ≤ links.room peer got.links
+    room t peer has = room_after now c.id n peer f.0.named router none t has
 
     outcome : Outcome
     outcome = users.said nth message got
 
-    good : IsMessage message → IsGood told.set.set (users.is_deaf z got) outcome
-    good is =
+    good : users.took (answers.take_answer (users.end_at c.id n)) ≡ true → IsMessage message → IsGood told.set.set (users.is_deaf z got) outcome
+    good t is =
         subst (λ (o : Option Session). IsGood told.set.set (users.is_deaf z got) (users.outcome_if (users.listener o got) message got)) (sym at_got)
-        (good_said now nth c.id n got x z message f e is dry.placed.holds.user dry.placed.holds.left dry.placed.holds.bye ends takes gives)
+        (good_said now nth c.id n got x z message f e is dry.placed.holds.user dry.placed.holds.left dry.placed.holds.bye ends (room t) gives)
 
     gave : State
     gave = at_session nth (bridging.log_gave outcome message) got
@@ -299,11 +289,11 @@ given_from now nth n x c f router e h gives = by (users.took (answers.take_answe
     both : Session → Session
     both y = bridging.log_gave outcome message (bridging.log_got message y)
 
-    given_both : IsMessage message → (y : Session) → session_at nth told ≡ Some y → Given told.set.set y → Given told.set.set (both y)
-    given_both is y k g =
+    given_both : users.took (answers.take_answer (users.end_at c.id n)) ≡ true → IsMessage message → (y : Session) → session_at nth told ≡ Some y → Given told.set.set y → Given told.set.set (both y)
+    given_both t is y k g =
         let found : Some dry.placed.x ≡ Some y = sym dry.placed.is ∙ k in
         let same : dry.placed.x ≡ y = cc found in
-        let heard : IsGood told.set.set (deaf told.set.set z) outcome = subst (λ (d : Bool). IsGood told.set.set d outcome) (deaf_is z got) (good is) in
+        let heard : IsGood told.set.set (deaf told.set.set z) outcome = subst (λ (d : Bool). IsGood told.set.set d outcome) (deaf_is z got) (good t is) in
         given_gave told.set.set outcome message y (subst (λ (w : Session). IsGood told.set.set (deaf told.set.set w) outcome) same heard) g
 
     by : (b : Bool) → users.took (answers.take_answer (users.end_at c.id n)) ≡ b → Fine (if b then done (users.say now nth message gave) else idle n).after
@@ -312,16 +302,16 @@ given_from now nth n x c f router e h gives = by (users.took (answers.take_answe
         let is = took_message (users.end_at c.id n) t (messages_of c.id n f) in
         let same : gave ≡ at_session nth both told = both_changed (bridging.log_got message) (bridging.log_gave outcome message) told nth dry.placed.x dry.placed.is in
         let taken = dry_keeps (IsTaking took.set.set message nth) (taking_told took.set.set message nth) now took router (taking now nth n x c f e h t) in
-        let fine = taken_fine took.set.set message nth told outcome taken (given_both is) in
+        let fine = taken_fine took.set.set message nth told outcome taken (given_both t is) in
         said now nth message gave (subst Fine (sym same) fine)
 
-pub given : (now nth : ℕ) (n : State) → Fine n → at_router n ≡ 0 → (o : Option Session) → session_at nth n ≡ o → Fine (bridging.give_of (bridging.giving_circuit o n) now nth n).after
-given now nth n f router None e = f
-given now nth n f router (Some x) e = of (circuit_of x.stage) refl
+pub given : (now nth : ℕ) (n : State) → Fine n → at_router n ≡ 0 → n.set.untold ≡ [] → (o : Option Session) → session_at nth n ≡ o → Fine (bridging.give_of (bridging.giving_circuit o n) now nth n).after
+given now nth n f router none None e = f
+given now nth n f router none (Some x) e = of (circuit_of x.stage) refl
   where
     by : (c : Circuit) → circuit_of x.stage ≡ Some c → (b : Bool) → users.can_pass_on x c.id n ≡ b → Fine (bridging.give_of (if b then Some c else None) now nth n).after
     by c h false g = f
-    by c h true g = given_from now nth n x c f router e h g
+    by c h true g = given_from now nth n x c f router none e h g
 
     of : (o : Option Circuit) → circuit_of x.stage ≡ o → Fine (bridging.give_of (bridging.giving_by x o n) now nth n).after
     of None h = f

@@ -2,6 +2,7 @@
 use Rattle.std.proofs.Common.{◌≡◌, ◌≤◌, ◌<◌, ◌+◌, ◌∙◌, ℕ, suc, refl, sym, ap, subst, arith, length, List, [], ◌∷◌, slice_get}
 use Rattle.std.specs.Prelude.{Bool, true, false, ◌||◌, ◌&&◌, nat_eq, if◌then◌else◌, Option, Some, None}
 use Rattle.std.proofs.lemmas.Bool.Decides.{nat_tests}
+use Rattle.ax_address.specs.CallReading.{ReadsCallTexts}
 use Rattle.circuit_set.specs.Inputs.{connect_answer}
 use Rattle.node_prompt.specs.declared.action.Action.{Action}
 use Rattle.node_prompt.specs.declared.action.Action.TheVariants as action
@@ -22,6 +23,7 @@ use Rattle.node_core.specs.Users as users
 use Rattle.node_core.specs.Users.{at_session, session_at}
 use Rattle.node_core.proofs.Fine.{Fine, close_fine, placed_said, said, session_fine}
 use Rattle.node_core.proofs.Given.{Given, given_bye, given_cut, given_dropped}
+use Rattle.node_core.proofs.Served.{IsNamed, at_named}
 use Rattle.node_core.proofs.Soundness.{Idle, Placed, changed_here, idle_hears, sound_at_prompt}
 use Rattle.node_core.proofs.Trying.{tried}
 use Rattle.node_core.proofs.Owning.{Less, mades, opens_by, owned_by, total}
@@ -97,11 +99,11 @@ said_bye now nth text m y f e i = subst (λ (o : Option Session). Fine (users.cl
     present true = fine
     present false = side z.user refl
 
-acting : (now nth : ℕ) (a : Action) (m : State) (y : Session) → Fine m → session_at nth m ≡ Some y → Idle y → Fine (asking.do_action now nth a m)
-acting now nth (action.Say text) m y f e i = said now nth text.items m f
-acting now nth (action.Bye text) m y f e i = said_bye now nth text.items m y f e i
-acting now nth (action.Connect dest) m y f e i = tried now nth dest (connect_answer (next_hop m) dest m.set.set) m y refl f e i
-acting now nth action.Nothing m y f e i = f
+acting : (now nth : ℕ) (a : Action) (m : State) (y : Session) → IsNamed a → Fine m → session_at nth m ≡ Some y → Idle y → Fine (asking.do_action now nth a m)
+acting now nth (action.Say text) m y named f e i = said now nth text.items m f
+acting now nth (action.Bye text) m y named f e i = said_bye now nth text.items m y f e i
+acting now nth (action.Connect dest) m y named f e i = tried now nth dest (connect_answer (next_hop m) dest m.set.set) m y named refl f e i
+acting now nth action.Nothing m y named f e i = f
 
 without_lf_most : (text : List ℕ) → length (asking.without_lf text) ≤ length text
 without_lf_most [] = omega arith
@@ -119,11 +121,11 @@ behind_most (b ∷ bs) = by (nat_eq b 13) (behind_most bs)
     by true rest = let l = without_lf_most bs in omega (arith, l)
     by false rest = omega (arith, rest)
 
-line_done : (now nth : ℕ) (m : State) (y : Session) → Fine m → session_at nth m ≡ Some y → Idle y → Fine (asking.do_line now nth m)
-line_done now nth m y f e i =
+line_done : ReadsCallTexts → (now nth : ℕ) (m : State) (y : Session) → Fine m → session_at nth m ≡ Some y → Idle y → Fine (asking.do_line now nth m)
+line_done reads now nth m y f e i =
     let cut : State = at_session nth asking.cut_line m in
     let fine = at_prompt_fine nth asking.cut_line m y f e i (λ z. refl) (λ z. refl) (λ z. behind_most z.rest) (given_cut m.set.set) (λ z. refl) (λ z. less_same z (asking.cut_line z) refl refl refl) in
-    acting now nth (asking.action_at (session_at nth m) m) cut (asking.cut_line y) fine (changed_here asking.cut_line m.sessions nth y e) (record { stage = i.stage; replies = i.replies })
+    acting now nth (asking.action_at (session_at nth m) m) cut (asking.cut_line y) (at_named reads (session_at nth m) m) fine (changed_here asking.cut_line m.sessions nth y e) (record { stage = i.stage; replies = i.replies })
 
 -- what is done with the next text of a user at the prompt
 if_text : (now nth : ℕ) (n : State) (x : Session) (step : State → State) → Fine n → TextsFit n.links → at_router n ≡ 0 → session_at nth n ≡ Some x → Idle x
@@ -152,8 +154,8 @@ or_true : (a : Bool) → (a || true) ≡ true
 or_true true = refl
 or_true false = refl
 
-lined : (now nth : ℕ) (n : State) (x : Session) → Fine n → TextsFit n.links → at_router n ≡ 0 → session_at nth n ≡ Some x → x.stage ≡ AtPrompt → bridging.next_reply (Some x) n ≡ None → Fine (asking.take_line now nth n).after
-lined now nth n x f fits router e g none =
+lined : ReadsCallTexts → (now nth : ℕ) (n : State) (x : Session) → Fine n → TextsFit n.links → at_router n ≡ 0 → session_at nth n ≡ Some x → x.stage ≡ AtPrompt → bridging.next_reply (Some x) n ≡ None → Fine (asking.take_line now nth n).after
+lined reads now nth n x f fits router e g none =
     subst (λ (o : Option Session). Fine (if asking.is_deaf_at o n then asking.drop_text_of now nth n else (if asking.has_room_at o n then asking.do_next_line now nth n else idle n)).after) (sym e)
     (by (users.is_deaf x n) (users.has_room x n) refl refl)
   where
@@ -166,18 +168,18 @@ lined now nth n x f fits router e g none =
         if_text now nth n x (at_session nth bridging.drop_rest) f fits router e (record { stage = g; replies = none_given x n none gives }) dropped
     by false true d r =
         let gives : users.can_give x n ≡ true = rw (d, r) refl in
-        if_text now nth n x (asking.do_line now nth) f fits router e (record { stage = g; replies = none_given x n none gives }) (line_done now nth)
+        if_text now nth n x (asking.do_line now nth) f fits router e (record { stage = g; replies = none_given x n none gives }) (line_done reads now nth)
     by false false d r = f
 
-pub taken_up : (now nth : ℕ) (n : State) → Fine n → TextsFit n.links → at_router n ≡ 0 → bridging.next_reply (session_at nth n) n ≡ None → (o : Option Session) → session_at nth n ≡ o → Fine (serving.take_up_by (serving.stage_of o) now nth n).after
-taken_up now nth n f fits router none None e = f
-taken_up now nth n f fits router none (Some x) e = by x.stage refl
+pub taken_up : ReadsCallTexts → (now nth : ℕ) (n : State) → Fine n → TextsFit n.links → at_router n ≡ 0 → bridging.next_reply (session_at nth n) n ≡ None → (o : Option Session) → session_at nth n ≡ o → Fine (serving.take_up_by (serving.stage_of o) now nth n).after
+taken_up reads now nth n f fits router none None e = f
+taken_up reads now nth n f fits router none (Some x) e = by x.stage refl
   where
     here : bridging.next_reply (Some x) n ≡ None
     here = subst (λ (o : Option Session). bridging.next_reply o n ≡ None) e none
 
     by : (stage : Stage) → x.stage ≡ stage → Fine (serving.take_up_at stage now nth n).after
-    by AtPrompt g = lined now nth n x f fits router e g here
+    by AtPrompt g = lined reads now nth n x f fits router e g here
     by (Trying c) g = f
     by (Failed c) g = f
     by (Connected c) g = text_written now nth c n x f fits router e g

@@ -28,8 +28,8 @@ use Rattle.node_core.specs.Sessions.{Bridge, Session, circuit_of}
 use Rattle.node_core.specs.States.{State, at_links, at_set}
 use Rattle.node_core.specs.Turns.{Turn, done, idle}
 use Rattle.node_core.specs.Users as users
-use Rattle.node_core.specs.Users.{Outcome, Taken, Exhausts, Crowds, Unheard, Refused, at_session, session_at}
-use Rattle.node_core.proofs.Crowding.{text_has_bytes}
+use Rattle.node_core.specs.Users.{Outcome, Taken, Exhausts, Unheard, Refused, at_session, session_at}
+use Rattle.node_core.proofs.Bytes.{text_has_bytes}
 use Rattle.node_core.proofs.Fine.{Dry, Fine, fewer_at, pumped, pumped_dry, session_fine, takes_fine, took_message, write_goes}
 use Rattle.node_core.proofs.Holders.{Any, AreOpen, others_stay, takes_keep, writes_keep}
 use Rattle.node_core.proofs.Making.{step_ok}
@@ -204,14 +204,12 @@ module _ (now nth : ℕ) (c : Circuit) (m : State) (y : Session) (f : Fine m) (e
       same : (o : Outcome) → (o ≡ Taken → ⊥) → (b : Bridge) → (bridging.wrote o y.rest b).wrote ≡ b.wrote
       same Taken n b = absurd (n refl)
       same Exhausts n b = refl
-      same Crowds n b = refl
       same Unheard n b = refl
       same Refused n b = refl
 
       got : (o : Outcome) (b : Bridge) → (bridging.wrote o y.rest b).got ≡ b.got
       got Taken b = refl
       got Exhausts b = refl
-      got Crowds b = refl
       got Unheard b = refl
       got Refused b = refl
 

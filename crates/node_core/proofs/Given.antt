@@ -18,7 +18,7 @@ use Rattle.node_core.specs.Sessions as s
 use Rattle.node_core.specs.Sessions.{Bridge, Session, circuit_of}
 use Rattle.node_core.specs.States.{State}
 use Rattle.node_core.specs.Users as users
-use Rattle.node_core.specs.Users.{Outcome, Taken, Exhausts, Crowds, Unheard, Refused}
+use Rattle.node_core.specs.Users.{Outcome, Taken, Exhausts, Unheard, Refused}
 use Rattle.node_core.proofs.Holders.{is_away, is_ended}
 use Rattle.node_core.proofs.Owning.{Owns, below_or, made_by, one, staged}
 use Rattle.node_core.proofs.Soundness.{Every, Hears, map_every, push_every}
@@ -42,7 +42,7 @@ deaf_is x n = by x.user
 -- ---- what was given
 
 abbrev Gives : Bridge → Bool → Type 0
-Gives b is_deaf = b.exhausted ≡ false → b.crowded ≡ false → is_deaf ≡ false → b.gave ≡ b.got
+Gives b is_deaf = b.exhausted ≡ false → is_deaf ≡ false → b.gave ≡ b.got
 
 abbrev pub GivesAt : Stage → Bridge → Bool → Type 0
 GivesAt AtPrompt b is_deaf = Unit {0}
@@ -102,7 +102,7 @@ module _ (old new : SetState) (number : old.number ≤ new.number) (stays : (id 
   later x g = record {
     closed = λ c h k. let d = g.closed c h k in (d.0, away_on x.user g.known x.left d.1);
     known = λ id e. let low = g.known id e in omega (arith, low, number);
-    gives = on_gives x.stage x.bridge x.bridge (deaf old x) (deaf new x) (λ f a b d. f a b (earlier x.user g.known x.bye x.left d)) g.gives;
+    gives = on_gives x.stage x.bridge x.bridge (deaf old x) (deaf new x) (λ f a d. f a (earlier x.user g.known x.bye x.left d)) g.gives;
   }
 
   pub given_later : (ss : List Session) → Every (Given old) ss → Every (Given new) ss
@@ -130,7 +130,7 @@ module _ (set : SetState) where
   pub given_tries : (id : ℕ) (dest : Callsign) (x : Session) → Given set x → Given set (asking.tries id dest x)
   given_tries id dest x g = record {
     known = g.known;
-    gives = λ a b d. refl;
+    gives = λ a d. refl;
     closed = λ c h k.
         let same : asking.circuit_to id dest ≡ c = cc h in
         let fresh : false ≡ c.closed = ap (λ (d : Circuit). d.closed) same in
@@ -139,7 +139,7 @@ module _ (set : SetState) where
 
   -- it has said BYE
   pub given_bye : (x : Session) → Given set x → Given set (asking.leaves x)
-  given_bye x g = record { known = g.known; closed = λ c h k. (refl, (g.closed c h k).1); gives = on_gives x.stage x.bridge x.bridge (deaf set x) true (λ f a b d. absurd (cc d)) g.gives }
+  given_bye x g = record { known = g.known; closed = λ c h k. (refl, (g.closed c h k).1); gives = on_gives x.stage x.bridge x.bridge (deaf set x) true (λ f a d. absurd (cc d)) g.gives }
 
   -- its link has ended
   left_deaf : (u : User) (bye left : Bool) → (bye || ended_at u true set) ≡ false → (bye || ended_at u left set) ≡ false
@@ -152,7 +152,7 @@ module _ (set : SetState) where
   left_away (AtLink peer) left e = refl
 
   pub given_left : (x : Session) → Given set x → Given set (s.leaves x)
-  given_left x g = record { known = g.known; closed = λ c h k. let d = g.closed c h k in (d.0, left_away x.user x.left d.1); gives = on_gives x.stage x.bridge x.bridge (deaf set x) (deaf set (s.leaves x)) (λ f a b d. f a b (left_deaf x.user x.bye x.left d)) g.gives }
+  given_left x g = record { known = g.known; closed = λ c h k. let d = g.closed c h k in (d.0, left_away x.user x.left d.1); gives = on_gives x.stage x.bridge x.bridge (deaf set x) (deaf set (s.leaves x)) (λ f a d. f a (left_deaf x.user x.bye x.left d)) g.gives }
 
   pub given_closed : (x : Session) → IsDone set x → Given set x → Given set (bridging.note_closed x)
   given_closed x done g = record { known = g.known; gives = by x.stage g.gives; closed = λ c h k. done }
@@ -170,15 +170,13 @@ module _ (set : SetState) where
       by : (o : Outcome) → Gives x.bridge (deaf set x) → Gives (bridging.wrote o text x.bridge) (deaf set x)
       by Taken f = f
       by Exhausts f = λ a. absurd (cc a)
-      by Crowds f = f
       by Unheard f = f
       by Refused f = f
 
-  -- nothing but want of numbers or of room keeps a message from a user that is told things
+  -- nothing but want of numbers keeps a message from a user that is told things
   abbrev pub IsGood : Bool → Outcome → Type 0
   IsGood is_deaf Taken = Unit {0}
   IsGood is_deaf Exhausts = Unit {0}
-  IsGood is_deaf Crowds = Unit {0}
   IsGood is_deaf Unheard = is_deaf ≡ true
   IsGood is_deaf Refused = ⊥
 
@@ -188,10 +186,9 @@ module _ (set : SetState) where
       record { known = g.known; closed = g.closed; gives = on_gives x.stage x.bridge (bridging.log_gave outcome message (bridging.log_got message x)).bridge (deaf set x) (deaf set x) (by outcome good) g.gives }
     where
       by : (o : Outcome) → IsGood (deaf set x) o → Gives x.bridge (deaf set x) → Gives (bridging.log_gave o message (bridging.log_got message x)).bridge (deaf set x)
-      by Taken good f = λ a b d. ap (λ (ms : List (List ℕ)). ms ++ message ∷ []) (f a b d)
+      by Taken good f = λ a d. ap (λ (ms : List (List ℕ)). ms ++ message ∷ []) (f a d)
       by Exhausts good f = λ a. absurd (cc a)
-      by Crowds good f = λ a b. absurd (cc b)
-      by Unheard good f = λ a b d. absurd (cc (good, d))
+      by Unheard good f = λ a d. absurd (cc (good, d))
       by Refused good f = absurd good
 
   -- ---- as it hears

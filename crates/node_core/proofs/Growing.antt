@@ -1,9 +1,8 @@
 -- What an input leaves of what came to an end: it stays, and a message that came whole is put behind it. Whatever holds of what was received and
 -- of how much of it was taken, and still holds with one message of 1 to 8,192 bytes more, is kept.
-use Rattle.std.proofs.Common.{◌≡◌, ◌≤◌, ◌∙◌, ℕ, zero, suc, refl, sym, ap, subst, arith, length, List, [], ◌∷◌, ◌++◌}
+use Rattle.std.proofs.Common.{◌≡◌, ◌≤◌, ◌∙◌, ℕ, zero, suc, refl, sym, subst, arith, length, List, [], ◌∷◌, ◌++◌}
 use Rattle.std.proofs.lemmas.Bool.Decides.{nat_tests}
-use Rattle.std.specs.List.{AllByRecursion}
-use Rattle.std.specs.Prelude.{Bool, true, false, if◌then◌else◌, not, ◌&&◌, ◌||◌, ◌+◌, ◌-◌, ◌^◌, min, is_ok, nat_eq, nat_le, nat_lt, Option, Some, None, Result, Ok, Err}
+use Rattle.std.specs.Prelude.{Bool, true, false, if◌then◌else◌, not, ◌&&◌, ◌||◌, ◌+◌, ◌^◌, min, is_ok, nat_le, nat_lt, Option, Some, None}
 use Rattle.circuit_reassembly.specs.Gathering.{Answer, More, Whole, Too_long, gather_step}
 use Rattle.circuit_reassembly.specs.declared.TheConstants.{LONGEST}
 use Rattle.radio_base.specs.Modulus.{place_of}
@@ -13,19 +12,14 @@ use Rattle.circuit_l4.specs.EndTable as t
 use Rattle.circuit_l4.specs.Receiving as r
 use Rattle.circuit_l4.specs.Receiving.{Appended, Receipt, Receiving, inbox}
 use Rattle.circuit_l4.specs.Sending.{written}
-use Rattle.circuit_l4.specs.declared.machine.Role.{Role}
-use Rattle.circuit_l4.specs.declared.machine.Role.TheVariants.{Requester, Responder}
 use Rattle.circuit_l4.specs.declared.piece.Piece.{Piece}
-use Rattle.circuit_l4.specs.declared.plain.EndNotice.TheVariants.{FailedInactive, FailedOversize, FailedRetries, Opened}
+use Rattle.circuit_l4.specs.declared.plain.EndNotice.TheVariants.{FailedOversize, Opened}
 use Rattle.circuit_l4.specs.declared.plain.EndPhase.{EndPhase}
 use Rattle.circuit_l4.specs.declared.plain.EndPhase.TheVariants.{Connecting, Up, Closing, Ended}
-use Rattle.circuit_l4.specs.declared.plain.WriteRefusal.{WriteRefusal}
-use Rattle.circuit_l4.specs.declared.plain.WriteRefusal.TheVariants as refusal
 use Rattle.circuit_l4.specs.declared.texts.Owed.{Owed}
 use Rattle.circuit_l4.specs.declared.transport.Flags.{Flags}
 use Rattle.circuit_l4.specs.declared.transport.Transport.{Transport}
 use Rattle.circuit_l4.specs.declared.transport.Transport.TheVariants.{Request, Accept, Refuse, Disconnect, Disconnected, Info, InfoAck}
-use Rattle.circuit_set.specs.Sets.{has_ended}
 use Rattle.node_core.proofs.Unclosed.{IsMessage, Same, acknowledged, answers, fills, finishes, acks, same, takes_closing, ticks_same}
 
 -- it is closing where it was, and of what it received holds what held

@@ -18,10 +18,12 @@ use Rattle.circuit_set.specs.CircuitSets.{facts_at}
 use Rattle.circuit_set.specs.Circuits.{heeds}
 use Rattle.circuit_set.specs.Sets as s
 use Rattle.circuit_set.specs.Sets.{Call, Calls, Comes, Connect, Holder, SetDone, SetState, Told, Closes, Takes, Ticks, Writes}
+use Rattle.circuit_set.proofs.Unheeded.{origin_read}
 use Rattle.l3_datagram.specs.declared.datagram.DatagramHead.{DatagramHead}
 use Rattle.l3_datagram.specs.declared.datagram.DatagramRefusal.{DatagramRefusal}
 use Rattle.l3_datagram.specs.declared.datagram.TheConstants.{HEAD_SIZE}
 use Rattle.l3_datagram.specs.Datagrams.{head_at}
+use Rattle.link_table.specs.Reaching.{IsCall}
 use Rattle.node_core.specs.Users.{ended_by}
 use Rattle.node_core.proofs.Growing as grown
 use Rattle.node_core.proofs.Growing.{Leaves}
@@ -203,6 +205,10 @@ is_ended id set = ended_by (facts_at (s.end_of id set.ends))
 abbrev pub is_away : ℕ → SetState → Bool
 is_away id set = is_none (facts_at (s.end_of id set.ends))
 
+-- its node and its partners are calls
+abbrev pub AreNamed : SetState → Type 0
+AreNamed set = IsCall set.own × Every (λ h. IsCall h.at) set.ends
+
 -- the numbers go up, what has ended or is away stays so, and of each number that `test` admits no end is closing where none was
 pub record Keeps (admits : ℕ → Type 0) (old new : SetState) : Type 0 where
   pub number : old.number ≤ new.number
@@ -211,6 +217,7 @@ pub record Keeps (admits : ℕ → Type 0) (old new : SetState) : Type 0 where
   pub ended : (id : ℕ) → Once old.ends → id < old.number → is_ended id old ≡ true → is_ended id new ≡ true
   pub away : (id : ℕ) → Once old.ends → id < old.number → is_away id old ≡ true → is_away id new ≡ true
   pub messages : HaveMessages old.ends → HaveMessages new.ends
+  pub named : AreNamed old → AreNamed new
   pub unshut : (id : ℕ) → admits id → AreOpen id old.ends → AreOpen id new.ends
 
 abbrev pub Any : ℕ → Type 0
@@ -234,10 +241,10 @@ open_alive test (x ∷ xs) h g e = by x.gone (s.has_ended x.end.phase) (test x) 
         record { held = subst (λ (k : Holder). k.gone ≡ false) same p; ended = λ t. absurd (cc (t, subst (λ (k : Holder). s.has_ended k.end.phase ≡ false) same q)) }
 
 -- whatever it is of, it is left by each thing that an input may do
-module _ (P : SetState → Type 0) (set : SetState) (stays : P set)
+module _ (P : SetState → Type 0) (C : Callsign → Type 0) (set : SetState) (stays : P set)
     (L : State → State → Type 0) (same : (u : State) → L u u) (arrives : (u : State) (t : Transport) (now : ℕ) → L u (end.step u (end.Arrive t) now).end)
     (steps : (h : Holder) (first : List Told) (g : Effect) → In h set.ends → Alive h g → L h.end g.end → P (s.goes_to set h first g).set)
-    (makes : (at : Callsign) (asked : Option Pair) (request : Option (List ℕ)) (g : Effect) → g.end.closing ≡ false → g.end.receiving.received ≡ [] → P (s.made set at asked request g).set) where
+    (makes : (at : Callsign) (asked : Option Pair) (request : Option (List ℕ)) (g : Effect) → C at → g.end.closing ≡ false → g.end.receiving.received ≡ [] → P (s.made set at asked request g).set) where
   either : (x y : SetDone) (b : Bool) → P x.set → P y.set → P (if b then x else y).set
   either x y true p q = p
   either x y false p q = q
@@ -251,44 +258,44 @@ module _ (P : SetState → Type 0) (set : SetState) (stays : P set)
   at_end : (origin : Callsign) (d : List ℕ) (to : Pair) (t : Transport) (now : ℕ) → P (s.arrives_at set origin d to t now).set
   at_end origin d to t now = at_by d t now (s.first_open (s.named_by origin to) set.ends) (λ h e. open_in (s.named_by origin to) set.ends h e) (λ h g e. open_alive (s.named_by origin to) set.ends h g e)
 
-  anew : (origin : Callsign) (d : List ℕ) (pair : Pair) (window now : ℕ) → P (s.requested_anew set origin d pair window now).set
-  anew origin d pair window now =
+  anew : (origin : Callsign) (d : List ℕ) (pair : Pair) (window now : ℕ) → C origin → P (s.requested_anew set origin d pair window now).set
+  anew origin d pair window now c =
       either (record { set = set; told = s.Sent 0 None (s.datagram_to set origin (Refuse pair)) ∷ [] }) (s.responds set origin d pair window now) (s.is_full set) stays
-      (makes origin (Some pair) (Some d) (responding (s.new_pair set) pair window set.config (min now COUNT_MAX)) refl refl)
+      (makes origin (Some pair) (Some d) (responding (s.new_pair set) pair window set.config (min now COUNT_MAX)) c refl refl)
 
-  requested_by : (origin : Callsign) (d : List ℕ) (pair : Pair) (window now : ℕ) (o : Option Holder) → ((h : Holder) → o ≡ Some h → In h set.ends) → ((h : Holder) (g : Effect) → o ≡ Some h → Alive h g)
+  requested_by : (origin : Callsign) (d : List ℕ) (pair : Pair) (window now : ℕ) (o : Option Holder) → ((h : Holder) → o ≡ Some h → In h set.ends) → ((h : Holder) (g : Effect) → o ≡ Some h → Alive h g) → C origin
       → P (elim o as (λ x. SetDone) [ Some h ↦ s.goes_to set h [] (s.accept_again h.end) | None ↦ s.requested_anew set origin d pair window now ]).set
-  requested_by origin d pair window now None i a = anew origin d pair window now
-  requested_by origin d pair window now (Some h) i a = steps h [] (s.accept_again h.end) (i h refl) (a h (s.accept_again h.end) refl) (same h.end)
+  requested_by origin d pair window now None i a c = anew origin d pair window now c
+  requested_by origin d pair window now (Some h) i a c = steps h [] (s.accept_again h.end) (i h refl) (a h (s.accept_again h.end) refl) (same h.end)
 
-  received : (origin : Callsign) (d : List ℕ) (t : Transport) (now : ℕ) → P (s.received set origin d t now).set
-  received origin d (Request pair window user node) now =
+  received : (origin : Callsign) (d : List ℕ) (t : Transport) (now : ℕ) → C origin → P (s.received set origin d t now).set
+  received origin d (Request pair window user node) now c =
       requested_by origin d pair window now (s.first_open (s.opened_by origin pair) set.ends) (λ h e. open_in (s.opened_by origin pair) set.ends h e)
-      (λ h g e. open_alive (s.opened_by origin pair) set.ends h g e)
-  received origin d (Accept to own window) now = at_end origin d to (Accept to own window) now
-  received origin d (Refuse to) now = at_end origin d to (Refuse to) now
-  received origin d (Disconnect to) now = at_end origin d to (Disconnect to) now
-  received origin d (Disconnected to) now = at_end origin d to (Disconnected to) now
-  received origin d (Info to tx rx flags text) now = at_end origin d to (Info to tx rx flags text) now
-  received origin d (InfoAck to rx flags) now = at_end origin d to (InfoAck to rx flags) now
+      (λ h g e. open_alive (s.opened_by origin pair) set.ends h g e) c
+  received origin d (Accept to own window) now c = at_end origin d to (Accept to own window) now
+  received origin d (Refuse to) now c = at_end origin d to (Refuse to) now
+  received origin d (Disconnect to) now c = at_end origin d to (Disconnect to) now
+  received origin d (Disconnected to) now c = at_end origin d to (Disconnected to) now
+  received origin d (Info to tx rx flags text) now c = at_end origin d to (Info to tx rx flags text) now
+  received origin d (InfoAck to rx flags) now c = at_end origin d to (InfoAck to rx flags) now
 
-  read : (origin : Callsign) (d : List ℕ) (r : Result Transport TransportRefusal) (now : ℕ) → P (s.read_as set origin d r now).set
-  read origin d (Err e) now = stays
-  read origin d (Ok t) now = received origin d t now
+  read : (origin : Callsign) (d : List ℕ) (r : Result Transport TransportRefusal) (now : ℕ) → C origin → P (s.read_as set origin d r now).set
+  read origin d (Err e) now c = stays
+  read origin d (Ok t) now c = received origin d t now c
 
-  handed_up : (d : List ℕ) (r : Result DatagramHead DatagramRefusal) (now : ℕ) → P (s.handed_up set d r now).set
-  handed_up d (Err e) now = stays
-  handed_up d (Ok head) now =
+  handed_up : (d : List ℕ) (r : Result DatagramHead DatagramRefusal) (now : ℕ) → ((head : DatagramHead) → r ≡ Ok head → C head.origin) → P (s.handed_up set d r now).set
+  handed_up d (Err e) now c = stays
+  handed_up d (Ok head) now c =
       either (s.untold set) (s.read_as set head.origin d (transport_at (drop HEAD_SIZE d)) now) (same_call head.origin set.own || not (same_call head.dest set.own)) stays
-      (read head.origin d (transport_at (drop HEAD_SIZE d)) now)
+      (read head.origin d (transport_at (drop HEAD_SIZE d)) now (c head refl))
 
-  pub comes : (d : List ℕ) (now : ℕ) → P (s.set_step set (Comes d now)).set
-  comes d now = handed_up d (head_at d) now
+  pub comes : (d : List ℕ) (now : ℕ) → ((head : DatagramHead) → head_at d ≡ Ok head → C head.origin) → P (s.set_step set (Comes d now)).set
+  comes d now c = handed_up d (head_at d) now c
 
-  pub connects : (dest : Callsign) (now : ℕ) → P (s.set_step set (Connect dest now)).set
-  connects dest now =
+  pub connects : (dest : Callsign) (now : ℕ) → C dest → P (s.set_step set (Connect dest now)).set
+  connects dest now c =
       either (s.untold set) (s.requests set dest now) (same_call dest set.own || s.is_full set) stays
-      (makes dest None None (requesting (s.new_pair set) set.user set.own set.config (min now COUNT_MAX)) refl refl)
+      (makes dest None None (requesting (s.new_pair set) set.user set.own set.config (min now COUNT_MAX)) c refl refl)
 
   called_by : (h : Holder) (call : Call) (now : ℕ) → In h set.ends → L h.end (end.step h.end (s.input_of call) now).end → P (s.called set (Some h) call now).set
   called_by h call now i l = by h.gone refl
@@ -321,7 +328,7 @@ abbrev LeavesOne : State → State → Type 0
 LeavesOne s u = Leaves AreMessages s u
 
 kept : (set : SetState) → Keeps Any set set
-kept set = record { number = omega arith; below = λ p. p; once = λ b o. o; ended = λ id o low e. e; away = λ id o low e. e; messages = λ p. p; unshut = λ id a p. p }
+kept set = record { number = omega arith; below = λ p. p; once = λ b o. o; ended = λ id o low e. e; away = λ id o low e. e; messages = λ p. p; named = λ p. p; unshut = λ id a p. p }
 
 -- what has ended stays so where one end goes on
 over_held : (o : Option Holder) (h : Holder) → o ≡ Some h → h.gone ≡ false → ended_by (facts_at o) ≡ true → s.has_ended h.end.phase ≡ true
@@ -374,11 +381,12 @@ kept_at set h first g i v l =
       away = λ id o low e. away_at set h first g id i v o e;
       below = λ p. put_in (λ x. x.id < set.number) k set.ends (every_in (λ x. x.id < set.number) h set.ends p i) p;
       messages = λ p. put_in (λ x. Messages x.end.receiving.received) k set.ends (l.received (every_in (λ x. Messages x.end.receiving.received) h set.ends p i)) p;
+      named = λ p. (p.0, put_in (λ x. IsCall x.at) k set.ends (every_in (λ x. IsCall x.at) h set.ends p.1 i) p.1);
       unshut = λ id a p. put_in (λ x. x.id ≡ id → x.end.closing ≡ false) k set.ends (λ e. l.closing ∙ every_in (λ x. x.id ≡ id → x.end.closing ≡ false) h set.ends p i e) p;
     }
 
-kept_made : (set : SetState) (at : Callsign) (asked : Option Pair) (request : Option (List ℕ)) (g : Effect) → g.end.closing ≡ false → g.end.receiving.received ≡ [] → Keeps Any set (s.made set at asked request g).set
-kept_made set at asked request g shut none =
+kept_made : (set : SetState) (at : Callsign) (asked : Option Pair) (request : Option (List ℕ)) (g : Effect) → IsCall at → g.end.closing ≡ false → g.end.receiving.received ≡ [] → Keeps Any set (s.made set at asked request g).set
+kept_made set at asked request g call shut none =
     let k : Holder = s.holder_of set at asked g in
     record {
       number = omega arith;
@@ -387,17 +395,18 @@ kept_made set at asked request g shut none =
       away = λ id o low e. ap (λ (x : Option Holder). is_none (facts_at x)) (end_before id k set.ends (differ set.number id low)) ∙ e;
       below = λ p. push_in (λ x. x.id < set.number + 1) k set.ends (omega arith) (weaker (λ x. x.id < set.number) (λ x. x.id < set.number + 1) (λ x low. omega (arith, low)) set.ends p);
       messages = λ p. push_in (λ x. Messages x.end.receiving.received) k set.ends (rw none tt) p;
+      named = λ p. (p.0, push_in (λ x. IsCall x.at) k set.ends call p.1);
       unshut = λ id a p. push_in (λ x. x.id ≡ id → x.end.closing ≡ false) k set.ends (λ e. shut) p;
     }
 
 pub comes_keeps : (set : SetState) (d : List ℕ) (now : ℕ) → Keeps Any set (s.set_step set (Comes d now)).set
-comes_keeps set d now = comes (Keeps Any set) set (kept set) LeavesOne (grown.itself AreMessages one_more) (grown.arrives AreMessages one_more) (kept_at set) (kept_made set) d now
+comes_keeps set d now = comes (Keeps Any set) IsCall set (kept set) LeavesOne (grown.itself AreMessages one_more) (grown.arrives AreMessages one_more) (kept_at set) (kept_made set) d now (origin_read d)
 
-pub connects_keeps : (set : SetState) (dest : Callsign) (now : ℕ) → Keeps Any set (s.set_step set (Connect dest now)).set
-connects_keeps set dest now = connects (Keeps Any set) set (kept set) LeavesOne (grown.itself AreMessages one_more) (grown.arrives AreMessages one_more) (kept_at set) (kept_made set) dest now
+pub connects_keeps : (set : SetState) (dest : Callsign) (now : ℕ) → IsCall dest → Keeps Any set (s.set_step set (Connect dest now)).set
+connects_keeps set dest now c = connects (Keeps Any set) IsCall set (kept set) LeavesOne (grown.itself AreMessages one_more) (grown.arrives AreMessages one_more) (kept_at set) (kept_made set) dest now c
 
 calls_keep : (set : SetState) (id : ℕ) (call : Call) (now : ℕ) → ((h : Holder) → LeavesOne h.end (end.step h.end (s.input_of call) now).end) → Keeps Any set (s.set_step set (Calls id call now)).set
-calls_keep set id call now l = calls (Keeps Any set) set (kept set) LeavesOne (grown.itself AreMessages one_more) (grown.arrives AreMessages one_more) (kept_at set) (kept_made set) id call now l
+calls_keep set id call now l = calls (Keeps Any set) IsCall set (kept set) LeavesOne (grown.itself AreMessages one_more) (grown.arrives AreMessages one_more) (kept_at set) (kept_made set) id call now l
 
 pub writes_keep : (set : SetState) (text : List ℕ) (now id : ℕ) → Keeps Any set (s.set_step set (Calls id (Writes text) now)).set
 writes_keep set text now id = calls_keep set id (Writes text) now (λ h. grown.writes AreMessages one_more h.end text now)
@@ -413,7 +422,7 @@ abbrev pub Differs : ℕ → ℕ → Type 0
 Differs id k = nat_eq id k ≡ false
 
 shut_by : (set : SetState) (now id : ℕ) (o : Option Holder) → s.end_of id set.ends ≡ o → Keeps (Differs id) set (s.called set o Closes now).set
-shut_by set now id None e = record { number = omega arith; below = λ p. p; once = λ b o. o; ended = λ k o low f. f; away = λ k o low f. f; messages = λ p. p; unshut = λ k a p. p }
+shut_by set now id None e = record { number = omega arith; below = λ p. p; once = λ b o. o; ended = λ k o low f. f; away = λ k o low f. f; messages = λ p. p; named = λ p. p; unshut = λ k a p. p }
 shut_by set now id (Some h) e = by h.gone refl
   where
     g : Effect
@@ -423,7 +432,7 @@ shut_by set now id (Some h) e = by h.gone refl
     i = end_in id set.ends h e
 
     by : (b : Bool) → h.gone ≡ b → Keeps (Differs id) set (if b then s.untold set else s.goes_to set h [] g).set
-    by true held = record { number = omega arith; below = λ p. p; once = λ b o. o; ended = λ k o low f. f; away = λ k o low f. f; messages = λ p. p; unshut = λ k a p. p }
+    by true held = record { number = omega arith; below = λ p. p; once = λ b o. o; ended = λ k o low f. f; away = λ k o low f. f; messages = λ p. p; named = λ p. p; unshut = λ k a p. p }
     by false held =
         let k : Holder = s.settled h g in
         let mine = number_of id set.ends h e in
@@ -435,6 +444,7 @@ shut_by set now id (Some h) e = by h.gone refl
           away = λ other o low f. away_at set h [] g other i (record { held = held; ended = one.ended_stays h.end end.Close now }) o f;
           below = λ p. put_in (λ x. x.id < set.number) k set.ends (every_in (λ x. x.id < set.number) h set.ends p i) p;
           messages = λ p. put_in (λ x. Messages x.end.receiving.received) k set.ends (rw half (every_in (λ x. Messages x.end.receiving.received) h set.ends p i)) p;
+          named = λ p. (p.0, put_in (λ x. IsCall x.at) k set.ends (every_in (λ x. IsCall x.at) h set.ends p.1 i) p.1);
           unshut = λ other a p. put_in (λ x. x.id ≡ other → x.end.closing ≡ false) k set.ends (λ f. let same : id ≡ other = sym mine ∙ f in absurd (grind (arith, nat_tests, a, same))) p;
         }
 

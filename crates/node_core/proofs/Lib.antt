@@ -55,7 +55,8 @@ pub mod Soundness
 pub mod Given
 pub mod Others
 pub mod Wrote
-pub mod Crowding
+pub mod Bytes
+pub mod Rooms
 pub mod Short
 pub mod Fine
 pub mod Trying

@@ -19,7 +19,7 @@ use Rattle.node_core.specs.Serving.{is_at_end, is_circuit}
 use Rattle.node_core.specs.Sessions as s
 use Rattle.node_core.specs.Sessions.{Session, circuit_of}
 use Rattle.node_core.specs.Users.{changed}
-use Rattle.node_core.proofs.Holders.{AreOpen, Below, HaveMessages, Keeps, Once, none_closing}
+use Rattle.node_core.proofs.Holders.{AreNamed, AreOpen, Below, HaveMessages, Keeps, Once, none_closing}
 
 -- ---- what the sessions own
 
@@ -56,6 +56,7 @@ pub record Owns (set : SetState) (untold : List Told) (ss : List Session) : Type
   pub below : Below set
   pub once : Once set.ends
   pub messages : HaveMessages set.ends
+  pub named : AreNamed set
   pub few : (id : ℕ) → total (owned_by id) ss + mades id untold ≤ 1
   pub fresh : (id : ℕ) → set.number ≤ id → total (owned_by id) ss + mades id untold ≡ 0
   pub unshut : (id : ℕ) → 0 < total (opens_by id) ss + mades id untold → AreOpen id set.ends
@@ -239,6 +240,7 @@ owns_less set ts us ss xs o owned opens = record {
   below = o.below;
   once = o.once;
   messages = o.messages;
+  named = o.named;
   few = λ id. omega (arith, o.few id, owned id);
   fresh = λ id over. omega (arith, o.fresh id over, owned id);
   unshut = λ id some. o.unshut id (omega (arith, some, opens id));
@@ -354,6 +356,7 @@ owns_input admits set d ts ss o k made known later =
       below = k.below o.below;
       once = k.once o.below o.once;
       messages = k.messages o.messages;
+      named = k.named o.named;
       few = λ id. few id (le id);
       fresh = λ id high.
           let a = o.fresh id (omega (arith, high, n.up)) in

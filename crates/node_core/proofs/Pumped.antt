@@ -139,11 +139,6 @@ module _ (L : Table → Type 0) (offer : (to : Callsign) (d : Datagram) (now : �
   all_links : (now : ℕ) (n : State) → L n.links → L (p.tell_all now n).links
   all_links now n x = kept (p.tell_turn now) p.pending (λ m. L m.links) (λ m y. links_by now m (nat_lt 0 (p.pending m)) y) n x
 
-  -- where nothing waits at the router
-  pub dry_links : (now : ℕ) (n : State) → p.at_router n ≡ 0 → L n.links → L (p.pump now n).links
-  unfolding p.pump
-  dry_links now n e x = rw e (all_links now n x)
-
   module _ (collects : (t : Table) → L t → L (collect t)) (tells : (t : Table) → L t → L (tell_lost t)) where
     asked_links : (now : ℕ) (n : State) (lost : List Callsign) (waiting : List Parcel) → L n.links → L (p.ask_for now lost waiting n).links
     asked_links now n (c ∷ cs) waiting x = tells n.links x

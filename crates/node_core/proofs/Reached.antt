@@ -26,6 +26,7 @@ use Rattle.digi_path.specs.Paths.{Action, For_me, Repeat, Not_yet, Heard}
 use Rattle.kiss_framing.specs.Stream as kiss
 use Rattle.ax_address.specs.CallReading.{ReadsCallTexts}
 use Rattle.link_table.specs.Laws.{CarriesWhatWasOffered}
+use Rattle.link_table.specs.Reaching.{IsCall}
 use Rattle.link_table.specs.Payloads.{OffersLeave, TakesLower}
 use Rattle.link_table.specs.declared.written.Written.{Written}
 use Rattle.nodes_broadcast.specs.declared.nodes.NodesRefusal.{NodesRefusal}
@@ -40,7 +41,7 @@ use Rattle.node_core.specs.Acts as acts
 use Rattle.node_core.specs.Acts.{Answered}
 use Rattle.node_core.specs.declared.sessions.session.Stage.{Stage}
 use Rattle.node_core.specs.declared.sessions.session.Stage.TheVariants.{AtPrompt, Trying, Failed, Connected}
-use Rattle.node_core.specs.Bridged.{Acts, BridgedAt, Bytes, EverySession, Fetches_entry, Fetches_frame, Input, IsBounded, IsBridged, IsClosedLast, IsEndsReader, IsEndsWriter, Paths, SessionsBounded, SessionsBridged, SessionsClosedLast, SessionsReadTheirEnds, SessionsWriteTheirEnds, Ticks, after, after_all}
+use Rattle.node_core.specs.Bridged.{Acts, BridgedAt, Bytes, EverySession, Fetches_entry, Fetches_frame, Input, IsBounded, IsBridged, IsClosedLast, IsEndsReader, IsEndsWriter, AsksForCall, Paths, SessionsBounded, SessionsBridged, SessionsClosedLast, SessionsReadTheirEnds, SessionsWriteTheirEnds, Ticks, after, after_all}
 use Rattle.node_core.specs.Broadcasts.{is_broadcast, round_frames}
 use Rattle.node_core.specs.Circuits as circuits
 use Rattle.node_core.specs.Configs.{new_node, new_station}
@@ -49,6 +50,7 @@ use Rattle.node_core.specs.Links as links
 use Rattle.node_core.specs.Pumping.{pump}
 use Rattle.node_core.specs.Receiving as receiving
 use Rattle.node_core.specs.Rounds as rounds
+use Rattle.node_core.specs.Runs.{IsUserAct}
 use Rattle.node_core.specs.Serving.{is_at_end, is_circuit, is_served, serve_sessions}
 use Rattle.node_core.specs.Sessions.{Session, circuit_of, leaves}
 use Rattle.node_core.specs.Settling as s
@@ -108,7 +110,7 @@ module _ (offers : OffersLeave) (takes : TakesLower) (less : TellsLess) (law : C
       still = (walks law).serves.pumps now a ((walks law).notices n short)
 
       by : (c : Bool) → Fine (if c then serve_sessions now b else s.drop_turn now b).after
-      by true = sessions_fine offers takes less law reads now b fine still (pumped_dry offers takes less now a).router
+      by true = let dry = pumped_dry offers takes less now a in sessions_fine offers takes less law reads now b fine still dry.router dry.pending
       by false = dropped now b fine
 
   settled : (now : ℕ) (n : State) → Ready n → Ready (s.after_input now n)
@@ -209,9 +211,9 @@ module _ (offers : OffersLeave) (takes : TakesLower) (less : TellsLess) (law : C
       answered _ _ (same_call dest n.settings.call) f
       (answered _ _ (nat_lt quality n.settings.rules.minq) f (answered (acts.done (with_items (item ∷ []) n)) _ (receiving.has_room (item ∷ []) n) f f))
 
-  connected : (now : ℕ) (dest : Callsign) (r : Result ℕ ConnectRefusal) (n : State) → Fine n → Fine (acts.connect_by r (sets.Connect dest now) n).node
-  connected now dest (Ok id) n f = acted (sets.Connect dest now) n (connects_keeps n.set.set dest now) (connects_wrote n.set.set dest now) (connected_ok n.set.set dest now).made f
-  connected now dest (Err why) n f = f
+  connected : (now : ℕ) (dest : Callsign) (r : Result ℕ ConnectRefusal) (n : State) → IsCall dest → Fine n → Fine (acts.connect_by r (sets.Connect dest now) n).node
+  connected now dest (Ok id) n call f = acted (sets.Connect dest now) n (connects_keeps n.set.set dest now call) (connects_wrote n.set.set dest now) (connected_ok n.set.set dest now).made f
+  connected now dest (Err why) n call f = f
 
   wrote : (now id : ℕ) (message : List ℕ) (r : Result (Unit {0}) SetRefusal) (n : State) → Every (NotIts id) n.sessions → Fine n → Fine (acts.write_by r (sets.Calls id (sets.Writes message) now) n).node
   wrote now id message (Ok _) n none f = writes_fine now id message n none f
@@ -294,15 +296,15 @@ module _ (offers : OffersLeave) (takes : TakesLower) (less : TellsLess) (law : C
   takes_act now id n f true e = f
   takes_act now id n f false e = taken_by now id n (is_some (facts id n)) (is_served id n.sessions) refl refl e f
 
-  act_fine : (now : ℕ) (act : UserAct) (n : State) → IsTold n → Fine n → Fine (acts.do_act now act n).node
-  act_fine now user.Round n t f = round_fine n f
-  act_fine now (user.LinkFail peer) n t f = f
-  act_fine now (user.Lock dest alias neighbour quality) n t f = locked dest (logs.Lock dest alias neighbour quality) quality n f
-  act_fine now (user.Connect dest) n t f = connected now dest (connect_answer (next_hop n) dest n.set.set) n f
-  act_fine now (user.Write id message) n t f =
+  act_fine : (now : ℕ) (act : UserAct) (n : State) → IsUserAct act → IsTold n → Fine n → Fine (acts.do_act now act n).node
+  act_fine now user.Round n call t f = round_fine n f
+  act_fine now (user.LinkFail peer) n call t f = f
+  act_fine now (user.Lock dest alias neighbour quality) n call t f = locked dest (logs.Lock dest alias neighbour quality) quality n f
+  act_fine now (user.Connect dest) n call t f = connected now dest (connect_answer (next_hop n) dest n.set.set) n call f
+  act_fine now (user.Write id message) n call t f =
       writes now id message n f (acts.is_kept id n) refl
-  act_fine now (user.Take id) n t f = takes_act now id n f (acts.is_kept id n) refl
-  act_fine now (user.Close id) n t f = closes now id n t f (acts.is_kept id n) refl
+  act_fine now (user.Take id) n call t f = takes_act now id n f (acts.is_kept id n) refl
+  act_fine now (user.Close id) n call t f = closes now id n t f (acts.is_kept id n) refl
 
   -- ---- every node
 
@@ -314,32 +316,33 @@ module _ (offers : OffersLeave) (takes : TakesLower) (less : TellsLess) (law : C
   fetched [] n r = record { ready = (r.ready.0, fetched_short law [] n r.ready.1); told = r.told }
   fetched (x ∷ fs) n r = record { ready = r.ready; told = r.told }
 
-  reaches : (i : Input) (n : NodeState) → Reached n.station → Reached (after i n).station
-  reaches (Bytes now bytes) n r =
+  reaches : (i : Input) (n : NodeState) → AsksForCall i → Reached n.station → Reached (after i n).station
+  reaches (Bytes now bytes) n call r =
       let items = new_items n.stream bytes in
       record { ready = items_ready (moment now) items n.station r.ready; told = items_told (nothing_left offers takes less) (moment now) items n.station r.told }
-  reaches (Ticks now) n r =
+  reaches (Ticks now) n call r =
       let m : State = rounds.tick (moment now) n.station in
       record { ready = settled (moment now) m (tick_fine (moment now) n.station r.ready.0, tick_on Goes (λ item. Unit {0}) (walks law) (moment now) n.station r.ready.1); told = told_after (nothing_left offers takes less) (moment now) m }
-  reaches (Acts now act) n r =
+  reaches (Acts now act) n call r =
       let m : State = (acts.do_act (moment now) act n.station).node in
-      record { ready = settled (moment now) m (act_fine (moment now) act n.station r.told r.ready.0, act_short law (moment now) act n.station r.ready.1); told = told_after (nothing_left offers takes less) (moment now) m }
-  reaches (Paths peer path) n r = record { ready = (r.ready.0, path_short law peer path n.station r.ready.1); told = r.told }
-  reaches Fetches_frame n r = fetched n.station.own n.station r
-  reaches Fetches_entry n r = record { ready = r.ready; told = r.told }
+      record { ready = settled (moment now) m (act_fine (moment now) act n.station call r.told r.ready.0, act_short law (moment now) act n.station r.ready.1); told = told_after (nothing_left offers takes less) (moment now) m }
+  reaches (Paths peer path) n call r = record { ready = (r.ready.0, path_short law peer path n.station r.ready.1); told = r.told }
+  reaches Fetches_frame n call r = fetched n.station.own n.station r
+  reaches Fetches_entry n call r = record { ready = r.ready; told = r.told }
 
-  reached : (inputs : List Input) (n : NodeState) → Reached n.station → Reached (after_all inputs n).station
-  reached [] n r = r
-  reached (i ∷ inputs) n r = reached inputs (after i n) (reaches i n r)
+  reached : (inputs : List Input) (n : NodeState) → AllByRecursion AsksForCall inputs → Reached n.station → Reached (after_all inputs n).station
+  reached [] n calls r = r
+  reached (i ∷ inputs) n calls r = reached inputs (after i n) calls.1 (reaches i n calls.0 r)
 
-  starts : (c : NodeConfig) → Reached (new_station c)
-  starts c = record {
+  starts : (c : NodeConfig) → IsCall c.call → Reached (new_station c)
+  starts c call = record {
     ready = (
       (
         record {
           below = tt;
           once = tt;
           messages = tt;
+          named = (call, tt);
           few = λ id. omega arith;
           fresh = λ id over. omega arith;
           unshut = λ id some. tt;
@@ -356,9 +359,9 @@ module _ (offers : OffersLeave) (takes : TakesLower) (less : TellsLess) (law : C
   all_of P set f (x ∷ ss) e g w = (f x e.0 g.0 w.0, all_of P set f ss e.1 g.1 w.1)
 
   every : (P : State → Session → Type 0) → ((n : State) (x : Session) → Sound x → Given n.set.set x → WritesAll n.set.set x → P n x) → EverySession P
-  every P f c inputs =
+  every P f c inputs call calls =
       let n : State = (after_all inputs (new_node c)).station in
-      let fine = (reached inputs (new_node c) (starts c)).ready.0 in
+      let fine = (reached inputs (new_node c) calls (starts c call)).ready.0 in
       all_of (P n) n.set.set (f n) n.sessions fine.1.0 fine.1.1.0 fine.1.1.1
 
   is_bridged : (n : State) (x : Session) → Sound x → Given n.set.set x → WritesAll n.set.set x → IsBridged n x
@@ -368,7 +371,7 @@ module _ (offers : OffersLeave) (takes : TakesLower) (less : TellsLess) (law : C
       by AtPrompt w f = tt
       by (Trying c) w f = tt
       by (Failed c) w f = tt
-      by (Connected c) w f = record { writes = w; gives = λ a b d. f a b (sym (deaf_is x n) ∙ d) }
+      by (Connected c) w f = record { writes = w; gives = λ a d. f a (sym (deaf_is x n) ∙ d) }
 
   pub bridged : SessionsBridged
   bridged = every IsBridged is_bridged

@@ -65,7 +65,7 @@ pub record Serves (P : State → State → Type 0) : Type 0 where
 -- ---- lines
 
 -- a circuit is asked for with a callsign
-abbrev IsNamed : Action → Type 0
+abbrev pub IsNamed : Action → Type 0
 IsNamed (action.Connect dest) = IsCallsign dest.letters dest.ssid
 IsNamed _ = Unit {0}
 
@@ -135,6 +135,10 @@ module _ (reads : ReadsCallTexts) where
 
   action_named : (line : List ℕ) (n : State) → IsNamed (asking.action_for line n)
   action_named line n = named (bridging.prompt_of n) (view (commands.wanted line) n) (commands.command_at line) (asked_at line)
+
+  pub at_named : (o : Option Session) (n : State) → IsNamed (asking.action_at o n)
+  at_named None n = tt
+  at_named (Some s) n = action_named (asking.first_line s.rest) n
 
 module _ (P : State → State → Type 0) (w : Serves P) (reads : ReadsCallTexts) where
   -- ---- calls of the circuits
@@ -264,12 +268,8 @@ module _ (P : State → State → Type 0) (w : Serves P) (reads : ReadsCallTexts
   done_on now nth (action.Connect dest) n i = tried_on now nth dest (connect_answer (next_hop n) dest n.set.set) n i
   done_on now nth action.Nothing n i = w.still n
 
-  at_named : (o : Option Session) (n : State) → IsNamed (asking.action_at o n)
-  at_named None n = tt
-  at_named (Some s) n = action_named reads (asking.first_line s.rest) n
-
   line_on : (now nth : ℕ) (n : State) → P n (asking.do_line now nth n)
-  line_on now nth n = behind nth asking.cut_line n _ (done_on now nth (asking.action_at (session_at nth n) n) _ (at_named (session_at nth n) n))
+  line_on now nth n = behind nth asking.cut_line n _ (done_on now nth (asking.action_at (session_at nth n) n) _ (at_named reads (session_at nth n) n))
 
   if_text_on : (t : Turn State) (step : State → State) (n : State) → TurnOn n t → ((m : State) → P m (step m)) → TurnOn n (asking.if_text t step)
   if_text_on t step n c steps = either_turn t.did _ _ n (w.follows n t.after (step t.after) c (steps t.after)) c

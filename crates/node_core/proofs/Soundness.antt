@@ -18,7 +18,7 @@ use Rattle.node_core.specs.Bridging as bridging
 use Rattle.node_core.specs.Sessions as s
 use Rattle.node_core.specs.Sessions.{Bridge, Session, circuit_of, opened, waits}
 use Rattle.node_core.specs.Users as users
-use Rattle.node_core.specs.Users.{Outcome, Taken, Exhausts, Crowds, Unheard, Refused, changed}
+use Rattle.node_core.specs.Users.{Outcome, Taken, Exhausts, Unheard, Refused, changed}
 
 abbrev pub WritesAt : Stage → Session → Type 0
 WritesAt AtPrompt x = Unit {0}
@@ -311,7 +311,6 @@ sound_gave outcome message x p = record { writes = by x.stage p.writes; rest = p
     goes : (o : Outcome) → WritesTaken x.bridge x.rest → WritesTaken (bridging.log_gave o message (bridging.log_got message x)).bridge x.rest
     goes Taken w = w
     goes Exhausts w = λ e. absurd (cc e)
-    goes Crowds w = w
     goes Unheard w = w
     goes Refused w = w
 

@@ -12,6 +12,7 @@ use Rattle.circuit_set.specs.Sets as sets
 use Rattle.circuit_set.specs.Sets.{SetDone, SetState, Told, set_step}
 use Rattle.circuit_set.specs.declared.event.ConnectRefusal.{ConnectRefusal}
 use Rattle.circuit_set.specs.declared.event.ConnectRefusal.TheVariants as connecting
+use Rattle.link_table.specs.Reaching.{IsCall}
 use Rattle.node_prompt.specs.Replies as texts
 use Rattle.node_core.specs.declared.sessions.session.Reply.{Reply}
 use Rattle.node_core.specs.declared.sessions.session.Stage.TheVariants.{AtPrompt}
@@ -98,12 +99,13 @@ either_of : (a b : ℕ) → 0 < a + b → (0 < a) ⊎ (0 < b)
 either_of zero b some = inr (omega (arith, some))
 either_of (suc a) b some = inl (omega arith)
 
-tried_owns : (dest : Callsign) (now id nth : ℕ) (n : State) (x : Session) → Fine n → session_at nth n ≡ Some x → Idle x → Accepted dest now id n.set.set
+tried_owns : (dest : Callsign) (now id nth : ℕ) (n : State) (x : Session) → IsCall dest → Fine n → session_at nth n ≡ Some x → Idle x → Accepted dest now id n.set.set
     → (let d : SetDone = set_step n.set.set (sets.Connect dest now) in Owns d.set (n.set.untold ++ d.told) (at_session nth (asking.tries id dest) n).sessions)
-tried_owns dest now id nth n x f e i ok = record {
+tried_owns dest now id nth n x call f e i ok = record {
   below = keeps.below f.0.below;
   once = keeps.once f.0.below f.0.once;
   messages = keeps.messages f.0.messages;
+  named = keeps.named f.0.named;
   few = λ k. by_number k (number_test id k);
   fresh = λ k high.
       let before = f.0.fresh k (omega (arith, high, made.number)) in
@@ -122,7 +124,7 @@ tried_owns dest now id nth n x f e i ok = record {
     made = made_one dest now set ok.is
 
     keeps : Keeps Any set d.set
-    keeps = connects_keeps set dest now
+    keeps = connects_keeps set dest now call
 
     ss : List Session
     ss = (at_session nth (asking.tries id dest) n).sessions
@@ -157,14 +159,14 @@ tried_sound id dest x i s =
     let none = ap (λ (rs : List Reply). length rs) i.replies in
     record { writes = tt; rest = s.rest; replies = omega (arith, none) }
 
-asked_fine : (dest : Callsign) (now id nth : ℕ) (n : State) (x : Session) → Fine n → session_at nth n ≡ Some x → Idle x → Accepted dest now id n.set.set
+asked_fine : (dest : Callsign) (now id nth : ℕ) (n : State) (x : Session) → IsCall dest → Fine n → session_at nth n ≡ Some x → Idle x → Accepted dest now id n.set.set
     → Fine (at_set (circuits.acts (sets.Connect dest now)) (at_session nth (asking.tries id dest) n))
 unfolding circuits.acts
-asked_fine dest now id nth n x f e i ok =
+asked_fine dest now id nth n x call f e i ok =
     let set : SetState = (set_step n.set.set (sets.Connect dest now)).set in
-    let on = goes_on Any n.set.set set n.set.untold n.sessions (connects_keeps n.set.set dest now) (connects_wrote n.set.set dest now) f in
+    let on = goes_on Any n.set.set set n.set.untold n.sessions (connects_keeps n.set.set dest now call) (connects_wrote n.set.set dest now) f in
     let new : WroteAt set id [] [] = subst (λ k. WroteAt set k [] []) (sym ok.number) (subst (λ (d : SetDone). WroteAt d.set n.set.set.number [] []) (sym ok.is) (asked_wrote n.set.set dest now f.0.below)) in (
-      tried_owns dest now id nth n x f e i ok,
+      tried_owns dest now id nth n x call f e i ok,
       (
         changed_every Sound (asking.tries id dest) n.sessions nth (slice_get n.sessions nth)
             (λ z k. let same : Some x ≡ Some z = sym e ∙ k in let is : x ≡ z = cc same in tried_sound id dest z (subst Idle is i) (every_at Sound n.sessions nth z on.0 k)) on.0,
@@ -175,11 +177,11 @@ asked_fine dest now id nth n x f e i ok =
       ),
     )
 
-pub tried : (now nth : ℕ) (dest : Callsign) (r : Result ℕ ConnectRefusal) (n : State) (x : Session) → connect_answer (next_hop n) dest n.set.set ≡ r → Fine n → session_at nth n ≡ Some x → Idle x
+pub tried : (now nth : ℕ) (dest : Callsign) (r : Result ℕ ConnectRefusal) (n : State) (x : Session) → IsCall dest → connect_answer (next_hop n) dest n.set.set ≡ r → Fine n → session_at nth n ≡ Some x → Idle x
     → Fine (asking.tried now nth dest r n)
-tried now nth dest (Ok id) n x q f e i =
+tried now nth dest (Ok id) n x call q f e i =
     let a : State = at_session nth (asking.tries id dest) n in
     let b : State = users.acts now (sets.Connect dest now) a in
-    let fine = asked_fine dest now id nth n x f e i (accepted (next_hop n) dest now id n.set.set q) in
+    let fine = asked_fine dest now id nth n x call f e i (accepted (next_hop n) dest now id n.set.set q) in
     said now nth (texts.trying (bridging.prompt_of n) dest).items b (pumped now (at_set (circuits.acts (sets.Connect dest now)) a) fine)
-tried now nth dest (Err why) n x q f e i = said now nth (texts.refused (bridging.prompt_of n) dest (asking.trouble_of why)).items n f
+tried now nth dest (Err why) n x call q f e i = said now nth (texts.refused (bridging.prompt_of n) dest (asking.trouble_of why)).items n f

@@ -1,10 +1,7 @@
 -- What a step of an end leaves: only a close makes it closing, one that has ended stays so, and what was written to it stays, but for a write.
-use Rattle.std.proofs.Common.{◌≡◌, ◌≤◌, ◌∙◌, ℕ, zero, suc, refl, sym, ap, subst, arith, length, List, [], ◌∷◌, ◌++◌}
-use Rattle.std.proofs.lemmas.Bool.Decides.{nat_tests}
+use Rattle.std.proofs.Common.{◌≡◌, ◌≤◌, ◌∙◌, ℕ, suc, refl, ap, length, List, [], ◌∷◌, ◌++◌}
 use Rattle.std.specs.List.{AllByRecursion}
 use Rattle.std.specs.Prelude.{Bool, true, false, if◌then◌else◌, not, ◌&&◌, ◌||◌, ◌+◌, ◌-◌, ◌^◌, min, is_ok, nat_eq, nat_le, nat_lt, Option, Some, None, Result, Ok, Err}
-use Rattle.circuit_reassembly.specs.Gathering.{Answer, More, Whole, Too_long, gather_step}
-use Rattle.circuit_reassembly.specs.declared.TheConstants.{LONGEST}
 use Rattle.radio_base.specs.Modulus.{place_of}
 use Rattle.circuit_l4.specs.EndMoves as m
 use Rattle.circuit_l4.specs.EndState.{Effect, State, begin, is_up}

@@ -17,7 +17,6 @@ use Rattle.circuit_set.specs.Sets as s
 use Rattle.circuit_set.specs.Sets.{Call, Calls, Comes, Connect, Holder, SetState, Told, Closes, Takes, Ticks, Writes}
 use Rattle.circuit_set.specs.Standing as answers
 use Rattle.circuit_set.specs.declared.event.SetRefusal.TheVariants as set_refusal
-use Rattle.circuit_set.specs.Pumps.{Of}
 use Rattle.circuit_l4.specs.EndOpening.{requesting}
 use Rattle.circuit_l4.specs.declared.plain.WriteRefusal.{WriteRefusal}
 use Rattle.radio_base.specs.declared.modulus.TheConstants.{COUNT_MAX}
@@ -31,7 +30,7 @@ use Rattle.node_core.specs.Serving.{is_circuit}
 use Rattle.node_core.specs.Sessions as sessions
 use Rattle.node_core.specs.Sessions.{Bridge, Session, circuit_of}
 use Rattle.node_core.specs.Users as users
-use Rattle.node_core.specs.Users.{Outcome, Taken, Exhausts, Crowds, Unheard, Refused}
+use Rattle.node_core.specs.Users.{Outcome, Taken, Exhausts, Unheard, Refused}
 use Rattle.node_core.proofs.Holders as holders
 use Rattle.node_core.proofs.Holders.{Alive, Below, In, Once, number_of, calls, comes, connects, end_here, is_end, other_end, others_stay}
 use Rattle.node_core.proofs.Growing as grown
@@ -101,20 +100,20 @@ some_before id k h (x ∷ xs) e = by (nat_eq x.id id) e (some_before id k h xs)
     by true f rest = f
     by false f rest = rest f
 
-wrote_made : (set : SetState) (at : Callsign) (asked : Option Pair) (request : Option (List ℕ)) (g : Effect) → g.end.closing ≡ false → g.end.receiving.received ≡ [] → KeepsWrote set (s.made set at asked request g).set
-wrote_made set at asked request g shut none id ms gs o w = record { holder = w.holder; is = some_before id (s.holder_of set at asked g) w.holder set.ends w.is; wrote = w.wrote; taken = w.taken }
+wrote_made : (set : SetState) (at : Callsign) (asked : Option Pair) (request : Option (List ℕ)) (g : Effect) → Unit {0} → g.end.closing ≡ false → g.end.receiving.received ≡ [] → KeepsWrote set (s.made set at asked request g).set
+wrote_made set at asked request g is shut none id ms gs o w = record { holder = w.holder; is = some_before id (s.holder_of set at asked g) w.holder set.ends w.is; wrote = w.wrote; taken = w.taken }
 
 wrote_stays : (set : SetState) → KeepsWrote set set
 wrote_stays set id ms gs o w = w
 
 pub comes_wrote : (set : SetState) (d : List ℕ) (now : ℕ) → KeepsWrote set (s.set_step set (Comes d now)).set
-comes_wrote set d now = comes (KeepsWrote set) set (wrote_stays set) SameWrote same_itself arrives_same (wrote_at set) (wrote_made set) d now
+comes_wrote set d now = comes (KeepsWrote set) (λ c. Unit {0}) set (wrote_stays set) SameWrote same_itself arrives_same (wrote_at set) (wrote_made set) d now (λ head e. tt)
 
 pub connects_wrote : (set : SetState) (dest : Callsign) (now : ℕ) → KeepsWrote set (s.set_step set (Connect dest now)).set
-connects_wrote set dest now = connects (KeepsWrote set) set (wrote_stays set) SameWrote same_itself arrives_same (wrote_at set) (wrote_made set) dest now
+connects_wrote set dest now = connects (KeepsWrote set) (λ c. Unit {0}) set (wrote_stays set) SameWrote same_itself arrives_same (wrote_at set) (wrote_made set) dest now tt
 
 calls_wrote : (set : SetState) (id : ℕ) (call : Call) (now : ℕ) → ((h : Holder) → SameWrote h.end (end.step h.end (s.input_of call) now).end) → KeepsWrote set (s.set_step set (Calls id call now)).set
-calls_wrote set id call now l = calls (KeepsWrote set) set (wrote_stays set) SameWrote same_itself arrives_same (wrote_at set) (wrote_made set) id call now l
+calls_wrote set id call now l = calls (KeepsWrote set) (λ c. Unit {0}) set (wrote_stays set) SameWrote same_itself arrives_same (wrote_at set) (wrote_made set) id call now l
 
 pub ticks_wrote : (set : SetState) (now id : ℕ) → KeepsWrote set (s.set_step set (Calls id Ticks now)).set
 ticks_wrote set now id =
@@ -178,14 +177,12 @@ written_same set x y e f g w = record { all = subst (λ (stage : Stage). Written
 gave_wrote : (o : Outcome) (message : List ℕ) (b : Bridge) → (bridging.gave o message b).wrote ≡ b.wrote
 gave_wrote Taken message b = refl
 gave_wrote Exhausts message b = refl
-gave_wrote Crowds message b = refl
 gave_wrote Unheard message b = refl
 gave_wrote Refused message b = refl
 
 gave_got : (o : Outcome) (message : List ℕ) (b : Bridge) → (bridging.gave o message b).got ≡ b.got
 gave_got Taken message b = refl
 gave_got Exhausts message b = refl
-gave_got Crowds message b = refl
 gave_got Unheard message b = refl
 gave_got Refused message b = refl
 

@@ -7,12 +7,14 @@ use Rattle.arrayvec.specs.ArrayVec.{ArrayVec}
 use Rattle.circuit_l4.specs.Receiving.{inbox}
 use Rattle.circuit_set.specs.Sets.{Holder}
 use Rattle.link_table.specs.Calls.{with_path}
+use Rattle.link_table.specs.Reaching.{IsCall}
 use Rattle.node_core.specs.declared.config.NodeConfig.{NodeConfig}
 use Rattle.node_core.specs.declared.sessions.session.Circuit.{Circuit}
 use Rattle.node_core.specs.declared.sessions.session.Stage.{Stage}
 use Rattle.node_core.specs.declared.sessions.session.Stage.TheVariants.{AtPrompt, Trying, Failed, Connected}
 use Rattle.node_core.specs.Configs.{new_node}
 use Rattle.node_core.specs.Inputs.{after_act, after_bytes, after_tick}
+use Rattle.node_core.specs.Runs.{IsUserAct}
 use Rattle.node_core.specs.Sessions.{Bridge, Session, circuit_of, waits}
 use Rattle.node_core.specs.UserActs.{UserAct}
 use Rattle.node_core.specs.States.{NodeState, State, at_links, fetch_entry, fetch_frame}
@@ -27,9 +29,9 @@ abbrev pub WritesTaken : Bridge → List ℕ → Type 0
 WritesTaken b rest = b.exhausted ≡ false → b.taken ≡ b.wrote ++ waits rest
 
 -- What was taken from the circuit was given to the user, in order, where the user's side hasn't ended and the user hasn't said BYE; unless
--- its link had no room for a message any more, or the numbers of fragments have come to their end.
+-- the numbers of fragments have come to their end.
 abbrev pub GivesGot : State → Session → Type 0
-GivesGot n s = s.bridge.exhausted ≡ false → s.bridge.crowded ≡ false → is_deaf s n ≡ false → s.bridge.gave ≡ s.bridge.got
+GivesGot n s = s.bridge.exhausted ≡ false → is_deaf s n ≡ false → s.bridge.gave ≡ s.bridge.got
 
 pub record Bridged (n : State) (s : Session) : Type 0 where
   pub writes : WritesTaken s.bridge s.rest
@@ -92,9 +94,14 @@ abbrev pub after_all : List Input → NodeState → NodeState
 after_all [] n = n
 after_all (i ∷ more) n = after_all more (after i n)
 
--- each session that a node comes to from its start, with the node
+-- a circuit is asked for with a call
+abbrev pub AsksForCall : Input → Type 0
+AsksForCall (Acts now act) = IsUserAct act
+AsksForCall _ = Unit {0}
+
+-- each session that a node with a call comes to from its start, with the node
 abbrev pub EverySession : (State → Session → Type 0) → Type 0
-EverySession P = (c : NodeConfig) (inputs : List Input) → let n : State = (after_all inputs (new_node c)).station in AllByRecursion (P n) n.sessions
+EverySession P = (c : NodeConfig) (inputs : List Input) → IsCall c.call → AllByRecursion AsksForCall inputs → let n : State = (after_all inputs (new_node c)).station in AllByRecursion (P n) n.sessions
 
 abbrev pub SessionsBridged : Type 0
 SessionsBridged = EverySession IsBridged

@@ -12,7 +12,7 @@ use Rattle.node_core.specs.declared.sessions.session.Stage.TheVariants.{AtPrompt
 use Rattle.node_core.specs.Sessions.{Bridge, Session, circuit_of}
 use Rattle.node_core.specs.States.{State}
 use Rattle.node_core.specs.Turns.{Turn, done, idle}
-use Rattle.node_core.specs.Users.{Outcome, Taken, Exhausts, Crowds, Unheard, Refused, acts, at_session, can_give, can_pass_on, close, end_at, end_has_room, is_gone, said, say, session_at, take_text, took, write_answer, write_to, wrote_by}
+use Rattle.node_core.specs.Users.{Outcome, Taken, Exhausts, Unheard, Refused, acts, at_session, can_give, can_pass_on, close, end_at, end_has_room, is_gone, said, say, session_at, take_text, took, write_answer, write_to, wrote_by}
 
 abbrev pub prompt_of : State → Prompt
 prompt_of n = record { alias = n.settings.alias; call = n.settings.call }
@@ -48,7 +48,6 @@ log_got message s = record s { bridge = record s.bridge { got = s.bridge.got ++ 
 abbrev pub gave : Outcome → List ℕ → Bridge → Bridge
 gave Taken message b = record b { gave = b.gave ++ message ∷ [] }
 gave Exhausts message b = record b { exhausted = true }
-gave Crowds message b = record b { crowded = true }
 gave Unheard message b = b
 gave Refused message b = b
 

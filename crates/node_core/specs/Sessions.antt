@@ -24,10 +24,9 @@ pub record Bridge : Type 0 where
   pub got : List (List ℕ)  -- messages that were taken from the circuit
   pub gave : List (List ℕ)  -- those of them that were given to the user
   pub exhausted : Bool  -- something was refused, since the numbers of fragments have come to their end
-  pub crowded : Bool  -- a message was dropped, since the user's link had no room for it any more
 
 abbrev pub unused : Bridge
-unused = record { taken = []; wrote = []; got = []; gave = []; exhausted = false; crowded = false }
+unused = record { taken = []; wrote = []; got = []; gave = []; exhausted = false }
 
 -- what is left of a text, if anything, as the text that waits
 abbrev pub waits : List ℕ → List (List ℕ)

@@ -13,7 +13,6 @@ use Rattle.circuit_set.specs.declared.event.NoEnd.{NoEnd}
 use Rattle.circuit_set.specs.declared.event.SetRefusal.{SetRefusal}
 use Rattle.circuit_set.specs.declared.event.SetRefusal.TheVariants as set_refusal
 use Rattle.link_table.specs.declared.text_refusal.TextRefusal.{TextRefusal}
-use Rattle.link_table.specs.declared.text_refusal.TextRefusal.TheVariants as text_refusal
 use Rattle.node_core.specs.declared.sessions.session.User.{User}
 use Rattle.node_core.specs.declared.sessions.session.User.TheVariants.{AtEnd, AtLink}
 use Rattle.node_core.specs.Circuits as circuits
@@ -147,7 +146,6 @@ can_pass_on s id n = is_deaf s n || has_room_beside s id n
 pub data Outcome : Type 0 where
   Taken : Outcome
   Exhausts : Outcome  -- the numbers of fragments have come to their end
-  Crowds : Outcome  -- the link has no room for it
   Unheard : Outcome  -- nothing is said to the user any more
   Refused : Outcome
 
@@ -158,7 +156,6 @@ wrote_by (Err why) = Refused
 
 abbrev pub sent_by : Result (Unit {0}) TextRefusal → Outcome
 sent_by (Ok _) = Taken
-sent_by (Err text_refusal.Full) = Crowds
 sent_by (Err why) = Refused
 
 -- a text is sent where that isn't refused

@@ -71,11 +71,12 @@ pub fn fetching_empties()
     ensures entries { FetchesAllEntries }
 {}
 
-/// Of every session of every node that inputs may have led to: while its circuit stands, each text that was taken from the user was
-/// written to the circuit whole, as one message and in order, but for what is left of the text that was taken last; and what was taken
-/// from the circuit was given to the user, in order, where the user's side hasn't ended and the user hasn't said BYE. What else keeps a
-/// message from that is said in `Bridged`. To the end of its circuit just that was ever written, and of what that end received just
-/// that was ever taken. No text waits for a circuit that the session has closed. And a session keeps at most 8,192 bytes and two replies.
+/// Of every session of every node with a call that inputs may have led to, where circuits are asked for with calls: while its circuit
+/// stands, each text that was taken from the user was written to the circuit whole, as one message and in order, but for what is left
+/// of the text that was taken last; and what was taken from the circuit was given to the user, in order, where the user's side hasn't
+/// ended and the user hasn't said BYE. What alone keeps a message from that is said in `Bridged`. To the end of its circuit just that
+/// was ever written, and of what that end received just that was ever taken. No text waits for a circuit that the session has closed.
+/// And a session keeps at most 8,192 bytes and two replies.
 pub fn bridged()
     ensures bridged { SessionsBridged }
     ensures ends { SessionsWriteTheirEnds }
