@@ -24,7 +24,8 @@ use Rattle.node_core.specs.Turns.{done, idle}
 use Rattle.node_core.specs.Users as users
 use Rattle.node_core.specs.Users.{Outcome, at_session, changed, session_at}
 use Rattle.node_core.proofs.Fine.{Dry, Fine, Goes, fewer_at, pumped_dry, said, session_fine, took_message, write_goes}
-use Rattle.node_core.proofs.Holders.{Any, AreOpen, end_in, every_in, number_of, others_stay, takes_keep}
+use Rattle.node_core.proofs.Ends.{end_in, every_in, number_of}
+use Rattle.node_core.proofs.Holders.{Any, AreOpen, others_stay, takes_keep}
 use Rattle.node_core.proofs.Given.{Given, IsGood, deaf, deaf_is, given_gave, given_heard, given_later, given_reply}
 use Rattle.node_core.proofs.Making.{step_ok}
 use Rattle.node_core.proofs.Others.{But, NotIts, but_hear, but_on, but_whole, only}

@@ -48,6 +48,7 @@ pub mod Serving
 pub mod Asked
 pub mod Unclosed
 pub mod Growing
+pub mod Ends
 pub mod Holders
 pub mod Owning
 pub mod Pumped
@@ -64,6 +65,7 @@ pub mod FineGiving
 pub mod FineTexts
 pub mod FineLines
 pub mod Faithful
+pub mod FineActs
 pub mod Reached
 mod FirstLine
 mod Framing

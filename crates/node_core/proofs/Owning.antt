@@ -19,7 +19,8 @@ use Rattle.node_core.specs.Serving.{is_at_end, is_circuit}
 use Rattle.node_core.specs.Sessions as s
 use Rattle.node_core.specs.Sessions.{Session, circuit_of}
 use Rattle.node_core.specs.Users.{changed}
-use Rattle.node_core.proofs.Holders.{AreNamed, AreOpen, Below, HaveMessages, Keeps, Once, none_closing}
+use Rattle.node_core.proofs.Ends.{Once}
+use Rattle.node_core.proofs.Holders.{AreNamed, AreOpen, Below, HaveMessages, Keeps, none_closing}
 
 -- ---- what the sessions own
 

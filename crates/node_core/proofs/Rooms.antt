@@ -37,7 +37,8 @@ use Rattle.node_core.specs.Links as links
 use Rattle.node_core.specs.Pumping as p
 use Rattle.node_core.specs.States.{State, at_set, next_hop}
 use Rattle.node_core.specs.Users as users
-use Rattle.node_core.proofs.Holders.{AreNamed, end_in, every_in}
+use Rattle.node_core.proofs.Ends.{end_in, every_in}
+use Rattle.node_core.proofs.Holders.{AreNamed}
 use Rattle.node_core.proofs.Owning.{one}
 use Rattle.node_core.proofs.Turns.{kept}
 

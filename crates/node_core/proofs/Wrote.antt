@@ -31,8 +31,9 @@ use Rattle.node_core.specs.Sessions as sessions
 use Rattle.node_core.specs.Sessions.{Bridge, Session, circuit_of}
 use Rattle.node_core.specs.Users as users
 use Rattle.node_core.specs.Users.{Outcome, Taken, Exhausts, Unheard, Refused}
-use Rattle.node_core.proofs.Holders as holders
-use Rattle.node_core.proofs.Holders.{Alive, Below, In, Once, number_of, calls, comes, connects, end_here, is_end, other_end, others_stay}
+use Rattle.node_core.proofs.Ends as ends_of
+use Rattle.node_core.proofs.Ends.{In, Once, number_of, end_here, is_end, other_end}
+use Rattle.node_core.proofs.Holders.{Alive, Below, calls, comes, connects, others_stay}
 use Rattle.node_core.proofs.Growing as grown
 use Rattle.node_core.proofs.Others.{NotIts, OthersNot, but_on, but_whole}
 use Rattle.node_core.proofs.Soundness.{Every, Hears, every_at}
@@ -359,7 +360,7 @@ its_written set text now nth c y ss ok e its n w =
 
 -- ---- an end that asks for a circuit
 
-end_new : (id : ℕ) (k : Holder) (hs : List Holder) → holders.Every (λ x. x.id < id) hs → nat_eq k.id id ≡ true → s.end_of id (hs ++ k ∷ []) ≡ Some k
+end_new : (id : ℕ) (k : Holder) (hs : List Holder) → ends_of.Every (λ x. x.id < id) hs → nat_eq k.id id ≡ true → s.end_of id (hs ++ k ∷ []) ≡ Some k
 end_new id k [] e f = rw f refl
 end_new id k (x ∷ xs) e f = by (nat_eq x.id id) refl (end_new id k xs e.1 f)
   where

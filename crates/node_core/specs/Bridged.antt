@@ -65,7 +65,8 @@ IsEndsWriter n s = (c : Circuit) → s.stage ≡ Connected c → (h : Holder) ×
 
 -- what was ever taken of what the end of its circuit received is what the session has got: the rest of it wasn't taken
 abbrev pub IsEndsReader : State → Session → Type 0
-IsEndsReader n s = (c : Circuit) → s.stage ≡ Connected c → (h : Holder) × (end_at c.id n ≡ Some h) × (h.end.receiving.received ≡ s.bridge.got ++ inbox h.end.receiving)
+IsEndsReader n s =
+    (c : Circuit) → s.stage ≡ Connected c → (h : Holder) × (end_at c.id n ≡ Some h) × (h.end.receiving.received ≡ s.bridge.got ++ inbox h.end.receiving)
 
 -- a circuit is closed here last: no text waits for it
 abbrev pub IsClosedLast : State → Session → Type 0
@@ -101,7 +102,9 @@ AsksForCall _ = Unit {0}
 
 -- each session that a node with a call comes to from its start, with the node
 abbrev pub EverySession : (State → Session → Type 0) → Type 0
-EverySession P = (c : NodeConfig) (inputs : List Input) → IsCall c.call → AllByRecursion AsksForCall inputs → let n : State = (after_all inputs (new_node c)).station in AllByRecursion (P n) n.sessions
+EverySession P =
+    (c : NodeConfig) (inputs : List Input) → IsCall c.call → AllByRecursion AsksForCall inputs
+    → let n : State = (after_all inputs (new_node c)).station in AllByRecursion (P n) n.sessions
 
 abbrev pub SessionsBridged : Type 0
 SessionsBridged = EverySession IsBridged
