@@ -1,5 +1,5 @@
 //! What the tests of tables of links share.
-use crate::{carried, rows, texts};
+use crate::{carried, refused, rows, texts};
 use ax_address::Call;
 use ax_frame::{FrameView, read_frame};
 use ax_link::LinkConfig;
@@ -28,6 +28,7 @@ pub enum Trial {
     Paths,
     TextHoldsBack,
     WhichTexts,
+    Refused,
     /// Over a channel that loses frames; a long text comes as so many.
     Lossy { texts: u64 },
 }
@@ -52,6 +53,7 @@ fn play(rt: &impl Abort, alloc: Global, trial: Trial, a: &mut LinkTable, b: &mut
         Trial::Paths => rows::set_paths(rt, a),
         Trial::TextHoldsBack => texts::hold_back(rt, a),
         Trial::WhichTexts => texts::send_texts(rt, a, b),
+        Trial::Refused => refused::spend(rt, a),
         Trial::Lossy { texts } => carried::carry(rt, a, b, texts),
     }
 }

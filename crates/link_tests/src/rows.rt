@@ -167,7 +167,7 @@ fn expect_path(
 }
 
 /// So many repeaters.
-fn path(n: usize) -> Path {
+pub fn path(n: usize) -> Path {
     let mut path = Path::new();
     for _ in 0..n {
         let _ = path.try_push(address(call(b"N0RRR"), false));
