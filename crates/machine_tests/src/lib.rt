@@ -7,6 +7,8 @@
 #[cfg(test)]
 mod links;
 #[cfg(test)]
+mod refused;
+#[cfg(test)]
 mod routers;
 #[cfg(test)]
 mod routes;
