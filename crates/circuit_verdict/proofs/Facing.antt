@@ -10,7 +10,7 @@ use Rattle.circuit_verdict.proofs.Made.{going_kept}
 open_kept : (e : Ends) (ms : List MadeNote) (lost : List Name) → EndsStand e ms lost → (x : Name) → kept_open e x ≡ is_open ms lost x
 open_kept e ms lost s x = rw (s.notes x, s.gone x, going_kept ms x) refl
 
-faces_kept : (e : Ends) (ms : List MadeNote) (lost : List Name) → EndsStand e ms lost → (x y : Name) → kept_faces e x y ≡ faces ms lost x y
+pub faces_kept : (e : Ends) (ms : List MadeNote) (lost : List Name) → EndsStand e ms lost → (x y : Name) → kept_faces e x y ≡ faces ms lost x y
 faces_kept e ms lost s x y = rw (open_kept e ms lost s y, s.partners y) refl
 
 partner_kept : (e : Ends) (ms : List MadeNote) (lost : List Name) → EndsStand e ms lost → (x : Name) → keeps_open_partner e x ≡ has_open_partner ms lost x

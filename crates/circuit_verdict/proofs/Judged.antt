@@ -78,7 +78,7 @@ joins b x d None found e f g = rw (sym e, sent_is b x d found g) (sym (joins_by 
 joins b x d (Some y) found e f g = absurd (cc f)
 
 -- ---- what an end has heeded ----
-some_same : {A : Type 0} (x y : A) → Some x ≡ Some y → x ≡ y
+pub some_same : {A : Type 0} (x y : A) → Some x ≡ Some y → x ≡ y
 some_same x y e = cc e
 
 pub none_sent : (allow : books.Book → Name → ℕ) (b : books.Book) (x p : Name) (d : List ℕ) → partner b x ≡ Some p → None ≡ sending_in (latest_in b.sent p d) → TimelyTo allow b x d → ⊥

@@ -10,3 +10,4 @@ pub mod Likenesses
 pub mod Returns
 pub mod Judged
 pub mod Runs
+pub mod Causes

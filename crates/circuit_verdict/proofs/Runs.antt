@@ -12,17 +12,18 @@ use Rattle.circuit_verdict.specs.declared.verdict.Allowance.{Allowance}
 use Rattle.circuit_verdict.specs.declared.verdict.Late.{Late}
 use Rattle.circuit_verdict.specs.declared.verdict.LateWhy.{LateWhy}
 use Rattle.circuit_verdict.specs.declared.verdict.LateWhy.TheVariants.{Overtaken, Returned}
+use Rattle.circuit_verdict.specs.Causes.{AreInTime}
 use Rattle.circuit_verdict.specs.Events.{event_of, events_of}
 use Rattle.circuit_verdict.specs.Judging.{BookStands, Judges}
 use Rattle.circuit_verdict.specs.Standing.{Follows, InTime}
 use Rattle.circuit_verdict.specs.Verdicts.{FailsAt, IsFirstLate, IsVerdict, allowance_of, late_of, lost_in}
 
 -- ---- one more event ----
-timely_more : (allow : books.Book → Name → ℕ) (b : books.Book) (es : List Event) (e : Event) → Timely allow b es → TimelyTold allow (noted_all b es) e.node e.told → Timely allow b (es ++ e ∷ [])
+pub timely_more : (allow : books.Book → Name → ℕ) (b : books.Book) (es : List Event) (e : Event) → Timely allow b es → TimelyTold allow (noted_all b es) e.node e.told → Timely allow b (es ++ e ∷ [])
 timely_more allow b [] e all here = (here, tt)
 timely_more allow b (k ∷ es) e all here = (all.0, timely_more allow (noted b k) es e all.1 here)
 
-fresh_more : (b : books.Book) (lost : List Name) (es : List Event) (e : Event) → FreshFrom b lost es → FreshTold (noted_all b es) (lost_in lost es) e.node e.told → FreshFrom b lost (es ++ e ∷ [])
+pub fresh_more : (b : books.Book) (lost : List Name) (es : List Event) (e : Event) → FreshFrom b lost es → FreshTold (noted_all b es) (lost_in lost es) e.node e.told → FreshFrom b lost (es ++ e ∷ [])
 fresh_more b lost [] e all here = (here, tt)
 fresh_more b lost (k ∷ es) e all here = (all.0, fresh_more (noted b k) (lost_with lost k.node k.told) es e all.1 here)
 
@@ -48,11 +49,11 @@ one_place b node own (Restarted pair) = refl
 one_place b node own (Lost id facts) = refl
 
 -- ---- an event among others ----
-timely_at : (allow : books.Book → Name → ℕ) (b : books.Book) (es later : List Event) (e : Event) → Timely allow b (es ++ e ∷ later) → TimelyTold allow (noted_all b es) e.node e.told
+pub timely_at : (allow : books.Book → Name → ℕ) (b : books.Book) (es later : List Event) (e : Event) → Timely allow b (es ++ e ∷ later) → TimelyTold allow (noted_all b es) e.node e.told
 timely_at allow b [] later e all = all.0
 timely_at allow b (k ∷ es) later e all = timely_at allow (noted b k) es later e all.1
 
-fresh_at : (b : books.Book) (lost : List Name) (es later : List Event) (e : Event) → FreshFrom b lost (es ++ e ∷ later) → FreshTold (noted_all b es) (lost_in lost es) e.node e.told
+pub fresh_at : (b : books.Book) (lost : List Name) (es later : List Event) (e : Event) → FreshFrom b lost (es ++ e ∷ later) → FreshTold (noted_all b es) (lost_in lost es) e.node e.told
 fresh_at b lost [] later e all = all.0
 fresh_at b lost (k ∷ es) later e all = fresh_at (noted b k) (lost_with lost k.node k.told) es later e all.1
 
@@ -122,6 +123,12 @@ goes_on a None line e why old new ns none k told =
     let judged = told (noted_all empty (events_of ns)) (lost_in [] (events_of ns)) k.book in
     judged_by a line e why old new ns k judged.0 judged.1
 goes_on a (Some late) line e why old new ns none k told = absurd (cc none)
+
+-- nothing was late, so that the book has all of it
+pub book_in_time : (a : Allowance) (o : Option Late) (k : Book) (ns : List Numbered) → Follows a o k ns → AreInTime a (events_of ns)
+    → BookStands k (noted_all empty (events_of ns)) (lost_in [] (events_of ns))
+book_in_time a None k ns f t = f.book
+book_in_time a (Some l) k ns f t = absurd (late_fails a ns l f t.0 t.1)
 
 same_late : (l late : Late) → Some l ≡ Some late → l ≡ late
 same_late l late e = cc e

@@ -120,7 +120,7 @@ impl Book {
     }
 
     /// The end whose request this datagram is, where it has no partner yet.
-    fn requester(&self, request: Option<&[u8]>) -> Result<Option<Name>, NoMemory>
+    pub(crate) fn requester(&self, request: Option<&[u8]>) -> Result<Option<Name>, NoMemory>
         ensures { IfOk result (λ found. (b : books.Book) (lost : List books.Name) → judged.PartsStand self.now b lost
             → found ≡ books.requester b (option_copied request.entry)) }
     {
@@ -206,7 +206,7 @@ impl Book {
     }
 
     /// How many overtakers are too many at an end with this partner.
-    fn allowed(&self, end: &Name, partner: &Name, allowance: Allowance) -> u64
+    pub(crate) fn allowed(&self, end: &Name, partner: &Name, allowance: Allowance) -> u64
         ensures { (b : books.Book) (lost : List books.Name) → judged.PartsStand self.now b lost → books.partner b end.now ≡ Some partner.now
             → result ≡ allowance_of allowance b end.now }
     {
@@ -230,7 +230,7 @@ impl Book {
 }
 
 /// Whether an end was opened by a request, and nobody has asked for it.
-fn lacks_requester(asked: bool, requester: &Option<Name>) -> bool
+pub(crate) fn lacks_requester(asked: bool, requester: &Option<Name>) -> bool
     ensures { result ≡ asked && books.is_unknown requester.now }
 {
     asked && requester.is_none()

@@ -1,5 +1,5 @@
 //! What is kept of the ends that were made: their partners, and which of them are still open.
-ghost use Rattle.std.specs.Prelude.{◌≡◌, ◌∷◌, ◌++◌, ◌&&◌, [], OnOk, ℕ, List, Option, Some, None, cond, nat_eq};
+ghost use Rattle.std.specs.Prelude.{◌≡◌, ◌∷◌, ◌++◌, ◌&&◌, [], OnOk, ℕ, List, Option, Some, None, cond, nat_eq, slice_get};
 ghost use Rattle.indexmap.specs.IndexMap.{get};
 ghost use Rattle.ax_address.specs.Callsign.{Callsign};
 ghost use Rattle.ax_address.specs.CallOrder.{same_call};
@@ -7,6 +7,7 @@ ghost use Rattle.circuit_l4.specs.declared.transport.Pair.{Pair as SeenPair};
 ghost use Rattle.circuit_set.specs.Sets.{same_pair};
 ghost use Rattle.circuit_set.specs.Books as books;
 ghost use Rattle.circuit_set.specs.Runs.{opened_window, told_to};
+ghost use Rattle.circuit_verdict.specs.Causes as causes;
 ghost use Rattle.circuit_verdict.specs.Ends as made;
 ghost use Rattle.circuit_verdict.specs.Lists.{list_in};
 
@@ -124,6 +125,33 @@ impl Ends {
         ensures { result ≡ made.kept_faces self.now end.now other.now }
     {
         other.node() != end.node() && self.is_open(other) && self.partner(other) == Some(*end)
+    }
+
+    /// The first end of another node, neither ended nor lost, whose partner is named by this pair of this node.
+    pub(crate) fn holder(&self, node: u64, pair: &Pair) -> Option<Name>
+        ensures { (ms : List books.MadeNote) (lost : List books.Name) → made.EndsStand self.now ms lost
+            → result ≡ slice_get (causes.holders ms lost node pair.now) 0 }
+    {
+        let given = self.given.of(&NodePair::of(node, pair));
+        for end in given {
+            if let Some(other) = self.open_partner(end) {
+                return Some(other);
+            }
+        }
+        None
+    }
+
+    /// The first end of another node, neither ended nor lost, whose partner is this end.
+    fn open_partner(&self, end: &Name) -> Option<Name>
+        ensures { result ≡ slice_get (causes.kept_partners self.now end.now) 0 }
+    {
+        let facing = self.facing.of(end);
+        for other in facing {
+            if self.faces(end, other) {
+                return Some(*other);
+            }
+        }
+        None
     }
 
     /// Whether an end was made and has neither ended nor been lost.

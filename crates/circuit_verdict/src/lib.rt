@@ -3,6 +3,7 @@
 #![tactic(auto)]
 
 mod book;
+mod cause;
 mod ends;
 mod event;
 mod lists;
@@ -10,5 +11,6 @@ mod names;
 mod sendings;
 mod verdict;
 
+pub use cause::Cause;
 pub use event::{Event, Numbered, Told};
 pub use verdict::{Allowance, Late, LateWhy, Verdict, too_late};

@@ -1,10 +1,11 @@
 //! The verdict on a list of events.
-ghost use Rattle.std.specs.Prelude.{◌≡◌, ◌++◌, ◌∷◌, [], List, Option, Some, None, Err, OnOk, OnErr, IfOk};
+ghost use Rattle.std.specs.Prelude.{◌≡◌, ◌↔◌, ◌++◌, ◌∷◌, [], List, Option, Some, None, Err, OnOk, OnErr, IfOk};
 ghost use Rattle.circuit_verdict.specs.declared.event.Numbered.{Numbered as SeenNumbered};
 ghost use Rattle.circuit_verdict.specs.Verdicts.{IsVerdict, late_of};
 ghost use Rattle.circuit_verdict.specs.Standing.{allowance_in};
 
 use crate::book::Book;
+use crate::cause::Cause;
 use crate::event::{Event, Numbered};
 use radio_base::NoMemory;
 use std::alloc::Global;
@@ -44,6 +45,8 @@ pub struct Verdict {
 }
 
 impl Verdict {
+    ghost use Rattle.circuit_verdict.specs.Causes.{AreInTime, cause_after};
+    ghost use Rattle.circuit_verdict.specs.Events.{event_of, events_of};
     ghost use Rattle.circuit_verdict.specs.Standing.{IsSpent, StandsFor};
 
     /// No event was told yet.
@@ -78,6 +81,16 @@ impl Verdict {
         self.late = late_at(line, why);
         self.spent = false;
         Ok(())
+    }
+
+    /// By what an event would come too late behind those so far, none of which did: none exactly where it wouldn't. It isn't taken in.
+    pub fn cause(&self, event: &Event<'_>) -> Result<Option<Cause>, NoMemory>
+        ensures exact { IfOk result (λ cause. (events : List SeenNumbered) → StandsFor self.now events → AreInTime (allowance_in self.now) (events_of events)
+            → cause ≡ cause_after (allowance_in self.now) (events_of events) (event_of event.now)) }
+        ensures none { IfOk result (λ cause. (events : List SeenNumbered) → StandsFor self.now events → AreInTime (allowance_in self.now) (events_of events)
+            → cause ≡ None ↔ AreInTime (allowance_in self.now) (events_of events ++ event_of event.now ∷ [])) }
+    {
+        self.book.cause(event, self.allowance)
     }
 
     /// The first event that came too late, if there is one: none exactly where all events so far are timely and fresh.

@@ -1,0 +1,56 @@
+-- By what it shows that an event comes too late, as it is read off the notes of what was told before it (this project's profile).
+use Rattle.std.specs.Prelude.{ℕ, ◌&&◌, nat_le, is_some, if◌then◌else◌, List, [], filter, flat_map, slice_get, Option, Some, None}
+use Rattle.circuit_l4.specs.declared.transport.Pair.{Pair}
+use Rattle.circuit_set.specs.Books.{Book, Event, Fresh, MadeNote, Name, SentNote, Timely, empty, is_unknown, latest_in, noted_all, overtakers, partner, requester, same_name}
+use Rattle.circuit_set.specs.Sets.{Made, Heeded, Told}
+use Rattle.indexmap.specs.IndexMap.{get}
+use Rattle.circuit_verdict.specs.declared.cause.Cause.{Cause}
+use Rattle.circuit_verdict.specs.declared.cause.Cause.TheVariants.{Unsent, Overtaken, Unasked, Held}
+use Rattle.circuit_verdict.specs.declared.ends.Ends.{Ends}
+use Rattle.circuit_verdict.specs.declared.verdict.Allowance.{Allowance}
+use Rattle.circuit_verdict.specs.Ends.{faces, facing_in, given_in, kept_faces}
+use Rattle.circuit_verdict.specs.Lists.{list_in}
+use Rattle.circuit_verdict.specs.Verdicts.{allowance_of, lost_in}
+
+-- ---- x has heeded a datagram: it has no partner, its partner never sent it, or too many messages have overtaken the latest sending
+abbrev pub overtaken_cause : Allowance → Book → Name → Name → Option SentNote → Option Cause
+overtaken_cause a b x y None = Some Unsent
+overtaken_cause a b x y (Some s) =
+    let count : ℕ = overtakers y x s.place b.sent b.heard in
+    if nat_le (allowance_of a b x) count then Some (Overtaken s.place count (allowance_of a b x)) else None
+
+abbrev pub heeded_cause : Allowance → Book → Name → List ℕ → Option Name → Option Cause
+heeded_cause a b x d None = Some Unsent
+heeded_cause a b x d (Some y) = overtaken_cause a b x y (latest_in b.sent y d)
+
+-- ---- an end was made: no end asks for it, or one still has a partner with its pair
+
+-- the open ends of other nodes whose partner is an end to which this node gave this pair
+abbrev pub holders : List MadeNote → List Name → ℕ → Pair → List Name
+holders ms lost node pair = flat_map (λ (x : Name). filter (faces ms lost x) (facing_in ms x)) (given_in ms node pair)
+
+abbrev pub held_cause : Option Name → Option Cause
+held_cause None = None
+held_cause (Some x) = Some (Held x.node x.id)
+
+abbrev pub made_cause : Book → List Name → ℕ → Pair → Option (List ℕ) → Option Cause
+made_cause b lost node pair request =
+    if is_some request && is_unknown (requester b request) then Some Unasked else held_cause (slice_get (holders b.made lost node pair) 0)
+
+-- ---- any event
+abbrev pub cause_told : Allowance → Book → List Name → ℕ → Told → Option Cause
+cause_told a b lost node (Made id pair at request) = made_cause b lost node pair request
+cause_told a b lost node (Heeded id d) = let x : Name = record { node = node; id = id } in heeded_cause a b x d (partner b x)
+cause_told a b lost node told = None
+
+-- behind these events
+abbrev pub cause_after : Allowance → List Event → Event → Option Cause
+cause_after a es e = cause_told a (noted_all empty es) (lost_in [] es) e.node e.told
+
+-- none of these events comes too late
+abbrev pub AreInTime : Allowance → List Event → Type 0
+AreInTime a es = Timely (allowance_of a) empty es × Fresh empty es
+
+-- ---- the same as the code reads it off what is kept
+abbrev pub kept_partners : Ends → Name → List Name
+kept_partners e x = filter (kept_faces e x) (list_in (get same_name e.facing.lists x))
