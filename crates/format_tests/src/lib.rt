@@ -17,6 +17,8 @@ mod network_files;
 #[cfg(test)]
 mod numbers;
 #[cfg(test)]
+mod refused;
+#[cfg(test)]
 mod repeaters;
 #[cfg(test)]
 mod segments;
