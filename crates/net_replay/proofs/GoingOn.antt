@@ -31,6 +31,7 @@ quiet_on : (line : ℕ) (es : List Event) → AllByRecursion IsQuiet es → AreO
 quiet_on line [] q = tt
 quiet_on line (events.InAir frame ∷ es) q = (tt, quiet_on line es q.1)
 quiet_on line (events.Delivered frame node ∷ es) q = (tt, quiet_on line es q.1)
+quiet_on line (events.Settled frame ∷ es) q = (tt, quiet_on line es q.1)
 quiet_on line (events.Shown table ∷ es) q = (tt, quiet_on line es q.1)
 quiet_on line (events.Took node end message ∷ es) q = (tt, quiet_on line es q.1)
 quiet_on line (events.Wrote node end count ∷ es) q = (tt, quiet_on line es q.1)

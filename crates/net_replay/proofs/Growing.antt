@@ -22,7 +22,7 @@ use Rattle.net_replay.specs.declared.reasons.LineRefusal.{LineRefusal}
 use Rattle.net_replay.specs.Air.{delivery_fault, frame_of, lost_fault, oldest, settled_at}
 use Rattle.net_replay.specs.CircuitRuns.{IsLine}
 use Rattle.net_replay.specs.Events.{Delivered, Event, Wrote}
-use Rattle.net_replay.specs.Lines.{all_wrote, burst_by, burst_from, cut, deliver_all, deliver_at, deliver_of, do_act, do_line, do_lines, flow, hear, kiss_bytes, refusal_events, restart_of, settle, spread, spread_of, tick_from, tick_node, told_of, took_of, unless_refused}
+use Rattle.net_replay.specs.Lines.{all_wrote, burst_by, burst_from, cut, deliver_all, deliver_at, deliver_of, do_act, do_line, do_lines, flow, hear, kiss_bytes, lose_at, refusal_events, restart_of, settle, spread, spread_of, tick_from, tick_node, told_of, took_of, unless_refused}
 use Rattle.net_replay.specs.Refused.{of_act}
 use Rattle.net_replay.specs.Starting.{Placed}
 use Rattle.net_replay.specs.World.{Act, Bytes, Input, Time, World, aired, answer, place_of, put, put_of, reach, reaches, tell}
@@ -143,17 +143,17 @@ unfolding flow
 flow_grows channels line zero w = omega arith
 flow_grows channels line (suc count) w = flow_from_grows channels line count w (oldest w.air) (flow_grows channels line count)
 
-abbrev cut_from : ℕ → World → Option ℕ → World
-cut_from count w o = elim o [ None ↦ w | Some at ↦ cut count (settle at w) ]
+abbrev cut_from : ℕ → ℕ → World → Option ℕ → World
+cut_from line count w o = elim o [ None ↦ w | Some at ↦ cut line count (lose_at line at (at + 1) w) ]
 
-cut_from_grows : (count : ℕ) (w : World) (o : Option ℕ) → ((v : World) → length v.air ≤ length (cut count v).air) → length w.air ≤ length (cut_from count w o).air
-cut_from_grows count w None rest = omega arith
-cut_from_grows count w (Some at) rest = let more = rest (settle at w) in omega (arith, more, length-settled_at w.air at)
+cut_from_grows : (line count : ℕ) (w : World) (o : Option ℕ) → ((v : World) → length v.air ≤ length (cut line count v).air) → length w.air ≤ length (cut_from line count w o).air
+cut_from_grows line count w None rest = omega arith
+cut_from_grows line count w (Some at) rest = let more = rest (lose_at line at (at + 1) w) in omega (arith, more, length-settled_at w.air at)
 
-cut_grows : (count : ℕ) (w : World) → length w.air ≤ length (cut count w).air
+cut_grows : (line count : ℕ) (w : World) → length w.air ≤ length (cut line count w).air
 unfolding cut
-cut_grows zero w = omega arith
-cut_grows (suc count) w = cut_from_grows count w (oldest w.air) (cut_grows count)
+cut_grows line zero w = omega arith
+cut_grows line (suc count) w = cut_from_grows line count w (oldest w.air) (cut_grows line count)
 
 unless_grows : (line : ℕ) (why : Option LineRefusal) (done w : World) → length w.air ≤ length done.air → length w.air ≤ length (unless_refused line why done w).air
 unless_grows line None done w h = h
@@ -183,9 +183,9 @@ line_grows plan line (instructions.Deliver frame node) w =
 line_grows plan line (instructions.Again frame node) w =
     unless_grows line (delivery_fault plan.channels node true (frame_of w.air frame)) _ w (deliver_grows plan.channels line (frame - 1) node w)
 line_grows plan line (instructions.Lose frame) w =
-    unless_grows line (lost_fault false (frame_of w.air frame)) (settle (frame - 1) w) w (omega (arith, length-settled_at w.air (frame - 1)))
+    unless_grows line (lost_fault false (frame_of w.air frame)) (lose_at line (frame - 1) frame w) w (omega (arith, length-settled_at w.air (frame - 1)))
 line_grows plan line (instructions.Flow count) w = flow_grows plan.channels line count w
-line_grows plan line (instructions.Cut count) w = cut_grows count w
+line_grows plan line (instructions.Cut count) w = cut_grows line count w
 
 pub lines_grow : (plan : Plan) (ls : List NumberedInstruction) (w : World) → length w.air ≤ length (do_lines plan ls w).air
 lines_grow plan [] w = omega arith
@@ -206,14 +206,14 @@ unfolding flow
 flow_none channels line zero w e = refl
 flow_none channels line (suc count) w e = ap (flow_from channels line count w) e
 
-pub cut_one : (count at : ℕ) (w : World) → oldest w.air ≡ Some at → cut (suc count) w ≡ cut count (settle at w)
+pub cut_one : (line count at : ℕ) (w : World) → oldest w.air ≡ Some at → cut line (suc count) w ≡ cut line count (lose_at line at (at + 1) w)
 unfolding cut
-cut_one count at w e = ap (cut_from count w) e
+cut_one line count at w e = ap (cut_from line count w) e
 
-pub cut_none : (count : ℕ) (w : World) → oldest w.air ≡ None → cut count w ≡ w
+pub cut_none : (line count : ℕ) (w : World) → oldest w.air ≡ None → cut line count w ≡ w
 unfolding cut
-cut_none zero w e = refl
-cut_none (suc count) w e = ap (cut_from count w) e
+cut_none line zero w e = refl
+cut_none line (suc count) w e = ap (cut_from line count w) e
 
 all_case : (channels : List Channel) (line at n : ℕ) (others : List ℕ) (w : World) (b : Bool)
     → deliver_all channels line at (cond b (n ∷ others) others) w ≡ deliver_all channels line at others (deliver_all channels line at (cond b (n ∷ []) []) w)
@@ -227,9 +227,9 @@ all_next channels line at n p w h =
     let left : 17 - n ≡ suc (17 - (n + 1)) = omega arith in
     rw left (all_case channels line at n (filter p (range_with_len (n + 1) (17 - (n + 1)))) w (p n))
 
-pub cut_end : (n : ℕ) (w : World) → n ≡ 0 → cut n w ≡ w
+pub cut_end : (line n : ℕ) (w : World) → n ≡ 0 → cut line n w ≡ w
 unfolding cut
-cut_end n w e = ap (λ k. cut k w) e
+cut_end line n w e = ap (λ k. cut line k w) e
 
 pub flow_end : (channels : List Channel) (line n : ℕ) (w : World) → n ≡ 0 → flow channels line n w ≡ w
 unfolding flow

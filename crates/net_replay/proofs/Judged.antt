@@ -6,6 +6,7 @@ use Rattle.std.specs.List.{position_or_len}
 use Rattle.std.specs.Option.{option_map}
 use Rattle.std.proofs.lemmas.Option.{slice_get-map}
 use Rattle.ax_address.specs.Callsign.{Callsign}
+use Rattle.circuit_set.specs.Pumps as pumps
 use Rattle.circuit_set.specs.Sets as sets
 use Rattle.circuit_verdict.specs.declared.event.Numbered.{Numbered}
 use Rattle.circuit_verdict.specs.declared.verdict.Late.{Late}
@@ -14,10 +15,12 @@ use Rattle.circuit_verdict.specs.Standing.{StandsFor, allowance_in}
 use Rattle.circuit_verdict.specs.Verdicts.{IsVerdict}
 use Rattle.network_file.specs.declared.plan.declarations.Declaration.{Declaration}
 use Rattle.network_file.specs.Plan.{Plan}
+use Rattle.node_core.specs.States as states
 use Rattle.net_replay.specs.declared.events.NumberedEvent.{NumberedEvent}
 use Rattle.net_replay.specs.Circuits.{CircuitEvent, IsVerdictOn, allowance_of, at_node, event_at, events_at, judged, told_at}
-use Rattle.net_replay.specs.Events.{event_of, numbered_of}
-use Rattle.net_replay.specs.Judging.{Heeds}
+use Rattle.net_replay.specs.Events as events
+use Rattle.net_replay.specs.Events.{Event, event_of, numbered_of}
+use Rattle.net_replay.specs.Judging.{Heeds, circuit_told}
 use Rattle.net_replay.specs.Reporting.{AreDeclared}
 use Rattle.net_replay.specs.Starting.{Placed, has_number}
 use Rattle.net_replay.specs.Traces.{IsTraceOf, Left}
@@ -27,6 +30,14 @@ use Rattle.net_replay.specs.World.{World, place_of}
 
 heeds_none : (v : Verdict) → Heeds v v []
 heeds_none v = record { stands = λ ns h. record { more = []; are = refl; stands = subst (λ xs. StandsFor v xs) (sym (append-nil ns)) h }; same = refl }
+
+pub heeds_none_as : (v : Verdict) (told : List CircuitEvent) → told ≡ [] → Heeds v v told
+heeds_none_as v told e = subst (λ es. Heeds v v es) (sym e) (heeds_none v)
+
+pub heeds_one : (old new : Verdict) (n : Numbered) (told : List CircuitEvent) → told ≡ judged n ∷ [] → ((ns : List Numbered) → StandsFor old ns → StandsFor new (ns ++ n ∷ []))
+    → allowance_in new ≡ allowance_in old → Heeds old new told
+heeds_one old new n told e goes same =
+    subst (λ es. Heeds old new es) (sym e) (record { stands = λ ns s. record { more = n ∷ []; are = refl; stands = goes ns s }; same = same })
 
 map_joined : (xs ys : List Numbered) → map judged (xs ++ ys) ≡ map judged xs ++ map judged ys
 map_joined [] ys = refl
@@ -58,6 +69,28 @@ heeds_next es i x nodes old mid new h is one later =
 
 pub heeds_all : (es : List NumberedEvent) (i : ℕ) (nodes : List Placed) (v : Verdict) → length es ≤ i → Heeds v v (events_at nodes (map numbered_of (drop i es)))
 heeds_all es i nodes v h = subst (λ (ys : List NumberedEvent). Heeds v v (events_at nodes (map numbered_of ys))) (sym (drop_all i es h)) (heeds_none v)
+
+-- ---- what an event tells of circuits
+
+abbrev pub at_told : List Placed → ℕ → Option (ℕ × sets.Told) → List CircuitEvent
+at_told nodes line None = []
+at_told nodes line (Some p) = told_at nodes line p.0 p.1
+
+pub event_told : (nodes : List Placed) (line : ℕ) (e : Event) → event_at nodes line e ≡ at_told nodes line (circuit_told e)
+event_told nodes line (events.Entry node (states.Of_set (pumps.Of told))) = refl
+event_told nodes line (events.Entry node (states.Of_set (pumps.Dropped routed))) = refl
+event_told nodes line (events.Entry node (states.Of_set (pumps.Lost call))) = refl
+event_told nodes line (events.Entry node (states.Of_link peer notice)) = refl
+event_told nodes line (events.Entry node (states.Overflow live would_be)) = refl
+event_told nodes line (events.InAir frame) = refl
+event_told nodes line (events.Delivered frame node) = refl
+event_told nodes line (events.Settled frame) = refl
+event_told nodes line (events.Shown table) = refl
+event_told nodes line (events.Took node end message) = refl
+event_told nodes line (events.Wrote node end count) = refl
+event_told nodes line (events.Restarted node pair) = refl
+event_told nodes line (events.Lost node end facts) = refl
+event_told nodes line (events.Refused why) = refl
 
 -- ---- what is told at the node of a number
 

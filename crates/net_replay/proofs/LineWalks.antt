@@ -23,7 +23,7 @@ use Rattle.net_replay.specs.declared.reasons.LineRefusal.{LineRefusal}
 use Rattle.net_replay.specs.Air.{delivery_fault, frame_of, lost_fault, oldest}
 use Rattle.net_replay.specs.Events as events
 use Rattle.net_replay.specs.Events.{Event}
-use Rattle.net_replay.specs.Lines.{all_wrote, burst_by, burst_from, cut, deliver_all, deliver_at, deliver_of, do_act, do_line, do_lines, flow, hear, kiss_bytes, refusal_events, restart, settle, shown_of, spread, spread_of, tick_from, tick_node, told_of, took_of, unless_refused}
+use Rattle.net_replay.specs.Lines.{all_wrote, burst_by, burst_from, cut, deliver_all, deliver_at, deliver_of, do_act, do_line, do_lines, flow, hear, kiss_bytes, lose_at, refusal_events, restart, settle, shown_of, spread, spread_of, tick_from, tick_node, told_of, took_of, unless_refused}
 use Rattle.net_replay.specs.Refused.{of_act}
 use Rattle.net_replay.specs.Starting.{Placed}
 use Rattle.net_replay.specs.World as worlds
@@ -183,17 +183,22 @@ module _ (plan : Plan) (Heard_from Locks : Callsign → Type 0) (Again : Pair �
   flow_leads line zero w = stays w
   flow_leads line (suc count) w = flow_case line count w (oldest w.air) (flow_leads line count)
 
-  abbrev cut_by : ℕ → World → Option ℕ → World
-  cut_by count w o = elim o [ None ↦ w | Some at ↦ cut count (settle at w) ]
+  lost : (line at frame : ℕ) (w : World) → P w (lose_at line at frame w)
+  lost line at frame w = next w (settle at w) (lose_at line at frame w) (k.settles at w) (tells line (events.Settled frame ∷ []) (settle at w) (tt, tt))
 
-  cut_case : (count : ℕ) (w : World) (o : Option ℕ) → ((u : World) → P u (cut count u)) → P w (cut_by count w o)
-  cut_case count w None rest = stays w
-  cut_case count w (Some at) rest = next w (settle at w) (cut count (settle at w)) (k.settles at w) (rest (settle at w))
+  abbrev cut_by : ℕ → ℕ → World → Option ℕ → World
+  cut_by line count w o = elim o [ None ↦ w | Some at ↦ cut line count (lose_at line at (at + 1) w) ]
 
-  cut_leads : (count : ℕ) (w : World) → P w (cut count w)
+  cut_case : (line count : ℕ) (w : World) (o : Option ℕ) → ((u : World) → P u (cut line count u)) → P w (cut_by line count w o)
+  cut_case line count w None rest = stays w
+  cut_case line count w (Some at) rest =
+      let v : World = lose_at line at (at + 1) w in
+      next w v (cut line count v) (lost line at (at + 1) w) (rest v)
+
+  cut_leads : (line count : ℕ) (w : World) → P w (cut line count w)
   unfolding cut
-  cut_leads zero w = stays w
-  cut_leads (suc count) w = cut_case count w (oldest w.air) (cut_leads count)
+  cut_leads line zero w = stays w
+  cut_leads line (suc count) w = cut_case line count w (oldest w.air) (cut_leads line count)
 
   line_leads : (line : ℕ) (i : Instruction) (w : World) → LineIs Heard_from Locks Again i → P w (do_line plan line i w)
   line_leads line (instructions.Heard node call nodes) w i = hear_leads line node (kiss_bytes (broadcast_octets call (view nodes))) false w (k.broadcasts line (place_of node w.nodes) call (view nodes) w i)
@@ -213,9 +218,9 @@ module _ (plan : Plan) (Heard_from Locks : Callsign → Type 0) (Again : Pair �
       unless_leads line (delivery_fault plan.channels node false (frame_of w.air frame)) _ w (next w (settle (frame - 1) w) _ (k.settles (frame - 1) w) (deliver_leads line (frame - 1) node (settle (frame - 1) w)))
   line_leads line (instructions.Again frame node) w i =
       unless_leads line (delivery_fault plan.channels node true (frame_of w.air frame)) _ w (deliver_leads line (frame - 1) node w)
-  line_leads line (instructions.Lose frame) w i = unless_leads line (lost_fault false (frame_of w.air frame)) (settle (frame - 1) w) w (k.settles (frame - 1) w)
+  line_leads line (instructions.Lose frame) w i = unless_leads line (lost_fault false (frame_of w.air frame)) (lose_at line (frame - 1) frame w) w (lost line (frame - 1) frame w)
   line_leads line (instructions.Flow count) w i = flow_leads line count w
-  line_leads line (instructions.Cut count) w i = cut_leads count w
+  line_leads line (instructions.Cut count) w i = cut_leads line count w
 
   pub lines_lead : (ls : List NumberedInstruction) (w : World) → AllByRecursion (λ (l : NumberedInstruction). LineIs Heard_from Locks Again l.instruction) ls → P w (do_lines plan ls w)
   lines_lead [] w all = stays w

@@ -95,6 +95,7 @@ module _ (P : CircuitEvent → Type 0) (ds : List Declaration) (each : (line k :
   event_all line (events.Entry node (states.Overflow live would_be)) = tt
   event_all line (events.InAir frame) = tt
   event_all line (events.Delivered frame node) = tt
+  event_all line (events.Settled frame) = tt
   event_all line (events.Shown table) = tt
   event_all line (events.Took node end message) = tt
   event_all line (events.Wrote node end count) = tt

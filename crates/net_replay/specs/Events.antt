@@ -12,13 +12,14 @@ use Rattle.net_replay.specs.declared.events.NumberedEvent as numbered
 use Rattle.net_replay.specs.declared.reasons.LineRefusal.{LineRefusal}
 use Rattle.net_replay.specs.Tables.{Table}
 
--- What the node of a number tells; that a frame was put in the air, or goes to a node; a table that was shown; a message that
--- was taken, and how many of a burst were written; that a node started again, and that this took an end away; and why an act
--- wasn't done.
+-- What the node of a number tells; that a frame was put in the air, goes to a node, or is settled since it is lost; a table that was
+-- shown; a message that was taken, and how many of a burst were written; that a node started again, and that this took an end away;
+-- and why an act wasn't done.
 pub data Event : Type 0 where
   Entry : (node : ℕ) (entry : nodes.Entry) → Event
   InAir : (frame : ℕ) → Event
   Delivered : (frame node : ℕ) → Event
+  Settled : (frame : ℕ) → Event
   Shown : Table → Event
   Took : (node end : ℕ) (message : List ℕ) → Event
   Wrote : (node end count : ℕ) → Event
@@ -39,6 +40,7 @@ event_of (codes.Sent node sent) = Entry node (nodes.Of_set (Of (sets.Sent sent.v
 event_of (codes.Heeded node heeded) = Entry node (nodes.Of_set (Of (sets.Heeded heeded.value.id heeded.value.octets.items)))
 event_of (codes.InAir frame) = InAir frame
 event_of (codes.Delivered frame node) = Delivered frame node
+event_of (codes.Settled frame) = Settled frame
 event_of (codes.Shown table) = Shown table.value
 event_of (codes.Took node end message) = Took node end message.value.items
 event_of (codes.Wrote node end count) = Wrote node end count

@@ -1,12 +1,16 @@
 -- What a verdict takes in of a trace. For the parts of the verdict; not for the reader of a contract.
-use Rattle.std.specs.Prelude.{◌≡◌, ℕ, List, [], ◌∷◌, ◌++◌, map, if◌then◌else◌}
+use Rattle.std.specs.Prelude.{◌≡◌, ℕ, List, [], ◌∷◌, ◌++◌, map, Option, Some, None}
+use Rattle.ax_address.specs.Callsign.{Callsign}
 use Rattle.circuit_set.specs.Pumps.{SetTold, Of}
 use Rattle.circuit_set.specs.Sets as sets
+use Rattle.circuit_set.specs.Sets.{Told}
+use Rattle.circuit_verdict.specs.declared.event.Event.{Event as Coming}
 use Rattle.circuit_verdict.specs.declared.event.Numbered.{Numbered}
 use Rattle.circuit_verdict.specs.declared.verdict.Verdict.{Verdict}
 use Rattle.circuit_verdict.specs.Standing.{StandsFor, allowance_in}
-use Rattle.net_replay.specs.declared.late.Spot.{Spot}
+use Rattle.node_core.specs.States as states
 use Rattle.net_replay.specs.Circuits.{CircuitEvent, judged}
+use Rattle.net_replay.specs.Events.{Event, Entry, Lost, Restarted}
 
 -- it stands for these events, and for what was told behind them
 pub record StandsBehind (v : Verdict) (events : List Numbered) (told : List CircuitEvent) : Type 0 where
@@ -19,10 +23,32 @@ pub record Heeds (old new : Verdict) (told : List CircuitEvent) : Type 0 where
   pub stands : (events : List Numbered) → StandsFor old events → StandsBehind new events told
   pub same : allowance_in new ≡ allowance_in old
 
--- what is told of circuits here
-abbrev pub told_here : ℕ → Spot → sets.Told → List CircuitEvent
-told_here line h told = if h.is_node then record { line = line; event = record { node = h.place; own = h.own; told = told } } ∷ [] else []
+-- ---- what an event tells of circuits
 
-abbrev pub set_told_here : ℕ → Spot → SetTold → List CircuitEvent
-set_told_here line h (Of told) = told_here line h told
-set_told_here line h told = []
+abbrev pub set_told : SetTold → Option Told
+set_told (Of told) = Some told
+set_told other = None
+
+abbrev pub entry_told : states.Entry → Option Told
+entry_told (states.Of_set told) = set_told told
+entry_told other = None
+
+abbrev pub of_node : ℕ → Option Told → Option (ℕ × Told)
+of_node node None = None
+of_node node (Some told) = Some (node, told)
+
+-- and the number of the node
+abbrev pub circuit_told : Event → Option (ℕ × Told)
+circuit_told (Entry node entry) = of_node node (entry_told entry)
+circuit_told (Restarted node pair) = Some (node, sets.Restarted pair)
+circuit_told (Lost node end facts) = Some (node, sets.Lost end facts)
+circuit_told event = None
+
+-- as the code names the node
+abbrev pub told_here : ℕ → Option Coming → List CircuitEvent
+told_here line None = []
+told_here line (Some event) = judged (record { line = line; event = event }) ∷ []
+
+abbrev pub told_there : ℕ → Option (ℕ × Callsign) → Told → List CircuitEvent
+told_there line None told = []
+told_there line (Some spot) told = record { line = line; event = record { node = spot.0; own = spot.1; told = told } } ∷ []

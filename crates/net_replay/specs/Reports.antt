@@ -15,7 +15,7 @@ use Rattle.net_replay.specs.declared.air.Aired.{Aired}
 use Rattle.net_replay.specs.declared.ends.EndRecord.{EndRecord}
 use Rattle.net_replay.specs.Air.{frame_of}
 use Rattle.net_replay.specs.Ends.{ends_of}
-use Rattle.net_replay.specs.Events.{Event, Entry, InAir, Delivered, Shown, Took, Wrote, Restarted, Lost, Refused, NumberedEvent}
+use Rattle.net_replay.specs.Events.{Event, Entry, InAir, Delivered, Settled, Shown, Took, Wrote, Restarted, Lost, Refused, NumberedEvent}
 use Rattle.net_replay.specs.Lines.{table_of}
 use Rattle.net_replay.specs.Reasons.{word_for_why}
 use Rattle.net_replay.specs.Starting.{Placed}
@@ -68,6 +68,7 @@ abbrev pub event_text : List Aired → (ℕ → List EndRecord) → ℕ → Even
 event_text air ends line (Entry node entry) = entry_text node (ends node) entry
 event_text air ends line (InAir number) = air_line number (frame_of air number)
 event_text air ends line (Delivered frame node) = []
+event_text air ends line (Settled frame) = []
 event_text air ends line (Shown table) = table_text table
 event_text air ends line (Took node end message) = took_line node end message
 event_text air ends line (Wrote node end count) = wrote_line node end count

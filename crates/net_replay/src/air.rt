@@ -115,6 +115,7 @@ impl Air {
     pub fn oldest(&mut self) -> Option<usize>
         ensures place { result ≡ oldest self.old }
         ensures within { IfSome result (λ at. at < length self.old) }
+        ensures few { length self.old ≤ most_frames }
         ensures same { self.new ≡ self.old }
     {
         let at = open_from(&self.frames, self.first_open);

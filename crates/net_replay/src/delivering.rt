@@ -55,7 +55,7 @@ impl World {
         }
     }
 
-    /// Settles an unsettled frame, or tells why not.
+    /// Settles an unsettled frame, which goes nowhere, or tells why not.
     pub fn lose(&mut self, line: u32, frame: u32) -> Result<(), NoMemory>
         ensures { OnOk result (GoesOn (course self.old) (course self.new) (lines.lose line frame)) }
     {
@@ -66,6 +66,7 @@ impl World {
             }
             None => {
                 self.air.settle(place_of_frame(frame));
+                self.tell(line, Event::Settled { frame })?;
                 Ok(())
             }
         }
@@ -177,15 +178,18 @@ impl World {
         }
     }
 
-    /// So many times, settles the oldest unsettled frame.
-    pub fn cut(&mut self, count: u32)
-        ensures { GoesOn (course self.old) (course self.new) (lines.cut count) }
+    /// So many times, settles the oldest unsettled frame, which goes nowhere.
+    pub fn cut(&mut self, line: u32, count: u32) -> Result<(), NoMemory>
+        ensures { OnOk result (GoesOn (course self.old) (course self.new) (lines.cut line count)) }
     {
         for _ in 0..count {
             let Some(at) = self.air.oldest() else {
-                return;
+                return Ok(());
             };
             self.air.settle(at);
+            let frame = (at + 1) as u32;
+            self.tell(line, Event::Settled { frame })?;
         }
+        Ok(())
     }
 }

@@ -123,6 +123,10 @@ pub enum Event {
         frame: u32,
         node: u8,
     },
+    /// The frame of that number is lost: it is settled, and goes nowhere.
+    Settled {
+        frame: u32,
+    },
     /// A node's table was shown.
     Shown {
         table: Box<Table>,

@@ -1,14 +1,15 @@
 //! The verdict on a trace.
-ghost use Rattle.std.specs.Prelude.{◌≡◌, ◌∷◌, [], List, map, ℕ, OnOk, IfOk, nat_le, if◌then◌else◌};
+ghost use Rattle.std.specs.Prelude.{◌≡◌, List, map, ℕ, OnOk, IfOk, nat_le, if◌then◌else◌};
 ghost use Rattle.std.specs.Option.{option_copied, option_map};
 ghost use Rattle.circuit_set.specs.Sets as sets;
 ghost use Rattle.circuit_set.specs.Standing.{seen};
+ghost use Rattle.circuit_verdict.specs.Events.{told_of};
 ghost use Rattle.network_file.specs.Plan.{Plan};
 ghost use Rattle.node_core.specs.Standing.{entry_of};
 ghost use Rattle.net_replay.specs.Circuits as circuits;
-ghost use Rattle.net_replay.specs.Circuits.{IsVerdictOn, event_at, events_at, judged, told_at};
-ghost use Rattle.net_replay.specs.Events.{Entry, event_of, numbered_of};
-ghost use Rattle.net_replay.specs.Judging.{Heeds, set_told_here, told_here};
+ghost use Rattle.net_replay.specs.Circuits.{IsVerdictOn, event_at, events_at, told_at};
+ghost use Rattle.net_replay.specs.Events.{event_of, numbered_of};
+ghost use Rattle.net_replay.specs.Judging.{Heeds, circuit_told, entry_told, set_told, told_here, told_there};
 ghost use Rattle.net_replay.specs.Reporting.{AreDeclared};
 ghost use Rattle.net_replay.specs.Starting.{Placed};
 ghost use Rattle.net_replay.specs.Traces.{IsTraceOf, allowance_in, left_of};
@@ -25,14 +26,6 @@ use network_file::Declaration;
 use node_core::NodeEntry;
 use radio_base::NoMemory;
 use std::alloc::Global;
-
-/// Where something is told: a node's place and its call, or that there is no such node.
-#[derive(Clone, Copy, Debug, PartialEq, Eq)]
-struct Spot {
-    place: u64,
-    own: Call,
-    is_node: bool,
-}
 
 /// The first line at which a datagram or a pair comes back too late, if there is one.
 pub fn too_late(alloc: Global, trace: &Trace) -> Result<Option<Late>, NoMemory>
@@ -69,7 +62,7 @@ fn heed_all(
     Ok(())
 }
 
-fn heed(
+pub(crate) fn heed(
     declared: &[Declaration],
     verdict: &mut Verdict,
     numbered: &NumberedEvent,
@@ -77,71 +70,93 @@ fn heed(
     ensures { OnOk result ((nodes : List Placed) → AreDeclared declared.now nodes
         → Heeds verdict.old verdict.new (event_at nodes numbered.now.line (event_of numbered.now.event))) }
 {
-    let line = numbered.line;
-    match &numbered.event {
-        Event::Entry { node, entry } => heed_entry(declared, verdict, line, *node, entry),
-        Event::Sent { node, sent } => {
-            let spot = spot_of(declared, *node);
-            heed_sent(
-                &spot,
-                verdict,
-                line,
-                sent.datagram.id,
-                sent.number,
-                &sent.datagram.octets,
-            )
+    match circuit_event(declared, &numbered.event) {
+        Some(event) => {
+            verdict.heed(&event, numbered.line)?;
+            Ok(())
         }
-        Event::Heeded { node, heeded } => {
-            let spot = spot_of(declared, *node);
-            heed_heeded(&spot, verdict, line, heeded.id, &heeded.octets)
-        }
-        Event::Restarted { node, pair } => {
-            let spot = spot_of(declared, *node);
-            let event = CircuitEvent {
-                node: spot.place,
-                own: spot.own,
-                told: Told::Restarted { pair: *pair },
-            };
-            take_in(&spot, verdict, line, &event)
-        }
+        None => Ok(()),
+    }
+}
+
+/// What an event tells of circuits, at the place of its node: nothing where it tells of none, or where there is no such node.
+pub(crate) fn circuit_event<'a>(
+    declared: &[Declaration],
+    event: &'a Event,
+) -> Option<CircuitEvent<'a>>
+    ensures { (nodes : List Placed) (line : ℕ) → AreDeclared declared.now nodes → event_at nodes line (event_of event.now) ≡ told_here line result }
+{
+    let Some((number, told)) = told_in(event) else {
+        return None;
+    };
+    let Some((node, own)) = spot_of(declared, number) else {
+        return None;
+    };
+    Some(CircuitEvent { node, own, told })
+}
+
+/// The place of the node of that number among the nodes, by which it is named, and its call.
+fn spot_of(declared: &[Declaration], number: u8) -> Option<(u64, Call)>
+    ensures { (nodes : List Placed) (line : ℕ) (told : sets.Told) → AreDeclared declared.now nodes → told_at nodes line number told ≡ told_there line result told }
+{
+    let place = place_of(declared, number);
+    match declared.get(place) {
+        Some(one) => Some((place as u64, one.call)),
+        None => None,
+    }
+}
+
+/// What an event tells of circuits, and the number of the node.
+fn told_in<'a>(event: &'a Event) -> Option<(u8, Told<'a>)>
+    ensures { option_map (λ p. (p.0, told_of p.1)) result ≡ circuit_told (event_of event.now) }
+{
+    match event {
+        Event::Entry { node, entry } => match entry_told(entry) {
+            Some(told) => Some((*node, told)),
+            None => None,
+        },
+        Event::Sent { node, sent } => Some((
+            *node,
+            Told::Sent {
+                id: sent.datagram.id,
+                number: sent.number,
+                datagram: &sent.datagram.octets,
+            },
+        )),
+        Event::Heeded { node, heeded } => Some((
+            *node,
+            Told::Heeded {
+                id: heeded.id,
+                datagram: &heeded.octets,
+            },
+        )),
+        Event::Restarted { node, pair } => Some((*node, Told::Restarted { pair: *pair })),
         Event::Lost { node, end } => {
             let LostEnd { id, facts } = **end;
-            let spot = spot_of(declared, *node);
-            let event = CircuitEvent {
-                node: spot.place,
-                own: spot.own,
-                told: Told::Lost { id, facts },
-            };
-            take_in(&spot, verdict, line, &event)
+            Some((*node, Told::Lost { id, facts }))
         }
         Event::InAir { .. }
         | Event::Delivered { .. }
+        | Event::Settled { .. }
         | Event::Shown { .. }
         | Event::Took { .. }
         | Event::Wrote { .. }
-        | Event::Refused { .. } => Ok(()),
+        | Event::Refused { .. } => None,
     }
 }
 
-/// Takes in what an entry of the node of that number tells of circuits.
-fn heed_entry(
-    declared: &[Declaration],
-    verdict: &mut Verdict,
-    line: u32,
-    node: u8,
-    entry: &NodeEntry,
-) -> Result<(), NoMemory>
-    ensures { OnOk result ((nodes : List Placed) → AreDeclared declared.now nodes
-        → Heeds verdict.old verdict.new (event_at nodes line (Entry node (entry_of entry.now)))) }
+/// What an entry of a node tells of circuits.
+fn entry_told<'a>(entry: &'a NodeEntry) -> Option<Told<'a>>
+    ensures { option_map told_of result ≡ entry_told (entry_of entry.now) }
 {
     match entry {
-        NodeEntry::Set(event) => heed_set(&spot_of(declared, node), verdict, line, event),
-        NodeEntry::Link(..) | NodeEntry::Overflow { .. } => Ok(()),
+        NodeEntry::Set(event) => set_told(event),
+        NodeEntry::Link(..) | NodeEntry::Overflow { .. } => None,
     }
 }
 
-fn heed_set(spot: &Spot, verdict: &mut Verdict, line: u32, event: &SetEvent) -> Result<(), NoMemory>
-    ensures { OnOk result (Heeds verdict.old verdict.new (set_told_here line spot.now (seen event.now))) }
+fn set_told<'a>(event: &'a SetEvent) -> Option<Told<'a>>
+    ensures { option_map told_of result ≡ set_told (seen event.now) }
 {
     match event {
         SetEvent::Made {
@@ -149,92 +164,35 @@ fn heed_set(spot: &Spot, verdict: &mut Verdict, line: u32, event: &SetEvent) -> 
             pair,
             partner,
             request,
-        } => {
-            let event = CircuitEvent {
-                node: spot.place,
-                own: spot.own,
-                told: Told::Made {
-                    id: *id,
-                    pair: *pair,
-                    partner: *partner,
-                    request: octets_of(request),
-                },
-            };
-            take_in(spot, verdict, line, &event)
-        }
+        } => Some(Told::Made {
+            id: *id,
+            pair: *pair,
+            partner: *partner,
+            request: octets_of(request),
+        }),
         SetEvent::Sent {
             id,
             number,
             datagram,
-        } => heed_sent(spot, verdict, line, *id, *number, datagram.as_slice()),
-        SetEvent::Heeded { id, datagram } => {
-            heed_heeded(spot, verdict, line, *id, datagram.as_slice())
-        }
-        SetEvent::Notice { id, notice } => {
-            let event = CircuitEvent {
-                node: spot.place,
-                own: spot.own,
-                told: Told::Notice {
-                    id: *id,
-                    notice: *notice,
-                },
-            };
-            take_in(spot, verdict, line, &event)
-        }
-        SetEvent::Gone { id, facts } => {
-            let event = CircuitEvent {
-                node: spot.place,
-                own: spot.own,
-                told: Told::Gone {
-                    id: *id,
-                    facts: *facts,
-                },
-            };
-            take_in(spot, verdict, line, &event)
-        }
-        SetEvent::Dropped(_) | SetEvent::Lost(_) => Ok(()),
+        } => Some(Told::Sent {
+            id: *id,
+            number: *number,
+            datagram: datagram.as_slice(),
+        }),
+        SetEvent::Heeded { id, datagram } => Some(Told::Heeded {
+            id: *id,
+            datagram: datagram.as_slice(),
+        }),
+        SetEvent::Notice { id, notice } => Some(Told::Notice {
+            id: *id,
+            notice: *notice,
+        }),
+        SetEvent::Gone { id, facts } => Some(Told::Gone {
+            id: *id,
+            facts: *facts,
+        }),
+        SetEvent::Dropped(_) | SetEvent::Lost(_) => None,
     }
-}
-
-/// Takes in that an end has sent a datagram.
-fn heed_sent(
-    spot: &Spot,
-    verdict: &mut Verdict,
-    line: u32,
-    id: u64,
-    number: Option<u64>,
-    datagram: &[u8],
-) -> Result<(), NoMemory>
-    ensures { OnOk result (Heeds verdict.old verdict.new (told_here line spot.now (sets.Sent id number datagram.now))) }
-{
-    let event = CircuitEvent {
-        node: spot.place,
-        own: spot.own,
-        told: Told::Sent {
-            id,
-            number,
-            datagram,
-        },
-    };
-    take_in(spot, verdict, line, &event)
-}
-
-/// Takes in that an end has taken in a datagram.
-fn heed_heeded(
-    spot: &Spot,
-    verdict: &mut Verdict,
-    line: u32,
-    id: u64,
-    datagram: &[u8],
-) -> Result<(), NoMemory>
-    ensures { OnOk result (Heeds verdict.old verdict.new (told_here line spot.now (sets.Heeded id datagram.now))) }
-{
-    let event = CircuitEvent {
-        node: spot.place,
-        own: spot.own,
-        told: Told::Heeded { id, datagram },
-    };
-    take_in(spot, verdict, line, &event)
 }
 
 /// The octets of a request, if there is one.
@@ -244,41 +202,5 @@ fn octets_of(request: &Option<Datagram>) -> Option<&[u8]>
     match request {
         Some(datagram) => Some(datagram.as_slice()),
         None => None,
-    }
-}
-
-/// Takes in an event, where it is told at a node.
-fn take_in(
-    spot: &Spot,
-    verdict: &mut Verdict,
-    line: u32,
-    event: &CircuitEvent<'_>,
-) -> Result<(), NoMemory>
-    ensures { OnOk result (Heeds verdict.old verdict.new (if spot.now.is_node then judged (record { line = line; event = event.now }) ∷ [] else [])) }
-{
-    if spot.is_node {
-        verdict.heed(event, line)?;
-        Ok(())
-    } else {
-        Ok(())
-    }
-}
-
-/// Where the node of that number stands among the nodes, by which it is named.
-fn spot_of(declared: &[Declaration], number: u8) -> Spot
-    ensures { (nodes : List Placed) (line : ℕ) (told : sets.Told) → AreDeclared declared.now nodes → told_at nodes line number told ≡ told_here line result told }
-{
-    let place = place_of(declared, number);
-    match declared.get(place) {
-        Some(one) => Spot {
-            place: place as u64,
-            own: one.call,
-            is_node: true,
-        },
-        None => Spot {
-            place: place as u64,
-            own: Call::default(),
-            is_node: false,
-        },
     }
 }

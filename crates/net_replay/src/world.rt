@@ -113,7 +113,7 @@ impl World {
             }
             Instruction::Flow { count } => self.flow(channels, line, *count),
             Instruction::Cut { count } => {
-                self.cut(*count);
+                self.cut(line, *count)?;
                 Ok(())
             }
         }
