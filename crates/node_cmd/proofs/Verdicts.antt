@@ -13,7 +13,7 @@ use Rattle.net_replay.specs.Circuits as circuits
 use Rattle.net_replay.specs.Circuits.{CircuitEvent, IsVerdictOn, judged}
 use Rattle.net_replay.specs.Lines.{world}
 use Rattle.net_replay.specs.World.{World}
-use Rattle.node_cmd.specs.Outcomes.{AirsFew, AirsTooMany, IsInTime, IsLate, IsNetwork}
+use Rattle.net_replay.specs.Files.{AirsFew, AirsTooMany, IsInTime, IsLate, IsNetwork}
 
 told_are : (ns : List Numbered) → map (λ (e : CircuitEvent). e.event) (map judged ns) ≡ verdicts.events_of ns
 told_are [] = refl

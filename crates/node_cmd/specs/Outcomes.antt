@@ -1,13 +1,13 @@
 -- What a command that runs a network writes and leaves of it.
-use Rattle.std.specs.Prelude.{ℕ, ◌≡◌, ◌≢◌, ◌⊎◌, ◌<◌, ◌≤◌, List, length, Option, Some, None, Result, Ok, Err}
+use Rattle.std.specs.Prelude.{ℕ, ◌≡◌, ◌≢◌, ◌⊎◌, List, Option, Some, None, Result, Ok, Err}
 use Rattle.std.specs.Io.KnownBytes.{Appends}
 use Rattle.radio_base.specs.Causes.{Rose}
 use Rattle.circuit_verdict.specs.declared.verdict.Late.{Late}
 use Rattle.network_file.specs.Networks.{Bad, network_of}
 use Rattle.network_file.specs.Plan.{Plan}
 use Rattle.network_file.specs.Reasons.{word_for}
-use Rattle.net_replay.specs.Air.{most_frames}
 use Rattle.net_replay.specs.Circuits.{IsVerdictOn}
+use Rattle.net_replay.specs.Files.{AirsFew, AirsTooMany, IsInTime, IsLate, IsNetwork}
 use Rattle.net_replay.specs.Lines.{world}
 use Rattle.net_replay.specs.Promises.{RetriesAreTold, SafeThroughout}
 use Rattle.net_replay.specs.Reports.{report_text}
@@ -31,27 +31,9 @@ abbrev pub text_of : Printed → World → Option Late → List ℕ
 text_of Report w late = report_text w late
 text_of (SoakLine seed) w late = soak_text seed w late
 
--- a file is one of a network of which P holds
-abbrev pub IsNetwork : List ℕ → (Plan → Type 0) → Type 0
-IsNetwork bytes P = (network : Plan) × (network_of bytes ≡ Ok network) × P network
-
--- it has a first bad line, of whose note P holds
+-- a file has a first bad line, of whose note P holds
 abbrev pub IsBadFile : List ℕ → (List ℕ → Type 0) → Type 0
 IsBadFile bytes P = (bad : Bad) × (network_of bytes ≡ Err bad) × P (bad_line_note bad.0 (word_for bad.1))
-
--- so many frames as a replay may have in the air, or more, are put there
-abbrev pub AirsFew : Plan → Type 0
-AirsFew network = length (world network).air ≤ most_frames
-
-abbrev pub AirsTooMany : Plan → Type 0
-AirsTooMany network = most_frames < length (world network).air
-
--- it puts as many frames in the air as it may, and nothing comes back too late, or something
-abbrev pub IsInTime : Plan → Type 0
-IsInTime network = AirsFew network × IsVerdictOn network (world network) None
-
-abbrev pub IsLate : Plan → Type 0
-IsLate network = AirsFew network × ((late : Late) × IsVerdictOn network (world network) (Some late))
 
 -- why there is nothing to write of what was read: a bad line, too many frames, or want of memory
 abbrev pub NotReported : ReportRefusal → Result Plan Bad → Type 0

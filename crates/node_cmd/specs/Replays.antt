@@ -2,7 +2,8 @@
 use Rattle.std.specs.Prelude.{ℕ, ◌≡◌, List, Option, Err}
 use Rattle.network_file.specs.Networks.{Bad, network_of}
 use Rattle.network_file.specs.Plan.{Plan}
-use Rattle.node_cmd.specs.Outcomes.{AirsTooMany, IsBadFile, IsInTime, IsLate, IsNetwork}
+use Rattle.net_replay.specs.Files.{AirsTooMany, IsInTime, IsLate, IsNetwork}
+use Rattle.node_cmd.specs.Outcomes.{IsBadFile}
 use Rattle.cmd_streams.specs.Reading.{ReadsFile, TellsFile}
 
 -- a file was read to its end, and it is one of a network of which P holds
