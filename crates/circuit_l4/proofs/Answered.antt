@@ -7,7 +7,7 @@ use Rattle.circuit_l4.specs.declared.texts.Owed.{Owed}
 use Rattle.circuit_l4.specs.declared.plain.EndNotice.TheVariants.{FailedOversize}
 use Rattle.circuit_l4.specs.EndState.{Effect}
 use Rattle.circuit_l4.specs.EndMoves.{answer_all, end_with, with_receiving, answer_text}
-use Rattle.circuit_l4.specs.EndStanding.{EndView, Stands}
+use Rattle.circuit_l4.specs.EndStanding.{EndView, KeepsEffect}
 
 fitted : {A : Type 0} (fits : Bool) (x y : A) (e : Oversize) → (if fits then Ok x else Err e) ≡ Ok y → (fits ≡ true) × (x ≡ y)
 fitted true x y e h = (refl, cc h)
@@ -31,29 +31,29 @@ receipt_fails c e h = unfitted c.fits c.nak _ e h
 
 -- a text that fitted its message, and one that didn't
 pub texted_fits : (now : ℕ) (owed known : Owed) (c : Receipt) (nak : Bool) (later : EndView) (g : Effect) → c.fits ≡ true → c.nak ≡ nak → known ≡ owed →
-    Stands later (answer_all now nak known (with_receiving c.half g)) → Stands later (answer_text now owed c g)
+    KeepsEffect later (answer_all now nak known (with_receiving c.half g)) → KeepsEffect later (answer_text now owed c g)
 texted_fits now owed known c nak later g f n o h =
-    subst (λ (b : Bool). Stands later (if b then answer_all now c.nak owed (with_receiving c.half g) else end_with FailedOversize (with_receiving c.half g))) (sym f)
-    (subst (λ (b : Bool). Stands later (answer_all now b owed (with_receiving c.half g))) (sym n)
-    (subst (λ (w : Owed). Stands later (answer_all now nak w (with_receiving c.half g))) o h))
+    subst (λ (b : Bool). KeepsEffect later (if b then answer_all now c.nak owed (with_receiving c.half g) else end_with FailedOversize (with_receiving c.half g))) (sym f)
+    (subst (λ (b : Bool). KeepsEffect later (answer_all now b owed (with_receiving c.half g))) (sym n)
+    (subst (λ (w : Owed). KeepsEffect later (answer_all now nak w (with_receiving c.half g))) o h))
 
 pub texted_fails : (now : ℕ) (owed : Owed) (c : Receipt) (later : EndView) (g : Effect) → c.fits ≡ false →
-    Stands later (end_with FailedOversize (with_receiving c.half g)) → Stands later (answer_text now owed c g)
+    KeepsEffect later (end_with FailedOversize (with_receiving c.half g)) → KeepsEffect later (answer_text now owed c g)
 texted_fails now owed c later g f h =
-    subst (λ (b : Bool). Stands later (if b then answer_all now c.nak owed (with_receiving c.half g) else end_with FailedOversize (with_receiving c.half g))) (sym f) h
+    subst (λ (b : Bool). KeepsEffect later (if b then answer_all now c.nak owed (with_receiving c.half g) else end_with FailedOversize (with_receiving c.half g))) (sym f) h
 
 -- what was got is told where a negative acknowledgement is owed, and where no text goes out
-pub told_by : (nak silent : Bool) (later : EndView) (told untold : Effect) → nak ≡ true → Stands later told → Stands later (if nak || silent then told else untold)
+pub told_by : (nak silent : Bool) (later : EndView) (told untold : Effect) → nak ≡ true → KeepsEffect later told → KeepsEffect later (if nak || silent then told else untold)
 told_by true silent later told untold e h = h
 told_by false silent later told untold e h = absurd (cc e)
 
-pub silent_by : (nak silent : Bool) (later : EndView) (told untold : Effect) → silent ≡ true → Stands later told → Stands later (if nak || silent then told else untold)
+pub silent_by : (nak silent : Bool) (later : EndView) (told untold : Effect) → silent ≡ true → KeepsEffect later told → KeepsEffect later (if nak || silent then told else untold)
 silent_by true silent later told untold e h = h
 silent_by false true later told untold e h = h
 silent_by false false later told untold e h = absurd (cc e)
 
-pub untold_by : (nak silent : Bool) (later : EndView) (told untold : Effect) → nak ≡ false → silent ≡ false → Stands later untold →
-    Stands later (if nak || silent then told else untold)
+pub untold_by : (nak silent : Bool) (later : EndView) (told untold : Effect) → nak ≡ false → silent ≡ false → KeepsEffect later untold →
+    KeepsEffect later (if nak || silent then told else untold)
 untold_by false false later told untold e f h = h
 untold_by true silent later told untold e f h = absurd (cc e)
 untold_by false true later told untold e f h = absurd (cc f)

@@ -3,7 +3,7 @@ use Rattle.std.proofs.Common.{◌≡◌, ℕ, zero, suc, true, List, [], ◌∷�
 use Rattle.circuit_l4.specs.declared.piece.Piece.{Piece}
 use Rattle.circuit_l4.specs.Receiving.{keep}
 
-set_same : (e : List (Option Piece)) (i : ℕ) (x : Option Piece) → slice_get e i ≡ Some x → slice_set e i x ≡ e
+pub set_same : (e : List (Option Piece)) (i : ℕ) (x : Option Piece) → slice_get e i ≡ Some x → slice_set e i x ≡ e
 set_same [] i x h = refl
 set_same (y ∷ e) zero x h = ap (λ k. k ∷ e) (cc h)
 set_same (y ∷ e) (suc i) x h = ap (λ k. y ∷ k) (set_same e i x h)

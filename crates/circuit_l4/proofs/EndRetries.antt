@@ -1,5 +1,5 @@
 -- An end fails for want of an answer exactly where there was one expiry more than there are retries.
-use Rattle.std.proofs.Common.{◌≡◌, ℕ, suc, ◌+◌, ◌<◌, ◌≤◌, ◌⊎◌, ◌∙◌, ap, subst, sym, inl, inr, ⊎_elim, ◌↔◌, min, Bool, true, false, ◌&&◌, ◌||◌, not, nat_eq, nat_le, nat_lt, if◌then◌else◌, is_ok, List, [], ◌∷◌, ◌++◌, length, Contains, Option, Some, None, refl, arith}
+use Rattle.std.proofs.Common.{◌≡◌, ℕ, suc, ◌+◌, ◌<◌, ◌≤◌, ◌⊎◌, ◌∙◌, ap, subst, sym, inl, inr, ⊎_elim, ◌↔◌, min, Bool, true, false, ◌&&◌, ◌||◌, not, nat_eq, nat_lt, if◌then◌else◌, is_ok, List, [], ◌∷◌, ◌++◌, length, Contains, Option, Some, None, refl, arith}
 use Rattle.std.proofs.lemmas.Bool.Decides.{nat_tests}
 use Rattle.std.proofs.lemmas.List.Elements as elements
 use Rattle.radio_base.specs.declared.modulus.TheConstants.{COUNT_MAX}
@@ -17,7 +17,7 @@ use Rattle.circuit_l4.specs.declared.machine.Role.{Role}
 use Rattle.circuit_l4.specs.declared.machine.Role.TheVariants.{Requester, Responder}
 use Rattle.circuit_l4.specs.EndState.{Effect, Out, State, begin, is_up}
 use Rattle.circuit_l4.specs.EndMoves.{acknowledge, answer, answer_all, begin_to_close, wait, wait_if_out, on_state, end_with, fill, fill_count, finish, again, emit_ack, with_receiving, is_done, emit, note, on_info, on_info_ack, emit_owed, supply}
-use Rattle.circuit_l4.specs.EndTable.{Input, Write, Arrive, Tick, Close, Take, on_accept, common_window, arrive_in, ask_by, close, close_in_turn, due_in, expire, note_activity, is_due, may_close, come_up, release, resume_by, retry, retry_in, step, step_at, take_first, tick, write_answer, write}
+use Rattle.circuit_l4.specs.EndTable.{Input, Write, Arrive, Tick, Close, Take, on_accept, common_window, arrive_in, ask_by, close, close_in_turn, due_in, expire, note_activity, is_due, may_close, come_up, release, resume_by, retry, retry_in, step, step_at, take_first, write_answer, write}
 use Rattle.circuit_l4.specs.EndLaws.{Asks, Accepts, FailsAfterRetries, IsNew, followed_by, after_inputs}
 use Rattle.circuit_l4.specs.Expiries.{Moment, any_renews, awaits, count, expires, expires_at, expiries, is_anew, is_closing, is_inactive, moments, renews, since_last, tick_of}
 use Rattle.circuit_l4.specs.Sending.{written}

@@ -6,6 +6,7 @@ pub mod Queues
 pub mod Rings
 pub mod Waiting
 pub mod EarlyPieces
+pub mod Bounds
 pub mod Receives
 pub mod Moves
 pub mod Answered

@@ -1,9 +1,9 @@
 -- Early fragments follow.
-use Rattle.std.proofs.Common.{◌≡◌, ℕ, zero, suc, ◌+◌, ◌-◌, ◌<◌, Bool, true, false, if◌then◌else◌, Option, Some, None, Result, Ok, Err, refl, ap, sym, ◌∙◌, subst, arith}
+use Rattle.std.proofs.Common.{◌≡◌, ℕ, zero, suc, ◌+◌, ◌-◌, ◌<◌, Bool, true, false, if◌then◌else◌, length, Option, Some, None, Result, Ok, Err, refl, ap, sym, ◌∙◌, subst, arith}
 use Rattle.std.specs.Prelude.{IsErr}
 use Rattle.circuit_reassembly.specs.declared.gather.Oversize.{Oversize}
 use Rattle.circuit_l4.specs.declared.piece.Piece.{Piece}
-use Rattle.circuit_l4.specs.Receiving.{Appended, Receiving, append, move_on, next_early}
+use Rattle.circuit_l4.specs.Receiving.{Appended, Receiving, append, move_on, moved_on, next_early}
 use Rattle.circuit_l4.specs.Halves.{Inbox, IsReceiving, moved_answer}
 
 -- what is kept stands for a half that will be this one, once at most k early fragments have followed
@@ -11,6 +11,13 @@ pub record Goes (i : Inbox) (k : ℕ) (goal : Appended) : Type 0 where
   pub at : Receiving
   pub stands : IsReceiving i at
   pub goes : move_on k at ≡ goal
+
+-- so it does at first
+pub starts : (i : Inbox) (r : Receiving) → IsReceiving i r → Goes i (length i.early - 0) (moved_on r)
+starts i r h =
+    let same : length i.early ≡ length r.early = ap length h.early in
+    let all : length i.early - 0 ≡ length r.early = omega (arith, same) in
+    record { at = r; stands = h; goes = ap (λ n. move_on n r) all }
 
 -- what is kept stands for this half, and this is the answer
 pub record Ends (i : Inbox) (answer : Result (Unit {0}) Oversize) (goal : Appended) : Type 0 where

@@ -5,13 +5,15 @@ use Rattle.circuit_l4.specs.declared.plain.EndNotice.{EndNotice}
 use Rattle.circuit_l4.specs.declared.plain.WriteRefusal.{WriteRefusal}
 use Rattle.circuit_l4.specs.EndState.{Effect, State, begin}
 use Rattle.circuit_l4.specs.EndTable.{write_answer, write}
-use Rattle.circuit_l4.specs.EndStanding.{IsDrained, EndView, Stands, StandsFor}
+use Rattle.circuit_l4.specs.EndStanding.{IsDrained, EndView, KeepsEffect, Stands, StandsFor, view_of}
+use Rattle.circuit_l4.specs.declared.machine.Machine.{Machine}
 use Rattle.circuit_l4.specs.Outputs.{outs_of}
 use Rattle.circuit_l4.specs.declared.output.Output.{Output}
+use Rattle.circuit_l4.proofs.Bounds.{stands}
 use Rattle.circuit_l4.proofs.Waiting.{emptied, none_out}
 
 -- a step begins where nothing waits
-pub begins : (k : EndView) (s : State) → IsDrained k → StandsFor k s → Stands k (begin s)
+begins : (k : EndView) (s : State) → IsDrained k → StandsFor k s → KeepsEffect k (begin s)
 begins k s drained h =
     record {
       written = h.written;
@@ -22,18 +24,19 @@ begins k s drained h =
     }
 
 -- a part that is done from what is kept is a step
-pub stepped : (k later : EndView) (now moment : ℕ) (part : ℕ → Effect → Effect) → IsDrained k → now ≡ moment →
-    ((g : Effect) → Stands k g → Stands later (part now g)) →
-    (s : State) → StandsFor k s → Stands later (part moment (begin s))
-stepped k later now moment part drained e does s h = subst (λ n. Stands later (part n (begin s))) e (does (begin s) (begins k s drained h))
+pub stepped : (k : EndView) (later : Machine) (now moment : ℕ) (part : ℕ → Effect → Effect) → IsDrained k → now ≡ moment →
+    ((g : Effect) → KeepsEffect k g → KeepsEffect (view_of later) (part now g)) →
+    (s : State) → StandsFor k s → Stands (view_of later) (part moment (begin s))
+stepped k later now moment part drained e does s h =
+    subst (λ n. Stands (view_of later) (part n (begin s))) e (stands later (part now (begin s)) (does (begin s) (begins k s drained h)))
 
 -- where the answer is Ok, the machine takes the message
-pub accepts : (k later : EndView) (now moment : ℕ) (message : List ℕ) (r : Result (Unit {0}) WriteRefusal) → IsDrained k → now ≡ moment → r ≡ Ok tt →
+pub accepts : (k : EndView) (later : Machine) (now moment : ℕ) (message : List ℕ) (r : Result (Unit {0}) WriteRefusal) → IsDrained k → now ≡ moment → r ≡ Ok tt →
     ((s : State) → StandsFor k s → r ≡ write_answer s message) →
-    ((g : Effect) → Stands k g → Stands later (write now message g)) →
-    (s : State) → StandsFor k s → Stands later (if is_ok (write_answer s message) then write moment message (begin s) else begin s)
+    ((g : Effect) → KeepsEffect k g → KeepsEffect (view_of later) (write now message g)) →
+    (s : State) → StandsFor k s → Stands (view_of later) (if is_ok (write_answer s message) then write moment message (begin s) else begin s)
 accepts k later now moment message r drained e is answer does s h =
-    subst (λ (ok : Bool). Stands later (if ok then write moment message (begin s) else begin s)) (ap is_ok (sym is ∙ answer s h))
+    subst (λ (ok : Bool). Stands (view_of later) (if ok then write moment message (begin s) else begin s)) (ap is_ok (sym is ∙ answer s h))
     (stepped k later now moment (λ n g. write n message g) drained e does s h)
 
 pub on_ok : (r : Result (Unit {0}) WriteRefusal) (P Q : Type 0) → (r ≡ Ok tt → P → Q) → OnOk r P → OnOk r Q

@@ -14,7 +14,7 @@ use Rattle.circuit_l4.specs.Receiving.{Receiving, busy}
 use Rattle.circuit_l4.specs.Halves.{IsSending, Outbox, fragment_in}
 use Rattle.circuit_l4.specs.EndState.{Effect, State, info}
 use Rattle.circuit_l4.specs.EndMoves.{emit_infos}
-use Rattle.circuit_l4.specs.EndStanding.{EndView, Stands, effect_of}
+use Rattle.circuit_l4.specs.EndStanding.{EndView, KeepsEffect, effect_of}
 use Rattle.circuit_l4.specs.EndCalls.{emits}
 use Rattle.circuit_l4.specs.Outputs.{out_of, outs_of, with_text}
 use Rattle.circuit_l4.proofs.Acknowledged.{all-append}
@@ -64,7 +64,7 @@ waits_too queue first outputs o room h =
     ap (outs_of queue first) (keep_all (outputs ++ o ∷ []) room (rw (length-append outputs (o ∷ [])) (omega (arith, h)))) ∙ more_out queue first outputs o
 
 pub puts_stand : (k later : EndView) (o : Output) → later ≡ record k { outs = k.outs ++ out_of k.outgoing.queue (k.outgoing.acked - k.outgoing.done) o ∷ [] } →
-    (g : Effect) → Stands k g → Stands later (emits k.outgoing o g)
+    (g : Effect) → KeepsEffect k g → KeepsEffect later (emits k.outgoing o g)
 puts_stand k later o e g h =
     rw e
     (record {

@@ -11,12 +11,12 @@ use Rattle.circuit_l4.specs.declared.transport.Pair.{Pair}
 use Rattle.circuit_l4.specs.Sending.{bytes_of}
 use Rattle.circuit_l4.specs.Halves.{Outbox}
 use Rattle.circuit_l4.specs.EndState.{Effect}
-use Rattle.circuit_l4.specs.EndStanding.{Stands, view_of}
+use Rattle.circuit_l4.specs.EndStanding.{KeepsEffect, view_of}
 use Rattle.circuit_l4.specs.Outputs.{out_of}
 
 -- a call does this part of a step
 abbrev pub Does : (Effect → Effect) → Machine → Machine → Type 0
-Does part old new = (g : Effect) → Stands (view_of old) g → Stands (view_of new) (part g)
+Does part old new = (g : Effect) → KeepsEffect (view_of old) g → KeepsEffect (view_of new) (part g)
 
 -- a call adds at most so many outputs to those that wait, and leaves the notice and the configuration
 pub record Adds (k : ℕ) (old new : Machine) : Type 0 where

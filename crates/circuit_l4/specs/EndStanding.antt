@@ -13,6 +13,7 @@ use Rattle.circuit_l4.specs.Sending.{Sending}
 use Rattle.circuit_l4.specs.Receiving.{Receiving}
 use Rattle.circuit_l4.specs.Outputs.{outs_of}
 use Rattle.circuit_l4.specs.Halves.{Inbox, IsReceiving, IsSending, Outbox}
+use Rattle.circuit_l4.specs.Within.{IsWithin}
 
 -- what is kept; what waits to be put out is as it goes out
 pub record EndView : Type 0 where
@@ -76,11 +77,21 @@ abbrev pub effect_of : EndView → Sending → Receiving → Effect
 effect_of m sending receiving =
     record { end = state_of m sending receiving; outs = m.outs; notes = option_to_list m.notice }
 
+-- what is kept stands for this step under way, whatever its bounds
+pub record KeepsEffect (m : EndView) (g : Effect) : Type 0 where
+  pub written : Sending
+  pub came : Receiving
+  pub sending : IsSending m.outgoing written
+  pub receiving : IsReceiving m.incoming came
+  pub is : g ≡ effect_of m written came
+
+-- what is kept is within its bounds, and stands for this state
 pub record StandsFor (m : EndView) (s : State) : Type 0 where
   pub written : Sending
   pub came : Receiving
   pub sending : IsSending m.outgoing written
   pub receiving : IsReceiving m.incoming came
+  pub within : IsWithin m.config.window m.outgoing m.incoming
   pub is : s ≡ state_of m written came
 
 -- the same of a step under way
@@ -89,6 +100,7 @@ pub record Stands (m : EndView) (g : Effect) : Type 0 where
   pub came : Receiving
   pub sending : IsSending m.outgoing written
   pub receiving : IsReceiving m.incoming came
+  pub within : IsWithin m.config.window m.outgoing m.incoming
   pub is : g ≡ effect_of m written came
 
 -- no output and no notice waits

@@ -5,6 +5,7 @@ pub mod Sending
 pub mod Receiving
 pub mod Queued
 pub mod Halves
+pub mod Within
 pub mod Inboxes
 pub mod EndState
 pub mod Outputs
@@ -12,6 +13,7 @@ pub mod EndMoves
 pub mod EndTable
 pub mod EndOpening
 pub mod EndStanding
+pub mod Kept
 pub mod Forgetting
 pub mod Outboxes
 pub mod Expiries

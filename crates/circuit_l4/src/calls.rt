@@ -26,11 +26,11 @@ pub struct Beginning {
 
 impl Machine {
     ghost use Rattle.circuit_l4.specs.EndTable as table;
-    ghost use Rattle.circuit_l4.specs.EndState.{State, is_up};
+    ghost use Rattle.circuit_l4.specs.EndState.{State, begin, is_up};
     ghost use Rattle.circuit_l4.specs.EndOpening as opening;
     ghost use Rattle.circuit_l4.specs.EndOpening.{IsConfig};
     ghost use Rattle.circuit_l4.specs.EndCalls.{Adds, Does, MayWrite};
-    ghost use Rattle.circuit_l4.specs.EndStanding.{IsDrained, StandsFor, view_of};
+    ghost use Rattle.circuit_l4.specs.EndStanding.{KeepsEffect, StandsFor, view_of};
     ghost use Rattle.circuit_l4.specs.EndTable.{resume};
     ghost use Rattle.circuit_l4.specs.Halves.{IsReceiving, first_or};
     ghost use Rattle.circuit_l4.specs.Receiving.{Receiving, busy};
@@ -45,8 +45,7 @@ impl Machine {
         requires now { now ≤ COUNT_MAX }
         requires window { beginning.window ≤ config.window }
         requires config { IsConfig config }
-        ensures opening { IfOk result (λ m. StandsFor (view_of m) (opening.new beginning config now)) }
-        ensures drained { IfOk result (λ m. IsDrained (view_of m)) }
+        ensures opening { IfOk result (λ m. KeepsEffect (view_of m) (begin (opening.new beginning config now))) }
         ensures outs { IfOk result (λ m. m.outs.items ≡ []) }
         ensures config { IfOk result (λ m. m.config ≡ config) }
     {

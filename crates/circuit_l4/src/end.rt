@@ -6,6 +6,7 @@ ghost use Rattle.circuit_l4.specs.EndOpening as opening;
 ghost use Rattle.circuit_l4.specs.EndOpening.{IsConfig};
 ghost use Rattle.circuit_l4.specs.EndStanding.{IsDrained, Stands, StandsFor};
 ghost use Rattle.circuit_l4.specs.Halves.{first_or};
+ghost use Rattle.circuit_l4.specs.Kept.{kept, share};
 ghost use Rattle.circuit_l4.specs.Receiving.{inbox};
 
 use crate::arrivals::common_window;
@@ -113,6 +114,7 @@ impl End {
         ensures does { OnOk result ((s : State) → StandsFor self.old s → Stands self.new (table.step s (table.Write message.now) now.0)) }
         ensures err { OnErr result (self.new ≡ self.old) }
         ensures few { length self.new.outs ≤ 2 * self.old.config.window + 2 }
+        ensures kept { kept self.new ≤ share self.new.config.window }
         ensures config { self.new.config ≡ self.old.config }
     {
         self.machine.write(message, moment(now))
@@ -123,6 +125,7 @@ impl End {
         requires { IsDrained self.old }
         ensures does { (s : State) → StandsFor self.old s → Stands self.new (table.step s table.Close now.0) }
         ensures few { length self.new.outs ≤ 2 * self.old.config.window + 2 }
+        ensures kept { kept self.new ≤ share self.new.config.window }
         ensures config { self.new.config ≡ self.old.config }
     {
         self.machine.close(moment(now));
@@ -133,6 +136,7 @@ impl End {
         requires { IsDrained self.old }
         ensures does { (s : State) → StandsFor self.old s → Stands self.new (table.step s (table.Arrive transport.now) now.0) }
         ensures few { length self.new.outs ≤ 2 * self.old.config.window + 2 }
+        ensures kept { kept self.new ≤ share self.new.config.window }
         ensures most { length self.new.outs ≤ 256 }
         ensures config { self.new.config ≡ self.old.config }
     {
@@ -144,6 +148,7 @@ impl End {
         requires { IsDrained self.old }
         ensures does { (s : State) → StandsFor self.old s → Stands self.new (table.step s table.Tick now.0) }
         ensures few { length self.new.outs ≤ 2 * self.old.config.window + 2 }
+        ensures kept { kept self.new ≤ share self.new.config.window }
         ensures config { self.new.config ≡ self.old.config }
     {
         self.machine.tick(moment(now));
@@ -157,6 +162,7 @@ impl End {
         ensures message { (s : State) → StandsFor self.old s → out.new.items ≡ first_or out.old.items (inbox s.receiving) }
         ensures answer { (s : State) → StandsFor self.old s → result ≡ nat_lt 0 (length (inbox s.receiving)) }
         ensures few { length self.new.outs ≤ 2 * self.old.config.window + 2 }
+        ensures kept { kept self.new ≤ share self.new.config.window }
         ensures config { self.new.config ≡ self.old.config }
     {
         self.machine.take(out)

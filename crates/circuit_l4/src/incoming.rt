@@ -2,10 +2,13 @@
 ghost use Rattle.std.specs.Prelude.{◌≡◌, ◌+◌, ◌≤◌, ◌↔◌, [], length, nat_lt, replicate, IfOk, IfSome, IsTrue, None};
 ghost use Rattle.circular_buffer.specs.Buffer.{buffer};
 ghost use Rattle.circuit_reassembly.specs.Gathering.{gather_step};
+ghost use Rattle.circuit_reassembly.specs.Kept.{still};
 ghost use Rattle.circuit_l4.specs.Sending.{bytes_of};
 ghost use Rattle.circuit_l4.specs.Receiving as spec;
 ghost use Rattle.circuit_l4.specs.Receiving.{Receiving};
 ghost use Rattle.circuit_l4.specs.Halves.{IsReceiving, Takes, receipt_answer, first_or, moved_answer, take_message, whole_answer, with_answer};
+ghost use Rattle.circuit_l4.specs.Inboxes.{AreSmall};
+ghost use Rattle.circuit_l4.specs.Within.{IsFew};
 
 use crate::messages::Messages;
 use crate::piece::{BUSY_AT, Piece, copy_of};
@@ -53,7 +56,8 @@ impl Model for Incoming {
 impl Incoming {
     /// Nothing has come. Takes all the memory that is ever needed.
     pub(crate) fn new(alloc: Global, window: u8) -> Result<Incoming, NoMemory>
-        ensures { IfOk result (λ i. i ≡ record { got = 0; early = replicate window None; gathered = []; messages = []; received = 0; nak_sent_for = None }) }
+        ensures value { IfOk result (λ i. i ≡ record { got = 0; early = replicate window None; gathered = []; messages = []; received = 0; nak_sent_for = None }) }
+        ensures few { IfOk result IsFew }
     {
         Ok(Incoming {
             got: 0,
@@ -108,6 +112,7 @@ impl Incoming {
         ensures does { (r : Receiving) → IsReceiving self.old r → IsReceiving self.new (spec.receive window tx piece.now r).half }
         ensures answer { (r : Receiving) → IsReceiving self.old r → result ≡ receipt_answer (spec.receive window tx piece.now r) }
         ensures places { length self.new.early ≡ length self.old.early }
+        ensures few { IsFew self.new }
     {
         if !self.takes() {
             return Ok(false);
@@ -125,6 +130,7 @@ impl Incoming {
         ensures does { (r : Receiving) → IsReceiving self.old r → IsReceiving self.new (spec.receive_at number piece.now r).half }
         ensures answer { (r : Receiving) → IsReceiving self.old r → result ≡ receipt_answer (spec.receive_at number piece.now r) }
         ensures places { length self.new.early ≡ length self.old.early }
+        ensures few { IsFew self.new }
     {
         if self.got < number {
             Ok(self.receive_early(number, piece))
@@ -139,6 +145,7 @@ impl Incoming {
         ensures does { (r : Receiving) → IsReceiving self.old r → IsReceiving self.new (spec.receive_early number piece.now r).half }
         ensures answer { (r : Receiving) → IsReceiving self.old r → result ≡ (spec.receive_early number piece.now r).nak }
         ensures places { length self.new.early ≡ length self.old.early }
+        ensures few { IsFew self.new }
     {
         keep(&mut self.early, (number - self.got) as usize, piece);
         let asks = self.nak_sent_for != Some(self.got);
@@ -152,6 +159,7 @@ impl Incoming {
         ensures does { (r : Receiving) → IsReceiving self.old r → IsReceiving self.new (spec.receive_next piece.now r).half }
         ensures answer { (r : Receiving) → IsReceiving self.old r → result ≡ receipt_answer (spec.receive_next piece.now r) }
         ensures places { length self.new.early ≡ length self.old.early }
+        ensures few { IsFew self.new }
     {
         self.append(piece)?;
         self.move_on()?;
@@ -164,6 +172,7 @@ impl Incoming {
         ensures does { (r : Receiving) → IsReceiving self.old r → IsReceiving self.new (spec.append piece.now.text.items piece.now.more r).half }
         ensures answer { (r : Receiving) → IsReceiving self.old r → result ≡ moved_answer (spec.append piece.now.text.items piece.now.more r) }
         ensures places { length self.new.early ≡ length self.old.early }
+        ensures few { IsFew self.new }
     {
         let text = piece.text.as_slice();
         let whole = gather_next(&mut self.gather, &mut self.inbox, text, piece.more)?;
@@ -194,6 +203,7 @@ impl Incoming {
         ensures does { (r : Receiving) → IsReceiving self.old r → IsReceiving self.new (spec.moved_on r).half }
         ensures answer { (r : Receiving) → IsReceiving self.old r → result ≡ moved_answer (spec.moved_on r) }
         ensures places { length self.new.early ≡ length self.old.early }
+        ensures few { IsFew self.new }
     {
         for done in 0..self.early.len() {
             match self.next_early() {
@@ -210,6 +220,7 @@ impl Incoming {
         ensures message { out.new.items ≡ first_or out.old.items self.old.messages }
         ensures answer { result ≡ nat_lt 0 (length self.old.messages) }
         ensures places { length self.new.early ≡ length self.old.early }
+        ensures few { IsFew self.new }
     {
         if !self.inbox.pop(out) {
             return false;
@@ -221,7 +232,8 @@ impl Incoming {
 
 /// So many places, with nothing in them.
 fn empty_places(alloc: Global, many: u8) -> Result<Places, NoMemory>
-    ensures { IfOk result (λ early. early ≡ buffer (replicate many None) many) }
+    ensures value { IfOk result (λ early. early ≡ buffer (replicate many None) many) }
+    ensures small { IfOk result (λ early. AreSmall early.items) }
 {
     let mut early = HeapCircularBuffer::with_capacity(alloc, many as usize)?;
     for done in 0..many {
@@ -232,7 +244,8 @@ fn empty_places(alloc: Global, many: u8) -> Result<Places, NoMemory>
 
 /// Keeps a fragment, where none is kept in its place.
 fn keep(early: &mut Places, place: usize, piece: &Piece)
-    ensures { early.new ≡ buffer (spec.keep place piece.now early.old.items) early.old.capacity }
+    ensures keeps { early.new ≡ buffer (spec.keep place piece.now early.old.items) early.old.capacity }
+    ensures small { AreSmall early.old.items → AreSmall early.new.items }
 {
     if let Some(kept) = early.get_mut(place) {
         if kept.is_none() {
@@ -249,14 +262,18 @@ fn gather_next(
     more: bool,
 ) -> Result<bool, Oversize>
     requires text { length text.now ≤ 236 }
-    requires room { bytes_of inbox.old.messages + length gather.old + length text.now ≤ inbox.old.room }
-    ensures held { gather.new ≡ (gather_step gather.old text.now more).0 }
-    ensures messages { inbox.new ≡ record inbox.old { messages = with_answer (gather_step gather.old text.now more).1 inbox.old.messages } }
-    ensures answer { result ≡ whole_answer (gather_step gather.old text.now more).1 }
+    requires room { bytes_of inbox.old.messages + length gather.old.held + length text.now ≤ inbox.old.room }
+    ensures held { gather.new ≡ still (gather_step gather.old.held text.now more).0 }
+    ensures messages { inbox.new ≡ record inbox.old { messages = with_answer (gather_step gather.old.held text.now more).1 inbox.old.messages } }
+    ensures answer { result ≡ whole_answer (gather_step gather.old.held text.now more).1 }
 {
     match gather.push(text, more) {
         Ok(Gathered::More) => Ok(false),
-        Ok(Gathered::Whole(message)) => Ok(keep_message(inbox, message)),
+        Ok(Gathered::Whole(message)) => {
+            let some = keep_message(inbox, message);
+            gather.let_go();
+            Ok(some)
+        }
         Err(Oversize) => Err(Oversize),
     }
 }

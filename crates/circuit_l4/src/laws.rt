@@ -1,6 +1,7 @@
 //! What the definitions promise by themselves.
 ghost use Rattle.std.specs.Prelude.{◌≡◌};
 ghost use Rattle.circuit_l4.specs.EndLaws as end_law;
+ghost use Rattle.circuit_l4.specs.Kept.{KeepsItsShare};
 ghost use Rattle.circuit_l4.specs.Laws as law;
 
 use crate::{BUSY_AT, MAX_TEXT, MAX_TRANSPORT, QUEUE_MAX};
@@ -23,6 +24,11 @@ pub fn endings()
     ensures retries { end_law.FailsAfterRetries }
     ensures silent { end_law.FailingPutsOutNothing }
     ensures acknowledged { end_law.DisconnectsWhenAcknowledged }
+{}
+
+/// An end keeps at most its share: 90,347 octets, and 236 for each fragment of its window. Transports that wait to be fetched aren't counted.
+pub fn kept()
+    ensures { KeepsItsShare }
 {}
 
 /// The most octets of a transport and bytes of its text, and the bytes of messages that an end holds and at which it is busy.

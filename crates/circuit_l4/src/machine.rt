@@ -1,6 +1,8 @@
 //! What an end keeps above its two halves.
 ghost use Rattle.std.specs.Prelude.{◌≡◌, ◌+◌, ◌-◌, ◌*◌, ◌≤◌, ◌<◌, length, drop, slice_get, None, Some};
 ghost use Rattle.radio_base.specs.declared.modulus.TheConstants.{COUNT_MAX};
+ghost use Rattle.circuit_l4.specs.Sending.{bytes_of};
+ghost use Rattle.circuit_l4.specs.Within.{IsFew};
 
 use crate::incoming::Incoming;
 use crate::outgoing::Outgoing;
@@ -50,6 +52,8 @@ pub(crate) struct Machine {
     ghost own_window_some: { 1 ≤ config.window },
     ghost own_window_fits: { config.window ≤ 127 },
     ghost places: { length incoming.early ≡ config.window },
+    ghost queue_fits: { bytes_of outgoing.queue ≤ 65536 },
+    ghost few: { IsFew incoming },
     ghost outs_room: { outs.capacity ≡ 2 * config.window + 2 },
     ghost outs_fit: { length outs.items ≤ 2 * config.window + 2 },
     ghost timeout_fits: { config.timeout ≤ COUNT_MAX },

@@ -101,6 +101,7 @@ impl Outgoing {
         ensures acked { self.new.acked ≡ self.old.acked }
         ensures sent { self.new.sent ≡ self.old.sent }
         ensures total { self.new.total ≡ self.old.total + length (fragments_of message.now) }
+        ensures few { bytes_of self.new.queue ≤ 65536 }
     {
         self.queue.push(message);
         self.wrote += 1;
@@ -115,6 +116,7 @@ impl Outgoing {
         ensures acked { self.new.acked ≡ below }
         ensures sent { self.new.sent ≡ self.old.sent }
         ensures total { self.new.total ≡ self.old.total }
+        ensures few { bytes_of self.new.queue ≤ 65536 }
     {
         self.done += below - self.acked;
         self.acked = below;
@@ -126,6 +128,7 @@ impl Outgoing {
         requires { self.old.sent + many ≤ self.old.total }
         ensures does { (s : Sending) → IsSending self.old s → IsSending self.new (record s { sent = s.sent + many }) }
         ensures rest { self.new ≡ record self.old { sent = self.old.sent + many } }
+        ensures few { bytes_of self.new.queue ≤ 65536 }
     {
         self.sent += many;
     }

@@ -26,7 +26,8 @@ pub(crate) fn piece_of(bytes: &[u8], more: bool) -> Piece
 
 /// A fragment of the same bytes.
 pub(crate) fn copy_of(piece: &Piece) -> Piece
-    ensures { result ≡ piece.now }
+    ensures same { result ≡ piece.now }
+    ensures small { length result.text.items ≤ 236 }
 {
     piece_of(piece.text.as_slice(), piece.more)
 }

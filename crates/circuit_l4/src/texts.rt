@@ -21,7 +21,7 @@ impl Machine {
     ghost use Rattle.circuit_l4.specs.EndState.{Effect};
     ghost use Rattle.circuit_l4.specs.EndMoves as moves;
     ghost use Rattle.circuit_l4.specs.EndCalls.{Adds, Does, IsOwed};
-    ghost use Rattle.circuit_l4.specs.EndStanding.{Stands, view_of, state_of};
+    ghost use Rattle.circuit_l4.specs.EndStanding.{KeepsEffect, view_of, state_of};
     ghost use Rattle.circuit_l4.specs.Halves.{IsSending, receipt_answer};
     ghost use Rattle.circuit_l4.specs.Sending.{Sending};
     ghost use Rattle.circuit_l4.specs.Receiving.{Receiving, receive};
@@ -55,8 +55,8 @@ impl Machine {
 
     /// The text of a message has come. Answers whether a negative acknowledgement is owed.
     fn receive(&mut self, tx: u8, piece: &Piece) -> Result<bool, Oversize>
-        ensures does { (g : Effect) → Stands (view_of self.old) g →
-            Stands (view_of self.new) (moves.with_receiving (receive g.end.window tx piece.now g.end.receiving).half g)
+        ensures does { (g : Effect) → KeepsEffect (view_of self.old) g →
+            KeepsEffect (view_of self.new) (moves.with_receiving (receive g.end.window tx piece.now g.end.receiving).half g)
             × (result ≡ receipt_answer (receive g.end.window tx piece.now g.end.receiving)) }
         ensures adds { Adds 0 self.old self.new }
         ensures outgoing { self.new.outgoing ≡ self.old.outgoing }
@@ -81,8 +81,8 @@ impl Machine {
     fn acknowledge(&mut self, rx: u8, flags: Flags, now: u64) -> Owed
         requires now { now ≤ COUNT_MAX }
         requires outs { self.old.outs.items ≡ [] }
-        ensures does { (g : Effect) → Stands (view_of self.old) g →
-            Stands (view_of self.new) (moves.on_state (λ s. (moves.acknowledge now rx flags s).end) g)
+        ensures does { (g : Effect) → KeepsEffect (view_of self.old) g →
+            KeepsEffect (view_of self.new) (moves.on_state (λ s. (moves.acknowledge now rx flags s).end) g)
             × (result ≡ (moves.acknowledge now rx flags g.end).owed) }
         ensures adds { Adds 0 self.old self.new }
         ensures owed { IsOwed result self.new }
@@ -108,8 +108,8 @@ impl Machine {
         requires from { self.old.outgoing.acked ≤ below }
         requires to { below ≤ self.old.outgoing.sent }
         requires outs { self.old.outs.items ≡ [] }
-        ensures does { (g : Effect) → Stands (view_of self.old) g →
-            Stands (view_of self.new) (moves.on_state (λ s. (moves.acknowledge_at now flags below s).end) g)
+        ensures does { (g : Effect) → KeepsEffect (view_of self.old) g →
+            KeepsEffect (view_of self.new) (moves.on_state (λ s. (moves.acknowledge_at now flags below s).end) g)
             × (result ≡ (moves.acknowledge_at now flags below g.end).owed) }
         ensures adds { Adds 0 self.old self.new }
         ensures owed { IsOwed result self.new }

@@ -7,6 +7,8 @@ use Rattle.circuit_reassembly.specs.declared.gather.Gathered.TheVariants as gath
 use Rattle.circuit_reassembly.specs.declared.gather.Oversize.{Oversize}
 use Rattle.circuit_reassembly.specs.contracts.gather.Gather.{the_row}
 use Rattle.circuit_reassembly.specs.Gathering.{Answer, More, Whole, Too_long, gather_step}
+use Rattle.circuit_reassembly.specs.Holding.{answered}
+use Rattle.circuit_reassembly.specs.Kept.{Gathering}
 
 -- an answer of the code as such an answer
 abbrev pub answer_of : Result Gathered Oversize → Answer
@@ -14,7 +16,7 @@ answer_of (Ok gathered.More) = More
 answer_of (Ok (gathered.Whole message)) = Whole message.now
 answer_of (Err _) = Too_long
 
--- once what was lent is given back, what is held is that of the step
-abbrev pub StepsOn : MutBor (List ℕ) → List ℕ → Bool → Fml
+-- once what was lent is given back, the gather has what the step leaves
+abbrev pub StepsOn : MutBor Gathering → List ℕ → Bool → Fml
 StepsOn gather piece more =
-    follows_so the_row the_row gather.ghost_name none (λ _ _. ⊤) (λ later. later ≡ (gather_step gather.now piece more).0)
+    follows_so the_row the_row gather.ghost_name none (λ _ _. ⊤) (λ later. later ≡ answered (gather_step gather.now.held piece more))

@@ -2,6 +2,7 @@
 ghost use Rattle.std.specs.Prelude.{◌≡◌, ◌≤◌, [], length, IfOk};
 ghost use Rattle.circuit_reassembly.specs.Gathering.{gather_step};
 ghost use Rattle.circuit_reassembly.specs.Answering.{StepsOn, answer_of};
+ghost use Rattle.circuit_reassembly.specs.Kept.{kept, share, still};
 
 use crate::held::{Held, Took};
 use radio_base::NoMemory;
@@ -28,12 +29,12 @@ pub struct Gather {
 }
 
 impl Model for Gather {
-    ghost use Rattle.std.specs.Prelude.{ℕ, List};
-    ghost use Rattle.circuit_reassembly.specs.Holding.{held_at};
+    ghost use Rattle.circuit_reassembly.specs.Holding.{gathering};
+    ghost use Rattle.circuit_reassembly.specs.Kept.{Gathering};
 
-    ghost Value = { List ℕ };
+    ghost Value = { Gathering };
 
-    ghost view = { λ g. held_at g.held.handed_up g.held.bytes.items };
+    ghost view = { λ g. gathering g.held.handed_up g.held.bytes.items };
 }
 
 impl Gather {
@@ -41,7 +42,7 @@ impl Gather {
 
     /// A gather that holds nothing, with room for the longest message.
     pub fn new(alloc: Global) -> Result<Gather, NoMemory>
-        ensures { IfOk result (λ g. g ≡ []) }
+        ensures { IfOk result (λ g. g ≡ still []) }
     {
         Ok(Gather {
             held: Held::new(alloc)?,
@@ -54,12 +55,27 @@ impl Gather {
     pub fn push(&mut self, piece: &[u8], more: bool) -> Result<Gathered<'_>, Oversize>
         requires { length piece.now ≤ 236 }
         ensures* goes_on { sem 𝓛 (StepsOn self.entry piece.now more) }
-        ensures exact { answer_of result ≡ (gather_step self.old piece.now more).1 }
+        ensures exact { answer_of result ≡ (gather_step self.old.held piece.now more).1 }
     {
         match self.held.take_in(piece, more) {
             Took::More => Ok(Gathered::More),
             Took::Whole => Ok(Gathered::Whole(self.held.bytes.as_slice())),
             Took::Nothing => Err(Oversize),
         }
+    }
+
+    /// Lets go of a message that was handed up: nothing of it is kept any more.
+    pub fn let_go(&mut self)
+        ensures { self.new ≡ still self.old.held }
+    {
+        self.held.let_go();
+    }
+
+    /// A gather keeps at most 8,192 octets, those of a message that it has handed up among them.
+    pub fn kept(&self) -> usize
+        ensures exact { result ≡ kept self.now }
+        ensures most { result ≤ share }
+    {
+        self.held.bytes.as_slice().len()
     }
 }

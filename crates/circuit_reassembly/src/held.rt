@@ -1,7 +1,7 @@
 //! The bytes of a message that is being gathered.
 ghost use Rattle.std.specs.Prelude.{◌≡◌, ◌+◌, ◌≤◌, ◌++◌, [], length, IfOk, vec_len, vec_capacity, false};
 ghost use Rattle.circuit_reassembly.specs.Gathering.{gather_step};
-ghost use Rattle.circuit_reassembly.specs.Holding.{held_at, answer_at};
+ghost use Rattle.circuit_reassembly.specs.Holding.{held_at, answer_at, answered, gathering};
 
 use crate::LONGEST;
 use radio_base::NoMemory;
@@ -25,11 +25,12 @@ pub(crate) struct Held {
     /// What `bytes` has was handed up, and is no longer held.
     pub(crate) handed_up: bool,
     ghost reserved: { 8192 ≤ vec_capacity bytes },
+    ghost few: { length bytes.items ≤ 8192 },
 }
 
 impl Held {
     pub(crate) fn new(alloc: Global) -> Result<Held, NoMemory>
-        ensures { IfOk result (λ h. held_at h.handed_up h.bytes.items ≡ []) }
+        ensures { IfOk result (λ h. gathering h.handed_up h.bytes.items ≡ record { held = []; buffer = [] }) }
     {
         Ok(Held {
             bytes: Vec::with_capacity(alloc, LONGEST)?,
@@ -39,14 +40,15 @@ impl Held {
 
     /// Takes in the next fragment.
     pub(crate) fn take_in(&mut self, piece: &[u8], more: bool) -> Took
-        ensures { (held_at self.new.handed_up self.new.bytes.items, answer_at result self.new.bytes.items) ≡ gather_step (held_at self.old.handed_up self.old.bytes.items) piece.now more }
+        ensures does { gathering self.new.handed_up self.new.bytes.items ≡ answered (gather_step (held_at self.old.handed_up self.old.bytes.items) piece.now more) }
+        ensures answer { answer_at result self.new.bytes.items ≡ (gather_step (held_at self.old.handed_up self.old.bytes.items) piece.now more).1 }
     {
         self.let_go();
         self.take_behind(piece, more)
     }
 
     /// Lets go of what was handed up.
-    fn let_go(&mut self)
+    pub(crate) fn let_go(&mut self)
         ensures held { self.new.bytes.items ≡ held_at self.old.handed_up self.old.bytes.items }
         ensures begun { self.new.handed_up ≡ false }
     {
@@ -59,7 +61,8 @@ impl Held {
     /// Takes in the next fragment, where nothing was handed up since the last one.
     fn take_behind(&mut self, piece: &[u8], more: bool) -> Took
         requires { self.old.handed_up ≡ false }
-        ensures { (held_at self.new.handed_up self.new.bytes.items, answer_at result self.new.bytes.items) ≡ gather_step self.old.bytes.items piece.now more }
+        ensures does { gathering self.new.handed_up self.new.bytes.items ≡ answered (gather_step self.old.bytes.items piece.now more) }
+        ensures answer { answer_at result self.new.bytes.items ≡ (gather_step self.old.bytes.items piece.now more).1 }
     {
         if self.bytes.as_slice().len() + piece.len() > LONGEST {
             return Took::Nothing;

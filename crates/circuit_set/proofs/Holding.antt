@@ -14,7 +14,7 @@ use Rattle.circuit_set.specs.Pumps.{is_empty}
 use Rattle.circuit_set.specs.Standing.{FirstLoud, Held, Here, IsSilent, Keeps, Past}
 
 pub stood : (m : EndView) (g : Effect) → Stands m g → StandsFor m g.end
-stood m g s = record { written = s.written; came = s.came; sending = s.sending; receiving = s.receiving; is = ap (λ (g : Effect). g.end) s.is }
+stood m g s = record { written = s.written; came = s.came; sending = s.sending; receiving = s.receiving; within = s.within; is = ap (λ (g : Effect). g.end) s.is }
 
 module _ (own : Callsign) (ttl : ℕ) where
   -- the end with a number, where it is held, and what stands on both sides of it

@@ -70,6 +70,7 @@ module _ (own : Callsign) (ttl id : ℕ) (k : Holder) (h : sets.Holder) (told : 
         came = s.stands.came;
         sending = s.stands.sending;
         receiving = s.stands.receiving;
+        within = s.stands.within;
         is = ap (λ (x : Effect). record x { outs = drop 1 k.end.outs }) s.stands.is;
       } in
       let all : untold_of own ttl id k g ≡ sets.Sent id o.1 (datagram_by own ttl k.at o.0) ∷ untold_of own ttl id k3 g2 = simp (u, outs) refl in
@@ -93,6 +94,7 @@ module _ (own : Callsign) (ttl id : ℕ) (k : Holder) (h : sets.Holder) (told : 
         came = s.stands.came;
         sending = s.stands.sending;
         receiving = s.stands.receiving;
+        within = s.stands.within;
         is = ap (λ (x : Effect). record x { outs = drop 1 k.end.outs; notes = [] }) s.stands.is;
       } in
       let all : untold_of own ttl id k g ≡ sets.Notice id n ∷ untold_of own ttl id k3 g2 = simp (u, outs, left, notes) refl in
@@ -120,6 +122,7 @@ module _ (own : Callsign) (ttl id : ℕ) (k : Holder) (h : sets.Holder) (told : 
         came = s.stands.came;
         sending = s.stands.sending;
         receiving = s.stands.receiving;
+        within = s.stands.within;
         is = ap (λ (x : Effect). x.end) s.stands.is;
       } in
       let is : facts ≡ facts_of g.end = f g.end (subst (λ (m : EndView). StandsFor m g.end) (sym same) stands) in

@@ -51,6 +51,10 @@ fn fragments_gather_to_messages(rt: HostRuntime) -> Result<(), Fail> {
         false,
         Ok(Gathered::Whole(b"three")),
     );
+    // What was handed up is kept until it is let go of.
+    assert!(rt; gather.kept() == 5);
+    gather.let_go();
+    assert!(rt; gather.kept() == 0);
     Ok(())
 }
 

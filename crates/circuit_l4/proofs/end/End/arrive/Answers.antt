@@ -2,6 +2,7 @@ use Rattle.std.proofs.Common.{refl, ap, arith}
 use Rattle.circuit_l4.specs.declared.plain.EndConfig.{EndConfig}
 use Rattle.circuit_l4.specs.EndStanding.{EndView, view_of}
 use Rattle.circuit_l4.specs.EndTable.{arrive}
+use Rattle.circuit_l4.proofs.Bounds.{keeps_on}
 use Rattle.circuit_l4.proofs.Steps.{idle, stepped}
 use Rattle.circuit_l4.proofs.Waiting.{few_out}
 use Rattle.circuit_l4.proofs.end.End.arrive.Goals as goal
@@ -9,10 +10,13 @@ use Rattle.circuit_l4.proofs.end.End.arrive.Goals as goal
 pub returns-clause-does : goal.returns-clause-does
 returns-clause-does c =
     rw (← c.self.view_is)
-    (stepped (view_of c.self.inside.machine) _ _ _ (λ now g. arrive now c.args.transport.now g) (rw (← c.self.view_is) at c.requires) c.moment.ensures c.arrive.ensures.does)
+    (stepped (view_of c.self.inside.machine) c.arrive.new.self _ _ (λ now g. arrive now c.args.transport.now g) (rw (← c.self.view_is) at c.requires) c.moment.ensures c.arrive.ensures.does)
 
 pub arrive-requires-clause-outs : goal.arrive-requires-clause-outs
 arrive-requires-clause-outs c = idle (view_of c.self.inside.machine) c.self.inside.machine.outs.items refl (rw (← c.self.view_is) at c.requires)
+
+pub returns-clause-kept : goal.returns-clause-kept
+returns-clause-kept c = keeps_on c.arrive.new.self
 
 pub returns-clause-few : goal.returns-clause-few
 returns-clause-few c =

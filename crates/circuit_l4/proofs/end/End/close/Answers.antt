@@ -2,16 +2,20 @@ use Rattle.std.proofs.Common.{refl, ap, arith}
 use Rattle.circuit_l4.specs.EndTable.{close}
 use Rattle.circuit_l4.specs.declared.plain.EndConfig.{EndConfig}
 use Rattle.circuit_l4.specs.EndStanding.{EndView, view_of}
+use Rattle.circuit_l4.proofs.Bounds.{keeps_on}
 use Rattle.circuit_l4.proofs.Steps.{idle, stepped}
 use Rattle.circuit_l4.proofs.Waiting.{few_out}
 use Rattle.circuit_l4.proofs.end.End.close.Goals as goal
 
 pub returns-clause-does : goal.returns-clause-does
 returns-clause-does c =
-    rw (← c.self.view_is) (stepped (view_of c.self.inside.machine) _ _ _ close (rw (← c.self.view_is) at c.requires) c.moment.ensures c.close.ensures.does)
+    rw (← c.self.view_is) (stepped (view_of c.self.inside.machine) c.close.new.self _ _ close (rw (← c.self.view_is) at c.requires) c.moment.ensures c.close.ensures.does)
 
 pub close-requires-clause-outs : goal.close-requires-clause-outs
 close-requires-clause-outs c = idle (view_of c.self.inside.machine) c.self.inside.machine.outs.items refl (rw (← c.self.view_is) at c.requires)
+
+pub returns-clause-kept : goal.returns-clause-kept
+returns-clause-kept c = keeps_on c.close.new.self
 
 pub returns-clause-few : goal.returns-clause-few
 returns-clause-few c =

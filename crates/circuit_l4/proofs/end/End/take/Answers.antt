@@ -2,6 +2,7 @@ use Rattle.std.proofs.Common.{refl, ap, arith}
 use Rattle.circuit_l4.specs.EndTable.{take_first}
 use Rattle.circuit_l4.specs.declared.plain.EndConfig.{EndConfig}
 use Rattle.circuit_l4.specs.EndStanding.{EndView, view_of}
+use Rattle.circuit_l4.proofs.Bounds.{keeps_on}
 use Rattle.circuit_l4.proofs.Steps.{idle, stepped}
 use Rattle.circuit_l4.proofs.Waiting.{few_out}
 use Rattle.circuit_l4.proofs.end.End.take.Goals as goal
@@ -9,10 +10,13 @@ use Rattle.circuit_l4.proofs.end.End.take.Goals as goal
 pub returns-clause-does : goal.returns-clause-does
 returns-clause-does c =
     rw (← c.self.view_is)
-    (stepped (view_of c.self.inside.machine) _ 0 0 (λ _ g. take_first g) (rw (← c.self.view_is) at c.requires) refl c.take.ensures.does)
+    (stepped (view_of c.self.inside.machine) c.take.new.self 0 0 (λ _ g. take_first g) (rw (← c.self.view_is) at c.requires) refl c.take.ensures.does)
 
 pub take-requires-clause-outs : goal.take-requires-clause-outs
 take-requires-clause-outs c = idle (view_of c.self.inside.machine) c.self.inside.machine.outs.items refl (rw (← c.self.view_is) at c.requires)
+
+pub returns-clause-kept : goal.returns-clause-kept
+returns-clause-kept c = keeps_on c.take.new.self
 
 pub returns-clause-few : goal.returns-clause-few
 returns-clause-few c =

@@ -1,6 +1,7 @@
 use Rattle.std.proofs.Common.{refl, ap, arith}
 use Rattle.circuit_l4.specs.declared.plain.EndConfig.{EndConfig}
 use Rattle.circuit_l4.specs.EndStanding.{EndView, view_of}
+use Rattle.circuit_l4.proofs.Bounds.{keeps_on}
 use Rattle.circuit_l4.proofs.Steps.{accepts, idle, on_ok}
 use Rattle.circuit_l4.proofs.Waiting.{few_out}
 use Rattle.circuit_l4.proofs.end.End.write.Goals as goal
@@ -9,11 +10,14 @@ pub returns-clause-does : goal.returns-clause-does
 returns-clause-does c =
     rw (← c.self.view_is)
     (on_ok c.write.result _ _
-    (λ is does. accepts (view_of c.self.inside.machine) _ _ _ c.args.message.now c.write.result (rw (← c.self.view_is) at c.requires) c.moment.ensures is c.write.ensures.answer does)
+    (λ is does. accepts (view_of c.self.inside.machine) c.write.new.self _ _ c.args.message.now c.write.result (rw (← c.self.view_is) at c.requires) c.moment.ensures is c.write.ensures.answer does)
     c.write.ensures.does)
 
 pub write-requires-clause-outs : goal.write-requires-clause-outs
 write-requires-clause-outs c = idle (view_of c.self.inside.machine) c.self.inside.machine.outs.items refl (rw (← c.self.view_is) at c.requires)
+
+pub returns-clause-kept : goal.returns-clause-kept
+returns-clause-kept c = keeps_on c.write.new.self
 
 pub returns-clause-few : goal.returns-clause-few
 returns-clause-few c =

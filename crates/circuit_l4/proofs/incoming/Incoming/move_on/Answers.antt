@@ -1,6 +1,7 @@
-use Rattle.std.proofs.Common.{length, ap, sym, ◌∙◌}
+use Rattle.std.proofs.Common.{length, ap, refl, sym, ◌∙◌}
 use Rattle.circuit_l4.specs.Halves.{Inbox}
-use Rattle.circuit_l4.proofs.Moves.{an_error, goes_no_further, resume, goes_wrong, one_left}
+use Rattle.circuit_l4.proofs.Bounds.{few_of}
+use Rattle.circuit_l4.proofs.Moves.{an_error, goes_no_further, resume, goes_wrong, one_left, starts}
 use Rattle.circuit_l4.proofs.incoming.Incoming.move_on.Goals as goal
 
 pub returns-in_err-append-in-Some-clause-does : goal.returns-in_err-append-in-Some-clause-does
@@ -25,6 +26,9 @@ returns-in-None-clause-does c r h = (goes_no_further _ _ _ c.in-None.ensures.exa
 pub returns-in-None-clause-answer : goal.returns-in-None-clause-answer
 returns-in-None-clause-answer c r h = (goes_no_further _ _ _ c.in-None.ensures.exact (c.loop-done.invariant.goes r h)).is
 
+pub loop-done-init : goal.loop-done-init
+loop-done-init c = record { goes = λ r h. starts _ r h; places = refl; few = rw (← c.self.view_is) (few_of c.self.inside c.self.invariant) }
+
 pub loop-done-preserved : goal.loop-done-preserved
 loop-done-preserved c =
     let kept = c.loop-done.invariant in
@@ -32,4 +36,5 @@ loop-done-preserved c =
     record {
       goes = λ r h. resume _ _ _ _ _ _ left c.in-Some.ensures.exact c.append.ensures.does (λ r is. sym c.in_ok-append-in-Some.was ∙ c.append.ensures.answer r is) (kept.goes r h);
       places = c.append.ensures.places ∙ kept.places;
+      few = c.append.ensures.few;
     }

@@ -1,6 +1,6 @@
 use Rattle.std.proofs.Common.{◌≡◌, ℕ, ◌+◌, ◌-◌, refl, ap, ◌∙◌, subst, arith}
 use Rattle.circuit_l4.specs.declared.plain.EndConfig.{EndConfig}
-use Rattle.circuit_l4.specs.EndStanding.{EndView, Stands, view_of}
+use Rattle.circuit_l4.specs.EndStanding.{EndView, KeepsEffect, view_of}
 use Rattle.circuit_l4.proofs.PutOut.{none_out, one_more}
 use Rattle.circuit_l4.proofs.machine.Machine.emit_infos.Goals as goal
 
@@ -20,7 +20,7 @@ loop-number-preserved c =
     let number : c.loop-number.number ≡ c.args.from + done = omega (arith, c.loop-number.auto.number) in
     let next : c.loop-number.number + 1 - c.args.from ≡ done + 1 = omega (arith, c.loop-number.auto.number) in
     record {
-      does = λ g h. rw next (subst (Stands (view_of c.emit_info.new.self)) (one_more c.args.from c.loop-number.number g done number) (c.emit_info.ensures.does _ (kept.does g h)));
+      does = λ g h. rw next (subst (KeepsEffect (view_of c.emit_info.new.self)) (one_more c.args.from c.loop-number.number g done number) (c.emit_info.ensures.does _ (kept.does g h)));
       adds = record {
         outs = omega (arith, c.emit_info.ensures.adds.outs, kept.adds.outs, next);
         notice = c.emit_info.ensures.adds.notice ∙ kept.adds.notice;

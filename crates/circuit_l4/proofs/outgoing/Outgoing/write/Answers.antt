@@ -17,3 +17,11 @@ pub returns-clause-does : goal.returns-clause-does
 returns-clause-does c s h =
     let held = rw (← c.self.view_is) at h in
     added_stands _ _ _ _ s (ap (λ (q : Queue). q.messages) c.push.ensures) (c.fragment_count.ensures.counted _ refl) held
+
+pub returns-clause-few : goal.returns-clause-few
+returns-clause-few c =
+    let queue = rw (← c.self.view_is) at c.requires.queue in
+    let room = rw (← c.self.view_is) at c.requires.room in
+    let counted = c.fragment_count.ensures.counted _ refl in
+    let kept = added_kept _ _ _ _ (some_fragments c.args.message.now _ c.requires.some c.fragment_count.ensures.value counted) queue room (ap (λ (q : Queue). q.messages) c.push.ensures) counted c.self.invariant.outbox in
+    kept.most
