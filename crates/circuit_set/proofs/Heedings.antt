@@ -114,18 +114,19 @@ module _ (s : SetState) (d : List ℕ) (now : ℕ) where
   requested_for origin pair window (Some h) = goes_for s (Comes d now) h [] (accept_again h.end) tt
 
   module _ (head : DatagramHead) (read : head_at d ≡ Ok head) (t : Transport) (carried : transport_at (drop 15 d) ≡ Ok t) where
-    heeded_for : (to : Pair) (h : Holder) (b : Bool) → pair_named t ≡ Some to → Contains s.ends h × (named_by head.origin to h ≡ true) → Came (if b then Heeded h.id d ∷ [] else [])
-    heeded_for to h true n f = (
-      record { now = now; came = refl; end = h; held = f.0; number = refl; head = head; read = read; transport = t; carried = carried; pair = to; names = n; partner = f.1 },
+    heeded_for : (to : Pair) (h : Holder) (b : Bool) → heeds h.end.phase t ≡ b → pair_named t ≡ Some to → Contains s.ends h × (named_by head.origin to h ≡ true)
+        → Came (if b then Heeded h.id d ∷ [] else [])
+    heeded_for to h true e n f = (
+      record { now = now; came = refl; end = h; held = f.0; number = refl; head = head; read = read; transport = t; carried = carried; pair = to; names = n; partner = f.1; taken_in = e },
       tt,
     )
-    heeded_for to h false n f = tt
+    heeded_for to h false e n f = tt
 
     arrives_by : (to : Pair) (o : Option Holder) → first_open (named_by head.origin to) s.ends ≡ o → pair_named t ≡ Some to → Came (elim o as (λ x. SetDone) [ Some h ↦ handed s h d t now | None ↦ untold s ]).told
     arrives_by to None e n = tt
     arrives_by to (Some h) e n =
         goes_for s (Comes d now) h (if heeds h.end.phase t then Heeded h.id d ∷ [] else []) (step h.end (Arrive t) now)
-        (heeded_for to h (heeds h.end.phase t) n (open_is (named_by head.origin to) s.ends h e))
+        (heeded_for to h (heeds h.end.phase t) refl n (open_is (named_by head.origin to) s.ends h e))
 
   received_for : (head : DatagramHead) → head_at d ≡ Ok head → (t : Transport) → transport_at (drop 15 d) ≡ Ok t → Came (received s head.origin d t now).told
   received_for head r (Request pair window user node) c = requested_for head.origin pair window (first_open (opened_by head.origin pair) s.ends)

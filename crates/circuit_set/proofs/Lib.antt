@@ -78,3 +78,6 @@ pub mod Learning
 pub mod Askers
 pub mod Returning
 pub mod Returned
+pub mod Few
+pub mod Kept
+pub mod Refusals

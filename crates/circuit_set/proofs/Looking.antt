@@ -1,11 +1,11 @@
 -- What a set tells of its ends, and what a refusal leaves.
-use Rattle.std.specs.Prelude.{◌≡◌, ℕ, zero, suc, ◌⊎◌, true, false, nat_eq, List, [], ◌∷◌, slice_get, Option, Some, None, Result, Ok, Err, OnErr, refl}
+use Rattle.std.specs.Prelude.{◌≡◌, ℕ, zero, suc, true, false, nat_eq, List, [], ◌∷◌, slice_get, Option, Some, None, Result, Ok, Err, OnErr, refl}
 use Rattle.std.specs.Option.{option_map}
 use Rattle.std.proofs.Common.{sym, ◌∙◌, ap, subst, inl, inr}
 use Rattle.std.specs.Map.{lookup}
 use Rattle.ax_address.specs.Callsign.{Callsign}
 use Rattle.circuit_l4.specs.declared.plain.EndFacts.{EndFacts}
-use Rattle.circuit_l4.specs.EndState.{Effect, State}
+use Rattle.circuit_l4.specs.EndState.{State}
 use Rattle.circuit_l4.specs.EndOpening.{facts_of}
 use Rattle.circuit_l4.specs.EndStanding.{StandsFor}
 use Rattle.circuit_set.specs.declared.holder.Holder.{Holder}
@@ -14,7 +14,7 @@ use Rattle.circuit_set.specs.Sets as sets
 use Rattle.circuit_set.specs.Sets.{SetState, Told, end_of}
 use Rattle.circuit_set.specs.Pumps.{Waiting, at_rest}
 use Rattle.circuit_set.specs.Inputs.{ticked, ticks, ticks_of}
-use Rattle.circuit_set.specs.Standing.{Held, HeldStands, Here, Keeps, Past, Rests, SameNode, of_holder}
+use Rattle.circuit_set.specs.Standing.{Held, HeldStands, Rests, SameNode}
 use Rattle.circuit_set.specs.CircuitSets.{Circuits, Goes, IsDrained, IsUnchanged, LentStands, SetStands, facts_at, held_by, held_ids, partner_at}
 use Rattle.circuit_set.proofs.Shown.{FoundAt, Shown, find, ids, keys, miss, shown}
 use Rattle.circuit_set.proofs.Owning.{SameOwn, runs_own}

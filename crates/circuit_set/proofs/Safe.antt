@@ -1,5 +1,5 @@
 -- At each moment of a timely run each end and its partner have what Safe says of them.
-use Rattle.std.specs.Prelude.{◌≡◌, ℕ, zero, suc, ◌+◌, ◌≤◌, List, [], ◌∷◌, ◌++◌, slice_get, Option, Some, None, refl}
+use Rattle.std.specs.Prelude.{◌≡◌, ℕ, zero, suc, ◌≤◌, List, [], ◌∷◌, ◌++◌, slice_get, Option, Some, None, refl}
 use Rattle.std.proofs.Common.{sym, ◌∙◌, ap, subst, arith}
 use Rattle.circuit_set.specs.Circuits.{SafeTo}
 use Rattle.circuit_set.specs.Sets.{Holder, SetState, end_of}

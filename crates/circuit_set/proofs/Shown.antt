@@ -1,5 +1,5 @@
 -- What is held, whatever is untold: an end that is gone is held until that is told.
-use Rattle.std.specs.Prelude.{◌≡◌, ℕ, suc, ◌≤◌, ◌<◌, ◌⊎◌, Bool, true, false, ◌||◌, nat_eq, if◌then◌else◌, List, [], ◌∷◌, ◌++◌, Option, Some, None, refl}
+use Rattle.std.specs.Prelude.{◌≡◌, ℕ, suc, ◌≤◌, ◌<◌, ◌⊎◌, Bool, true, false, ◌||◌, nat_eq, if◌then◌else◌, List, [], ◌∷◌, ◌++◌, Some, None, refl}
 use Rattle.std.proofs.Common.{sym, ◌∙◌, ap, subst, cond, inl, inr, arith}
 use Rattle.std.proofs.lemmas.Bool.Decides.{nat_tests}
 use Rattle.std.specs.Map.{lookup}
@@ -12,7 +12,7 @@ use Rattle.circuit_l4.specs.EndStanding.{StandsFor}
 use Rattle.circuit_set.specs.declared.holder.Holder.{Holder}
 use Rattle.circuit_set.specs.Sets as sets
 use Rattle.circuit_set.specs.Sets.{Told, Made, Sent, Heeded, Notice, Gone, Restarted, Lost, end_of, is_over, notices}
-use Rattle.circuit_set.specs.Standing.{Held, Here, Keeps, Past, if_so, of_holder, sents_by, untold_of}
+use Rattle.circuit_set.specs.Standing.{Held, Here, Keeps, Past, if_so, sents_by, untold_of}
 use Rattle.circuit_set.specs.CircuitSets.{held_by, held_ids, with_held}
 use Rattle.circuit_set.proofs.Holding.{stood}
 

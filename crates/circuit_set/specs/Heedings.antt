@@ -7,6 +7,7 @@ use Rattle.circuit_l4.specs.declared.transport.Transport.TheVariants.{Request, A
 use Rattle.l3_datagram.specs.Datagrams.{head_at}
 use Rattle.l3_datagram.specs.declared.datagram.DatagramHead.{DatagramHead}
 use Rattle.l3_datagram.specs.declared.datagram.TheConstants.{HEAD_SIZE}
+use Rattle.circuit_set.specs.Circuits.{heeds}
 use Rattle.circuit_set.specs.Sets.{Act, Comes, Heeded, Holder, SetState, Told, named_by, set_step}
 
 -- the pair of the end to which a transport goes: a request goes to none yet
@@ -19,7 +20,8 @@ pair_named (Disconnected to) = Some to
 pair_named (Info to tx rx flags text) = Some to
 pair_named (InfoAck to rx flags) = Some to
 
--- The datagram came with this input. It is from the node of the partner of an end that is held, and names that end's pair.
+-- The datagram came with this input. It is from the node of the partner of an end that is held, names that end's pair, and carries what the end
+-- takes in in its phase.
 pub record IsFor (s : SetState) (a : Act) (id : ℕ) (datagram : List ℕ) : Type 0 where
   pub now : ℕ
   pub came : a ≡ Comes datagram now
@@ -33,6 +35,7 @@ pub record IsFor (s : SetState) (a : Act) (id : ℕ) (datagram : List ℕ) : Typ
   pub pair : Pair
   pub names : pair_named transport ≡ Some pair
   pub partner : named_by head.origin pair end ≡ true
+  pub taken_in : heeds end.end.phase transport ≡ true
 
 -- so it is of all that is heeded
 abbrev pub HeedsFor : SetState → Act → List Told → Type 0

@@ -20,4 +20,5 @@ pub mod Naming
 pub mod Retries
 pub mod Sendings
 pub mod Heedings
+pub mod Refusals
 pub mod Returning

@@ -1,5 +1,5 @@
 //! The ends that a node holds, by number.
-ghost use Rattle.std.specs.Prelude.{◌≡◌, ◌≤◌, ◌<◌, true, false, List, [], Some, None, nat_eq, if◌then◌else◌, OnOk, IfOk, OnErr, IsErrOf};
+ghost use Rattle.std.specs.Prelude.{◌≡◌, ◌≤◌, ◌<◌, true, false, List, [], Some, None, length, nat_eq, if◌then◌else◌, OnOk, IfOk, OnErr, IsErrOf};
 ghost use Rattle.std.specs.Map.{lookup, remove_entry};
 ghost use Rattle.radio_base.specs.declared.modulus.TheConstants.{COUNT_MAX};
 ghost use Rattle.circuit_l4.specs.EndOpening.{IsConfig};
@@ -31,6 +31,7 @@ pub(crate) struct HeldEnds {
     pub(crate) number: u64,
     pub(crate) ends: IndexMap<u64, Holder>,
     ghost config_fits: { IsConfig config },
+    ghost few: { length ends.entries ≤ 64 },
 }
 
 impl HeldEnds {
@@ -50,13 +51,15 @@ impl HeldEnds {
     pub(crate) fn is_full(&self) -> bool
         ensures exact { (s : SetState) → HeldStands self.now s [] → result ≡ sets.is_full s }
         ensures room { result ≡ false → self.now.number ≤ COUNT_MAX }
+        ensures few { result ≡ false → length self.now.ends.entries < 64 }
     {
         self.ends.len() >= MAX_ENDS || self.number > COUNT_MAX
     }
 
     /// Holds an end that was just made, and gives its number.
     pub(crate) fn hold(&mut self, holder: Holder) -> Result<u64, NoMemory>
-        requires { self.old.number ≤ COUNT_MAX }
+        requires number { self.old.number ≤ COUNT_MAX }
+        requires few { length self.old.ends.entries < 64 }
         ensures number { IfOk result (λ id. id ≡ self.old.number) }
         ensures holds { OnOk result (Holds holder self.old self.new) }
     {
@@ -70,7 +73,8 @@ impl HeldEnds {
 
     /// Makes an end that asks for a circuit with a node.
     pub(crate) fn request(&mut self, node: &Call, now: Moment) -> Result<u64, NoMemory>
-        requires { self.old.number ≤ COUNT_MAX }
+        requires number { self.old.number ≤ COUNT_MAX }
+        requires few { length self.old.ends.entries < 64 }
         ensures number { IfOk result (λ id. id ≡ self.old.number) }
         ensures made { OnOk result ((s : SetState) → HeldStands self.old s [] → HeldStands self.new (sets.requests s node.now now.0).set (sets.requests s node.now now.0).told) }
     {

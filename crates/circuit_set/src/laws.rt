@@ -4,11 +4,12 @@ ghost use Rattle.circuit_set.specs.Lines.{Line, Infos, over, at_place};
 ghost use Rattle.circuit_set.specs.Laws.{OneCircuitSafe};
 ghost use Rattle.circuit_set.specs.Pairs.{PairsDiffer};
 ghost use Rattle.circuit_set.specs.Givings.{MadeAreGiven, MadeDiffer};
-ghost use Rattle.circuit_set.specs.Kept.{HoldsFew};
+ghost use Rattle.circuit_set.specs.Kept.{HoldsFew, KeepsItsShare, WindowsAreSmall};
 ghost use Rattle.circuit_set.specs.Naming.{PairNamesOne, RequestersSend};
 ghost use Rattle.circuit_set.specs.Retries.{RetriesAreTold};
 ghost use Rattle.circuit_set.specs.Returning.{CopiesAloneReturn};
 ghost use Rattle.circuit_set.specs.Heedings.{SetsHeedPartners};
+ghost use Rattle.circuit_set.specs.Refusals.{RefusalsAreUnheeded, SetsRefuseUnder0, StartsAreNumbered};
 ghost use Rattle.circuit_set.specs.Sendings.{SetsSendTheirOwn};
 ghost use Rattle.circuit_set.specs.Inputs.{ActsGo, HearsGo, HearsLostGoes, TellsGo, TellsLess, TicksGo};
 ghost use Rattle.circuit_set.specs.Examples.{CopyReturns, ForgedIsUnsafe, OneMoreIsTooMany, RestartIsStale};
@@ -99,6 +100,13 @@ pub fn holds_few()
     ensures { HoldsFew }
 {}
 
+/// The ends that a set holds keep at most 90,347 octets each, and 236 for each fragment of their windows, of which each is at most 127. What
+/// waits to be told isn't counted.
+pub fn kept()
+    ensures share { KeepsItsShare }
+    ensures windows { WindowsAreSmall }
+{}
+
 /// Of each window from 1 to 127: twice the window and the allowance for overtakers are at most 256 together, as many as there are
 /// numbers on the air.
 pub fn windows_fit()
@@ -151,8 +159,16 @@ pub fn sets_send_their_own()
     ensures { SetsSendTheirOwn }
 {}
 
-/// Whatever comes: each datagram that a set heeds came with this input, is from the node of the partner of an end that it holds, and names that
-/// end's pair.
+/// Whatever comes: each datagram that a set heeds came with this input, is from the node of the partner of an end that it holds, names that
+/// end's pair, and carries what the end takes in in its phase.
 pub fn sets_heed_partners()
     ensures { SetsHeedPartners }
+{}
+
+/// Whatever a set is given from its start on, its ends have the numbers from 1 on. What it sends under number 0 is a refusal, and no end heeds
+/// that or a copy of it: so what is heeded was sent by an end.
+pub fn sets_refuse_under_0()
+    ensures starts { StartsAreNumbered }
+    ensures steps { SetsRefuseUnder0 }
+    ensures unheeded { RefusalsAreUnheeded }
 {}

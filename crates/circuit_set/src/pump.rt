@@ -19,6 +19,7 @@ impl<C: Carrier> CircuitSet<C> {
     ghost use Rattle.circuit_set.specs.Sets.{Told};
     ghost use Rattle.circuit_set.specs.Standing.{Brings, Rests, cost, untold_in};
     ghost use Rattle.circuit_set.specs.CircuitSets.{Falls, IsDrained, Pumps};
+    ghost use Rattle.circuit_set.specs.Kept.{PumpKeepsOn};
     ghost use Rattle.circuit_set.specs.SetTurns.{Asks, AsksOnce, IsAsked, SameLists, TakesIn, Tells, TellsLost};
 
     /// Tells what happened next: None where nothing is untold, and nothing that lies at the router gives anything to tell.
@@ -29,6 +30,8 @@ impl<C: Carrier> CircuitSet<C> {
         ensures router { OnOk result (SameRouter self.old.router self.new.router) }
         ensures memory { IsErr result ↔ IsTrue self.new.spent }
         ensures spent { IsTrue self.old.spent → self.new ≡ self.old }
+        ensures few { length self.new.held.ends.entries ≤ 64 }
+        ensures kept { OnOk result (PumpKeepsOn self.old self.new) }
     {
         if self.spent {
             return Err(NoMemory);

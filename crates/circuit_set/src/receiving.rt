@@ -1,5 +1,5 @@
 //! What comes to the ends of a node: requests, and transports for the ends that they name.
-ghost use Rattle.std.specs.Prelude.{◌≡◌, ◌≤◌, ◌<◌, true, false, [], Some, None, nat_eq, IfOk, OnOk};
+ghost use Rattle.std.specs.Prelude.{◌≡◌, ◌≤◌, ◌<◌, true, false, [], Some, None, length, nat_eq, IfOk, OnOk};
 ghost use Rattle.std.specs.Map.{lookup};
 ghost use Rattle.radio_base.specs.declared.modulus.TheConstants.{COUNT_MAX};
 ghost use Rattle.circuit_set.specs.Sets as sets;
@@ -27,7 +27,8 @@ impl HeldEnds {
         window: u8,
         now: Moment,
     ) -> Result<Untold, NoMemory>
-        requires { self.old.number ≤ COUNT_MAX }
+        requires number { self.old.number ≤ COUNT_MAX }
+        requires few { length self.old.ends.entries < 64 }
         ensures gives { IfOk result (λ told. (s : SetState) → HeldStands self.old s [] → Gives (sets.responds s origin datagram.items asked window now.0) (Some told) self.new) }
         ensures few { IfOk result (λ told. Brings (untold_in self.old.ends.entries) (untold_in self.new.ends.entries)) }
     {

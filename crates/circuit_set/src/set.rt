@@ -1,5 +1,5 @@
 //! The circuits of a node.
-ghost use Rattle.std.specs.Prelude.{[], ◌≡◌, ◌≤◌, ◌+◌, ◌<◌, ◌↔◌, ℕ, List, None, Some, true, false, if◌then◌else◌, Option, OnOk, OnErr, IfOk, IsErr, IsErrOf, IsTrue, slice_get};
+ghost use Rattle.std.specs.Prelude.{[], ◌≡◌, ◌≤◌, ◌+◌, ◌<◌, ◌↔◌, ℕ, List, None, Some, true, false, if◌then◌else◌, Option, OnOk, OnErr, IfOk, IsErr, IsErrOf, IsTrue, length, slice_get};
 ghost use Rattle.std.specs.Option.{option_copied};
 ghost use Rattle.std.specs.Borrow.{Lends, sem};
 ghost use Rattle.radio_base.specs.declared.modulus.TheConstants.{COUNT_MAX};
@@ -102,6 +102,7 @@ impl<C: Carrier> CircuitSet<C> {
     ghost use Rattle.circuit_set.specs.Inputs.{connect_answer, ticks};
     ghost use Rattle.circuit_set.specs.Standing.{close_answer, discard_answer, message_at, take_answer, write_answer};
     ghost use Rattle.circuit_set.specs.CircuitSets.{Circuits, Goes, GoesBy, IsDrained, IsUnchanged, LentStands, Pumps, SetStands, facts_at, held_by, held_ids, partner_at};
+    ghost use Rattle.circuit_set.specs.Kept.{KeepsOn};
     ghost use Rattle.circuit_set.specs.SetTurns.{Asks};
 
     /// Asks for a circuit with a node, and gives the number of the end that is made for it.
@@ -113,6 +114,8 @@ impl<C: Carrier> CircuitSet<C> {
         ensures err { OnErr result (self.new.spent ≡ false → self.new ≡ self.old) }
         ensures memory { IsErrOf result connect_refusals.NoMemory ↔ IsTrue self.new.spent }
         ensures spent { IsTrue self.old.spent → self.new ≡ self.old }
+        ensures few { length self.new.held.ends.entries ≤ 64 }
+        ensures kept { OnOk result (KeepsOn self.old self.new) }
     {
         if self.spent {
             return Err(ConnectRefusal::NoMemory);
@@ -157,6 +160,8 @@ impl<C: Carrier> CircuitSet<C> {
         ensures memory { IsErr result ↔ IsTrue self.old.spent }
         ensures err { OnErr result (self.new ≡ self.old) }
         ensures unspent { self.new.spent ≡ self.old.spent }
+        ensures few { length self.new.held.ends.entries ≤ 64 }
+        ensures kept { OnOk result (KeepsOn self.old self.new) }
     {
         if self.spent {
             return Err(NoMemory);
@@ -175,6 +180,8 @@ impl<C: Carrier> CircuitSet<C> {
         ensures memory { IsErrOf result refusals.NoMemory ↔ IsTrue self.old.spent }
         ensures unspent { self.new.spent ≡ self.old.spent }
         ensures spent { IsTrue self.old.spent → self.new ≡ self.old }
+        ensures few { length self.new.held.ends.entries ≤ 64 }
+        ensures kept { OnOk result (KeepsOn self.old self.new) }
     {
         if self.spent {
             return Err(SetRefusal::NoMemory);
@@ -192,6 +199,8 @@ impl<C: Carrier> CircuitSet<C> {
         ensures err { OnErr result ((self.new ≡ self.old) × (out.new ≡ out.old)) }
         ensures unspent { self.new.spent ≡ self.old.spent }
         ensures spent { IsTrue self.old.spent → (self.new ≡ self.old) × (out.new ≡ out.old) × IfOk result (λ took. took ≡ false) }
+        ensures few { length self.new.held.ends.entries ≤ 64 }
+        ensures kept { KeepsOn self.old self.new }
     {
         if self.spent {
             self.held.known(id)?;
@@ -209,6 +218,8 @@ impl<C: Carrier> CircuitSet<C> {
         ensures err { OnErr result (self.new ≡ self.old) }
         ensures unspent { self.new.spent ≡ self.old.spent }
         ensures spent { IsTrue self.old.spent → self.new ≡ self.old }
+        ensures few { length self.new.held.ends.entries ≤ 64 }
+        ensures kept { KeepsOn self.old self.new }
     {
         if self.spent {
             return self.held.known(id);
@@ -225,6 +236,8 @@ impl<C: Carrier> CircuitSet<C> {
         ensures err { OnErr result (self.new ≡ self.old) }
         ensures unspent { self.new.spent ≡ self.old.spent }
         ensures spent { IsTrue self.old.spent → self.new ≡ self.old }
+        ensures few { length self.new.held.ends.entries ≤ 64 }
+        ensures kept { OnOk result (KeepsOn self.old self.new) }
     {
         self.held.may_discard(id)?;
         if !self.spent {
