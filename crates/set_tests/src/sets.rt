@@ -4,7 +4,7 @@ use ax_address::{Alias, Call};
 use circuit_l4::{EndConfig, EndNotice, Pair};
 use circuit_set::{CircuitSet, ConnectRefusal, SetEvent};
 use l3_datagram::{PlainCarrier, Routed, Router};
-use radio_base::Moment;
+use radio_base::{Moment, NoMemory};
 use route_table::{RouteRules, RouteTable};
 use std::alloc::Global;
 use std::process::Abort;
@@ -68,12 +68,16 @@ pub fn on_two_nodes(rt: &impl Abort, alloc: Global, trial: Trial) {
 }
 
 fn set_of(rt: &impl Abort, alloc: Global, own: Call, retries: u8) -> Set {
+    made_set(alloc, own, retries).ok().expect(rt, "memory")
+}
+
+/// The set of a node without routes.
+pub fn made_set(alloc: Global, own: Call, retries: u8) -> Result<Set, NoMemory> {
     let table = RouteTable::new(alloc, own, RULES);
     let router = Router::new(alloc, own, table, PlainCarrier::new(alloc), 25);
     let config = EndConfig { retries, ..CONFIG };
     let pair = Pair { index: 1, ident: 1 };
-    let made = CircuitSet::new(alloc, router, own, config, pair, 1);
-    made.ok().expect(rt, "memory")
+    CircuitSet::new(alloc, router, own, config, pair, 1)
 }
 
 fn play(rt: &impl Abort, trial: Trial, a: &mut Set, b: &mut Set) {
