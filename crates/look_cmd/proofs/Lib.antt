@@ -1,2 +1,4 @@
 pub mod Hearing
 pub mod Commands
+pub mod Verdicts
+pub mod Ending

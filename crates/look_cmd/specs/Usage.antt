@@ -3,4 +3,4 @@ use Rattle.std.specs.Prelude.{ℕ, List, codes}
 
 -- all commands with their words
 abbrev pub usage_note : List ℕ
-usage_note = codes "usage: listen modulo=auto|8|128\n"
+usage_note = codes "usage: listen modulo=auto|8|128 | trace\n"

@@ -5,6 +5,7 @@
 
 mod listens;
 mod top;
+mod traces;
 mod usage;
 mod words;
 

@@ -1,21 +1,24 @@
 //! The top call.
-ghost use Rattle.std.specs.Prelude.{◌≡◌, ◌↔◌};
+ghost use Rattle.std.specs.Prelude.{◌≡◌, ◌≢◌, ◌↔◌};
 ghost use Rattle.cmd_streams.specs.StatusNotes.{HasNote, IsSilent};
 ghost use Rattle.cmd_streams.specs.Told.{told};
 ghost use Rattle.cmd_streams.specs.Writing.{Says};
 ghost use Rattle.frame_lines.specs.declared.listener.Modulo.{Modulo};
-ghost use Rattle.look_cmd.specs.Look.{ListenEnds};
+ghost use Rattle.look_cmd.specs.declared.words.Command.{Command};
+ghost use Rattle.look_cmd.specs.Look.{ListenEnds, TraceEnds};
 ghost use Rattle.look_cmd.specs.Usage.{usage_note};
-ghost use Rattle.look_cmd.specs.Words.{AskToListen};
+ghost use Rattle.look_cmd.specs.Words.{AskFor};
 
 use crate::listens::listen_to_stream;
+use crate::traces::trace_file;
 use crate::usage::USAGE;
-use crate::words::listen_words;
+use crate::words::{Command, command_of};
 use cmd_streams::{Status, say};
 use radio_base::{Sink, Source};
 use std::alloc::Global;
 
-/// Does what the words ask for: `listen` tells what each frame of a KISS stream carries.
+/// Does what the words ask for: `listen` tells what each frame of a KISS stream carries; `trace` reads a network file from the source and
+/// writes the trace of that network to the sink.
 ///
 /// The status says how it ended, and where words or input were refused the notes say why.
 pub fn look<S: Source, K: Sink, N: Sink>(
@@ -26,22 +29,30 @@ pub fn look<S: Source, K: Sink, N: Sink>(
     notes: &mut N,
 ) -> Status
     // Words that are no command's are refused before anything is read or written.
-    ensures usage { (result ≡ Status.Usage) ↔ ((m : Modulo) → ¬ AskToListen words.now m) }
+    ensures usage { (result ≡ Status.Usage) ↔ ((c : Command) → ¬ AskFor words.now c) }
     ensures unread { result ≡ Status.Usage → source.new ≡ source.old }
     ensures unwritten { result ≡ Status.Usage → sink.new ≡ sink.old }
 
     // How each command ends.
-    ensures listen { (m : Modulo) → AskToListen words.now m → ListenEnds m
+    ensures listen { (m : Modulo) → AskFor words.now (Command.Listen m) → ListenEnds m
         (told (S.left source.old) (S.reads source.old) (S.faults source.old) (K.written sink.old) (K.faults sink.old) (N.written notes.old) (N.faults notes.old))
         (told (S.left source.new) (S.reads source.new) (S.faults source.new) (K.written sink.new) (K.faults sink.new) (N.written notes.new) (N.faults notes.new)) result }
+
+    ensures trace { AskFor words.now Command.Trace → TraceEnds
+        (told (S.left source.old) (S.reads source.old) (S.faults source.old) (K.written sink.old) (K.faults sink.old) (N.written notes.old) (N.faults notes.old))
+        (told (S.left source.new) (S.reads source.new) (S.faults source.new) (K.written sink.new) (K.faults sink.new) (N.written notes.new) (N.faults notes.new)) result }
+
+    // `trace` writes at the end: elsewhere it writes nothing.
+    ensures whole { AskFor words.now Command.Trace → result ≢ Status.Done → result ≢ Status.TooLate → result ≢ Status.WriteFault → sink.new ≡ sink.old }
 
     // The notes are those of the status, and no others.
     ensures noted { HasNote result (Says (N.written notes.old) (N.written notes.new) (N.faults notes.old) (N.faults notes.new)) }
     ensures usage_noted { result ≡ Status.Usage → Says (N.written notes.old) (N.written notes.new) (N.faults notes.old) (N.faults notes.new) usage_note }
     ensures silent { IsSilent result → notes.new ≡ notes.old }
 {
-    match listen_words(words) {
-        Some(modulo) => listen_to_stream(alloc, modulo, source, sink, notes),
+    match command_of(words) {
+        Some(Command::Listen { modulo }) => listen_to_stream(alloc, modulo, source, sink, notes),
+        Some(Command::Trace) => trace_file(alloc, source, sink, notes),
         None => {
             say(notes, USAGE);
             Status::Usage

@@ -1,19 +1,39 @@
-//! The words that ask for each command.
+//! The commands, and the words that ask for them.
 ghost use Rattle.std.specs.Prelude.{◌≡◌, ◌≢◌, IfSome, IfNone, IsTrue, ◌↔◌, codes};
 ghost use Rattle.frame_lines.specs.declared.listener.Modulo.{Modulo};
-ghost use Rattle.look_cmd.specs.Words.{AskToListen, modulo_word};
+ghost use Rattle.look_cmd.specs.declared.words.Command.{Command};
+ghost use Rattle.look_cmd.specs.Words.{AskFor, modulo_word};
 
 use frame_lines::Modulo;
 
-/// By which modulus the words ask to listen: `listen modulo=auto`, `listen modulo=8`, `listen modulo=128`.
-pub fn listen_words(words: &[String]) -> Option<Modulo>
-    ensures found { IfSome result (AskToListen words.now) }
-    ensures none { IfNone result ((m : Modulo) → ¬ AskToListen words.now m) }
+/// What the program can do.
+#[derive(Clone, Copy, Debug, PartialEq, Eq)]
+pub enum Command {
+    /// `listen modulo=auto`, `listen modulo=8`, `listen modulo=128`
+    Listen { modulo: Modulo },
+    /// `trace`
+    Trace,
+}
+
+/// The command that the words ask for.
+pub fn command_of(words: &[String]) -> Option<Command>
+    ensures found { IfSome result (AskFor words.now) }
+    ensures none { IfNone result ((c : Command) → ¬ AskFor words.now c) }
 {
     match words {
-        [word, modulo] if is_listen(word.as_bytes()) => modulo_of(modulo.as_str()),
+        [word] if is_trace(word.as_bytes()) => Some(Command::Trace),
+        [word, modulo] if is_listen(word.as_bytes()) => match modulo_of(modulo.as_str()) {
+            Some(modulo) => Some(Command::Listen { modulo }),
+            None => None,
+        },
         _ => None,
     }
+}
+
+fn is_trace(word: &[u8]) -> bool
+    ensures { IsTrue result ↔ (word.now ≡ codes "trace") }
+{
+    word == b"trace".as_slice()
 }
 
 fn is_listen(word: &[u8]) -> bool

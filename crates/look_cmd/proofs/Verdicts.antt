@@ -1,0 +1,62 @@
+-- A network has one verdict: where none is one, none other is.
+use Rattle.std.proofs.Common.{◌≡◌, ◌∙◌, ℕ, refl, sym, ap, subst, List, [], ◌∷◌, ◌++◌, append-nil, map, arith}
+use Rattle.std.specs.Prelude.{IsSomeAnd, Option, Some, None, Ok}
+use Rattle.std.specs.Io.KnownBytes.{Consumes, IsAtEnd}
+use Rattle.circuit_verdict.specs.Causes.{AreInTime}
+use Rattle.circuit_verdict.specs.declared.event.Numbered.{Numbered}
+use Rattle.circuit_verdict.specs.declared.verdict.Late.{Late}
+use Rattle.circuit_verdict.specs.Events as verdicts
+use Rattle.network_file.specs.Networks.{network_of}
+use Rattle.network_file.specs.Plan.{Plan}
+use Rattle.net_replay.specs.declared.causes.LateCause.{LateCause}
+use Rattle.net_replay.specs.Causes.{IsCauseIn}
+use Rattle.net_replay.specs.Circuits.{CircuitEvent, IsVerdictOn, allowance_of, judged}
+use Rattle.net_replay.specs.Files.{AirsFew, AirsTooMany, IsInTime, IsLate, IsNetwork}
+use Rattle.net_replay.specs.Lines.{world}
+use Rattle.net_replay.specs.World.{World}
+use Rattle.look_cmd.specs.Traced.{IsCauseFor}
+
+told_are : (ns : List Numbered) → map (λ (e : CircuitEvent). e.event) (map judged ns) ≡ verdicts.events_of ns
+told_are [] = refl
+told_are (n ∷ ns) = ap (λ es. verdicts.event_of n.event ∷ es) (told_are ns)
+
+pub one_verdict : (plan : Plan) (w : World) (late : Late) → IsVerdictOn plan w None → IsVerdictOn plan w (Some late) → ⊥
+one_verdict plan w late a b =
+    let same : verdicts.events_of a.events ≡ verdicts.events_of b.events =
+    sym (told_are a.events) ∙ (ap (map (λ (e : CircuitEvent). e.event)) (a.are ∙ sym b.are) ∙ told_are b.events) in
+    let ok = a.verdict.none.0 refl in
+    let none = b.verdict.none.1 (subst (AreInTime (allowance_of plan)) same ok) in
+    absurd (cc none)
+
+-- a source that tells its bytes told those that were read to its end
+pub told_whole : (a b : Option (List ℕ)) (bytes : List ℕ) (P : List ℕ → Type 0) → Consumes a b bytes → IsAtEnd b → IsSomeAnd a P → P bytes
+told_whole None b bytes P c e t = absurd t
+told_whole (Some xs) None bytes P c e t = absurd c
+told_whole (Some xs) (Some ys) bytes P c e t = subst P (c ∙ (ap (λ zs. bytes ++ zs) e ∙ append-nil bytes)) t
+
+-- and so has a file: there is nothing late in what has nothing late
+module _ (bytes : List ℕ) (network : Plan) (read : network_of bytes ≡ Ok network) where
+  pub none_late : IsVerdictOn network (world network) None → IsNetwork bytes IsLate → ⊥
+  none_late verdict other =
+      let some : Ok network ≡ Ok other.0 = sym read ∙ other.1 in
+      let same : network ≡ other.0 = cc some in
+      one_verdict other.0 (world other.0) other.2.1.0 (subst (λ n. IsVerdictOn n (world n) None) same verdict) other.2.1.1
+
+  pub late_none : (late : Late) → IsVerdictOn network (world network) (Some late) → IsNetwork bytes IsInTime → ⊥
+  late_none late verdict other =
+      let some : Ok network ≡ Ok other.0 = sym read ∙ other.1 in
+      let same : network ≡ other.0 = cc some in
+      one_verdict other.0 (world other.0) late other.2.1 (subst (λ n. IsVerdictOn n (world n) (Some late)) same verdict)
+
+  -- as many frames as may be there, or more
+  pub few_many : AirsFew network → IsNetwork bytes AirsTooMany → ⊥
+  few_many few other =
+      let some : Ok network ≡ Ok other.0 = sym read ∙ other.1 in
+      let same : network ≡ other.0 = cc some in
+      let many : AirsTooMany network = subst AirsTooMany (sym same) other.2 in
+      omega arith
+
+-- what came too late has the cause that was found
+pub cause_for : (plan : Plan) (answer : Option Late) (late : Late) (cause : Option LateCause) → answer ≡ Some late → IsSomeAnd cause (IsCauseIn plan (world plan)) → IsCauseFor plan answer cause
+cause_for plan answer late None is found = absurd found
+cause_for plan answer late (Some cause) is found = subst (λ (a : Option Late). IsCauseFor plan a (Some cause)) (sym is) found

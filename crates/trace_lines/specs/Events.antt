@@ -1,0 +1,96 @@
+-- The events of a trace, one JSON object a line. Own profile.
+use Rattle.std.specs.Prelude.{ℕ, suc, List, [], ◌∷◌, ◌++◌, flat_map, length, slice_get, Bool, true, false, ◌&&◌, ◌==◌, if◌then◌else◌, Option, Some, None}
+use Rattle.std.specs.List.{list_any}
+use Rattle.circuit_l4.specs.declared.plain.EndFacts.{EndFacts}
+use Rattle.circuit_l4.specs.declared.transport.Pair.{Pair}
+use Rattle.network_file.specs.declared.network.NumberedInstruction.{NumberedInstruction}
+use Rattle.network_file.specs.declared.plan.instructions.Instruction.{Instruction}
+use Rattle.network_file.specs.declared.plan.instructions.Instruction.TheVariants.{Again}
+use Rattle.net_replay.specs.declared.air.Aired.{Aired}
+use Rattle.net_replay.specs.Air.{frame_of}
+use Rattle.net_replay.specs.Events.{Event, Entry, InAir, Delivered, Settled, Shown, Took, Wrote, Restarted, Lost, Refused, NumberedEvent}
+use Rattle.net_replay.specs.Reasons.{word_for_why}
+use Rattle.net_replay.specs.Tables.{Table}
+use Rattle.route_table.specs.declared.route.Route.{Route}
+use Rattle.trace_lines.specs.declared.events.Stand.{Stand}
+use Rattle.trace_lines.specs.Circuits.{entry_text}
+use Rattle.trace_lines.specs.Json.{Bytes, Number, Octets, Truth, Word}
+use Rattle.trace_lines.specs.Left.{facts_fields, route_fields}
+use Rattle.trace_lines.specs.Stands.{event}
+
+-- ---- which lines bring a frame again
+
+abbrev pub is_again : Instruction → Bool
+is_again (Again frame node) = true
+is_again instruction = false
+
+abbrev pub repeats : List NumberedInstruction → ℕ → Bool
+repeats instructions line = list_any (λ (l : NumberedInstruction). (l.line == line) && is_again l.instruction) instructions
+
+-- ---- frames; sequence numbers are read as the frame was written, modulo 8 or 128
+
+abbrev pub modulus_of : Bool → ℕ
+modulus_of modulo128 = if modulo128 then 128 else 8
+
+abbrev pub frame_line : Stand → ℕ → Aired → List ℕ
+frame_line s number f =
+    event "frame" s (Number "frame" number ∷ Number "node" f.sender ∷ Number "modulo" (modulus_of f.modulo128) ∷ Octets "octets" f.octets.items ∷ [])
+
+abbrev pub aired_text : Stand → ℕ → Option Aired → List ℕ
+aired_text s number None = []
+aired_text s number (Some f) = frame_line s number f
+
+abbrev pub delivered_line : Stand → ℕ → ℕ → Bool → List ℕ
+delivered_line s frame node again = event "delivered" s (Number "frame" frame ∷ Number "node" node ∷ Truth "again" again ∷ [])
+
+abbrev pub lost_frame_line : Stand → ℕ → List ℕ
+lost_frame_line s frame = event "lost_frame" s (Number "frame" frame ∷ [])
+
+-- ---- what users do, and what is shown to them
+
+abbrev pub took_line : Stand → ℕ → ℕ → List ℕ → List ℕ
+took_line s node end message =
+    event "took" s (Number "node" node ∷ Number "end" end ∷ Number "bytes" (length message) ∷ Bytes "text" message ∷ [])
+
+abbrev pub wrote_line : Stand → ℕ → ℕ → ℕ → List ℕ
+wrote_line s node end messages = event "wrote" s (Number "node" node ∷ Number "end" end ∷ Number "messages" messages ∷ [])
+
+abbrev pub shown_line : Stand → ℕ → ℕ → List ℕ
+shown_line s node routes = event "shown" s (Number "node" node ∷ Number "routes" routes ∷ [])
+
+abbrev pub shown_route_line : Stand → ℕ → Route → List ℕ
+shown_route_line s node r = event "shown_route" s (Number "node" node ∷ route_fields r)
+
+abbrev pub shown_text : Stand → Table → List ℕ
+shown_text s t = shown_line s t.node (length t.routes) ++ flat_map (shown_route_line s t.node) t.routes
+
+abbrev pub refused_line : Stand → List ℕ → List ℕ
+refused_line s why = event "refused" s (Word "why" why ∷ [])
+
+-- ---- restarts
+
+abbrev pub restarted_line : Stand → ℕ → Pair → List ℕ
+restarted_line s node pair = event "restarted" s (Number "node" node ∷ Number "index" pair.index ∷ Number "ident" pair.ident ∷ [])
+
+abbrev pub lost_end_line : Stand → ℕ → ℕ → EndFacts → List ℕ
+lost_end_line s node end facts = event "lost_end" s (Number "node" node ∷ Number "end" end ∷ facts_fields facts)
+
+-- ---- any event; `again` says which lines bring a frame again, and these are the frames in the air
+
+abbrev pub event_text : (ℕ → Bool) → List Aired → Stand → Event → List ℕ
+event_text again air s (Entry node entry) = entry_text s node entry
+event_text again air s (InAir number) = aired_text s number (frame_of air number)
+event_text again air s (Delivered frame node) = delivered_line s frame node (again s.line)
+event_text again air s (Settled frame) = lost_frame_line s frame
+event_text again air s (Shown table) = shown_text s table
+event_text again air s (Took node end message) = took_line s node end message
+event_text again air s (Wrote node end count) = wrote_line s node end count
+event_text again air s (Restarted node pair) = restarted_line s node pair
+event_text again air s (Lost node end facts) = lost_end_line s node end facts
+event_text again air s (Refused why) = refused_line s (word_for_why why)
+
+-- all events, of which the first has this number
+abbrev pub events_from : (ℕ → Bool) → List Aired → ℕ → List NumberedEvent → List ℕ
+events_from again air number [] = []
+events_from again air number (e ∷ es) =
+    event_text again air (record { event = number; line = e.line }) e.event ++ events_from again air (suc number) es

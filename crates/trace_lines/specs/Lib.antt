@@ -1,0 +1,9 @@
+pub mod Json
+pub mod Heads
+pub mod Left
+pub mod Stands
+pub mod Circuits
+pub mod Events
+pub mod Marks
+pub mod Verdicts
+pub mod Texts

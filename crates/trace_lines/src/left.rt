@@ -1,0 +1,242 @@
+//! The nodes as they were left: their tables, and the ends that they ever made.
+ghost use Rattle.std.specs.Prelude.{◌≡◌, ◌++◌, List, OnOk, IfOk, string_bytes, flat_map};
+ghost use Rattle.std.specs.Fmt.{decimal};
+ghost use Rattle.node_core.specs.Kept.{NodeStands};
+ghost use Rattle.node_core.specs.States.{NodeState};
+ghost use Rattle.net_replay.specs.Reporting.{AreDeclared, ends_left};
+ghost use Rattle.net_replay.specs.Starting.{Placed};
+ghost use Rattle.net_replay.specs.Traces.{StandFor, left_of};
+ghost use Rattle.trace_lines.specs.Json.{fields_text, or_null};
+ghost use Rattle.trace_lines.specs.Left as left;
+
+use crate::json::alias_text;
+use ax_address::Call;
+use circuit_l4::EndFacts;
+use net_replay::{Declaration, EndRecord, Outcome, Table, Trace, phase_word, shown};
+use node_core::Node;
+use radio_base::{NoMemory, TextOut};
+use route_table::Route;
+use std::alloc::{AllocError, Global};
+
+/// Appends the tables and the ends of the nodes, by number.
+pub(crate) fn write_nodes(
+    alloc: Global,
+    trace: &Trace,
+    declared: &[Declaration],
+    nodes: &[Node],
+    out: &mut TextOut,
+) -> Result<(), NoMemory>
+    ensures { OnOk result ((placed : List Placed) → AreDeclared declared.now placed → StandFor nodes.now placed
+        → out.new ≡ out.old ++ flat_map (left.node_text (ends_left (left_of trace.now))) placed) }
+{
+    match declared {
+        [] => Ok(()),
+        [first, others @ ..] => match nodes {
+            [] => Ok(()),
+            [node, more @ ..] => {
+                write_node(alloc, trace, first, node, out)?;
+                write_nodes(alloc, trace, others, more, out)?;
+                Ok(())
+            }
+        },
+    }
+}
+
+fn write_node(
+    alloc: Global,
+    trace: &Trace,
+    declared: &Declaration,
+    node: &Node,
+    out: &mut TextOut,
+) -> Result<(), NoMemory>
+    ensures { OnOk result ((p : Placed) → declared.now ≡ p.declared → NodeStands node.now p.state
+        → out.new ≡ out.old ++ left.node_text (ends_left (left_of trace.now)) p) }
+{
+    let table = shown(alloc, declared, node)?;
+    write_table(alloc, &table, out)?;
+    write_ends(
+        alloc,
+        declared.node,
+        trace.ends_of(declared.node),
+        node,
+        out,
+    )?;
+    Ok(())
+}
+
+fn write_table(alloc: Global, table: &Table, out: &mut TextOut) -> Result<(), NoMemory>
+    ensures { OnOk result (out.new ≡ out.old ++ left.table_text table.now) }
+{
+    write_head(alloc, table.node(), table.routes().len(), out)?;
+    write_routes(alloc, table.node(), table.routes(), out)?;
+    Ok(())
+}
+
+#[tactic(auto, unfolding(crate::specs::Json::object))]
+fn write_head(alloc: Global, node: u8, routes: usize, out: &mut TextOut) -> Result<(), NoMemory>
+    ensures { OnOk result (out.new ≡ out.old ++ left.table_line node routes) }
+{
+    let object = format!(in alloc; "{{\"kind\":\"table\",\"node\":{node},\"routes\":{routes}}}\n")?;
+    out.text(object.as_str())?;
+    Ok(())
+}
+
+fn write_routes(
+    alloc: Global,
+    node: u8,
+    routes: &[Route],
+    out: &mut TextOut,
+) -> Result<(), NoMemory>
+    ensures { OnOk result (out.new ≡ out.old ++ flat_map (left.route_line node) routes.now) }
+{
+    for route in routes {
+        write_route(alloc, node, route, out)?;
+    }
+    Ok(())
+}
+
+#[tactic(auto, unfolding(crate::specs::Json::object))]
+fn write_route(alloc: Global, node: u8, route: &Route, out: &mut TextOut) -> Result<(), NoMemory>
+    ensures { OnOk result (out.new ≡ out.old ++ left.route_line node route.now) }
+{
+    let fields = route_fields(alloc, route)?;
+    let fields = fields.as_str();
+    let object = format!(in alloc; "{{\"kind\":\"route\",\"node\":{node}{fields}")?;
+    out.text(object.as_str())?;
+    Ok(())
+}
+
+/// The fields of a route, and the end of its object. A route that is locked has no count.
+#[tactic(auto, unfolding(crate::specs::Left::route_fields))]
+pub(crate) fn route_fields(alloc: Global, route: &Route) -> Result<String, AllocError>
+    ensures { IfOk result (λ s. string_bytes s ≡ fields_text (left.route_fields route.now)) }
+{
+    let dest = route.dest.show();
+    let dest = dest.as_str();
+    let alias = alias_text(alloc, route.alias)?;
+    let alias = alias.as_str();
+    let neighbour = route.neighbour.show();
+    let neighbour = neighbour.as_str();
+    let quality = route.quality;
+    let count = count_text(alloc, route.count)?;
+    let count = count.as_str();
+    let fields = format!(in alloc;
+        ",\"dest\":\"{dest}\",\"alias\":{alias},\"neighbour\":\"{neighbour}\",\"quality\":{quality},\"count\":{count}}}\n"
+    )?;
+    Ok(fields)
+}
+
+#[tactic(auto, unfolding(crate::specs::Json::or_null))]
+fn count_text(alloc: Global, count: Option<u8>) -> Result<String, AllocError>
+    ensures { IfOk result (λ s. string_bytes s ≡ or_null decimal count) }
+{
+    match count {
+        Some(count) => format!(in alloc; "{count}"),
+        None => "null".to_string(alloc),
+    }
+}
+
+/// The ends that a node ever made, as they were left.
+fn write_ends(
+    alloc: Global,
+    number: u8,
+    ends: &[EndRecord],
+    node: &Node,
+    out: &mut TextOut,
+) -> Result<(), NoMemory>
+    ensures { OnOk result ((n : NodeState) → NodeStands node.now n
+        → out.new ≡ out.old ++ left.ends_text number 1 ends.now n.station.set.set.ends) }
+{
+    for (place, end) in ends.iter().enumerate() {
+        let id = place as u64 + 1;
+        write_end(alloc, number, id, end, node.facts(id), out)?;
+    }
+    Ok(())
+}
+
+/// Appends the line of an end. One that is held has these facts.
+fn write_end(
+    alloc: Global,
+    node: u8,
+    id: u64,
+    end: &EndRecord,
+    held: Option<EndFacts>,
+    out: &mut TextOut,
+) -> Result<(), NoMemory>
+    ensures { OnOk result (out.new ≡ out.old ++ left.end_text node id end.now held) }
+{
+    match end.outcome {
+        Outcome::Lost(facts) => write_left(alloc, node, id, &end.partner, "lost", &facts, out),
+        Outcome::Gone(facts) => write_left(alloc, node, id, &end.partner, "gone", &facts, out),
+        Outcome::Held => write_held(alloc, node, id, &end.partner, held, out),
+    }
+}
+
+fn write_held(
+    alloc: Global,
+    node: u8,
+    id: u64,
+    partner: &Call,
+    held: Option<EndFacts>,
+    out: &mut TextOut,
+) -> Result<(), NoMemory>
+    ensures { OnOk result (out.new ≡ out.old ++ left.held_text node id partner.now held) }
+{
+    match held {
+        Some(facts) => write_left(alloc, node, id, partner, "held", &facts, out),
+        None => Ok(()),
+    }
+}
+
+#[tactic(auto, unfolding(crate::specs::Json::object))]
+fn write_left(
+    alloc: Global,
+    node: u8,
+    end: u64,
+    partner: &Call,
+    outcome: &str,
+    facts: &EndFacts,
+    out: &mut TextOut,
+) -> Result<(), NoMemory>
+    ensures { OnOk result (out.new ≡ out.old ++ left.end_line node end partner.now outcome.now facts.now) }
+{
+    let partner = partner.show();
+    let partner = partner.as_str();
+    let facts = facts_fields(alloc, facts)?;
+    let facts = facts.as_str();
+    let object = format!(in alloc;
+        "{{\"kind\":\"end\",\"node\":{node},\"end\":{end},\"partner\":\"{partner}\",\"outcome\":\"{outcome}\"{facts}"
+    )?;
+    out.text(object.as_str())?;
+    Ok(())
+}
+
+/// The fields of the facts of an end, and the end of their object.
+#[tactic(auto, unfolding(crate::specs::Left::facts_fields))]
+pub(crate) fn facts_fields(alloc: Global, facts: &EndFacts) -> Result<String, AllocError>
+    ensures { IfOk result (λ s. string_bytes s ≡ fields_text (left.facts_fields facts.now)) }
+{
+    let phase = phase_word(facts.phase);
+    let window = facts.window;
+    let wrote = facts.wrote;
+    let received = facts.received;
+    let counts = count_fields(alloc, facts)?;
+    let counts = counts.as_str();
+    let fields = format!(in alloc;
+        ",\"phase\":\"{phase}\",\"window\":{window},\"wrote\":{wrote},\"received\":{received}{counts}"
+    )?;
+    Ok(fields)
+}
+
+/// What of that counts fragments and bytes.
+fn count_fields(alloc: Global, facts: &EndFacts) -> Result<String, AllocError>
+    ensures { IfOk result (λ s. string_bytes s ≡ fields_text (left.count_fields facts.now)) }
+{
+    let acked = facts.acked;
+    let waiting = facts.waiting;
+    let queued = facts.queued;
+    let fields = format!(in alloc;
+        ",\"acked\":{acked},\"waiting\":{waiting},\"queued\":{queued}}}\n"
+    )?;
+    Ok(fields)
+}

@@ -1,0 +1,37 @@
+//! The text of the trace of a network.
+ghost use Rattle.std.specs.Prelude.{◌≡◌, ◌++◌, OnOk, OnErr, IfOk};
+ghost use Rattle.net_replay.specs.Traces.{IsTraceOf, left_of};
+ghost use Rattle.net_replay.specs.World.{World};
+ghost use Rattle.trace_lines.specs.Texts as texts;
+
+use crate::causes::{write_cause, write_verdict};
+use crate::events::write_events;
+use crate::heads::{write_lines, write_network};
+use crate::left::write_nodes;
+use crate::marks::repeat_marks;
+use net_replay::{Late, LateCause, Network, Trace};
+use radio_base::{NoMemory, TextOut};
+use std::alloc::Global;
+
+/// The text of a trace: the network that was read, the lines of its file, all events, each node as it was left, and the verdict with its
+/// cause.
+pub fn trace_text(
+    alloc: Global,
+    file: &[u8],
+    network: &Network,
+    trace: &Trace,
+    late: Option<Late>,
+    cause: Option<LateCause>,
+) -> Result<TextOut, NoMemory>
+    ensures { IfOk result (λ out. (w : World) → IsTraceOf (left_of trace.now) w → out ≡ texts.trace_text file.now network.now w late cause) }
+{
+    let mut out = TextOut::new(alloc);
+    write_network(alloc, network, &mut out)?;
+    write_lines(alloc, file, &mut out)?;
+    let marks = repeat_marks(alloc, network.instructions())?;
+    write_events(alloc, &marks, trace.frames(), trace.events(), &mut out)?;
+    write_nodes(alloc, trace, trace.declared(), trace.nodes(), &mut out)?;
+    write_verdict(alloc, late, &mut out)?;
+    write_cause(alloc, cause, &mut out)?;
+    Ok(out)
+}
