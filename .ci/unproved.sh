@@ -13,7 +13,7 @@ read_input() {
             return 1
         }
         ;;
-    replay | frames | life | listen) ;;
+    replay | frames | life | listen | trace) ;;
     *) return 0 ;;
     esac
     cat >"$room/input" || { say "standard input can't be read"; return 1; }

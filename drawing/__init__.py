@@ -1,0 +1,1 @@
+"""The picture of a replay, drawn from the trace of a network."""
