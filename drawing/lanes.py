@@ -98,7 +98,7 @@ def band(p, f, out):
     told = ", ".join(f"{v:,} {words[c]}" for c, v in sorted(counts.items(), key=lambda x: -x[1]))
     ks = sorted(it.frame for b in f.beats for items in b.items.values() for it in items if it.frame)
     line = f"{plural(len(f.beats), 'delivery', 'deliveries')} folded"
-    second = told or "nothing sent"
+    second = f"{told} sent" if told else "nothing sent"
     title = f"{line}: {second}" + (f"; frames {ks[0]} to {ks[-1]}" if ks else "")
     out.append(f'<g><title>{esc(title)}</title><path class="band" style="fill-opacity:1" d="{d}"/>')
     chars = int((p.left - 10 - 54) / (SMALL * EM))
