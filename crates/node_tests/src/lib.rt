@@ -12,4 +12,6 @@ mod nodes;
 #[cfg(test)]
 mod prompt;
 #[cfg(test)]
+mod refused;
+#[cfg(test)]
 mod stream;

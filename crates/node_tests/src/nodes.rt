@@ -14,10 +14,10 @@ use route_table::RouteRules;
 use std::alloc::Global;
 use std::process::Abort;
 
-const NOW: Moment = Moment(0);
+pub const NOW: Moment = Moment(0);
 
 /// The settings of a node of this call.
-fn config(call: Call, modulo128: bool) -> NodeConfig
+pub fn config(call: Call, modulo128: bool) -> NodeConfig
     ensures { IsConfig result }
 {
     NodeConfig {
@@ -57,7 +57,7 @@ pub fn a_call() -> Call {
     Call::read(b"N0AAA").unwrap_or_default()
 }
 
-fn b_call() -> Call {
+pub fn b_call() -> Call {
     Call::read(b"N0BBB").unwrap_or_default()
 }
 
@@ -107,7 +107,7 @@ fn hand(rt: &impl Abort, node: &mut Node, frame: &Written) {
     take_in(rt, node, kiss_bytes(frame).as_slice());
 }
 
-fn kiss_bytes(frame: &Written) -> ArrayVec<u8, 2050> {
+pub fn kiss_bytes(frame: &Written) -> ArrayVec<u8, 2050> {
     let mut bytes = ArrayVec::new();
     let _ = enframe(0, 0, frame.octets.as_slice(), &mut bytes);
     bytes
