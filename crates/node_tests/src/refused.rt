@@ -94,6 +94,14 @@ fn expect_spent(rt: &impl Abort, node: &mut Node) {
     expect_no_act(rt, node, &UserAct::Round);
     expect_no_act(rt, node, &UserAct::LinkFail(b_call()));
     expect_no_act(rt, node, &UserAct::Connect(b_call()));
+    expect_no_act(
+        rt,
+        node,
+        &UserAct::Write {
+            id: 1,
+            message: b"",
+        },
+    );
     expect_no_act(rt, node, &UserAct::Take { id: 1 });
     expect_no_act(rt, node, &UserAct::Close { id: 1 });
     assert!(rt; node.kiss_bytes(b"\xC0", NOW) == Err(NoMemory));
