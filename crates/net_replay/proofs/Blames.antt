@@ -118,6 +118,7 @@ comes_late es i x nodes a old new cause h is j taken =
           ∙ (map-append numbered_of (take i es) (drop i es) ∙ ap (λ (ys : List NumberedEvent). map numbered_of (take i es) ++ map numbered_of ys) (rest_of es i x h is));
       number_is = omega (arith, count, same);
       told_is = late.1;
+      in_time = subst (AreInTime a) (seen_so a old (events_at nodes (map numbered_of (take i es))) taken) taken.in_time;
       found = late.2;
     }
 

@@ -48,7 +48,7 @@ sign_of nodes events (causes.Held node id) = signs.Held (number_in (slice_get no
 abbrev pub what_was_told : List CircuitEvent → List books.Event
 what_was_told events = map (λ (e : CircuitEvent). e.event) events
 
--- the event of this number came too late by this cause
+-- the event of this number came too late by this cause, and none before it did
 pub record ComesLateBy (a : Allowance) (nodes : List Placed) (told : List NumberedEvent) (number : ℕ) (cause : Cause) : Type 0 where
   pub before : List NumberedEvent
   pub at : NumberedEvent
@@ -57,6 +57,7 @@ pub record ComesLateBy (a : Allowance) (nodes : List Placed) (told : List Number
   pub parts : told ≡ before ++ at ∷ after
   pub number_is : number ≡ length before + 1
   pub told_is : event_at nodes at.line at.event ≡ event ∷ []
+  pub in_time : AreInTime a (what_was_told (events_at nodes before))
   pub found : cause_after a (what_was_told (events_at nodes before)) event.event ≡ Some cause
 
 abbrev pub IsCauseIn : Plan → World → LateCause → Type 0
