@@ -17,3 +17,4 @@ pub mod EndRetries
 pub mod EndFailing
 pub mod EndDisconnects
 pub mod Takes
+pub mod Wrote

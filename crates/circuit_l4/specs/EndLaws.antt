@@ -1,12 +1,12 @@
 -- What holds of an end of a circuit by itself, whatever it is given and in whatever order.
-use Rattle.std.specs.Prelude.{◌≡◌, ℕ, ◌+◌, ◌⊎◌, ◌↔◌, List, [], ◌∷◌, ◌++◌, Option, Contains}
+use Rattle.std.specs.Prelude.{◌≡◌, ℕ, ◌+◌, ◌⊎◌, ◌↔◌, List, [], ◌∷◌, ◌++◌, if◌then◌else◌, Option, Contains, is_ok}
 use Rattle.ax_address.specs.Callsign.{Callsign}
 use Rattle.circuit_l4.specs.declared.transport.Pair.{Pair}
 use Rattle.circuit_l4.specs.declared.transport.Transport.TheVariants.{Disconnect}
 use Rattle.circuit_l4.specs.declared.plain.EndConfig.{EndConfig}
 use Rattle.circuit_l4.specs.declared.plain.EndNotice.TheVariants.{FailedRetries, FailedOversize, FailedInactive}
 use Rattle.circuit_l4.specs.EndState.{Effect, State}
-use Rattle.circuit_l4.specs.EndTable.{Input, step}
+use Rattle.circuit_l4.specs.EndTable.{Input, Write, step, write_answer}
 use Rattle.circuit_l4.specs.EndOpening.{requesting, responding}
 use Rattle.circuit_l4.specs.Expiries.{expiries, moments}
 use Rattle.circuit_l4.specs.Sending.{total}
@@ -45,3 +45,12 @@ DisconnectsWhenAcknowledged =
     (g : Effect) → IsNew g → (inputs : List (Input × ℕ)) (input : Input) (now : ℕ) (to : Pair) (number : Option ℕ) →
     let after = step (after_inputs g inputs).end input now in
     Contains after.outs (Disconnect to, number) → after.end.sending.acked ≡ total after.end.sending
+
+-- what an input writes: its message, where that is accepted
+abbrev pub written_by : State → Input → List (List ℕ)
+written_by s (Write message) = if is_ok (write_answer s message) then message ∷ [] else []
+written_by s _ = []
+
+-- what an end has written grows by what its inputs write, and by nothing else
+abbrev pub WroteByWrites : Type 0
+WroteByWrites = (s : State) (input : Input) (now : ℕ) → (step s input now).end.sending.wrote ≡ s.sending.wrote ++ written_by s input

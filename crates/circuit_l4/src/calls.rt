@@ -72,7 +72,7 @@ impl Machine {
     }
 
     /// Whether a message is accepted.
-    fn write_answer(&self, message: &[u8]) -> Result<(), WriteRefusal>
+    pub(crate) fn write_answer(&self, message: &[u8]) -> Result<(), WriteRefusal>
         ensures exact { (s : State) → StandsFor (view_of self.now) s → result ≡ table.write_answer s message.now }
         ensures room { OnOk result (MayWrite message.now self.now.outgoing) }
     {

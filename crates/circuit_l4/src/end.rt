@@ -27,7 +27,7 @@ use std::marker::Model;
 /// - Inputs, each with its moment in milliseconds: `write`, `close` and `take` of the user, `arrive` of a transport of the other end, `tick`
 ///   of time. They want `drained()`.
 /// - Outputs: `next_out` and `notice`. After `requester`, `responder` and each input both are fetched until they answer None.
-/// - Looks, which change nothing: `facts`, `drained`.
+/// - Looks, which change nothing: `may_write`, `has_message`, `facts`, `drained`.
 ///
 /// `tick` is called about once a second, since no call tells when something is due. `requester` and `responder` take all the memory that an
 /// end needs. What each input does is one row of the table in `specs/EndTable.antt`.
@@ -120,6 +120,13 @@ impl End {
         self.machine.write(message, moment(now))
     }
 
+    /// What `write` would answer, at any moment.
+    pub fn may_write(&self, message: &[u8]) -> Result<(), WriteRefusal>
+        ensures { (s : State) → StandsFor self.now s → result ≡ table.write_answer s message.now }
+    {
+        self.machine.write_answer(message)
+    }
+
     /// Closes the circuit once all that was written is acknowledged.
     pub fn close(&mut self, now: Moment)
         requires { IsDrained self.old }
@@ -166,6 +173,13 @@ impl End {
         ensures config { self.new.config ≡ self.old.config }
     {
         self.machine.take(out)
+    }
+
+    /// Whether a message waits to be taken: what `take` would answer.
+    pub fn has_message(&self) -> bool
+        ensures { (s : State) → StandsFor self.now s → result ≡ nat_lt 0 (length (inbox s.receiving)) }
+    {
+        self.machine.incoming.has_message()
     }
 
     /// The next transport that waits to be sent, with the number of the fragment that it carries.

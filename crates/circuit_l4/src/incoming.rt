@@ -214,6 +214,13 @@ impl Incoming {
         Ok(())
     }
 
+    /// Whether a message waits.
+    pub(crate) fn has_message(&self) -> bool
+        ensures { result ≡ nat_lt 0 (length self.now.messages) }
+    {
+        self.inbox.front_len().is_some()
+    }
+
     /// Takes the first message; false where none waits, and `out` is as it was then.
     pub(crate) fn take(&mut self, out: &mut Message) -> bool
         ensures does { (r : Receiving) → IsReceiving self.old r → IsReceiving self.new (take_message result r) }

@@ -26,6 +26,11 @@ pub fn endings()
     ensures acknowledged { end_law.DisconnectsWhenAcknowledged }
 {}
 
+/// What an end has written grows by the writes that it accepts, and by nothing else.
+pub fn wrote_by_writes()
+    ensures { end_law.WroteByWrites }
+{}
+
 /// An end keeps at most its share: 90,347 octets, and 236 for each fragment of its window. Transports that wait to be fetched aren't counted.
 pub fn kept()
     ensures { KeepsItsShare }
