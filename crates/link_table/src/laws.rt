@@ -1,6 +1,7 @@
 //! What the definitions promise by themselves.
 ghost use Rattle.std.specs.Prelude.{◌≡◌};
 ghost use Rattle.link_table.specs.Calls.{AnsweredAsDown};
+ghost use Rattle.link_table.specs.Ending.{EndsAreTold, TextsAreOfLinks};
 ghost use Rattle.link_table.specs.Kept.{KeepsItsShare};
 ghost use Rattle.link_table.specs.Payloads.{CountsPayloads, OffersLeave, TakesLower};
 ghost use Rattle.link_table.specs.Reaching.{FramesAreSpelled};
@@ -91,6 +92,13 @@ pub fn kept()
     ax_link::laws::kept();
     ax_segment::laws::kept_within();
 }
+
+/// In a table of at most 64 links, of which none is Down and no two are with one peer, so it stays by every call; and where a link stood with a
+/// peer one stands, or it waits to be told that it has ended. A text waits only at a link that stands.
+pub fn ends_are_told()
+    ensures told { EndsAreTold }
+    ensures texts { TextsAreOfLinks }
+{}
 
 /// The pieces of 256 bytes as which a text goes over a link of modulo 8 are the text.
 pub fn pieces_are_the_text()
