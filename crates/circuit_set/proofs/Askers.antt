@@ -9,7 +9,7 @@ use Rattle.l3_datagram.specs.declared.datagram.DatagramHead.{DatagramHead}
 use Rattle.circuit_l4.specs.declared.transport.Pair.{Pair}
 use Rattle.circuit_l4.specs.declared.plain.EndNotice.{EndNotice}
 use Rattle.circuit_l4.specs.EndState.{State}
-use Rattle.circuit_set.specs.Books.{HasRequester, MadeNote, Name, NoOther, any_ends, asked_by, first_name, has_sent, if_asked, is_some_name, is_unknown, made_last, partner, partner_in, requester, same_name}
+use Rattle.circuit_set.specs.Books.{HasRequester, MadeNote, Name, NoOther, any_ends, asked_by, has_sent, if_asked, is_unknown, made_last, partner, requester, same_name}
 use Rattle.circuit_set.specs.Returning.{IsReturn}
 use Rattle.circuit_set.specs.Runs.{Net, end_at, end_in, told_to}
 use Rattle.circuit_set.specs.Sets.{Act, Holder, SetState, asked_with, end_of, first_open, has_ended, is_open, opened_by, same_pair}
@@ -21,8 +21,10 @@ use Rattle.circuit_set.proofs.Fair.{InMade, NoteOf, in_contains, note_of_name}
 use Rattle.circuit_set.proofs.Invariant.{Lived}
 use Rattle.circuit_set.proofs.Knowing.{Asker, Known, MadeOk, Opened, asker_of, sender_of}
 use Rattle.circuit_set.proofs.Lookups.{InEnds}
+use Rattle.circuit_set.proofs.Leaving.{GoneEnded}
 use Rattle.circuit_set.proofs.Making.{same_pairs}
 use Rattle.circuit_set.proofs.NewName.{call_itself}
+use Rattle.circuit_set.proofs.Partners.{Partner, of_made, partner_of}
 use Rattle.circuit_set.proofs.Retries.{AllLive}
 use Rattle.circuit_set.proofs.Stepped.{same_holder}
 use Rattle.circuit_set.proofs.Unrepeated.{FarFrom, Unrepeated, each}
@@ -46,11 +48,6 @@ shut_case test h x hs false t e (inr i) later = later e i
 none_open : (test : Holder → Bool) (h : Holder) (hs : List Holder) → first_open test hs ≡ None → InEnds h hs → (is_open h && test h) ≡ false
 none_open test h [] e i = absurd i
 none_open test h (x ∷ hs) e i = shut_case test h x hs (is_open x && test x) refl e i (none_open test h hs)
-
-of_made : (P : MadeNote → Type 0) (ms : List MadeNote) (m : MadeNote) → AllByRecursion P ms → InMade m ms → P m
-of_made P [] m a i = absurd i
-of_made P (x ∷ ms) m a (inl e) = subst P (sym e) a.0
-of_made P (x ∷ ms) m a (inr i) = of_made P ms m a.1 i
 
 get_in : (ms : List MadeNote) (i : ℕ) (m : MadeNote) → i < length ms → get_or ms i m ≡ m → InMade m ms
 get_in [] i m l e = absurd (omega arith)
@@ -107,35 +104,6 @@ last_is : (own : Callsign) (pair : Pair) (m : MadeNote) (ms : List MadeNote) →
 last_is own pair m [] i c p near u = absurd i
 last_is own pair m (q ∷ ms) i c p near u = last_case own pair m q ms (same_call q.own own && same_pair q.pair pair) refl i c p near.0 u (λ j. last_is own pair m ms j c p near.1 u.1)
 
--- ---- partners ----
--- it stands in x's own note, or x in its
-record Partner (ms : List MadeNote) (x z : Name) : Type 0 where
-  note : MadeNote
-  inside : InMade note ms
-  which : (note.partner ≡ Some x) ⊎ ((note.who ≡ x) × (note.partner ≡ Some z))
-
-partner_later : (m : MadeNote) (ms : List MadeNote) (x z : Name) → Partner ms x z → Partner (m ∷ ms) x z
-partner_later m ms x z p = record { note = p.note; inside = inr p.inside; which = p.which }
-
-some_is : (o : Option Name) (x : Name) → is_some_name o x ≡ true → o ≡ Some x
-some_is None x e = cc
-some_is (Some y) x e = ap (λ w. Some w) (same_names y x e)
-
-own_case : (m : MadeNote) (ms : List MadeNote) (x z : Name) (o : Option Name) (b : Bool) → m.partner ≡ o → same_name m.who x ≡ b → first_name (if b then o else None) (partner_in ms x) ≡ Some z
-    → (partner_in ms x ≡ Some z → Partner ms x z) → Partner (m ∷ ms) x z
-own_case m ms x z (Some y) true p t e later = let same : y ≡ z = cc in record { note = m; inside = inl refl; which = inr (same_names m.who x t, p ∙ ap (λ w. Some w) same) }
-own_case m ms x z None true p t e later = partner_later m ms x z (later e)
-own_case m ms x z o false p t e later = partner_later m ms x z (later e)
-
-partner_case : (m : MadeNote) (ms : List MadeNote) (x z : Name) (b : Bool) → is_some_name m.partner x ≡ b → (if b then Some m.who else first_name (if same_name m.who x then m.partner else None) (partner_in ms x)) ≡ Some z
-    → (partner_in ms x ≡ Some z → Partner ms x z) → Partner (m ∷ ms) x z
-partner_case m ms x z true t e later = record { note = m; inside = inl refl; which = inl (some_is m.partner x t) }
-partner_case m ms x z false t e later = own_case m ms x z m.partner (same_name m.who x) refl refl e later
-
-partner_of : (ms : List MadeNote) (x z : Name) → partner_in ms x ≡ Some z → Partner ms x z
-partner_of [] x z e = cc
-partner_of (m ∷ ms) x z e = partner_case m ms x z (is_some_name m.partner x) refl e (partner_of ms x z)
-
 -- ---- an end that isn't open ----
 says_ended : (e : State) (ns : List EndNotice) → Lived e ns → has_ended e.phase ≡ true → any_ends ns ≡ true
 says_ended e ns l ended = sym (ap any_ends l.notes_are) ∙ lived_says l.first l.inputs l.new (ap (λ (s : State). has_ended s.phase) l.end ∙ ended)
@@ -150,7 +118,7 @@ shut_ended false true e g = refl
 shut_ended false false e g = cc
 
 -- ---- the new end ----
-module _ (net : Net) (k : Known net) (live : AllLive net) (once : Unrepeated net.book.made) (n : ℕ) (s : SetState) (here : slice_get net.sets n ≡ Some s) where
+module _ (net : Net) (k : Known net) (left : GoneEnded net) (live : AllLive net) (once : Unrepeated net.book.made) (n : ℕ) (s : SetState) (here : slice_get net.sets n ≡ Some s) where
   -- its pair is that of no end which its node has made
   pub no_other : (lost : List Name) (pair : Pair) → FarFrom n pair net.book.made → NoOther net.book lost n pair
   no_other lost pair far m q im iq told kept other met node same =
@@ -229,7 +197,7 @@ module _ (net : Net) (k : Known net) (live : AllLive net) (once : Unrepeated net
         let fits : opened_by head.origin p w.end ≡ true =
         ap (λ o. asked_with o p && same_call w.end.at head.origin) pair ∙ ap (λ b. b && same_call w.end.at head.origin) (pair_itself p) ∙ ap (λ c. same_call w.end.at c) (sym from) ∙ call_itself w.end.at in
         let shut : is_open w.end ≡ false = and_false (is_open w.end) (opened_by head.origin p w.end) (none_open (opened_by head.origin p) w.end s.ends o.none (is_in q.who.id w.end s.ends there)) fits in
-        let ended : has_ended w.end.end.phase ≡ true = shut_ended w.end.gone (has_ended w.end.end.phase) shut (k.ends q.who w.end w.here).gone in
+        let ended : has_ended w.end.end.phase ≡ true = shut_ended w.end.gone (has_ended w.end.end.phase) shut (left q.who w.end w.here) in
         record {
           head = head;
           read = o.comer.read;
@@ -253,7 +221,7 @@ module _ (net : Net) (k : Known net) (live : AllLive net) (once : Unrepeated net
     asked_case (Some z) e =
         let q : Partner net.book.made x z = partner_of net.book.made x z e in
         elim q.which [
-          | inl met ↦ inr (returned q.note q.inside met)
+          | inl met ↦ inr (returned q.note q.inside met.0)
           | inr own ↦ alone q.note z q.inside own.0 own.1 (HasRequester net.book (Some d) ⊎ IsReturn net.book n d)
         ]
 

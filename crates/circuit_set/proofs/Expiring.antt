@@ -16,10 +16,11 @@ use Rattle.circuit_l4.specs.EndTable.{Arrive, Input, step}
 use Rattle.circuit_l4.specs.Expiries as ends
 use Rattle.circuit_l4.specs.Expiries.{Moment, expiries}
 use Rattle.circuit_set.specs.Sets.{Act, Call, Calls, Closes, Comes, Connect, Discard, Restart, Takes, Ticks, Writes, Made, Sent, Heeded, Gone, Restarted, Holder, SetDone, SetState, datagram_to, end_of, goes_to, holder_of, input_of, is_over, losses, made, new_pair, restarted, set_step, told_by, with_end}
-use Rattle.circuit_set.specs.Books.{Book, Name, noted, noted_all}
-use Rattle.circuit_set.specs.Runs.{AreSteps, CircuitsSafe, Net, Step, begins, between, end_at, end_in, events_at, moments, net_run, net_step, sets_at, tick_at, tick_by, tick_of, told_at, told_to}
+use Rattle.circuit_set.specs.Books.{Book, Event, Name, Timely, empty, noted, noted_all}
+use Rattle.circuit_set.specs.Runs.{AreSteps, CircuitsSafe, Net, Step, allowed, begins, between, end_at, end_in, events_at, events_of, moments, net_run, net_step, sets_at, tick_at, tick_by, tick_of, told_at, told_to}
 use Rattle.circuit_set.specs.Retries.{RetriesAreTold}
 use Rattle.circuit_set.specs.Givings.{IsUp}
+use Rattle.circuit_set.proofs.ByBook.{fresh_by_book, timely_by_book}
 use Rattle.circuit_set.proofs.Acts.{set_self}
 use Rattle.circuit_set.proofs.Bridge.{name_itself}
 use Rattle.circuit_set.proofs.Cases.{Every, Idle, IsNew, MadeBy, MovedBy, NoCall, step_every}
@@ -413,7 +414,10 @@ front_are [] ys a = tt
 front_are (x ∷ xs) ys a = (a.0, front_are xs ys a.1)
 
 pub circuits_safe : RetriesAreTold → CircuitsSafe
-circuits_safe told sets starts steps later are timely fresh x h e = record {
-  circuit = circuits_now (net_run (begins sets) steps) (circuits_kept sets starts steps later are timely) x h e;
-  retries = told sets starts steps (front_are steps later are) x h e;
-}
+circuits_safe told sets starts steps later are timely fresh x h e =
+    let events : List Event = events_of sets (steps ++ later) in
+    let noted : Timely allowed empty events = (timely_by_book events ((fresh_by_book events).1 fresh)).1 timely in
+    record {
+      circuit = circuits_now (net_run (begins sets) steps) (circuits_kept sets starts steps later are noted) x h e;
+      retries = told sets starts steps (front_are steps later are) x h e;
+    }

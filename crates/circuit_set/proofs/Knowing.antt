@@ -1,4 +1,4 @@
--- What is known of a run in which no node starts again: of its ends, of what was sent, and of what has opened an end.
+-- What is known of every run: of its ends, of what was sent, and of what has opened an end.
 use Rattle.std.specs.Prelude.{◌≡◌, ℕ, suc, ◌⊎◌, Bool, true, false, ◌&&◌, ◌||◌, List, [], ◌∷◌, drop, slice_get, Option, Some, None, Ok, refl}
 use Rattle.std.specs.List.{AllByRecursion}
 use Rattle.std.proofs.Common.{sym, ◌∙◌, ap, subst, inl, inr}
@@ -14,9 +14,10 @@ use Rattle.circuit_l4.specs.Laws.{IsTransport}
 use Rattle.circuit_l4.specs.Reading.{transport_at}
 use Rattle.circuit_l4.specs.Transports.{pair_at, transport_octets}
 use Rattle.circuit_set.specs.Books.{MadeNote, Name, SentNote, has_sent, is_copy, same_name}
+use Rattle.circuit_set.specs.Facing.{IsCallOf}
 use Rattle.circuit_set.specs.Returning.{CallsDiffer}
 use Rattle.circuit_set.specs.Runs.{Net, end_at}
-use Rattle.circuit_set.specs.Sets.{Holder, SetState, datagram_to, has_ended}
+use Rattle.circuit_set.specs.Sets.{Holder, SetState, datagram_to}
 use Rattle.circuit_set.proofs.Asks.{AskOf, Asks}
 use Rattle.circuit_set.proofs.Bridge.{same_names}
 use Rattle.circuit_set.proofs.Copies.{Reads, Spelled, copy_carries, copy_reads}
@@ -29,11 +30,6 @@ pub record EndOk (h : Holder) : Type 0 where
   pub at : IsCallsign h.at.letters h.at.ssid
   pub speaks : RoleSpeaks h.end.role
   pub asked : (h.asked ≡ None) ⊎ (h.end.role ≡ Responder)
-  pub gone : h.gone ≡ true → has_ended h.end.phase ≡ true
-
--- a node's call
-abbrev pub OwnIs : List SetState → ℕ → Callsign → Type 0
-OwnIs sets node own = (s : SetState) × (slice_get sets node ≡ Some s) × (s.own ≡ own)
 
 -- a connect request is that of an end that was opened by none, to the node with which it asks for a circuit
 abbrev pub SaidBy : Net → Name → Callsign → Transport → Type 0
@@ -43,7 +39,7 @@ SaidBy net x at t = Unit {0}
 
 pub record SentOk (net : Net) (s : SentNote) : Type 0 where
   pub own : Callsign
-  pub node : OwnIs net.sets s.who.node own
+  pub node : IsCallOf net.sets s.who.node own
   pub call : IsCallsign own.letters own.ssid
   pub at : Callsign
   pub to : IsCallsign at.letters at.ssid
@@ -59,8 +55,8 @@ pub record Opened (net : Net) (m : MadeNote) (x : Name) : Type 0 where
   pub end : Holder
   pub here : end_at net m.who ≡ Some end
   pub pair : end.asked ≡ Some asker.end.pair
-  pub from : OwnIs net.sets x.node end.at
-  pub to : OwnIs net.sets m.who.node asker.at
+  pub from : IsCallOf net.sets x.node end.at
+  pub to : IsCallOf net.sets m.who.node asker.at
 
 pub record MadeOk (net : Net) (m : MadeNote) : Type 0 where
   pub note : NoteOk net m
@@ -88,7 +84,7 @@ pub record Forth (net new : Net) : Type 0 where
   pub owns : (n : ℕ) (s : SetState) → slice_get net.sets n ≡ Some s → (t : SetState) × (slice_get new.sets n ≡ Some t) × (t.own ≡ s.own)
 
 module _ (net new : Net) (f : Forth net new) where
-  pub own_then : (node : ℕ) (own : Callsign) → OwnIs net.sets node own → OwnIs new.sets node own
+  pub own_then : (node : ℕ) (own : Callsign) → IsCallOf net.sets node own → IsCallOf new.sets node own
   own_then node own o = let r = f.owns node o.0 o.1 in (r.0, r.1, r.2 ∙ o.2)
 
   said_then : (x : Name) (at : Callsign) (t : Transport) → SaidBy net x at t → SaidBy new x at t
@@ -118,8 +114,8 @@ module _ (net new : Net) (f : Forth net new) where
         end = q.0;
         here = q.1;
         pair = k.asked ∙ o.pair ∙ ap (λ p. Some p) (sym l.pair);
-        from = subst (λ c. OwnIs new.sets x.node c) (sym k.at) (own_then x.node o.end.at o.from);
-        to = subst (λ c. OwnIs new.sets m.who.node c) (sym l.at) (own_then m.who.node o.asker.at o.to);
+        from = subst (λ c. IsCallOf new.sets x.node c) (sym k.at) (own_then x.node o.end.at o.from);
+        to = subst (λ c. IsCallOf new.sets m.who.node c) (sym l.at) (own_then m.who.node o.asker.at o.to);
       }
 
   pub made_then : (m : MadeNote) → MadeOk net m → MadeOk new m
@@ -148,7 +144,7 @@ requests_itself net x h to there l k (Disconnected p) o a = tt
 requests_itself net x h to there l k (Info p tx rx flags text) o a = tt
 requests_itself net x h to there l k (InfoAck p rx flags) o a = tt
 
-pub outs_sent : (net : Net) (x : Name) (h to : Holder) (s : SetState) → end_at net x ≡ Some to → Lasts h to → EndOk h → OwnIs net.sets x.node s.own → IsCallsign s.own.letters s.own.ssid
+pub outs_sent : (net : Net) (x : Name) (h to : Holder) (s : SetState) → end_at net x ≡ Some to → Lasts h to → EndOk h → IsCallOf net.sets x.node s.own → IsCallsign s.own.letters s.own.ssid
     → (os : List Out) (i : ℕ) (ss : List SentNote) → Asks h.end os → AllByRecursion (SentOk net) ss → AllByRecursion (SentOk net) (put_sents x i (datagram_to s h.at) os ss)
 outs_sent net x h to s there l k own call [] i ss a p = p
 outs_sent net x h to s there l k own call (o ∷ os) i ss a p =
@@ -193,7 +189,7 @@ pub record Asker (net : Net) (x : Name) (d : List ℕ) (head : DatagramHead) (pa
   pub asked : end.asked ≡ None
   pub pair_is : end.end.pair ≡ pair
   pub first : pair_at 0 (drop 15 d) ≡ pair
-  pub own : OwnIs net.sets x.node head.origin
+  pub own : IsCallOf net.sets x.node head.origin
   pub to : end.at ≡ head.dest
 
 asker_by : (net : Net) (x : Name) (d : List ℕ) (head : DatagramHead) (pair : Pair) (window : ℕ) (user node : Callsign) (s : Sender net x d) → head_at d ≡ Ok head → transport_at (drop 15 d) ≡ Ok (Request pair window user node)
@@ -215,7 +211,7 @@ asker_by net x d head pair window user node s read is carries r =
       asked = said.2;
       pair_is = said.3 ∙ same_pair;
       first = ap (λ os. pair_at 0 os) octets ∙ same_pair;
-      own = subst (λ c. OwnIs net.sets x.node c) (sym (ap (λ (k : DatagramHead). k.origin) same_head)) (subst (λ (w : Name). OwnIs net.sets w.node o.own) s.who o.node);
+      own = subst (λ c. IsCallOf net.sets x.node c) (sym (ap (λ (k : DatagramHead). k.origin) same_head)) (subst (λ (w : Name). IsCallOf net.sets w.node o.own) s.who o.node);
       to = said.4 ∙ sym (ap (λ (k : DatagramHead). k.dest) same_head);
     }
 

@@ -1,5 +1,5 @@
--- A step by which no node starts again keeps what is known of the run.
-use Rattle.std.specs.Prelude.{◌≡◌, ◌≢◌, ℕ, ◌⊎◌, Bool, true, false, ◌&&◌, nat_eq, if◌then◌else◌, List, [], ◌∷◌, ◌++◌, drop, length, slice_get, slice_set, Option, Some, None, Result, Ok, Err, refl}
+-- Each step keeps what is known of the run, also one by which a node starts again.
+use Rattle.std.specs.Prelude.{◌≡◌, ◌≢◌, ℕ, suc, ◌⊎◌, Bool, true, false, ◌&&◌, nat_eq, if◌then◌else◌, List, [], ◌∷◌, ◌++◌, drop, length, slice_get, slice_set, Option, Some, None, Result, Ok, Err, refl}
 use Rattle.std.specs.List.{AllByRecursion}
 use Rattle.std.proofs.Common.{sym, ◌∙◌, ap, subst, inl, inr, arith}
 use Rattle.std.proofs.lemmas.Bool.Decides.{nat_tests}
@@ -15,10 +15,11 @@ use Rattle.circuit_l4.specs.EndState.{Effect, State}
 use Rattle.circuit_l4.specs.EndOpening.{facts_of}
 use Rattle.circuit_l4.specs.Receiving.{inbox}
 use Rattle.circuit_set.specs.Books.{Book, MadeNote, Name, asked_by, has_sent, if_asked, is_unknown, made_last, noted, noted_all, partner, requester}
+use Rattle.circuit_set.specs.Facing.{IsCallOf}
 use Rattle.circuit_set.specs.Givings.{IsUp}
 use Rattle.circuit_set.specs.Returning.{CallsDiffer}
 use Rattle.circuit_set.specs.Runs.{AreStarts, IsAct, IsStart, Net, begins, end_at, events_at}
-use Rattle.circuit_set.specs.Sets.{Act, Made, Sent, Heeded, Gone, Holder, SetDone, SetState, datagram_to, end_of, goes_to, has_ended, holder_of, is_over, made, new_pair, set_step, told_by, with_end}
+use Rattle.circuit_set.specs.Sets.{Act, Connect, Comes, Calls, Discard, Restart, Made, Sent, Heeded, Gone, Restarted, Holder, SetDone, SetState, datagram_to, end_of, goes_to, has_ended, holder_of, is_over, losses, made, new_pair, restarted, set_step, told_by, with_end}
 use Rattle.circuit_l4.specs.Transports.{pair_at}
 use Rattle.circuit_set.proofs.Acts.{set_self}
 use Rattle.circuit_set.proofs.Asks.{Asks}
@@ -26,11 +27,12 @@ use Rattle.circuit_set.proofs.Cases.{IsNew, Lives, MadeBy, Opener, Says, step_ev
 use Rattle.circuit_set.proofs.Copies.{same_calls}
 use Rattle.circuit_set.proofs.Ended.{Ends}
 use Rattle.circuit_set.proofs.Given.{Numbers, none_of, one}
-use Rattle.circuit_set.proofs.Knowing.{Asker, EndOk, Forth, Known, Lasts, MadeOk, Opened, OwnIs, Sender, SentOk, asker_of, lasts_itself, made_then, outs_sent, own_then, sender_of, sent_then}
+use Rattle.circuit_set.proofs.Knowing.{Asker, EndOk, Forth, Known, Lasts, MadeOk, Opened, Sender, SentOk, asker_of, lasts_itself, made_then, outs_sent, own_then, sender_of, sent_then}
 use Rattle.circuit_set.proofs.Lookups.{set_other, set_same}
 use Rattle.circuit_set.proofs.Moved.{same_or}
 use Rattle.circuit_set.proofs.Noting.{told_noted, with_notices}
 use Rattle.circuit_set.proofs.Pasts.{put_sents}
+use Rattle.circuit_set.proofs.Restarts.{gone_of, noted_losses}
 use Rattle.circuit_set.proofs.Safe.{none_case, starts_at}
 use Rattle.circuit_set.proofs.Stepped as stepped
 use Rattle.circuit_set.proofs.Stepped.{same_holder}
@@ -41,10 +43,6 @@ use Rattle.circuit_set.proofs.Written.{RoleSpeaks}
 and_first : (a b : Bool) → (a && b) ≡ true → a ≡ true
 and_first true b e = refl
 and_first false b e = cc
-
--- an end is over once it has ended
-over_ended : (e : State) → is_over e ≡ true → has_ended e.phase ≡ true
-over_ended e o = and_first (has_ended e.phase) (nat_eq (length (inbox e.receiving)) 0) o
 
 all_noticed : (P : MadeNote → Type 0) → ((m : MadeNote) (ts : List EndNotice) → P m → P (record m { told = ts })) → (x : Name) (ns : List EndNotice) (ms : List MadeNote) → AllByRecursion P ms → AllByRecursion P (with_notices x ns ms)
 all_noticed P keep x [] ms a = a
@@ -148,7 +146,7 @@ module _ (net : Net) (k : Known net) (n : ℕ) (s : SetState) (here : slice_get 
       (r.made, (b.places, r.sent))
   heeded_noted h false d g = let r = told_noted s n s.own h g net.book in (r.made, (net.book.places, r.sent))
 
-  own_now : (t : SetState) → t.own ≡ s.own → OwnIs (slice_set net.sets n t) n s.own
+  own_now : (t : SetState) → t.own ≡ s.own → IsCallOf (slice_set net.sets n t) n s.own
   own_now t own = (t, set_same net.sets n s t here, own)
 
   moves_so : (h : Holder) (heeded : Bool) (d : List ℕ) (g : Effect) → end_of h.id s.ends ≡ Some h → h.gone ≡ false → SameEnd h.end g.end → Ends h.end g → Says h heeded d g → Lives h.end g → Asks h.end g.outs
@@ -164,7 +162,6 @@ module _ (net : Net) (k : Known net) (n : ℕ) (s : SetState) (here : slice_get 
         at = ok.at;
         speaks = subst RoleSpeaks (sym same.role) ok.speaks;
         asked = elim ok.asked [ inl e ↦ inl e | inr e ↦ inr (same.role ∙ e) ];
-        gone = over_ended g.end;
       } in
       let r = heeded_noted h heeded d g in
       let f : Forth net new = forth h g.end over c there same.pair in
@@ -180,7 +177,7 @@ module _ (net : Net) (k : Known net) (n : ℕ) (s : SetState) (here : slice_get 
       let to : Holder = record { id = h.id; at = h.at; asked = h.asked; end = h.end; gone = true } in
       let new : Net = record { sets = slice_set net.sets n (record s { ends = with_end to s.ends }); book = c } in
       let ok : EndOk h = k.ends (record { node = n; id = h.id }) h (stepped.end_then net n s here h h.end true c there) in
-      let ok_now : EndOk to = record { at = ok.at; speaks = ok.speaks; asked = ok.asked; gone = λ e. ended } in
+      let ok_now : EndOk to = record { at = ok.at; speaks = ok.speaks; asked = ok.asked } in
       changed h h.end true c there refl [] ok_now refl (each (SentOk net) (SentOk new) (sent_then net new (forth h h.end true c there refl)) net.book.sent k.sent)
 
   -- ---- no end ----
@@ -260,7 +257,7 @@ module _ (net : Net) (k : Known net) (n : ℕ) (s : SetState) (here : slice_get 
 
     module _ (by : MadeBy s a at g.end.role asked request) where
       end_ok : EndOk h2
-      end_ok = let r = end_by asked request refl by in record { at = r.0; speaks = r.1; asked = r.2; gone = over_ended g.end }
+      end_ok = let r = end_by asked request refl by in record { at = r.0; speaks = r.1; asked = r.2 }
 
       end_two : (z : Name) (j : Holder) → end_at new2 z ≡ Some j → (y ≡ z) ⊎ (y ≡ z → ⊥) → EndOk j
       end_two z j q (inl same) = subst EndOk (same_holder h2 j (end_at new2 z) (subst (λ w. end_at new2 w ≡ Some h2) same end_here) q) end_ok
@@ -281,7 +278,7 @@ module _ (net : Net) (k : Known net) (n : ℕ) (s : SetState) (here : slice_get 
             end = h2;
             here = end_here;
             pair = e ∙ ap (λ r. Some r) (sym asker.pair_is);
-            from = subst (λ k. OwnIs new2.sets x.node k) o.origin (own_then net new2 forth2 x.node c.head.origin asker.own);
+            from = subst (λ k. IsCallOf new2.sets x.node k) o.origin (own_then net new2 forth2 x.node c.head.origin asker.own);
             to = (t2, set_same net.sets n s t2 here, sym (same_calls c.head.dest s.own c.mine) ∙ sym asker.to);
           }
 
@@ -318,8 +315,32 @@ module _ (net : Net) (k : Known net) (n : ℕ) (s : SetState) (here : slice_get 
             made = subst (AllByRecursion (MadeOk new2)) (sym r.made) (all_noticed (MadeOk new2) (made_keeps new2) y g.notes first.made made_all);
           }
 
-  pub step_known : (a : Act) → IsAct a → IsUp a → P (set_step s a)
-  step_known a is_act up =
+  -- ---- the node starts again ----
+  gone_ok : (h : Holder) (b : Bool) → EndOk h → EndOk (gone_of h b)
+  gone_ok h b ok = record { at = ok.at; speaks = ok.speaks; asked = ok.asked }
+
+  again_so : (pair : Pair) (more : ℕ) → P (restarted s pair more)
+  again_so pair more =
+      let t : SetState = (restarted s pair more).set in
+      let c : Book = noted_all net.book (events_at n s.own (Restarted pair ∷ losses s.ends)) in
+      let b : Book = record { places = suc net.book.places; made = net.book.made; sent = net.book.sent; heard = net.book.heard } in
+      let new : Net = After (restarted s pair more) in
+      let made_is : c.made ≡ net.book.made = ap (λ (a : Book). a.made) (noted_losses n s.own s.ends b).2 in
+      let sent_is : c.sent ≡ net.book.sent = ap (λ (a : Book). a.sent) (noted_losses n s.own s.ends b).2 in
+      let f : Forth net new = record {
+        is = λ z j q. (let i = stepped.is_lost_now net n s here pair more c z j (nat_eq z.node n) refl q in (gone_of j i.0, i.1, record { pair = refl; asked = refl; at = refl }));
+        owns = λ i u q. stepped.own_stays net n s here t refl i u (nat_eq i n) refl q;
+      } in
+      record {
+        calls = calls_now t refl;
+        sets = λ i u q. sets_now t (k.sets n s here) i u q;
+        ends = λ z j q. (let r = stepped.was_lost net n s here pair more c z j (nat_eq z.node n) refl q in subst EndOk r.3 (gone_ok r.0 r.2 (k.ends z r.0 r.1)));
+        sent = subst (AllByRecursion (SentOk new)) (sym sent_is) (each (SentOk net) (SentOk new) (sent_then net new f) net.book.sent k.sent);
+        made = subst (AllByRecursion (MadeOk new)) (sym made_is) (each (MadeOk net) (MadeOk new) (made_then net new f) net.book.made k.made);
+      }
+
+  up_known : (a : Act) → IsAct a → IsUp a → P (set_step s a)
+  up_known a is_act up =
       step_every s (one s nums) a P (record {
         rests = λ idle. beside net.book refl k.sent;
         refuses = λ at pair call none. refused_so at pair call;
@@ -328,7 +349,14 @@ module _ (net : Net) (k : Known net) (n : ℕ) (s : SetState) (here : slice_get 
         makes = λ at asked request g fresh by asks. new_known a is_act at asked request g fresh asks by;
       }) up
 
-no_end : (sets : List SetState) (x : Name) (h : Holder) (P : Type 0) → AreStarts sets → end_at (begins sets) x ≡ Some h → P
+  pub step_known : (a : Act) → IsAct a → P (set_step s a)
+  step_known (Connect dest now) is_act = up_known (Connect dest now) is_act tt
+  step_known (Comes d now) is_act = up_known (Comes d now) is_act tt
+  step_known (Calls id call now) is_act = up_known (Calls id call now) is_act tt
+  step_known (Discard id) is_act = up_known (Discard id) is_act tt
+  step_known (Restart pair more) is_act = again_so pair more
+
+pub no_end : (sets : List SetState) (x : Name) (h : Holder) (P : Type 0) → AreStarts sets → end_at (begins sets) x ≡ Some h → P
 no_end sets x h P a e = let none : end_at (begins sets) x ≡ None = none_case sets x (slice_get sets x.node) a refl in let bad : None ≡ Some h = sym none ∙ e in cc
 
 pub start_known : (sets : List SetState) → AreStarts sets → CallsDiffer sets → Known (begins sets)

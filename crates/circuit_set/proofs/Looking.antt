@@ -1,10 +1,11 @@
 -- What a set tells of its ends, and what a refusal leaves.
-use Rattle.std.specs.Prelude.{◌≡◌, ℕ, zero, suc, true, false, nat_eq, List, [], ◌∷◌, slice_get, Option, Some, None, Result, Ok, Err, OnErr, refl}
+use Rattle.std.specs.Prelude.{◌≡◌, ℕ, zero, suc, true, false, nat_eq, List, [], ◌∷◌, slice_get, Option, Some, None, Bool, not, Result, Ok, Err, OnErr, is_none, is_some, refl}
 use Rattle.std.specs.Option.{option_map}
 use Rattle.std.proofs.Common.{sym, ◌∙◌, ap, subst, inl, inr}
 use Rattle.std.specs.Map.{lookup}
 use Rattle.ax_address.specs.Callsign.{Callsign}
 use Rattle.circuit_l4.specs.declared.plain.EndFacts.{EndFacts}
+use Rattle.circuit_l4.specs.declared.transport.Pair.{Pair}
 use Rattle.circuit_l4.specs.EndState.{State}
 use Rattle.circuit_l4.specs.EndOpening.{facts_of}
 use Rattle.circuit_l4.specs.EndStanding.{StandsFor}
@@ -15,7 +16,7 @@ use Rattle.circuit_set.specs.Sets.{SetState, Told, end_of}
 use Rattle.circuit_set.specs.Pumps.{Waiting, at_rest}
 use Rattle.circuit_set.specs.Inputs.{ticked, ticks, ticks_of}
 use Rattle.circuit_set.specs.Standing.{Held, HeldStands, Rests, SameNode}
-use Rattle.circuit_set.specs.CircuitSets.{Circuits, Goes, IsDrained, IsUnchanged, LentStands, SetStands, facts_at, held_by, held_ids, partner_at}
+use Rattle.circuit_set.specs.CircuitSets.{Circuits, Goes, IsDrained, IsUnchanged, LentStands, SetStands, facts_at, held_by, held_ids, partner_at, requested_at}
 use Rattle.circuit_set.proofs.Shown.{FoundAt, Shown, find, ids, keys, miss, shown}
 use Rattle.circuit_set.proofs.Owning.{SameOwn, runs_own}
 
@@ -27,6 +28,16 @@ facts_none (Some h) f = simp (f h refl) refl
 partner_none : (o : Option sets.Holder) → ((x : sets.Holder) → o ≡ Some x → x.gone ≡ true) → None ≡ partner_at o
 partner_none None f = refl
 partner_none (Some h) f = simp (f h refl) refl
+
+requested_none : (o : Option sets.Holder) → ((x : sets.Holder) → o ≡ Some x → x.gone ≡ true) → None ≡ requested_at o
+requested_none None f = refl
+requested_none (Some h) f = simp (f h refl) refl
+
+none_test : (o : Option Pair) (b : Bool) → is_some o ≡ not b → b ≡ is_none o
+none_test None true e = refl
+none_test None false e = absurd (cc)
+none_test (Some p) true e = absurd (cc)
+none_test (Some p) false e = refl
 
 lent_none : (o : Option sets.Holder) → ((x : sets.Holder) → o ≡ Some x → x.gone ≡ true) → LentStands None o
 lent_none None f = tt
@@ -42,6 +53,9 @@ facts_some o h is e = let at : facts_at (Some h) ≡ Some (facts_of h.end) = sim
 
 partner_some : (o : Option sets.Holder) (h : sets.Holder) → o ≡ Some h → h.gone ≡ false → Some h.at ≡ partner_at o
 partner_some o h is e = let at : partner_at (Some h) ≡ Some h.at = simp e refl in sym at ∙ ap partner_at (sym is)
+
+requested_some : (o : Option sets.Holder) (h : sets.Holder) → o ≡ Some h → h.gone ≡ false → Some (is_none h.asked) ≡ requested_at o
+requested_some o h is e = let at : requested_at (Some h) ≡ Some (is_none h.asked) = simp e refl in sym at ∙ ap requested_at (sym is)
 
 module _ {C : Type 0} (c : Circuits C) (w : Waiting) (st : SetStands c w) where
   abbrev own : Callsign
@@ -67,6 +81,9 @@ module _ {C : Type 0} (c : Circuits C) (w : Waiting) (st : SetStands c w) where
       pub no_partner : None ≡ partner_at it
       no_partner = partner_none it none
 
+      pub not_requested : None ≡ requested_at it
+      not_requested = requested_none it none
+
       pub no_end : LentStands None it
       no_end = lent_none it none
 
@@ -79,6 +96,9 @@ module _ {C : Type 0} (c : Circuits C) (w : Waiting) (st : SetStands c w) where
 
       pub some_partner : Some k.at ≡ partner_at it
       some_partner = ap Some (sym here.shows.at) ∙ partner_some it here.h here.is here.shows.held
+
+      pub some_requested : (b : Bool) → is_some k.asked ≡ not b → Some b ≡ requested_at it
+      some_requested b e = ap Some (none_test k.asked b e ∙ ap is_none (sym here.shows.asked)) ∙ requested_some it here.h here.is here.shows.held
 
       pub some_end : LentStands (Some k.end) it
       some_end = subst (λ (o : Option sets.Holder). LentStands (Some k.end) o) (sym here.is) (here.shows.held, here.shows.stands)

@@ -18,6 +18,7 @@ use Rattle.circuit_set.proofs.Differing.{given_differ}
 use Rattle.circuit_set.proofs.Given.{heard_none, none_append, one, told_none}
 use Rattle.circuit_set.proofs.Knowing.{Known}
 use Rattle.circuit_set.proofs.Learning.{start_known, step_known}
+use Rattle.circuit_set.proofs.Leaving.{GoneEnded, start_left, step_left}
 use Rattle.circuit_set.proofs.NamesOne.{lost_all}
 use Rattle.circuit_set.proofs.Noting.{noted_append}
 use Rattle.circuit_set.proofs.Retries.{Both, start_lives, step_lives}
@@ -73,19 +74,19 @@ told_sent (x ∷ es) b zero node id own number s d l e c =
 told_sent (x ∷ es) b (suc i) node id own number s d l e c = told_sent es (noted b x) i node id own number s d (omega arith) e c
 
 -- ---- a step ----
-module _ (net : Net) (k : Known net) (both : Both net) (before : List Event) (differ : Differ before net.book) (lost : List Name) (n : ℕ) (s : SetState) (here : slice_get net.sets n ≡ Some s) (a : Act)
+module _ (net : Net) (k : Known net) (left : GoneEnded net) (both : Both net) (before : List Event) (differ : Differ before net.book) (lost : List Name) (n : ℕ) (s : SetState) (here : slice_get net.sets n ≡ Some s) (a : Act)
     (sent : (d : List ℕ) (now : ℕ) → a ≡ Comes d now → (x : Name) × (has_sent net.book.sent x d ≡ true)) where
   abbrev P : SetDone → Type 0
   P done = (post : List Event) → AllDiffer (before ++ (events_at n s.own done.told ++ post)) → FreshButFrom net.book lost (events_at n s.own done.told)
 
   request_case : (at : Callsign) (role : Role) (p : Option Pair) (request : Option (List ℕ)) (id : ℕ) (pair : Pair) → MadeBy s a at role p request → FarFrom n pair net.book.made
       → (b : Book) → FreshButFrom b lost [] → FreshButFrom net.book lost (record { node = n; own = s.own; told = Made id pair at request } ∷ [])
-  request_case at role None None id pair by far b f = (inl (tt, no_other net k both.1 differ.1 n s here lost pair far), tt)
+  request_case at role None None id pair by far b f = (inl (tt, no_other net k left both.1 differ.1 n s here lost pair far), tt)
   request_case at role (Some p) (Some d) id pair by far b f =
       let o : Opener s a at p d = by.0 in
       let x = sent d o.comer.now o.comer.came in (
-        elim (asked_or_returned net k both.1 differ.1 n s here a at p d o x.0 x.1) [
-          | inl r ↦ inl (r, no_other net k both.1 differ.1 n s here lost pair far)
+        elim (asked_or_returned net k left both.1 differ.1 n s here a at p d o x.0 x.1) [
+          | inl r ↦ inl (r, no_other net k left both.1 differ.1 n s here lost pair far)
           | inr r ↦ inr r
         ],
         tt,
@@ -117,18 +118,21 @@ module _ (net : Net) (k : Known net) (both : Both net) (before : List Event) (di
   act_fresh up = step_every s (one s (both.0 n s here)) a P every up
 
 -- ---- a run ----
--- what a step tells is fresh, and what is known is known after it
+-- what a step tells is fresh, and what is known is known after it, and that each end which is gone has ended
 abbrev StepOk : Net → List Event → List Name → Step → Option SetState → List Event → Type 0
 StepOk net before lost st o post =
     let told : List Event = told_at net.sets st.node o st.act in
-    AllDiffer (before ++ (told ++ post)) → FreshButFrom net.book lost told × Known (record { sets = sets_at net.sets st.node o st.act; book = noted_all net.book told })
+    AllDiffer (before ++ (told ++ post)) →
+    FreshButFrom net.book lost told × Known (record { sets = sets_at net.sets st.node o st.act; book = noted_all net.book told })
+    × GoneEnded (record { sets = sets_at net.sets st.node o st.act; book = noted_all net.book told })
 
-step_fresh : (net : Net) (k : Known net) (both : Both net) (before : List Event) (differ : Differ before net.book) (lost : List Name) (st : Step)
+step_fresh : (net : Net) (k : Known net) (left : GoneEnded net) (both : Both net) (before : List Event) (differ : Differ before net.book) (lost : List Name) (st : Step)
     → ((d : List ℕ) (now : ℕ) → st.act ≡ Comes d now → (x : Name) × (has_sent net.book.sent x d ≡ true)) → IsAct st.act → IsUp st.act → (o : Option SetState) → slice_get net.sets st.node ≡ o → (post : List Event) → StepOk net before lost st o post
-step_fresh net k both before differ lost st sent is up None e post all = (tt, k)
-step_fresh net k both before differ lost st sent is up (Some s) e post all = (
-  act_fresh net k both before differ lost st.node s e st.act sent up post all,
-  step_known net k st.node s e (both.0 st.node s e) st.act is up,
+step_fresh net k left both before differ lost st sent is up None e post all = (tt, k, left)
+step_fresh net k left both before differ lost st sent is up (Some s) e post all = (
+  act_fresh net k left both before differ lost st.node s e st.act sent up post all,
+  step_known net k st.node s e (both.0 st.node s e) st.act is,
+  step_left net left st.node s e (both.0 st.node s e) st.act up,
 )
 
 module _ (sets : List SetState) (steps : List Step) (unbroken : IsUnbroken sets steps) (all : AllDiffer (events_of sets steps)) where
@@ -137,6 +141,7 @@ module _ (sets : List SetState) (steps : List Step) (unbroken : IsUnbroken sets 
     book : net.book ≡ noted_all empty (events_of sets done)
     goes : (more : List Step) → events_of sets (done ++ more) ≡ events_of sets done ++ events_of net.sets more
     known : Known net
+    left : GoneEnded net
     both : Both net
     differ : Differ (events_of sets done) net.book
 
@@ -154,7 +159,7 @@ module _ (sets : List SetState) (steps : List Step) (unbroken : IsUnbroken sets 
       let next : Net = net_step net st in
       let post : List Event = events_of next.sets sts in
       let whole : events_of sets steps ≡ events_of sets done ++ (told ++ post) = ap (events_of sets) e ∙ k.goes (st ∷ sts) in
-      let r = step_fresh net k.known k.both (events_of sets done) k.differ lost st (sent_before done sts net st k e) are.0 up.0 (slice_get net.sets st.node) refl post (subst AllDiffer whole all) in
+      let r = step_fresh net k.known k.left k.both (events_of sets done) k.differ lost st (sent_before done sts net st k e) are.0 up.0 (slice_get net.sets st.node) refl post (subst AllDiffer whole all) in
       let one : events_of sets (done ++ st ∷ []) ≡ events_of sets done ++ told = k.goes (st ∷ []) ∙ ap (λ es. events_of sets done ++ es) (append-nil told) in
       let stands : Stands (done ++ st ∷ []) next = record {
         book = ap (λ (b : Book). noted_all b told) k.book ∙ sym (noted_append empty (events_of sets done) told) ∙ ap (noted_all empty) (sym one);
@@ -162,6 +167,7 @@ module _ (sets : List SetState) (steps : List Step) (unbroken : IsUnbroken sets 
             ap (events_of sets) (append_assoc done (st ∷ []) more) ∙ k.goes (st ∷ more) ∙ sym (append_assoc (events_of sets done) told (events_of next.sets more))
             ∙ ap (λ es. es ++ events_of next.sets more) (sym one);
         known = r.1;
+        left = r.2;
         both = step_lives net st (slice_get net.sets st.node) k.both refl;
         differ = subst (λ es. Differ es next.book) (sym one) (events_differ (events_of sets done) told post net.book (subst AllDiffer whole all) k.differ);
       } in
@@ -172,4 +178,4 @@ pub copies_alone_return : CopiesAloneReturn
 copies_alone_return sets starts steps are unbroken =
     let all : AllDiffer (events_of sets steps) = given_differ sets steps starts unbroken.up unbroken.few in
     run_fresh sets steps unbroken all steps [] (begins sets) []
-    (record { book = refl; goes = λ more. refl; known = start_known sets starts unbroken.apart; both = start_lives sets starts; differ = (tt, tt) }) refl are unbroken.up
+    (record { book = refl; goes = λ more. refl; known = start_known sets starts unbroken.apart; left = start_left sets starts; both = start_lives sets starts; differ = (tt, tt) }) refl are unbroken.up

@@ -121,6 +121,7 @@ module _ (own : Callsign) (ttl : ℕ) where
   pub record Shows (h : sets.Holder) (k : Holder) : Type 0 where
     pub held : h.gone ≡ false
     pub at : h.at ≡ k.at
+    pub asked : h.asked ≡ k.asked
     pub stands : StandsFor k.end h.end
 
   -- end by end, with numbers from lo on that rise
@@ -148,6 +149,7 @@ module _ (own : Callsign) (ttl : ℕ) where
       let g : Effect = keep.going in
       let gone : h.gone ≡ leaves k g = ap (λ (x : sets.Holder). x.gone) keep.is in
       let at : h.at ≡ k.at = ap (λ (x : sets.Holder). x.at) keep.is in
+      let asked : h.asked ≡ k.asked = ap (λ (x : sets.Holder). x.asked) keep.is in
       let end : g.end ≡ h.end = ap (λ (x : sets.Holder). x.end) (sym keep.is) in
       let same : nat_eq h.id h.id ≡ true = grind (arith, nat_tests) in
       let first : held_by mine (h ∷ hs) ≡ record h { gone = false } ∷ hs =
@@ -155,7 +157,7 @@ module _ (own : Callsign) (ttl : ℕ) where
       let all : held_by (mine ++ theirs) (h ∷ hs) ≡ record h { gone = false } ∷ held_by theirs hs =
       held_append mine theirs (h ∷ hs) ∙ ap (held_by theirs) first ∙ skips hi (suc h.id) hs (record h { gone = false }) hs rest theirs others (omega arith) in
       let stands : StandsFor k.end h.end = subst (λ x. StandsFor k.end x) end (stood k.end g keep.stands) in
-      subst (Shown lo ((h.id, k) ∷ rest)) (sym all) (low, inr (k, rest, refl, record { held = refl; at = at; stands = stands }, later rest theirs others))
+      subst (Shown lo ((h.id, k) ∷ rest)) (sym all) (low, inr (k, rest, refl, record { held = refl; at = at; asked = asked; stands = stands }, later rest theirs others))
 
   show_case : (hi lo : ℕ) (h : sets.Holder) (hs : List sets.Holder) (es : List (ℕ × Holder)) (told : List Told) → lo ≤ h.id
       → (tail : Past (λ rest theirs. Held own ttl hi (suc h.id) rest hs theirs) h es told ⊎ Here own ttl (λ rest theirs. Held own ttl hi (suc h.id) rest hs theirs) h es told)

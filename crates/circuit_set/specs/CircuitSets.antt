@@ -1,5 +1,5 @@
 -- What contracts see of a set, for which states of its machine it stands, and what its calls answer.
-use Rattle.std.specs.Prelude.{◌≡◌, ℕ, ◌+◌, ◌*◌, ◌<◌, ◌⊎◌, Bool, true, false, nat_eq, List, [], ◌∷◌, ◌++◌, length, map, if◌then◌else◌, Option, Some, None, is_some}
+use Rattle.std.specs.Prelude.{◌≡◌, ℕ, ◌+◌, ◌*◌, ◌<◌, ◌⊎◌, Bool, true, false, nat_eq, List, [], ◌∷◌, ◌++◌, length, map, if◌then◌else◌, Option, Some, None, is_some, is_none}
 use Rattle.std.specs.Option.{option_map}
 use Rattle.ax_address.specs.Callsign.{Callsign}
 use Rattle.route_table.specs.Log.{Item}
@@ -106,6 +106,11 @@ facts_at (Some h) = if h.gone then None else Some (facts_of h.end)
 abbrev pub partner_at : Option Holder → Option Callsign
 partner_at None = None
 partner_at (Some h) = if h.gone then None else Some h.at
+
+-- whether the node has asked for its circuit
+abbrev pub requested_at : Option Holder → Option Bool
+requested_at None = None
+requested_at (Some h) = if h.gone then None else Some (is_none h.asked)
 
 -- the end that is lent stands for that of the machine; none is where none is held
 abbrev pub LentStands : Option end.EndView → Option Holder → Type 0

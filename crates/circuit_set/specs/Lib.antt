@@ -7,6 +7,9 @@ pub mod Outs
 pub mod Laws
 pub mod Sets
 pub mod Books
+pub mod Among
+pub mod TooLate
+pub mod ByBook
 pub mod Runs
 pub mod Examples
 pub mod Pumps
@@ -22,3 +25,5 @@ pub mod Sendings
 pub mod Heedings
 pub mod Refusals
 pub mod Returning
+pub mod Facing
+pub mod Writings

@@ -10,7 +10,8 @@ use Rattle.circuit_set.specs.Circuits.{IsBeginning}
 use Rattle.circuit_set.specs.Pairs.{IsPair}
 use Rattle.circuit_l4.specs.Expiries.{Moment, expiries}
 use Rattle.circuit_set.specs.Sets.{Act, Call, Calls, Closes, Comes, Connect, Discard, Restart, Takes, Ticks, Writes, Holder, SetState, Told, end_of, set_step}
-use Rattle.circuit_set.specs.Books.{Book, Event, Fresh, MadeNote, Name, Timely, empty, noted_all, partner, same_name, was_asked}
+use Rattle.circuit_set.specs.Books.{Book, Event, MadeNote, Name, Timely, empty, noted_all, partner, same_name, was_asked}
+use Rattle.circuit_set.specs.TooLate.{AllowsByWindow, IsFresh, IsTimely}
 
 pub record Net : Type 0 where
   pub sets : List SetState
@@ -171,7 +172,7 @@ allowed b x = if was_asked b.made x then allowance (opened_window (told_to b.mad
 abbrev pub CircuitsSafe : Type 0
 CircuitsSafe =
     (sets : List SetState) → AreStarts sets → (steps later : List Step) → AreSteps (steps ++ later)
-    → Timely allowed empty (events_of sets (steps ++ later)) → Fresh empty (events_of sets (steps ++ later))
+    → IsTimely AllowsByWindow (events_of sets (steps ++ later)) → IsFresh (events_of sets (steps ++ later))
     → Safe sets steps
 
 -- a partner stays, and partners are two ends of which each is the other's

@@ -8,15 +8,18 @@ ghost use Rattle.circuit_set.specs.Kept.{HoldsFew, KeepsItsShare, WindowsAreSmal
 ghost use Rattle.circuit_set.specs.Naming.{PairNamesOne, RequestersSend};
 ghost use Rattle.circuit_set.specs.Retries.{RetriesAreTold};
 ghost use Rattle.circuit_set.specs.Returning.{CopiesAloneReturn};
+ghost use Rattle.circuit_set.specs.Facing.{PartnersFace};
+ghost use Rattle.circuit_set.specs.Writings.{EndsWroteByWrites};
 ghost use Rattle.circuit_set.specs.Heedings.{SetsHeedPartners};
 ghost use Rattle.circuit_set.specs.Refusals.{RefusalsAreUnheeded, SetsRefuseUnder0, StartsAreNumbered};
 ghost use Rattle.circuit_set.specs.Sendings.{SetsSendTheirOwn};
 ghost use Rattle.circuit_set.specs.Inputs.{ActsGo, HearsGo, HearsLostGoes, TellsGo, TellsLess, TicksGo};
 ghost use Rattle.circuit_set.specs.Examples.{CopyReturns, ForgedIsUnsafe, OneMoreIsTooMany, RestartIsStale};
+ghost use Rattle.circuit_set.specs.ByBook.{FreshByBook, TimelyBy128, TimelyByBook};
 ghost use Rattle.circuit_set.specs.Runs.{CircuitsSafe, NarrowIsTimely, PartnersStay, WindowsFit};
 
 /// At each moment of every run of several nodes' ends, in which any datagram whatever may come to any node and any node may
-/// start again, and which is timely and fresh (`Timely` and `Fresh` in `specs/Books.antt`): each end that has a partner has
+/// start again, and which is timely and fresh (`IsTimely` and `IsFresh` in `specs/TooLate.antt`): each end that has a partner has
 /// received a beginning of what its partner wrote, with every message that is acknowledged in it, and all of it after an orderly
 /// close; an end that has none has received nothing; and an end is told that its retries are used up exactly where there was one
 /// expiry more than there are retries.
@@ -26,11 +29,33 @@ pub fn circuits_safe()
     retries_are_told();
 }
 
+/// Whatever is told: by the notes of the book, as a verdict keeps them, a pair comes too late exactly where it does by the events themselves;
+/// and where none does, so does a datagram.
+pub fn book_tells_what_is_late()
+    ensures fresh { FreshByBook }
+    ensures timely { TimelyByBook }
+    ensures fixed { TimelyBy128 }
+{}
+
 /// In a timely run an end keeps its partner once it has one, and partners are two ends of which each is the other's: so no two
 /// ends have the same partner.
 pub fn partners_stay()
     ensures { PartnersStay }
 {}
+
+/// At each moment of every run of nodes of which no two have one call, timely and fresh or not: of an end and its partner each has the call of
+/// the other's node as that of its partner's node.
+pub fn partners_face()
+    ensures { PartnersFace }
+{}
+
+/// At each step of every run, whatever comes and also where nodes start again: what an end has written grows by the writes that it accepts, and by
+/// nothing else.
+pub fn ends_wrote_by_writes()
+    ensures { EndsWroteByWrites }
+{
+    circuit_l4::laws::wrote_by_writes();
+}
 
 /// At each moment of every run, timely or not, an end was told that its retries are used up exactly where there was one expiry more
 /// than there are retries: counted over the steps of the run since the end was made, since more was acknowledged, or since it began

@@ -101,7 +101,7 @@ impl<C: Carrier> CircuitSet<C> {
     ghost use Rattle.circuit_set.specs.Pumps.{Waiting, at_rest, is_drained};
     ghost use Rattle.circuit_set.specs.Inputs.{connect_answer, ticks};
     ghost use Rattle.circuit_set.specs.Standing.{close_answer, discard_answer, message_at, take_answer, write_answer};
-    ghost use Rattle.circuit_set.specs.CircuitSets.{Circuits, Goes, GoesBy, IsDrained, IsUnchanged, LentStands, Pumps, SetStands, facts_at, held_by, held_ids, partner_at};
+    ghost use Rattle.circuit_set.specs.CircuitSets.{Circuits, Goes, GoesBy, IsDrained, IsUnchanged, LentStands, Pumps, SetStands, facts_at, held_by, held_ids, partner_at, requested_at};
     ghost use Rattle.circuit_set.specs.Kept.{KeepsOn};
     ghost use Rattle.circuit_set.specs.SetTurns.{Asks};
 
@@ -262,6 +262,16 @@ impl<C: Carrier> CircuitSet<C> {
     {
         match self.held.ends.get(&id) {
             Some(holder) => Some(holder.at),
+            None => None,
+        }
+    }
+
+    /// Whether the node has asked for an end's circuit; it was asked for it else. None where no end of that number is held.
+    pub fn requested(&self, id: u64) -> Option<bool>
+        ensures { (w : Waiting) → SetStands self.now w → result ≡ requested_at (sets.end_of id (held_by w.untold w.set.ends)) }
+    {
+        match self.held.ends.get(&id) {
+            Some(holder) => Some(holder.asked.is_none()),
             None => None,
         }
     }
