@@ -11,10 +11,10 @@ use Rattle.circuit_verdict.specs.declared.cause.Cause.TheVariants.{Unsent, Overt
 use Rattle.circuit_verdict.specs.declared.ends.Ends.{Ends}
 use Rattle.circuit_verdict.specs.declared.sendings.Sending.{Sending}
 use Rattle.circuit_verdict.specs.declared.verdict.Allowance.{Allowance}
-use Rattle.circuit_verdict.specs.Causes.{AreInTime, cause_after, cause_told, held_cause, heeded_cause, holders, kept_partners, overtaken_cause}
+use Rattle.circuit_verdict.specs.Causes.{cause_after, cause_told, held_cause, heeded_cause, holders, kept_partners, overtaken_cause}
 use Rattle.circuit_verdict.specs.Ends.{EndsStand, faces, facing_in, given_in, has_open_partner, is_faced, kept_faces}
 use Rattle.circuit_verdict.specs.Sendings.{sending_in, sending_of}
-use Rattle.circuit_verdict.specs.Verdicts.{allowance_of, lost_in}
+use Rattle.circuit_verdict.specs.ByBook.{InTimeByBook, allowance_of, lost_in}
 use Rattle.circuit_verdict.proofs.Facing.{faces_kept}
 use Rattle.circuit_verdict.proofs.Judged.{having, lacking, some_same}
 use Rattle.circuit_verdict.proofs.Returns.{faced_fails, unfaced}
@@ -202,7 +202,7 @@ told_none a b lost node (Gone id facts) e f = refl
 told_none a b lost node (Restarted pair) e f = refl
 told_none a b lost node (Lost id facts) e f = refl
 
-pub none_after : (a : Allowance) (es : List Event) (e : Event) → AreInTime a es → cause_after a es e ≡ None ↔ AreInTime a (es ++ e ∷ [])
+pub none_after : (a : Allowance) (es : List Event) (e : Event) → InTimeByBook a es → cause_after a es e ≡ None ↔ InTimeByBook a (es ++ e ∷ [])
 none_after a es e before = (
   λ none.
       let here = none_told a (noted_all empty es) (lost_in [] es) e.node e.told none in

@@ -11,3 +11,4 @@ pub mod Returns
 pub mod Judged
 pub mod Runs
 pub mod Causes
+pub mod AsTold

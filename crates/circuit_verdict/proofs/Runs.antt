@@ -12,11 +12,11 @@ use Rattle.circuit_verdict.specs.declared.verdict.Allowance.{Allowance}
 use Rattle.circuit_verdict.specs.declared.verdict.Late.{Late}
 use Rattle.circuit_verdict.specs.declared.verdict.LateWhy.{LateWhy}
 use Rattle.circuit_verdict.specs.declared.verdict.LateWhy.TheVariants.{Overtaken, Returned}
-use Rattle.circuit_verdict.specs.Causes.{AreInTime}
 use Rattle.circuit_verdict.specs.Events.{event_of, events_of}
 use Rattle.circuit_verdict.specs.Judging.{BookStands, Judges}
 use Rattle.circuit_verdict.specs.Standing.{Follows, InTime}
-use Rattle.circuit_verdict.specs.Verdicts.{FailsAt, IsFirstLate, IsVerdict, allowance_of, late_of, lost_in}
+use Rattle.circuit_verdict.specs.ByBook.{FailsAt, FirstLateByBook, InTimeByBook, allowance_of, lost_in}
+use Rattle.circuit_verdict.specs.Verdicts.{late_of}
 
 -- ---- one more event ----
 pub timely_more : (allow : books.Book → Name → ℕ) (b : books.Book) (es : List Event) (e : Event) → Timely allow b es → TimelyTold allow (noted_all b es) e.node e.told → Timely allow b (es ++ e ∷ [])
@@ -67,7 +67,7 @@ fails_by a b lost e Overtaken fails timely fresh = fails timely
 fails_by a b lost e Returned fails timely fresh = fails fresh
 
 -- where one event is late, they aren't all timely and fresh
-late_fails : (a : Allowance) (ns : List Numbered) (late : Late) → IsFirstLate a ns late → Timely (allowance_of a) empty (events_of ns) → Fresh empty (events_of ns) → ⊥
+pub late_fails : (a : Allowance) (ns : List Numbered) (late : Late) → FirstLateByBook a ns late → Timely (allowance_of a) empty (events_of ns) → Fresh empty (events_of ns) → ⊥
 late_fails a ns late l timely fresh =
     let split = ap events_of l.parts ∙ events_among l.before l.after l.at in
     let timely_there : Timely (allowance_of a) empty (events_of l.before ++ event_of l.at.event ∷ events_of l.after) = rw (← split) timely in
@@ -125,20 +125,7 @@ goes_on a None line e why old new ns none k told =
 goes_on a (Some late) line e why old new ns none k told = absurd (cc none)
 
 -- nothing was late, so that the book has all of it
-pub book_in_time : (a : Allowance) (o : Option Late) (k : Book) (ns : List Numbered) → Follows a o k ns → AreInTime a (events_of ns)
+pub book_in_time : (a : Allowance) (o : Option Late) (k : Book) (ns : List Numbered) → Follows a o k ns → InTimeByBook a (events_of ns)
     → BookStands k (noted_all empty (events_of ns)) (lost_in [] (events_of ns))
 book_in_time a None k ns f t = f.book
 book_in_time a (Some l) k ns f t = absurd (late_fails a ns l f t.0 t.1)
-
-same_late : (l late : Late) → Some l ≡ Some late → l ≡ late
-same_late l late e = cc e
-
-pub verdict_is : (a : Allowance) (o : Option Late) (k : Book) (ns : List Numbered) → Follows a o k ns → IsVerdict a ns o
-verdict_is a None k ns f = record {
-  none = ((λ e. (f.timely, f.fresh)), (λ p. refl));
-  first = λ late e. absurd (cc e);
-}
-verdict_is a (Some l) k ns f = record {
-  none = ((λ e. absurd (cc e)), (λ p. absurd (late_fails a ns l f p.0 p.1)));
-  first = λ late e. rw (← same_late l late e) f;
-}

@@ -1,7 +1,7 @@
 -- By what it shows that an event comes too late, as it is read off the notes of what was told before it (this project's profile).
 use Rattle.std.specs.Prelude.{ℕ, ◌&&◌, nat_le, is_some, if◌then◌else◌, List, [], filter, flat_map, slice_get, Option, Some, None}
 use Rattle.circuit_l4.specs.declared.transport.Pair.{Pair}
-use Rattle.circuit_set.specs.Books.{Book, Event, Fresh, MadeNote, Name, SentNote, Timely, empty, is_unknown, latest_in, noted_all, overtakers, partner, requester, same_name}
+use Rattle.circuit_set.specs.Books.{Book, Event, MadeNote, Name, SentNote, empty, is_unknown, latest_in, noted_all, overtakers, partner, requester, same_name}
 use Rattle.circuit_set.specs.Sets.{Made, Heeded, Told}
 use Rattle.indexmap.specs.IndexMap.{get}
 use Rattle.circuit_verdict.specs.declared.cause.Cause.{Cause}
@@ -10,7 +10,7 @@ use Rattle.circuit_verdict.specs.declared.ends.Ends.{Ends}
 use Rattle.circuit_verdict.specs.declared.verdict.Allowance.{Allowance}
 use Rattle.circuit_verdict.specs.Ends.{faces, facing_in, given_in, kept_faces}
 use Rattle.circuit_verdict.specs.Lists.{list_in}
-use Rattle.circuit_verdict.specs.Verdicts.{allowance_of, lost_in}
+use Rattle.circuit_verdict.specs.ByBook.{allowance_of, lost_in}
 
 -- ---- x has heeded a datagram: it has no partner, its partner never sent it, or too many messages have overtaken the latest sending
 abbrev pub overtaken_cause : Allowance → Book → Name → Name → Option SentNote → Option Cause
@@ -46,10 +46,6 @@ cause_told a b lost node told = None
 -- behind these events
 abbrev pub cause_after : Allowance → List Event → Event → Option Cause
 cause_after a es e = cause_told a (noted_all empty es) (lost_in [] es) e.node e.told
-
--- none of these events comes too late
-abbrev pub AreInTime : Allowance → List Event → Type 0
-AreInTime a es = Timely (allowance_of a) empty es × Fresh empty es
 
 -- ---- the same as the code reads it off what is kept
 abbrev pub kept_partners : Ends → Name → List Name

@@ -8,7 +8,7 @@ use Rattle.circuit_verdict.specs.declared.verdict.LateWhy.{LateWhy}
 use Rattle.circuit_verdict.specs.declared.verdict.LateWhy.TheVariants.{Overtaken, Returned}
 use Rattle.circuit_verdict.specs.Ends.{EndsStand}
 use Rattle.circuit_verdict.specs.Sendings.{SendingsStand}
-use Rattle.circuit_verdict.specs.Verdicts.{FailsAt, allowance_of}
+use Rattle.circuit_verdict.specs.ByBook.{FailsAt, allowance_of}
 
 pub record PartsStand (k : Book) (b : books.Book) (lost : List Name) : Type 0 where
   pub ends : EndsStand k.ends b.made lost

@@ -1,6 +1,7 @@
 pub mod Lists
 pub mod Events
 pub mod Verdicts
+pub mod ByBook
 pub mod Ends
 pub mod Sendings
 pub mod Causes

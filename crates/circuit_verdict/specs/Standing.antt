@@ -8,7 +8,7 @@ use Rattle.circuit_verdict.specs.declared.verdict.Verdict.{Verdict}
 use Rattle.circuit_verdict.specs.declared.book.Book.{Book}
 use Rattle.circuit_verdict.specs.Events.{events_of}
 use Rattle.circuit_verdict.specs.Judging.{BookStands}
-use Rattle.circuit_verdict.specs.Verdicts.{IsFirstLate, allowance_of, lost_in}
+use Rattle.circuit_verdict.specs.ByBook.{FirstLateByBook, allowance_of, lost_in}
 
 -- none of these was late, and all are noted
 pub record InTime (a : Allowance) (k : Book) (ns : List Numbered) : Type 0 where
@@ -18,7 +18,7 @@ pub record InTime (a : Allowance) (k : Book) (ns : List Numbered) : Type 0 where
 
 abbrev pub Follows : Allowance → Option Late → Book → List Numbered → Type 0
 Follows a None k ns = InTime a k ns
-Follows a (Some late) k ns = IsFirstLate a ns late
+Follows a (Some late) k ns = FirstLateByBook a ns late
 
 -- these events were told, in this order, since it was new
 abbrev pub StandsFor : Verdict → List Numbered → Type 0

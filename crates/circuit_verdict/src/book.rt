@@ -9,7 +9,7 @@ ghost use Rattle.circuit_set.specs.Runs.{allowance};
 ghost use Rattle.ax_address.specs.Callsign.{Callsign};
 ghost use Rattle.circuit_verdict.specs.Events.{event_of};
 ghost use Rattle.circuit_verdict.specs.Judging as judged;
-ghost use Rattle.circuit_verdict.specs.Verdicts.{allowance_of};
+ghost use Rattle.circuit_verdict.specs.ByBook.{allowance_of};
 
 use crate::ends::Ends;
 use crate::event::{Event, Told};

@@ -7,6 +7,7 @@ ghost use Rattle.circuit_verdict.specs.Standing.{allowance_in};
 use crate::book::Book;
 use crate::cause::Cause;
 use crate::event::{Event, Numbered};
+use circuit_set::laws;
 use radio_base::NoMemory;
 use std::alloc::Global;
 
@@ -45,7 +46,8 @@ pub struct Verdict {
 }
 
 impl Verdict {
-    ghost use Rattle.circuit_verdict.specs.Causes.{AreInTime, cause_after};
+    ghost use Rattle.circuit_verdict.specs.Causes.{cause_after};
+    ghost use Rattle.circuit_verdict.specs.Verdicts.{AreInTime};
     ghost use Rattle.circuit_verdict.specs.Events.{event_of, events_of};
     ghost use Rattle.circuit_verdict.specs.Standing.{IsSpent, StandsFor};
 
@@ -90,6 +92,7 @@ impl Verdict {
         ensures none { IfOk result (λ cause. (events : List SeenNumbered) → StandsFor self.now events → AreInTime (allowance_in self.now) (events_of events)
             → cause ≡ None ↔ AreInTime (allowance_in self.now) (events_of events ++ event_of event.now ∷ [])) }
     {
+        laws::book_tells_what_is_late();
         self.book.cause(event, self.allowance)
     }
 
@@ -97,6 +100,7 @@ impl Verdict {
     pub fn late(&self) -> Option<Late>
         ensures { (events : List SeenNumbered) → StandsFor self.now events → IsVerdict (allowance_in self.now) events result }
     {
+        laws::book_tells_what_is_late();
         self.late
     }
 }

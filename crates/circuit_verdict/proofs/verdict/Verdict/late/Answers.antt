@@ -1,5 +1,7 @@
-use Rattle.circuit_verdict.proofs.Runs.{verdict_is}
+use Rattle.circuit_verdict.proofs.AsTold.{verdict_is}
 use Rattle.circuit_verdict.proofs.verdict.Verdict.late.Goals as goal
 
 pub returns : goal.returns
-returns c events stands = verdict_is c.args.self.now.allowance c.args.self.now.late c.args.self.now.book events stands
+returns c events stands =
+    let law = c.book_tells_what_is_late.ensures in
+    verdict_is law.fresh law.timely law.fixed c.args.self.now.allowance c.args.self.now.late c.args.self.now.book events stands
