@@ -30,7 +30,7 @@ use Rattle.node_core.proofs.Resting.{pumped_dry as dried}
 use Rattle.node_core.proofs.Fine.{Fine, close_fine, pumped, session_fine}
 use Rattle.node_core.proofs.Given.{Given, IsDone, away, given_closed, given_new, gone_is}
 use Rattle.node_core.proofs.Soundness.{Every, Sound, changed_here, filter_every, push_every, sound_closed, sound_new}
-use Rattle.node_core.proofs.Owning.{Fewer, Less, at_least, few_itself, filter_less, greets, one, opens_by, owned_by, owns_fewer, then_fewer}
+use Rattle.node_core.proofs.Owning.{Fewer, Less, at_least, few_itself, filter_less, greets, one, opens_by, owned_by, owns_fewer, then_fewer, asked_by}
 use Rattle.node_core.proofs.FineGiving.{shut_end, replied, given}
 use Rattle.node_core.proofs.FineLines.{and_no, taken_up}
 use Rattle.node_core.proofs.Rooms.{none_untold}
@@ -41,13 +41,19 @@ use Rattle.node_core.proofs.Short.{Goes, IsShort, text_is_short, walks}
 -- ---- the end of a circuit
 
 closed_less : (x : Session) → Less x (bridging.note_closed x)
-closed_less x = record { owned = λ id. by x.stage refl id; opens = λ id. opened x.stage refl id }
+closed_less x = record { owned = λ id. by x.stage refl id; opens = λ id. opened x.stage refl id; asked = λ id. its x.stage refl id }
   where
     by : (stage : Stage) → x.stage ≡ stage → (id : ℕ) → owned_by id (bridging.note_closed x) ≤ owned_by id x
     by AtPrompt e id = rw e (omega arith)
     by (Trying c) e id = rw e (omega arith)
     by (Failed c) e id = rw e (omega arith)
     by (Connected c) e id = rw e (omega arith)
+
+    its : (stage : Stage) → x.stage ≡ stage → (id : ℕ) → asked_by id (bridging.note_closed x) ≤ asked_by id x
+    its AtPrompt e id = rw e (omega arith)
+    its (Trying c) e id = rw e (omega arith)
+    its (Failed c) e id = rw e (omega arith)
+    its (Connected c) e id = rw e (omega arith)
 
     no_more : (a : Bool) (k : ℕ) → one (a && false) ≤ k
     no_more true k = omega arith
@@ -145,7 +151,7 @@ module _ (offers : OffersLeave) (takes : TakesLower) (less : TellsLess) (law : C
     where
       by : (c : Bool) → Fewer ss (if c then ss else sessions.greet b (AtLink peer) ss)
       by true = few_itself ss
-      by false = record { owned = λ id. let g = greets b id (AtLink peer) ss in omega (arith, g.owned); opens = λ id. let g = greets b id (AtLink peer) ss in omega (arith, g.opens) }
+      by false = record { owned = λ id. let g = greets b id (AtLink peer) ss in omega (arith, g.owned); opens = λ id. let g = greets b id (AtLink peer) ss in omega (arith, g.opens); asked = λ id. (greets b id (AtLink peer) ss).asked }
 
   greeted_all : (P : Session → Type 0) → ((peer : Callsign) → P (sessions.new_session (AtLink peer))) → (b : Bool) (peers : List Callsign) (ss : List Session) → Every P ss → Every P (serving.greet_each b peers ss)
   greeted_all P new b [] ss e = e
@@ -169,6 +175,6 @@ module _ (offers : OffersLeave) (takes : TakesLower) (less : TellsLess) (law : C
       let c : State = (serving.serve_all now a).after in
       let fine = each now 0 (length a.sessions) a (owns_fewer n.set.set n.set.untold n.sessions a.sessions f.0 g, (sound, (given, wrote))) short router told in
       let test = λ (x : Session). not (serving.is_over c x) in (
-        owns_fewer c.set.set c.set.untold c.sessions (filter test c.sessions) fine.0 (record { owned = λ id. filter_less (owned_by id) test c.sessions; opens = λ id. filter_less (opens_by id) test c.sessions }),
+        owns_fewer c.set.set c.set.untold c.sessions (filter test c.sessions) fine.0 (record { owned = λ id. filter_less (owned_by id) test c.sessions; opens = λ id. filter_less (opens_by id) test c.sessions; asked = λ id. filter_less (asked_by id) test c.sessions }),
         (filter_every Sound test c.sessions fine.1.0, (filter_every (Given c.set.set) test c.sessions fine.1.1.0, filter_every (Written c.set.set) test c.sessions fine.1.1.1)),
       )

@@ -33,11 +33,12 @@ use Rattle.node_core.proofs.Given.{Given, given_heard, given_later}
 use Rattle.node_core.proofs.Holders.{Any, Keeps, Differs, closes_keep, comes_keeps, takes_keep, writes_keep}
 use Rattle.node_core.proofs.Soundness.{Every, Hears, Placed, Sound, changed_every, every_at, heard_every, heard_place, sound_hears, sound_new}
 use Rattle.node_core.proofs.Making.{step_ok}
-use Rattle.node_core.proofs.Owning.{Fewer, Less, Owns, changed_less, mades, none_made, opens_by, owned_by, owns_fewer, owns_input, owns_told, total}
+use Rattle.node_core.proofs.Owning.{Fewer, Less, Owns, changed_less, mades, none_made, opens_by, owned_by, owns_fewer, owns_input, owns_told, total, asked_by}
 use Rattle.node_core.proofs.Pumped.{dry_keeps, pump_keeps}
 use Rattle.node_core.proofs.Unclosed.{IsMessage, Messages}
 use Rattle.node_core.proofs.Others.{NotIts, alone}
 use Rattle.node_core.proofs.Wrote.{KeepsWrote, Written, closes_wrote, comes_wrote, written_hears, written_later, written_new, written_others}
+use Rattle.node_core.proofs.Leaving.{LeavesHeld, calls_leaves, comes_leaves}
 
 abbrev pub All : SetState → List Told → List Session → Type 0
 All set ts ss = Owns set ts ss × (Every Sound ss × (Every (Given set) ss × Every (Written set) ss))
@@ -57,7 +58,7 @@ goes_on admits set new ts ss k kw a = (a.1.0, (given_later set new k.number (λ 
 come_all : (set : SetState) (ts : List Told) (ss : List Session) (d : List ℕ) (now : ℕ) → All set ts ss → All (set_step set (sets.Comes d now)).set (ts ++ (set_step set (sets.Comes d now)).told) ss
 come_all set ts ss d now a =
     let k = comes_keeps set d now in
-    (owns_input Any set (set_step set (sets.Comes d now)) ts ss a.0 k (step_ok set (sets.Comes d now) tt).made (λ id some. tt) (λ id some. tt), goes_on Any set _ ts ss k (comes_wrote set d now) a)
+    (owns_input Any set (set_step set (sets.Comes d now)) ts ss a.0 k (step_ok set (sets.Comes d now) tt).made (λ id some. tt) (λ id some. tt) (comes_leaves set d now), goes_on Any set _ ts ss k (comes_wrote set d now) a)
 
 pub pumped : (now : ℕ) (n : State) → Fine n → Fine (pump now n)
 pumped now n f = pump_keeps All tell_all come_all now n f
@@ -85,6 +86,7 @@ pub fewer_at : (nth : ℕ) (f : Session → Session) (ss : List Session) (o : Op
 fewer_at nth f ss o e less = record {
   owned = λ id. changed_less (owned_by id) f ss nth o e (λ x. (less x).owned id);
   opens = λ id. changed_less (opens_by id) f ss nth o e (λ x. (less x).opens id);
+  asked = λ id. changed_less (asked_by id) f ss nth o e (λ x. (less x).asked id);
 }
 
 pub session_fine : (nth : ℕ) (f : Session → Session) (n : State) → ((x : Session) → session_at nth n ≡ Some x → Sound x → Sound (f x)) → ((x : Session) → session_at nth n ≡ Some x → Given n.set.set x → Given n.set.set (f x))
@@ -104,17 +106,17 @@ session_fine nth f n on given wrote less a =
 -- ---- inputs of the circuits
 
 pub acted : (a : sets.Act) (n : State) → Keeps Any n.set.set (set_step n.set.set a).set → KeepsWrote n.set.set (set_step n.set.set a).set → MadeFrom n.set.set.number (set_step n.set.set a).told (set_step n.set.set a).set.number
-    → Fine n → Fine (at_set (circuits.acts a) n)
+    → LeavesHeld n.set.set (set_step n.set.set a) → Fine n → Fine (at_set (circuits.acts a) n)
 unfolding circuits.acts
-acted a n k kw made f =
-    (owns_input Any n.set.set (set_step n.set.set a) n.set.untold n.sessions f.0 k made (λ id some. tt) (λ id some. tt), goes_on Any n.set.set _ n.set.untold n.sessions k kw f)
+acted a n k kw made leaves f =
+    (owns_input Any n.set.set (set_step n.set.set a) n.set.untold n.sessions f.0 k made (λ id some. tt) (λ id some. tt) leaves, goes_on Any n.set.set _ n.set.untold n.sessions k kw f)
 
 -- a call of an end that is no session's circuit
 call_fine : (call : sets.Call) (now id : ℕ) (n : State) → Keeps Any n.set.set (set_step n.set.set (sets.Calls id call now)).set → Every (NotIts id) n.sessions → Fine n → Fine (at_set (circuits.acts (sets.Calls id call now)) n)
 unfolding circuits.acts
 call_fine call now id n k none f =
     let a : sets.Act = sets.Calls id call now in (
-      owns_input Any n.set.set (set_step n.set.set a) n.set.untold n.sessions f.0 k (step_ok n.set.set a tt).made (λ i some. tt) (λ i some. tt),
+      owns_input Any n.set.set (set_step n.set.set a) n.set.untold n.sessions f.0 k (step_ok n.set.set a tt).made (λ i some. tt) (λ i some. tt) (calls_leaves n.set.set id call now),
       (
         f.1.0,
         (
@@ -152,7 +154,8 @@ closes_fine now id n none f =
     let still : MadeFrom set.number d.told set.number = subst (MadeFrom set.number d.told) (same_number set now (end_of id set.ends)) made in (
       owns_input (Differs id) set d n.set.untold n.sessions f.0 (closes_keep set now id) made
           (λ k some. other_by id k (nat_eq id k) refl (λ same. let gone : total (opens_by k) n.sessions + mades k n.set.untold ≡ 0 = subst (λ j. total (opens_by j) n.sessions + mades j n.set.untold ≡ 0) same none in absurd (omega (arith, some, gone))))
-          (λ k some. let gone = none_made set.number d.told still k in absurd (omega (arith, some, gone))),
+          (λ k some. let gone = none_made set.number d.told still k in absurd (omega (arith, some, gone)))
+          (calls_leaves set id sets.Closes now),
       goes_on (Differs id) set d.set n.set.untold n.sessions (closes_keep set now id) (closes_wrote set now id) f,
     )
 

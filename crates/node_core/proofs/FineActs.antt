@@ -41,6 +41,7 @@ use Rattle.node_core.proofs.Making.{connected_ok}
 use Rattle.node_core.proofs.Owning.{all_opens, mades, owned_by, total}
 use Rattle.node_core.proofs.Others.{NotIts}
 use Rattle.node_core.proofs.Wrote.{connects_wrote}
+use Rattle.node_core.proofs.Leaving.{connects_leaves}
 
 frames_fine : (fs : List Written) (n : State) → Fine n → Fine (rounds.put_all fs n)
 frames_fine [] n f = f
@@ -61,7 +62,7 @@ locked dest item quality n f =
     (answered _ _ (nat_lt quality n.settings.rules.minq) f (answered (acts.done (with_items (item ∷ []) n)) _ (receiving.has_room (item ∷ []) n) f f))
 
 connected : (now : ℕ) (dest : Callsign) (r : Result ℕ ConnectRefusal) (n : State) → IsCall dest → Fine n → Fine (acts.connect_by r (sets.Connect dest now) n).node
-connected now dest (Ok id) n call f = acted (sets.Connect dest now) n (connects_keeps n.set.set dest now call) (connects_wrote n.set.set dest now) (connected_ok n.set.set dest now).made f
+connected now dest (Ok id) n call f = acted (sets.Connect dest now) n (connects_keeps n.set.set dest now call) (connects_wrote n.set.set dest now) (connected_ok n.set.set dest now).made (connects_leaves n.set.set dest now) f
 connected now dest (Err why) n call f = f
 
 wrote : (now id : ℕ) (message : List ℕ) (r : Result (Unit {0}) SetRefusal) (n : State) → Every (NotIts id) n.sessions → Fine n → Fine (acts.write_by r (sets.Calls id (sets.Writes message) now) n).node

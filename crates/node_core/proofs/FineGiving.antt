@@ -30,11 +30,12 @@ use Rattle.node_core.proofs.Given.{Given, IsGood, deaf, deaf_is, given_gave, giv
 use Rattle.node_core.proofs.Making.{step_ok}
 use Rattle.node_core.proofs.Others.{But, NotIts, but_hear, but_on, but_whole, only}
 use Rattle.node_core.proofs.Soundness.{Every, Placed, Same, Sound, changed_every, changed_here, every_at, heard_every, heard_place, same_hears, same_itself, sound_gave, sound_hears, sound_new, sound_reply}
-use Rattle.node_core.proofs.Owning.{Less, Owns, at_least, but_here, mades, opens_by, owned_by, owns_fewer, owns_input, owns_told, total}
+use Rattle.node_core.proofs.Owning.{Less, Owns, at_least, but_here, mades, opens_by, owned_by, owns_fewer, owns_input, owns_told, total, asked_by}
 use Rattle.node_core.proofs.Pumped.{dry_keeps}
 use Rattle.node_core.proofs.Rooms.{room_after, text_goes}
 use Rattle.node_core.proofs.Unclosed.{IsMessage, Messages}
 use Rattle.node_core.proofs.Wrote.{WillBe, Written, its_taken, will_hear, written_gave, written_hears, written_new, written_other, written_same}
+use Rattle.node_core.proofs.Leaving.{calls_leaves}
 
 -- ---- a session in its place
 
@@ -42,6 +43,7 @@ pub less_same : (x y : Session) → y.user ≡ x.user → y.bye ≡ x.bye → y.
 less_same x y e f g = record {
   owned = λ id. let same : owned_by id y ≡ owned_by id x = rw (e, g) refl in omega (arith, same);
   opens = λ id. let same : opens_by id y ≡ opens_by id x = rw (e, f, g) refl in omega (arith, same);
+  asked = λ id. let same : asked_by id y ≡ asked_by id x = rw g refl in omega (arith, same);
 }
 
 twice : (ss : List Session) (nth : ℕ) (x y : Session) → slice_set (slice_set ss nth x) nth y ≡ slice_set ss nth y
@@ -209,7 +211,7 @@ taking now nth n x c f e h t =
     let its = only set n.set.untold n.sessions nth c x f.0 e h in
     record {
       same = refl;
-      owns = owns_input Any set d n.set.untold n.sessions f.0 k (step_ok set a tt).made (λ i some. tt) (λ i some. tt);
+      owns = owns_input Any set d n.set.untold n.sessions f.0 k (step_ok set a tt).made (λ i some. tt) (λ i some. tt) (calls_leaves set c.id sets.Takes now);
       sound = f.1.0;
       given = given_later set d.set k.number (λ i low g. k.ended i f.0.once low g) (λ i low g. k.away i f.0.once low g) n.sessions f.1.1.0;
       others = but_on (NotIts c.id) (Written set) (Written d.set) (λ y other w. written_other set sets.Takes now c.id y other w) nth n.sessions its f.1.1.1;

@@ -60,6 +60,7 @@ bye_less : (x : Session) → Less x (asking.leaves x)
 bye_less x = record {
   owned = λ id. omega arith;
   opens = λ id. let none = and_no (is_at_end id x.user) in rw none (omega arith);
+  asked = λ id. omega arith;
 }
 
 -- the last text is said, and the user's side is closed

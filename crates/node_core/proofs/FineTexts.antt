@@ -40,6 +40,7 @@ use Rattle.node_core.proofs.Given.{Given, IsDone, Unclosed, away, given_later, g
 use Rattle.node_core.proofs.Soundness.{Every, Hears, Same, Sound, changed_every, changed_here, every_at, same_hears, same_itself, sound_text, sound_wrote}
 use Rattle.node_core.proofs.Owning.{opens_by, owns_fewer, owns_input}
 use Rattle.node_core.proofs.FineGiving.{less_same, other_number, ends_differ, open_end, closing_of, messages_of, not_and}
+use Rattle.node_core.proofs.Leaving.{calls_leaves}
 
 -- ---- texts of the user
 
@@ -226,7 +227,7 @@ module _ (now nth : ℕ) (c : Circuit) (m : State) (y : Session) (f : Fine m) (e
       let sound = changed_every Sound (step Taken) m.sessions nth o (λ z g. sounds Taken (inl refl) z g (every_at Sound m.sessions nth z f.1.0 g)) f.1.0 in
       let given = changed_every (Given set) (step Taken) m.sessions nth o (λ z g. given_wrote set Taken y.rest z (every_at (Given set) m.sessions nth z f.1.1.0 g)) f.1.1.0 in
       let wrote = its_written set y.rest now nth c y m.sessions ok e its others f.1.1.1 in (
-        owns_input Any set d m.set.untold ss fewer k (step_ok set a tt).made (λ i some. tt) (λ i some. tt),
+        owns_input Any set d m.set.untold ss fewer k (step_ok set a tt).made (λ i some. tt) (λ i some. tt) (calls_leaves set c.id (sets.Writes y.rest) now),
         (
           sound,
           (

@@ -91,34 +91,34 @@ open_alive test (x ∷ xs) h g e = by x.gone (s.has_ended x.end.phase) (test x) 
         record { held = subst (λ (k : Holder). k.gone ≡ false) same p; ended = λ t. absurd (cc (t, subst (λ (k : Holder). s.has_ended k.end.phase ≡ false) same q)) }
 
 -- whatever it is of, it is left by each thing that an input may do
-module _ (P : SetState → Type 0) (C : Callsign → Type 0) (set : SetState) (stays : P set)
+module _ (P : SetDone → Type 0) (C : Callsign → Type 0) (set : SetState) (stays : (told : List Told) → P (record { set = set; told = told }))
     (L : State → State → Type 0) (same : (u : State) → L u u) (arrives : (u : State) (t : Transport) (now : ℕ) → L u (end.step u (end.Arrive t) now).end)
-    (steps : (h : Holder) (first : List Told) (g : Effect) → In h set.ends → Alive h g → L h.end g.end → P (s.goes_to set h first g).set)
-    (makes : (at : Callsign) (asked : Option Pair) (request : Option (List ℕ)) (g : Effect) → C at → g.end.closing ≡ false → g.end.receiving.received ≡ [] → P (s.made set at asked request g).set) where
-  either : (x y : SetDone) (b : Bool) → P x.set → P y.set → P (if b then x else y).set
+    (steps : (h : Holder) (first : List Told) (g : Effect) → In h set.ends → Alive h g → L h.end g.end → P (s.goes_to set h first g))
+    (makes : (at : Callsign) (asked : Option Pair) (request : Option (List ℕ)) (g : Effect) → C at → g.end.closing ≡ false → g.end.receiving.received ≡ [] → P (s.made set at asked request g)) where
+  either : (x y : SetDone) (b : Bool) → P x → P y → P (if b then x else y)
   either x y true p q = p
   either x y false p q = q
 
-  at_by : (d : List ℕ) (t : Transport) (now : ℕ) (o : Option Holder) → ((h : Holder) → o ≡ Some h → In h set.ends) → ((h : Holder) (g : Effect) → o ≡ Some h → Alive h g) → P (elim o as (λ x. SetDone) [ Some h ↦ s.handed set h d t now | None ↦ s.untold set ]).set
-  at_by d t now None i a = stays
+  at_by : (d : List ℕ) (t : Transport) (now : ℕ) (o : Option Holder) → ((h : Holder) → o ≡ Some h → In h set.ends) → ((h : Holder) (g : Effect) → o ≡ Some h → Alive h g) → P (elim o as (λ x. SetDone) [ Some h ↦ s.handed set h d t now | None ↦ s.untold set ])
+  at_by d t now None i a = stays []
   at_by d t now (Some h) i a =
       let g : Effect = end.step h.end (end.Arrive t) now in
       steps h (if heeds h.end.phase t then s.Heeded h.id d ∷ [] else []) g (i h refl) (a h g refl) (arrives h.end t now)
 
-  at_end : (origin : Callsign) (d : List ℕ) (to : Pair) (t : Transport) (now : ℕ) → P (s.arrives_at set origin d to t now).set
+  at_end : (origin : Callsign) (d : List ℕ) (to : Pair) (t : Transport) (now : ℕ) → P (s.arrives_at set origin d to t now)
   at_end origin d to t now = at_by d t now (s.first_open (s.named_by origin to) set.ends) (λ h e. open_in (s.named_by origin to) set.ends h e) (λ h g e. open_alive (s.named_by origin to) set.ends h g e)
 
-  anew : (origin : Callsign) (d : List ℕ) (pair : Pair) (window now : ℕ) → C origin → P (s.requested_anew set origin d pair window now).set
+  anew : (origin : Callsign) (d : List ℕ) (pair : Pair) (window now : ℕ) → C origin → P (s.requested_anew set origin d pair window now)
   anew origin d pair window now c =
-      either (record { set = set; told = s.Sent 0 None (s.datagram_to set origin (Refuse pair)) ∷ [] }) (s.responds set origin d pair window now) (s.is_full set) stays
+      either (record { set = set; told = s.Sent 0 None (s.datagram_to set origin (Refuse pair)) ∷ [] }) (s.responds set origin d pair window now) (s.is_full set) (stays _)
       (makes origin (Some pair) (Some d) (responding (s.new_pair set) pair window set.config (min now COUNT_MAX)) c refl refl)
 
   requested_by : (origin : Callsign) (d : List ℕ) (pair : Pair) (window now : ℕ) (o : Option Holder) → ((h : Holder) → o ≡ Some h → In h set.ends) → ((h : Holder) (g : Effect) → o ≡ Some h → Alive h g) → C origin
-      → P (elim o as (λ x. SetDone) [ Some h ↦ s.goes_to set h [] (s.accept_again h.end) | None ↦ s.requested_anew set origin d pair window now ]).set
+      → P (elim o as (λ x. SetDone) [ Some h ↦ s.goes_to set h [] (s.accept_again h.end) | None ↦ s.requested_anew set origin d pair window now ])
   requested_by origin d pair window now None i a c = anew origin d pair window now c
   requested_by origin d pair window now (Some h) i a c = steps h [] (s.accept_again h.end) (i h refl) (a h (s.accept_again h.end) refl) (same h.end)
 
-  received : (origin : Callsign) (d : List ℕ) (t : Transport) (now : ℕ) → C origin → P (s.received set origin d t now).set
+  received : (origin : Callsign) (d : List ℕ) (t : Transport) (now : ℕ) → C origin → P (s.received set origin d t now)
   received origin d (Request pair window user node) now c =
       requested_by origin d pair window now (s.first_open (s.opened_by origin pair) set.ends) (λ h e. open_in (s.opened_by origin pair) set.ends h e)
       (λ h g e. open_alive (s.opened_by origin pair) set.ends h g e) c
@@ -129,39 +129,39 @@ module _ (P : SetState → Type 0) (C : Callsign → Type 0) (set : SetState) (s
   received origin d (Info to tx rx flags text) now c = at_end origin d to (Info to tx rx flags text) now
   received origin d (InfoAck to rx flags) now c = at_end origin d to (InfoAck to rx flags) now
 
-  read : (origin : Callsign) (d : List ℕ) (r : Result Transport TransportRefusal) (now : ℕ) → C origin → P (s.read_as set origin d r now).set
-  read origin d (Err e) now c = stays
+  read : (origin : Callsign) (d : List ℕ) (r : Result Transport TransportRefusal) (now : ℕ) → C origin → P (s.read_as set origin d r now)
+  read origin d (Err e) now c = stays []
   read origin d (Ok t) now c = received origin d t now c
 
-  handed_up : (d : List ℕ) (r : Result DatagramHead DatagramRefusal) (now : ℕ) → ((head : DatagramHead) → r ≡ Ok head → C head.origin) → P (s.handed_up set d r now).set
-  handed_up d (Err e) now c = stays
+  handed_up : (d : List ℕ) (r : Result DatagramHead DatagramRefusal) (now : ℕ) → ((head : DatagramHead) → r ≡ Ok head → C head.origin) → P (s.handed_up set d r now)
+  handed_up d (Err e) now c = stays []
   handed_up d (Ok head) now c =
-      either (s.untold set) (s.read_as set head.origin d (transport_at (drop HEAD_SIZE d)) now) (same_call head.origin set.own || not (same_call head.dest set.own)) stays
+      either (s.untold set) (s.read_as set head.origin d (transport_at (drop HEAD_SIZE d)) now) (same_call head.origin set.own || not (same_call head.dest set.own)) (stays [])
       (read head.origin d (transport_at (drop HEAD_SIZE d)) now (c head refl))
 
-  pub comes : (d : List ℕ) (now : ℕ) → ((head : DatagramHead) → head_at d ≡ Ok head → C head.origin) → P (s.set_step set (Comes d now)).set
+  pub comes : (d : List ℕ) (now : ℕ) → ((head : DatagramHead) → head_at d ≡ Ok head → C head.origin) → P (s.set_step set (Comes d now))
   comes d now c = handed_up d (head_at d) now c
 
-  pub connects : (dest : Callsign) (now : ℕ) → C dest → P (s.set_step set (Connect dest now)).set
+  pub connects : (dest : Callsign) (now : ℕ) → C dest → P (s.set_step set (Connect dest now))
   connects dest now c =
-      either (s.untold set) (s.requests set dest now) (same_call dest set.own || s.is_full set) stays
+      either (s.untold set) (s.requests set dest now) (same_call dest set.own || s.is_full set) (stays [])
       (makes dest None None (requesting (s.new_pair set) set.user set.own set.config (min now COUNT_MAX)) c refl refl)
 
-  called_by : (h : Holder) (call : Call) (now : ℕ) → In h set.ends → L h.end (end.step h.end (s.input_of call) now).end → P (s.called set (Some h) call now).set
+  called_by : (h : Holder) (call : Call) (now : ℕ) → In h set.ends → L h.end (end.step h.end (s.input_of call) now).end → P (s.called set (Some h) call now)
   called_by h call now i l = by h.gone refl
     where
       g : Effect
       g = end.step h.end (s.input_of call) now
 
-      by : (b : Bool) → h.gone ≡ b → P (if b then s.untold set else s.goes_to set h [] g).set
-      by true e = stays
+      by : (b : Bool) → h.gone ≡ b → P (if b then s.untold set else s.goes_to set h [] g)
+      by true e = stays []
       by false e = steps h [] g i (record { held = e; ended = one.ended_stays h.end (s.input_of call) now }) l
 
-  called : (call : Call) (now : ℕ) (o : Option Holder) → ((h : Holder) → o ≡ Some h → In h set.ends) → ((h : Holder) → L h.end (end.step h.end (s.input_of call) now).end) → P (s.called set o call now).set
-  called call now None i l = stays
+  called : (call : Call) (now : ℕ) (o : Option Holder) → ((h : Holder) → o ≡ Some h → In h set.ends) → ((h : Holder) → L h.end (end.step h.end (s.input_of call) now).end) → P (s.called set o call now)
+  called call now None i l = stays []
   called call now (Some h) i l = called_by h call now (i h refl) (l h)
 
-  pub calls : (id : ℕ) (call : Call) (now : ℕ) → ((h : Holder) → L h.end (end.step h.end (s.input_of call) now).end) → P (s.set_step set (Calls id call now)).set
+  pub calls : (id : ℕ) (call : Call) (now : ℕ) → ((h : Holder) → L h.end (end.step h.end (s.input_of call) now).end) → P (s.set_step set (Calls id call now))
   calls id call now l = called call now (s.end_of id set.ends) (λ h e. end_in id set.ends h e) l
 
 -- ---- each of them leaves that
@@ -250,13 +250,13 @@ kept_made set at asked request g call shut none =
     }
 
 pub comes_keeps : (set : SetState) (d : List ℕ) (now : ℕ) → Keeps Any set (s.set_step set (Comes d now)).set
-comes_keeps set d now = comes (Keeps Any set) IsCall set (kept set) LeavesOne (grown.itself AreMessages one_more) (grown.arrives AreMessages one_more) (kept_at set) (kept_made set) d now (origin_read d)
+comes_keeps set d now = comes (λ d. Keeps Any set d.set) IsCall set (λ told. kept set) LeavesOne (grown.itself AreMessages one_more) (grown.arrives AreMessages one_more) (kept_at set) (kept_made set) d now (origin_read d)
 
 pub connects_keeps : (set : SetState) (dest : Callsign) (now : ℕ) → IsCall dest → Keeps Any set (s.set_step set (Connect dest now)).set
-connects_keeps set dest now c = connects (Keeps Any set) IsCall set (kept set) LeavesOne (grown.itself AreMessages one_more) (grown.arrives AreMessages one_more) (kept_at set) (kept_made set) dest now c
+connects_keeps set dest now c = connects (λ d. Keeps Any set d.set) IsCall set (λ told. kept set) LeavesOne (grown.itself AreMessages one_more) (grown.arrives AreMessages one_more) (kept_at set) (kept_made set) dest now c
 
 calls_keep : (set : SetState) (id : ℕ) (call : Call) (now : ℕ) → ((h : Holder) → LeavesOne h.end (end.step h.end (s.input_of call) now).end) → Keeps Any set (s.set_step set (Calls id call now)).set
-calls_keep set id call now l = calls (Keeps Any set) IsCall set (kept set) LeavesOne (grown.itself AreMessages one_more) (grown.arrives AreMessages one_more) (kept_at set) (kept_made set) id call now l
+calls_keep set id call now l = calls (λ d. Keeps Any set d.set) IsCall set (λ told. kept set) LeavesOne (grown.itself AreMessages one_more) (grown.arrives AreMessages one_more) (kept_at set) (kept_made set) id call now l
 
 pub writes_keep : (set : SetState) (text : List ℕ) (now id : ℕ) → Keeps Any set (s.set_step set (Calls id (Writes text) now)).set
 writes_keep set text now id = calls_keep set id (Writes text) now (λ h. grown.writes AreMessages one_more h.end text now)

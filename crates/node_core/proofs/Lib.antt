@@ -71,3 +71,9 @@ mod FirstLine
 mod Framing
 mod Seeing
 pub mod Passing
+pub mod Bounding
+pub mod Leaving
+pub mod Lodging
+pub mod Housing
+pub mod Counting
+pub mod Peopling

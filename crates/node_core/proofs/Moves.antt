@@ -39,6 +39,8 @@ use Rattle.node_core.proofs.Served.{IsAsking}
 use Rattle.node_core.proofs.Tracing.{all_both}
 use Rattle.node_core.proofs.Trails.{Goes, LinksCarry, LinksHold, OwnCarried, input, quiet, still, follows}
 use Rattle.node_core.proofs.Walking.{Walks}
+use Rattle.node_core.specs.Users.{at_session}
+use Rattle.node_core.specs.Serving.{drop_over, greet_links}
 
 -- a broadcast of a call carries nothing
 pub broadcast_carried : (size : ℕ) (offers : Callsign → Payload → Bool) (own : Callsign) (b : Broadcast) → IsCall own → IsCarried size offers (broadcast_octets own b)
@@ -222,7 +224,9 @@ module _ (here : Place) (law : CarriesWhatWasOffered) (weaker : CarriesByWeaker)
     serves = record {
       still = still here;
       follows = follows here;
-      sessions = set_sessions;
+      changes = λ nth step n keeps. set_sessions n (at_session nth step n).sessions;
+      greets = λ n. set_sessions n (greet_links n).sessions;
+      drops = λ n. set_sessions n (drop_over n).sessions;
       acts = asked;
       pumps = pumped here law weaker spelled one_hop;
       takes_text = text_taken;

@@ -1,6 +1,7 @@
 -- A whole node, between two inputs.
 use Rattle.std.proofs.Common.{◌≡◌, ◌∙◌, ℕ, List, [], ◌∷◌, ◌++◌, ◌-◌, ap, append-nil, append_assoc, arith, drop, length, length-drop, map, refl, subst, sym, take}
 use Rattle.std.specs.Prelude.{Bool, true, false, Some, Result, Ok, Err, OnOk, OnErr}
+use Rattle.std.specs.List.{AllByRecursion}
 use Rattle.std.proofs.lemmas.List.{drop_at, take_all}
 use Rattle.std.proofs.lemmas.Bool.Decides.{nat_tests}
 use Rattle.circuit_set.specs.Pumps.{Waiting, at_rest, is_drained}
@@ -17,7 +18,9 @@ use Rattle.link_table.specs.declared.path_refusal.PathRefusal.TheVariants as pat
 use Rattle.node_core.specs.declared.station.Station.{Station}
 use Rattle.node_core.specs.Circuits as circuits
 use Rattle.node_core.specs.Inputs.{after_bytes, after_item, after_items, moment, new_items}
-use Rattle.node_core.specs.Kept.{IsSound, Kept, NodeStands, Takes, kept}
+use Rattle.node_core.specs.Kept.{IsReached, IsSound, Kept, NodeStands, Takes, kept}
+use Rattle.node_core.specs.Bridged.{AsksForCall, Bytes, Input, after, after_all}
+use Rattle.node_core.specs.Configs.{new_node}
 use Rattle.node_core.specs.Laws.{NothingLeftAfterInputs}
 use Rattle.node_core.specs.Receiving.{take_item}
 use Rattle.node_core.specs.Settling.{after_input}
@@ -49,6 +52,29 @@ told_after nothing now n =
     let none : circuits.pending (after_input now n).set ≡ 0 = omega (arith, all) in
     told_by (after_input now n).set none (is_drained (after_input now n).set) refl
 
+-- ---- inputs that lead to it
+
+-- inputs lead on from each state to which inputs led
+abbrev pub Leads : (NodeState → NodeState) → Type 0
+Leads step = (n : NodeState) → IsReached n → IsReached (step n)
+
+after_more : (inputs : List Input) (i : Input) (n : NodeState) → after_all (inputs ++ i ∷ []) n ≡ after i (after_all inputs n)
+after_more [] i n = refl
+after_more (j ∷ inputs) i n = after_more inputs i (after j n)
+
+asked_more : (inputs : List Input) (i : Input) → AllByRecursion AsksForCall inputs → AsksForCall i → AllByRecursion AsksForCall (inputs ++ i ∷ [])
+asked_more [] i a b = (b, tt)
+asked_more (j ∷ inputs) i a b = (a.0, asked_more inputs i a.1 b)
+
+pub led : (i : Input) → AsksForCall i → Leads (after i)
+led i asks n r = record {
+  config = r.config;
+  inputs = r.inputs ++ i ∷ [];
+  call = r.call;
+  asked = asked_more r.inputs i r.asked asks;
+  is = after_more r.inputs i (new_node r.config) ∙ ap (after i) r.is;
+}
+
 -- what an input leaves of what a node stands for, at a moment that is cut off
 pub stands_on : NothingLeftAfterInputs → (step : ℕ → State → State) (now m : ℕ) (k : Kept) (s : Station) → m ≡ moment now
     → ((n : State) → Holds k.station n → IsTold n → Holds s (after_input m (step m n)))
@@ -62,9 +88,15 @@ stands_on nothing step now m k s e goes n h = record {
 
 pub sound_on : NothingLeftAfterInputs → (step : ℕ → State → State) (now m : ℕ) (k : Kept) (s : Station) → m ≡ moment now
     → ((n : State) → Holds k.station n → IsTold n → Holds s (after_input m (step m n)))
-    → IsDrained s → IsSound k → IsSound (kept k.deframer s false)
-sound_on nothing step now m k s e goes drained sound =
-    record { state = _; stands = stands_on nothing step now m k s e goes sound.state sound.stands; drained = drained }
+    → IsDrained s → Leads (λ n. record n { station = after_input (moment now) (step (moment now) n.station) }) → IsSound k → IsSound (kept k.deframer s false)
+sound_on nothing step now m k s e goes drained leads sound =
+    record {
+      state = _;
+      stands = stands_on nothing step now m k s e goes sound.state sound.stands;
+      drained = drained;
+      collected = (nothing (moment now) (step (moment now) sound.state.station)).waiting;
+      reached = leads sound.state sound.reached;
+    }
 
 -- ---- outputs
 
@@ -78,10 +110,17 @@ fetched_on step told k s goes n h = record {
   told = told n.station h.told;
 }
 
-pub sound_fetched : (step : State → State) → ((n : State) → IsTold n → IsTold (step n)) → (k : Kept) (s : Station) → Goes step k.station s
-    → (IsDrained k.station → IsDrained s) → IsSound k → IsSound (kept k.deframer s k.spent)
-sound_fetched step told k s goes drained sound =
-    record { state = _; stands = fetched_on step told k s goes sound.state sound.stands; drained = drained sound.drained }
+pub sound_fetched : (step : State → State) → ((n : State) → IsTold n → IsTold (step n)) → ((n : State) → (step n).links.pending.waiting ≡ n.links.pending.waiting)
+    → Leads (λ n. record n { station = step n.station }) → (k : Kept) (s : Station) → Goes step k.station s → (IsDrained k.station → IsDrained s) → IsSound k
+    → IsSound (kept k.deframer s k.spent)
+sound_fetched step told waits leads k s goes drained sound =
+    record {
+      state = _;
+      stands = fetched_on step told k s goes sound.state sound.stands;
+      drained = drained sound.drained;
+      collected = waits sound.state.station ∙ sound.collected;
+      reached = leads sound.state sound.reached;
+    }
 
 own_told : (fs : List Written) (n : State) → IsTold n → IsTold (fetch_own fs n)
 own_told [] n told = told
@@ -89,6 +128,13 @@ own_told (f ∷ fs) n told = told
 
 pub frame_told : (n : State) → IsTold n → IsTold (fetch_frame n)
 frame_told n told = own_told n.own n told
+
+own_waits : (fs : List Written) (n : State) → (fetch_own fs n).links.pending.waiting ≡ n.links.pending.waiting
+own_waits [] n = refl
+own_waits (f ∷ fs) n = refl
+
+pub frame_waits : (n : State) → (fetch_frame n).links.pending.waiting ≡ n.links.pending.waiting
+frame_waits n = own_waits n.own n
 
 dropped_first : (xs : List NodeEntry) → map entry_of (drop 1 xs) ≡ drop 1 (map entry_of xs)
 dropped_first [] = refl
@@ -138,6 +184,10 @@ pub items_told : NothingLeftAfterInputs → (now : ℕ) (is : List Item) (n : St
 items_told nothing now [] n told = told
 items_told nothing now (i ∷ is) n told = items_told nothing now is (after_item now i n) (told_after nothing now (take_item now i n))
 
+items_collected : NothingLeftAfterInputs → (now : ℕ) (is : List Item) (n : State) → n.links.pending.waiting ≡ [] → (after_items now is n).links.pending.waiting ≡ []
+items_collected nothing now [] n e = e
+items_collected nothing now (i ∷ is) n e = items_collected nothing now is (after_item now i n) (nothing now (take_item now i n)).waiting
+
 pub bytes_on : NothingLeftAfterInputs → (now m : ℕ) (bytes : List ℕ) (k : Kept) (d : kiss.Held) (s : Station) → m ≡ moment now
     → ((stream : List ℕ) → kiss.StandsFor k.deframer stream → kiss.StandsFor d (stream ++ bytes))
     → ((stream : List ℕ) → kiss.StandsFor k.deframer stream → Takes m k.station s stream bytes)
@@ -157,7 +207,13 @@ pub sound_bytes : NothingLeftAfterInputs → (now m : ℕ) (bytes : List ℕ) (k
     → ((stream : List ℕ) → kiss.StandsFor k.deframer stream → Takes m k.station s stream bytes)
     → (IsDrained k.station → IsDrained s) → IsSound k → IsSound (kept d s false)
 sound_bytes nothing now m bytes k d s e fed taken drained sound =
-    record { state = _; stands = bytes_on nothing now m bytes k d s e fed taken sound.state sound.stands; drained = drained sound.drained }
+    record {
+      state = _;
+      stands = bytes_on nothing now m bytes k d s e fed taken sound.state sound.stands;
+      drained = drained sound.drained;
+      collected = items_collected nothing (moment now) (new_items sound.state.stream bytes) sound.state.station sound.collected;
+      reached = led (Bytes now bytes) tt sound.state sound.reached;
+    }
 
 -- ---- repeaters
 
@@ -171,6 +227,18 @@ path_step : Result (Unit {0}) PathRefusal → (Table → Table) → Table → Ta
 path_step (Ok _) step t = step t
 path_step (Err e) step t = t
 
+path_waits : (r : Result (Unit {0}) PathRefusal) (step : Table → Table) → ((t : Table) → (step t).pending.waiting ≡ t.pending.waiting) → (t : Table)
+    → (path_step r step t).pending.waiting ≡ t.pending.waiting
+unfolding path_step
+path_waits (Ok x) step waits t = waits t
+path_waits (Err e) step waits t = refl
+
+path_leads : (r : Result (Unit {0}) PathRefusal) (step : Table → Table) → Leads (λ n. record n { station = at_links step n.station })
+    → Leads (λ n. record n { station = at_links (path_step r step) n.station })
+unfolding path_step
+path_leads (Ok x) step leads n r = leads n r
+path_leads (Err e) step leads n r = r
+
 path_goes : (r : Result (Unit {0}) PathRefusal) (step : Table → Table) (old new : LinkTable) → NotNoMemory r → OnOk r (TableGoes step old new) → OnErr r (NotNoMemory r → new ≡ old)
     → TableGoes (path_step r step) old new
 unfolding path_step
@@ -178,9 +246,10 @@ path_goes (Ok x) step old new a goes err = goes
 path_goes (Err e) step old new a goes err = λ t h. subst (λ (k : LinkTable). TableStands k t) (sym (err a)) h
 
 pub sound_path : (r : Result (Unit {0}) PathRefusal) (step : Table → Table) (k : Kept) (router : Routing LinkTable) (old new : LinkTable) → router ≡ k.station.set.router → old ≡ router.carrier
-    → NotNoMemory r → OnOk r (TableGoes step old new) → OnErr r (NotNoMemory r → new ≡ old) → IsSound k → IsSound (kept k.deframer (with_carrier k.station router new) k.spent)
-sound_path r step k router old new e f a goes err sound =
-    sound_fetched (at_links (path_step r step)) (λ n told. told) k (with_carrier k.station router new)
+    → NotNoMemory r → OnOk r (TableGoes step old new) → OnErr r (NotNoMemory r → new ≡ old) → ((t : Table) → (step t).pending.waiting ≡ t.pending.waiting)
+    → Leads (λ n. record n { station = at_links step n.station }) → IsSound k → IsSound (kept k.deframer (with_carrier k.station router new) k.spent)
+sound_path r step k router old new e f a goes err waits leads sound =
+    sound_fetched (at_links (path_step r step)) (λ n told. told) (λ n. path_waits r step waits n.links) (path_leads r step leads) k (with_carrier k.station router new)
     (links_go (path_step r step) k.station router old new e f (path_goes r step old new a goes err)) (λ drained. drained) sound
 
 pub handed_is : (item : KissItem) → handed_out (Some item) ≡ item_of item ∷ []

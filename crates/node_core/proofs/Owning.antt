@@ -1,5 +1,5 @@
 -- The ends that sessions own: no two own the same, each has a number that was given, and none is closing that isn't to be.
-use Rattle.std.proofs.Common.{◌≡◌, ◌≤◌, ◌<◌, ◌+◌, ◌⊎◌, inl, inr, ℕ, zero, suc, refl, ap, arith, List, [], ◌∷◌, ◌++◌, map, slice_get, slice_set}
+use Rattle.std.proofs.Common.{◌≡◌, ◌≤◌, ◌<◌, ◌+◌, ◌⊎◌, inl, inr, ℕ, zero, suc, refl, sym, ap, subst, arith, List, [], ◌∷◌, ◌++◌, map, slice_get, slice_set}
 use Rattle.std.specs.Prelude.{Bool, true, false, not, ◌&&◌, nat_eq, nat_lt, filter, if◌then◌else◌, Option, Some, None}
 use Rattle.std.proofs.lemmas.Bool.Decides.{nat_tests}
 use Rattle.ax_address.specs.Callsign.{Callsign}
@@ -20,7 +20,8 @@ use Rattle.node_core.specs.Sessions as s
 use Rattle.node_core.specs.Sessions.{Session, circuit_of}
 use Rattle.node_core.specs.Users.{changed}
 use Rattle.node_core.proofs.Ends.{Once}
-use Rattle.node_core.proofs.Holders.{AreNamed, AreOpen, Below, HaveMessages, Keeps, none_closing}
+use Rattle.node_core.proofs.Holders.{AreNamed, AreOpen, Below, HaveMessages, Keeps, is_away, none_closing}
+use Rattle.node_core.proofs.Leaving.{IsHeld, LeavesHeld, gone_by, gones, gones_both}
 
 -- ---- what the sessions own
 
@@ -44,6 +45,10 @@ is_unshut id (Some c) = nat_eq c.id id && not c.closed
 abbrev pub opens_by : ℕ → Session → ℕ
 opens_by id x = one (is_at_end id x.user && not x.bye) + one (is_unshut id (circuit_of x.stage))
 
+-- that of its circuit alone
+abbrev pub asked_by : ℕ → Session → ℕ
+asked_by id x = one (is_circuit id (circuit_of x.stage))
+
 -- an end that a request has made is to have a session
 abbrev pub made_by : ℕ → Told → ℕ
 made_by id (Made at pair partner (Some d)) = one (nat_eq at id)
@@ -61,6 +66,7 @@ pub record Owns (set : SetState) (untold : List Told) (ss : List Session) : Type
   pub few : (id : ℕ) → total (owned_by id) ss + mades id untold ≤ 1
   pub fresh : (id : ℕ) → set.number ≤ id → total (owned_by id) ss + mades id untold ≡ 0
   pub unshut : (id : ℕ) → 0 < total (opens_by id) ss + mades id untold → AreOpen id set.ends
+  pub held : (id : ℕ) → 0 < total (asked_by id) ss → IsHeld id set untold
 
 -- ---- sums
 
@@ -73,11 +79,11 @@ pub changed_less : (of : Session → ℕ) (f : Session → Session) (ss : List S
 changed_less of f ss nth None e less = omega arith
 changed_less of f ss nth (Some x) e less = omega (arith, placed of ss nth x (f x) e, less x)
 
-map_less : (of : Session → ℕ) (f : Session → Session) → ((x : Session) → of (f x) ≤ of x) → (ss : List Session) → total of (map f ss) ≤ total of ss
+pub map_less : (of : Session → ℕ) (f : Session → Session) → ((x : Session) → of (f x) ≤ of x) → (ss : List Session) → total of (map f ss) ≤ total of ss
 map_less of f less [] = omega arith
 map_less of f less (x ∷ ss) = omega (arith, less x, map_less of f less ss)
 
-push_one : (of : Session → ℕ) (ss : List Session) (x : Session) → total of (ss ++ x ∷ []) ≡ total of ss + of x
+pub push_one : (of : Session → ℕ) (ss : List Session) (x : Session) → total of (ss ++ x ∷ []) ≡ total of ss + of x
 push_one of [] x = omega arith
 push_one of (y ∷ ss) x = omega (arith, push_one of ss x)
 
@@ -122,14 +128,16 @@ but_here id (z ∷ ss) (suc nth) x e = omega (arith, but_here id ss nth x e, ope
 pub record Fewer (old new : List Session) : Type 0 where
   pub owned : (id : ℕ) → total (owned_by id) new ≤ total (owned_by id) old
   pub opens : (id : ℕ) → total (opens_by id) new ≤ total (opens_by id) old
+  pub asked : (id : ℕ) → total (asked_by id) new ≤ total (asked_by id) old
 
 -- the same of one
 pub record Less (x y : Session) : Type 0 where
   pub owned : (id : ℕ) → owned_by id y ≤ owned_by id x
   pub opens : (id : ℕ) → opens_by id y ≤ opens_by id x
+  pub asked : (id : ℕ) → asked_by id y ≤ asked_by id x
 
 pub less_itself : (x : Session) → Less x x
-less_itself x = record { owned = λ id. omega arith; opens = λ id. omega arith }
+less_itself x = record { owned = λ id. omega arith; opens = λ id. omega arith; asked = λ id. omega arith }
 
 either_less : (x y : Session) (b : Bool) → Less x y → Less x (if b then y else x)
 either_less x y true less = less
@@ -143,6 +151,7 @@ by_stage x y e f owned opens = record {
   opens = λ id.
       let a : one (is_at_end id y.user && not y.bye) ≡ one (is_at_end id x.user && not x.bye) = rw (e, f) refl in
       omega (arith, a, opens id);
+  asked = λ id. owned id;
 }
 
 pub staged : (c : Circuit) (notice : EndNotice) → circuit_of (s.stage_by c notice) ≡ Some c
@@ -175,16 +184,20 @@ gone_at id x (Failed c) = either_less x (s.at_prompt x) (nat_eq c.id id) (at_pro
 gone_at id x (Connected c) = either_less x (s.hear_end c x) (nat_eq c.id id) (at_prompt x (s.hear_end c x) refl refl refl)
 
 left_less : (peer : Callsign) (x : Session) → Less x (s.leave peer x)
-left_less peer x = either_less x (s.leaves x) (s.is_at_link peer x.user) (record { owned = λ id. omega arith; opens = λ id. omega arith })
+left_less peer x = either_less x (s.leaves x) (s.is_at_link peer x.user) (record { owned = λ id. omega arith; opens = λ id. omega arith; asked = λ id. omega arith })
 
 all_less : (f : Session → Session) → ((x : Session) → Less x (f x)) → (ss : List Session) → Fewer ss (map f ss)
-all_less f less ss = record { owned = λ id. map_less (owned_by id) f (λ x. (less x).owned id) ss; opens = λ id. map_less (opens_by id) f (λ x. (less x).opens id) ss }
+all_less f less ss = record {
+  owned = λ id. map_less (owned_by id) f (λ x. (less x).owned id) ss;
+  opens = λ id. map_less (opens_by id) f (λ x. (less x).opens id) ss;
+  asked = λ id. map_less (asked_by id) f (λ x. (less x).asked id) ss;
+}
 
 pub few_itself : (ss : List Session) → Fewer ss ss
-few_itself ss = record { owned = λ id. omega arith; opens = λ id. omega arith }
+few_itself ss = record { owned = λ id. omega arith; opens = λ id. omega arith; asked = λ id. omega arith }
 
 pub then_fewer : (a b c : List Session) → Fewer a b → Fewer b c → Fewer a c
-then_fewer a b c x y = record { owned = λ id. omega (arith, x.owned id, y.owned id); opens = λ id. omega (arith, x.opens id, y.opens id) }
+then_fewer a b c x y = record { owned = λ id. omega (arith, x.owned id, y.owned id); opens = λ id. omega (arith, x.opens id, y.opens id); asked = λ id. omega (arith, x.asked id, y.asked id) }
 
 left_all : (b : Bool) (peer : Callsign) (ss : List Session) → Fewer ss (if b then map (s.leave peer) ss else ss)
 left_all true peer ss = all_less (s.leave peer) (left_less peer) ss
@@ -198,6 +211,7 @@ links_fewer (x ∷ ns) ss = then_fewer ss (s.hear_link x.0 x.1 ss) _ (left_all (
 pub record Greets (id : ℕ) (user : User) (old new : List Session) : Type 0 where
   pub owned : total (owned_by id) new ≤ total (owned_by id) old + one (is_at_end id user)
   pub opens : total (opens_by id) new ≤ total (opens_by id) old + one (is_at_end id user)
+  pub asked : total (asked_by id) new ≤ total (asked_by id) old
 
 and_true : (a : Bool) → one (a && true) ≡ one a
 and_true true = refl
@@ -206,21 +220,22 @@ and_true false = refl
 pub greets : (b : Bool) (id : ℕ) (user : User) (ss : List Session) → Greets id user ss (s.greet b user ss)
 greets true id user ss =
     let x : Session = s.new_session user in
-    record { owned = omega (arith, push_one (owned_by id) ss x); opens = omega (arith, push_one (opens_by id) ss x, and_true (is_at_end id user)) }
-greets false id user ss = record { owned = omega arith; opens = omega arith }
+    record { owned = omega (arith, push_one (owned_by id) ss x); opens = omega (arith, push_one (opens_by id) ss x, and_true (is_at_end id user)); asked = omega (arith, push_one (asked_by id) ss x) }
+greets false id user ss = record { owned = omega arith; opens = omega arith; asked = omega arith }
 
 -- what is told of the circuits is heard
 pub record Hears (id : ℕ) (t : Told) (old new : List Session) : Type 0 where
   pub owned : total (owned_by id) new ≤ total (owned_by id) old + made_by id t
   pub opens : total (opens_by id) new ≤ total (opens_by id) old + made_by id t
+  pub asked : total (asked_by id) new ≤ total (asked_by id) old
 
 by_fewer : (id : ℕ) (t : Told) (old new : List Session) → Fewer old new → Hears id t old new
-by_fewer id t old new f = record { owned = omega (arith, f.owned id); opens = omega (arith, f.opens id) }
+by_fewer id t old new f = record { owned = omega (arith, f.owned id); opens = omega (arith, f.opens id); asked = f.asked id }
 
 made_hears : (prompt : Bool) (id at : ℕ) (pair : Pair) (partner : Callsign) (request : Option (List ℕ)) (ss : List Session)
     → Hears id (Made at pair partner request) ss (s.hear_circuits prompt (Of (Made at pair partner request)) ss)
 made_hears prompt id at pair partner None ss = by_fewer id (Made at pair partner None) ss ss (few_itself ss)
-made_hears prompt id at pair partner (Some d) ss = let g = greets prompt id (AtEnd at) ss in record { owned = g.owned; opens = g.opens }
+made_hears prompt id at pair partner (Some d) ss = let g = greets prompt id (AtEnd at) ss in record { owned = g.owned; opens = g.opens; asked = g.asked }
 
 pub hears : (prompt : Bool) (id : ℕ) (t : Told) (ss : List Session) → Hears id t ss (s.hear_circuits prompt (Of t) ss)
 hears prompt id (Made at pair partner request) ss = made_hears prompt id at pair partner request ss
@@ -236,8 +251,8 @@ hears prompt id (Lost at facts) ss = by_fewer id (Lost at facts) ss ss (few_itse
 -- where the set stays, and no more is owned
 pub owns_less : (set : SetState) (ts us : List Told) (ss xs : List Session) → Owns set ts ss
     → ((id : ℕ) → total (owned_by id) xs + mades id us ≤ total (owned_by id) ss + mades id ts)
-    → ((id : ℕ) → total (opens_by id) xs + mades id us ≤ total (opens_by id) ss + mades id ts) → Owns set us xs
-owns_less set ts us ss xs o owned opens = record {
+    → ((id : ℕ) → total (opens_by id) xs + mades id us ≤ total (opens_by id) ss + mades id ts) → ((id : ℕ) → 0 < total (asked_by id) xs → IsHeld id set us) → Owns set us xs
+owns_less set ts us ss xs o owned opens held = record {
   below = o.below;
   once = o.once;
   messages = o.messages;
@@ -245,10 +260,47 @@ owns_less set ts us ss xs o owned opens = record {
   few = λ id. omega (arith, o.few id, owned id);
   fresh = λ id over. omega (arith, o.fresh id over, owned id);
   unshut = λ id some. o.unshut id (omega (arith, some, opens id));
+  held = held;
 }
 
 pub owns_fewer : (set : SetState) (ts : List Told) (ss xs : List Session) → Owns set ts ss → Fewer ss xs → Owns set ts xs
-owns_fewer set ts ss xs o f = owns_less set ts ts ss xs o (λ id. omega (arith, f.owned id)) (λ id. omega (arith, f.opens id))
+owns_fewer set ts ss xs o f = owns_less set ts ts ss xs o (λ id. omega (arith, f.owned id)) (λ id. omega (arith, f.opens id)) (λ id some. o.held id (omega (arith, some, f.asked id)))
+
+-- a session that hears that an end is gone has asked for it no longer
+none_asked : (id : ℕ) (x : Session) (stage : Stage) → x.stage ≡ stage → asked_by id (s.gone_at stage id x) ≡ 0
+none_asked id x AtPrompt e = rw e refl
+none_asked id x (Trying c) e = by (nat_eq c.id id) refl
+  where
+    by : (b : Bool) → nat_eq c.id id ≡ b → asked_by id (if b then s.at_prompt x else x) ≡ 0
+    by true f = refl
+    by false f = rw (e, f) refl
+none_asked id x (Failed c) e = by (nat_eq c.id id) refl
+  where
+    by : (b : Bool) → nat_eq c.id id ≡ b → asked_by id (if b then s.at_prompt x else x) ≡ 0
+    by true f = refl
+    by false f = rw (e, f) refl
+none_asked id x (Connected c) e = by (nat_eq c.id id) refl
+  where
+    by : (b : Bool) → nat_eq c.id id ≡ b → asked_by id (if b then s.hear_end c x else x) ≡ 0
+    by true f = refl
+    by false f = rw (e, f) refl
+
+none_left : (id : ℕ) (ss : List Session) → total (asked_by id) (map (s.hear_gone id) ss) ≡ 0
+none_left id [] = refl
+none_left id (x ∷ ss) = let here = none_asked id x x.stage refl in let rest = none_left id ss in omega (arith, here, rest)
+
+gone_heard : (prompt : Bool) (id : ℕ) (t : Told) (ss : List Session) → 0 < gone_by id t → total (asked_by id) (s.hear_circuits prompt (Of t) ss) ≡ 0
+gone_heard prompt id (Gone at facts) ss some = by (nat_eq at id) refl some
+  where
+    by : (b : Bool) → nat_eq at id ≡ b → 0 < one b → total (asked_by id) (map (s.hear_gone at) ss) ≡ 0
+    by true e more = let same : id ≡ at = grind (arith, nat_tests, e) in subst (λ k. total (asked_by k) (map (s.hear_gone at) ss) ≡ 0) (sym same) (none_left at ss)
+    by false e more = absurd (omega (arith, more))
+gone_heard prompt id (Made at pair partner request) ss some = absurd (omega (arith, some))
+gone_heard prompt id (Notice at notice) ss some = absurd (omega (arith, some))
+gone_heard prompt id (Sent at number d) ss some = absurd (omega (arith, some))
+gone_heard prompt id (Heeded at d) ss some = absurd (omega (arith, some))
+gone_heard prompt id (Restarted pair) ss some = absurd (omega (arith, some))
+gone_heard prompt id (Lost at facts) ss some = absurd (omega (arith, some))
 
 -- what is untold is told
 pub owns_told : (prompt : Bool) (set : SetState) (t : Told) (ts : List Told) (ss : List Session) → Owns set (t ∷ ts) ss → Owns set ts (s.hear_circuits prompt (Of t) ss)
@@ -256,6 +308,15 @@ owns_told prompt set t ts ss o =
     owns_less set (t ∷ ts) ts ss (s.hear_circuits prompt (Of t) ss) o
     (λ id. let h = hears prompt id t ss in omega (arith, h.owned))
     (λ id. let h = hears prompt id t ss in omega (arith, h.opens))
+    (λ id some. let h = hears prompt id t ss in still id some (o.held id (omega (arith, some, h.asked))))
+  where
+    still : (id : ℕ) → 0 < total (asked_by id) (s.hear_circuits prompt (Of t) ss) → IsHeld id set (t ∷ ts) → IsHeld id set ts
+    still id some (inl e) = inl e
+    still id some (inr gone) = by (gone_by id t) refl
+      where
+        by : (k : ℕ) → gone_by id t ≡ k → IsHeld id set ts
+        by zero e = inr (omega (arith, gone, e))
+        by (suc k) e = let none = gone_heard prompt id t ss (omega (arith, e)) in absurd (omega (arith, some, none))
 
 pub mades_both : (id : ℕ) (ts us : List Told) → mades id (ts ++ us) ≡ mades id ts + mades id us
 mades_both id [] us = omega arith
@@ -348,10 +409,19 @@ either_some : (a b : ℕ) → 0 < a + b → (0 < a) ⊎ (0 < b)
 either_some zero b some = inr (omega (arith, some))
 either_some (suc a) b some = inl (omega arith)
 
+-- an end is held still, or it is untold that it is gone
+pub held_on : (set : SetState) (d : SetDone) (ts : List Told) (id : ℕ) → Once set.ends → LeavesHeld set d → IsHeld id set ts → IsHeld id d.set (ts ++ d.told)
+held_on set d ts id once leaves (inr some) = inr (omega (arith, some, gones_both id ts d.told))
+held_on set d ts id once leaves (inl held) = by (leaves id once held)
+  where
+    by : IsHeld id d.set d.told → IsHeld id d.set (ts ++ d.told)
+    by (inl e) = inl e
+    by (inr some) = inr (omega (arith, some, gones_both id ts d.told))
+
 -- an input of the set, which leaves the ends of the numbers that are admitted
 pub owns_input : (admits : ℕ → Type 0) (set : SetState) (d : SetDone) (ts : List Told) (ss : List Session) → Owns set ts ss → Keeps admits set d.set → MadeFrom set.number d.told d.set.number
-    → ((id : ℕ) → 0 < total (opens_by id) ss + mades id ts → admits id) → ((id : ℕ) → 0 < mades id d.told → admits id) → Owns d.set (ts ++ d.told) ss
-owns_input admits set d ts ss o k made known later =
+    → ((id : ℕ) → 0 < total (opens_by id) ss + mades id ts → admits id) → ((id : ℕ) → 0 < mades id d.told → admits id) → LeavesHeld set d → Owns d.set (ts ++ d.told) ss
+owns_input admits set d ts ss o k made known later leaves =
     let n = numbered set.number d.set.number d.told made in
     record {
       below = k.below o.below;
@@ -366,6 +436,7 @@ owns_input admits set d ts ss o k made known later =
       unshut = λ id some.
           let both = mades_both id ts d.told in
           opened id n (either_some (total (opens_by id) ss + mades id ts) (mades id d.told) (omega (arith, some, both)));
+      held = λ id some. held_on set d ts id o.once leaves (o.held id some);
     }
   where
     le : (id : ℕ) → (id < set.number) ⊎ (set.number ≤ id)

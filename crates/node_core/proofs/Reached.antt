@@ -65,11 +65,12 @@ use Rattle.node_core.proofs.Short.{Goes, IsShort, act_short, fetched_short, item
 use Rattle.node_core.proofs.Walking.{tick_on, turn_on}
 use Rattle.node_core.proofs.Wrote.{Written as WritesAll, WrittenAt, WroteAt, rest_waits, ticks_wrote, written_same}
 use Rattle.node_core.proofs.Turns.{kept}
+use Rattle.node_core.proofs.Leaving.{calls_leaves}
 
 -- ---- the settling
 
 module _ (offers : OffersLeave) (takes : TakesLower) (less : TellsLess) (law : CarriesWhatWasOffered) (reads : ReadsCallTexts) where
-  abbrev Ready : State → Type 0
+  abbrev pub Ready : State → Type 0
   Ready n = Fine n × IsShort n.links
 
   noticed : (n : State) → Fine n → Fine (s.enter_notices n)
@@ -138,7 +139,7 @@ module _ (offers : OffersLeave) (takes : TakesLower) (less : TellsLess) (law : C
   item_fine now (kiss.Frame port command payload) n f = either _ n ((port == 0) && (command == 0)) (headed now payload (read_head_at payload) n f) f
   item_fine now kiss.Too_long n f = f
 
-  items_ready : (now : ℕ) (items : List kiss.Item) (n : State) → Ready n → Ready (after_items now items n)
+  pub items_ready : (now : ℕ) (items : List kiss.Item) (n : State) → Ready n → Ready (after_items now items n)
   items_ready now [] n r = r
   items_ready now (item ∷ more) n r = items_ready now more (after_item now item n) (settled now (receiving.take_item now item n) (item_fine now item n r.0, item_short law now item n r.1))
 
@@ -162,7 +163,7 @@ module _ (offers : OffersLeave) (takes : TakesLower) (less : TellsLess) (law : C
       one_tick : All d.set (ts ++ d.told) ss
       one_tick =
           let k = ticks_keep set now h.id in
-          (owns_input Any set d ts ss o.0 k (step_ok set (sets.Calls h.id sets.Ticks now) tt).made (λ id some. tt) (λ id some. tt), goes_on Any set d.set ts ss k (ticks_wrote set now h.id) o)
+          (owns_input Any set d ts ss o.0 k (step_ok set (sets.Calls h.id sets.Ticks now) tt).made (λ id some. tt) (λ id some. tt) (calls_leaves set h.id sets.Ticks now), goes_on Any set d.set ts ss k (ticks_wrote set now h.id) o)
 
       by : (b : Bool) → ((set2 : SetState) (ts2 : List Told) → All set2 ts2 ss → Ticked set2 ts2 ss (ticks_of now hs))
           → Ticked set ts ss (if b then ticks_of now hs else sets.Calls h.id sets.Ticks now ∷ ticks_of now hs)
@@ -183,15 +184,15 @@ module _ (offers : OffersLeave) (takes : TakesLower) (less : TellsLess) (law : C
 
   -- ---- every node
 
-  record Reached (n : State) : Type 0 where
-    ready : Ready n
-    told : IsTold n
+  pub record Reached (n : State) : Type 0 where
+    pub ready : Ready n
+    pub told : IsTold n
 
   fetched : (own : List Written) (n : State) → Reached n → Reached (fetch_own own n)
   fetched [] n r = record { ready = (r.ready.0, fetched_short law [] n r.ready.1); told = r.told }
   fetched (x ∷ fs) n r = record { ready = r.ready; told = r.told }
 
-  reaches : (i : Input) (n : NodeState) → AsksForCall i → Reached n.station → Reached (after i n).station
+  pub reaches : (i : Input) (n : NodeState) → AsksForCall i → Reached n.station → Reached (after i n).station
   reaches (Bytes now bytes) n call r =
       let items = new_items n.stream bytes in
       record { ready = items_ready (moment now) items n.station r.ready; told = items_told (nothing_left offers takes less) (moment now) items n.station r.told }
@@ -209,7 +210,7 @@ module _ (offers : OffersLeave) (takes : TakesLower) (less : TellsLess) (law : C
   reached [] n calls r = r
   reached (i ∷ inputs) n calls r = reached inputs (after i n) calls.1 (reaches i n calls.0 r)
 
-  starts : (c : NodeConfig) → IsCall c.call → Reached (new_station c)
+  pub starts : (c : NodeConfig) → IsCall c.call → Reached (new_station c)
   starts c call = record {
     ready = (
       (
@@ -221,6 +222,7 @@ module _ (offers : OffersLeave) (takes : TakesLower) (less : TellsLess) (law : C
           few = λ id. omega arith;
           fresh = λ id over. omega arith;
           unshut = λ id some. tt;
+          held = λ id some. absurd (omega (arith, some));
         },
         (tt, (tt, tt)),
       ),

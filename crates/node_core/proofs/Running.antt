@@ -44,6 +44,8 @@ use Rattle.node_core.proofs.Coming.{Came, act_came, either, pumped_came, same_ca
 use Rattle.node_core.proofs.Served.{IsAsking}
 use Rattle.node_core.proofs.Walking.{LocksBy, Walks, do_on, settled_on, tick_on}
 use Rattle.ax_address.specs.CallReading.{ReadsCallTexts}
+use Rattle.node_core.specs.Users.{at_session}
+use Rattle.node_core.specs.Serving.{drop_over, greet_links}
 
 -- ---- each thing that an input is made of
 
@@ -94,7 +96,9 @@ walks = record {
   serves = record {
     still = still;
     follows = then_came;
-    sessions = λ n ss. same_came n (record n { sessions = ss }) refl refl refl;
+    changes = λ nth step n keeps. same_came n (at_session nth step n) refl refl refl;
+    greets = λ n. same_came n (greet_links n) refl refl refl;
+    drops = λ n. same_came n (drop_over n) refl refl refl;
     acts = asked_came;
     pumps = pumped_came;
     takes_text = λ peer now n. same_came n (at_links (links.take_text peer now) n) refl refl refl;

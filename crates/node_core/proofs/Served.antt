@@ -51,11 +51,17 @@ IsAsking (sets.Calls id call now) = Unit {0}
 IsAsking (sets.Discard id) = Unit {0}
 IsAsking (sets.Restart pair more) = ⊥
 
+-- a step of a session that leaves its user
+abbrev pub KeepsUser : (Session → Session) → Type 0
+KeepsUser step = (x : Session) → ((step x).user ≡ x.user) × ((step x).left ≡ x.left)
+
 -- what is so of a state and itself, and behind one another, of each thing that is done for a user, and as the circuits are pumped
 pub record Serves (P : State → State → Type 0) : Type 0 where
   pub still : (n : State) → P n n
   pub follows : (a b c : State) → P a b → P b c → P a c
-  pub sessions : (n : State) (ss : List Session) → P n (record n { sessions = ss })
+  pub changes : (nth : ℕ) (step : Session → Session) (n : State) → KeepsUser step → P n (at_session nth step n)
+  pub greets : (n : State) → P n (serving.greet_links n)
+  pub drops : (n : State) → P n (serving.drop_over n)
   pub acts : (a : sets.Act) (n : State) → IsAsking a → P n (at_set (circuits.acts a) n)
   pub pumps : (now : ℕ) (n : State) → P n (pump now n)
   pub takes_text : (peer : Callsign) (now : ℕ) (n : State) → P n (at_links (links.take_text peer now) n)
@@ -146,12 +152,9 @@ module _ (P : State → State → Type 0) (w : Serves P) (reads : ReadsCallTexts
   acts_on : (now : ℕ) (a : sets.Act) (n : State) → IsAsking a → P n (users.acts now a n)
   acts_on now a n i = let m : State = at_set (circuits.acts a) n in w.follows n m (users.acts now a n) (w.acts a n i) (w.pumps now m)
 
-  changed_on : (nth : ℕ) (step : Session → Session) (n : State) → P n (at_session nth step n)
-  changed_on nth step n = w.sessions n (at_session nth step n).sessions
-
   -- behind a change of a session
-  behind : (nth : ℕ) (step : Session → Session) (n m : State) → P (at_session nth step n) m → P n m
-  behind nth step n m c = w.follows n (at_session nth step n) m (changed_on nth step n) c
+  behind : (nth : ℕ) (step : Session → Session) (n m : State) → KeepsUser step → P (at_session nth step n) m → P n m
+  behind nth step n m keeps c = w.follows n (at_session nth step n) m (w.changes nth step n keeps) c
 
   written_on : (id : ℕ) (text : List ℕ) (now : ℕ) (r : Result (Unit {0}) SetRefusal) (n : State) → P n (users.written r (sets.Calls id (sets.Writes text) now) n)
   written_on id text now (Ok _) n = w.acts (sets.Calls id (sets.Writes text) now) n tt
@@ -196,13 +199,13 @@ module _ (P : State → State → Type 0) (w : Serves P) (reads : ReadsCallTexts
       let step = users.with_text (answers.message_at [] (users.end_at id n)) in
       let b : State = at_session nth step m in
       take_if_on (users.took (answers.take_answer (users.end_at id n))) (pump now b) n
-      (w.follows n m (pump now b) (w.acts (sets.Calls id sets.Takes now) n tt) (behind nth step m (pump now b) (w.pumps now b)))
+      (w.follows n m (pump now b) (w.acts (sets.Calls id sets.Takes now) n tt) (behind nth step m (pump now b) (λ x. (refl, refl)) (w.pumps now b)))
 
   from_link_on : (now nth : ℕ) (peer : Callsign) (n : State) → TurnOn n (users.take_from_link now nth peer n)
   from_link_on now nth peer n =
       let m : State = at_links (links.take_text peer now) n in
       let step = users.with_text (links.text_with peer n.links) in
-      take_if_on (links.has_text peer n.links) (at_session nth step m) n (w.follows n m (at_session nth step m) (w.takes_text peer now n) (changed_on nth step m))
+      take_if_on (links.has_text peer n.links) (at_session nth step m) n (w.follows n m (at_session nth step m) (w.takes_text peer now n) (w.changes nth step m (λ x. (refl, refl))))
 
   taken_on : (o : Option User) (now nth : ℕ) (n : State) → TurnOn n (users.take_by o now nth n)
   taken_on None now nth n = w.still n
@@ -218,10 +221,10 @@ module _ (P : State → State → Type 0) (w : Serves P) (reads : ReadsCallTexts
 
   reply_on : (o : Option Reply) (now nth : ℕ) (n : State) → TurnOn n (bridging.reply_by o now nth n)
   reply_on None now nth n = w.still n
-  reply_on (Some r) now nth n = behind nth bridging.drop_reply n _ (say_on now nth _ (at_session nth bridging.drop_reply n))
+  reply_on (Some r) now nth n = behind nth bridging.drop_reply n _ (λ x. (refl, refl)) (say_on now nth _ (at_session nth bridging.drop_reply n))
 
   pass_on : (now nth : ℕ) (message : List ℕ) (n : State) → P n (bridging.pass_on now nth message n)
-  pass_on now nth message n = behind nth (bridging.log_gave (users.said nth message n) message) n _ (say_on now nth message _)
+  pass_on now nth message n = behind nth (bridging.log_gave (users.said nth message n) message) n _ (λ x. (refl, refl)) (say_on now nth message _)
 
   given_on : (o : Option Circuit) (now nth : ℕ) (n : State) → TurnOn n (bridging.give_of o now nth n)
   given_on None now nth n = w.still n
@@ -229,7 +232,7 @@ module _ (P : State → State → Type 0) (w : Serves P) (reads : ReadsCallTexts
       let end = users.end_at c.id n in
       let m : State = users.acts now (sets.Calls c.id sets.Takes now) n in
       either_turn (users.took (answers.take_answer end)) _ _ n
-      (w.follows n m _ (acts_on now (sets.Calls c.id sets.Takes now) n tt) (behind nth (bridging.log_got (answers.message_at [] end)) m _ (pass_on now nth (answers.message_at [] end) _))) (w.still n)
+      (w.follows n m _ (acts_on now (sets.Calls c.id sets.Takes now) n tt) (behind nth (bridging.log_got (answers.message_at [] end)) m _ (λ x. (refl, refl)) (pass_on now nth (answers.message_at [] end) _))) (w.still n)
 
   next_on : (now nth : ℕ) (n : State) → TurnOn n (bridging.next_text now nth n)
   next_on now nth n = either_turn (bridging.has_rest (session_at nth n)) _ _ n (w.still n) (taken_on (users.present (session_at nth n)) now nth n)
@@ -238,7 +241,7 @@ module _ (P : State → State → Type 0) (w : Serves P) (reads : ReadsCallTexts
   rest_on now nth id n =
       let text = bridging.rest_of (session_at nth n) in
       let step = bridging.log_wrote (users.wrote_by (users.write_answer id text n)) text in
-      behind nth step n (bridging.write_rest now nth id n) (write_on now id text (at_session nth step n))
+      behind nth step n (bridging.write_rest now nth id n) (λ x. (refl, refl)) (write_on now id text (at_session nth step n))
 
   text_on : (now nth : ℕ) (c : Circuit) (n : State) → TurnOn n (bridging.write_text now nth c n)
   text_on now nth c n =
@@ -248,19 +251,19 @@ module _ (P : State → State → Type 0) (w : Serves P) (reads : ReadsCallTexts
 
   closed_on : (o : Option Circuit) (now nth : ℕ) (n : State) → TurnOn n (bridging.close_by o now nth n)
   closed_on None now nth n = w.still n
-  closed_on (Some c) now nth n = behind nth bridging.note_closed n _ (close_on now c.id _)
+  closed_on (Some c) now nth n = behind nth bridging.note_closed n _ (λ x. (refl, refl)) (close_on now c.id _)
 
   tried_on : (now nth : ℕ) (dest : Callsign) (r : Result ℕ ConnectRefusal) (n : State) → IsCallsign dest.letters dest.ssid → P n (asking.tried now nth dest r n)
   tried_on now nth dest (Ok id) n i =
       let a : State = at_session nth (asking.tries id dest) n in
       let b : State = users.acts now (sets.Connect dest now) a in
-      behind nth (asking.tries id dest) n _ (w.follows a b _ (acts_on now (sets.Connect dest now) a i) (say_on now nth _ b))
+      behind nth (asking.tries id dest) n _ (λ x. (refl, refl)) (w.follows a b _ (acts_on now (sets.Connect dest now) a i) (say_on now nth _ b))
   tried_on now nth dest (Err why) n i = say_on now nth _ n
 
   bye_on : (now nth : ℕ) (text : List ℕ) (n : State) → P n (asking.say_bye now nth text n)
   bye_on now nth text n =
       let a : State = users.say now nth text n in
-      w.follows n a _ (say_on now nth text n) (let b : State = at_session nth asking.leaves a in behind nth asking.leaves a (users.close_user now nth b) (side_closed_on (users.present (session_at nth b)) now b))
+      w.follows n a _ (say_on now nth text n) (let b : State = at_session nth asking.leaves a in behind nth asking.leaves a (users.close_user now nth b) (λ x. (refl, refl)) (side_closed_on (users.present (session_at nth b)) now b))
 
   done_on : (now nth : ℕ) (a : Action) (n : State) → IsNamed a → P n (asking.do_action now nth a n)
   done_on now nth (action.Say text) n i = say_on now nth text.items n
@@ -269,7 +272,7 @@ module _ (P : State → State → Type 0) (w : Serves P) (reads : ReadsCallTexts
   done_on now nth action.Nothing n i = w.still n
 
   line_on : (now nth : ℕ) (n : State) → P n (asking.do_line now nth n)
-  line_on now nth n = behind nth asking.cut_line n _ (done_on now nth (asking.action_at (session_at nth n) n) _ (at_named reads (session_at nth n) n))
+  line_on now nth n = behind nth asking.cut_line n _ (λ x. (refl, refl)) (done_on now nth (asking.action_at (session_at nth n) n) _ (at_named reads (session_at nth n) n))
 
   if_text_on : (t : Turn State) (step : State → State) (n : State) → TurnOn n t → ((m : State) → P m (step m)) → TurnOn n (asking.if_text t step)
   if_text_on t step n c steps = either_turn t.did _ _ n (w.follows n t.after (step t.after) c (steps t.after)) c
@@ -277,7 +280,7 @@ module _ (P : State → State → Type 0) (w : Serves P) (reads : ReadsCallTexts
   take_line_on : (now nth : ℕ) (n : State) → TurnOn n (asking.take_line now nth n)
   take_line_on now nth n =
       either_turn (asking.is_deaf_at (session_at nth n) n) _ _ n
-      (if_text_on (bridging.next_text now nth n) _ n (next_on now nth n) (λ m. changed_on nth bridging.drop_rest m))
+      (if_text_on (bridging.next_text now nth n) _ n (next_on now nth n) (λ m. w.changes nth bridging.drop_rest m (λ x. (refl, refl))))
       (either_turn (asking.has_room_at (session_at nth n) n) _ _ n (if_text_on (bridging.next_text now nth n) _ n (next_on now nth n) (line_on now nth)) (w.still n))
 
   -- ---- serving
@@ -314,4 +317,4 @@ module _ (P : State → State → Type 0) (w : Serves P) (reads : ReadsCallTexts
   served_on now n =
       let a : State = serving.greet_links n in
       let b : State = (serving.serve_all now a).after in
-      w.follows n a _ (w.sessions n a.sessions) (w.follows a b _ (each_on now 0 (length a.sessions) a) (w.sessions b (serving.drop_over b).sessions))
+      w.follows n a _ (w.greets n) (w.follows a b _ (each_on now 0 (length a.sessions) a) (w.drops b))

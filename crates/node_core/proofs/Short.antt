@@ -179,7 +179,9 @@ module _ (law : CarriesWhatWasOffered) where
   serves = record {
     still = λ n c. c;
     follows = λ a b c f g x. g (f x);
-    sessions = λ n ss c. c;
+    changes = λ nth step n keeps c. c;
+    greets = λ n c. c;
+    drops = λ n c. c;
     acts = λ a n i c. c;
     pumps = pumped;
     takes_text = λ peer now n c. takes peer now n.links c;

@@ -1,6 +1,7 @@
 -- A circuit that a session asks for, in a node that is fine.
 use Rattle.std.proofs.Common.{◌≡◌, ◌≤◌, ◌<◌, ◌+◌, ◌∙◌, ◌⊎◌, inl, inr, ℕ, zero, suc, refl, sym, ap, subst, arith, List, [], ◌++◌, slice_get, length}
 use Rattle.std.specs.Prelude.{Bool, true, false, ◌||◌, ◌&&◌, min, nat_eq, is_none, if◌then◌else◌, Option, Some, None, Result, Ok, Err}
+use Rattle.std.proofs.lemmas.Bool.{eq-eqb}
 use Rattle.std.proofs.lemmas.Bool.Decides.{nat_tests}
 use Rattle.ax_address.specs.Callsign.{Callsign}
 use Rattle.ax_address.specs.CallOrder.{same_call}
@@ -27,10 +28,11 @@ use Rattle.node_core.specs.Users.{at_session, changed, session_at}
 use Rattle.node_core.proofs.Fine.{Fine, goes_on, pumped, said}
 use Rattle.node_core.proofs.Given.{Given, given_tries}
 use Rattle.node_core.proofs.Holders.{Any, AreOpen, Keeps, connects_keeps, none_closing}
-use Rattle.node_core.proofs.Wrote.{WroteAt, Written, asked_wrote, connects_wrote, written_tries}
+use Rattle.node_core.proofs.Wrote.{end_new, WroteAt, Written, asked_wrote, connects_wrote, written_tries}
 use Rattle.node_core.proofs.Soundness.{Idle, Sound, changed_every, every_at}
 use Rattle.node_core.proofs.Making.{connected_ok}
-use Rattle.node_core.proofs.Owning.{Owns, mades, mades_both, none_made, one, opens_by, owned_by, placed, total}
+use Rattle.node_core.proofs.Owning.{Owns, mades, mades_both, none_made, one, opens_by, owned_by, placed, total, asked_by, held_on}
+use Rattle.node_core.proofs.Leaving.{IsHeld, connects_leaves, gones_both, requested_held}
 
 -- ---- the end that is made
 
@@ -68,6 +70,9 @@ made_one dest now set e =
 
 asks : (id k : ℕ) (dest : Callsign) (x : Session) → x.stage ≡ AtPrompt → owned_by k (asking.tries id dest x) ≡ owned_by k x + one (nat_eq id k)
 asks id k dest x e = rw e (omega arith)
+
+asks_for : (id k : ℕ) (dest : Callsign) (x : Session) → x.stage ≡ AtPrompt → asked_by k (asking.tries id dest x) ≡ asked_by k x + one (nat_eq id k)
+asks_for id k dest x e = rw e (omega arith)
 
 and_yes : (a : Bool) → one (a && true) ≡ one a
 and_yes true = refl
@@ -112,6 +117,7 @@ tried_owns dest now id nth n x call f e i ok = record {
       let other = gone k (number_test id k) high in
       omega (arith, before, other, owned k, told k);
   unshut = λ k some. opened k (either_of (total (opens_by k) n.sessions + mades k n.set.untold) (one (nat_eq id k)) (omega (arith, some, opens k, told k)));
+  held = λ k some. held_by k (either_of (total (asked_by k) n.sessions) (one (nat_eq id k)) (omega (arith, some, asked k)));
 }
   where
     set : SetState
@@ -137,6 +143,29 @@ tried_owns dest now id nth n x call f e i ok = record {
 
     opens : (k : ℕ) → total (opens_by k) ss ≡ total (opens_by k) n.sessions + one (nat_eq id k)
     opens k = more_by (opens_by k) (asking.tries id dest) (one (nat_eq id k)) n.sessions nth (slice_get n.sessions nth) x refl e (asks_open id k dest x i.stage)
+
+    asked : (k : ℕ) → total (asked_by k) ss ≡ total (asked_by k) n.sessions + one (nat_eq id k)
+    asked k = more_by (asked_by k) (asking.tries id dest) (one (nat_eq id k)) n.sessions nth (slice_get n.sessions nth) x refl e (asks_for id k dest x i.stage)
+
+    -- the end that was made
+    its : IsHeld set.number d.set d.told
+    its =
+        let g : Effect = requesting (sets.new_pair set) set.user set.own set.config (min now COUNT_MAX) in
+        let self : nat_eq set.number set.number ≡ true = eq-eqb set.number set.number refl in
+        let is = end_new set.number (sets.holder_of set dest None g) set.ends f.0.below self in
+        subst (λ (y : SetDone). IsHeld set.number y.set y.told) (sym ok.is) (requested_held set dest g is)
+
+    held_by : (k : ℕ) → (0 < total (asked_by k) n.sessions) ⊎ (0 < one (nat_eq id k)) → IsHeld k d.set (n.set.untold ++ d.told)
+    held_by k (inl before) = held_on set d n.set.untold k f.0.once (connects_leaves set dest now) (f.0.held k before)
+    held_by k (inr some) = here (number_test id k)
+      where
+        here : (id ≡ k) ⊎ (nat_eq id k ≡ false) → IsHeld k d.set (n.set.untold ++ d.told)
+        here (inl same) = subst (λ j. IsHeld j d.set (n.set.untold ++ d.told)) (sym ok.number ∙ same) (behind its)
+          where
+            behind : IsHeld set.number d.set d.told → IsHeld set.number d.set (n.set.untold ++ d.told)
+            behind (inl held) = inl held
+            behind (inr gone) = inr (omega (arith, gone, gones_both set.number n.set.untold d.told))
+        here (inr other) = let none = ap one other in absurd (omega (arith, some, none))
 
     by_number : (k : ℕ) → (id ≡ k) ⊎ (nat_eq id k ≡ false) → total (owned_by k) ss + mades k (n.set.untold ++ d.told) ≤ 1
     by_number k (inl same) = let before = f.0.fresh k (omega (arith, same, ok.number)) in omega (arith, before, owned k, told k, most (nat_eq id k))

@@ -108,13 +108,13 @@ wrote_stays : (set : SetState) → KeepsWrote set set
 wrote_stays set id ms gs o w = w
 
 pub comes_wrote : (set : SetState) (d : List ℕ) (now : ℕ) → KeepsWrote set (s.set_step set (Comes d now)).set
-comes_wrote set d now = comes (KeepsWrote set) (λ c. Unit {0}) set (wrote_stays set) SameWrote same_itself arrives_same (wrote_at set) (wrote_made set) d now (λ head e. tt)
+comes_wrote set d now = comes (λ d. KeepsWrote set d.set) (λ c. Unit {0}) set (λ told. wrote_stays set) SameWrote same_itself arrives_same (wrote_at set) (wrote_made set) d now (λ head e. tt)
 
 pub connects_wrote : (set : SetState) (dest : Callsign) (now : ℕ) → KeepsWrote set (s.set_step set (Connect dest now)).set
-connects_wrote set dest now = connects (KeepsWrote set) (λ c. Unit {0}) set (wrote_stays set) SameWrote same_itself arrives_same (wrote_at set) (wrote_made set) dest now tt
+connects_wrote set dest now = connects (λ d. KeepsWrote set d.set) (λ c. Unit {0}) set (λ told. wrote_stays set) SameWrote same_itself arrives_same (wrote_at set) (wrote_made set) dest now tt
 
 calls_wrote : (set : SetState) (id : ℕ) (call : Call) (now : ℕ) → ((h : Holder) → SameWrote h.end (end.step h.end (s.input_of call) now).end) → KeepsWrote set (s.set_step set (Calls id call now)).set
-calls_wrote set id call now l = calls (KeepsWrote set) (λ c. Unit {0}) set (wrote_stays set) SameWrote same_itself arrives_same (wrote_at set) (wrote_made set) id call now l
+calls_wrote set id call now l = calls (λ d. KeepsWrote set d.set) (λ c. Unit {0}) set (λ told. wrote_stays set) SameWrote same_itself arrives_same (wrote_at set) (wrote_made set) id call now l
 
 pub ticks_wrote : (set : SetState) (now id : ℕ) → KeepsWrote set (s.set_step set (Calls id Ticks now)).set
 ticks_wrote set now id =
@@ -360,7 +360,7 @@ its_written set text now nth c y ss ok e its n w =
 
 -- ---- an end that asks for a circuit
 
-end_new : (id : ℕ) (k : Holder) (hs : List Holder) → ends_of.Every (λ x. x.id < id) hs → nat_eq k.id id ≡ true → s.end_of id (hs ++ k ∷ []) ≡ Some k
+pub end_new : (id : ℕ) (k : Holder) (hs : List Holder) → ends_of.Every (λ x. x.id < id) hs → nat_eq k.id id ≡ true → s.end_of id (hs ++ k ∷ []) ≡ Some k
 end_new id k [] e f = rw f refl
 end_new id k (x ∷ xs) e f = by (nat_eq x.id id) refl (end_new id k xs e.1 f)
   where

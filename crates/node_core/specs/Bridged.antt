@@ -1,10 +1,11 @@
 -- What goes between a user and its circuit arrives whole and in order, each way; and what a session keeps is bounded. Own profile.
-use Rattle.std.specs.Prelude.{ℕ, ◌≡◌, ◌≤◌, true, false, Some, List, [], ◌∷◌, ◌++◌, length}
+use Rattle.std.specs.Prelude.{ℕ, ◌≡◌, ◌+◌, ◌≤◌, true, false, Some, List, [], ◌∷◌, ◌++◌, length}
 use Rattle.std.specs.List.{AllByRecursion}
 use Rattle.ax_address.specs.Callsign.{Callsign}
 use Rattle.ax_address.specs.declared.address.Address.{Address}
 use Rattle.arrayvec.specs.ArrayVec.{ArrayVec}
 use Rattle.circuit_l4.specs.Receiving.{inbox}
+use Rattle.circuit_set.specs.CircuitSets.{held_ids}
 use Rattle.circuit_set.specs.Sets.{Holder}
 use Rattle.link_table.specs.Calls.{with_path}
 use Rattle.link_table.specs.Reaching.{IsCall}
@@ -120,3 +121,12 @@ SessionsClosedLast = EverySession IsClosedLast
 
 abbrev pub SessionsBounded : Type 0
 SessionsBounded = EverySession (λ n. IsBounded)
+
+-- ---- how many they are
+
+-- each session has a user at a link or an end of its own, or has asked for a circuit of which the end is held; and there are at most 64 links
+abbrev pub UsersAreFew : Type 0
+UsersAreFew =
+    (c : NodeConfig) (inputs : List Input) → IsCall c.call → AllByRecursion AsksForCall inputs
+    → let n : State = (after_all inputs (new_node c)).station in
+    (length n.sessions ≤ length n.links.links + length (held_ids n.set.set.ends)) × (length n.links.links ≤ 64)

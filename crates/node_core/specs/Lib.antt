@@ -21,8 +21,9 @@ pub mod Inputs
 pub mod Laws
 pub mod Configs
 pub mod Standing
-pub mod Kept
 pub mod Runs
 pub mod Fetching
 pub mod Bridged
+pub mod Kept
+pub mod Bounds
 pub mod Carried

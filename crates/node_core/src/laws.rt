@@ -1,7 +1,8 @@
 //! What the definitions promise by themselves.
 ghost use Rattle.circuit_set.specs.Inputs.{TellsLess};
 ghost use Rattle.link_table.specs.Payloads.{CountsPayloads, OffersLeave, TakesLower};
-ghost use Rattle.node_core.specs.Bridged.{SessionsBounded, SessionsBridged, SessionsClosedLast, SessionsReadTheirEnds, SessionsWriteTheirEnds};
+ghost use Rattle.node_core.specs.Bounds.{KeepsItsShare};
+ghost use Rattle.node_core.specs.Bridged.{SessionsBounded, SessionsBridged, SessionsClosedLast, SessionsReadTheirEnds, SessionsWriteTheirEnds, UsersAreFew};
 ghost use Rattle.node_core.specs.Carried.{ActsCarry, BytesCarry, CarriedFurther, TicksCarry};
 ghost use Rattle.node_core.specs.Fetching.{FetchesAllEntries, FetchesAllFrames, FramesInOrder};
 ghost use Rattle.node_core.specs.Runs.{ActsRun, BytesRun, InputsAreSteps, TicksRun};
@@ -86,6 +87,27 @@ pub fn bridged()
 {
     parts();
     link_table::laws::carried();
+    ax_address::laws::call_texts();
+}
+
+/// Between two inputs a node keeps at most 140,000 octets for each link, 100,000 for each end, 236 for each fragment of the windows of its ends,
+/// 64 for each usable pair, and 16,384 beside. It has at most 64 links and 64 ends, and serves no more users than these.
+pub fn kept()
+    ensures { KeepsItsShare }
+{
+    link_table::laws::kept();
+    circuit_set::laws::kept();
+    users_are_few();
+}
+
+/// A node serves at most as many users as it has links and ends, of which there are at most 64 links: each user is at a link or at an end of
+/// its own, or has asked for a circuit of which the end is held.
+pub fn users_are_few()
+    ensures { UsersAreFew }
+{
+    parts();
+    link_table::laws::carried();
+    link_table::laws::ends_are_told();
     ax_address::laws::call_texts();
 }
 

@@ -1,6 +1,7 @@
 //! A whole node.
-ghost use Rattle.std.specs.Prelude.{◌≡◌, ◌<◌, ◌≤◌, ◌↔◌, ◌++◌, ℕ, List, IfOk, IfSome, Some, OnOk, OnErr, IsErr, IsErrOf, IsTrue, is_some, length, slice_get, take};
+ghost use Rattle.std.specs.Prelude.{◌≡◌, ◌<◌, ◌≤◌, ◌↔◌, ◌++◌, ℕ, List, IfOk, IfSome, Some, OnOk, OnErr, IsErr, IsErrOf, IsTrue, false, is_some, length, slice_get, take};
 ghost use Rattle.std.specs.Option.{option_copied, option_map};
+ghost use Rattle.ax_address.specs.Callsign.{IsCallsign};
 ghost use Rattle.ax_link.specs.State.{count_end};
 ghost use Rattle.link_table.specs.Calls as calls;
 ghost use Rattle.link_table.specs.Standing.{NotNoMemory};
@@ -9,8 +10,11 @@ ghost use Rattle.kiss_framing.specs.Deframing as kiss;
 ghost use Rattle.kiss_framing.specs.Enframing.{framed};
 ghost use Rattle.kiss_framing.specs.Feeding.{IsSmall, handed_out};
 ghost use Rattle.kiss_framing.specs.Stream.{items};
+ghost use Rattle.node_core.specs.Bounds.{IsWithin};
 ghost use Rattle.node_core.specs.Inputs as inputs;
 ghost use Rattle.node_core.specs.Kept.{Takes};
+ghost use Rattle.node_core.specs.Runs.{IsUserAct};
+ghost use Rattle.node_core.specs.UserActs.{act_of};
 ghost use Rattle.node_core.specs.Standing.{Goes, IsDrained, StandsForSome};
 ghost use Rattle.node_core.specs.States as states;
 ghost use Rattle.node_core.specs.States.{NodeState};
@@ -72,6 +76,7 @@ impl Node {
         requires { IsConfig config }
         ensures { IfOk result (λ node. NodeStands node (new_node config)) }
     {
+        is_callsign(&config.call);
         let station = Station::new(alloc, &config)?;
         Ok(Node {
             deframer: Deframer::new(),
@@ -105,6 +110,7 @@ impl Node {
     /// Takes in KISS bytes. Each item that they complete is one input.
     pub fn kiss_bytes(&mut self, bytes: &[u8], now: Moment) -> Result<(), NoMemory>
         ensures goes { OnOk result (NodeGoes (inputs.after_bytes now.0 bytes.now) self.old self.new) }
+        ensures kept { OnOk result (IsWithin self.new) }
         ensures memory { IsErr result ↔ IsTrue self.new.spent }
         ensures spent { IsTrue self.old.spent → self.new ≡ self.old }
     {
@@ -113,6 +119,7 @@ impl Node {
         }
         self.spent = true;
         laws::settles();
+        laws::kept();
         take_bytes(&mut self.deframer, &mut self.station, bytes, moment(now))?;
         self.spent = false;
         Ok(())
@@ -121,6 +128,7 @@ impl Node {
     /// Takes in a frame by its octets, as if it had come as KISS bytes: data on port 0. More than 1,023 octets are no frame.
     pub fn kiss_frame(&mut self, octets: &[u8], now: Moment) -> Result<(), NoMemory>
         ensures goes { OnOk result (NodeGoes (inputs.after_bytes now.0 (framed 0 0 octets.now)) self.old self.new) }
+        ensures kept { OnOk result (IsWithin self.new) }
         ensures memory { IsErr result ↔ IsTrue self.new.spent }
         ensures spent { IsTrue self.old.spent → self.new ≡ self.old }
     {
@@ -129,6 +137,7 @@ impl Node {
         }
         self.spent = true;
         laws::settles();
+        laws::kept();
         take_kiss_frame(&mut self.deframer, &mut self.station, octets, moment(now))?;
         self.spent = false;
         Ok(())
@@ -137,6 +146,7 @@ impl Node {
     /// Time has passed.
     pub fn tick(&mut self, now: Moment) -> Result<(), NoMemory>
         ensures goes { OnOk result (NodeGoes (inputs.after_tick now.0) self.old self.new) }
+        ensures kept { OnOk result (IsWithin self.new) }
         ensures memory { IsErr result ↔ IsTrue self.new.spent }
         ensures spent { IsTrue self.old.spent → self.new ≡ self.old }
     {
@@ -145,6 +155,7 @@ impl Node {
         }
         self.spent = true;
         laws::settles();
+        laws::kept();
         let now = moment(now);
         self.station.tick(now)?;
         self.station.settle(now)?;
@@ -156,6 +167,7 @@ impl Node {
     pub fn act(&mut self, act: &UserAct, now: Moment) -> Result<ActDone, ActRefusal>
         ensures answer { IsAnswer result → (n : NodeState) → NodeStands self.old n → result ≡ inputs.act_answer now.0 (act_of act.now) n }
         ensures goes { IsAnswer result → NodeGoes (inputs.after_act now.0 (act_of act.now)) self.old self.new }
+        ensures kept { IsAnswer result → IsWithin self.new }
         ensures memory { IsErrOf result refusals.NoMemory ↔ IsTrue self.new.spent }
         ensures spent { IsTrue self.old.spent → self.new ≡ self.old }
     {
@@ -164,6 +176,8 @@ impl Node {
         }
         self.spent = true;
         laws::settles();
+        laws::kept();
+        asks_for_call(act);
         let outcome = self.station.act(act, moment(now));
         self.spent = wants_memory(&outcome);
         outcome
@@ -213,6 +227,15 @@ impl Node {
         ensures { (n : NodeState) → NodeStands self.now n → result ≡ facts_at (sets.end_of id n.station.set.set.ends) }
     {
         self.station.set.facts(id)
+    }
+
+    /// Whether memory ran out in an earlier call. Where it didn't, the node keeps no more than its bound.
+    pub fn is_spent(&self) -> bool
+        ensures value { result ≡ self.now.spent }
+        ensures kept { result ≡ false → IsWithin self.now }
+    {
+        laws::kept();
+        self.spent
     }
 
     /// The circuits, and with them the router, its routing table and the links.
@@ -321,6 +344,28 @@ fn read_back(octets: &[u8]) -> KissItem<'_>
         }
     } else {
         KissItem::TooLong
+    }
+}
+
+/// What holds of every call.
+fn is_callsign(call: &Call)
+    ensures { IsCallsign call.now.letters call.now.ssid }
+{
+    let _ = call.ssid();
+}
+
+/// So a circuit is asked for with a call.
+fn asks_for_call(act: &UserAct<'_>)
+    ensures { IsUserAct (act_of act.now) }
+{
+    match act {
+        UserAct::Connect(dest) => is_callsign(dest),
+        UserAct::Round
+        | UserAct::LinkFail(_)
+        | UserAct::Lock { .. }
+        | UserAct::Write { .. }
+        | UserAct::Take { .. }
+        | UserAct::Close { .. } => {}
     }
 }
 

@@ -1,12 +1,13 @@
 use Rattle.std.proofs.Common.{subst, sym}
 use Rattle.node_core.specs.Kept.{NodeStands, kept}
 use Rattle.node_core.specs.States.{State, fetch_frame}
-use Rattle.node_core.proofs.Nodes.{fetched_on, frame_told, sound_fetched}
+use Rattle.node_core.specs.Bridged.{Fetches_frame}
+use Rattle.node_core.proofs.Nodes.{fetched_on, frame_told, frame_waits, led, sound_fetched}
 use Rattle.node_core.proofs.node.Node.next_frame.Goals as goal
 
 pub invariant_of-self : goal.invariant_of-self
 invariant_of-self c unspent =
-    sound_fetched (λ (n : State). fetch_frame n) frame_told (kept c.self.inside.deframer c.self.inside.station c.self.inside.spent) c.next_frame.new.self
+    sound_fetched (λ (n : State). fetch_frame n) frame_told frame_waits (led Fetches_frame tt) (kept c.self.inside.deframer c.self.inside.station c.self.inside.spent) c.next_frame.new.self
     c.next_frame.ensures.goes c.next_frame.ensures.drained (c.self.invariant unspent)
 
 pub returns-clause-goes : goal.returns-clause-goes

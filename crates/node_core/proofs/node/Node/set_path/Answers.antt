@@ -8,7 +8,8 @@ use Rattle.link_table.specs.declared.path_refusal.PathRefusal.{PathRefusal}
 use Rattle.link_table.specs.declared.path_refusal.PathRefusal.TheVariants as paths
 use Rattle.node_core.specs.Kept.{IsSound, kept}
 use Rattle.node_core.proofs.Holding.{with_carrier}
-use Rattle.node_core.proofs.Nodes.{not_no_memory, sound_path}
+use Rattle.node_core.specs.Bridged.{Paths}
+use Rattle.node_core.proofs.Nodes.{led, not_no_memory, sound_path}
 use Rattle.node_core.proofs.node.Node.set_path.Goals as goal
 
 abbrev is_no_memory : Result (Unit {0}) PathRefusal → Bool
@@ -23,4 +24,4 @@ invariant_of-self c unspent =
     let s = with_carrier c.self.inside.station c.router_mut.result.now c.set_path-outcome.new.self in
     subst (λ (b : Bool). IsSound (kept c.self.inside.deframer s b)) (c.if-self.false ∙ sym unspent)
     (sound_path r (with_path c.args.peer.now c.args.path.now) k c.router_mut.result.now c.carrier_mut.result.now c.set_path-outcome.new.self
-    c.router_mut.ensures.value c.carrier_mut.ensures.value some e.goes e.err (c.self.invariant c.if-self.false))
+    c.router_mut.ensures.value c.carrier_mut.ensures.value some e.goes e.err (λ t. refl) (led (Paths c.args.peer.now c.args.path.now) tt) (c.self.invariant c.if-self.false))
