@@ -5,31 +5,29 @@ use Rattle.std.specs.Option.{option_map}
 use Rattle.std.proofs.lemmas.List.{drop_all, length-map, length-take-le, map-append, take-append-drop, take_more}
 use Rattle.std.proofs.lemmas.Option.{slice_get-map}
 use Rattle.circuit_set.specs.Books as books
-use Rattle.circuit_verdict.specs.Causes.{AreInTime, cause_after}
+use Rattle.circuit_verdict.specs.Causes.{cause_after}
+use Rattle.circuit_verdict.specs.Verdicts.{AreInTime}
 use Rattle.circuit_verdict.specs.Events as told
 use Rattle.circuit_verdict.specs.Events.{events_of}
 use Rattle.circuit_verdict.specs.declared.cause.Cause.{Cause}
 use Rattle.circuit_verdict.specs.declared.event.Event.{Event as Coming}
 use Rattle.circuit_verdict.specs.declared.event.Numbered.{Numbered}
 use Rattle.circuit_verdict.specs.declared.verdict.Allowance.{Allowance}
-use Rattle.circuit_verdict.specs.declared.verdict.Late.{Late}
 use Rattle.circuit_verdict.specs.declared.verdict.Verdict.{Verdict}
 use Rattle.circuit_verdict.specs.Standing.{StandsFor, allowance_in}
 use Rattle.network_file.specs.declared.plan.declarations.Declaration.{Declaration}
-use Rattle.network_file.specs.Plan.{Plan}
 use Rattle.net_replay.specs.declared.events.NumberedEvent.{NumberedEvent}
 use Rattle.net_replay.specs.Causes.{ComesLateBy, HasTaken, Judges, number_in, telling, tells, what_was_told}
-use Rattle.net_replay.specs.Circuits.{CircuitEvent, IsVerdictOn, allowance_of, event_at, events_at, judged}
+use Rattle.net_replay.specs.Circuits.{CircuitEvent, event_at, events_at, judged}
 use Rattle.net_replay.specs.Events as events
 use Rattle.net_replay.specs.Events.{event_of, numbered_of}
 use Rattle.net_replay.specs.Judging.{told_here}
 use Rattle.net_replay.specs.Reporting.{AreDeclared}
 use Rattle.net_replay.specs.Starting.{Placed}
-use Rattle.net_replay.specs.World.{World}
 
 -- ---- what a verdict has taken in
 
-told_are : (ns : List Numbered) → events_of ns ≡ what_was_told (map judged ns)
+pub told_are : (ns : List Numbered) → events_of ns ≡ what_was_told (map judged ns)
 told_are [] = refl
 told_are (n ∷ ns) = ap (λ (es : List books.Event). told.event_of n.event ∷ es) (told_are ns)
 
@@ -61,13 +59,21 @@ taken_more old new n goes same timely a before h =
 -- one that comes too late
 pub found_late : (old new : Verdict) (n : Numbered) (cause : Cause)
     → ((ns : List Numbered) → StandsFor old ns → AreInTime (allowance_in old) (events_of ns) → Some cause ≡ cause_after (allowance_in old) (events_of ns) (told.event_of n.event))
+    → ((ns : List Numbered) → StandsFor old ns → AreInTime (allowance_in old) (events_of ns)
+    → AreInTime (allowance_in old) (events_of ns ++ told.event_of n.event ∷ []) → ⊥)
     → Judges old new (judged n ∷ []) (Some cause)
-found_late old new n cause exact a before h =
+found_late old new n cause exact late a before h =
     let own : AreInTime (allowance_in old) (events_of h.events) = subst (λ b. AreInTime b (events_of h.events)) (sym h.allows) h.in_time in
     let here : cause_after (allowance_in old) (events_of h.events) (told.event_of n.event) ≡ Some cause = sym (exact h.events h.stands own) in
     let by : cause_after a (events_of h.events) (told.event_of n.event) ≡ Some cause =
     subst (λ b. cause_after b (events_of h.events) (told.event_of n.event) ≡ Some cause) h.allows here in
-    (judged n, refl, subst (λ es. cause_after a es (told.event_of n.event) ≡ Some cause) (seen_so a old before h) by)
+    let with_it : AreInTime a (events_of h.events ++ told.event_of n.event ∷ []) → ⊥ =
+    λ t. late h.events h.stands own (subst (λ b. AreInTime b (events_of h.events ++ told.event_of n.event ∷ [])) (sym h.allows) t) in (
+      judged n,
+      refl,
+      subst (λ es. cause_after a es (told.event_of n.event) ≡ Some cause) (seen_so a old before h) by,
+      subst (λ (es : List books.Event). AreInTime a (es ++ told.event_of n.event ∷ []) → ⊥) (seen_so a old before h) with_it,
+    )
 
 -- nothing was told
 pub taken_none : (v : Verdict) → Judges v v [] None
@@ -119,6 +125,7 @@ comes_late es i x nodes a old new cause h is j taken =
       number_is = omega (arith, count, same);
       told_is = late.1;
       in_time = subst (AreInTime a) (seen_so a old (events_at nodes (map numbered_of (take i es))) taken) taken.in_time;
+      late = late.3;
       found = late.2;
     }
 
@@ -127,13 +134,6 @@ pub all_in_time : (es : List NumberedEvent) (i : ℕ) (nodes : List Placed) (a :
 all_in_time es i nodes a v h taken =
     subst (λ (ys : List NumberedEvent). AreInTime a (what_was_told (events_at nodes (map numbered_of ys)))) (take_all i es h)
     (subst (AreInTime a) (seen_so a v (events_at nodes (map numbered_of (take i es))) taken) taken.in_time)
-
--- what the verdict is of isn't all in time
-pub not_in_time : (plan : Plan) (w : World) (late : Late) → IsVerdictOn plan w (Some late) → AreInTime (allowance_of plan) (what_was_told (events_at w.nodes w.told)) → ⊥
-not_in_time plan w late v t =
-    let own : AreInTime (allowance_of plan) (events_of v.events) = subst (AreInTime (allowance_of plan)) (sym (told_are v.events ∙ ap what_was_told v.are)) t in
-    let none = v.verdict.none.1 own in
-    absurd (cc none)
 
 -- ---- events by their numbers
 

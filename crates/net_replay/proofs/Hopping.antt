@@ -33,6 +33,13 @@ pub or_cases : (a b : Bool) → (a || b) ≡ true → (a ≡ true) ⊎ (b ≡ tr
 or_cases true b e = inl refl
 or_cases false b e = inr e
 
+pub all_parts : (a b c d : Bool) → (a && b && c && d) ≡ true → (a ≡ true) × (b ≡ true) × (c ≡ true) × (d ≡ true)
+all_parts true true true true e = (refl, refl, refl, refl)
+all_parts false b c d e = absurd (cc e)
+all_parts true false c d e = absurd (cc e)
+all_parts true true false d e = absurd (cc e)
+all_parts true true true false e = absurd (cc e)
+
 pub same_list : (xs ys : List ℕ) → pointwise nat_eq xs ys ≡ true → xs ≡ ys
 same_list [] [] e = refl
 same_list [] (y ∷ ys) e = absurd (cc e)
@@ -154,13 +161,6 @@ module _ (plan : Plan) (size : ℕ) where
   came_alike : (air : List Aired) (origin : Callsign) (sent : List ℕ) (hops : ℕ) (to : Callsign) (d : List ℕ) → CameBy plan size air origin sent hops to d → ttl_of d ≡ ttl_of sent → Puts plan size air origin to d
   came_alike air origin sent zero to d c e = c.1
   came_alike air origin sent (suc hops) to d c e = let left = came_ttl air origin sent (suc hops) to d c in absurd (omega (arith, left, e))
-
-  all_parts : (a b c d : Bool) → (a && b && c && d) ≡ true → (a ≡ true) × (b ≡ true) × (c ≡ true) × (d ≡ true)
-  all_parts true true true true e = (refl, refl, refl, refl)
-  all_parts false b c d e = absurd (cc e)
-  all_parts true false c d e = absurd (cc e)
-  all_parts true true false d e = absurd (cc e)
-  all_parts true true true false e = absurd (cc e)
 
   copy_then : (e d s : List ℕ) → is_copy e d ≡ true → is_copy d s ≡ true → is_copy e s ≡ true
   copy_then e d s p q =

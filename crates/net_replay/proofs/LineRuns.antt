@@ -1,9 +1,10 @@
 -- Each line goes on with the run of its network's circuits.
-use Rattle.std.proofs.Common.{◌≡◌, ◌∙◌, ◌+◌, ◌<◌, ℕ, zero, suc, refl, sym, ap, subst, arith, List, [], ◌∷◌, ◌++◌, map, filter, Bool, true, false, cond}
+use Rattle.std.proofs.Common.{◌≡◌, ◌∙◌, ◌+◌, ◌<◌, ◌≤◌, ℕ, zero, suc, refl, sym, ap, subst, arith, List, [], ◌∷◌, ◌++◌, map, filter, Bool, true, false, cond}
 use Rattle.std.specs.Prelude.{◌==◌, ◌||◌, not, slice_get, Some}
 use Rattle.std.specs.List.{AllByRecursion, position_or_len}
 use Rattle.circuit_set.specs.Pairs.{IsPair}
 use Rattle.circuit_set.specs.Runs.{Step, begins}
+use Rattle.circuit_set.specs.Sets.{Holder, SetState, end_of}
 use Rattle.network_file.specs.declared.network.NumberedInstruction.{NumberedInstruction}
 use Rattle.network_file.specs.declared.plan.declarations.Declaration.{Declaration}
 use Rattle.network_file.specs.declared.plan.instructions.Instruction.{Instruction}
@@ -16,6 +17,7 @@ use Rattle.node_core.specs.UserActs as acts
 use Rattle.node_core.specs.Runs.{ActsRun, BytesRun, InputsAreSteps, IsUserAct, TicksRun}
 use Rattle.net_replay.specs.CircuitRuns.{IsInstruction, IsRunOf, IsSound, RunsThrough, first_sets, set_of}
 use Rattle.net_replay.specs.Circuits.{CircuitEvent}
+use Rattle.net_replay.specs.Events.{NumberedEvent}
 use Rattle.net_replay.specs.Lines.{do_line, do_lines, world}
 use Rattle.net_replay.specs.Starting.{Placed, by_number, has_number, new_nodes, new_placed}
 use Rattle.net_replay.specs.World as worlds
@@ -25,6 +27,7 @@ use Rattle.ax_address.specs.Callsign.{Callsign}
 use Rattle.net_replay.proofs.LineWalks.{IsPlain, LineIs, Moves, lines_lead}
 use Rattle.net_replay.proofs.Moving.{new_tracks, set_is}
 use Rattle.net_replay.proofs.MovesRun.{Leads, put_leads, reach_leads, restart_leads, still, tell_leads, then}
+use Rattle.net_replay.proofs.Remembering.{end_above, end_id, end_lift}
 
 -- ---- no two nodes have one number
 
@@ -118,6 +121,13 @@ placed_names plan (d ∷ ds) = ap (λ xs. d ∷ xs) (placed_names plan ds)
 pub nodes_apart : (plan : Plan) → AreDifferent plan.declared → AreApart (names (new_nodes plan))
 nodes_apart plan a =
     subst AreApart (sym (placed_names plan (by_number plan.declared 1 16))) (different_apart (by_number plan.declared 1 16) (by_number_different plan.declared 16 1 a))
+
+-- no end that a restart took away has the number of one that the node knows of
+held_in : (plan : Plan) (told : List NumberedEvent) (s : SetState) (p : Placed) → Tracks plan told s p → (id : ℕ) (h : Holder) → end_of id (set_of p).ends ≡ Some h → end_of id s.ends ≡ Some h
+held_in plan told s p t id h e =
+    let is : h.id ≡ id = end_id id (set_of p).ends h e in
+    let above : t.base ≤ h.id = end_above id t.base t.base (set_of p).number (set_of p).ends h (omega arith) t.rises e in
+    ap (λ (x : SetState). end_of id x.ends) t.is ∙ (end_lift t.base id t.past (set_of p).ends t.lost.below (omega (arith, is, above)) ∙ e)
 
 module _ (plan : Plan) (apart : AreApart (names (new_nodes plan))) (are_steps : InputsAreSteps) (bytes : BytesRun) (ticks : TicksRun) (acts_run : ActsRun) where
   abbrev Lead : World → World → Type 0
@@ -216,7 +226,7 @@ module _ (plan : Plan) (apart : AreApart (names (new_nodes plan))) (are_steps : 
   is_run steps w c = record {
     are = c.are;
     nodes = λ at p e. (let t : TracksAt plan w.told (sets_run (first_sets plan) steps) at p = c.tracks at p e in
-        (t.set, ap (λ ss. slice_get ss at) (net_sets steps (begins (first_sets plan))) ∙ t.here, record { past = t.tracks.past; gone = t.tracks.lost.gone; is = t.tracks.is }));
+        (t.set, ap (λ ss. slice_get ss at) (net_sets steps (begins (first_sets plan))) ∙ t.here, record { past = t.tracks.past; gone = t.tracks.lost.gone; is = t.tracks.is; held = held_in plan w.told t.set p t.tracks }));
     told = ap (map (λ (e : CircuitEvent). e.event)) (events_named w.nodes w.told ∙ ap (λ ds. events_by ds w.told) c.names_are) ∙ c.events_are;
   }
 

@@ -1,6 +1,6 @@
 -- Lists of which something holds of all.
-use Rattle.std.proofs.Common.{◌≡◌, ℕ, zero, suc, refl, ap, subst, List, [], ◌∷◌, ◌++◌, filter, Bool, true, false, cond}
-use Rattle.std.specs.Prelude.{◌≢◌, slice_get, slice_set, Some}
+use Rattle.std.proofs.Common.{◌≡◌, ◌<◌, ℕ, zero, suc, refl, ap, subst, arith, List, [], ◌∷◌, ◌++◌, length, filter, Bool, true, false, cond}
+use Rattle.std.specs.Prelude.{◌≢◌, slice_get, slice_index_or, slice_set, Contains, Some}
 use Rattle.std.specs.List.{AllByRecursion}
 use Rattle.net_replay.specs.declared.air.Aired.{Aired}
 use Rattle.net_replay.specs.Air.{settled_at}
@@ -14,6 +14,10 @@ pub both : {A : Type 0} (P : A → Type 0) (xs ys : List A) → AllByRecursion P
 both P [] ys a b = b
 both P (x ∷ xs) ys a b = (a.0, both P xs ys a.1 b)
 
+pub front : {A : Type 0} (P : A → Type 0) (xs ys : List A) → AllByRecursion P (xs ++ ys) → AllByRecursion P xs
+front P [] ys a = tt
+front P (x ∷ xs) ys a = (a.0, front P xs ys a.1)
+
 pub every : {A : Type 0} (P Q : A → Type 0) → ((x : A) → P x → Q x) → (xs : List A) → AllByRecursion P xs → AllByRecursion Q xs
 every P Q f [] a = tt
 every P Q f (x ∷ xs) a = (f x a.0, every P Q f xs a.1)
@@ -22,6 +26,14 @@ pub one_of : {A : Type 0} (P : A → Type 0) (xs : List A) (at : ℕ) (x : A) �
 one_of P [] at x a e = absurd (cc e)
 one_of P (y ∷ xs) zero x a e = let same : y ≡ x = cc e in subst P same a.0
 one_of P (y ∷ xs) (suc at) x a e = one_of P xs at x a.1 e
+
+pub one_in : {A : Type 0} (P : A → Type 0) (xs : List A) (x : A) → AllByRecursion P xs → Contains xs x → P x
+one_in P [] x a c = let low = c.1 in absurd (omega (arith, low))
+one_in {A} P (y ∷ xs) x a c = by c.0 c.1 c.2 (one_in P xs x a.1)
+  where
+    by : (k : ℕ) → k < length (y ∷ xs) → slice_index_or (y ∷ xs) k x ≡ x → (Contains xs x → P x) → P x
+    by zero low is rest = subst P is a.0
+    by (suc k) low is rest = rest (k, omega (arith, low), is)
 
 pub kept_by : {A : Type 0} (P : A → Type 0) (test : A → Bool) (xs : List A) → AllByRecursion P xs → AllByRecursion P (filter test xs)
 kept_by P test [] a = tt

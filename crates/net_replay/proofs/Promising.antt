@@ -1,23 +1,28 @@
 -- A network of which no datagram and no pair comes back too late is safe at each line.
 use Rattle.std.proofs.Common.{◌≡◌, ◌∙◌, ◌≤◌, ℕ, refl, sym, ap, subst, arith, List, [], ◌∷◌, ◌++◌, append_assoc, map, Bool, true, false, cond}
-use Rattle.std.specs.Prelude.{◌&&◌, ◌||◌, ◌==◌, nat_le, find, unwrap_or, Some}
+use Rattle.std.specs.Prelude.{◌&&◌, ◌||◌, ◌==◌, nat_le, find, unwrap_or, None, Ok, Some}
 use Rattle.std.specs.Option.{option_map}
 use Rattle.std.specs.List.{AllByRecursion}
-use Rattle.circuit_set.specs.Books.{Fresh, Timely, empty}
-use Rattle.circuit_set.specs.Runs.{AreNarrow, AreStarts, AreSteps, CircuitsSafe, NarrowIsTimely, Step, allowed, events_of}
+use Rattle.circuit_set.specs.Books.{Fresh, empty}
+use Rattle.circuit_set.specs.ByBook.{FreshByBook, TimelyBy128, TimelyByBook}
+use Rattle.circuit_set.specs.TooLate.{AllowsByWindow, IsFresh, IsTimely}
+use Rattle.circuit_set.specs.Runs.{AreNarrow, AreStarts, AreSteps, CircuitsSafe, NarrowIsTimely, Step, events_of}
 use Rattle.circuit_verdict.specs.declared.event.Numbered.{Numbered}
 use Rattle.circuit_verdict.specs.Events as verdicts
 use Rattle.circuit_verdict.specs.declared.verdict.Allowance.TheVariants as verdicts_at
 use Rattle.circuit_verdict.specs.Verdicts as verdicts_on
+use Rattle.network_file.specs.declared.network.NumberedInstruction.{NumberedInstruction}
 use Rattle.network_file.specs.declared.plan.declarations.Declaration.{Declaration}
 use Rattle.network_file.specs.declared.plan.keys.Key.{Key}
 use Rattle.network_file.specs.declared.plan.keys.Key.TheVariants.{Window}
 use Rattle.network_file.specs.Keys.{Assignment, takes}
 use Rattle.network_file.specs.Laws.{SettingsFit}
+use Rattle.network_file.specs.Networks.{network_of}
 use Rattle.network_file.specs.Plan.{Plan, version_of}
 use Rattle.network_file.specs.Settings.{is_of, same_key, value_of}
-use Rattle.net_replay.specs.CircuitRuns.{IsSound, NetworksAreSound, RunsThrough, WorldsAreRuns, first_sets, set_of}
-use Rattle.net_replay.specs.Circuits.{CircuitEvent, allowance_of, judged}
+use Rattle.net_replay.specs.CircuitRuns.{NetworksAreSound, RunsThrough, WorldsAreRuns, first_sets, set_of}
+use Rattle.net_replay.specs.Circuits.{CircuitEvent, IsVerdictOn, allowance_of, judged}
+use Rattle.net_replay.specs.Lines.{world}
 use Rattle.net_replay.specs.Promises.{InTimeIsSafe}
 use Rattle.net_replay.specs.Starting.{by_number, new_placed}
 use Rattle.net_replay.proofs.Moving.{set_is}
@@ -55,31 +60,49 @@ told_are [] = refl
 told_are (n ∷ ns) = ap (λ es. verdicts.event_of n.event ∷ es) (told_are ns)
 
 -- by the allowance of the file's version
-timely_case : (plan : Plan) (b : Bool) → nat_le 3 (version_of plan) ≡ b → (narrow : NarrowIsTimely) → AreStarts (first_sets plan) → (nat_le 3 (version_of plan) ≡ false → AreNarrow (first_sets plan))
-    → (steps : List Step) → AreSteps steps
-    → Timely (verdicts_on.allowance_of (allowance_of plan)) empty (events_of (first_sets plan) steps) → Timely allowed empty (events_of (first_sets plan) steps)
-timely_case plan true v narrow starts low steps are t =
-    subst (λ b. Timely (verdicts_on.allowance_of (cond b verdicts_at.OfWindow verdicts_at.Fixed)) empty (events_of (first_sets plan) steps)) v t
-timely_case plan false v narrow starts low steps are t =
-    narrow (first_sets plan) starts (low v) steps are (subst (λ b. Timely (verdicts_on.allowance_of (cond b verdicts_at.OfWindow verdicts_at.Fixed)) empty (events_of (first_sets plan) steps)) v t)
+timely_case : (plan : Plan) (b : Bool) → nat_le 3 (version_of plan) ≡ b → FreshByBook → TimelyByBook → TimelyBy128 → (narrow : NarrowIsTimely) → AreStarts (first_sets plan) → (nat_le 3 (version_of plan) ≡ false → AreNarrow (first_sets plan))
+    → (steps : List Step) → AreSteps steps → IsFresh (events_of (first_sets plan) steps)
+    → IsTimely (verdicts_on.allows_of (allowance_of plan)) (events_of (first_sets plan) steps) → IsTimely AllowsByWindow (events_of (first_sets plan) steps)
+timely_case plan true v pairs by_window by_128 narrow starts low steps are fresh t =
+    subst (λ b. IsTimely (verdicts_on.allows_of (cond b verdicts_at.OfWindow verdicts_at.Fixed)) (events_of (first_sets plan) steps)) v t
+timely_case plan false v pairs by_window by_128 narrow starts low steps are fresh t =
+    let told = events_of (first_sets plan) steps in
+    let noted : Fresh empty told = (pairs told).1 fresh in
+    (by_window told noted).0
+    (narrow (first_sets plan) starts (low v) steps are
+    ((by_128 told noted).1 (subst (λ b. IsTimely (verdicts_on.allows_of (cond b verdicts_at.OfWindow verdicts_at.Fixed)) told) v t)))
 
-pub in_time_is_safe : NetworksAreSound → WorldsAreRuns → CircuitsSafe → NarrowIsTimely → SettingsFit → InTimeIsSafe
-in_time_is_safe sounds runs safe narrow fit bytes plan e v done later is =
-    let sound : IsSound plan = sounds bytes plan e in
+-- each line comes to a run of the nodes' circuits, which goes on to the last line, and is in time
+pub record InTime (plan : Plan) (done later : List NumberedInstruction) : Type 0 where
+  pub runs : RunsThrough plan done later
+  pub timely : IsTimely AllowsByWindow (events_of (first_sets plan) (runs.steps ++ runs.then))
+  pub fresh : IsFresh (events_of (first_sets plan) (runs.steps ++ runs.then))
+
+pub in_time : FreshByBook → TimelyByBook → TimelyBy128 → NetworksAreSound → WorldsAreRuns → NarrowIsTimely → SettingsFit → (bytes : List ℕ) (plan : Plan) → network_of bytes ≡ Ok plan → IsVerdictOn plan (world plan) None
+    → (done later : List NumberedInstruction) → plan.instructions ≡ done ++ later → InTime plan done later
+in_time pairs by_window by_128 sounds runs narrow fit bytes plan e v done later is =
     let r : RunsThrough plan done later = runs bytes plan e done later is in
     let all : List Step = r.steps ++ r.then in
     let told : verdicts.events_of v.events ≡ events_of (first_sets plan) all =
     sym (told_are v.events) ∙ (ap (map (λ (x : CircuitEvent). x.event)) v.are ∙ r.all.told) in
     let ok = v.verdict.none.0 refl in
-    let timely : Timely allowed empty (events_of (first_sets plan) all) =
-    timely_case plan (nat_le 3 (version_of plan)) refl narrow sound.starts
-    (λ low. are_narrow plan (by_number plan.declared 1 16) (λ node. narrow_in (version_of plan) node plan.settings (fit bytes plan e) low))
-    all r.all.are (subst (Timely (verdicts_on.allowance_of (allowance_of plan)) empty) told ok.0) in
-    let fresh : Fresh empty (events_of (first_sets plan) all) = subst (Fresh empty) told ok.1 in
+    let fresh : IsFresh (events_of (first_sets plan) all) = subst IsFresh told ok.1 in
+    record {
+      runs = r;
+      timely = timely_case plan (nat_le 3 (version_of plan)) refl pairs by_window by_128 narrow (sounds bytes plan e).starts
+          (λ low. are_narrow plan (by_number plan.declared 1 16) (λ node. narrow_in (version_of plan) node plan.settings (fit bytes plan e) low))
+          all r.all.are fresh (subst (IsTimely (verdicts_on.allows_of (allowance_of plan))) told ok.0);
+      fresh = fresh;
+    }
+
+pub in_time_is_safe : FreshByBook → TimelyByBook → TimelyBy128 → NetworksAreSound → WorldsAreRuns → CircuitsSafe → NarrowIsTimely → SettingsFit → InTimeIsSafe
+in_time_is_safe pairs by_window by_128 sounds runs safe narrow fit bytes plan e v done later is =
+    let t : InTime plan done later = in_time pairs by_window by_128 sounds runs narrow fit bytes plan e v done later is in
+    let r : RunsThrough plan done later = t.runs in
     record {
       steps = r.steps;
       run = r.is;
-      safe = λ before after s. (let whole : all ≡ before ++ (after ++ r.then) = ap (λ xs. xs ++ r.then) s ∙ append_assoc before after r.then in
-          safe (first_sets plan) sound.starts before (after ++ r.then) (subst AreSteps whole r.all.are)
-          (subst (λ xs. Timely allowed empty (events_of (first_sets plan) xs)) whole timely) (subst (λ xs. Fresh empty (events_of (first_sets plan) xs)) whole fresh));
+      safe = λ before after s. (let whole : r.steps ++ r.then ≡ before ++ (after ++ r.then) = ap (λ xs. xs ++ r.then) s ∙ append_assoc before after r.then in
+          safe (first_sets plan) (sounds bytes plan e).starts before (after ++ r.then) (subst AreSteps whole r.all.are)
+          (subst (λ xs. IsTimely AllowsByWindow (events_of (first_sets plan) xs)) whole t.timely) (subst (λ xs. IsFresh (events_of (first_sets plan) xs)) whole t.fresh));
     }

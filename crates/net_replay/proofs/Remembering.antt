@@ -61,7 +61,7 @@ open_lift test (h ∷ past) es all =
 differ : (a b base : ℕ) → a < base → base ≤ b → nat_eq a b ≡ false
 differ a b base h k = grind (arith, h, k)
 
-end_lift : (base id : ℕ) (past es : List Holder) → AllByRecursion (λ (h : Holder). h.id < base) past → base ≤ id → end_of id (past ++ es) ≡ end_of id es
+pub end_lift : (base id : ℕ) (past es : List Holder) → AllByRecursion (λ (h : Holder). h.id < base) past → base ≤ id → end_of id (past ++ es) ≡ end_of id es
 end_lift base id [] es all k = refl
 end_lift base id (h ∷ past) es all k = ap (λ b. cond b (Some h) (end_of id (past ++ es))) (differ h.id id base all.0 k) ∙ end_lift base id past es all.1 k
 
@@ -144,7 +144,7 @@ open_above test base lo hi (x ∷ es) h k r e =
     let up : lo ≤ x.id = r.0 in
     open_case base (is_open x && test x) x (first_open test es) h (omega (arith, k, up)) (open_above test base (suc x.id) hi es h (omega (arith, k, up)) r.1) e
 
-end_above : (id base lo hi : ℕ) (es : List Holder) (h : Holder) → base ≤ lo → Rising lo es hi → end_of id es ≡ Some h → base ≤ h.id
+pub end_above : (id base lo hi : ℕ) (es : List Holder) (h : Holder) → base ≤ lo → Rising lo es hi → end_of id es ≡ Some h → base ≤ h.id
 end_above id base lo hi [] h k r e = absurd (cc e)
 end_above id base lo hi (x ∷ es) h k r e =
     let up : lo ≤ x.id = r.0 in

@@ -1,6 +1,6 @@
 -- Each datagram that reaches its node was sent before.
-use Rattle.std.proofs.Common.{◌≡◌, ◌∙◌, ◌<◌, ℕ, zero, suc, refl, sym, ap, subst, arith, List, [], ◌∷◌, ◌++◌, length, filter, map, inl, inr}
-use Rattle.std.specs.Prelude.{◌==◌, ◌⊎◌, slice_get, slice_index_or, Contains, Option, Some, None}
+use Rattle.std.proofs.Common.{◌≡◌, ◌∙◌, ℕ, zero, suc, refl, sym, ap, subst, List, [], ◌∷◌, ◌++◌, filter, map, inl, inr}
+use Rattle.std.specs.Prelude.{◌==◌, ◌⊎◌, slice_get, Contains, Option, Some, None}
 use Rattle.std.specs.List.{AllByRecursion}
 use Rattle.ax_address.specs.Callsign.{Callsign, IsCallsign}
 use Rattle.ax_address.specs.NetCalls.{SpelledNetCallIsRead, WrittenNetCallSpellsIt}
@@ -11,6 +11,7 @@ use Rattle.circuit_set.specs.Pairs.{IsPair}
 use Rattle.circuit_set.specs.Runs as net
 use Rattle.circuit_set.specs.Runs.{AreStarts, Step, events_of}
 use Rattle.circuit_set.specs.Heedings.{SetsHeedPartners}
+use Rattle.circuit_set.specs.Refusals.{RefusalsAreUnheeded, SetsRefuseUnder0, StartsAreNumbered}
 use Rattle.circuit_set.specs.Sendings.{IsFrom, SendsFrom, SetsSendTheirOwn}
 use Rattle.circuit_set.specs.Sets as sets
 use Rattle.circuit_set.specs.Sets.{SetState, Told}
@@ -43,6 +44,7 @@ use Rattle.net_replay.proofs.Moving.{set_is}
 use Rattle.net_replay.proofs.Origins.{origin_is, told_by_calls}
 use Rattle.net_replay.proofs.Comings.{StepsCame, came_at}
 use Rattle.net_replay.proofs.Heeding.{contains_map, heeded_came}
+use Rattle.net_replay.proofs.ByEnds.{RefusesAt0, events_refuse, sent_by_end}
 use Rattle.net_replay.proofs.Hopping.{Known, came_copy, came_ttl}
 
 -- ---- what is sent is from its node
@@ -74,16 +76,6 @@ events_from law ss (st ∷ sts) =
     let then_sets = net.sets_at ss st.node (slice_get ss st.node) st.act in
     lists.both FromNode (net.told_at ss st.node (slice_get ss st.node) st.act) (events_of then_sets sts) (step_from law ss st.node (slice_get ss st.node) st.act) (events_from law then_sets sts)
 
--- ---- a datagram that was sent has its node's call
-
-from_at : (es : List books.Event) (e : books.Event) → AllByRecursion FromNode es → AllByRecursion (λ (x : books.Event). IsCall x.own) es → Contains es e → FromNode e × IsCall e.own
-from_at [] e a b c = (let low = c.1 in absurd (omega (arith, low)))
-from_at (x ∷ es) e a b c = by c.0 c.1 c.2 (from_at es e a.1 b.1)
-  where
-    by : (k : ℕ) → k < length (x ∷ es) → slice_index_or (x ∷ es) k e ≡ e → (Contains es e → FromNode e × IsCall e.own) → FromNode e × IsCall e.own
-    by zero low is rest = (subst FromNode is a.0, subst (λ (y : books.Event). IsCall y.own) is b.0)
-    by (suc k) low is rest = rest (k, omega (arith, low), is)
-
 -- ---- the nodes of the network
 
 numbered_all : (P : Declaration → Type 0) (n : ℕ) (ds : List Declaration) → AllByRecursion P ds → AllByRecursion P (filter (has_number n) ds)
@@ -94,7 +86,7 @@ unfolding by_number
 by_number_all P ds zero n a = tt
 by_number_all P ds (suc count) n a = lists.both P (filter (has_number n) ds) (by_number ds (suc n) count) (numbered_all P n ds a) (by_number_all P ds count (suc n) a)
 
-own_calls : (plan : Plan) (ds : List Declaration) → AreStarts (map set_of (map (new_placed plan) ds)) → AllByRecursion (λ (d : Declaration). IsCall d.call) ds
+pub own_calls : (plan : Plan) (ds : List Declaration) → AreStarts (map set_of (map (new_placed plan) ds)) → AllByRecursion (λ (d : Declaration). IsCall d.call) ds
 own_calls plan [] s = tt
 own_calls plan (d ∷ ds) s = (subst (λ (x : SetState). IsCallsign x.own.letters x.own.ssid) (set_is plan d (record { index = 1; ident = 1 }) 1) s.0.own, own_calls plan ds s.1)
 
@@ -103,7 +95,7 @@ width_is size k (inl e) f = rw (f, e) refl
 width_is size k (inr e) f = rw (f, e) refl
 
 module _ (sounds : NetworksAreSound) (are_steps : InputsAreSteps) (bytes : BytesRun) (ticks : TicksRun) (acts_run : ActsRun) (declared : DeclaredOnce) (calls_are : CallsAreCalls)
-    (parts : FendParts) (read_back : FramesReadBack) (too_long : LongFramesAreTooLong) (bytes_carry : BytesCarry) (ticks_carry : TicksCarry) (acts_carry : ActsCarry) (further : CarriedFurther) (sendings : SetsSendTheirOwn) (heedings : SetsHeedPartners) (written : WrittenNetCallSpellsIt) (read : SpelledNetCallIsRead) where
+    (parts : FendParts) (read_back : FramesReadBack) (too_long : LongFramesAreTooLong) (bytes_carry : BytesCarry) (ticks_carry : TicksCarry) (acts_carry : ActsCarry) (further : CarriedFurther) (sendings : SetsSendTheirOwn) (heedings : SetsHeedPartners) (numbered : StartsAreNumbered) (refuse : SetsRefuseUnder0) (unheeded : RefusalsAreUnheeded) (written : WrittenNetCallSpellsIt) (read : SpelledNetCallIsRead) where
   abbrev IsNode : ℕ → Plan → Declaration → Type 0
   IsNode size plan d = IsCall d.call × (width (value_of plan.settings d.node Modulo == 128) ≡ size)
 
@@ -163,17 +155,13 @@ module _ (sounds : NetworksAreSound) (are_steps : InputsAreSteps) (bytes : Bytes
     start_flies : Under [] (start plan)
     start_flies = record { contains = runs.start_contains plan apart are_steps bytes ticks acts_run; came = tt; nodes = start_node; air = tt; known = λ to d e. absurd (cc e) }
 
-    front_all : (P : books.Event → Type 0) (xs ys : List books.Event) → AllByRecursion P (xs ++ ys) → AllByRecursion P xs
-    front_all P [] ys a = tt
-    front_all P (x ∷ xs) ys a = (a.0, front_all P xs ys a.1)
-
     -- what was told of circuits by some of the steps was told by calls
     front_calls : (before after steps : List Step) → steps ≡ before ++ after → (told : List NumberedEvent)
         → map (λ (x : CircuitEvent). x.event) (events_by (names (new_nodes plan)) told) ≡ events_of (first_sets plan) steps → AllByRecursion (λ (x : books.Event). IsCall x.own) (events_of (first_sets plan) before)
     front_calls before after steps e told are =
         let named : AllByRecursion (λ (d : Declaration). IsCall d.call) (names (new_nodes plan)) =
         subst (AllByRecursion (λ (d : Declaration). IsCall d.call)) (sym (runs.placed_names plan (by_number plan.declared 1 16))) (own_calls plan (by_number plan.declared 1 16) sound.starts) in
-        front_all (λ (x : books.Event). IsCall x.own) (events_of (first_sets plan) before) (events_of (sets_run (first_sets plan) before) after)
+        lists.front (λ (x : books.Event). IsCall x.own) (events_of (first_sets plan) before) (events_of (sets_run (first_sets plan) before) after)
         (told_by_calls (names (new_nodes plan)) told _ named (are ∙ (ap (events_of (first_sets plan)) e ∙ events_append before after (first_sets plan))))
 
     through : (done later : List NumberedInstruction) → plan.instructions ≡ done ++ later → SendsAll plan size done
@@ -189,14 +177,15 @@ module _ (sounds : NetworksAreSound) (are_steps : InputsAreSteps) (bytes : Bytes
         let step : Step = record { node = node; act = sets.Comes d now } in
         let c = came_at plan size [] w.air (first_sets plan) before step after (subst (StepsCame plan size [] w.air (first_sets plan)) e a.1.came) in
         let k : Known plan size es w.air c.0.call d = c.2 in
-        let was = from_at es (record { node = k.node; own = k.own; told = sets.Sent k.id k.number k.sent }) (events_from sendings (first_sets plan) before)
-        (front_calls before (step ∷ after) a.0 e w.told a.1.contains.events_are) k.told in
+        let event : books.Event = record { node = k.node; own = k.own; told = sets.Sent k.id k.number k.sent } in
+        let was : FromNode event = lists.one_in FromNode es event (events_from sendings (first_sets plan) before) k.told in
+        let call : IsCall k.own = lists.one_in (λ (x : books.Event). IsCall x.own) es event (front_calls before (step ∷ after) a.0 e w.told a.1.contains.events_are) k.told in
         let copy = came_copy plan size w.air k.own k.sent k.hops c.0.call d k.long k.came in
         record {
           sending = record { node = k.node; own = k.own; id = k.id; number = k.number; sent = k.sent; told = k.told; copy = copy };
-          ttl = was.0.0;
-          from = was.0.1;
-          origin = λ head h. origin_is written read k.own was.0.0 k.sent d head was.1 was.0.1 copy h;
+          ttl = was.0;
+          from = was.1;
+          origin = λ head h. origin_is written read k.own was.0 k.sent d head call was.1 copy h;
           node = c.0;
           is = c.1;
           hops = k.hops;
@@ -209,7 +198,13 @@ module _ (sounds : NetworksAreSound) (are_steps : InputsAreSteps) (bytes : Bytes
           sent = sent;
           told = λ e id d c told.
               (let at = heeded_came heedings (first_sets plan) a.0 e.event id d (subst (λ xs. Contains xs e.event) (runs.is_run plan apart are_steps bytes ticks acts_run a.0 w a.1.contains).told (contains_map (λ (x : CircuitEvent). x.event) (circuit_events w) e c)) told in
-              record { before = at.0; after = at.1; now = at.2; step = at.3; was = sent at.0 at.1 e.event.node at.2 d at.3 });
+              let was = sent at.0 at.1 e.event.node at.2 d at.3 in
+              record {
+                came = record { before = at.0; after = at.1; now = at.2; step = at.3; was = was };
+                end = sent_by_end unheeded at.4 at.5 id was.sending.id d was.sending.sent at.6 was.sending.copy
+                    (lists.one_in RefusesAt0 (events_of (first_sets plan) at.0) (record { node = was.sending.node; own = was.sending.own; told = sets.Sent was.sending.id was.sending.number was.sending.sent })
+                    (events_refuse numbered refuse (first_sets plan) sound.starts at.0) was.sending.told);
+              });
           heeded = λ before after step s e g. heedings s step.act;
           up = λ on. a.1.contains.up (lines_on plan done (start plan) goods.0 on tt);
         }

@@ -1,12 +1,14 @@
 -- By what it shows that something in a trace came too late. Own profile.
 use Rattle.std.specs.Prelude.{ℕ, suc, ◌≡◌, ◌+◌, List, [], ◌∷◌, ◌++◌, map, length, slice_get, slice_index, Bool, true, false, if◌then◌else◌, Option, Some, None}
 use Rattle.circuit_set.specs.Books as books
-use Rattle.circuit_verdict.specs.Causes.{AreInTime, cause_after}
+use Rattle.circuit_verdict.specs.Causes.{cause_after}
+use Rattle.circuit_verdict.specs.Verdicts.{AreInTime}
 use Rattle.circuit_verdict.specs.Events.{events_of}
 use Rattle.circuit_verdict.specs.declared.cause.Cause.{Cause}
 use Rattle.circuit_verdict.specs.declared.cause.Cause.TheVariants as causes
 use Rattle.circuit_verdict.specs.declared.event.Numbered.{Numbered}
 use Rattle.circuit_verdict.specs.declared.verdict.Allowance.{Allowance}
+use Rattle.circuit_verdict.specs.declared.verdict.Late.{Late}
 use Rattle.circuit_verdict.specs.declared.verdict.Verdict.{Verdict}
 use Rattle.circuit_verdict.specs.Standing.{StandsFor, allowance_in}
 use Rattle.network_file.specs.Plan.{Plan}
@@ -58,10 +60,19 @@ pub record ComesLateBy (a : Allowance) (nodes : List Placed) (told : List Number
   pub number_is : number ≡ length before + 1
   pub told_is : event_at nodes at.line at.event ≡ event ∷ []
   pub in_time : AreInTime a (what_was_told (events_at nodes before))
+  pub late : AreInTime a (what_was_told (events_at nodes before) ++ event.event ∷ []) → ⊥
   pub found : cause_after a (what_was_told (events_at nodes before)) event.event ≡ Some cause
 
-abbrev pub IsCauseIn : Plan → World → LateCause → Type 0
-IsCauseIn plan w c = (cause : Cause) × ComesLateBy (allowance_of plan) w.nodes w.told c.event cause × (c.sign ≡ sign_of w.nodes w.told cause)
+-- it is the event of the verdict's line
+abbrev pub IsCauseIn : Plan → World → Late → LateCause → Type 0
+IsCauseIn plan w late c =
+    (cause : Cause) × (comes : ComesLateBy (allowance_of plan) w.nodes w.told c.event cause) × (comes.at.line ≡ late.line) × (c.sign ≡ sign_of w.nodes w.told cause)
+
+-- where nothing came too late there is no cause, and where something did there is
+abbrev pub IsCauseOf : Plan → World → Option Late → Option LateCause → Type 0
+IsCauseOf plan w None cause = cause ≡ None
+IsCauseOf plan w (Some late) None = ⊥
+IsCauseOf plan w (Some late) (Some cause) = IsCauseIn plan w late cause
 
 -- ---- for the parts of the search; not for the reader of a contract
 
@@ -78,7 +89,10 @@ abbrev pub Judges : Verdict → Verdict → List CircuitEvent → Option Cause �
 Judges old new told None = (a : Allowance) (before : List CircuitEvent) → HasTaken a old before → HasTaken a new (before ++ told)
 Judges old new told (Some cause) =
     (a : Allowance) (before : List CircuitEvent) → HasTaken a old before
-    → (e : CircuitEvent) × (told ≡ e ∷ []) × (cause_after a (what_was_told before) e.event ≡ Some cause)
+    → (e : CircuitEvent)
+    × (told ≡ e ∷ [])
+    × (cause_after a (what_was_told before) e.event ≡ Some cause)
+    × (AreInTime a (what_was_told before ++ e.event ∷ []) → ⊥)
 
 abbrev pub Finds : Allowance → List Placed → List NumberedEvent → Option (ℕ × Cause) → Type 0
 Finds a nodes told None = AreInTime a (what_was_told (events_at nodes told))

@@ -4,7 +4,7 @@ use Rattle.std.specs.List.{AllByRecursion}
 use Rattle.ax_address.specs.Callsign.{IsCallsign}
 use Rattle.circuit_set.specs.Pairs.{IsPair}
 use Rattle.circuit_set.specs.Runs.{AreStarts, AreSteps, Step, begins, events_of, net_run}
-use Rattle.circuit_set.specs.Sets.{Holder, SetState}
+use Rattle.circuit_set.specs.Sets.{Holder, SetState, end_of}
 use Rattle.network_file.specs.declared.network.NumberedInstruction.{NumberedInstruction}
 use Rattle.network_file.specs.declared.plan.instructions.Instruction.{Instruction}
 use Rattle.network_file.specs.declared.plan.instructions.Instruction.TheVariants.{Open, Restart}
@@ -26,11 +26,13 @@ sets_of nodes = map set_of nodes
 abbrev pub first_sets : Plan → List SetState
 first_sets plan = sets_of (new_nodes plan)
 
--- In the run a node's circuits are those that it knows of, and before them the ends that restarts took from it: each is gone.
+-- In the run a node's circuits are those that it knows of, and before them the ends that restarts took from it: each of them is gone, and none has
+-- the number of one that it knows of.
 pub record Remembers (s : SetState) (p : Placed) : Type 0 where
   pub past : List Holder
   pub gone : AllByRecursion (λ (h : Holder). h.gone ≡ true) past
   pub is : s ≡ record (set_of p) { ends = past ++ (set_of p).ends }
+  pub held : (id : ℕ) (h : Holder) → end_of id (set_of p).ends ≡ Some h → end_of id s.ends ≡ Some h
 
 -- so it is at each node
 abbrev pub AllRemember : List SetState → List Placed → Type 0

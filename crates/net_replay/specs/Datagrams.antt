@@ -1,5 +1,5 @@
 -- Where the datagrams are from that reach their nodes, in a network whose nodes all have one modulus. Own profile.
-use Rattle.std.specs.Prelude.{ℕ, ◌≡◌, ◌+◌, ◌⊎◌, List, ◌∷◌, ◌++◌, Some, Ok, slice_get, Contains}
+use Rattle.std.specs.Prelude.{ℕ, ◌≡◌, ◌≤◌, ◌+◌, ◌⊎◌, List, ◌∷◌, ◌++◌, Some, Ok, slice_get, Contains}
 use Rattle.std.specs.List.{AllByRecursion}
 use Rattle.circuit_set.specs.Givings.{IsUp}
 use Rattle.circuit_set.specs.Heedings.{HeedsFor}
@@ -64,16 +64,21 @@ pub record CameTo (plan : Plan) (size : ℕ) (air : List Aired) (steps : List St
   pub step : steps ≡ before ++ record { node = place; act = Comes datagram now } ∷ after
   pub was : WasSent plan size air before place datagram
 
+-- The same of a datagram that an end has heeded: it was an end that sent it, and no set under number 0. The numbers of ends are 1 and more.
+pub record CameFromEnd (plan : Plan) (size : ℕ) (air : List Aired) (steps : List Step) (place : ℕ) (datagram : List ℕ) : Type 0 where
+  pub came : CameTo plan size air steps place datagram
+  pub end : 1 ≤ came.was.sending.id
+
 -- What a front of a file's lines has come to is a run of the nodes' circuits, in which each datagram that reached its node, so that the node's
--- circuits were handed it, was sent before; so was each that an end heeded, as the network's events tell. And one that an end heeded came from
--- the node of its partner, and names that end's pair. In the run a node starts again only where one of these lines says so.
+-- circuits were handed it, was sent before; so was each that an end heeded, as the network's events tell, and that by an end. And one that an end heeded
+-- came from the node of its partner, and names that end's pair. In the run a node starts again only where one of these lines says so.
 pub record SendsAll (plan : Plan) (size : ℕ) (done : List NumberedInstruction) : Type 0 where
   pub steps : List Step
   pub run : IsRunOf plan steps (do_lines plan done (start plan))
   pub sent : (before after : List Step) (node now : ℕ) (datagram : List ℕ) → steps ≡ before ++ record { node = node; act = Comes datagram now } ∷ after
       → WasSent plan size (do_lines plan done (start plan)).air before node datagram
   pub told : (e : CircuitEvent) (id : ℕ) (datagram : List ℕ) → Contains (circuit_events (do_lines plan done (start plan))) e → e.event.told ≡ Heeded id datagram
-      → CameTo plan size (do_lines plan done (start plan)).air steps e.event.node datagram
+      → CameFromEnd plan size (do_lines plan done (start plan)).air steps e.event.node datagram
   pub heeded : (before after : List Step) (step : Step) (s : SetState) → steps ≡ before ++ step ∷ after
       → slice_get (net_run (begins (first_sets plan)) before).sets step.node ≡ Some s → HeedsFor s step.act (set_step s step.act).told
   pub up : AllByRecursion LineRestartsNone done → AllByRecursion (λ (st : Step). IsUp st.act) steps

@@ -1,5 +1,5 @@
 //! By what it shows that something in a trace came too late.
-ghost use Rattle.std.specs.Prelude.{◌≡◌, ◌∷◌, [], ℕ, List, IfOk, IsSomeAnd, Some, map, slice_get};
+ghost use Rattle.std.specs.Prelude.{◌≡◌, ◌∷◌, [], ℕ, List, IfOk, Option, map, slice_get};
 ghost use Rattle.network_file.specs.Plan.{Plan};
 ghost use Rattle.circuit_verdict.specs.declared.verdict.Allowance.{Allowance};
 ghost use Rattle.circuit_verdict.specs.declared.verdict.Late.{Late};
@@ -46,10 +46,11 @@ pub struct LateCause {
     pub sign: Sign,
 }
 
-/// By what it shows that something in the trace came too late: there is a cause wherever the verdict is that something did.
+/// By what it shows that something in the trace came too late: an event at the line of the verdict, wherever the verdict is that something did, and
+/// None where nothing did.
 pub fn late_cause(alloc: Global, trace: &Trace) -> Result<Option<LateCause>, NoMemory>
-    ensures { IfOk result (λ cause. (plan : Plan) (w : World) (late : Late) → allowance_in trace.now ≡ allowance_of plan → IsTraceOf (left_of trace.now) w
-        → IsVerdictOn plan w (Some late) → IsSomeAnd cause (causes.IsCauseIn plan w)) }
+    ensures { IfOk result (λ cause. (plan : Plan) (w : World) (late : Option Late) → allowance_in trace.now ≡ allowance_of plan → IsTraceOf (left_of trace.now) w
+        → IsVerdictOn plan w late → causes.IsCauseOf plan w late cause) }
 {
     let mut verdict = Verdict::new(alloc, trace.allowance());
     let declared = trace.declared();

@@ -1,5 +1,6 @@
 //! What is promised of every network.
 ghost use Rattle.net_replay.specs.CircuitRuns.{NetworksAreSound, WorldsAreRuns};
+ghost use Rattle.net_replay.specs.Conversations.{InTimeUsersAgree};
 ghost use Rattle.net_replay.specs.Datagrams.{DatagramsSent};
 ghost use Rattle.net_replay.specs.Hops.{HopsTakeOne};
 ghost use Rattle.net_replay.specs.Promises.{EachTellsRetries, InTimeIsSafe};
@@ -31,8 +32,27 @@ pub fn in_time_is_safe()
     networks_are_sound();
     worlds_are_circuit_runs();
     circuit_set::laws::circuits_safe();
+    circuit_set::laws::book_tells_what_is_late();
     circuit_set::laws::narrow_is_timely();
     network_file::laws::networks_fit();
+}
+
+/// Where no datagram and no pair comes back too late: at each line, of each user at a prompt whose circuit stands, what the user was given is a
+/// beginning of what the other end of the circuit wrote, where the user's side hasn't ended and the user hasn't said BYE; and what the other end
+/// received is a beginning of the texts that were taken from the user. A circuit without another end has given its user nothing. A session that was
+/// refused since the numbers of fragments have come to their end is left out.
+pub fn users_agree()
+    ensures { InTimeUsersAgree }
+{
+    networks_are_sound();
+    worlds_are_circuit_runs();
+    circuit_set::laws::circuits_safe();
+    circuit_set::laws::book_tells_what_is_late();
+    circuit_set::laws::partners_stay();
+    circuit_set::laws::narrow_is_timely();
+    network_file::laws::networks_fit();
+    node_core::laws::bridged();
+    node_core::laws::fetching_empties();
 }
 
 /// Each hop takes one from the time to live. So a datagram that comes with the time to live that it was sent with has come from its origin, which put it
@@ -43,7 +63,7 @@ pub fn hops_take_one()
 
 /// In a network whose nodes all have one modulus, whatever is lost, repeated, delayed or reordered and whichever node starts again: each datagram
 /// that reaches its node, so that the circuits there are handed it, was sent before by the node that is its origin, by an end of it or by its set as
-/// a refusal; so was each that an end heeds, as the network's events tell. By frames in the air it came over so many hops, each a node that passed it
+/// a refusal; so was each that an end heeds, as the network's events tell, and that by an end. By frames in the air it came over so many hops, each a node that passed it
 /// on with one less to live, and all else as it was: these and its time to live make up the one that it was sent with. And one that an end heeds is
 /// from the node of its partner, and names that end's pair. In the run of the nodes' circuits that this is said of, a node starts again only where a
 /// line says so.
@@ -57,6 +77,7 @@ pub fn datagrams_sent()
     node_core::laws::carried_further();
     circuit_set::laws::sets_send_their_own();
     circuit_set::laws::sets_heed_partners();
+    circuit_set::laws::sets_refuse_under_0();
     ax_address::laws::net_call_spelling();
     network_file::laws::networks_fit();
     kiss_framing::laws::fend_parts();
