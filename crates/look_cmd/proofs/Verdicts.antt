@@ -2,19 +2,16 @@
 use Rattle.std.proofs.Common.{◌≡◌, ◌∙◌, ℕ, refl, sym, ap, subst, List, [], ◌∷◌, ◌++◌, append-nil, map, arith}
 use Rattle.std.specs.Prelude.{IsSomeAnd, Option, Some, None, Ok}
 use Rattle.std.specs.Io.KnownBytes.{Consumes, IsAtEnd}
-use Rattle.circuit_verdict.specs.Causes.{AreInTime}
+use Rattle.circuit_verdict.specs.Verdicts.{AreInTime}
 use Rattle.circuit_verdict.specs.declared.event.Numbered.{Numbered}
 use Rattle.circuit_verdict.specs.declared.verdict.Late.{Late}
 use Rattle.circuit_verdict.specs.Events as verdicts
 use Rattle.network_file.specs.Networks.{network_of}
 use Rattle.network_file.specs.Plan.{Plan}
-use Rattle.net_replay.specs.declared.causes.LateCause.{LateCause}
-use Rattle.net_replay.specs.Causes.{IsCauseIn}
 use Rattle.net_replay.specs.Circuits.{CircuitEvent, IsVerdictOn, allowance_of, judged}
 use Rattle.net_replay.specs.Files.{AirsFew, AirsTooMany, IsInTime, IsLate, IsNetwork}
 use Rattle.net_replay.specs.Lines.{world}
 use Rattle.net_replay.specs.World.{World}
-use Rattle.look_cmd.specs.Traced.{IsCauseFor}
 
 told_are : (ns : List Numbered) → map (λ (e : CircuitEvent). e.event) (map judged ns) ≡ verdicts.events_of ns
 told_are [] = refl
@@ -55,8 +52,3 @@ module _ (bytes : List ℕ) (network : Plan) (read : network_of bytes ≡ Ok net
       let same : network ≡ other.0 = cc some in
       let many : AirsTooMany network = subst AirsTooMany (sym same) other.2 in
       omega arith
-
--- what came too late has the cause that was found
-pub cause_for : (plan : Plan) (answer : Option Late) (late : Late) (cause : Option LateCause) → answer ≡ Some late → IsSomeAnd cause (IsCauseIn plan (world plan)) → IsCauseFor plan answer cause
-cause_for plan answer late None is found = absurd found
-cause_for plan answer late (Some cause) is found = subst (λ (a : Option Late). IsCauseFor plan a (Some cause)) (sym is) found

@@ -12,7 +12,7 @@ use Rattle.network_file.specs.Networks.{Bad, network_of}
 use Rattle.network_file.specs.Plan.{Plan}
 use Rattle.network_file.specs.Reasons.{word_for}
 use Rattle.net_replay.specs.declared.causes.LateCause.{LateCause}
-use Rattle.net_replay.specs.Causes.{IsCauseIn}
+use Rattle.net_replay.specs.Causes.{IsCauseOf}
 use Rattle.net_replay.specs.Circuits.{IsVerdictOn}
 use Rattle.net_replay.specs.Files.{AirsFew, AirsTooMany, IsInTime, IsLate, IsNetwork}
 use Rattle.net_replay.specs.Lines.{world}
@@ -24,18 +24,12 @@ use Rattle.trace_lines.specs.Texts.{trace_text}
 abbrev pub IsBadFile : List ℕ → (List ℕ → Type 0) → Type 0
 IsBadFile bytes P = (bad : Bad) × (network_of bytes ≡ Err bad) × P (bad_line_note bad.0 (word_for bad.1))
 
--- nothing came too late and there is no cause, or this is the cause of what came
-abbrev pub IsCauseFor : Plan → Option Late → Option LateCause → Type 0
-IsCauseFor network None cause = cause ≡ None
-IsCauseFor network (Some late) None = ⊥
-IsCauseFor network (Some late) (Some cause) = IsCauseIn network (world network) cause
-
 -- the text is the trace of the network of that file, with the verdict on it and its cause
 pub record IsTraced (file text : List ℕ) (late : Option Late) (network : Plan) : Type 0 where
   pub few : AirsFew network
   pub verdict : IsVerdictOn network (world network) late
   pub cause : Option LateCause
-  pub caused : IsCauseFor network late cause
+  pub caused : IsCauseOf network (world network) late cause
   pub text_is : text ≡ trace_text file network (world network) late cause
 
 -- why there is nothing to write: a bad line, too many frames, or want of memory

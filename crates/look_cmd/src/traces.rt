@@ -7,11 +7,12 @@ ghost use Rattle.cmd_streams.specs.Writing.{Says};
 ghost use Rattle.network_file.specs.Networks.{network_of};
 ghost use Rattle.network_file.specs.Plan.{Plan};
 ghost use Rattle.net_replay.specs.Air.{most_frames};
+ghost use Rattle.net_replay.specs.Causes.{IsCauseOf};
 ghost use Rattle.net_replay.specs.Circuits.{IsVerdictOn, allowance_of};
 ghost use Rattle.net_replay.specs.Lines.{world};
 ghost use Rattle.net_replay.specs.Traces.{IsTraceOf, allowance_in, left_of};
 ghost use Rattle.look_cmd.specs.Look.{TraceEnds};
-ghost use Rattle.look_cmd.specs.Traced.{IsCauseFor, IsTraced, NotTraced, TracedEnds};
+ghost use Rattle.look_cmd.specs.Traced.{IsTraced, NotTraced, TracedEnds};
 
 use cmd_streams::{Status, TOO_LONG, read_file, refuse_input, refuse_line, say, write_all};
 use net_replay::{
@@ -149,7 +150,7 @@ fn traced_trace(
 /// The cause of a verdict, where something came too late.
 fn cause_of(alloc: Global, trace: &Trace, late: Option<Late>) -> Result<Option<LateCause>, NoMemory>
     ensures { IfOk result (λ cause. (plan : Plan) → allowance_in trace.now ≡ allowance_of plan → IsTraceOf (left_of trace.now) (world plan)
-        → IsVerdictOn plan (world plan) late → IsCauseFor plan late cause) }
+        → IsVerdictOn plan (world plan) late → IsCauseOf plan (world plan) late cause) }
 {
     match late {
         Some(_) => late_cause(alloc, trace),
