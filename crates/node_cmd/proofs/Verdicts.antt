@@ -2,11 +2,10 @@
 use Rattle.std.proofs.Common.{◌≡◌, ◌∙◌, ℕ, refl, sym, ap, subst, List, [], ◌∷◌, ◌++◌, append-nil, map, arith}
 use Rattle.std.specs.Prelude.{IsSomeAnd, Option, Some, None, Ok}
 use Rattle.std.specs.Io.KnownBytes.{Consumes, IsAtEnd}
-use Rattle.circuit_set.specs.Books.{Fresh, Timely, empty}
 use Rattle.circuit_verdict.specs.declared.event.Numbered.{Numbered}
 use Rattle.circuit_verdict.specs.declared.verdict.Late.{Late}
 use Rattle.circuit_verdict.specs.Events as verdicts
-use Rattle.circuit_verdict.specs.Verdicts.{allowance_of}
+use Rattle.circuit_verdict.specs.Verdicts.{AreInTime}
 use Rattle.network_file.specs.Networks.{network_of}
 use Rattle.network_file.specs.Plan.{Plan}
 use Rattle.net_replay.specs.Circuits as circuits
@@ -24,7 +23,7 @@ one_verdict plan w late a b =
     let same : verdicts.events_of a.events ≡ verdicts.events_of b.events =
     sym (told_are a.events) ∙ (ap (map (λ (e : CircuitEvent). e.event)) (a.are ∙ sym b.are) ∙ told_are b.events) in
     let ok = a.verdict.none.0 refl in
-    let none = b.verdict.none.1 (subst (Timely (allowance_of (circuits.allowance_of plan)) empty) same ok.0, subst (Fresh empty) same ok.1) in
+    let none = b.verdict.none.1 (subst (AreInTime (circuits.allowance_of plan)) same ok) in
     absurd (cc none)
 
 -- a source that tells its bytes told those that were read to its end

@@ -5,6 +5,7 @@ use Rattle.kiss_framing.specs.Enframing.{framed}
 use Rattle.link_table.specs.declared.written.Written.{Written}
 use Rattle.network_file.specs.declared.plan.live.LiveNode.{LiveNode}
 use Rattle.net_replay.specs.Starting.{live_started}
+use Rattle.node_core.specs.Bounds.{IsWithin}
 use Rattle.node_core.specs.Fetching.{heard, sent}
 use Rattle.node_core.specs.Inputs.{after_bytes, after_tick}
 use Rattle.node_core.specs.Kept.{NodeStands}
@@ -45,11 +46,11 @@ answer_to_reads (read ∷ later) n = answer_to read n ++ answer_to_reads later (
 abbrev pub IsAnswerOf : LiveNode → List Read → List ℕ → Type 0
 IsAnswerOf declared reads text = text ≡ answer_to_reads reads (live_started declared)
 
--- the node that is left stands for the machine after these reads
+-- the node that is left stands for the machine after these reads, and keeps no more than its bound
 abbrev pub LeavesNode : Ran → NodeState → Type 0
 LeavesNode Nothing n = ⊥
 LeavesNode (Replayed trace) n = ⊥
-LeavesNode (Served node) n = NodeStands node n
+LeavesNode (Served node) n = NodeStands node n × IsWithin node
 
 abbrev pub ServesReads : LiveNode → Ran → List Read → List ℕ → Type 0
 ServesReads declared ran reads text = IsAnswerOf declared reads text × LeavesNode ran (after_reads reads (live_started declared))

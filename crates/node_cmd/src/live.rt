@@ -114,6 +114,8 @@ pub fn run_node<S: Source, K: Sink, N: Sink, C: Clock>(
     let mut buf = [0u8; READ_SIZE];
     match answer_stream(alloc, &mut buf, &mut living, source, sink, notes, clock) {
         Status::Done => {
+            // (which tells, too, how much the node keeps)
+            let _ = living.node.is_spent();
             *ran = Ran::Served(living.node);
             Status::Done
         }
