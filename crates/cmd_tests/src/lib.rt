@@ -8,6 +8,8 @@ mod adapters;
 #[cfg(test)]
 mod faults;
 #[cfg(test)]
+mod full_table;
+#[cfg(test)]
 mod live;
 #[cfg(test)]
 mod lives;

@@ -62,7 +62,7 @@ pub(crate) fn check(
     let piece = case.piece.max(1);
     let source = MemSource::new(alloc, case.file, piece, case.failing_reads);
     let mut source = source.ok().expect(rt, "memory");
-    let mut sink = sink_of(rt, alloc, 10_000, piece, case.failing_writes);
+    let mut sink = sink_of(rt, alloc, 200_000, piece, case.failing_writes);
     let mut noted = sink_of(rt, alloc, 1_000, 1_000, &[]);
     let mut clock = MemClock::new(0, 1);
     let ended = run(

@@ -142,7 +142,7 @@ fn flow(rt: &impl Abort, a: &mut Node, b: &mut Node) {
 }
 
 /// An act that is done.
-fn done(rt: &impl Abort, node: &mut Node, act: &UserAct) {
+pub fn done(rt: &impl Abort, node: &mut Node, act: &UserAct) {
     assert!(rt; matches!(node.act(act, NOW), Ok(ActDone::Done)));
 }
 
@@ -156,7 +156,7 @@ fn refused(rt: &impl Abort, node: &mut Node, act: &UserAct, why: ActRefusal) {
 }
 
 /// A circuit is asked for with a node: its end is the first that is made.
-fn connect(rt: &impl Abort, node: &mut Node, dest: Call) {
+pub fn connect(rt: &impl Abort, node: &mut Node, dest: Call) {
     let outcome = node.act(&UserAct::Connect(dest), NOW);
     assert!(rt; matches!(outcome, Ok(ActDone::Made(1))));
 }
@@ -291,7 +291,7 @@ fn tick(rt: &impl Abort, node: &mut Node, at: u64) {
 }
 
 /// No frame waits.
-fn expect_silent(rt: &impl Abort, node: &mut Node) {
+pub fn expect_silent(rt: &impl Abort, node: &mut Node) {
     assert!(rt; node.next_frame().is_none());
 }
 

@@ -5,7 +5,7 @@ use arrayvec::ArrayVec;
 use kiss_framing::enframe;
 
 /// A frame in octets, as it is made here.
-type Octets = ArrayVec<u8, 400>;
+pub type Octets = ArrayVec<u8, 400>;
 
 /// Numbers that follow from a seed (Lehmer's generator).
 #[derive(Drop)]
@@ -138,7 +138,7 @@ impl Seeded {
 }
 
 /// An address as AX.25 and NET/ROM write it: letters shifted, and a last octet.
-fn address(letters: &[u8; 6], last: u8, octets: &mut Octets) {
+pub fn address(letters: &[u8; 6], last: u8, octets: &mut Octets) {
     for letter in letters {
         let _ = octets.try_push(letter << 1);
     }
