@@ -49,10 +49,10 @@ def program_of(top):
     return os.environ.get("WURSTHATCH_LOOK") or (beside if os.path.exists(beside) else "wursthatch-look")
 
 
-def trace_of(top, path):
-    """(status, the lines) of `wursthatch-look trace`."""
+def trace_of(top, path, notes=None):
+    """(status, the lines) of `wursthatch-look trace`. Its notes go to standard error, or to this file."""
     source = open(path, "rb") if path else sys.stdin.buffer
-    told = subprocess.run([program_of(top), "trace"], stdin=source, stdout=subprocess.PIPE, check=False)
+    told = subprocess.run([program_of(top), "trace"], stdin=source, stdout=subprocess.PIPE, stderr=notes, check=False)
     return told.returncode, told.stdout.decode("ascii")
 
 
