@@ -2,13 +2,15 @@
 
 It is well formed XML; no text meets another one, leaves the picture, or is met by an arrow; and where nothing is folded, each frame has
 as many arrows as it was delivered, a cross exactly where it was lost, and a ring exactly where neither. Where a picture stands beside a
-network, NAME.svg, it is that one. The traces are those of ./wursthatch-look, or of the program that WURSTHATCH_LOOK names.
+network, NAME.svg, it is that one. A network that is refused has none, and the note beside it, NAME.notes. Files with words of their own,
+NAME.args, are for other commands. The traces are those of ./wursthatch-look, or of the program that WURSTHATCH_LOOK names.
 """
 
 import glob
 import os
 import re
 import sys
+import tempfile
 import xml.etree.ElementTree as ET
 
 sys.dont_write_bytecode = True
@@ -119,14 +121,19 @@ def faults_of_frames(root, run):
 
 
 def faults_of(path):
-    status, text = trace_of(TOP, path)
+    with tempfile.TemporaryFile() as notes:
+        status, text = trace_of(TOP, path, notes)
+        notes.seek(0)
+        noted = notes.read().decode("ascii")
     if status not in (0, TOO_LATE):
+        if noted != kept_beside(path, ".notes", ""):
+            yield f"status {status}, {noted!r}"
         return
     name = os.path.basename(path)
     for keep, longest, rows in (USUAL, (NEVER, NEVER, NEVER)):
         run = read_trace(text, name)
         drawn = draw(run, keep, longest, rows)
-        if keep == USUAL[0] and drawn != kept_beside(path, drawn):
+        if keep == USUAL[0] and drawn != kept_beside(path, ".svg", drawn):
             yield "the picture beside it is another one: ./picture draws it anew"
         root = ET.fromstring(drawn)
         yield from faults_of_texts(root, len(run.nodes) > 6)
@@ -137,18 +144,18 @@ def faults_of(path):
         yield "the page has no end"
 
 
-def kept_beside(path, drawn):
-    """The picture that is kept beside a network, or this one where none is."""
+def kept_beside(path, ending, otherwise):
+    """What is kept beside a network in the file with this ending, or the other where there is none."""
     try:
-        with open(os.path.splitext(path)[0] + ".svg", encoding="utf-8") as kept:
+        with open(os.path.splitext(path)[0] + ending, encoding="utf-8") as kept:
             return kept.read()
     except FileNotFoundError:
-        return drawn
+        return otherwise
 
 
 def main(paths):
     failed = 0
-    paths = paths or sorted(glob.glob(os.path.join(TOP, "examples", "*.net")))
+    paths = paths or sorted(path for path in glob.glob(os.path.join(TOP, "examples", "*.net")) if kept_beside(path, ".args", None) is None)
     for path in paths:
         faults = list(faults_of(path))
         failed += bool(faults)
