@@ -14,7 +14,7 @@ returns-then-would_be-gt-MAX_PAIRS-clause-refused c =
     rw (← c.self.view_is) (
       record { other = sym c.eq.ensures ∙ c.if-eq.false; enough = enough },
       record {
-        held = rw (← c.self.view_is) at c.live-live.ensures;
+        held = rw (← c.self.view_is) at c.live-live.ensures.usable;
         after = λ log s. lock_count c.self.inside.own c.self.inside.rules c.self.inside.rows.items _ c.args.dest.now c.args.alias.now c.args.neighbour.now c.args.quality _ enough c.self.invariant.1.1 c.deref.ensures.value c.count_with_lock-would_be.ensures.value log s;
         over = omega arith;
       },
