@@ -1,13 +1,16 @@
 -- Runs that show what the premises bear.
-use Rattle.std.specs.Prelude.{◌≡◌, ℕ, ◌≤◌, List, [], ◌∷◌, Option, Some, None, refl}
-use Rattle.std.proofs.Common.{sym, ◌∙◌, subst, arith, lit<}
+use Rattle.std.specs.Prelude.{◌≡◌, ℕ, ◌≤◌, true, List, [], ◌∷◌, Option, Some, None, refl}
+use Rattle.std.proofs.Common.{sym, ◌∙◌, arith, lit<}
 use Rattle.l3_datagram.specs.Datagrams.{head_at}
 use Rattle.circuit_l4.specs.declared.plain.EndNotice.TheVariants.{Opened}
 use Rattle.circuit_l4.specs.Reading as reading
 use Rattle.circuit_l4.specs.Reading.{transport_at}
 use Rattle.circuit_set.specs.Sets.{Holder}
-use Rattle.circuit_set.specs.Books.{Fresh, MadeNote, Name, Timely, empty, partner}
-use Rattle.circuit_set.specs.Runs.{Net, Safe, SafeAlone, SafeEnd, SafeWith, allowed, begins, end_at, events_of, expiries_in, net_run}
+use Rattle.circuit_set.specs.Books.{Event, Fresh, MadeNote, Name, Timely, empty, is_unknown, partner_in}
+use Rattle.circuit_set.specs.Runs.{Net, allowed, begins, end_at, events_of, net_run}
+use Rattle.circuit_set.specs.Safe.{IsSafe, Safe, SafeAlone}
+use Rattle.circuit_set.proofs.Joined.{has_none}
+use Rattle.circuit_set.proofs.Noted.{book}
 use Rattle.circuit_set.specs.Examples.{ForgedIsUnsafe, OneMoreIsTooMany, RestartIsStale, again_at, forged, here, node, pair_of, there}
 
 abbrev first : Name
@@ -24,15 +27,22 @@ heard : received_by (end_at forged_net first) ≡ (88 ∷ []) ∷ []
 unfolding head_at transport_at reading.accept_at
 heard = refl
 
-alone : partner forged_net.book first ≡ None
+abbrev told : List Event
+told = events_of (node here ∷ []) forged
+
+forged_fresh : Fresh empty told
 unfolding head_at transport_at reading.accept_at
-alone = refl
+forged_fresh = ((tt, λ m q in_m in_q lasts kept far joined there same. absurd (let none = in_m.1 in omega (arith, none))), (tt, (tt, (tt, (tt, (tt, tt))))))
+
+free : is_unknown (partner_in (book told).made first) ≡ true
+unfolding head_at transport_at reading.accept_at
+free = refl
 
 unsafe_case : (o : Option Holder) → end_at forged_net first ≡ o → received_by o ≡ (88 ∷ []) ∷ [] → Safe (node here ∷ []) forged → ⊥
 unsafe_case None e r safe = cc r
 unsafe_case (Some h) e r safe =
-    let s : SafeEnd forged_net (expiries_in (node here ∷ []) forged first) first h = safe first h e in
-    let a : SafeAlone h.end = subst (λ (p : Option Name). SafeWith forged_net first h p) alone s.circuit in
+    let s : IsSafe (node here ∷ []) forged forged_net first h = safe first h e in
+    let a : SafeAlone h.end = s.end.alone (has_none told forged_fresh first free) in
     let z : [] ≡ (88 ∷ []) ∷ [] = sym a.received ∙ r in
     cc z
 

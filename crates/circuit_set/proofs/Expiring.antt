@@ -17,10 +17,9 @@ use Rattle.circuit_l4.specs.Expiries as ends
 use Rattle.circuit_l4.specs.Expiries.{Moment, expiries}
 use Rattle.circuit_set.specs.Sets.{Act, Call, Calls, Closes, Comes, Connect, Discard, Restart, Takes, Ticks, Writes, Made, Sent, Heeded, Gone, Restarted, Holder, SetDone, SetState, datagram_to, end_of, goes_to, holder_of, input_of, is_over, losses, made, new_pair, restarted, set_step, told_by, with_end}
 use Rattle.circuit_set.specs.Books.{Book, Event, Name, Timely, empty, noted, noted_all}
-use Rattle.circuit_set.specs.Runs.{AreSteps, CircuitsSafe, Net, Step, allowed, begins, between, end_at, end_in, events_at, events_of, moments, net_run, net_step, sets_at, tick_at, tick_by, tick_of, told_at, told_to}
+use Rattle.circuit_set.specs.Runs.{AreSteps, Net, Step, allowed, begins, between, end_at, end_in, events_at, events_of, moments, net_run, net_step, sets_at, tick_at, tick_by, tick_of, told_at, told_to}
 use Rattle.circuit_set.specs.Retries.{RetriesAreTold}
 use Rattle.circuit_set.specs.Givings.{IsUp}
-use Rattle.circuit_set.proofs.ByBook.{fresh_by_book, timely_by_book}
 use Rattle.circuit_set.proofs.Acts.{set_self}
 use Rattle.circuit_set.proofs.Bridge.{name_itself}
 use Rattle.circuit_set.proofs.Cases.{Every, Idle, IsNew, MadeBy, MovedBy, NoCall, step_every}
@@ -32,7 +31,7 @@ use Rattle.circuit_set.proofs.Onward as living
 use Rattle.circuit_set.proofs.Onward.{Life, and_then, onward, onward_is, onward_on}
 use Rattle.circuit_set.proofs.Restarts.{gone_of, noted_losses}
 use Rattle.circuit_set.proofs.Retries.{AllLive, Both, SetsOk, start_lives, step_lives}
-use Rattle.circuit_set.proofs.Safe.{circuits_kept, circuits_now, none_case}
+use Rattle.circuit_set.proofs.Safe.{none_case}
 use Rattle.circuit_set.proofs.Stepped as stepped
 use Rattle.circuit_set.proofs.Stepped.{same_holder}
 
@@ -408,16 +407,3 @@ retries_are_told law sets starts steps are x h e =
     let t = living.tells law (onward [] ms) h.end (told_to (net_run (begins sets) steps).book.made x) l in
     let same : expiries (onward [] ms) ≡ expiries ms = ap expiries (onward_is [] ms) in
     (λ w. sym same ∙ t.0 w, λ q. t.1 (same ∙ q))
-
-front_are : (xs ys : List Step) → AreSteps (xs ++ ys) → AreSteps xs
-front_are [] ys a = tt
-front_are (x ∷ xs) ys a = (a.0, front_are xs ys a.1)
-
-pub circuits_safe : RetriesAreTold → CircuitsSafe
-circuits_safe told sets starts steps later are timely fresh x h e =
-    let events : List Event = events_of sets (steps ++ later) in
-    let noted : Timely allowed empty events = (timely_by_book events ((fresh_by_book events).1 fresh)).1 timely in
-    record {
-      circuit = circuits_now (net_run (begins sets) steps) (circuits_kept sets starts steps later are noted) x h e;
-      retries = told sets starts steps (front_are steps later are) x h e;
-    }

@@ -95,3 +95,4 @@ pub mod Windows
 pub mod Opened
 pub mod Notes
 pub mod ByBook
+pub mod SafeEvents

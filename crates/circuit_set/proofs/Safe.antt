@@ -1,10 +1,15 @@
--- At each moment of a timely run each end and its partner have what Safe says of them.
-use Rattle.std.specs.Prelude.{◌≡◌, ℕ, zero, suc, ◌≤◌, List, [], ◌∷◌, ◌++◌, slice_get, Option, Some, None, refl}
+-- At each moment of a timely run each end and its partner have what Safe says of them, by the notes of the book.
+use Rattle.std.specs.Prelude.{◌≡◌, ℕ, zero, suc, ◌≤◌, ◌⊎◌, List, [], ◌∷◌, ◌++◌, slice_get, take, Contains, Option, Some, None, refl}
 use Rattle.std.proofs.Common.{sym, ◌∙◌, ap, subst, arith}
-use Rattle.circuit_set.specs.Circuits.{SafeTo}
+use Rattle.circuit_l4.specs.declared.plain.EndNotice.{EndNotice}
+use Rattle.circuit_l4.specs.declared.plain.EndNotice.TheVariants.{Closed, ClosedByPartner}
+use Rattle.circuit_l4.specs.EndState.{State}
+use Rattle.circuit_set.specs.Circuits.{IsBeginning, SafeTo}
+use Rattle.circuit_set.specs.Heaps.{wholes}
 use Rattle.circuit_set.specs.Sets.{Holder, SetState, end_of}
 use Rattle.circuit_set.specs.Books.{Name, Timely, empty, partner}
-use Rattle.circuit_set.specs.Runs.{AreStarts, AreSteps, IsStart, Net, SafeWith, Step, allowed, events_of, PartnersStay, WindowsFit, begins, end_at, end_in, net_run}
+use Rattle.circuit_set.specs.Runs.{AreStarts, AreSteps, IsStart, Net, Step, allowed, events_of, PartnersStay, WindowsFit, begins, end_at, end_in, net_run, told_to}
+use Rattle.circuit_set.specs.Safe.{SafeAlone}
 use Rattle.circuit_set.proofs.Lonely.{alone_safe}
 use Rattle.circuit_set.proofs.Lookups.{InEnds}
 use Rattle.circuit_set.proofs.Whole.{safe_of}
@@ -46,6 +51,17 @@ start_kept sets a = record {
   pairs = λ x y e. cc;
   sets = λ n s e. set_inv s (starts_at sets n s a e);
 }
+
+-- what x wrote and its partner y received, and what each was told
+pub record SafeNotes (x y : State) (to_x to_y : List EndNotice) : Type 0 where
+  pub received : IsBeginning y.receiving.received x.sending.wrote
+  pub acked : IsBeginning (take (wholes x.sending.wrote x.sending.acked) x.sending.wrote) y.receiving.received
+  pub closed : Contains to_x Closed ⊎ Contains to_y ClosedByPartner → y.receiving.received ≡ x.sending.wrote
+
+abbrev pub SafeWith : Net → Name → Holder → Option Name → Type 0
+SafeWith net x h None = SafeAlone h.end
+SafeWith net x h (Some y) =
+    (k : Holder) × (end_at net y ≡ Some k) × SafeNotes h.end k.end (told_to net.book.made x) (told_to net.book.made y)
 
 circuit_case : (net : Net) (k : Kept net) (x : Name) (h : Holder) → EndInv net k.past x h → (o : Option Name) → partner net.book x ≡ o → SafeWith net x h o
 circuit_case net k x h i None e =

@@ -1,5 +1,5 @@
 -- Where an event stands among others, in the order in which they were told.
-use Rattle.std.specs.Prelude.{◌≡◌, List, [], ◌∷◌, ◌++◌}
+use Rattle.std.specs.Prelude.{◌≡◌, List, ◌∷◌, ◌++◌}
 use Rattle.circuit_set.specs.Books.{Event}
 
 -- One of these events is such a one, judged by those before it.

@@ -1,6 +1,6 @@
 -- That the notes of the book tell the same as the events: what comes too late by them comes too late.
-use Rattle.std.specs.Prelude.{ℕ, ◌↔◌, List}
-use Rattle.circuit_set.specs.Books.{Book, Event, Fresh, Name, Timely, empty}
+use Rattle.std.specs.Prelude.{◌↔◌, List}
+use Rattle.circuit_set.specs.Books.{Event, Fresh, Timely, empty}
 use Rattle.circuit_set.specs.Runs.{allowed}
 use Rattle.circuit_set.specs.TooLate.{AllowsByWindow, IsFresh, IsTimely, allows_fixed}
 

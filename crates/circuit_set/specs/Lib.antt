@@ -11,6 +11,7 @@ pub mod Among
 pub mod TooLate
 pub mod ByBook
 pub mod Runs
+pub mod Safe
 pub mod Examples
 pub mod Pumps
 pub mod Inputs

@@ -1,17 +1,13 @@
--- A run of sets at nodes, in which any datagram whatever may arrive and any node may start again, and Safe.
-use Rattle.std.specs.Prelude.{◌≡◌, ◌≢◌, ℕ, ◌+◌, ◌-◌, ◌*◌, ◌≤◌, ◌⊎◌, ◌↔◌, if◌then◌else◌, List, [], ◌∷◌, ◌++◌, nat_eq, take, slice_get, slice_set, Contains, Option, Some, None}
+-- A run of sets at nodes, in which any datagram whatever may arrive and any node may start again.
+use Rattle.std.specs.Prelude.{◌≡◌, ◌≢◌, ℕ, ◌+◌, ◌-◌, ◌*◌, ◌≤◌, if◌then◌else◌, List, [], ◌∷◌, ◌++◌, nat_eq, slice_get, slice_set, Option, Some, None}
 use Rattle.ax_address.specs.Callsign.{Callsign, IsCallsign}
 use Rattle.circuit_l4.specs.declared.plain.EndNotice.{EndNotice}
-use Rattle.circuit_l4.specs.declared.plain.EndNotice.TheVariants.{Opened, Closed, ClosedByPartner, FailedRetries}
-use Rattle.circuit_l4.specs.EndState.{State}
+use Rattle.circuit_l4.specs.declared.plain.EndNotice.TheVariants.{Opened}
 use Rattle.circuit_l4.specs.EndOpening.{IsConfig}
-use Rattle.circuit_set.specs.Heaps.{wholes}
-use Rattle.circuit_set.specs.Circuits.{IsBeginning}
 use Rattle.circuit_set.specs.Pairs.{IsPair}
 use Rattle.circuit_l4.specs.Expiries.{Moment, expiries}
 use Rattle.circuit_set.specs.Sets.{Act, Call, Calls, Closes, Comes, Connect, Discard, Restart, Takes, Ticks, Writes, Holder, SetState, Told, end_of, set_step}
 use Rattle.circuit_set.specs.Books.{Book, Event, MadeNote, Name, Timely, empty, noted_all, partner, same_name, was_asked}
-use Rattle.circuit_set.specs.TooLate.{AllowsByWindow, IsFresh, IsTimely}
 
 pub record Net : Type 0 where
   pub sets : List SetState
@@ -123,33 +119,7 @@ moments net (st ∷ sts) x = between (end_at net x) (tick_at st x) (end_at (net_
 abbrev pub expiries_in : List SetState → List Step → Name → ℕ
 expiries_in sets steps x = expiries (moments (begins sets) steps x)
 
--- ---- Safe ----
--- (a) to (c): what x wrote and its partner y received
-pub record SafeBetween (x y : State) (to_x to_y : List EndNotice) : Type 0 where
-  pub received : IsBeginning y.receiving.received x.sending.wrote
-  pub acked : IsBeginning (take (wholes x.sending.wrote x.sending.acked) x.sending.wrote) y.receiving.received
-  pub closed : Contains to_x Closed ⊎ Contains to_y ClosedByPartner → y.receiving.received ≡ x.sending.wrote
-
-pub record SafeAlone (x : State) : Type 0 where
-  pub received : x.receiving.received ≡ []
-  pub acked : x.sending.acked ≡ 0
-
-abbrev pub SafeWith : Net → Name → Holder → Option Name → Type 0
-SafeWith net x h None = SafeAlone h.end
-SafeWith net x h (Some y) =
-    (k : Holder) × (end_at net y ≡ Some k) × SafeBetween h.end k.end (told_to net.book.made x) (told_to net.book.made y)
-
--- and it was told that its retries are used up exactly where there was one expiry more than there are retries
-pub record SafeEnd (net : Net) (expired : ℕ) (x : Name) (h : Holder) : Type 0 where
-  pub circuit : SafeWith net x h (partner net.book x)
-  pub retries : Contains (told_to net.book.made x) FailedRetries ↔ (expired ≡ h.end.config.retries + 1)
-
--- what the steps have come to
-abbrev pub Safe : List SetState → List Step → Type 0
-Safe sets steps =
-    let net : Net = net_run (begins sets) steps in
-    (x : Name) (h : Holder) → end_at net x ≡ Some h → SafeEnd net (expiries_in sets steps x) x h
-
+-- ---- how many overtakers are too many ----
 -- the window that is told at an opening
 abbrev pub opened_window : List EndNotice → Option ℕ
 opened_window [] = None
@@ -167,13 +137,6 @@ partner_allowance b (Some y) = allowance (opened_window (told_to b.made y))
 -- how many overtakers are too many: by the window of that end of the circuit which a request has opened
 abbrev pub allowed : Book → Name → ℕ
 allowed b x = if was_asked b.made x then allowance (opened_window (told_to b.made x)) else partner_allowance b (partner b x)
-
--- at each moment of each run that is timely and fresh
-abbrev pub CircuitsSafe : Type 0
-CircuitsSafe =
-    (sets : List SetState) → AreStarts sets → (steps later : List Step) → AreSteps (steps ++ later)
-    → IsTimely AllowsByWindow (events_of sets (steps ++ later)) → IsFresh (events_of sets (steps ++ later))
-    → Safe sets steps
 
 -- a partner stays, and partners are two ends of which each is the other's
 abbrev pub PartnersStay : Type 0

@@ -16,7 +16,8 @@ ghost use Rattle.circuit_set.specs.Sendings.{SetsSendTheirOwn};
 ghost use Rattle.circuit_set.specs.Inputs.{ActsGo, HearsGo, HearsLostGoes, TellsGo, TellsLess, TicksGo};
 ghost use Rattle.circuit_set.specs.Examples.{CopyReturns, ForgedIsUnsafe, OneMoreIsTooMany, RestartIsStale};
 ghost use Rattle.circuit_set.specs.ByBook.{FreshByBook, TimelyBy128, TimelyByBook};
-ghost use Rattle.circuit_set.specs.Runs.{CircuitsSafe, NarrowIsTimely, PartnersStay, WindowsFit};
+ghost use Rattle.circuit_set.specs.Runs.{NarrowIsTimely, PartnersStay, WindowsFit};
+ghost use Rattle.circuit_set.specs.Safe.{CircuitsSafe, PartnersLast};
 
 /// At each moment of every run of several nodes' ends, in which any datagram whatever may come to any node and any node may
 /// start again, and which is timely and fresh (`IsTimely` and `IsFresh` in `specs/TooLate.antt`): each end that has a partner has
@@ -38,9 +39,10 @@ pub fn book_tells_what_is_late()
 {}
 
 /// In a timely run an end keeps its partner once it has one, and partners are two ends of which each is the other's: so no two
-/// ends have the same partner.
+/// ends have the same partner. By the notes of the book, and in a fresh run by the events.
 pub fn partners_stay()
-    ensures { PartnersStay }
+    ensures notes { PartnersStay }
+    ensures events { PartnersLast }
 {}
 
 /// At each moment of every run of nodes of which no two have one call, timely and fresh or not: of an end and its partner each has the call of

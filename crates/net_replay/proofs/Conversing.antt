@@ -1,13 +1,15 @@
 -- In a network in time each user agrees with the other end of its circuit.
 use Rattle.std.proofs.Common.{◌≡◌, ◌∙◌, ℕ, refl, sym, ap, subst, List, [], ◌∷◌, ◌++◌, append_assoc}
-use Rattle.std.specs.Prelude.{false, slice_get, Option, Some, None}
+use Rattle.std.specs.Prelude.{false, slice_get, Option, Some}
 use Rattle.std.specs.List.{AllByRecursion}
 use Rattle.circuit_l4.specs.Receiving.{inbox}
-use Rattle.circuit_set.specs.Books.{Name, Timely, empty, partner}
+use Rattle.circuit_set.specs.Books.{Event, Name}
 use Rattle.circuit_set.specs.Circuits.{IsBeginning}
 use Rattle.circuit_set.specs.ByBook.{FreshByBook, TimelyBy128, TimelyByBook}
-use Rattle.circuit_set.specs.Runs.{CircuitsSafe, NarrowIsTimely, Net, PartnersStay, Safe, SafeWith, allowed, begins, end_at, end_in, events_of, net_run}
-use Rattle.circuit_set.specs.Sets.{Holder, end_of}
+use Rattle.circuit_set.specs.Runs.{NarrowIsTimely, Net, Step, begins, end_at, end_in, events_of, net_run}
+use Rattle.circuit_set.specs.Safe.{CircuitsSafe, IsSafe, PartnersLast, Safe, SafeBetween}
+use Rattle.circuit_set.specs.Sets.{Holder, SetState, end_of}
+use Rattle.circuit_set.specs.TooLate.{Partners}
 use Rattle.network_file.specs.Laws.{SettingsFit}
 use Rattle.node_core.specs.Bridged.{Bridged, BridgedAt, IsBridged, IsEndsReader, IsEndsWriter, SessionsBridged, SessionsReadTheirEnds, SessionsWriteTheirEnds}
 use Rattle.node_core.specs.Fetching.{FetchesAllEntries, FetchesAllFrames}
@@ -15,7 +17,7 @@ use Rattle.node_core.specs.Sessions.{Session, waits}
 use Rattle.node_core.specs.States.{State}
 use Rattle.node_core.specs.Users.{is_deaf}
 use Rattle.net_replay.specs.CircuitRuns.{NetworksAreSound, WorldsAreRuns, first_sets}
-use Rattle.net_replay.specs.Conversations.{AgreeWith, AgreesAt, InTimeUsersAgree, IsSession, WritesTexts}
+use Rattle.net_replay.specs.Conversations.{Agree, AgreeWith, AgreesAt, InTimeUsersAgree, IsSession, WritesTexts}
 use Rattle.net_replay.specs.Lines.{do_lines}
 use Rattle.net_replay.specs.Starting.{Placed}
 use Rattle.net_replay.specs.World.{World, start}
@@ -35,7 +37,13 @@ all_agree : (P Q R S : Session → Type 0) → ((s : Session) → P s → Q s �
 all_agree P Q R S f [] a b c = tt
 all_agree P Q R S f (s ∷ ss) a b c = (f s a.0 b.0 c.0, all_agree P Q R S f ss a.1 b.1 c.1)
 
-module _ (net : Net) (safe : (x : Name) (h : Holder) → end_at net x ≡ Some h → SafeWith net x h (partner net.book x)) (back : (x y : Name) → partner net.book x ≡ Some y → partner net.book y ≡ Some x) where
+module _ (sets : List SetState) (steps : List Step) (safe : Safe sets steps) (back : (x y : Name) → Partners (events_of sets steps) x y → Partners (events_of sets steps) y x) where
+  abbrev events : List Event
+  events = events_of sets steps
+
+  abbrev net : Net
+  net = net_run (begins sets) steps
+
   -- the end of a session whose circuit stands, with what it has written and received
   record Stands (x : Name) (n : State) (s : Session) : Type 0 where
     end : Holder
@@ -49,29 +57,30 @@ module _ (net : Net) (safe : (x : Name) (h : Holder) → end_at net x ≡ Some h
   bridged_wrote : (x : Name) (n : State) (s : Session) (t : Stands x n s) → s.bridge.taken ≡ t.end.end.sending.wrote ++ waits s.rest
   bridged_wrote x n s t = t.bridged.writes t.quiet ∙ ap (λ ms. ms ++ waits s.rest) (sym t.wrote)
 
-  agree_with : (x : Name) (n : State) (s : Session) (t : Stands x n s) (o : Option Name) → partner net.book x ≡ o → SafeWith net x t.end o → AgreeWith net n s o
-  agree_with x n s t None e alone = λ hears. t.bridged.gives t.quiet hears ∙ nothing s.bridge.got (inbox t.end.end.receiving) (sym t.received ∙ alone.received)
-  agree_with x n s t (Some y) e with_y =
-      let there = subst (SafeWith net y with_y.0) (back x y e) (safe y with_y.0 with_y.1) in
-      let same : there.0 ≡ t.end = one_end (end_at net x) t.here there.1 in
-      let sent = with_y.2.received in
-      let came = there.2.received in
-      let got : with_y.0.end.sending.wrote ≡ (s.bridge.got ++ inbox t.end.end.receiving) ++ came.0 =
-      came.1 ∙ ap (λ ms. ms ++ came.0) (ap (λ (h : Holder). h.end.receiving.received) same ∙ t.received) in (
-        with_y.0,
-        with_y.1,
-        record {
-          given = λ hears.
-              (inbox t.end.end.receiving ++ came.0, got ∙ (append_assoc s.bridge.got (inbox t.end.end.receiving) came.0 ∙ ap (λ ms. ms ++ (inbox t.end.end.receiving ++ came.0)) (sym (t.bridged.gives t.quiet hears))));
-          received = (
-            sent.0 ++ waits s.rest,
-            bridged_wrote x n s t ∙ (ap (λ ms. ms ++ waits s.rest) sent.1 ∙ append_assoc with_y.0.end.receiving.received sent.0 (waits s.rest)),
-          );
-        },
-      )
+  agree_with : (x y : Name) (n : State) (s : Session) (t : Stands x n s) (k : Holder) → SafeBetween events x y t.end.end k.end → SafeBetween events y x k.end t.end.end → Agree n s k.end
+  agree_with x y n s t k to from =
+      let sent = to.received in
+      let came = from.received in
+      let got : k.end.sending.wrote ≡ (s.bridge.got ++ inbox t.end.end.receiving) ++ came.0 = came.1 ∙ ap (λ ms. ms ++ came.0) t.received in
+      record {
+        given = λ hears.
+            (inbox t.end.end.receiving ++ came.0, got ∙ (append_assoc s.bridge.got (inbox t.end.end.receiving) came.0 ∙ ap (λ ms. ms ++ (inbox t.end.end.receiving ++ came.0)) (sym (t.bridged.gives t.quiet hears))));
+        received = (
+          sent.0 ++ waits s.rest,
+          bridged_wrote x n s t ∙ (ap (λ ms. ms ++ waits s.rest) sent.1 ∙ append_assoc k.end.receiving.received sent.0 (waits s.rest)),
+        );
+      }
+
+  agrees_with : (x : Name) (n : State) (s : Session) (t : Stands x n s) → IsSafe sets steps net x t.end → AgreeWith events net n x s
+  agrees_with x n s t is = record {
+    joined = λ y j. (let k = is.partner y j in
+        let there : IsSafe sets steps net y k.0 = safe y k.0 k.1 in
+        (k.0, k.1, agree_with x y n s t k.0 (is.end.joined y k.0 j k.1) (there.end.joined x t.end (back x y j) t.here)));
+    alone = λ none hears. t.bridged.gives t.quiet hears ∙ nothing s.bridge.got (inbox t.end.end.receiving) (sym t.received ∙ (is.end.alone none).received);
+  }
 
   agrees : (place : ℕ) (n : State) → ((id : ℕ) (h : Holder) → end_of id n.set.set.ends ≡ Some h → end_at net (record { node = place; id = id }) ≡ Some h)
-      → (s : Session) → IsBridged n s → IsEndsWriter n s → IsEndsReader n s → AgreesAt net place n s
+      → (s : Session) → IsBridged n s → IsEndsWriter n s → IsEndsReader n s → AgreesAt events net place n s
   agrees place n held s bridged writes reads c stands quiet =
       let x : Name = record { node = place; id = c.id } in
       let w = writes c stands in
@@ -83,10 +92,8 @@ module _ (net : Net) (safe : (x : Name) (h : Holder) → end_at net x ≡ Some h
         received = subst (λ (h : Holder). h.end.receiving.received ≡ s.bridge.got ++ inbox h.end.receiving) (one_end (end_of c.id n.set.set.ends) w.1 r.1) r.2;
         bridged = subst (λ st. BridgedAt st n s) stands bridged;
         quiet = quiet;
-      } in (
-        record { end = t.end; here = t.here; wrote = (waits s.rest, bridged_wrote x n s t) },
-        agree_with x n s t (partner net.book x) refl (safe x w.0 t.here),
-      )
+      } in
+      (record { end = t.end; here = t.here; wrote = (waits s.rest, bridged_wrote x n s t) }, agrees_with x n s t (safe x w.0 t.here))
 
 -- ---- from user to user
 
@@ -96,15 +103,15 @@ both_begin xs ys zs a b = (a.0 ++ b.0, b.1 ∙ (ap (λ ms. ms ++ b.0) a.1 ∙ ap
 abbrev name : ℕ → ℕ → Name
 name node id = record { node = node; id = id }
 
-module _ (w : World) (net : Net) (users : (at : ℕ) (p : Placed) → slice_get w.nodes at ≡ Some p → AllByRecursion (AgreesAt net at p.state.station) p.state.station.sessions) where
-  agrees_there : (x : Name) (p : Placed) (s : Session) → IsSession w x p s → WritesTexts net x s × AgreeWith net p.state.station s (partner net.book x)
+module _ (w : World) (events : List Event) (net : Net) (users : (at : ℕ) (p : Placed) → slice_get w.nodes at ≡ Some p → AllByRecursion (AgreesAt events net at p.state.station) p.state.station.sessions) where
+  agrees_there : (x : Name) (p : Placed) (s : Session) → IsSession w x p s → WritesTexts net x s × AgreeWith events net p.state.station x s
   agrees_there x p s i =
-      subst (λ z. WritesTexts net z s × AgreeWith net p.state.station s (partner net.book z)) (ap (name x.node) i.end)
-      (one_in (AgreesAt net x.node p.state.station) p.state.station.sessions s (users x.node p i.there) i.among i.circuit i.stands i.quiet)
+      subst (λ z. WritesTexts net z s × AgreeWith events net p.state.station z s) (ap (name x.node) i.end)
+      (one_in (AgreesAt events net x.node p.state.station) p.state.station.sessions s (users x.node p i.there) i.among i.circuit i.stands i.quiet)
 
-  between_users : (x y : Name) (p q : Placed) (s t : Session) → IsSession w x p s → IsSession w y q t → partner net.book x ≡ Some y → is_deaf s p.state.station ≡ false → IsBeginning s.bridge.gave t.bridge.taken
+  between_users : (x y : Name) (p q : Placed) (s t : Session) → IsSession w x p s → IsSession w y q t → Partners events x y → is_deaf s p.state.station ≡ false → IsBeginning s.bridge.gave t.bridge.taken
   between_users x y p q s t i j e hears =
-      let with_y : AgreeWith net p.state.station s (Some y) = subst (AgreeWith net p.state.station s) e (agrees_there x p s i).1 in
+      let with_y = (agrees_there x p s i).1.joined y e in
       let wrote : WritesTexts net y t = (agrees_there y q t j).0 in
       let same : with_y.0 ≡ wrote.end = one_end (end_at net y) wrote.here with_y.1 in
       both_begin s.bridge.gave with_y.0.end.sending.wrote t.bridge.taken (with_y.2.given hears)
@@ -112,22 +119,22 @@ module _ (w : World) (net : Net) (users : (at : ℕ) (p : Placed) → slice_get 
 
 -- ---- in time
 
-pub in_time_users_agree : FreshByBook → TimelyByBook → TimelyBy128 → NetworksAreSound → WorldsAreRuns → CircuitsSafe → PartnersStay → NarrowIsTimely → SettingsFit → SessionsBridged → SessionsWriteTheirEnds → SessionsReadTheirEnds → FetchesAllEntries → FetchesAllFrames → InTimeUsersAgree
-in_time_users_agree pairs by_window by_128 sounds runs circuits_safe stay narrow fit bridged writes reads entries sent bytes plan e v done later is =
+pub in_time_users_agree : FreshByBook → TimelyByBook → TimelyBy128 → NetworksAreSound → WorldsAreRuns → CircuitsSafe → PartnersLast → NarrowIsTimely → SettingsFit → SessionsBridged → SessionsWriteTheirEnds → SessionsReadTheirEnds → FetchesAllEntries → FetchesAllFrames → InTimeUsersAgree
+in_time_users_agree pairs by_window by_128 sounds runs circuits_safe last narrow fit bridged writes reads entries sent bytes plan e v done later is =
     let t : InTime plan done later = in_time pairs by_window by_128 sounds runs narrow fit bytes plan e v done later is in
     let starts = (sounds bytes plan e).starts in
-    let net : Net = net_run (begins (first_sets plan)) t.runs.steps in
-    let told = events_of (first_sets plan) (t.runs.steps ++ t.runs.then) in
-    let noted : Timely allowed empty told = (by_window told ((pairs told).1 t.fresh)).1 t.timely in
-    let safe : Safe (first_sets plan) t.runs.steps = circuits_safe (first_sets plan) starts t.runs.steps t.runs.then t.runs.all.are t.timely t.fresh in
+    let steps : List Step = t.runs.steps in
+    let events : List Event = events_of (first_sets plan) steps in
+    let net : Net = net_run (begins (first_sets plan)) steps in
+    let safe : Safe (first_sets plan) steps = circuits_safe (first_sets plan) starts steps t.runs.then t.runs.all.are t.timely t.fresh in
     let w : World = do_lines plan done (start plan) in
     let led : AllLed w = lines_led entries sent plan (sounds bytes plan e) done later is in
-    let users : (at : ℕ) (p : Placed) → slice_get w.nodes at ≡ Some p → AllByRecursion (AgreesAt net at p.state.station) p.state.station.sessions =
+    let users : (at : ℕ) (p : Placed) → slice_get w.nodes at ≡ Some p → AllByRecursion (AgreesAt events net at p.state.station) p.state.station.sessions =
     λ at p f.
     (let l = led at p f in
     let remembers = t.runs.is.nodes at p f in
-    all_agree (IsBridged p.state.station) (IsEndsWriter p.state.station) (IsEndsReader p.state.station) (AgreesAt net at p.state.station)
-    (agrees net (λ x h here. (safe x h here).circuit) (λ x y f. (stay (first_sets plan) starts t.runs.steps t.runs.then t.runs.all.are noted x y f).1) at p.state.station
+    all_agree (IsBridged p.state.station) (IsEndsWriter p.state.station) (IsEndsReader p.state.station) (AgreesAt events net at p.state.station)
+    (agrees (first_sets plan) steps safe (λ x y j. (last (first_sets plan) starts steps t.runs.then t.runs.all.are t.timely t.fresh x y j).1) at p.state.station
     (λ id h here. ap (λ o. end_in o id) remembers.1 ∙ remembers.2.held id h here))
     p.state.station.sessions (sessions_of IsBridged bridged p l) (sessions_of IsEndsWriter writes p l) (sessions_of IsEndsReader reads p l)) in
-    record { steps = t.runs.steps; run = t.runs.is; users = users; between = between_users w net users }
+    record { steps = steps; run = t.runs.is; users = users; between = between_users w events net users }

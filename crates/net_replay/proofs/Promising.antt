@@ -1,12 +1,14 @@
 -- A network of which no datagram and no pair comes back too late is safe at each line.
 use Rattle.std.proofs.Common.{◌≡◌, ◌∙◌, ◌≤◌, ℕ, refl, sym, ap, subst, arith, List, [], ◌∷◌, ◌++◌, append_assoc, map, Bool, true, false, cond}
-use Rattle.std.specs.Prelude.{◌&&◌, ◌||◌, ◌==◌, nat_le, find, unwrap_or, None, Ok, Some}
+use Rattle.std.specs.Prelude.{◌&&◌, ◌||◌, ◌==◌, nat_le, find, slice_get, unwrap_or, Option, None, Ok, Some}
 use Rattle.std.specs.Option.{option_map}
 use Rattle.std.specs.List.{AllByRecursion}
-use Rattle.circuit_set.specs.Books.{Fresh, empty}
+use Rattle.circuit_set.specs.Books.{Fresh, Name, empty}
 use Rattle.circuit_set.specs.ByBook.{FreshByBook, TimelyBy128, TimelyByBook}
 use Rattle.circuit_set.specs.TooLate.{AllowsByWindow, IsFresh, IsTimely}
-use Rattle.circuit_set.specs.Runs.{AreNarrow, AreStarts, AreSteps, CircuitsSafe, NarrowIsTimely, Step, events_of}
+use Rattle.circuit_set.specs.Runs.{AreNarrow, AreStarts, AreSteps, Net, NarrowIsTimely, Step, begins, end_at, end_in, events_of, net_run}
+use Rattle.circuit_set.specs.Safe.{CircuitsSafe, IsSafe, Safe, SafeEnd}
+use Rattle.circuit_set.specs.Sets.{Holder}
 use Rattle.circuit_verdict.specs.declared.event.Numbered.{Numbered}
 use Rattle.circuit_verdict.specs.Events as verdicts
 use Rattle.circuit_verdict.specs.declared.verdict.Allowance.TheVariants as verdicts_at
@@ -20,11 +22,12 @@ use Rattle.network_file.specs.Laws.{SettingsFit}
 use Rattle.network_file.specs.Networks.{network_of}
 use Rattle.network_file.specs.Plan.{Plan, version_of}
 use Rattle.network_file.specs.Settings.{is_of, same_key, value_of}
-use Rattle.net_replay.specs.CircuitRuns.{NetworksAreSound, RunsThrough, WorldsAreRuns, first_sets, set_of}
-use Rattle.net_replay.specs.Circuits.{CircuitEvent, IsVerdictOn, allowance_of, judged}
-use Rattle.net_replay.specs.Lines.{world}
-use Rattle.net_replay.specs.Promises.{InTimeIsSafe}
-use Rattle.net_replay.specs.Starting.{by_number, new_placed}
+use Rattle.net_replay.specs.CircuitRuns.{IsRunOf, NetworksAreSound, RunsThrough, WorldsAreRuns, first_sets, set_of}
+use Rattle.net_replay.specs.Circuits.{CircuitEvent, IsVerdictOn, allowance_of, circuit_events, judged}
+use Rattle.net_replay.specs.Lines.{do_lines, world}
+use Rattle.net_replay.specs.Promises.{InTimeIsSafe, SafeNow, end_now, end_with}
+use Rattle.net_replay.specs.Starting.{Placed, by_number, new_placed}
+use Rattle.net_replay.specs.World.{World, start}
 use Rattle.net_replay.proofs.Moving.{set_is}
 
 -- ---- before version 3 no window is above 64
@@ -95,11 +98,31 @@ in_time pairs by_window by_128 sounds runs narrow fit bytes plan e v done later 
       fresh = fresh;
     }
 
+-- ---- the ends that the nodes know of
+module _ (plan : Plan) (steps : List Step) (w : World) (run : IsRunOf plan steps w) where
+  abbrev net : Net
+  net = net_run (begins (first_sets plan)) steps
+
+  held_case : (x : Name) (h : Holder) (o : Option Placed) → slice_get w.nodes x.node ≡ o → end_with o x.id ≡ Some h → end_at net x ≡ Some h
+  held_case x h None e q = absurd (cc q)
+  held_case x h (Some p) e q = let r = run.nodes x.node p e in ap (λ o. end_in o x.id) r.1 ∙ r.2.held x.id h q
+
+  -- the run has them
+  pub held : (x : Name) (h : Holder) → end_now w x ≡ Some h → end_at net x ≡ Some h
+  held x h q = held_case x h (slice_get w.nodes x.node) refl q
+
+  pub safe_now : Safe (first_sets plan) steps → SafeNow w
+  safe_now safe x h q =
+      let s : IsSafe (first_sets plan) steps net x h = safe x h (held x h q) in
+      let t : SafeEnd (map (λ e. e.event) (circuit_events w)) (end_at net) x h = subst (λ es. SafeEnd es (end_at net) x h) (sym run.told) s.end in
+      record { joined = λ y k j there. t.joined y k j (held y k there); alone = t.alone }
+
 pub in_time_is_safe : FreshByBook → TimelyByBook → TimelyBy128 → NetworksAreSound → WorldsAreRuns → CircuitsSafe → NarrowIsTimely → SettingsFit → InTimeIsSafe
 in_time_is_safe pairs by_window by_128 sounds runs safe narrow fit bytes plan e v done later is =
     let t : InTime plan done later = in_time pairs by_window by_128 sounds runs narrow fit bytes plan e v done later is in
     let r : RunsThrough plan done later = t.runs in
     record {
+      now = safe_now plan r.steps (do_lines plan done (start plan)) r.is (safe (first_sets plan) (sounds bytes plan e).starts r.steps r.then r.all.are t.timely t.fresh);
       steps = r.steps;
       run = r.is;
       safe = λ before after s. (let whole : r.steps ++ r.then ≡ before ++ (after ++ r.then) = ap (λ xs. xs ++ r.then) s ∙ append_assoc before after r.then in

@@ -1,11 +1,12 @@
 -- What goes between a user at a prompt and the other end of its circuit, in a network in time. Own profile.
-use Rattle.std.specs.Prelude.{ℕ, ◌≡◌, false, List, [], ◌++◌, slice_get, Contains, Option, Some, None, Ok}
+use Rattle.std.specs.Prelude.{ℕ, ◌≡◌, false, List, [], ◌++◌, slice_get, Contains, Some, None, Ok}
 use Rattle.std.specs.List.{AllByRecursion}
 use Rattle.circuit_l4.specs.EndState as ends
-use Rattle.circuit_set.specs.Books.{Name, partner}
+use Rattle.circuit_set.specs.Books.{Event, Name}
 use Rattle.circuit_set.specs.Circuits.{IsBeginning}
-use Rattle.circuit_set.specs.Runs.{Net, Step, begins, end_at, net_run}
+use Rattle.circuit_set.specs.Runs.{Net, Step, begins, end_at, events_of, net_run}
 use Rattle.circuit_set.specs.Sets.{Holder}
+use Rattle.circuit_set.specs.TooLate.{HasPartner, Partners}
 use Rattle.network_file.specs.declared.network.NumberedInstruction.{NumberedInstruction}
 use Rattle.network_file.specs.Networks.{network_of}
 use Rattle.network_file.specs.Plan.{Plan}
@@ -32,16 +33,16 @@ pub record Agree (n : State) (s : Session) (other : ends.State) : Type 0 where
   pub given : is_deaf s n ≡ false → IsBeginning s.bridge.gave other.sending.wrote
   pub received : IsBeginning other.receiving.received s.bridge.taken
 
--- where the circuit has no other end, the user was given nothing
-abbrev pub AgreeWith : Net → State → Session → Option Name → Type 0
-AgreeWith net n s None = is_deaf s n ≡ false → s.bridge.gave ≡ []
-AgreeWith net n s (Some y) = (k : Holder) × (end_at net y ≡ Some k) × Agree n s k.end
+-- Of a user and the end x of its circuit here: it agrees with the other end, by what was told; and where there is none, it was given nothing.
+pub record AgreeWith (events : List Event) (net : Net) (n : State) (x : Name) (s : Session) : Type 0 where
+  pub joined : (y : Name) → Partners events x y → (k : Holder) × (end_at net y ≡ Some k) × Agree n s k.end
+  pub alone : (HasPartner events x → ⊥) → is_deaf s n ≡ false → s.bridge.gave ≡ []
 
 -- so it is of a session at the node of a place while its circuit stands, unless the numbers of fragments have come to their end
-abbrev pub AgreesAt : Net → ℕ → State → Session → Type 0
-AgreesAt net place n s =
+abbrev pub AgreesAt : List Event → Net → ℕ → State → Session → Type 0
+AgreesAt events net place n s =
     (c : Circuit) → s.stage ≡ Connected c → s.bridge.exhausted ≡ false
-    → let x : Name = record { node = place; id = c.id } in WritesTexts net x s × AgreeWith net n s (partner net.book x)
+    → let x : Name = record { node = place; id = c.id } in WritesTexts net x s × AgreeWith events net n x s
 
 -- such a session of a node in the network, whose circuit has this end here
 pub record IsSession (w : World) (x : Name) (p : Placed) (s : Session) : Type 0 where
@@ -58,9 +59,9 @@ pub record UsersAgreeAt (plan : Plan) (done : List NumberedInstruction) : Type 0
   pub steps : List Step
   pub run : IsRunOf plan steps (do_lines plan done (start plan))
   pub users : (at : ℕ) (p : Placed) → slice_get (do_lines plan done (start plan)).nodes at ≡ Some p
-      → AllByRecursion (AgreesAt (net_run (begins (first_sets plan)) steps) at p.state.station) p.state.station.sessions
+      → AllByRecursion (AgreesAt (events_of (first_sets plan) steps) (net_run (begins (first_sets plan)) steps) at p.state.station) p.state.station.sessions
   pub between : (x y : Name) (p q : Placed) (s t : Session) → IsSession (do_lines plan done (start plan)) x p s → IsSession (do_lines plan done (start plan)) y q t
-      → partner (net_run (begins (first_sets plan)) steps).book x ≡ Some y → is_deaf s p.state.station ≡ false → IsBeginning s.bridge.gave t.bridge.taken
+      → Partners (events_of (first_sets plan) steps) x y → is_deaf s p.state.station ≡ false → IsBeginning s.bridge.gave t.bridge.taken
 
 -- so it is at each line of each file of which no datagram and no pair comes back too late
 abbrev pub InTimeUsersAgree : Type 0

@@ -1,20 +1,38 @@
 -- What is promised of the circuits of every network. Own profile.
-use Rattle.std.specs.Prelude.{ℕ, ◌≡◌, List, ◌++◌, None, Ok}
+use Rattle.std.specs.Prelude.{ℕ, ◌≡◌, List, ◌++◌, map, slice_get, Option, Some, None, Ok}
+use Rattle.circuit_set.specs.Books.{Name}
 use Rattle.circuit_set.specs.Retries.{TellsRetries}
-use Rattle.circuit_set.specs.Runs.{Safe, Step}
+use Rattle.circuit_set.specs.Runs.{Step}
+use Rattle.circuit_set.specs.Safe.{Safe, SafeEnd}
+use Rattle.circuit_set.specs.Sets.{Holder, end_of}
 use Rattle.network_file.specs.declared.network.NumberedInstruction.{NumberedInstruction}
 use Rattle.network_file.specs.Networks.{network_of}
 use Rattle.network_file.specs.Plan.{Plan}
-use Rattle.net_replay.specs.CircuitRuns.{IsRunOf, first_sets}
-use Rattle.net_replay.specs.Circuits.{IsVerdictOn}
+use Rattle.net_replay.specs.CircuitRuns.{IsRunOf, first_sets, set_of}
+use Rattle.net_replay.specs.Circuits.{IsVerdictOn, circuit_events}
 use Rattle.net_replay.specs.Lines.{do_lines, world}
-use Rattle.net_replay.specs.World.{start}
+use Rattle.net_replay.specs.Starting.{Placed}
+use Rattle.net_replay.specs.World.{World, start}
 
--- What the lines of a front of a file have come to is a run of the nodes' circuits, and at each moment of that run each end has received
--- a beginning of what its partner wrote, with every message that is acknowledged in it, and all of it after an orderly close; an end
--- without a partner has received nothing; and an end is told that its retries are used up exactly where there was one expiry more than
--- there are retries (`Safe`).
+-- the end of this number that a node knows of
+abbrev pub end_with : Option Placed → ℕ → Option Holder
+end_with None id = None
+end_with (Some p) id = end_of id (set_of p).ends
+
+abbrev pub end_now : World → Name → Option Holder
+end_now w x = end_with (slice_get w.nodes x.node) x.id
+
+-- Of each end that a node knows of, and its partner by what was told of circuits, where a node knows of that: each has received a beginning of
+-- what the other wrote, with every message that is acknowledged in it, and all of it after an orderly close. An end without a partner has received
+-- nothing.
+abbrev pub SafeNow : World → Type 0
+SafeNow w = (x : Name) (h : Holder) → end_now w x ≡ Some h → SafeEnd (map (λ e. e.event) (circuit_events w)) (end_now w) x h
+
+-- So it is when the lines of a front of a file are done. What these have come to is a run of the nodes' circuits, and so it is at each moment of
+-- that run of the ends that it has, with those that a node forgot as it started again; and an end is told that its retries are used up exactly
+-- where there was one expiry more than there are retries (`Safe`).
 pub record IsSafeAt (plan : Plan) (done : List NumberedInstruction) : Type 0 where
+  pub now : SafeNow (do_lines plan done (start plan))
   pub steps : List Step
   pub run : IsRunOf plan steps (do_lines plan done (start plan))
   pub safe : (before after : List Step) → steps ≡ before ++ after → Safe (first_sets plan) before

@@ -25,7 +25,8 @@ pub fn worlds_are_circuit_runs()
 }
 
 /// Where no datagram and no pair comes back too late, each circuit user has received, at each line, exactly a beginning of its partner's
-/// messages, with every acknowledged one, and all of them after an orderly close.
+/// messages, with every acknowledged one, and all of them after an orderly close: of the ends that the nodes know of when the line is done, by what
+/// was told until then (`SafeNow`), and at each moment within the line, by the steps that led there.
 pub fn in_time_is_safe()
     ensures { InTimeIsSafe }
 {
