@@ -12,10 +12,13 @@ use Rattle.circuit_l4.specs.EndState.{Effect, State, begin}
 use Rattle.circuit_l4.specs.EndLaws.{followed_by, after_inputs}
 use Rattle.circuit_l4.specs.EndTable.{Input, Arrive, Write, Tick, Close, Take, step}
 use Rattle.circuit_set.specs.Lines.{Elem, count_from}
-use Rattle.circuit_set.specs.Circuits.{ComesInTime, Flight, IsCall, PairOk, Side, comes, hear, heard_it, heeds, hear_text, now_at}
+use Rattle.circuit_set.specs.Circuits.{ComesInTime, Flight, IsCall, PairOk, Side, comes, hear, heard_it, hear_text, now_at}
+use Rattle.circuit_set.specs.Heeds.{heeds}
+use Rattle.circuit_set.specs.Events.{Name, is_copy, same_name}
+use Rattle.circuit_set.specs.NotedRuns.{Net, allowance, allowed, opened_window, partner_allowance, told_to}
 use Rattle.circuit_set.specs.Sets.{Call, Closes, Holder, SetState, Takes, Ticks, Heeded, Writes, accept_again, end_of, goes_to, input_of, is_over, told_by}
-use Rattle.circuit_set.specs.Books.{was_asked, Book, HeardNote, Name, SentNote, TimelyTo, has, heard_number, heard_sending, is_copy, is_number, latest_by, latest_in, noted, noted_all, overtakers, partner, same_name}
-use Rattle.circuit_set.specs.Runs.{Net, allowance, allowed, opened_window, partner_allowance, end_in, events_at, told_to}
+use Rattle.circuit_set.specs.Books.{was_asked, Book, HeardNote, SentNote, TimelyTo, has, heard_number, heard_sending, is_number, latest_by, latest_in, noted, noted_all, overtakers, partner}
+use Rattle.circuit_set.specs.Runs.{end_in, events_at}
 use Rattle.circuit_set.proofs.Bridge.{TopAt, WasSent, bridge, heard_of}
 use Rattle.circuit_set.proofs.Copies.{copy_reads}
 use Rattle.circuit_set.proofs.Lookups.{partner_asked, hears, hears_not}

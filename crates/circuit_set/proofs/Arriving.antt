@@ -14,7 +14,7 @@ use Rattle.circuit_set.specs.declared.holder.Holder.{Holder}
 use Rattle.circuit_set.specs.declared.holder.Untold.{Untold}
 use Rattle.circuit_set.specs.declared.holder.Untold.TheVariants as untold
 use Rattle.circuit_set.specs.declared.held_ends.HeldEnds.{HeldEnds}
-use Rattle.circuit_set.specs.Circuits.{heeds}
+use Rattle.circuit_set.specs.Heeds.{heeds}
 use Rattle.circuit_set.specs.Sets as sets
 use Rattle.circuit_set.specs.Sets.{SetDone, SetState, Told, arrives_at, end_of, first_open, goes_to, handed, named_by}
 use Rattle.circuit_set.specs.Standing.{FirstFit, Gives, Hands, HeldStands, SameNode, counted, of_holder}

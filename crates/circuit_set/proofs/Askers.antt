@@ -9,9 +9,11 @@ use Rattle.l3_datagram.specs.declared.datagram.DatagramHead.{DatagramHead}
 use Rattle.circuit_l4.specs.declared.transport.Pair.{Pair}
 use Rattle.circuit_l4.specs.declared.plain.EndNotice.{EndNotice}
 use Rattle.circuit_l4.specs.EndState.{State}
-use Rattle.circuit_set.specs.Books.{HasRequester, MadeNote, Name, NoOther, any_ends, asked_by, has_sent, if_asked, is_unknown, made_last, partner, requester, same_name}
+use Rattle.circuit_set.specs.Books.{HasRequester, MadeNote, NoOther, any_ends, asked_by, has_sent, if_asked, is_unknown, made_last, partner, requester}
+use Rattle.circuit_set.specs.Events.{Name, same_name}
+use Rattle.circuit_set.specs.NotedRuns.{Net, end_at, told_to}
 use Rattle.circuit_set.specs.Returning.{IsReturn}
-use Rattle.circuit_set.specs.Runs.{Net, end_at, end_in, told_to}
+use Rattle.circuit_set.specs.Runs.{end_in}
 use Rattle.circuit_set.specs.Sets.{Act, Holder, SetState, asked_with, end_of, first_open, has_ended, is_open, opened_by, same_pair}
 use Rattle.circuit_set.proofs.Bridge.{name_itself, same_names}
 use Rattle.circuit_set.proofs.Cases.{Opener}

@@ -2,9 +2,10 @@
 use Rattle.std.specs.Prelude.{◌≡◌, ℕ, suc, ◌+◌, ◌-◌, ◌*◌, ◌<◌, Bool, true, false, if◌then◌else◌, List, [], ◌∷◌, ◌++◌, length, Contains, Option, Some, None, refl}
 use Rattle.std.proofs.Common.{sym, ◌∙◌, ap, subst, inl, inr, arith, append_assoc, length-append}
 use Rattle.circuit_l4.specs.declared.transport.Pair.{Pair}
-use Rattle.circuit_set.specs.Books.{Book, Event, Fresh, FreshTold, HasRequester, MadeNote, Name, NoOther, SentNote, Timely, TimelyTo, TimelyTold, any_ends, empty, is_lost, latest_in, overtakers, partner, partner_in, was_asked}
+use Rattle.circuit_set.specs.Books.{Book, Fresh, FreshTold, HasRequester, MadeNote, NoOther, SentNote, Timely, TimelyTo, TimelyTold, any_ends, empty, is_lost, latest_in, overtakers, partner, partner_in, was_asked}
+use Rattle.circuit_set.specs.Events.{Event, Name}
+use Rattle.circuit_set.specs.NotedRuns.{allowance, allowed, opened_window, partner_allowance, told_to}
 use Rattle.circuit_set.specs.ByBook.{FreshByBook, TimelyBy128, TimelyByBook}
-use Rattle.circuit_set.specs.Runs.{allowance, allowed, opened_window, partner_allowance, told_to}
 use Rattle.circuit_set.specs.Sets.{Told, Made, Sent, Heeded, Notice, Gone, Restarted, Lost}
 use Rattle.circuit_set.specs.TooLate.{Allowing, AllowsByWindow, Gives, InTime, IsFresh, IsNew, IsOpen, IsTimely, OpenedWith, Tells, allows_fixed}
 use Rattle.circuit_set.proofs.Among.{by_snoc, none_split, snoc_split}

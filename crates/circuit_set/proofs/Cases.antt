@@ -21,11 +21,11 @@ use Rattle.circuit_l4.specs.EndLaws as laws
 use Rattle.circuit_l4.specs.EndLaws.{Accepts, Asks}
 use Rattle.circuit_l4.specs.EndTable.{Arrive, step}
 use Rattle.circuit_l4.specs.EndOpening.{facts_of, requesting, responding}
-use Rattle.circuit_set.specs.Circuits.{heeds}
+use Rattle.circuit_set.specs.Heeds.{heeds}
+use Rattle.circuit_set.specs.NotedRuns.{opened_window}
 use Rattle.circuit_set.specs.Sets.{Act, Call, Writes, Ticks, Closes, Takes, Calls, Comes, Connect, Discard, Restart, Sent, Heeded, Gone, Holder, SetDone, SetState, accept_again, arrives_at, called, datagram_to, discarded, end_of, first_open, goes_to, handed, handed_up, has_ended, input_of, is_full, is_open, made, named_by, new_pair, opened_by, read_as, received, requested_anew, requests, responds, set_step, untold, with_end}
 use Rattle.circuit_set.specs.Books.{any_ends}
 use Rattle.circuit_set.specs.Givings.{IsUp}
-use Rattle.circuit_set.specs.Runs.{opened_window}
 use Rattle.circuit_set.proofs.Acts.{call_names, lives_on, lives_same}
 use Rattle.circuit_set.proofs.Asks as asking
 use Rattle.circuit_set.proofs.Ended.{Ends, SendsOn, accept_opens, step_ends, step_sends_on}

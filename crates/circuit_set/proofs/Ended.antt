@@ -20,8 +20,9 @@ use Rattle.circuit_l4.specs.EndLaws.{Accepts, Asks, IsNew, after_inputs, followe
 use Rattle.circuit_l4.specs.EndTable.{Input, Write, Arrive, Tick, Close, Take, arrive_in, ask_by, close_in_turn, due_in, expire, note_activity, is_due, may_close, release, common_window, come_up, resume_by, retry, retry_in, step, step_at, take_from, write_answer, write}
 use Rattle.circuit_l4.specs.Receiving.{Appended, Receipt, busy, receive, without_first, inbox, moved_on}
 use Rattle.circuit_l4.specs.Sending.{total, written}
-use Rattle.circuit_set.specs.Books.{any_ends, ends_it}
-use Rattle.circuit_set.specs.Runs.{opened_window}
+use Rattle.circuit_set.specs.Books.{any_ends}
+use Rattle.circuit_set.specs.Events.{ends_it}
+use Rattle.circuit_set.specs.NotedRuns.{opened_window}
 use Rattle.circuit_set.specs.Sets.{has_ended}
 use Rattle.circuit_set.proofs.Lasting.{Core, acknowledges, fills as fill_keeps, if_out}
 use Rattle.circuit_set.proofs.Names.{AcceptsNone, is_accept, step_same}

@@ -6,8 +6,10 @@ use Rattle.circuit_l4.specs.declared.plain.EndNotice.TheVariants.{Opened}
 use Rattle.circuit_l4.specs.Reading as reading
 use Rattle.circuit_l4.specs.Reading.{transport_at}
 use Rattle.circuit_set.specs.Sets.{Holder}
-use Rattle.circuit_set.specs.Books.{Event, Fresh, MadeNote, Name, Timely, empty, is_unknown, partner_in}
-use Rattle.circuit_set.specs.Runs.{Net, allowed, begins, end_at, events_of, net_run}
+use Rattle.circuit_set.specs.Books.{Fresh, MadeNote, Timely, empty, is_unknown, partner_in}
+use Rattle.circuit_set.specs.Events.{Event, Name}
+use Rattle.circuit_set.specs.NotedRuns.{Net, allowed, begins, end_at, net_run}
+use Rattle.circuit_set.specs.Runs.{events_of}
 use Rattle.circuit_set.specs.Safe.{IsSafe, Safe, SafeAlone}
 use Rattle.circuit_set.proofs.Joined.{has_none}
 use Rattle.circuit_set.proofs.Noted.{book}
@@ -41,7 +43,7 @@ free = refl
 unsafe_case : (o : Option Holder) → end_at forged_net first ≡ o → received_by o ≡ (88 ∷ []) ∷ [] → Safe (node here ∷ []) forged → ⊥
 unsafe_case None e r safe = cc r
 unsafe_case (Some h) e r safe =
-    let s : IsSafe (node here ∷ []) forged forged_net first h = safe first h e in
+    let s : IsSafe (node here ∷ []) forged first h = safe first h e in
     let a : SafeAlone h.end = s.end.alone (has_none told forged_fresh first free) in
     let z : [] ≡ (88 ∷ []) ∷ [] = sym a.received ∙ r in
     cc z

@@ -1,5 +1,5 @@
 -- In every run an end was told that its retries are used up exactly where there was one expiry more than there are retries.
-use Rattle.std.specs.Prelude.{◌≡◌, ℕ, suc, ◌⊎◌, ◌||◌, Bool, true, false, nat_eq, if◌then◌else◌, List, [], ◌∷◌, ◌++◌, slice_get, slice_set, Option, Some, None, refl}
+use Rattle.std.specs.Prelude.{◌≡◌, ℕ, suc, ◌⊎◌, ◌||◌, Bool, true, false, nat_eq, if◌then◌else◌, List, [], ◌∷◌, ◌++◌, slice_get, slice_set, ◌+◌, ◌↔◌, Contains, Option, Some, None, refl}
 use Rattle.std.proofs.Common.{sym, ◌∙◌, ap, subst, inl, inr, arith}
 use Rattle.std.proofs.lemmas.Bool.Decides.{nat_tests}
 use Rattle.std.proofs.lemmas.List.{append-nil}
@@ -8,6 +8,7 @@ use Rattle.circuit_l4.specs.declared.transport.Pair.{Pair}
 use Rattle.circuit_l4.specs.declared.transport.Transport.TheVariants.{Refuse}
 use Rattle.circuit_l4.specs.declared.plain.EndConfig.{EndConfig}
 use Rattle.circuit_l4.specs.declared.plain.EndNotice.{EndNotice}
+use Rattle.circuit_l4.specs.declared.plain.EndNotice.TheVariants.{FailedRetries}
 use Rattle.circuit_l4.specs.declared.machine.Role.{Role}
 use Rattle.circuit_l4.specs.EndState.{Effect, State}
 use Rattle.circuit_l4.specs.EndOpening.{facts_of}
@@ -16,9 +17,10 @@ use Rattle.circuit_l4.specs.EndTable.{Arrive, Input, step}
 use Rattle.circuit_l4.specs.Expiries as ends
 use Rattle.circuit_l4.specs.Expiries.{Moment, expiries}
 use Rattle.circuit_set.specs.Sets.{Act, Call, Calls, Closes, Comes, Connect, Discard, Restart, Takes, Ticks, Writes, Made, Sent, Heeded, Gone, Restarted, Holder, SetDone, SetState, datagram_to, end_of, goes_to, holder_of, input_of, is_over, losses, made, new_pair, restarted, set_step, told_by, with_end}
-use Rattle.circuit_set.specs.Books.{Book, Event, Name, Timely, empty, noted, noted_all}
-use Rattle.circuit_set.specs.Runs.{AreSteps, Net, Step, allowed, begins, between, end_at, end_in, events_at, events_of, moments, net_run, net_step, sets_at, tick_at, tick_by, tick_of, told_at, told_to}
-use Rattle.circuit_set.specs.Retries.{RetriesAreTold}
+use Rattle.circuit_set.specs.Books.{Book, Timely, empty, noted, noted_all}
+use Rattle.circuit_set.specs.Events.{Event, Name}
+use Rattle.circuit_set.specs.NotedRuns.{Net, begins, end_at, net_run, net_step, told_to}
+use Rattle.circuit_set.specs.Runs.{AreStarts, AreSteps, Step, expiries_in, between, end_in, events_at, events_of, moments, sets_at, tick_at, tick_by, tick_of, told_at}
 use Rattle.circuit_set.specs.Givings.{IsUp}
 use Rattle.circuit_set.proofs.Acts.{set_self}
 use Rattle.circuit_set.proofs.Bridge.{name_itself}
@@ -389,18 +391,25 @@ next_none past net st new f none x e =
     let still : between (end_at net x) (tick_at st x) (end_at new x) ≡ [] = ap (λ o. between (end_at net x) (tick_at st x) o) e ∙ no_end (end_at net x) (tick_at st x) in
     ap (onward (past x)) still ∙ none x (was_none net new x (end_at net x) f refl e)
 
-run_lived : (net : Net) (steps : List Step) (past : Name → List Moment) → Both net → AllLived past net → NoneLives past net → AllLived (λ x. onward (past x) (moments net steps x)) (net_run net steps)
+run_lived : (net : Net) (steps : List Step) (past : Name → List Moment) → Both net → AllLived past net → NoneLives past net → AllLived (λ x. onward (past x) (moments net.sets steps x)) (net_run net steps)
 run_lived net [] past b all none = all
 run_lived net (st ∷ sts) past b all none =
     let new : Net = net_step net st in
     let r = step_lived net st (slice_get net.sets st.node) past b refl all none in
-    let later : AllLived (λ x. onward (next past net st new x) (moments new sts x)) (net_run new sts) =
+    let later : AllLived (λ x. onward (next past net st new x) (moments new.sets sts x)) (net_run new sts) =
     run_lived new sts (next past net st new) (step_lives net st (slice_get net.sets st.node) b refl) r.1 (next_none past net st new r.0 none) in
-    λ x h e. subst (λ k. Life k h.end (told_to (net_run new sts).book.made x)) (sym (onward_on (past x) (between (end_at net x) (tick_at st x) (end_at new x)) (moments new sts x))) (later x h e)
+    λ x h e. subst (λ k. Life k h.end (told_to (net_run new sts).book.made x)) (sym (onward_on (past x) (between (end_at net x) (tick_at st x) (end_at new x)) (moments new.sets sts x))) (later x h e)
 
-pub retries_are_told : FailsAfterRetries → RetriesAreTold
-retries_are_told law sets starts steps are x h e =
-    let ms : List Moment = moments (begins sets) steps x in
+-- by the notes of the book
+abbrev pub RetriesNoted : Type 0
+RetriesNoted =
+    (sets : List SetState) → AreStarts sets → (steps : List Step) → AreSteps steps
+    → (x : Name) (h : Holder) → end_at (net_run (begins sets) steps) x ≡ Some h
+    → Contains (told_to (net_run (begins sets) steps).book.made x) FailedRetries ↔ (expiries_in sets steps x ≡ h.end.config.retries + 1)
+
+pub retries_noted : FailsAfterRetries → RetriesNoted
+retries_noted law sets starts steps are x h e =
+    let ms : List Moment = moments sets steps x in
     let none : (z : Name) → end_at (begins sets) z ≡ None = λ z. none_case sets z (slice_get sets z.node) starts refl in
     let nobody : (z : Name) (k : Holder) → end_at (begins sets) z ≡ Some k → Life [] k.end (told_to (begins sets).book.made z) = λ z k q. let bad : None ≡ Some k = sym (none z) ∙ q in absurd (cc bad) in
     let l : Life (onward [] ms) h.end (told_to (net_run (begins sets) steps).book.made x) = run_lived (begins sets) steps (λ z. []) (start_lives sets starts) nobody (λ z q. refl) x h e in

@@ -13,10 +13,11 @@ use Rattle.circuit_l4.specs.EndState.{Out}
 use Rattle.circuit_l4.specs.Laws.{IsTransport}
 use Rattle.circuit_l4.specs.Reading.{transport_at}
 use Rattle.circuit_l4.specs.Transports.{pair_at, transport_octets}
-use Rattle.circuit_set.specs.Books.{MadeNote, Name, SentNote, has_sent, is_copy, same_name}
+use Rattle.circuit_set.specs.Books.{MadeNote, SentNote, has_sent}
+use Rattle.circuit_set.specs.Events.{Name, is_copy, same_name}
+use Rattle.circuit_set.specs.NotedRuns.{Net, end_at}
 use Rattle.circuit_set.specs.Facing.{IsCallOf}
 use Rattle.circuit_set.specs.Returning.{CallsDiffer}
-use Rattle.circuit_set.specs.Runs.{Net, end_at}
 use Rattle.circuit_set.specs.Sets.{Holder, SetState, datagram_to}
 use Rattle.circuit_set.proofs.Asks.{AskOf, Asks}
 use Rattle.circuit_set.proofs.Bridge.{same_names}

@@ -14,11 +14,13 @@ use Rattle.circuit_l4.specs.declared.machine.Role.TheVariants.{Responder}
 use Rattle.circuit_l4.specs.EndState.{Effect, State}
 use Rattle.circuit_l4.specs.EndOpening.{facts_of}
 use Rattle.circuit_l4.specs.Receiving.{inbox}
-use Rattle.circuit_set.specs.Books.{Book, MadeNote, Name, asked_by, has_sent, if_asked, is_unknown, made_last, noted, noted_all, partner, requester}
+use Rattle.circuit_set.specs.Books.{Book, MadeNote, asked_by, has_sent, if_asked, is_unknown, made_last, noted, noted_all, partner, requester}
+use Rattle.circuit_set.specs.Events.{Name}
+use Rattle.circuit_set.specs.NotedRuns.{Net, begins, end_at}
 use Rattle.circuit_set.specs.Facing.{IsCallOf}
 use Rattle.circuit_set.specs.Givings.{IsUp}
 use Rattle.circuit_set.specs.Returning.{CallsDiffer}
-use Rattle.circuit_set.specs.Runs.{AreStarts, IsAct, IsStart, Net, begins, end_at, events_at}
+use Rattle.circuit_set.specs.Runs.{AreStarts, IsAct, IsStart, events_at}
 use Rattle.circuit_set.specs.Sets.{Act, Connect, Comes, Calls, Discard, Restart, Made, Sent, Heeded, Gone, Restarted, Holder, SetDone, SetState, datagram_to, end_of, goes_to, has_ended, holder_of, is_over, losses, made, new_pair, restarted, set_step, told_by, with_end}
 use Rattle.circuit_l4.specs.Transports.{pair_at}
 use Rattle.circuit_set.proofs.Acts.{set_self}

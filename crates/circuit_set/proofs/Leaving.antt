@@ -5,9 +5,11 @@ use Rattle.ax_address.specs.Callsign.{Callsign}
 use Rattle.circuit_l4.specs.declared.transport.Pair.{Pair}
 use Rattle.circuit_l4.specs.EndState.{Effect, State}
 use Rattle.circuit_l4.specs.Receiving.{inbox}
-use Rattle.circuit_set.specs.Books.{Book, Name, noted_all}
+use Rattle.circuit_set.specs.Books.{Book, noted_all}
+use Rattle.circuit_set.specs.Events.{Name}
+use Rattle.circuit_set.specs.NotedRuns.{Net, begins, end_at}
 use Rattle.circuit_set.specs.Givings.{IsUp}
-use Rattle.circuit_set.specs.Runs.{AreStarts, Net, begins, end_at, events_at}
+use Rattle.circuit_set.specs.Runs.{AreStarts, events_at}
 use Rattle.circuit_set.specs.Sets.{Act, Holder, SetDone, SetState, end_of, has_ended, holder_of, is_over, made, set_step, with_end}
 use Rattle.circuit_set.proofs.Acts.{set_self}
 use Rattle.circuit_set.proofs.Cases.{step_every}

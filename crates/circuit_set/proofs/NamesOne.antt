@@ -10,8 +10,10 @@ use Rattle.circuit_l4.specs.EndState.{Effect, Out, State}
 use Rattle.circuit_l4.specs.EndOpening.{facts_of}
 use Rattle.circuit_set.specs.Pairs.{IsPair, is_used}
 use Rattle.circuit_set.specs.Sets.{Act, Calls, Comes, Connect, Discard, Restart, Made, Sent, Heeded, Notice, Gone, Restarted, Lost, Holder, SetDone, SetState, Told, all_gone, end_of, goes_to, has_ended, held_pairs, holder_of, is_over, losses, made, new_pair, notices, restarted, sents, set_step, told_by, with_end}
-use Rattle.circuit_set.specs.Books.{Book, Event, FreshFrom, Name, any_ends, is_lost, lost_with, noted, noted_all, partner_in, requester, same_name}
-use Rattle.circuit_set.specs.Runs.{AreStarts, AreSteps, IsAct, IsStart, Net, Step, begins, end_at, end_in, events_at, events_of, net_run, net_step, sets_at, told_at, told_to}
+use Rattle.circuit_set.specs.Books.{Book, FreshFrom, any_ends, is_lost, lost_with, noted, noted_all, partner_in, requester}
+use Rattle.circuit_set.specs.Events.{Event, Name, same_name}
+use Rattle.circuit_set.specs.NotedRuns.{Net, begins, end_at, net_run, net_step, told_to}
+use Rattle.circuit_set.specs.Runs.{AreStarts, AreSteps, IsAct, IsStart, Step, end_in, events_at, events_of, sets_at, told_at}
 use Rattle.circuit_set.specs.Naming.{PairNamesOne}
 use Rattle.circuit_set.proofs.Acts.{set_self}
 use Rattle.circuit_set.proofs.Bridge.{same_names}

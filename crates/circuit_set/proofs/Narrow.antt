@@ -18,10 +18,12 @@ use Rattle.circuit_l4.specs.EndState.{Effect, Out}
 use Rattle.circuit_l4.specs.EndTable.{Arrive, common_window, step}
 use Rattle.circuit_l4.specs.EndOpening.{facts_of, requesting, responding}
 use Rattle.circuit_l4.specs.Reading.{transport_at}
-use Rattle.circuit_set.specs.Circuits.{heeds}
+use Rattle.circuit_set.specs.Heeds.{heeds}
+use Rattle.circuit_set.specs.Events.{Event, Name}
+use Rattle.circuit_set.specs.NotedRuns.{NarrowIsTimely, Net, allowed, begins, net_step}
 use Rattle.circuit_set.specs.Sets.{Act, Call, Calls, Comes, Connect, Discard, Restart, Holder, SetDone, SetState, Told, Made, Sent, Heeded, Notice, Gone, Restarted, Lost, accept_again, all_gone, called, datagram_to, discarded, end_of, first_open, goes_to, handed, handed_up, has_ended, holder_of, input_of, is_full, is_over, losses, made, named_by, new_pair, notices, opened_by, read_as, received, requested_anew, requests, responds, sents, set_step, settled, told_by, untold, with_end}
-use Rattle.circuit_set.specs.Books.{Book, Event, Name, Timely, TimelyTo, TimelyTold, noted, noted_all}
-use Rattle.circuit_set.specs.Runs.{AreNarrow, AreStarts, AreSteps, NarrowIsTimely, Net, Step, allowed, begins, end_in, events_at, events_of, net_step, sets_at, told_at}
+use Rattle.circuit_set.specs.Books.{Book, Timely, TimelyTo, TimelyTold, noted, noted_all}
+use Rattle.circuit_set.specs.Runs.{AreNarrow, AreStarts, AreSteps, Step, end_in, events_at, events_of, sets_at, told_at}
 use Rattle.circuit_set.proofs.Sends.{Named}
 use Rattle.circuit_set.proofs.Lookups.{InEnds, in_changed, in_pushed, open_found, set_other, set_same}
 use Rattle.circuit_set.proofs.Invariant.{CircuitOk, EndInv, Kept, PairInv}

@@ -7,7 +7,8 @@ use Rattle.ax_address.specs.Callsign.{Callsign}
 use Rattle.ax_address.specs.CallOrder.{same_call}
 use Rattle.circuit_l4.specs.declared.transport.Pair.{Pair}
 use Rattle.circuit_set.specs.Among.{Has, Last}
-use Rattle.circuit_set.specs.Books.{Book, Event, Fresh, FreshFrom, Name, Timely, TimelyTold, FreshTold, empty, lost_with, noted, noted_all, same_name}
+use Rattle.circuit_set.specs.Books.{Book, Fresh, FreshFrom, Timely, TimelyTold, FreshTold, empty, lost_with, noted, noted_all}
+use Rattle.circuit_set.specs.Events.{Event, Name, same_name}
 use Rattle.circuit_set.specs.Sets.{same_pair}
 use Rattle.circuit_set.proofs.Among.{by_snoc, has_cases, has_last, has_new, has_nothing, has_old, last_cases, last_new, last_old}
 use Rattle.circuit_set.proofs.Bridge.{name_itself}

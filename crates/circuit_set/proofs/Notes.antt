@@ -5,7 +5,8 @@ use Rattle.std.proofs.lemmas.Bool.Decides.{nat_tests}
 use Rattle.ax_address.specs.Callsign.{Callsign}
 use Rattle.circuit_l4.specs.declared.transport.Pair.{Pair}
 use Rattle.circuit_l4.specs.declared.plain.EndNotice.{EndNotice}
-use Rattle.circuit_set.specs.Books.{Book, Event, MadeNote, Name, empty, noted, noted_all, requester, same_name, with_notice}
+use Rattle.circuit_set.specs.Books.{Book, MadeNote, empty, noted, noted_all, requester, with_notice}
+use Rattle.circuit_set.specs.Events.{Event, Name, same_name}
 use Rattle.circuit_set.specs.Sets.{Told, Made, Sent, Heeded, Notice, Gone, Restarted, Lost}
 use Rattle.circuit_set.specs.TooLate.{Gives, Makes}
 use Rattle.circuit_set.proofs.Among.{by_snoc}

@@ -4,14 +4,15 @@ use Rattle.std.proofs.Common.{sym, ◌∙◌, ap, subst, inl, inr}
 use Rattle.circuit_l4.specs.declared.plain.EndNotice.{EndNotice}
 use Rattle.circuit_l4.specs.declared.plain.EndNotice.TheVariants.{Opened, Refused, Closed, ClosedByPartner, FailedRetries, FailedOversize, FailedInactive}
 use Rattle.circuit_set.specs.Among.{First, Has}
-use Rattle.circuit_set.specs.Books.{Event, Fresh, MadeNote, Name, any_ends, empty, ends_it, same_name}
-use Rattle.circuit_set.specs.Runs.{opened_window, told_to}
+use Rattle.circuit_set.specs.Books.{Fresh, MadeNote, any_ends, empty}
+use Rattle.circuit_set.specs.Events.{Event, Name, ends_it, same_name}
+use Rattle.circuit_set.specs.NotedRuns.{opened_window, told_to}
 use Rattle.circuit_set.specs.Sets.{Told, Made, Sent, Heeded, Notice, Gone, Restarted, Lost}
 use Rattle.circuit_set.specs.TooLate.{Ends, OpenedWith, Tells}
 use Rattle.circuit_set.proofs.Bridge.{same_names}
 use Rattle.circuit_set.proofs.Lookups.{has_note}
 use Rattle.circuit_set.proofs.Noted.{book, marks, name_true, not_both, or_none, or_so}
-use Rattle.circuit_set.proofs.Windows.{last_made, note_marks, notices_in, told_is}
+use Rattle.circuit_set.proofs.Windows.{last_made, noted_made, notices_in, told_is}
 use Rattle.circuit_set.proofs.Among.{none_split}
 
 -- ---- one event before others ----
@@ -198,12 +199,12 @@ module _ (z : Name) where
       at false q k later = later k
 
   pub opens_with : (es : List Event) → Fresh empty es → (w : ℕ) → OpenedWith es z w → opened_window (told_to (book es).made z) ≡ Some w
-  opens_with es fresh w o = ap opened_window (told_is z es fresh o.request o.made) ∙ window_first o.made.after w o.told
+  opens_with es fresh w o = ap opened_window (told_is z es o.request o.made) ∙ window_first o.made.after w o.told
 
   with_case : (es : List Event) → Fresh empty es → (w : ℕ) → opened_window (told_to (book es).made z) ≡ Some w → (c : Bool) → has_note (book es).made z ≡ c → OpenedWith es z w
   with_case es fresh w h true k =
-      let l = last_made z es (marks (note_marks z) es fresh k) in
-      record { request = l.0; made = l.1; told = first_window l.1.after w (ap opened_window (sym (told_is z es fresh l.0 l.1)) ∙ h) }
+      let l = last_made z es (noted_made z es k) in
+      record { request = l.0; made = l.1; told = first_window l.1.after w (ap opened_window (sym (told_is z es l.0 l.1)) ∙ h) }
   with_case es fresh w h false k = let q = sym (ap opened_window (none_told (book es).made k)) ∙ h in absurd (cc q)
 
   pub opened_with : (es : List Event) → Fresh empty es → (w : ℕ) → opened_window (told_to (book es).made z) ≡ Some w → OpenedWith es z w

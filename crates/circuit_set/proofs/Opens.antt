@@ -20,11 +20,13 @@ use Rattle.circuit_l4.specs.EndState.{Effect, begin}
 use Rattle.circuit_l4.specs.EndLaws.{Accepts, Asks as NewAsks}
 use Rattle.circuit_l4.specs.EndTable.{Arrive, common_window, step}
 use Rattle.circuit_l4.specs.EndOpening.{requesting, responding}
-use Rattle.circuit_set.specs.Circuits.{heeds}
+use Rattle.circuit_set.specs.Heeds.{heeds}
+use Rattle.circuit_set.specs.Events.{Event, Name, is_copy, same_name}
+use Rattle.circuit_set.specs.NotedRuns.{Net, allowed, net_run, net_step}
 use Rattle.circuit_set.specs.Pairs.{following}
 use Rattle.circuit_set.specs.Sets.{Act, Call, Calls, Comes, Connect, Discard, Restart, restarted, Holder, SetDone, SetState, Heeded, Sent, accept_again, arrives_at, asked_with, called, connected, datagram_to, discarded, end_of, first_open, goes_to, handed_up, has_ended, input_of, is_full, is_open, is_over, made, named_by, new_pair, opened_by, read_as, received, same_pair, set_step, told_by, untold}
-use Rattle.circuit_set.specs.Books.{Book, Event, MadeNote, Name, SentNote, Timely, asked_by, has_sent, if_asked, is_copy, is_unknown, made_last, noted, noted_all, partner, partner_in, requester, same_name}
-use Rattle.circuit_set.specs.Runs.{AreSteps, IsAct, Net, Step, allowed, events_at, events_of, net_run, net_step, sets_at, told_at}
+use Rattle.circuit_set.specs.Books.{Book, MadeNote, SentNote, Timely, asked_by, has_sent, if_asked, is_unknown, made_last, noted, noted_all, partner, partner_in, requester}
+use Rattle.circuit_set.specs.Runs.{AreSteps, IsAct, Step, events_at, events_of, sets_at, told_at}
 use Rattle.circuit_set.proofs.Bridge.{name_itself, same_names}
 use Rattle.circuit_set.proofs.Copies.{copy_reads}
 use Rattle.circuit_set.proofs.Lookups.{has_note, open_found}

@@ -4,7 +4,8 @@ use Rattle.std.specs.List.{AllByRecursion, IsDistinct, list_any}
 use Rattle.std.specs.Cmp.{IsEquivalence}
 use Rattle.std.proofs.Common.{sym, ◌∙◌, ap, subst, inl, inr, arith}
 use Rattle.std.proofs.lemmas.Map.Made.{length-le_from_is_member}
-use Rattle.circuit_set.specs.Books.{Book, Event, Fresh, HeardNote, Name, SentNote, empty, first_place, heard_number, heard_sending, is_heard, latest, noted, overtakers, overtakes, same_name}
+use Rattle.circuit_set.specs.Books.{Book, Fresh, HeardNote, SentNote, empty, first_place, heard_number, heard_sending, is_heard, latest, noted, overtakers, overtakes}
+use Rattle.circuit_set.specs.Events.{Event, Name, same_name}
 use Rattle.circuit_set.specs.Sets.{Told, Made, Sent, Heeded, Notice, Gone, Restarted, Lost}
 use Rattle.circuit_set.specs.TooLate.{Overtaker, Overtakes, same_overtaker}
 use Rattle.circuit_set.proofs.Among.{by_snoc}

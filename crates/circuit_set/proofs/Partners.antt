@@ -2,7 +2,8 @@
 use Rattle.std.specs.Prelude.{◌≡◌, ◌⊎◌, Bool, true, false, if◌then◌else◌, List, [], ◌∷◌, Option, Some, None, refl}
 use Rattle.std.specs.List.{AllByRecursion}
 use Rattle.std.proofs.Common.{sym, ◌∙◌, ap, subst, inl, inr}
-use Rattle.circuit_set.specs.Books.{MadeNote, Name, first_name, is_some_name, partner_in, same_name}
+use Rattle.circuit_set.specs.Books.{MadeNote, first_name, is_some_name, partner_in}
+use Rattle.circuit_set.specs.Events.{Name, same_name}
 use Rattle.circuit_set.proofs.Bridge.{same_names}
 use Rattle.circuit_set.proofs.Fair.{InMade}
 

@@ -7,8 +7,10 @@ use Rattle.circuit_l4.specs.declared.plain.EndNotice.{EndNotice}
 use Rattle.circuit_l4.specs.EndState.{Effect, State}
 use Rattle.circuit_l4.specs.EndOpening.{facts_of}
 use Rattle.circuit_set.specs.Sets.{Act, Calls, Comes, Connect, Discard, Restart, Made, Sent, Heeded, Gone, Restarted, Holder, SetDone, SetState, end_of, goes_to, holder_of, is_over, losses, made, new_pair, restarted, set_step, told_by, with_end}
-use Rattle.circuit_set.specs.Books.{Book, Name, noted, noted_all}
-use Rattle.circuit_set.specs.Runs.{AreStarts, Net, Step, begins, end_at, events_at, sets_at, told_at, told_to}
+use Rattle.circuit_set.specs.Books.{Book, noted, noted_all}
+use Rattle.circuit_set.specs.Events.{Name}
+use Rattle.circuit_set.specs.NotedRuns.{Net, begins, end_at, told_to}
+use Rattle.circuit_set.specs.Runs.{AreStarts, Step, events_at, sets_at, told_at}
 use Rattle.circuit_set.proofs.Acts.{set_self}
 use Rattle.circuit_set.proofs.Bridge.{name_itself}
 use Rattle.circuit_set.proofs.Cases.{Cases, IsNew, Lives, Says, step_cases}

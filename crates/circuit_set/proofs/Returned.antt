@@ -5,7 +5,8 @@ use Rattle.ax_address.specs.CallOrder.{same_call}
 use Rattle.l3_datagram.specs.Datagrams.{head_at}
 use Rattle.circuit_l4.specs.Reading as reading
 use Rattle.circuit_l4.specs.Reading.{transport_at}
-use Rattle.circuit_set.specs.Books.{Event, Fresh, empty}
+use Rattle.circuit_set.specs.Books.{Fresh, empty}
+use Rattle.circuit_set.specs.Events.{Event}
 use Rattle.circuit_set.specs.Examples.{CopyReturns, ask, asked_again, here, node, there}
 use Rattle.circuit_set.specs.Givings.{pairs_made}
 use Rattle.circuit_set.specs.Returning.{CallsDiffer, WasSent, given_by, told_of}

@@ -6,10 +6,12 @@ use Rattle.ax_address.specs.Callsign.{Callsign}
 use Rattle.circuit_l4.specs.declared.transport.Pair.{Pair}
 use Rattle.circuit_l4.specs.declared.machine.Role.{Role}
 use Rattle.circuit_l4.specs.EndState.{Effect}
-use Rattle.circuit_set.specs.Books.{Book, Event, Name, empty, has_sent, is_copy, lost_with, noted, noted_all, same_name}
+use Rattle.circuit_set.specs.Books.{Book, empty, has_sent, lost_with, noted, noted_all}
+use Rattle.circuit_set.specs.Events.{Event, Name, is_copy, same_name}
+use Rattle.circuit_set.specs.NotedRuns.{Net, begins, net_step}
 use Rattle.circuit_set.specs.Givings.{IsUp, pairs_made}
 use Rattle.circuit_set.specs.Returning.{CopiesAloneReturn, FreshButFrom, IsUnbroken, WasSent}
-use Rattle.circuit_set.specs.Runs.{AreSteps, IsAct, Net, Step, begins, events_at, events_of, net_step, sets_at, told_at}
+use Rattle.circuit_set.specs.Runs.{AreSteps, IsAct, Step, events_at, events_of, sets_at, told_at}
 use Rattle.circuit_set.specs.Sets.{Act, Comes, Made, Sent, Heeded, Notice, Gone, Restarted, Lost, Holder, SetDone, SetState, Told, holder_of, made, new_pair, set_step, told_by}
 use Rattle.circuit_set.proofs.Askers.{asked_or_returned, no_other}
 use Rattle.circuit_set.proofs.Bridge.{name_itself}

@@ -4,11 +4,13 @@ use Rattle.std.proofs.Common.{sym, ◌∙◌, ap, subst, arith}
 use Rattle.circuit_l4.specs.declared.plain.EndNotice.{EndNotice}
 use Rattle.circuit_l4.specs.declared.plain.EndNotice.TheVariants.{Closed, ClosedByPartner}
 use Rattle.circuit_l4.specs.EndState.{State}
-use Rattle.circuit_set.specs.Circuits.{IsBeginning, SafeTo}
-use Rattle.circuit_set.specs.Heaps.{wholes}
+use Rattle.circuit_set.specs.Circuits.{SafeTo}
+use Rattle.circuit_set.specs.Beginnings.{IsBeginning, wholes}
+use Rattle.circuit_set.specs.Events.{Name}
+use Rattle.circuit_set.specs.NotedRuns.{Net, PartnersStay, WindowsFit, allowed, begins, end_at, net_run, told_to}
 use Rattle.circuit_set.specs.Sets.{Holder, SetState, end_of}
-use Rattle.circuit_set.specs.Books.{Name, Timely, empty, partner}
-use Rattle.circuit_set.specs.Runs.{AreStarts, AreSteps, IsStart, Net, Step, allowed, events_of, PartnersStay, WindowsFit, begins, end_at, end_in, net_run, told_to}
+use Rattle.circuit_set.specs.Books.{Timely, empty, partner}
+use Rattle.circuit_set.specs.Runs.{AreStarts, AreSteps, IsStart, Step, events_of, end_in}
 use Rattle.circuit_set.specs.Safe.{SafeAlone}
 use Rattle.circuit_set.proofs.Lonely.{alone_safe}
 use Rattle.circuit_set.proofs.Lookups.{InEnds}

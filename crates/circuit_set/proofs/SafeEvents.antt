@@ -5,22 +5,25 @@ use Rattle.ax_address.specs.Callsign.{Callsign}
 use Rattle.circuit_l4.specs.declared.plain.EndNotice.{EndNotice}
 use Rattle.circuit_l4.specs.declared.plain.EndNotice.TheVariants.{Closed, ClosedByPartner, FailedRetries}
 use Rattle.circuit_set.specs.Among.{Has}
-use Rattle.circuit_set.specs.Books.{Book, Event, Fresh, FreshFrom, MadeNote, Name, Timely, empty, is_unknown, lost_with, noted, noted_all, partner, same_name}
+use Rattle.circuit_set.specs.Books.{Book, Fresh, FreshFrom, MadeNote, Timely, empty, is_unknown, lost_with, noted, noted_all, partner}
+use Rattle.circuit_set.specs.Events.{Event, Name, same_name}
+use Rattle.circuit_set.specs.NotedRuns.{Net, allowed, begins, end_at, net_run, net_step, told_to}
 use Rattle.circuit_set.specs.Retries.{RetriesAreTold}
-use Rattle.circuit_set.specs.Runs.{AreStarts, AreSteps, Net, Step, allowed, begins, end_at, events_of, net_run, net_step, sets_at, told_at, told_to}
-use Rattle.circuit_set.specs.Safe.{CircuitsSafe, IsSafe, PartnersLast, Safe, SafeBetween, WasTold}
+use Rattle.circuit_set.specs.Runs.{AreStarts, AreSteps, Step, end_named, events_of, sets_at, sets_run, told_at}
+use Rattle.circuit_set.specs.Safe.{CircuitsSafe, IsSafe, PartnersLast, Safe, SafeBetween}
 use Rattle.circuit_set.specs.Sets.{Holder, SetState, Told, Made, Sent, Heeded, Notice, Gone, Restarted, Lost}
-use Rattle.circuit_set.specs.TooLate.{AllowsByWindow, HasPartner, IsFresh, IsTimely, Partners, Tells}
+use Rattle.circuit_set.specs.TooLate.{AllowsByWindow, HasPartner, IsFresh, IsTimely, Partners, Tells, WasTold}
 use Rattle.circuit_set.proofs.Among.{has_nothing}
 use Rattle.circuit_set.proofs.Bridge.{same_names}
 use Rattle.circuit_set.proofs.ByBook.{fresh_by_book, timely_by_book}
+use Rattle.circuit_set.proofs.Expiring.{RetriesNoted}
 use Rattle.circuit_set.proofs.Joined.{is_free, partner_looks}
 use Rattle.circuit_set.proofs.Lookups.{has_note}
-use Rattle.circuit_set.proofs.Noted.{book, finds, found, marks, name_true}
+use Rattle.circuit_set.proofs.Noted.{book, finds, found, name_true}
 use Rattle.circuit_set.proofs.Noting.{noted_append}
 use Rattle.circuit_set.proofs.Opened.{head_has, split_has, tail_has}
 use Rattle.circuit_set.proofs.Safe.{SafeNotes, SafeWith, circuits_kept, circuits_now, partners_stay}
-use Rattle.circuit_set.proofs.Windows.{last_made, note_marks, notice_in, notices_in, told_is}
+use Rattle.circuit_set.proofs.Windows.{last_made, noted_made, notice_in, notices_in, told_is}
 
 -- ---- a list and one of it ----
 module _ {A : Type 0} (x : A) where
@@ -103,14 +106,13 @@ module _ (z : Name) (n : EndNotice) where
   told_noted (m ∷ ms) k = noted_case (same_name m.who z) (has_note ms z) m.told (told_to ms z) k (told_noted ms)
 
   -- ---- by the book ----
-  module _ (es : List Event) (fresh : Fresh empty es) where
-    was_told : WasTold es z n → Contains (told_to (book es).made z) n
-    was_told w = subst (λ ns. Contains ns n) (sym (told_is z es fresh w.0 w.1)) (in_said w.1.after w.2)
+  was_told : (es : List Event) → WasTold es z n → Contains (told_to (book es).made z) n
+  was_told es w = subst (λ ns. Contains ns n) (sym (told_is z es w.0 w.1)) (in_said w.1.after w.2)
 
-    told_was : Contains (told_to (book es).made z) n → WasTold es z n
-    told_was k =
-        let r = last_made z es (marks (note_marks z) es fresh (told_noted (book es).made k)) in
-        (r.0, r.1, said_in r.1.after (subst (λ ns. Contains ns n) (told_is z es fresh r.0 r.1) k))
+  told_was : (es : List Event) → Contains (told_to (book es).made z) n → WasTold es z n
+  told_was es k =
+      let r = last_made z es (noted_made z es (told_noted (book es).made k)) in
+      (r.0, r.1, said_in r.1.after (subst (λ ns. Contains ns n) (told_is z es r.0 r.1) k))
 
 -- ---- a run ----
 run_book : (net : Net) (steps : List Step) → (net_run net steps).book ≡ noted_all net.book (events_of net.sets steps)
@@ -118,6 +120,31 @@ run_book net [] = refl
 run_book net (st ∷ sts) =
     run_book (net_step net st) sts
     ∙ sym (noted_append net.book (told_at net.sets st.node (slice_get net.sets st.node) st.act) (events_of (sets_at net.sets st.node (slice_get net.sets st.node) st.act) sts))
+
+run_sets : (net : Net) (steps : List Step) → (net_run net steps).sets ≡ sets_run net.sets steps
+run_sets net [] = refl
+run_sets net (st ∷ sts) = run_sets (net_step net st) sts
+
+module _ (sets : List SetState) (steps : List Step) where
+  book_is : (net_run (begins sets) steps).book ≡ book (events_of sets steps)
+  book_is = run_book (begins sets) steps
+
+  told_by_book : (x : Name) (n : EndNotice) → WasTold (events_of sets steps) x n → Contains (told_to (net_run (begins sets) steps).book.made x) n
+  told_by_book x n w = subst (λ (b : Book). Contains (told_to b.made x) n) (sym book_is) (was_told x n (events_of sets steps) w)
+
+  told_by_events : (x : Name) (n : EndNotice) → Contains (told_to (net_run (begins sets) steps).book.made x) n → WasTold (events_of sets steps) x n
+  told_by_events x n k = told_was x n (events_of sets steps) (subst (λ (b : Book). Contains (told_to b.made x) n) book_is k)
+
+  at_net : (x : Name) (h : Holder) → end_named (sets_run sets steps) x ≡ Some h → end_at (net_run (begins sets) steps) x ≡ Some h
+  at_net x h e = ap (λ ss. end_named ss x) (run_sets (begins sets) steps) ∙ e
+
+  at_sets : (x : Name) (h : Holder) → end_at (net_run (begins sets) steps) x ≡ Some h → end_named (sets_run sets steps) x ≡ Some h
+  at_sets x h e = sym (ap (λ ss. end_named ss x) (run_sets (begins sets) steps)) ∙ e
+
+pub retries_are_told : RetriesNoted → RetriesAreTold
+retries_are_told noted sets starts steps are x h e =
+    let r = noted sets starts steps are x h (at_net sets steps x h e) in
+    (λ w. r.0 (told_by_book sets steps x FailedRetries w), λ q. told_by_events sets steps x FailedRetries (r.1 q))
 
 -- what is told by more steps begins with what is told by these
 events_begin : (sets : List SetState) (steps later : List Step) → (more : List Event) × (events_of sets (steps ++ later) ≡ events_of sets steps ++ more)
@@ -165,20 +192,11 @@ module _ (sets : List SetState) (starts : AreStarts sets) (steps later : List St
   front : Fresh empty events
   front = let more = events_begin sets steps later in fresh_front empty [] events more.0 (subst (Fresh empty) more.1 all_fresh)
 
-  book_is : net.book ≡ book events
-  book_is = run_book (begins sets) steps
-
   partner_is : (x y : Name) → Partners events x y → partner net.book x ≡ Some y
-  partner_is x y j = ap (λ (b : Book). partner b x) book_is ∙ found (partner_looks x) events front y j
+  partner_is x y j = ap (λ (b : Book). partner b x) (book_is sets steps) ∙ found (partner_looks x) events front y j
 
   partner_none : (x : Name) → (HasPartner events x → ⊥) → partner net.book x ≡ None
-  partner_none x none = ap (λ (b : Book). partner b x) book_is ∙ unknown_none (partner (book events) x) (is_free events front x none)
-
-  told_by_book : (x : Name) (n : EndNotice) → WasTold events x n → Contains (told_to net.book.made x) n
-  told_by_book x n w = subst (λ (b : Book). Contains (told_to b.made x) n) (sym book_is) (was_told x n events front w)
-
-  told_by_events : (x : Name) (n : EndNotice) → Contains (told_to net.book.made x) n → WasTold events x n
-  told_by_events x n k = told_was x n events front (subst (λ (b : Book). Contains (told_to b.made x) n) book_is k)
+  partner_none x none = ap (λ (b : Book). partner b x) (book_is sets steps) ∙ unknown_none (partner (book events) x) (is_free events front x none)
 
   with_partner : (x : Name) (h : Holder) → SafeWith net x h (partner net.book x) → (y : Name) → Partners events x y → SafeWith net x h (Some y)
   with_partner x h safe y j = subst (SafeWith net x h) (partner_is x y j) safe
@@ -188,31 +206,31 @@ module _ (sets : List SetState) (starts : AreStarts sets) (steps later : List St
     received = s.received;
     acked = s.acked;
     closed = λ c. elim c [
-      | inl w ↦ s.closed (inl (told_by_book x Closed w))
-      | inr w ↦ s.closed (inr (told_by_book y ClosedByPartner w))
+      | inl w ↦ s.closed (inl (told_by_book sets steps x Closed w))
+      | inr w ↦ s.closed (inr (told_by_book sets steps y ClosedByPartner w))
     ];
   }
 
-  end_safe : RetriesAreTold → (x : Name) (h : Holder) → end_at net x ≡ Some h → SafeWith net x h (partner net.book x) → IsSafe sets steps net x h
+  end_safe : RetriesAreTold → (x : Name) (h : Holder) → end_named (sets_run sets steps) x ≡ Some h → SafeWith net x h (partner net.book x) → IsSafe sets steps x h
   end_safe told x h e safe = record {
     end = record {
       joined = λ y k j there. (let w = with_partner x h safe y j in
-          let same : w.0 ≡ k = one_end (end_at net y) w.1 there in
+          let same : w.0 ≡ k = one_end (end_at net y) w.1 (at_net sets steps y k there) in
           between x y h k (subst (λ (i : Holder). SafeNotes h.end i.end (told_to net.book.made x) (told_to net.book.made y)) same w.2));
       alone = λ none. subst (SafeWith net x h) (partner_none x none) safe;
     };
-    partner = λ y j. (let w = with_partner x h safe y j in (w.0, w.1));
-    retries = (let r = told sets starts steps (front_are steps later are) x h e in (λ w. r.0 (told_by_book x FailedRetries w), λ q. told_by_events x FailedRetries (r.1 q)));
+    partner = λ y j. (let w = with_partner x h safe y j in (w.0, at_sets sets steps y w.0 w.1));
+    retries = told sets starts steps (front_are steps later are) x h e;
   }
 
   safe_now : RetriesAreTold → Safe sets steps
-  safe_now told x h e = end_safe told x h e (circuits_now net (circuits_kept sets starts steps later are all_timely) x h e)
+  safe_now told x h e = end_safe told x h e (circuits_now net (circuits_kept sets starts steps later are all_timely) x h (at_net sets steps x h e))
 
   last_now : (x y : Name) → Partners events x y → Partners all x y × Partners events y x × (x ≢ y)
   last_now x y j =
       let p = partners_stay sets starts steps later are all_timely x y (partner_is x y j) in
       let thence : partner (book all) x ≡ Some y = ap (λ (b : Book). partner b x) (sym (run_book (begins sets) (steps ++ later))) ∙ p.0 in
-      let back : partner (book events) y ≡ Some x = ap (λ (b : Book). partner b y) (sym book_is) ∙ p.1 in
+      let back : partner (book events) y ≡ Some x = ap (λ (b : Book). partner b y) (sym (book_is sets steps)) ∙ p.1 in
       (finds (partner_looks x) all all_fresh y thence, finds (partner_looks y) events front x back, p.2)
 
 pub circuits_safe : RetriesAreTold → CircuitsSafe

@@ -10,8 +10,10 @@ use Rattle.circuit_l4.specs.Reading.{transport_at}
 use Rattle.circuit_l4.specs.EndState.{Effect, State}
 use Rattle.circuit_l4.specs.EndOpening.{facts_of}
 use Rattle.circuit_set.specs.Sets.{Act, Calls, Comes, Connect, Discard, Restart, Made, Sent, Heeded, Gone, Restarted, Holder, SetDone, SetState, end_of, goes_to, holder_of, is_over, losses, made, new_pair, restarted, set_step, told_by, with_end}
-use Rattle.circuit_set.specs.Books.{Book, Event, Name, Timely, TimelyTo, noted, noted_all, partner, partner_in}
-use Rattle.circuit_set.specs.Runs.{AreStarts, AreSteps, Net, Step, allowed, begins, end_at, end_in, events_at, events_of, net_run, net_step, opened_window, sets_at, told_at, told_to}
+use Rattle.circuit_set.specs.Books.{Book, Timely, TimelyTo, noted, noted_all, partner, partner_in}
+use Rattle.circuit_set.specs.Events.{Event, Name}
+use Rattle.circuit_set.specs.NotedRuns.{Net, allowed, begins, end_at, net_run, net_step, opened_window, told_to}
+use Rattle.circuit_set.specs.Runs.{AreStarts, AreSteps, Step, end_in, events_at, events_of, sets_at, told_at}
 use Rattle.circuit_set.specs.Naming.{RequestersSend, SendsToPartner}
 use Rattle.circuit_set.proofs.Acts.{set_self}
 use Rattle.circuit_set.proofs.Asks.{AskOf}

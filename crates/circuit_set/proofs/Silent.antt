@@ -18,7 +18,7 @@ use Rattle.circuit_l4.specs.EndState.{begin}
 use Rattle.circuit_l4.specs.EndTable.{Arrive, arrive_in, step}
 use Rattle.circuit_l4.specs.EndOpening.{responding}
 use Rattle.circuit_l4.specs.Receiving.{inbox}
-use Rattle.circuit_set.specs.Circuits.{heeds}
+use Rattle.circuit_set.specs.Heeds.{heeds}
 use Rattle.circuit_set.specs.Sets.{Holder, SetDone, SetState, Heeded, Sent, accept_again, arrives_at, datagram_to, end_of, first_open, goes_to, handed_up, has_ended, is_full, is_open, is_over, made, named_by, new_pair, opened_by, read_as, received, settled, told_by, untold, with_end}
 use Rattle.circuit_set.proofs.Lookups.{InEnds, open_found}
 

@@ -6,7 +6,8 @@ use Rattle.ax_address.specs.CallOrder.{same_call}
 use Rattle.circuit_l4.specs.declared.transport.Pair.{Pair}
 use Rattle.circuit_l4.specs.declared.plain.EndNotice.{EndNotice}
 use Rattle.circuit_set.specs.Among.{Last}
-use Rattle.circuit_set.specs.Books.{Book, Event, MadeNote, Name, SentNote, has, has_sent, is_copy, is_lost, is_number, latest_in, lost_with, made_last, noted, same_name, with_notice}
+use Rattle.circuit_set.specs.Books.{Book, MadeNote, SentNote, has, has_sent, is_lost, is_number, latest_in, lost_with, made_last, noted, with_notice}
+use Rattle.circuit_set.specs.Events.{Event, Name, is_copy, same_name}
 use Rattle.circuit_set.specs.Sets.{Told, Made, Sent, Heeded, Notice, Gone, Restarted, Lost, same_pair}
 use Rattle.circuit_set.specs.TooLate.{Gives, LatestSending, Loses, SendsCopy, SendsFragment, Tells}
 use Rattle.circuit_set.proofs.Among.{by_snoc, last_so}

@@ -6,7 +6,8 @@ use Rattle.std.proofs.lemmas.Bool.Decides.{nat_tests}
 use Rattle.ax_address.specs.Callsign.{Callsign}
 use Rattle.circuit_l4.specs.declared.transport.Pair.{Pair}
 use Rattle.circuit_l4.specs.declared.plain.EndNotice.{EndNotice}
-use Rattle.circuit_set.specs.Books.{Book, Event, MadeNote, Name, noted, noted_all, same_name, with_notice}
+use Rattle.circuit_set.specs.Books.{Book, MadeNote, noted, noted_all, with_notice}
+use Rattle.circuit_set.specs.Events.{Event, Name, same_name}
 use Rattle.circuit_set.specs.Givings.{pairs_made}
 use Rattle.circuit_set.specs.Returning.{told_of}
 use Rattle.circuit_set.specs.Sets.{Made, Sent, Heeded, Notice, Gone, Restarted, Lost, Told}

@@ -18,9 +18,10 @@ use Rattle.circuit_l4.specs.EndOpening.{unheard, unwritten}
 use Rattle.circuit_l4.specs.Sending.{Sending, fragments_of_all, total}
 use Rattle.circuit_l4.specs.Receiving.{Receiving}
 use Rattle.circuit_set.specs.Lines.{Elem, Known}
-use Rattle.circuit_set.specs.Heaps.{Heap, AreMessages, gather, nothing, wholes}
+use Rattle.circuit_set.specs.Heaps.{Heap, AreMessages, gather, nothing}
+use Rattle.circuit_set.specs.Beginnings.{IsBeginning, wholes}
 use Rattle.circuit_set.specs.Ways.{DirectionOk, EarlyIn, Holds, early_numbers, line}
-use Rattle.circuit_set.specs.Circuits.{AllAcked, Circuit, ComesInTime, Event, Left, Right, To_left, To_right, Accepts, EventInTime, Facts, Flight, InTimeAll, IsBeginning, IsCall, OutFact, PairOk, SafeTo, Side, accepts_again, after, comes, does, opened, run}
+use Rattle.circuit_set.specs.Circuits.{AllAcked, Circuit, ComesInTime, Event, Left, Right, To_left, To_right, Accepts, EventInTime, Facts, Flight, InTimeAll, IsCall, OutFact, PairOk, SafeTo, Side, accepts_again, after, comes, does, opened, run}
 use Rattle.circuit_set.proofs.Gathers.{gather_prefix, gathering_of, wholes_all, wholes_grow}
 use Rattle.circuit_set.proofs.Keeps.{Grows, mine_kept, theirs_kept, told_before}
 use Rattle.circuit_set.proofs.Rows.{Keeps, closes, nothing_comes, one_note, takes, ticks, writes}

@@ -6,14 +6,15 @@ use Rattle.circuit_l4.specs.declared.transport.Pair.{Pair}
 use Rattle.circuit_l4.specs.declared.plain.EndNotice.{EndNotice}
 use Rattle.circuit_l4.specs.declared.plain.EndNotice.TheVariants.{Opened}
 use Rattle.circuit_set.specs.Among.{Has, Last}
-use Rattle.circuit_set.specs.Books.{Book, Event, Fresh, Name, empty, noted, same_name, with_notice}
-use Rattle.circuit_set.specs.Runs.{told_to}
+use Rattle.circuit_set.specs.Books.{Book, Fresh, empty, noted, with_notice}
+use Rattle.circuit_set.specs.Events.{Event, Name, same_name}
+use Rattle.circuit_set.specs.NotedRuns.{told_to}
 use Rattle.circuit_set.specs.Sets.{Told, Made, Sent, Heeded, Notice, Gone, Restarted, Lost}
 use Rattle.circuit_set.specs.TooLate.{Makes, Tells}
-use Rattle.circuit_set.proofs.Among.{by_snoc, has_cases, has_last, has_nothing, last_cases, last_new, last_old}
+use Rattle.circuit_set.proofs.Among.{by_snoc, has_cases, has_last, has_new, has_nothing, has_old, last_cases, last_new, last_old}
 use Rattle.circuit_set.proofs.Bridge.{name_itself, same_names}
 use Rattle.circuit_set.proofs.Lookups.{has_note, noticed, same_note, unnoticed}
-use Rattle.circuit_set.proofs.Noted.{Marks, book, book_more, fresh_less, marked, name_true, not_both, or_none, or_so}
+use Rattle.circuit_set.proofs.Noted.{book, book_more, name_true, not_both, or_none, or_so}
 
 -- ---- which end was made ----
 module _ (z : Name) where
@@ -111,19 +112,31 @@ module _ (z : Name) where
       by (Restarted p) = inr ((λ q m. absurd (cc (m.2.1))), refl, (λ k. sym (append-nil (told_to b.made z))))
       by (Lost id facts) = inr ((λ q m. absurd (cc (m.2.1))), refl, (λ k. sym (append-nil (told_to b.made z))))
 
-  pub note_marks : Marks (λ es. has_note (book es).made z) (λ p e. IsMade e)
-  note_marks = record {
-    start = refl;
-    turn = λ es e fresh. elim (note_turn (book es) e) [
-      | inl s ↦ inl (s.0, ap (λ (b : Book). has_note b.made z) (book_more es e) ∙ s.1)
-      | inr s ↦ inr ((λ m. s.0 m.0 m.1), ap (λ (b : Book). has_note b.made z) (book_more es e) ∙ s.1)
-    ];
-  }
+  -- it has a note exactly where it was made
+  pub made_noted : (es : List Event) → Has (λ p e. IsMade e) es → has_note (book es).made z ≡ true
+  made_noted = by_snoc (λ es. Has (λ p e. IsMade e) es → has_note (book es).made z ≡ true)
+      (λ es e old h. (let same : has_note (book (es ++ e ∷ [])).made z ≡ has_note (noted (book es) e).made z = ap (λ (b : Book). has_note b.made z) (book_more es e) in
+      elim (note_turn (book es) e) [
+        | inl s ↦ same ∙ s.1
+        | inr s ↦ elim (has_cases es e h) [
+          | inl m ↦ absurd (s.0 m.0 m.1)
+          | inr k ↦ same ∙ (s.1 ∙ old k)
+        ]
+      ]))
+      (λ h. absurd (has_nothing h))
 
-  pub told_is : (es : List Event) → Fresh empty es → (r : Option (List ℕ)) (l : Last (λ q p e. Makes z q e) r es) → told_to (book es).made z ≡ notices_in l.after
-  told_is = by_snoc (λ es. Fresh empty es → (r : Option (List ℕ)) (l : Last (λ q p e. Makes z q e) r es) → told_to (book es).made z ≡ notices_in l.after)
-      (λ es e old fresh r l. (let less = (fresh_less es e fresh).0 in
-      let same : told_to (book (es ++ e ∷ [])).made z ≡ told_to (noted (book es) e).made z = ap (λ (b : Book). told_to b.made z) (book_more es e) in
+  pub noted_made : (es : List Event) → has_note (book es).made z ≡ true → Has (λ p e. IsMade e) es
+  noted_made = by_snoc (λ es. has_note (book es).made z ≡ true → Has (λ p e. IsMade e) es)
+      (λ es e old h. (let same : has_note (book (es ++ e ∷ [])).made z ≡ has_note (noted (book es) e).made z = ap (λ (b : Book). has_note b.made z) (book_more es e) in
+      elim (note_turn (book es) e) [
+        | inl s ↦ has_new es e s.0
+        | inr s ↦ has_old es e (old (sym s.1 ∙ (sym same ∙ h)))
+      ]))
+      (λ h. absurd (cc h))
+
+  pub told_is : (es : List Event) (r : Option (List ℕ)) (l : Last (λ q p e. Makes z q e) r es) → told_to (book es).made z ≡ notices_in l.after
+  told_is = by_snoc (λ es. (r : Option (List ℕ)) (l : Last (λ q p e. Makes z q e) r es) → told_to (book es).made z ≡ notices_in l.after)
+      (λ es e old r l. (let same : told_to (book (es ++ e ∷ [])).made z ≡ told_to (noted (book es) e).made z = ap (λ (b : Book). told_to b.made z) (book_more es e) in
       elim (note_turn (book es) e) [
         | inl s ↦ elim (last_cases r es e l) [
           | inl c ↦ same ∙ (s.2 ∙ ap notices_in (sym c.after))
@@ -131,10 +144,10 @@ module _ (z : Name) where
         ]
         | inr s ↦ elim (last_cases r es e l) [
           | inl c ↦ absurd (s.0 r c.is)
-          | inr c ↦ same ∙ (s.2 (marked note_marks es less (has_last r es c.old)) ∙ (ap (λ ns. ns ++ notice_in e.node e.told) (old less r c.old) ∙ (sym (notices_more c.old.after e) ∙ ap notices_in (sym c.after))))
+          | inr c ↦ same ∙ (s.2 (made_noted es (has_last r es c.old)) ∙ (ap (λ ns. ns ++ notice_in e.node e.told) (old r c.old) ∙ (sym (notices_more c.old.after e) ∙ ap notices_in (sym c.after))))
         ]
       ]))
-      (λ fresh r l. absurd (has_nothing (has_last r [] l)))
+      (λ r l. absurd (has_nothing (has_last r [] l)))
 
   -- ---- the first window among them ----
   abbrev Tellings : Event → ℕ → Type 0

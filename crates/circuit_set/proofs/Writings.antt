@@ -8,9 +8,11 @@ use Rattle.circuit_l4.specs.declared.transport.Pair.{Pair}
 use Rattle.circuit_l4.specs.EndLaws.{Accepts, Asks, IsNew, WroteByWrites, written_by}
 use Rattle.circuit_l4.specs.EndState.{Effect, State}
 use Rattle.circuit_l4.specs.EndTable.{Arrive}
-use Rattle.circuit_set.specs.Books.{Book, Name, noted_all}
+use Rattle.circuit_set.specs.Books.{Book, noted_all}
+use Rattle.circuit_set.specs.Events.{Name}
+use Rattle.circuit_set.specs.NotedRuns.{Net, begins, end_at, net_run, net_step}
 use Rattle.circuit_set.specs.Givings.{IsUp}
-use Rattle.circuit_set.specs.Runs.{AreStarts, Net, Step, begins, end_at, end_in, events_at, net_run, net_step, sets_at, told_at}
+use Rattle.circuit_set.specs.Runs.{AreStarts, Step, end_in, events_at, sets_at, told_at}
 use Rattle.circuit_set.specs.Sets.{Act, Call, Calls, Comes, Connect, Discard, Restart, Holder, SetDone, SetState, end_of, holder_of, input_of, is_over, made, restarted, set_step, with_end}
 use Rattle.circuit_set.specs.Writings.{EndsWroteByWrites, act_writes, called_writes, step_writes, wrote_of}
 use Rattle.circuit_set.proofs.Acts.{set_self}

@@ -1,6 +1,6 @@
 -- Where an event stands among others, in the order in which they were told.
 use Rattle.std.specs.Prelude.{◌≡◌, List, ◌∷◌, ◌++◌}
-use Rattle.circuit_set.specs.Books.{Event}
+use Rattle.circuit_set.specs.Events.{Event}
 
 -- One of these events is such a one, judged by those before it.
 pub record Has (P : List Event → Event → Type 0) (events : List Event) : Type 0 where

@@ -2,30 +2,15 @@
 use Rattle.std.specs.Prelude.{◌≡◌, ◌≢◌, ℕ, suc, ◌+◌, ◌<◌, Bool, true, false, not, ◌&&◌, ◌||◌, nat_eq, nat_lt, nat_le, if◌then◌else◌, List, [], ◌∷◌, ◌++◌, length, take, drop, Contains, Option, Some, None, Result, Ok, Err}
 use Rattle.ax_address.specs.Callsign.{Callsign}
 use Rattle.ax_address.specs.CallOrder.{same_call}
-use Rattle.std.specs.Cmp.Lexicographic.{pointwise}
 use Rattle.l3_datagram.specs.declared.datagram.DatagramHead.{DatagramHead}
 use Rattle.l3_datagram.specs.declared.datagram.DatagramRefusal.{DatagramRefusal}
 use Rattle.l3_datagram.specs.declared.datagram.TheConstants.{HEAD_SIZE, TTL_AT}
 use Rattle.l3_datagram.specs.Datagrams.{head_at}
 use Rattle.circuit_l4.specs.declared.transport.Pair.{Pair}
 use Rattle.circuit_l4.specs.declared.plain.EndNotice.{EndNotice}
-use Rattle.circuit_l4.specs.declared.plain.EndNotice.TheVariants.{Opened}
 use Rattle.circuit_l4.specs.Transports.{pair_at}
+use Rattle.circuit_set.specs.Events.{Event, Name, ends_it, is_copy, same_name}
 use Rattle.circuit_set.specs.Sets.{Told, Made, Sent, Heeded, Notice, Gone, Lost, Restarted, same_pair}
-
--- an end: its node, by its place among the nodes, and its number there
-pub record Name : Type 0 where
-  pub node : ℕ
-  pub id : ℕ
-
-abbrev pub same_name : Name → Name → Bool
-same_name a b = nat_eq a.node b.node && nat_eq a.id b.id
-
--- what is told at a node, and that node's call
-pub record Event : Type 0 where
-  pub node : ℕ
-  pub own : Callsign
-  pub told : Told
 
 pub record MadeNote : Type 0 where
   pub who : Name
@@ -53,13 +38,6 @@ pub record Book : Type 0 where
 
 abbrev pub empty : Book
 empty = record { places = 0; made = []; sent = []; heard = [] }
-
--- ---- copies ----
--- two datagrams are the same but for the time to live
-abbrev pub is_copy : List ℕ → List ℕ → Bool
-is_copy d e =
-    pointwise nat_eq (take TTL_AT d) (take TTL_AT e) && pointwise nat_eq (drop HEAD_SIZE d) (drop HEAD_SIZE e)
-    && nat_le HEAD_SIZE (length d) && nat_le HEAD_SIZE (length e)
 
 -- ---- partners ----
 abbrev pub is_some_name : Option Name → Name → Bool
@@ -212,10 +190,6 @@ TimelyTold allow b node _ = Unit {0}
 abbrev pub Timely : (Book → Name → ℕ) → Book → List Event → Type 0
 Timely allow b [] = Unit {0}
 Timely allow b (e ∷ es) = TimelyTold allow b e.node e.told × Timely allow (noted b e) es
-
-abbrev pub ends_it : EndNotice → Bool
-ends_it (Opened window) = false
-ends_it _ = true
 
 abbrev pub any_ends : List EndNotice → Bool
 any_ends [] = false

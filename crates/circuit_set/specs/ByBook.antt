@@ -1,7 +1,8 @@
 -- That the notes of the book tell the same as the events: what comes too late by them comes too late.
 use Rattle.std.specs.Prelude.{◌↔◌, List}
-use Rattle.circuit_set.specs.Books.{Event, Fresh, Timely, empty}
-use Rattle.circuit_set.specs.Runs.{allowed}
+use Rattle.circuit_set.specs.Books.{Fresh, Timely, empty}
+use Rattle.circuit_set.specs.Events.{Event}
+use Rattle.circuit_set.specs.NotedRuns.{allowed}
 use Rattle.circuit_set.specs.TooLate.{AllowsByWindow, IsFresh, IsTimely, allows_fixed}
 
 -- of any events, whatever they are

@@ -15,7 +15,9 @@ use Rattle.circuit_l4.specs.EndTable.{Input, Arrive, common_window, step}
 use Rattle.circuit_l4.specs.EndOpening.{requesting, responding}
 use Rattle.circuit_l4.specs.Sending.{fragments, total}
 use Rattle.circuit_set.specs.Lines.{InfoMark, AckMark, count_from}
-use Rattle.circuit_set.specs.Heaps.{AreMessages, wholes}
+use Rattle.circuit_set.specs.Heaps.{AreMessages}
+use Rattle.circuit_set.specs.Heeds.{heeds}
+use Rattle.circuit_set.specs.Beginnings.{IsBeginning, wholes}
 use Rattle.circuit_set.specs.Ways.{DirectionOk}
 
 -- what was put out, with what its sender had got, and how many fragments it and its partner had sent, at the end of that step
@@ -52,19 +54,6 @@ heard_it n (m ∷ ms) = nat_eq n m || heard_it n ms
 
 abbrev pub hear : ℕ → List ℕ → List ℕ
 hear n heard = if heard_it n heard then heard else n ∷ heard
-
--- an end in this phase heeds this transport, where it comes from its partner node
-abbrev pub heeds : EndPhase → Transport → Bool
-heeds Connecting (Accept to own window) = true
-heeds Connecting _ = false
-heeds Up (Disconnect to) = true
-heeds Up (Info to tx rx flags text) = true
-heeds Up (InfoAck to rx flags) = true
-heeds Up _ = false
-heeds Closing (Disconnect to) = true
-heeds Closing (Disconnected to) = true
-heeds Closing _ = false
-heeds Ended _ = false
 
 -- the numbers heeded, with that of an information message
 abbrev pub hear_text : Transport → Option ℕ → List ℕ → List ℕ
@@ -136,10 +125,6 @@ EventInTime a c Accepts = c.right.e.role ≡ Responder
 abbrev pub InTimeAll : ℕ → List Event → Circuit → Type 0
 InTimeAll a [] c = Unit {0}
 InTimeAll a (e ∷ es) c = EventInTime a c e × InTimeAll a es (after c e)
-
--- the second list begins with the first
-abbrev pub IsBeginning : List (List ℕ) → List (List ℕ) → Type 0
-IsBeginning xs ys = (rest : List (List ℕ)) × (ys ≡ xs ++ rest)
 
 -- what x wrote and y received
 pub record SafeTo (x y : Side) : Type 0 where

@@ -10,8 +10,9 @@ use Rattle.circuit_l4.specs.declared.plain.EndConfig.{EndConfig}
 use Rattle.circuit_l4.specs.Transports.{transport_octets}
 use Rattle.circuit_set.specs.Sets.{Calls, Comes, Connect, Restart, SetState, Ticks, started}
 use Rattle.circuit_set.specs.Books.{Fresh, Timely, empty}
+use Rattle.circuit_set.specs.NotedRuns.{allowed}
 use Rattle.circuit_set.specs.Returning.{IsUnbroken}
-use Rattle.circuit_set.specs.Runs.{Step, allowed, events_of}
+use Rattle.circuit_set.specs.Runs.{Step, events_of}
 use Rattle.circuit_set.specs.Safe.{Safe}
 
 -- N0AAA and N0BBB

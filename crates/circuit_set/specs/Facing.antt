@@ -1,9 +1,11 @@
 -- That partners name each other's nodes. Own profile.
 use Rattle.std.specs.Prelude.{◌≡◌, ℕ, List, slice_get, Some}
 use Rattle.ax_address.specs.Callsign.{Callsign}
-use Rattle.circuit_set.specs.Books.{Name, partner}
+use Rattle.circuit_set.specs.Books.{partner}
+use Rattle.circuit_set.specs.Events.{Name}
+use Rattle.circuit_set.specs.NotedRuns.{Net, begins, end_at, net_run}
 use Rattle.circuit_set.specs.Returning.{CallsDiffer}
-use Rattle.circuit_set.specs.Runs.{AreStarts, AreSteps, Net, Step, begins, end_at, net_run}
+use Rattle.circuit_set.specs.Runs.{AreStarts, AreSteps, Step}
 use Rattle.circuit_set.specs.Sets.{Holder, SetState}
 
 -- the call of the node at a place

@@ -5,13 +5,17 @@ pub mod Ways
 pub mod Circuits
 pub mod Outs
 pub mod Laws
+pub mod Heeds
 pub mod Sets
+pub mod Events
+pub mod Beginnings
 pub mod Books
 pub mod Among
 pub mod TooLate
 pub mod ByBook
 pub mod Runs
 pub mod Safe
+pub mod NotedRuns
 pub mod Examples
 pub mod Pumps
 pub mod Inputs

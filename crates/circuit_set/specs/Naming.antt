@@ -1,8 +1,10 @@
 -- To whom an end sends: what of it stands on time alone, and what on freshness alone.
 use Rattle.std.specs.Prelude.{◌≡◌, ℕ, true, false, List, ◌++◌, Some, None}
 use Rattle.circuit_set.specs.Sets.{Holder, SetState, is_open}
-use Rattle.circuit_set.specs.Books.{Fresh, Name, Timely, empty, partner}
-use Rattle.circuit_set.specs.Runs.{AreStarts, AreSteps, Net, Step, allowed, begins, end_at, events_of, net_run, opened_window, told_to}
+use Rattle.circuit_set.specs.Books.{Fresh, Timely, empty, partner}
+use Rattle.circuit_set.specs.Events.{Name}
+use Rattle.circuit_set.specs.NotedRuns.{Net, allowed, begins, end_at, net_run, opened_window, told_to}
+use Rattle.circuit_set.specs.Runs.{AreStarts, AreSteps, Step, events_of}
 
 -- it has a partner, and sends to its partner's pair
 pub record SendsToPartner (net : Net) (x : Name) (h : Holder) : Type 0 where

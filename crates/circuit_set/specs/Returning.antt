@@ -8,7 +8,8 @@ use Rattle.l3_datagram.specs.declared.datagram.TheConstants.{HEAD_SIZE}
 use Rattle.circuit_l4.specs.Reading.{transport_at}
 use Rattle.circuit_l4.specs.declared.transport.Pair.{Pair}
 use Rattle.circuit_l4.specs.declared.transport.Transport.TheVariants.{Request}
-use Rattle.circuit_set.specs.Books.{Book, Event, FreshTold, MadeNote, Name, any_ends, empty, has_sent, is_copy, lost_with, made_last, noted}
+use Rattle.circuit_set.specs.Books.{Book, FreshTold, MadeNote, any_ends, empty, has_sent, lost_with, made_last, noted}
+use Rattle.circuit_set.specs.Events.{Event, Name, is_copy}
 use Rattle.circuit_set.specs.Givings.{IsUp, pairs_made}
 use Rattle.circuit_set.specs.Runs.{AreStarts, AreSteps, Step, events_of}
 use Rattle.circuit_set.specs.Sets.{Comes, Made, Sent, SetState, Told}

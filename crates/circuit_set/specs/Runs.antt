@@ -1,17 +1,11 @@
 -- A run of sets at nodes, in which any datagram whatever may arrive and any node may start again.
-use Rattle.std.specs.Prelude.{◌≡◌, ◌≢◌, ℕ, ◌+◌, ◌-◌, ◌*◌, ◌≤◌, if◌then◌else◌, List, [], ◌∷◌, ◌++◌, nat_eq, slice_get, slice_set, Option, Some, None}
+use Rattle.std.specs.Prelude.{◌≡◌, ℕ, ◌≤◌, if◌then◌else◌, List, [], ◌∷◌, ◌++◌, nat_eq, slice_get, slice_set, Option, Some, None}
 use Rattle.ax_address.specs.Callsign.{Callsign, IsCallsign}
-use Rattle.circuit_l4.specs.declared.plain.EndNotice.{EndNotice}
-use Rattle.circuit_l4.specs.declared.plain.EndNotice.TheVariants.{Opened}
 use Rattle.circuit_l4.specs.EndOpening.{IsConfig}
 use Rattle.circuit_set.specs.Pairs.{IsPair}
 use Rattle.circuit_l4.specs.Expiries.{Moment, expiries}
 use Rattle.circuit_set.specs.Sets.{Act, Call, Calls, Closes, Comes, Connect, Discard, Restart, Takes, Ticks, Writes, Holder, SetState, Told, end_of, set_step}
-use Rattle.circuit_set.specs.Books.{Book, Event, MadeNote, Name, Timely, empty, noted_all, partner, same_name, was_asked}
-
-pub record Net : Type 0 where
-  pub sets : List SetState
-  pub book : Book
+use Rattle.circuit_set.specs.Events.{Event, Name}
 
 -- a step of the set at a node
 pub record Step : Type 0 where
@@ -30,24 +24,16 @@ abbrev pub sets_at : List SetState → ℕ → Option SetState → Act → List 
 sets_at sets node None act = sets
 sets_at sets node (Some s) act = slice_set sets node (set_step s act).set
 
-abbrev pub net_step : Net → Step → Net
-net_step net st = record {
-  sets = sets_at net.sets st.node (slice_get net.sets st.node) st.act;
-  book = noted_all net.book (told_at net.sets st.node (slice_get net.sets st.node) st.act);
-}
-
-abbrev pub net_run : Net → List Step → Net
-net_run net [] = net
-net_run net (st ∷ sts) = net_run (net_step net st) sts
+-- the sets after these steps
+abbrev pub sets_run : List SetState → List Step → List SetState
+sets_run sets [] = sets
+sets_run sets (st ∷ sts) = sets_run (sets_at sets st.node (slice_get sets st.node) st.act) sts
 
 -- what is told, step by step
 abbrev pub events_of : List SetState → List Step → List Event
 events_of sets [] = []
 events_of sets (st ∷ sts) =
     told_at sets st.node (slice_get sets st.node) st.act ++ events_of (sets_at sets st.node (slice_get sets st.node) st.act) sts
-
-abbrev pub begins : List SetState → Net
-begins sets = record { sets = sets; book = empty }
 
 -- ---- the start ----
 pub record IsStart (s : SetState) : Type 0 where
@@ -78,12 +64,8 @@ end_in None id = None
 end_in (Some s) id = end_of id s.ends
 
 -- the end of this name
-abbrev pub end_at : Net → Name → Option Holder
-end_at net x = end_in (slice_get net.sets x.node) x.id
-
-abbrev pub told_to : List MadeNote → Name → List EndNotice
-told_to [] x = []
-told_to (m ∷ ms) x = if same_name m.who x then m.told else told_to ms x
+abbrev pub end_named : List SetState → Name → Option Holder
+end_named sets x = end_in (slice_get sets x.node) x.id
 
 -- ---- expiries ----
 -- when a call of an end was a tick
@@ -111,52 +93,17 @@ between (Some h) tick None = []
 between (Some h) tick (Some k) = if h.gone then [] else record { was = h.end; tick = tick; is = k.end } ∷ []
 
 -- what has become of an end, step by step from its making
-abbrev pub moments : Net → List Step → Name → List Moment
-moments net [] x = []
-moments net (st ∷ sts) x = between (end_at net x) (tick_at st x) (end_at (net_step net st) x) ++ moments (net_step net st) sts x
+abbrev pub moments : List SetState → List Step → Name → List Moment
+moments sets [] x = []
+moments sets (st ∷ sts) x =
+    let next : List SetState = sets_at sets st.node (slice_get sets st.node) st.act in
+    between (end_named sets x) (tick_at st x) (end_named next x) ++ moments next sts x
 
 -- how many expiries there were since the last advance of what is acknowledged, since the end began to close, or else since its making
 abbrev pub expiries_in : List SetState → List Step → Name → ℕ
-expiries_in sets steps x = expiries (moments (begins sets) steps x)
-
--- ---- how many overtakers are too many ----
--- the window that is told at an opening
-abbrev pub opened_window : List EndNotice → Option ℕ
-opened_window [] = None
-opened_window (Opened window ∷ ns) = Some window
-opened_window (n ∷ ns) = opened_window ns
-
-abbrev pub allowance : Option ℕ → ℕ
-allowance None = 0
-allowance (Some window) = 256 - 2 * window
-
-abbrev pub partner_allowance : Book → Option Name → ℕ
-partner_allowance b None = 0
-partner_allowance b (Some y) = allowance (opened_window (told_to b.made y))
-
--- how many overtakers are too many: by the window of that end of the circuit which a request has opened
-abbrev pub allowed : Book → Name → ℕ
-allowed b x = if was_asked b.made x then allowance (opened_window (told_to b.made x)) else partner_allowance b (partner b x)
-
--- a partner stays, and partners are two ends of which each is the other's
-abbrev pub PartnersStay : Type 0
-PartnersStay =
-    (sets : List SetState) → AreStarts sets → (steps later : List Step) → AreSteps (steps ++ later)
-    → Timely allowed empty (events_of sets (steps ++ later))
-    → (x y : Name) → partner (net_run (begins sets) steps).book x ≡ Some y
-    → (partner (net_run (begins sets) (steps ++ later)).book x ≡ Some y) × (partner (net_run (begins sets) steps).book y ≡ Some x) × (x ≢ y)
-
--- the windows that an end may have fit their allowance
-abbrev pub WindowsFit : Type 0
-WindowsFit = (w : ℕ) → 1 ≤ w → w ≤ 127 → 2 * w + allowance (Some w) ≤ 256
+expiries_in sets steps x = expiries (moments sets steps x)
 
 -- No set's own window is above 64.
 abbrev pub AreNarrow : List SetState → Type 0
 AreNarrow [] = Unit {0}
 AreNarrow (s ∷ ss) = (s.config.window ≤ 64) × AreNarrow ss
-
--- Then fewer than 128 overtakers are fewer than each circuit allows.
-abbrev pub NarrowIsTimely : Type 0
-NarrowIsTimely =
-    (sets : List SetState) → AreStarts sets → AreNarrow sets → (steps : List Step) → AreSteps steps
-    → Timely (λ b x. 128) empty (events_of sets steps) → Timely allowed empty (events_of sets steps)

@@ -1,20 +1,12 @@
 -- Safe: what the two ends of a circuit have, by the events that were told (this project's profile).
 use Rattle.std.specs.Prelude.{◌≡◌, ◌≢◌, ℕ, ◌+◌, ◌⊎◌, ◌↔◌, List, [], ◌++◌, take, Option, Some}
-use Rattle.circuit_l4.specs.declared.plain.EndNotice.{EndNotice}
 use Rattle.circuit_l4.specs.declared.plain.EndNotice.TheVariants.{Closed, ClosedByPartner, FailedRetries}
 use Rattle.circuit_l4.specs.EndState.{State}
-use Rattle.circuit_set.specs.Among.{Has, Last}
-use Rattle.circuit_set.specs.Books.{Event, Name}
-use Rattle.circuit_set.specs.Circuits.{IsBeginning}
-use Rattle.circuit_set.specs.Heaps.{wholes}
-use Rattle.circuit_set.specs.Runs.{AreStarts, AreSteps, Net, Step, begins, end_at, events_of, expiries_in, net_run}
-use Rattle.circuit_set.specs.Sets.{Holder, Notice, SetState}
-use Rattle.circuit_set.specs.TooLate.{AllowsByWindow, HasPartner, IsFresh, IsTimely, Makes, Partners, Tells}
-
--- x was told this, since it was made
-abbrev pub WasTold : List Event → Name → EndNotice → Type 0
-WasTold events x notice =
-    (request : Option (List ℕ)) × (made : Last (λ r p e. Makes x r e) request events) × Has (λ p e. Tells e x (Notice x.id notice)) made.after
+use Rattle.circuit_set.specs.Beginnings.{IsBeginning, wholes}
+use Rattle.circuit_set.specs.Events.{Event, Name}
+use Rattle.circuit_set.specs.Runs.{AreStarts, AreSteps, Step, end_named, events_of, expiries_in, sets_run}
+use Rattle.circuit_set.specs.Sets.{Holder, SetState}
+use Rattle.circuit_set.specs.TooLate.{AllowsByWindow, HasPartner, IsFresh, IsTimely, Partners, WasTold}
 
 -- What x wrote and its partner y received: a beginning of it, with every message that is acknowledged in it; and all of it where x was told that
 -- its circuit is closed, or y that its partner has closed it.
@@ -35,13 +27,13 @@ pub record SafeEnd (events : List Event) (ends : Name → Option Holder) (x : Na
 
 -- By these steps it is so with each end, and its partner is an end, too. And each was told that its retries are used up exactly where there was
 -- one expiry more than there are retries.
-pub record IsSafe (sets : List SetState) (steps : List Step) (net : Net) (x : Name) (h : Holder) : Type 0 where
-  pub end : SafeEnd (events_of sets steps) (end_at net) x h
-  pub partner : (y : Name) → Partners (events_of sets steps) x y → (k : Holder) × (end_at net y ≡ Some k)
+pub record IsSafe (sets : List SetState) (steps : List Step) (x : Name) (h : Holder) : Type 0 where
+  pub end : SafeEnd (events_of sets steps) (end_named (sets_run sets steps)) x h
+  pub partner : (y : Name) → Partners (events_of sets steps) x y → (k : Holder) × (end_named (sets_run sets steps) y ≡ Some k)
   pub retries : WasTold (events_of sets steps) x FailedRetries ↔ (expiries_in sets steps x ≡ h.end.config.retries + 1)
 
 abbrev pub Safe : List SetState → List Step → Type 0
-Safe sets steps = let net : Net = net_run (begins sets) steps in (x : Name) (h : Holder) → end_at net x ≡ Some h → IsSafe sets steps net x h
+Safe sets steps = (x : Name) (h : Holder) → end_named (sets_run sets steps) x ≡ Some h → IsSafe sets steps x h
 
 -- at each moment of each run that is timely and fresh
 abbrev pub CircuitsSafe : Type 0

@@ -23,7 +23,7 @@ use Rattle.circuit_l4.specs.EndTable.{Input, Write, Arrive, Tick, Close, Take, s
 use Rattle.circuit_l4.specs.EndOpening.{facts_of, requesting, responding}
 use Rattle.circuit_l4.specs.Receiving.{inbox}
 use Rattle.circuit_set.specs.Pairs.{following, next_free}
-use Rattle.circuit_set.specs.Circuits.{heeds}
+use Rattle.circuit_set.specs.Heeds.{heeds}
 
 -- an end of a set, also one that is held no longer
 pub record Holder : Type 0 where

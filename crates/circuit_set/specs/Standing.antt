@@ -33,7 +33,7 @@ use Rattle.indexmap.specs.IndexMap.{set_value_at}
 use Rattle.circuit_set.specs.Pairs.{following}
 use Rattle.circuit_set.specs.Sets as sets
 use Rattle.circuit_set.specs.Sets.{SetState, Told, is_over, notices}
-use Rattle.circuit_set.specs.Circuits.{heeds}
+use Rattle.circuit_set.specs.Heeds.{heeds}
 use Rattle.circuit_set.specs.Pumps.{SetTold, Of, Dropped, Lost, is_empty}
 
 -- ---- what is told ----

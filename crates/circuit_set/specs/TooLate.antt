@@ -11,7 +11,7 @@ use Rattle.circuit_l4.specs.declared.plain.EndNotice.{EndNotice}
 use Rattle.circuit_l4.specs.declared.plain.EndNotice.TheVariants.{Opened}
 use Rattle.circuit_l4.specs.Transports.{pair_at}
 use Rattle.circuit_set.specs.Among.{First, Has, Last}
-use Rattle.circuit_set.specs.Books.{Event, Name, ends_it, is_copy, same_name}
+use Rattle.circuit_set.specs.Events.{Event, Name, ends_it, is_copy, same_name}
 use Rattle.circuit_set.specs.Sets.{Told, Made, Sent, Heeded, Notice, Lost}
 
 -- ---- what an event tells of an end x
@@ -43,6 +43,11 @@ Ends x e = (notice : EndNotice) × Tells e x (Notice x.id notice) × (ends_it no
 -- x was lost, as its node started again
 abbrev pub Loses : Name → Event → Type 0
 Loses x e = (facts : EndFacts) × Tells e x (Lost x.id facts)
+
+-- x was told this, since it was made
+abbrev pub WasTold : List Event → Name → EndNotice → Type 0
+WasTold events x notice =
+    (request : Option (List ℕ)) × (made : Last (λ r p e. Makes x r e) request events) × Has (λ p e. Tells e x (Notice x.id notice)) made.after
 
 -- ---- partners
 

@@ -1,12 +1,12 @@
 //! What an end takes in.
 ghost use Rattle.std.specs.Prelude.{◌≡◌};
-ghost use Rattle.circuit_set.specs.Circuits as circuits;
+ghost use Rattle.circuit_set.specs.Heeds as spec;
 
 use circuit_l4::{EndPhase, Transport};
 
 /// Whether an end in this phase takes in such a transport of its partner's node.
 pub(crate) fn heeds(phase: EndPhase, transport: &Transport) -> bool
-    ensures { result ≡ circuits.heeds phase transport.now }
+    ensures { result ≡ spec.heeds phase transport.now }
 {
     match phase {
         EndPhase::Connecting => matches!(transport, Transport::Accept { .. }),

@@ -16,7 +16,7 @@ ghost use Rattle.circuit_set.specs.Sendings.{SetsSendTheirOwn};
 ghost use Rattle.circuit_set.specs.Inputs.{ActsGo, HearsGo, HearsLostGoes, TellsGo, TellsLess, TicksGo};
 ghost use Rattle.circuit_set.specs.Examples.{CopyReturns, ForgedIsUnsafe, OneMoreIsTooMany, RestartIsStale};
 ghost use Rattle.circuit_set.specs.ByBook.{FreshByBook, TimelyBy128, TimelyByBook};
-ghost use Rattle.circuit_set.specs.Runs.{NarrowIsTimely, PartnersStay, WindowsFit};
+ghost use Rattle.circuit_set.specs.NotedRuns.{NarrowIsTimely, PartnersStay, WindowsFit};
 ghost use Rattle.circuit_set.specs.Safe.{CircuitsSafe, PartnersLast};
 
 /// At each moment of every run of several nodes' ends, in which any datagram whatever may come to any node and any node may

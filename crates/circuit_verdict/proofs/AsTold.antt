@@ -1,7 +1,8 @@
 -- A verdict by what is kept is one by the events themselves.
 use Rattle.std.proofs.Common.{◌≡◌, ◌↔◌, ℕ, refl, sym, List, [], ◌∷◌, ◌++◌}
 use Rattle.std.specs.Prelude.{Option, Some, None}
-use Rattle.circuit_set.specs.Books.{Event, Fresh, FreshTold, Timely, TimelyTold, empty, noted_all}
+use Rattle.circuit_set.specs.Books.{Fresh, FreshTold, Timely, TimelyTold, empty, noted_all}
+use Rattle.circuit_set.specs.Events.{Event}
 use Rattle.circuit_set.specs.ByBook.{FreshByBook, TimelyBy128, TimelyByBook}
 use Rattle.circuit_set.specs.Sets.{Told, Made, Sent, Heeded, Notice, Gone, Restarted, Lost}
 use Rattle.circuit_set.specs.TooLate.{IsFresh, IsTimely}

@@ -4,7 +4,8 @@ use Rattle.std.specs.Prelude.{true, false, Option, Some, None, is_some}
 use Rattle.ax_address.specs.Callsign.{Callsign}
 use Rattle.circuit_set.specs.Sets.{Told, Made, Sent, Heeded, Notice, Gone, Restarted, Lost}
 use Rattle.circuit_set.specs.Books as books
-use Rattle.circuit_set.specs.Books.{Event, Fresh, FreshFrom, FreshTold, Name, Timely, TimelyTold, empty, lost_with, noted, noted_all}
+use Rattle.circuit_set.specs.Events.{Event, Name}
+use Rattle.circuit_set.specs.Books.{Fresh, FreshFrom, FreshTold, Timely, TimelyTold, empty, lost_with, noted, noted_all}
 use Rattle.circuit_verdict.specs.declared.book.Book.{Book}
 use Rattle.circuit_verdict.specs.declared.event.Event.{Event as Coming}
 use Rattle.circuit_verdict.specs.declared.event.Numbered.{Numbered}

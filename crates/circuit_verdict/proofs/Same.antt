@@ -5,7 +5,7 @@ use Rattle.std.specs.List.{list_any}
 use Rattle.std.proofs.lemmas.Bool.Decides.{nat_tests}
 use Rattle.circuit_l4.specs.declared.transport.Pair.{Pair}
 use Rattle.circuit_set.specs.Sets.{same_pair}
-use Rattle.circuit_set.specs.Books.{Name, same_name}
+use Rattle.circuit_set.specs.Events.{Name, same_name}
 use Rattle.circuit_verdict.proofs.Tests.{both_true}
 
 pub nat_same : (a b : ℕ) → nat_eq a b ≡ true → a ≡ b

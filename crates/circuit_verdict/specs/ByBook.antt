@@ -1,7 +1,8 @@
 -- The same by the notes that are kept of the events. `circuit_set` says that it is the same; no public clause cites these.
 use Rattle.std.specs.Prelude.{◌≡◌, ℕ, List, [], ◌∷◌, ◌++◌}
-use Rattle.circuit_set.specs.Books.{Book, Event, Name, Timely, TimelyTold, Fresh, FreshTold, empty, noted_all, lost_with}
-use Rattle.circuit_set.specs.Runs.{allowed}
+use Rattle.circuit_set.specs.Books.{Book, Timely, TimelyTold, Fresh, FreshTold, empty, noted_all, lost_with}
+use Rattle.circuit_set.specs.Events.{Event, Name}
+use Rattle.circuit_set.specs.NotedRuns.{allowed}
 use Rattle.circuit_verdict.specs.declared.event.Numbered.{Numbered}
 use Rattle.circuit_verdict.specs.declared.verdict.Allowance.{Allowance}
 use Rattle.circuit_verdict.specs.declared.verdict.Allowance.TheVariants.{Fixed, OfWindow}

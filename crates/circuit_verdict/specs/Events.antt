@@ -2,7 +2,7 @@
 use Rattle.std.specs.Prelude.{List, [], ◌∷◌}
 use Rattle.std.specs.Option.{option_copied}
 use Rattle.circuit_set.specs.Sets as sets
-use Rattle.circuit_set.specs.Books as books
+use Rattle.circuit_set.specs.Events as events
 use Rattle.circuit_verdict.specs.declared.event.Told.{Told}
 use Rattle.circuit_verdict.specs.declared.event.Told.TheVariants.{Made, Sent, Heeded, Notice, Gone, Restarted, Lost}
 use Rattle.circuit_verdict.specs.declared.event.Event.{Event}
@@ -17,9 +17,9 @@ told_of (Gone id facts) = sets.Gone id facts
 told_of (Restarted pair) = sets.Restarted pair
 told_of (Lost id facts) = sets.Lost id facts
 
-abbrev pub event_of : Event → books.Event
+abbrev pub event_of : Event → events.Event
 event_of e = record { node = e.node; own = e.own; told = told_of e.told }
 
-abbrev pub events_of : List Numbered → List books.Event
+abbrev pub events_of : List Numbered → List events.Event
 events_of [] = []
 events_of (n ∷ ns) = event_of n.event ∷ events_of ns

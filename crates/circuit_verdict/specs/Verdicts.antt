@@ -1,7 +1,7 @@
 -- The verdict on a list of events: none where it is timely and fresh, and else the first event at which it isn't (this project's
 -- profile). `IsTimely` and `IsFresh` are those of the law of circuits.
 use Rattle.std.specs.Prelude.{◌≡◌, ℕ, ◌↔◌, List, [], ◌∷◌, ◌++◌, Option, Some, None}
-use Rattle.circuit_set.specs.Books.{Event}
+use Rattle.circuit_set.specs.Events.{Event}
 use Rattle.circuit_set.specs.TooLate.{Allowing, AllowsByWindow, IsFresh, IsTimely, allows_fixed}
 use Rattle.circuit_verdict.specs.declared.event.Numbered.{Numbered}
 use Rattle.circuit_verdict.specs.declared.verdict.Allowance.{Allowance}

@@ -4,8 +4,9 @@ ghost use Rattle.std.specs.Option.{option_copied};
 ghost use Rattle.l3_datagram.specs.Datagrams.{head_at};
 ghost use Rattle.circuit_l4.specs.Transports.{pair_at};
 ghost use Rattle.circuit_set.specs.Books as books;
+ghost use Rattle.circuit_set.specs.NotedRuns.{allowance};
+ghost use Rattle.circuit_set.specs.Events as set_events;
 ghost use Rattle.circuit_set.specs.Sets as sets;
-ghost use Rattle.circuit_set.specs.Runs.{allowance};
 ghost use Rattle.ax_address.specs.Callsign.{Callsign};
 ghost use Rattle.circuit_verdict.specs.Events.{event_of};
 ghost use Rattle.circuit_verdict.specs.Judging as judged;
@@ -48,7 +49,7 @@ impl Book {
         event: &Event<'_>,
         allowance: Allowance,
     ) -> Result<Option<LateWhy>, NoMemory>
-        ensures { IfOk result (λ why. (b : books.Book) (lost : List books.Name) → judged.BookStands self.old b lost
+        ensures { IfOk result (λ why. (b : books.Book) (lost : List set_events.Name) → judged.BookStands self.old b lost
             → judged.Judges allowance b lost (event_of event.now) why self.new × (self.new.places ≡ b.places + 1)) }
     {
         let next = self.places.checked_add(1).ok_or(NoMemory)?;
@@ -62,7 +63,7 @@ impl Book {
         event: &Event<'_>,
         allowance: Allowance,
     ) -> Result<Option<LateWhy>, NoMemory>
-        ensures { IfOk result (λ why. (b : books.Book) (lost : List books.Name) → judged.BookStands self.old b lost
+        ensures { IfOk result (λ why. (b : books.Book) (lost : List set_events.Name) → judged.BookStands self.old b lost
             → judged.Judges allowance b lost (event_of event.now) why self.new) }
     {
         let node = event.node;
@@ -104,7 +105,7 @@ impl Book {
         pair: &Pair,
         request: Option<&[u8]>,
     ) -> Result<Option<LateWhy>, NoMemory>
-        ensures { IfOk result (λ why. (b : books.Book) (lost : List books.Name) → judged.PartsStand self.old b lost → (partner : Callsign)
+        ensures { IfOk result (λ why. (b : books.Book) (lost : List set_events.Name) → judged.PartsStand self.old b lost → (partner : Callsign)
             → judged.JudgesMade b lost (record { node = end.now.node; own = own.now; told = sets.Made end.now.id pair.now partner (option_copied request.entry) }) why self.new) }
     {
         let asked = request.is_some();
@@ -121,7 +122,7 @@ impl Book {
 
     /// The end whose request this datagram is, where it has no partner yet.
     pub(crate) fn requester(&self, request: Option<&[u8]>) -> Result<Option<Name>, NoMemory>
-        ensures { IfOk result (λ found. (b : books.Book) (lost : List books.Name) → judged.PartsStand self.now b lost
+        ensures { IfOk result (λ found. (b : books.Book) (lost : List set_events.Name) → judged.PartsStand self.now b lost
             → found ≡ books.requester b (option_copied request.entry)) }
     {
         match request {
@@ -131,7 +132,7 @@ impl Book {
     }
 
     fn asked_by(&self, datagram: &[u8]) -> Result<Option<Name>, NoMemory>
-        ensures { IfOk result (λ found. (b : books.Book) (lost : List books.Name) → judged.PartsStand self.now b lost
+        ensures { IfOk result (λ found. (b : books.Book) (lost : List set_events.Name) → judged.PartsStand self.now b lost
             → found ≡ books.asked_by b datagram.now (head_at datagram.now)) }
     {
         let Ok(head) = read_datagram(datagram) else {
@@ -146,7 +147,7 @@ impl Book {
 
     /// The end, where it has sent a copy of this and has no partner yet.
     fn unless_joined(&self, end: Name, datagram: &[u8]) -> Result<Option<Name>, NoMemory>
-        ensures { IfOk result (λ found. (b : books.Book) (lost : List books.Name) → judged.PartsStand self.now b lost
+        ensures { IfOk result (λ found. (b : books.Book) (lost : List set_events.Name) → judged.PartsStand self.now b lost
             → found ≡ books.if_asked b datagram.now (Some end)) }
     {
         if self.ends.partner(&end).is_some() {
@@ -164,7 +165,7 @@ impl Book {
         datagram: &[u8],
         allowance: Allowance,
     ) -> Result<Option<LateWhy>, NoMemory>
-        ensures { IfOk result (λ why. (b : books.Book) (lost : List books.Name) → judged.PartsStand self.old b lost → (own : Callsign)
+        ensures { IfOk result (λ why. (b : books.Book) (lost : List set_events.Name) → judged.PartsStand self.old b lost → (own : Callsign)
             → judged.JudgesHeeded allowance b lost (record { node = end.now.node; own = own; told = sets.Heeded end.now.id datagram.now }) why self.new) }
     {
         match self.ends.partner(end) {
@@ -181,7 +182,7 @@ impl Book {
         datagram: &[u8],
         allowance: Allowance,
     ) -> Result<Option<LateWhy>, NoMemory>
-        ensures { IfOk result (λ why. (b : books.Book) (lost : List books.Name) → judged.PartsStand self.old b lost → books.partner b end.now ≡ Some partner.now → (own : Callsign)
+        ensures { IfOk result (λ why. (b : books.Book) (lost : List set_events.Name) → judged.PartsStand self.old b lost → books.partner b end.now ≡ Some partner.now → (own : Callsign)
             → judged.JudgesHeeded allowance b lost (record { node = end.now.node; own = own; told = sets.Heeded end.now.id datagram.now }) why self.new) }
     {
         let Some(latest) = self.sendings.latest(partner, datagram)? else {
@@ -196,7 +197,7 @@ impl Book {
     }
 
     fn hear(&mut self, end: &Name, number: Option<u64>) -> Result<(), NoMemory>
-        ensures { OnOk result ((b : books.Book) (lost : List books.Name) → judged.PartsStand self.old b lost
+        ensures { OnOk result ((b : books.Book) (lost : List set_events.Name) → judged.PartsStand self.old b lost
             → judged.PartsStand self.new (record b { heard = books.heard_number end.now number b.heard }) lost) }
     {
         match number {
@@ -207,7 +208,7 @@ impl Book {
 
     /// How many overtakers are too many at an end with this partner.
     pub(crate) fn allowed(&self, end: &Name, partner: &Name, allowance: Allowance) -> u64
-        ensures { (b : books.Book) (lost : List books.Name) → judged.PartsStand self.now b lost → books.partner b end.now ≡ Some partner.now
+        ensures { (b : books.Book) (lost : List set_events.Name) → judged.PartsStand self.now b lost → books.partner b end.now ≡ Some partner.now
             → result ≡ allowance_of allowance b end.now }
     {
         match allowance {
@@ -218,7 +219,7 @@ impl Book {
 
     /// The allowance by the window of the end of the two that a request has opened.
     fn by_window(&self, end: &Name, partner: &Name) -> u64
-        ensures { (b : books.Book) (lost : List books.Name) → judged.PartsStand self.now b lost → books.partner b end.now ≡ Some partner.now
+        ensures { (b : books.Book) (lost : List set_events.Name) → judged.PartsStand self.now b lost → books.partner b end.now ≡ Some partner.now
             → result ≡ allowance_of Allowance.OfWindow b end.now }
     {
         if self.ends.was_asked(end) {

@@ -2,6 +2,7 @@
 ghost use Rattle.std.specs.Prelude.{◌≡◌, IfOk, List, Some};
 ghost use Rattle.std.specs.Option.{option_copied};
 ghost use Rattle.circuit_set.specs.Books as books;
+ghost use Rattle.circuit_set.specs.Events as events;
 ghost use Rattle.circuit_verdict.specs.Causes as causes;
 ghost use Rattle.circuit_verdict.specs.Events.{told_of};
 ghost use Rattle.circuit_verdict.specs.Judging as judged;
@@ -42,7 +43,7 @@ impl Book {
         event: &Event<'_>,
         allowance: Allowance,
     ) -> Result<Option<Cause>, NoMemory>
-        ensures { IfOk result (λ cause. (b : books.Book) (lost : List books.Name) → judged.BookStands self.now b lost
+        ensures { IfOk result (λ cause. (b : books.Book) (lost : List events.Name) → judged.BookStands self.now b lost
             → cause ≡ causes.cause_told allowance b lost event.now.node (told_of event.now.told)) }
     {
         let node = event.node;
@@ -65,7 +66,7 @@ impl Book {
         pair: &Pair,
         request: Option<&[u8]>,
     ) -> Result<Option<Cause>, NoMemory>
-        ensures { IfOk result (λ cause. (b : books.Book) (lost : List books.Name) → judged.PartsStand self.now b lost
+        ensures { IfOk result (λ cause. (b : books.Book) (lost : List events.Name) → judged.PartsStand self.now b lost
             → cause ≡ causes.made_cause b lost node pair.now (option_copied request.entry)) }
     {
         let asked = request.is_some();
@@ -85,7 +86,7 @@ impl Book {
         datagram: &[u8],
         allowance: Allowance,
     ) -> Result<Option<Cause>, NoMemory>
-        ensures { IfOk result (λ cause. (b : books.Book) (lost : List books.Name) → judged.PartsStand self.now b lost
+        ensures { IfOk result (λ cause. (b : books.Book) (lost : List events.Name) → judged.PartsStand self.now b lost
             → cause ≡ causes.heeded_cause allowance b end.now datagram.now (books.partner b end.now)) }
     {
         match self.ends.partner(end) {
@@ -102,7 +103,7 @@ impl Book {
         datagram: &[u8],
         allowance: Allowance,
     ) -> Result<Option<Cause>, NoMemory>
-        ensures { IfOk result (λ cause. (b : books.Book) (lost : List books.Name) → judged.PartsStand self.now b lost
+        ensures { IfOk result (λ cause. (b : books.Book) (lost : List events.Name) → judged.PartsStand self.now b lost
             → books.partner b end.now ≡ Some partner.now
             → cause ≡ causes.overtaken_cause allowance b end.now partner.now (books.latest_in b.sent partner.now datagram.now)) }
     {

@@ -6,7 +6,8 @@ ghost use Rattle.ax_address.specs.CallOrder.{same_call};
 ghost use Rattle.circuit_l4.specs.declared.transport.Pair.{Pair as SeenPair};
 ghost use Rattle.circuit_set.specs.Sets.{same_pair};
 ghost use Rattle.circuit_set.specs.Books as books;
-ghost use Rattle.circuit_set.specs.Runs.{opened_window, told_to};
+ghost use Rattle.circuit_set.specs.NotedRuns.{opened_window, told_to};
+ghost use Rattle.circuit_set.specs.Events as set_events;
 ghost use Rattle.circuit_verdict.specs.Causes as causes;
 ghost use Rattle.circuit_verdict.specs.Ends as made;
 ghost use Rattle.circuit_verdict.specs.Lists.{list_in};
@@ -73,7 +74,7 @@ impl Ends {
 
     /// The window that was told at the opening of an end, if it was.
     pub(crate) fn window(&self, end: &Name) -> Option<u8>
-        ensures { (ms : List books.MadeNote) (lost : List books.Name) → made.EndsStand self.now ms lost → result ≡ opened_window (told_to ms end.now) }
+        ensures { (ms : List books.MadeNote) (lost : List set_events.Name) → made.EndsStand self.now ms lost → result ≡ opened_window (told_to ms end.now) }
     {
         match self.notes.get(end) {
             Some(note) => note.window,
@@ -83,22 +84,22 @@ impl Ends {
 
     /// The partner of an end, if it has one.
     pub(crate) fn partner(&self, end: &Name) -> Option<Name>
-        ensures kept { result ≡ get books.same_name self.now.partners end.now }
-        ensures exact { (ms : List books.MadeNote) (lost : List books.Name) → made.EndsStand self.now ms lost → result ≡ books.partner_in ms end.now }
+        ensures kept { result ≡ get set_events.same_name self.now.partners end.now }
+        ensures exact { (ms : List books.MadeNote) (lost : List set_events.Name) → made.EndsStand self.now ms lost → result ≡ books.partner_in ms end.now }
     {
         self.partners.get(end).copied()
     }
 
     /// The end to which the node of this call gave this pair last.
     pub(crate) fn made_last(&self, own: &Call, pair: &Pair) -> Option<Name>
-        ensures { (ms : List books.MadeNote) (lost : List books.Name) → made.EndsStand self.now ms lost → result ≡ books.made_last ms own.now pair.now }
+        ensures { (ms : List books.MadeNote) (lost : List set_events.Name) → made.EndsStand self.now ms lost → result ≡ books.made_last ms own.now pair.now }
     {
         self.last_made.get(&CallPair::of(own, pair)).copied()
     }
 
     /// Whether a pair of this node names the partner of an end of another node that has neither ended nor been lost.
     pub(crate) fn is_faced(&self, node: u64, pair: &Pair) -> bool
-        ensures { (ms : List books.MadeNote) (lost : List books.Name) → made.EndsStand self.now ms lost → result ≡ made.is_faced ms lost node pair.now }
+        ensures { (ms : List books.MadeNote) (lost : List set_events.Name) → made.EndsStand self.now ms lost → result ≡ made.is_faced ms lost node pair.now }
     {
         self.keeps_faced(node, pair)
     }
@@ -129,7 +130,7 @@ impl Ends {
 
     /// The first end of another node, neither ended nor lost, whose partner is named by this pair of this node.
     pub(crate) fn holder(&self, node: u64, pair: &Pair) -> Option<Name>
-        ensures { (ms : List books.MadeNote) (lost : List books.Name) → made.EndsStand self.now ms lost
+        ensures { (ms : List books.MadeNote) (lost : List set_events.Name) → made.EndsStand self.now ms lost
             → result ≡ slice_get (causes.holders ms lost node pair.now) 0 }
     {
         let given = self.given.of(&NodePair::of(node, pair));
@@ -172,7 +173,7 @@ impl Ends {
         pair: &Pair,
         requester: Option<Name>,
     ) -> Result<(), NoMemory>
-        ensures { OnOk result ((ms : List books.MadeNote) (lost : List books.Name) → made.EndsStand self.old ms lost
+        ensures { OnOk result ((ms : List books.MadeNote) (lost : List set_events.Name) → made.EndsStand self.old ms lost
             → made.EndsStand self.new (made.made_note end own.now pair.now requester ∷ ms) lost) }
     {
         self.give(&end, own, pair)?;
@@ -197,8 +198,8 @@ impl Ends {
     /// An end that was made before stays one that a request has opened.
     fn note_made(&mut self, end: &Name, by_request: bool) -> Result<(), NoMemory>
         ensures rest { self.new ≡ record self.old { notes = self.new.notes } }
-        ensures notes { OnOk result ((ms : List books.MadeNote) → ((x : books.Name) → get books.same_name self.old.notes x ≡ made.note_in ms x)
-            → (x : books.Name) → get books.same_name self.new.notes x ≡ cond (books.same_name end.now x) (Some (made.fresh_note by_request ms end.now)) (made.note_in ms x)) }
+        ensures notes { OnOk result ((ms : List books.MadeNote) → ((x : set_events.Name) → get set_events.same_name self.old.notes x ≡ made.note_in ms x)
+            → (x : set_events.Name) → get set_events.same_name self.new.notes x ≡ cond (set_events.same_name end.now x) (Some (made.fresh_note by_request ms end.now)) (made.note_in ms x)) }
     {
         let asked = by_request || self.was_asked(end);
         let note = EndNote {
@@ -212,7 +213,7 @@ impl Ends {
 
     /// Whether a request has opened an end.
     pub(crate) fn was_asked(&self, end: &Name) -> bool
-        ensures { (ms : List books.MadeNote) → ((x : books.Name) → get books.same_name self.now.notes x ≡ made.note_in ms x)
+        ensures { (ms : List books.MadeNote) → ((x : set_events.Name) → get set_events.same_name self.now.notes x ≡ made.note_in ms x)
             → result ≡ books.was_asked ms end.now }
     {
         match self.notes.get(end) {
@@ -224,10 +225,10 @@ impl Ends {
     /// An end that was opened and its requester become partners.
     fn join(&mut self, end: &Name, requester: Option<Name>) -> Result<(), NoMemory>
         ensures rest { self.new ≡ record self.old { partners = self.new.partners; facing = self.new.facing } }
-        ensures partners { OnOk result ((x : books.Name) → get books.same_name self.new.partners x
-            ≡ made.joined end.now requester x (get books.same_name self.old.partners x)) }
-        ensures facing { OnOk result ((x : books.Name) → list_in (get books.same_name self.new.facing.lists x)
-            ≡ made.with_facing end.now requester x (list_in (get books.same_name self.old.facing.lists x))) }
+        ensures partners { OnOk result ((x : set_events.Name) → get set_events.same_name self.new.partners x
+            ≡ made.joined end.now requester x (get set_events.same_name self.old.partners x)) }
+        ensures facing { OnOk result ((x : set_events.Name) → list_in (get set_events.same_name self.new.facing.lists x)
+            ≡ made.with_facing end.now requester x (list_in (get set_events.same_name self.old.facing.lists x))) }
     {
         match requester {
             Some(requester) => self.join_both(end, &requester),
@@ -237,10 +238,10 @@ impl Ends {
 
     fn join_both(&mut self, end: &Name, requester: &Name) -> Result<(), NoMemory>
         ensures rest { self.new ≡ record self.old { partners = self.new.partners; facing = self.new.facing } }
-        ensures partners { OnOk result ((x : books.Name) → get books.same_name self.new.partners x
-            ≡ made.joined end.now (Some requester.now) x (get books.same_name self.old.partners x)) }
-        ensures facing { OnOk result ((x : books.Name) → list_in (get books.same_name self.new.facing.lists x)
-            ≡ made.with_facing end.now (Some requester.now) x (list_in (get books.same_name self.old.facing.lists x))) }
+        ensures partners { OnOk result ((x : set_events.Name) → get set_events.same_name self.new.partners x
+            ≡ made.joined end.now (Some requester.now) x (get set_events.same_name self.old.partners x)) }
+        ensures facing { OnOk result ((x : set_events.Name) → list_in (get set_events.same_name self.new.facing.lists x)
+            ≡ made.with_facing end.now (Some requester.now) x (list_in (get set_events.same_name self.old.facing.lists x))) }
     {
         self.partners.insert(*end, *requester)?;
         self.partners.insert(*requester, *end)?;
@@ -251,7 +252,7 @@ impl Ends {
 
     /// An end has given notice.
     pub(crate) fn notice(&mut self, end: &Name, notice: &EndNotice)
-        ensures { (ms : List books.MadeNote) (lost : List books.Name) → made.EndsStand self.old ms lost
+        ensures { (ms : List books.MadeNote) (lost : List set_events.Name) → made.EndsStand self.old ms lost
             → made.EndsStand self.new (books.with_notice end.now notice.now ms) lost }
     {
         self.note_notice(end, notice);
@@ -259,8 +260,8 @@ impl Ends {
 
     fn note_notice(&mut self, end: &Name, notice: &EndNotice)
         ensures rest { self.new ≡ record self.old { notes = self.new.notes } }
-        ensures notes { (x : books.Name) → get books.same_name self.new.notes x
-            ≡ cond (books.same_name end.now x) (made.noticed_in notice.now (get books.same_name self.old.notes x)) (get books.same_name self.old.notes x) }
+        ensures notes { (x : set_events.Name) → get set_events.same_name self.new.notes x
+            ≡ cond (set_events.same_name end.now x) (made.noticed_in notice.now (get set_events.same_name self.old.notes x)) (get set_events.same_name self.old.notes x) }
     {
         if let Some(note) = self.notes.get_mut(end) {
             note.hear(notice);
@@ -269,7 +270,7 @@ impl Ends {
 
     /// A restart took an end away.
     pub(crate) fn lose(&mut self, end: Name) -> Result<(), NoMemory>
-        ensures { OnOk result ((ms : List books.MadeNote) (lost : List books.Name) → made.EndsStand self.old ms lost → made.EndsStand self.new ms (end ∷ lost)) }
+        ensures { OnOk result ((ms : List books.MadeNote) (lost : List set_events.Name) → made.EndsStand self.old ms lost → made.EndsStand self.new ms (end ∷ lost)) }
     {
         self.lost.insert(end)?;
         Ok(())

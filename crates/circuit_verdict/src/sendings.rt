@@ -5,6 +5,7 @@ ghost use Rattle.indexmap.specs.IndexMap.{get};
 ghost use Rattle.indexmap.specs.IndexSet.{contains};
 ghost use Rattle.l3_datagram.specs.declared.datagram.TheConstants.{HEAD_SIZE as head_size};
 ghost use Rattle.circuit_set.specs.Books as books;
+ghost use Rattle.circuit_set.specs.Events as set_events;
 ghost use Rattle.circuit_verdict.specs.Lists.{list_in};
 ghost use Rattle.circuit_verdict.specs.Sendings as sends;
 ghost use Rattle.circuit_verdict.specs.declared.sendings.Likeness.{Likeness as SeenLikeness};
@@ -110,11 +111,11 @@ impl Sendings {
     /// Notes an information message at its first sending.
     fn note_number(&mut self, who: &Name, sending: Sending) -> Result<(), NoMemory>
         ensures rest { self.new ≡ record self.old { messages = self.new.messages; sent = self.new.sent } }
-        ensures messages { OnOk result ((ss : List books.SentNote) → ((x : books.Name) (n : ℕ) → contains sends.same_message self.old.sent (sends.message_name x n) ≡ books.has x n ss)
-            → (x : books.Name) → list_in (get books.same_name self.new.messages.lists x)
-            ≡ sends.with_message who.now sending.number sending.place ss x (list_in (get books.same_name self.old.messages.lists x))) }
-        ensures sent { OnOk result ((x : books.Name) (n : ℕ) → contains sends.same_message self.new.sent (sends.message_name x n)
-            ≡ books.same_name who.now x && books.is_number sending.number n || contains sends.same_message self.old.sent (sends.message_name x n)) }
+        ensures messages { OnOk result ((ss : List books.SentNote) → ((x : set_events.Name) (n : ℕ) → contains sends.same_message self.old.sent (sends.message_name x n) ≡ books.has x n ss)
+            → (x : set_events.Name) → list_in (get set_events.same_name self.new.messages.lists x)
+            ≡ sends.with_message who.now sending.number sending.place ss x (list_in (get set_events.same_name self.old.messages.lists x))) }
+        ensures sent { OnOk result ((x : set_events.Name) (n : ℕ) → contains sends.same_message self.new.sent (sends.message_name x n)
+            ≡ set_events.same_name who.now x && books.is_number sending.number n || contains sends.same_message self.old.sent (sends.message_name x n)) }
     {
         match sending.number {
             Some(number) => self.note_message(who, number, sending.place),
@@ -124,11 +125,11 @@ impl Sendings {
 
     fn note_message(&mut self, who: &Name, number: u64, place: u64) -> Result<(), NoMemory>
         ensures rest { self.new ≡ record self.old { messages = self.new.messages; sent = self.new.sent } }
-        ensures messages { OnOk result ((ss : List books.SentNote) → ((x : books.Name) (n : ℕ) → contains sends.same_message self.old.sent (sends.message_name x n) ≡ books.has x n ss)
-            → (x : books.Name) → list_in (get books.same_name self.new.messages.lists x)
-            ≡ sends.with_message who.now (Some number) place ss x (list_in (get books.same_name self.old.messages.lists x))) }
-        ensures sent { OnOk result ((x : books.Name) (n : ℕ) → contains sends.same_message self.new.sent (sends.message_name x n)
-            ≡ books.same_name who.now x && nat_eq number n || contains sends.same_message self.old.sent (sends.message_name x n)) }
+        ensures messages { OnOk result ((ss : List books.SentNote) → ((x : set_events.Name) (n : ℕ) → contains sends.same_message self.old.sent (sends.message_name x n) ≡ books.has x n ss)
+            → (x : set_events.Name) → list_in (get set_events.same_name self.new.messages.lists x)
+            ≡ sends.with_message who.now (Some number) place ss x (list_in (get set_events.same_name self.old.messages.lists x))) }
+        ensures sent { OnOk result ((x : set_events.Name) (n : ℕ) → contains sends.same_message self.new.sent (sends.message_name x n)
+            ≡ set_events.same_name who.now x && nat_eq number n || contains sends.same_message self.old.sent (sends.message_name x n)) }
     {
         if !self.sent.insert(MessageName::of(who, number))? {
             return Ok(());

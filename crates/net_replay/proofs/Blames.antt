@@ -4,7 +4,7 @@ use Rattle.std.specs.Prelude.{Bool, true, false, is_some, if◌then◌else◌, s
 use Rattle.std.specs.Option.{option_map}
 use Rattle.std.proofs.lemmas.List.{drop_all, length-map, length-take-le, map-append, take-append-drop, take_more}
 use Rattle.std.proofs.lemmas.Option.{slice_get-map}
-use Rattle.circuit_set.specs.Books as books
+use Rattle.circuit_set.specs.Events as set_events
 use Rattle.circuit_verdict.specs.Causes.{cause_after}
 use Rattle.circuit_verdict.specs.Verdicts.{AreInTime}
 use Rattle.circuit_verdict.specs.Events as told
@@ -29,11 +29,11 @@ use Rattle.net_replay.specs.Starting.{Placed}
 
 pub told_are : (ns : List Numbered) → events_of ns ≡ what_was_told (map judged ns)
 told_are [] = refl
-told_are (n ∷ ns) = ap (λ (es : List books.Event). told.event_of n.event ∷ es) (told_are ns)
+told_are (n ∷ ns) = ap (λ (es : List set_events.Event). told.event_of n.event ∷ es) (told_are ns)
 
 one_more : (ns : List Numbered) (n : Numbered) → events_of (ns ++ n ∷ []) ≡ events_of ns ++ told.event_of n.event ∷ []
 one_more [] n = refl
-one_more (m ∷ ns) n = ap (λ (es : List books.Event). told.event_of m.event ∷ es) (one_more ns n)
+one_more (m ∷ ns) n = ap (λ (es : List set_events.Event). told.event_of m.event ∷ es) (one_more ns n)
 
 -- what the events of a verdict are, as they were told
 seen_so : (a : Allowance) (v : Verdict) (before : List CircuitEvent) (h : HasTaken a v before) → events_of h.events ≡ what_was_told before
@@ -72,7 +72,7 @@ found_late old new n cause exact late a before h =
       judged n,
       refl,
       subst (λ es. cause_after a es (told.event_of n.event) ≡ Some cause) (seen_so a old before h) by,
-      subst (λ (es : List books.Event). AreInTime a (es ++ told.event_of n.event ∷ []) → ⊥) (seen_so a old before h) with_it,
+      subst (λ (es : List set_events.Event). AreInTime a (es ++ told.event_of n.event ∷ []) → ⊥) (seen_so a old before h) with_it,
     )
 
 -- nothing was told

@@ -4,8 +4,8 @@ use Rattle.std.specs.Prelude.{slice_get, slice_set, Option, Some, None}
 use Rattle.std.specs.List.{AllByRecursion}
 use Rattle.ax_address.specs.Callsign.{Callsign}
 use Rattle.circuit_l4.specs.Reading.{transport_at}
-use Rattle.circuit_set.specs.Books as books
-use Rattle.circuit_set.specs.Books.{is_copy}
+use Rattle.circuit_set.specs.Events.{is_copy}
+use Rattle.circuit_set.specs.Events as events
 use Rattle.circuit_set.specs.Heedings.{IsFor}
 use Rattle.circuit_set.specs.Refusals.{IsNumbered, IsRefusal, RefusalsAreUnheeded, RefusesUnder0, SetsRefuseUnder0, StartsAreNumbered}
 use Rattle.circuit_set.specs.Runs as net
@@ -22,7 +22,7 @@ RefusesTold (sets.Sent id number d) = id ≡ 0 → IsRefusal d
 RefusesTold t = Unit {0}
 
 -- where it was sent under number 0, it is a refusal
-abbrev pub RefusesAt0 : books.Event → Type 0
+abbrev pub RefusesAt0 : events.Event → Type 0
 RefusesAt0 e = RefusesTold e.told
 
 at_refuse : (node : ℕ) (own : Callsign) (ts : List Told) → RefusesUnder0 ts → AllByRecursion RefusesAt0 (net.events_at node own ts)

@@ -6,10 +6,10 @@ use Rattle.std.specs.List.{AllByRecursion}
 use Rattle.std.proofs.lemmas.Bool.Decides.{nat_tests}
 use Rattle.ax_address.specs.Callsign.{Callsign}
 use Rattle.ax_address.specs.CallOrder.{same_call}
-use Rattle.circuit_set.specs.Books as books
+use Rattle.circuit_set.specs.Events as events
 use Rattle.circuit_set.specs.Returning.{told_of}
 use Rattle.circuit_set.specs.Runs as net
-use Rattle.circuit_set.specs.Runs.{Step, events_of}
+use Rattle.circuit_set.specs.Runs.{Step, events_of, sets_run}
 use Rattle.circuit_set.specs.Sets as sets
 use Rattle.circuit_set.specs.Sets.{Act, SetState, Told}
 use Rattle.network_file.specs.declared.plan.declarations.Declaration.{Declaration}
@@ -18,7 +18,6 @@ use Rattle.node_core.specs.Carried.{Borne, Offered, Place, WasBorne, borne_in, i
 use Rattle.node_core.specs.Runs.{steps_at}
 use Rattle.net_replay.specs.declared.air.Aired.{Aired}
 use Rattle.net_replay.specs.Hops.{Puts, all_borne, node_at}
-use Rattle.net_replay.proofs.Containing.{sets_run}
 use Rattle.net_replay.proofs.Hopping.{Known, Within, and_left, and_right, borne_append, borne_split, frame_with, get_behind, known_more, known_within, offered_one, or_cases, same_list, within_more}
 use Rattle.net_replay.proofs.Lists.{one_of}
 use Rattle.net_replay.proofs.Origins.{IsNamed}
@@ -26,16 +25,16 @@ use Rattle.net_replay.proofs.Traced.{sent_at}
 
 -- ---- a datagram that a node has sent
 
-record FoundSent (es : List books.Event) (place : ℕ) (call : Callsign) (d : List ℕ) : Type 0 where
+record FoundSent (es : List events.Event) (place : ℕ) (call : Callsign) (d : List ℕ) : Type 0 where
   id : ℕ
   number : Option ℕ
   told : Contains es (record { node = place; own = call; told = sets.Sent id number d })
   long : nat_le 15 (length d) ≡ true
 
-sent_later : (e : books.Event) (es : List books.Event) (place : ℕ) (call : Callsign) (d : List ℕ) → FoundSent es place call d → FoundSent (e ∷ es) place call d
+sent_later : (e : events.Event) (es : List events.Event) (place : ℕ) (call : Callsign) (d : List ℕ) → FoundSent es place call d → FoundSent (e ∷ es) place call d
 sent_later e es place call d f = record { id = f.id; number = f.number; told = (suc f.told.0, (let low = f.told.1 in omega (arith, low)), f.told.2); long = f.long }
 
-sent_here : (node place : ℕ) (own call : Callsign) (id : ℕ) (number : Option ℕ) (s d : List ℕ) (es : List books.Event) → node ≡ place → own ≡ call
+sent_here : (node place : ℕ) (own call : Callsign) (id : ℕ) (number : Option ℕ) (s d : List ℕ) (es : List events.Event) → node ≡ place → own ≡ call
     → ((pointwise nat_eq s d && nat_le 15 (length d)) ≡ true) ⊎ (is_sent (sent_at place es) d ≡ true) → (is_sent (sent_at place es) d ≡ true → FoundSent es place call d)
     → FoundSent (record { node = node; own = own; told = sets.Sent id number s } ∷ es) place call d
 sent_here node place own call id number s d es same mine (inr h) rest = sent_later _ es place call d (rest h)
@@ -53,7 +52,7 @@ sent_here node place own call id number s d es same mine (inl h) rest =
       long = and_right (pointwise nat_eq s d) (nat_le 15 (length d)) h;
     }
 
-sent_by_told : (node place : ℕ) (own call : Callsign) (t : Told) (es : List books.Event) (d : List ℕ) → node ≡ place → own ≡ call → is_sent (sends_in (t ∷ told_of place es)) d ≡ true
+sent_by_told : (node place : ℕ) (own call : Callsign) (t : Told) (es : List events.Event) (d : List ℕ) → node ≡ place → own ≡ call → is_sent (sends_in (t ∷ told_of place es)) d ≡ true
     → (is_sent (sent_at place es) d ≡ true → FoundSent es place call d) → FoundSent (record { node = node; own = own; told = t } ∷ es) place call d
 sent_by_told node place own call (sets.Sent id number s) es d same mine e rest =
     sent_here node place own call id number s d es same mine (or_cases (pointwise nat_eq s d && nat_le 15 (length d)) (is_sent (sent_at place es) d) e) rest
@@ -64,7 +63,7 @@ sent_by_told node place own call (sets.Gone id facts) es d same mine e rest = se
 sent_by_told node place own call (sets.Restarted pair) es d same mine e rest = sent_later _ es place call d (rest e)
 sent_by_told node place own call (sets.Lost id facts) es d same mine e rest = sent_later _ es place call d (rest e)
 
-found_sent : (es : List books.Event) (place : ℕ) (call : Callsign) (d : List ℕ) → AllByRecursion (λ (e : books.Event). e.node ≡ place → e.own ≡ call) es → is_sent (sent_at place es) d ≡ true
+found_sent : (es : List events.Event) (place : ℕ) (call : Callsign) (d : List ℕ) → AllByRecursion (λ (e : events.Event). e.node ≡ place → e.own ≡ call) es → is_sent (sent_at place es) d ≡ true
     → FoundSent es place call d
 found_sent [] place call d a e = absurd (cc e)
 found_sent (x ∷ es) place call d a e = by (nat_eq x.node place) refl e (found_sent es place call d a.1)
@@ -77,8 +76,8 @@ found_sent (x ∷ es) place call d a e = by (nat_eq x.node place) refl e (found_
     by false m f rest = sent_later x es place call d (rest f)
 
 -- the node at a place has one call
-pub named_alike : (ds : List Declaration) (place : ℕ) (d : Declaration) (es : List books.Event) → slice_get ds place ≡ Some d → AllByRecursion (IsNamed ds) es
-    → AllByRecursion (λ (e : books.Event). e.node ≡ place → e.own ≡ d.call) es
+pub named_alike : (ds : List Declaration) (place : ℕ) (d : Declaration) (es : List events.Event) → slice_get ds place ≡ Some d → AllByRecursion (IsNamed ds) es
+    → AllByRecursion (λ (e : events.Event). e.node ≡ place → e.own ≡ d.call) es
 named_alike ds place d [] at a = tt
 named_alike ds place d (e ∷ es) at a = (
   λ same. (let one : a.0.0 ≡ d = (let both : Some a.0.0 ≡ Some d = sym a.0.1 ∙ (ap (slice_get ds) same ∙ at) in cc both) in a.0.2 ∙ ap (λ (x : Declaration). x.call) one),
@@ -114,10 +113,10 @@ passed_from (b ∷ bs) own e h = by (or_cases (same_call b.to own && is_hop b.da
 module _ (plan : Plan) (size : ℕ) where
   -- ---- frames that a node puts in the air
 
-  abbrev pub KnownAir : List books.Event → List Aired → Type 0
+  abbrev pub KnownAir : List events.Event → List Aired → Type 0
   KnownAir es air = (to : Callsign) (d : List ℕ) → is_borne (all_borne size air) to d ≡ true → Known plan size es air to d
 
-  module _ (es : List books.Event) (air new : List Aired) (place : ℕ) (p : Declaration) (at : node_at plan place ≡ Some p) (named : AllByRecursion (λ (e : books.Event). e.node ≡ place → e.own ≡ p.call) es) (known : KnownAir es air) where
+  module _ (es : List events.Event) (air new : List Aired) (place : ℕ) (p : Declaration) (at : node_at plan place ≡ Some p) (named : AllByRecursion (λ (e : events.Event). e.node ≡ place → e.own ≡ p.call) es) (known : KnownAir es air) where
     abbrev here : Place
     here = record { size = size; own = p.call; borne = all_borne size air }
 
@@ -188,16 +187,16 @@ module _ (plan : Plan) (size : ℕ) where
 
   -- ---- step by step
 
-  abbrev pub ActCame : List books.Event → List Aired → ℕ → Act → Type 0
+  abbrev pub ActCame : List events.Event → List Aired → ℕ → Act → Type 0
   ActCame es air place (sets.Comes d now) = (p : Declaration) × (node_at plan place ≡ Some p) × Known plan size es air p.call d
   ActCame es air place act = Unit {0}
 
-  abbrev pub StepsCame : List books.Event → List Aired → List SetState → List Step → Type 0
+  abbrev pub StepsCame : List events.Event → List Aired → List SetState → List Step → Type 0
   StepsCame es air ss [] = Unit {0}
   StepsCame es air ss (st ∷ sts) =
       ActCame es air st.node st.act × StepsCame (es ++ net.told_at ss st.node (slice_get ss st.node) st.act) air (net.sets_at ss st.node (slice_get ss st.node) st.act) sts
 
-  pub came_both : (es : List books.Event) (air : List Aired) (ss : List SetState) (xs ys : List Step) → StepsCame es air ss xs → StepsCame (es ++ events_of ss xs) air (sets_run ss xs) ys → StepsCame es air ss (xs ++ ys)
+  pub came_both : (es : List events.Event) (air : List Aired) (ss : List SetState) (xs ys : List Step) → StepsCame es air ss xs → StepsCame (es ++ events_of ss xs) air (sets_run ss xs) ys → StepsCame es air ss (xs ++ ys)
   came_both es air ss [] ys a b = subst (λ x. StepsCame x air ss ys) (append-nil es) b
   came_both es air ss (st ∷ xs) ys a b =
       let now = net.told_at ss st.node (slice_get ss st.node) st.act in
@@ -206,21 +205,21 @@ module _ (plan : Plan) (size : ℕ) where
         came_both (es ++ now) air then_sets xs ys a.1 (subst (λ x. StepsCame x air (sets_run then_sets xs) ys) (sym (append_assoc es now (events_of then_sets xs))) b),
       )
 
-  pub came_at : (es : List books.Event) (air : List Aired) (ss : List SetState) (xs : List Step) (y : Step) (ys : List Step) → StepsCame es air ss (xs ++ y ∷ ys) → ActCame (es ++ events_of ss xs) air y.node y.act
+  pub came_at : (es : List events.Event) (air : List Aired) (ss : List SetState) (xs : List Step) (y : Step) (ys : List Step) → StepsCame es air ss (xs ++ y ∷ ys) → ActCame (es ++ events_of ss xs) air y.node y.act
   came_at es air ss [] y ys t = subst (λ x. ActCame x air y.node y.act) (sym (append-nil es)) t.0
   came_at es air ss (x ∷ xs) y ys t =
       let now = net.told_at ss x.node (slice_get ss x.node) x.act in
       let then_sets = net.sets_at ss x.node (slice_get ss x.node) x.act in
       subst (λ z. ActCame z air y.node y.act) (append_assoc es now (events_of then_sets xs)) (came_at (es ++ now) air then_sets xs y ys t.1)
 
-  act_within : (es : List books.Event) (air air2 : List Aired) → Within air air2 → (place : ℕ) (a : Act) → ActCame es air place a → ActCame es air2 place a
+  act_within : (es : List events.Event) (air air2 : List Aired) → Within air air2 → (place : ℕ) (a : Act) → ActCame es air place a → ActCame es air2 place a
   act_within es air air2 w place (sets.Comes d now) c = (c.0, c.1, known_within plan size es air air2 w c.0.call d c.2)
   act_within es air air2 w place (sets.Connect dest now) c = tt
   act_within es air air2 w place (sets.Calls id call now) c = tt
   act_within es air air2 w place (sets.Discard id) c = tt
   act_within es air air2 w place (sets.Restart pair more) c = tt
 
-  pub steps_within : (es : List books.Event) (air air2 : List Aired) → Within air air2 → (ss : List SetState) (sts : List Step) → StepsCame es air ss sts → StepsCame es air2 ss sts
+  pub steps_within : (es : List events.Event) (air air2 : List Aired) → Within air air2 → (ss : List SetState) (sts : List Step) → StepsCame es air ss sts → StepsCame es air2 ss sts
   steps_within es air air2 w ss [] c = tt
   steps_within es air air2 w ss (st ∷ sts) c = (
     act_within es air air2 w st.node st.act c.0,
@@ -228,14 +227,14 @@ module _ (plan : Plan) (size : ℕ) where
   )
 
   module _ (here : Place) (place : ℕ) (p : Declaration) (at : node_at plan place ≡ Some p) (air : List Aired) where
-    act_came : (es : List books.Event) → ((d : List ℕ) → is_borne here.borne here.own d ≡ true → Known plan size es air p.call d) → (a : Act) → WasBorne here a → ActCame es air place a
+    act_came : (es : List events.Event) → ((d : List ℕ) → is_borne here.borne here.own d ≡ true → Known plan size es air p.call d) → (a : Act) → WasBorne here a → ActCame es air place a
     act_came es known (sets.Comes d now) b = (p, at, known d b)
     act_came es known (sets.Connect dest now) b = tt
     act_came es known (sets.Calls id call now) b = tt
     act_came es known (sets.Discard id) b = tt
     act_came es known (sets.Restart pair more) b = tt
 
-    pub inputs_came : (inputs : List Act) (es : List books.Event) (ss : List SetState) → ((d : List ℕ) → is_borne here.borne here.own d ≡ true → Known plan size es air p.call d) → AllByRecursion (WasBorne here) inputs
+    pub inputs_came : (inputs : List Act) (es : List events.Event) (ss : List SetState) → ((d : List ℕ) → is_borne here.borne here.own d ≡ true → Known plan size es air p.call d) → AllByRecursion (WasBorne here) inputs
         → StepsCame es air ss (steps_at place inputs)
     inputs_came [] es ss known a = tt
     inputs_came (x ∷ inputs) es ss known a =

@@ -4,13 +4,12 @@ use Rattle.std.specs.Prelude.{◌≢◌, ◌==◌, nat_eq, not, slice_get, slice
 use Rattle.std.specs.List.{AllByRecursion, position_or_len}
 use Rattle.std.proofs.lemmas.List.{map-append}
 use Rattle.circuit_l4.specs.declared.plain.EndConfig.{EndConfig}
-use Rattle.circuit_set.specs.Books.{empty}
 use Rattle.circuit_set.specs.Givings.{IsUp}
 use Rattle.circuit_set.specs.Inputs.{runs}
 use Rattle.circuit_set.specs.Pumps as pumps
 use Rattle.circuit_set.specs.Pumps.{at_rest}
 use Rattle.circuit_set.specs.Runs as net
-use Rattle.circuit_set.specs.Runs.{AreSteps, IsAct, Net, Step, begins, net_run, net_step, sets_at}
+use Rattle.circuit_set.specs.Runs.{AreSteps, IsAct, Step, sets_at, sets_run}
 use Rattle.circuit_set.specs.Sets as sets
 use Rattle.circuit_set.specs.Sets.{Act, Holder, SetState, Told, all_gone, end_of, losses, set_step}
 use Rattle.network_file.specs.declared.plan.declarations.Declaration.{Declaration}
@@ -56,14 +55,6 @@ map_set f (z ∷ xs) zero x y e s = let same : z ≡ x = cc e in ap (λ b. b ∷
 map_set f (z ∷ xs) (suc i) x y e s = ap (λ bs. f z ∷ bs) (map_set f xs i x y e s)
 
 -- ---- steps of several sets
-
-abbrev pub sets_run : List SetState → List Step → List SetState
-sets_run ss [] = ss
-sets_run ss (st ∷ sts) = sets_run (sets_at ss st.node (slice_get ss st.node) st.act) sts
-
-pub net_sets : (steps : List Step) (n : Net) → (net_run n steps).sets ≡ sets_run n.sets steps
-net_sets [] n = refl
-net_sets (st ∷ sts) n = net_sets sts (net_step n st)
 
 pub run_append : (xs ys : List Step) (ss : List SetState) → sets_run ss (xs ++ ys) ≡ sets_run (sets_run ss xs) ys
 run_append [] ys ss = refl
@@ -329,7 +320,7 @@ module _ (plan : Plan) (apart : AreApart (names (new_nodes plan))) (are_steps : 
       let of : StepsOf (sets_run (first_sets plan) steps) at s inputs = are_steps (sets_run (first_sets plan) steps) at s inputs here in
       let then : sets_run (first_sets plan) (steps ++ steps_at at inputs) ≡ slice_set (sets_run (first_sets plan) steps) at (runs inputs s).set =
       run_append steps (steps_at at inputs) (first_sets plan)
-      ∙ (sym (net_sets (steps_at at inputs) (record { sets = sets_run (first_sets plan) steps; book = empty })) ∙ of.sets_then empty) in
+      ∙ of.sets_then in
       record {
         are = are_append steps (steps_at at inputs) c.are (are_at at inputs m.allowed);
         up = λ on. (let parts = on_parts told es on in up_append steps (steps_at at inputs) (c.up parts.0) (up_at at inputs (m.up parts.1)));

@@ -3,10 +3,11 @@ use Rattle.std.proofs.Common.{◌≡◌, ◌∙◌, ℕ, refl, sym, ap, subst, L
 use Rattle.std.specs.Prelude.{false, slice_get, Option, Some}
 use Rattle.std.specs.List.{AllByRecursion}
 use Rattle.circuit_l4.specs.Receiving.{inbox}
-use Rattle.circuit_set.specs.Books.{Event, Name}
-use Rattle.circuit_set.specs.Circuits.{IsBeginning}
+use Rattle.circuit_set.specs.Events.{Event, Name}
+use Rattle.circuit_set.specs.Beginnings.{IsBeginning}
+use Rattle.circuit_set.specs.NotedRuns.{NarrowIsTimely}
 use Rattle.circuit_set.specs.ByBook.{FreshByBook, TimelyBy128, TimelyByBook}
-use Rattle.circuit_set.specs.Runs.{NarrowIsTimely, Net, Step, begins, end_at, end_in, events_of, net_run}
+use Rattle.circuit_set.specs.Runs.{Step, end_in, end_named, events_of, sets_run}
 use Rattle.circuit_set.specs.Safe.{CircuitsSafe, IsSafe, PartnersLast, Safe, SafeBetween}
 use Rattle.circuit_set.specs.Sets.{Holder, SetState, end_of}
 use Rattle.circuit_set.specs.TooLate.{Partners}
@@ -37,17 +38,17 @@ all_agree : (P Q R S : Session → Type 0) → ((s : Session) → P s → Q s �
 all_agree P Q R S f [] a b c = tt
 all_agree P Q R S f (s ∷ ss) a b c = (f s a.0 b.0 c.0, all_agree P Q R S f ss a.1 b.1 c.1)
 
-module _ (sets : List SetState) (steps : List Step) (safe : Safe sets steps) (back : (x y : Name) → Partners (events_of sets steps) x y → Partners (events_of sets steps) y x) where
+module _ (starts : List SetState) (steps : List Step) (safe : Safe starts steps) (back : (x y : Name) → Partners (events_of starts steps) x y → Partners (events_of starts steps) y x) where
   abbrev events : List Event
-  events = events_of sets steps
+  events = events_of starts steps
 
-  abbrev net : Net
-  net = net_run (begins sets) steps
+  abbrev sets : List SetState
+  sets = sets_run starts steps
 
   -- the end of a session whose circuit stands, with what it has written and received
   record Stands (x : Name) (n : State) (s : Session) : Type 0 where
     end : Holder
-    here : end_at net x ≡ Some end
+    here : end_named sets x ≡ Some end
     wrote : end.end.sending.wrote ≡ s.bridge.wrote
     received : end.end.receiving.received ≡ s.bridge.got ++ inbox end.end.receiving
     bridged : Bridged n s
@@ -71,16 +72,16 @@ module _ (sets : List SetState) (steps : List Step) (safe : Safe sets steps) (ba
         );
       }
 
-  agrees_with : (x : Name) (n : State) (s : Session) (t : Stands x n s) → IsSafe sets steps net x t.end → AgreeWith events net n x s
+  agrees_with : (x : Name) (n : State) (s : Session) (t : Stands x n s) → IsSafe starts steps x t.end → AgreeWith events sets n x s
   agrees_with x n s t is = record {
     joined = λ y j. (let k = is.partner y j in
-        let there : IsSafe sets steps net y k.0 = safe y k.0 k.1 in
+        let there : IsSafe starts steps y k.0 = safe y k.0 k.1 in
         (k.0, k.1, agree_with x y n s t k.0 (is.end.joined y k.0 j k.1) (there.end.joined x t.end (back x y j) t.here)));
     alone = λ none hears. t.bridged.gives t.quiet hears ∙ nothing s.bridge.got (inbox t.end.end.receiving) (sym t.received ∙ (is.end.alone none).received);
   }
 
-  agrees : (place : ℕ) (n : State) → ((id : ℕ) (h : Holder) → end_of id n.set.set.ends ≡ Some h → end_at net (record { node = place; id = id }) ≡ Some h)
-      → (s : Session) → IsBridged n s → IsEndsWriter n s → IsEndsReader n s → AgreesAt events net place n s
+  agrees : (place : ℕ) (n : State) → ((id : ℕ) (h : Holder) → end_of id n.set.set.ends ≡ Some h → end_named sets (record { node = place; id = id }) ≡ Some h)
+      → (s : Session) → IsBridged n s → IsEndsWriter n s → IsEndsReader n s → AgreesAt events sets place n s
   agrees place n held s bridged writes reads c stands quiet =
       let x : Name = record { node = place; id = c.id } in
       let w = writes c stands in
@@ -103,17 +104,17 @@ both_begin xs ys zs a b = (a.0 ++ b.0, b.1 ∙ (ap (λ ms. ms ++ b.0) a.1 ∙ ap
 abbrev name : ℕ → ℕ → Name
 name node id = record { node = node; id = id }
 
-module _ (w : World) (events : List Event) (net : Net) (users : (at : ℕ) (p : Placed) → slice_get w.nodes at ≡ Some p → AllByRecursion (AgreesAt events net at p.state.station) p.state.station.sessions) where
-  agrees_there : (x : Name) (p : Placed) (s : Session) → IsSession w x p s → WritesTexts net x s × AgreeWith events net p.state.station x s
+module _ (w : World) (events : List Event) (sets : List SetState) (users : (at : ℕ) (p : Placed) → slice_get w.nodes at ≡ Some p → AllByRecursion (AgreesAt events sets at p.state.station) p.state.station.sessions) where
+  agrees_there : (x : Name) (p : Placed) (s : Session) → IsSession w x p s → WritesTexts sets x s × AgreeWith events sets p.state.station x s
   agrees_there x p s i =
-      subst (λ z. WritesTexts net z s × AgreeWith events net p.state.station z s) (ap (name x.node) i.end)
-      (one_in (AgreesAt events net x.node p.state.station) p.state.station.sessions s (users x.node p i.there) i.among i.circuit i.stands i.quiet)
+      subst (λ z. WritesTexts sets z s × AgreeWith events sets p.state.station z s) (ap (name x.node) i.end)
+      (one_in (AgreesAt events sets x.node p.state.station) p.state.station.sessions s (users x.node p i.there) i.among i.circuit i.stands i.quiet)
 
   between_users : (x y : Name) (p q : Placed) (s t : Session) → IsSession w x p s → IsSession w y q t → Partners events x y → is_deaf s p.state.station ≡ false → IsBeginning s.bridge.gave t.bridge.taken
   between_users x y p q s t i j e hears =
       let with_y = (agrees_there x p s i).1.joined y e in
-      let wrote : WritesTexts net y t = (agrees_there y q t j).0 in
-      let same : with_y.0 ≡ wrote.end = one_end (end_at net y) wrote.here with_y.1 in
+      let wrote : WritesTexts sets y t = (agrees_there y q t j).0 in
+      let same : with_y.0 ≡ wrote.end = one_end (end_named sets y) wrote.here with_y.1 in
       both_begin s.bridge.gave with_y.0.end.sending.wrote t.bridge.taken (with_y.2.given hears)
       (subst (λ (h : Holder). IsBeginning h.end.sending.wrote t.bridge.taken) (sym same) wrote.wrote)
 
@@ -125,16 +126,16 @@ in_time_users_agree pairs by_window by_128 sounds runs circuits_safe last narrow
     let starts = (sounds bytes plan e).starts in
     let steps : List Step = t.runs.steps in
     let events : List Event = events_of (first_sets plan) steps in
-    let net : Net = net_run (begins (first_sets plan)) steps in
+    let sets : List SetState = sets_run (first_sets plan) steps in
     let safe : Safe (first_sets plan) steps = circuits_safe (first_sets plan) starts steps t.runs.then t.runs.all.are t.timely t.fresh in
     let w : World = do_lines plan done (start plan) in
     let led : AllLed w = lines_led entries sent plan (sounds bytes plan e) done later is in
-    let users : (at : ℕ) (p : Placed) → slice_get w.nodes at ≡ Some p → AllByRecursion (AgreesAt events net at p.state.station) p.state.station.sessions =
+    let users : (at : ℕ) (p : Placed) → slice_get w.nodes at ≡ Some p → AllByRecursion (AgreesAt events sets at p.state.station) p.state.station.sessions =
     λ at p f.
     (let l = led at p f in
     let remembers = t.runs.is.nodes at p f in
-    all_agree (IsBridged p.state.station) (IsEndsWriter p.state.station) (IsEndsReader p.state.station) (AgreesAt events net at p.state.station)
+    all_agree (IsBridged p.state.station) (IsEndsWriter p.state.station) (IsEndsReader p.state.station) (AgreesAt events sets at p.state.station)
     (agrees (first_sets plan) steps safe (λ x y j. (last (first_sets plan) starts steps t.runs.then t.runs.all.are t.timely t.fresh x y j).1) at p.state.station
     (λ id h here. ap (λ o. end_in o id) remembers.1 ∙ remembers.2.held id h here))
     p.state.station.sessions (sessions_of IsBridged bridged p l) (sessions_of IsEndsWriter writes p l) (sessions_of IsEndsReader reads p l)) in
-    record { steps = steps; run = t.runs.is; users = users; between = between_users w events net users }
+    record { steps = steps; run = t.runs.is; users = users; between = between_users w events sets users }

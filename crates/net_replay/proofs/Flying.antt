@@ -6,10 +6,10 @@ use Rattle.std.proofs.lemmas.Bool.{ltb-false}
 use Rattle.ax_address.specs.Callsign.{Callsign}
 use Rattle.ax_frame.specs.Frames.{IsAddress}
 use Rattle.circuit_l4.specs.declared.transport.Pair.{Pair}
-use Rattle.circuit_set.specs.Books as books
+use Rattle.circuit_set.specs.Events as set_events
 use Rattle.circuit_set.specs.Inputs.{runs}
 use Rattle.circuit_set.specs.Pairs.{IsPair}
-use Rattle.circuit_set.specs.Runs.{Step, events_of}
+use Rattle.circuit_set.specs.Runs.{Step, events_of, sets_run}
 use Rattle.circuit_set.specs.Sets as sets
 use Rattle.circuit_set.specs.Sets.{Act}
 use Rattle.link_table.specs.Calls as links
@@ -43,7 +43,7 @@ use Rattle.net_replay.specs.Lines.{kiss_bytes, restart, restart_of, settle}
 use Rattle.net_replay.specs.Starting.{Placed, by_number, config_of, is_via_of, new_nodes, path_of, repeater, with_via, with_via_by, with_vias}
 use Rattle.net_replay.specs.World as worlds
 use Rattle.net_replay.specs.World.{Bytes, Input, Time, World, after, aired, aired_as, air_events, all_fetched_of, all_told, numbered, place_of, put, put_of, reach, reaches, tell}
-use Rattle.net_replay.proofs.Containing.{AreApart, Contains, IsQuiet, Tracks, TracksAt, comes_contains, events_append, name_at, names, quiet_contains, sets_run}
+use Rattle.net_replay.proofs.Containing.{AreApart, Contains, IsQuiet, Tracks, TracksAt, comes_contains, events_append, name_at, names, quiet_contains}
 use Rattle.net_replay.proofs.LineWalks.{IsPlain, Moves}
 use Rattle.net_replay.proofs.Moving.{placed, told_entries}
 use Rattle.net_replay.proofs.MovesRun.{put_comes, quiet_air, reach_comes, restart_comes}
@@ -58,7 +58,7 @@ module _ (plan : Plan) (size : ℕ) (apart : AreApart (names (new_nodes plan))) 
     (parts : FendParts) (read_back : FramesReadBack) (too_long : LongFramesAreTooLong) (bytes_carry : BytesCarry) (ticks_carry : TicksCarry) (acts_carry : ActsCarry) (further : CarriedFurther)
     (modulus : (size ≡ 8) ⊎ (size ≡ 128)) (starts : (d : Declaration) (at : ℕ) → slice_get (names (new_nodes plan)) at ≡ Some d → IsCall d.call × (width (value_of plan.settings d.node Modulo == 128) ≡ size))
     (vias : AllByRecursion (λ (v : Via). AllByRecursion IsCall v.repeaters.items) plan.vias) where
-  abbrev pub told : List Step → List books.Event
+  abbrev pub told : List Step → List set_events.Event
   told steps = events_of (first_sets plan) steps
 
   abbrev pub here : List Aired → Placed → Place
@@ -153,7 +153,7 @@ module _ (plan : Plan) (size : ℕ) (apart : AreApart (names (new_nodes plan))) 
       → Flies (steps ++ steps_at at inputs) (record w { nodes = slice_set w.nodes at q; told = told2 })
   goes_on steps w told2 at p q inputs e same f contains come others mine =
       let more : List Step = steps_at at inputs in
-      let then_told : List books.Event = events_of (sets_run (first_sets plan) steps) more in
+      let then_told : List set_events.Event = events_of (sets_run (first_sets plan) steps) more in
       record {
         contains = contains;
         came = came_both plan size [] w.air (first_sets plan) steps more f.came

@@ -2,7 +2,7 @@
 use Rattle.std.proofs.Common.{◌≡◌, ◌∙◌, ◌<◌, ℕ, zero, suc, ap, subst, arith, List, [], ◌∷◌, ◌++◌, length, map, inl, inr}
 use Rattle.std.specs.Prelude.{◌⊎◌, slice_get, slice_index_or, Contains, Option, Some, None}
 use Rattle.ax_address.specs.Callsign.{Callsign}
-use Rattle.circuit_set.specs.Books as books
+use Rattle.circuit_set.specs.Events as set_events
 use Rattle.circuit_set.specs.Heedings.{HeedsFor, IsFor, SetsHeedPartners}
 use Rattle.circuit_set.specs.Runs as net
 use Rattle.circuit_set.specs.Runs.{Step, events_of}
@@ -34,22 +34,22 @@ contains_map {A} {B} f (y ∷ xs) x c = by c.0 c.1 c.2 (contains_map f xs x)
 -- ---- one step
 
 -- it came with this input, and is for an end of this set
-abbrev Heeds : SetState → Act → ℕ → List ℕ → ℕ → books.Event → Type 0
+abbrev Heeds : SetState → Act → ℕ → List ℕ → ℕ → set_events.Event → Type 0
 Heeds s a id d node e = (now : ℕ) × (a ≡ sets.Comes d now) × (node ≡ e.node) × IsFor s a id d
 
-one_heeds : (s : SetState) (a : Act) (node : ℕ) (own : Callsign) (t : Told) (ts : List Told) (e : books.Event) (id : ℕ) (d : List ℕ) → HeedsFor s a (t ∷ ts) → record { node = node; own = own; told = t } ≡ e
+one_heeds : (s : SetState) (a : Act) (node : ℕ) (own : Callsign) (t : Told) (ts : List Told) (e : set_events.Event) (id : ℕ) (d : List ℕ) → HeedsFor s a (t ∷ ts) → record { node = node; own = own; told = t } ≡ e
     → e.told ≡ sets.Heeded id d → Heeds s a id d node e
 one_heeds s a node own (sets.Heeded id2 d2) ts e id d h is told =
-    let both : sets.Heeded id2 d2 ≡ sets.Heeded id d = ap (λ (x : books.Event). x.told) is ∙ told in
+    let both : sets.Heeded id2 d2 ≡ sets.Heeded id d = ap (λ (x : set_events.Event). x.told) is ∙ told in
     let octets : d2 ≡ d = cc both in
     let number : id2 ≡ id = cc both in
-    (h.0.now, h.0.came ∙ ap (λ x. sets.Comes x h.0.now) octets, ap (λ (x : books.Event). x.node) is, subst (λ x. IsFor s a id x) octets (subst (λ k. IsFor s a k d2) number h.0))
-one_heeds s a node own (sets.Sent id2 number d2) ts e id d h is told = absurd (cc (ap (λ (x : books.Event). x.told) is ∙ told))
-one_heeds s a node own (sets.Made id2 pair partner request) ts e id d h is told = absurd (cc (ap (λ (x : books.Event). x.told) is ∙ told))
-one_heeds s a node own (sets.Notice id2 notice) ts e id d h is told = absurd (cc (ap (λ (x : books.Event). x.told) is ∙ told))
-one_heeds s a node own (sets.Gone id2 facts) ts e id d h is told = absurd (cc (ap (λ (x : books.Event). x.told) is ∙ told))
-one_heeds s a node own (sets.Restarted pair) ts e id d h is told = absurd (cc (ap (λ (x : books.Event). x.told) is ∙ told))
-one_heeds s a node own (sets.Lost id2 facts) ts e id d h is told = absurd (cc (ap (λ (x : books.Event). x.told) is ∙ told))
+    (h.0.now, h.0.came ∙ ap (λ x. sets.Comes x h.0.now) octets, ap (λ (x : set_events.Event). x.node) is, subst (λ x. IsFor s a id x) octets (subst (λ k. IsFor s a k d2) number h.0))
+one_heeds s a node own (sets.Sent id2 number d2) ts e id d h is told = absurd (cc (ap (λ (x : set_events.Event). x.told) is ∙ told))
+one_heeds s a node own (sets.Made id2 pair partner request) ts e id d h is told = absurd (cc (ap (λ (x : set_events.Event). x.told) is ∙ told))
+one_heeds s a node own (sets.Notice id2 notice) ts e id d h is told = absurd (cc (ap (λ (x : set_events.Event). x.told) is ∙ told))
+one_heeds s a node own (sets.Gone id2 facts) ts e id d h is told = absurd (cc (ap (λ (x : set_events.Event). x.told) is ∙ told))
+one_heeds s a node own (sets.Restarted pair) ts e id d h is told = absurd (cc (ap (λ (x : set_events.Event). x.told) is ∙ told))
+one_heeds s a node own (sets.Lost id2 facts) ts e id d h is told = absurd (cc (ap (λ (x : set_events.Event). x.told) is ∙ told))
 
 heeds_rest : (s : SetState) (a : Act) (t : Told) (ts : List Told) → HeedsFor s a (t ∷ ts) → HeedsFor s a ts
 heeds_rest s a (sets.Heeded id2 d2) ts h = h.1
@@ -60,7 +60,7 @@ heeds_rest s a (sets.Gone id2 facts) ts h = h
 heeds_rest s a (sets.Restarted pair) ts h = h
 heeds_rest s a (sets.Lost id2 facts) ts h = h
 
-step_heeds : (s : SetState) (a : Act) (node : ℕ) (own : Callsign) (ts : List Told) (e : books.Event) (id : ℕ) (d : List ℕ) → HeedsFor s a ts → Contains (net.events_at node own ts) e → e.told ≡ sets.Heeded id d
+step_heeds : (s : SetState) (a : Act) (node : ℕ) (own : Callsign) (ts : List Told) (e : set_events.Event) (id : ℕ) (d : List ℕ) → HeedsFor s a ts → Contains (net.events_at node own ts) e → e.told ≡ sets.Heeded id d
     → Heeds s a id d node e
 step_heeds s a node own [] e id d h c told = let low = c.1 in absurd (omega (arith, low))
 step_heeds s a node own (t ∷ ts) e id d h c told = by c.0 c.1 c.2 (λ f. step_heeds s a node own ts e id d (heeds_rest s a t ts h) f told)
@@ -77,13 +77,13 @@ CameIn node id d steps =
     (before : List Step) × (after : List Step) × (now : ℕ) × (steps ≡ before ++ record { node = node; act = sets.Comes d now } ∷ after) × (s : SetState) × (a : Act) × IsFor s a id d
 
 module _ (heedings : SetsHeedPartners) where
-  at_heeds : (ss : List SetState) (st : Step) (o : Option SetState) (e : books.Event) (id : ℕ) (d : List ℕ) → Contains (net.told_at ss st.node o st.act) e → e.told ≡ sets.Heeded id d
+  at_heeds : (ss : List SetState) (st : Step) (o : Option SetState) (e : set_events.Event) (id : ℕ) (d : List ℕ) → Contains (net.told_at ss st.node o st.act) e → e.told ≡ sets.Heeded id d
       → (s : SetState) × Heeds s st.act id d st.node e
   at_heeds ss st None e id d c told = let low = c.1 in absurd (omega (arith, low))
   at_heeds ss st (Some s) e id d c told = (s, step_heeds s st.act st.node s.own (set_step s st.act).told e id d (heedings s st.act) c told)
 
   -- the step by which it came
-  pub heeded_came : (ss : List SetState) (steps : List Step) (e : books.Event) (id : ℕ) (d : List ℕ) → Contains (events_of ss steps) e → e.told ≡ sets.Heeded id d
+  pub heeded_came : (ss : List SetState) (steps : List Step) (e : set_events.Event) (id : ℕ) (d : List ℕ) → Contains (events_of ss steps) e → e.told ≡ sets.Heeded id d
       → (before : List Step) × (after : List Step) × (now : ℕ) × (steps ≡ before ++ record { node = e.node; act = sets.Comes d now } ∷ after) × (s : SetState) × (a : Act) × IsFor s a id d
   heeded_came ss [] e id d c told = let low = c.1 in absurd (omega (arith, low))
   heeded_came ss (st ∷ sts) e id d c told =

@@ -7,8 +7,8 @@ use Rattle.std.proofs.lemmas.Bool.Decides.{nat_tests}
 use Rattle.std.proofs.lemmas.Cmp.{nat_list_eq_equiv}
 use Rattle.ax_address.specs.Callsign.{Callsign}
 use Rattle.ax_address.specs.CallOrder.{same_call}
-use Rattle.circuit_set.specs.Books as books
-use Rattle.circuit_set.specs.Books.{is_copy}
+use Rattle.circuit_set.specs.Events.{is_copy}
+use Rattle.circuit_set.specs.Events as events
 use Rattle.circuit_set.specs.Sets as sets
 use Rattle.network_file.specs.Plan.{Plan}
 use Rattle.node_core.specs.Carried.{Borne, borne_in, is_borne, ttl_of}
@@ -186,7 +186,7 @@ module _ (plan : Plan) (size : ℕ) where
 
   -- ---- what is known of a datagram that the air has carried: it was sent, and came by so many hops
 
-  pub record Known (es : List books.Event) (air : List Aired) (to : Callsign) (d : List ℕ) : Type 0 where
+  pub record Known (es : List events.Event) (air : List Aired) (to : Callsign) (d : List ℕ) : Type 0 where
     pub node : ℕ
     pub own : Callsign
     pub id : ℕ
@@ -197,7 +197,7 @@ module _ (plan : Plan) (size : ℕ) where
     pub hops : ℕ
     pub came : CameBy plan size air own sent hops to d
 
-  contains_more : (xs ys : List books.Event) (e : books.Event) → Contains xs e → Contains (xs ++ ys) e
+  contains_more : (xs ys : List events.Event) (e : events.Event) → Contains xs e → Contains (xs ++ ys) e
   contains_more [] ys e c = let low = c.1 in absurd (omega (arith, low))
   contains_more (x ∷ xs) ys e c = by c.0 c.1 c.2 (contains_more xs ys e)
     where
@@ -205,7 +205,7 @@ module _ (plan : Plan) (size : ℕ) where
       by zero low is rest = (0, omega arith, is)
       by (suc k) low is rest = let r = rest (k, omega (arith, low), is) in (suc r.0, (let l = r.1 in omega (arith, l)), r.2)
 
-  pub known_more : (es more : List books.Event) (air : List Aired) (to : Callsign) (d : List ℕ) → Known es air to d → Known (es ++ more) air to d
+  pub known_more : (es more : List events.Event) (air : List Aired) (to : Callsign) (d : List ℕ) → Known es air to d → Known (es ++ more) air to d
   known_more es more air to d k = record {
     node = k.node;
     own = k.own;
@@ -218,7 +218,7 @@ module _ (plan : Plan) (size : ℕ) where
     came = k.came;
   }
 
-  pub known_within : (es : List books.Event) (air air2 : List Aired) → Within air air2 → (to : Callsign) (d : List ℕ) → Known es air to d → Known es air2 to d
+  pub known_within : (es : List events.Event) (air air2 : List Aired) → Within air air2 → (to : Callsign) (d : List ℕ) → Known es air to d → Known es air2 to d
   known_within es air air2 w to d k = record {
     node = k.node;
     own = k.own;

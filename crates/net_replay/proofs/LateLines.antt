@@ -2,7 +2,7 @@
 use Rattle.std.proofs.Common.{◌≡◌, ◌∙◌, ℕ, refl, sym, ap, subst, List, [], ◌∷◌, ◌++◌, append_assoc, map}
 use Rattle.std.specs.Prelude.{slice_get, Option, Some, None}
 use Rattle.std.proofs.lemmas.List.{map-append}
-use Rattle.circuit_set.specs.Books as books
+use Rattle.circuit_set.specs.Events as set_events
 use Rattle.circuit_set.specs.Pumps.{Of}
 use Rattle.circuit_set.specs.Sets.{Restarted, Lost, Told}
 use Rattle.circuit_set.specs.TooLate.{Allowing, IsFresh, IsTimely}
@@ -39,15 +39,15 @@ first_same T shorter (v ∷ xs) ys (w ∷ zs) us x z e a b c d =
 
 -- ---- what is in time
 
-timely_front : (allows : Allowing) (xs ys : List books.Event) → IsTimely allows (xs ++ ys) → IsTimely allows xs
+timely_front : (allows : Allowing) (xs ys : List set_events.Event) → IsTimely allows (xs ++ ys) → IsTimely allows xs
 timely_front allows xs ys t before after e x d split heeds =
-    t before (after ++ ys) e x d (ap (λ (zs : List books.Event). zs ++ ys) split ∙ append_assoc before (e ∷ after) ys) heeds
+    t before (after ++ ys) e x d (ap (λ (zs : List set_events.Event). zs ++ ys) split ∙ append_assoc before (e ∷ after) ys) heeds
 
-fresh_front : (xs ys : List books.Event) → IsFresh (xs ++ ys) → IsFresh xs
+fresh_front : (xs ys : List set_events.Event) → IsFresh (xs ++ ys) → IsFresh xs
 fresh_front xs ys t before after e x pair at request split made =
-    t before (after ++ ys) e x pair at request (ap (λ (zs : List books.Event). zs ++ ys) split ∙ append_assoc before (e ∷ after) ys) made
+    t before (after ++ ys) e x pair at request (ap (λ (zs : List set_events.Event). zs ++ ys) split ∙ append_assoc before (e ∷ after) ys) made
 
-none_split : (before after : List books.Event) (e : books.Event) → [] ≡ before ++ e ∷ after → ⊥
+none_split : (before after : List set_events.Event) (e : set_events.Event) → [] ≡ before ++ e ∷ after → ⊥
 none_split [] after e split = absurd (cc split)
 none_split (x ∷ before) after e split = absurd (cc split)
 
@@ -64,7 +64,7 @@ shorter a xs ys t =
     (timely_front (allows_of a) (what_was_told xs) (what_was_told ys) both.0, fresh_front (what_was_told xs) (what_was_told ys) both.1)
 
 -- where they fail they aren't in time
-fails_late : (a : Allowance) (es : List books.Event) (why : LateWhy) → Fails a es why → AreInTime a es → ⊥
+fails_late : (a : Allowance) (es : List set_events.Event) (why : LateWhy) → Fails a es why → AreInTime a es → ⊥
 fails_late a es Overtaken fails t = fails t.0
 fails_late a es Returned fails t = fails t.1
 
@@ -110,7 +110,7 @@ module _ (plan : Plan) (w : World) (number : ℕ) (cause : Cause) (c : ComesLate
       let all : map judged f.before ++ judged f.at ∷ map judged f.after ≡ events_at w.nodes c.before ++ c.event ∷ events_at w.nodes c.after =
       sym (map-append judged f.before (f.at ∷ f.after)) ∙ (sym (ap (map judged) f.parts) ∙ (v.are ∙ all_told)) in
       let with_at : what_was_told (map judged f.before ++ judged f.at ∷ []) ≡ events_of f.before ++ told.event_of f.at.event ∷ [] =
-      map-append (λ (e : CircuitEvent). e.event) (map judged f.before) (judged f.at ∷ []) ∙ ap (λ (es : List books.Event). es ++ told.event_of f.at.event ∷ []) (sym (told_are f.before)) in
+      map-append (λ (e : CircuitEvent). e.event) (map judged f.before) (judged f.at ∷ []) ∙ ap (λ (es : List set_events.Event). es ++ told.event_of f.at.event ∷ []) (sym (told_are f.before)) in
       let fails : IsInTime (allowance_of plan) (map judged f.before ++ judged f.at ∷ []) → ⊥ =
       λ t. fails_late (allowance_of plan) (events_of f.before ++ told.event_of f.at.event ∷ []) late.why f.fails (subst (AreInTime (allowance_of plan)) with_at t) in
       let same : judged f.at ≡ c.event =

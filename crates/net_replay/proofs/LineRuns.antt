@@ -3,7 +3,7 @@ use Rattle.std.proofs.Common.{◌≡◌, ◌∙◌, ◌+◌, ◌<◌, ◌≤◌,
 use Rattle.std.specs.Prelude.{◌==◌, ◌||◌, not, slice_get, Some}
 use Rattle.std.specs.List.{AllByRecursion, position_or_len}
 use Rattle.circuit_set.specs.Pairs.{IsPair}
-use Rattle.circuit_set.specs.Runs.{Step, begins}
+use Rattle.circuit_set.specs.Runs.{Step, sets_run}
 use Rattle.circuit_set.specs.Sets.{Holder, SetState, end_of}
 use Rattle.network_file.specs.declared.network.NumberedInstruction.{NumberedInstruction}
 use Rattle.network_file.specs.declared.plan.declarations.Declaration.{Declaration}
@@ -22,7 +22,7 @@ use Rattle.net_replay.specs.Lines.{do_line, do_lines, world}
 use Rattle.net_replay.specs.Starting.{Placed, by_number, has_number, new_nodes, new_placed}
 use Rattle.net_replay.specs.World as worlds
 use Rattle.net_replay.specs.World.{Bytes, Time, World, answer, place_of, put, reach, start, tell}
-use Rattle.net_replay.proofs.Containing.{AreApart, Contains, Tracks, TracksAt, events_by, events_named, is_named, names, net_sets, sets_run}
+use Rattle.net_replay.proofs.Containing.{AreApart, Contains, Tracks, TracksAt, events_by, events_named, is_named, names}
 use Rattle.ax_address.specs.Callsign.{Callsign}
 use Rattle.net_replay.proofs.LineWalks.{IsPlain, LineIs, Moves, lines_lead}
 use Rattle.net_replay.proofs.Moving.{new_tracks, set_is}
@@ -226,7 +226,7 @@ module _ (plan : Plan) (apart : AreApart (names (new_nodes plan))) (are_steps : 
   is_run steps w c = record {
     are = c.are;
     nodes = λ at p e. (let t : TracksAt plan w.told (sets_run (first_sets plan) steps) at p = c.tracks at p e in
-        (t.set, ap (λ ss. slice_get ss at) (net_sets steps (begins (first_sets plan))) ∙ t.here, record { past = t.tracks.past; gone = t.tracks.lost.gone; is = t.tracks.is; held = held_in plan w.told t.set p t.tracks }));
+        (t.set, t.here, record { past = t.tracks.past; gone = t.tracks.lost.gone; is = t.tracks.is; held = held_in plan w.told t.set p t.tracks }));
     told = ap (map (λ (e : CircuitEvent). e.event)) (events_named w.nodes w.told ∙ ap (λ ds. events_by ds w.told) c.names_are) ∙ c.events_are;
   }
 

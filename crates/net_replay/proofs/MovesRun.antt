@@ -7,7 +7,7 @@ use Rattle.circuit_set.specs.Inputs.{runs}
 use Rattle.circuit_set.specs.Pairs.{IsPair}
 use Rattle.circuit_set.specs.Pumps.{at_rest}
 use Rattle.circuit_set.specs.Runs as net
-use Rattle.circuit_set.specs.Runs.{IsAct, Step}
+use Rattle.circuit_set.specs.Runs.{IsAct, Step, sets_run}
 use Rattle.circuit_set.specs.Sets as sets
 use Rattle.circuit_set.specs.Sets.{Holder, SetState, Told, all_gone, end_of, losses}
 use Rattle.network_file.specs.declared.plan.channels.Channel.{Channel}
@@ -22,7 +22,7 @@ use Rattle.net_replay.specs.Lines.{losses_of, restart, restart_of}
 use Rattle.net_replay.specs.Starting.{Placed, new_nodes}
 use Rattle.net_replay.specs.World as worlds
 use Rattle.net_replay.specs.World.{Bytes, Input, Time, World, after, aired, air_events, all_fetched_of, all_told, numbered, place_of, put, put_of, puts, reach, reaches, tell, tells_entries}
-use Rattle.net_replay.proofs.Containing.{AreApart, Comes, Contains, IsQuiet, Tracks, TracksAt, comes_contains, events_by, name_at, names, note_append, place_is, quiet_contains, quiet_events, quiet_notes, sets_run}
+use Rattle.net_replay.proofs.Containing.{AreApart, Comes, Contains, IsQuiet, Tracks, TracksAt, comes_contains, events_by, name_at, names, note_append, place_is, quiet_contains, quiet_events, quiet_notes}
 use Rattle.net_replay.proofs.Remembering.{Lifts, Rising, lift, losses_lift, rising_le, runs_lift}
 use Rattle.net_replay.proofs.Moving.{told_entries, made_length, entries_other, TellsAt, tells_at, event, entries_tell, lost_events, losses_are, lost_tell, lost_length, lost_other, placed, new_tracks, all_gone_gone, past_below, same_set, sent_tracks}
 

@@ -6,7 +6,7 @@ use Rattle.std.proofs.lemmas.List.{length-append}
 use Rattle.ax_address.specs.Callsign.{Callsign}
 use Rattle.circuit_l4.specs.declared.transport.Pair.{Pair}
 use Rattle.circuit_l4.specs.EndOpening.{facts_of}
-use Rattle.circuit_set.specs.Books as books
+use Rattle.circuit_set.specs.Events as set_events
 use Rattle.circuit_set.specs.CircuitSets.{facts_at}
 use Rattle.circuit_set.specs.Pumps as pumps
 use Rattle.circuit_set.specs.Pumps.{at_rest}
@@ -107,7 +107,7 @@ pub tells_at : (ds : List Declaration) (number at : ℕ) (d : Declaration) → p
 tells_at ds number at d p e line told =
     ap (λ k. at_name line k (slice_get ds k) told) p ∙ ap (λ o. at_name line at o told) e
 
-abbrev pub event : CircuitEvent → books.Event
+abbrev pub event : CircuitEvent → set_events.Event
 event e = e.event
 
 pub entries_tell : (ds : List Declaration) (line number at : ℕ) (call : Callsign) → TellsAt ds number at call → (entries : List states.Entry)

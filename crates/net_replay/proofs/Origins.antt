@@ -7,8 +7,8 @@ use Rattle.std.proofs.lemmas.List.{length-append, length-map, length-replicate, 
 use Rattle.ax_address.specs.Callsign.{Callsign, name_in}
 use Rattle.ax_address.specs.NetCalls.{SpelledNetCallIsRead, WrittenNetCallSpellsIt, net_call_at, net_call_octets}
 use Rattle.ax_address.specs.declared.octets.AddressRefusal.{AddressRefusal}
-use Rattle.circuit_set.specs.Books as books
-use Rattle.circuit_set.specs.Books.{is_copy}
+use Rattle.circuit_set.specs.Events.{is_copy}
+use Rattle.circuit_set.specs.Events as set_events
 use Rattle.circuit_set.specs.Pumps as pumps
 use Rattle.circuit_set.specs.Sendings.{IsFrom}
 use Rattle.circuit_set.specs.Sets as sets
@@ -107,21 +107,21 @@ module _ (P : CircuitEvent → Type 0) (ds : List Declaration) (each : (line k :
   events_all [] = tt
   events_all (e ∷ es) = both P (event_by ds e.line e.event) (events_by ds es) (event_all e.line e.event) (events_all es)
 
-plain_all : (Q : books.Event → Type 0) (es : List CircuitEvent) → AllByRecursion (λ (e : CircuitEvent). Q e.event) es → AllByRecursion Q (map (λ (e : CircuitEvent). e.event) es)
+plain_all : (Q : set_events.Event → Type 0) (es : List CircuitEvent) → AllByRecursion (λ (e : CircuitEvent). Q e.event) es → AllByRecursion Q (map (λ (e : CircuitEvent). e.event) es)
 plain_all Q [] a = tt
 plain_all Q (e ∷ es) a = (a.0, plain_all Q es a.1)
 
 -- all that is told of circuits is told by calls
-pub told_by_calls : (ds : List Declaration) (es : List NumberedEvent) (ts : List books.Event) → AllByRecursion (λ (d : Declaration). IsCall d.call) ds
-    → map (λ (e : CircuitEvent). e.event) (events_by ds es) ≡ ts → AllByRecursion (λ (e : books.Event). IsCall e.own) ts
+pub told_by_calls : (ds : List Declaration) (es : List NumberedEvent) (ts : List set_events.Event) → AllByRecursion (λ (d : Declaration). IsCall d.call) ds
+    → map (λ (e : CircuitEvent). e.event) (events_by ds es) ≡ ts → AllByRecursion (λ (e : set_events.Event). IsCall e.own) ts
 told_by_calls ds es ts a e =
-    subst (AllByRecursion (λ (x : books.Event). IsCall x.own)) e
-    (plain_all (λ (x : books.Event). IsCall x.own) (events_by ds es) (events_all (λ (x : CircuitEvent). IsCall x.event.own) ds (λ line k d told f. one_of (λ (x : Declaration). IsCall x.call) ds k d a f) es))
+    subst (AllByRecursion (λ (x : set_events.Event). IsCall x.own)) e
+    (plain_all (λ (x : set_events.Event). IsCall x.own) (events_by ds es) (events_all (λ (x : CircuitEvent). IsCall x.event.own) ds (λ line k d told f. one_of (λ (x : Declaration). IsCall x.call) ds k d a f) es))
 
 -- and by the nodes at their places
-abbrev pub IsNamed : List Declaration → books.Event → Type 0
+abbrev pub IsNamed : List Declaration → set_events.Event → Type 0
 IsNamed ds e = (d : Declaration) × (slice_get ds e.node ≡ Some d) × (e.own ≡ d.call)
 
-pub told_by_names : (ds : List Declaration) (es : List NumberedEvent) (ts : List books.Event) → map (λ (e : CircuitEvent). e.event) (events_by ds es) ≡ ts → AllByRecursion (IsNamed ds) ts
+pub told_by_names : (ds : List Declaration) (es : List NumberedEvent) (ts : List set_events.Event) → map (λ (e : CircuitEvent). e.event) (events_by ds es) ≡ ts → AllByRecursion (IsNamed ds) ts
 told_by_names ds es ts e =
     subst (AllByRecursion (IsNamed ds)) e (plain_all (IsNamed ds) (events_by ds es) (events_all (λ (x : CircuitEvent). IsNamed ds x.event) ds (λ line k d told f. (d, f, refl)) es))

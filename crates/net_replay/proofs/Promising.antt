@@ -3,10 +3,12 @@ use Rattle.std.proofs.Common.{◌≡◌, ◌∙◌, ◌≤◌, ℕ, refl, sym, a
 use Rattle.std.specs.Prelude.{◌&&◌, ◌||◌, ◌==◌, nat_le, find, slice_get, unwrap_or, Option, None, Ok, Some}
 use Rattle.std.specs.Option.{option_map}
 use Rattle.std.specs.List.{AllByRecursion}
-use Rattle.circuit_set.specs.Books.{Fresh, Name, empty}
+use Rattle.circuit_set.specs.Books.{Fresh, empty}
+use Rattle.circuit_set.specs.Events.{Name}
+use Rattle.circuit_set.specs.NotedRuns.{NarrowIsTimely}
 use Rattle.circuit_set.specs.ByBook.{FreshByBook, TimelyBy128, TimelyByBook}
 use Rattle.circuit_set.specs.TooLate.{AllowsByWindow, IsFresh, IsTimely}
-use Rattle.circuit_set.specs.Runs.{AreNarrow, AreStarts, AreSteps, Net, NarrowIsTimely, Step, begins, end_at, end_in, events_of, net_run}
+use Rattle.circuit_set.specs.Runs.{AreNarrow, AreStarts, AreSteps, Step, end_in, end_named, events_of, sets_run}
 use Rattle.circuit_set.specs.Safe.{CircuitsSafe, IsSafe, Safe, SafeEnd}
 use Rattle.circuit_set.specs.Sets.{Holder}
 use Rattle.circuit_verdict.specs.declared.event.Numbered.{Numbered}
@@ -100,21 +102,21 @@ in_time pairs by_window by_128 sounds runs narrow fit bytes plan e v done later 
 
 -- ---- the ends that the nodes know of
 module _ (plan : Plan) (steps : List Step) (w : World) (run : IsRunOf plan steps w) where
-  abbrev net : Net
-  net = net_run (begins (first_sets plan)) steps
+  abbrev ends : Name → Option Holder
+  ends = end_named (sets_run (first_sets plan) steps)
 
-  held_case : (x : Name) (h : Holder) (o : Option Placed) → slice_get w.nodes x.node ≡ o → end_with o x.id ≡ Some h → end_at net x ≡ Some h
+  held_case : (x : Name) (h : Holder) (o : Option Placed) → slice_get w.nodes x.node ≡ o → end_with o x.id ≡ Some h → ends x ≡ Some h
   held_case x h None e q = absurd (cc q)
   held_case x h (Some p) e q = let r = run.nodes x.node p e in ap (λ o. end_in o x.id) r.1 ∙ r.2.held x.id h q
 
   -- the run has them
-  pub held : (x : Name) (h : Holder) → end_now w x ≡ Some h → end_at net x ≡ Some h
+  held : (x : Name) (h : Holder) → end_now w x ≡ Some h → ends x ≡ Some h
   held x h q = held_case x h (slice_get w.nodes x.node) refl q
 
-  pub safe_now : Safe (first_sets plan) steps → SafeNow w
+  safe_now : Safe (first_sets plan) steps → SafeNow w
   safe_now safe x h q =
-      let s : IsSafe (first_sets plan) steps net x h = safe x h (held x h q) in
-      let t : SafeEnd (map (λ e. e.event) (circuit_events w)) (end_at net) x h = subst (λ es. SafeEnd es (end_at net) x h) (sym run.told) s.end in
+      let s : IsSafe (first_sets plan) steps x h = safe x h (held x h q) in
+      let t : SafeEnd (map (λ e. e.event) (circuit_events w)) ends x h = subst (λ es. SafeEnd es ends x h) (sym run.told) s.end in
       record { joined = λ y k j there. t.joined y k j (held y k there); alone = t.alone }
 
 pub in_time_is_safe : FreshByBook → TimelyByBook → TimelyBy128 → NetworksAreSound → WorldsAreRuns → CircuitsSafe → NarrowIsTimely → SettingsFit → InTimeIsSafe

@@ -17,7 +17,7 @@ use Rattle.circuit_l4.specs.EndOpening.{facts_of, requesting, responding}
 use Rattle.circuit_l4.specs.EndState.{Effect}
 use Rattle.circuit_l4.specs.EndTable.{Arrive, step}
 use Rattle.circuit_l4.specs.Reading.{transport_at}
-use Rattle.circuit_set.specs.Circuits.{heeds}
+use Rattle.circuit_set.specs.Heeds.{heeds}
 use Rattle.circuit_set.specs.Inputs.{runs}
 use Rattle.circuit_set.specs.Pairs.{following, next_free}
 use Rattle.circuit_set.specs.Sets.{Act, Connect, Comes, Calls, Discard, Restart, Call, Holder, SetDone, SetState, Told, Heeded, Made, Lost, Gone, Restarted, Sent, accept_again, all_gone, arrives_at, called, connected, datagram_to, discarded, end_of, first_open, goes_to, handed, handed_up, has_ended, held_pairs, holder_of, input_of, is_open, losses, named_by, opened_by, read_as, received, requested, requested_anew, restarted, set_step, settled, told_by, untold, with_end}

@@ -6,10 +6,10 @@ use Rattle.ax_address.specs.Callsign.{Callsign, IsCallsign}
 use Rattle.ax_address.specs.NetCalls.{SpelledNetCallIsRead, WrittenNetCallSpellsIt}
 use Rattle.net_replay.specs.Circuits.{CircuitEvent, circuit_events}
 use Rattle.net_replay.specs.Events.{NumberedEvent}
-use Rattle.circuit_set.specs.Books as books
+use Rattle.circuit_set.specs.Events as events
 use Rattle.circuit_set.specs.Pairs.{IsPair}
 use Rattle.circuit_set.specs.Runs as net
-use Rattle.circuit_set.specs.Runs.{AreStarts, Step, events_of}
+use Rattle.circuit_set.specs.Runs.{AreStarts, Step, events_of, sets_run}
 use Rattle.circuit_set.specs.Heedings.{SetsHeedPartners}
 use Rattle.circuit_set.specs.Refusals.{RefusalsAreUnheeded, SetsRefuseUnder0, StartsAreNumbered}
 use Rattle.circuit_set.specs.Sendings.{IsFrom, SendsFrom, SetsSendTheirOwn}
@@ -33,7 +33,7 @@ use Rattle.net_replay.specs.Datagrams.{DatagramsSent, IsOfModulus, SendsAll, Was
 use Rattle.net_replay.specs.Lines.{do_lines}
 use Rattle.net_replay.specs.Starting.{Placed, by_number, has_number, new_nodes, new_placed}
 use Rattle.net_replay.specs.World.{World, start}
-use Rattle.net_replay.proofs.Containing.{AreApart, events_append, events_by, name_at, names, sets_run}
+use Rattle.net_replay.proofs.Containing.{AreApart, events_append, events_by, name_at, names}
 use Rattle.net_replay.proofs.Lists as lists
 use Rattle.net_replay.proofs.Flying as flying
 use Rattle.net_replay.proofs.Flying.{Flies, NodeFlies}
@@ -53,7 +53,7 @@ abbrev FromTold : Callsign → Told → Type 0
 FromTold own (sets.Sent id number d) = (ttl : ℕ) × IsFrom own ttl d
 FromTold own t = Unit {0}
 
-abbrev FromNode : books.Event → Type 0
+abbrev FromNode : events.Event → Type 0
 FromNode e = FromTold e.own e.told
 
 at_from : (node : ℕ) (own : Callsign) (ttl : ℕ) (ts : List Told) → SendsFrom own ttl ts → AllByRecursion FromNode (net.events_at node own ts)
@@ -157,11 +157,11 @@ module _ (sounds : NetworksAreSound) (are_steps : InputsAreSteps) (bytes : Bytes
 
     -- what was told of circuits by some of the steps was told by calls
     front_calls : (before after steps : List Step) → steps ≡ before ++ after → (told : List NumberedEvent)
-        → map (λ (x : CircuitEvent). x.event) (events_by (names (new_nodes plan)) told) ≡ events_of (first_sets plan) steps → AllByRecursion (λ (x : books.Event). IsCall x.own) (events_of (first_sets plan) before)
+        → map (λ (x : CircuitEvent). x.event) (events_by (names (new_nodes plan)) told) ≡ events_of (first_sets plan) steps → AllByRecursion (λ (x : events.Event). IsCall x.own) (events_of (first_sets plan) before)
     front_calls before after steps e told are =
         let named : AllByRecursion (λ (d : Declaration). IsCall d.call) (names (new_nodes plan)) =
         subst (AllByRecursion (λ (d : Declaration). IsCall d.call)) (sym (runs.placed_names plan (by_number plan.declared 1 16))) (own_calls plan (by_number plan.declared 1 16) sound.starts) in
-        lists.front (λ (x : books.Event). IsCall x.own) (events_of (first_sets plan) before) (events_of (sets_run (first_sets plan) before) after)
+        lists.front (λ (x : events.Event). IsCall x.own) (events_of (first_sets plan) before) (events_of (sets_run (first_sets plan) before) after)
         (told_by_calls (names (new_nodes plan)) told _ named (are ∙ (ap (events_of (first_sets plan)) e ∙ events_append before after (first_sets plan))))
 
     through : (done later : List NumberedInstruction) → plan.instructions ≡ done ++ later → SendsAll plan size done
@@ -173,13 +173,13 @@ module _ (sounds : NetworksAreSound) (are_steps : InputsAreSteps) (bytes : Bytes
         (flying.moves plan size apart are_steps bytes ticks acts_run parts read_back too_long bytes_carry ticks_carry acts_carry further of.modulus starts calls.vias) done (start plan) (lines_are done goods.0 named.0) [] start_flies in
         let sent : (before after : List Step) (node now : ℕ) (d : List ℕ) → a.0 ≡ before ++ record { node = node; act = sets.Comes d now } ∷ after → WasSent plan size w.air before node d =
         λ before after node now d e.
-        (let es : List books.Event = events_of (first_sets plan) before in
+        (let es : List events.Event = events_of (first_sets plan) before in
         let step : Step = record { node = node; act = sets.Comes d now } in
         let c = came_at plan size [] w.air (first_sets plan) before step after (subst (StepsCame plan size [] w.air (first_sets plan)) e a.1.came) in
         let k : Known plan size es w.air c.0.call d = c.2 in
-        let event : books.Event = record { node = k.node; own = k.own; told = sets.Sent k.id k.number k.sent } in
+        let event : events.Event = record { node = k.node; own = k.own; told = sets.Sent k.id k.number k.sent } in
         let was : FromNode event = lists.one_in FromNode es event (events_from sendings (first_sets plan) before) k.told in
-        let call : IsCall k.own = lists.one_in (λ (x : books.Event). IsCall x.own) es event (front_calls before (step ∷ after) a.0 e w.told a.1.contains.events_are) k.told in
+        let call : IsCall k.own = lists.one_in (λ (x : events.Event). IsCall x.own) es event (front_calls before (step ∷ after) a.0 e w.told a.1.contains.events_are) k.told in
         let copy = came_copy plan size w.air k.own k.sent k.hops c.0.call d k.long k.came in
         record {
           sending = record { node = k.node; own = k.own; id = k.id; number = k.number; sent = k.sent; told = k.told; copy = copy };

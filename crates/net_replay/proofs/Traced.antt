@@ -4,7 +4,7 @@ use Rattle.std.specs.Prelude.{nat_eq, nat_le, slice_get, Some, if◌then◌else�
 use Rattle.std.specs.List.{AllByRecursion, flat_map}
 use Rattle.std.proofs.lemmas.Bool.Decides.{nat_tests}
 use Rattle.ax_address.specs.Callsign.{Callsign}
-use Rattle.circuit_set.specs.Books as books
+use Rattle.circuit_set.specs.Events as set_events
 use Rattle.circuit_set.specs.Inputs.{runs}
 use Rattle.circuit_set.specs.Returning.{told_of}
 use Rattle.circuit_set.specs.Runs as net
@@ -34,10 +34,10 @@ sends_both (sets.Lost id facts ∷ xs) ys = sends_both xs ys
 
 -- ---- by whom: what the node at a place has sent
 
-abbrev pub sent_at : ℕ → List books.Event → List (List ℕ)
+abbrev pub sent_at : ℕ → List set_events.Event → List (List ℕ)
 sent_at place es = sends_in (told_of place es)
 
-told_both : (place : ℕ) (xs ys : List books.Event) → told_of place (xs ++ ys) ≡ told_of place xs ++ told_of place ys
+told_both : (place : ℕ) (xs ys : List set_events.Event) → told_of place (xs ++ ys) ≡ told_of place xs ++ told_of place ys
 told_both place [] ys = refl
 told_both place (e ∷ xs) ys = by (nat_eq e.node place) (told_both place xs ys)
   where
@@ -46,7 +46,7 @@ told_both place (e ∷ xs) ys = by (nat_eq e.node place) (told_both place xs ys)
     by true r = ap (λ ts. e.told ∷ ts) r
     by false r = r
 
-pub sent_at_both : (place : ℕ) (xs ys : List books.Event) → sent_at place (xs ++ ys) ≡ sent_at place xs ++ sent_at place ys
+pub sent_at_both : (place : ℕ) (xs ys : List set_events.Event) → sent_at place (xs ++ ys) ≡ sent_at place xs ++ sent_at place ys
 sent_at_both place xs ys = ap sends_in (told_both place xs ys) ∙ sends_both (told_of place xs) (told_of place ys)
 
 told_here : (place : ℕ) (own : Callsign) (ts : List Told) → told_of place (net.events_at place own ts) ≡ ts

@@ -1,6 +1,6 @@
 -- By what it shows that something in a trace came too late. Own profile.
 use Rattle.std.specs.Prelude.{ℕ, suc, ◌≡◌, ◌+◌, List, [], ◌∷◌, ◌++◌, map, length, slice_get, slice_index, Bool, true, false, if◌then◌else◌, Option, Some, None}
-use Rattle.circuit_set.specs.Books as books
+use Rattle.circuit_set.specs.Events as set_events
 use Rattle.circuit_verdict.specs.Causes.{cause_after}
 use Rattle.circuit_verdict.specs.Verdicts.{AreInTime}
 use Rattle.circuit_verdict.specs.Events.{events_of}
@@ -47,7 +47,7 @@ sign_of nodes events (causes.Held node id) = signs.Held (number_in (slice_get no
 
 -- ---- the event that came too late, judged by those before it
 
-abbrev pub what_was_told : List CircuitEvent → List books.Event
+abbrev pub what_was_told : List CircuitEvent → List set_events.Event
 what_was_told events = map (λ (e : CircuitEvent). e.event) events
 
 -- the event of this number came too late by this cause, and none before it did

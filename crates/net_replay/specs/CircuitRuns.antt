@@ -3,7 +3,7 @@ use Rattle.std.specs.Prelude.{ℕ, ◌≡◌, true, List, ◌++◌, map, slice_g
 use Rattle.std.specs.List.{AllByRecursion}
 use Rattle.ax_address.specs.Callsign.{IsCallsign}
 use Rattle.circuit_set.specs.Pairs.{IsPair}
-use Rattle.circuit_set.specs.Runs.{AreStarts, AreSteps, Step, begins, events_of, net_run}
+use Rattle.circuit_set.specs.Runs.{AreStarts, AreSteps, Step, events_of, sets_run}
 use Rattle.circuit_set.specs.Sets.{Holder, SetState, end_of}
 use Rattle.network_file.specs.declared.network.NumberedInstruction.{NumberedInstruction}
 use Rattle.network_file.specs.declared.plan.instructions.Instruction.{Instruction}
@@ -43,7 +43,7 @@ AllRemember sets nodes =
 -- circuits.
 pub record IsRunOf (plan : Plan) (steps : List Step) (w : World) : Type 0 where
   pub are : AreSteps steps
-  pub nodes : AllRemember (net_run (begins (first_sets plan)) steps).sets w.nodes
+  pub nodes : AllRemember (sets_run (first_sets plan) steps) w.nodes
   pub told : map (λ e. e.event) (circuit_events w) ≡ events_of (first_sets plan) steps
 
 -- ---- what makes a plan sound

@@ -1,6 +1,6 @@
 -- What was told of circuits in a network, and the verdict on it. Own profile.
 use Rattle.std.specs.Prelude.{◌≡◌, ℕ, List, [], ◌∷◌, ◌++◌, map, slice_get, nat_le, if◌then◌else◌, Option, Some, None}
-use Rattle.circuit_set.specs.Books as books
+use Rattle.circuit_set.specs.Events as set_events
 use Rattle.circuit_set.specs.Pumps.{Of}
 use Rattle.circuit_set.specs.Sets as sets
 use Rattle.circuit_verdict.specs.declared.event.Numbered.{Numbered}
@@ -18,7 +18,7 @@ use Rattle.net_replay.specs.World.{World, place_of}
 -- what was told at a node's circuits, with the number of the line
 pub record CircuitEvent : Type 0 where
   pub line : ℕ
-  pub event : books.Event
+  pub event : set_events.Event
 
 -- a node is named by its place among the nodes
 abbrev pub at_node : ℕ → ℕ → Option Placed → sets.Told → List CircuitEvent

@@ -2,10 +2,10 @@
 use Rattle.std.specs.Prelude.{ℕ, ◌≡◌, false, List, [], ◌++◌, slice_get, Contains, Some, None, Ok}
 use Rattle.std.specs.List.{AllByRecursion}
 use Rattle.circuit_l4.specs.EndState as ends
-use Rattle.circuit_set.specs.Books.{Event, Name}
-use Rattle.circuit_set.specs.Circuits.{IsBeginning}
-use Rattle.circuit_set.specs.Runs.{Net, Step, begins, end_at, events_of, net_run}
-use Rattle.circuit_set.specs.Sets.{Holder}
+use Rattle.circuit_set.specs.Events.{Event, Name}
+use Rattle.circuit_set.specs.Beginnings.{IsBeginning}
+use Rattle.circuit_set.specs.Runs.{Step, end_named, events_of, sets_run}
+use Rattle.circuit_set.specs.Sets.{Holder, SetState}
 use Rattle.circuit_set.specs.TooLate.{HasPartner, Partners}
 use Rattle.network_file.specs.declared.network.NumberedInstruction.{NumberedInstruction}
 use Rattle.network_file.specs.Networks.{network_of}
@@ -22,9 +22,9 @@ use Rattle.net_replay.specs.Starting.{Placed}
 use Rattle.net_replay.specs.World.{World, start}
 
 -- Of a user at a prompt, and the end of its circuit here: what that end wrote is a beginning of the user's texts.
-pub record WritesTexts (net : Net) (x : Name) (s : Session) : Type 0 where
+pub record WritesTexts (sets : List SetState) (x : Name) (s : Session) : Type 0 where
   pub end : Holder
-  pub here : end_at net x ≡ Some end
+  pub here : end_named sets x ≡ Some end
   pub wrote : IsBeginning end.end.sending.wrote s.bridge.taken
 
 -- Of a user at the prompt of a node, and the other end of its circuit: what the user was given is a beginning of what that end wrote, where the
@@ -34,15 +34,15 @@ pub record Agree (n : State) (s : Session) (other : ends.State) : Type 0 where
   pub received : IsBeginning other.receiving.received s.bridge.taken
 
 -- Of a user and the end x of its circuit here: it agrees with the other end, by what was told; and where there is none, it was given nothing.
-pub record AgreeWith (events : List Event) (net : Net) (n : State) (x : Name) (s : Session) : Type 0 where
-  pub joined : (y : Name) → Partners events x y → (k : Holder) × (end_at net y ≡ Some k) × Agree n s k.end
+pub record AgreeWith (events : List Event) (sets : List SetState) (n : State) (x : Name) (s : Session) : Type 0 where
+  pub joined : (y : Name) → Partners events x y → (k : Holder) × (end_named sets y ≡ Some k) × Agree n s k.end
   pub alone : (HasPartner events x → ⊥) → is_deaf s n ≡ false → s.bridge.gave ≡ []
 
 -- so it is of a session at the node of a place while its circuit stands, unless the numbers of fragments have come to their end
-abbrev pub AgreesAt : List Event → Net → ℕ → State → Session → Type 0
-AgreesAt events net place n s =
+abbrev pub AgreesAt : List Event → List SetState → ℕ → State → Session → Type 0
+AgreesAt events sets place n s =
     (c : Circuit) → s.stage ≡ Connected c → s.bridge.exhausted ≡ false
-    → let x : Name = record { node = place; id = c.id } in WritesTexts net x s × AgreeWith events net n x s
+    → let x : Name = record { node = place; id = c.id } in WritesTexts sets x s × AgreeWith events sets n x s
 
 -- such a session of a node in the network, whose circuit has this end here
 pub record IsSession (w : World) (x : Name) (p : Placed) (s : Session) : Type 0 where
@@ -59,7 +59,7 @@ pub record UsersAgreeAt (plan : Plan) (done : List NumberedInstruction) : Type 0
   pub steps : List Step
   pub run : IsRunOf plan steps (do_lines plan done (start plan))
   pub users : (at : ℕ) (p : Placed) → slice_get (do_lines plan done (start plan)).nodes at ≡ Some p
-      → AllByRecursion (AgreesAt (events_of (first_sets plan) steps) (net_run (begins (first_sets plan)) steps) at p.state.station) p.state.station.sessions
+      → AllByRecursion (AgreesAt (events_of (first_sets plan) steps) (sets_run (first_sets plan) steps) at p.state.station) p.state.station.sessions
   pub between : (x y : Name) (p q : Placed) (s t : Session) → IsSession (do_lines plan done (start plan)) x p s → IsSession (do_lines plan done (start plan)) y q t
       → Partners (events_of (first_sets plan) steps) x y → is_deaf s p.state.station ≡ false → IsBeginning s.bridge.gave t.bridge.taken
 

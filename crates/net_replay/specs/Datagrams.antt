@@ -4,7 +4,7 @@ use Rattle.std.specs.List.{AllByRecursion}
 use Rattle.circuit_set.specs.Givings.{IsUp}
 use Rattle.circuit_set.specs.Heedings.{HeedsFor}
 use Rattle.circuit_set.specs.Returning as returning
-use Rattle.circuit_set.specs.Runs.{Step, begins, events_of, net_run}
+use Rattle.circuit_set.specs.Runs.{Step, events_of, sets_run}
 use Rattle.circuit_set.specs.Sendings.{IsFrom}
 use Rattle.circuit_set.specs.Sets.{Comes, Heeded, SetState, set_step}
 use Rattle.l3_datagram.specs.Datagrams.{head_at}
@@ -80,7 +80,7 @@ pub record SendsAll (plan : Plan) (size : ℕ) (done : List NumberedInstruction)
   pub told : (e : CircuitEvent) (id : ℕ) (datagram : List ℕ) → Contains (circuit_events (do_lines plan done (start plan))) e → e.event.told ≡ Heeded id datagram
       → CameFromEnd plan size (do_lines plan done (start plan)).air steps e.event.node datagram
   pub heeded : (before after : List Step) (step : Step) (s : SetState) → steps ≡ before ++ step ∷ after
-      → slice_get (net_run (begins (first_sets plan)) before).sets step.node ≡ Some s → HeedsFor s step.act (set_step s step.act).told
+      → slice_get (sets_run (first_sets plan) before) step.node ≡ Some s → HeedsFor s step.act (set_step s step.act).told
   pub up : AllByRecursion LineRestartsNone done → AllByRecursion (λ (st : Step). IsUp st.act) steps
 
 abbrev pub DatagramsSent : Type 0

@@ -1,6 +1,6 @@
 -- What is promised of the circuits of every network. Own profile.
 use Rattle.std.specs.Prelude.{ℕ, ◌≡◌, List, ◌++◌, map, slice_get, Option, Some, None, Ok}
-use Rattle.circuit_set.specs.Books.{Name}
+use Rattle.circuit_set.specs.Events.{Name}
 use Rattle.circuit_set.specs.Retries.{TellsRetries}
 use Rattle.circuit_set.specs.Runs.{Step}
 use Rattle.circuit_set.specs.Safe.{Safe, SafeEnd}

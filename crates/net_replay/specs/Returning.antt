@@ -1,7 +1,7 @@
 -- What alone can break Fresh in a network without restarts, whose nodes all have one modulus. Own profile.
 use Rattle.std.specs.Prelude.{ℕ, ◌≡◌, ◌≤◌, List, ◌++◌, Ok, map}
 use Rattle.std.specs.List.{AllByRecursion}
-use Rattle.circuit_set.specs.Books as books
+use Rattle.circuit_set.specs.Events as set_events
 use Rattle.circuit_set.specs.Returning.{FreshBut, given_by}
 use Rattle.network_file.specs.declared.network.NumberedInstruction.{NumberedInstruction}
 use Rattle.network_file.specs.Networks.{network_of}
@@ -12,7 +12,7 @@ use Rattle.net_replay.specs.Lines.{do_lines}
 use Rattle.net_replay.specs.World.{World, start}
 
 -- what a world has told of circuits
-abbrev pub told_of_circuits : World → List books.Event
+abbrev pub told_of_circuits : World → List set_events.Event
 told_of_circuits w = map (λ e. e.event) (circuit_events w)
 
 -- What a front of a file's lines has come to, where none of them starts a node again and no node has given more pairs than it gives before one
@@ -21,5 +21,5 @@ abbrev pub CopiesAloneReturn : Type 0
 CopiesAloneReturn =
     (bytes : List ℕ) (plan : Plan) (size : ℕ) → network_of bytes ≡ Ok plan → IsOfModulus size plan
     → (done later : List NumberedInstruction) → plan.instructions ≡ done ++ later → AllByRecursion LineRestartsNone done
-    → let events : List books.Event = told_of_circuits (do_lines plan done (start plan)) in
+    → let events : List set_events.Event = told_of_circuits (do_lines plan done (start plan)) in
     ((node : ℕ) → given_by node events ≤ 48960) → FreshBut events

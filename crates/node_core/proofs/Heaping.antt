@@ -14,7 +14,7 @@ use Rattle.circuit_l4.specs.declared.transport.Pair.{Pair}
 use Rattle.circuit_l4.specs.declared.transport.Transport.{Transport}
 use Rattle.circuit_l4.specs.declared.transport.Transport.TheVariants.{Request, Accept, Refuse, Disconnect, Disconnected, Info, InfoAck}
 use Rattle.circuit_l4.specs.declared.transport.TransportRefusal.{TransportRefusal}
-use Rattle.circuit_set.specs.Circuits.{heeds}
+use Rattle.circuit_set.specs.Heeds.{heeds}
 use Rattle.circuit_set.specs.Sets as s
 use Rattle.circuit_set.specs.Sets.{Holder, SetDone, SetState, Told}
 use Rattle.circuit_set.specs.Standing.{take_answer}

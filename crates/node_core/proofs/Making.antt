@@ -13,7 +13,7 @@ use Rattle.circuit_l4.specs.declared.transport.Pair.{Pair}
 use Rattle.circuit_l4.specs.declared.transport.Transport.{Transport}
 use Rattle.circuit_l4.specs.declared.transport.Transport.TheVariants.{Request, Accept, Refuse, Disconnect, Disconnected, Info, InfoAck}
 use Rattle.circuit_l4.specs.declared.transport.TransportRefusal.{TransportRefusal}
-use Rattle.circuit_set.specs.Circuits.{heeds}
+use Rattle.circuit_set.specs.Heeds.{heeds}
 use Rattle.circuit_set.specs.Inputs.{runs}
 use Rattle.circuit_set.specs.Sets as s
 use Rattle.circuit_set.specs.Sets.{Act, Connect, Comes, Calls, Discard, Restart, Call, Holder, SetDone, SetState, Told, Made, Sent, Heeded, Notice, Gone, Restarted, Lost, end_of, first_open, set_step}

@@ -2,9 +2,9 @@
 use Rattle.std.proofs.Common.{◌≡◌, ◌∙◌, ℕ, zero, suc, refl, sym, ap, List, [], ◌∷◌, ◌++◌, slice_get}
 use Rattle.std.specs.Prelude.{slice_set, Option, Some}
 use Rattle.ax_address.specs.Callsign.{Callsign}
-use Rattle.circuit_set.specs.Books.{Event, noted_all}
+use Rattle.circuit_set.specs.Events.{Event}
 use Rattle.circuit_set.specs.Inputs.{runs}
-use Rattle.circuit_set.specs.Runs.{events_at, events_of, net_run, sets_at, told_at}
+use Rattle.circuit_set.specs.Runs.{events_at, events_of, sets_at, sets_run, told_at}
 use Rattle.circuit_set.specs.Sets.{SetState, Told, set_step}
 use Rattle.node_core.specs.Runs.{InputsAreSteps, StepsOf, steps_at}
 use Rattle.node_core.proofs.Making.{own_stays}
@@ -33,7 +33,7 @@ events_both node own (x ∷ xs) ys = ap (λ (es : List Event). record { node = n
 -- ---- the steps
 
 pub inputs_are_steps : InputsAreSteps
-inputs_are_steps sets node s [] h = record { events = refl; sets_then = λ book. sym (put_same sets node s h) }
+inputs_are_steps sets node s [] h = record { events = refl; sets_then = sym (put_same sets node s h) }
 inputs_are_steps sets node s (a ∷ inputs) h =
     let t : SetState = (set_step s a).set in
     let rest : StepsOf (slice_set sets node t) node t inputs = inputs_are_steps (slice_set sets node t) node t inputs (put_is sets node s t h) in
@@ -44,7 +44,5 @@ inputs_are_steps sets node s (a ∷ inputs) h =
           ∙ (ap (λ (es : List Event). events_at node s.own (set_step s a).told ++ es) rest.events
           ∙ (ap (λ (own : Callsign). events_at node s.own (set_step s a).told ++ events_at node own (runs inputs t).told) (own_stays s a)
           ∙ sym (events_both node s.own (set_step s a).told (runs inputs t).told)));
-      sets_then = λ book.
-          ap (λ (o : Option SetState). (net_run (record { sets = sets_at sets node o a; book = noted_all book (told_at sets node o a) }) steps).sets) h
-          ∙ (rest.sets_then (noted_all book (events_at node s.own (set_step s a).told)) ∙ put_twice sets node t (runs inputs t).set);
+      sets_then = ap (λ (o : Option SetState). sets_run (sets_at sets node o a) steps) h ∙ (rest.sets_then ∙ put_twice sets node t (runs inputs t).set);
     }

@@ -8,7 +8,7 @@ use Rattle.std.proofs.lemmas.Bool.{ltb-false}
 use Rattle.std.proofs.lemmas.Cmp.{nat_list_eq_equiv}
 use Rattle.ax_address.specs.Callsign.{Callsign}
 use Rattle.ax_address.specs.CallOrder.{same_call}
-use Rattle.circuit_set.specs.Books.{is_copy}
+use Rattle.circuit_set.specs.Events.{is_copy}
 use Rattle.circuit_set.specs.Sets as sets
 use Rattle.circuit_set.specs.Sets.{Told}
 use Rattle.l3_datagram.specs.Datagrams.{◌>>=◌, head_at}

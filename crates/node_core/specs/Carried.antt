@@ -9,7 +9,7 @@ use Rattle.ax_frame.specs.declared.frame.FrameRefusal.{FrameRefusal}
 use Rattle.ax_frame.specs.Frames.{Frame}
 use Rattle.ax_frame.specs.Read.{read_at}
 use Rattle.ax_link.specs.Outputs.{Has}
-use Rattle.circuit_set.specs.Books.{is_copy}
+use Rattle.circuit_set.specs.Events.{is_copy}
 use Rattle.circuit_set.specs.Inputs.{runs}
 use Rattle.circuit_set.specs.Sets.{Act, Comes, Sent, Told}
 use Rattle.kiss_framing.specs.Stream as kiss

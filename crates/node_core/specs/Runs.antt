@@ -5,8 +5,7 @@ use Rattle.ax_address.specs.Callsign.{IsCallsign}
 use Rattle.circuit_set.specs.Givings.{IsUp}
 use Rattle.circuit_set.specs.Inputs.{of_circuits, runs}
 use Rattle.circuit_set.specs.Pumps.{at_rest}
-use Rattle.circuit_set.specs.Books.{Book}
-use Rattle.circuit_set.specs.Runs.{IsAct, Step, events_at, events_of, net_run}
+use Rattle.circuit_set.specs.Runs.{IsAct, Step, events_at, events_of, sets_run}
 use Rattle.circuit_set.specs.Sets.{Act, SetState, Told, Made}
 use Rattle.node_core.specs.Inputs.{after_act, after_bytes, after_tick}
 use Rattle.node_core.specs.Standing.{IsTold}
@@ -64,7 +63,7 @@ steps_at node (act ∷ acts) = record { node = node; act = act } ∷ steps_at no
 -- they tell what they told of the set alone, and of the sets that one alone is changed
 pub record StepsOf (sets : List SetState) (node : ℕ) (s : SetState) (inputs : List Act) : Type 0 where
   pub events : events_of sets (steps_at node inputs) ≡ events_at node s.own (runs inputs s).told
-  pub sets_then : (book : Book) → (net_run (record { sets = sets; book = book }) (steps_at node inputs)).sets ≡ slice_set sets node (runs inputs s).set
+  pub sets_then : sets_run sets (steps_at node inputs) ≡ slice_set sets node (runs inputs s).set
 
 abbrev pub InputsAreSteps : Type 0
 InputsAreSteps = (sets : List SetState) (node : ℕ) (s : SetState) (inputs : List Act) → slice_get sets node ≡ Some s → StepsOf sets node s inputs
