@@ -1,5 +1,5 @@
 -- After an input a node serves no more users than it has links and ends: each is at a link or an end, or has a circuit, of its own.
-use Rattle.std.proofs.Common.{◌≡◌, ◌≤◌, ◌<◌, ◌+◌, ◌∙◌, inl, inr, ℕ, zero, suc, refl, sym, ap, subst, arith, List, [], ◌∷◌, ◌++◌, length, slice_get}
+use Rattle.std.proofs.Common.{◌≡◌, ◌≤◌, ◌<◌, ◌+◌, ◌∙◌, inl, inr, ℕ, refl, sym, ap, subst, arith, List, [], ◌∷◌, length, slice_get}
 use Rattle.std.specs.Prelude.{Bool, true, false, not, ◌&&◌, ◌||◌, nat_eq, nat_lt, is_none, is_some, if◌then◌else◌, Option, Some, None}
 use Rattle.std.proofs.lemmas.Bool.Decides.{nat_tests}
 use Rattle.std.specs.Cmp.Lexicographic.{pointwise}
@@ -11,7 +11,7 @@ use Rattle.circuit_l4.specs.declared.plain.EndFacts.{EndFacts}
 use Rattle.circuit_set.specs.CircuitSets.{facts_at, held_ids}
 use Rattle.circuit_set.specs.Sets as sets
 use Rattle.circuit_set.specs.Sets.{Holder}
-use Rattle.link_table.specs.Ending.{has_link, stands_or_told, tells_end}
+use Rattle.link_table.specs.Ending.{has_link, tells_end}
 use Rattle.link_table.specs.Table.{Linked, link_with}
 use Rattle.node_core.specs.declared.sessions.session.Circuit.{Circuit}
 use Rattle.node_core.specs.declared.sessions.session.Reply.{Reply}

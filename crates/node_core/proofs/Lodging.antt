@@ -1,21 +1,17 @@
 -- A user at a link is served while the link stands, by one session; and where no users are served there is no session.
-use Rattle.std.proofs.Common.{◌≡◌, ◌≤◌, ◌<◌, ◌+◌, ◌∙◌, ℕ, zero, suc, refl, sym, ap, subst, arith, List, [], ◌∷◌, ◌++◌, map, slice_get}
-use Rattle.std.specs.Prelude.{Bool, true, false, not, ◌&&◌, ◌||◌, ◌==◌, filter, if◌then◌else◌, Option, Some, None, Result, Ok, Err}
+use Rattle.std.proofs.Common.{◌≡◌, ◌≤◌, ◌<◌, ◌+◌, ◌∙◌, ℕ, refl, sym, ap, subst, arith, List, [], ◌∷◌, ◌++◌, map, slice_get}
+use Rattle.std.specs.Prelude.{Bool, true, false, not, ◌&&◌, ◌||◌, filter, if◌then◌else◌, Some, None}
 use Rattle.std.specs.List.{AllByRecursion}
 use Rattle.ax_address.specs.Callsign.{Callsign}
 use Rattle.ax_address.specs.CallOrder.{same_call}
 use Rattle.ax_link.specs.declared.plain.LinkNotice.{LinkNotice}
 use Rattle.ax_link.specs.declared.plain.LinkNotice.TheVariants as link
 use Rattle.circuit_l4.specs.declared.plain.EndNotice.{EndNotice}
-use Rattle.circuit_l4.specs.declared.transport.Pair.{Pair}
 use Rattle.circuit_set.specs.Pumps.{Of}
-use Rattle.circuit_set.specs.Sets as sets
-use Rattle.circuit_set.specs.Sets.{SetState, Told, Made, Sent, Heeded, Notice, Gone, Restarted, Lost}
+use Rattle.circuit_set.specs.Sets.{Told, Made, Sent, Heeded, Notice, Gone, Restarted, Lost}
 use Rattle.l3_datagram.specs.CarrierCall.{Datagram}
-use Rattle.link_table.specs.Calls.{collect, tell_lost}
 use Rattle.link_table.specs.Ending.{EndsAreTold, IsInOrder, Leaves, LeavesTold, TextsAreOfLinks, has_link, is_end, stands_or_told, tells_end}
 use Rattle.link_table.specs.Table.{Table}
-use Rattle.node_core.specs.declared.sessions.session.User.{User}
 use Rattle.node_core.specs.declared.sessions.session.User.TheVariants.{AtEnd, AtLink}
 use Rattle.node_core.specs.Links as links
 use Rattle.node_core.specs.Pumping.{pump}
@@ -23,12 +19,12 @@ use Rattle.node_core.specs.Serving as serving
 use Rattle.node_core.specs.Sessions as s
 use Rattle.node_core.specs.Sessions.{Session}
 use Rattle.node_core.specs.States.{State}
-use Rattle.node_core.specs.Users.{at_session, changed}
+use Rattle.node_core.specs.Users.{changed}
 use Rattle.node_core.proofs.Bearing.{same_is}
 use Rattle.node_core.proofs.Owning.{changed_less, filter_less, map_less, one, push_one, total}
 use Rattle.node_core.proofs.Pumped.{pump_keeps, pump_links}
 use Rattle.node_core.proofs.Served.{KeepsUser}
-use Rattle.node_core.proofs.Soundness.{Same, same_hears, same_itself}
+use Rattle.node_core.proofs.Soundness.{same_hears, same_itself}
 
 -- whether a session serves the link with a peer
 abbrev pub at_link : Callsign → Session → ℕ

@@ -20,8 +20,8 @@ use Rattle.node_core.specs.Sessions as s
 use Rattle.node_core.specs.Sessions.{Session, circuit_of}
 use Rattle.node_core.specs.Users.{changed}
 use Rattle.node_core.proofs.Ends.{Once}
-use Rattle.node_core.proofs.Holders.{AreNamed, AreOpen, Below, HaveMessages, Keeps, is_away, none_closing}
-use Rattle.node_core.proofs.Leaving.{IsHeld, LeavesHeld, gone_by, gones, gones_both}
+use Rattle.node_core.proofs.Holders.{AreNamed, AreOpen, Below, HaveMessages, Keeps, none_closing}
+use Rattle.node_core.proofs.Leaving.{IsHeld, LeavesHeld, gone_by, gones_both}
 
 -- ---- what the sessions own
 

@@ -1,5 +1,5 @@
 -- Every node that inputs may have led to serves no more users than it has links and ends.
-use Rattle.std.proofs.Common.{◌≡◌, ◌≤◌, ℕ, refl, arith, List, [], ◌∷◌, length}
+use Rattle.std.proofs.Common.{ℕ, arith, List, [], ◌∷◌}
 use Rattle.std.specs.List.{AllByRecursion}
 use Rattle.ax_address.specs.CallReading.{ReadsCallTexts}
 use Rattle.circuit_set.specs.Inputs.{TellsLess}
@@ -8,7 +8,6 @@ use Rattle.link_table.specs.Ending.{EndsAreTold, TextsAreOfLinks}
 use Rattle.link_table.specs.Laws.{CarriesWhatWasOffered}
 use Rattle.link_table.specs.Payloads.{OffersLeave, TakesLower}
 use Rattle.link_table.specs.declared.written.Written.{Written}
-use Rattle.route_table.specs.Log.{Item}
 use Rattle.node_core.specs.Acts as acts
 use Rattle.node_core.specs.Bridged.{Acts, AsksForCall, Bytes, Fetches_entry, Fetches_frame, Input, Paths, Ticks, UsersAreFew as EveryNodes, after, after_all}
 use Rattle.node_core.specs.Configs.{new_node}
@@ -16,7 +15,6 @@ use Rattle.node_core.specs.Inputs.{after_item, after_items, moment, new_items}
 use Rattle.node_core.specs.Receiving as receiving
 use Rattle.node_core.specs.Rounds as rounds
 use Rattle.node_core.specs.Settling.{after_input}
-use Rattle.node_core.specs.Standing.{IsTold}
 use Rattle.node_core.specs.States.{NodeState, State, fetch_own}
 use Rattle.node_core.specs.UserActs.{UserAct}
 use Rattle.node_core.specs.UserActs as user
