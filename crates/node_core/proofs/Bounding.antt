@@ -12,7 +12,7 @@ use Rattle.link_table.specs.Kept as links
 use Rattle.link_table.specs.Standing.{LinksStand}
 use Rattle.link_table.specs.Table.{Linked}
 use Rattle.link_table.specs.declared.entry.Entry.{Entry}
-use Rattle.node_core.specs.Bounds.{IsWithin}
+use Rattle.node_core.specs.Bounds.{IsWithin, pairs_of}
 use Rattle.node_core.specs.Bridged.{UsersAreFew}
 use Rattle.node_core.specs.Kept.{IsSound, Kept}
 use Rattle.node_core.specs.States.{NodeState}
@@ -54,8 +54,8 @@ ends_many own ttl hi lo es (h ∷ hs) told s = by s.1 (λ fs us t. ends_many own
 
 -- ---- the bound
 
-pub within : links.KeepsItsShare → ends.KeepsItsShare → UsersAreFew → (k : Kept) → IsSound k → IsWithin k
-within of_links of_ends users_few k sound =
+pub within : links.KeepsItsShare → ends.KeepsItsShare → UsersAreFew → (k : Kept) → IsSound k → pairs_of k ≤ 16384 → IsWithin k
+within of_links of_ends users_few k sound pairs =
     let station = sound.stands.station in
     let parts = station.parts in
     let n : NodeState = sound.state in
@@ -77,5 +77,6 @@ within of_links of_ends users_few k sound =
       bound = omega (arith, l, e, waiting, users);
       links = omega (arith, few_links, no_more_links table.own table.links n.station.links.links parts.links.links);
       ends = held.few;
+      pairs = pairs;
       users = users;
     }

@@ -33,13 +33,14 @@ kept k =
 abbrev pub bound : Kept → ℕ
 bound k = 140000 * links_of k + 100000 * ends_of k + 236 * windows_of k + 64 * pairs_of k + 16384
 
--- It keeps no more than that, has at most 64 links and 64 ends, and serves no more users than these
+-- It keeps no more than that, has at most 64 links, 64 ends and 16,384 usable pairs, and serves no more users than its links and ends
 pub record IsWithin (k : Kept) : Type 0 where
   pub bound : kept k ≤ bound k
   pub links : links_of k ≤ 64
   pub ends : ends_of k ≤ 64
+  pub pairs : pairs_of k ≤ 16384
   pub users : users_of k ≤ links_of k + ends_of k
 
--- so it is between two inputs
+-- so it is between two inputs, where its table has no more pairs, as each table sees to by itself
 abbrev pub KeepsItsShare : Type 0
-KeepsItsShare = (k : Kept) → IsSound k → IsWithin k
+KeepsItsShare = (k : Kept) → IsSound k → pairs_of k ≤ 16384 → IsWithin k

@@ -91,7 +91,8 @@ pub fn bridged()
 }
 
 /// Between two inputs a node keeps at most 140,000 octets for each link, 100,000 for each end, 236 for each fragment of the windows of its ends,
-/// 64 for each usable pair, and 16,384 beside. It has at most 64 links and 64 ends, and serves no more users than these.
+/// 64 for each usable pair, and 16,384 beside. It has at most 64 links and 64 ends, and serves no more users than these; and at most 16,384
+/// usable pairs, as `RouteTable::live` says of each table.
 pub fn kept()
     ensures { KeepsItsShare }
 {

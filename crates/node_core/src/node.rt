@@ -39,7 +39,7 @@ use std::marker::Model;
 /// milliseconds. After each of them fetch the frames that are to be sent (`next_frame`) and what it has to tell (`trace_entry`, or
 /// lent, `first_entry`), both until None.
 ///
-/// Once it has answered NoMemory it is spent, and answers that ever after.
+/// Once it has answered NoMemory it is spent, and answers that ever after. Until then what it keeps is bounded, as `laws::kept` tells.
 #[derive(Drop)]
 pub struct Node {
     deframer: Deframer,
@@ -71,18 +71,21 @@ impl Node {
     ghost use Rattle.node_core.specs.declared.acts.ActRefusal.TheVariants as refusals;
     ghost use Rattle.link_table.specs.declared.path_refusal.PathRefusal.TheVariants as path_refusals;
 
-    /// A node without links, circuits, users and routes. The conditions on its settings are those of its parts.
+    /// A node without links, circuits, users and routes, within its bound. The conditions on its settings are those of its parts.
     pub fn new(alloc: Global, config: NodeConfig) -> Result<Node, NoMemory>
         requires { IsConfig config }
-        ensures { IfOk result (λ node. NodeStands node (new_node config)) }
+        ensures stands { IfOk result (λ node. NodeStands node (new_node config)) }
+        ensures kept { IfOk result IsWithin }
     {
         is_callsign(&config.call);
         let station = Station::new(alloc, &config)?;
-        Ok(Node {
+        let node = Node {
             deframer: Deframer::new(),
             station,
             spent: false,
-        })
+        };
+        node.keeps_within();
+        Ok(node)
     }
 
     /// Sets the repeaters over which a peer is reached, in the place of those before. It is refused, in this order: `TooLong`
@@ -91,6 +94,7 @@ impl Node {
         ensures goes { OnOk result (NodeGoes (λ n. record n { station = states.at_links (calls.with_path peer.now path.now) n.station }) self.old self.new) }
         ensures answer { NotNoMemory result → (n : NodeState) → NodeStands self.old n → result ≡ calls.path_answer peer.now path.now n.station.links }
         ensures err { OnErr result (NotNoMemory result → self.new ≡ self.old) }
+        ensures kept { NotNoMemory result → IsWithin self.new }
         ensures memory { IsErrOf result path_refusals.NoMemory ↔ IsTrue self.new.spent }
         ensures spent { IsTrue self.old.spent → self.new ≡ self.old }
     {
@@ -104,10 +108,11 @@ impl Node {
             .carrier_mut()
             .set_path(peer, path);
         self.spent = outcome == Err(PathRefusal::NoMemory);
+        self.keeps_within();
         outcome
     }
 
-    /// Takes in KISS bytes. Each item that they complete is one input.
+    /// Takes in KISS bytes. Each item that they complete is one input. After them it keeps no more than its bound.
     pub fn kiss_bytes(&mut self, bytes: &[u8], now: Moment) -> Result<(), NoMemory>
         ensures goes { OnOk result (NodeGoes (inputs.after_bytes now.0 bytes.now) self.old self.new) }
         ensures kept { OnOk result (IsWithin self.new) }
@@ -119,13 +124,14 @@ impl Node {
         }
         self.spent = true;
         laws::settles();
-        laws::kept();
         take_bytes(&mut self.deframer, &mut self.station, bytes, moment(now))?;
         self.spent = false;
+        self.keeps_within();
         Ok(())
     }
 
-    /// Takes in a frame by its octets, as if it had come as KISS bytes: data on port 0. More than 1,023 octets are no frame.
+    /// Takes in a frame by its octets, as if it had come as KISS bytes: data on port 0. More than 1,023 octets are no frame. After
+    /// it the node keeps no more than its bound.
     pub fn kiss_frame(&mut self, octets: &[u8], now: Moment) -> Result<(), NoMemory>
         ensures goes { OnOk result (NodeGoes (inputs.after_bytes now.0 (framed 0 0 octets.now)) self.old self.new) }
         ensures kept { OnOk result (IsWithin self.new) }
@@ -137,13 +143,13 @@ impl Node {
         }
         self.spent = true;
         laws::settles();
-        laws::kept();
         take_kiss_frame(&mut self.deframer, &mut self.station, octets, moment(now))?;
         self.spent = false;
+        self.keeps_within();
         Ok(())
     }
 
-    /// Time has passed.
+    /// Time has passed. After it the node keeps no more than its bound.
     pub fn tick(&mut self, now: Moment) -> Result<(), NoMemory>
         ensures goes { OnOk result (NodeGoes (inputs.after_tick now.0) self.old self.new) }
         ensures kept { OnOk result (IsWithin self.new) }
@@ -155,15 +161,15 @@ impl Node {
         }
         self.spent = true;
         laws::settles();
-        laws::kept();
         let now = moment(now);
         self.station.tick(now)?;
         self.station.settle(now)?;
         self.spent = false;
+        self.keeps_within();
         Ok(())
     }
 
-    /// Does what the user wants, or tells why not.
+    /// Does what the user wants, or tells why not. After it the node keeps no more than its bound.
     pub fn act(&mut self, act: &UserAct, now: Moment) -> Result<ActDone, ActRefusal>
         ensures answer { IsAnswer result → (n : NodeState) → NodeStands self.old n → result ≡ inputs.act_answer now.0 (act_of act.now) n }
         ensures goes { IsAnswer result → NodeGoes (inputs.after_act now.0 (act_of act.now)) self.old self.new }
@@ -176,10 +182,10 @@ impl Node {
         }
         self.spent = true;
         laws::settles();
-        laws::kept();
         asks_for_call(act);
         let outcome = self.station.act(act, moment(now));
         self.spent = wants_memory(&outcome);
+        self.keeps_within();
         outcome
     }
 
@@ -188,8 +194,12 @@ impl Node {
         ensures answer { (n : NodeState) → NodeStands self.old n → result ≡ slice_get (states.frames n.station) 0 }
         ensures goes { NodeGoes (λ n. record n { station = states.fetch_frame n.station }) self.old self.new }
         ensures left { IfSome result (λ _. frames_left self.new < frames_left self.old) }
+        ensures kept { self.old.spent ≡ false → IsWithin self.new }
+        ensures spent { self.new.spent ≡ self.old.spent }
     {
-        self.station.next_frame()
+        let frame = self.station.next_frame();
+        self.keeps_within();
+        frame
     }
 
     /// Whether it has something to tell.
@@ -211,8 +221,12 @@ impl Node {
         ensures answer { (n : NodeState) → NodeStands self.old n → option_map entry_of result ≡ slice_get n.station.entries 0 }
         ensures goes { NodeGoes (λ n. record n { station = states.fetch_entry n.station }) self.old self.new }
         ensures left { IfSome result (λ _. entries_left self.new < entries_left self.old) }
+        ensures kept { self.old.spent ≡ false → IsWithin self.new }
+        ensures spent { self.new.spent ≡ self.old.spent }
     {
-        self.station.entries.pop_front()
+        let entry = self.station.entries.pop_front();
+        self.keeps_within();
+        entry
     }
 
     /// The routing table.
@@ -234,8 +248,17 @@ impl Node {
         ensures value { result ≡ self.now.spent }
         ensures kept { result ≡ false → IsWithin self.now }
     {
-        laws::kept();
+        self.keeps_within();
         self.spent
+    }
+
+    /// What holds of every node that isn't spent: it keeps no more than its bound. Its table tells how many usable pairs it has, and that
+    /// these are few enough.
+    fn keeps_within(&self)
+        ensures { self.now.spent ≡ false → IsWithin self.now }
+    {
+        laws::kept();
+        let _ = self.station.set.router().table().live();
     }
 
     /// The circuits, and with them the router, its routing table and the links.

@@ -7,4 +7,4 @@ use Rattle.net_replay.proofs.stations.live_node.Goals as goal
 pub returns : goal.returns
 returns c =
     let goes = rw c.as_slice.ensures.value at c.in_ok-set_paths.ensures in
-    goes (new_node (live_config c.args.live.now)) (subst (λ k. NodeStands c.in_ok-node.node (new_node k)) c.live_config.ensures.value c.in_ok-node.ensures)
+    goes (new_node (live_config c.args.live.now)) (subst (λ k. NodeStands c.in_ok-node.node (new_node k)) c.live_config.ensures.value c.in_ok-node.ensures.stands)

@@ -10,7 +10,7 @@ returns-clause-stands c =
     let plan = c.args.network.now in
     let goes = rw c.vias.ensures at c.in_ok-set_paths.ensures in
     let config = rw c.settings.ensures at c.config_of-config.ensures.value in
-    goes (new_node (config_of plan.settings c.args.declared.now c.args.pair c.args.first)) (subst (λ k. NodeStands c.in_ok-node.node (new_node k)) config c.in_ok-node.ensures)
+    goes (new_node (config_of plan.settings c.args.declared.now c.args.pair c.args.first)) (subst (λ k. NodeStands c.in_ok-node.node (new_node k)) config c.in_ok-node.ensures.stands)
 
 pub returns-clause-start : goal.returns-clause-start
 returns-clause-start c =

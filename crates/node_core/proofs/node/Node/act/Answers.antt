@@ -37,11 +37,4 @@ returns-clause-goes c answered n h =
     (λ n h told. (c.act-outcome.ensures.acts answered n h told).stands) n (subst (λ k. NodeStands k n) (sym c.self.view_is) h))
 
 pub returns-clause-kept : goal.returns-clause-kept
-returns-clause-kept c answered =
-    let s : Station = c.act-outcome.new.self in
-    let unspent : c.wants_memory-self-inside.result ≡ false = c.wants_memory-self-inside.ensures ∙ answer_is c.act-outcome.result answered in
-    c.kept.ensures (kept c.self.inside.deframer s c.wants_memory-self-inside.result)
-    (subst (λ (b : Bool). IsSound (kept c.self.inside.deframer s b)) (sym unspent)
-    (sound_on c.settles.ensures.nothing (λ (m : ℕ) (n : State). (do_act m (act_of c.args.act.now) n).node) c.args.now.0 c.moment.result.0
-    (kept c.self.inside.deframer c.self.inside.station c.self.inside.spent) s c.moment.ensures.value
-    (λ n h told. (c.act-outcome.ensures.acts answered n h told).stands) (c.act-outcome.ensures.drained answered) (led (Acts c.args.now.0 (act_of c.args.act.now)) c.asks_for_call.ensures) (c.self.invariant c.if-self.false)))
+returns-clause-kept c answered = c.keeps_within.ensures (c.wants_memory-self-inside.ensures ∙ answer_is c.act-outcome.result answered)

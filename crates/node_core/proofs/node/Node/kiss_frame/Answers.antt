@@ -1,4 +1,4 @@
-use Rattle.std.proofs.Common.{subst, sym, false}
+use Rattle.std.proofs.Common.{refl, subst, sym}
 use Rattle.kiss_framing.specs.Enframing.{framed}
 use Rattle.node_core.specs.Kept.{NodeStands, kept}
 use Rattle.node_core.proofs.Nodes.{bytes_on, sound_bytes}
@@ -17,8 +17,4 @@ returns-clause-goes c n h =
     c.take_kiss_frame.new.deframer c.take_kiss_frame.new.station c.moment.ensures.value e.fed e.taken n (subst (λ k. NodeStands k n) (sym c.self.view_is) h)
 
 pub returns-clause-kept : goal.returns-clause-kept
-returns-clause-kept c =
-    let e = c.in_ok-take_kiss_frame.ensures in
-    c.kept.ensures (kept c.take_kiss_frame.new.deframer c.take_kiss_frame.new.station false)
-    (sound_bytes c.settles.ensures.nothing c.args.now.0 c.moment.result.0 (framed 0 0 c.args.octets.now) (kept c.self.inside.deframer c.self.inside.station c.self.inside.spent)
-    c.take_kiss_frame.new.deframer c.take_kiss_frame.new.station c.moment.ensures.value e.fed e.taken e.drained (c.self.invariant c.if-self.false))
+returns-clause-kept c = c.keeps_within.ensures refl

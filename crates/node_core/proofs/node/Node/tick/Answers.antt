@@ -1,4 +1,4 @@
-use Rattle.std.proofs.Common.{ℕ, subst, sym, false}
+use Rattle.std.proofs.Common.{ℕ, refl, subst, sym}
 use Rattle.node_core.specs.Kept.{NodeStands, kept}
 use Rattle.node_core.specs.Rounds as rounds
 use Rattle.node_core.specs.States.{State}
@@ -19,8 +19,4 @@ returns-clause-goes c n h =
     (λ n h told. c.in_ok-settle.ensures.goes _ (c.in_ok-tick.ensures n h told)) n (subst (λ k. NodeStands k n) (sym c.self.view_is) h)
 
 pub returns-clause-kept : goal.returns-clause-kept
-returns-clause-kept c =
-    c.kept.ensures (kept c.self.inside.deframer c.settle.new.self false)
-    (sound_on c.settles.ensures.nothing (λ (m : ℕ) (n : State). rounds.tick m n) c.args.now.0 c.moment-now.result.0
-    (kept c.self.inside.deframer c.self.inside.station c.self.inside.spent) c.settle.new.self c.moment-now.ensures.value
-    (λ n h told. c.in_ok-settle.ensures.goes _ (c.in_ok-tick.ensures n h told)) c.in_ok-settle.ensures.drained (led (Ticks c.args.now.0) tt) (c.self.invariant c.if-self.false))
+returns-clause-kept c = c.keeps_within.ensures refl
