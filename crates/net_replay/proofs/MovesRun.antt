@@ -50,9 +50,9 @@ module _ (plan : Plan) (apart : AreApart (names (new_nodes plan))) (are_steps : 
   IsInput _ = Unit {0}
 
   runs_on : (now : ℕ) (input : Input) (n : NodeState) → IsInput input → n.station.set ≡ at_rest n.station.set.set → RunsOn n.station (after now input n).station
-  runs_on now (Bytes b) n i rest = bytes now b n rest
-  runs_on now Time n i rest = ticks now n rest
-  runs_on now (worlds.Act act) n i rest = acts now act n i rest
+  runs_on now (Bytes b) n i rest = (bytes now b n rest).run
+  runs_on now Time n i rest = (ticks now n rest).run
+  runs_on now (worlds.Act act) n i rest = (acts now act n i rest).run
 
   pub reach_comes : (steps : List Step) (w : World) (line at : ℕ) (p : Placed) (n : NodeState) → Contains plan steps w.nodes w.told → slice_get w.nodes at ≡ Some p → (t : TracksAt plan w.told (sets_run (first_sets plan) steps) at p)
       → (r : RunsOn p.state.station n.station) → Comes plan w.told at p (record p { state = all_told n }) t.set r.inputs (told_entries line p.declared.node r.more)

@@ -1,6 +1,6 @@
 -- Each thing that is done at a node leaves a session at a link where the link stands, and none where no users are served.
-use Rattle.std.proofs.Common.{◌≡◌, ◌≤◌, ◌<◌, ◌∙◌, ℕ, zero, suc, refl, sym, ap, subst, arith, List, [], ◌∷◌, ◌++◌, map, slice_get, length}
-use Rattle.std.specs.Prelude.{Bool, true, false, not, ◌&&◌, ◌==◌, nat_le, nat_lt, filter, if◌then◌else◌, Option, Some, None, Result, Ok, Err}
+use Rattle.std.proofs.Common.{◌≡◌, ◌∙◌, ℕ, zero, suc, refl, ap, arith, List, [], ◌∷◌, map, slice_get}
+use Rattle.std.specs.Prelude.{Bool, true, false, not, ◌&&◌, ◌==◌, nat_lt, filter, if◌then◌else◌, Option, Some, None, Result, Ok, Err}
 use Rattle.arrayvec.specs.ArrayVec.{ArrayVec}
 use Rattle.ax_address.specs.Callsign.{Callsign}
 use Rattle.ax_address.specs.CallOrder.{same_call}
@@ -18,7 +18,6 @@ use Rattle.l3_datagram.specs.CarrierCall.{Parcel}
 use Rattle.link_table.specs.Calls as calls
 use Rattle.link_table.specs.Calls.{collect, tell_lost}
 use Rattle.link_table.specs.Ending.{EndsAreTold, TextsAreOfLinks}
-use Rattle.link_table.specs.Table.{Table}
 use Rattle.link_table.specs.declared.written.Written.{Written}
 use Rattle.nodes_broadcast.specs.Nodes.{Broadcast}
 use Rattle.nodes_broadcast.specs.Reading.{nodes_at}
@@ -40,7 +39,7 @@ use Rattle.node_core.specs.Serving as serving
 use Rattle.node_core.specs.Sessions as s
 use Rattle.node_core.specs.Sessions.{Session}
 use Rattle.node_core.specs.Settling as settling
-use Rattle.node_core.specs.States.{State, at_links, at_set, fetch_own, next_hop, put, with_items}
+use Rattle.node_core.specs.States.{State, at_links, fetch_own, next_hop, put, with_items}
 use Rattle.node_core.specs.Users.{at_session, changed}
 use Rattle.node_core.proofs.Lodging.{Housed, breaks, closes, dropped, greeted, moved, noticed_all, pumped, sends, stepped, takes, ticks, fewer}
 use Rattle.node_core.proofs.Served.{Serves}
@@ -157,12 +156,14 @@ module _ (told : EndsAreTold) (texts : TextsAreOfLinks) where
   pub walks : Walks Goes (λ item. Unit {0})
   walks = record {
     serves = serves;
-    notices = λ n x. (noticed_all n.links n.sessions x.0, quiet_noticed n x.1);
-    rounds = rounds_on;
-    next_round = λ due n x. x;
-    ticks = λ now n x. (moved n.links _ n.sessions (ticks told now n.links) x.0, x.1);
-    items = λ item n q x. x;
-    fails = λ peer n x. (moved n.links _ n.sessions (breaks told peer n.links) x.0, x.1);
+    others = record {
+      notices = λ n x. (noticed_all n.links n.sessions x.0, quiet_noticed n x.1);
+      rounds = rounds_on;
+      next_round = λ due n x. x;
+      ticks = λ now n x. (moved n.links _ n.sessions (ticks told now n.links) x.0, x.1);
+      items = λ item n q x. x;
+      fails = λ peer n x. (moved n.links _ n.sessions (breaks told peer n.links) x.0, x.1);
+    };
   }
 
   -- ---- what comes

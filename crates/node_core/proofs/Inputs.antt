@@ -16,6 +16,7 @@ use Rattle.l3_datagram.specs.declared.datagram.DatagramRefusal.{DatagramRefusal}
 use Rattle.l3_datagram.specs.declared.routed.Routed.{Routed}
 use Rattle.l3_datagram.specs.declared.routed.Routed.TheVariants as routed
 use Rattle.node_core.specs.Circuits as circuits
+use Rattle.node_core.specs.Runs.{write_in, writes_in}
 
 -- ---- one input after another
 
@@ -62,19 +63,29 @@ are_both [] ys p q = q
 are_both (x ∷ xs) ys p q = (p.0, are_both xs ys p.1 q)
 
 -- by some inputs the circuits went on; what was told and what is untold are what was untold and what they tell
-pub record Went (old new : Waiting) (told : List Told) : Type 0 where
+pub record Went (written : List Act) (old new : Waiting) (told : List Told) : Type 0 where
   pub inputs : List Act
   pub are : AllByRecursion IsInput inputs
+  pub writes : writes_in inputs ≡ written
   pub set : new.set ≡ (runs inputs old.set).set
   pub given : told ++ new.untold ≡ old.untold ++ (runs inputs old.set).told
 
-pub stays : (w : Waiting) → Went w w []
-stays w = record { inputs = []; are = tt; set = refl; given = sym (append-nil w.untold) }
+pub writes_both : (xs ys : List Act) → writes_in (xs ++ ys) ≡ writes_in xs ++ writes_in ys
+writes_both [] ys = refl
+writes_both (x ∷ xs) ys = ap (λ (us : List Act). write_in x ++ us) (writes_both xs ys) ∙ sym (append_assoc (write_in x) (writes_in xs) (writes_in ys))
 
-pub goes_on : (a b c : Waiting) (first next : List Told) → Went a b first → Went b c next → Went a c (first ++ next)
-goes_on a b c first next g h = record {
+-- it is told otherwise
+pub retold : (written : List Act) (w v : Waiting) (told ts : List Told) → told ≡ ts → Went written w v told → Went written w v ts
+retold written w v told ts e g = record { inputs = g.inputs; are = g.are; writes = g.writes; set = g.set; given = ap (λ (us : List Told). us ++ v.untold) (sym e) ∙ g.given }
+
+pub stays : (w : Waiting) → Went [] w w []
+stays w = record { inputs = []; are = tt; writes = refl; set = refl; given = sym (append-nil w.untold) }
+
+pub goes_on : (ws vs : List Act) (a b c : Waiting) (first next : List Told) → Went ws a b first → Went vs b c next → Went (ws ++ vs) a c (first ++ next)
+goes_on ws vs a b c first next g h = record {
   inputs = g.inputs ++ h.inputs;
   are = are_both g.inputs h.inputs g.are h.are;
+  writes = writes_both g.inputs h.inputs ∙ ap (λ (us : List Act). us ++ writes_in h.inputs) g.writes ∙ ap (λ (us : List Act). ws ++ us) h.writes;
   set = h.set ∙ (ap (λ (s : SetState). (runs h.inputs s).set) g.set ∙ sym (set_of_both g.inputs h.inputs a.set));
   given =
       append_assoc first next c.untold
@@ -88,10 +99,10 @@ goes_on a b c first next g h = record {
 
 -- ---- the calls
 
-by_one : (a : Act) (w : Waiting) → IsInput a → Went w (with_done w (set_step w.set a)) []
-by_one a w i = record { inputs = a ∷ []; are = (i, tt); set = refl; given = ap (λ (ts : List Told). w.untold ++ ts) (sym (append-nil (set_step w.set a).told)) }
+by_one : (a : Act) (w : Waiting) → IsInput a → Went (write_in a) w (with_done w (set_step w.set a)) []
+by_one a w i = record { inputs = a ∷ []; are = (i, tt); writes = append-nil (write_in a); set = refl; given = ap (λ (ts : List Told). w.untold ++ ts) (sym (append-nil (set_step w.set a).told)) }
 
-pub act_went : (a : Act) (w : Waiting) → IsInput a → Went w (circuits.acts a w) []
+pub act_went : (a : Act) (w : Waiting) → IsInput a → Went (write_in a) w (circuits.acts a w) []
 unfolding circuits.acts
 act_went a w i = by_one a w i
 
@@ -104,16 +115,24 @@ ticks_are : (now : ℕ) (hs : List Holder) → AllByRecursion IsInput (ticks_of 
 ticks_are now [] = tt
 ticks_are now (h ∷ hs) = ticks_by now h hs h.gone (ticks_are now hs)
 
-pub ticks_went : (now : ℕ) (w : Waiting) → Went w (circuits.ticks now w) []
+ticks_if : (now : ℕ) (h : Holder) (hs : List Holder) (b : Bool) → writes_in (ticks_of now hs) ≡ [] → writes_in (if b then ticks_of now hs else Calls h.id Ticks now ∷ ticks_of now hs) ≡ []
+ticks_if now h hs true e = e
+ticks_if now h hs false e = e
+
+ticks_write : (now : ℕ) (hs : List Holder) → writes_in (ticks_of now hs) ≡ []
+ticks_write now [] = refl
+ticks_write now (h ∷ hs) = ticks_if now h hs h.gone (ticks_write now hs)
+
+pub ticks_went : (now : ℕ) (w : Waiting) → Went [] w (circuits.ticks now w) []
 unfolding circuits.ticks
-ticks_went now w = record { inputs = ticks_of now w.set.ends; are = ticks_are now w.set.ends; set = refl; given = refl }
+ticks_went now w = record { inputs = ticks_of now w.set.ends; are = ticks_are now w.set.ends; writes = ticks_write now w.set.ends; set = refl; given = refl }
 
 -- no input: what was told was untold before
-by_none : (w v : Waiting) (told : List Told) → v.set ≡ w.set → told ++ v.untold ≡ w.untold → Went w v told
-by_none w v told s e = record { inputs = []; are = tt; set = s; given = e ∙ sym (append-nil w.untold) }
+by_none : (w v : Waiting) (told : List Told) → v.set ≡ w.set → told ++ v.untold ≡ w.untold → Went [] w v told
+by_none w v told s e = record { inputs = []; are = tt; writes = refl; set = s; given = e ∙ sym (append-nil w.untold) }
 
 abbrev pub TurnWent : Waiting → Turned → Type 0
-TurnWent w t = Went w t.after (of_circuits t.told)
+TurnWent w t = Went [] w t.after (of_circuits t.told)
 
 pub lost_went : (neighbour : Callsign) (w : Waiting) → TurnWent w (circuits.hears_lost neighbour w)
 unfolding circuits.hears_lost

@@ -233,10 +233,12 @@ module _ (here : Place) (law : CarriesWhatWasOffered) (weaker : CarriesByWeaker)
       sends_text = text_sent;
       closes_link = closed;
     };
-    notices = noticed;
-    rounds = round_goes;
-    next_round = set_due;
-    ticks = ticked;
-    items = λ item n a. logged (item ∷ []) n (a, tt);
-    fails = failed;
+    others = record {
+      notices = noticed;
+      rounds = round_goes;
+      next_round = set_due;
+      ticks = ticked;
+      items = λ item n a. logged (item ∷ []) n (a, tt);
+      fails = failed;
+    };
   }

@@ -98,7 +98,7 @@ module _ (offers : OffersLeave) (takes : TakesLower) (less : TellsLess) (law : C
       fine = pumped now a (noticed n f)
 
       still : IsShort b.links
-      still = (walks law).serves.pumps now a ((walks law).notices n short)
+      still = (walks law).serves.pumps now a ((walks law).others.notices n short)
 
       by : (c : Bool) → Fine (if c then serve_sessions now b else s.drop_turn now b).after
       by true = let dry = pumped_dry offers takes less now a in sessions_fine offers takes less law reads now b fine still dry.router dry.pending

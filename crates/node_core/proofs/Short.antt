@@ -192,12 +192,14 @@ module _ (law : CarriesWhatWasOffered) where
   pub walks : Walks Goes (λ item. Unit {0})
   walks = record {
     serves = serves;
-    notices = noticed;
-    rounds = rounds_on;
-    next_round = λ due n c. c;
-    ticks = λ now n c. ticked now n.links c;
-    items = λ item n q c. c;
-    fails = λ peer n c. breaks peer n.links c;
+    others = record {
+      notices = noticed;
+      rounds = rounds_on;
+      next_round = λ due n c. c;
+      ticks = λ now n c. ticked now n.links c;
+      items = λ item n q c. c;
+      fails = λ peer n c. breaks peer n.links c;
+    };
   }
 
   -- ---- what comes

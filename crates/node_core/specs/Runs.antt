@@ -1,16 +1,18 @@
 -- The inputs of a node as inputs of its circuits: so what `circuit_set` promises of every run of sets holds of nodes. Own profile.
-use Rattle.std.specs.Prelude.{ℕ, ◌≡◌, ◌+◌, List, [], ◌∷◌, ◌++◌, slice_get, slice_set, Some}
+use Rattle.std.specs.Prelude.{ℕ, ◌≡◌, ◌+◌, false, List, [], ◌∷◌, ◌++◌, slice_get, slice_set, Some, Result, Ok}
 use Rattle.std.specs.List.{AllByRecursion}
 use Rattle.ax_address.specs.Callsign.{IsCallsign}
 use Rattle.circuit_set.specs.Givings.{IsUp}
 use Rattle.circuit_set.specs.Inputs.{of_circuits, runs}
 use Rattle.circuit_set.specs.Pumps.{at_rest}
 use Rattle.circuit_set.specs.Runs.{IsAct, Step, events_at, events_of, sets_run}
-use Rattle.circuit_set.specs.Sets.{Act, SetState, Told, Made}
-use Rattle.node_core.specs.Inputs.{after_act, after_bytes, after_tick}
+use Rattle.circuit_set.specs.Sets.{Act, Calls, Writes, SetState, Told, Made}
+use Rattle.node_core.specs.declared.acts.ActDone.{ActDone}
+use Rattle.node_core.specs.declared.acts.ActRefusal.{ActRefusal}
+use Rattle.node_core.specs.Inputs.{act_answer, after_act, after_bytes, after_tick, moment}
 use Rattle.node_core.specs.Standing.{IsTold}
 use Rattle.node_core.specs.States.{Entry, NodeState, Of_link, Of_set, Overflow, State}
-use Rattle.node_core.specs.UserActs.{UserAct, Connect}
+use Rattle.node_core.specs.UserActs.{UserAct, Connect, Write}
 
 -- what is told of circuits in these entries, in order
 abbrev pub circuits_told : List Entry → List Told
@@ -39,6 +41,25 @@ pub record RunsOn (old new : State) : Type 0 where
   pub own : new.set.set.own ≡ old.set.set.own
   pub settings : new.settings ≡ old.settings
 
+-- the writes among inputs of circuits, in order
+abbrev pub write_in : Act → List Act
+write_in (Calls id (Writes message) now) = Calls id (Writes message) now ∷ []
+write_in _ = []
+
+abbrev pub writes_in : List Act → List Act
+writes_in [] = []
+writes_in (act ∷ acts) = write_in act ++ writes_in acts
+
+-- what a user's act writes, by its answer
+abbrev pub user_writes : ℕ → UserAct → Result ActDone ActRefusal → List Act
+user_writes now (Write id message) (Ok _) = Calls id (Writes message) now ∷ []
+user_writes now act answer = []
+
+-- So it went on, and where no user is served, its inputs write what its own user has written and nothing else.
+pub record RunsBy (written : List Act) (old new : State) : Type 0 where
+  pub run : RunsOn old new
+  pub writes : old.settings.prompt ≡ false → writes_in run.inputs ≡ written
+
 -- a circuit is asked for with a callsign
 abbrev pub IsUserAct : UserAct → Type 0
 IsUserAct (Connect dest) = IsCallsign dest.letters dest.ssid
@@ -46,13 +67,15 @@ IsUserAct _ = Unit {0}
 
 -- so does each input of a node that is at rest
 abbrev pub BytesRun : Type 0
-BytesRun = (now : ℕ) (bytes : List ℕ) (n : NodeState) → IsTold n.station → RunsOn n.station (after_bytes now bytes n).station
+BytesRun = (now : ℕ) (bytes : List ℕ) (n : NodeState) → IsTold n.station → RunsBy [] n.station (after_bytes now bytes n).station
 
 abbrev pub TicksRun : Type 0
-TicksRun = (now : ℕ) (n : NodeState) → IsTold n.station → RunsOn n.station (after_tick now n).station
+TicksRun = (now : ℕ) (n : NodeState) → IsTold n.station → RunsBy [] n.station (after_tick now n).station
 
 abbrev pub ActsRun : Type 0
-ActsRun = (now : ℕ) (act : UserAct) (n : NodeState) → IsUserAct act → IsTold n.station → RunsOn n.station (after_act now act n).station
+ActsRun =
+    (now : ℕ) (act : UserAct) (n : NodeState) → IsUserAct act → IsTold n.station
+    → RunsBy (user_writes (moment now) act (act_answer now act n)) n.station (after_act now act n).station
 
 -- ---- among several nodes
 -- inputs of the set at a node, as steps of a run of sets

@@ -19,7 +19,7 @@ pub fn settles()
 
 /// Each input of a node that is at rest is inputs of its circuits, each of them one that a run of sets may have, and none that starts the node again:
 /// its new entries tell what these inputs tell, in their order, and it is at rest again. Its own call stays, and ends are made with one number after
-/// another.
+/// another. Where no user is served, these inputs write what the node's own user has written, and nothing else.
 pub fn inputs_are_circuit_runs()
     ensures bytes { BytesRun }
     ensures ticks { TicksRun }

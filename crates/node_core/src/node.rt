@@ -63,7 +63,8 @@ impl Model for Node {
 }
 
 impl Node {
-    ghost use Rattle.circuit_set.specs.CircuitSets.{facts_at};
+    ghost use Rattle.circuit_set.specs.CircuitSets.{SetStands, facts_at};
+    ghost use Rattle.circuit_set.specs.Pumps.{at_rest};
     ghost use Rattle.circuit_set.specs.Sets as sets;
     ghost use Rattle.node_core.specs.Standing.{IsAnswer, entry_of};
     ghost use Rattle.node_core.specs.Kept.{NodeGoes, NodeStands, circuits_of, entries_left, frames_left};
@@ -263,7 +264,8 @@ impl Node {
 
     /// The circuits, and with them the router, its routing table and the links.
     pub fn circuits(&self) -> &CircuitSet<LinkTable>
-        ensures { result.now ≡ circuits_of self.now }
+        ensures value { result.now ≡ circuits_of self.now }
+        ensures stands { (n : NodeState) → NodeStands self.now n → SetStands result.now (at_rest n.station.set.set) }
     {
         &self.station.set
     }
