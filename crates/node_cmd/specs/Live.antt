@@ -8,7 +8,7 @@ use Rattle.net_replay.specs.Starting.{live_started}
 use Rattle.node_core.specs.Bounds.{IsWithin}
 use Rattle.node_core.specs.Fetching.{heard, sent}
 use Rattle.node_core.specs.Inputs.{after_bytes, after_tick}
-use Rattle.node_core.specs.Kept.{NodeStands}
+use Rattle.node_core.specs.Kept.{Kept, NodeStands}
 use Rattle.node_core.specs.States.{NodeState, frames}
 use Rattle.node_cmd.specs.declared.ran.Ran.{Ran}
 use Rattle.node_cmd.specs.declared.ran.Ran.TheVariants.{Nothing, Replayed, Served}
@@ -42,9 +42,26 @@ abbrev pub answer_to_reads : List Read → NodeState → List ℕ
 answer_to_reads [] n = []
 answer_to_reads (read ∷ later) n = answer_to read n ++ answer_to_reads later (fetched (after_read read n))
 
--- a text is what the declared node sends at these reads
+-- a node that stands for the machine then keeps no more than its bound
+abbrev pub IsKept : NodeState → Type 0
+IsKept n = (node : Kept) × NodeStands node n × IsWithin node
+
+-- so it is before these reads, at each of them behind its bytes and behind its tick, and once all was fetched
+abbrev pub StaysWithin : List Read → NodeState → Type 0
+StaysWithin [] n = IsKept n
+StaysWithin (read ∷ later) n =
+    IsKept n × IsKept (after_bytes read.now read.bytes n) × IsKept (after_read read n) × StaysWithin later (fetched (after_read read n))
+
+-- a node has taken these reads from that machine on, and answered them with that text
+pub record HasLived (node : Kept) (reads : List Read) (text : List ℕ) (n : NodeState) : Type 0 where
+  pub stands : NodeStands node (after_reads reads n)
+  pub within : IsWithin node
+  pub answer : text ≡ answer_to_reads reads n
+  pub stays : StaysWithin reads n
+
+-- a text is what the declared node sends at these reads, and at each moment of them it keeps no more than its bound
 abbrev pub IsAnswerOf : LiveNode → List Read → List ℕ → Type 0
-IsAnswerOf declared reads text = text ≡ answer_to_reads reads (live_started declared)
+IsAnswerOf declared reads text = let n : NodeState = live_started declared in (text ≡ answer_to_reads reads n) × StaysWithin reads n
 
 -- the node that is left stands for the machine after these reads, and keeps no more than its bound
 abbrev pub LeavesNode : Ran → NodeState → Type 0

@@ -1,5 +1,6 @@
 //! The command `node`: a live node, which reads KISS bytes and writes its frames.
-ghost use Rattle.std.specs.Prelude.{◌≡◌, ◌≢◌, ◌++◌, ◌≤◌, List, ℕ, length, OnOk};
+ghost use Rattle.std.specs.Prelude.{◌≡◌, ◌≢◌, ◌++◌, ◌≤◌, List, ℕ, false, length, OnOk};
+ghost use Rattle.node_core.specs.Bounds.{IsWithin};
 ghost use Rattle.node_core.specs.Fetching.{heard, sent};
 ghost use Rattle.node_core.specs.Kept.{NodeGoes, NodeStands};
 ghost use Rattle.node_core.specs.States.{NodeState, frames};
@@ -33,12 +34,12 @@ struct Living {
 }
 
 impl Taker for Living {
-    ghost use Rattle.std.specs.Prelude.{◌≡◌};
+    ghost use Rattle.node_core.specs.Bounds.{IsWithin};
     ghost use Rattle.node_core.specs.Kept.{NodeStands};
     ghost use Rattle.node_core.specs.States.{NodeState};
-    ghost use Rattle.node_cmd.specs.Live.{after_reads, answer_to_reads};
+    ghost use Rattle.node_cmd.specs.Live.{HasLived};
 
-    ghost took = { λ first last reads text. (n : NodeState) → NodeStands first.node n → NodeStands last.node (after_reads reads n) × (text ≡ answer_to_reads reads n) };
+    ghost took = { λ first last reads text. (n : NodeState) → NodeStands first.node n → IsWithin first.node → HasLived last.node reads text n };
 
     fn take(&mut self, bytes: &[u8], now: Moment, answer: &mut TextOut) -> Result<(), NoMemory> {
         self.node.kiss_bytes(bytes, now)?;
@@ -74,7 +75,8 @@ fn add_frame(frame: &Written, bytes: &mut KissBytes, text: &mut TextOut) -> Resu
 
 /// Fetches all that the node has to tell. Nobody reads it.
 fn drop_entries(node: &mut Node)
-    ensures { NodeGoes (λ n. record n { station = heard n.station }) node.old node.new }
+    ensures goes { NodeGoes (λ n. record n { station = heard n.station }) node.old node.new }
+    ensures kept { node.new.spent ≡ false → IsWithin node.new }
 {
     node_core::laws::fetching_empties();
     while let Some(_entry) = node.trace_entry() {}
@@ -110,12 +112,12 @@ pub fn run_node<S: Source, K: Sink, N: Sink, C: Clock>(
         Ok(node) => node,
         Err(_) => return Status::NoMemory,
     };
+    // (which tells, too, how much the node keeps)
+    let _ = node.is_spent();
     let mut living = Living { node };
     let mut buf = [0u8; READ_SIZE];
     match answer_stream(alloc, &mut buf, &mut living, source, sink, notes, clock) {
         Status::Done => {
-            // (which tells, too, how much the node keeps)
-            let _ = living.node.is_spent();
             *ran = Ran::Served(living.node);
             Status::Done
         }
