@@ -32,23 +32,12 @@ use Rattle.link_table.specs.Calls as calls
 use Rattle.link_table.specs.Frames.{all_sent, fitting, head_to, is_numbered, most_octets, netrom, octets_of, plain_text, Sent, sent, sent_by, segmented}
 use Rattle.link_table.specs.Laws.{Brings, Carries, CarriesOn, FrameHolds, LinkHolds, ParcelCame, goes_to}
 use Rattle.link_table.specs.Table.{Linked, Pending, Table, path_to, link_with, with_link, without}
+use Rattle.link_table.proofs.Finding.{same_call-true}
 use Rattle.link_table.proofs.Lifting.{untexted}
 use Rattle.ax_segment.specs.Segments.{segments_of}
 use Rattle.link_table.specs.Sending as sending
 use Rattle.link_table.specs.Texts as texts
 use Rattle.link_table.specs.Works.{Work, arrive_at_link, first_to_take, is_down, hand_up, most_taken, emit, settle, step_link, take_payload, tell}
-
-both_true : (a b : Bool) → (a && b) ≡ true → (a ≡ true) × (b ≡ true)
-both_true true true h = (refl, refl)
-both_true true false h = absurd (cc h)
-both_true false b h = absurd (cc h)
-
-pub same_call-true : (a b : Callsign) → same_call a b ≡ true → a ≡ b
-same_call-true a b h =
-    let both = both_true (pointwise nat_eq a.letters b.letters) (nat_eq a.ssid b.ssid) h in
-    let letters : a.letters ≡ b.letters = same_text a.letters b.letters (sym both.0) in
-    let ssid : a.ssid ≡ b.ssid = eqb-true a.ssid b.ssid both.1 in
-    λ i. record { letters = letters i; ssid = ssid i }
 
 all_snoc : {A : Type 0} (P : A → Type 0) (xs ys : List A) → AllByRecursion P xs → AllByRecursion P ys → AllByRecursion P (xs ++ ys)
 all_snoc P [] ys a b = b
@@ -300,34 +289,12 @@ module _ (law : PayloadsStay) (bounds_stay : BoundsStay) (settings_stay : Settin
       by false d q r = x
 
   kind_carries : (command : Bool) (c : Control) (f : AirFrame) (now : ℕ) (t : Table) → f.control ≡ c → Brings offered came sizes f → Carries offered came sizes t → Carries offered came sizes (calls.arrive_kind command c f now t)
-  kind_carries true (control.I ns nr pf) f now t e b x = other_carries f now t b x
-  kind_carries false (control.I ns nr pf) f now t e b x = other_carries f now t b x
-  kind_carries true (control.Rr nr pf) f now t e b x = other_carries f now t b x
-  kind_carries false (control.Rr nr pf) f now t e b x = other_carries f now t b x
-  kind_carries true (control.Rnr nr pf) f now t e b x = other_carries f now t b x
-  kind_carries false (control.Rnr nr pf) f now t e b x = other_carries f now t b x
-  kind_carries true (control.Rej nr pf) f now t e b x = other_carries f now t b x
-  kind_carries false (control.Rej nr pf) f now t e b x = other_carries f now t b x
-  kind_carries true (control.Srej nr pf) f now t e b x = other_carries f now t b x
-  kind_carries false (control.Srej nr pf) f now t e b x = other_carries f now t b x
   kind_carries true (control.Sabm pf) f now t e b x = set_up_carries 8 pf f now t (inl refl, b.size 8 (ap calls.set_up_size e)) b x
-  kind_carries false (control.Sabm pf) f now t e b x = other_carries f now t b x
   kind_carries true (control.Sabme pf) f now t e b x = set_up_carries 128 pf f now t (inr refl, b.size 128 (ap calls.set_up_size e)) b x
-  kind_carries false (control.Sabme pf) f now t e b x = other_carries f now t b x
-  kind_carries true (control.Disc pf) f now t e b x = other_carries f now t b x
-  kind_carries false (control.Disc pf) f now t e b x = other_carries f now t b x
-  kind_carries true (control.Dm pf) f now t e b x = other_carries f now t b x
-  kind_carries false (control.Dm pf) f now t e b x = other_carries f now t b x
-  kind_carries true (control.Ua pf) f now t e b x = other_carries f now t b x
-  kind_carries false (control.Ua pf) f now t e b x = other_carries f now t b x
-  kind_carries true (control.Frmr pf) f now t e b x = other_carries f now t b x
-  kind_carries false (control.Frmr pf) f now t e b x = other_carries f now t b x
+  kind_carries true (control.Test pf) f now t e b x = answered_carries f (control.Test pf) f.info t refl x
   kind_carries true (control.Ui pf) f now t e b x = ui_carries f f.pid t refl b x
   kind_carries false (control.Ui pf) f now t e b x = ui_carries f f.pid t refl b x
-  kind_carries true (control.Xid pf) f now t e b x = other_carries f now t b x
-  kind_carries false (control.Xid pf) f now t e b x = other_carries f now t b x
-  kind_carries true (control.Test pf) f now t e b x = answered_carries f (control.Test pf) f.info t refl x
-  kind_carries false (control.Test pf) f now t e b x = other_carries f now t b x
+  kind_carries command c f now t e b x = other_carries f now t b x
 
   -- ---- the other calls
 

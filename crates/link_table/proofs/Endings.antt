@@ -28,349 +28,9 @@ use Rattle.link_table.specs.Table.{Linked, Table, link_with, path_to, with_link,
 use Rattle.link_table.specs.Sending as sending
 use Rattle.link_table.specs.Texts as texts
 use Rattle.link_table.specs.Works.{Work, arrive_at_link, first_to_take, is_down, hand_up, most_taken, settle, step_link, take_payload, tell}
-use Rattle.link_table.proofs.Carrier.{same_call-true}
 use Rattle.link_table.proofs.Phases.{any_end, ends_told}
-
--- ---- calls
-
-same_letters : (xs : List ℕ) → pointwise nat_eq xs xs ≡ true
-same_letters [] = refl
-same_letters (x ∷ xs) = let e : nat_eq x x ≡ true = eq-eqb x x refl in rw e (same_letters xs)
-
-itself : (a : Callsign) → same_call a a ≡ true
-itself a = let e : nat_eq a.ssid a.ssid ≡ true = eq-eqb a.ssid a.ssid refl in rw (same_letters a.letters, e) refl
-
--- ---- the links
-
--- which link is found
-found_peer : (peer : Callsign) (ls : List Linked) (l : Linked) → link_with peer ls ≡ Some l → peer ≡ l.peer
-found_peer peer [] l e = absurd (cc e)
-found_peer peer (m ∷ ls) l e = by (same_call peer m.peer) refl e (λ r. found_peer peer ls l r)
-  where
-    by : (b : Bool) → same_call peer m.peer ≡ b → (if b then Some m else link_with peer ls) ≡ Some l → (link_with peer ls ≡ Some l → peer ≡ l.peer) → peer ≡ l.peer
-    by true q r rest = let same : m ≡ l = cc r in same_call-true peer m.peer q ∙ ap (λ (x : Linked). x.peer) same
-    by false q r rest = rest r
-
-found_on : (peer : Callsign) (ls : List Linked) (l : Linked) → AllByRecursion IsOn ls → link_with peer ls ≡ Some l → IsOn l
-found_on peer [] l a e = absurd (cc e)
-found_on peer (m ∷ ls) l a e = by (same_call peer m.peer) e (λ r. found_on peer ls l a.1 r)
-  where
-    by : (b : Bool) → (if b then Some m else link_with peer ls) ≡ Some l → (link_with peer ls ≡ Some l → IsOn l) → IsOn l
-    by true r rest = let same : m ≡ l = cc r in subst IsOn same a.0
-    by false r rest = rest r
-
--- another link with the same peer in its place
-with_found : (q peer : Callsign) (ls : List Linked) (l w : Linked) → link_with peer ls ≡ Some l → w.peer ≡ l.peer → is_some (link_with q (with_link peer w ls)) ≡ is_some (link_with q ls)
-with_found q peer [] l w e s = refl
-with_found q peer (m ∷ ls) l w e s = by (same_call peer m.peer) e (λ r. with_found q peer ls l w r s)
-  where
-    either : (b : Bool) (x y : Linked) → is_some (if b then Some x else link_with q ls) ≡ is_some (if b then Some y else link_with q ls)
-    either true x y = refl
-    either false x y = refl
-
-    behind : (b : Bool) (x y : Option Linked) → is_some x ≡ is_some y → is_some (if b then Some m else x) ≡ is_some (if b then Some m else y)
-    behind true x y f = refl
-    behind false x y f = f
-
-    by : (b : Bool) → (if b then Some m else link_with peer ls) ≡ Some l → (link_with peer ls ≡ Some l → is_some (link_with q (with_link peer w ls)) ≡ is_some (link_with q ls))
-        → is_some (link_with q (if b then w ∷ ls else m ∷ with_link peer w ls)) ≡ is_some (link_with q (m ∷ ls))
-    by true r rest =
-        let same : m ≡ l = cc r in
-        let peers : w.peer ≡ m.peer = s ∙ ap (λ (x : Linked). x.peer) (sym same) in
-        ap (λ (k : Callsign). is_some (if same_call q k then Some w else link_with q ls)) peers ∙ either (same_call q m.peer) w m
-    by false r rest = behind (same_call q m.peer) (link_with q (with_link peer w ls)) (link_with q ls) (rest r)
-
-with_none : (q peer : Callsign) (ls : List Linked) (l w : Linked) → link_with peer ls ≡ Some l → w.peer ≡ l.peer → link_with q ls ≡ None → link_with q (with_link peer w ls) ≡ None
-with_none q peer ls l w e s none = by (link_with q (with_link peer w ls)) (with_found q peer ls l w e s ∙ ap (λ (o : Option Linked). is_some o) none)
-  where
-    by : (o : Option Linked) → is_some o ≡ false → o ≡ None
-    by None f = refl
-    by (Some x) f = absurd (cc f)
-
--- without it, one with another peer is found as before
-without_found : (q peer : Callsign) (ls : List Linked) (l : Linked) → link_with peer ls ≡ Some l → same_call q l.peer ≡ false → link_with q (without peer ls) ≡ link_with q ls
-without_found q peer [] l e f = refl
-without_found q peer (m ∷ ls) l e f = by (same_call peer m.peer) e (λ r. without_found q peer ls l r f)
-  where
-    by : (b : Bool) → (if b then Some m else link_with peer ls) ≡ Some l → (link_with peer ls ≡ Some l → link_with q (without peer ls) ≡ link_with q ls)
-        → link_with q (if b then ls else m ∷ without peer ls) ≡ link_with q (m ∷ ls)
-    by true r rest =
-        let same : m ≡ l = cc r in
-        let other : same_call q m.peer ≡ false = subst (λ (x : Linked). same_call q x.peer ≡ false) (sym same) f in
-        sym (ap (λ b. if b then Some m else link_with q ls) other)
-    by false r rest = ap (λ (o : Option Linked). if same_call q m.peer then Some m else o) (rest r)
-
-without_none : (q peer : Callsign) (ls : List Linked) → link_with q ls ≡ None → link_with q (without peer ls) ≡ None
-without_none q peer [] none = refl
-without_none q peer (m ∷ ls) none = by (same_call peer m.peer) (same_call q m.peer) refl none (λ n. without_none q peer ls n)
-  where
-    by : (a b : Bool) → same_call q m.peer ≡ b → (if b then Some m else link_with q ls) ≡ None → (link_with q ls ≡ None → link_with q (without peer ls) ≡ None)
-        → link_with q (if a then ls else m ∷ without peer ls) ≡ None
-    by true true h n rest = absurd (cc n)
-    by false true h n rest = absurd (cc n)
-    by true false h n rest = n
-    by false false h n rest = ap (λ b. if b then Some m else link_with q (without peer ls)) h ∙ rest n
-
--- none is left with its peer, where each peer has one
-without_here : (peer : Callsign) (ls : List Linked) → OneEach ls → link_with peer (without peer ls) ≡ None
-without_here peer [] o = refl
-without_here peer (m ∷ ls) o = by (same_call peer m.peer) refl (without_here peer ls o.1)
-  where
-    by : (b : Bool) → same_call peer m.peer ≡ b → link_with peer (without peer ls) ≡ None → link_with peer (if b then ls else m ∷ without peer ls) ≡ None
-    by true e rest = subst (λ (k : Callsign). link_with k ls ≡ None) (sym (same_call-true peer m.peer e)) o.0
-    by false e rest = ap (λ b. if b then Some m else link_with peer (without peer ls)) e ∙ rest
-
--- behind the others it is found where none of them has the peer
-before : (q : Callsign) (ls : List Linked) (x : Linked) → is_some (link_with q ls) ≡ true → is_some (link_with q (ls ++ x ∷ [])) ≡ true
-before q [] x e = absurd (cc e)
-before q (m ∷ ls) x e = by (same_call q m.peer) e (λ f. before q ls x f)
-  where
-    by : (b : Bool) → is_some (if b then Some m else link_with q ls) ≡ true → (is_some (link_with q ls) ≡ true → is_some (link_with q (ls ++ x ∷ [])) ≡ true)
-        → is_some (if b then Some m else link_with q (ls ++ x ∷ [])) ≡ true
-    by true f rest = refl
-    by false f rest = rest f
-
--- ---- what is in order
-
-on_with : (peer : Callsign) (ls : List Linked) (w : Linked) → AllByRecursion IsOn ls → IsOn w → AllByRecursion IsOn (with_link peer w ls)
-on_with peer [] w a b = tt
-on_with peer (m ∷ ls) w a b = by (same_call peer m.peer) (on_with peer ls w a.1 b)
-  where
-    by : (c : Bool) → AllByRecursion IsOn (with_link peer w ls) → AllByRecursion IsOn (if c then w ∷ ls else m ∷ with_link peer w ls)
-    by true rest = (b, a.1)
-    by false rest = (a.0, rest)
-
-on_without : (peer : Callsign) (ls : List Linked) → AllByRecursion IsOn ls → AllByRecursion IsOn (without peer ls)
-on_without peer [] a = tt
-on_without peer (m ∷ ls) a = by (same_call peer m.peer) (on_without peer ls a.1)
-  where
-    by : (c : Bool) → AllByRecursion IsOn (without peer ls) → AllByRecursion IsOn (if c then ls else m ∷ without peer ls)
-    by true rest = a.1
-    by false rest = (a.0, rest)
-
-once_with : (peer : Callsign) (ls : List Linked) (l w : Linked) → link_with peer ls ≡ Some l → w.peer ≡ l.peer → OneEach ls → OneEach (with_link peer w ls)
-once_with peer [] l w e s o = tt
-once_with peer (m ∷ ls) l w e s o = by (same_call peer m.peer) e (λ r. once_with peer ls l w r s o.1)
-  where
-    by : (b : Bool) → (if b then Some m else link_with peer ls) ≡ Some l → (link_with peer ls ≡ Some l → OneEach (with_link peer w ls)) → OneEach (if b then w ∷ ls else m ∷ with_link peer w ls)
-    by true r rest =
-        let same : m ≡ l = cc r in
-        let peers : m.peer ≡ w.peer = ap (λ (x : Linked). x.peer) same ∙ sym s in
-        (subst (λ (k : Callsign). link_with k ls ≡ None) peers o.0, o.1)
-    by false r rest = (with_none m.peer peer ls l w r s o.0, rest r)
-
-once_without : (peer : Callsign) (ls : List Linked) → OneEach ls → OneEach (without peer ls)
-once_without peer [] o = tt
-once_without peer (m ∷ ls) o = by (same_call peer m.peer) (once_without peer ls o.1)
-  where
-    by : (b : Bool) → OneEach (without peer ls) → OneEach (if b then ls else m ∷ without peer ls)
-    by true rest = o.1
-    by false rest = (without_none m.peer peer ls o.0, rest)
-
-same_apart : (a b : Callsign) → same_call a b ≡ false → same_call b a ≡ false
-same_apart a b e = by (same_call b a) refl
-  where
-    by : (c : Bool) → same_call b a ≡ c → same_call b a ≡ false
-    by true f = let same : b ≡ a = same_call-true b a f in absurd (cc (sym e ∙ subst (λ (k : Callsign). same_call a k ≡ true) (sym same) (itself a)))
-    by false f = f
-
-none_behind : (q : Callsign) (ls : List Linked) (x : Linked) → link_with q ls ≡ None → same_call q x.peer ≡ false → link_with q (ls ++ x ∷ []) ≡ None
-none_behind q [] x none other = ap (λ b. if b then Some x else None) other
-none_behind q (m ∷ ls) x none other = by (same_call q m.peer) none (λ f. none_behind q ls x f other)
-  where
-    by : (b : Bool) → (if b then Some m else link_with q ls) ≡ None → (link_with q ls ≡ None → link_with q (ls ++ x ∷ []) ≡ None) → (if b then Some m else link_with q (ls ++ x ∷ [])) ≡ None
-    by true f rest = absurd (cc f)
-    by false f rest = rest f
-
-once_behind : (ls : List Linked) (x : Linked) → link_with x.peer ls ≡ None → OneEach ls → OneEach (ls ++ x ∷ [])
-once_behind [] x none o = (refl, tt)
-once_behind (m ∷ ls) x none o = by (same_call x.peer m.peer) refl none (λ f. once_behind ls x f o.1)
-  where
-    by : (b : Bool) → same_call x.peer m.peer ≡ b → (if b then Some m else link_with x.peer ls) ≡ None → (link_with x.peer ls ≡ None → OneEach (ls ++ x ∷ [])) → OneEach ((m ∷ ls) ++ x ∷ [])
-    by true h f rest = absurd (cc f)
-    by false h f rest = (none_behind m.peer ls x o.0 (same_apart x.peer m.peer h), rest f)
-
-on_behind : (ls : List Linked) (x : Linked) → AllByRecursion IsOn ls → IsOn x → AllByRecursion IsOn (ls ++ x ∷ [])
-on_behind [] x a b = (b, tt)
-on_behind (m ∷ ls) x a b = (a.0, on_behind ls x a.1 b)
-
-few_with : (peer : Callsign) (ls : List Linked) (w : Linked) → length (with_link peer w ls) ≡ length ls
-few_with peer [] w = refl
-few_with peer (m ∷ ls) w = by (same_call peer m.peer) (few_with peer ls w)
-  where
-    by : (c : Bool) → length (with_link peer w ls) ≡ length ls → length (if c then w ∷ ls else m ∷ with_link peer w ls) ≡ length (m ∷ ls)
-    by true rest = refl
-    by false rest = ap suc rest
-
-few_without : (peer : Callsign) (ls : List Linked) → length (without peer ls) ≤ length ls
-few_without peer [] = omega arith
-few_without peer (m ∷ ls) = by (same_call peer m.peer) (few_without peer ls)
-  where
-    by : (c : Bool) → length (without peer ls) ≤ length ls → length (if c then ls else m ∷ without peer ls) ≤ length (m ∷ ls)
-    by true rest = omega arith
-    by false rest = omega (arith, rest)
-
--- a new one, in the place of which another one with its peer comes, or none
-with_last : (peer : Callsign) (ls : List Linked) (x w : Linked) → link_with peer ls ≡ None → same_call peer x.peer ≡ true → with_link peer w (ls ++ x ∷ []) ≡ ls ++ w ∷ []
-with_last peer [] x w none e = ap (λ b. if b then w ∷ [] else x ∷ []) e
-with_last peer (m ∷ ls) x w none e = by (same_call peer m.peer) none (λ f. with_last peer ls x w f e)
-  where
-    by : (b : Bool) → (if b then Some m else link_with peer ls) ≡ None → (link_with peer ls ≡ None → with_link peer w (ls ++ x ∷ []) ≡ ls ++ w ∷ []) → (if b then w ∷ (ls ++ x ∷ []) else m ∷ with_link peer w (ls ++ x ∷ [])) ≡ (m ∷ ls) ++ w ∷ []
-    by true f rest = absurd (cc f)
-    by false f rest = ap (λ (ms : List Linked). m ∷ ms) (rest f)
-
-without_last : (peer : Callsign) (ls : List Linked) (x : Linked) → link_with peer ls ≡ None → same_call peer x.peer ≡ true → without peer (ls ++ x ∷ []) ≡ ls
-without_last peer [] x none e = ap (λ b. if b then [] else x ∷ []) e
-without_last peer (m ∷ ls) x none e = by (same_call peer m.peer) none (λ f. without_last peer ls x f e)
-  where
-    by : (b : Bool) → (if b then Some m else link_with peer ls) ≡ None → (link_with peer ls ≡ None → without peer (ls ++ x ∷ []) ≡ ls) → (if b then ls ++ x ∷ [] else m ∷ without peer (ls ++ x ∷ [])) ≡ m ∷ ls
-    by true f rest = absurd (cc f)
-    by false f rest = ap (λ (ms : List Linked). m ∷ ms) (rest f)
-
-last_found : (peer : Callsign) (ls : List Linked) (x : Linked) → link_with peer ls ≡ None → same_call peer x.peer ≡ true → link_with peer (ls ++ x ∷ []) ≡ Some x
-last_found peer [] x none e = ap (λ b. if b then Some x else None) e
-last_found peer (m ∷ ls) x none e = by (same_call peer m.peer) none (λ f. last_found peer ls x f e)
-  where
-    by : (b : Bool) → (if b then Some m else link_with peer ls) ≡ None → (link_with peer ls ≡ None → link_with peer (ls ++ x ∷ []) ≡ Some x) → (if b then Some m else link_with peer (ls ++ x ∷ [])) ≡ Some x
-    by true f rest = absurd (cc f)
-    by false f rest = rest f
-
--- ---- what is told
-
-told_more : (q : Callsign) (xs ys : List (Callsign × LinkNotice)) → tells_end q xs ≡ true → tells_end q (xs ++ ys) ≡ true
-told_more q [] ys e = absurd (cc e)
-told_more q (x ∷ xs) ys e = by (same_call q x.0 && is_end x.1) e (λ f. told_more q xs ys f)
-  where
-    by : (b : Bool) → (b || tells_end q xs) ≡ true → (tells_end q xs ≡ true → tells_end q (xs ++ ys) ≡ true) → (b || tells_end q (xs ++ ys)) ≡ true
-    by true f rest = refl
-    by false f rest = rest f
-
-told_behind : (q : Callsign) (xs ys : List (Callsign × LinkNotice)) → tells_end q ys ≡ true → tells_end q (xs ++ ys) ≡ true
-told_behind q [] ys e = e
-told_behind q (x ∷ xs) ys e = by (same_call q x.0 && is_end x.1) (told_behind q xs ys e)
-  where
-    by : (b : Bool) → tells_end q (xs ++ ys) ≡ true → (b || tells_end q (xs ++ ys)) ≡ true
-    by true f = refl
-    by false f = f
-
-or_second : (c d : Bool) → d ≡ true → (c || d) ≡ true
-or_second true d e = refl
-or_second false d e = e
-
-abbrev named : Callsign → LinkNotice → Callsign × LinkNotice
-named peer n = (peer, n)
-
-told_notes : (q peer : Callsign) (notes : List LinkNotice) → same_call q peer ≡ true → any_end notes ≡ true → tells_end q (map (named peer) notes) ≡ true
-told_notes q peer [] e f = absurd (cc f)
-told_notes q peer (n ∷ ns) e f = by (is_end n) f (λ g. told_notes q peer ns e g)
-  where
-    by : (b : Bool) → (b || any_end ns) ≡ true → (any_end ns ≡ true → tells_end q (map (named peer) ns) ≡ true) → ((same_call q peer && b) || tells_end q (map (named peer) ns)) ≡ true
-    by true g rest = ap (λ c. (c && true) || tells_end q (map (named peer) ns)) e
-    by false g rest = or_second (same_call q peer && false) (tells_end q (map (named peer) ns)) (rest g)
-
-or_first : (a b c d : Bool) → (a ≡ true → c ≡ true) → (b ≡ true → d ≡ true) → (a || b) ≡ true → (c || d) ≡ true
-or_first true b c d f g e = let first = f refl in rw first refl
-or_first false b c d f g e = let second = g e in by c second
-  where
-    by : (x : Bool) → d ≡ true → (x || d) ≡ true
-    by true h = refl
-    by false h = h
-
--- ---- work at one link
-
--- it tells this, and that the link has ended where it is Down then and wasn't
-record Reports (w v : Work) : Type 0 where
-  peer : v.linked.peer ≡ w.linked.peer
-  notes : List LinkNotice
-  told : v.pending.notices ≡ w.pending.notices ++ map (named w.linked.peer) notes
-  ended : is_down w.linked.link.phase ≡ false → is_down v.linked.link.phase ≡ true → any_end notes ≡ true
-
-quiet : (w v : Work) → v.linked.peer ≡ w.linked.peer → v.pending.notices ≡ w.pending.notices → v.linked.link.phase ≡ w.linked.link.phase → Reports w v
-quiet w v e f g = record { peer = e; notes = []; told = f ∙ sym (append-nil w.pending.notices); ended = λ a b. absurd (cc (sym a ∙ (ap is_down (sym g) ∙ b))) }
-
-any_more : (xs ys : List LinkNotice) → any_end xs ≡ true → any_end (xs ++ ys) ≡ true
-any_more [] ys e = absurd (cc e)
-any_more (x ∷ xs) ys e = by (is_end x) e (λ f. any_more xs ys f)
-  where
-    by : (b : Bool) → (b || any_end xs) ≡ true → (any_end xs ≡ true → any_end (xs ++ ys) ≡ true) → (b || any_end (xs ++ ys)) ≡ true
-    by true f rest = refl
-    by false f rest = rest f
-
-any_behind : (xs ys : List LinkNotice) → any_end ys ≡ true → any_end (xs ++ ys) ≡ true
-any_behind [] ys e = e
-any_behind (x ∷ xs) ys e = by (is_end x) (any_behind xs ys e)
-  where
-    by : (b : Bool) → any_end (xs ++ ys) ≡ true → (b || any_end (xs ++ ys)) ≡ true
-    by true f = refl
-    by false f = f
-
-map_both : (peer : Callsign) (xs ys : List LinkNotice) → map (named peer) (xs ++ ys) ≡ map (named peer) xs ++ map (named peer) ys
-map_both peer [] ys = refl
-map_both peer (x ∷ xs) ys = ap (λ (zs : List (Callsign × LinkNotice)). named peer x ∷ zs) (map_both peer xs ys)
-
-next : (u v w : Work) → Reports u v → Reports v w → Reports u w
-next u v w r s = record {
-  peer = s.peer ∙ r.peer;
-  notes = r.notes ++ s.notes;
-  told =
-      s.told ∙ (ap (λ (k : Callsign). v.pending.notices ++ map (named k) s.notes) r.peer
-      ∙ (ap (λ (ns : List (Callsign × LinkNotice)). ns ++ map (named u.linked.peer) s.notes) r.told
-      ∙ (append_assoc u.pending.notices (map (named u.linked.peer) r.notes) (map (named u.linked.peer) s.notes)
-      ∙ ap (λ (ns : List (Callsign × LinkNotice)). u.pending.notices ++ ns) (sym (map_both u.linked.peer r.notes s.notes)))));
-  ended = λ on off. by (is_down v.linked.link.phase) refl on off;
-}
-  where
-    by : (b : Bool) → is_down v.linked.link.phase ≡ b → is_down u.linked.link.phase ≡ false → is_down w.linked.link.phase ≡ true → any_end (r.notes ++ s.notes) ≡ true
-    by true e on off = any_more r.notes s.notes (r.ended on e)
-    by false e on off = any_behind r.notes s.notes (s.ended e off)
-
-stepped : (own : Callsign) (i : Input) (now : ℕ) (w : Work) → Reports w (step_link own i now w)
-stepped own i now w = record { peer = refl; notes = (step w.linked.link i now).notes; told = refl; ended = λ on off. ends_told w.linked.link i now on off }
-
-handed : (p : Payload) (w : Work) → Reports w (hand_up p w)
-handed p w = by (p.pid == netrom) (p.pid == segmented)
-  where
-    by : (b c : Bool) → Reports w (if b
-        then record w { pending = record w.pending { waiting = w.pending.waiting ++ (w.linked.peer, p.info) ∷ [] } }
-        else if c
-        then record w { linked = record w.linked { joiner = (join_step w.linked.joiner p.info.items).0 } }
-        else w)
-    by true c = quiet w _ refl refl refl
-    by false true = quiet w _ refl refl refl
-    by false false = quiet w w refl refl refl
-
-taken : (own : Callsign) (now : ℕ) (p : Payload) (w : Work) → Reports w (take_payload own now p w)
-taken own now p w = let s : Work = step_link own Take now w in next w s (hand_up p s) (stepped own Take now w) (handed p s)
-
-settled : (n : ℕ) (own : Callsign) (now : ℕ) (w : Work) → Reports w (settle n own now w)
-settled zero own now w = quiet w w refl refl refl
-settled (suc n) own now w = by (first_to_take w) (λ p. settled n own now (take_payload own now p w))
-  where
-    by : (r : Option Payload) → ((p : Payload) → Reports (take_payload own now p w) (settle n own now (take_payload own now p w)))
-        → Reports w (elim r as (λ y. Work) [ None ↦ w | Some p ↦ settle n own now (take_payload own now p w) ])
-    by None rest = quiet w w refl refl refl
-    by (Some p) rest = next w (take_payload own now p w) _ (taken own now p w) (rest p)
-
-text_taken : (own : Callsign) (now : ℕ) (w : Work) → Reports w (texts.take_text_of own now w)
-text_taken own now w = by (slice_get w.linked.link.inbox 0)
-  where
-    by : (r : Option Payload) → Reports w (elim r as (λ y. Work) [ None ↦ w | Some p ↦ settle most_taken own now (take_payload own now p w) ])
-    by None = quiet w w refl refl refl
-    by (Some p) = next w (take_payload own now p w) _ (taken own now p w) (settled most_taken own now (take_payload own now p w))
-
-arrived : (own : Callsign) (f : Frame) (now : ℕ) (w : Work) → Reports w (arrive_at_link own f now w)
-arrived own f now w = by (is_down s.linked.link.phase)
-  where
-    s : Work
-    s = step_link own (Arrive f) now w
-
-    by : (b : Bool) → Reports w (if b then s else settle most_taken own now s)
-    by true = stepped own (Arrive f) now w
-    by false = next w s _ (stepped own (Arrive f) now w) (settled most_taken own now s)
-
-sent_each : (own : Callsign) (ps : List Payload) (now : ℕ) (w : Work) → Reports w (sending.send_each own ps now w)
-sent_each own [] now w = quiet w w refl refl refl
-sent_each own (p ∷ ps) now w = next w (step_link own (Send p) now w) _ (stepped own (Send p) now w) (sent_each own ps now (step_link own (Send p) now w))
+use Rattle.link_table.proofs.Finding.{before, call_refl, few_with, few_without, found_on, found_peer, last_found, on_behind, on_with, on_without, once_behind, once_with, once_without, with_found, with_last, without_found, without_here, without_last}
+use Rattle.link_table.proofs.Reports.{Reports, arrived, named, or_first, or_second, sent_each, stepped, text_taken, told_behind, told_more, told_notes}
 
 -- ---- calls
 
@@ -431,7 +91,7 @@ made peer size path part t none room r o =
     new = record { peer = peer; link = opening (rules_new size t.config); path = path; joiner = Nothing }
 
     found : link_with peer m.links ≡ Some new
-    found = last_found peer t.links new none (itself peer)
+    found = last_found peer t.links new none (call_refl peer)
 
     v : Work
     v = part (record { linked = new; pending = t.pending })
@@ -447,13 +107,13 @@ made peer size path part t none room r o =
 
     by : (b : Bool) → is_down v.linked.link.phase ≡ b → Leaves t (record m { links = if b then without peer m.links else with_link peer v.linked m.links; pending = v.pending })
     by true off =
-        subst (λ (ls : List Linked). Leaves t (record m { links = ls; pending = v.pending })) (sym (without_last peer t.links new none (itself peer)))
+        subst (λ (ls : List Linked). Leaves t (record m { links = ls; pending = v.pending })) (sym (without_last peer t.links new none (call_refl peer)))
         (record {
           order = record { on = o.on; once = o.once; few = o.few };
           told = λ q f. or_first (has_link q t) (tells_end q t.pending.notices) (has_link q t) (tells_end q v.pending.notices) (λ g. g) (notices q) f;
         })
     by false on =
-        subst (λ (ls : List Linked). Leaves t (record m { links = ls; pending = v.pending })) (sym (with_last peer t.links new v.linked none (itself peer)))
+        subst (λ (ls : List Linked). Leaves t (record m { links = ls; pending = v.pending })) (sym (with_last peer t.links new v.linked none (call_refl peer)))
         (record {
           order = record {
             on = on_behind t.links v.linked o.on on;
@@ -546,34 +206,12 @@ ui f (Some pid) t = by ((pid == netrom) && nat_le (length f.info) 256)
     by false = same t
 
 kind : (command : Bool) (c : Control) (f : AirFrame) (now : ℕ) (t : Table) → LeavesTold t (calls.arrive_kind command c f now t)
-kind true (control.I ns nr pf) f now t = no_set_up f now t
-kind false (control.I ns nr pf) f now t = no_set_up f now t
-kind true (control.Rr nr pf) f now t = no_set_up f now t
-kind false (control.Rr nr pf) f now t = no_set_up f now t
-kind true (control.Rnr nr pf) f now t = no_set_up f now t
-kind false (control.Rnr nr pf) f now t = no_set_up f now t
-kind true (control.Rej nr pf) f now t = no_set_up f now t
-kind false (control.Rej nr pf) f now t = no_set_up f now t
-kind true (control.Srej nr pf) f now t = no_set_up f now t
-kind false (control.Srej nr pf) f now t = no_set_up f now t
 kind true (control.Sabm pf) f now t = set_up 8 pf f now t
-kind false (control.Sabm pf) f now t = no_set_up f now t
 kind true (control.Sabme pf) f now t = set_up 128 pf f now t
-kind false (control.Sabme pf) f now t = no_set_up f now t
-kind true (control.Disc pf) f now t = no_set_up f now t
-kind false (control.Disc pf) f now t = no_set_up f now t
-kind true (control.Dm pf) f now t = no_set_up f now t
-kind false (control.Dm pf) f now t = no_set_up f now t
-kind true (control.Ua pf) f now t = no_set_up f now t
-kind false (control.Ua pf) f now t = no_set_up f now t
-kind true (control.Frmr pf) f now t = no_set_up f now t
-kind false (control.Frmr pf) f now t = no_set_up f now t
+kind true (control.Test pf) f now t = λ o. record { order = record { on = o.on; once = o.once; few = o.few }; told = λ q g. g }
 kind true (control.Ui pf) f now t = ui f f.pid t
 kind false (control.Ui pf) f now t = ui f f.pid t
-kind true (control.Xid pf) f now t = no_set_up f now t
-kind false (control.Xid pf) f now t = no_set_up f now t
-kind true (control.Test pf) f now t = λ o. record { order = record { on = o.on; once = o.once; few = o.few }; told = λ q g. g }
-kind false (control.Test pf) f now t = no_set_up f now t
+kind command c f now t = no_set_up f now t
 
 -- ---- the other calls
 
@@ -660,7 +298,7 @@ text_links [] = tt
 text_links (l ∷ ls) = by (is_some (texts.text_at l)) (more_links l ls (texts.text_peers ls) (text_links ls))
   where
     by : (b : Bool) → AllByRecursion (Among (l ∷ ls)) (texts.text_peers ls) → AllByRecursion (Among (l ∷ ls)) (if b then l.peer ∷ texts.text_peers ls else texts.text_peers ls)
-    by true rest = (ap (λ b. is_some (if b then Some l else link_with l.peer ls)) (itself l.peer), rest)
+    by true rest = (ap (λ b. is_some (if b then Some l else link_with l.peer ls)) (call_refl l.peer), rest)
     by false rest = rest
 
 pub texts_are_of_links : TextsAreOfLinks

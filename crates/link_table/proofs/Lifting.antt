@@ -4,7 +4,6 @@ use Rattle.std.specs.Option.{option_to_list}
 use Rattle.std.proofs.lemmas.List.{map-append}
 use Rattle.radio_base.specs.declared.payload.Payload.{Payload}
 use Rattle.ax_link.specs.declared.plain.LinkOut.{LinkOut}
-use Rattle.ax_link.specs.Opening.{IsDrained}
 use Rattle.ax_link.specs.declared.plain.LinkNotice.{LinkNotice}
 use Rattle.ax_link.specs.declared.plain.LinkNotice.TheVariants.{Opened, Reset, Closed, Refused, Failed}
 use Rattle.ax_link.specs.Standing.{LinkView, Stands, StandsFor, frame_of}
@@ -17,7 +16,10 @@ use Rattle.link_table.specs.declared.pending.Pending.{Pending}
 use Rattle.link_table.specs.declared.written.Written.{Written}
 use Rattle.link_table.specs.Fetching.{written}
 use Rattle.link_table.specs.Frames.{Sent, all_sent, fitting, netrom, sent_by, segmented}
-use Rattle.link_table.specs.Standing.{GoesQuietly, Goes, HandsUp, Lifted, WorkStands, gone_out}
+use Rattle.link_table.specs.declared.entry.Entry.{Entry}
+use Rattle.link_table.specs.declared.link_of.LinkOf.{LinkOf}
+use Rattle.link_table.specs.Standing.{EntryGoes, EntryStands, GoesQuietly, HandsUp, Lifted, LinkGoes, gone_out, held_of, size_of}
+use Rattle.ax_address.specs.Callsign.{Callsign}
 use Rattle.link_table.specs.Works.{Work, arrive_at_link, first_to_take, hand_up, is_down, is_text, joiner_after, lost_by, most_taken, settle, step_link, take_payload, unless_text}
 
 -- the oldest frame of a link has gone out, and the others are still to go
@@ -60,10 +62,6 @@ pub outs_alone : (old mid new : LinkView) → mid ≡ record old { outs = mid.ou
 outs_alone old mid new first next =
     next ∙ ap (λ (h : LinkView). record h { outs = drop 1 mid.outs }) first ∙ ap (λ xs. record old { outs = xs }) (sym (ap (λ (h : LinkView). h.outs) next))
 
--- nothing waits then
-pub lifted_drained : (size : ℕ) (route : Route) (old new : LinkView) (j j2 : Joined) (k k2 : Pending) → Lifted size route old new j j2 k k2 → IsDrained new
-lifted_drained size route old new j j2 k k2 l = record { outs = ap (λ (h : LinkView). h.outs) l.link; notice = ap (λ (h : LinkView). h.notice) l.link }
-
 -- a notice leaves what is joined within its bounds
 after_within : (notes : List LinkNotice) (j : Joined) → IsWithin j → IsWithin (joiner_after notes j)
 after_within [] j x = x
@@ -73,107 +71,119 @@ after_within (Closed ∷ notes) j x = after_within notes j x
 after_within (Refused ∷ notes) j x = after_within notes j x
 after_within (Failed ∷ notes) j x = after_within notes j x
 
+-- one step of an entry behind another
+pub follows : (a b : Work → Work) (x y z : Entry) (k k2 k3 : Pending) → EntryGoes a x y k k2 → EntryGoes b y z k2 k3 → EntryGoes (λ w. b (a w)) x z k k3
+follows a b x y z k k2 k3 f g = record { route = g.route ∙ f.route; size = g.size ∙ f.size; goes = λ w s. g.goes (a w) (f.goes w s) }
+
 -- a step of the link and what comes of it are a step of the work
-pub lifts : (size : ℕ) (route : Route) (i : Input) (now : ℕ) (old mid new : LinkView) (j j2 : Joined) (k k2 : Pending) →
-    ((s : State) → StandsFor size old s → Stands size mid (step s i now)) → Lifted size route mid new j j2 k k2 →
-    Goes size route (step_link route.own i now) old new j j2 k k2
-lifts size route i now old mid new j j2 k k2 does l w stands =
-    let s = does w.linked.link stands.link in
-    let g : Effect = step w.linked.link i now in
-    let notes : g.notes ≡ option_to_list mid.notice = ap (λ (x : Effect). x.notes) s.keeps.is in
-    let outs : g.outs ≡ map (frame_of size) mid.outs = ap (λ (x : Effect). x.outs) s.keeps.is in
-    let before : w.linked.link.rules.size ≡ size = ap (λ (x : State). x.rules.size) stands.link.keeps.is in
-    record {
-      peer = stands.peer;
-      path = stands.path;
-      link = record {
-        keeps = record { before = s.keeps.before; received = s.keeps.received; acked = rw l.link s.keeps.acked; got = rw l.link s.keeps.got; is = rw l.link (ap (λ (x : Effect). x.link) s.keeps.is) };
-        bounds = s.bounds;
-        sized = s.sized;
-      };
-      joiner = rw (notes, stands.joiner) (sym l.joiner);
-      within = subst IsWithin (sym l.joiner) (after_within (option_to_list mid.notice) j stands.within);
-      pending = record {
-        waiting = l.waiting ∙ stands.pending.waiting;
-        lost = rw (l.lost, stands.pending.lost, notes, stands.peer) refl;
-        notices = rw (l.notices, stands.pending.notices, notes, stands.peer) refl;
-        frames = rw (l.frames, stands.pending.frames, outs, before, stands.peer, stands.path) (sym (map-append written _ _));
-      };
-    }
+pub lifts : (i : Input) (now : ℕ) (old : Entry) (mid : LinkOf) (new : Entry) (k k2 : Pending) → LinkGoes i now old.link mid →
+    Lifted (record old { link = mid }) new k k2 → EntryGoes (step_link old.route.own i now) old new k k2
+lifts i now old mid new k k2 done l = record { route = l.route; size = size; goes = goes }
+  where
+    size : size_of new.link ≡ size_of old.link
+    size = l.size ∙ done.size
+
+    sent_frames : k2.frames.items ≡ k.frames.items ++ gone_out (size_of old.link) old.route (held_of mid)
+    sent_frames = subst (λ n. k2.frames.items ≡ k.frames.items ++ gone_out n old.route (held_of mid)) done.size l.frames
+
+    goes : (w : Work) → EntryStands old k w → EntryStands new k2 (step_link old.route.own i now w)
+    goes w stands =
+        let s = done.does w.linked.link stands.link in
+        let g : Effect = step w.linked.link i now in
+        let notes : g.notes ≡ option_to_list (held_of mid).notice = ap (λ (x : Effect). x.notes) s.keeps.is in
+        let outs : g.outs ≡ map (frame_of (size_of old.link)) (held_of mid).outs = ap (λ (x : Effect). x.outs) s.keeps.is in
+        let before : w.linked.link.rules.size ≡ size_of old.link = ap (λ (x : State). x.rules.size) stands.link.keeps.is in
+        let link : StandsFor (size_of old.link) (held_of new.link) g.link =
+        record {
+          keeps = record { before = s.keeps.before; received = s.keeps.received; acked = rw l.link s.keeps.acked; got = rw l.link s.keeps.got; is = rw l.link (ap (λ (x : Effect). x.link) s.keeps.is) };
+          bounds = s.bounds;
+          sized = s.sized;
+        } in
+        record {
+          peer = stands.peer ∙ sym (ap (λ (r : Route). r.peer) l.route);
+          path = stands.path ∙ sym (ap (λ (r : Route). r.path) l.route);
+          link = subst (λ n. StandsFor n (held_of new.link) g.link) (sym size) link;
+          joiner = rw (notes, stands.joiner) (sym l.joiner);
+          within = subst IsWithin (sym l.joiner) (after_within (option_to_list (held_of mid).notice) old.joiner stands.within);
+          pending = record {
+            waiting = l.waiting ∙ stands.pending.waiting;
+            lost = rw (l.lost, stands.pending.lost, notes, stands.peer) refl;
+            notices = rw (l.notices, stands.pending.notices, notes, stands.peer) refl;
+            frames = rw (sent_frames, stands.pending.frames, outs, before, stands.peer, stands.path) (sym (map-append written _ _));
+          };
+        }
 
 -- a payload that was taken is handed up
-pub hands : (size : ℕ) (route : Route) (p : Payload) (h : LinkView) (j j2 : Joined) (k k2 : Pending) → HandsUp p route j j2 k k2 →
-    Goes size route (hand_up p) h h j j2 k k2
-hands size route p h j j2 k k2 u w s = by (p.pid == netrom) (p.pid == segmented) u.joiner u.waiting
+pub hands : (p : Payload) (e : Entry) (j2 : Joined) (k k2 : Pending) → HandsUp p e.route.peer e.joiner j2 k k2 → EntryGoes (hand_up p) e (record e { joiner = j2 }) k k2
+hands p e j2 k k2 u = record { route = refl; size = refl; goes = λ w s. by w s (p.pid == netrom) (p.pid == segmented) u.joiner u.waiting }
   where
-    by : (b c : Bool) → j2 ≡ (if b then j else if c then (join_step j p.info.items).0 else j) →
-        k2.waiting.items ≡ (if b then k.waiting.items ++ (route.peer, p.info) ∷ [] else k.waiting.items) →
-        WorkStands size h route j2 k2
+    by : (w : Work) → EntryStands e k w → (b c : Bool) → j2 ≡ (if b then e.joiner else if c then (join_step e.joiner p.info.items).0 else e.joiner) →
+        k2.waiting.items ≡ (if b then k.waiting.items ++ (e.route.peer, p.info) ∷ [] else k.waiting.items) →
+        EntryStands (record e { joiner = j2 }) k2
         (if b
         then record w { pending = record w.pending { waiting = w.pending.waiting ++ (w.linked.peer, p.info) ∷ [] } }
         else if c
         then record w { linked = record w.linked { joiner = (join_step w.linked.joiner p.info.items).0 } }
         else w)
-    by true c e f =
+    by w s true c same came =
         record {
           peer = s.peer;
           path = s.path;
           link = s.link;
-          joiner = s.joiner ∙ sym e;
+          joiner = s.joiner ∙ sym same;
           within = u.within s.within;
-          pending = record { waiting = rw (f, s.pending.waiting, s.peer) refl; lost = u.lost ∙ s.pending.lost; notices = u.notices ∙ s.pending.notices; frames = u.frames ∙ s.pending.frames };
+          pending = record { waiting = rw (came, s.pending.waiting, s.peer) refl; lost = u.lost ∙ s.pending.lost; notices = u.notices ∙ s.pending.notices; frames = u.frames ∙ s.pending.frames };
         }
-    by false true e f =
+    by w s false true same came =
         record {
           peer = s.peer;
           path = s.path;
           link = s.link;
-          joiner = rw (e, s.joiner) refl;
+          joiner = rw (same, s.joiner) refl;
           within = u.within s.within;
-          pending = record { waiting = f ∙ s.pending.waiting; lost = u.lost ∙ s.pending.lost; notices = u.notices ∙ s.pending.notices; frames = u.frames ∙ s.pending.frames };
+          pending = record { waiting = came ∙ s.pending.waiting; lost = u.lost ∙ s.pending.lost; notices = u.notices ∙ s.pending.notices; frames = u.frames ∙ s.pending.frames };
         }
-    by false false e f =
+    by w s false false same came =
         record {
           peer = s.peer;
           path = s.path;
           link = s.link;
-          joiner = s.joiner ∙ sym e;
+          joiner = s.joiner ∙ sym same;
           within = u.within s.within;
-          pending = record { waiting = f ∙ s.pending.waiting; lost = u.lost ∙ s.pending.lost; notices = u.notices ∙ s.pending.notices; frames = u.frames ∙ s.pending.frames };
+          pending = record { waiting = came ∙ s.pending.waiting; lost = u.lost ∙ s.pending.lost; notices = u.notices ∙ s.pending.notices; frames = u.frames ∙ s.pending.frames };
         }
 
--- the oldest payload is taken and handed up
-pub takes_one : (size : ℕ) (route : Route) (now : ℕ) (p q : Payload) (old mid new : LinkView) (j j2 j3 : Joined) (k k2 k3 : Pending) → q ≡ p →
-    ((s : State) → StandsFor size old s → Stands size mid (step s Take now)) → Lifted size route mid new j j2 k k2 → HandsUp q route j2 j3 k2 k3 →
-    Goes size route (take_payload route.own now p) old new j j3 k k3
-takes_one size route now p q old mid new j j2 j3 k k2 k3 e does l u w s =
-    hands size route p new j2 j3 k2 k3 (subst (λ x. HandsUp x route j2 j3 k2 k3) e u) (step_link route.own Take now w) (lifts size route Take now old mid new j j2 k k2 does l w s)
-
--- It may be handed up first: a link that gives a payload tells nothing.
-pub hands_first : (size : ℕ) (route : Route) (now : ℕ) (p q : Payload) (old mid new : LinkView) (j j2 j3 : Joined) (k k2 k3 : Pending) → q ≡ p →
-    ((s : State) → StandsFor size old s → Stands size mid (step s Take now)) → mid.notice ≡ None → HandsUp q route j j2 k k2 → Lifted size route mid new j2 j3 k2 k3 →
-    Goes size route (take_payload route.own now p) old new j j3 k k3
-hands_first size route now p q old mid new j j2 j3 k k2 k3 e does quiet u l =
+-- The oldest payload is taken, and may be handed up before: a link that gives a payload tells nothing.
+pub hands_first : (now : ℕ) (p q : Payload) (old : Entry) (mid : LinkOf) (j2 : Joined) (new : Entry) (k k2 k3 : Pending) → q ≡ p →
+    LinkGoes Take now old.link mid → (held_of mid).notice ≡ None → HandsUp q old.route.peer old.joiner j2 k k2 → Lifted (record old { link = mid; joiner = j2 }) new k2 k3 →
+    EntryGoes (take_payload old.route.own now p) old new k k3
+hands_first now p q old mid j2 new k k2 k3 e done quiet u l =
     let before : Pending = record k3 { waiting = k.waiting } in
-    let lifted : Lifted size route mid new j j k before =
+    let lifted : Lifted (record old { link = mid }) (record new { joiner = old.joiner }) k before =
     record {
+      route = l.route;
+      size = l.size;
       link = l.link;
-      joiner = ap (λ x. joiner_after (option_to_list x) j) (sym quiet);
+      joiner = ap (λ x. joiner_after (option_to_list x) old.joiner) (sym quiet);
       waiting = refl;
-      lost = l.lost ∙ ap (λ xs. xs ++ lost_by route.peer (option_to_list mid.notice)) u.lost;
-      notices = l.notices ∙ ap (λ xs. xs ++ map (λ n. (route.peer, n)) (option_to_list mid.notice)) u.notices;
-      frames = l.frames ∙ ap (λ xs. xs ++ gone_out size route mid) u.frames;
+      lost = l.lost ∙ ap (λ xs. xs ++ lost_by old.route.peer (option_to_list (held_of mid).notice)) u.lost;
+      notices = l.notices ∙ ap (λ xs. xs ++ map (λ n. (old.route.peer, n)) (option_to_list (held_of mid).notice)) u.notices;
+      frames = l.frames ∙ ap (λ xs. xs ++ gone_out (size_of mid) old.route (held_of mid)) u.frames;
     } in
-    let up : HandsUp q route j j3 before k3 =
+    let same : new.joiner ≡ j2 = l.joiner ∙ ap (λ n. joiner_after (option_to_list n) j2) quiet in
+    let up : HandsUp q old.route.peer old.joiner new.joiner before k3 =
     record {
-      joiner = l.joiner ∙ ap (λ x. joiner_after (option_to_list x) j2) quiet ∙ u.joiner;
-      within = λ x. subst IsWithin (sym (l.joiner ∙ ap (λ n. joiner_after (option_to_list n) j2) quiet)) (u.within x);
+      joiner = same ∙ u.joiner;
+      within = λ x. subst IsWithin (sym same) (u.within x);
       waiting = l.waiting ∙ u.waiting;
       lost = refl;
       notices = refl;
       frames = refl;
     } in
-    takes_one size route now p q old mid new j j j3 k before k3 e does lifted up
+    let there : HandsUp p new.route.peer old.joiner new.joiner before k3 =
+    subst (λ (r : Route). HandsUp p r.peer old.joiner new.joiner before k3) (sym l.route) (subst (λ x. HandsUp x old.route.peer old.joiner new.joiner before k3) e up) in
+    follows (step_link old.route.own Take now) (hand_up p) old (record new { joiner = old.joiner }) new k before k3
+    (lifts Take now old mid (record new { joiner = old.joiner }) k before done lifted) (hands p (record new { joiner = old.joiner }) new.joiner before k3 there)
 
 -- what may be taken at once is the oldest payload
 pub untexted : (j : Joined) (x : Option Payload) (p : Payload) → unless_text j x ≡ Some p → x ≡ Some p
@@ -185,39 +195,59 @@ untexted j (Some q) p e = by (is_text j q) e
     by false r = r
 
 -- so many payloads may still be taken
-abbrev pub Left : ℕ → ℕ → Route → ℕ → LinkView → LinkView → Joined → Joined → Pending → Pending → Type 0
-Left n size route now old new j j2 k k2 =
-    (w : Work) → WorkStands size old route j k w →
-    (w2 : Work) × WorkStands size new route j2 k2 w2 × (settle n route.own now w2 ≡ settle most_taken route.own now w)
+pub record Left (n now : ℕ) (old new : Entry) (k k2 : Pending) : Type 0 where
+  pub route : new.route ≡ old.route
+  pub size : size_of new.link ≡ size_of old.link
+  pub left : (w : Work) → EntryStands old k w → (w2 : Work) × EntryStands new k2 w2 × (settle n old.route.own now w2 ≡ settle most_taken old.route.own now w)
 
-module _ (size : ℕ) (route : Route) (now : ℕ) (old new : LinkView) (j j2 : Joined) (k k2 : Pending) where
-  inbox_of : (w : Work) → WorkStands size new route j2 k2 w → w.linked.link.inbox ≡ new.inbox
-  inbox_of w s = ap (λ (x : State). x.inbox) s.link.keeps.is
+pub none_taken : (now : ℕ) (e : Entry) (k : Pending) → Left most_taken now e e k k
+none_taken now e k = record { route = refl; size = refl; left = λ w s. (w, s, refl) }
 
-  joiner_of : (w : Work) → WorkStands size new route j2 k2 w → first_to_take w ≡ unless_text j2 (slice_get new.inbox 0)
-  joiner_of w s = ap (λ (x : Joined). unless_text x (slice_get w.linked.link.inbox 0)) s.joiner ∙ ap (λ xs. unless_text j2 (slice_get xs 0)) (inbox_of w s)
+first_of : (e : Entry) (k : Pending) (w : Work) → EntryStands e k w → first_to_take w ≡ unless_text e.joiner (slice_get (held_of e.link).inbox 0)
+first_of e k w s =
+    ap (λ (x : Joined). unless_text x (slice_get w.linked.link.inbox 0)) s.joiner ∙ ap (λ (x : State). unless_text e.joiner (slice_get x.inbox 0)) s.link.keeps.is
 
-  none_left : (n : ℕ) (w : Work) → first_to_take w ≡ None → settle n route.own now w ≡ w
-  none_left zero w e = refl
-  none_left (suc n) w e = ap (λ x. elim x as (λ y. Work) [ None ↦ w | Some z ↦ settle n route.own now (take_payload route.own now z w) ]) e
+none_left : (own : Callsign) (now n : ℕ) (w : Work) → first_to_take w ≡ None → settle n own now w ≡ w
+none_left own now zero w e = refl
+none_left own now (suc n) w e = ap (λ x. elim x as (λ y. Work) [ None ↦ w | Some z ↦ settle n own now (take_payload own now z w) ]) e
 
-  pub left_none : (n : ℕ) → Left n size route now old new j j2 k k2 → unless_text j2 (slice_get new.inbox 0) ≡ None → Goes size route (settle most_taken route.own now) old new j j2 k k2
-  left_none n left e w s =
-      let r = left w s in
-      subst (WorkStands size new route j2 k2) (sym (none_left n r.0 (joiner_of r.0 r.1 ∙ e)) ∙ r.2) r.1
+pub left_none : (n now : ℕ) (old new : Entry) (k k2 : Pending) → Left n now old new k k2 → unless_text new.joiner (slice_get (held_of new.link).inbox 0) ≡ None →
+    EntryGoes (settle most_taken old.route.own now) old new k k2
+left_none n now old new k k2 left e =
+    record {
+      route = left.route;
+      size = left.size;
+      goes = λ w s.
+          let r = left.left w s in
+          subst (EntryStands new k2) (sym (none_left old.route.own now n r.0 (first_of new k2 r.0 r.1 ∙ e)) ∙ r.2) r.1;
+    }
 
-  pub left_end : (n : ℕ) → n ≡ 0 → Left n size route now old new j j2 k k2 → Goes size route (settle most_taken route.own now) old new j j2 k k2
-  left_end n e left w s =
-      let r = left w s in
-      subst (WorkStands size new route j2 k2) (subst (λ m. settle m route.own now r.0 ≡ settle most_taken route.own now w) e r.2) r.1
+pub left_end : (n now : ℕ) (old new : Entry) (k k2 : Pending) → n ≡ 0 → Left n now old new k k2 → EntryGoes (settle most_taken old.route.own now) old new k k2
+left_end n now old new k k2 e left =
+    record {
+      route = left.route;
+      size = left.size;
+      goes = λ w s.
+          let r = left.left w s in
+          subst (EntryStands new k2) (subst (λ m. settle m old.route.own now r.0 ≡ settle most_taken old.route.own now w) e r.2) r.1;
+    }
 
-  pub left_one : (n m : ℕ) (p : Payload) (new2 : LinkView) (j3 : Joined) (k3 : Pending) → n ≡ suc m → Left n size route now old new j j2 k k2 → unless_text j2 (slice_get new.inbox 0) ≡ Some p →
-      Goes size route (take_payload route.own now p) new new2 j2 j3 k2 k3 → Left m size route now old new2 j j3 k k3
-  left_one n m p new2 j3 k3 e left q goes w s =
-      let r = left w s in
-      let one : settle (suc m) route.own now r.0 ≡ settle m route.own now (take_payload route.own now p r.0) =
-      ap (λ x. elim x as (λ y. Work) [ None ↦ r.0 | Some z ↦ settle m route.own now (take_payload route.own now z r.0) ]) (joiner_of r.0 r.1 ∙ q) in
-      (take_payload route.own now p r.0, goes r.0 r.1, sym one ∙ subst (λ i. settle i route.own now r.0 ≡ settle most_taken route.own now w) e r.2)
+pub left_one : (n m now : ℕ) (p : Payload) (old mid new : Entry) (k k2 k3 : Pending) → n ≡ suc m → Left n now old mid k k2 →
+    unless_text mid.joiner (slice_get (held_of mid.link).inbox 0) ≡ Some p → EntryGoes (take_payload mid.route.own now p) mid new k2 k3 → Left m now old new k k3
+left_one n m now p old mid new k k2 k3 e left q goes =
+    record {
+      route = goes.route ∙ left.route;
+      size = goes.size ∙ left.size;
+      left = λ w s.
+          let own : Callsign = old.route.own in
+          let r = left.left w s in
+          let one : settle (suc m) own now r.0 ≡ settle m own now (take_payload own now p r.0) =
+          ap (λ x. elim x as (λ y. Work) [ None ↦ r.0 | Some z ↦ settle m own now (take_payload own now z r.0) ]) (first_of mid k2 r.0 r.1 ∙ q) in (
+            take_payload own now p r.0,
+            subst (λ (x : Route). EntryStands new k3 (take_payload x.own now p r.0)) left.route (goes.goes r.0 r.1),
+            sym one ∙ subst (λ i. settle i own now r.0 ≡ settle most_taken own now w) e r.2,
+          );
+    }
 
 pub none_waits : (x : Option Payload) → is_some x ≡ false → x ≡ None
 none_waits None e = refl
@@ -227,43 +257,51 @@ pub one_waits : (x : Option Payload) → is_some x ≡ true → (p : Payload) ×
 one_waits None e = absurd (cc e)
 one_waits (Some p) e = (p, refl)
 
-pub some_first : (xs : List Payload) (p : Payload) → slice_get xs 0 ≡ Some p → 0 < length xs
-some_first [] p e = absurd (cc e)
-some_first (x ∷ xs) p e = omega arith
+phase_is : (e : Entry) (k : Pending) (w : Work) → EntryStands e k w → is_down w.linked.link.phase ≡ is_down (held_of e.link).phase
+phase_is e k w s = ap (λ (x : State). is_down x.phase) s.link.keeps.is
 
-module _ (size : ℕ) (route : Route) (f : Frame) (now : ℕ) (old new : LinkView) (j j2 : Joined) (k k2 : Pending) where
-  phase_is : (w : Work) → WorkStands size new route j2 k2 w → is_down w.linked.link.phase ≡ is_down new.phase
-  phase_is w s = ap (λ (x : State). is_down x.phase) s.link.keeps.is
+-- a frame has come, and the link has ended
+pub arrives_down : (f : Frame) (now : ℕ) (old new : Entry) (k k2 : Pending) → EntryGoes (step_link old.route.own (Arrive f) now) old new k k2 →
+    is_down (held_of new.link).phase ≡ true → EntryGoes (arrive_at_link old.route.own f now) old new k k2
+arrives_down f now old new k k2 g e =
+    record {
+      route = g.route;
+      size = g.size;
+      goes = λ w s.
+          let s2 : Work = step_link old.route.own (Arrive f) now w in
+          let r = g.goes w s in
+          subst (EntryStands new k2) (sym (ap (λ b. if b then s2 else settle most_taken old.route.own now s2) (phase_is new k2 s2 r ∙ e))) r;
+    }
 
-  -- a frame has come, and the link has ended
-  pub arrives_down : Goes size route (step_link route.own (Arrive f) now) old new j j2 k k2 → is_down new.phase ≡ true → Goes size route (arrive_at_link route.own f now) old new j j2 k k2
-  arrives_down goes e w s =
-      let s2 : Work = step_link route.own (Arrive f) now w in
-      let r = goes w s in
-      subst (WorkStands size new route j2 k2) (sym (ap (λ b. if b then s2 else settle most_taken route.own now s2) (phase_is s2 r ∙ e))) r
-
-  -- or it stands, and what it brought is taken
-  pub arrives_on : (new2 : LinkView) (j3 : Joined) (k3 : Pending) → Goes size route (step_link route.own (Arrive f) now) old new j j2 k k2 → is_down new.phase ≡ false →
-      Goes size route (settle most_taken route.own now) new new2 j2 j3 k2 k3 → Goes size route (arrive_at_link route.own f now) old new2 j j3 k k3
-  arrives_on new2 j3 k3 goes e more w s =
-      let s2 : Work = step_link route.own (Arrive f) now w in
-      let r = goes w s in
-      subst (WorkStands size new2 route j3 k3) (sym (ap (λ b. if b then s2 else settle most_taken route.own now s2) (phase_is s2 r ∙ e))) (more s2 r)
+-- or it stands, and what it brought is taken
+pub arrives_on : (f : Frame) (now : ℕ) (old mid new : Entry) (k k2 k3 : Pending) → EntryGoes (step_link old.route.own (Arrive f) now) old mid k k2 →
+    is_down (held_of mid.link).phase ≡ false → EntryGoes (settle most_taken mid.route.own now) mid new k2 k3 → EntryGoes (arrive_at_link old.route.own f now) old new k k3
+arrives_on f now old mid new k k2 k3 g e more =
+    record {
+      route = more.route ∙ g.route;
+      size = more.size ∙ g.size;
+      goes = λ w s.
+          let s2 : Work = step_link old.route.own (Arrive f) now w in
+          let r = g.goes w s in
+          subst (EntryStands new k3) (sym (ap (λ b. if b then s2 else settle most_taken old.route.own now s2) (phase_is mid k2 s2 r ∙ e)))
+          (subst (λ (x : Route). EntryStands new k3 (settle most_taken x.own now s2)) g.route (more.goes s2 r));
+    }
 
 -- ---- steps that tell nothing
 
-pub quietly : (size : ℕ) (route : Route) (i : Input) (now : ℕ) (old mid new : LinkView) (fs fs2 : List Written) →
-    ((s : State) → StandsFor size old s → Stands size mid (step s i now)) → mid.notice ≡ None → new ≡ record mid { outs = [] } →
-    fs2 ≡ fs ++ gone_out size route mid → GoesQuietly size route i now old new fs fs2
-quietly size route i now old mid new fs fs2 does quiet e out s stands =
-    let x = does s stands in
-    let outs : (step s i now).outs ≡ map (frame_of size) mid.outs = ap (λ (g : Effect). g.outs) x.keeps.is in
+pub quietly : (route : Route) (i : Input) (now : ℕ) (old mid new : LinkOf) (fs fs2 : List Written) →
+    LinkGoes i now old mid → (held_of mid).notice ≡ None → held_of new ≡ record (held_of mid) { outs = [] } →
+    fs2 ≡ fs ++ gone_out (size_of mid) route (held_of mid) → GoesQuietly (size_of old) route i now (held_of old) (held_of new) fs fs2
+quietly route i now old mid new fs fs2 done quiet e out s stands =
+    let x = done.does s stands in
+    let outs : (step s i now).outs ≡ map (frame_of (size_of old)) (held_of mid).outs = ap (λ (g : Effect). g.outs) x.keeps.is in
+    let sent_frames : fs2 ≡ fs ++ gone_out (size_of old) route (held_of mid) = subst (λ n. fs2 ≡ fs ++ gone_out n route (held_of mid)) done.size out in
     record {
       link = record {
         keeps = record { before = x.keeps.before; received = x.keeps.received; acked = rw e x.keeps.acked; got = rw e x.keeps.got; is = rw e (ap (λ (g : Effect). g.link) x.keeps.is) };
         bounds = x.bounds;
         sized = x.sized;
       };
-      frames = rw (out, outs) refl;
+      frames = rw (sent_frames, outs) refl;
       notes = ap (λ (g : Effect). g.notes) x.keeps.is ∙ ap option_to_list quiet;
     }

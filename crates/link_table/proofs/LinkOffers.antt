@@ -28,7 +28,7 @@ use Rattle.ax_segment.specs.Kept.{IsWithin}
 use Rattle.l3_datagram.specs.CarrierCall.{Datagram}
 use Rattle.l3_datagram.specs.declared.carrier.Offered.{Offered}
 use Rattle.l3_datagram.specs.declared.carrier.Offered.TheVariants.{Taken, Dropped}
-use Rattle.link_table.specs.Standing.{width, GoesQuietly, Offers, SameEntry, CoreGoes, AllDrained, CoreStands, EntryGoes, LinkStands, LinksStand, Rests, WorkStands, drop_if_down, held_of, size_of}
+use Rattle.link_table.specs.Standing.{width, GoesQuietly, Offers, SameEntry, CoreGoes, AllDrained, CoreStands, EntryGoes, EntryStands, LinkStands, LinksStand, Rests, drop_if_down, held_of, size_of}
 use Rattle.link_table.specs.Table.{Linked, Table, path_to, link_with, with_link, without}
 use Rattle.link_table.specs.Works.{arrive_at_link, is_down, joiner_after, lost_by, emit, step_link, tell}
 use Rattle.link_table.proofs.Links.{Found, SameNode, at_link_stands, down_set, drained_removed, drained_set, few_removed, few_set, found, none_found, removed, set}
@@ -51,9 +51,9 @@ entry_quietly i now e e2 k k2 same goes waiting lost notices =
           let q = goes w.linked.link s.link in
           let before : w.linked.link.rules.size ≡ size_of e.link = ap (λ (x : State). x.rules.size) s.link.keeps.is in
           record {
-            peer = s.peer;
-            path = s.path;
-            link = q.link;
+            peer = s.peer ∙ sym (ap (λ (r : Route). r.peer) same.route);
+            path = s.path ∙ sym (ap (λ (r : Route). r.path) same.route);
+            link = subst (λ n. StandsFor n (held_of e2.link) (step w.linked.link i now).link) (sym same.size) q.link;
             joiner = ap (λ ns. joiner_after ns w.linked.joiner) q.notes ∙ s.joiner ∙ sym same.joiner;
             within = subst IsWithin (sym same.joiner) s.within;
             pending = record {
@@ -331,7 +331,7 @@ sized f now e e2 k k2 g =
       size = g.size;
       goes = λ w s.
           let is : size_of e.link ≡ w.linked.link.rules.size = sym (ap (λ (x : State). x.rules.size) s.link.keeps.is) in
-          subst (λ n. WorkStands (size_of e.link) (held_of e2.link) e.route e2.joiner k2 (arrive_at_link e.route.own (link_frame n f) now w)) is (g.goes w s);
+          subst (λ n. EntryStands e2 k2 (arrive_at_link e.route.own (link_frame n f) now w)) is (g.goes w s);
     }
 
 -- what the node itself puts out

@@ -15,7 +15,7 @@ use Rattle.link_table.specs.declared.route.Route.{Route}
 use Rattle.ax_link.specs.State.{State}
 use Rattle.ax_link.specs.Table.{Tick}
 use Rattle.ax_link.specs.Standing.{StandsFor}
-use Rattle.link_table.specs.Standing.{width, CoreGoes, AllDrained, CoreStands, EntryGoes, LinkStands, LinksStand, Rests, WorkStands, down_at, down_by, drop_if_down, held_of, size_of}
+use Rattle.link_table.specs.Standing.{width, CoreGoes, AllDrained, CoreStands, EntryGoes, EntryStands, LinkStands, LinksStand, Rests, down_at, down_by, drop_if_down, held_of, size_of}
 use Rattle.link_table.specs.Table.{Linked, Table, link_with, with_link, without}
 use Rattle.link_table.specs.Works.{Work, is_down, step_link}
 
@@ -177,17 +177,16 @@ at_link_stands c c2 peer e e2 kept2 part there goes same_pending n entries t s =
     let f : Found c.own peer e t.links = found c.own peer c.links.entries t.links e s.links there in
     let w : Work = record { linked = f.link; pending = t.pending } in
     let w2 : Work = part t.own w in
-    let stands : WorkStands (size_of e.link) (held_of e.link) e.route e.joiner c.pending w = record { peer = f.stands.is ∙ sym f.stands.peer; path = f.stands.path; link = f.stands.link; joiner = f.stands.joiner; within = f.stands.within; pending = s.pending } in
-    let after : WorkStands (size_of e.link) (held_of e2.link) e.route e2.joiner kept2 w2 =
-    subst (λ o. WorkStands (size_of e.link) (held_of e2.link) e.route e2.joiner kept2 (part o w)) (f.stands.own ∙ sym s.own) (goes.goes w stands) in
+    let stands : EntryStands e c.pending w = record { peer = f.stands.is ∙ sym f.stands.peer; path = f.stands.path; link = f.stands.link; joiner = f.stands.joiner; within = f.stands.within; pending = s.pending } in
+    let after : EntryStands e2 kept2 w2 = subst (λ o. EntryStands e2 kept2 (part o w)) (f.stands.own ∙ sym s.own) (goes.goes w stands) in
     let same_peer : e2.route.peer ≡ e.route.peer = ap (λ (r : Route). r.peer) goes.route in
     let one : (k : Callsign) → e.route.peer ≡ k → LinkStands c.own k e2 w2.linked = λ k q.
     record {
       own = ap (λ (r : Route). r.own) goes.route ∙ f.stands.own;
       peer = same_peer ∙ q;
-      is = after.peer ∙ q;
-      path = after.path ∙ sym (ap (λ (r : Route). r.path) goes.route);
-      link = subst (λ n. StandsFor n (held_of e2.link) w2.linked.link) (sym goes.size) after.link;
+      is = after.peer ∙ same_peer ∙ q;
+      path = after.path;
+      link = after.link;
       joiner = after.joiner;
       within = after.within;
     } in

@@ -21,7 +21,8 @@ use Rattle.link_table.specs.Table.{Linked, Table, link_with, path_to, with_link,
 use Rattle.link_table.specs.Texts as texts
 use Rattle.link_table.specs.Works.{Work, first_to_take, is_down, most_taken, settle, step_link, take_payload}
 use Rattle.link_table.proofs.Lifting.{untexted}
-use Rattle.link_table.proofs.Settling.{call_refl, found_last, handed_link, take_weight}
+use Rattle.link_table.proofs.Finding.{call_refl}
+use Rattle.link_table.proofs.Settling.{found_last, handed_link, take_weight}
 
 -- ---- payloads are taken from a link
 

@@ -22,7 +22,7 @@ use Rattle.link_table.specs.Sending.{takes_texts}
 use Rattle.link_table.specs.Table.{Linked, Table, link_with, path_to, with_link, without}
 use Rattle.link_table.specs.Texts.{room, room_of}
 use Rattle.link_table.specs.Works.{Work, is_down, step_link}
-use Rattle.link_table.proofs.Carrier.{same_call-true}
+use Rattle.link_table.proofs.Finding.{same_call-true}
 use Rattle.link_table.proofs.Sending.{Accepted, accepted, length_cut, length_payloads, length_segments, room_is}
 
 -- ---- the links with others

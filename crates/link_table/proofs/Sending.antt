@@ -1,6 +1,6 @@
 -- Texts that go over a link, payload by payload.
 use Rattle.std.proofs.Common.{◌≡◌, ℕ, zero, suc, ◌+◌, ◌-◌, ◌/◌, ◌≤◌, ◌<◌, ◌&&◌, not, min, Bool, true, false, nat_lt, List, [], ◌∷◌, ◌++◌, append-nil, append_assoc, length, length-append, length-drop, take, take_all, drop, Option, Some, None, refl, ap, sym, ◌∙◌, subst, if◌then◌else◌, arith}
-use Rattle.std.specs.Prelude.{Result, Ok, Err, OnOk, is_err}
+use Rattle.std.specs.Prelude.{◌==◌, Result, Ok, Err, OnOk, is_err}
 use Rattle.std.specs.Map.{lookup}
 use Rattle.std.specs.List.{concat}
 use Rattle.std.proofs.lemmas.Bool.Decides.{nat_tests}
@@ -23,7 +23,7 @@ use Rattle.link_table.specs.declared.text_refusal.TextRefusal.{TextRefusal}
 use Rattle.link_table.specs.declared.text_refusal.TextRefusal.TheVariants.{NoLink, TooLong, Full}
 use Rattle.link_table.specs.Frames.{plain_text, segmented}
 use Rattle.link_table.specs.Sending as sending
-use Rattle.link_table.specs.Standing.{Goes, LinksStand, WorkStands, answer_at, answer_of_entry, held_of, room_in, size_of}
+use Rattle.link_table.specs.Standing.{EntryGoes, EntryStands, LinksStand, answer_at, answer_of_entry, held_of, room_in, size_of, width}
 use Rattle.link_table.specs.Table.{Linked, Table}
 use Rattle.link_table.specs.Texts.{room_of}
 use Rattle.link_table.specs.Works.{Work, step_link}
@@ -32,31 +32,45 @@ use Rattle.link_table.proofs.Links.{Found, found, none_found}
 use Rattle.link_table.proofs.TextLifting.{room_stands}
 
 -- ---- so many payloads are still to be given
-abbrev pub ToGive : List Payload → List Payload → ℕ → Route → ℕ → LinkView → LinkView → Joined → Joined → Pending → Pending → Type 0
-ToGive all left size route now old new j j2 k k2 =
-    (w : Work) → WorkStands size old route j k w →
-    (w2 : Work) × WorkStands size new route j2 k2 w2 × (sending.send_each route.own left now w2 ≡ sending.send_each route.own all now w)
+pub record ToGive (all left : List Payload) (now : ℕ) (old new : Entry) (k k2 : Pending) : Type 0 where
+  pub route : new.route ≡ old.route
+  pub size : size_of new.link ≡ size_of old.link
+  pub to_give : (w : Work) → EntryStands old k w →
+      (w2 : Work) × EntryStands new k2 w2 × (sending.send_each old.route.own left now w2 ≡ sending.send_each old.route.own all now w)
 
-pub to_give_all : (all : List Payload) (size : ℕ) (route : Route) (now : ℕ) (h : LinkView) (j : Joined) (k : Pending) → ToGive all all size route now h h j j k k
-to_give_all all size route now h j k w s = (w, s, refl)
+pub to_give_all : (all : List Payload) (now : ℕ) (e : Entry) (k : Pending) → ToGive all all now e e k k
+to_give_all all now e k = record { route = refl; size = refl; to_give = λ w s. (w, s, refl) }
 
 -- the payload that is given is the first of those that are left
-pub given_first : (all left rest : List Payload) (p : Payload) (size : ℕ) (route : Route) (now : ℕ) (old new new2 : LinkView) (j j2 j3 : Joined) (k k2 k3 : Pending) →
-    left ≡ p ∷ rest → ToGive all left size route now old new j j2 k k2 → Goes size route (step_link route.own (Send p) now) new new2 j2 j3 k2 k3 → ToGive all rest size route now old new2 j j3 k k3
-given_first all left rest p size route now old new new2 j j2 j3 k k2 k3 first to_give goes w s =
-    let r = to_give w s in
-    (step_link route.own (Send p) now r.0, goes r.0 r.1, subst (λ (ps : List Payload). sending.send_each route.own ps now r.0 ≡ sending.send_each route.own all now w) first r.2)
+pub given_first : (all left rest : List Payload) (p : Payload) (now : ℕ) (old mid new : Entry) (k k2 k3 : Pending) → left ≡ p ∷ rest →
+    ToGive all left now old mid k k2 → EntryGoes (step_link mid.route.own (Send p) now) mid new k2 k3 → ToGive all rest now old new k k3
+given_first all left rest p now old mid new k k2 k3 first so_far goes =
+    record {
+      route = goes.route ∙ so_far.route;
+      size = goes.size ∙ so_far.size;
+      to_give = λ w s.
+          let own : Callsign = old.route.own in
+          let r = so_far.to_give w s in (
+            step_link own (Send p) now r.0,
+            subst (λ (x : Route). EntryStands new k3 (step_link x.own (Send p) now r.0)) so_far.route (goes.goes r.0 r.1),
+            subst (λ (ps : List Payload). sending.send_each own ps now r.0 ≡ sending.send_each own all now w) first r.2,
+          );
+    }
 
 -- of the payloads with these octets
 pub segment_first : (p : Payload) (infos rest : List (List ℕ)) → p.pid ≡ segmented → infos ≡ p.info.items ∷ rest → sending.payloads segmented infos ≡ p ∷ sending.payloads segmented rest
 segment_first p infos rest pid first =
     ap (sending.payloads segmented) first ∙ ap (λ (n : ℕ). record { pid = n; info = p.info } ∷ sending.payloads segmented rest) (sym pid)
 
-pub all_given : (all : List Payload) (size : ℕ) (route : Route) (now : ℕ) (old new : LinkView) (j j2 : Joined) (k k2 : Pending) →
-    ToGive all [] size route now old new j j2 k k2 → Goes size route (sending.send_each route.own all now) old new j j2 k k2
-all_given all size route now old new j j2 k k2 to_give w s =
-    let r = to_give w s in
-    subst (WorkStands size new route j2 k2) r.2 r.1
+pub all_given : (all : List Payload) (now : ℕ) (old new : Entry) (k k2 : Pending) → ToGive all [] now old new k k2 → EntryGoes (sending.send_each old.route.own all now) old new k k2
+all_given all now old new k k2 given =
+    record {
+      route = given.route;
+      size = given.size;
+      goes = λ w s.
+          let r = given.to_give w s in
+          subst (EntryStands new k2) r.2 r.1;
+    }
 
 -- ---- pieces
 none_left : (xs : List ℕ) → length xs ≡ 0 → xs ≡ []
@@ -137,11 +151,39 @@ length_segments pid text =
     omega (arith, e, f)
 
 -- ---- by the modulus of the link
-pub of_link : (size : ℕ) (route : Route) (text : List ℕ) (now : ℕ) (old new : LinkView) (j j2 : Joined) (k k2 : Pending) →
-    Goes size route (sending.send_each route.own (sending.payloads_of size text) now) old new j j2 k k2 → Goes size route (sending.send_text_of route.own text now) old new j j2 k k2
-of_link size route text now old new j j2 k k2 goes w s =
-    let same : w.linked.link.rules.size ≡ size = ap (λ (x : State). x.rules.size) s.link.keeps.is in
-    subst (λ n. WorkStands size new route j2 k2 (sending.send_each route.own (sending.payloads_of n text) now w)) (sym same) (goes w s)
+pub of_link : (text : List ℕ) (ps : List Payload) (now : ℕ) (old new : Entry) (k k2 : Pending) → sending.payloads_of (size_of old.link) text ≡ ps →
+    EntryGoes (sending.send_each old.route.own ps now) old new k k2 → EntryGoes (sending.send_text_of old.route.own text now) old new k k2
+of_link text ps now old new k k2 e g =
+    record {
+      route = g.route;
+      size = g.size;
+      goes = λ w s.
+          let same : w.linked.link.rules.size ≡ size_of old.link = ap (λ (x : State). x.rules.size) s.link.keeps.is in
+          subst (λ qs. EntryStands new k2 (sending.send_each old.route.own qs now w)) (sym (ap (λ n. sending.payloads_of n text) same ∙ e)) (g.goes w s);
+    }
+
+-- it goes in segments, or in pieces
+pub of_wide : (b c : Bool) (size : ℕ) → width b ≡ size → b && c ≡ (size == 128) && c
+of_wide true c size e = ap (λ n. (n == 128) && c) e
+of_wide false c size e = ap (λ n. (n == 128) && c) e
+
+pub in_segments_is : (b : Bool) (size : ℕ) (text : List ℕ) → b ≡ sending.in_segments size text → b ≡ true →
+    sending.payloads_of size text ≡ sending.payloads segmented (segments_of plain_text text)
+in_segments_is b size text e q = ap (λ c. if c then sending.payloads segmented (segments_of plain_text text) else sending.payloads plain_text (sending.cut text)) (sym e ∙ q)
+
+pub in_pieces_is : (b : Bool) (size : ℕ) (text : List ℕ) → b ≡ sending.in_segments size text → b ≡ false →
+    sending.payloads_of size text ≡ sending.payloads plain_text (sending.cut text)
+in_pieces_is b size text e q = ap (λ c. if c then sending.payloads segmented (segments_of plain_text text) else sending.payloads plain_text (sending.cut text)) (sym e ∙ q)
+
+second : (a b : Bool) → a && b ≡ true → b ≡ true
+second true b e = e
+second false b e = absurd (cc e)
+
+pub segments_some : (b : Bool) (size : ℕ) (text : List ℕ) → b ≡ sending.in_segments size text → b ≡ true → 1 ≤ length text
+segments_some b size text e q =
+    let long : nat_lt 256 (length text) ≡ true = second (size == 128) (nat_lt 256 (length text)) (sym e ∙ q) in
+    let more : 256 < length text = grind (arith, nat_tests, long) in
+    omega (arith, more)
 
 -- ---- why a text isn't sent
 pub answer_same : (own peer : Callsign) (text : List ℕ) (es : List (Callsign × Entry)) (t : Table) → LinksStand own es t.links → answer_at peer text es ≡ sending.text_answer peer text t

@@ -21,6 +21,7 @@ use Rattle.link_table.specs.Payloads.{filled, link_payloads}
 use Rattle.link_table.specs.Table.{Linked, Table, link_with, path_to, with_link}
 use Rattle.link_table.proofs.Lifting.{untexted}
 use Rattle.link_table.specs.Works.{first_to_take, unless_text, Work, hand_up, most_taken, settle, step_link, take_payload}
+use Rattle.link_table.proofs.Finding.{call_refl}
 
 count_none : (e : List (Option Payload)) → filled (e ++ None ∷ []) ≡ filled e
 count_none [] = refl
@@ -116,13 +117,6 @@ settled_all own now w b m =
     let l = few w.linked.link b m in settles most_taken own now w (omega (arith, l, count_few w.linked.link.early))
 
 -- ---- a new link
-
-letters_refl : (xs : List ℕ) → pointwise nat_eq xs xs ≡ true
-letters_refl [] = refl
-letters_refl (x ∷ xs) = let e : nat_eq x x ≡ true = eq-eqb x x refl in rw e (letters_refl xs)
-
-pub call_refl : (a : Callsign) → same_call a a ≡ true
-call_refl a = let e : nat_eq a.ssid a.ssid ≡ true = eq-eqb a.ssid a.ssid refl in rw (letters_refl a.letters, e) refl
 
 pub found_last : (peer : Callsign) (ls : List Linked) (l : Linked) → same_call peer l.peer ≡ true → link_with peer ls ≡ None → link_with peer (ls ++ l ∷ []) ≡ Some l
 found_last peer [] l s q = ap (λ b. if b then Some l else None) s

@@ -6,22 +6,23 @@ use Rattle.std.proofs.lemmas.Bool.{eqb-true}
 use Rattle.radio_base.specs.declared.payload.Payload.{Payload}
 use Rattle.ax_address.specs.Callsign.{Callsign}
 use Rattle.ax_address.specs.CallOrder.{same_call}
-use Rattle.ax_link.specs.Standing.{LinkView, Stands, StandsFor}
+use Rattle.ax_link.specs.Standing.{LinkView, StandsFor}
 use Rattle.ax_link.specs.State.{State, count_end}
-use Rattle.ax_link.specs.Table.{Take, may_close, step}
+use Rattle.ax_link.specs.Table.{Take, may_close}
 use Rattle.ax_segment.specs.Joining.{Held as Joined, join_step, whole_of}
 use Rattle.ax_segment.specs.Kept.{IsWithin}
 use Rattle.link_table.specs.declared.entry.Entry.{Entry}
 use Rattle.link_table.specs.declared.held_links.HeldLinks.{HeldLinks}
+use Rattle.link_table.specs.declared.link_of.LinkOf.{LinkOf}
 use Rattle.link_table.specs.declared.route.Route.{Route}
 use Rattle.link_table.specs.declared.pending.Pending.{Pending}
 use Rattle.link_table.specs.Frames.{netrom, plain_text, segmented}
-use Rattle.link_table.specs.Standing.{CoreGoes, CoreStands, Goes, HandsUp, Lifted, LinkStands, LinksStand, TableGoes, shown, WorkStands, held_of, joined_with, room_at, room_in, room_of_entry, size_of, text_at, text_in, text_keys, text_of_entry}
+use Rattle.link_table.specs.Standing.{CoreGoes, CoreStands, EntryGoes, EntryStands, HandsUp, Lifted, LinkGoes, LinkStands, LinksStand, TableGoes, shown, held_of, joined_with, room_at, room_in, room_of_entry, size_of, text_at, text_in, text_keys, text_of_entry}
 use Rattle.link_table.specs.Calls.{at_link}
 use Rattle.link_table.specs.Table.{Linked, Table}
 use Rattle.link_table.specs.Texts as texts
-use Rattle.link_table.specs.Works.{Work, is_text, joiner_after, most_taken, settle, take_payload, text_by}
-use Rattle.link_table.proofs.Lifting.{takes_one}
+use Rattle.link_table.specs.Works.{Work, hand_up, is_text, joiner_after, most_taken, settle, step_link, take_payload, text_by}
+use Rattle.link_table.proofs.Lifting.{follows, hands, lifts}
 use Rattle.link_table.proofs.Tables.{to_table}
 use Rattle.link_table.proofs.Links.{Found, found, none_found}
 
@@ -31,10 +32,10 @@ not_netrom j p q =
     ap (λ n. if n == plain_text then nat_le 1 (length p.info.items) else if n == segmented then text_by (whole_of (join_step j p.info.items).1) else false) pid
 
 -- a text isn't handed up
-text_handed : (route : Route) (p : Payload) (j j2 : Joined) (k : Pending) → is_text j p ≡ true → j2 ≡ joined_with p j → (IsWithin j → IsWithin j2) → HandsUp p route j j2 k k
-text_handed route p j j2 k t e within = record { joiner = e; within = within; waiting = by (p.pid == netrom) refl; lost = refl; notices = refl; frames = refl }
+text_handed : (peer : Callsign) (p : Payload) (j : Joined) (k : Pending) → is_text j p ≡ true → (IsWithin j → IsWithin (joined_with p j)) → HandsUp p peer j (joined_with p j) k k
+text_handed peer p j k t within = record { joiner = refl; within = within; waiting = by (p.pid == netrom) refl; lost = refl; notices = refl; frames = refl }
   where
-    by : (b : Bool) → (p.pid == netrom) ≡ b → k.waiting.items ≡ (if b then k.waiting.items ++ (route.peer, p.info) ∷ [] else k.waiting.items)
+    by : (b : Bool) → (p.pid == netrom) ≡ b → k.waiting.items ≡ (if b then k.waiting.items ++ (peer, p.info) ∷ [] else k.waiting.items)
     by false q = refl
     by true q = absurd (cc (sym (not_netrom j p q) ∙ t))
 
@@ -45,19 +46,35 @@ was_text j p = by (is_text j p)
     by true q = refl
     by false q = absurd (cc q)
 
-pub text_goes : (size : ℕ) (route : Route) (now : ℕ) (p : Payload) (old mid new new2 : LinkView) (j j2 j3 j4 : Joined) (k k2 k3 : Pending) →
-    slice_get old.inbox 0 ≡ Some p → is_some (texts.first_text j (slice_get old.inbox 0)) ≡ true →
-    ((s : State) → StandsFor size old s → Stands size mid (step s Take now)) → mid.notice ≡ None → Lifted size route mid new j j2 k k2 →
-    j3 ≡ joined_with p j2 → (IsWithin j2 → IsWithin j3) → Goes size route (settle most_taken route.own now) new new2 j3 j4 k2 k3 →
-    Goes size route (texts.take_text_of route.own now) old new2 j j4 k k3
-text_goes size route now p old mid new new2 j j2 j3 j4 k k2 k3 first waits does quiet l e within more w s =
-    let same : j2 ≡ j = l.joiner ∙ ap (λ n. joiner_after (option_to_list n) j) quiet in
-    let is : is_text j2 p ≡ true = ap (λ x. is_text x p) same ∙ was_text j p (ap (λ x. is_some (texts.first_text j x)) (sym first) ∙ waits) in
-    let one : Goes size route (take_payload route.own now p) old new j j3 k k2 = takes_one size route now p p old mid new j j2 j3 k k2 k2 refl does l (text_handed route p j2 j3 k2 is e within) in
-    let there : slice_get w.linked.link.inbox 0 ≡ Some p = ap (λ (x : State). slice_get x.inbox 0) s.link.keeps.is ∙ first in
-    subst (WorkStands size new2 route j4 k3)
-    (sym (ap (λ x. elim x as (λ y. Work) [ None ↦ w | Some q ↦ settle most_taken route.own now (take_payload route.own now q w) ]) there))
-    (more (take_payload route.own now p w) (one w s))
+-- the oldest payload is taken and handed out, and then what waited behind it is taken
+pub text_goes : (now : ℕ) (p : Payload) (old : Entry) (mid : LinkOf) (lifted handed new : Entry) (k k2 k3 : Pending) →
+    slice_get (held_of old.link).inbox 0 ≡ Some p → is_some (text_in old) ≡ true → LinkGoes Take now old.link mid → (held_of mid).notice ≡ None →
+    Lifted (record old { link = mid }) lifted k k2 → handed ≡ record lifted { joiner = joined_with p lifted.joiner } → (IsWithin lifted.joiner → IsWithin handed.joiner) →
+    EntryGoes (settle most_taken handed.route.own now) handed new k2 k3 → EntryGoes (texts.take_text_of old.route.own now) old new k k3
+text_goes now p old mid lifted handed new k k2 k3 first waits done quiet l e within more =
+    record { route = more.route ∙ one.route; size = more.size ∙ one.size; goes = goes }
+  where
+    same : lifted.joiner ≡ old.joiner
+    same = l.joiner ∙ ap (λ n. joiner_after (option_to_list n) old.joiner) quiet
+
+    is : is_text lifted.joiner p ≡ true
+    is = ap (λ x. is_text x p) same ∙ was_text old.joiner p (ap (λ x. is_some (texts.first_text old.joiner x)) (sym first) ∙ waits)
+
+    hand : HandsUp p lifted.route.peer lifted.joiner (joined_with p lifted.joiner) k2 k2
+    hand = text_handed lifted.route.peer p lifted.joiner k2 is (λ x. subst IsWithin (ap (λ (y : Entry). y.joiner) e) (within x))
+
+    one : EntryGoes (take_payload old.route.own now p) old handed k k2
+    one = subst (λ (y : Entry). EntryGoes (take_payload old.route.own now p) old y k k2) (sym e)
+        (follows (step_link old.route.own Take now) (hand_up p) old lifted (record lifted { joiner = joined_with p lifted.joiner }) k k2 k2 (lifts Take now old mid lifted k k2 done l)
+        (hands p lifted (joined_with p lifted.joiner) k2 k2 hand))
+
+    goes : (w : Work) → EntryStands old k w → EntryStands new k3 (texts.take_text_of old.route.own now w)
+    goes w s =
+        let there : slice_get w.linked.link.inbox 0 ≡ Some p = ap (λ (x : State). slice_get x.inbox 0) s.link.keeps.is ∙ first in
+        subst (EntryStands new k3)
+        (sym (ap (λ x. elim x as (λ y. Work) [ None ↦ w | Some q ↦ settle most_taken old.route.own now (take_payload old.route.own now q w) ]) there))
+        (subst (λ (x : Route). EntryStands new k3 (settle most_taken x.own now (take_payload old.route.own now p w))) one.route
+        (more.goes (take_payload old.route.own now p w) (one.goes w s)))
 
 -- ---- what waits at a link, as the map and as the table have it
 

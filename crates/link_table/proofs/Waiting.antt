@@ -22,7 +22,7 @@ use Rattle.link_table.specs.Table.{Linked, Table, link_with, path_to, without}
 use Rattle.link_table.specs.Sending as sending
 use Rattle.link_table.specs.Texts as texts
 use Rattle.link_table.specs.Works.{Work, arrive_at_link, first_to_take, is_down, hand_up, most_taken, settle, step_link, take_payload, tell}
-use Rattle.link_table.proofs.Carrier.{same_call-true}
+use Rattle.link_table.proofs.Finding.{found_peer}
 
 -- pairs with this call were added
 abbrev Adds : Callsign → List Parcel → List Parcel → Type 0
@@ -94,21 +94,13 @@ arrived_adds own peer f now w e = by (is_down s.linked.link.phase)
     by true = nothing peer w.pending.waiting
     by false = settled_adds most_taken own peer now s e
 
-peer_found : (peer : Callsign) (ls : List Linked) (l : Linked) → link_with peer ls ≡ Some l → peer ≡ l.peer
-peer_found peer [] l e = absurd (cc e)
-peer_found peer (m ∷ ls) l e = by (same_call peer m.peer) refl e (λ r. peer_found peer ls l r)
-  where
-    by : (b : Bool) → same_call peer m.peer ≡ b → (if b then Some m else link_with peer ls) ≡ Some l → (link_with peer ls ≡ Some l → peer ≡ l.peer) → peer ≡ l.peer
-    by true q r rest = let same : m ≡ l = cc r in same_call-true peer m.peer q ∙ ap (λ (x : Linked). x.peer) same
-    by false q r rest = rest r
-
 to_link_adds : (f : AirFrame) (now : ℕ) (t : Table) → Adds (calls.source f) t.pending.waiting (calls.to_link f now t).pending.waiting
 to_link_adds f now t = by (link_with (calls.source f) t.links) refl
   where
     by : (r : Option Linked) → link_with (calls.source f) t.links ≡ r → Adds (calls.source f) t.pending.waiting (elim r as (λ y. Table)
         [ None ↦ t | Some l ↦ calls.keep (calls.source f) (arrive_at_link t.own (calls.link_frame l.link.rules.size f) now (record { linked = l; pending = t.pending })) t ]).pending.waiting
     by None e = nothing (calls.source f) t.pending.waiting
-    by (Some l) e = arrived_adds t.own (calls.source f) (calls.link_frame l.link.rules.size f) now (record { linked = l; pending = t.pending }) (sym (peer_found (calls.source f) t.links l e))
+    by (Some l) e = arrived_adds t.own (calls.source f) (calls.link_frame l.link.rules.size f) now (record { linked = l; pending = t.pending }) (sym (found_peer (calls.source f) t.links l e))
 
 take_adds : (peer : Callsign) (now : ℕ) (t : Table) → Adds peer t.pending.waiting (texts.take_text peer now t).pending.waiting
 take_adds peer now t = at (is_some (texts.text_with peer t))
@@ -116,7 +108,7 @@ take_adds peer now t = at (is_some (texts.text_with peer t))
     by : (r : Option Linked) → link_with peer t.links ≡ r →
         Adds peer t.pending.waiting (elim r as (λ y. Table) [ None ↦ t | Some l ↦ calls.keep peer (texts.take_text_of t.own now (record { linked = l; pending = t.pending })) t ]).pending.waiting
     by None e = nothing peer t.pending.waiting
-    by (Some l) e = text_adds t.own peer now (record { linked = l; pending = t.pending }) (sym (peer_found peer t.links l e))
+    by (Some l) e = text_adds t.own peer now (record { linked = l; pending = t.pending }) (sym (found_peer peer t.links l e))
 
     at : (b : Bool) → Adds peer t.pending.waiting (if b then calls.at_link peer (texts.take_text_of t.own now) t else t).pending.waiting
     at true = by (link_with peer t.links) refl
@@ -181,34 +173,12 @@ ui_adds f (Some pid) t = by ((pid == netrom) && nat_le (length f.info) 256)
     by false = nothing (calls.source f) t.pending.waiting
 
 kind_adds : (command : Bool) (c : Control) (f : AirFrame) (now : ℕ) (t : Table) → Adds (calls.source f) t.pending.waiting (calls.arrive_kind command c f now t).pending.waiting
-kind_adds true (control.I ns nr pf) f now t = other_adds f now t
-kind_adds false (control.I ns nr pf) f now t = other_adds f now t
-kind_adds true (control.Rr nr pf) f now t = other_adds f now t
-kind_adds false (control.Rr nr pf) f now t = other_adds f now t
-kind_adds true (control.Rnr nr pf) f now t = other_adds f now t
-kind_adds false (control.Rnr nr pf) f now t = other_adds f now t
-kind_adds true (control.Rej nr pf) f now t = other_adds f now t
-kind_adds false (control.Rej nr pf) f now t = other_adds f now t
-kind_adds true (control.Srej nr pf) f now t = other_adds f now t
-kind_adds false (control.Srej nr pf) f now t = other_adds f now t
 kind_adds true (control.Sabm pf) f now t = set_up_adds 8 pf f now t
-kind_adds false (control.Sabm pf) f now t = other_adds f now t
 kind_adds true (control.Sabme pf) f now t = set_up_adds 128 pf f now t
-kind_adds false (control.Sabme pf) f now t = other_adds f now t
-kind_adds true (control.Disc pf) f now t = other_adds f now t
-kind_adds false (control.Disc pf) f now t = other_adds f now t
-kind_adds true (control.Dm pf) f now t = other_adds f now t
-kind_adds false (control.Dm pf) f now t = other_adds f now t
-kind_adds true (control.Ua pf) f now t = other_adds f now t
-kind_adds false (control.Ua pf) f now t = other_adds f now t
-kind_adds true (control.Frmr pf) f now t = other_adds f now t
-kind_adds false (control.Frmr pf) f now t = other_adds f now t
+kind_adds true (control.Test pf) f now t = nothing (calls.source f) t.pending.waiting
 kind_adds true (control.Ui pf) f now t = ui_adds f f.pid t
 kind_adds false (control.Ui pf) f now t = ui_adds f f.pid t
-kind_adds true (control.Xid pf) f now t = other_adds f now t
-kind_adds false (control.Xid pf) f now t = other_adds f now t
-kind_adds true (control.Test pf) f now t = nothing (calls.source f) t.pending.waiting
-kind_adds false (control.Test pf) f now t = other_adds f now t
+kind_adds command c f now t = other_adds f now t
 
 ticks_keep : (peers : List Callsign) (now : ℕ) (t : Table) → (calls.tick_each peers now t).pending.waiting ≡ t.pending.waiting
 ticks_keep [] now t = refl

@@ -5,7 +5,7 @@ use Rattle.ax_address.specs.Callsign.{Callsign}
 use Rattle.ax_link.specs.declared.plain.LinkConfig.{LinkConfig}
 use Rattle.ax_link.specs.declared.plain.LinkNotice.{LinkNotice}
 use Rattle.ax_link.specs.Opening.{IsDrained}
-use Rattle.ax_link.specs.Standing.{LinkView, StandsFor, frame_of}
+use Rattle.ax_link.specs.Standing.{LinkView, Stands, StandsFor, frame_of}
 use Rattle.ax_link.specs.State.{State, count_end}
 use Rattle.ax_link.specs.Table.{may_close, Input, Send, step, takes}
 use Rattle.l3_datagram.specs.declared.carrier.Offered.{Offered}
@@ -46,32 +46,40 @@ abbrev pub held_of : LinkOf → LinkView
 held_of (Eight l) = l
 held_of (Wide l) = l
 
--- a link as it is kept, with over what its frames go, its joiner and what waits to be fetched
-pub record WorkStands (size : ℕ) (h : LinkView) (route : Route) (j : Joined) (keep : Pending) (w : Work) : Type 0 where
-  pub peer : w.linked.peer ≡ route.peer
-  pub path : w.linked.path ≡ route.path
-  pub link : StandsFor size h w.linked.link
-  pub joiner : w.linked.joiner ≡ j
-  pub within : IsWithin j
+-- a link of either modulus does a step, and stays of its modulus
+pub record LinkGoes (i : Input) (now : ℕ) (old new : LinkOf) : Type 0 where
+  pub size : size_of new ≡ size_of old
+  pub does : (s : State) → StandsFor (size_of old) (held_of old) s → Stands (size_of old) (held_of new) (step s i now)
+
+-- an entry as it is kept: its link, over what its frames go, its joiner and what waits to be fetched
+pub record EntryStands (e : Entry) (keep : Pending) (w : Work) : Type 0 where
+  pub peer : w.linked.peer ≡ e.route.peer
+  pub path : w.linked.path ≡ e.route.path
+  pub link : StandsFor (size_of e.link) (held_of e.link) w.linked.link
+  pub joiner : w.linked.joiner ≡ e.joiner
+  pub within : IsWithin e.joiner
   pub pending : PendingStands keep w.pending
 
--- what was kept goes over to what is kept as the work does
-abbrev pub Goes : ℕ → Route → (Work → Work) → LinkView → LinkView → Joined → Joined → Pending → Pending → Type 0
-Goes size route part old new joiner joiner2 keep kept2 =
-    (w : Work) → WorkStands size old route joiner keep w → WorkStands size new route joiner2 kept2 (part w)
+-- what was kept of an entry goes over to what is kept as the work does; the entry stays at its route and modulus
+pub record EntryGoes (part : Work → Work) (old new : Entry) (keep kept2 : Pending) : Type 0 where
+  pub route : new.route ≡ old.route
+  pub size : size_of new.link ≡ size_of old.link
+  pub goes : (w : Work) → EntryStands old keep w → EntryStands new kept2 (part w)
 
 -- the frames of a link have gone out
 abbrev pub gone_out : ℕ → Route → LinkView → List Written
 gone_out size route h = map written (all_sent size route.own route.peer route.path (map (frame_of size) h.outs))
 
--- what comes of a step of a link, by what waited after it
-pub record Lifted (size : ℕ) (route : Route) (old new : LinkView) (j j2 : Joined) (keep kept2 : Pending) : Type 0 where
-  pub link : new ≡ record old { outs = []; notice = None }
-  pub joiner : j2 ≡ joiner_after (option_to_list old.notice) j
+-- what comes of a step of an entry's link, by what waited after it
+pub record Lifted (old new : Entry) (keep kept2 : Pending) : Type 0 where
+  pub route : new.route ≡ old.route
+  pub size : size_of new.link ≡ size_of old.link
+  pub link : held_of new.link ≡ record (held_of old.link) { outs = []; notice = None }
+  pub joiner : new.joiner ≡ joiner_after (option_to_list (held_of old.link).notice) old.joiner
   pub waiting : kept2.waiting.items ≡ keep.waiting.items
-  pub lost : kept2.lost.items ≡ keep.lost.items ++ lost_by route.peer (option_to_list old.notice)
-  pub notices : kept2.notices.items ≡ keep.notices.items ++ map (λ n. (route.peer, n)) (option_to_list old.notice)
-  pub frames : kept2.frames.items ≡ keep.frames.items ++ gone_out size route old
+  pub lost : kept2.lost.items ≡ keep.lost.items ++ lost_by old.route.peer (option_to_list (held_of old.link).notice)
+  pub notices : kept2.notices.items ≡ keep.notices.items ++ map (λ n. (old.route.peer, n)) (option_to_list (held_of old.link).notice)
+  pub frames : kept2.frames.items ≡ keep.frames.items ++ gone_out (size_of old.link) old.route (held_of old.link)
 
 -- a payload that was taken: what is held of a message in segments, and what waits, by its PID
 abbrev pub joined_with : Payload → Joined → Joined
@@ -80,26 +88,17 @@ joined_with p j = if p.pid == netrom then j else if p.pid == segmented then (joi
 abbrev pub waiting_with : Callsign → Payload → List Parcel → List Parcel
 waiting_with peer p ws = if p.pid == netrom then ws ++ (peer, p.info) ∷ [] else ws
 
-pub record HandsUp (p : Payload) (route : Route) (j j2 : Joined) (keep kept2 : Pending) : Type 0 where
+pub record HandsUp (p : Payload) (peer : Callsign) (j j2 : Joined) (keep kept2 : Pending) : Type 0 where
   pub joiner : j2 ≡ joined_with p j
   pub within : IsWithin j → IsWithin j2
-  pub waiting : kept2.waiting.items ≡ waiting_with route.peer p keep.waiting.items
+  pub waiting : kept2.waiting.items ≡ waiting_with peer p keep.waiting.items
   pub lost : kept2.lost.items ≡ keep.lost.items
   pub notices : kept2.notices.items ≡ keep.notices.items
   pub frames : kept2.frames.items ≡ keep.frames.items
 
-abbrev pub EntryStands : Entry → Pending → Work → Type 0
-EntryStands e keep w = WorkStands (size_of e.link) (held_of e.link) e.route e.joiner keep w
-
 -- the modulus, by whether it is the greater one
 abbrev pub width : Bool → ℕ
 width wide = if wide then 128 else 8
-
--- what was kept of an entry goes over to what is kept as the work does; the entry stays at its route and modulus
-pub record EntryGoes (part : Work → Work) (old new : Entry) (keep kept2 : Pending) : Type 0 where
-  pub route : new.route ≡ old.route
-  pub size : size_of new.link ≡ size_of old.link
-  pub goes : Goes (size_of old.link) old.route part (held_of old.link) (held_of new.link) old.joiner new.joiner keep kept2
 
 -- a link of the table
 pub record LinkStands (node key : Callsign) (e : Entry) (l : Linked) : Type 0 where

@@ -3,6 +3,7 @@
 
 mod answers;
 mod entry;
+mod frames_out;
 mod held_links;
 pub mod laws;
 mod link_of;

@@ -1,23 +1,14 @@
-use Rattle.std.proofs.Common.{refl}
-use Rattle.link_table.proofs.Sending.{of_link}
+use Rattle.link_table.specs.Standing.{size_of}
+use Rattle.link_table.proofs.Sending.{in_pieces_is, in_segments_is, of_link, segments_some}
 use Rattle.link_table.proofs.entry.Entry.send_text.Goals as goal
 
-pub returns-in_ok-send_pieces-in-Eight-clause-goes : goal.returns-in_ok-send_pieces-in-Eight-clause-goes
-returns-in_ok-send_pieces-in-Eight-clause-goes c =
-    rw c.in-Eight.is
-    (record {
-      route = refl;
-      size = refl;
-      goes = of_link 8 c.args.self.now.route c.args.text.now c.args.now.0 c.in-Eight.link c.send_pieces.new.link c.args.self.now.joiner c.send_pieces.new.joiner c.args.pending.now
-          c.send_pieces.new.pending c.in_ok-send_pieces-in-Eight.ensures.goes;
-    })
+pub returns-then-in_segments-clause-goes : goal.returns-then-in_segments-clause-goes
+returns-then-in_segments-clause-goes c =
+    of_link c.args.text.now _ c.args.now.0 c.args.self.now _ _ _ (in_segments_is _ (size_of c.args.self.now.link) c.args.text.now c.in_segments.ensures c.if-in_segments.true) c.in_ok-send_segments.ensures.goes
 
-pub returns-in_ok-send_wide-in-Wide-clause-goes : goal.returns-in_ok-send_wide-in-Wide-clause-goes
-returns-in_ok-send_wide-in-Wide-clause-goes c =
-    rw c.in-Wide.is
-    (record {
-      route = refl;
-      size = refl;
-      goes = of_link 128 c.args.self.now.route c.args.text.now c.args.now.0 c.in-Wide.link c.send_wide.new.link c.args.self.now.joiner c.send_wide.new.joiner c.args.pending.now
-          c.send_wide.new.pending c.in_ok-send_wide-in-Wide.ensures.goes;
-    })
+pub returns-clause-goes : goal.returns-clause-goes
+returns-clause-goes c =
+    of_link c.args.text.now _ c.args.now.0 c.args.self.now _ _ _ (in_pieces_is _ (size_of c.args.self.now.link) c.args.text.now c.in_segments.ensures c.if-in_segments.false) c.in_ok-send_pieces.ensures.goes
+
+pub send_segments-requires-clause-some : goal.send_segments-requires-clause-some
+send_segments-requires-clause-some c = segments_some _ (size_of c.args.self.now.link) c.args.text.now c.in_segments.ensures c.if-in_segments.true

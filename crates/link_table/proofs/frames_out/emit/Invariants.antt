@@ -1,6 +1,6 @@
 use Rattle.std.proofs.Common.{◌≡◌, ◌++◌, length}
 use Rattle.link_table.specs.Standing.{gone_out}
-use Rattle.link_table.proofs.work.emit_frames.Given as goal
+use Rattle.link_table.proofs.frames_out.emit.Given as goal
 
 -- the frames so far and those to come are all of them
 abbrev pub invariant-loop-out : goal.invariant-loop-out

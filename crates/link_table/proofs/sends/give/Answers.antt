@@ -1,6 +1,0 @@
-use Rattle.ax_link.specs.Table as table
-use Rattle.link_table.proofs.Lifting.{lifts}
-use Rattle.link_table.proofs.sends.give.Goals as goal
-
-pub returns-in_ok-lift-in-Ok-clause-goes : goal.returns-in_ok-lift-in-Ok-clause-goes
-returns-in_ok-lift-in-Ok-clause-goes g c = lifts g.M.Modulus.SIZE c.args.route.now (table.Send c.args.payload.now) c.args.now.0 _ _ _ _ _ _ _ c.in-Ok.ensures.does c.in_ok-lift-in-Ok.ensures
