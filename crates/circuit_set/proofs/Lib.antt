@@ -10,7 +10,6 @@ pub mod Comes
 pub mod Whole
 pub mod Walks
 pub mod Walking
-pub mod Next
 pub mod Places
 pub mod Pairs
 pub mod Bridge
@@ -35,7 +34,6 @@ pub mod Opens
 pub mod Safe
 pub mod Narrow
 pub mod Examples
-pub mod Silent
 pub mod Taken
 pub mod Meeting
 pub mod Holding
@@ -80,7 +78,6 @@ pub mod Partners
 pub mod Askers
 pub mod Returning
 pub mod Returned
-pub mod Few
 pub mod Kept
 pub mod Refusals
 pub mod Facing
