@@ -43,6 +43,7 @@ pub mod Searching
 pub mod Arriving
 pub mod Making
 pub mod Ticking
+pub mod Connecting
 pub mod Counting
 pub mod Pumping
 pub mod Owning

@@ -1,4 +1,4 @@
-use Rattle.std.proofs.Common.{◌∙◌, ap, drop, List, ℕ, Ok, Option, subst}
+use Rattle.std.proofs.Common.{◌∙◌, ap, drop, List, ℕ, Ok, Option, is_some, subst, sym}
 use Rattle.l3_datagram.specs.declared.carrier.Offered.TheVariants.{Taken}
 use Rattle.circuit_l4.specs.Reading.{transport_at}
 use Rattle.circuit_set.specs.declared.holder.Untold.{Untold}
@@ -39,3 +39,16 @@ returns-in-Some-clause-takes g c =
           gives.2
           (w.1 log r.set gives.0 gives.1 stands (held_stands g.C.Carrier.made g.met.C.Carrier.none_made _ log c.args.now.0 s stands st c.receive.new.self r.set gives.1 same gives.4) gives.3),
     )))
+
+-- (written, since `search` takes seconds for each of these)
+pub returns-in-None-clause-rests : goal.returns-in-None-clause-rests
+returns-in-None-clause-rests g c = let lost = rw (← c.self.view_is) at c.requires.lost in λ none. (c.in_ok-receive.ensures.rests c.in-None.is, lost)
+
+pub returns-in-None-clause-few : goal.returns-in-None-clause-few
+returns-in-None-clause-few g c = rw (← c.self.view_is) (c.in_ok-receive.ensures.few)
+
+pub returns-in-Some-clause-rests : goal.returns-in-Some-clause-rests
+returns-in-Some-clause-rests g c = on_ok c.tell.result c.tell.ensures.told (λ some none. absurd (cc (sym some ∙ ap is_some none)))
+
+pub returns-in-Some-clause-few : goal.returns-in-Some-clause-few
+returns-in-Some-clause-few g c = rw (← c.self.view_is, c.tell.ensures.held) (on_ok c.tell.result c.tell.ensures.tells (λ tells. c.in_ok-receive.ensures.few))
