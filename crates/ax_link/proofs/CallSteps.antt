@@ -2,11 +2,11 @@
 use Rattle.std.proofs.Common.{◌≡◌, ℕ, ◌+◌, ◌<◌, Bool, true, false, not, ◌||◌, nat_le, if◌then◌else◌, List, ◌++◌, length, Result, Ok, Err, OnOk, is_ok, ◌&&◌, nat_lt, refl, ap, sym, ◌∙◌, subst, arith, length-append}
 use Rattle.std.proofs.lemmas.Bool.Decides.{nat_tests}
 use Rattle.radio_base.specs.declared.payload.Payload.{Payload}
-use Rattle.ax_link.specs.declared.plain.SendRefusal.{SendRefusal}
+use Rattle.ax_link.specs.declared.refusal.SendRefusal.{SendRefusal}
 use Rattle.ax_link.specs.State.{State, Effect, begin, count_end}
 use Rattle.ax_link.specs.Table.{accept, may_close, takes}
-use Rattle.ax_link.specs.Standing.{LinkView, KeepsEffect, Keeps, state_of}
-use Rattle.ax_link.specs.Opening.{IsDrained, answer_by, send_answer, taken_in}
+use Rattle.ax_link.specs.Standing.{IsDrained, LinkView, KeepsEffect, Keeps, state_of}
+use Rattle.ax_link.specs.Opening.{answer_by, send_answer, taken_in}
 
 -- a step begins where nothing waits
 pub begins : (size : ℕ) (h : LinkView) (s : State) → IsDrained h → Keeps size h s → KeepsEffect size h (begin s)

@@ -5,14 +5,14 @@ use Rattle.radio_base.specs.declared.payload.Payload.{Payload}
 use Rattle.radio_base.specs.Modulus.{place_of}
 use Rattle.ax_link.specs.declared.kind.Kind.{Kind}
 use Rattle.ax_link.specs.declared.kind.Kind.TheVariants as kind
-use Rattle.ax_link.specs.declared.plain.LinkNotice.TheVariants.{Failed}
-use Rattle.ax_link.specs.declared.plain.LinkPhase.{LinkPhase}
-use Rattle.ax_link.specs.declared.plain.LinkPhase.TheVariants.{Up}
+use Rattle.ax_link.specs.declared.notice.LinkNotice.TheVariants.{Failed}
+use Rattle.ax_link.specs.declared.phase.LinkPhase.{LinkPhase}
+use Rattle.ax_link.specs.declared.phase.LinkPhase.TheVariants.{Up}
 use Rattle.ax_link.specs.Carrying.{GoesOn, OpensSo, UpGoesOn, carries, is_on}
 use Rattle.ax_link.specs.Laws.{notice_at, notice_of}
 use Rattle.ax_link.specs.State.{Frame, State, Effect, ack_place, count_end, begin, busy, high, is_up, update_t1, t1_runs, t3_at, wire}
 use Rattle.ax_link.specs.Moves.{acknowledge, again, answer_poll, ask, ask_again, asks, asks_of, end_poll, fill, fill_count, finish, frames, frames_of, hold, i_at, is_free, follow_by, follow, next_early, on_i, on_srej, on_supervisory, emit, release, resume, supply_again, resupply, rr, srej_at, start_poll, store_early, supervisory_at, supply, take_in, take_next, text, text_at, text_later, text_plain, text_srej}
-use Rattle.ax_link.specs.Table.{Input, Set_up, Send, Arrive, Tick, Close, Take, step, accept, arrive_in, arrive_setting, arrive_up, come_up, fail, retry, takes}
+use Rattle.ax_link.specs.Table.{Input, Set_up, Send, Arrive, Tick, Close, Take, step, accept, arrive_in, arrive_setting_up, arrive_up, come_up, fail, retry, takes}
 
 abbrev All : List Frame → Type 0
 All fs = AllByRecursion (λ f. carries f.kind ≡ true) fs
@@ -245,5 +245,5 @@ pub opens_so : OpensSo
 opens_so s f now u k =
     let m : ℕ = min now count_end in
     subst (λ (ph : LinkPhase). GoesOn (arrive_in ph m f (begin (record s { last_arrival = m })))) (sym u)
-    (subst (λ (c : Kind). GoesOn (arrive_setting m c (begin (record s { last_arrival = m })))) (sym k)
+    (subst (λ (c : Kind). GoesOn (arrive_setting_up m c (begin (record s { last_arrival = m })))) (sym k)
     (on_supply m (come_up m (begin (record s { last_arrival = m }))) (record { phase = refl; outs = tt })))

@@ -6,7 +6,7 @@ use Rattle.ax_link.specs.declared.kind.Kind.TheVariants.{Srej}
 use Rattle.ax_link.specs.State.{Frame, State, Effect, top}
 use Rattle.ax_link.specs.Moves.{asks_of, follow_by, next_early, emit, take_next}
 use Rattle.ax_link.specs.Standing.{LinkView, KeepsEffect, effect_of, state_of}
-use Rattle.ax_link.specs.Stations.{ask_for_each, is_filled, take_next_payload, with_early}
+use Rattle.ax_link.specs.Calls.{ask_for_each, is_filled, take_next_payload, with_early}
 use Rattle.ax_link.proofs.Standings.{itself, standing}
 
 -- ---- places ----

@@ -5,9 +5,9 @@ use Rattle.ax_link.specs.Moves.{emit, note, to_phase, rr, fill, finish, start_po
 use Rattle.ax_link.specs.declared.kind.Kind.TheVariants.{Disc, Dm, SetUp}
 use Rattle.ax_link.specs.State.{State, Frame, Effect, begin, is_up, busy, t1_runs, update_t1}
 use Rattle.ax_link.specs.Table.{Send, Close, Take, takes, may_close, step_at, tick, expire, retry_in, fail_in}
-use Rattle.ax_link.specs.declared.plain.LinkNotice.TheVariants.{Failed}
-use Rattle.ax_link.specs.declared.plain.LinkPhase.TheVariants.{Down, SettingUp, Up, Releasing}
-use Rattle.ax_link.specs.declared.plain.LinkPhase.{LinkPhase}
+use Rattle.ax_link.specs.declared.notice.LinkNotice.TheVariants.{Failed}
+use Rattle.ax_link.specs.declared.phase.LinkPhase.TheVariants.{Down, SettingUp, Up, Releasing}
+use Rattle.ax_link.specs.declared.phase.LinkPhase.{LinkPhase}
 use Rattle.radio_base.specs.declared.payload.Payload.{Payload}
 use Rattle.ax_link.specs.Pair.{Both, Core, core, reach, EarlyFine, texts_of}
 use Rattle.ax_link.proofs.Ways.{texts_given, get_more}

@@ -4,13 +4,13 @@ use Rattle.std.specs.List.{AllByRecursion}
 use Rattle.radio_base.specs.declared.payload.Payload.{Payload}
 use Rattle.ax_link.specs.declared.kind.Kind.{Kind}
 use Rattle.ax_link.specs.declared.kind.Kind.TheVariants as kind
-use Rattle.ax_link.specs.declared.plain.LinkPhase.{LinkPhase}
-use Rattle.ax_link.specs.declared.plain.LinkPhase.TheVariants.{Down, SettingUp, Up, Releasing}
+use Rattle.ax_link.specs.declared.phase.LinkPhase.{LinkPhase}
+use Rattle.ax_link.specs.declared.phase.LinkPhase.TheVariants.{Down, SettingUp, Up, Releasing}
 use Rattle.ax_link.specs.Bounds.{Bounded, stock}
 use Rattle.ax_link.specs.Laws.{KindsGoOut, may_go_out}
 use Rattle.ax_link.specs.State.{Frame, State, Effect, begin, count_end, is_up}
 use Rattle.ax_link.specs.Moves.{fill, fill_count, frames_of, supply}
-use Rattle.ax_link.specs.Table.{Input, Set_up, Send, Arrive, Tick, Close, Take, step, accept, arrive_down, arrive_releasing, arrive_setting, fail, come_up, refuse_if, retry, takes}
+use Rattle.ax_link.specs.Table.{Input, Set_up, Send, Arrive, Tick, Close, Take, step, accept, arrive_down, arrive_releasing, arrive_setting_up, fail, come_up, refuse_if, retry, takes}
 use Rattle.ax_link.proofs.PutOut.{IsPut, IsPutOut, every}
 use Rattle.ax_link.proofs.PutFrames.{every_put}
 
@@ -60,7 +60,7 @@ supply_goes now h a =
     go_if SettingUp (is_up g.link.phase && g.link.closing && nat_eq g.link.acked (length g.link.given)) _ g
     (both_go SettingUp g.outs (record { command = true; kind = kind.Disc true; payload = None } ∷ []) x (refl, tt)) x
 
-setting_goes : (now : ℕ) (k : Kind) (s : State) → AllGo SettingUp (arrive_setting now k (begin s)).outs
+setting_goes : (now : ℕ) (k : Kind) (s : State) → AllGo SettingUp (arrive_setting_up now k (begin s)).outs
 setting_goes now (kind.Ua true) s = supply_goes now (come_up now (begin s)) tt
 setting_goes now (kind.Ua false) s = tt
 setting_goes now (kind.Dm true) s = tt

@@ -1,13 +1,13 @@
 -- A step of an end that is Up keeps the two ways, whether it stays Up or leaves; and frames of no account may come and go.
 use Rattle.std.proofs.Common.{◌≡◌, ℕ, suc, Bool, true, false, if◌then◌else◌, List, [], ◌∷◌, ◌++◌, length, refl, ap, sym, subst, ◌≤◌}
 use Rattle.ax_link.specs.State.{State, Frame, begin}
-use Rattle.ax_link.specs.Table.{Input, Set_up, Send, Arrive, Tick, Close, Take, step_at, arrive_in, arrive_setting, come_up}
+use Rattle.ax_link.specs.Table.{Input, Set_up, Send, Arrive, Tick, Close, Take, step_at, arrive_in, arrive_setting_up, come_up}
 use Rattle.ax_link.specs.declared.kind.Kind.TheVariants.{Ua}
-use Rattle.ax_link.specs.declared.plain.LinkPhase.{LinkPhase}
-use Rattle.ax_link.specs.declared.plain.LinkPhase.TheVariants.{Down, SettingUp, Up, Releasing}
+use Rattle.ax_link.specs.declared.phase.LinkPhase.{LinkPhase}
+use Rattle.ax_link.specs.declared.phase.LinkPhase.TheVariants.{Down, SettingUp, Up, Releasing}
 use Rattle.ax_link.specs.Pair.{AcksFine, TextsFine, Both, Core, core, reach, PairSound, SettingFine, Queue, NoRestartIn, OfNoAccount, after_ua, counted, opens, opens_count, text_of, ack_of, texts_of, acks_of}
 use Rattle.ax_link.proofs.Steps.{Fine, fine_supply, way_texts, way_acks}
-use Rattle.ax_link.proofs.Arrivals.{fine_up}
+use Rattle.ax_link.proofs.PairArrivals.{fine_up}
 use Rattle.ax_link.proofs.Inputs.{fine_send, fine_close, fine_take, fine_tick, fine_begin}
 use Rattle.ax_link.proofs.PairSteps.{idle_set_up}
 
@@ -25,7 +25,7 @@ both_step now l (Arrive f) other tl tl2 to_other u e k b =
 pub both_opens : (now : ℕ) (l : State) (f : Frame) (other : Core) (tl to_other : List Frame) → l.phase ≡ SettingUp → f.kind ≡ Ua true → Both (core l) other tl to_other → Fine (step_at now l (Arrive f)) other tl to_other
 both_opens now l f other tl to_other u k b =
     subst (λ ph. Fine (arrive_in ph now f (begin (record l { last_arrival = now }))) other tl to_other) (sym u)
-    (subst (λ c. Fine (arrive_setting now c (begin (record l { last_arrival = now }))) other tl to_other) (sym k)
+    (subst (λ c. Fine (arrive_setting_up now c (begin (record l { last_arrival = now }))) other tl to_other) (sym k)
     (fine_supply now (come_up now (begin (record l { last_arrival = now }))) other tl to_other (fine_begin l other tl to_other b)))
 
 -- ---- frames of no account ----

@@ -1,4 +1,4 @@
-pub mod Arrivals
+pub mod PairArrivals
 pub mod CallSteps
 pub mod Carrying
 pub mod EarlyPlaces

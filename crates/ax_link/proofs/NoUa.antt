@@ -5,9 +5,9 @@ use Rattle.ax_link.specs.declared.kind.Kind.{Kind}
 use Rattle.ax_link.specs.declared.kind.Kind.TheVariants.{I, Rr, Rnr, Rej, Srej, Disc, Dm, Ua, Frmr, SetUp, OtherSetUp, Xid, Other}
 use Rattle.ax_link.specs.State.{State, Frame, Effect, ack_place, begin, is_up, busy, t1_runs, update_t1, restart_t1, wire, high}
 use Rattle.ax_link.specs.Table.{Send, Close, Take, takes, may_close, step_at, tick, expire, retry_in, fail_in, arrive_up}
-use Rattle.ax_link.specs.declared.plain.LinkNotice.TheVariants.{Failed}
-use Rattle.ax_link.specs.declared.plain.LinkPhase.TheVariants.{Down, SettingUp, Up, Releasing}
-use Rattle.ax_link.specs.declared.plain.LinkPhase.{LinkPhase}
+use Rattle.ax_link.specs.declared.notice.LinkNotice.TheVariants.{Failed}
+use Rattle.ax_link.specs.declared.phase.LinkPhase.TheVariants.{Down, SettingUp, Up, Releasing}
+use Rattle.ax_link.specs.declared.phase.LinkPhase.{LinkPhase}
 use Rattle.radio_base.specs.Modulus.{place_of}
 use Rattle.radio_base.specs.declared.modulus.TheConstants.{COUNT_MAX}
 use Rattle.radio_base.specs.declared.payload.Payload.{Payload}

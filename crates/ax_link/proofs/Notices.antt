@@ -5,14 +5,14 @@ use Rattle.radio_base.specs.declared.payload.Payload.{Payload}
 use Rattle.radio_base.specs.Modulus.{place_of}
 use Rattle.ax_link.specs.declared.kind.Kind.{Kind}
 use Rattle.ax_link.specs.declared.kind.Kind.TheVariants as kind
-use Rattle.ax_link.specs.declared.plain.LinkNotice.{LinkNotice}
-use Rattle.ax_link.specs.declared.plain.LinkNotice.TheVariants.{Failed}
-use Rattle.ax_link.specs.declared.plain.LinkPhase.{LinkPhase}
-use Rattle.ax_link.specs.declared.plain.LinkPhase.TheVariants.{Down, SettingUp, Up, Releasing}
+use Rattle.ax_link.specs.declared.notice.LinkNotice.{LinkNotice}
+use Rattle.ax_link.specs.declared.notice.LinkNotice.TheVariants.{Failed}
+use Rattle.ax_link.specs.declared.phase.LinkPhase.{LinkPhase}
+use Rattle.ax_link.specs.declared.phase.LinkPhase.TheVariants.{Down, SettingUp, Up, Releasing}
 use Rattle.ax_link.specs.Laws.{NoticesAre, SettingsStay, notice_at, notice_of}
 use Rattle.ax_link.specs.State.{Frame, State, Effect, ack_place, begin, busy, count_end, high, is_up, t1_runs, t3_at, wire}
 use Rattle.ax_link.specs.Moves.{acknowledge, again, answer_poll, ask, ask_again, asks, end_poll, fill, fill_count, finish, frames, hold, i_at, is_free, follow_by, follow, next_early, on_i, on_srej, on_supervisory, emit, release, resume, supply_again, resupply, rr, srej_at, start_poll, store_early, supervisory_at, supply, take_in, take_next, text, text_at, text_later, text_plain, text_srej}
-use Rattle.ax_link.specs.Table.{Input, Set_up, Send, Arrive, Tick, Close, Take, step, accept, arrive_down, arrive_in, arrive_releasing, arrive_setting, arrive_up, close_in_turn, fail_in, fail, may_close, come_up, refuse_if, retry, retry_in, set_up_in, takes}
+use Rattle.ax_link.specs.Table.{Input, Set_up, Send, Arrive, Tick, Close, Take, step, accept, arrive_down, arrive_in, arrive_releasing, arrive_setting_up, arrive_up, close_in_turn, fail_in, fail, may_close, come_up, refuse_if, retry, retry_in, set_up_in, takes}
 
 -- a part of a step keeps the settings and the notices
 abbrev Same : Effect → Effect → Type 0
@@ -169,7 +169,7 @@ row_down now command (kind.Ua pf) s = (refl, refl)
 row_down now command (kind.Frmr pf) s = (refl, refl)
 row_down now command kind.Other s = (refl, refl)
 
-row_setting : (now : ℕ) (k : Kind) (s : State) → Row s (arrive_setting now k (begin s)) (notice_at SettingUp k)
+row_setting : (now : ℕ) (k : Kind) (s : State) → Row s (arrive_setting_up now k (begin s)) (notice_at SettingUp k)
 row_setting now (kind.Ua true) s = same_supply now (come_up now (begin s))
 row_setting now (kind.Ua false) s = (refl, refl)
 row_setting now (kind.Dm true) s = (refl, refl)

@@ -4,10 +4,10 @@ use Rattle.ax_link.specs.Moves.{supply, fill, finish, emit, emit_timed, to_phase
 use Rattle.ax_link.specs.declared.kind.Kind.{Kind}
 use Rattle.ax_link.specs.declared.kind.Kind.TheVariants.{I, Rr, Rnr, Rej, Srej, Disc, Dm, Ua, Frmr, SetUp, OtherSetUp, Xid, Other}
 use Rattle.ax_link.specs.State.{State, Frame, Effect, begin, high, is_up}
-use Rattle.ax_link.specs.Table.{Input, Send, Arrive, Tick, Close, Take, Set_up, step_at, arrive_in, arrive_up, come_up, arrive_setting, takes}
-use Rattle.ax_link.specs.declared.plain.LinkNotice.TheVariants.{Failed}
-use Rattle.ax_link.specs.declared.plain.LinkPhase.TheVariants.{Down, SettingUp, Up, Releasing}
-use Rattle.ax_link.specs.declared.plain.LinkPhase.{LinkPhase}
+use Rattle.ax_link.specs.Table.{Input, Send, Arrive, Tick, Close, Take, Set_up, step_at, arrive_in, arrive_up, come_up, arrive_setting_up, takes}
+use Rattle.ax_link.specs.declared.notice.LinkNotice.TheVariants.{Failed}
+use Rattle.ax_link.specs.declared.phase.LinkPhase.TheVariants.{Down, SettingUp, Up, Releasing}
+use Rattle.ax_link.specs.declared.phase.LinkPhase.{LinkPhase}
 use Rattle.radio_base.specs.declared.payload.Payload.{Payload}
 use Rattle.ax_link.specs.Pair.{Both, Core, core, Way, opens, after_ua, counted, Joined, opens_count, SettingFine, PairSound, NoSetUp, NoSetUps, NoSetUpIn, Queue, InScope}
 use Rattle.ax_link.proofs.Steps.{fine_fill, fine_finish, fine_supply, fine_other}
@@ -84,9 +84,9 @@ setting_idle g r tl tr v w e s = setting_keep g r tl tr v w s.0 s.1 (subst (λ k
 
 -- a frame at an end that is SettingUp: l is the end, with its phase written out; stays is said of the rest of the queue where the frame doesn't open
 setting_arrive : (now : ℕ) (command : Bool) (c : Kind) (p : Option Payload) (l r : State) (tl tr : List Frame) → r.phase ≡ Up → NoSetUp c →
-    ((arrive_setting now c (begin (record l { phase = SettingUp }))).link.phase ≡ SettingUp) ⊎ ((arrive_setting now c (begin (record l { phase = SettingUp }))).link.phase ≡ Up) →
+    ((arrive_setting_up now c (begin (record l { phase = SettingUp }))).link.phase ≡ SettingUp) ⊎ ((arrive_setting_up now c (begin (record l { phase = SettingUp }))).link.phase ≡ Up) →
     (opens c ≡ false → Stays l r tl tr) → (opens c ≡ true → Both (core l) (core r) tl tr) →
-    PairSound (arrive_setting now c (begin (record l { phase = SettingUp }))).link r tl (tr ++ (arrive_setting now c (begin (record l { phase = SettingUp }))).outs)
+    PairSound (arrive_setting_up now c (begin (record l { phase = SettingUp }))).link r tl (tr ++ (arrive_setting_up now c (begin (record l { phase = SettingUp }))).outs)
 setting_arrive now command (Ua true) p l r tl tr w n (inl v) s o = absurd (finish_phase_by (is_up (fill now (come_up now (begin (record l { phase = SettingUp })))).link.phase && (fill now (come_up now (begin (record l { phase = SettingUp })))).link.closing && nat_eq (fill now (come_up now (begin (record l { phase = SettingUp })))).link.acked (length (fill now (come_up now (begin (record l { phase = SettingUp })))).link.given)) (emit_timed now true (Disc true) (to_phase now Releasing (record (fill now (come_up now (begin (record l { phase = SettingUp })))) { link = record (fill now (come_up now (begin (record l { phase = SettingUp })))).link { tries = 0 } }))) (fill now (come_up now (begin (record l { phase = SettingUp })))) refl refl v)
 setting_arrive now command (Ua true) p l r tl tr w n (inr v) s o =
     setting_opened (supply now (come_up now (begin (record l { phase = SettingUp })))) r tl tr v w

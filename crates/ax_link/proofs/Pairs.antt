@@ -4,13 +4,13 @@ use Rattle.std.proofs.lemmas.Bool.Decides.{nat_tests}
 use mathlib.Core.List.{IsPrefix}
 use Rattle.ax_link.specs.State.{State, Frame, Effect, begin, high, top}
 use Rattle.ax_link.specs.Table.{Input, Send, Arrive, Tick, Close, Take, Set_up, step_at, arrive_in}
-use Rattle.ax_link.specs.declared.plain.LinkPhase.TheVariants.{Down, SettingUp, Up, Releasing}
-use Rattle.ax_link.specs.declared.plain.LinkPhase.{LinkPhase}
+use Rattle.ax_link.specs.declared.phase.LinkPhase.TheVariants.{Down, SettingUp, Up, Releasing}
+use Rattle.ax_link.specs.declared.phase.LinkPhase.{LinkPhase}
 use Rattle.radio_base.specs.declared.payload.Payload.{Payload}
 use Rattle.ax_link.specs.Pair.{NoRestart, Both, Core, core, reach, AcksFine, TextsFine, EarlyFine, texts_of, acks_of, Way, Fits, opens, after_ua, counted, Joined, opens_count, SettingFine, PairSound, IsNew}
 use Rattle.ax_link.proofs.Ways.{texts_reach, texts_under, acks_low, acks_under}
 use Rattle.ax_link.proofs.Steps.{Fine, way_texts, way_acks, texts_append, acks_append, way_order}
-use Rattle.ax_link.proofs.Arrivals.{fine_up}
+use Rattle.ax_link.proofs.PairArrivals.{fine_up}
 use Rattle.ax_link.proofs.Inputs.{fine_send, fine_close, fine_take, fine_tick, fine_begin}
 
 -- frames at the end may be taken away

@@ -8,17 +8,17 @@ use Rattle.ax_frame.specs.declared.control.Control.TheVariants as control
 use Rattle.ax_link.specs.Kinds.{control_of, kind_of, set_up_kind}
 use Rattle.ax_link.specs.declared.kind.Kind.{Kind}
 use Rattle.ax_link.specs.declared.kind.Kind.TheVariants as kind
-use Rattle.ax_link.specs.declared.plain.LinkPhase.{LinkPhase}
-use Rattle.ax_link.specs.declared.plain.LinkPhase.TheVariants.{Down, SettingUp, Up, Releasing}
-use Rattle.ax_link.specs.declared.plain.LinkNotice.{LinkNotice}
+use Rattle.ax_link.specs.declared.phase.LinkPhase.{LinkPhase}
+use Rattle.ax_link.specs.declared.phase.LinkPhase.TheVariants.{Down, SettingUp, Up, Releasing}
+use Rattle.ax_link.specs.declared.notice.LinkNotice.{LinkNotice}
 use Rattle.ax_link.specs.State.{Frame, State, Effect, count_end, begin, busy, is_up}
 use Rattle.ax_link.specs.Moves.{resume}
 use Rattle.std.specs.Option.{option_to_list}
-use Rattle.ax_link.specs.declared.plain.LinkOut.{LinkOut}
-use Rattle.ax_link.specs.declared.plain.SendRefusal.{SendRefusal}
+use Rattle.ax_link.specs.declared.out.LinkOut.{LinkOut}
+use Rattle.ax_link.specs.declared.refusal.SendRefusal.{SendRefusal}
 use Rattle.ax_link.specs.Standing.{LinkView, Keeps, KeepsEffect, frame_of, state_of}
-use Rattle.ax_link.specs.Stations.{view_of}
-use Rattle.ax_link.specs.declared.station.Station.{Station}
+use Rattle.ax_link.specs.Calls.{view_of}
+use Rattle.ax_link.specs.declared.machine.Machine.{Machine}
 use Rattle.ax_link.specs.Table.{Input, Set_up, Send, Arrive, Tick, Close, Take, step, accept, set_up_in, takes}
 use Rattle.ax_link.specs.Bounds.{Bounded, stock}
 use Rattle.ax_link.specs.Outputs.{AllCanBeSent, CanBeSent, Brings, Has, HasIf, HavePayloads}
@@ -149,7 +149,7 @@ some_got : (h : LinkView) → length h.inbox ≤ h.got → length (some_gots h) 
 some_got h l =
     omega (arith, l, length-append (replicate (h.got - length h.inbox) nothing) h.inbox, length-replicate (h.got - length h.inbox) nothing)
 
-some_bounds : {M : Type 0} (size : ℕ) (st : Station M) → st.window < size → Bounded (stock (some_state size (view_of st)))
+some_bounds : {M : Type 0} (size : ℕ) (st : Machine M) → st.window < size → Bounded (stock (some_state size (view_of st)))
 some_bounds size st fits =
     let given : length (replicate st.acked nothing ++ st.queue.items) ≡ st.acked + length st.queue.items =
     omega (arith, length-append (replicate st.acked nothing) st.queue.items, length-replicate st.acked nothing) in
@@ -169,7 +169,7 @@ some_bounds size st fits =
     }
 
 -- what is kept is that of some state
-kept_of_some : {M : Type 0} (size : ℕ) (st : Station M) → Keeps size (view_of st) (some_state size (view_of st))
+kept_of_some : {M : Type 0} (size : ℕ) (st : Machine M) → Keeps size (view_of st) (some_state size (view_of st))
 kept_of_some size st =
     record {
       before = replicate st.acked nothing;
@@ -180,7 +180,7 @@ kept_of_some size st =
     }
 
 -- what waits after a step
-pub all_put : {M : Type 0} (size : ℕ) (st : Station M) (later : LinkView) (i : Input) (now : ℕ) → st.window < size →
+pub all_put : {M : Type 0} (size : ℕ) (st : Machine M) (later : LinkView) (i : Input) (now : ℕ) → st.window < size →
     ((s : State) → Keeps size (view_of st) s → KeepsEffect size later (step s i now)) → AllCanBeSent size later.outs
 all_put size st later i now fits does =
     let s : State = some_state size (view_of st) in
@@ -193,7 +193,7 @@ no_notice None e = refl
 no_notice (Some n) e = absurd (cc e)
 
 -- a step that gives no notice leaves none
-pub quiet : {M : Type 0} (size : ℕ) (st : Station M) (later : LinkView) (i : Input) (now : ℕ) → ((s : State) → (step s i now).notes ≡ []) →
+pub quiet : {M : Type 0} (size : ℕ) (st : Machine M) (later : LinkView) (i : Input) (now : ℕ) → ((s : State) → (step s i now).notes ≡ []) →
     ((s : State) → Keeps size (view_of st) s → KeepsEffect size later (step s i now)) → later.notice ≡ None
 quiet size st later i now none does =
     let s : State = some_state size (view_of st) in

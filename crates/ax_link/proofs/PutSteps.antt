@@ -6,11 +6,11 @@ use Rattle.radio_base.specs.declared.payload.Payload.{Payload}
 use Rattle.radio_base.specs.Modulus.{place_of}
 use Rattle.ax_link.specs.declared.kind.Kind.{Kind}
 use Rattle.ax_link.specs.declared.kind.Kind.TheVariants as kind
-use Rattle.ax_link.specs.declared.plain.LinkPhase.{LinkPhase}
-use Rattle.ax_link.specs.declared.plain.LinkPhase.TheVariants.{Down, SettingUp, Up, Releasing}
+use Rattle.ax_link.specs.declared.phase.LinkPhase.{LinkPhase}
+use Rattle.ax_link.specs.declared.phase.LinkPhase.TheVariants.{Down, SettingUp, Up, Releasing}
 use Rattle.ax_link.specs.State.{Frame, State, Effect, ack_place, count_end, begin, busy, high, is_up, update_t1, places, restart_t1, t1_runs, t3_at, wire}
 use Rattle.ax_link.specs.Moves.{acknowledge, again, answer_poll, ask, ask_again, asks, asks_of, end_poll, fill, fill_count, finish, first_early, frames, frames_of, hold, is_free, follow_by, follow, next_early, on_i, on_srej, on_supervisory, emit, release, reset, resume, supply_again, resupply, rr, srej_at, start_poll, store_early, supervisory_at, supply, take_in, take_next, text, text_at, text_later, text_plain, text_srej, i_at}
-use Rattle.ax_link.specs.Table.{Input, Set_up, Send, Arrive, Tick, Close, Take, accept, arrive_down, arrive_in, arrive_releasing, arrive_setting, arrive_up, close_in_turn, expire, fail_in, fail, may_close, come_up, refuse_if, retry, retry_in, set_up_in, step_at, takes, tick}
+use Rattle.ax_link.specs.Table.{Input, Set_up, Send, Arrive, Tick, Close, Take, accept, arrive_down, arrive_in, arrive_releasing, arrive_setting_up, arrive_up, close_in_turn, expire, fail_in, fail, may_close, come_up, refuse_if, retry, retry_in, set_up_in, step_at, takes, tick}
 use Rattle.ax_link.specs.Bounds.{Bounded, Stock, stock}
 use Rattle.ax_link.specs.Outputs.{Brings, Has, HasIf, HavePayloads}
 use Rattle.ax_link.proofs.Ways.{place_in}
@@ -306,7 +306,7 @@ module _ (given came : Payload → Bool) where
   good_down now command (kind.Frmr pf) g x = x
   good_down now command kind.Other g x = x
 
-  good_setting : (now : ℕ) (k : Kind) (g : Effect) → Good g → Good (arrive_setting now k g)
+  good_setting : (now : ℕ) (k : Kind) (g : Effect) → Good g → Good (arrive_setting_up now k g)
   good_setting now (kind.Ua true) g x = good_supply now (come_up now g) x
   good_setting now (kind.Ua false) g x = x
   good_setting now (kind.Dm true) g x = x

@@ -2,8 +2,8 @@
 use Rattle.std.proofs.Common.{◌≡◌, ℕ, ◌+◌, ◌<◌, ◌≤◌, Bool, IsTrue, ◌⊎◌, inl, inr, true, false, [], ◌∷◌, refl, sym, subst, arith}
 use Rattle.std.proofs.lemmas.Bool.Decides.{nat_tests}
 use Rattle.radio_base.specs.declared.payload.Payload.{Payload}
-use Rattle.ax_link.specs.declared.plain.LinkConfig.{LinkConfig}
-use Rattle.ax_link.specs.declared.plain.LinkPhase.TheVariants.{Up}
+use Rattle.ax_link.specs.declared.config.LinkConfig.{LinkConfig}
+use Rattle.ax_link.specs.declared.phase.LinkPhase.TheVariants.{Up}
 use Rattle.ax_link.specs.Opening.{opening, rules_new, window_used}
 use Rattle.ax_link.specs.State.{places}
 use Rattle.ax_link.specs.Pair.{Fits, IsNew, core}

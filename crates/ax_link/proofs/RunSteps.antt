@@ -3,12 +3,12 @@ use Rattle.std.proofs.Common.{◌≡◌, ℕ, suc, ◌+◌, ◌≤◌, Bool, tru
 use Rattle.radio_base.specs.declared.payload.Payload.{Payload}
 use Rattle.ax_link.specs.declared.kind.Kind.{Kind}
 use Rattle.ax_link.specs.declared.kind.Kind.TheVariants.{I, Rr, Rnr, Rej, Srej, Disc, Dm, Ua, Frmr, SetUp, OtherSetUp, Xid, Other}
-use Rattle.ax_link.specs.declared.plain.LinkNotice.TheVariants.{Failed}
-use Rattle.ax_link.specs.declared.plain.LinkPhase.{LinkPhase}
-use Rattle.ax_link.specs.declared.plain.LinkPhase.TheVariants.{Down, SettingUp, Up, Releasing}
+use Rattle.ax_link.specs.declared.notice.LinkNotice.TheVariants.{Failed}
+use Rattle.ax_link.specs.declared.phase.LinkPhase.{LinkPhase}
+use Rattle.ax_link.specs.declared.phase.LinkPhase.TheVariants.{Down, SettingUp, Up, Releasing}
 use Rattle.ax_link.specs.Moves.{note, to_phase, emit_timed, fill, supply, release}
 use Rattle.ax_link.specs.State.{State, Frame, Effect, begin, is_up}
-use Rattle.ax_link.specs.Table.{refuse_if, Input, Set_up, Send, Arrive, Tick, Close, Take, step_at, arrive_in, arrive_down, arrive_setting, come_up, takes}
+use Rattle.ax_link.specs.Table.{refuse_if, Input, Set_up, Send, Arrive, Tick, Close, Take, step_at, arrive_in, arrive_down, arrive_setting_up, come_up, takes}
 use Rattle.ax_link.specs.Pair.{Both, Joined, NoRestartIn, Core, core, Queue, InScope, NoSetUp, NoSetUps, NoSetUpIn, after_ua, texts_of, acks_of}
 use Rattle.ax_link.specs.Runs.{set_ups_in, told_opened}
 use Rattle.ax_link.proofs.Steps.{texts_append, acks_append}
@@ -34,8 +34,8 @@ told_by false g h x y = y
 pub told_supply : (now : ℕ) (g : Effect) → told_opened g.notes ≡ true → told_opened (supply now g).notes ≡ true
 told_supply now g e = told_by (is_up (fill now g).link.phase && (fill now g).link.closing && nat_eq (fill now g).link.acked (length (fill now g).link.given)) (release now (fill now g)) (fill now g) e e
 
-pub turns_arrive : (now : ℕ) (c : Kind) (l : State) → (told_opened (arrive_setting now c (begin (record l { phase = SettingUp }))).notes ≡ true → (arrive_setting now c (begin (record l { phase = SettingUp }))).link.phase ≡ Up) →
-    Turns (core l) (arrive_setting now c (begin (record l { phase = SettingUp })))
+pub turns_arrive : (now : ℕ) (c : Kind) (l : State) → (told_opened (arrive_setting_up now c (begin (record l { phase = SettingUp }))).notes ≡ true → (arrive_setting_up now c (begin (record l { phase = SettingUp }))).link.phase ≡ Up) →
+    Turns (core l) (arrive_setting_up now c (begin (record l { phase = SettingUp })))
 turns_arrive now (Ua true) l t = inr (inl (t (told_supply now (come_up now (begin (record l { phase = SettingUp }))) refl)))
 turns_arrive now (Ua false) l t = inl refl
 turns_arrive now (Dm true) l t = inr (inr (record { phase = refl; same = refl; outs = refl }))

@@ -4,14 +4,14 @@ use Rattle.std.proofs.lemmas.Bool.Decides.{nat_tests}
 use Rattle.std.proofs.lemmas.List.{map-append, length-take-le, take-append-drop}
 use Rattle.radio_base.specs.declared.payload.Payload.{Payload}
 use Rattle.ax_frame.specs.declared.control.Control.TheVariants as control
-use Rattle.ax_link.specs.declared.plain.LinkPhase.{LinkPhase}
-use Rattle.ax_link.specs.declared.plain.LinkPhase.TheVariants.{Down, SettingUp, Up, Releasing}
-use Rattle.ax_link.specs.declared.plain.LinkOut.{LinkOut}
+use Rattle.ax_link.specs.declared.phase.LinkPhase.{LinkPhase}
+use Rattle.ax_link.specs.declared.phase.LinkPhase.TheVariants.{Down, SettingUp, Up, Releasing}
+use Rattle.ax_link.specs.declared.out.LinkOut.{LinkOut}
 use Rattle.ax_link.specs.State.{Frame, Effect, is_up}
 use Rattle.ax_link.specs.Table.{take_first}
 use Rattle.ax_link.specs.Moves.{acknowledge, frames_of, resume}
 use Rattle.ax_link.specs.Standing.{LinkView, KeepsEffect, runs, effect_of, frame_of}
-use Rattle.ax_link.specs.Stations.{EmitsTexts, view_with_t1, take_next_payload, enqueue}
+use Rattle.ax_link.specs.Calls.{EmitsTexts, view_with_t1, take_next_payload, enqueue}
 use Rattle.circular_buffer.specs.Buffer.{keep_last}
 
 -- what is kept stands for itself, with what was forgotten

@@ -5,7 +5,7 @@ use Rattle.ax_link.specs.Moves.{take_next, frames, fill, fill_count, emit, rr, a
 use Rattle.ax_link.specs.declared.kind.Kind.{Kind}
 use Rattle.ax_link.specs.declared.kind.Kind.TheVariants.{I, Rr, Rnr, Disc}
 use Rattle.ax_link.specs.State.{State, Frame, Effect, high, wire, update_t1, is_up, restart_t1, busy}
-use Rattle.ax_link.specs.declared.plain.LinkPhase.TheVariants.{Releasing}
+use Rattle.ax_link.specs.declared.phase.LinkPhase.TheVariants.{Releasing}
 use Rattle.radio_base.specs.Modulus.{place_of}
 use Rattle.radio_base.specs.declared.payload.Payload.{Payload}
 use Rattle.ax_link.specs.Pair.{Both, Core, core, reach, AcksFine, TextsFine, text_of, ack_of, texts_of, acks_of, Way}

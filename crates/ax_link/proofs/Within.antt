@@ -13,7 +13,7 @@ use Rattle.ax_link.specs.Sizes.{Sized, is_small}
 use Rattle.ax_link.specs.Standing.{LinkView, Keeps, KeepsEffect, Stands, StandsFor, state_of}
 use Rattle.ax_link.specs.State.{Effect, Rules, State, count_end, places}
 use Rattle.ax_link.specs.Table.{Input, step}
-use Rattle.ax_link.specs.declared.plain.LinkConfig.{LinkConfig}
+use Rattle.ax_link.specs.declared.config.LinkConfig.{LinkConfig}
 use Rattle.ax_link.proofs.Notices.{settings_stay}
 use Rattle.ax_link.proofs.PutFrames.{bounds_stay}
 use Rattle.ax_link.proofs.PutSteps.{good_step}

@@ -11,5 +11,5 @@ pub mod Runs
 pub mod Sizes
 pub mod Standing
 pub mod State
-pub mod Stations
+pub mod Calls
 pub mod Table

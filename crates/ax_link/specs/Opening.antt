@@ -1,10 +1,10 @@
 -- How a link begins, and when it accepts a payload.
-use Rattle.std.specs.Prelude.{◌≡◌, ℕ, ◌+◌, Bool, false, not, ◌||◌, ◌==◌, nat_le, min, if◌then◌else◌, [], length, None, Result, Ok, Err, replicate}
-use Rattle.ax_link.specs.declared.plain.LinkConfig.{LinkConfig}
-use Rattle.ax_link.specs.declared.plain.LinkFacts.{LinkFacts}
-use Rattle.ax_link.specs.declared.plain.LinkPhase.TheVariants.{Down}
-use Rattle.ax_link.specs.declared.plain.SendRefusal.{SendRefusal}
-use Rattle.ax_link.specs.declared.plain.SendRefusal.TheVariants.{NotUp, QueueFull, Exhausted}
+use Rattle.std.specs.Prelude.{ℕ, ◌+◌, Bool, false, not, ◌||◌, ◌==◌, nat_le, min, if◌then◌else◌, [], length, None, Result, Ok, Err, replicate}
+use Rattle.ax_link.specs.declared.config.LinkConfig.{LinkConfig}
+use Rattle.ax_link.specs.declared.facts.LinkFacts.{LinkFacts}
+use Rattle.ax_link.specs.declared.phase.LinkPhase.TheVariants.{Down}
+use Rattle.ax_link.specs.declared.refusal.SendRefusal.{SendRefusal}
+use Rattle.ax_link.specs.declared.refusal.SendRefusal.TheVariants.{NotUp, QueueFull, Exhausted}
 use Rattle.ax_link.specs.State.{Rules, State, count_end, places}
 use Rattle.ax_link.specs.Table.{may_close}
 use Rattle.ax_link.specs.Standing.{LinkView}
@@ -54,11 +54,6 @@ opening rules =
       last_arrival = 0;
       t1_stopped_at = 0;
     }
-
--- no frame and no notice waits
-pub record IsDrained (h : LinkView) : Type 0 where
-  pub outs : h.outs ≡ []
-  pub notice : h.notice ≡ None
 
 -- what a link tells of itself
 abbrev pub facts_of : LinkView → LinkFacts

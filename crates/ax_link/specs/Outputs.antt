@@ -5,7 +5,7 @@ use Rattle.radio_base.specs.declared.payload.Payload.{Payload}
 use Rattle.ax_frame.specs.Frames.{HasParts}
 use Rattle.ax_link.specs.Kinds.{control_of, info_of, kind_of, pid_of}
 use Rattle.ax_link.specs.Bounds.{Stock}
-use Rattle.ax_link.specs.declared.plain.LinkOut.{LinkOut}
+use Rattle.ax_link.specs.declared.out.LinkOut.{LinkOut}
 use Rattle.ax_link.specs.Table.{Input, Set_up, Send, Arrive, Tick, Close, Take}
 
 -- a payload with this property

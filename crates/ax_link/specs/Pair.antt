@@ -5,8 +5,8 @@ use Rattle.ax_link.specs.declared.kind.Kind.{Kind}
 use Rattle.ax_link.specs.declared.kind.Kind.TheVariants.{I, Rr, Rnr, Rej, Srej, Ua, SetUp, Frmr}
 use Rattle.ax_link.specs.State.{Rules, State, Frame, Effect, high, top}
 use Rattle.ax_link.specs.Table.{Input, Arrive}
-use Rattle.ax_link.specs.declared.plain.LinkPhase.TheVariants.{Down, SettingUp, Up, Releasing}
-use Rattle.ax_link.specs.declared.plain.LinkPhase.{LinkPhase}
+use Rattle.ax_link.specs.declared.phase.LinkPhase.TheVariants.{Down, SettingUp, Up, Releasing}
+use Rattle.ax_link.specs.declared.phase.LinkPhase.{LinkPhase}
 use Rattle.radio_base.specs.declared.payload.Payload.{Payload}
 
 -- there are numbers, not falling, from low to got, of which these are the wire forms

@@ -1,10 +1,10 @@
 -- What the code keeps of an end of a link, and what it has forgotten.
-use Rattle.std.specs.Prelude.{◌≡◌, ℕ, ◌+◌, ◌≤◌, Bool, List, [], ◌++◌, map, length, Option}
+use Rattle.std.specs.Prelude.{◌≡◌, ℕ, ◌+◌, ◌≤◌, Bool, List, [], ◌++◌, map, length, Option, None}
 use Rattle.std.specs.Option.{option_to_list}
 use Rattle.radio_base.specs.declared.payload.Payload.{Payload}
-use Rattle.ax_link.specs.declared.plain.LinkPhase.{LinkPhase}
-use Rattle.ax_link.specs.declared.plain.LinkNotice.{LinkNotice}
-use Rattle.ax_link.specs.declared.plain.LinkOut.{LinkOut}
+use Rattle.ax_link.specs.declared.phase.LinkPhase.{LinkPhase}
+use Rattle.ax_link.specs.declared.notice.LinkNotice.{LinkNotice}
+use Rattle.ax_link.specs.declared.out.LinkOut.{LinkOut}
 use Rattle.ax_link.specs.Bounds.{Bounded, stock}
 use Rattle.ax_link.specs.Kinds.{kind_of}
 use Rattle.ax_link.specs.Sizes.{Sized}
@@ -106,3 +106,8 @@ pub record Adds (k : ℕ) (old new : LinkView) : Type 0 where
   pub window : new.window ≡ old.window
   pub outs : length new.outs ≤ length old.outs + k
   pub notice : new.notice ≡ old.notice
+
+-- no frame and no notice waits
+pub record IsDrained (h : LinkView) : Type 0 where
+  pub outs : h.outs ≡ []
+  pub notice : h.notice ≡ None

@@ -2,9 +2,9 @@
 -- this project's profile). An input that the table doesn't name does nothing.
 use Rattle.std.specs.Prelude.{ℕ, suc, ◌+◌, min, Bool, true, false, not, ◌&&◌, nat_eq, nat_lt, nat_le, if◌then◌else◌, [], ◌∷◌, ◌++◌, length, drop, Option}
 use Rattle.radio_base.specs.declared.payload.Payload.{Payload}
-use Rattle.ax_link.specs.declared.plain.LinkPhase.{LinkPhase}
-use Rattle.ax_link.specs.declared.plain.LinkPhase.TheVariants.{Down, SettingUp, Up, Releasing}
-use Rattle.ax_link.specs.declared.plain.LinkNotice.TheVariants.{Opened, Reset, Closed, Refused, Failed}
+use Rattle.ax_link.specs.declared.phase.LinkPhase.{LinkPhase}
+use Rattle.ax_link.specs.declared.phase.LinkPhase.TheVariants.{Down, SettingUp, Up, Releasing}
+use Rattle.ax_link.specs.declared.notice.LinkNotice.TheVariants.{Opened, Reset, Closed, Refused, Failed}
 use Rattle.ax_link.specs.declared.kind.Kind.{Kind}
 use Rattle.ax_link.specs.declared.kind.Kind.TheVariants.{I, Rr, Rnr, Rej, Srej, SetUp, OtherSetUp, Disc, Dm, Ua, Frmr, Xid}
 use Rattle.ax_link.specs.State.{Frame, State, Effect, count_end, begin, busy, is_up, t1_runs, t3_at}
@@ -27,12 +27,12 @@ arrive_down now command _ g = g
 abbrev pub come_up : ℕ → Effect → Effect
 come_up now g = note Opened (to_phase now Up g)
 
-abbrev pub arrive_setting : ℕ → Kind → Effect → Effect
-arrive_setting now (Ua pf) g = if pf then supply now (come_up now g) else g
-arrive_setting now (Dm pf) g = if pf then note Refused (to_phase now Down g) else g
-arrive_setting now (SetUp pf) g = emit false (Ua pf) g
-arrive_setting now (Disc pf) g = emit false (Dm pf) g
-arrive_setting now _ g = g
+abbrev pub arrive_setting_up : ℕ → Kind → Effect → Effect
+arrive_setting_up now (Ua pf) g = if pf then supply now (come_up now g) else g
+arrive_setting_up now (Dm pf) g = if pf then note Refused (to_phase now Down g) else g
+arrive_setting_up now (SetUp pf) g = emit false (Ua pf) g
+arrive_setting_up now (Disc pf) g = emit false (Dm pf) g
+arrive_setting_up now _ g = g
 
 abbrev pub arrive_up : ℕ → Bool → Kind → Option Payload → Effect → Effect
 arrive_up now command (I ns nr pf) p g = on_i now pf ns nr p g
@@ -56,7 +56,7 @@ arrive_releasing now _ g = g
 
 abbrev pub arrive_in : LinkPhase → ℕ → Frame → Effect → Effect
 arrive_in Down now f g = arrive_down now f.command f.kind g
-arrive_in SettingUp now f g = arrive_setting now f.kind g
+arrive_in SettingUp now f g = arrive_setting_up now f.kind g
 arrive_in Up now f g = arrive_up now f.command f.kind f.payload g
 arrive_in Releasing now f g = arrive_releasing now f.kind g
 

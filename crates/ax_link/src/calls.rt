@@ -1,12 +1,15 @@
 //! What a link does for its user: set-up, sending, closing, taking.
 ghost use Rattle.std.specs.Prelude.{◌≡◌, ℕ, List, ◌+◌, ◌*◌, ◌≤◌, ◌<◌, ◌&&◌, [], nat_le, length, slice_get, false, None, OnOk, OnErr, IfOk};
 ghost use Rattle.radio_base.specs.declared.modulus.TheConstants.{COUNT_MAX};
-ghost use Rattle.ax_link.specs.Opening.{IsDrained, opening, rules_new, window_used};
+ghost use Rattle.ax_link.specs.Standing.{IsDrained};
+ghost use Rattle.ax_link.specs.Opening.{opening, rules_new, window_used};
 
+use crate::config::LinkConfig;
 use crate::early::empty;
+use crate::machine::{INBOX, Machine, QUEUE, push};
 use crate::moves::copy_of;
-use crate::plain::{LinkConfig, LinkPhase, SendRefusal};
-use crate::station::{INBOX, QUEUE, Station, push};
+use crate::phase::LinkPhase;
+use crate::refusal::SendRefusal;
 use circular_buffer::HeapCircularBuffer;
 use radio_base::{COUNT_MAX, Modulus, NoMemory, Payload};
 use std::alloc::Global;
@@ -31,15 +34,15 @@ fn window_of<M: Modulus>(config: LinkConfig) -> u8
     }
 }
 
-impl<M: Modulus> Station<M> {
+impl<M: Modulus> Machine<M> {
     ghost use Rattle.ax_link.specs.State as state;
     ghost use Rattle.ax_link.specs.Moves as moves;
     ghost use Rattle.ax_link.specs.Table as table;
     ghost use Rattle.ax_link.specs.Opening.{send_answer};
     ghost use Rattle.ax_link.specs.Standing.{Adds, Keeps};
-    ghost use Rattle.ax_link.specs.Stations.{Does, begun, close, view_of, enqueue};
+    ghost use Rattle.ax_link.specs.Calls.{Does, set_up, close, view_of, enqueue};
 
-    pub(crate) fn new(alloc: Global, config: LinkConfig) -> Result<Station<M>, NoMemory>
+    pub(crate) fn new(alloc: Global, config: LinkConfig) -> Result<Machine<M>, NoMemory>
         requires t1 { config.t1 ≤ COUNT_MAX }
         requires t3 { config.t3 ≤ COUNT_MAX }
         ensures opening { IfOk result (λ st. Keeps M.SIZE (view_of st) (opening (rules_new M.SIZE config))) }
@@ -53,7 +56,7 @@ impl<M: Modulus> Station<M> {
         let early_room = if config.srej { window as usize } else { 0 };
         let mut early = HeapCircularBuffer::with_capacity(alloc, early_room)?;
         empty(&mut early);
-        Ok(Station {
+        Ok(Machine {
             window: window as u64,
             t1: config.t1,
             t3: config.t3,
@@ -83,7 +86,7 @@ impl<M: Modulus> Station<M> {
     pub(crate) fn set_up(&mut self, now: u64)
         requires now { now ≤ COUNT_MAX }
         requires outs { self.old.outs.items ≡ [] }
-        ensures does { Does M.SIZE (begun now) self.old self.new }
+        ensures does { Does M.SIZE (set_up now) self.old self.new }
         ensures window { self.new.window ≡ self.old.window }
     {
         if matches!(self.phase, LinkPhase::Down) {

@@ -4,10 +4,10 @@ ghost use Rattle.circular_buffer.specs.Buffer.{buffer, keep_last};
 ghost use Rattle.radio_base.specs.declared.modulus.TheConstants.{COUNT_MAX};
 ghost use Rattle.ax_link.specs.Kinds.{payload};
 ghost use Rattle.ax_link.specs.State as state;
-ghost use Rattle.ax_link.specs.Stations.{is_filled, with_early};
+ghost use Rattle.ax_link.specs.Calls.{is_filled, with_early};
 
+use crate::machine::{Machine, push};
 use crate::moves::{copy_of, payload_of};
-use crate::station::{Station, push};
 use ax_frame::Control;
 use circular_buffer::HeapCircularBuffer;
 use radio_base::{COUNT_MAX, Modulus, Payload};
@@ -70,13 +70,13 @@ fn bring_nearer(early: &mut Places)
     let _ = early.push_back(None);
 }
 
-impl<M: Modulus> Station<M> {
+impl<M: Modulus> Machine<M> {
     ghost use Rattle.radio_base.specs.declared.payload.Payload.{Payload};
     ghost use Rattle.radio_base.specs.Modulus.{place_of};
     ghost use Rattle.ax_link.specs.declared.kind.Kind.TheVariants as Kind;
     ghost use Rattle.ax_link.specs.Moves as moves;
     ghost use Rattle.ax_link.specs.Standing.{Adds, state_of};
-    ghost use Rattle.ax_link.specs.Stations.{Does, ask_for_each, view_of, keep_early, ask_for_missing, move_on, take_next_payload};
+    ghost use Rattle.ax_link.specs.Calls.{Does, ask_for_each, view_of, keep_early, ask_for_missing, move_on, take_next_payload};
 
     /// Takes the next payload: what came early is one place nearer.
     pub(crate) fn take_next(&mut self, pid: u8, info: &[u8])

@@ -2,15 +2,16 @@
 ghost use Rattle.std.specs.Prelude.{◌≡◌, ℕ, ◌+◌, ◌*◌, ◌≤◌, ◌<◌, [], length, None};
 ghost use Rattle.radio_base.specs.declared.modulus.TheConstants.{COUNT_MAX};
 
-use crate::plain::{LinkNotice, LinkPhase};
-use crate::station::Station;
+use crate::machine::Machine;
+use crate::notice::LinkNotice;
+use crate::phase::LinkPhase;
 use ax_frame::Control;
 use radio_base::Modulus;
 
-impl<M: Modulus> Station<M> {
+impl<M: Modulus> Machine<M> {
     ghost use Rattle.ax_link.specs.Table as table;
     ghost use Rattle.ax_link.specs.Standing.{Adds};
-    ghost use Rattle.ax_link.specs.Stations.{Does, ask_once_more, tell_end, view_of};
+    ghost use Rattle.ax_link.specs.Calls.{Does, ask_once_more, tell_end, view_of};
 
     /// Time has passed.
     pub(crate) fn tick(&mut self, now: u64)

@@ -2,7 +2,7 @@
 ghost use Rattle.std.specs.Prelude.{◌≡◌, ◌≤◌, ◌++◌, ◌⊎◌, ℕ, List, [], ◌∷◌, false, true, length};
 ghost use mathlib.Core.List.{IsPrefix};
 ghost use Rattle.ax_link.specs.declared.kind.Kind.TheVariants.{Ua};
-ghost use Rattle.ax_link.specs.declared.plain.LinkPhase.TheVariants.{SettingUp, Up};
+ghost use Rattle.ax_link.specs.declared.phase.LinkPhase.TheVariants.{SettingUp, Up};
 ghost use Rattle.ax_link.specs.State.{Frame, State, begin};
 ghost use Rattle.ax_link.specs.Moves.{fill, finish};
 ghost use Rattle.ax_link.specs.Table.{Arrive, Input, Send, step};
@@ -12,7 +12,7 @@ ghost use Rattle.ax_link.specs.Opening.{rules_new};
 ghost use Rattle.ax_link.specs.Carrying.{OpensSo, UpGoesOn};
 ghost use Rattle.ax_link.specs.Kept.{KeepsItsShare};
 ghost use Rattle.ax_link.specs.Laws.{BoundsStay, FramesCanBeWritten, KindsGoOut, NoticesAre, PayloadsStay, SettingsStay};
-ghost use Rattle.ax_link.specs.declared.plain.LinkConfig.{LinkConfig};
+ghost use Rattle.ax_link.specs.declared.config.LinkConfig.{LinkConfig};
 ghost use Rattle.radio_base.specs.declared.payload.Payload.{Payload};
 
 /// A call or a tick at either end, the arrival of the oldest frame or its loss, a fill and a finish by themselves

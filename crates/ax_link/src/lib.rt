@@ -1,18 +1,28 @@
 //! A link of two stations (AX.25 2.2, section 6): one end of it, and what holds of two ends together.
 #![tactic(auto)]
 
-mod arrival;
+mod arrivals;
 mod calls;
+mod config;
 mod early;
 mod expiry;
+mod facts;
 mod kind;
 pub mod laws;
 mod link;
+mod machine;
 mod moves;
-mod plain;
-mod station;
+mod notice;
+mod out;
+mod phase;
+mod refusal;
 mod texts;
 
+pub use config::LinkConfig;
+pub use facts::LinkFacts;
 pub use kind::Kind;
 pub use link::Link;
-pub use plain::{LinkConfig, LinkFacts, LinkNotice, LinkOut, LinkPhase, SendRefusal};
+pub use notice::LinkNotice;
+pub use out::LinkOut;
+pub use phase::LinkPhase;
+pub use refusal::SendRefusal;

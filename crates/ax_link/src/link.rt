@@ -4,13 +4,17 @@ ghost use Rattle.std.specs.Option.{option_copied};
 ghost use Rattle.ax_link.specs.Kinds.{frame_in};
 ghost use Rattle.ax_link.specs.State.{State, count_end};
 ghost use Rattle.ax_link.specs.Table as table;
-ghost use Rattle.ax_link.specs.Standing.{Stands, StandsFor};
+ghost use Rattle.ax_link.specs.Standing.{IsDrained, Stands, StandsFor};
 ghost use Rattle.ax_link.specs.Kept.{kept, share};
 ghost use Rattle.ax_link.specs.Outputs.{CanBeSent};
-ghost use Rattle.ax_link.specs.Opening.{IsDrained, facts_of, opening, rules_new, send_answer};
+ghost use Rattle.ax_link.specs.Opening.{facts_of, opening, rules_new, send_answer};
 
-use crate::plain::{LinkConfig, LinkFacts, LinkNotice, LinkOut, SendRefusal};
-use crate::station::Station;
+use crate::config::LinkConfig;
+use crate::facts::LinkFacts;
+use crate::machine::Machine;
+use crate::notice::LinkNotice;
+use crate::out::LinkOut;
+use crate::refusal::SendRefusal;
 use ax_frame::Control;
 use radio_base::{COUNT_MAX, Modulus, Moment, NoMemory, Payload};
 use std::alloc::Global;
@@ -27,7 +31,7 @@ use std::marker::Model;
 /// What each input does is one row of the table in `specs/Table.antt`.
 #[derive(Drop)]
 pub struct Link<M: Modulus> {
-    station: Station<M>,
+    machine: Machine<M>,
 }
 
 impl<M: Modulus> Model for Link<M> {
@@ -36,14 +40,14 @@ impl<M: Modulus> Model for Link<M> {
 
     ghost Value = { LinkView };
 
-    ghost use Rattle.ax_link.specs.Stations.{view_of};
+    ghost use Rattle.ax_link.specs.Calls.{view_of};
 
-    ghost view = { λ l. view_of l.station };
+    ghost view = { λ l. view_of l.machine };
 
     ghost use Rattle.ax_link.specs.Outputs.{AllCanBeSent};
 
     // The window fits the modulus, and each frame that waits can be written.
-    ghost invariant = { λ l. (l.station.window < M.SIZE) × AllCanBeSent M.SIZE l.station.outs.items };
+    ghost invariant = { λ l. (l.machine.window < M.SIZE) × AllCanBeSent M.SIZE l.machine.outs.items };
 }
 
 impl<M: Modulus> Link<M> {
@@ -55,8 +59,8 @@ impl<M: Modulus> Link<M> {
         ensures opening { IfOk result (λ link. StandsFor M.SIZE link (opening (rules_new M.SIZE config))) }
         ensures drained { IfOk result IsDrained }
     {
-        let station = Station::new(alloc, config)?;
-        Ok(Link { station })
+        let machine = Machine::new(alloc, config)?;
+        Ok(Link { machine })
     }
 
     /// Sets the link up, where it is Down.
@@ -66,7 +70,7 @@ impl<M: Modulus> Link<M> {
         ensures kept { (s : State) → StandsFor M.SIZE self.old s → kept self.new ≤ share M.SIZE }
         ensures quiet { self.new.notice ≡ None }
     {
-        self.station.set_up(moment(now));
+        self.machine.set_up(moment(now));
     }
 
     /// Accepts a payload for the other station.
@@ -79,7 +83,7 @@ impl<M: Modulus> Link<M> {
         ensures quiet { OnOk result (self.new.notice ≡ None) }
         ensures err { OnErr result (self.new ≡ self.old) }
     {
-        self.station.send(payload, moment(now))
+        self.machine.send(payload, moment(now))
     }
 
     /// Takes in a frame of the other station.
@@ -95,7 +99,7 @@ impl<M: Modulus> Link<M> {
         ensures does { (s : State) → StandsFor M.SIZE self.old s → Stands M.SIZE self.new (table.step s (table.Arrive (frame_in M.SIZE command control.now pid info.now)) now.0) }
         ensures kept { (s : State) → StandsFor M.SIZE self.old s → kept self.new ≤ share M.SIZE }
     {
-        self.station
+        self.machine
             .arrive(command, control, pid, info, moment(now));
     }
 
@@ -105,7 +109,7 @@ impl<M: Modulus> Link<M> {
         ensures does { (s : State) → StandsFor M.SIZE self.old s → Stands M.SIZE self.new (table.step s table.Tick now.0) }
         ensures kept { (s : State) → StandsFor M.SIZE self.old s → kept self.new ≤ share M.SIZE }
     {
-        self.station.tick(moment(now));
+        self.machine.tick(moment(now));
     }
 
     /// Releases the link once all that was accepted is acknowledged.
@@ -114,7 +118,7 @@ impl<M: Modulus> Link<M> {
         ensures does { (s : State) → StandsFor M.SIZE self.old s → Stands M.SIZE self.new (table.step s table.Close now.0) }
         ensures kept { (s : State) → StandsFor M.SIZE self.old s → kept self.new ≤ share M.SIZE }
     {
-        self.station.close(moment(now));
+        self.machine.close(moment(now));
     }
 
     /// The next frame that waits to be sent. It can be written: its numbers are below the modulus, and it has a PID and
@@ -125,7 +129,7 @@ impl<M: Modulus> Link<M> {
         ensures can_be_sent { IfSome result (CanBeSent M.SIZE) }
         ensures rest { self.new ≡ record self.old { outs = drop 1 self.old.outs } }
     {
-        self.station.outs.pop_front()
+        self.machine.outs.pop_front()
     }
 
     /// The frame that `next_out` would give.
@@ -133,7 +137,7 @@ impl<M: Modulus> Link<M> {
         ensures value { option_copied result ≡ slice_get self.now.outs 0 }
         ensures can_be_sent { IfSome (option_copied result) (CanBeSent M.SIZE) }
     {
-        self.station.outs.front()
+        self.machine.outs.front()
     }
 
     /// The next notice.
@@ -141,7 +145,7 @@ impl<M: Modulus> Link<M> {
         ensures value { result ≡ self.old.notice }
         ensures rest { self.new ≡ record self.old { notice = None } }
     {
-        self.station.notice.take()
+        self.machine.notice.take()
     }
 
     /// Takes the oldest payload of the inbox.
@@ -153,14 +157,14 @@ impl<M: Modulus> Link<M> {
         ensures quiet { self.new.notice ≡ None }
         ensures payload { result ≡ slice_get self.old.inbox 0 }
     {
-        self.station.take()
+        self.machine.take()
     }
 
     /// The oldest payload of the inbox.
     pub fn first(&self) -> Option<&Payload>
         ensures { option_copied result ≡ slice_get self.now.inbox 0 }
     {
-        self.station.inbox.front()
+        self.machine.inbox.front()
     }
 
     /// The phase and the counts as they stand.
@@ -168,13 +172,13 @@ impl<M: Modulus> Link<M> {
         ensures { result ≡ facts_of self.now }
     {
         LinkFacts {
-            phase: self.station.phase,
-            acked: self.station.acked,
-            sent: self.station.sent,
-            got: self.station.got,
-            held: self.station.queue.len(),
-            inbox: self.station.inbox.len(),
-            closing: self.station.closing,
+            phase: self.machine.phase,
+            acked: self.machine.acked,
+            sent: self.machine.sent,
+            got: self.machine.got,
+            held: self.machine.queue.len(),
+            inbox: self.machine.inbox.len(),
+            closing: self.machine.closing,
         }
     }
 
@@ -182,7 +186,7 @@ impl<M: Modulus> Link<M> {
     pub fn drained(&self) -> bool
         ensures { IsTrue result ↔ IsDrained self.now }
     {
-        self.station.outs.is_empty() && self.station.notice.is_none()
+        self.machine.outs.is_empty() && self.machine.notice.is_none()
     }
 }
 

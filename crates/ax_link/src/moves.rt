@@ -4,8 +4,9 @@ ghost use Rattle.circular_buffer.specs.Buffer.{buffer};
 ghost use Rattle.radio_base.specs.declared.modulus.TheConstants.{COUNT_MAX};
 ghost use Rattle.ax_link.specs.Kinds as kinds;
 
-use crate::plain::{LinkOut, LinkPhase};
-use crate::station::{Station, push};
+use crate::machine::{Machine, push};
+use crate::out::LinkOut;
+use crate::phase::LinkPhase;
 use arrayvec::ArrayVec;
 use ax_frame::Control;
 use circular_buffer::HeapCircularBuffer;
@@ -41,11 +42,11 @@ fn drop_front(queue: &mut HeapCircularBuffer<Payload>, many: u64)
     }
 }
 
-impl<M: Modulus> Station<M> {
+impl<M: Modulus> Machine<M> {
     ghost use Rattle.radio_base.specs.declared.payload.Payload.{Payload};
     ghost use Rattle.ax_link.specs.Moves as moves;
     ghost use Rattle.ax_link.specs.Standing.{Adds, state_of};
-    ghost use Rattle.ax_link.specs.Stations.{Does, EmitsTexts, view_of, texts_out, emit_rr};
+    ghost use Rattle.ax_link.specs.Calls.{Does, EmitsTexts, view_of, texts_out, emit_rr};
 
     /// The payload of this number, where it waits.
     fn text_of(&self, number: u64) -> Option<Payload>

@@ -2,11 +2,11 @@
 ghost use Rattle.std.specs.Prelude.{◌≡◌, ℕ, Bool, List, ◌+◌, ◌-◌, ◌*◌, ◌≤◌, ◌<◌, ◌++◌, ◌∷◌, [], ◌&&◌, not, nat_eq, nat_le, length, true, false, None, Some, IfSome};
 ghost use Rattle.radio_base.specs.declared.modulus.TheConstants.{COUNT_MAX};
 
-use crate::station::Station;
+use crate::machine::Machine;
 use ax_frame::Control;
 use radio_base::{COUNT_MAX, Modulus};
 
-impl<M: Modulus> Station<M> {
+impl<M: Modulus> Machine<M> {
     ghost use Rattle.radio_base.specs.declared.payload.Payload.{Payload};
     ghost use Rattle.ax_link.specs.declared.kind.Kind.TheVariants as Kind;
     ghost use Rattle.ax_link.specs.Kinds.{kind_of, payload};
@@ -14,7 +14,7 @@ impl<M: Modulus> Station<M> {
     ghost use Rattle.ax_link.specs.Moves as moves;
     ghost use Rattle.ax_link.specs.Table as table;
     ghost use Rattle.ax_link.specs.Standing.{Adds, state_of};
-    ghost use Rattle.ax_link.specs.Stations.{Does, view_of, take_plain, text_next};
+    ghost use Rattle.ax_link.specs.Calls.{Does, view_of, take_plain, text_next};
 
     /// A payload has come with this number on the air.
     pub(crate) fn text(&mut self, pf: bool, ns: u8, pid: u8, info: &[u8])

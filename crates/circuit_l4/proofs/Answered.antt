@@ -3,11 +3,11 @@ use Rattle.std.proofs.Common.{◌≡◌, ℕ, Bool, true, false, ◌||◌, if◌
 use Rattle.circuit_reassembly.specs.declared.gather.Oversize.{Oversize}
 use Rattle.circuit_l4.specs.Receiving.{Appended, Receipt}
 use Rattle.circuit_l4.specs.Halves.{receipt_answer, moved_answer}
-use Rattle.circuit_l4.specs.declared.texts.Owed.{Owed}
-use Rattle.circuit_l4.specs.declared.plain.EndNotice.TheVariants.{FailedOversize}
-use Rattle.circuit_l4.specs.EndState.{Effect}
-use Rattle.circuit_l4.specs.EndMoves.{answer_all, end_with, with_receiving, answer_text}
-use Rattle.circuit_l4.specs.EndStanding.{EndView, KeepsEffect}
+use Rattle.circuit_l4.specs.declared.owed.Owed.{Owed}
+use Rattle.circuit_l4.specs.declared.notice.EndNotice.TheVariants.{FailedOversize}
+use Rattle.circuit_l4.specs.State.{Effect}
+use Rattle.circuit_l4.specs.Moves.{answer_all, end_with, with_receiving, answer_text}
+use Rattle.circuit_l4.specs.Standing.{EndView, KeepsEffect}
 
 fitted : {A : Type 0} (fits : Bool) (x y : A) (e : Oversize) → (if fits then Ok x else Err e) ≡ Ok y → (fits ≡ true) × (x ≡ y)
 fitted true x y e h = (refl, cc h)

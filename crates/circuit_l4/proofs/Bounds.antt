@@ -4,8 +4,8 @@ use Rattle.std.specs.Prelude.{slice_set}
 use Rattle.circuit_l4.specs.declared.incoming.Incoming.TheInside.{Inside}
 use Rattle.circuit_l4.specs.declared.machine.Machine.{Machine}
 use Rattle.circuit_l4.specs.declared.piece.Piece.{Piece}
-use Rattle.circuit_l4.specs.EndState.{Effect}
-use Rattle.circuit_l4.specs.EndStanding.{EndView, KeepsEffect, Stands, view_of}
+use Rattle.circuit_l4.specs.State.{Effect}
+use Rattle.circuit_l4.specs.Standing.{EndView, KeepsEffect, Stands, view_of}
 use Rattle.circuit_l4.specs.Inboxes.{AreSmall, IsInbox, inbox_of}
 use Rattle.circuit_l4.specs.Kept.{KeepsItsShare, kept, share}
 use Rattle.circuit_l4.specs.Within.{IsFew, IsWithin, early_octets}

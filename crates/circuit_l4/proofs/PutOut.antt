@@ -1,8 +1,8 @@
 -- Fragments that go out one after the other.
 use Rattle.std.proofs.Common.{◌≡◌, ℕ, zero, suc, ◌+◌, ◌++◌, slice_get, refl, ap, sym, ◌∙◌, arith, append_assoc, append-nil, add-one}
 use Rattle.circuit_l4.specs.Sending.{fragments}
-use Rattle.circuit_l4.specs.EndState.{Effect, State, info, infos}
-use Rattle.circuit_l4.specs.EndMoves.{emit_infos}
+use Rattle.circuit_l4.specs.State.{Effect, State, info, infos}
+use Rattle.circuit_l4.specs.Moves.{emit_infos}
 
 -- one more than many
 more : (s : State) (n many : ℕ) → infos s n (suc many) ≡ infos s n many ++ infos s (n + many) 1

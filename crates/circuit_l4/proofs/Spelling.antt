@@ -13,7 +13,7 @@ use Rattle.circuit_l4.specs.declared.transport.TransportRefusal.{TransportRefusa
 use Rattle.circuit_l4.specs.declared.transport.TransportRefusal.TheVariants.{Short, TooLong}
 use Rattle.circuit_l4.specs.Transports.{headed, pair_at, flags_in, flag_bits, Begins, transport_octets}
 use Rattle.circuit_l4.specs.Reading.{octet_at, call_from, fault_from, request_at, accept_at, of_opcode, transport_at}
-use Rattle.circuit_l4.specs.Laws.{SpelledTransportIsRead, WrittenTransportSpellsIt, WrittenTransportIsRead}
+use Rattle.circuit_l4.specs.Spelling.{SpelledTransportIsRead, WrittenTransportSpellsIt, WrittenTransportIsRead}
 
 -- the tests of the length come out well
 

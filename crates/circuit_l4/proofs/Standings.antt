@@ -3,8 +3,8 @@ use Rattle.std.proofs.Common.{◌≡◌, refl, sym, subst}
 use Rattle.circuit_l4.specs.Sending.{Sending}
 use Rattle.circuit_l4.specs.Receiving.{Receiving}
 use Rattle.circuit_l4.specs.Halves.{IsSending, IsReceiving}
-use Rattle.circuit_l4.specs.EndState.{Effect}
-use Rattle.circuit_l4.specs.EndStanding.{EndView, KeepsEffect, effect_of}
+use Rattle.circuit_l4.specs.State.{Effect}
+use Rattle.circuit_l4.specs.Standing.{EndView, KeepsEffect, effect_of}
 
 -- what is kept stands for itself, with halves that agree
 pub itself : (k : EndView) (s : Sending) (r : Receiving) → IsSending k.outgoing s → IsReceiving k.incoming r → KeepsEffect k (effect_of k s r)

@@ -1,11 +1,11 @@
 -- A call of an end is a step of the machine.
 use Rattle.std.proofs.Common.{◌≡◌, ℕ, ◌-◌, ◌<◌, Bool, true, false, not, is_some, IsTrue, if◌then◌else◌, List, [], length, Option, Some, None, Result, Ok, Err, is_ok, OnOk, refl, ap, sym, ◌∙◌, subst, arith}
 use Rattle.std.proofs.lemmas.List.{nil_from_length}
-use Rattle.circuit_l4.specs.declared.plain.EndNotice.{EndNotice}
-use Rattle.circuit_l4.specs.declared.plain.WriteRefusal.{WriteRefusal}
-use Rattle.circuit_l4.specs.EndState.{Effect, State, begin}
-use Rattle.circuit_l4.specs.EndTable.{write_answer, write}
-use Rattle.circuit_l4.specs.EndStanding.{IsDrained, EndView, KeepsEffect, Stands, StandsFor, view_of}
+use Rattle.circuit_l4.specs.declared.notice.EndNotice.{EndNotice}
+use Rattle.circuit_l4.specs.declared.refusal.WriteRefusal.{WriteRefusal}
+use Rattle.circuit_l4.specs.State.{Effect, State, begin}
+use Rattle.circuit_l4.specs.Table.{write_answer, write}
+use Rattle.circuit_l4.specs.Standing.{IsDrained, EndView, KeepsEffect, Stands, StandsFor, view_of}
 use Rattle.circuit_l4.specs.declared.machine.Machine.{Machine}
 use Rattle.circuit_l4.specs.Outputs.{outs_of}
 use Rattle.circuit_l4.specs.declared.output.Output.{Output}

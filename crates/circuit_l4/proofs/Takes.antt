@@ -2,11 +2,11 @@
 use Rattle.std.proofs.Common.{◌≡◌, Bool, true, false, not, ◌&&◌, if◌then◌else◌, nat_lt, length}
 use Rattle.circuit_l4.specs.Sending.{Sending}
 use Rattle.circuit_l4.specs.Receiving.{Receiving, busy, without_first, inbox}
-use Rattle.circuit_l4.specs.EndState.{Effect, is_up}
-use Rattle.circuit_l4.specs.EndMoves.{with_receiving}
-use Rattle.circuit_l4.specs.EndTable.{resume, take_first, take_from}
-use Rattle.circuit_l4.specs.EndStanding.{EndView, KeepsEffect, effect_of}
-use Rattle.circuit_l4.specs.EndTable.{resume}
+use Rattle.circuit_l4.specs.State.{Effect, is_up}
+use Rattle.circuit_l4.specs.Moves.{with_receiving}
+use Rattle.circuit_l4.specs.Table.{resume, take_first, take_from}
+use Rattle.circuit_l4.specs.Standing.{EndView, KeepsEffect, effect_of}
+use Rattle.circuit_l4.specs.Table.{resume}
 
 -- a message waits
 some_taken : (some : Bool) (later : EndView) (g h : Effect) → some ≡ true → KeepsEffect later h → KeepsEffect later (if some then h else g)

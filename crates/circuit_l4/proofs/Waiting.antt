@@ -12,10 +12,10 @@ use Rattle.circuit_l4.specs.declared.output.Output.TheVariants.{Info}
 use Rattle.circuit_l4.specs.Sending.{Sending, fragments, fragments_of_all}
 use Rattle.circuit_l4.specs.Receiving.{Receiving, busy}
 use Rattle.circuit_l4.specs.Halves.{IsSending, Outbox, fragment_in}
-use Rattle.circuit_l4.specs.EndState.{Effect, State, info}
-use Rattle.circuit_l4.specs.EndMoves.{emit_infos}
-use Rattle.circuit_l4.specs.EndStanding.{EndView, KeepsEffect, effect_of}
-use Rattle.circuit_l4.specs.EndCalls.{emits}
+use Rattle.circuit_l4.specs.State.{Effect, State, info}
+use Rattle.circuit_l4.specs.Moves.{emit_infos}
+use Rattle.circuit_l4.specs.Standing.{EndView, KeepsEffect, effect_of}
+use Rattle.circuit_l4.specs.Calls.{emits}
 use Rattle.circuit_l4.specs.Outputs.{out_of, outs_of, with_text}
 use Rattle.circuit_l4.proofs.Acknowledged.{all-append}
 use Rattle.circuit_l4.proofs.Queues.{keep_all}

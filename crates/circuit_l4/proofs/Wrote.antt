@@ -4,21 +4,21 @@ use Rattle.std.specs.Prelude.{◌^◌, ◌&&◌, ◌||◌, not, min, nat_lt, nat
 use Rattle.radio_base.specs.Modulus.{place_of}
 use Rattle.circuit_l4.specs.declared.transport.Flags.{Flags}
 use Rattle.circuit_l4.specs.declared.piece.Piece.{Piece}
-use Rattle.circuit_l4.specs.declared.texts.Owed.{Owed}
+use Rattle.circuit_l4.specs.declared.owed.Owed.{Owed}
 use Rattle.circuit_l4.specs.declared.transport.Pair.{Pair}
 use Rattle.circuit_l4.specs.declared.transport.Transport.{Transport}
 use Rattle.circuit_l4.specs.declared.transport.Transport.TheVariants.{Request, Accept, Refuse, Disconnect, Disconnected, Info, InfoAck}
-use Rattle.circuit_l4.specs.declared.plain.EndPhase.{EndPhase}
-use Rattle.circuit_l4.specs.declared.plain.EndPhase.TheVariants.{Connecting, Up, Closing, Ended}
-use Rattle.circuit_l4.specs.declared.plain.EndNotice.TheVariants.{Opened, FailedRetries, FailedOversize, FailedInactive}
-use Rattle.circuit_l4.specs.declared.machine.Role.{Role}
-use Rattle.circuit_l4.specs.declared.machine.Role.TheVariants.{Requester, Responder}
-use Rattle.circuit_l4.specs.EndState.{State, Effect, begin, is_up}
-use Rattle.circuit_l4.specs.EndMoves.{emit, emit_ack, emit_infos, note, end_with, on_state, with_receiving, wait, wait_if_out, wait_from, put_out, count_out, fill, fill_with, fill_count, finish, is_done, begin_to_close, supply, again, advance, hold, acknowledge, acknowledge_by, acknowledge_at, emit_owed, answer, is_silent, answer_all, answer_text, on_info, on_info_ack}
-use Rattle.circuit_l4.specs.EndTable.{Input, Write, Arrive, Tick, Close, Take, ask, ask_by, ask_once_more, common_window, arrive, arrive_in, arrive_up, arrive_closing, arrive_connecting, close, close_in_turn, come_up, due_in, expire, fall_due, fall_due_up, is_due, may_close, note_activity, release, resume, resume_by, retry, retry_in, step, take_first, take_from, tick, write, write_answer}
-use Rattle.circuit_l4.specs.Receiving.{Appended, Receipt, Receiving, busy, inbox, moved_on, receive, without_first}
+use Rattle.circuit_l4.specs.declared.phase.EndPhase.{EndPhase}
+use Rattle.circuit_l4.specs.declared.phase.EndPhase.TheVariants.{Connecting, Up, Closing, Ended}
+use Rattle.circuit_l4.specs.declared.notice.EndNotice.TheVariants.{Opened, FailedRetries, FailedOversize, FailedInactive}
+use Rattle.circuit_l4.specs.declared.role.Role.{Role}
+use Rattle.circuit_l4.specs.declared.role.Role.TheVariants.{Requester, Responder}
+use Rattle.circuit_l4.specs.State.{State, Effect, begin, is_up}
+use Rattle.circuit_l4.specs.Moves.{emit, emit_ack, emit_infos, note, end_with, on_state, with_receiving, wait, wait_if_out, wait_from, put_out, count_out, fill, fill_with, fill_count, finish, is_done, begin_to_close, supply, again, advance, hold, acknowledge, acknowledge_by, acknowledge_at, emit_owed, answer, is_silent, answer_all, answer_text, on_info, on_info_ack}
+use Rattle.circuit_l4.specs.Table.{Input, Write, Arrive, Tick, Close, Take, ask, ask_by, ask_once_more, common_window, arrive, arrive_in, arrive_up, arrive_closing, arrive_connecting, close, close_in_turn, come_up, due_in, expire, fall_due, fall_due_up, is_due, may_close, note_activity, unchoke, resume, resume_by, retry, retry_in, step, take_first, take_from, tick, write, write_answer}
+use Rattle.circuit_l4.specs.Receiving.{Appended, Receipt, Receiving, busy, inbox, follow, receive, without_first}
 use Rattle.circuit_l4.specs.Sending.{total, written}
-use Rattle.circuit_l4.specs.EndLaws.{WroteByWrites, written_by}
+use Rattle.circuit_l4.specs.Laws.{WroteByWrites, written_by}
 
 -- what was written
 abbrev W : State → List (List ℕ)
@@ -139,13 +139,13 @@ retries Ended g = refl
 expires : (now : ℕ) (g : Effect) → WE (expire now g) ≡ WE g
 expires now g = either_effect (nat_eq g.end.tries g.end.config.retries) (end_with FailedRetries g) (retry now g) g refl (retries g.end.phase g)
 
-releases : (now : ℕ) (g : Effect) → WE (release now g) ≡ WE g
+releases : (now : ℕ) (g : Effect) → WE (unchoke now g) ≡ WE g
 releases now g =
     let h : Effect = again (on_state (λ s. record s { choked = false; answer_due = None }) g) in
     if_out now (fill now h).end ∙ fills now h
 
 due_up : (now : ℕ) (g : Effect) → WE (fall_due_up now g) ≡ WE g
-due_up now g = either_effect g.end.choked (release now g) (expire now g) g (releases now g) (expires now g)
+due_up now g = either_effect g.end.choked (unchoke now g) (expire now g) g (releases now g) (expires now g)
 
 due : (p : EndPhase) (now : ℕ) (g : Effect) → WE (due_in p now g) ≡ WE g
 due Connecting now g = expires now g
@@ -164,7 +164,7 @@ resumes : (a : Appended) (g : Effect) → WE (resume_by a g) ≡ WE g
 resumes a g = either_effect a.fits (emit_ack false (with_receiving a.half g)) (end_with FailedOversize (with_receiving a.half g)) g refl refl
 
 takes_from : (r : Receiving) (g : Effect) → WE (take_from r g) ≡ WE g
-takes_from r g = either_effect (is_up g.end.phase && busy g.end.receiving && not (busy r)) (resume (with_receiving r g)) (with_receiving r g) g (resumes (moved_on r) (with_receiving r g)) refl
+takes_from r g = either_effect (is_up g.end.phase && busy g.end.receiving && not (busy r)) (resume (with_receiving r g)) (with_receiving r g) g (resumes (follow r) (with_receiving r g)) refl
 
 takes : (g : Effect) → WE (take_first g) ≡ WE g
 takes g = either_effect (nat_lt 0 (length (inbox g.end.receiving))) (take_from (without_first g.end.receiving) g) g g (takes_from (without_first g.end.receiving) g) refl

@@ -1,10 +1,10 @@
 -- How often an end has waited in vain for an answer, counted over what it was given: no count of the end's own is asked (this
 -- project's profile).
 use Rattle.std.specs.Prelude.{ℕ, ◌+◌, ◌^◌, min, Bool, true, false, not, ◌&&◌, ◌||◌, nat_lt, nat_le, if◌then◌else◌, List, [], ◌∷◌, Option, Some, None}
-use Rattle.circuit_l4.specs.declared.plain.EndPhase.{EndPhase}
-use Rattle.circuit_l4.specs.declared.plain.EndPhase.TheVariants.{Connecting, Up, Closing, Ended}
-use Rattle.circuit_l4.specs.EndState.{State, is_up}
-use Rattle.circuit_l4.specs.EndTable.{Input, Write, Arrive, Tick, Close, Take, is_due, step}
+use Rattle.circuit_l4.specs.declared.phase.EndPhase.{EndPhase}
+use Rattle.circuit_l4.specs.declared.phase.EndPhase.TheVariants.{Connecting, Up, Closing, Ended}
+use Rattle.circuit_l4.specs.State.{State, is_up}
+use Rattle.circuit_l4.specs.Table.{Input, Write, Arrive, Tick, Close, Take, is_due, step}
 
 -- an input, by the end before and after it
 pub record Moment : Type 0 where

@@ -2,8 +2,8 @@
 -- their texts are in the queue. So are the lengths of messages, which are beside the messages.
 use Rattle.std.specs.Prelude.{ℕ, ◌+◌, ◌*◌, ◌≤◌, length}
 use Rattle.circuit_l4.specs.Sending.{bytes_of}
-use Rattle.circuit_l4.specs.EndState.{State}
-use Rattle.circuit_l4.specs.EndStanding.{EndView, StandsFor}
+use Rattle.circuit_l4.specs.State.{State}
+use Rattle.circuit_l4.specs.Standing.{EndView, StandsFor}
 use Rattle.circuit_l4.specs.Within.{early_octets}
 
 -- what waits to be acknowledged, what came and wasn't taken, what is gathered of a message, and what came early: all the buffers of an end

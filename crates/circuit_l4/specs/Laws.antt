@@ -1,46 +1,56 @@
--- Laws of the spelling of transports.
-use Rattle.std.specs.Prelude.{ℕ, ◌≡◌, ◌+◌, ◌*◌, ◌/◌, ◌%◌, ◌<◌, ◌≤◌, List, [], ◌∷◌, ◌++◌, length, take, drop, slice_index, Ok}
-use Rattle.ax_address.specs.Callsign.{IsCallsign}
-use Rattle.circuit_l4.specs.declared.transport.Transport.{Transport}
-use Rattle.circuit_l4.specs.declared.transport.Transport.TheVariants.{Request, Accept, Refuse, Disconnect, Disconnected, Info, InfoAck}
-use Rattle.circuit_l4.specs.Transports.{SpellsTransport, transport_octets}
-use Rattle.circuit_l4.specs.Reading.{transport_at}
+-- What holds of an end of a circuit by itself, whatever it is given and in whatever order.
+use Rattle.std.specs.Prelude.{◌≡◌, ℕ, ◌+◌, ◌⊎◌, ◌↔◌, List, [], ◌∷◌, ◌++◌, if◌then◌else◌, Option, Contains, is_ok}
+use Rattle.ax_address.specs.Callsign.{Callsign}
+use Rattle.circuit_l4.specs.declared.transport.Pair.{Pair}
+use Rattle.circuit_l4.specs.declared.transport.Transport.TheVariants.{Disconnect}
+use Rattle.circuit_l4.specs.declared.config.EndConfig.{EndConfig}
+use Rattle.circuit_l4.specs.declared.notice.EndNotice.TheVariants.{FailedRetries, FailedOversize, FailedInactive}
+use Rattle.circuit_l4.specs.State.{Effect, State}
+use Rattle.circuit_l4.specs.Table.{Input, Write, step, write_answer}
+use Rattle.circuit_l4.specs.Opening.{requesting, responding}
+use Rattle.circuit_l4.specs.Expiries.{expiries, moments}
+use Rattle.circuit_l4.specs.Sending.{total}
 
--- the calls of a request are calls, and a text has at most 236 bytes
-abbrev pub IsTransport : Transport → Type 0
-IsTransport (Request pair window user node) = IsCallsign user.letters user.ssid × IsCallsign node.letters node.ssid
-IsTransport (Info to tx rx flags text) = length text.items ≤ 236
-IsTransport _ = Unit {0}
+-- a step more: what it puts out and the notices that it gives stand behind the earlier ones
+abbrev pub followed_by : Effect → Effect → Effect
+followed_by g h = record { end = h.end; outs = g.outs ++ h.outs; notes = g.notes ++ h.notes }
 
--- octets that spell a transport are read as it, and so spell no other one
-abbrev pub SpelledTransportIsRead : Type 0
-SpelledTransportIsRead = (transport : Transport) (octets : List ℕ) → SpellsTransport transport octets → transport_at octets ≡ Ok transport
+-- an end that was given these inputs, each at its moment, with all that it ever put out and told
+abbrev pub after_inputs : Effect → List (Input × ℕ) → Effect
+after_inputs g [] = g
+after_inputs g (i ∷ inputs) = after_inputs (followed_by g (step g.end i.0 i.1)) inputs
 
--- what is written for a transport spells it
-abbrev pub WrittenTransportSpellsIt : Type 0
-WrittenTransportSpellsIt = (transport : Transport) → IsTransport transport → SpellsTransport transport (transport_octets transport)
+-- an end at its making
+pub data IsNew : Effect → Type 0 where
+  Asks : (pair : Pair) (user node : Callsign) (config : EndConfig) (now : ℕ) → IsNew (requesting pair user node config now)
+  Accepts : (pair partner : Pair) (proposed : ℕ) (config : EndConfig) (now : ℕ) → IsNew (responding pair partner proposed config now)
 
--- what is written for a transport is read as it
-abbrev pub WrittenTransportIsRead : Type 0
-WrittenTransportIsRead = (transport : Transport) → IsTransport transport → transport_at (transport_octets transport) ≡ Ok transport
+-- FailedRetries is told exactly where there was one expiry more than there are retries, since the end was made, since more was
+-- acknowledged, or since it began to close
+abbrev pub FailsAfterRetries : Type 0
+FailsAfterRetries =
+    (g : Effect) → IsNew g → (inputs : List (Input × ℕ)) →
+    Contains (after_inputs g inputs).notes FailedRetries ↔ (expiries (moments g.end inputs) ≡ g.end.config.retries + 1)
 
--- the octets of a call, of whose last one bits 4 to 1 alone are kept
-abbrev pub plain_call : List ℕ → List ℕ
-plain_call octets = take 6 octets ++ (96 + 2 * (slice_index octets 6 / 2 % 16)) ∷ []
+-- a step by which the circuit fails puts out nothing
+abbrev pub FailingPutsOutNothing : Type 0
+FailingPutsOutNothing =
+    (s : State) (input : Input) (now : ℕ) →
+    Contains (step s input now).notes FailedRetries ⊎ Contains (step s input now).notes FailedOversize ⊎ Contains (step s input now).notes FailedInactive →
+    (step s input now).outs ≡ []
 
--- the octets of a transport, of which all that is ignored is as it is written
-abbrev pub plain : Transport → List ℕ → List ℕ
-plain (Request pair window user node) octets =
-    take 2 octets ++ 0 ∷ 0 ∷ 1 ∷ slice_index octets 5 ∷ plain_call (take 7 (drop 6 octets)) ++ plain_call (take 7 (drop 13 octets))
-plain (Accept to own window) octets = take 4 octets ++ 2 ∷ slice_index octets 5 ∷ []
-plain (Refuse to) octets = take 2 octets ++ 0 ∷ 0 ∷ (2 + 128) ∷ 0 ∷ []
-plain (Disconnect to) octets = take 2 octets ++ 0 ∷ 0 ∷ 3 ∷ []
-plain (Disconnected to) octets = take 2 octets ++ 0 ∷ 0 ∷ 4 ∷ []
-plain (Info to tx rx flags text) octets = octets
-plain (InfoAck to rx flags) octets = take 2 octets ++ 0 ∷ take 2 (drop 3 octets)
+-- an end puts out a disconnect request only in a step after which all that was ever written is acknowledged
+abbrev pub DisconnectsWhenAcknowledged : Type 0
+DisconnectsWhenAcknowledged =
+    (g : Effect) → IsNew g → (inputs : List (Input × ℕ)) (input : Input) (now : ℕ) (to : Pair) (number : Option ℕ) →
+    let after = step (after_inputs g inputs).end input now in
+    Contains after.outs (Disconnect to, number) → after.end.sending.acked ≡ total after.end.sending
 
--- octets that are read and written again are the same, but for what is ignored
-abbrev pub WrittenAgainIsTheSame : Type 0
-WrittenAgainIsTheSame =
-    (transport : Transport) (octets : List ℕ) → slice_index octets 4 < 256 → SpellsTransport transport octets →
-    transport_octets transport ≡ plain transport octets
+-- what an input writes: its message, where that is accepted
+abbrev pub written_by : State → Input → List (List ℕ)
+written_by s (Write message) = if is_ok (write_answer s message) then message ∷ [] else []
+written_by s _ = []
+
+-- what an end has written grows by what its inputs write, and by nothing else
+abbrev pub WroteByWrites : Type 0
+WroteByWrites = (s : State) (input : Input) (now : ℕ) → (step s input now).end.sending.wrote ≡ s.sending.wrote ++ written_by s input

@@ -59,20 +59,20 @@ abbrev pub next_early : Receiving → Option Piece
 next_early r = if busy r || nat_le (2 ^ 62) r.got then None else first_early r.early
 
 -- early fragments follow while they are next and the end isn't busy; the count is the length of early
-abbrev pub move_on : ℕ → Receiving → Appended
-move_on zero r = record { half = r; fits = true }
-move_on (suc k) r =
+abbrev pub follow_by : ℕ → Receiving → Appended
+follow_by zero r = record { half = r; fits = true }
+follow_by (suc k) r =
     elim (next_early r) as (λ x. Appended) [
       | None ↦ record { half = r; fits = true }
-      | Some p ↦ (let a = append p.text.items p.more r in if a.fits then move_on k a.half else a)
+      | Some p ↦ (let a = append p.text.items p.more r in if a.fits then follow_by k a.half else a)
     ]
 
-abbrev pub moved_on : Receiving → Appended
-moved_on r = move_on (length r.early) r
+abbrev pub follow : Receiving → Appended
+follow r = follow_by (length r.early) r
 
 -- the next fragment is appended, and early ones follow
 abbrev pub append_next : List ℕ → Bool → Receiving → Appended
-append_next text more r = let a = append text more r in if a.fits then moved_on a.half else a
+append_next text more r = let a = append text more r in if a.fits then follow a.half else a
 
 -- what becomes of a fragment: the half after it, whether a negative acknowledgement is owed, and whether it fitted
 pub record Receipt : Type 0 where

@@ -1,12 +1,13 @@
 //! What an end does with a transport of the other end (NET/ROM, Appendix B, level 4).
 ghost use Rattle.std.specs.Prelude.{◌≡◌, ◌*◌, ◌≤◌, [], None};
 ghost use Rattle.radio_base.specs.declared.modulus.TheConstants.{COUNT_MAX};
-ghost use Rattle.circuit_l4.specs.EndTable as table;
+ghost use Rattle.circuit_l4.specs.Table as table;
 
 use crate::machine::Machine;
+use crate::notice::EndNotice;
 use crate::output::Output;
+use crate::phase::EndPhase;
 use crate::piece::{Piece, piece_of};
-use crate::plain::{EndNotice, EndPhase};
 use crate::transport::{Flags, Pair, Transport};
 use radio_base::COUNT_MAX;
 
@@ -18,8 +19,8 @@ pub(crate) fn common_window(own: u8, other: u8) -> u8
 }
 
 impl Machine {
-    ghost use Rattle.circuit_l4.specs.EndCalls.{Does};
-    ghost use Rattle.circuit_l4.specs.EndTable.{arrive};
+    ghost use Rattle.circuit_l4.specs.Calls.{Does};
+    ghost use Rattle.circuit_l4.specs.Table.{arrive};
 
     pub(crate) fn arrive(&mut self, transport: &Transport, now: u64)
         requires now { now ≤ COUNT_MAX }

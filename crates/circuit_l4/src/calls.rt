@@ -2,36 +2,28 @@
 ghost use Rattle.std.specs.Prelude.{◌≡◌, ◌+◌, ◌*◌, ◌≤◌, ◌<◌, [], ◌&&◌, nat_lt, length, None, OnOk, OnErr, IfOk};
 ghost use Rattle.radio_base.specs.declared.modulus.TheConstants.{COUNT_MAX};
 
+use crate::beginning::Beginning;
+use crate::config::EndConfig;
 use crate::incoming::Incoming;
-use crate::machine::{Machine, Role};
-use crate::outgoing::Outgoing;
-use crate::plain::{EndConfig, EndNotice, EndPhase, QUEUE_MAX, WriteRefusal};
-use crate::transport::Pair;
+use crate::machine::Machine;
+use crate::notice::EndNotice;
+use crate::outgoing::{Outgoing, QUEUE_MAX};
+use crate::phase::EndPhase;
+use crate::refusal::WriteRefusal;
 use circuit_reassembly::{LONGEST, Oversize, fragment_count};
 use circular_buffer::HeapCircularBuffer;
 use l3_datagram::Message;
 use radio_base::{COUNT_MAX, NoMemory};
 use std::alloc::Global;
 
-/// How a machine begins.
-#[derive(Clone, Copy, Debug, PartialEq, Eq)]
-pub struct Beginning {
-    pub role: Role,
-    pub pair: Pair,
-    /// The other end's pair, once it is known.
-    pub to: Pair,
-    pub phase: EndPhase,
-    pub window: u8,
-}
-
 impl Machine {
-    ghost use Rattle.circuit_l4.specs.EndTable as table;
-    ghost use Rattle.circuit_l4.specs.EndState.{State, begin, is_up};
-    ghost use Rattle.circuit_l4.specs.EndOpening as opening;
-    ghost use Rattle.circuit_l4.specs.EndOpening.{IsConfig};
-    ghost use Rattle.circuit_l4.specs.EndCalls.{Adds, Does, MayWrite};
-    ghost use Rattle.circuit_l4.specs.EndStanding.{KeepsEffect, StandsFor, view_of};
-    ghost use Rattle.circuit_l4.specs.EndTable.{resume};
+    ghost use Rattle.circuit_l4.specs.Table as table;
+    ghost use Rattle.circuit_l4.specs.State.{State, begin, is_up};
+    ghost use Rattle.circuit_l4.specs.Opening as opening;
+    ghost use Rattle.circuit_l4.specs.Opening.{IsConfig};
+    ghost use Rattle.circuit_l4.specs.Calls.{Adds, Does, MayWrite};
+    ghost use Rattle.circuit_l4.specs.Standing.{KeepsEffect, StandsFor, view_of};
+    ghost use Rattle.circuit_l4.specs.Table.{resume};
     ghost use Rattle.circuit_l4.specs.Halves.{IsReceiving, first_or};
     ghost use Rattle.circuit_l4.specs.Receiving.{Receiving, busy};
 

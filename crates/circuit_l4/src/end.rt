@@ -1,19 +1,24 @@
 //! One end of a circuit: its public calls.
 ghost use Rattle.std.specs.Prelude.{◌≡◌, ◌↔◌, ◌≤◌, ◌+◌, ◌*◌, ◌^◌, min, drop, slice_get, nat_lt, length, None, IfOk, OnOk, OnErr, IsOk, IsTrue};
-ghost use Rattle.circuit_l4.specs.EndState.{State};
-ghost use Rattle.circuit_l4.specs.EndTable as table;
-ghost use Rattle.circuit_l4.specs.EndOpening as opening;
-ghost use Rattle.circuit_l4.specs.EndOpening.{IsConfig};
-ghost use Rattle.circuit_l4.specs.EndStanding.{IsDrained, Stands, StandsFor};
+ghost use Rattle.circuit_l4.specs.State.{State};
+ghost use Rattle.circuit_l4.specs.Table as table;
+ghost use Rattle.circuit_l4.specs.Opening as opening;
+ghost use Rattle.circuit_l4.specs.Opening.{IsConfig};
+ghost use Rattle.circuit_l4.specs.Standing.{IsDrained, Stands, StandsFor};
 ghost use Rattle.circuit_l4.specs.Halves.{first_or};
 ghost use Rattle.circuit_l4.specs.Kept.{kept, share};
 ghost use Rattle.circuit_l4.specs.Receiving.{inbox};
 
 use crate::arrivals::common_window;
-use crate::calls::Beginning;
-use crate::machine::{Machine, Role};
+use crate::beginning::Beginning;
+use crate::config::EndConfig;
+use crate::facts::EndFacts;
+use crate::machine::Machine;
+use crate::notice::EndNotice;
 use crate::output::Output;
-use crate::plain::{EndConfig, EndFacts, EndNotice, EndPhase, WriteRefusal};
+use crate::phase::EndPhase;
+use crate::refusal::WriteRefusal;
+use crate::role::Role;
 use crate::transport::{Pair, Transport};
 use ax_address::Call;
 use l3_datagram::Message;
@@ -30,18 +35,18 @@ use std::marker::Model;
 /// - Looks, which change nothing: `may_write`, `has_message`, `facts`, `drained`.
 ///
 /// `tick` is called about once a second, since no call tells when something is due. `requester` and `responder` take all the memory that an
-/// end needs. What each input does is one row of the table in `specs/EndTable.antt`.
+/// end needs. What each input does is one row of the table in `specs/Table.antt`.
 #[derive(Drop)]
 pub struct End {
     machine: Machine,
 }
 
 impl Model for End {
-    ghost use Rattle.circuit_l4.specs.EndStanding.{EndView};
+    ghost use Rattle.circuit_l4.specs.Standing.{EndView};
 
     ghost Value = { EndView };
 
-    ghost use Rattle.circuit_l4.specs.EndStanding.{view_of};
+    ghost use Rattle.circuit_l4.specs.Standing.{view_of};
 
     ghost view = { λ e. view_of e.machine };
 }

@@ -2,15 +2,17 @@
 ghost use Rattle.std.specs.Prelude.{◌≡◌, ◌+◌, ◌*◌, ◌≤◌, ◌<◌, [], length, None};
 ghost use Rattle.radio_base.specs.declared.modulus.TheConstants.{COUNT_MAX};
 
-use crate::machine::{Machine, Role};
+use crate::machine::Machine;
+use crate::notice::EndNotice;
 use crate::output::Output;
-use crate::plain::{EndNotice, EndPhase};
+use crate::phase::EndPhase;
+use crate::role::Role;
 
 impl Machine {
-    ghost use Rattle.circuit_l4.specs.EndTable as table;
-    ghost use Rattle.circuit_l4.specs.EndCalls.{Adds, Does, request_by};
-    ghost use Rattle.circuit_l4.specs.EndStanding.{view_of};
-    ghost use Rattle.circuit_l4.specs.EndTable.{ask, ask_once_more, fall_due, fall_due_up};
+    ghost use Rattle.circuit_l4.specs.Table as table;
+    ghost use Rattle.circuit_l4.specs.Calls.{Adds, Does, request_by};
+    ghost use Rattle.circuit_l4.specs.Standing.{view_of};
+    ghost use Rattle.circuit_l4.specs.Table.{ask, ask_once_more, fall_due, fall_due_up};
 
     /// Time has passed.
     pub(crate) fn tick(&mut self, now: u64)
@@ -58,17 +60,17 @@ impl Machine {
         ensures config { self.new.config ≡ self.old.config }
     {
         if self.choked {
-            self.release(now);
+            self.unchoke(now);
         } else {
             self.expire(now);
         }
     }
 
     /// An end that was held long enough goes on.
-    fn release(&mut self, now: u64)
+    fn unchoke(&mut self, now: u64)
         requires now { now ≤ COUNT_MAX }
         requires outs { self.old.outs.items ≡ [] }
-        ensures does { Does (table.release now) self.old self.new }
+        ensures does { Does (table.unchoke now) self.old self.new }
         ensures config { self.new.config ≡ self.old.config }
     {
         self.choked = false;

@@ -11,13 +11,16 @@ ghost use Rattle.circuit_l4.specs.Inboxes.{AreSmall};
 ghost use Rattle.circuit_l4.specs.Within.{IsFew};
 
 use crate::messages::Messages;
-use crate::piece::{BUSY_AT, Piece, copy_of};
+use crate::piece::{Piece, copy_of};
 use circuit_reassembly::{FRAGMENT, Gather, Gathered, Oversize};
 use circular_buffer::HeapCircularBuffer;
 use l3_datagram::Message;
 use radio_base::{COUNT_MAX, M256, Modulus, NoMemory};
 use std::alloc::Global;
 use std::marker::Model;
+
+/// How many bytes wait to be taken before an end is busy (this project's profile).
+pub const BUSY_AT: usize = 16384;
 
 /// The most bytes that messages have which wait to be taken: an end that holds 16,384 takes in no more, and a fragment has at
 /// most 236.
@@ -200,8 +203,8 @@ impl Incoming {
 
     /// Early fragments follow while they are next and the end isn't busy.
     pub(crate) fn move_on(&mut self) -> Result<(), Oversize>
-        ensures does { (r : Receiving) → IsReceiving self.old r → IsReceiving self.new (spec.moved_on r).half }
-        ensures answer { (r : Receiving) → IsReceiving self.old r → result ≡ moved_answer (spec.moved_on r) }
+        ensures does { (r : Receiving) → IsReceiving self.old r → IsReceiving self.new (spec.follow r).half }
+        ensures answer { (r : Receiving) → IsReceiving self.old r → result ≡ moved_answer (spec.follow r) }
         ensures places { length self.new.early ≡ length self.old.early }
         ensures few { IsFew self.new }
     {

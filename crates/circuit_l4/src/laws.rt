@@ -1,8 +1,8 @@
 //! What the definitions promise by themselves.
 ghost use Rattle.std.specs.Prelude.{◌≡◌};
-ghost use Rattle.circuit_l4.specs.EndLaws as end_law;
+ghost use Rattle.circuit_l4.specs.Laws as end_law;
 ghost use Rattle.circuit_l4.specs.Kept.{KeepsItsShare};
-ghost use Rattle.circuit_l4.specs.Laws as law;
+ghost use Rattle.circuit_l4.specs.Spelling as law;
 
 use crate::{BUSY_AT, MAX_TEXT, MAX_TRANSPORT, QUEUE_MAX};
 

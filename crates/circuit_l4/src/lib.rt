@@ -2,26 +2,38 @@
 #![tactic(auto)]
 
 mod arrivals;
+mod beginning;
 mod calls;
+mod config;
 mod end;
 mod expiry;
+mod facts;
 mod incoming;
 pub mod laws;
 mod machine;
 mod messages;
+mod moves;
+mod notice;
 mod outgoing;
 mod output;
+mod owed;
+mod phase;
 mod piece;
-mod plain;
 mod read;
-mod supplies;
+mod refusal;
+mod role;
 mod texts;
 mod transport;
 mod write;
 
+pub use config::EndConfig;
 pub use end::End;
-pub use piece::BUSY_AT;
-pub use plain::{EndConfig, EndFacts, EndNotice, EndPhase, QUEUE_MAX, WriteRefusal};
+pub use facts::EndFacts;
+pub use incoming::BUSY_AT;
+pub use notice::EndNotice;
+pub use outgoing::QUEUE_MAX;
+pub use phase::EndPhase;
 pub use read::read_transport;
+pub use refusal::WriteRefusal;
 pub use transport::{Flags, MAX_TEXT, MAX_TRANSPORT, Pair, Transport, TransportRefusal};
 pub use write::write_transport;

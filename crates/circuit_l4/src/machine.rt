@@ -4,23 +4,16 @@ ghost use Rattle.radio_base.specs.declared.modulus.TheConstants.{COUNT_MAX};
 ghost use Rattle.circuit_l4.specs.Sending.{bytes_of};
 ghost use Rattle.circuit_l4.specs.Within.{IsFew};
 
+use crate::config::EndConfig;
 use crate::incoming::Incoming;
+use crate::notice::EndNotice;
 use crate::outgoing::Outgoing;
 use crate::output::{Out, Output};
-use crate::plain::{EndConfig, EndNotice, EndPhase};
+use crate::phase::EndPhase;
+use crate::role::Role;
 use crate::transport::{Flags, Pair};
-use ax_address::Call;
 use circular_buffer::HeapCircularBuffer;
 use radio_base::{M256, Modulus};
-
-/// Which end of a circuit it is.
-#[derive(Clone, Copy, Debug, PartialEq, Eq)]
-pub enum Role {
-    /// The end that asks for the circuit, for this user at this node.
-    Requester { user: Call, node: Call },
-    /// The end that was asked.
-    Responder,
-}
 
 /// One end of a circuit. It has its room from the start.
 #[derive(Drop)]
@@ -65,10 +58,10 @@ pub(crate) struct Machine {
 }
 
 impl Machine {
-    ghost use Rattle.circuit_l4.specs.EndState as state;
-    ghost use Rattle.circuit_l4.specs.EndMoves as moves;
-    ghost use Rattle.circuit_l4.specs.EndCalls.{Adds, Does, emits};
-    ghost use Rattle.circuit_l4.specs.EndStanding.{view_of};
+    ghost use Rattle.circuit_l4.specs.State as state;
+    ghost use Rattle.circuit_l4.specs.Moves as moves;
+    ghost use Rattle.circuit_l4.specs.Calls.{Adds, Does, emits};
+    ghost use Rattle.circuit_l4.specs.Standing.{view_of};
 
     pub(crate) fn is_up(&self) -> bool
         ensures { result ≡ state.is_up self.now.phase }

@@ -9,11 +9,13 @@ ghost use Rattle.circuit_l4.specs.Outputs.{fragment_from};
 
 use crate::messages::Messages;
 use crate::piece::{Piece, piece_of};
-use crate::plain::QUEUE_MAX;
 use circuit_reassembly::fragment_count;
 use radio_base::{COUNT_MAX, NoMemory};
 use std::alloc::Global;
 use std::marker::Model;
+
+/// How many bytes of messages that aren't wholly acknowledged an end holds at most (this project's profile).
+pub const QUEUE_MAX: usize = 65536;
 
 /// What was written for the other end and isn't wholly acknowledged. It has its room from the start.
 #[derive(Drop)]

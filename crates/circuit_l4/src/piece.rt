@@ -1,10 +1,7 @@
-//! A fragment with its flag, and when an end is busy.
+//! A fragment with its flag.
 ghost use Rattle.std.specs.Prelude.{◌≡◌, ◌≤◌, length};
 
 use arrayvec::ArrayVec;
-
-/// How many bytes wait to be taken before an end is busy (this project's profile).
-pub const BUSY_AT: usize = 16384;
 
 /// A fragment of a message.
 #[derive(Drop)]

@@ -3,25 +3,19 @@ ghost use Rattle.std.specs.Prelude.{◌≡◌, ℕ, suc, ◌+◌, ◌-◌, ◌*�
 ghost use Rattle.radio_base.specs.declared.modulus.TheConstants.{COUNT_MAX};
 
 use crate::machine::Machine;
+use crate::notice::EndNotice;
+use crate::owed::Owed;
 use crate::piece::Piece;
-use crate::plain::EndNotice;
 use crate::transport::Flags;
 use circuit_reassembly::Oversize;
 use radio_base::{COUNT_MAX, M256, Modulus};
 
-/// What has to be put out once more: so many fragments from a number on.
-#[derive(Clone, Copy, Debug, PartialEq, Eq)]
-pub struct Owed {
-    pub from: u64,
-    pub many: u64,
-}
-
 impl Machine {
     ghost use Rattle.radio_base.specs.Modulus.{place_of};
-    ghost use Rattle.circuit_l4.specs.EndState.{Effect};
-    ghost use Rattle.circuit_l4.specs.EndMoves as moves;
-    ghost use Rattle.circuit_l4.specs.EndCalls.{Adds, Does, IsOwed};
-    ghost use Rattle.circuit_l4.specs.EndStanding.{KeepsEffect, view_of, state_of};
+    ghost use Rattle.circuit_l4.specs.State.{Effect};
+    ghost use Rattle.circuit_l4.specs.Moves as moves;
+    ghost use Rattle.circuit_l4.specs.Calls.{Adds, Does, IsOwed};
+    ghost use Rattle.circuit_l4.specs.Standing.{KeepsEffect, view_of, state_of};
     ghost use Rattle.circuit_l4.specs.Halves.{IsSending, receipt_answer};
     ghost use Rattle.circuit_l4.specs.Sending.{Sending};
     ghost use Rattle.circuit_l4.specs.Receiving.{Receiving, receive};

@@ -2,7 +2,7 @@
 ghost use Rattle.std.specs.Prelude.{◌≡◌, ◌+◌, ◌≤◌};
 ghost use Rattle.ax_address.specs.Callsign.{IsCallsign};
 ghost use Rattle.circuit_l4.specs.Transports as octet;
-ghost use Rattle.circuit_l4.specs.Laws.{IsTransport};
+ghost use Rattle.circuit_l4.specs.Spelling.{IsTransport};
 
 use crate::{Flags, Pair, Transport, laws};
 use arrayvec::ArrayVec;

@@ -5,12 +5,12 @@ use Rattle.std.proofs.lemmas.Bool.Decides.{nat_tests}
 use Rattle.radio_base.specs.declared.modulus.TheConstants.{COUNT_MAX}
 use Rattle.circuit_l4.specs.declared.transport.Transport.{Transport}
 use Rattle.circuit_l4.specs.declared.transport.Transport.TheVariants.{Request, Accept, Refuse, Disconnect, Disconnected, Info, InfoAck}
-use Rattle.circuit_l4.specs.declared.plain.EndNotice.{EndNotice}
-use Rattle.circuit_l4.specs.declared.machine.Role.TheVariants.{Responder}
+use Rattle.circuit_l4.specs.declared.notice.EndNotice.{EndNotice}
+use Rattle.circuit_l4.specs.declared.role.Role.TheVariants.{Responder}
 use Rattle.circuit_l4.specs.Reading.{transport_at}
-use Rattle.circuit_l4.specs.EndState.{Effect, State, begin}
-use Rattle.circuit_l4.specs.EndLaws.{followed_by, after_inputs}
-use Rattle.circuit_l4.specs.EndTable.{Input, Arrive, Write, Tick, Close, Take, step}
+use Rattle.circuit_l4.specs.State.{Effect, State, begin}
+use Rattle.circuit_l4.specs.Laws.{followed_by, after_inputs}
+use Rattle.circuit_l4.specs.Table.{Input, Arrive, Write, Tick, Close, Take, step}
 use Rattle.circuit_set.specs.Lines.{Elem, count_from}
 use Rattle.circuit_set.specs.Circuits.{ComesInTime, Flight, IsCall, PairOk, Side, comes, hear, heard_it, hear_text, now_at}
 use Rattle.circuit_set.specs.Heeds.{heeds}

@@ -6,9 +6,9 @@ use Rattle.ax_address.specs.Callsign.{Callsign}
 use Rattle.arrayvec.specs.ArrayVec.{ArrayVec}
 use Rattle.circuit_l4.specs.declared.transport.Pair.{Pair}
 use Rattle.circuit_l4.specs.declared.transport.Transport.{Transport}
-use Rattle.circuit_l4.specs.EndState.{State}
-use Rattle.circuit_l4.specs.EndStanding.{StandsFor}
-use Rattle.circuit_l4.specs.EndTable.{Arrive, step}
+use Rattle.circuit_l4.specs.State.{State}
+use Rattle.circuit_l4.specs.Standing.{StandsFor}
+use Rattle.circuit_l4.specs.Table.{Arrive, step}
 use Rattle.circuit_set.specs.declared.event.SetEvent.TheVariants as event
 use Rattle.circuit_set.specs.declared.holder.Holder.{Holder}
 use Rattle.circuit_set.specs.declared.holder.Untold.{Untold}

@@ -7,8 +7,8 @@ use Rattle.ax_address.specs.Callsign.{Callsign}
 use Rattle.ax_address.specs.CallOrder.{same_call}
 use Rattle.l3_datagram.specs.declared.datagram.DatagramHead.{DatagramHead}
 use Rattle.circuit_l4.specs.declared.transport.Pair.{Pair}
-use Rattle.circuit_l4.specs.declared.plain.EndNotice.{EndNotice}
-use Rattle.circuit_l4.specs.EndState.{State}
+use Rattle.circuit_l4.specs.declared.notice.EndNotice.{EndNotice}
+use Rattle.circuit_l4.specs.State.{State}
 use Rattle.circuit_set.specs.Books.{HasRequester, MadeNote, NoOther, any_ends, asked_by, has_sent, if_asked, is_unknown, made_last, partner, requester}
 use Rattle.circuit_set.specs.Events.{Name, same_name}
 use Rattle.circuit_set.specs.NotedRuns.{Net, end_at, told_to}

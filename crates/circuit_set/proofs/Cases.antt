@@ -13,14 +13,14 @@ use Rattle.circuit_l4.specs.declared.transport.Transport.{Transport}
 use Rattle.circuit_l4.specs.declared.transport.Transport.TheVariants.{Request, Accept, Refuse, Disconnect, Disconnected, Info, InfoAck}
 use Rattle.circuit_l4.specs.declared.transport.TransportRefusal.{TransportRefusal}
 use Rattle.circuit_l4.specs.Reading.{transport_at}
-use Rattle.circuit_l4.specs.declared.plain.EndNotice.{EndNotice}
-use Rattle.circuit_l4.specs.declared.machine.Role.{Role}
-use Rattle.circuit_l4.specs.declared.machine.Role.TheVariants.{Requester, Responder}
-use Rattle.circuit_l4.specs.EndState.{Effect, State}
-use Rattle.circuit_l4.specs.EndLaws as laws
-use Rattle.circuit_l4.specs.EndLaws.{Accepts, Asks}
-use Rattle.circuit_l4.specs.EndTable.{Arrive, step}
-use Rattle.circuit_l4.specs.EndOpening.{facts_of, requesting, responding}
+use Rattle.circuit_l4.specs.declared.notice.EndNotice.{EndNotice}
+use Rattle.circuit_l4.specs.declared.role.Role.{Role}
+use Rattle.circuit_l4.specs.declared.role.Role.TheVariants.{Requester, Responder}
+use Rattle.circuit_l4.specs.State.{Effect, State}
+use Rattle.circuit_l4.specs.Laws as laws
+use Rattle.circuit_l4.specs.Laws.{Accepts, Asks}
+use Rattle.circuit_l4.specs.Table.{Arrive, step}
+use Rattle.circuit_l4.specs.Opening.{facts_of, requesting, responding}
 use Rattle.circuit_set.specs.Heeds.{heeds}
 use Rattle.circuit_set.specs.NotedRuns.{opened_window}
 use Rattle.circuit_set.specs.Sets.{Act, Call, Writes, Ticks, Closes, Takes, Calls, Comes, Connect, Discard, Restart, Sent, Heeded, Gone, Holder, SetDone, SetState, accept_again, arrives_at, called, datagram_to, discarded, end_of, first_open, goes_to, handed, handed_up, has_ended, input_of, is_full, is_open, made, named_by, new_pair, opened_by, read_as, received, requested_anew, requests, responds, set_step, untold, with_end}

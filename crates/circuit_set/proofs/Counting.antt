@@ -6,11 +6,11 @@ use Rattle.std.specs.Map.{lookup, remove_entry, set_value}
 use Rattle.indexmap.specs.IndexMap.{insert_entry}
 use Rattle.circuit_l4.specs.declared.transport.Pair.{Pair}
 use Rattle.circuit_l4.specs.declared.transport.Transport.{Transport}
-use Rattle.circuit_l4.specs.declared.plain.EndConfig.{EndConfig}
-use Rattle.circuit_l4.specs.declared.plain.EndNotice.{EndNotice}
-use Rattle.circuit_l4.specs.EndOpening.{responding}
-use Rattle.circuit_l4.specs.EndState.{Effect}
-use Rattle.circuit_l4.specs.EndStanding.{Stands}
+use Rattle.circuit_l4.specs.declared.config.EndConfig.{EndConfig}
+use Rattle.circuit_l4.specs.declared.notice.EndNotice.{EndNotice}
+use Rattle.circuit_l4.specs.Opening.{responding}
+use Rattle.circuit_l4.specs.State.{Effect}
+use Rattle.circuit_l4.specs.Standing.{Stands}
 use Rattle.circuit_set.specs.declared.holder.Holder.{Holder}
 use Rattle.circuit_set.specs.declared.holder.Untold.{Untold}
 use Rattle.circuit_set.specs.declared.held_ends.HeldEnds.{HeldEnds}

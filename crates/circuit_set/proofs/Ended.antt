@@ -7,18 +7,18 @@ use Rattle.circuit_l4.specs.declared.transport.Flags.{Flags}
 use Rattle.circuit_l4.specs.declared.transport.Transport.{Transport}
 use Rattle.circuit_l4.specs.declared.transport.Transport.TheVariants.{Request, Accept, Refuse, Disconnect, Disconnected, Info, InfoAck}
 use Rattle.circuit_l4.specs.declared.piece.Piece.{Piece}
-use Rattle.circuit_l4.specs.declared.plain.EndPhase.{EndPhase}
-use Rattle.circuit_l4.specs.declared.plain.EndPhase.TheVariants.{Connecting, Up, Closing, Ended}
-use Rattle.circuit_l4.specs.declared.plain.EndNotice.{EndNotice}
-use Rattle.circuit_l4.specs.declared.plain.EndNotice.TheVariants.{Opened, Refused, Closed, ClosedByPartner, FailedRetries, FailedOversize, FailedInactive}
-use Rattle.circuit_l4.specs.declared.machine.Role.{Role}
-use Rattle.circuit_l4.specs.declared.machine.Role.TheVariants.{Requester, Responder}
-use Rattle.circuit_l4.specs.declared.texts.Owed.{Owed}
-use Rattle.circuit_l4.specs.EndState.{Effect, State, begin, is_up}
-use Rattle.circuit_l4.specs.EndMoves.{acknowledge, again, answer, answer_all, wait_if_out, on_state, begin_to_close, end_with, fill, finish, with_receiving, is_done, is_silent, note, on_info, on_info_ack, emit, emit_owed, supply, emit_ack}
-use Rattle.circuit_l4.specs.EndLaws.{Accepts, Asks, IsNew, after_inputs, followed_by}
-use Rattle.circuit_l4.specs.EndTable.{Input, Write, Arrive, Tick, Close, Take, arrive_in, ask_by, close_in_turn, due_in, expire, note_activity, is_due, may_close, release, common_window, come_up, resume_by, retry, retry_in, step, step_at, take_from, write_answer, write}
-use Rattle.circuit_l4.specs.Receiving.{Appended, Receipt, busy, receive, without_first, inbox, moved_on}
+use Rattle.circuit_l4.specs.declared.phase.EndPhase.{EndPhase}
+use Rattle.circuit_l4.specs.declared.phase.EndPhase.TheVariants.{Connecting, Up, Closing, Ended}
+use Rattle.circuit_l4.specs.declared.notice.EndNotice.{EndNotice}
+use Rattle.circuit_l4.specs.declared.notice.EndNotice.TheVariants.{Opened, Refused, Closed, ClosedByPartner, FailedRetries, FailedOversize, FailedInactive}
+use Rattle.circuit_l4.specs.declared.role.Role.{Role}
+use Rattle.circuit_l4.specs.declared.role.Role.TheVariants.{Requester, Responder}
+use Rattle.circuit_l4.specs.declared.owed.Owed.{Owed}
+use Rattle.circuit_l4.specs.State.{Effect, State, begin, is_up}
+use Rattle.circuit_l4.specs.Moves.{acknowledge, again, answer, answer_all, wait_if_out, on_state, begin_to_close, end_with, fill, finish, with_receiving, is_done, is_silent, note, on_info, on_info_ack, emit, emit_owed, supply, emit_ack}
+use Rattle.circuit_l4.specs.Laws.{Accepts, Asks, IsNew, after_inputs, followed_by}
+use Rattle.circuit_l4.specs.Table.{Input, Write, Arrive, Tick, Close, Take, arrive_in, ask_by, close_in_turn, due_in, expire, note_activity, is_due, may_close, unchoke, common_window, come_up, resume_by, retry, retry_in, step, step_at, take_from, write_answer, write}
+use Rattle.circuit_l4.specs.Receiving.{Appended, Receipt, busy, receive, without_first, inbox, follow}
 use Rattle.circuit_l4.specs.Sending.{total, written}
 use Rattle.circuit_set.specs.Books.{any_ends}
 use Rattle.circuit_set.specs.Events.{ends_it}
@@ -159,15 +159,15 @@ expires_go s now =
     either_going (Goes s) (nat_eq s.tries s.config.retries) (end_with FailedRetries g) (retry now g) (over s FailedRetries g refl refl)
     (same_phase s (retry_in s.phase g) (retry now g) refl refl (retries_go s.phase s g (rests s g refl refl)))
 
-releases_go : (s : State) (now : ℕ) → Goes s (release now (begin s))
+releases_go : (s : State) (now : ℕ) → Goes s (unchoke now (begin s))
 releases_go s now =
     let g : Effect = again (on_state (λ s. record s { choked = false; answer_due = None }) (begin s)) in
     let f : Effect = fill now g in
-    rests s (release now (begin s)) refl (if_out_phase f.end now ∙ fill_phase now g)
+    rests s (unchoke now (begin s)) refl (if_out_phase f.end now ∙ fill_phase now g)
 
 due_go : (p : EndPhase) (s : State) (now : ℕ) → Goes s (due_in p now (begin s))
 due_go Connecting s now = expires_go s now
-due_go Up s now = either_going (Goes s) s.choked (release now (begin s)) (expire now (begin s)) (releases_go s now) (expires_go s now)
+due_go Up s now = either_going (Goes s) s.choked (unchoke now (begin s)) (expire now (begin s)) (releases_go s now) (expires_go s now)
 due_go Closing s now = expires_go s now
 due_go Ended s now = nothing s
 
@@ -187,7 +187,7 @@ steps_go s Close now a =
 steps_go s Take now a =
     let g : Effect = begin s in
     let r = without_first s.receiving in
-    let a : Appended = moved_on r in
+    let a : Appended = follow r in
     let taken : Effect = with_receiving a.half g in
     either_going (Goes s) (nat_lt 0 (length (inbox s.receiving))) (take_from r g) g
     (either_going (Goes s) (is_up s.phase && busy s.receiving && not (busy r)) (resume_by a g) (with_receiving r g)

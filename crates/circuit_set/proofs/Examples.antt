@@ -2,7 +2,7 @@
 use Rattle.std.specs.Prelude.{◌≡◌, ℕ, ◌≤◌, true, List, [], ◌∷◌, Option, Some, None, refl}
 use Rattle.std.proofs.Common.{sym, ◌∙◌, arith, lit<}
 use Rattle.l3_datagram.specs.Datagrams.{head_at}
-use Rattle.circuit_l4.specs.declared.plain.EndNotice.TheVariants.{Opened}
+use Rattle.circuit_l4.specs.declared.notice.EndNotice.TheVariants.{Opened}
 use Rattle.circuit_l4.specs.Reading as reading
 use Rattle.circuit_l4.specs.Reading.{transport_at}
 use Rattle.circuit_set.specs.Sets.{Holder}

@@ -6,14 +6,14 @@ use Rattle.std.proofs.lemmas.List.{append-nil}
 use Rattle.ax_address.specs.Callsign.{Callsign}
 use Rattle.circuit_l4.specs.declared.transport.Pair.{Pair}
 use Rattle.circuit_l4.specs.declared.transport.Transport.TheVariants.{Refuse}
-use Rattle.circuit_l4.specs.declared.plain.EndConfig.{EndConfig}
-use Rattle.circuit_l4.specs.declared.plain.EndNotice.{EndNotice}
-use Rattle.circuit_l4.specs.declared.plain.EndNotice.TheVariants.{FailedRetries}
-use Rattle.circuit_l4.specs.declared.machine.Role.{Role}
-use Rattle.circuit_l4.specs.EndState.{Effect, State}
-use Rattle.circuit_l4.specs.EndOpening.{facts_of}
-use Rattle.circuit_l4.specs.EndLaws.{FailsAfterRetries}
-use Rattle.circuit_l4.specs.EndTable.{Arrive, Input, step}
+use Rattle.circuit_l4.specs.declared.config.EndConfig.{EndConfig}
+use Rattle.circuit_l4.specs.declared.notice.EndNotice.{EndNotice}
+use Rattle.circuit_l4.specs.declared.notice.EndNotice.TheVariants.{FailedRetries}
+use Rattle.circuit_l4.specs.declared.role.Role.{Role}
+use Rattle.circuit_l4.specs.State.{Effect, State}
+use Rattle.circuit_l4.specs.Opening.{facts_of}
+use Rattle.circuit_l4.specs.Laws.{FailsAfterRetries}
+use Rattle.circuit_l4.specs.Table.{Arrive, Input, step}
 use Rattle.circuit_l4.specs.Expiries as ends
 use Rattle.circuit_l4.specs.Expiries.{Moment, expiries}
 use Rattle.circuit_set.specs.Sets.{Act, Call, Calls, Closes, Comes, Connect, Discard, Restart, Takes, Ticks, Writes, Made, Sent, Heeded, Gone, Restarted, Holder, SetDone, SetState, datagram_to, end_of, goes_to, holder_of, input_of, is_over, losses, made, new_pair, restarted, set_step, told_by, with_end}

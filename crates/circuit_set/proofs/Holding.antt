@@ -5,8 +5,8 @@ use Rattle.std.proofs.lemmas.Bool.Decides.{nat_tests}
 use Rattle.std.proofs.lemmas.List.{append_assoc}
 use Rattle.std.specs.Map.{lookup, set_value, remove_entry}
 use Rattle.ax_address.specs.Callsign.{Callsign}
-use Rattle.circuit_l4.specs.EndState.{Effect}
-use Rattle.circuit_l4.specs.EndStanding.{EndView, Stands, StandsFor}
+use Rattle.circuit_l4.specs.State.{Effect}
+use Rattle.circuit_l4.specs.Standing.{EndView, Stands, StandsFor}
 use Rattle.circuit_set.specs.declared.holder.Holder.{Holder}
 use Rattle.circuit_set.specs.Sets as sets
 use Rattle.circuit_set.specs.Sets.{Told, end_of, with_end}

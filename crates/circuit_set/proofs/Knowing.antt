@@ -8,9 +8,9 @@ use Rattle.l3_datagram.specs.Datagrams.{head_at, octets_with}
 use Rattle.circuit_l4.specs.declared.transport.Pair.{Pair}
 use Rattle.circuit_l4.specs.declared.transport.Transport.{Transport}
 use Rattle.circuit_l4.specs.declared.transport.Transport.TheVariants.{Request, Accept, Refuse, Disconnect, Disconnected, Info, InfoAck}
-use Rattle.circuit_l4.specs.declared.machine.Role.TheVariants.{Requester, Responder}
-use Rattle.circuit_l4.specs.EndState.{Out}
-use Rattle.circuit_l4.specs.Laws.{IsTransport}
+use Rattle.circuit_l4.specs.declared.role.Role.TheVariants.{Requester, Responder}
+use Rattle.circuit_l4.specs.State.{Out}
+use Rattle.circuit_l4.specs.Spelling.{IsTransport}
 use Rattle.circuit_l4.specs.Reading.{transport_at}
 use Rattle.circuit_l4.specs.Transports.{pair_at, transport_octets}
 use Rattle.circuit_set.specs.Books.{MadeNote, SentNote, has_sent}

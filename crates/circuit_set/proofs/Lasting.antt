@@ -8,17 +8,17 @@ use Rattle.circuit_l4.specs.declared.transport.Transport.{Transport}
 use Rattle.circuit_l4.specs.declared.transport.Transport.TheVariants.{Request, Accept, Refuse, Disconnect, Disconnected, Info, InfoAck}
 use Rattle.circuit_l4.specs.declared.transport.Pair.{Pair}
 use Rattle.circuit_l4.specs.declared.piece.Piece.{Piece}
-use Rattle.circuit_l4.specs.declared.plain.EndPhase.{EndPhase}
-use Rattle.circuit_l4.specs.declared.plain.EndPhase.TheVariants.{Connecting, Up, Closing, Ended}
-use Rattle.circuit_l4.specs.declared.plain.EndNotice.TheVariants.{FailedRetries, FailedOversize, FailedInactive, Opened}
-use Rattle.circuit_l4.specs.declared.machine.Role.{Role}
-use Rattle.circuit_l4.specs.declared.machine.Role.TheVariants.{Requester, Responder}
-use Rattle.circuit_l4.specs.declared.texts.Owed.{Owed}
-use Rattle.circuit_l4.specs.EndState.{Effect, State, begin, is_up}
-use Rattle.circuit_l4.specs.EndMoves.{acknowledge, acknowledge_by, advance, again, answer, answer_all, wait, wait_if_out, on_state, hold, begin_to_close, end_with, fill, fill_count, finish, with_receiving, note, is_done, is_silent, on_info, on_info_ack, put_out, emit_owed, supply, emit_ack}
-use Rattle.circuit_l4.specs.EndTable.{common_window, come_up, Input, Write, Arrive, Tick, Close, Take, arrive_in, ask_by, close_in_turn, due_in, expire, note_activity, is_due, may_close, release, resume_by, retry, retry_in, step, step_at, take_from, write_answer, write}
+use Rattle.circuit_l4.specs.declared.phase.EndPhase.{EndPhase}
+use Rattle.circuit_l4.specs.declared.phase.EndPhase.TheVariants.{Connecting, Up, Closing, Ended}
+use Rattle.circuit_l4.specs.declared.notice.EndNotice.TheVariants.{FailedRetries, FailedOversize, FailedInactive, Opened}
+use Rattle.circuit_l4.specs.declared.role.Role.{Role}
+use Rattle.circuit_l4.specs.declared.role.Role.TheVariants.{Requester, Responder}
+use Rattle.circuit_l4.specs.declared.owed.Owed.{Owed}
+use Rattle.circuit_l4.specs.State.{Effect, State, begin, is_up}
+use Rattle.circuit_l4.specs.Moves.{acknowledge, acknowledge_by, advance, again, answer, answer_all, wait, wait_if_out, on_state, hold, begin_to_close, end_with, fill, fill_count, finish, with_receiving, note, is_done, is_silent, on_info, on_info_ack, put_out, emit_owed, supply, emit_ack}
+use Rattle.circuit_l4.specs.Table.{common_window, come_up, Input, Write, Arrive, Tick, Close, Take, arrive_in, ask_by, close_in_turn, due_in, expire, note_activity, is_due, may_close, unchoke, resume_by, retry, retry_in, step, step_at, take_from, write_answer, write}
 use Rattle.circuit_reassembly.specs.Gathering.{Answer, More, Whole, Too_long, gather_step}
-use Rattle.circuit_l4.specs.Receiving.{Appended, Receipt, Receiving, append, appended, busy, receive, receive_at, receive_early, receive_next, without_first, ignored, inbox, move_on, moved_on, next_early}
+use Rattle.circuit_l4.specs.Receiving.{Appended, Receipt, Receiving, append, appended, busy, receive, receive_at, receive_early, receive_next, without_first, ignored, inbox, follow_by, follow, next_early}
 use Rattle.circuit_l4.specs.Sending.{written}
 use Rattle.circuit_set.proofs.Sends.{Named, either, either_going, names, on_due}
 
@@ -42,19 +42,19 @@ appended_taken r held Too_long = refl
 append_taken : (text : List ℕ) (more : Bool) (r : Receiving) → (append text more r).half.taken ≡ r.taken
 append_taken text more r = let x = gather_step r.gathered text more in appended_taken r x.0 x.1
 
-follows_taken : (k : ℕ) (r : Receiving) (a : Appended) → a.half.taken ≡ r.taken → ((q : Receiving) → (move_on k q).half.taken ≡ q.taken) → (b : Bool) → (if b then move_on k a.half else a).half.taken ≡ r.taken
+follows_taken : (k : ℕ) (r : Receiving) (a : Appended) → a.half.taken ≡ r.taken → ((q : Receiving) → (follow_by k q).half.taken ≡ q.taken) → (b : Bool) → (if b then follow_by k a.half else a).half.taken ≡ r.taken
 follows_taken k r a e more true = more a.half ∙ e
 follows_taken k r a e more false = e
 
-next_taken : (k : ℕ) (r : Receiving) (o : Option Piece) → ((q : Receiving) → (move_on k q).half.taken ≡ q.taken)
+next_taken : (k : ℕ) (r : Receiving) (o : Option Piece) → ((q : Receiving) → (follow_by k q).half.taken ≡ q.taken)
     → (elim o as (λ x. Appended) [
       | None ↦ record { half = r; fits = true }
-      | Some p ↦ (let a = append p.text.items p.more r in if a.fits then move_on k a.half else a)
+      | Some p ↦ (let a = append p.text.items p.more r in if a.fits then follow_by k a.half else a)
     ]).half.taken ≡ r.taken
 next_taken k r None more = refl
 next_taken k r (Some p) more = let a = append p.text.items p.more r in follows_taken k r a (append_taken p.text.items p.more r) more a.fits
 
-pub move_on_taken : (k : ℕ) (r : Receiving) → (move_on k r).half.taken ≡ r.taken
+pub move_on_taken : (k : ℕ) (r : Receiving) → (follow_by k r).half.taken ≡ r.taken
 move_on_taken zero r = refl
 move_on_taken (suc k) r = next_taken k r (next_early r) (move_on_taken k)
 
@@ -187,14 +187,14 @@ module _ (R : Core → Core → Type 0) (self : (c : Core) → R c c) (further :
         either_going (SameIn s) (nat_eq s.tries s.config.retries) (end_with FailedRetries (begin s)) (retry now (begin s)) (ends s)
         (retries_same s.phase s (begin s) (self (core s)))
 
-    releases_same : (s : State) (now : ℕ) → SameIn s (release now (begin s))
+    releases_same : (s : State) (now : ℕ) → SameIn s (unchoke now (begin s))
     releases_same s now =
         let g : Effect = fill now (again (on_state (λ s. record s { choked = false; answer_due = None }) (begin s))) in
         if_out s g.end now (fills s now (again (on_state (λ s. record s { choked = false; answer_due = None }) (begin s))) (self (core s)))
 
     due_same : (p : EndPhase) (s : State) (now : ℕ) → SameIn s (due_in p now (begin s))
     due_same Connecting s now = expires_same s now
-    due_same Up s now = either_going (SameIn s) s.choked (release now (begin s)) (expire now (begin s)) (releases_same s now) (expires_same s now)
+    due_same Up s now = either_going (SameIn s) s.choked (unchoke now (begin s)) (expire now (begin s)) (releases_same s now) (expires_same s now)
     due_same Closing s now = expires_same s now
     due_same Ended s now = (self (core s))
 
@@ -212,7 +212,7 @@ module _ (R : Core → Core → Type 0) (self : (c : Core) → R c c) (further :
     steps_same s Take now allowed =
         let g : Effect = begin s in
         let r = without_first s.receiving in
-        let a : Appended = moved_on r in
+        let a : Appended = follow r in
         let moved : Same s (record s { receiving = a.half }) = takes s a.half allowed in
         either_going (SameIn s) (nat_lt 0 (length (inbox s.receiving))) (take_from r g) g
         (either_going (SameIn s) (is_up s.phase && busy s.receiving && not (busy r)) (resume_by a g) (with_receiving r g)

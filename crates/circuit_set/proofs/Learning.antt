@@ -9,10 +9,10 @@ use Rattle.l3_datagram.specs.declared.datagram.DatagramRefusal.{DatagramRefusal}
 use Rattle.l3_datagram.specs.Datagrams.{head_at}
 use Rattle.circuit_l4.specs.declared.transport.Pair.{Pair}
 use Rattle.circuit_l4.specs.declared.transport.Transport.TheVariants.{Refuse}
-use Rattle.circuit_l4.specs.declared.plain.EndNotice.{EndNotice}
-use Rattle.circuit_l4.specs.declared.machine.Role.TheVariants.{Responder}
-use Rattle.circuit_l4.specs.EndState.{Effect, State}
-use Rattle.circuit_l4.specs.EndOpening.{facts_of}
+use Rattle.circuit_l4.specs.declared.notice.EndNotice.{EndNotice}
+use Rattle.circuit_l4.specs.declared.role.Role.TheVariants.{Responder}
+use Rattle.circuit_l4.specs.State.{Effect, State}
+use Rattle.circuit_l4.specs.Opening.{facts_of}
 use Rattle.circuit_l4.specs.Receiving.{inbox}
 use Rattle.circuit_set.specs.Books.{Book, MadeNote, asked_by, has_sent, if_asked, is_unknown, made_last, noted, noted_all, partner, requester}
 use Rattle.circuit_set.specs.Events.{Name}

@@ -4,8 +4,8 @@ use Rattle.std.proofs.Common.{sym, ◌∙◌, ap, subst, inl, inr, arith}
 use Rattle.std.proofs.lemmas.Bool.Decides.{nat_tests}
 use Rattle.ax_address.specs.Callsign.{Callsign, IsCallsign}
 use Rattle.circuit_l4.specs.declared.transport.Pair.{Pair}
-use Rattle.circuit_l4.specs.declared.machine.Role.TheVariants.{Responder}
-use Rattle.circuit_l4.specs.EndState.{Effect, State}
+use Rattle.circuit_l4.specs.declared.role.Role.TheVariants.{Responder}
+use Rattle.circuit_l4.specs.State.{Effect, State}
 use Rattle.circuit_set.specs.Lines.{Elem}
 use Rattle.circuit_set.specs.Circuits.{PairOk, tag_on}
 use Rattle.circuit_set.specs.Events.{Name, same_name}

@@ -7,8 +7,8 @@ use Rattle.std.specs.Map.{lookup, set_value}
 use Rattle.radio_base.specs.declared.modulus.TheConstants.{COUNT_MAX}
 use Rattle.ax_address.specs.Callsign.{Callsign}
 use Rattle.circuit_l4.specs.declared.transport.Pair.{Pair}
-use Rattle.circuit_l4.specs.EndState.{Effect, State}
-use Rattle.circuit_l4.specs.EndStanding.{EndView, Stands, StandsFor}
+use Rattle.circuit_l4.specs.State.{Effect, State}
+use Rattle.circuit_l4.specs.Standing.{EndView, Stands, StandsFor}
 use Rattle.circuit_set.specs.declared.holder.Holder.{Holder}
 use Rattle.circuit_set.specs.declared.held_ends.HeldEnds.{HeldEnds}
 use Rattle.circuit_set.specs.Pairs.{following, next_free}
@@ -17,8 +17,8 @@ use Rattle.circuit_set.specs.declared.event.SetEvent.TheVariants as event
 use Rattle.circuit_set.specs.declared.holder.Untold.TheVariants as untold
 use Rattle.circuit_set.specs.Sets.{SetState, Told, end_of, with_end, held_pairs, is_over, notices, told_by}
 use Rattle.arrayvec.specs.ArrayVec.{ArrayVec}
-use Rattle.circuit_l4.specs.EndOpening.{facts_of, requesting, responding}
-use Rattle.circuit_l4.specs.declared.plain.EndConfig.{EndConfig}
+use Rattle.circuit_l4.specs.Opening.{facts_of, requesting, responding}
+use Rattle.circuit_l4.specs.declared.config.EndConfig.{EndConfig}
 use Rattle.indexmap.proofs.CallerLemmas.{insert_entry-new}
 use Rattle.circuit_set.specs.Standing.{FirstFit, Gives, Held, HeldStands, Here, Holds, Keeps, MetBy, counted, Past, if_so, of_holder, pairs_of, sents_by}
 use Rattle.circuit_l4.specs.declared.transport.Transport.TheVariants.{Accept, Refuse}

@@ -6,16 +6,16 @@ use Rattle.circuit_l4.specs.declared.transport.Flags.{Flags}
 use Rattle.circuit_l4.specs.declared.transport.Transport.{Transport}
 use Rattle.circuit_l4.specs.declared.transport.Transport.TheVariants.{Request, Accept, Refuse, Disconnect, Disconnected, Info, InfoAck}
 use Rattle.circuit_l4.specs.declared.piece.Piece.{Piece}
-use Rattle.circuit_l4.specs.declared.plain.EndPhase.{EndPhase}
-use Rattle.circuit_l4.specs.declared.plain.EndPhase.TheVariants.{Connecting, Up, Closing, Ended}
-use Rattle.circuit_l4.specs.declared.plain.EndNotice.TheVariants.{FailedRetries, FailedOversize, FailedInactive}
-use Rattle.circuit_l4.specs.declared.machine.Role.{Role}
-use Rattle.circuit_l4.specs.declared.machine.Role.TheVariants.{Requester, Responder}
-use Rattle.circuit_l4.specs.declared.texts.Owed.{Owed}
-use Rattle.circuit_l4.specs.EndState.{Effect, State, begin, is_up}
-use Rattle.circuit_l4.specs.EndMoves.{acknowledge, acknowledge_by, advance, again, answer, answer_all, wait, wait_if_out, on_state, hold, begin_to_close, end_with, fill, fill_count, finish, with_receiving, is_done, is_silent, on_info, on_info_ack, put_out, emit_owed, supply, emit_ack}
-use Rattle.circuit_l4.specs.EndTable.{Input, Write, Arrive, Tick, Close, Take, arrive_in, ask_by, close_in_turn, due_in, expire, note_activity, is_due, may_close, release, resume_by, retry, retry_in, step, step_at, take_from, write_answer, write}
-use Rattle.circuit_l4.specs.Receiving.{Appended, Receipt, busy, receive, without_first, inbox, moved_on}
+use Rattle.circuit_l4.specs.declared.phase.EndPhase.{EndPhase}
+use Rattle.circuit_l4.specs.declared.phase.EndPhase.TheVariants.{Connecting, Up, Closing, Ended}
+use Rattle.circuit_l4.specs.declared.notice.EndNotice.TheVariants.{FailedRetries, FailedOversize, FailedInactive}
+use Rattle.circuit_l4.specs.declared.role.Role.{Role}
+use Rattle.circuit_l4.specs.declared.role.Role.TheVariants.{Requester, Responder}
+use Rattle.circuit_l4.specs.declared.owed.Owed.{Owed}
+use Rattle.circuit_l4.specs.State.{Effect, State, begin, is_up}
+use Rattle.circuit_l4.specs.Moves.{acknowledge, acknowledge_by, advance, again, answer, answer_all, wait, wait_if_out, on_state, hold, begin_to_close, end_with, fill, fill_count, finish, with_receiving, is_done, is_silent, on_info, on_info_ack, put_out, emit_owed, supply, emit_ack}
+use Rattle.circuit_l4.specs.Table.{Input, Write, Arrive, Tick, Close, Take, arrive_in, ask_by, close_in_turn, due_in, expire, note_activity, is_due, may_close, unchoke, resume_by, retry, retry_in, step, step_at, take_from, write_answer, write}
+use Rattle.circuit_l4.specs.Receiving.{Appended, Receipt, busy, receive, without_first, inbox, follow}
 use Rattle.circuit_l4.specs.Sending.{written}
 use Rattle.std.proofs.Common.{sym, ap, ◌∙◌}
 use Rattle.circuit_l4.specs.declared.transport.Pair.{Pair}
@@ -114,14 +114,14 @@ expires_met p s now h =
     either_going (MetIn p) (nat_eq s.tries s.config.retries) (end_with FailedRetries (begin s)) (retry now (begin s)) (refl, h.1)
     (retries_met s.phase p (begin s) h)
 
-releases_met : (p : Pair) (s : State) (now : ℕ) → Met p s → MetIn p (release now (begin s))
+releases_met : (p : Pair) (s : State) (now : ℕ) → Met p s → MetIn p (unchoke now (begin s))
 releases_met p s now h =
     let g : Effect = fill now (again (on_state (λ s. record s { choked = false; answer_due = None }) (begin s))) in
     if_out p g.end now (fills p now (again (on_state (λ s. record s { choked = false; answer_due = None }) (begin s))) h)
 
 due_met : (q : EndPhase) (p : Pair) (s : State) (now : ℕ) → Met p s → MetIn p (due_in q now (begin s))
 due_met Connecting p s now h = expires_met p s now h
-due_met Up p s now h = either_going (MetIn p) s.choked (release now (begin s)) (expire now (begin s)) (releases_met p s now h) (expires_met p s now h)
+due_met Up p s now h = either_going (MetIn p) s.choked (unchoke now (begin s)) (expire now (begin s)) (releases_met p s now h) (expires_met p s now h)
 due_met Closing p s now h = expires_met p s now h
 due_met Ended p s now h = h
 
@@ -139,7 +139,7 @@ steps_met p s Close now h =
 steps_met p s Take now h =
     let g : Effect = begin s in
     let r = without_first s.receiving in
-    let a : Appended = moved_on r in
+    let a : Appended = follow r in
     either_going (MetIn p) (nat_lt 0 (length (inbox s.receiving))) (take_from r g) g
     (either_going (MetIn p) (is_up s.phase && busy s.receiving && not (busy r)) (resume_by a g) (with_receiving r g)
     (either_going (MetIn p) a.fits (emit_ack false (with_receiving a.half g)) (end_with FailedOversize (with_receiving a.half g)) h (refl, h.1)) h) h

@@ -5,9 +5,9 @@ use Rattle.std.proofs.lemmas.Bool.Decides.{nat_tests}
 use Rattle.radio_base.specs.declared.modulus.TheConstants.{COUNT_MAX}
 use Rattle.ax_address.specs.Callsign.{Callsign}
 use Rattle.circuit_l4.specs.declared.transport.Pair.{Pair}
-use Rattle.circuit_l4.specs.declared.plain.EndNotice.{EndNotice}
-use Rattle.circuit_l4.specs.EndState.{Effect, Out, State}
-use Rattle.circuit_l4.specs.EndOpening.{facts_of}
+use Rattle.circuit_l4.specs.declared.notice.EndNotice.{EndNotice}
+use Rattle.circuit_l4.specs.State.{Effect, Out, State}
+use Rattle.circuit_l4.specs.Opening.{facts_of}
 use Rattle.circuit_set.specs.Pairs.{IsPair, is_used}
 use Rattle.circuit_set.specs.Sets.{Act, Calls, Comes, Connect, Discard, Restart, Made, Sent, Heeded, Notice, Gone, Restarted, Lost, Holder, SetDone, SetState, Told, all_gone, end_of, goes_to, has_ended, held_pairs, holder_of, is_over, losses, made, new_pair, notices, restarted, sents, set_step, told_by, with_end}
 use Rattle.circuit_set.specs.Books.{Book, FreshFrom, any_ends, is_lost, lost_with, noted, noted_all, partner_in, requester}

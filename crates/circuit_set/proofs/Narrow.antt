@@ -12,11 +12,11 @@ use Rattle.circuit_l4.specs.declared.transport.Pair.{Pair}
 use Rattle.circuit_l4.specs.declared.transport.Transport.{Transport}
 use Rattle.circuit_l4.specs.declared.transport.Transport.TheVariants.{Request, Accept, Refuse, Disconnect, Disconnected, Info, InfoAck}
 use Rattle.circuit_l4.specs.declared.transport.TransportRefusal.{TransportRefusal}
-use Rattle.circuit_l4.specs.declared.plain.EndConfig.{EndConfig}
-use Rattle.circuit_l4.specs.declared.plain.EndNotice.{EndNotice}
-use Rattle.circuit_l4.specs.EndState.{Effect, Out}
-use Rattle.circuit_l4.specs.EndTable.{Arrive, common_window, step}
-use Rattle.circuit_l4.specs.EndOpening.{facts_of, requesting, responding}
+use Rattle.circuit_l4.specs.declared.config.EndConfig.{EndConfig}
+use Rattle.circuit_l4.specs.declared.notice.EndNotice.{EndNotice}
+use Rattle.circuit_l4.specs.State.{Effect, Out}
+use Rattle.circuit_l4.specs.Table.{Arrive, common_window, step}
+use Rattle.circuit_l4.specs.Opening.{facts_of, requesting, responding}
 use Rattle.circuit_l4.specs.Reading.{transport_at}
 use Rattle.circuit_set.specs.Heeds.{heeds}
 use Rattle.circuit_set.specs.Events.{Event, Name}

@@ -12,14 +12,14 @@ use Rattle.circuit_l4.specs.declared.transport.Pair.{Pair}
 use Rattle.circuit_l4.specs.declared.transport.Transport.{Transport}
 use Rattle.circuit_l4.specs.declared.transport.Transport.TheVariants.{Request, Accept, Refuse, Disconnect, Disconnected, Info, InfoAck}
 use Rattle.circuit_l4.specs.declared.transport.TransportRefusal.{TransportRefusal}
-use Rattle.circuit_l4.specs.declared.plain.EndNotice.TheVariants.{Opened, Closed, ClosedByPartner}
-use Rattle.circuit_l4.specs.declared.machine.Role.TheVariants.{Requester, Responder}
+use Rattle.circuit_l4.specs.declared.notice.EndNotice.TheVariants.{Opened, Closed, ClosedByPartner}
+use Rattle.circuit_l4.specs.declared.role.Role.TheVariants.{Requester, Responder}
 use Rattle.circuit_l4.specs.Transports.{pair_at}
 use Rattle.circuit_l4.specs.Reading.{transport_at}
-use Rattle.circuit_l4.specs.EndState.{Effect, begin}
-use Rattle.circuit_l4.specs.EndLaws.{Accepts, Asks as NewAsks}
-use Rattle.circuit_l4.specs.EndTable.{Arrive, common_window, step}
-use Rattle.circuit_l4.specs.EndOpening.{requesting, responding}
+use Rattle.circuit_l4.specs.State.{Effect, begin}
+use Rattle.circuit_l4.specs.Laws.{Accepts, Asks as NewAsks}
+use Rattle.circuit_l4.specs.Table.{Arrive, common_window, step}
+use Rattle.circuit_l4.specs.Opening.{requesting, responding}
 use Rattle.circuit_set.specs.Heeds.{heeds}
 use Rattle.circuit_set.specs.Events.{Event, Name, is_copy, same_name}
 use Rattle.circuit_set.specs.NotedRuns.{Net, allowed, net_run, net_step}

@@ -4,8 +4,8 @@ use Rattle.std.specs.List.{AllByRecursion}
 use Rattle.std.proofs.Common.{sym, ◌∙◌, ap, subst, inl, inr, arith, append_assoc, append-nil}
 use Rattle.ax_address.specs.Callsign.{Callsign}
 use Rattle.circuit_l4.specs.declared.transport.Pair.{Pair}
-use Rattle.circuit_l4.specs.declared.machine.Role.{Role}
-use Rattle.circuit_l4.specs.EndState.{Effect}
+use Rattle.circuit_l4.specs.declared.role.Role.{Role}
+use Rattle.circuit_l4.specs.State.{Effect}
 use Rattle.circuit_set.specs.Books.{Book, empty, has_sent, lost_with, noted, noted_all}
 use Rattle.circuit_set.specs.Events.{Event, Name, is_copy, same_name}
 use Rattle.circuit_set.specs.NotedRuns.{Net, begins, net_step}

@@ -1,9 +1,9 @@
 -- At each moment of a timely run each end and its partner have what Safe says of them, by the notes of the book.
 use Rattle.std.specs.Prelude.{◌≡◌, ℕ, zero, suc, ◌≤◌, ◌⊎◌, List, [], ◌∷◌, ◌++◌, slice_get, take, Contains, Option, Some, None, refl}
 use Rattle.std.proofs.Common.{sym, ◌∙◌, ap, subst, arith}
-use Rattle.circuit_l4.specs.declared.plain.EndNotice.{EndNotice}
-use Rattle.circuit_l4.specs.declared.plain.EndNotice.TheVariants.{Closed, ClosedByPartner}
-use Rattle.circuit_l4.specs.EndState.{State}
+use Rattle.circuit_l4.specs.declared.notice.EndNotice.{EndNotice}
+use Rattle.circuit_l4.specs.declared.notice.EndNotice.TheVariants.{Closed, ClosedByPartner}
+use Rattle.circuit_l4.specs.State.{State}
 use Rattle.circuit_set.specs.Circuits.{SafeTo}
 use Rattle.circuit_set.specs.Beginnings.{IsBeginning, wholes}
 use Rattle.circuit_set.specs.Events.{Name}

@@ -2,8 +2,8 @@
 use Rattle.std.specs.Prelude.{◌≡◌, ◌≢◌, ℕ, zero, suc, ◌⊎◌, Bool, true, false, ◌||◌, if◌then◌else◌, List, [], ◌∷◌, ◌++◌, slice_get, Contains, Option, Some, None, refl}
 use Rattle.std.proofs.Common.{sym, ◌∙◌, ap, subst, inl, inr, arith, append_assoc}
 use Rattle.ax_address.specs.Callsign.{Callsign}
-use Rattle.circuit_l4.specs.declared.plain.EndNotice.{EndNotice}
-use Rattle.circuit_l4.specs.declared.plain.EndNotice.TheVariants.{Closed, ClosedByPartner, FailedRetries}
+use Rattle.circuit_l4.specs.declared.notice.EndNotice.{EndNotice}
+use Rattle.circuit_l4.specs.declared.notice.EndNotice.TheVariants.{Closed, ClosedByPartner, FailedRetries}
 use Rattle.circuit_set.specs.Among.{Has}
 use Rattle.circuit_set.specs.Books.{Book, Fresh, FreshFrom, MadeNote, Timely, empty, is_unknown, lost_with, noted, noted_all, partner}
 use Rattle.circuit_set.specs.Events.{Event, Name, same_name}

@@ -10,9 +10,9 @@ use Rattle.circuit_set.specs.Sets as sets
 use Rattle.circuit_set.specs.Sets.{SetDone, SetState, Told, end_of, first_open, has_ended, is_open}
 use Rattle.circuit_set.specs.Heeds.{heeds}
 use Rattle.circuit_l4.specs.declared.transport.Transport.{Transport}
-use Rattle.circuit_l4.specs.EndState.{State}
-use Rattle.circuit_l4.specs.EndStanding.{EndView, Stands, StandsFor}
-use Rattle.circuit_l4.specs.EndTable.{Arrive, step}
+use Rattle.circuit_l4.specs.State.{State}
+use Rattle.circuit_l4.specs.Standing.{EndView, Stands, StandsFor}
+use Rattle.circuit_l4.specs.Table.{Arrive, step}
 use Rattle.std.proofs.lemmas.Bool.Decides.{nat_tests}
 use Rattle.circuit_set.specs.Pumps.{is_empty}
 use Rattle.circuit_set.specs.Standing.{FirstFit, Fits, Hands, Here, Past, FirstLoud, Gives, Held, HeldStands, Keeps, Leaves, NextOf, SameNode, Tells, is_last, left_of, told_of}

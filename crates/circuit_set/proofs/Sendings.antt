@@ -12,10 +12,10 @@ use Rattle.circuit_l4.specs.declared.transport.Transport.{Transport}
 use Rattle.circuit_l4.specs.declared.transport.Transport.TheVariants.{Request, Accept, Refuse, Disconnect, Disconnected, Info, InfoAck}
 use Rattle.circuit_l4.specs.declared.transport.TransportRefusal.{TransportRefusal}
 use Rattle.circuit_l4.specs.Reading.{transport_at}
-use Rattle.circuit_l4.specs.declared.plain.EndNotice.{EndNotice}
-use Rattle.circuit_l4.specs.EndState.{Effect, Out}
-use Rattle.circuit_l4.specs.EndOpening.{facts_of, requesting, responding}
-use Rattle.circuit_l4.specs.EndTable.{Arrive, step}
+use Rattle.circuit_l4.specs.declared.notice.EndNotice.{EndNotice}
+use Rattle.circuit_l4.specs.State.{Effect, Out}
+use Rattle.circuit_l4.specs.Opening.{facts_of, requesting, responding}
+use Rattle.circuit_l4.specs.Table.{Arrive, step}
 use Rattle.circuit_set.specs.Heeds.{heeds}
 use Rattle.circuit_set.specs.Sendings.{SendsFrom, SetsSendTheirOwn}
 use Rattle.circuit_set.specs.Sets.{Call, Calls, Comes, Connect, Discard, Restart, Gone, Heeded, Holder, Lost, Made, Notice, Restarted, Sent, SetDone, SetState, Told, accept_again, called, datagram_to, discarded, end_of, first_open, goes_to, handed, handed_up, has_ended, holder_of, input_of, is_full, is_over, losses, made, named_by, new_pair, notices, opened_by, read_as, received, requested_anew, requests, responds, sents, told_by, untold, with_end}

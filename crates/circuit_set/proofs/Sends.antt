@@ -8,15 +8,15 @@ use Rattle.circuit_l4.specs.declared.transport.Pair.{Pair}
 use Rattle.circuit_l4.specs.declared.transport.Flags.{Flags}
 use Rattle.circuit_l4.specs.declared.transport.Transport.{Transport}
 use Rattle.circuit_l4.specs.declared.transport.Transport.TheVariants.{Request, Accept, Refuse, Disconnect, Disconnected, Info, InfoAck}
-use Rattle.circuit_l4.specs.declared.plain.EndConfig.{EndConfig}
-use Rattle.circuit_l4.specs.declared.plain.EndPhase.{EndPhase}
-use Rattle.circuit_l4.specs.declared.plain.EndPhase.TheVariants.{Up, Closing}
-use Rattle.circuit_l4.specs.declared.plain.EndNotice.{EndNotice}
-use Rattle.circuit_l4.specs.declared.plain.EndNotice.TheVariants.{Closed, ClosedByPartner}
-use Rattle.circuit_l4.specs.declared.texts.Owed.{Owed}
-use Rattle.circuit_l4.specs.declared.machine.Role.{Role}
-use Rattle.circuit_l4.specs.EndState.{Effect, Out, State, info, info_ack, infos, is_up}
-use Rattle.circuit_l4.specs.EndMoves.{Acknowledgement, acknowledge, acknowledge_by, advance, again, wait, wait_if_out, hold, begin_to_close, fill, fill_count, finish, is_done, owed_by, emit_infos, put_out, supply, emit_ack}
+use Rattle.circuit_l4.specs.declared.config.EndConfig.{EndConfig}
+use Rattle.circuit_l4.specs.declared.phase.EndPhase.{EndPhase}
+use Rattle.circuit_l4.specs.declared.phase.EndPhase.TheVariants.{Up, Closing}
+use Rattle.circuit_l4.specs.declared.notice.EndNotice.{EndNotice}
+use Rattle.circuit_l4.specs.declared.notice.EndNotice.TheVariants.{Closed, ClosedByPartner}
+use Rattle.circuit_l4.specs.declared.owed.Owed.{Owed}
+use Rattle.circuit_l4.specs.declared.role.Role.{Role}
+use Rattle.circuit_l4.specs.State.{Effect, Out, State, info, info_ack, infos, is_up}
+use Rattle.circuit_l4.specs.Moves.{Acknowledgement, acknowledge, acknowledge_by, advance, again, wait, wait_if_out, hold, begin_to_close, fill, fill_count, finish, is_done, owed_by, emit_infos, put_out, supply, emit_ack}
 use Rattle.circuit_l4.specs.Sending.{Sending, fragments, total}
 use Rattle.circuit_l4.specs.Receiving.{Receiving}
 use Rattle.circuit_set.specs.Lines.{at_place}

@@ -3,7 +3,7 @@ use Rattle.std.specs.Prelude.{◌≡◌, ◌≢◌, ℕ, ◌⊎◌, Bool, true, 
 use Rattle.std.proofs.Common.{sym, ◌∙◌, ap, subst, inl, inr, arith}
 use Rattle.std.proofs.lemmas.Bool.Decides.{nat_tests}
 use Rattle.circuit_l4.specs.declared.transport.Pair.{Pair}
-use Rattle.circuit_l4.specs.EndState.{State}
+use Rattle.circuit_l4.specs.State.{State}
 use Rattle.circuit_set.specs.Sets.{Holder, SetState, end_of, has_ended, restarted, with_end}
 use Rattle.circuit_set.specs.Books.{Book}
 use Rattle.circuit_set.specs.Events.{Name}

@@ -1,11 +1,11 @@
 -- How many messages were taken at an end stays in each step but that by which one is taken.
 use Rattle.std.specs.Prelude.{◌≡◌, ℕ, ◌+◌, Bool, true, false, not, ◌&&◌, nat_lt, if◌then◌else◌, length, refl}
 use Rattle.std.proofs.Common.{arith}
-use Rattle.circuit_l4.specs.declared.plain.EndNotice.TheVariants.{FailedOversize}
-use Rattle.circuit_l4.specs.EndState.{Effect, State, begin, is_up}
-use Rattle.circuit_l4.specs.EndMoves.{end_with, with_receiving, emit_ack}
-use Rattle.circuit_l4.specs.EndTable.{Input, Take, resume_by, step, take_from}
-use Rattle.circuit_l4.specs.Receiving.{Appended, busy, without_first, inbox, moved_on}
+use Rattle.circuit_l4.specs.declared.notice.EndNotice.TheVariants.{FailedOversize}
+use Rattle.circuit_l4.specs.State.{Effect, State, begin, is_up}
+use Rattle.circuit_l4.specs.Moves.{end_with, with_receiving, emit_ack}
+use Rattle.circuit_l4.specs.Table.{Input, Take, resume_by, step, take_from}
+use Rattle.circuit_l4.specs.Receiving.{Appended, busy, without_first, inbox, follow}
 use Rattle.circuit_set.specs.Standing.{counted}
 use Rattle.circuit_set.proofs.Lasting.{lasts, move_on_taken}
 use Rattle.circuit_set.proofs.Sends.{either_going}
@@ -27,7 +27,7 @@ take_case : (s : State) (b : Bool) → (if b then take_from (without_first s.rec
 take_case s true =
     let g : Effect = begin s in
     let r = without_first s.receiving in
-    let a : Appended = moved_on r in
+    let a : Appended = follow r in
     let moved : a.half.taken ≡ r.taken = move_on_taken (length r.early) r in
     let P : Effect → Type 0 = λ h. h.end.receiving.taken ≡ r.taken in
     either_going P (is_up s.phase && busy s.receiving && not (busy r)) (resume_by a (with_receiving r g)) (with_receiving r g)

@@ -7,14 +7,14 @@ use Rattle.ax_address.specs.Callsign.{Callsign}
 use Rattle.circuit_reassembly.specs.Fragments.{Fragment}
 use Rattle.circuit_l4.specs.declared.transport.Pair.{Pair}
 use Rattle.circuit_l4.specs.declared.transport.Transport.TheVariants.{Request, Accept, Refuse, Disconnect, Disconnected, Info, InfoAck}
-use Rattle.circuit_l4.specs.declared.plain.EndConfig.{EndConfig}
-use Rattle.circuit_l4.specs.declared.plain.EndPhase.{EndPhase}
-use Rattle.circuit_l4.specs.declared.plain.EndPhase.TheVariants.{Connecting, Up, Closing, Ended}
-use Rattle.circuit_l4.specs.declared.plain.EndNotice.TheVariants.{Opened, Closed, ClosedByPartner}
-use Rattle.circuit_l4.specs.declared.machine.Role.TheVariants.{Responder}
-use Rattle.circuit_l4.specs.EndState.{begin}
-use Rattle.circuit_l4.specs.EndTable.{Input, Write, Arrive, Tick, Close, Take, common_window, arrive_in}
-use Rattle.circuit_l4.specs.EndOpening.{unheard, unwritten}
+use Rattle.circuit_l4.specs.declared.config.EndConfig.{EndConfig}
+use Rattle.circuit_l4.specs.declared.phase.EndPhase.{EndPhase}
+use Rattle.circuit_l4.specs.declared.phase.EndPhase.TheVariants.{Connecting, Up, Closing, Ended}
+use Rattle.circuit_l4.specs.declared.notice.EndNotice.TheVariants.{Opened, Closed, ClosedByPartner}
+use Rattle.circuit_l4.specs.declared.role.Role.TheVariants.{Responder}
+use Rattle.circuit_l4.specs.State.{begin}
+use Rattle.circuit_l4.specs.Table.{Input, Write, Arrive, Tick, Close, Take, common_window, arrive_in}
+use Rattle.circuit_l4.specs.Opening.{unheard, unwritten}
 use Rattle.circuit_l4.specs.Sending.{Sending, fragments_of_all, total}
 use Rattle.circuit_l4.specs.Receiving.{Receiving}
 use Rattle.circuit_set.specs.Lines.{Elem, Known}

@@ -3,8 +3,8 @@ use Rattle.std.specs.Prelude.{◌≡◌, ℕ, ◌-◌, ◌⊎◌, Bool, true, fa
 use Rattle.std.proofs.Common.{sym, ◌∙◌, ap, subst, inl, inr, append_assoc, append-nil}
 use Rattle.ax_address.specs.Callsign.{Callsign}
 use Rattle.circuit_l4.specs.declared.transport.Pair.{Pair}
-use Rattle.circuit_l4.specs.declared.plain.EndNotice.{EndNotice}
-use Rattle.circuit_l4.specs.declared.plain.EndNotice.TheVariants.{Opened}
+use Rattle.circuit_l4.specs.declared.notice.EndNotice.{EndNotice}
+use Rattle.circuit_l4.specs.declared.notice.EndNotice.TheVariants.{Opened}
 use Rattle.circuit_set.specs.Among.{Has, Last}
 use Rattle.circuit_set.specs.Books.{Book, Fresh, empty, noted, with_notice}
 use Rattle.circuit_set.specs.Events.{Event, Name, same_name}

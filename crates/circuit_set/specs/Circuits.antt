@@ -4,15 +4,15 @@ use Rattle.ax_address.specs.Callsign.{Callsign}
 use Rattle.circuit_l4.specs.declared.transport.Pair.{Pair}
 use Rattle.circuit_l4.specs.declared.transport.Transport.{Transport}
 use Rattle.circuit_l4.specs.declared.transport.Transport.TheVariants.{Request, Accept, Refuse, Disconnect, Disconnected, Info, InfoAck}
-use Rattle.circuit_l4.specs.declared.plain.EndConfig.{EndConfig}
-use Rattle.circuit_l4.specs.declared.plain.EndPhase.{EndPhase}
-use Rattle.circuit_l4.specs.declared.plain.EndPhase.TheVariants.{Connecting, Up, Closing, Ended}
-use Rattle.circuit_l4.specs.declared.plain.EndNotice.{EndNotice}
-use Rattle.circuit_l4.specs.declared.plain.EndNotice.TheVariants.{Closed, ClosedByPartner}
-use Rattle.circuit_l4.specs.declared.machine.Role.TheVariants.{Responder}
-use Rattle.circuit_l4.specs.EndState.{State, Effect, Out, is_up}
-use Rattle.circuit_l4.specs.EndTable.{Input, Arrive, common_window, step}
-use Rattle.circuit_l4.specs.EndOpening.{requesting, responding}
+use Rattle.circuit_l4.specs.declared.config.EndConfig.{EndConfig}
+use Rattle.circuit_l4.specs.declared.phase.EndPhase.{EndPhase}
+use Rattle.circuit_l4.specs.declared.phase.EndPhase.TheVariants.{Connecting, Up, Closing, Ended}
+use Rattle.circuit_l4.specs.declared.notice.EndNotice.{EndNotice}
+use Rattle.circuit_l4.specs.declared.notice.EndNotice.TheVariants.{Closed, ClosedByPartner}
+use Rattle.circuit_l4.specs.declared.role.Role.TheVariants.{Responder}
+use Rattle.circuit_l4.specs.State.{State, Effect, Out, is_up}
+use Rattle.circuit_l4.specs.Table.{Input, Arrive, common_window, step}
+use Rattle.circuit_l4.specs.Opening.{requesting, responding}
 use Rattle.circuit_l4.specs.Sending.{fragments, total}
 use Rattle.circuit_set.specs.Lines.{InfoMark, AckMark, count_from}
 use Rattle.circuit_set.specs.Heaps.{AreMessages}

@@ -3,8 +3,8 @@ use Rattle.std.specs.Prelude.{ℕ, Bool, true, false, ◌&&◌, nat_eq, nat_le, 
 use Rattle.ax_address.specs.Callsign.{Callsign}
 use Rattle.std.specs.Cmp.Lexicographic.{pointwise}
 use Rattle.l3_datagram.specs.declared.datagram.TheConstants.{HEAD_SIZE, TTL_AT}
-use Rattle.circuit_l4.specs.declared.plain.EndNotice.{EndNotice}
-use Rattle.circuit_l4.specs.declared.plain.EndNotice.TheVariants.{Opened}
+use Rattle.circuit_l4.specs.declared.notice.EndNotice.{EndNotice}
+use Rattle.circuit_l4.specs.declared.notice.EndNotice.TheVariants.{Opened}
 use Rattle.circuit_set.specs.Sets.{Told}
 
 -- an end: its node, by its place among the nodes, and its number there

@@ -6,7 +6,7 @@ use Rattle.l3_datagram.specs.Datagrams.{octets_with}
 use Rattle.circuit_l4.specs.declared.transport.Pair.{Pair}
 use Rattle.circuit_l4.specs.declared.transport.Transport.{Transport}
 use Rattle.circuit_l4.specs.declared.transport.Transport.TheVariants.{Request, Accept, Info}
-use Rattle.circuit_l4.specs.declared.plain.EndConfig.{EndConfig}
+use Rattle.circuit_l4.specs.declared.config.EndConfig.{EndConfig}
 use Rattle.circuit_l4.specs.Transports.{transport_octets}
 use Rattle.circuit_set.specs.Sets.{Calls, Comes, Connect, Restart, SetState, Ticks, started}
 use Rattle.circuit_set.specs.Books.{Fresh, Timely, empty}

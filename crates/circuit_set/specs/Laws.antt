@@ -2,8 +2,8 @@
 use Rattle.std.specs.Prelude.{ℕ, ◌+◌, ◌*◌, ◌≤◌, List}
 use Rattle.ax_address.specs.Callsign.{Callsign}
 use Rattle.circuit_l4.specs.declared.transport.Pair.{Pair}
-use Rattle.circuit_l4.specs.declared.plain.EndConfig.{EndConfig}
-use Rattle.circuit_l4.specs.EndTable.{common_window}
+use Rattle.circuit_l4.specs.declared.config.EndConfig.{EndConfig}
+use Rattle.circuit_l4.specs.Table.{common_window}
 use Rattle.circuit_set.specs.Circuits.{Circuit, Event, InTimeAll, SafeTo, opened, run}
 
 -- at the end of each run of it in which all that is heeded is in time

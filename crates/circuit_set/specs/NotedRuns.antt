@@ -1,7 +1,7 @@
 -- Runs with the notes of the book, and what these allow. No public clause of the crates above cites it: laws of this crate do.
 use Rattle.std.specs.Prelude.{◌≡◌, ◌≢◌, ℕ, ◌+◌, ◌-◌, ◌*◌, ◌≤◌, if◌then◌else◌, List, [], ◌∷◌, ◌++◌, slice_get, Option, Some, None}
-use Rattle.circuit_l4.specs.declared.plain.EndNotice.{EndNotice}
-use Rattle.circuit_l4.specs.declared.plain.EndNotice.TheVariants.{Opened}
+use Rattle.circuit_l4.specs.declared.notice.EndNotice.{EndNotice}
+use Rattle.circuit_l4.specs.declared.notice.EndNotice.TheVariants.{Opened}
 use Rattle.circuit_set.specs.Books.{Book, MadeNote, Timely, empty, noted_all, partner, was_asked}
 use Rattle.circuit_set.specs.Events.{Name, same_name}
 use Rattle.circuit_set.specs.Runs.{AreNarrow, AreStarts, AreSteps, Step, end_named, events_of, sets_at, told_at}

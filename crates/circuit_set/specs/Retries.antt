@@ -1,6 +1,6 @@
 -- What holds of every run, timely or not: when an end is told that its retries are used up. Own profile.
 use Rattle.std.specs.Prelude.{◌≡◌, ◌+◌, ◌↔◌, List, Some}
-use Rattle.circuit_l4.specs.declared.plain.EndNotice.TheVariants.{FailedRetries}
+use Rattle.circuit_l4.specs.declared.notice.EndNotice.TheVariants.{FailedRetries}
 use Rattle.circuit_set.specs.Events.{Name}
 use Rattle.circuit_set.specs.Runs.{AreStarts, AreSteps, Step, end_named, events_of, expiries_in, sets_run}
 use Rattle.circuit_set.specs.Sets.{Holder, SetState}

@@ -1,7 +1,7 @@
 -- A run of sets at nodes, in which any datagram whatever may arrive and any node may start again.
 use Rattle.std.specs.Prelude.{◌≡◌, ℕ, ◌≤◌, if◌then◌else◌, List, [], ◌∷◌, ◌++◌, nat_eq, slice_get, slice_set, Option, Some, None}
 use Rattle.ax_address.specs.Callsign.{Callsign, IsCallsign}
-use Rattle.circuit_l4.specs.EndOpening.{IsConfig}
+use Rattle.circuit_l4.specs.Opening.{IsConfig}
 use Rattle.circuit_set.specs.Pairs.{IsPair}
 use Rattle.circuit_l4.specs.Expiries.{Moment, expiries}
 use Rattle.circuit_set.specs.Sets.{Act, Call, Calls, Closes, Comes, Connect, Discard, Restart, Takes, Ticks, Writes, Holder, SetState, Told, end_of, set_step}

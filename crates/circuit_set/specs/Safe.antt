@@ -1,7 +1,7 @@
 -- Safe: what the two ends of a circuit have, by the events that were told (this project's profile).
 use Rattle.std.specs.Prelude.{◌≡◌, ◌≢◌, ℕ, ◌+◌, ◌⊎◌, ◌↔◌, List, [], ◌++◌, take, Option, Some}
-use Rattle.circuit_l4.specs.declared.plain.EndNotice.TheVariants.{Closed, ClosedByPartner, FailedRetries}
-use Rattle.circuit_l4.specs.EndState.{State}
+use Rattle.circuit_l4.specs.declared.notice.EndNotice.TheVariants.{Closed, ClosedByPartner, FailedRetries}
+use Rattle.circuit_l4.specs.State.{State}
 use Rattle.circuit_set.specs.Beginnings.{IsBeginning, wholes}
 use Rattle.circuit_set.specs.Events.{Event, Name}
 use Rattle.circuit_set.specs.Runs.{AreStarts, AreSteps, Step, end_named, events_of, expiries_in, sets_run}

@@ -11,16 +11,16 @@ use Rattle.circuit_l4.specs.declared.transport.Pair.{Pair}
 use Rattle.circuit_l4.specs.declared.transport.Transport.{Transport}
 use Rattle.circuit_l4.specs.declared.transport.Transport.TheVariants.{Request, Accept, Refuse, Disconnect, Disconnected, Info, InfoAck}
 use Rattle.circuit_l4.specs.declared.transport.TransportRefusal.{TransportRefusal}
-use Rattle.circuit_l4.specs.declared.plain.EndConfig.{EndConfig}
-use Rattle.circuit_l4.specs.declared.plain.EndFacts.{EndFacts}
-use Rattle.circuit_l4.specs.declared.plain.EndPhase.{EndPhase}
-use Rattle.circuit_l4.specs.declared.plain.EndPhase.TheVariants.{Connecting, Up, Closing, Ended}
-use Rattle.circuit_l4.specs.declared.plain.EndNotice.{EndNotice}
+use Rattle.circuit_l4.specs.declared.config.EndConfig.{EndConfig}
+use Rattle.circuit_l4.specs.declared.facts.EndFacts.{EndFacts}
+use Rattle.circuit_l4.specs.declared.phase.EndPhase.{EndPhase}
+use Rattle.circuit_l4.specs.declared.phase.EndPhase.TheVariants.{Connecting, Up, Closing, Ended}
+use Rattle.circuit_l4.specs.declared.notice.EndNotice.{EndNotice}
 use Rattle.circuit_l4.specs.Reading.{transport_at}
 use Rattle.circuit_l4.specs.Transports.{transport_octets}
-use Rattle.circuit_l4.specs.EndState.{Effect, Out, State}
-use Rattle.circuit_l4.specs.EndTable.{Input, Write, Arrive, Tick, Close, Take, step}
-use Rattle.circuit_l4.specs.EndOpening.{facts_of, requesting, responding}
+use Rattle.circuit_l4.specs.State.{Effect, Out, State}
+use Rattle.circuit_l4.specs.Table.{Input, Write, Arrive, Tick, Close, Take, step}
+use Rattle.circuit_l4.specs.Opening.{facts_of, requesting, responding}
 use Rattle.circuit_l4.specs.Receiving.{inbox}
 use Rattle.circuit_set.specs.Pairs.{following, next_free}
 use Rattle.circuit_set.specs.Heeds.{heeds}

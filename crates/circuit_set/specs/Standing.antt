@@ -5,22 +5,22 @@ use Rattle.std.specs.Option.{option_map}
 use Rattle.std.specs.Map.{remove_entry, set_value}
 use Rattle.ax_address.specs.Callsign.{Callsign}
 use Rattle.l3_datagram.specs.Datagrams.{octets_with}
-use Rattle.circuit_l4.specs.declared.plain.EndPhase.{EndPhase}
-use Rattle.circuit_l4.specs.declared.plain.EndPhase.TheVariants.{Connecting, Up, Closing, Ended}
+use Rattle.circuit_l4.specs.declared.phase.EndPhase.{EndPhase}
+use Rattle.circuit_l4.specs.declared.phase.EndPhase.TheVariants.{Connecting, Up, Closing, Ended}
 use Rattle.circuit_l4.specs.declared.transport.Pair.{Pair}
 use Rattle.circuit_l4.specs.declared.transport.Transport.{Transport}
-use Rattle.circuit_l4.specs.EndState.{Effect, Out, State}
-use Rattle.circuit_l4.specs.declared.plain.WriteRefusal.{WriteRefusal}
-use Rattle.circuit_l4.specs.EndTable as end
+use Rattle.circuit_l4.specs.State.{Effect, Out, State}
+use Rattle.circuit_l4.specs.declared.refusal.WriteRefusal.{WriteRefusal}
+use Rattle.circuit_l4.specs.Table as end
 use Rattle.circuit_l4.specs.Halves.{first_or}
 use Rattle.circuit_l4.specs.Receiving.{inbox}
-use Rattle.circuit_l4.specs.EndOpening.{facts_of}
+use Rattle.circuit_l4.specs.Opening.{facts_of}
 use Rattle.circuit_set.specs.declared.event.SetRefusal.{SetRefusal}
 use Rattle.circuit_set.specs.declared.event.SetRefusal.TheVariants as set_refusal
 use Rattle.circuit_set.specs.declared.event.DiscardRefusal.{DiscardRefusal}
 use Rattle.circuit_set.specs.declared.event.DiscardRefusal.TheVariants as discard_refusal
 use Rattle.circuit_set.specs.declared.event.NoEnd.{NoEnd}
-use Rattle.circuit_l4.specs.EndStanding.{IsDrained, EndView, Stands, StandsFor}
+use Rattle.circuit_l4.specs.Standing.{IsDrained, EndView, Stands, StandsFor}
 use Rattle.circuit_l4.specs.Transports.{transport_octets}
 use Rattle.circuit_set.specs.declared.event.SetEvent.{SetEvent}
 use Rattle.circuit_set.specs.declared.event.SetEvent.TheVariants as event

@@ -1,6 +1,6 @@
 -- What the ends of a run have written. Own profile.
 use Rattle.std.specs.Prelude.{◌≡◌, ℕ, ◌++◌, nat_eq, if◌then◌else◌, List, [], Option, Some, None}
-use Rattle.circuit_l4.specs.EndLaws.{written_by}
+use Rattle.circuit_l4.specs.Laws.{written_by}
 use Rattle.circuit_set.specs.Events.{Name}
 use Rattle.circuit_set.specs.NotedRuns.{Net, begins, end_at, net_run, net_step}
 use Rattle.circuit_set.specs.Runs.{AreStarts, Step}

@@ -2,7 +2,7 @@
 ghost use Rattle.std.specs.Prelude.{◌≡◌, ◌≤◌, ◌<◌, true, false, List, [], Some, None, length, nat_eq, if◌then◌else◌, OnOk, IfOk, OnErr, IsErrOf};
 ghost use Rattle.std.specs.Map.{lookup, remove_entry};
 ghost use Rattle.radio_base.specs.declared.modulus.TheConstants.{COUNT_MAX};
-ghost use Rattle.circuit_l4.specs.EndOpening.{IsConfig};
+ghost use Rattle.circuit_l4.specs.Opening.{IsConfig};
 ghost use Rattle.circuit_set.specs.Sets as sets;
 
 use crate::MAX_ENDS;

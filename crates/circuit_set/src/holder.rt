@@ -2,9 +2,9 @@
 ghost use Rattle.std.specs.Prelude.{◌≡◌, ◌+◌, ◌≤◌, false, ◌||◌, ◌&&◌, not, true, Some, None, ℕ, List, nat_lt, length, is_some, IfSome};
 ghost use Rattle.ax_address.specs.Callsign.{Callsign};
 ghost use Rattle.ax_address.specs.CallOrder.{same_call};
-ghost use Rattle.circuit_l4.specs.EndState.{State};
-ghost use Rattle.circuit_l4.specs.EndTable as table;
-ghost use Rattle.circuit_l4.specs.EndStanding.{IsDrained, Stands, StandsFor};
+ghost use Rattle.circuit_l4.specs.State.{State};
+ghost use Rattle.circuit_l4.specs.Table as table;
+ghost use Rattle.circuit_l4.specs.Standing.{IsDrained, Stands, StandsFor};
 ghost use Rattle.circuit_l4.specs.Halves.{first_or};
 ghost use Rattle.circuit_l4.specs.Receiving.{inbox};
 ghost use Rattle.circuit_set.specs.Sets as sets;

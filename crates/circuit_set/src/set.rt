@@ -44,7 +44,7 @@ impl<C> Model for CircuitSet<C> {
 }
 
 impl<C: Carrier + Drop> CircuitSet<C> {
-    ghost use Rattle.circuit_l4.specs.EndOpening.{IsConfig};
+    ghost use Rattle.circuit_l4.specs.Opening.{IsConfig};
     ghost use Rattle.circuit_set.specs.Pairs.{IsPair};
     ghost use Rattle.circuit_set.specs.Pumps.{at_rest};
     ghost use Rattle.circuit_set.specs.Sets.{started};

@@ -4,8 +4,8 @@ use Rattle.std.specs.List.{list_any}
 use Rattle.ax_address.specs.Callsign.{Callsign}
 use Rattle.ax_address.specs.CallOrder.{same_call}
 use Rattle.circuit_l4.specs.declared.transport.Pair.{Pair}
-use Rattle.circuit_l4.specs.declared.plain.EndNotice.{EndNotice}
-use Rattle.circuit_l4.specs.declared.plain.EndNotice.TheVariants.{Opened}
+use Rattle.circuit_l4.specs.declared.notice.EndNotice.{EndNotice}
+use Rattle.circuit_l4.specs.declared.notice.EndNotice.TheVariants.{Opened}
 use Rattle.circuit_set.specs.Sets.{same_pair}
 use Rattle.circuit_set.specs.Books.{MadeNote, any_ends, is_lost, is_some_name, made_last, partner_in, was_asked}
 use Rattle.circuit_set.specs.Events.{Name, same_name}

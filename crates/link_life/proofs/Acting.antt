@@ -1,8 +1,8 @@
 -- What is done at one end.
 use Rattle.std.proofs.Common.{◌≡◌, ◌+◌, ◌-◌, ℕ, Bool, true, false, not, ◌||◌, nat_le, if◌then◌else◌, List, [], ◌++◌, length, Option, Some, None, Result, Ok, Err, refl, ap, sym, ◌∙◌, subst, arith, length-append}
-use Rattle.ax_link.specs.declared.plain.LinkFacts.{LinkFacts}
-use Rattle.ax_link.specs.declared.plain.LinkPhase.{LinkPhase}
-use Rattle.ax_link.specs.declared.plain.SendRefusal.{SendRefusal}
+use Rattle.ax_link.specs.declared.facts.LinkFacts.{LinkFacts}
+use Rattle.ax_link.specs.declared.phase.LinkPhase.{LinkPhase}
+use Rattle.ax_link.specs.declared.refusal.SendRefusal.{SendRefusal}
 use Rattle.ax_link.specs.Opening.{answer_by, rules_new, send_answer}
 use Rattle.ax_link.specs.Standing.{LinkView, Stands, StandsFor}
 use Rattle.ax_link.specs.State.{Effect, State, count_end}

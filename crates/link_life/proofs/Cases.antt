@@ -6,17 +6,17 @@ use Rattle.std.specs.Option.{option_to_list}
 use Rattle.radio_base.specs.declared.payload.Payload.{Payload}
 use Rattle.ax_link.specs.declared.kind.Kind.{Kind}
 use Rattle.ax_link.specs.declared.kind.Kind.TheVariants as kind
-use Rattle.ax_link.specs.declared.plain.LinkNotice.{LinkNotice}
-use Rattle.ax_link.specs.declared.plain.LinkNotice.TheVariants.{Failed}
-use Rattle.ax_link.specs.declared.plain.LinkPhase.{LinkPhase}
-use Rattle.ax_link.specs.declared.plain.LinkPhase.TheVariants.{Down, SettingUp, Up, Releasing}
+use Rattle.ax_link.specs.declared.notice.LinkNotice.{LinkNotice}
+use Rattle.ax_link.specs.declared.notice.LinkNotice.TheVariants.{Failed}
+use Rattle.ax_link.specs.declared.phase.LinkPhase.{LinkPhase}
+use Rattle.ax_link.specs.declared.phase.LinkPhase.TheVariants.{Down, SettingUp, Up, Releasing}
 use Rattle.ax_link.specs.Carrying.{GoesOn, carries}
 use Rattle.ax_link.specs.Laws.{notice_of}
 use Rattle.ax_link.specs.Moves.{fill, start_poll}
 use Rattle.ax_link.specs.Pair.{Both, Core, IsNew, NoRestartIn, core, opens, reach}
 use Rattle.ax_link.specs.Runs.{sets_up}
 use Rattle.ax_link.specs.State.{Effect, Frame, State, begin, count_end, is_up, t1_runs, t3_at, top}
-use Rattle.ax_link.specs.Table.{Input, Set_up, Send, Arrive, Tick, Close, Take, accept, arrive_down, arrive_releasing, arrive_setting, come_up, fail, refuse_if, retry, step, takes}
+use Rattle.ax_link.specs.Table.{Input, Set_up, Send, Arrive, Tick, Close, Take, accept, arrive_down, arrive_releasing, arrive_setting_up, come_up, fail, refuse_if, retry, step, takes}
 use Rattle.link_life.specs.Ends.{any_begins, is_of_account}
 use Rattle.link_life.proofs.Known.{Known}
 
@@ -181,7 +181,7 @@ carried_none [] a = refl
 carried_none (f ∷ fs) a = carried_answers f.kind fs a.0 ∙ carried_none fs a.1
 
 setting_step : (known : Known) (command : Bool) (k : Kind) (p : Option Payload) (s : State) (now : ℕ) → goes_out k ≡ true →
-    Step (record s { phase = SettingUp }) (Arrive (record { command = command; kind = k; payload = p })) now (arrive_setting (min now count_end) k (begin (record s { phase = SettingUp; last_arrival = min now count_end })))
+    Step (record s { phase = SettingUp }) (Arrive (record { command = command; kind = k; payload = p })) now (arrive_setting_up (min now count_end) k (begin (record s { phase = SettingUp; last_arrival = min now count_end })))
 setting_step known command (kind.Ua true) p s now m =
     let f : Frame = record { command = command; kind = kind.Ua true; payload = p } in
     let t : State = record s { phase = SettingUp } in

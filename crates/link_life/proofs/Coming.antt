@@ -3,7 +3,7 @@ use Rattle.std.proofs.Common.{◌≡◌, ◌≤◌, ℕ, Bool, true, false, List
 use Rattle.std.specs.Prelude.{nat_le}
 use Rattle.std.proofs.lemmas.Bool.Decides.{nat_tests}
 use Rattle.radio_base.specs.declared.payload.Payload.{Payload}
-use Rattle.ax_link.specs.declared.plain.LinkOut.{LinkOut}
+use Rattle.ax_link.specs.declared.out.LinkOut.{LinkOut}
 use Rattle.ax_link.specs.Kinds.{frame_in, kind_of, payload_of}
 use Rattle.ax_link.specs.Standing.{frame_of}
 use Rattle.ax_link.specs.State.{Frame}

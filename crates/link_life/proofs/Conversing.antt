@@ -1,6 +1,6 @@
 -- A conversation goes on, begins, and fails to begin.
 use Rattle.std.proofs.Common.{◌≡◌, ◌⊎◌, inl, inr, ◌<◌, ℕ, suc, false, List, [], ◌++◌, length, Some, slice_get, refl, ap, sym, ◌∙◌, subst, arith, length-append}
-use Rattle.ax_link.specs.declared.plain.LinkPhase.TheVariants.{SettingUp}
+use Rattle.ax_link.specs.declared.phase.LinkPhase.TheVariants.{SettingUp}
 use Rattle.ax_link.specs.Pair.{Both, Core, IsNew, core, opens}
 use Rattle.ax_link.specs.State.{Frame}
 use Rattle.link_life.specs.Ends.{End, Epoch, Flight, epochs, is_of_account, lasting}

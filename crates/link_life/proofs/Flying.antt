@@ -2,7 +2,7 @@
 use Rattle.std.proofs.Common.{◌≡◌, ℕ, List, [], ◌∷◌, ◌++◌, drop, Some, slice_get, map, ap, sym, ◌∙◌, append_assoc}
 use Rattle.std.specs.List.{flat_map}
 use Rattle.std.proofs.lemmas.List.{map-append}
-use Rattle.ax_link.specs.declared.plain.LinkOut.{LinkOut}
+use Rattle.ax_link.specs.declared.out.LinkOut.{LinkOut}
 use Rattle.ax_link.specs.Standing.{LinkView, frame_of}
 use Rattle.link_life.specs.declared.act.Side.{Side}
 use Rattle.link_life.specs.declared.book.Flight.{Flight as FlightKept}

@@ -1,7 +1,7 @@
 -- Each step of the near end leaves what is known of the two ends.
 use Rattle.std.proofs.Common.{◌≡◌, ◌⊎◌, inl, inr, ◌≤◌, min, ℕ, true, false, List, [], ◌∷◌, ◌++◌, length, Option, Some, refl, ap, sym, ◌∙◌, subst, arith, length-append}
 use Rattle.std.specs.List.{AllByRecursion}
-use Rattle.ax_link.specs.declared.plain.LinkPhase.TheVariants.{SettingUp, Up}
+use Rattle.ax_link.specs.declared.phase.LinkPhase.TheVariants.{SettingUp, Up}
 use Rattle.ax_link.specs.Pair.{NoRestartIn, core, opens}
 use Rattle.ax_link.specs.Runs.{sets_up}
 use Rattle.ax_link.specs.State.{Frame, Rules, count_end}

@@ -1,8 +1,8 @@
 -- What the laws of links say.
 use Rattle.std.proofs.Common.{◌≡◌, ◌⊎◌, ◌≤◌, ◌++◌, ℕ, true, List, [], ◌∷◌}
 use Rattle.ax_link.specs.declared.kind.Kind.TheVariants.{Ua}
-use Rattle.ax_link.specs.declared.plain.LinkConfig.{LinkConfig}
-use Rattle.ax_link.specs.declared.plain.LinkPhase.TheVariants.{SettingUp, Up}
+use Rattle.ax_link.specs.declared.config.LinkConfig.{LinkConfig}
+use Rattle.ax_link.specs.declared.phase.LinkPhase.TheVariants.{SettingUp, Up}
 use Rattle.ax_link.specs.Carrying.{OpensSo, UpGoesOn}
 use Rattle.ax_link.specs.Laws.{BoundsStay, KindsGoOut, NoticesAre, SettingsStay}
 use Rattle.ax_link.specs.Opening.{rules_new}

@@ -2,7 +2,7 @@
 use Rattle.std.proofs.Common.{◌≡◌, ◌+◌, ℕ, suc, List, [], ◌∷◌, ◌++◌, length, map, Option, Some, None, slice_get, unwrap_or, refl, ap, sym, ◌∙◌, append_assoc, append-nil, arith}
 use Rattle.std.specs.Prelude.{codes}
 use Rattle.std.specs.Fmt.{decimal}
-use Rattle.ax_link.specs.declared.plain.LinkFacts.{LinkFacts}
+use Rattle.ax_link.specs.declared.facts.LinkFacts.{LinkFacts}
 use Rattle.link_life.specs.declared.act.Side.{Side}
 use Rattle.link_life.specs.declared.book.Book.{Book}
 use Rattle.link_life.specs.declared.book.Epoch.{Epoch as EpochKept}

@@ -2,8 +2,8 @@
 use Rattle.std.proofs.Common.{◌≡◌, ℕ, List, [], ◌++◌, map, None, ap, sym, ◌∙◌, append_assoc, subst}
 use Rattle.std.specs.Option.{option_to_list}
 use Rattle.std.specs.List.{flat_map}
-use Rattle.ax_link.specs.declared.plain.LinkFacts.{LinkFacts}
-use Rattle.ax_link.specs.declared.plain.LinkNotice.{LinkNotice}
+use Rattle.ax_link.specs.declared.facts.LinkFacts.{LinkFacts}
+use Rattle.ax_link.specs.declared.notice.LinkNotice.{LinkNotice}
 use Rattle.ax_link.specs.Standing.{LinkView, Stands, StandsFor, frame_of}
 use Rattle.ax_link.specs.State.{Effect, Frame, State}
 use Rattle.link_life.specs.declared.act.Side.{Side}

@@ -4,7 +4,7 @@ use Rattle.std.specs.List.{AllByRecursion}
 use Rattle.radio_base.specs.declared.payload.Payload.{Payload}
 use Rattle.ax_link.specs.declared.kind.Kind.{Kind}
 use Rattle.ax_link.specs.declared.kind.Kind.TheVariants as kind
-use Rattle.ax_link.specs.declared.plain.LinkPhase.TheVariants.{SettingUp, Up}
+use Rattle.ax_link.specs.declared.phase.LinkPhase.TheVariants.{SettingUp, Up}
 use Rattle.ax_link.specs.Opening.{opening}
 use Rattle.ax_link.specs.Pair.{Both, Core, Fits, IsNew, ack_of, acks_of, core, opens, text_of, texts_of}
 use Rattle.ax_link.specs.State.{Frame, Rules, State}

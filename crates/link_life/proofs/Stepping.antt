@@ -3,7 +3,7 @@ use Rattle.std.proofs.Common.{◌≡◌, ◌⊎◌, inl, inr, ◌≤◌, ◌+◌
 use Rattle.std.specs.List.{AllByRecursion}
 use Rattle.ax_link.specs.declared.kind.Kind.{Kind}
 use Rattle.ax_link.specs.declared.kind.Kind.TheVariants as kind
-use Rattle.ax_link.specs.declared.plain.LinkPhase.TheVariants.{Down, SettingUp, Up}
+use Rattle.ax_link.specs.declared.phase.LinkPhase.TheVariants.{Down, SettingUp, Up}
 use Rattle.ax_link.specs.Bounds.{Bounded, stock}
 use Rattle.ax_link.specs.Carrying.{carries}
 use Rattle.ax_link.specs.Pair.{Core, IsNew, core, opens, reach}

@@ -2,7 +2,7 @@
 use Rattle.std.proofs.Common.{◌≡◌, ◌⊎◌, inl, inr, ◌≤◌, ◌<◌, ℕ, zero, suc, Bool, true, false, if◌then◌else◌, List, [], ◌∷◌, ◌++◌, length, map, Option, Some, None, slice_get, refl, ap, sym, ◌∙◌, subst, arith, append-nil}
 use Rattle.std.specs.List.{AllByRecursion}
 use Rattle.ax_link.specs.declared.kind.Kind.{Kind}
-use Rattle.ax_link.specs.declared.plain.LinkPhase.TheVariants.{SettingUp, Up}
+use Rattle.ax_link.specs.declared.phase.LinkPhase.TheVariants.{SettingUp, Up}
 use Rattle.ax_link.specs.Pair.{AcksFine, Both, Core, IsNew, acks_of, core, opens}
 use Rattle.ax_link.specs.State.{Frame, State}
 use Rattle.link_life.specs.Ends.{End, Epoch, Flight, epochs, is_of_account, lasting, partner_of}

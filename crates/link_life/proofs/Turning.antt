@@ -3,8 +3,8 @@ use Rattle.std.proofs.Common.{◌≡◌, ◌⊎◌, inl, inr, ◌≤◌, ◌<◌
 use Rattle.std.specs.List.{AllByRecursion}
 use Rattle.ax_link.specs.declared.kind.Kind.{Kind}
 use Rattle.ax_link.specs.declared.kind.Kind.TheVariants as kind
-use Rattle.ax_link.specs.declared.plain.LinkPhase.{LinkPhase}
-use Rattle.ax_link.specs.declared.plain.LinkPhase.TheVariants.{Down, SettingUp, Up, Releasing}
+use Rattle.ax_link.specs.declared.phase.LinkPhase.{LinkPhase}
+use Rattle.ax_link.specs.declared.phase.LinkPhase.TheVariants.{Down, SettingUp, Up, Releasing}
 use Rattle.ax_link.specs.Bounds.{Bounded, stock}
 use Rattle.ax_link.specs.Laws.{may_go_out}
 use Rattle.ax_link.specs.Opening.{opening}

@@ -7,8 +7,8 @@ use Rattle.ax_address.specs.Callsign.{Callsign}
 use Rattle.ax_address.specs.declared.address.Address.{Address}
 use Rattle.ax_frame.specs.declared.head.Head.{Head}
 use Rattle.ax_frame.specs.FrameText.{frame_text}
-use Rattle.ax_link.specs.declared.plain.LinkNotice.{LinkNotice}
-use Rattle.ax_link.specs.declared.plain.LinkNotice.TheVariants as notices
+use Rattle.ax_link.specs.declared.notice.LinkNotice.{LinkNotice}
+use Rattle.ax_link.specs.declared.notice.LinkNotice.TheVariants as notices
 use Rattle.ax_link.specs.Kinds.{control_of, info_of, pid_of}
 use Rattle.ax_link.specs.State.{Frame}
 use Rattle.link_life.specs.declared.act.Side.{Side}

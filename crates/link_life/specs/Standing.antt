@@ -5,15 +5,15 @@ use Rattle.std.specs.List.{flat_map, list_any}
 use Rattle.ax_frame.specs.declared.control.Control.{Control}
 use Rattle.ax_frame.specs.declared.control.Control.TheVariants as control
 use Rattle.ax_frame.specs.FrameText.{frame_text}
-use Rattle.ax_link.specs.declared.plain.LinkFacts.{LinkFacts}
-use Rattle.ax_link.specs.declared.plain.LinkNotice.{LinkNotice}
-use Rattle.ax_link.specs.declared.plain.LinkOut.{LinkOut}
-use Rattle.ax_link.specs.declared.plain.LinkPhase.{LinkPhase}
-use Rattle.ax_link.specs.declared.plain.SendRefusal.{SendRefusal}
-use Rattle.ax_link.specs.declared.plain.SendRefusal.TheVariants as sends
+use Rattle.ax_link.specs.declared.facts.LinkFacts.{LinkFacts}
+use Rattle.ax_link.specs.declared.notice.LinkNotice.{LinkNotice}
+use Rattle.ax_link.specs.declared.out.LinkOut.{LinkOut}
+use Rattle.ax_link.specs.declared.phase.LinkPhase.{LinkPhase}
+use Rattle.ax_link.specs.declared.refusal.SendRefusal.{SendRefusal}
+use Rattle.ax_link.specs.declared.refusal.SendRefusal.TheVariants as sends
 use Rattle.ax_link.specs.Kinds.{info_of, pid_of}
-use Rattle.ax_link.specs.Opening.{IsDrained, rules_new}
-use Rattle.ax_link.specs.Standing.{Stands, StandsFor, frame_of}
+use Rattle.ax_link.specs.Opening.{rules_new}
+use Rattle.ax_link.specs.Standing.{IsDrained, Stands, StandsFor, frame_of}
 use Rattle.ax_link.specs.State.{Effect, State, count_end, is_up}
 use Rattle.ax_link.specs.Table.{Tick, step}
 use Rattle.link_life.specs.declared.act.Side.{Side}

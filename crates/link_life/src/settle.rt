@@ -3,8 +3,8 @@ ghost use Rattle.std.specs.Prelude.{◌≡◌, ◌++◌, [], map, None, Some, On
 ghost use Rattle.std.specs.Option.{option_to_list};
 ghost use Rattle.std.specs.List.{flat_map};
 ghost use Rattle.ax_frame.specs.Controls.{IsLinkModulus};
-ghost use Rattle.ax_link.specs.Opening.{IsDrained, rules_new};
-ghost use Rattle.ax_link.specs.Standing.{Stands, frame_of};
+ghost use Rattle.ax_link.specs.Opening.{rules_new};
+ghost use Rattle.ax_link.specs.Standing.{IsDrained, Stands, frame_of};
 ghost use Rattle.ax_link.specs.State.{Effect};
 ghost use Rattle.link_life.specs.Ends as ends;
 ghost use Rattle.link_life.specs.Lives as lives;

@@ -1,8 +1,8 @@
 //! What is done at one end.
 ghost use Rattle.std.specs.Prelude.{◌≡◌, [], None, Some, OnOk, IfOk};
 ghost use Rattle.ax_frame.specs.Controls.{IsLinkModulus};
-ghost use Rattle.ax_link.specs.Opening.{IsDrained, rules_new};
-ghost use Rattle.ax_link.specs.Standing.{Stands, StandsFor, frame_of};
+ghost use Rattle.ax_link.specs.Opening.{rules_new};
+ghost use Rattle.ax_link.specs.Standing.{IsDrained, Stands, StandsFor, frame_of};
 ghost use Rattle.ax_link.specs.State.{State};
 ghost use Rattle.ax_link.specs.Table as table;
 ghost use Rattle.link_life.specs.declared.act.EndAct.TheVariants as acts;
@@ -65,7 +65,8 @@ pub(crate) fn is_down(phase: LinkPhase) -> bool
 impl<M: Modulus> End<M> {
     ghost use Rattle.std.specs.Prelude.{[], None, IfOk, ◌≡◌};
     ghost use Rattle.ax_frame.specs.Controls.{IsLinkModulus};
-    ghost use Rattle.ax_link.specs.Opening.{IsDrained, rules_new};
+    ghost use Rattle.ax_link.specs.Standing.{IsDrained};
+    ghost use Rattle.ax_link.specs.Opening.{rules_new};
     ghost use Rattle.link_life.specs.Standing as standing;
     ghost use Rattle.link_life.specs.Lives as lives;
 

@@ -15,7 +15,7 @@ use Rattle.ax_link.specs.Kinds.{frame_in}
 use Rattle.ax_link.specs.Opening.{opening}
 use Rattle.ax_link.specs.State.{Rules, State}
 use Rattle.ax_link.specs.Table.{Arrive, step}
-use Rattle.ax_link.specs.declared.plain.LinkNotice.TheVariants.{Closed}
+use Rattle.ax_link.specs.declared.notice.LinkNotice.TheVariants.{Closed}
 use Rattle.link_table.specs.declared.entry.Entry.{Entry}
 use Rattle.link_table.specs.declared.held_links.HeldLinks.{HeldLinks}
 use Rattle.link_table.specs.declared.link_of.LinkOf.{LinkOf}

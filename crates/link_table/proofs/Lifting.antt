@@ -3,9 +3,9 @@ use Rattle.std.proofs.Common.{◌≡◌, ℕ, zero, suc, Bool, true, false, List
 use Rattle.std.specs.Option.{option_to_list}
 use Rattle.std.proofs.lemmas.List.{map-append}
 use Rattle.radio_base.specs.declared.payload.Payload.{Payload}
-use Rattle.ax_link.specs.declared.plain.LinkOut.{LinkOut}
-use Rattle.ax_link.specs.declared.plain.LinkNotice.{LinkNotice}
-use Rattle.ax_link.specs.declared.plain.LinkNotice.TheVariants.{Opened, Reset, Closed, Refused, Failed}
+use Rattle.ax_link.specs.declared.out.LinkOut.{LinkOut}
+use Rattle.ax_link.specs.declared.notice.LinkNotice.{LinkNotice}
+use Rattle.ax_link.specs.declared.notice.LinkNotice.TheVariants.{Opened, Reset, Closed, Refused, Failed}
 use Rattle.ax_link.specs.Standing.{LinkView, Stands, StandsFor, frame_of}
 use Rattle.ax_link.specs.State.{Frame, Effect, State}
 use Rattle.ax_link.specs.Table.{Arrive, Input, Take, step}

@@ -8,8 +8,7 @@ use Rattle.std.proofs.lemmas.Bool.Decides.{nat_tests}
 use Rattle.ax_address.specs.CallOrder.{same_call}
 use Rattle.ax_frame.specs.Frames.{Frame as AirFrame}
 use Rattle.link_table.specs.Frames.{Sent}
-use Rattle.ax_link.specs.declared.plain.LinkNotice.{LinkNotice}
-use Rattle.ax_link.specs.Opening.{IsDrained}
+use Rattle.ax_link.specs.declared.notice.LinkNotice.{LinkNotice}
 use Rattle.link_table.specs.declared.entry.Entry.{Entry}
 use Rattle.link_table.specs.declared.held_links.HeldLinks.{HeldLinks}
 use Rattle.link_table.specs.declared.pending.Pending.{Pending}
@@ -19,11 +18,11 @@ use Rattle.link_table.specs.declared.route.Route.{Route}
 use Rattle.ax_link.specs.State.{count_end}
 use Rattle.radio_base.specs.declared.payload.Payload.{Payload}
 use Rattle.std.proofs.lemmas.List.{map-append}
-use Rattle.ax_link.specs.declared.plain.LinkPhase.{LinkPhase}
-use Rattle.ax_link.specs.declared.plain.LinkPhase.TheVariants.{Down, SettingUp, Up, Releasing}
+use Rattle.ax_link.specs.declared.phase.LinkPhase.{LinkPhase}
+use Rattle.ax_link.specs.declared.phase.LinkPhase.TheVariants.{Down, SettingUp, Up, Releasing}
 use Rattle.ax_link.specs.State.{State, begin}
 use Rattle.ax_link.specs.Table.{Input, Send, Set_up, accept, may_close, set_up_in, step, takes}
-use Rattle.ax_link.specs.Standing.{LinkView, StandsFor}
+use Rattle.ax_link.specs.Standing.{IsDrained, LinkView, StandsFor}
 use Rattle.ax_segment.specs.Kept.{IsWithin}
 use Rattle.l3_datagram.specs.CarrierCall.{Datagram}
 use Rattle.l3_datagram.specs.declared.carrier.Offered.{Offered}

@@ -3,7 +3,7 @@ use Rattle.std.proofs.Common.{◌≡◌, ℕ, suc, ◌≤◌, ◌<◌, Bool, tru
 use Rattle.std.specs.Map.{keys_of, lookup, set_value, remove_entry}
 use Rattle.ax_address.specs.Callsign.{Callsign}
 use Rattle.ax_address.specs.CallOrder.{same_call}
-use Rattle.ax_link.specs.Opening.{IsDrained, opening, rules_new}
+use Rattle.ax_link.specs.Opening.{opening, rules_new}
 use Rattle.link_table.specs.declared.entry.Entry.{Entry}
 use Rattle.link_table.specs.declared.held_links.HeldLinks.{HeldLinks}
 use Rattle.link_table.specs.declared.pending.Pending.{Pending}
@@ -14,7 +14,7 @@ use Rattle.ax_segment.specs.Kept.{IsWithin}
 use Rattle.link_table.specs.declared.route.Route.{Route}
 use Rattle.ax_link.specs.State.{State}
 use Rattle.ax_link.specs.Table.{Tick}
-use Rattle.ax_link.specs.Standing.{StandsFor}
+use Rattle.ax_link.specs.Standing.{IsDrained, StandsFor}
 use Rattle.link_table.specs.Standing.{width, CoreGoes, AllDrained, CoreStands, EntryGoes, EntryStands, LinkStands, LinksStand, Rests, down_at, down_by, drop_if_down, held_of, size_of}
 use Rattle.link_table.specs.Table.{Linked, Table, link_with, with_link, without}
 use Rattle.link_table.specs.Works.{Work, is_down, step_link}

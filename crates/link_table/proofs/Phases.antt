@@ -4,13 +4,13 @@ use Rattle.radio_base.specs.declared.payload.Payload.{Payload}
 use Rattle.radio_base.specs.Modulus.{place_of}
 use Rattle.ax_link.specs.declared.kind.Kind.{Kind}
 use Rattle.ax_link.specs.declared.kind.Kind.TheVariants as kind
-use Rattle.ax_link.specs.declared.plain.LinkNotice.{LinkNotice}
-use Rattle.ax_link.specs.declared.plain.LinkNotice.TheVariants.{Closed, Failed, Refused, Reset}
-use Rattle.ax_link.specs.declared.plain.LinkPhase.{LinkPhase}
-use Rattle.ax_link.specs.declared.plain.LinkPhase.TheVariants.{Down, SettingUp, Up, Releasing}
+use Rattle.ax_link.specs.declared.notice.LinkNotice.{LinkNotice}
+use Rattle.ax_link.specs.declared.notice.LinkNotice.TheVariants.{Closed, Failed, Refused, Reset}
+use Rattle.ax_link.specs.declared.phase.LinkPhase.{LinkPhase}
+use Rattle.ax_link.specs.declared.phase.LinkPhase.TheVariants.{Down, SettingUp, Up, Releasing}
 use Rattle.ax_link.specs.State.{Frame, State, Effect, ack_place, begin, busy, count_end, high, is_up, t1_runs, t3_at, wire}
 use Rattle.ax_link.specs.Moves.{acknowledge, again, answer_poll, ask, ask_again, asks, emit_timed, end_poll, fill, fill_count, finish, frames, hold, i_at, is_free, follow_by, follow, next_early, note, on_i, on_srej, on_supervisory, emit, release, reset, resume, supply_again, resupply, rr, srej_at, start_poll, store_early, supervisory_at, supply, take_in, take_next, text, text_at, text_later, text_plain, text_srej, to_phase}
-use Rattle.ax_link.specs.Table.{Input, Set_up, Send, Arrive, Tick, Close, Take, step, accept, arrive_down, arrive_in, arrive_releasing, arrive_setting, arrive_up, close_in_turn, fail_in, fail, may_close, come_up, refuse_if, retry, retry_in, set_up_in, takes}
+use Rattle.ax_link.specs.Table.{Input, Set_up, Send, Arrive, Tick, Close, Take, step, accept, arrive_down, arrive_in, arrive_releasing, arrive_setting_up, arrive_up, close_in_turn, fail_in, fail, may_close, come_up, refuse_if, retry, retry_in, set_up_in, takes}
 use Rattle.link_table.specs.Ending.{is_end}
 use Rattle.link_table.specs.Works.{is_down}
 
@@ -159,7 +159,7 @@ last_end (m ∷ ns) n e = by (is_end m) (last_end ns n e)
     by true rest = refl
     by false rest = rest
 
-told_setting : (now : ℕ) (k : Kind) (g : Effect) → is_down g.link.phase ≡ false → Told (arrive_setting now k g)
+told_setting : (now : ℕ) (k : Kind) (g : Effect) → is_down g.link.phase ≡ false → Told (arrive_setting_up now k g)
 told_setting now (kind.Ua true) g e = stayed (supply now (come_up now g)) (supplied now (come_up now g) refl)
 told_setting now (kind.Ua false) g e = stayed g e
 told_setting now (kind.Dm true) g e = λ f. last_end g.notes Refused refl

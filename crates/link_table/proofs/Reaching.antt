@@ -21,8 +21,8 @@ use Rattle.ax_link.specs.declared.kind.Kind.{Kind}
 use Rattle.ax_link.specs.declared.kind.Kind.TheVariants as kinds
 use Rattle.ax_link.specs.State.{Frame, Rules}
 use Rattle.ax_link.specs.Table.{Arrive, Close, Input, Send, Set_up, Take, Tick, step, takes}
-use Rattle.ax_link.specs.declared.plain.LinkNotice.{LinkNotice}
-use Rattle.ax_link.specs.declared.plain.LinkNotice.TheVariants.{Closed, Failed}
+use Rattle.ax_link.specs.declared.notice.LinkNotice.{LinkNotice}
+use Rattle.ax_link.specs.declared.notice.LinkNotice.TheVariants.{Closed, Failed}
 use Rattle.ax_segment.specs.Joining.{Nothing, join_step}
 use Rattle.digi_path.specs.Paths.{unrepeated, way_back}
 use Rattle.l3_datagram.specs.CarrierCall.{Datagram}

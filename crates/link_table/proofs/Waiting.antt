@@ -10,8 +10,8 @@ use Rattle.ax_frame.specs.FrameText.{is_command}
 use Rattle.ax_frame.specs.Frames.{Frame as AirFrame}
 use Rattle.ax_link.specs.State.{Frame}
 use Rattle.ax_link.specs.Table.{Arrive, Close, Send, Set_up, Take, Tick, takes}
-use Rattle.ax_link.specs.declared.plain.LinkNotice.{LinkNotice}
-use Rattle.ax_link.specs.declared.plain.LinkNotice.TheVariants.{Closed, Failed}
+use Rattle.ax_link.specs.declared.notice.LinkNotice.{LinkNotice}
+use Rattle.ax_link.specs.declared.notice.LinkNotice.TheVariants.{Closed, Failed}
 use Rattle.ax_segment.specs.Joining.{join_step}
 use Rattle.l3_datagram.specs.CarrierCall.{Datagram, Parcel}
 use Rattle.l3_datagram.specs.declared.carrier.Offered.TheVariants.{Taken, Dropped}

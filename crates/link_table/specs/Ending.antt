@@ -4,8 +4,8 @@ use Rattle.std.specs.List.{AllByRecursion}
 use Rattle.ax_address.specs.Callsign.{Callsign}
 use Rattle.ax_address.specs.CallOrder.{same_call}
 use Rattle.ax_frame.specs.Frames.{Frame as AirFrame}
-use Rattle.ax_link.specs.declared.plain.LinkNotice.{LinkNotice}
-use Rattle.ax_link.specs.declared.plain.LinkNotice.TheVariants.{Opened, Reset, Closed, Failed, Refused}
+use Rattle.ax_link.specs.declared.notice.LinkNotice.{LinkNotice}
+use Rattle.ax_link.specs.declared.notice.LinkNotice.TheVariants.{Opened, Reset, Closed, Failed, Refused}
 use Rattle.l3_datagram.specs.CarrierCall.{Datagram}
 use Rattle.link_table.specs.Calls.{arrive, break_link, close, offer, tick}
 use Rattle.link_table.specs.Sending.{send_text}

@@ -2,9 +2,9 @@
 use Rattle.std.specs.Prelude.{is_some, ◌≡◌, ℕ, ◌≤◌, ◌==◌, Bool, true, false, if◌then◌else◌, List, [], ◌∷◌, ◌++◌, length, map, Result, Ok, Err, Option, None, Some, min, ◌-◌, slice_get, not, ◌&&◌, nat_lt}
 use Rattle.std.specs.Option.{option_to_list}
 use Rattle.ax_address.specs.Callsign.{Callsign}
-use Rattle.ax_link.specs.declared.plain.LinkConfig.{LinkConfig}
-use Rattle.ax_link.specs.declared.plain.LinkNotice.{LinkNotice}
-use Rattle.ax_link.specs.Opening.{IsDrained}
+use Rattle.ax_link.specs.declared.config.LinkConfig.{LinkConfig}
+use Rattle.ax_link.specs.declared.notice.LinkNotice.{LinkNotice}
+use Rattle.ax_link.specs.Standing.{IsDrained}
 use Rattle.ax_link.specs.Standing.{LinkView, Stands, StandsFor, frame_of}
 use Rattle.ax_link.specs.State.{State, count_end}
 use Rattle.ax_link.specs.Table.{may_close, Input, Send, step, takes}

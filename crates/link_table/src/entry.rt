@@ -3,8 +3,8 @@ ghost use Rattle.std.specs.Prelude.{◌≡◌, ◌≤◌, ℕ, OnOk, IfOk, not, 
 ghost use Rattle.ax_link.specs.State.{count_end};
 ghost use Rattle.ax_frame.specs.FrameText.{is_command};
 ghost use Rattle.ax_link.specs.Kinds.{frame_in};
-ghost use Rattle.ax_link.specs.Opening.{IsDrained, opening, rules_new};
-ghost use Rattle.ax_link.specs.Standing.{StandsFor};
+ghost use Rattle.ax_link.specs.Opening.{opening, rules_new};
+ghost use Rattle.ax_link.specs.Standing.{IsDrained, StandsFor};
 ghost use Rattle.ax_link.specs.Table as table;
 ghost use Rattle.ax_segment.specs.Joining.{Nothing};
 ghost use Rattle.link_table.specs.Works as works;

@@ -1,6 +1,6 @@
 //! Texts that go over a link, in pieces or in segments (the PIDs: AX.25 2.2, section 3.4; the pieces: this project's profile).
 ghost use Rattle.std.specs.Prelude.{◌≡◌, ◌≤◌, ◌+◌, ◌/◌, List, ℕ, OnOk, length};
-ghost use Rattle.ax_link.specs.Opening.{IsDrained};
+ghost use Rattle.ax_link.specs.Standing.{IsDrained};
 ghost use Rattle.ax_link.specs.Table as table;
 ghost use Rattle.ax_segment.specs.Segments.{segments_of};
 ghost use Rattle.link_table.specs.Frames.{plain_text, segmented};

@@ -2,7 +2,7 @@
 ghost use Rattle.std.specs.Prelude.{◌≡◌, ◌≤◌, ◌++◌, ◌∷◌, [], ℕ, List, None, Some, map, OnOk, slice_get, is_some, length};
 ghost use Rattle.radio_base.specs.declared.payload.Payload.{Payload};
 ghost use Rattle.std.specs.Option.{option_to_list};
-ghost use Rattle.ax_link.specs.Opening.{IsDrained};
+ghost use Rattle.ax_link.specs.Standing.{IsDrained};
 ghost use Rattle.ax_segment.specs.Joining.{join_step};
 ghost use Rattle.ax_segment.specs.Kept.{IsWithin};
 ghost use Rattle.link_table.specs.Standing.{HandsUp};

@@ -3,7 +3,7 @@ use Rattle.std.proofs.Common.{◌≡◌, ◌∙◌, ◌+◌, ◌≤◌, ℕ, zer
 use Rattle.std.specs.Prelude.{◌≢◌, ◌==◌, nat_eq, not, slice_get, slice_set, Option, Some, None}
 use Rattle.std.specs.List.{AllByRecursion, position_or_len}
 use Rattle.std.proofs.lemmas.List.{map-append}
-use Rattle.circuit_l4.specs.declared.plain.EndConfig.{EndConfig}
+use Rattle.circuit_l4.specs.declared.config.EndConfig.{EndConfig}
 use Rattle.circuit_set.specs.Givings.{IsUp}
 use Rattle.circuit_set.specs.Inputs.{runs}
 use Rattle.circuit_set.specs.Pumps as pumps

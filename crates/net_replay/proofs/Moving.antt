@@ -5,7 +5,7 @@ use Rattle.std.specs.List.{AllByRecursion, flat_map, position_or_len, range_with
 use Rattle.std.proofs.lemmas.List.{length-append}
 use Rattle.ax_address.specs.Callsign.{Callsign}
 use Rattle.circuit_l4.specs.declared.transport.Pair.{Pair}
-use Rattle.circuit_l4.specs.EndOpening.{facts_of}
+use Rattle.circuit_l4.specs.Opening.{facts_of}
 use Rattle.circuit_set.specs.Events as set_events
 use Rattle.circuit_set.specs.CircuitSets.{facts_at}
 use Rattle.circuit_set.specs.Pumps as pumps

@@ -3,7 +3,7 @@ use Rattle.std.proofs.Common.{◌≡◌, ◌≤◌, ◌^◌, ℕ, refl, sym, sub
 use Rattle.std.specs.Prelude.{◌&&◌, ◌==◌, find, unwrap_or, Some}
 use Rattle.std.specs.Option.{option_map}
 use Rattle.std.specs.List.{AllByRecursion}
-use Rattle.circuit_l4.specs.EndOpening as ends
+use Rattle.circuit_l4.specs.Opening as ends
 use Rattle.circuit_set.specs.Runs.{AreStarts, IsStart}
 use Rattle.circuit_set.specs.Sets.{SetState}
 use Rattle.network_file.specs.declared.network.NumberedInstruction.{NumberedInstruction}

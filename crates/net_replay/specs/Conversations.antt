@@ -1,7 +1,7 @@
 -- What goes between a user at a prompt and the other end of its circuit, in a network in time. Own profile.
 use Rattle.std.specs.Prelude.{ℕ, ◌≡◌, false, List, [], ◌++◌, slice_get, Contains, Some, None, Ok}
 use Rattle.std.specs.List.{AllByRecursion}
-use Rattle.circuit_l4.specs.EndState as ends
+use Rattle.circuit_l4.specs.State as ends
 use Rattle.circuit_set.specs.Events.{Event, Name}
 use Rattle.circuit_set.specs.Beginnings.{IsBeginning}
 use Rattle.circuit_set.specs.Runs.{Step, end_named, events_of, sets_run}

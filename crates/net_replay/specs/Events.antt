@@ -1,6 +1,6 @@
 -- What there is to tell of a replay, as plain data. Own profile.
 use Rattle.std.specs.Prelude.{ℕ, List}
-use Rattle.circuit_l4.specs.declared.plain.EndFacts.{EndFacts}
+use Rattle.circuit_l4.specs.declared.facts.EndFacts.{EndFacts}
 use Rattle.circuit_l4.specs.declared.transport.Pair.{Pair}
 use Rattle.circuit_set.specs.Pumps.{Of}
 use Rattle.circuit_set.specs.Sets as sets

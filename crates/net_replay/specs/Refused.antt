@@ -1,7 +1,7 @@
 -- Why a node didn't do what a line asks for, as the line's refusal. Want of memory is none. Own profile.
 use Rattle.std.specs.Prelude.{Option, Some, None}
-use Rattle.circuit_l4.specs.declared.plain.WriteRefusal.{WriteRefusal}
-use Rattle.circuit_l4.specs.declared.plain.WriteRefusal.TheVariants as writes
+use Rattle.circuit_l4.specs.declared.refusal.WriteRefusal.{WriteRefusal}
+use Rattle.circuit_l4.specs.declared.refusal.WriteRefusal.TheVariants as writes
 use Rattle.circuit_set.specs.declared.event.ConnectRefusal.{ConnectRefusal}
 use Rattle.circuit_set.specs.declared.event.ConnectRefusal.TheVariants as connects
 use Rattle.route_table.specs.declared.route.LockRefusal.{LockRefusal}

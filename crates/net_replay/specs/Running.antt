@@ -1,6 +1,6 @@
 -- A replay while it runs. No public clause speaks of it: this isn't for the reader.
 use Rattle.std.specs.Prelude.{ℕ, zero, suc, ◌≡◌, min, List, [], ◌∷◌, ◌++◌, length, map, Option, Some, None, Result, Ok, Err, Bool, true, false, if◌then◌else◌, slice_get, slice_set}
-use Rattle.circuit_l4.specs.declared.plain.EndFacts.{EndFacts}
+use Rattle.circuit_l4.specs.declared.facts.EndFacts.{EndFacts}
 use Rattle.circuit_set.specs.CircuitSets.{facts_at}
 use Rattle.circuit_set.specs.Sets.{end_of}
 use Rattle.node_core.specs.declared.acts.ActDone.{ActDone}

@@ -1,9 +1,9 @@
 -- The line on what came of a soak. Own profile.
 use Rattle.std.specs.Prelude.{ℕ, suc, List, [], ◌∷◌, ◌++◌, count_by, flat_map, length, sum_by, Option, Some, None, Bool, true, false, codes}
 use Rattle.std.specs.Fmt.{decimal}
-use Rattle.circuit_l4.specs.declared.plain.EndFacts.{EndFacts}
-use Rattle.circuit_l4.specs.declared.plain.EndNotice.{EndNotice}
-use Rattle.circuit_l4.specs.declared.plain.EndNotice.TheVariants.{FailedRetries, FailedOversize, FailedInactive}
+use Rattle.circuit_l4.specs.declared.facts.EndFacts.{EndFacts}
+use Rattle.circuit_l4.specs.declared.notice.EndNotice.{EndNotice}
+use Rattle.circuit_l4.specs.declared.notice.EndNotice.TheVariants.{FailedRetries, FailedOversize, FailedInactive}
 use Rattle.circuit_set.specs.CircuitSets.{facts_at}
 use Rattle.circuit_set.specs.Pumps.{Of}
 use Rattle.circuit_set.specs.Sets.{Holder, Notice, end_of}

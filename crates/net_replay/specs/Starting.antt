@@ -3,8 +3,8 @@ use Rattle.std.specs.Prelude.{ℕ, zero, suc, Bool, false, ◌==◌, List, [], �
 use Rattle.arrayvec.specs.ArrayVec.{ArrayVec}
 use Rattle.ax_address.specs.Callsign.{Callsign}
 use Rattle.ax_address.specs.declared.address.Address.{Address}
-use Rattle.ax_link.specs.declared.plain.LinkConfig.{LinkConfig}
-use Rattle.circuit_l4.specs.declared.plain.EndConfig.{EndConfig}
+use Rattle.ax_link.specs.declared.config.LinkConfig.{LinkConfig}
+use Rattle.circuit_l4.specs.declared.config.EndConfig.{EndConfig}
 use Rattle.circuit_l4.specs.declared.transport.Pair.{Pair}
 use Rattle.link_table.specs.Calls as links
 use Rattle.link_table.specs.declared.path_refusal.PathRefusal.{PathRefusal}

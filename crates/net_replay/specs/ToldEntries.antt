@@ -2,8 +2,8 @@
 use Rattle.std.specs.Prelude.{ℕ, suc, ◌-◌, List, [], ◌∷◌, ◌++◌, slice_get, codes, Option, Some, None, true, false}
 use Rattle.std.specs.Fmt.{decimal}
 use Rattle.ax_address.specs.Callsign.{Callsign}
-use Rattle.circuit_l4.specs.declared.plain.EndFacts.{EndFacts}
-use Rattle.circuit_l4.specs.declared.plain.EndNotice.{EndNotice}
+use Rattle.circuit_l4.specs.declared.facts.EndFacts.{EndFacts}
+use Rattle.circuit_l4.specs.declared.notice.EndNotice.{EndNotice}
 use Rattle.circuit_set.specs.CircuitSets.{facts_at}
 use Rattle.circuit_set.specs.Pumps.{SetTold, Of, Dropped}
 use Rattle.circuit_set.specs.Sets.{Holder, Notice, end_of}

@@ -1,11 +1,11 @@
 -- The words by which a report shows what links, ends of circuits and routers tell. Own profile.
 use Rattle.std.specs.Prelude.{ℕ, List, Option, Some, None, codes}
-use Rattle.ax_link.specs.declared.plain.LinkNotice.{LinkNotice}
-use Rattle.ax_link.specs.declared.plain.LinkNotice.TheVariants as links
-use Rattle.circuit_l4.specs.declared.plain.EndNotice.{EndNotice}
-use Rattle.circuit_l4.specs.declared.plain.EndNotice.TheVariants as notices
-use Rattle.circuit_l4.specs.declared.plain.EndPhase.{EndPhase}
-use Rattle.circuit_l4.specs.declared.plain.EndPhase.TheVariants as phases
+use Rattle.ax_link.specs.declared.notice.LinkNotice.{LinkNotice}
+use Rattle.ax_link.specs.declared.notice.LinkNotice.TheVariants as links
+use Rattle.circuit_l4.specs.declared.notice.EndNotice.{EndNotice}
+use Rattle.circuit_l4.specs.declared.notice.EndNotice.TheVariants as notices
+use Rattle.circuit_l4.specs.declared.phase.EndPhase.{EndPhase}
+use Rattle.circuit_l4.specs.declared.phase.EndPhase.TheVariants as phases
 use Rattle.l3_datagram.specs.declared.routed.Routed.{Routed}
 use Rattle.l3_datagram.specs.declared.routed.Routed.TheVariants as routed
 

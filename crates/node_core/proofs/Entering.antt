@@ -4,7 +4,7 @@ use Rattle.std.specs.Prelude.{false, nat_lt, not, is_some, ◌==◌, Some, None}
 use Rattle.std.proofs.lemmas.Bool.Decides.{nat_tests}
 use Rattle.std.proofs.lemmas.List.{length-map}
 use Rattle.ax_address.specs.Callsign.{Callsign}
-use Rattle.ax_link.specs.declared.plain.LinkNotice.{LinkNotice}
+use Rattle.ax_link.specs.declared.notice.LinkNotice.{LinkNotice}
 use Rattle.link_table.specs.Calls as calls
 use Rattle.node_core.specs.declared.station.Station.{Station}
 use Rattle.node_core.specs.Links.{all_noticed}

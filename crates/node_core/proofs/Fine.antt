@@ -3,13 +3,13 @@ use Rattle.std.proofs.Common.{◌≡◌, ◌≤◌, ◌<◌, ◌+◌, ◌⊎◌,
 use Rattle.std.specs.Prelude.{Bool, true, false, not, ◌&&◌, ◌^◌, nat_eq, nat_le, nat_lt, if◌then◌else◌, Option, Some, None, Result, Ok, Err}
 use Rattle.std.proofs.lemmas.Bool.Decides.{nat_tests}
 use Rattle.ax_address.specs.Callsign.{Callsign}
-use Rattle.circuit_l4.specs.EndOpening.{facts_of}
-use Rattle.circuit_l4.specs.EndState.{State as End, is_up}
-use Rattle.circuit_l4.specs.EndTable as ends
+use Rattle.circuit_l4.specs.Opening.{facts_of}
+use Rattle.circuit_l4.specs.State.{State as End, is_up}
+use Rattle.circuit_l4.specs.Table as ends
 use Rattle.circuit_l4.specs.Halves.{first_or}
 use Rattle.circuit_l4.specs.Receiving.{inbox}
 use Rattle.circuit_l4.specs.Sending.{total as all_fragments, unacknowledged}
-use Rattle.circuit_l4.specs.declared.plain.WriteRefusal.TheVariants as refusal
+use Rattle.circuit_l4.specs.declared.refusal.WriteRefusal.TheVariants as refusal
 use Rattle.circuit_reassembly.specs.Fragments.{fragments_of}
 use Rattle.circuit_set.specs.CircuitSets.{facts_at}
 use Rattle.circuit_set.specs.Pumps.{Of}

@@ -6,17 +6,17 @@ use Rattle.std.specs.Prelude.{Bool, true, false, if◌then◌else◌, not, ◌&&
 use Rattle.circuit_reassembly.specs.Gathering.{Answer, More, Whole, Too_long, gather_step}
 use Rattle.circuit_reassembly.specs.declared.TheConstants.{LONGEST}
 use Rattle.radio_base.specs.Modulus.{place_of}
-use Rattle.circuit_l4.specs.EndMoves as m
-use Rattle.circuit_l4.specs.EndState.{Effect, State, begin, is_up}
-use Rattle.circuit_l4.specs.EndTable as t
+use Rattle.circuit_l4.specs.Moves as m
+use Rattle.circuit_l4.specs.State.{Effect, State, begin, is_up}
+use Rattle.circuit_l4.specs.Table as t
 use Rattle.circuit_l4.specs.Receiving as r
 use Rattle.circuit_l4.specs.Receiving.{Appended, Receipt, Receiving, inbox}
 use Rattle.circuit_l4.specs.Sending.{written}
 use Rattle.circuit_l4.specs.declared.piece.Piece.{Piece}
-use Rattle.circuit_l4.specs.declared.plain.EndNotice.TheVariants.{FailedOversize, Opened}
-use Rattle.circuit_l4.specs.declared.plain.EndPhase.{EndPhase}
-use Rattle.circuit_l4.specs.declared.plain.EndPhase.TheVariants.{Connecting, Up, Closing, Ended}
-use Rattle.circuit_l4.specs.declared.texts.Owed.{Owed}
+use Rattle.circuit_l4.specs.declared.notice.EndNotice.TheVariants.{FailedOversize, Opened}
+use Rattle.circuit_l4.specs.declared.phase.EndPhase.{EndPhase}
+use Rattle.circuit_l4.specs.declared.phase.EndPhase.TheVariants.{Connecting, Up, Closing, Ended}
+use Rattle.circuit_l4.specs.declared.owed.Owed.{Owed}
 use Rattle.circuit_l4.specs.declared.transport.Flags.{Flags}
 use Rattle.circuit_l4.specs.declared.transport.Transport.{Transport}
 use Rattle.circuit_l4.specs.declared.transport.Transport.TheVariants.{Request, Accept, Refuse, Disconnect, Disconnected, Info, InfoAck}
@@ -61,23 +61,23 @@ module _ (Q : List (List ℕ) → ℕ → Type 0) (more : (ms : List (List ℕ))
   append_kept : (text : List ℕ) (on : Bool) (h : Receiving) → Kept h → Kept (r.append text on h).half
   append_kept text on h a = appended_kept h (gather_step h.gathered text on) (gather_fits h.gathered text on) a
 
-  moved_if : (k : ℕ) (a : Appended) (b : Bool) → a.fits ≡ b → Kept a.half → ((g : Receiving) → Kept g → Kept (r.move_on k g).half)
-      → Kept (if a.fits then r.move_on k a.half else a).half
+  moved_if : (k : ℕ) (a : Appended) (b : Bool) → a.fits ≡ b → Kept a.half → ((g : Receiving) → Kept g → Kept (r.follow_by k g).half)
+      → Kept (if a.fits then r.follow_by k a.half else a).half
   moved_if k a true e s on = rw e (on a.half s)
   moved_if k a false e s on = rw e s
 
-  moved_by : (k : ℕ) (h : Receiving) (o : Option Piece) → Kept h → ((g : Receiving) → Kept g → Kept (r.move_on k g).half)
-      → Kept (elim o as (λ x. Appended) [ None ↦ record { half = h; fits = true } | Some p ↦ (let a = r.append p.text.items p.more h in if a.fits then r.move_on k a.half else a) ]).half
+  moved_by : (k : ℕ) (h : Receiving) (o : Option Piece) → Kept h → ((g : Receiving) → Kept g → Kept (r.follow_by k g).half)
+      → Kept (elim o as (λ x. Appended) [ None ↦ record { half = h; fits = true } | Some p ↦ (let a = r.append p.text.items p.more h in if a.fits then r.follow_by k a.half else a) ]).half
   moved_by k h None s on = s
   moved_by k h (Some p) s on =
       let a : Appended = r.append p.text.items p.more h in
       moved_if k a a.fits refl (append_kept p.text.items p.more h s) on
 
-  moved_kept : (k : ℕ) (h : Receiving) → Kept h → Kept (r.move_on k h).half
+  moved_kept : (k : ℕ) (h : Receiving) → Kept h → Kept (r.follow_by k h).half
   moved_kept zero h s = s
   moved_kept (suc k) h s = moved_by k h (r.next_early h) s (moved_kept k)
 
-  next_if : (a : Appended) (b : Bool) → a.fits ≡ b → Kept a.half → Kept (if a.fits then r.moved_on a.half else a).half
+  next_if : (a : Appended) (b : Bool) → a.fits ≡ b → Kept a.half → Kept (if a.fits then r.follow a.half else a).half
   next_if a true e s = rw e (moved_kept (length a.half.early) a.half s)
   next_if a false e s = rw e s
 
@@ -198,7 +198,7 @@ module _ (Q : List (List ℕ) → ℕ → Type 0) (more : (ms : List (List ℕ))
   took : (s : State) (b : Bool) → (let h = r.without_first s.receiving in Kept h → Kept (if b then t.resume (m.with_receiving h (begin s)) else m.with_receiving h (begin s)).end.receiving)
   took s true p =
       let h : Receiving = r.without_first s.receiving in
-      resumed (r.moved_on h) (m.with_receiving h (begin s)) (r.moved_on h).fits (moved_kept (length h.early) h p)
+      resumed (r.follow h) (m.with_receiving h (begin s)) (r.follow h).fits (moved_kept (length h.early) h p)
   took s false p = p
 
   abbrev from_busy : State → Bool

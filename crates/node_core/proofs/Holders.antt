@@ -6,9 +6,9 @@ use Rattle.std.proofs.lemmas.Bool.Decides.{nat_tests}
 use Rattle.radio_base.specs.declared.modulus.TheConstants.{COUNT_MAX}
 use Rattle.ax_address.specs.Callsign.{Callsign}
 use Rattle.ax_address.specs.CallOrder.{same_call}
-use Rattle.circuit_l4.specs.EndOpening.{facts_of, requesting, responding}
-use Rattle.circuit_l4.specs.EndState.{Effect, State}
-use Rattle.circuit_l4.specs.EndTable as end
+use Rattle.circuit_l4.specs.Opening.{facts_of, requesting, responding}
+use Rattle.circuit_l4.specs.State.{Effect, State}
+use Rattle.circuit_l4.specs.Table as end
 use Rattle.circuit_l4.specs.Reading.{transport_at}
 use Rattle.circuit_l4.specs.declared.transport.Pair.{Pair}
 use Rattle.circuit_l4.specs.declared.transport.Transport.{Transport}

@@ -4,12 +4,12 @@ use Rattle.std.specs.Prelude.{Bool, true, false, ◌||◌, nat_eq, nat_lt, if◌
 use Rattle.std.specs.Option.{option_to_list}
 use Rattle.std.proofs.lemmas.Bool.Decides.{nat_tests}
 use Rattle.ax_address.specs.Callsign.{Callsign}
-use Rattle.circuit_l4.specs.EndStanding as ends
-use Rattle.circuit_l4.specs.EndOpening.{facts_of}
-use Rattle.circuit_l4.specs.EndState.{Effect, Out, begin}
-use Rattle.circuit_l4.specs.EndTable.{take_first}
+use Rattle.circuit_l4.specs.Standing as ends
+use Rattle.circuit_l4.specs.Opening.{facts_of}
+use Rattle.circuit_l4.specs.State.{Effect, Out, begin}
+use Rattle.circuit_l4.specs.Table.{take_first}
 use Rattle.circuit_l4.specs.Receiving.{inbox}
-use Rattle.circuit_l4.specs.declared.plain.EndNotice.{EndNotice}
+use Rattle.circuit_l4.specs.declared.notice.EndNotice.{EndNotice}
 use Rattle.circuit_set.specs.CircuitSets as sets
 use Rattle.circuit_set.specs.CircuitSets.{Circuits, SetStands}
 use Rattle.circuit_set.specs.Pumps.{at_rest}

@@ -4,17 +4,17 @@ use Rattle.std.proofs.lemmas.Bool.Decides.{nat_tests}
 use Rattle.std.specs.Prelude.{Bool, true, false, if◌then◌else◌, not, ◌&&◌, ◌||◌, ◌^◌, min, is_ok, nat_le, nat_lt, slice_get, slice_set, Option, Some, None}
 use Rattle.circuit_reassembly.specs.Gathering.{Answer, More, Whole, Too_long, gather_step}
 use Rattle.radio_base.specs.Modulus.{place_of}
-use Rattle.circuit_l4.specs.EndMoves as m
-use Rattle.circuit_l4.specs.EndState.{Effect, State, begin, is_up}
+use Rattle.circuit_l4.specs.Moves as m
+use Rattle.circuit_l4.specs.State.{Effect, State, begin, is_up}
 use Rattle.circuit_l4.specs.Sending.{written}
-use Rattle.circuit_l4.specs.EndTable as t
+use Rattle.circuit_l4.specs.Table as t
 use Rattle.circuit_l4.specs.Receiving as r
 use Rattle.circuit_l4.specs.Receiving.{Appended, Receipt, Receiving, inbox}
 use Rattle.circuit_l4.specs.declared.piece.Piece.{Piece}
-use Rattle.circuit_l4.specs.declared.plain.EndNotice.TheVariants.{FailedOversize, Opened}
-use Rattle.circuit_l4.specs.declared.plain.EndPhase.{EndPhase}
-use Rattle.circuit_l4.specs.declared.plain.EndPhase.TheVariants.{Connecting, Up, Closing, Ended}
-use Rattle.circuit_l4.specs.declared.texts.Owed.{Owed}
+use Rattle.circuit_l4.specs.declared.notice.EndNotice.TheVariants.{FailedOversize, Opened}
+use Rattle.circuit_l4.specs.declared.phase.EndPhase.{EndPhase}
+use Rattle.circuit_l4.specs.declared.phase.EndPhase.TheVariants.{Connecting, Up, Closing, Ended}
+use Rattle.circuit_l4.specs.declared.owed.Owed.{Owed}
 use Rattle.circuit_l4.specs.declared.transport.Flags.{Flags}
 use Rattle.circuit_l4.specs.declared.transport.Transport.{Transport}
 use Rattle.circuit_l4.specs.declared.transport.Transport.TheVariants.{Request, Accept, Refuse, Disconnect, Disconnected, Info, InfoAck}
@@ -63,24 +63,24 @@ may_be_first : (b : Bool) (early : List (Option Piece)) (p : Piece) → (if b th
 may_be_first true early p e = absurd (cc e)
 may_be_first false early p e = is_first early p e
 
-moved_if : (k : ℕ) (h : Receiving) (a : Appended) (b : Bool) → a.fits ≡ b → count a.half ≤ count h → ((g : Receiving) → count (r.move_on k g).half ≤ count g)
-    → count (if a.fits then r.move_on k a.half else a).half ≤ count h
+moved_if : (k : ℕ) (h : Receiving) (a : Appended) (b : Bool) → a.fits ≡ b → count a.half ≤ count h → ((g : Receiving) → count (r.follow_by k g).half ≤ count g)
+    → count (if a.fits then r.follow_by k a.half else a).half ≤ count h
 moved_if k h a true e few more = rw e (omega (arith, few, more a.half))
 moved_if k h a false e few more = rw e few
 
-moved_by : (k : ℕ) (h : Receiving) (o : Option Piece) → r.next_early h ≡ o → ((g : Receiving) → count (r.move_on k g).half ≤ count g)
-    → count (elim o as (λ x. Appended) [ None ↦ record { half = h; fits = true } | Some p ↦ (let a = r.append p.text.items p.more h in if a.fits then r.move_on k a.half else a) ]).half ≤ count h
+moved_by : (k : ℕ) (h : Receiving) (o : Option Piece) → r.next_early h ≡ o → ((g : Receiving) → count (r.follow_by k g).half ≤ count g)
+    → count (elim o as (λ x. Appended) [ None ↦ record { half = h; fits = true } | Some p ↦ (let a = r.append p.text.items p.more h in if a.fits then r.follow_by k a.half else a) ]).half ≤ count h
 moved_by k h None e more = omega arith
 moved_by k h (Some p) e more =
     let a : Appended = r.append p.text.items p.more h in
     let first = may_be_first (r.busy h || nat_le (2 ^ 62) h.got) h.early p e in
     moved_if k h a a.fits refl (early_most h (gather_step h.gathered p.text.items p.more) first) more
 
-moved_most : (k : ℕ) (h : Receiving) → count (r.move_on k h).half ≤ count h
+moved_most : (k : ℕ) (h : Receiving) → count (r.follow_by k h).half ≤ count h
 moved_most zero h = omega arith
 moved_most (suc k) h = moved_by k h (r.next_early h) refl (moved_most k)
 
-next_if : (h : Receiving) (a : Appended) (b : Bool) → a.fits ≡ b → count a.half ≤ suc (count h) → count (if a.fits then r.moved_on a.half else a).half ≤ suc (count h)
+next_if : (h : Receiving) (a : Appended) (b : Bool) → a.fits ≡ b → count a.half ≤ suc (count h) → count (if a.fits then r.follow a.half else a).half ≤ suc (count h)
 next_if h a true e few = rw e (omega (arith, few, moved_most (length a.half.early) a.half))
 next_if h a false e few = rw e few
 
@@ -119,7 +119,7 @@ received_most window tx piece h = came_if window tx piece h (r.busy h || nat_le 
 taken_less : (h : Receiving) → 0 < length (inbox h) → count (r.without_first h) < count h
 taken_less h some = omega (arith, some, length-drop h.taken h.received, length-drop (h.taken + 1) h.received)
 
-taken_on_less : (h : Receiving) → 0 < length (inbox h) → count (r.moved_on (r.without_first h)).half < count h
+taken_on_less : (h : Receiving) → 0 < length (inbox h) → count (r.follow (r.without_first h)).half < count h
 taken_on_less h some = omega (arith, taken_less h some, moved_most (length h.early) (r.without_first h))
 
 -- ---- an end
@@ -253,7 +253,7 @@ takes_by : (s : State) (b : Bool) → 0 < length (inbox s.receiving)
     → (let h = r.without_first s.receiving in count (if b then t.resume (m.with_receiving h (begin s)) else m.with_receiving h (begin s)).end.receiving < count s.receiving)
 takes_by s true some =
     let h : Receiving = r.without_first s.receiving in
-    resumes s (r.moved_on h) (m.with_receiving h (begin s)) (r.moved_on h).fits (taken_on_less s.receiving some)
+    resumes s (r.follow h) (m.with_receiving h (begin s)) (r.follow h).fits (taken_on_less s.receiving some)
 takes_by s false some = taken_less s.receiving some
 
 pub takes : (s : State) (now : ℕ) → 0 < length (inbox s.receiving) → count (t.step s t.Take now).end.receiving < count s.receiving

@@ -20,7 +20,7 @@ use Rattle.route_table.specs.Broadcast.{to_broadcast}
 use Rattle.route_table.specs.Log as logs
 use Rattle.route_table.specs.Log.{Item}
 use Rattle.node_core.specs.Acts as acts
-use Rattle.ax_link.specs.declared.plain.LinkNotice.{LinkNotice}
+use Rattle.ax_link.specs.declared.notice.LinkNotice.{LinkNotice}
 use Rattle.link_table.specs.Reaching.{FramesAreSpelled, IsCall, IsSpelled, Reaches}
 use Rattle.node_core.proofs.Names.{nodes_is_call}
 use Rattle.node_core.specs.Broadcasts.{broadcast_frame, broadcast_octets, entries_of_frame, frame_count, round_frame, round_frames}

@@ -6,15 +6,15 @@ use Rattle.std.proofs.lemmas.Bool.Decides.{nat_tests}
 use Rattle.ax_address.specs.Callsign.{Callsign, IsCallsign}
 use Rattle.ax_address.specs.CallOrder.{same_call}
 use Rattle.ax_address.proofs.NetCallLaws as net_calls
-use Rattle.circuit_l4.specs.EndMoves as moves
-use Rattle.circuit_l4.specs.EndOpening.{facts_of}
-use Rattle.circuit_l4.specs.EndState.{Effect, Out, State as End, begin, info_ack, is_up}
-use Rattle.circuit_l4.specs.EndTable as ends
+use Rattle.circuit_l4.specs.Moves as moves
+use Rattle.circuit_l4.specs.Opening.{facts_of}
+use Rattle.circuit_l4.specs.State.{Effect, Out, State as End, begin, info_ack, is_up}
+use Rattle.circuit_l4.specs.Table as ends
 use Rattle.circuit_l4.specs.Receiving as r
 use Rattle.circuit_l4.specs.Receiving.{Appended, Receiving, inbox}
 use Rattle.circuit_l4.specs.Transports.{transport_octets}
-use Rattle.circuit_l4.specs.declared.plain.EndNotice.{EndNotice}
-use Rattle.circuit_l4.specs.declared.plain.EndNotice.TheVariants.{FailedOversize}
+use Rattle.circuit_l4.specs.declared.notice.EndNotice.{EndNotice}
+use Rattle.circuit_l4.specs.declared.notice.EndNotice.TheVariants.{FailedOversize}
 use Rattle.circuit_set.specs.CircuitSets.{partner_at}
 use Rattle.circuit_set.specs.Pumps as pumps
 use Rattle.circuit_set.specs.Pumps.{Offers, Says, Turn, Waiting}
@@ -146,7 +146,7 @@ takes_few s now = by (nat_lt 0 (length (inbox s.receiving))) (is_up s.phase && r
     h = r.without_first s.receiving
 
     a : Appended
-    a = r.moved_on h
+    a = r.follow h
 
     k : Effect
     k = moves.with_receiving h (begin s)

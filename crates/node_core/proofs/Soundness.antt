@@ -2,9 +2,9 @@
 use Rattle.std.proofs.Common.{◌≡◌, ◌≤◌, ◌∙◌, ◌⊎◌, inl, inr, ℕ, zero, suc, refl, sym, ap, subst, arith, append-nil, length, length-append, length-drop, length-take, take, List, [], ◌∷◌, ◌++◌, map, slice_get, slice_set}
 use Rattle.std.specs.Prelude.{Bool, true, false, nat_eq, filter, if◌then◌else◌, Option, Some, None}
 use Rattle.ax_address.specs.Callsign.{Callsign}
-use Rattle.ax_link.specs.declared.plain.LinkNotice.{LinkNotice}
-use Rattle.circuit_l4.specs.declared.plain.EndNotice.{EndNotice}
-use Rattle.circuit_l4.specs.declared.plain.EndNotice.TheVariants as end
+use Rattle.ax_link.specs.declared.notice.LinkNotice.{LinkNotice}
+use Rattle.circuit_l4.specs.declared.notice.EndNotice.{EndNotice}
+use Rattle.circuit_l4.specs.declared.notice.EndNotice.TheVariants as end
 use Rattle.circuit_set.specs.Pumps.{Of}
 use Rattle.circuit_set.specs.Sets.{Told, Made, Sent, Heeded, Notice, Gone, Restarted, Lost}
 use Rattle.node_core.specs.declared.sessions.session.Circuit.{Circuit}

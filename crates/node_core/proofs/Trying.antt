@@ -6,8 +6,8 @@ use Rattle.std.proofs.lemmas.Bool.Decides.{nat_tests}
 use Rattle.ax_address.specs.Callsign.{Callsign}
 use Rattle.ax_address.specs.CallOrder.{same_call}
 use Rattle.radio_base.specs.declared.modulus.TheConstants.{COUNT_MAX}
-use Rattle.circuit_l4.specs.EndOpening.{requesting}
-use Rattle.circuit_l4.specs.EndState.{Effect}
+use Rattle.circuit_l4.specs.Opening.{requesting}
+use Rattle.circuit_l4.specs.State.{Effect}
 use Rattle.circuit_set.specs.Inputs.{connect_answer}
 use Rattle.circuit_set.specs.Sets as sets
 use Rattle.circuit_set.specs.Sets.{SetDone, SetState, Told, set_step}

@@ -3,21 +3,21 @@ use Rattle.std.proofs.Common.{◌≡◌, ◌≤◌, ◌∙◌, ℕ, suc, refl, a
 use Rattle.std.specs.List.{AllByRecursion}
 use Rattle.std.specs.Prelude.{Bool, true, false, if◌then◌else◌, not, ◌&&◌, ◌||◌, ◌+◌, ◌-◌, ◌^◌, min, is_ok, nat_eq, nat_le, nat_lt, Option, Some, None, Result, Ok, Err}
 use Rattle.radio_base.specs.Modulus.{place_of}
-use Rattle.circuit_l4.specs.EndMoves as m
-use Rattle.circuit_l4.specs.EndState.{Effect, State, begin, is_up}
-use Rattle.circuit_l4.specs.EndTable as t
+use Rattle.circuit_l4.specs.Moves as m
+use Rattle.circuit_l4.specs.State.{Effect, State, begin, is_up}
+use Rattle.circuit_l4.specs.Table as t
 use Rattle.circuit_l4.specs.Receiving as r
 use Rattle.circuit_l4.specs.Receiving.{Appended, Receipt, Receiving, inbox}
 use Rattle.circuit_l4.specs.Sending.{written}
-use Rattle.circuit_l4.specs.declared.machine.Role.{Role}
-use Rattle.circuit_l4.specs.declared.machine.Role.TheVariants.{Requester, Responder}
+use Rattle.circuit_l4.specs.declared.role.Role.{Role}
+use Rattle.circuit_l4.specs.declared.role.Role.TheVariants.{Requester, Responder}
 use Rattle.circuit_l4.specs.declared.piece.Piece.{Piece}
-use Rattle.circuit_l4.specs.declared.plain.EndNotice.TheVariants.{FailedInactive, FailedOversize, FailedRetries, Opened}
-use Rattle.circuit_l4.specs.declared.plain.EndPhase.{EndPhase}
-use Rattle.circuit_l4.specs.declared.plain.EndPhase.TheVariants.{Connecting, Up, Closing, Ended}
-use Rattle.circuit_l4.specs.declared.plain.WriteRefusal.{WriteRefusal}
-use Rattle.circuit_l4.specs.declared.plain.WriteRefusal.TheVariants as refusal
-use Rattle.circuit_l4.specs.declared.texts.Owed.{Owed}
+use Rattle.circuit_l4.specs.declared.notice.EndNotice.TheVariants.{FailedInactive, FailedOversize, FailedRetries, Opened}
+use Rattle.circuit_l4.specs.declared.phase.EndPhase.{EndPhase}
+use Rattle.circuit_l4.specs.declared.phase.EndPhase.TheVariants.{Connecting, Up, Closing, Ended}
+use Rattle.circuit_l4.specs.declared.refusal.WriteRefusal.{WriteRefusal}
+use Rattle.circuit_l4.specs.declared.refusal.WriteRefusal.TheVariants as refusal
+use Rattle.circuit_l4.specs.declared.owed.Owed.{Owed}
 use Rattle.circuit_l4.specs.declared.transport.Flags.{Flags}
 use Rattle.circuit_l4.specs.declared.transport.Transport.{Transport}
 use Rattle.circuit_l4.specs.declared.transport.Transport.TheVariants.{Request, Accept, Refuse, Disconnect, Disconnected, Info, InfoAck}
@@ -125,7 +125,7 @@ expires now g =
     either_effect g.end (m.end_with FailedRetries h) (t.retry now h) (nat_eq g.end.tries g.end.config.retries) (same g.end _ refl refl refl)
     (same g.end (t.retry now h).end x.closing x.receiving x.wrote)
 
-releases : (now : ℕ) (g : Effect) → Same g.end (t.release now g).end
+releases : (now : ℕ) (g : Effect) → Same g.end (t.unchoke now g).end
 releases now g =
     let h : Effect = m.again (m.on_state (λ s. record s { choked = false; answer_due = None }) g) in
     let x = fills now h in
@@ -134,7 +134,7 @@ releases now g =
 
 due_in : (phase : EndPhase) (now : ℕ) (g : Effect) → Same g.end (t.due_in phase now g).end
 due_in Connecting now g = expires now g
-due_in Up now g = either_effect g.end (t.release now g) (t.expire now g) g.end.choked (releases now g) (expires now g)
+due_in Up now g = either_effect g.end (t.unchoke now g) (t.expire now g) g.end.choked (releases now g) (expires now g)
 due_in Closing now g = expires now g
 due_in Ended now g = same g.end g.end refl refl refl
 
@@ -277,7 +277,7 @@ takes_wrote s now = by (nat_lt 0 (length (inbox s.receiving))) (is_up s.phase &&
     h = r.without_first s.receiving
 
     a : Appended
-    a = r.moved_on h
+    a = r.follow h
 
     k : Effect
     k = m.with_receiving h (begin s)
@@ -295,7 +295,7 @@ takes_closing s now = by (nat_lt 0 (length (inbox s.receiving))) (is_up s.phase 
     h = r.without_first s.receiving
 
     a : Appended
-    a = r.moved_on h
+    a = r.follow h
 
     k : Effect
     k = m.with_receiving h (begin s)

@@ -1,7 +1,7 @@
 -- The settings with which a node starts.
 use Rattle.std.specs.Prelude.{◌≤◌, ◌+◌, [], None}
 use Rattle.ax_link.specs.State.{count_end}
-use Rattle.circuit_l4.specs.EndOpening as ends
+use Rattle.circuit_l4.specs.Opening as ends
 use Rattle.circuit_set.specs.Pairs.{IsPair}
 use Rattle.circuit_set.specs.Pumps.{at_rest}
 use Rattle.circuit_set.specs.Sets as sets

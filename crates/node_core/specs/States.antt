@@ -2,7 +2,7 @@
 use Rattle.std.specs.Prelude.{ℕ, Bool, List, [], ◌∷◌, ◌++◌, drop, Option}
 use Rattle.ax_address.specs.Callsign.{Callsign}
 use Rattle.ax_address.specs.declared.alias.Alias.{Alias}
-use Rattle.ax_link.specs.declared.plain.LinkNotice.{LinkNotice}
+use Rattle.ax_link.specs.declared.notice.LinkNotice.{LinkNotice}
 use Rattle.circuit_set.specs.Pumps.{SetTold, Waiting}
 use Rattle.link_table.specs.Calls as calls
 use Rattle.link_table.specs.Table.{Table}

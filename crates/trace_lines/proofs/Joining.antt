@@ -1,7 +1,7 @@
 -- Texts that are written in pieces.
 use Rattle.std.proofs.Common.{◌≡◌, ◌<◌, ◌++◌, ◌∷◌, [], ◌∙◌, ℕ, suc, Bool, List, ap, sym, subst, append_assoc, length, map, drop, get_or, drop-cons, arith}
 use Rattle.std.specs.Prelude.{Option, flat_map}
-use Rattle.circuit_l4.specs.declared.plain.EndFacts.{EndFacts}
+use Rattle.circuit_l4.specs.declared.facts.EndFacts.{EndFacts}
 use Rattle.circuit_set.specs.CircuitSets.{facts_at}
 use Rattle.circuit_set.specs.Sets.{Holder, end_of}
 use Rattle.circuit_verdict.specs.declared.verdict.Late.{Late}

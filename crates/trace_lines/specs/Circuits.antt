@@ -2,10 +2,10 @@
 use Rattle.std.specs.Prelude.{ℕ, List, [], ◌∷◌, Option, Some, None}
 use Rattle.ax_address.specs.Callsign as calls
 use Rattle.ax_address.specs.Callsign.{Callsign}
-use Rattle.ax_link.specs.declared.plain.LinkNotice.{LinkNotice}
-use Rattle.circuit_l4.specs.declared.plain.EndFacts.{EndFacts}
-use Rattle.circuit_l4.specs.declared.plain.EndNotice.{EndNotice}
-use Rattle.circuit_l4.specs.declared.plain.EndNotice.TheVariants.{Opened}
+use Rattle.ax_link.specs.declared.notice.LinkNotice.{LinkNotice}
+use Rattle.circuit_l4.specs.declared.facts.EndFacts.{EndFacts}
+use Rattle.circuit_l4.specs.declared.notice.EndNotice.{EndNotice}
+use Rattle.circuit_l4.specs.declared.notice.EndNotice.TheVariants.{Opened}
 use Rattle.circuit_l4.specs.declared.transport.Pair.{Pair}
 use Rattle.circuit_set.specs.Pumps as pumps
 use Rattle.circuit_set.specs.Pumps.{SetTold, Of, Dropped}

@@ -3,7 +3,7 @@ use Rattle.std.specs.Prelude.{ℕ, suc, List, [], ◌∷◌, ◌++◌, flat_map,
 use Rattle.ax_address.specs.Alias as aliases
 use Rattle.ax_address.specs.Callsign as calls
 use Rattle.ax_address.specs.Callsign.{Callsign}
-use Rattle.circuit_l4.specs.declared.plain.EndFacts.{EndFacts}
+use Rattle.circuit_l4.specs.declared.facts.EndFacts.{EndFacts}
 use Rattle.circuit_set.specs.CircuitSets.{facts_at}
 use Rattle.circuit_set.specs.Sets.{Holder, end_of}
 use Rattle.route_table.specs.declared.route.Route.{Route}

@@ -1,6 +1,6 @@
-use Rattle.circuit_l4.proofs.EndRetries.{fails_after_retries}
-use Rattle.circuit_l4.proofs.EndFailing.{failing_puts_out_nothing}
-use Rattle.circuit_l4.proofs.EndDisconnects.{disconnects_when_acknowledged}
+use Rattle.circuit_l4.proofs.Retries.{fails_after_retries}
+use Rattle.circuit_l4.proofs.Failing.{failing_puts_out_nothing}
+use Rattle.circuit_l4.proofs.Disconnects.{disconnects_when_acknowledged}
 use Rattle.circuit_l4.proofs.laws.endings.Goals as goal
 
 pub returns-clause-retries : goal.returns-clause-retries

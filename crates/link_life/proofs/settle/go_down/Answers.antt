@@ -1,5 +1,5 @@
 use Rattle.std.proofs.Common.{refl, subst}
-use Rattle.ax_link.specs.declared.plain.LinkConfig.{LinkConfig}
+use Rattle.ax_link.specs.declared.config.LinkConfig.{LinkConfig}
 use Rattle.ax_link.specs.Opening.{opening, rules_new}
 use Rattle.ax_link.specs.Standing.{StandsFor}
 use Rattle.link_life.proofs.Books.{all_over, facts_stand}

@@ -1,5 +1,5 @@
 use Rattle.std.proofs.Common.{refl, subst, ◌∙◌}
-use Rattle.ax_link.specs.declared.plain.LinkPhase.{LinkPhase}
+use Rattle.ax_link.specs.declared.phase.LinkPhase.{LinkPhase}
 use Rattle.ax_link.specs.Opening.{rules_new}
 use Rattle.link_life.specs.Ends.{End, after_step, rest}
 use Rattle.link_life.specs.Lives.{settings}

@@ -1,7 +1,7 @@
 use Rattle.std.proofs.Common.{refl, ap, arith}
-use Rattle.circuit_l4.specs.declared.plain.EndConfig.{EndConfig}
-use Rattle.circuit_l4.specs.EndStanding.{EndView, view_of}
-use Rattle.circuit_l4.specs.EndTable.{arrive}
+use Rattle.circuit_l4.specs.declared.config.EndConfig.{EndConfig}
+use Rattle.circuit_l4.specs.Standing.{EndView, view_of}
+use Rattle.circuit_l4.specs.Table.{arrive}
 use Rattle.circuit_l4.proofs.Bounds.{keeps_on}
 use Rattle.circuit_l4.proofs.Steps.{idle, stepped}
 use Rattle.circuit_l4.proofs.Waiting.{few_out}

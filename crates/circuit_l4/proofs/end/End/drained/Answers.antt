@@ -1,6 +1,6 @@
 use Rattle.std.proofs.Common.{◌≡◌, ◌<◌, length, refl, arith}
 use Rattle.std.proofs.lemmas.Bool.Decides.{nat_tests}
-use Rattle.circuit_l4.specs.EndStanding.{view_of}
+use Rattle.circuit_l4.specs.Standing.{view_of}
 use Rattle.circuit_l4.proofs.Steps.{drained, waits}
 use Rattle.circuit_l4.proofs.end.End.drained.Goals as goal
 

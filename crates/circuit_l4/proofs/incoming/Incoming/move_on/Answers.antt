@@ -1,7 +1,7 @@
 use Rattle.std.proofs.Common.{length, ap, refl, sym, ◌∙◌}
 use Rattle.circuit_l4.specs.Halves.{Inbox}
 use Rattle.circuit_l4.proofs.Bounds.{few_of}
-use Rattle.circuit_l4.proofs.Moves.{an_error, goes_no_further, resume, goes_wrong, one_left, starts}
+use Rattle.circuit_l4.proofs.Following.{an_error, goes_no_further, resume, goes_wrong, one_left, starts}
 use Rattle.circuit_l4.proofs.incoming.Incoming.move_on.Goals as goal
 
 pub returns-in_err-append-in-Some-clause-does : goal.returns-in_err-append-in-Some-clause-does

@@ -1,10 +1,10 @@
 use Rattle.std.proofs.Common.{◌≡◌, ◌-◌, List}
 use Rattle.circuit_l4.specs.Sending.{written}
-use Rattle.circuit_l4.specs.EndState.{Out}
-use Rattle.circuit_l4.specs.EndTable.{write}
+use Rattle.circuit_l4.specs.State.{Out}
+use Rattle.circuit_l4.specs.Table.{write}
 use Rattle.circuit_l4.specs.Halves.{Outbox}
 use Rattle.circuit_l4.specs.Outputs.{outs_of}
-use Rattle.circuit_l4.specs.EndStanding.{EndView, view_of}
+use Rattle.circuit_l4.specs.Standing.{EndView, view_of}
 use Rattle.circuit_l4.proofs.Standings.{itself, standing}
 use Rattle.circuit_l4.proofs.Waiting.{same_none}
 use Rattle.circuit_l4.proofs.machine.Machine.accept.Goals as goal

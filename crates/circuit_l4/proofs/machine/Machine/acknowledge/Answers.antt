@@ -1,6 +1,6 @@
 use Rattle.std.proofs.Common.{◌≡◌, ℕ, Option, subst}
-use Rattle.circuit_l4.specs.EndMoves.{acknowledge_by, on_state}
-use Rattle.circuit_l4.specs.EndStanding.{EndView, KeepsEffect, effect_of, view_of}
+use Rattle.circuit_l4.specs.Moves.{acknowledge_by, on_state}
+use Rattle.circuit_l4.specs.Standing.{EndView, KeepsEffect, effect_of, view_of}
 use Rattle.circuit_l4.proofs.Standings.{itself, standing_all}
 use Rattle.circuit_l4.proofs.machine.Machine.acknowledge.Goals as goal
 

@@ -1,5 +1,5 @@
 use Rattle.std.proofs.Common.{ap, sym, ◌∙◌}
-use Rattle.circuit_l4.specs.EndMoves.{owed_by}
+use Rattle.circuit_l4.specs.Moves.{owed_by}
 use Rattle.circuit_l4.proofs.machine.Machine.acknowledge_at.Goals as goal
 
 pub returns-clause-does : goal.returns-clause-does

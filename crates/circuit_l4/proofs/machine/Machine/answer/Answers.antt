@@ -1,6 +1,6 @@
 use Rattle.std.proofs.Common.{sym, ◌∙◌}
-use Rattle.circuit_l4.specs.EndMoves.{answer}
-use Rattle.circuit_l4.specs.EndStanding.{EndView, view_of}
+use Rattle.circuit_l4.specs.Moves.{answer}
+use Rattle.circuit_l4.specs.Standing.{EndView, view_of}
 use Rattle.circuit_l4.proofs.Standings.{itself, standing}
 use Rattle.circuit_l4.proofs.Answered.{silent_by, told_by, untold_by}
 use Rattle.circuit_l4.proofs.machine.Machine.answer.Goals.{then-nak-via-then-nak, then-nak-via-else-nak+then-is_silent}

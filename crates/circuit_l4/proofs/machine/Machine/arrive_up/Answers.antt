@@ -1,8 +1,8 @@
 use Rattle.std.proofs.Common.{◌≡◌, ℕ, List, ap, sym, ◌∙◌, subst}
 use Rattle.circuit_l4.specs.declared.piece.Piece.{Piece}
 use Rattle.circuit_l4.specs.declared.transport.Transport.{Transport}
-use Rattle.circuit_l4.specs.EndTable.{arrive_up, hear_info}
-use Rattle.circuit_l4.specs.EndStanding.{KeepsEffect, view_of}
+use Rattle.circuit_l4.specs.Table.{arrive_up, hear_info}
+use Rattle.circuit_l4.specs.Standing.{KeepsEffect, view_of}
 use Rattle.circuit_l4.proofs.machine.Machine.arrive_up.Goals as goal
 
 pub returns-in-Info-clause-does : goal.returns-in-Info-clause-does

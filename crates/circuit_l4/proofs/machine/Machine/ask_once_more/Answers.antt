@@ -1,5 +1,5 @@
 use Rattle.std.proofs.Common.{ap}
-use Rattle.circuit_l4.specs.EndStanding.{EndView}
+use Rattle.circuit_l4.specs.Standing.{EndView}
 use Rattle.circuit_l4.proofs.machine.Machine.ask_once_more.Goals as goal
 
 pub returns-in-Connecting-clause-tries : goal.returns-in-Connecting-clause-tries

@@ -1,7 +1,7 @@
 use Rattle.std.proofs.Common.{false, refl}
-use Rattle.circuit_l4.specs.declared.plain.EndPhase.TheVariants.{Closing}
-use Rattle.circuit_l4.specs.EndMoves.{on_state, begin_to_close}
-use Rattle.circuit_l4.specs.EndStanding.{EndView, view_of}
+use Rattle.circuit_l4.specs.declared.phase.EndPhase.TheVariants.{Closing}
+use Rattle.circuit_l4.specs.Moves.{on_state, begin_to_close}
+use Rattle.circuit_l4.specs.Standing.{EndView, view_of}
 use Rattle.circuit_l4.proofs.Standings.{changes, itself, standing}
 use Rattle.circuit_l4.proofs.machine.Machine.begin_to_close.Goals as goal
 

@@ -1,10 +1,10 @@
 use Rattle.std.proofs.Common.{◌-◌, List, ap, ◌∙◌, arith}
 use Rattle.circular_buffer.specs.Buffer.{Buffer}
 use Rattle.circuit_l4.specs.declared.output.Output.{Output}
-use Rattle.circuit_l4.specs.EndState.{Out}
+use Rattle.circuit_l4.specs.State.{Out}
 use Rattle.circuit_l4.specs.Halves.{Outbox}
 use Rattle.circuit_l4.specs.Outputs.{outs_of}
-use Rattle.circuit_l4.specs.EndStanding.{view_of}
+use Rattle.circuit_l4.specs.Standing.{view_of}
 use Rattle.circuit_l4.proofs.Waiting.{puts_stand, waits_too}
 use Rattle.circuit_l4.proofs.machine.Machine.emit.Goals as goal
 

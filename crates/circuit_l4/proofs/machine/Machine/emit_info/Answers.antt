@@ -1,7 +1,7 @@
 use Rattle.std.proofs.Common.{◌%◌, ◌<◌, ℕ, ap, subst, ◌∙◌, arith}
-use Rattle.circuit_l4.specs.EndState.{Effect}
-use Rattle.circuit_l4.specs.EndMoves.{emit_infos}
-use Rattle.circuit_l4.specs.EndStanding.{EndView, KeepsEffect, view_of}
+use Rattle.circuit_l4.specs.State.{Effect}
+use Rattle.circuit_l4.specs.Moves.{emit_infos}
+use Rattle.circuit_l4.specs.Standing.{EndView, KeepsEffect, view_of}
 use Rattle.circuit_l4.proofs.Standings.{itself, standing}
 use Rattle.circuit_l4.proofs.Waiting.{info_waits, none_waits}
 use Rattle.circuit_l4.proofs.machine.Machine.emit_info.Goals as goal

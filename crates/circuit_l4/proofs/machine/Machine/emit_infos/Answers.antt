@@ -1,6 +1,6 @@
 use Rattle.std.proofs.Common.{◌≡◌, ℕ, ◌+◌, ◌-◌, refl, ap, ◌∙◌, subst, arith}
-use Rattle.circuit_l4.specs.declared.plain.EndConfig.{EndConfig}
-use Rattle.circuit_l4.specs.EndStanding.{EndView, KeepsEffect, view_of}
+use Rattle.circuit_l4.specs.declared.config.EndConfig.{EndConfig}
+use Rattle.circuit_l4.specs.Standing.{EndView, KeepsEffect, view_of}
 use Rattle.circuit_l4.proofs.PutOut.{none_out, one_more}
 use Rattle.circuit_l4.proofs.machine.Machine.emit_infos.Goals as goal
 

@@ -1,7 +1,7 @@
 use Rattle.std.proofs.Common.{◌≡◌, ◌-◌}
-use Rattle.circuit_l4.specs.EndMoves.{emit_infos}
-use Rattle.circuit_l4.specs.EndCalls.{Adds, Does}
-use Rattle.circuit_l4.specs.EndStanding.{view_of}
+use Rattle.circuit_l4.specs.Moves.{emit_infos}
+use Rattle.circuit_l4.specs.Calls.{Adds, Does}
+use Rattle.circuit_l4.specs.Standing.{view_of}
 use Rattle.circuit_l4.proofs.machine.Machine.emit_infos.Given as goal
 
 -- so far, the fragments below a number have gone out

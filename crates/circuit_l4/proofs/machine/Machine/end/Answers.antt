@@ -1,7 +1,7 @@
 use Rattle.std.proofs.Common.{refl}
-use Rattle.circuit_l4.specs.declared.plain.EndPhase.TheVariants.{Ended}
-use Rattle.circuit_l4.specs.EndMoves.{on_state}
-use Rattle.circuit_l4.specs.EndStanding.{EndView, view_of}
+use Rattle.circuit_l4.specs.declared.phase.EndPhase.TheVariants.{Ended}
+use Rattle.circuit_l4.specs.Moves.{on_state}
+use Rattle.circuit_l4.specs.Standing.{EndView, view_of}
 use Rattle.circuit_l4.proofs.Standings.{changes}
 use Rattle.circuit_l4.proofs.machine.Machine.end.Goals as goal
 

@@ -1,8 +1,8 @@
 use Rattle.std.proofs.Common.{inl, inr, sym, subst}
-use Rattle.circuit_l4.specs.declared.plain.EndPhase.{EndPhase}
-use Rattle.circuit_l4.specs.EndTable.{due_in}
-use Rattle.circuit_l4.specs.EndStanding.{EndView, KeepsEffect, effect_of, view_of}
-use Rattle.circuit_l4.specs.EndTable.{fall_due}
+use Rattle.circuit_l4.specs.declared.phase.EndPhase.{EndPhase}
+use Rattle.circuit_l4.specs.Table.{due_in}
+use Rattle.circuit_l4.specs.Standing.{EndView, KeepsEffect, effect_of, view_of}
+use Rattle.circuit_l4.specs.Table.{fall_due}
 use Rattle.circuit_l4.proofs.Standings.{itself, standing}
 use Rattle.circuit_l4.proofs.machine.Machine.fall_due.Goals as goal
 

@@ -1,6 +1,6 @@
 use Rattle.std.proofs.Common.{◌≡◌, ℕ, ◌∙◌, subst}
-use Rattle.circuit_l4.specs.EndMoves.{on_state, count_out, fill, fill_with, emit_infos}
-use Rattle.circuit_l4.specs.EndStanding.{EndView, KeepsEffect, effect_of, view_of}
+use Rattle.circuit_l4.specs.Moves.{on_state, count_out, fill, fill_with, emit_infos}
+use Rattle.circuit_l4.specs.Standing.{EndView, KeepsEffect, effect_of, view_of}
 use Rattle.circuit_l4.proofs.Standings.{itself, standing}
 use Rattle.circuit_l4.proofs.machine.Machine.fill.Goals as goal
 

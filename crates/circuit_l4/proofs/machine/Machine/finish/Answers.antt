@@ -1,6 +1,6 @@
 use Rattle.std.proofs.Common.{sym, ◌∙◌}
-use Rattle.circuit_l4.specs.EndMoves.{finish}
-use Rattle.circuit_l4.specs.EndStanding.{EndView, view_of}
+use Rattle.circuit_l4.specs.Moves.{finish}
+use Rattle.circuit_l4.specs.Standing.{EndView, view_of}
 use Rattle.circuit_l4.proofs.Standings.{itself, standing}
 use Rattle.circuit_l4.proofs.machine.Machine.finish.Goals as goal
 

@@ -1,6 +1,6 @@
 use Rattle.std.proofs.Common.{refl}
-use Rattle.circuit_l4.specs.EndTable.{note_activity}
-use Rattle.circuit_l4.specs.EndStanding.{EndView, view_of}
+use Rattle.circuit_l4.specs.Table.{note_activity}
+use Rattle.circuit_l4.specs.Standing.{EndView, view_of}
 use Rattle.circuit_l4.proofs.Standings.{changes}
 use Rattle.circuit_l4.proofs.machine.Machine.hear_info.Goals as goal
 

@@ -1,6 +1,6 @@
 use Rattle.std.proofs.Common.{false}
-use Rattle.circuit_l4.specs.EndMoves.{on_state, hold}
-use Rattle.circuit_l4.specs.EndStanding.{EndView, view_of}
+use Rattle.circuit_l4.specs.Moves.{on_state, hold}
+use Rattle.circuit_l4.specs.Standing.{EndView, view_of}
 use Rattle.circuit_l4.proofs.Standings.{itself, standing}
 use Rattle.circuit_l4.proofs.machine.Machine.hold.Goals as goal
 

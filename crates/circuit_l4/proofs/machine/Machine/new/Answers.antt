@@ -1,6 +1,6 @@
 use Rattle.std.proofs.Common.{[], List, ap, refl, sym, arith}
-use Rattle.circuit_l4.specs.EndOpening.{unheard, unwritten, new}
-use Rattle.circuit_l4.specs.EndState.{Effect, Out, begin}
+use Rattle.circuit_l4.specs.Opening.{unheard, unwritten, new}
+use Rattle.circuit_l4.specs.State.{Effect, Out, begin}
 use Rattle.circuit_l4.proofs.Waiting.{none_out}
 use Rattle.circuit_l4.proofs.machine.Machine.new.Goals as goal
 

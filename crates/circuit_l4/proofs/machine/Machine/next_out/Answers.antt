@@ -2,10 +2,10 @@ use Rattle.std.proofs.Common.{◌-◌, List, Some, ap, sym, ◌∙◌}
 use Rattle.std.specs.Option.{option_map}
 use Rattle.circular_buffer.specs.Buffer.{Buffer}
 use Rattle.circuit_l4.specs.declared.output.Output.{Output}
-use Rattle.circuit_l4.specs.EndState.{Out}
+use Rattle.circuit_l4.specs.State.{Out}
 use Rattle.circuit_l4.specs.Halves.{Outbox}
 use Rattle.circuit_l4.specs.Outputs.{out_of, outs_of}
-use Rattle.circuit_l4.specs.EndStanding.{view_of}
+use Rattle.circuit_l4.specs.Standing.{view_of}
 use Rattle.circuit_l4.proofs.Waiting.{next_out, others_out}
 use Rattle.circuit_l4.proofs.machine.Machine.next_out.Goals as goal
 

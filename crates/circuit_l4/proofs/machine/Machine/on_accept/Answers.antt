@@ -1,8 +1,8 @@
 use Rattle.std.proofs.Common.{None, refl}
-use Rattle.circuit_l4.specs.declared.plain.EndPhase.TheVariants.{Up}
-use Rattle.circuit_l4.specs.EndMoves.{on_state}
-use Rattle.circuit_l4.specs.EndTable.{on_accept}
-use Rattle.circuit_l4.specs.EndStanding.{EndView, effect_of, view_of}
+use Rattle.circuit_l4.specs.declared.phase.EndPhase.TheVariants.{Up}
+use Rattle.circuit_l4.specs.Moves.{on_state}
+use Rattle.circuit_l4.specs.Table.{on_accept}
+use Rattle.circuit_l4.specs.Standing.{EndView, effect_of, view_of}
 use Rattle.circuit_l4.proofs.Standings.{changes, itself, standing}
 use Rattle.circuit_l4.proofs.machine.Machine.on_accept.Goals as goal
 

@@ -1,7 +1,7 @@
 use Rattle.std.proofs.Common.{sym, ◌∙◌}
 use Rattle.circuit_l4.specs.Receiving.{Receipt, receive}
-use Rattle.circuit_l4.specs.EndState.{Effect}
-use Rattle.circuit_l4.specs.EndMoves.{acknowledge, on_state}
+use Rattle.circuit_l4.specs.State.{Effect}
+use Rattle.circuit_l4.specs.Moves.{acknowledge, on_state}
 use Rattle.circuit_l4.proofs.Answered.{receipt_fails, receipt_fits, texted_fails, texted_fits}
 use Rattle.circuit_l4.proofs.machine.Machine.on_info.Goals as goal
 

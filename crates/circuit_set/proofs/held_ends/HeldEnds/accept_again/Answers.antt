@@ -1,5 +1,5 @@
 use Rattle.std.proofs.Common.{sym, ap}
-use Rattle.circuit_l4.specs.declared.plain.EndFacts.{EndFacts}
+use Rattle.circuit_l4.specs.declared.facts.EndFacts.{EndFacts}
 use Rattle.circuit_set.proofs.Making.{accepts_again}
 use Rattle.circuit_set.proofs.Moving.{never_missing}
 use Rattle.circuit_set.proofs.held_ends.HeldEnds.accept_again.Goals as goal

@@ -1,5 +1,5 @@
 use Rattle.std.proofs.Common.{sym, ap, refl, ◌∙◌}
-use Rattle.circuit_l4.specs.EndTable.{Close}
+use Rattle.circuit_l4.specs.Table.{Close}
 use Rattle.circuit_set.specs.Sets as sets
 use Rattle.circuit_set.proofs.Moving.{call_goes, call_of_none, no_close, rests_at, some_close}
 use Rattle.circuit_set.specs.Standing.{counted}

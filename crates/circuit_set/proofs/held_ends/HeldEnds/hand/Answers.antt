@@ -1,5 +1,5 @@
 use Rattle.std.proofs.Common.{◌∙◌, ap, sym}
-use Rattle.circuit_l4.specs.declared.plain.EndFacts.{EndFacts}
+use Rattle.circuit_l4.specs.declared.facts.EndFacts.{EndFacts}
 use Rattle.circuit_set.specs.Heeds.{heeds}
 use Rattle.circuit_set.proofs.Searching.{hands_some}
 use Rattle.circuit_set.proofs.Moving.{rests_at}

@@ -1,7 +1,7 @@
 use Rattle.std.proofs.Common.{ap, min, subst, sym}
 use Rattle.radio_base.specs.declared.modulus.TheConstants.{COUNT_MAX}
-use Rattle.circuit_l4.specs.EndOpening.{responding}
-use Rattle.circuit_l4.specs.EndStanding.{EndView, Stands}
+use Rattle.circuit_l4.specs.Opening.{responding}
+use Rattle.circuit_l4.specs.Standing.{EndView, Stands}
 use Rattle.circuit_set.specs.declared.holder.Holder.{Holder}
 use Rattle.circuit_set.proofs.Counting.{responds_few}
 use Rattle.circuit_set.proofs.Making.{responds_gives}

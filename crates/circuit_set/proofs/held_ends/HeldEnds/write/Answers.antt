@@ -1,8 +1,8 @@
 use Rattle.std.proofs.Common.{sym, ap, refl, ◌∙◌, Ok, Err}
 use Rattle.std.proofs.Common.{nat_eq}
 use Rattle.std.specs.Map.{set_value}
-use Rattle.circuit_l4.specs.EndStanding.{EndView}
-use Rattle.circuit_l4.specs.EndTable.{Write}
+use Rattle.circuit_l4.specs.Standing.{EndView}
+use Rattle.circuit_l4.specs.Table.{Write}
 use Rattle.circuit_set.specs.Sets as sets
 use Rattle.circuit_set.proofs.Moving.{call_goes, no_write, rests_at, set_back, some_write}
 use Rattle.circuit_set.specs.Standing.{counted}

@@ -1,5 +1,5 @@
 use Rattle.std.proofs.Common.{sym, ◌∙◌, ap}
-use Rattle.circuit_l4.specs.declared.plain.EndFacts.{EndFacts}
+use Rattle.circuit_l4.specs.declared.facts.EndFacts.{EndFacts}
 use Rattle.circuit_set.specs.Sets.{has_ended}
 use Rattle.circuit_set.proofs.Telling.{others}
 use Rattle.circuit_set.proofs.holder.Holder.has_ended.Goals as goal

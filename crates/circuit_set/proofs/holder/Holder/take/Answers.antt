@@ -1,5 +1,5 @@
 use Rattle.std.proofs.Common.{◌≡◌, ◌∙◌, ◌+◌, true, nat_lt, length, sym, ap}
-use Rattle.circuit_l4.specs.EndTable as table
+use Rattle.circuit_l4.specs.Table as table
 use Rattle.circuit_l4.specs.Receiving.{inbox}
 use Rattle.circuit_set.specs.Standing.{counted}
 use Rattle.circuit_set.proofs.Taken.{one_more, taken_by, taken_more}

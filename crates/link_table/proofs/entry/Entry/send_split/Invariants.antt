@@ -1,5 +1,5 @@
 use Rattle.std.proofs.Common.{length}
-use Rattle.ax_link.specs.Opening.{IsDrained}
+use Rattle.ax_link.specs.Standing.{IsDrained}
 use Rattle.link_table.specs.Frames.{segmented}
 use Rattle.link_table.specs.Sending.{payloads}
 use Rattle.link_table.specs.Standing.{held_of}

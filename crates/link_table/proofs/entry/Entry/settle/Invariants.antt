@@ -1,5 +1,5 @@
 use Rattle.std.proofs.Common.{◌-◌}
-use Rattle.ax_link.specs.Opening.{IsDrained}
+use Rattle.ax_link.specs.Standing.{IsDrained}
 use Rattle.link_table.specs.Standing.{held_of}
 use Rattle.link_table.proofs.Lifting.{Left}
 use Rattle.link_table.proofs.entry.Entry.settle.Given as goal

@@ -1,6 +1,0 @@
-use Rattle.ax_link.proofs.station.Station.supervisory_at.Goals as goal
-
-pub returns-clause-does : goal.returns-clause-does
-returns-clause-does g c = λ part stands.
-    c.fill_and_finish.ensures.does _
-    (c.supply_again.ensures.does _ (c.answer_command.ensures.does _ (c.hold.ensures.does _ (c.acknowledge.ensures.does _ stands))))

@@ -1,0 +1,15 @@
+//! How an end of a circuit begins.
+use crate::phase::EndPhase;
+use crate::role::Role;
+use crate::transport::Pair;
+
+/// How a machine begins.
+#[derive(Clone, Copy, Debug, PartialEq, Eq)]
+pub struct Beginning {
+    pub role: Role,
+    pub pair: Pair,
+    /// The other end's pair, once it is known.
+    pub to: Pair,
+    pub phase: EndPhase,
+    pub window: u8,
+}

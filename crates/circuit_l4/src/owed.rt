@@ -1,0 +1,8 @@
+//! What an end owes the other one.
+
+/// What has to be put out once more: so many fragments from a number on.
+#[derive(Clone, Copy, Debug, PartialEq, Eq)]
+pub struct Owed {
+    pub from: u64,
+    pub many: u64,
+}
