@@ -2,6 +2,9 @@
 use Rattle.std.specs.Prelude.{◌≡◌, ℕ, ◌+◌, ◌-◌, min, Bool, true, false, not, ◌&&◌, if◌then◌else◌, List, [], ◌∷◌, ◌++◌, length, map, Option, Some, None, slice_get, slice_set}
 use Rattle.radio_base.specs.declared.payload.Payload.{Payload}
 use Rattle.ax_link.specs.declared.machine.Machine.{Machine}
+use Rattle.ax_link.specs.declared.frame_in.FrameIn.{FrameIn}
+use Rattle.ax_link.specs.declared.i_frame.IFrame.{IFrame}
+use Rattle.ax_link.specs.Kinds.{payload, payload_of}
 use Rattle.ax_link.specs.State.{Frame, Effect, high}
 use Rattle.ax_link.specs.Table.{arrive_in, close_in_turn, fail_in, may_close, retry_in, set_up_in}
 use Rattle.ax_link.specs.Moves.{asks, frames, frames_of, is_free, follow, emit, rr, store_early, take_in, take_next}
@@ -102,6 +105,14 @@ with_early i p early = if is_free (slice_get early i) then slice_set early i (So
 -- one payload that is asked for goes out, if it was put out before
 abbrev pub text_again : ℕ → Effect → Effect
 text_again n g = texts_out n (min 1 (g.link.sent - n)) g
+
+-- a frame as it has come
+abbrev pub frame_come : FrameIn → Frame
+frame_come f = record { command = f.command; kind = f.kind; payload = payload_of f.pid f.info.now }
+
+-- the payload that an I frame brings
+abbrev pub brought : IFrame → Payload
+brought i = payload i.pid i.info.now
 
 -- a frame has come
 abbrev pub arrive : ℕ → Frame → Effect → Effect

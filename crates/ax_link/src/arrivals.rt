@@ -2,46 +2,40 @@
 ghost use Rattle.std.specs.Prelude.{◌≡◌, ℕ, Bool, List, ◌+◌, ◌-◌, ◌*◌, ◌≤◌, ◌<◌, ◌++◌, ◌∷◌, [], ◌&&◌, not, nat_eq, nat_le, length, true, false, None, Some, IfSome};
 ghost use Rattle.radio_base.specs.declared.modulus.TheConstants.{COUNT_MAX};
 
+use crate::frame_in::FrameIn;
+use crate::i_frame::IFrame;
 use crate::kind::Kind;
 use crate::machine::Machine;
 use crate::notice::LinkNotice;
 use crate::phase::LinkPhase;
+use crate::supervisory::Supervisory;
 use ax_frame::Control;
-use radio_base::{COUNT_MAX, MAX_INFO, Modulus};
+use radio_base::{COUNT_MAX, Modulus};
 
 impl<M: Modulus> Machine<M> {
     ghost use Rattle.radio_base.specs.declared.payload.Payload.{Payload};
     ghost use Rattle.ax_link.specs.declared.kind.Kind.TheVariants as Kind;
-    ghost use Rattle.ax_link.specs.Kinds.{kind_of, payload, payload_of, frame_in};
     ghost use Rattle.radio_base.specs.Modulus.{place_of};
     ghost use Rattle.ax_link.specs.State as state;
     ghost use Rattle.ax_link.specs.Moves as moves;
     ghost use Rattle.ax_link.specs.Table as table;
     ghost use Rattle.ax_link.specs.Standing.{Adds, state_of};
-    ghost use Rattle.ax_link.specs.Calls.{Does, arrive, view_of, take_plain, text_again};
+    ghost use Rattle.ax_link.specs.Calls.{Does, arrive, brought, frame_come, view_of, text_again};
 
-    pub(crate) fn arrive(
-        &mut self,
-        command: bool,
-        control: &Control,
-        pid: Option<u8>,
-        info: &[u8],
-        now: u64,
-    )
+    pub(crate) fn arrive(&mut self, frame: &FrameIn<'_>, now: u64)
         requires now { now ≤ COUNT_MAX }
         requires outs { self.old.outs.items ≡ [] }
         requires notice { self.old.notice ≡ None }
         requires size { self.old.window < M.SIZE }
-        ensures does { Does M.SIZE (arrive now (frame_in M.SIZE command control.now pid info.now)) self.old self.new }
+        ensures does { Does M.SIZE (arrive now (frame_come frame.now)) self.old self.new }
         ensures window { self.new.window ≡ self.old.window }
     {
         self.last_arrival = now;
-        let kind = Kind::of::<M>(command, control);
         match self.phase {
-            LinkPhase::Down => self.arrive_down(command, kind, now),
-            LinkPhase::SettingUp => self.arrive_setting_up(kind, now),
-            LinkPhase::Up => self.arrive_up(command, kind, pid, info, now),
-            LinkPhase::Releasing => self.arrive_releasing(kind, now),
+            LinkPhase::Down => self.arrive_down(frame.command, frame.kind, now),
+            LinkPhase::SettingUp => self.arrive_setting_up(frame.kind, now),
+            LinkPhase::Up => self.arrive_up(frame, now),
+            LinkPhase::Releasing => self.arrive_releasing(frame.kind, now),
         }
     }
 
@@ -102,19 +96,23 @@ impl<M: Modulus> Machine<M> {
         }
     }
 
-    fn arrive_up(&mut self, command: bool, kind: Kind, pid: Option<u8>, info: &[u8], now: u64)
+    fn arrive_up(&mut self, frame: &FrameIn<'_>, now: u64)
         requires now { now ≤ COUNT_MAX }
         requires outs { self.old.outs.items ≡ [] }
         requires notice { self.old.notice ≡ None }
         requires size { self.old.window < M.SIZE }
-        ensures does { Does M.SIZE (table.arrive_up now command kind (payload_of pid info.now)) self.old self.new }
+        ensures does { Does M.SIZE (table.arrive_up now frame.now.command frame.now.kind (frame_come frame.now).payload) self.old self.new }
         ensures window { self.new.window ≡ self.old.window }
     {
-        match kind {
-            Kind::I { ns, nr, pf } => self.on_information(ns, nr, pf, pid, info, now),
-            Kind::Rr { nr, pf } => self.on_supervisory(command, false, false, pf, nr, now),
-            Kind::Rnr { nr, pf } => self.on_supervisory(command, true, false, pf, nr, now),
-            Kind::Rej { nr, pf } => self.on_supervisory(command, false, true, pf, nr, now),
+        match frame.kind {
+            Kind::I { ns, nr, pf } => {
+                if let Some(i_frame) = frame.brings(ns, pf) {
+                    self.on_i(&i_frame, nr, now);
+                }
+            }
+            Kind::Rr { nr, pf } => self.on_supervisory(frame.ready(pf), nr, now),
+            Kind::Rnr { nr, pf } => self.on_supervisory(frame.not_ready(pf), nr, now),
+            Kind::Rej { nr, pf } => self.on_supervisory(frame.reject(pf), nr, now),
             Kind::Srej { nr, pf } => self.on_selective_reject(pf, nr, now),
             Kind::SetUp { pf } => {
                 self.reset(now);
@@ -172,74 +170,47 @@ impl<M: Modulus> Machine<M> {
         }
     }
 
-    /// An RR, RNR or REJ. An RNR says that the other station is busy, a REJ asks for all that isn't acknowledged.
-    fn on_supervisory(
-        &mut self,
-        command: bool,
-        peer_busy: bool,
-        reject: bool,
-        pf: bool,
-        nr: u8,
-        now: u64,
-    )
+    /// An RR, RNR or REJ, with this N(R).
+    fn on_supervisory(&mut self, said: Supervisory, nr: u8, now: u64)
         requires now { now ≤ COUNT_MAX }
         requires outs { self.old.outs.items ≡ [] }
         requires size { self.old.window < M.SIZE }
-        ensures does { Does M.SIZE (moves.on_supervisory now command peer_busy reject pf nr) self.old self.new }
+        ensures does { Does M.SIZE (moves.on_supervisory now said.command said.busy said.reject said.pf nr) self.old self.new }
         ensures notice { self.new.notice ≡ self.old.notice }
         ensures window { self.new.window ≡ self.old.window }
     {
         if let Some(below) = self.ack_place(nr) {
-            self.supervisory_at(command, peer_busy, reject, pf, below, now);
+            self.supervisory_at(said, below, now);
         }
     }
 
-    fn supervisory_at(
-        &mut self,
-        command: bool,
-        peer_busy: bool,
-        reject: bool,
-        pf: bool,
-        below: u64,
-        now: u64,
-    )
+    fn supervisory_at(&mut self, said: Supervisory, below: u64, now: u64)
         requires now { now ≤ COUNT_MAX }
         requires outs { self.old.outs.items ≡ [] }
         requires from { self.old.acked ≤ below }
         requires to { below ≤ self.old.sent }
-        ensures does { Does M.SIZE (moves.supervisory_at now command peer_busy reject pf below) self.old self.new }
+        ensures does { Does M.SIZE (moves.supervisory_at now said.command said.busy said.reject said.pf below) self.old self.new }
         ensures notice { self.new.notice ≡ self.old.notice }
         ensures window { self.new.window ≡ self.old.window }
     {
         self.acknowledge(below, now);
-        self.hold(peer_busy, now);
-        self.answer_command(command, pf);
-        self.supply_again(command, pf, reject, now);
+        self.hold(said.busy, now);
+        self.answer_poll(said.polls());
+        self.supply_again(said, now);
         self.fill_and_finish(now);
     }
 
-    /// A command with the poll bit asks for an answer.
-    fn answer_command(&mut self, command: bool, pf: bool)
-        requires { length self.old.outs.items + 1 ≤ 2 * self.old.window + 4 }
-        ensures does { Does M.SIZE (moves.answer_poll (command && pf)) self.old self.new }
-        ensures adds { Adds 1 (view_of self.old) (view_of self.new) }
-    {
-        if command {
-            self.answer_poll(pf);
-        }
-    }
-
     /// What a response with the final bit or a REJ asks for is put out again.
-    fn supply_again(&mut self, command: bool, pf: bool, reject: bool, now: u64)
+    fn supply_again(&mut self, said: Supervisory, now: u64)
         requires now { now ≤ COUNT_MAX }
         requires room { length self.old.outs.items + self.old.window ≤ 2 * self.old.window + 4 }
-        ensures does { Does M.SIZE (moves.supply_again now (not command && pf) reject) self.old self.new }
+        ensures does { Does M.SIZE (moves.supply_again now (not said.command && said.pf) said.reject) self.old self.new }
         ensures adds { Adds self.old.window (view_of self.old) (view_of self.new) }
     {
-        if !command && pf && self.polling {
+        if said.is_final() && self.polling {
             self.end_poll(now);
             self.again(now);
-        } else if reject && !self.polling {
+        } else if said.reject && !self.polling {
             self.again(now);
         }
     }
@@ -324,52 +295,32 @@ impl<M: Modulus> Machine<M> {
         self.emit_texts(number, (self.sent - number).min(1));
     }
 
-    /// An I frame. One without a PID, or with more than 256 octets of information, has no payload.
-    fn on_information(&mut self, ns: u8, nr: u8, pf: bool, pid: Option<u8>, info: &[u8], now: u64)
+    /// An I frame with a payload, and with this N(R).
+    fn on_i(&mut self, i_frame: &IFrame<'_>, nr: u8, now: u64)
         requires now { now ≤ COUNT_MAX }
         requires outs { self.old.outs.items ≡ [] }
         requires size { self.old.window < M.SIZE }
-        ensures does { Does M.SIZE (moves.on_i now pf ns nr (payload_of pid info.now)) self.old self.new }
-        ensures notice { self.new.notice ≡ self.old.notice }
-        ensures window { self.new.window ≡ self.old.window }
-    {
-        match pid {
-            Some(pid) => {
-                if info.len() <= MAX_INFO {
-                    self.on_text(ns, nr, pf, pid, info, now);
-                }
-            }
-            None => {}
-        }
-    }
-
-    fn on_text(&mut self, ns: u8, nr: u8, pf: bool, pid: u8, info: &[u8], now: u64)
-        requires few { length info.now ≤ 256 }
-        requires now { now ≤ COUNT_MAX }
-        requires outs { self.old.outs.items ≡ [] }
-        requires size { self.old.window < M.SIZE }
-        ensures does { Does M.SIZE (moves.on_i now pf ns nr (Some (payload pid info.now))) self.old self.new }
+        ensures does { Does M.SIZE (moves.on_i now i_frame.now.pf i_frame.now.ns nr (Some (brought i_frame.now))) self.old self.new }
         ensures notice { self.new.notice ≡ self.old.notice }
         ensures window { self.new.window ≡ self.old.window }
     {
         if let Some(below) = self.ack_place(nr) {
-            self.i_at(ns, pf, pid, info, below, now);
+            self.i_at(i_frame, below, now);
         }
     }
 
-    fn i_at(&mut self, ns: u8, pf: bool, pid: u8, info: &[u8], below: u64, now: u64)
-        requires few { length info.now ≤ 256 }
+    fn i_at(&mut self, i_frame: &IFrame<'_>, below: u64, now: u64)
         requires now { now ≤ COUNT_MAX }
         requires outs { self.old.outs.items ≡ [] }
         requires size { self.old.window < M.SIZE }
         requires from { self.old.acked ≤ below }
         requires to { below ≤ self.old.sent }
-        ensures does { Does M.SIZE (moves.i_at now pf ns (payload pid info.now) below) self.old self.new }
+        ensures does { Does M.SIZE (moves.i_at now i_frame.now.pf i_frame.now.ns (brought i_frame.now) below) self.old self.new }
         ensures notice { self.new.notice ≡ self.old.notice }
         ensures window { self.new.window ≡ self.old.window }
     {
         self.acknowledge(below, now);
-        self.text(pf, ns, pid, info);
+        self.text(i_frame);
         self.fill_and_finish(now);
     }
 }

@@ -6,6 +6,7 @@ ghost use Rattle.ax_link.specs.Kinds.{payload};
 ghost use Rattle.ax_link.specs.State as state;
 ghost use Rattle.ax_link.specs.Calls.{is_filled, with_early};
 
+use crate::i_frame::IFrame;
 use crate::machine::{Machine, push};
 use crate::moves::{copy_of, payload_of};
 use ax_frame::Control;
@@ -76,7 +77,7 @@ impl<M: Modulus> Machine<M> {
     ghost use Rattle.ax_link.specs.declared.kind.Kind.TheVariants as Kind;
     ghost use Rattle.ax_link.specs.Moves as moves;
     ghost use Rattle.ax_link.specs.Standing.{Adds, state_of};
-    ghost use Rattle.ax_link.specs.Calls.{Does, ask_for_each, view_of, keep_early, ask_for_missing, move_on, take_next_payload};
+    ghost use Rattle.ax_link.specs.Calls.{Does, brought, ask_for_each, view_of, keep_early, ask_for_missing, move_on, take_next_payload};
 
     /// Takes the next payload: what came early is one place nearer.
     pub(crate) fn take_next(&mut self, pid: u8, info: &[u8])
@@ -189,16 +190,15 @@ impl<M: Modulus> Machine<M> {
     }
 
     /// A payload of the window has come before its turn.
-    pub(crate) fn text_later(&mut self, pf: bool, number: u64, pid: u8, info: &[u8])
-        requires few { length info.now ≤ 256 }
+    pub(crate) fn text_later(&mut self, i_frame: &IFrame<'_>, number: u64)
         requires room { length self.old.outs.items + self.old.window ≤ 2 * self.old.window + 4 }
         requires from { self.old.got ≤ number }
         requires below { number < self.old.got + self.old.window }
-        ensures does { Does M.SIZE (moves.text_later pf number (payload pid info.now)) self.old self.new }
+        ensures does { Does M.SIZE (moves.text_later i_frame.now.pf number (brought i_frame.now)) self.old self.new }
         ensures adds { Adds self.old.window (view_of self.old) (view_of self.new) }
     {
         self.ask_for_missing(number);
-        self.keep_early(number, pid, info);
-        self.answer_poll(pf);
+        self.keep_early(number, i_frame.pid, i_frame.info);
+        self.answer_poll(i_frame.pf);
     }
 }

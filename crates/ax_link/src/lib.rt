@@ -7,6 +7,8 @@ mod config;
 mod early;
 mod expiry;
 mod facts;
+mod frame_in;
+mod i_frame;
 mod kind;
 pub mod laws;
 mod link;
@@ -16,6 +18,7 @@ mod notice;
 mod out;
 mod phase;
 mod refusal;
+mod supervisory;
 mod texts;
 
 pub use config::LinkConfig;

@@ -11,6 +11,7 @@ ghost use Rattle.ax_link.specs.Opening.{facts_of, opening, rules_new, send_answe
 
 use crate::config::LinkConfig;
 use crate::facts::LinkFacts;
+use crate::frame_in::FrameIn;
 use crate::machine::Machine;
 use crate::notice::LinkNotice;
 use crate::out::LinkOut;
@@ -28,7 +29,23 @@ use std::marker::Model;
 /// - Looks, which change nothing: `first`, `first_out`, `facts`, `drained`.
 ///
 /// `tick` is called about once a second, since no call tells when the next timer is due. `new` takes all the memory that a link needs.
-/// What each input does is one row of the table in `specs/Table.antt`.
+/// What each input does is one row of the table in `specs/Table.antt`, and the phases are drawn at `LinkPhase`.
+///
+/// In use (`machine_tests`, `a_link_in_use`):
+///
+/// ```text
+/// let mut link = Link::<M8>::new(alloc, config)?;
+/// link.set_up(now);
+/// let set_up = link.next_out(); // a SABM for the other station
+/// assert!(rt; link.drained());
+/// link.arrive(false, &Control::Ua { pf: true }, None, &[], now);
+/// let told = link.notice(); // Opened
+/// assert!(rt; link.drained());
+/// let answer = link.send(&payload, now); // Ok
+/// let text = link.next_out(); // an I with the payload
+/// assert!(rt; link.drained());
+/// link.close(now); // a DISC follows once the payload is acknowledged
+/// ```
 #[derive(Drop)]
 pub struct Link<M: Modulus> {
     machine: Machine<M>,
@@ -99,8 +116,8 @@ impl<M: Modulus> Link<M> {
         ensures does { (s : State) → StandsFor M.SIZE self.old s → Stands M.SIZE self.new (table.step s (table.Arrive (frame_in M.SIZE command control.now pid info.now)) now.0) }
         ensures kept { (s : State) → StandsFor M.SIZE self.old s → kept self.new ≤ share M.SIZE }
     {
-        self.machine
-            .arrive(command, control, pid, info, moment(now));
+        let frame = FrameIn::of::<M>(command, control, pid, info);
+        self.machine.arrive(&frame, moment(now));
     }
 
     /// Time has passed.

@@ -2,6 +2,7 @@
 ghost use Rattle.std.specs.Prelude.{◌≡◌, ℕ, Bool, List, ◌+◌, ◌-◌, ◌*◌, ◌≤◌, ◌<◌, ◌++◌, ◌∷◌, [], ◌&&◌, not, nat_eq, nat_le, length, true, false, None, Some, IfSome};
 ghost use Rattle.radio_base.specs.declared.modulus.TheConstants.{COUNT_MAX};
 
+use crate::i_frame::IFrame;
 use crate::machine::Machine;
 use ax_frame::Control;
 use radio_base::{COUNT_MAX, Modulus};
@@ -9,19 +10,18 @@ use radio_base::{COUNT_MAX, Modulus};
 impl<M: Modulus> Machine<M> {
     ghost use Rattle.radio_base.specs.declared.payload.Payload.{Payload};
     ghost use Rattle.ax_link.specs.declared.kind.Kind.TheVariants as Kind;
-    ghost use Rattle.ax_link.specs.Kinds.{kind_of, payload};
+    ghost use Rattle.ax_link.specs.Kinds.{kind_of};
     ghost use Rattle.ax_link.specs.State as state;
     ghost use Rattle.ax_link.specs.Moves as moves;
     ghost use Rattle.ax_link.specs.Table as table;
     ghost use Rattle.ax_link.specs.Standing.{Adds, state_of};
-    ghost use Rattle.ax_link.specs.Calls.{Does, view_of, take_plain, text_next};
+    ghost use Rattle.ax_link.specs.Calls.{Does, brought, view_of, take_plain, text_next};
 
     /// A payload has come with this number on the air.
-    pub(crate) fn text(&mut self, pf: bool, ns: u8, pid: u8, info: &[u8])
-        requires few { length info.now ≤ 256 }
+    pub(crate) fn text(&mut self, i_frame: &IFrame<'_>)
         requires room { length self.old.outs.items + self.old.window ≤ 2 * self.old.window + 4 }
         requires size { self.old.window < M.SIZE }
-        ensures does { Does M.SIZE (moves.text pf ns (payload pid info.now)) self.old self.new }
+        ensures does { Does M.SIZE (moves.text i_frame.now.pf i_frame.now.ns (brought i_frame.now)) self.old self.new }
         ensures adds { Adds self.old.window (view_of self.old) (view_of self.new) }
     {
         if self.got >= COUNT_MAX {
@@ -29,86 +29,81 @@ impl<M: Modulus> Machine<M> {
         }
         if self.is_busy() {
             let nr = M::wire(self.got);
-            self.emit(false, Control::Rnr { nr, pf });
+            self.emit(false, Control::Rnr { nr, pf: i_frame.pf });
         } else if self.srej {
-            self.text_in_window(pf, ns, pid, info);
+            self.text_in_window(i_frame);
         } else {
-            self.text_in_turn(pf, ns, pid, info);
+            self.text_in_turn(i_frame);
         }
     }
 
     /// Where single payloads are asked for, each one of the window is taken or kept.
-    fn text_in_window(&mut self, pf: bool, ns: u8, pid: u8, info: &[u8])
-        requires few { length info.now ≤ 256 }
+    fn text_in_window(&mut self, i_frame: &IFrame<'_>)
         requires room { length self.old.outs.items + self.old.window ≤ 2 * self.old.window + 4 }
         requires size { self.old.window < M.SIZE }
         requires busy { length self.old.inbox.items < 64 }
         requires more { self.old.got < COUNT_MAX }
-        ensures does { Does M.SIZE (moves.text_srej pf ns (payload pid info.now)) self.old self.new }
+        ensures does { Does M.SIZE (moves.text_srej i_frame.now.pf i_frame.now.ns (brought i_frame.now)) self.old self.new }
         ensures adds { Adds self.old.window (view_of self.old) (view_of self.new) }
     {
-        match self.in_window(ns) {
-            Some(number) => self.text_at(pf, number, pid, info),
-            None => self.emit_rr(pf),
+        match self.in_window(i_frame.ns) {
+            Some(number) => self.text_at(i_frame, number),
+            None => self.emit_rr(i_frame.pf),
         }
     }
 
-    fn text_at(&mut self, pf: bool, number: u64, pid: u8, info: &[u8])
-        requires few { length info.now ≤ 256 }
+    fn text_at(&mut self, i_frame: &IFrame<'_>, number: u64)
         requires room { length self.old.outs.items + self.old.window ≤ 2 * self.old.window + 4 }
         requires busy { length self.old.inbox.items < 64 }
         requires more { self.old.got < COUNT_MAX }
         requires from { self.old.got ≤ number }
         requires below { number < self.old.got + self.old.window }
-        ensures does { Does M.SIZE (moves.text_at pf number (payload pid info.now)) self.old self.new }
+        ensures does { Does M.SIZE (moves.text_at i_frame.now.pf number (brought i_frame.now)) self.old self.new }
         ensures adds { Adds self.old.window (view_of self.old) (view_of self.new) }
     {
         if self.got < number {
-            self.text_later(pf, number, pid, info);
+            self.text_later(i_frame, number);
         } else {
-            self.text_next(pf, pid, info);
+            self.text_next(i_frame);
         }
     }
 
     /// The next payload has come, and early ones follow.
-    fn text_next(&mut self, pf: bool, pid: u8, info: &[u8])
-        requires few { length info.now ≤ 256 }
+    fn text_next(&mut self, i_frame: &IFrame<'_>)
         requires room { length self.old.outs.items + 1 ≤ 2 * self.old.window + 4 }
         requires busy { length self.old.inbox.items < 64 }
         requires more { self.old.got < COUNT_MAX }
-        ensures does { Does M.SIZE (text_next pf (payload pid info.now)) self.old self.new }
+        ensures does { Does M.SIZE (text_next i_frame.now.pf (brought i_frame.now)) self.old self.new }
         ensures adds { Adds 1 (view_of self.old) (view_of self.new) }
     {
-        self.take_next(pid, info);
+        self.take_next(i_frame.pid, i_frame.info);
         self.move_on();
-        self.answer_text(pf);
+        self.answer_text(i_frame.pf);
     }
 
     /// Without single payloads being asked for, only the next one is taken.
-    fn text_in_turn(&mut self, pf: bool, ns: u8, pid: u8, info: &[u8])
-        requires few { length info.now ≤ 256 }
+    fn text_in_turn(&mut self, i_frame: &IFrame<'_>)
         requires room { length self.old.outs.items + 1 ≤ 2 * self.old.window + 4 }
         requires busy { length self.old.inbox.items < 64 }
         requires more { self.old.got < COUNT_MAX }
-        ensures does { Does M.SIZE (moves.text_plain pf ns (payload pid info.now)) self.old self.new }
+        ensures does { Does M.SIZE (moves.text_plain i_frame.now.pf i_frame.now.ns (brought i_frame.now)) self.old self.new }
         ensures adds { Adds 1 (view_of self.old) (view_of self.new) }
     {
-        if ns == M::wire(self.got) {
-            self.take_in(pid, info);
-            self.answer_text(pf);
+        if i_frame.ns == M::wire(self.got) {
+            self.take_in(i_frame);
+            self.answer_text(i_frame.pf);
         } else {
-            self.ask_again(pf);
+            self.ask_again(i_frame.pf);
         }
     }
 
-    fn take_in(&mut self, pid: u8, info: &[u8])
-        requires few { length info.now ≤ 256 }
+    fn take_in(&mut self, i_frame: &IFrame<'_>)
         requires busy { length self.old.inbox.items < 64 }
         requires more { self.old.got < COUNT_MAX }
-        ensures does { Does M.SIZE (take_plain (payload pid info.now)) self.old self.new }
+        ensures does { Does M.SIZE (take_plain (brought i_frame.now)) self.old self.new }
         ensures adds { Adds 0 (view_of self.old) (view_of self.new) }
     {
-        self.take_next(pid, info);
+        self.take_next(i_frame.pid, i_frame.info);
         self.rej_sent = false;
     }
 

@@ -7,10 +7,10 @@ use Rattle.ax_link.proofs.machine.Machine.on_supervisory.Goals as goal
 
 pub returns-in-Some-clause-does : goal.returns-in-Some-clause-does
 returns-in-Some-clause-does g c =
-    placed _ (view_of c.args.self.now) _ _ (supervisory_at c.args.now c.args.command c.args.peer_busy c.args.reject c.args.pf) (λ part. ack_place part.link c.args.nr)
+    placed _ (view_of c.args.self.now) _ _ (supervisory_at c.args.now c.args.said.command c.args.said.busy c.args.said.reject c.args.said.pf) (λ part. ack_place part.link c.args.nr)
     (λ before received _ _. c.in-Some.ensures.exact before received) c.supervisory_at.ensures.does
 
 pub returns-in_default-clause-does : goal.returns-in_default-clause-does
 returns-in_default-clause-does g c =
-    placed _ (view_of c.args.self.now) _ None (supervisory_at c.args.now c.args.command c.args.peer_busy c.args.reject c.args.pf) (λ part. ack_place part.link c.args.nr)
+    placed _ (view_of c.args.self.now) _ None (supervisory_at c.args.now c.args.said.command c.args.said.busy c.args.said.reject c.args.said.pf) (λ part. ack_place part.link c.args.nr)
     (λ before received _ _. c.in_default.ensures.exact before received) (λ part stands. stands)
