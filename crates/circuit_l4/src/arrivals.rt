@@ -3,11 +3,12 @@ ghost use Rattle.std.specs.Prelude.{◌≡◌, ◌*◌, ◌≤◌, [], None};
 ghost use Rattle.radio_base.specs.declared.modulus.TheConstants.{COUNT_MAX};
 ghost use Rattle.circuit_l4.specs.Table as table;
 
+use crate::info::Info;
 use crate::machine::Machine;
 use crate::notice::EndNotice;
 use crate::output::Output;
 use crate::phase::EndPhase;
-use crate::piece::{Piece, piece_of};
+use crate::piece::piece_of;
 use crate::transport::{Flags, Pair, Transport};
 use radio_base::COUNT_MAX;
 
@@ -85,7 +86,13 @@ impl Machine {
                 text,
             } => {
                 let piece = piece_of(text.as_slice(), flags.more);
-                self.hear_info(*tx, *rx, *flags, &piece, now);
+                let info = Info {
+                    tx: *tx,
+                    rx: *rx,
+                    flags: *flags,
+                    piece: &piece,
+                };
+                self.hear_info(&info, now);
             }
             Transport::InfoAck { to: _, rx, flags } => self.hear_info_ack(*rx, *flags, now),
             Transport::Disconnect { to: _ } => self.closed_by_partner(),
@@ -93,15 +100,15 @@ impl Machine {
         }
     }
 
-    fn hear_info(&mut self, tx: u8, rx: u8, flags: Flags, piece: &Piece, now: u64)
+    fn hear_info(&mut self, info: &Info<'_>, now: u64)
         requires now { now ≤ COUNT_MAX }
         requires outs { self.old.outs.items ≡ [] }
         requires notice { self.old.notice ≡ None }
-        ensures does { Does (table.hear_info now tx rx flags piece.now) self.old self.new }
+        ensures does { Does (table.hear_info now info.now.tx info.now.rx info.now.flags info.now.piece.now) self.old self.new }
         ensures config { self.new.config ≡ self.old.config }
     {
         self.last_active = now;
-        self.on_info(tx, rx, flags, piece, now);
+        self.on_info(info, now);
     }
 
     fn hear_info_ack(&mut self, rx: u8, flags: Flags, now: u64)

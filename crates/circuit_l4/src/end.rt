@@ -35,7 +35,22 @@ use std::marker::Model;
 /// - Looks, which change nothing: `may_write`, `has_message`, `facts`, `drained`.
 ///
 /// `tick` is called about once a second, since no call tells when something is due. `requester` and `responder` take all the memory that an
-/// end needs. What each input does is one row of the table in `specs/Table.antt`.
+/// end needs. What each input does is one row of the table in `specs/Table.antt`, and the phases are drawn at `EndPhase`.
+///
+/// In use (`circuit_tests`, `an_end_in_use`):
+///
+/// ```text
+/// let mut end = End::requester(alloc, pair, user, node, config, now)?;
+/// let request = end.next_out(); // a Request for the other end
+/// assert!(rt; end.drained());
+/// end.arrive(&accept, now);
+/// let told = end.notice(); // Opened, with the window
+/// assert!(rt; end.drained());
+/// let answer = end.write(&message, now); // Ok
+/// let text = end.next_out(); // an Info with the message, and the number of its fragment
+/// assert!(rt; end.drained());
+/// end.close(now); // a Disconnect follows once the message is acknowledged
+/// ```
 #[derive(Drop)]
 pub struct End {
     machine: Machine,

@@ -9,6 +9,7 @@ mod end;
 mod expiry;
 mod facts;
 mod incoming;
+mod info;
 pub mod laws;
 mod machine;
 mod messages;

@@ -11,9 +11,8 @@ use crate::outgoing::Outgoing;
 use crate::output::{Out, Output};
 use crate::phase::EndPhase;
 use crate::role::Role;
-use crate::transport::{Flags, Pair};
+use crate::transport::Pair;
 use circular_buffer::HeapCircularBuffer;
-use radio_base::{M256, Modulus};
 
 /// One end of a circuit. It has its room from the start.
 #[derive(Drop)]
@@ -88,59 +87,6 @@ impl Machine {
             Some(output) => Some(output.fetch(&self.outgoing)),
             None => None,
         }
-    }
-
-    /// Puts out the fragment of this number, where it waits.
-    fn emit_info(&mut self, number: u64)
-        requires waits { self.old.outgoing.acked ≤ number }
-        requires room { length self.old.outs.items < 2 * self.old.config.window + 2 }
-        ensures does { Does (moves.emit_infos number 1) self.old self.new }
-        ensures adds { Adds 1 self.old self.new }
-        ensures rest { view_of self.new ≡ record (view_of self.old) { outs = (view_of self.new).outs } }
-    {
-        if number < self.outgoing.total() {
-            let info = Output::Info {
-                to: self.to,
-                number,
-                rx: M256::wire(self.incoming.got()),
-                choke: self.incoming.is_busy(),
-            };
-            self.emit(info);
-        }
-    }
-
-    /// Puts out the fragments of many numbers from this one on.
-    pub(crate) fn emit_infos(&mut self, from: u64, many: u64)
-        requires waits { self.old.outgoing.acked ≤ from }
-        requires numbers { from + many ≤ COUNT_MAX }
-        requires room { length self.old.outs.items + many ≤ 2 * self.old.config.window + 2 }
-        ensures does { Does (moves.emit_infos from many) self.old self.new }
-        ensures adds { Adds many self.old self.new }
-        ensures rest { view_of self.new ≡ record (view_of self.old) { outs = (view_of self.new).outs } }
-    {
-        for number in from..from + many {
-            self.emit_info(number);
-        }
-    }
-
-    /// Tells what was got.
-    pub(crate) fn emit_ack(&mut self, nak: bool)
-        requires { length self.old.outs.items < 2 * self.old.config.window + 2 }
-        ensures does { Does (moves.emit_ack nak) self.old self.new }
-        ensures adds { Adds 1 self.old self.new }
-        ensures rest { view_of self.new ≡ record (view_of self.old) { outs = (view_of self.new).outs } }
-    {
-        let flags = Flags {
-            choke: self.incoming.is_busy(),
-            nak,
-            more: false,
-        };
-        let info_ack = Output::InfoAck {
-            to: self.to,
-            rx: M256::wire(self.incoming.got()),
-            flags,
-        };
-        self.emit(info_ack);
     }
 
     pub(crate) fn note(&mut self, notice: EndNotice)

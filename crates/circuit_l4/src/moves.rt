@@ -1,10 +1,12 @@
-//! What an end puts out as its window allows.
-ghost use Rattle.std.specs.Prelude.{◌≡◌, ℕ, ◌+◌, ◌*◌, ◌≤◌, length};
+//! The moves of which an end's steps are made: Fill, Finish, Again and the rest.
+ghost use Rattle.std.specs.Prelude.{◌≡◌, ℕ, ◌+◌, ◌*◌, ◌≤◌, ◌<◌, length};
 ghost use Rattle.radio_base.specs.declared.modulus.TheConstants.{COUNT_MAX};
 
 use crate::machine::Machine;
 use crate::output::Output;
 use crate::phase::EndPhase;
+use crate::transport::Flags;
+use radio_base::{M256, Modulus};
 
 impl Machine {
     ghost use Rattle.circuit_l4.specs.Moves as moves;
@@ -13,6 +15,59 @@ impl Machine {
     ghost use Rattle.circuit_l4.specs.Halves.{IsSending};
     ghost use Rattle.circuit_l4.specs.Sending.{Sending};
     ghost use Rattle.circuit_l4.specs.Receiving.{Receiving};
+
+    /// Puts out the fragment of this number, where it waits.
+    fn emit_info(&mut self, number: u64)
+        requires waits { self.old.outgoing.acked ≤ number }
+        requires room { length self.old.outs.items < 2 * self.old.config.window + 2 }
+        ensures does { Does (moves.emit_infos number 1) self.old self.new }
+        ensures adds { Adds 1 self.old self.new }
+        ensures rest { view_of self.new ≡ record (view_of self.old) { outs = (view_of self.new).outs } }
+    {
+        if number < self.outgoing.total() {
+            let info = Output::Info {
+                to: self.to,
+                number,
+                rx: M256::wire(self.incoming.got()),
+                choke: self.incoming.is_busy(),
+            };
+            self.emit(info);
+        }
+    }
+
+    /// Puts out the fragments of many numbers from this one on.
+    pub(crate) fn emit_infos(&mut self, from: u64, many: u64)
+        requires waits { self.old.outgoing.acked ≤ from }
+        requires numbers { from + many ≤ COUNT_MAX }
+        requires room { length self.old.outs.items + many ≤ 2 * self.old.config.window + 2 }
+        ensures does { Does (moves.emit_infos from many) self.old self.new }
+        ensures adds { Adds many self.old self.new }
+        ensures rest { view_of self.new ≡ record (view_of self.old) { outs = (view_of self.new).outs } }
+    {
+        for number in from..from + many {
+            self.emit_info(number);
+        }
+    }
+
+    /// Tells what was got.
+    pub(crate) fn emit_ack(&mut self, nak: bool)
+        requires { length self.old.outs.items < 2 * self.old.config.window + 2 }
+        ensures does { Does (moves.emit_ack nak) self.old self.new }
+        ensures adds { Adds 1 self.old self.new }
+        ensures rest { view_of self.new ≡ record (view_of self.old) { outs = (view_of self.new).outs } }
+    {
+        let flags = Flags {
+            choke: self.incoming.is_busy(),
+            nak,
+            more: false,
+        };
+        let info_ack = Output::InfoAck {
+            to: self.to,
+            rx: M256::wire(self.incoming.got()),
+            flags,
+        };
+        self.emit(info_ack);
+    }
 
     /// How many fragments may be put out.
     pub(crate) fn fill_count(&self) -> u64

@@ -2,6 +2,7 @@
 ghost use Rattle.std.specs.Prelude.{◌≡◌, ℕ, suc, ◌+◌, ◌-◌, ◌*◌, ◌≤◌, [], length, None, IfSome};
 ghost use Rattle.radio_base.specs.declared.modulus.TheConstants.{COUNT_MAX};
 
+use crate::info::Info;
 use crate::machine::Machine;
 use crate::notice::EndNotice;
 use crate::owed::Owed;
@@ -33,15 +34,15 @@ impl Machine {
     }
 
     /// An information message: its acknowledgement first, then its text.
-    pub(crate) fn on_info(&mut self, tx: u8, rx: u8, flags: Flags, piece: &Piece, now: u64)
+    pub(crate) fn on_info(&mut self, info: &Info<'_>, now: u64)
         requires now { now ≤ COUNT_MAX }
         requires outs { self.old.outs.items ≡ [] }
         requires notice { self.old.notice ≡ None }
-        ensures does { Does (moves.on_info now tx rx flags piece.now) self.old self.new }
+        ensures does { Does (moves.on_info now info.now.tx info.now.rx info.now.flags info.now.piece.now) self.old self.new }
         ensures config { self.new.config ≡ self.old.config }
     {
-        let owed = self.acknowledge(rx, flags, now);
-        match self.receive(tx, piece) {
+        let owed = self.acknowledge(info.rx, info.flags, now);
+        match self.receive(info.tx, info.piece) {
             Ok(asks) => self.answer_all(asks, owed, now),
             Err(Oversize) => self.end(EndNotice::FailedOversize),
         }

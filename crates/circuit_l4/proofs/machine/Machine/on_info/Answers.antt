@@ -7,8 +7,8 @@ use Rattle.circuit_l4.proofs.machine.Machine.on_info.Goals as goal
 
 pub returns-in-Ok-clause-does : goal.returns-in-Ok-clause-does
 returns-in-Ok-clause-does c = λ g h.
-    let known : Effect = on_state (λ s. (acknowledge c.args.now c.args.rx c.args.flags s).end) g in
-    let receipt : Receipt = receive known.end.window c.args.tx c.args.piece.now known.end.receiving in
+    let known : Effect = on_state (λ s. (acknowledge c.args.now c.args.info.now.rx c.args.info.now.flags s).end) g in
+    let receipt : Receipt = receive known.end.window c.args.info.now.tx c.args.info.now.piece.now known.end.receiving in
     let acknowledges = c.acknowledge-owed.ensures.does g h in
     let comes = c.receive.ensures.does known acknowledges.0 in
     let fits = receipt_fits receipt c.in-Ok.asks (sym comes.1 ∙ c.in-Ok.is) in
@@ -16,7 +16,7 @@ returns-in-Ok-clause-does c = λ g h.
 
 pub returns-in-Err-clause-does : goal.returns-in-Err-clause-does
 returns-in-Err-clause-does c = λ g h.
-    let known : Effect = on_state (λ s. (acknowledge c.args.now c.args.rx c.args.flags s).end) g in
-    let receipt : Receipt = receive known.end.window c.args.tx c.args.piece.now known.end.receiving in
+    let known : Effect = on_state (λ s. (acknowledge c.args.now c.args.info.now.rx c.args.info.now.flags s).end) g in
+    let receipt : Receipt = receive known.end.window c.args.info.now.tx c.args.info.now.piece.now known.end.receiving in
     let comes = c.receive.ensures.does known (c.acknowledge-owed.ensures.does g h).0 in
     texted_fails c.args.now _ receipt _ known (receipt_fails receipt c.in-Err.field-0 (sym comes.1 ∙ c.in-Err.is)) (c.end.ensures.does _ comes.0)
