@@ -31,7 +31,7 @@ use std::marker::Model;
 /// `tick` is called about once a second, since no call tells when the next timer is due. `new` takes all the memory that a link needs.
 /// What each input does is one row of the table in `specs/Table.antt`, and the phases are drawn at `LinkPhase`.
 ///
-/// In use (`machine_tests`, `a_link_in_use`):
+/// In use (`ax_link_tests`, `a_link_in_use`):
 ///
 /// ```text
 /// let mut link = Link::<M8>::new(alloc, config)?;

@@ -37,7 +37,7 @@ use std::marker::Model;
 /// `tick` is called about once a second, since no call tells when something is due. `requester` and `responder` take all the memory that an
 /// end needs. What each input does is one row of the table in `specs/Table.antt`, and the phases are drawn at `EndPhase`.
 ///
-/// In use (`circuit_tests`, `an_end_in_use`):
+/// In use (`circuit_l4_tests`, `an_end_in_use`):
 ///
 /// ```text
 /// let mut end = End::requester(alloc, pair, user, node, config, now)?;

@@ -1,4 +1,4 @@
--- Runs with the notes of the book, and what these allow. No public clause of the crates above cites it: laws of this crate do.
+-- Runs with the notes of the book, and what these allow. Nothing behind `run` cites it: laws of this crate and of `circuit_verdict` do.
 use Rattle.std.specs.Prelude.{◌≡◌, ◌≢◌, ℕ, ◌+◌, ◌-◌, ◌*◌, ◌≤◌, if◌then◌else◌, List, [], ◌∷◌, ◌++◌, slice_get, Option, Some, None}
 use Rattle.circuit_l4.specs.declared.notice.EndNotice.{EndNotice}
 use Rattle.circuit_l4.specs.declared.notice.EndNotice.TheVariants.{Opened}

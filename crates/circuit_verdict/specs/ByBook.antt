@@ -1,4 +1,4 @@
--- The same by the notes that are kept of the events. `circuit_set` says that it is the same; no public clause cites these.
+-- The same by the notes that are kept of the events, as `circuit_set` says. Of the public calls `Verdict::cause` alone speaks by them.
 use Rattle.std.specs.Prelude.{◌≡◌, ℕ, List, [], ◌∷◌, ◌++◌}
 use Rattle.circuit_set.specs.Books.{Book, Timely, TimelyTold, Fresh, FreshTold, empty, noted_all, lost_with}
 use Rattle.circuit_set.specs.Events.{Event, Name}

@@ -1,6 +1,6 @@
 //! The node's commands: the top call `run`, and the reason of each status.
 //!
-//! The program itself is the crate `wursthatch`; the tests of `run` stand in `cmd_tests`.
+//! The program itself is the crate `wursthatch`; the tests of `run` stand in `node_cmd_tests`.
 #![tactic(auto)]
 
 mod frames;

@@ -1,11 +1,11 @@
-//! What stands where memory is refused, as `bench/allocations` does at each allocation in turn. A router is spent then. A table and
-//! a carrier stay as they were, and the same call made again gives what it would have given.
+//! What stands where memory is refused, as `bench/allocations` does at each allocation in turn. A router is spent then. A carrier stays
+//! as it was, and the same call made again gives what it would have given.
 use ax_address::{Alias, Call};
 use l3_datagram::{
     Carrier, Datagram, DatagramHead, Offered, PlainCarrier, Routed, Router, Sending, write_datagram,
 };
 use radio_base::{Moment, NoMemory};
-use route_table::{HeardRefusal, LockRefusal, RouteRules, RouteTable};
+use route_table::{RouteRules, RouteTable};
 use std::alloc::Global;
 use std::process::Abort;
 
@@ -94,38 +94,6 @@ fn expect_spent(rt: &impl Abort, router: &mut Router<PlainCarrier>) {
     assert!(rt; router.pump(NOW) == Err(NoMemory));
     assert!(rt; router.send(&call(b"N0BBB"), b"hello", NOW) == Err(NoMemory));
     assert!(rt; router.send(&call(b"N0FFF"), b"hello", NOW) == Err(NoMemory));
-}
-
-#[test]
-fn a_table_stays_as_it_was(rt: HostRuntime) {
-    let mut table = RouteTable::new(rt.alloc(), call(b"N0ZZZ"), RULES);
-    for n in 0..20u8 {
-        hear_in_the_end(&rt, &mut table, n);
-        lock_in_the_end(&rt, &mut table, n);
-        assert!(rt; table.live() == 2 * n as usize + 2);
-    }
-}
-
-/// The neighbour of this number is heard, at the second call where the first is refused.
-fn hear_in_the_end(rt: &impl Abort, table: &mut RouteTable, n: u8) {
-    let live = table.live();
-    let mut heard = table.heard(&numbered(n), &Alias::default(), 192, &[]);
-    if heard == Err(HeardRefusal::NoMemory) {
-        assert!(rt; table.live() == live);
-        heard = table.heard(&numbered(n), &Alias::default(), 192, &[]);
-    }
-    assert!(rt; heard == Ok(()));
-}
-
-/// A route to it over N0YYY is locked in, likewise.
-fn lock_in_the_end(rt: &impl Abort, table: &mut RouteTable, n: u8) {
-    let live = table.live();
-    let mut locked = table.lock(&numbered(n), &Alias::default(), &call(b"N0YYY"), 100);
-    if locked == Err(LockRefusal::NoMemory) {
-        assert!(rt; table.live() == live);
-        locked = table.lock(&numbered(n), &Alias::default(), &call(b"N0YYY"), 100);
-    }
-    assert!(rt; locked == Ok(()));
 }
 
 #[test]
