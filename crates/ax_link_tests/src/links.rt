@@ -124,6 +124,33 @@ fn expect_all_again(rt: &impl Abort, left: &mut Link<M8>, right: &mut Link<M8>) 
     expect_drained(rt, left);
 }
 
+/// The lines that stand at `Link`.
+#[test]
+fn a_link_in_use(rt: HostRuntime) -> Result<(), Fail> {
+    let (alloc, config, now, payload) = (rt.alloc(), CONFIG, NOW, text(7));
+
+    let mut link = Link::<M8>::new(alloc, config)?;
+    link.set_up(now);
+    let set_up = link.next_out(); // a SABM for the other station
+    assert!(rt; link.drained());
+    link.arrive(false, &Control::Ua { pf: true }, None, &[], now);
+    let told = link.notice(); // Opened
+    assert!(rt; link.drained());
+    let answer = link.send(&payload, now); // Ok
+    let text = link.next_out(); // an I with the payload
+    assert!(rt; link.drained());
+    link.close(now); // a DISC follows once the payload is acknowledged
+
+    let set_up = set_up.expect(&rt, "a set-up");
+    assert!(rt; set_up.control == Control::Sabm { pf: true });
+    assert!(rt; told == Some(LinkNotice::Opened));
+    assert!(rt; answer == Ok(()));
+    assert!(rt; text.expect(&rt, "a text").payload == Some(payload));
+    hear(&rt, &mut link, false, Control::Rr { nr: 1, pf: false });
+    expect_next(&rt, &mut link, Some(Control::Disc { pf: true }));
+    Ok(())
+}
+
 #[test]
 fn a_lost_text_is_asked_for_and_all_come(rt: HostRuntime) {
     let (mut left, mut right) = two_links(&rt, rt.alloc(), 7, false);

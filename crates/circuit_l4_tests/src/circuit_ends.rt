@@ -8,6 +8,7 @@ use l3_datagram::Message;
 use radio_base::{M256, Modulus, Moment};
 use std::alloc::Global;
 use std::process::Abort;
+use std::test::Fail;
 
 const CONFIG: EndConfig = EndConfig {
     window: 4,
@@ -107,16 +108,20 @@ fn expect_told(rt: &impl Abort, end: &mut End, rx: u8, choke: bool) {
     expect_out(rt, end, Transport::InfoAck { to, rx, flags });
 }
 
-/// The text of a message of the byte 7 goes out with this number, and nothing before it.
-fn expect_sent(rt: &impl Abort, end: &mut End, number: u8) {
-    let info = Transport::Info {
+/// What carries a whole message, where nothing was got.
+fn info(number: u8, message: &[u8]) -> Transport {
+    Transport::Info {
         to: PARTNER,
         tx: number,
         rx: 0,
         flags: Flags::default(),
-        text: text(&[7]),
-    };
-    assert!(rt; end.next_out() == Some((info, Some(number as u64))));
+        text: text(message),
+    }
+}
+
+/// The text of a message of the byte 7 goes out with this number, and nothing before it.
+fn expect_sent(rt: &impl Abort, end: &mut End, number: u8) {
+    assert!(rt; end.next_out() == Some((info(number, &[7]), Some(number as u64))));
 }
 
 /// The end has ended with this notice, and puts out nothing more.
@@ -172,6 +177,44 @@ fn tick(rt: &impl Abort, end: &mut End, at: u64) {
 fn take(rt: &impl Abort, end: &mut End, out: &mut Message, wanted: bool) {
     assert!(rt; end.drained());
     assert!(rt; end.take(out, NOW) == wanted);
+}
+
+/// The lines that stand at `End`.
+#[test]
+fn an_end_in_use(rt: HostRuntime) -> Result<(), Fail> {
+    let (alloc, pair, config, now, message) = (rt.alloc(), OWN, CONFIG, NOW, [7]);
+    let (user, node) = (Call::default(), Call::default());
+    let (to, own) = (OWN, PARTNER);
+    let accept = Transport::Accept { to, own, window: 4 };
+
+    let mut end = End::requester(alloc, pair, user, node, config, now)?;
+    let request = end.next_out(); // a Request for the other end
+    assert!(rt; end.drained());
+    end.arrive(&accept, now);
+    let told = end.notice(); // Opened, with the window
+    assert!(rt; end.drained());
+    let answer = end.write(&message, now); // Ok
+    let text = end.next_out(); // an Info with the message, and the number of its fragment
+    assert!(rt; end.drained());
+    end.close(now); // a Disconnect follows once the message is acknowledged
+
+    let window = 4;
+    let asked = Transport::Request {
+        pair,
+        window,
+        user,
+        node,
+    };
+    assert!(rt; request == Some((asked, None)));
+    assert!(rt; told == Some(EndNotice::Opened { window }));
+    assert!(rt; answer == Ok(()));
+    assert!(rt; text == Some((info(0, &message), Some(0))));
+    let flags = Flags::default();
+    let rx = 1;
+    let got = Transport::InfoAck { to, rx, flags };
+    hear(&rt, &mut end, got);
+    expect_out(&rt, &mut end, Transport::Disconnect { to: PARTNER });
+    Ok(())
 }
 
 #[test]
