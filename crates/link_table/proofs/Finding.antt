@@ -1,33 +1,12 @@
 -- Which link of a table is found with a peer, and what stays in order of its links.
-use Rattle.std.proofs.Common.{◌≡◌, ◌≤◌, ◌+◌, ℕ, zero, suc, ◌==◌, ◌&&◌, ◌||◌, Bool, true, false, nat_eq, nat_le, List, [], ◌∷◌, ◌++◌, length, map, Option, Some, None, refl, ap, sym, ◌∙◌, subst, if◌then◌else◌, arith, append_assoc, append-nil, is_some, slice_get, length-append}
+use Rattle.std.proofs.Common.{◌≡◌, ◌≤◌, ℕ, suc, ◌&&◌, Bool, true, false, nat_eq, List, [], ◌∷◌, ◌++◌, length, Option, Some, None, refl, ap, sym, ◌∙◌, subst, if◌then◌else◌, arith, is_some}
 use Rattle.std.proofs.lemmas.Bool.{eq-eqb, eqb-true}
-use Rattle.std.proofs.lemmas.Bool.Decides.{nat_tests}
 use Rattle.std.specs.Cmp.Lexicographic.{pointwise, same_text}
 use Rattle.std.specs.List.{AllByRecursion}
-use Rattle.arrayvec.specs.ArrayVec.{ArrayVec}
-use Rattle.radio_base.specs.declared.payload.Payload.{Payload}
 use Rattle.ax_address.specs.Callsign.{Callsign}
 use Rattle.ax_address.specs.CallOrder.{same_call}
-use Rattle.ax_address.specs.declared.address.Address.{Address}
-use Rattle.ax_frame.specs.declared.control.Control.{Control}
-use Rattle.ax_frame.specs.declared.control.Control.TheVariants as control
-use Rattle.ax_frame.specs.FrameText.{is_command}
-use Rattle.ax_frame.specs.Frames.{Frame as AirFrame}
-use Rattle.ax_link.specs.State.{Frame}
-use Rattle.ax_link.specs.Table.{Arrive, Close, Input, Send, Set_up, Take, Tick, step, takes}
-use Rattle.ax_link.specs.declared.notice.LinkNotice.{LinkNotice}
-use Rattle.ax_link.specs.declared.notice.LinkNotice.TheVariants.{Closed, Failed}
-use Rattle.ax_link.specs.Opening.{opening, rules_new}
-use Rattle.ax_segment.specs.Joining.{Nothing, join_step}
-use Rattle.l3_datagram.specs.CarrierCall.{Datagram, Parcel}
-use Rattle.l3_datagram.specs.declared.carrier.Offered.TheVariants.{Taken, Dropped}
-use Rattle.link_table.specs.Calls as calls
-use Rattle.link_table.specs.Ending.{EndsAreTold, IsInOrder, IsOn, Leaves, LeavesTold, OneEach, TextsAreOfLinks, has_link, is_end, stands_or_told, tells_end}
-use Rattle.link_table.specs.Frames.{netrom, segmented}
-use Rattle.link_table.specs.Table.{Linked, Table, link_with, path_to, with_link, without}
-use Rattle.link_table.specs.Sending as sending
-use Rattle.link_table.specs.Texts as texts
-use Rattle.link_table.specs.Works.{Work, arrive_at_link, first_to_take, is_down, hand_up, most_taken, settle, step_link, take_payload, tell}
+use Rattle.link_table.specs.Ending.{IsOn, OneEach}
+use Rattle.link_table.specs.Table.{Linked, link_with, with_link, without}
 
 both_true : (a b : Bool) → (a && b) ≡ true → (a ≡ true) × (b ≡ true)
 both_true true true h = (refl, refl)

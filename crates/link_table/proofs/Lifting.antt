@@ -1,12 +1,12 @@
 -- A step of a link, lifted.
-use Rattle.std.proofs.Common.{◌≡◌, ℕ, zero, suc, Bool, true, false, List, [], ◌∷◌, ◌++◌, length, drop, Option, Some, None, slice_get, map, refl, ap, sym, ◌∙◌, subst, append_assoc, if◌then◌else◌, ◌==◌, is_some, ◌<◌, arith}
+use Rattle.std.proofs.Common.{◌≡◌, ℕ, zero, suc, Bool, true, false, List, [], ◌∷◌, ◌++◌, drop, Option, Some, None, slice_get, map, refl, ap, sym, ◌∙◌, subst, append_assoc, if◌then◌else◌, ◌==◌, is_some}
 use Rattle.std.specs.Option.{option_to_list}
 use Rattle.std.proofs.lemmas.List.{map-append}
 use Rattle.radio_base.specs.declared.payload.Payload.{Payload}
 use Rattle.ax_link.specs.declared.out.LinkOut.{LinkOut}
 use Rattle.ax_link.specs.declared.notice.LinkNotice.{LinkNotice}
 use Rattle.ax_link.specs.declared.notice.LinkNotice.TheVariants.{Opened, Reset, Closed, Refused, Failed}
-use Rattle.ax_link.specs.Standing.{LinkView, Stands, StandsFor, frame_of}
+use Rattle.ax_link.specs.Standing.{LinkView, StandsFor, frame_of}
 use Rattle.ax_link.specs.State.{Frame, Effect, State}
 use Rattle.ax_link.specs.Table.{Arrive, Input, Take, step}
 use Rattle.ax_segment.specs.Joining.{Held as Joined, join_step}

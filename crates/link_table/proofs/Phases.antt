@@ -1,5 +1,5 @@
 -- A step of a link that isn't Down leaves it so, or gives a notice by which it has ended.
-use Rattle.std.proofs.Common.{◌≡◌, ℕ, zero, suc, ◌-◌, Bool, true, false, not, ◌&&◌, ◌||◌, nat_eq, nat_lt, nat_le, if◌then◌else◌, List, [], ◌∷◌, ◌++◌, length, drop, min, Option, Some, None, slice_get, slice_set, refl, ap, sym, ◌∙◌, subst}
+use Rattle.std.proofs.Common.{◌≡◌, ℕ, zero, suc, ◌-◌, Bool, true, false, not, ◌&&◌, ◌||◌, nat_eq, nat_lt, nat_le, if◌then◌else◌, List, [], ◌∷◌, ◌++◌, length, drop, min, Option, Some, None, slice_get, slice_set, refl, ap, ◌∙◌}
 use Rattle.radio_base.specs.declared.payload.Payload.{Payload}
 use Rattle.radio_base.specs.Modulus.{place_of}
 use Rattle.ax_link.specs.declared.kind.Kind.{Kind}
@@ -10,7 +10,7 @@ use Rattle.ax_link.specs.declared.phase.LinkPhase.{LinkPhase}
 use Rattle.ax_link.specs.declared.phase.LinkPhase.TheVariants.{Down, SettingUp, Up, Releasing}
 use Rattle.ax_link.specs.State.{Frame, State, Effect, ack_place, begin, busy, count_end, high, is_up, t1_runs, t3_at, wire}
 use Rattle.ax_link.specs.Moves.{acknowledge, again, answer_poll, ask, ask_again, asks, emit_timed, end_poll, fill, fill_count, finish, frames, hold, i_at, is_free, follow_by, follow, next_early, note, on_i, on_srej, on_supervisory, emit, release, reset, resume, supply_again, resupply, rr, srej_at, start_poll, store_early, supervisory_at, supply, take_in, take_next, text, text_at, text_later, text_plain, text_srej, to_phase}
-use Rattle.ax_link.specs.Table.{Input, Set_up, Send, Arrive, Tick, Close, Take, step, accept, arrive_down, arrive_in, arrive_releasing, arrive_setting_up, arrive_up, close_in_turn, fail_in, fail, may_close, come_up, refuse_if, retry, retry_in, set_up_in, takes}
+use Rattle.ax_link.specs.Table.{Input, Set_up, Send, Arrive, Tick, Close, Take, step, accept, arrive_in, arrive_releasing, arrive_setting_up, arrive_up, close_in_turn, fail_in, fail, may_close, come_up, retry, retry_in, set_up_in, takes}
 use Rattle.link_table.specs.Ending.{is_end}
 use Rattle.link_table.specs.Works.{is_down}
 

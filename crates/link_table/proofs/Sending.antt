@@ -8,11 +8,9 @@ use Rattle.std.proofs.lemmas.List.{take-append-drop}
 use Rattle.radio_base.specs.declared.payload.Payload.{Payload}
 use Rattle.ax_address.specs.Callsign.{Callsign}
 use Rattle.ax_address.specs.CallOrder.{same_call}
-use Rattle.ax_link.specs.Standing.{LinkView}
 use Rattle.ax_link.specs.State.{State}
 use Rattle.ax_link.specs.State.{count_end}
 use Rattle.ax_link.specs.Table.{Send, may_close, step, takes}
-use Rattle.ax_segment.specs.Joining.{Held as Joined}
 use Rattle.ax_segment.specs.Segments.{counted_down, segments_of, with_first}
 use Rattle.ax_segment.specs.Segments as segments
 use Rattle.ax_segment.specs.declared.TheConstants.{FULL_PIECE}

@@ -1,7 +1,5 @@
 -- Nothing is left in the inbox, and a new link takes.
-use Rattle.std.proofs.Common.{◌≡◌, ℕ, zero, suc, ◌+◌, ◌≤◌, ◌==◌, ◌||◌, ◌&&◌, Bool, true, false, nat_eq, nat_le, List, [], ◌∷◌, ◌++◌, length, drop, Option, Some, None, slice_get, refl, ap, ◌∙◌, if◌then◌else◌, arith, length-append}
-use Rattle.std.specs.Cmp.Lexicographic.{pointwise}
-use Rattle.std.proofs.lemmas.Bool.{eq-eqb}
+use Rattle.std.proofs.Common.{◌≡◌, ℕ, zero, suc, ◌+◌, ◌≤◌, ◌==◌, ◌||◌, ◌&&◌, Bool, true, false, nat_le, List, [], ◌∷◌, ◌++◌, length, drop, Option, Some, None, slice_get, refl, ap, ◌∙◌, if◌then◌else◌, arith, length-append}
 use Rattle.ax_link.specs.Bounds.{Bounded, stock}
 use Rattle.ax_link.specs.State.{count_end}
 use Rattle.radio_base.specs.declared.payload.Payload.{Payload}

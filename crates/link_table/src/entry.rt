@@ -63,7 +63,7 @@ impl Entry {
     pub(crate) fn is_down(&self) -> bool
         ensures { result ≡ works.is_down (held_of self.now.link).phase }
     {
-        matches!(self.link.facts().phase, LinkPhase::Down)
+        matches!(self.link.phase(), LinkPhase::Down)
     }
 
     pub(crate) fn is_wide(&self) -> bool
