@@ -10,12 +10,31 @@ use route_table::RouteTable;
 use std::alloc::Global;
 use std::marker::Model;
 
-/// The routing step of a node, over a carrier (NET/ROM, Appendix B, level 3): a pure machine.
+/// The routing step of a node, over a carrier (NET/ROM, Appendix B, level 3): a pure machine, which reads no clock. Its calls are of three
+/// kinds.
 ///
-/// `send` hands a transport of this node to the next hop. `pump` takes one lost neighbour or one datagram that came up from the carrier and says
-/// what became of it, and is called until it answers None. `table_mut` and `carrier_mut` lend the parts to whoever feeds them.
+/// - Inputs: `send` of a transport of this node, with its moment in milliseconds. What is heard and what comes from neighbours is brought
+///   to the table and the carrier, which `table_mut` and `carrier_mut` lend.
+/// - Outputs: `pump`, with its moment. Whenever something came to the carrier it is called until it answers None: it takes one lost
+///   neighbour or one datagram, and says what became of it.
+/// - Looks, which change nothing: `own`, `ttl`, `table`, `carrier`, `is_idle`.
 ///
-/// Once it has answered NoMemory it is spent, and answers that ever after.
+/// It takes no memory of its own; once its carrier has answered NoMemory it is spent, and answers that ever after. What becomes of a
+/// datagram stands case by case in `specs/Hops.antt`.
+///
+/// In use (`l3_datagram_tests`, `a_router_in_use`):
+///
+/// ```text
+/// let mut router = Router::new(alloc, own, table, PlainCarrier::new(alloc), 25);
+/// let sent = router.send(&dest, &transport, now)?; // Sent
+/// let out = router.carrier_mut().fetch(); // the next hop, and the datagram
+/// router.carrier_mut().bring(&neighbour, &ours)?;
+/// let up = router.pump(now)?; // Mine, with its origin
+/// router.carrier_mut().bring(&neighbour, &others)?;
+/// let on = router.pump(now)?; // Forwarded
+/// let went = router.carrier_mut().fetch(); // the next hop, and the datagram with one hop less
+/// let none = router.pump(now)?; // None
+/// ```
 #[derive(Drop)]
 pub struct Router<C> {
     own: Call,

@@ -7,6 +7,7 @@ use radio_base::{Moment, NoMemory};
 use route_table::{RouteRules, RouteTable};
 use std::alloc::Global;
 use std::process::Abort;
+use std::test::Fail;
 
 const NOW: Moment = Moment(0);
 
@@ -19,6 +20,14 @@ const CAME: [u8; 22] = [
 const WENT: [u8; 22] = [
     0x9C, 0x60, 0x84, 0x84, 0x84, 0x40, 0x60, 0x9C, 0x60, 0x82, 0x82, 0x82, 0x40, 0x61, 0x0E, 0x01,
     0x01, 0x01, 0x01, 0x02, 0x04, 0x10,
+];
+
+/// A transport, and the datagram from N0CCC to N0AAA that carries it over 25 hops at most.
+const TRANSPORT: [u8; 5] = [0x01, 0x01, 0x00, 0x00, 0x03];
+
+const SENT: [u8; 20] = [
+    0x9C, 0x60, 0x86, 0x86, 0x86, 0x40, 0x60, 0x9C, 0x60, 0x82, 0x82, 0x82, 0x40, 0x60, 0x19, 0x01,
+    0x01, 0x00, 0x00, 0x03,
 ];
 
 fn call(text: &str) -> Call {
@@ -41,14 +50,8 @@ fn datagram_of(origin: &str, dest: &str, ttl: u8) -> Datagram {
     write_datagram(&head, b"").ok().unwrap_or_default()
 }
 
-/// A router that has a route to its neighbour, and by it one to N0DDD.
-fn router<C: Carrier + Drop>(
-    rt: &impl Abort,
-    alloc: Global,
-    own: &str,
-    neighbour: &str,
-    carrier: C,
-) -> Router<C> {
+/// A table with a route to a neighbour, and by it one to N0DDD.
+fn table(rt: &impl Abort, alloc: Global, own: &str, neighbour: &str) -> RouteTable {
     let rules = RouteRules {
         life: 6,
         least: 5,
@@ -63,6 +66,18 @@ fn router<C: Carrier + Drop>(
     let mut table = RouteTable::new(alloc, call(own), rules);
     let heard = table.heard(&call(neighbour), &Alias::default(), 192, &[entry]);
     assert!(rt; heard == Ok(()));
+    table
+}
+
+/// A router with such a table.
+fn router<C: Carrier + Drop>(
+    rt: &impl Abort,
+    alloc: Global,
+    own: &str,
+    neighbour: &str,
+    carrier: C,
+) -> Router<C> {
+    let table = table(rt, alloc, own, neighbour);
     Router::new(alloc, call(own), table, carrier, 2)
 }
 
@@ -101,6 +116,38 @@ fn expect_sending<C: Carrier + Drop>(
 ) {
     assert!(rt; transport.len() <= 241);
     assert!(rt; node.send(&call(to), transport, NOW) == wanted);
+}
+
+/// The lines that stand at `Router`.
+#[test]
+fn a_router_in_use(rt: HostRuntime) -> Result<(), Fail> {
+    let (alloc, own, now) = (rt.alloc(), call("N0CCC"), NOW);
+    let (dest, neighbour, transport) = (call("N0AAA"), call("N0BBB"), TRANSPORT);
+    let (ours, others) = (datagram_of("N0BBB", "N0CCC", 1), datagram(&CAME));
+    let table = table(&rt, alloc, "N0CCC", "N0AAA");
+
+    let mut router = Router::new(alloc, own, table, PlainCarrier::new(alloc), 25);
+    let sent = router.send(&dest, &transport, now)?; // Sent
+    let out = router.carrier_mut().fetch(); // the next hop, and the datagram
+    router.carrier_mut().bring(&neighbour, &ours)?;
+    let up = router.pump(now)?; // Mine, with its origin
+    router.carrier_mut().bring(&neighbour, &others)?;
+    let on = router.pump(now)?; // Forwarded
+    let went = router.carrier_mut().fetch(); // the next hop, and the datagram with one hop less
+    let none = router.pump(now)?; // None
+
+    assert!(rt; sent == Sending::Sent);
+    assert!(rt; out == Some((dest, datagram(&SENT))));
+    let (origin, datagram_up) = (neighbour, ours);
+    let mine = Routed::Mine {
+        origin,
+        datagram: datagram_up,
+    };
+    assert!(rt; up == Some(mine));
+    assert!(rt; on == Some(Routed::Forwarded));
+    assert!(rt; went == Some((dest, datagram(&WENT))));
+    assert!(rt; none == None);
+    Ok(())
 }
 
 #[test]
