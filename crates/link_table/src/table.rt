@@ -20,14 +20,43 @@ use radio_base::{Moment, NoMemory};
 use std::alloc::Global;
 use std::marker::Model;
 
-/// A node's links by peer, as a carrier of datagrams.
+/// A node's links by peer, and a carrier of datagrams (AX.25 2.2, section 6; NET/ROM, Appendix B): a pure machine, which reads no clock and
+/// no stream. Its calls are of three kinds.
 ///
-/// How to drive it: hand each frame to the node's own call to `arrive`, and the time to `tick` as often as timers should be
-/// seen. A router offers its datagrams (`Carrier::offer`) and collects those that came and the peers that are lost. After each
-/// call fetch what it left, in any order: frames from `next_out` until none is left, `notice` likewise. Where `texts` names
-/// a peer, its text waits for `take_text`, and holds back what came behind it over that link. Nothing is done between calls.
+/// - Inputs, each but `set_path` and `break_link` with its moment in milliseconds: `offer` of a router, `send_text`, `take_text`,
+///   `set_path`, `close` and `break_link` of the node, `arrive` of a frame to the node's own call, `tick` of time.
+/// - Outputs: `next_out` and `notice`, and for a router `collect` and `failed`. After each input they are fetched, in any order, until they
+///   answer None.
+/// - Looks, which change nothing: `link`, `is_128`, `texts`, `first_text`, `room`, `has_notices`, `is_idle`.
 ///
-/// Once it has answered NoMemory it is spent: it answers that ever after, and changes nothing any more.
+/// `tick` is called about once a second, since no call tells when the next timer is due. Where `texts` names a peer, its text waits for
+/// `take_text`, and holds back what came behind it over that link. Links and what waits take memory; once it has answered NoMemory it is
+/// spent: it answers that ever after, and changes nothing any more. What each input does stands in `specs/Calls.antt`. What becomes of the
+/// link with a peer, whose phases are drawn at `LinkPhase`:
+///
+/// ```text
+///              offer / SABM(E), SABM(E) / UA,
+/// +---------+  where fewer than 64 stand          +------+ --.  SABM(E) of the other modulus / UA:
+/// | no link | ----------------------------------> | link | <-'  told Closed, and another link
+/// |         | <---------------------------------- |      |
+/// +---------+  Down: told Closed, Refused, Failed +------+
+///              break_link: told Failed
+/// ```
+///
+/// In use (`link_table_tests`, `a_table_in_use`):
+///
+/// ```text
+/// let mut table = LinkTable::new(alloc, own, true, false, config)?;
+/// let offered = table.offer(&peer, &datagram, now)?; // Taken
+/// let set_up = table.next_out(); // a SABM for the peer, in octets
+/// table.arrive(&accept, now)?; // its UA
+/// let told = table.notice(); // the peer, and Opened
+/// let sent = table.next_out(); // an I with the datagram
+/// table.arrive(&answer, now)?; // an I of the peer
+/// let came = table.collect(); // the peer, and its datagram
+/// table.break_link(&peer)?;
+/// let lost = table.failed(); // the peer
+/// ```
 #[derive(Drop)]
 pub struct LinkTable {
     core: HeldLinks,

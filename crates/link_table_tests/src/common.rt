@@ -11,7 +11,7 @@ use std::process::Abort;
 
 pub const NOW: Moment = Moment(0);
 
-const CONFIG: LinkConfig = LinkConfig {
+pub const CONFIG: LinkConfig = LinkConfig {
     window: 0,
     srej: false,
     t1: 3000,

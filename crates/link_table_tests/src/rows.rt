@@ -1,5 +1,7 @@
 //! Worked rows of one table of links: frames, notices and limits.
-use crate::common::{NOW, Trial, a_call, arrive, b_call, call, datagram, hand, on_two_tables};
+use crate::common::{
+    CONFIG, NOW, Trial, a_call, arrive, b_call, call, datagram, hand, on_two_tables,
+};
 use ax_address::{Address, Call, Path};
 use ax_frame::{Control, FrameView, Head, read_frame, show_frame};
 use ax_link::LinkNotice;
@@ -9,6 +11,71 @@ use radio_base::{M8, TextOut};
 use std::alloc::Global;
 use std::process::Abort;
 use std::rt::HostRuntime;
+use std::test::Fail;
+
+/// N0AAA's SABM to N0BBB, and the UA.
+const SET_UP: [u8; 15] = [
+    0x9C, 0x60, 0x84, 0x84, 0x84, 0x40, 0xE0, 0x9C, 0x60, 0x82, 0x82, 0x82, 0x40, 0x61, 0x3F,
+];
+
+const ACCEPT: [u8; 15] = [
+    0x9C, 0x60, 0x82, 0x82, 0x82, 0x40, 0x60, 0x9C, 0x60, 0x84, 0x84, 0x84, 0x40, 0xE1, 0x73,
+];
+
+/// N0AAA's I frame 0 to N0BBB with a datagram, and N0BBB's, which acknowledges that.
+const SENT: [u8; 36] = [
+    0x9C, 0x60, 0x84, 0x84, 0x84, 0x40, 0xE0, 0x9C, 0x60, 0x82, 0x82, 0x82, 0x40, 0x61, 0x00, 0xCF,
+    0x9C, 0x60, 0x82, 0x82, 0x82, 0x40, 0x60, 0x9C, 0x60, 0x84, 0x84, 0x84, 0x40, 0x60, 0x19, 0x01,
+    0x01, 0x00, 0x00, 0x03,
+];
+
+const ANSWER: [u8; 36] = [
+    0x9C, 0x60, 0x82, 0x82, 0x82, 0x40, 0xE0, 0x9C, 0x60, 0x84, 0x84, 0x84, 0x40, 0x61, 0x20, 0xCF,
+    0x9C, 0x60, 0x84, 0x84, 0x84, 0x40, 0x60, 0x9C, 0x60, 0x82, 0x82, 0x82, 0x40, 0x60, 0x19, 0x01,
+    0x01, 0x00, 0x00, 0x04,
+];
+
+/// The datagram of an I frame.
+fn datagram_in(frame: &[u8; 36]) -> Datagram {
+    let mut datagram = Datagram::new();
+    let _ = datagram.try_extend_from_slice(&frame[16..]);
+    datagram
+}
+
+fn expect_octets(rt: &impl Abort, written: &Option<Written>, octets: &[u8]) {
+    match written {
+        Some(written) => assert!(rt; written.octets.as_slice() == octets),
+        None => rt.abort(),
+    }
+}
+
+/// The lines that stand at `LinkTable`.
+#[test]
+fn a_table_in_use(rt: HostRuntime) -> Result<(), Fail> {
+    let (alloc, own, peer, config, now) = (rt.alloc(), a_call(), b_call(), CONFIG, NOW);
+    let datagram = datagram_in(&SENT);
+    let accept = read_frame::<M8>(&ACCEPT)?;
+    let answer = read_frame::<M8>(&ANSWER)?;
+
+    let mut table = LinkTable::new(alloc, own, true, false, config)?;
+    let offered = table.offer(&peer, &datagram, now)?; // Taken
+    let set_up = table.next_out(); // a SABM for the peer, in octets
+    table.arrive(&accept, now)?; // its UA
+    let told = table.notice(); // the peer, and Opened
+    let sent = table.next_out(); // an I with the datagram
+    table.arrive(&answer, now)?; // an I of the peer
+    let came = table.collect(); // the peer, and its datagram
+    table.break_link(&peer)?;
+    let lost = table.failed(); // the peer
+
+    assert!(rt; offered == Offered::Taken);
+    expect_octets(&rt, &set_up, &SET_UP);
+    assert!(rt; told == Some((peer, LinkNotice::Opened)));
+    expect_octets(&rt, &sent, &SENT);
+    assert!(rt; came == Some((peer, datagram_in(&ANSWER))));
+    assert!(rt; lost == Some(peer));
+    Ok(())
+}
 
 #[test]
 fn a_datagram_without_links_goes_in_a_ui_frame(rt: HostRuntime) {
