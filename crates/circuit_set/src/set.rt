@@ -15,13 +15,40 @@ use radio_base::{COUNT_MAX, Moment, NoMemory};
 use std::alloc::Global;
 use std::marker::Model;
 
-/// A node's circuits over its router: a pure machine, which holds at most 64 ends.
+/// A node's circuits over its router (NET/ROM, Appendix B, level 4): a pure machine, which reads no clock and holds at most 64 ends. Its
+/// calls are of three kinds.
 ///
-/// Ends are numbered from `first` on, in the order in which they are made. Inputs are `connect`, `write`, `take`, `close`, `discard` and
-/// `tick`, each but `discard` with its moment; they want `drained()`. After each of them, and whenever something came to the router's carrier,
-/// `pump` is called until it answers None: it hands what the ends put out to the router, takes what came up, and tells what happened.
+/// - Inputs, each but `discard` with its moment in milliseconds: `connect`, `write`, `take`, `close` and `discard` of the user, `tick` of
+///   time. They want `drained()`. What comes from neighbours is brought to the router, which `router_mut` lends.
+/// - Outputs: `pump`. After each input, and whenever something came to the router, it is called until it answers None: it hands what the
+///   ends put out to the router, takes what came up, and tells what happened.
+/// - Looks, which change nothing: `facts`, `partner`, `requested`, `end`, `held`, `is_idle`, `drained`, `router`.
 ///
-/// Once it has answered NoMemory it is spent, and answers that ever after.
+/// `tick` is called about once a second, since no call tells when something is due. Ends and what they send take memory; once it has
+/// answered NoMemory it is spent, and answers that ever after. What each input does stands in `specs/Sets.antt`. Ends are numbered from
+/// `first` on, in the order of their making. What becomes of one, whose phases are drawn at `EndPhase`:
+///
+/// ```text
+/// connect / Request
+/// Request / Accept  +------+                   +-------+ no message waits; discard
+/// ----------------> | open | ----------------> | ended | ------------------------> held no longer
+///     told Made     +------+ told how it ends  +-------+     told Gone
+/// ```
+///
+/// In use (`circuit_set_tests`, `a_set_in_use`):
+///
+/// ```text
+/// let mut set = CircuitSet::new(alloc, router, user, config, pair, 1)?;
+/// let id = set.connect(&node, now)?; // 1, the number of the new end
+/// let made = set.pump(now)?; // Made
+/// let sent = set.pump(now)?; // Sent: its Request has gone to the carrier
+/// set.router_mut().carrier_mut().bring(&node, &accept)?;
+/// let heeded = set.pump(now)?; // Heeded
+/// let opened = set.pump(now)?; // a Notice: Opened, with the window
+/// let none = set.pump(now)?; // None
+/// assert!(rt; set.drained());
+/// set.write(id, &message, now)?; // an Info goes out at the next pump
+/// ```
 #[derive(Drop)]
 pub struct CircuitSet<C> {
     pub(crate) router: Router<C>,

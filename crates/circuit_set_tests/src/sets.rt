@@ -3,11 +3,12 @@ use crate::{rows, talk};
 use ax_address::{Alias, Call};
 use circuit_l4::{EndConfig, EndNotice, Pair};
 use circuit_set::{CircuitSet, ConnectRefusal, SetEvent};
-use l3_datagram::{PlainCarrier, Routed, Router};
+use l3_datagram::{Datagram, PlainCarrier, Routed, Router};
 use radio_base::{Moment, NoMemory};
 use route_table::{RouteRules, RouteTable};
 use std::alloc::Global;
 use std::process::Abort;
+use std::test::Fail;
 
 pub type Set = CircuitSet<PlainCarrier>;
 
@@ -26,6 +27,24 @@ const CONFIG: EndConfig = EndConfig {
     busy: 2000,
     inactive: 900_000,
 };
+
+/// N0AAA's Request to N0BBB, with the pair (1, 1) and window 4, and the Accept, with the pair (7, 9).
+const REQUEST: [u8; 35] = [
+    0x9C, 0x60, 0x82, 0x82, 0x82, 0x40, 0x60, 0x9C, 0x60, 0x84, 0x84, 0x84, 0x40, 0x60, 0x19, 0x01,
+    0x01, 0x00, 0x00, 0x01, 0x04, 0x9C, 0x60, 0x82, 0x82, 0x82, 0x40, 0x60, 0x9C, 0x60, 0x82, 0x82,
+    0x82, 0x40, 0x60,
+];
+
+const ACCEPT: [u8; 21] = [
+    0x9C, 0x60, 0x84, 0x84, 0x84, 0x40, 0x60, 0x9C, 0x60, 0x82, 0x82, 0x82, 0x40, 0x60, 0x19, 0x01,
+    0x01, 0x07, 0x09, 0x02, 0x04,
+];
+
+/// N0AAA's Info 0 with "hello".
+const INFO: [u8; 25] = [
+    0x9C, 0x60, 0x82, 0x82, 0x82, 0x40, 0x60, 0x9C, 0x60, 0x84, 0x84, 0x84, 0x40, 0x60, 0x19, 0x07,
+    0x09, 0x00, 0x00, 0x05, 0x68, 0x65, 0x6C, 0x6C, 0x6F,
+];
 
 pub fn a_call() -> Call {
     Call::read(b"N0AAA").unwrap_or_default()
@@ -71,10 +90,15 @@ fn set_of(rt: &impl Abort, alloc: Global, own: Call, retries: u8) -> Set {
     made_set(alloc, own, retries).ok().expect(rt, "memory")
 }
 
+/// The router of a node without routes.
+fn router_of(alloc: Global, own: Call) -> Router<PlainCarrier> {
+    let table = RouteTable::new(alloc, own, RULES);
+    Router::new(alloc, own, table, PlainCarrier::new(alloc), 25)
+}
+
 /// The set of a node without routes.
 pub fn made_set(alloc: Global, own: Call, retries: u8) -> Result<Set, NoMemory> {
-    let table = RouteTable::new(alloc, own, RULES);
-    let router = Router::new(alloc, own, table, PlainCarrier::new(alloc), 25);
+    let router = router_of(alloc, own);
     let config = EndConfig { retries, ..CONFIG };
     let pair = Pair { index: 1, ident: 1 };
     CircuitSet::new(alloc, router, own, config, pair, 1)
@@ -171,4 +195,57 @@ pub fn connect(
 pub fn tick(rt: &impl Abort, set: &mut Set, now: Moment) {
     assert!(rt; set.drained());
     assert!(rt; set.tick(now) == Ok(()));
+}
+
+fn datagram(octets: &[u8]) -> Datagram {
+    let mut datagram = Datagram::new();
+    let _ = datagram.try_extend_from_slice(octets);
+    datagram
+}
+
+fn expect_event(rt: &impl Abort, event: &Option<SetEvent>, wanted: Told) {
+    match event {
+        Some(event) => assert!(rt; told_by(event) == wanted),
+        None => rt.abort(),
+    }
+}
+
+/// The carrier was given these octets for N0BBB.
+fn expect_offered(rt: &impl Abort, set: &mut Set, octets: &[u8]) {
+    let offered = set.router_mut().carrier_mut().fetch();
+    assert!(rt; offered == Some((b_call(), datagram(octets))));
+}
+
+/// The lines that stand at `CircuitSet`.
+#[test]
+fn a_set_in_use(rt: HostRuntime) -> Result<(), Fail> {
+    let (alloc, user, node, now) = (rt.alloc(), a_call(), b_call(), NOW);
+    let (config, pair, window) = (CONFIG, pair(1), 4);
+    let (accept, message) = (datagram(&ACCEPT), *b"hello");
+    let mut router = router_of(alloc, user);
+    router
+        .table_mut()
+        .heard(&node, &Alias::default(), 192, &[])?;
+
+    let mut set = CircuitSet::new(alloc, router, user, config, pair, 1)?;
+    let id = set.connect(&node, now)?; // 1, the number of the new end
+    let made = set.pump(now)?; // Made
+    let sent = set.pump(now)?; // Sent: its Request has gone to the carrier
+    set.router_mut().carrier_mut().bring(&node, &accept)?;
+    let heeded = set.pump(now)?; // Heeded
+    let opened = set.pump(now)?; // a Notice: Opened, with the window
+    let none = set.pump(now)?; // None
+    assert!(rt; set.drained());
+    set.write(id, &message, now)?; // an Info goes out at the next pump
+
+    assert!(rt; id == 1);
+    expect_event(&rt, &made, Told::Made(pair));
+    expect_event(&rt, &sent, Told::Sent(1));
+    assert!(rt; matches!(heeded, Some(SetEvent::Heeded { id: 1, .. })));
+    expect_event(&rt, &opened, Told::Notice(EndNotice::Opened { window }));
+    assert!(rt; none.is_none());
+    settle(&rt, &mut set, now);
+    expect_offered(&rt, &mut set, &REQUEST);
+    expect_offered(&rt, &mut set, &INFO);
+    Ok(())
 }
