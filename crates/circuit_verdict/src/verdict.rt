@@ -36,7 +36,27 @@ pub struct Late {
     pub why: LateWhy,
 }
 
-/// The verdict on the events so far.
+/// The verdict on the events so far (this project's profile): a pure machine, which reads no stream. Its calls are of two kinds.
+///
+/// - Inputs: `heed` of the next event, with the number of the line that brought it.
+/// - Looks, which change nothing: `late`, and `cause` of an event that isn't taken in.
+///
+/// `too_late` does this for a whole list. Memory is taken as events come; once `heed` has answered NoMemory it is spent, and answers that
+/// ever after. What "too late" means stands in `circuit_set`, in `specs/TooLate.antt`.
+///
+/// In use (`circuit_set_tests`, `a_verdict_in_use`):
+///
+/// ```text
+/// let mut verdict = Verdict::new(alloc, Allowance::OfWindow);
+/// verdict.heed(&made, 1)?; // an end of N0AAA, which
+/// verdict.heed(&sent, 2)?; // has sent its Request
+/// let in_time = verdict.cause(&opened)?; // None: the Request opens an end of N0BBB
+/// verdict.heed(&opened, 3)?;
+/// let none = verdict.late(); // None
+/// let why = verdict.cause(&heeded)?; // Unsent: N0BBB's end has sent nothing yet
+/// verdict.heed(&heeded, 4)?; // and N0AAA's has heeded it
+/// let late = verdict.late(); // line 4, Overtaken
+/// ```
 #[derive(Drop)]
 pub struct Verdict {
     allowance: Allowance,
