@@ -44,7 +44,26 @@ pub enum IpWhy {
     NoRoute,
 }
 
-/// A forwarder of packets, with at most 16 routes and 64 neighbours.
+/// A forwarder of packets, with at most 16 routes and 64 neighbours (RFC 791, section 2.4; RFC 826): a pure machine, which reads no clock
+/// and no stream. Its calls are of two kinds.
+///
+/// - Inputs: `route` of its user, `arrive` of a frame, once `next_out` was fetched.
+/// - Outputs: `next_out`, which is fetched once after `arrive`.
+///
+/// No call takes memory. What becomes of a frame stands case by case in `specs/Machine.antt`.
+///
+/// In use (`ax_ip_tests`, `a_forwarder_in_use`):
+///
+/// ```text
+/// let mut forwarder = Forwarder::new(call, addr);
+/// let routed = forwarder.route(prefix, len, hop); // Ok
+/// let asks = forwarder.arrive(&packet); // Asked: the hop isn't known yet
+/// let request = forwarder.next_out(); // a request of ARP to QST
+/// let learns = forwarder.arrive(&reply); // Learned
+/// let none = forwarder.next_out(); // None
+/// let sends = forwarder.arrive(&packet); // Forwarded
+/// let onward = forwarder.next_out(); // the packet, with one hop less
+/// ```
 #[derive(Drop)]
 pub struct Forwarder {
     pub(crate) call: Call,
@@ -70,7 +89,8 @@ impl Forwarder {
         }
     }
 
-    /// Takes a route in.
+    /// Takes a route in. It is refused, in this order: `Bits` where the prefix is to have more than 32 bits or has one past its length,
+    /// `Twice` where a route with this prefix and length stands, `Full` where 16 routes do. A refusal changes nothing.
     pub fn route(&mut self, prefix: u32, len: u8, hop: u32) -> Result<(), RouteRefusal>
         ensures exact { result ≡ routes.route_at prefix len (machine.state self.old).routes }
         ensures entered { OnOk result ((r : routes.Route) × routes.IsRoute prefix len hop r × (machine.state self.new ≡ record (machine.state self.old) { routes = (machine.state self.old).routes ++ r ∷ [] })) }

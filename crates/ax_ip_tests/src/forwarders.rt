@@ -30,6 +30,10 @@ const ONWARD: &[u8] =
 const ASKED: &[u8] =
     b"\x00\x03\x00\xCC\x07\x04\x00\x01\x9C\x60\x82\x82\x82\x40\x60\x2C\x00\x00\x01\x00\x00\x00\x00\x00\x00\x00\x2C\x00\x00\x02";
 
+/// N0BBB at 44.0.0.2 answers N0AAA.
+const HEARD: &[u8] =
+    b"\x00\x03\x00\xCC\x07\x04\x00\x02\x9C\x60\x84\x84\x84\x40\x60\x2C\x00\x00\x02\x9C\x60\x82\x82\x82\x40\x60\x2C\x00\x00\x01";
+
 fn call(rt: &impl Abort, text: &str) -> Call {
     Call::read(text.as_bytes()).ok().expect(rt, "a call")
 }
@@ -51,13 +55,10 @@ fn address(rt: &impl Abort, text: &str) -> Address {
 /// A frame: its receiver, its PID and its information.
 type Frame<'a> = (&'a str, u8, &'a [u8]);
 
-/// Hands a UI frame from N0BBB to a forwarder, and asserts what it does.
-fn arrive(rt: &impl Abort, own: &mut Forwarder, came: Frame<'_>, wanted: IpDone) -> Option<IpOut>
-    requires { waiting own.old ≡ None }
-    ensures { waiting own.new ≡ None }
-{
+/// A UI frame from N0BBB.
+fn ui<'a>(rt: &impl Abort, came: Frame<'a>) -> FrameView<'a> {
     let (dest, pid, info) = came;
-    let frame = FrameView {
+    FrameView {
         head: Head {
             dest: address(rt, dest),
             source: address(rt, "N0BBB"),
@@ -66,7 +67,15 @@ fn arrive(rt: &impl Abort, own: &mut Forwarder, came: Frame<'_>, wanted: IpDone)
         control: Control::Ui { pf: false },
         pid: Some(pid),
         info,
-    };
+    }
+}
+
+/// Hands a UI frame from N0BBB to a forwarder, and asserts what it does.
+fn arrive(rt: &impl Abort, own: &mut Forwarder, came: Frame<'_>, wanted: IpDone) -> Option<IpOut>
+    requires { waiting own.old ≡ None }
+    ensures { waiting own.new ≡ None }
+{
+    let frame = ui(rt, came);
     let done = own.arrive(&frame);
     assert!(rt; done == wanted);
     own.next_out()
@@ -100,6 +109,31 @@ fn expect_dropped(rt: &impl Abort, own: &mut Forwarder, came: Frame<'_>, why: Ip
 {
     let out = arrive(rt, own, came, IpDone::Dropped(why));
     assert!(rt; out.is_none());
+}
+
+/// The lines that stand at `Forwarder`.
+#[test]
+fn a_forwarder_in_use(rt: HostRuntime) {
+    let (call, addr, (prefix, len, hop)) = (call(&rt, "N0AAA"), OWN, LONGER);
+    let packet = ui(&rt, ("N0AAA", IP_PID, PACKET));
+    let reply = ui(&rt, ("N0AAA", ARP_PID, HEARD));
+
+    let mut forwarder = Forwarder::new(call, addr);
+    let routed = forwarder.route(prefix, len, hop); // Ok
+    let asks = forwarder.arrive(&packet); // Asked: the hop isn't known yet
+    let request = forwarder.next_out(); // a request of ARP to QST
+    let learns = forwarder.arrive(&reply); // Learned
+    let none = forwarder.next_out(); // None
+    let sends = forwarder.arrive(&packet); // Forwarded
+    let onward = forwarder.next_out(); // the packet, with one hop less
+
+    assert!(rt; routed == Ok(()));
+    assert!(rt; asks == IpDone::Asked);
+    expect_out(&rt, &request, ("QST", ARP_PID, ASKED));
+    assert!(rt; learns == IpDone::Learned);
+    assert!(rt; none == None);
+    assert!(rt; sends == IpDone::Forwarded);
+    expect_out(&rt, &onward, ("N0BBB", IP_PID, ONWARD));
 }
 
 #[test]
