@@ -32,14 +32,32 @@ use route_table::RouteTable;
 use std::alloc::Global;
 use std::marker::Model;
 
-/// A NET/ROM node over AX.25 links: a pure machine.
+/// A NET/ROM node over AX.25 links (AX.25 2.2; NET/ROM, Appendix B): a pure machine, which reads no clock and no stream. Its calls are of
+/// three kinds.
 ///
-/// How to drive it: hand it the KISS bytes as they come, in pieces of any size (`kiss_bytes`), or frames where the channel has
-/// no bytes (`kiss_frame`), the time about once a second (`tick`), and what its user does (`act`), each with its moment in
-/// milliseconds. After each of them fetch the frames that are to be sent (`next_frame`) and what it has to tell (`trace_entry`, or
-/// lent, `first_entry`), both until None.
+/// - Inputs, each but `set_path` with its moment in milliseconds: `act` and `set_path` of its user; `kiss_bytes` as they come, in pieces of
+///   any size, or `kiss_frame` where the channel has no bytes; `tick` of time.
+/// - Outputs: `next_frame` and `trace_entry`. After each input both are fetched until they answer None.
+/// - Looks, which change nothing: `has_entries`, `first_entry`, `routes`, `facts`, `circuits`, `is_spent`.
 ///
-/// Once it has answered NoMemory it is spent, and answers that ever after. Until then what it keeps is bounded, as `laws::kept` tells.
+/// `tick` is called about once a second, since no call tells when something is due. What a node keeps is bounded, as `laws::kept` tells;
+/// once it has answered NoMemory it is spent, and answers that ever after. What each input does stands in `specs/Inputs.antt`.
+///
+/// In use (`node_core_tests`, `a_node_in_use`):
+///
+/// ```text
+/// let mut node = Node::new(alloc, config)?;
+/// node.kiss_frame(&broadcast, now)?; // of a neighbour
+/// let hop = node.routes().next_hop(&neighbour); // the neighbour
+/// let made = node.act(&UserAct::Connect(neighbour), now)?; // Made, with the number of the new end
+/// let told = node.trace_entry(); // Made
+/// let sent = node.trace_entry(); // Sent: its Request waits for a link
+/// let set_up = node.next_frame(); // a SABM for the neighbour, in octets
+/// node.kiss_bytes(&accept, now)?; // its UA
+/// let opened = node.trace_entry(); // the neighbour, and Opened
+/// let asked = node.next_frame(); // an I with the Request
+/// node.tick(later)?;
+/// ```
 #[derive(Drop)]
 pub struct Node {
     deframer: Deframer,

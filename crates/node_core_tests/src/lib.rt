@@ -8,6 +8,8 @@
 #[cfg(test)]
 mod hostile;
 #[cfg(test)]
+mod in_use;
+#[cfg(test)]
 mod nodes;
 #[cfg(test)]
 mod prompt;
