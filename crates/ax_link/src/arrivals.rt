@@ -1,6 +1,5 @@
 //! What a link does with a frame of the other station (AX.25 2.2, sections 6.3 and 6.4).
 ghost use Rattle.std.specs.Prelude.{◌≡◌, ℕ, Bool, List, ◌+◌, ◌-◌, ◌*◌, ◌≤◌, ◌<◌, ◌++◌, ◌∷◌, [], ◌&&◌, not, nat_eq, nat_le, length, true, false, None, Some, IfSome};
-ghost use Rattle.radio_base.specs.declared.modulus.TheConstants.{COUNT_MAX};
 
 use crate::frame_in::FrameIn;
 use crate::i_frame::IFrame;
@@ -10,7 +9,7 @@ use crate::notice::LinkNotice;
 use crate::phase::LinkPhase;
 use crate::supervisory::Supervisory;
 use ax_frame::Control;
-use radio_base::{COUNT_MAX, Modulus};
+use radio_base::{Millis, Modulus};
 
 impl<M: Modulus> Machine<M> {
     ghost use Rattle.radio_base.specs.declared.payload.Payload.{Payload};
@@ -22,15 +21,14 @@ impl<M: Modulus> Machine<M> {
     ghost use Rattle.ax_link.specs.Standing.{Adds, state_of};
     ghost use Rattle.ax_link.specs.Calls.{Does, arrive, brought, frame_come, view_of, text_again};
 
-    pub(crate) fn arrive(&mut self, frame: &FrameIn<'_>, now: u64)
-        requires now { now ≤ COUNT_MAX }
+    pub(crate) fn arrive(&mut self, frame: &FrameIn<'_>, now: Millis)
         requires outs { self.old.outs.items ≡ [] }
         requires notice { self.old.notice ≡ None }
         requires size { self.old.window < M.SIZE }
         ensures does { Does M.SIZE (arrive now (frame_come frame.now)) self.old self.new }
         ensures window { self.new.window ≡ self.old.window }
     {
-        self.last_arrival = now;
+        self.last_arrival = now.ms();
         match self.phase {
             LinkPhase::Down => self.arrive_down(frame.command, frame.kind, now),
             LinkPhase::SettingUp => self.arrive_setting_up(frame.kind, now),
@@ -39,8 +37,7 @@ impl<M: Modulus> Machine<M> {
         }
     }
 
-    fn arrive_down(&mut self, command: bool, kind: Kind, now: u64)
-        requires now { now ≤ COUNT_MAX }
+    fn arrive_down(&mut self, command: bool, kind: Kind, now: Millis)
         requires outs { self.old.outs.items ≡ [] }
         requires notice { self.old.notice ≡ None }
         ensures does { Does M.SIZE (table.arrive_down now command kind) self.old self.new }
@@ -73,8 +70,7 @@ impl<M: Modulus> Machine<M> {
         }
     }
 
-    fn arrive_setting_up(&mut self, kind: Kind, now: u64)
-        requires now { now ≤ COUNT_MAX }
+    fn arrive_setting_up(&mut self, kind: Kind, now: Millis)
         requires outs { self.old.outs.items ≡ [] }
         requires notice { self.old.notice ≡ None }
         ensures does { Does M.SIZE (table.arrive_setting_up now kind) self.old self.new }
@@ -96,8 +92,7 @@ impl<M: Modulus> Machine<M> {
         }
     }
 
-    fn arrive_up(&mut self, frame: &FrameIn<'_>, now: u64)
-        requires now { now ≤ COUNT_MAX }
+    fn arrive_up(&mut self, frame: &FrameIn<'_>, now: Millis)
         requires outs { self.old.outs.items ≡ [] }
         requires notice { self.old.notice ≡ None }
         requires size { self.old.window < M.SIZE }
@@ -139,8 +134,7 @@ impl<M: Modulus> Machine<M> {
         }
     }
 
-    fn arrive_releasing(&mut self, kind: Kind, now: u64)
-        requires now { now ≤ COUNT_MAX }
+    fn arrive_releasing(&mut self, kind: Kind, now: Millis)
         requires outs { self.old.outs.items ≡ [] }
         requires notice { self.old.notice ≡ None }
         ensures does { Does M.SIZE (table.arrive_releasing now kind) self.old self.new }
@@ -171,8 +165,7 @@ impl<M: Modulus> Machine<M> {
     }
 
     /// An RR, RNR or REJ, with this N(R).
-    fn on_supervisory(&mut self, said: Supervisory, nr: u8, now: u64)
-        requires now { now ≤ COUNT_MAX }
+    fn on_supervisory(&mut self, said: Supervisory, nr: u8, now: Millis)
         requires outs { self.old.outs.items ≡ [] }
         requires size { self.old.window < M.SIZE }
         ensures does { Does M.SIZE (moves.on_supervisory now said.command said.busy said.reject said.pf nr) self.old self.new }
@@ -184,8 +177,7 @@ impl<M: Modulus> Machine<M> {
         }
     }
 
-    fn supervisory_at(&mut self, said: Supervisory, below: u64, now: u64)
-        requires now { now ≤ COUNT_MAX }
+    fn supervisory_at(&mut self, said: Supervisory, below: u64, now: Millis)
         requires outs { self.old.outs.items ≡ [] }
         requires from { self.old.acked ≤ below }
         requires to { below ≤ self.old.sent }
@@ -201,8 +193,7 @@ impl<M: Modulus> Machine<M> {
     }
 
     /// What a response with the final bit or a REJ asks for is put out again.
-    fn supply_again(&mut self, said: Supervisory, now: u64)
-        requires now { now ≤ COUNT_MAX }
+    fn supply_again(&mut self, said: Supervisory, now: Millis)
         requires room { length self.old.outs.items + self.old.window ≤ 2 * self.old.window + 4 }
         ensures does { Does M.SIZE (moves.supply_again now (not said.command && said.pf) said.reject) self.old self.new }
         ensures adds { Adds self.old.window (view_of self.old) (view_of self.new) }
@@ -216,8 +207,7 @@ impl<M: Modulus> Machine<M> {
     }
 
     /// An SREJ asks for one payload. With the final bit it acknowledges all below, and ends a poll.
-    fn on_selective_reject(&mut self, last: bool, nr: u8, now: u64)
-        requires now { now ≤ COUNT_MAX }
+    fn on_selective_reject(&mut self, last: bool, nr: u8, now: Millis)
         requires outs { self.old.outs.items ≡ [] }
         requires size { self.old.window < M.SIZE }
         ensures does { Does M.SIZE (moves.on_srej now last nr) self.old self.new }
@@ -231,8 +221,7 @@ impl<M: Modulus> Machine<M> {
         }
     }
 
-    fn on_last_selective_reject(&mut self, nr: u8, now: u64)
-        requires now { now ≤ COUNT_MAX }
+    fn on_last_selective_reject(&mut self, nr: u8, now: Millis)
         requires outs { self.old.outs.items ≡ [] }
         requires size { self.old.window < M.SIZE }
         ensures does { Does M.SIZE (moves.on_srej now true nr) self.old self.new }
@@ -269,8 +258,7 @@ impl<M: Modulus> Machine<M> {
         }
     }
 
-    fn srej_at(&mut self, below: u64, now: u64)
-        requires now { now ≤ COUNT_MAX }
+    fn srej_at(&mut self, below: u64, now: Millis)
         requires outs { self.old.outs.items ≡ [] }
         requires from { self.old.acked ≤ below }
         requires to { below ≤ self.old.sent }
@@ -296,8 +284,7 @@ impl<M: Modulus> Machine<M> {
     }
 
     /// An I frame with a payload, and with this N(R).
-    fn on_i(&mut self, i_frame: &IFrame<'_>, nr: u8, now: u64)
-        requires now { now ≤ COUNT_MAX }
+    fn on_i(&mut self, i_frame: &IFrame<'_>, nr: u8, now: Millis)
         requires outs { self.old.outs.items ≡ [] }
         requires size { self.old.window < M.SIZE }
         ensures does { Does M.SIZE (moves.on_i now i_frame.now.pf i_frame.now.ns nr (Some (brought i_frame.now))) self.old self.new }
@@ -309,8 +296,7 @@ impl<M: Modulus> Machine<M> {
         }
     }
 
-    fn i_at(&mut self, i_frame: &IFrame<'_>, below: u64, now: u64)
-        requires now { now ≤ COUNT_MAX }
+    fn i_at(&mut self, i_frame: &IFrame<'_>, below: u64, now: Millis)
         requires outs { self.old.outs.items ≡ [] }
         requires size { self.old.window < M.SIZE }
         requires from { self.old.acked ≤ below }

@@ -11,7 +11,7 @@ use crate::moves::copy_of;
 use crate::phase::LinkPhase;
 use crate::refusal::SendRefusal;
 use circular_buffer::HeapCircularBuffer;
-use radio_base::{COUNT_MAX, Modulus, NoMemory, Payload};
+use radio_base::{COUNT_MAX, Millis, Modulus, NoMemory, Payload};
 use std::alloc::Global;
 use std::marker::PhantomData;
 
@@ -83,8 +83,7 @@ impl<M: Modulus> Machine<M> {
         })
     }
 
-    pub(crate) fn set_up(&mut self, now: u64)
-        requires now { now ≤ COUNT_MAX }
+    pub(crate) fn set_up(&mut self, now: Millis)
         requires outs { self.old.outs.items ≡ [] }
         ensures does { Does M.SIZE (set_up now) self.old self.new }
         ensures window { self.new.window ≡ self.old.window }
@@ -97,8 +96,7 @@ impl<M: Modulus> Machine<M> {
         }
     }
 
-    pub(crate) fn send(&mut self, payload: &Payload, now: u64) -> Result<(), SendRefusal>
-        requires now { now ≤ COUNT_MAX }
+    pub(crate) fn send(&mut self, payload: &Payload, now: Millis) -> Result<(), SendRefusal>
         requires outs { self.old.outs.items ≡ [] }
         ensures answer { result ≡ send_answer (view_of self.old) }
         ensures does { OnOk result (Does M.SIZE (table.accept now payload.now) self.old self.new) }
@@ -119,8 +117,7 @@ impl<M: Modulus> Machine<M> {
         Ok(())
     }
 
-    fn accept(&mut self, payload: &Payload, now: u64)
-        requires now { now ≤ COUNT_MAX }
+    fn accept(&mut self, payload: &Payload, now: Millis)
         requires outs { self.old.outs.items ≡ [] }
         requires room { length self.old.queue.items < 128 }
         requires numbers { self.old.acked + length self.old.queue.items < COUNT_MAX }
@@ -148,8 +145,7 @@ impl<M: Modulus> Machine<M> {
         matches!(self.phase, LinkPhase::SettingUp | LinkPhase::Up)
     }
 
-    pub(crate) fn close(&mut self, now: u64)
-        requires now { now ≤ COUNT_MAX }
+    pub(crate) fn close(&mut self, now: Millis)
         requires outs { self.old.outs.items ≡ [] }
         ensures does { Does M.SIZE (close now) self.old self.new }
         ensures window { self.new.window ≡ self.old.window }
@@ -159,8 +155,7 @@ impl<M: Modulus> Machine<M> {
         }
     }
 
-    fn close_in_turn(&mut self, now: u64)
-        requires now { now ≤ COUNT_MAX }
+    fn close_in_turn(&mut self, now: Millis)
         requires outs { self.old.outs.items ≡ [] }
         ensures does { Does M.SIZE (table.close_in_turn now) self.old self.new }
         ensures window { self.new.window ≡ self.old.window }

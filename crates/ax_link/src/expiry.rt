@@ -1,12 +1,11 @@
 //! What a link does when T1 or T3 has come (AX.25 2.2, section 6.7).
 ghost use Rattle.std.specs.Prelude.{◌≡◌, ℕ, ◌+◌, ◌*◌, ◌≤◌, ◌<◌, [], length, None};
-ghost use Rattle.radio_base.specs.declared.modulus.TheConstants.{COUNT_MAX};
 
 use crate::machine::Machine;
 use crate::notice::LinkNotice;
 use crate::phase::LinkPhase;
 use ax_frame::Control;
-use radio_base::Modulus;
+use radio_base::{Millis, Modulus};
 
 impl<M: Modulus> Machine<M> {
     ghost use Rattle.ax_link.specs.Table as table;
@@ -14,25 +13,23 @@ impl<M: Modulus> Machine<M> {
     ghost use Rattle.ax_link.specs.Calls.{Does, ask_once_more, tell_end, view_of};
 
     /// Time has passed.
-    pub(crate) fn tick(&mut self, now: u64)
-        requires now { now ≤ COUNT_MAX }
+    pub(crate) fn tick(&mut self, now: Millis)
         requires outs { self.old.outs.items ≡ [] }
         requires notice { self.old.notice ≡ None }
         ensures does { Does M.SIZE (table.tick now) self.old self.new }
         ensures window { self.new.window ≡ self.old.window }
     {
         if self.t1_runs() {
-            if self.t1_at <= now {
+            if self.t1_at <= now.ms() {
                 self.expire(now);
             }
-        } else if self.is_up() && self.last_arrival.max(self.t1_stopped_at) + self.t3 <= now {
+        } else if self.is_up() && self.last_arrival.max(self.t1_stopped_at) + self.t3 <= now.ms() {
             self.start_poll(now);
         }
     }
 
     /// T1 has come: no answer did.
-    fn expire(&mut self, now: u64)
-        requires now { now ≤ COUNT_MAX }
+    fn expire(&mut self, now: Millis)
         requires outs { self.old.outs.items ≡ [] }
         requires notice { self.old.notice ≡ None }
         ensures does { Does M.SIZE (table.expire now) self.old self.new }
@@ -45,8 +42,7 @@ impl<M: Modulus> Machine<M> {
         }
     }
 
-    fn fail(&mut self, now: u64)
-        requires now { now ≤ COUNT_MAX }
+    fn fail(&mut self, now: Millis)
         requires outs { self.old.outs.items ≡ [] }
         requires notice { self.old.notice ≡ None }
         ensures does { Does M.SIZE (table.fail now) self.old self.new }
@@ -70,8 +66,7 @@ impl<M: Modulus> Machine<M> {
     }
 
     /// The answer is awaited once more.
-    fn retry(&mut self, now: u64)
-        requires now { now ≤ COUNT_MAX }
+    fn retry(&mut self, now: Millis)
         requires outs { self.old.outs.items ≡ [] }
         requires tries { self.old.tries < self.old.retries }
         ensures does { Does M.SIZE (table.retry now) self.old self.new }
@@ -81,8 +76,7 @@ impl<M: Modulus> Machine<M> {
         self.ask_once_more(now);
     }
 
-    fn ask_once_more(&mut self, now: u64)
-        requires now { now ≤ COUNT_MAX }
+    fn ask_once_more(&mut self, now: Millis)
         requires outs { self.old.outs.items ≡ [] }
         ensures does { Does M.SIZE (ask_once_more now) self.old self.new }
         ensures window { self.new.window ≡ self.old.window }

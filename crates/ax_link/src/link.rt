@@ -17,7 +17,7 @@ use crate::notice::LinkNotice;
 use crate::out::LinkOut;
 use crate::refusal::SendRefusal;
 use ax_frame::Control;
-use radio_base::{COUNT_MAX, Modulus, Moment, NoMemory, Payload};
+use radio_base::{Millis, Modulus, Moment, NoMemory, Payload};
 use std::alloc::Global;
 use std::marker::Model;
 
@@ -87,7 +87,7 @@ impl<M: Modulus> Link<M> {
         ensures kept { (s : State) → StandsFor M.SIZE self.old s → kept self.new ≤ share M.SIZE }
         ensures quiet { self.new.notice ≡ None }
     {
-        self.machine.set_up(moment(now));
+        self.machine.set_up(Millis::of(now));
     }
 
     /// Accepts a payload for the other station.
@@ -100,7 +100,7 @@ impl<M: Modulus> Link<M> {
         ensures quiet { OnOk result (self.new.notice ≡ None) }
         ensures err { OnErr result (self.new ≡ self.old) }
     {
-        self.machine.send(payload, moment(now))
+        self.machine.send(payload, Millis::of(now))
     }
 
     /// Takes in a frame of the other station.
@@ -117,7 +117,7 @@ impl<M: Modulus> Link<M> {
         ensures kept { (s : State) → StandsFor M.SIZE self.old s → kept self.new ≤ share M.SIZE }
     {
         let frame = FrameIn::of::<M>(command, control, pid, info);
-        self.machine.arrive(&frame, moment(now));
+        self.machine.arrive(&frame, Millis::of(now));
     }
 
     /// Time has passed.
@@ -126,7 +126,7 @@ impl<M: Modulus> Link<M> {
         ensures does { (s : State) → StandsFor M.SIZE self.old s → Stands M.SIZE self.new (table.step s table.Tick now.0) }
         ensures kept { (s : State) → StandsFor M.SIZE self.old s → kept self.new ≤ share M.SIZE }
     {
-        self.machine.tick(moment(now));
+        self.machine.tick(Millis::of(now));
     }
 
     /// Releases the link once all that was accepted is acknowledged.
@@ -135,7 +135,7 @@ impl<M: Modulus> Link<M> {
         ensures does { (s : State) → StandsFor M.SIZE self.old s → Stands M.SIZE self.new (table.step s table.Close now.0) }
         ensures kept { (s : State) → StandsFor M.SIZE self.old s → kept self.new ≤ share M.SIZE }
     {
-        self.machine.close(moment(now));
+        self.machine.close(Millis::of(now));
     }
 
     /// The next frame that waits to be sent. It can be written: its numbers are below the modulus, and it has a PID and
@@ -205,11 +205,4 @@ impl<M: Modulus> Link<M> {
     {
         self.machine.outs.is_empty() && self.machine.notice.is_none()
     }
-}
-
-/// A moment above 2^62 ms counts as 2^62 ms.
-fn moment(now: Moment) -> u64
-    ensures { result ≡ min now.0 count_end }
-{
-    now.0.min(COUNT_MAX)
 }

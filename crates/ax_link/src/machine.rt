@@ -9,7 +9,7 @@ use crate::out::LinkOut;
 use crate::phase::LinkPhase;
 use ax_frame::Control;
 use circular_buffer::HeapCircularBuffer;
-use radio_base::{Modulus, Payload};
+use radio_base::{Millis, Modulus, Payload};
 use std::marker::PhantomData;
 
 /// How many payloads wait at most for the other station.
@@ -130,16 +130,15 @@ impl<M: Modulus> Machine<M> {
     }
 
     /// After a change: T1 begins to run, or has stopped. `ran` is whether it ran before.
-    pub(crate) fn update_t1(&mut self, ran: bool, now: u64)
-        requires { now ≤ COUNT_MAX }
+    pub(crate) fn update_t1(&mut self, ran: bool, now: Millis)
         ensures { view_of self.new ≡ view_with_t1 now ran (view_of self.old) }
     {
         let runs = self.t1_runs();
         if !ran && runs {
-            self.t1_at = now + self.t1;
+            self.t1_at = now.ms() + self.t1;
         }
         if ran && !runs {
-            self.t1_stopped_at = now;
+            self.t1_stopped_at = now.ms();
         }
     }
 
@@ -158,18 +157,16 @@ impl<M: Modulus> Machine<M> {
     }
 
     /// Puts out a frame whose answer T1 awaits.
-    pub(crate) fn emit_timed(&mut self, control: Control, now: u64)
-        requires now { now ≤ COUNT_MAX }
+    pub(crate) fn emit_timed(&mut self, control: Control, now: Millis)
         requires room { length self.old.outs.items < 2 * self.old.window + 4 }
         ensures does { Does M.SIZE (moves.emit_timed now true (kind_of M.SIZE true control)) self.old self.new }
         ensures adds { Adds 1 (view_of self.old) (view_of self.new) }
     {
         self.emit(true, control);
-        self.t1_at = now + self.t1;
+        self.t1_at = now.ms() + self.t1;
     }
 
-    pub(crate) fn to_phase(&mut self, phase: LinkPhase, now: u64)
-        requires { now ≤ COUNT_MAX }
+    pub(crate) fn to_phase(&mut self, phase: LinkPhase, now: Millis)
         ensures does { Does M.SIZE (moves.to_phase now phase) self.old self.new }
         ensures adds { Adds 0 (view_of self.old) (view_of self.new) }
     {
@@ -188,8 +185,7 @@ impl<M: Modulus> Machine<M> {
     }
 
     /// Forgets all that was under way. `closing` stays.
-    pub(crate) fn reset(&mut self, now: u64)
-        requires { now ≤ COUNT_MAX }
+    pub(crate) fn reset(&mut self, now: Millis)
         ensures does { Does M.SIZE (moves.reset now) self.old self.new }
         ensures adds { Adds 0 (view_of self.old) (view_of self.new) }
     {

@@ -1,7 +1,6 @@
 //! The moves of which a link's steps are made: Fill, Again, Poll, Reset and the rest.
 ghost use Rattle.std.specs.Prelude.{◌≡◌, ℕ, Bool, List, ◌+◌, ◌-◌, ◌*◌, ◌≤◌, ◌<◌, ◌++◌, ◌∷◌, [], nat_eq, nat_le, length, drop, slice_get, true, false, None, Some};
 ghost use Rattle.circular_buffer.specs.Buffer.{buffer};
-ghost use Rattle.radio_base.specs.declared.modulus.TheConstants.{COUNT_MAX};
 ghost use Rattle.ax_link.specs.Kinds as kinds;
 
 use crate::machine::{Machine, push};
@@ -10,7 +9,7 @@ use crate::phase::LinkPhase;
 use arrayvec::ArrayVec;
 use ax_frame::Control;
 use circular_buffer::HeapCircularBuffer;
-use radio_base::{Modulus, Payload};
+use radio_base::{Millis, Modulus, Payload};
 
 /// A payload of these octets, which are put where it stands, so that they are copied once.
 pub(crate) fn payload_of(pid: u8, info: &[u8]) -> Payload
@@ -133,8 +132,7 @@ impl<M: Modulus> Machine<M> {
     }
 
     /// Puts out what may be put out.
-    pub(crate) fn fill(&mut self, now: u64)
-        requires now { now ≤ COUNT_MAX }
+    pub(crate) fn fill(&mut self, now: Millis)
         requires room { length self.old.outs.items + self.old.window ≤ 2 * self.old.window + 4 }
         ensures does { Does M.SIZE (moves.fill now) self.old self.new }
         ensures adds { Adds self.old.window (view_of self.old) (view_of self.new) }
@@ -147,8 +145,7 @@ impl<M: Modulus> Machine<M> {
     }
 
     /// A link that is to be closed is released once all is acknowledged.
-    pub(crate) fn finish(&mut self, now: u64)
-        requires now { now ≤ COUNT_MAX }
+    pub(crate) fn finish(&mut self, now: Millis)
         requires room { length self.old.outs.items + 1 ≤ 2 * self.old.window + 4 }
         ensures does { Does M.SIZE (moves.finish now) self.old self.new }
         ensures adds { Adds 1 (view_of self.old) (view_of self.new) }
@@ -165,8 +162,7 @@ impl<M: Modulus> Machine<M> {
         self.queue.is_empty()
     }
 
-    fn release(&mut self, now: u64)
-        requires now { now ≤ COUNT_MAX }
+    fn release(&mut self, now: Millis)
         requires room { length self.old.outs.items + 1 ≤ 2 * self.old.window + 4 }
         ensures does { Does M.SIZE (moves.release now) self.old self.new }
         ensures adds { Adds 1 (view_of self.old) (view_of self.new) }
@@ -176,8 +172,7 @@ impl<M: Modulus> Machine<M> {
         self.emit_timed(Control::Disc { pf: true }, now);
     }
 
-    pub(crate) fn fill_and_finish(&mut self, now: u64)
-        requires now { now ≤ COUNT_MAX }
+    pub(crate) fn fill_and_finish(&mut self, now: Millis)
         requires room { length self.old.outs.items + self.old.window + 1 ≤ 2 * self.old.window + 4 }
         ensures does { Does M.SIZE (moves.supply now) self.old self.new }
         ensures adds { Adds (self.old.window + 1) (view_of self.old) (view_of self.new) }
@@ -187,19 +182,17 @@ impl<M: Modulus> Machine<M> {
     }
 
     /// Puts out again what was put out and isn't acknowledged.
-    pub(crate) fn again(&mut self, now: u64)
-        requires now { now ≤ COUNT_MAX }
+    pub(crate) fn again(&mut self, now: Millis)
         requires room { length self.old.outs.items + self.old.window ≤ 2 * self.old.window + 4 }
         ensures does { Does M.SIZE (moves.again now) self.old self.new }
         ensures adds { Adds self.old.window (view_of self.old) (view_of self.new) }
     {
         self.emit_texts(self.acked, self.sent - self.acked);
-        self.t1_at = now + self.t1;
+        self.t1_at = now.ms() + self.t1;
     }
 
     /// The other station has all payloads below this number.
-    pub(crate) fn acknowledge(&mut self, below: u64, now: u64)
-        requires now { now ≤ COUNT_MAX }
+    pub(crate) fn acknowledge(&mut self, below: u64, now: Millis)
         requires below { below ≤ self.old.sent }
         ensures does { Does M.SIZE (moves.acknowledge now below) self.old self.new }
         ensures adds { Adds 0 (view_of self.old) (view_of self.new) }
@@ -212,13 +205,12 @@ impl<M: Modulus> Machine<M> {
             self.acked = below;
             self.tries = 0;
             self.update_t1(ran, now);
-            self.t1_at = now + self.t1;
+            self.t1_at = now.ms() + self.t1;
         }
     }
 
     /// Whether the other station is busy.
-    pub(crate) fn hold(&mut self, peer_busy: bool, now: u64)
-        requires { now ≤ COUNT_MAX }
+    pub(crate) fn hold(&mut self, peer_busy: bool, now: Millis)
         ensures does { Does M.SIZE (moves.hold now peer_busy) self.old self.new }
         ensures adds { Adds 0 (view_of self.old) (view_of self.new) }
     {
@@ -228,8 +220,7 @@ impl<M: Modulus> Machine<M> {
     }
 
     /// Asks the other station where it stands.
-    pub(crate) fn start_poll(&mut self, now: u64)
-        requires now { now ≤ COUNT_MAX }
+    pub(crate) fn start_poll(&mut self, now: Millis)
         requires room { length self.old.outs.items + 1 ≤ 2 * self.old.window + 4 }
         ensures does { Does M.SIZE (moves.start_poll now) self.old self.new }
         ensures adds { Adds 1 (view_of self.old) (view_of self.new) }
@@ -240,8 +231,7 @@ impl<M: Modulus> Machine<M> {
     }
 
     /// A response with the final bit is awaited.
-    fn await_final(&mut self, now: u64)
-        requires { now ≤ COUNT_MAX }
+    fn await_final(&mut self, now: Millis)
         ensures does { Does M.SIZE (moves.await_final now) self.old self.new }
         ensures adds { Adds 0 (view_of self.old) (view_of self.new) }
     {
@@ -250,8 +240,7 @@ impl<M: Modulus> Machine<M> {
         self.update_t1(ran, now);
     }
 
-    pub(crate) fn end_poll(&mut self, now: u64)
-        requires { now ≤ COUNT_MAX }
+    pub(crate) fn end_poll(&mut self, now: Millis)
         ensures does { Does M.SIZE (moves.end_poll now) self.old self.new }
         ensures adds { Adds 0 (view_of self.old) (view_of self.new) }
         ensures acked { self.new.acked ≡ self.old.acked }

@@ -1,6 +1,5 @@
 //! What an end does with a transport of the other end (NET/ROM, Appendix B, level 4).
 ghost use Rattle.std.specs.Prelude.{◌≡◌, ◌*◌, ◌≤◌, [], None};
-ghost use Rattle.radio_base.specs.declared.modulus.TheConstants.{COUNT_MAX};
 ghost use Rattle.circuit_l4.specs.Table as table;
 
 use crate::info::Info;
@@ -10,7 +9,7 @@ use crate::output::Output;
 use crate::phase::EndPhase;
 use crate::piece::piece_of;
 use crate::transport::{Flags, Pair, Transport};
-use radio_base::COUNT_MAX;
+use radio_base::Millis;
 
 /// The window that both ends take: that of the other end, at most the own one, and at least 1.
 pub(crate) fn common_window(own: u8, other: u8) -> u8
@@ -23,8 +22,7 @@ impl Machine {
     ghost use Rattle.circuit_l4.specs.Calls.{Does};
     ghost use Rattle.circuit_l4.specs.Table.{arrive};
 
-    pub(crate) fn arrive(&mut self, transport: &Transport, now: u64)
-        requires now { now ≤ COUNT_MAX }
+    pub(crate) fn arrive(&mut self, transport: &Transport, now: Millis)
         requires outs { self.old.outs.items ≡ [] }
         requires notice { self.old.notice ≡ None }
         ensures does { Does (arrive now transport.now) self.old self.new }
@@ -38,8 +36,7 @@ impl Machine {
         }
     }
 
-    fn arrive_connecting(&mut self, transport: &Transport, now: u64)
-        requires now { now ≤ COUNT_MAX }
+    fn arrive_connecting(&mut self, transport: &Transport, now: Millis)
         requires outs { self.old.outs.items ≡ [] }
         requires notice { self.old.notice ≡ None }
         ensures does { Does (table.arrive_connecting now transport.now) self.old self.new }
@@ -52,8 +49,7 @@ impl Machine {
         }
     }
 
-    fn on_accept(&mut self, own: Pair, window: u8, now: u64)
-        requires now { now ≤ COUNT_MAX }
+    fn on_accept(&mut self, own: Pair, window: u8, now: Millis)
         requires outs { self.old.outs.items ≡ [] }
         requires notice { self.old.notice ≡ None }
         ensures does { Does (table.on_accept now own window) self.old self.new }
@@ -63,15 +59,14 @@ impl Machine {
         self.window = common_window(self.config.window, window);
         self.phase = EndPhase::Up;
         self.answer_due = None;
-        self.last_active = now;
+        self.last_active = now.ms();
         self.note(EndNotice::Opened {
             window: self.window,
         });
         self.finish(now);
     }
 
-    fn arrive_up(&mut self, transport: &Transport, now: u64)
-        requires now { now ≤ COUNT_MAX }
+    fn arrive_up(&mut self, transport: &Transport, now: Millis)
         requires outs { self.old.outs.items ≡ [] }
         requires notice { self.old.notice ≡ None }
         ensures does { Does (table.arrive_up now transport.now) self.old self.new }
@@ -100,24 +95,22 @@ impl Machine {
         }
     }
 
-    fn hear_info(&mut self, info: &Info<'_>, now: u64)
-        requires now { now ≤ COUNT_MAX }
+    fn hear_info(&mut self, info: &Info<'_>, now: Millis)
         requires outs { self.old.outs.items ≡ [] }
         requires notice { self.old.notice ≡ None }
         ensures does { Does (table.hear_info now info.now.tx info.now.rx info.now.flags info.now.piece.now) self.old self.new }
         ensures config { self.new.config ≡ self.old.config }
     {
-        self.last_active = now;
+        self.last_active = now.ms();
         self.on_info(info, now);
     }
 
-    fn hear_info_ack(&mut self, rx: u8, flags: Flags, now: u64)
-        requires now { now ≤ COUNT_MAX }
+    fn hear_info_ack(&mut self, rx: u8, flags: Flags, now: Millis)
         requires outs { self.old.outs.items ≡ [] }
         ensures does { Does (table.hear_info_ack now rx flags) self.old self.new }
         ensures config { self.new.config ≡ self.old.config }
     {
-        self.last_active = now;
+        self.last_active = now.ms();
         self.on_info_ack(rx, flags, now);
     }
 

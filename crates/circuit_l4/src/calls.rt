@@ -1,6 +1,5 @@
 //! What an end does for its user: opening, writing, closing, taking.
 ghost use Rattle.std.specs.Prelude.{◌≡◌, ◌+◌, ◌*◌, ◌≤◌, ◌<◌, [], ◌&&◌, nat_lt, length, None, OnOk, OnErr, IfOk};
-ghost use Rattle.radio_base.specs.declared.modulus.TheConstants.{COUNT_MAX};
 
 use crate::beginning::Beginning;
 use crate::config::EndConfig;
@@ -13,7 +12,7 @@ use crate::refusal::WriteRefusal;
 use circuit_reassembly::{LONGEST, Oversize, fragment_count};
 use circular_buffer::HeapCircularBuffer;
 use l3_datagram::Message;
-use radio_base::{COUNT_MAX, NoMemory};
+use radio_base::{COUNT_MAX, Millis, NoMemory};
 use std::alloc::Global;
 
 impl Machine {
@@ -32,9 +31,8 @@ impl Machine {
         alloc: Global,
         beginning: Beginning,
         config: EndConfig,
-        now: u64,
+        now: Millis,
     ) -> Result<Machine, NoMemory>
-        requires now { now ≤ COUNT_MAX }
         requires window { beginning.window ≤ config.window }
         requires config { IsConfig config }
         ensures opening { IfOk result (λ m. KeepsEffect (view_of m) (begin (opening.new beginning config now))) }
@@ -57,7 +55,7 @@ impl Machine {
             closing: false,
             tries: 0,
             answer_due: None,
-            last_active: now,
+            last_active: now.ms(),
             outs,
             notice: None,
         })
@@ -89,8 +87,7 @@ impl Machine {
         Ok(())
     }
 
-    pub(crate) fn write(&mut self, message: &[u8], now: u64) -> Result<(), WriteRefusal>
-        requires now { now ≤ COUNT_MAX }
+    pub(crate) fn write(&mut self, message: &[u8], now: Millis) -> Result<(), WriteRefusal>
         requires outs { self.old.outs.items ≡ [] }
         ensures answer { (s : State) → StandsFor (view_of self.old) s → result ≡ table.write_answer s message.now }
         ensures does { OnOk result (Does (table.write now message.now) self.old self.new) }
@@ -103,20 +100,18 @@ impl Machine {
     }
 
     /// Writes a message for which there is room.
-    fn accept(&mut self, message: &[u8], now: u64)
-        requires now { now ≤ COUNT_MAX }
+    fn accept(&mut self, message: &[u8], now: Millis)
         requires outs { self.old.outs.items ≡ [] }
         requires message { MayWrite message.now self.old.outgoing }
         ensures does { Does (table.write now message.now) self.old self.new }
         ensures config { self.new.config ≡ self.old.config }
     {
         self.outgoing.write(message);
-        self.last_active = now;
+        self.last_active = now.ms();
         self.fill(now);
     }
 
-    pub(crate) fn close(&mut self, now: u64)
-        requires now { now ≤ COUNT_MAX }
+    pub(crate) fn close(&mut self, now: Millis)
         requires outs { self.old.outs.items ≡ [] }
         ensures does { Does (table.close now) self.old self.new }
         ensures config { self.new.config ≡ self.old.config }
@@ -132,8 +127,7 @@ impl Machine {
         matches!(self.phase, EndPhase::Connecting | EndPhase::Up)
     }
 
-    fn close_in_turn(&mut self, now: u64)
-        requires now { now ≤ COUNT_MAX }
+    fn close_in_turn(&mut self, now: Millis)
         requires outs { self.old.outs.items ≡ [] }
         ensures does { Does (table.close_in_turn now) self.old self.new }
         ensures config { self.new.config ≡ self.old.config }

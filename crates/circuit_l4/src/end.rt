@@ -22,7 +22,7 @@ use crate::role::Role;
 use crate::transport::{Pair, Transport};
 use ax_address::Call;
 use l3_datagram::Message;
-use radio_base::{COUNT_MAX, Moment, NoMemory};
+use radio_base::{Millis, Moment, NoMemory};
 use std::alloc::Global;
 use std::marker::Model;
 
@@ -79,7 +79,7 @@ impl End {
         requires { IsConfig config }
         ensures opening { IfOk result (λ end. Stands end (opening.requesting pair user node config (min now.0 (2 ^ 62)))) }
     {
-        let now = moment(now);
+        let now = Millis::of(now);
         let beginning = Beginning {
             role: Role::Requester { user, node },
             pair,
@@ -114,7 +114,7 @@ impl End {
             phase: EndPhase::Up,
             window,
         };
-        let mut machine = Machine::new(alloc, beginning, config, moment(now))?;
+        let mut machine = Machine::new(alloc, beginning, config, Millis::of(now))?;
         machine.emit(Output::Accept {
             to: partner,
             own: pair,
@@ -137,7 +137,7 @@ impl End {
         ensures kept { kept self.new ≤ share self.new.config.window }
         ensures config { self.new.config ≡ self.old.config }
     {
-        self.machine.write(message, moment(now))
+        self.machine.write(message, Millis::of(now))
     }
 
     /// What `write` would answer, at any moment.
@@ -155,7 +155,7 @@ impl End {
         ensures kept { kept self.new ≤ share self.new.config.window }
         ensures config { self.new.config ≡ self.old.config }
     {
-        self.machine.close(moment(now));
+        self.machine.close(Millis::of(now));
     }
 
     /// Takes in what the other end has sent.
@@ -167,7 +167,7 @@ impl End {
         ensures most { length self.new.outs ≤ 256 }
         ensures config { self.new.config ≡ self.old.config }
     {
-        self.machine.arrive(transport, moment(now));
+        self.machine.arrive(transport, Millis::of(now));
     }
 
     /// Time has passed.
@@ -178,7 +178,7 @@ impl End {
         ensures kept { kept self.new ≤ share self.new.config.window }
         ensures config { self.new.config ≡ self.old.config }
     {
-        self.machine.tick(moment(now));
+        self.machine.tick(Millis::of(now));
     }
 
     /// Takes the first message that has come; false where none waits, and `out` is as it was then. What it does is the
@@ -239,11 +239,4 @@ impl End {
     {
         self.machine.outs.is_empty() && self.machine.notice.is_none()
     }
-}
-
-/// A moment above 2^62 ms counts as 2^62 ms.
-fn moment(now: Moment) -> u64
-    ensures { result ≡ min now.0 (2 ^ 62) }
-{
-    now.0.min(COUNT_MAX)
 }

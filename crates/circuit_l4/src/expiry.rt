@@ -1,12 +1,12 @@
 //! What an end does when time has passed.
 ghost use Rattle.std.specs.Prelude.{◌≡◌, ◌+◌, ◌*◌, ◌≤◌, ◌<◌, [], length, None};
-ghost use Rattle.radio_base.specs.declared.modulus.TheConstants.{COUNT_MAX};
 
 use crate::machine::Machine;
 use crate::notice::EndNotice;
 use crate::output::Output;
 use crate::phase::EndPhase;
 use crate::role::Role;
+use radio_base::Millis;
 
 impl Machine {
     ghost use Rattle.circuit_l4.specs.Table as table;
@@ -15,31 +15,29 @@ impl Machine {
     ghost use Rattle.circuit_l4.specs.Table.{ask, ask_once_more, fall_due, fall_due_up};
 
     /// Time has passed.
-    pub(crate) fn tick(&mut self, now: u64)
-        requires now { now ≤ COUNT_MAX }
+    pub(crate) fn tick(&mut self, now: Millis)
         requires outs { self.old.outs.items ≡ [] }
         requires notice { self.old.notice ≡ None }
         ensures does { Does (table.tick now) self.old self.new }
         ensures config { self.new.config ≡ self.old.config }
     {
-        if self.is_up() && self.last_active + self.config.inactive <= now {
+        if self.is_up() && self.last_active + self.config.inactive <= now.ms() {
             self.end(EndNotice::FailedInactive);
         } else if self.is_due(now) {
             self.fall_due(now);
         }
     }
 
-    fn is_due(&self, now: u64) -> bool
+    fn is_due(&self, now: Millis) -> bool
         ensures { result ≡ table.is_due self.now.answer_due now }
     {
         match self.answer_due {
-            Some(at) => at <= now,
+            Some(at) => at <= now.ms(),
             None => false,
         }
     }
 
-    fn fall_due(&mut self, now: u64)
-        requires now { now ≤ COUNT_MAX }
+    fn fall_due(&mut self, now: Millis)
         requires outs { self.old.outs.items ≡ [] }
         requires notice { self.old.notice ≡ None }
         ensures does { Does (fall_due now) self.old self.new }
@@ -52,8 +50,7 @@ impl Machine {
         }
     }
 
-    fn fall_due_up(&mut self, now: u64)
-        requires now { now ≤ COUNT_MAX }
+    fn fall_due_up(&mut self, now: Millis)
         requires outs { self.old.outs.items ≡ [] }
         requires notice { self.old.notice ≡ None }
         ensures does { Does (fall_due_up now) self.old self.new }
@@ -67,8 +64,7 @@ impl Machine {
     }
 
     /// An end that was held long enough goes on.
-    fn unchoke(&mut self, now: u64)
-        requires now { now ≤ COUNT_MAX }
+    fn unchoke(&mut self, now: Millis)
         requires outs { self.old.outs.items ≡ [] }
         ensures does { Does (table.unchoke now) self.old self.new }
         ensures config { self.new.config ≡ self.old.config }
@@ -81,8 +77,7 @@ impl Machine {
     }
 
     /// An answer hasn't come: it is awaited once more, or no longer.
-    fn expire(&mut self, now: u64)
-        requires now { now ≤ COUNT_MAX }
+    fn expire(&mut self, now: Millis)
         requires outs { self.old.outs.items ≡ [] }
         requires notice { self.old.notice ≡ None }
         ensures does { Does (table.expire now) self.old self.new }
@@ -95,8 +90,7 @@ impl Machine {
         }
     }
 
-    fn retry(&mut self, now: u64)
-        requires now { now ≤ COUNT_MAX }
+    fn retry(&mut self, now: Millis)
         requires outs { self.old.outs.items ≡ [] }
         requires tries { self.old.tries < self.old.config.retries }
         ensures does { Does (table.retry now) self.old self.new }

@@ -13,6 +13,7 @@ use crate::phase::EndPhase;
 use crate::role::Role;
 use crate::transport::Pair;
 use circular_buffer::HeapCircularBuffer;
+use radio_base::Millis;
 
 /// One end of a circuit. It has its room from the start.
 #[derive(Drop)]
@@ -109,18 +110,16 @@ impl Machine {
     }
 
     /// An answer is awaited from now on.
-    pub(crate) fn wait(&mut self, now: u64)
-        requires { now ≤ COUNT_MAX }
+    pub(crate) fn wait(&mut self, now: Millis)
         ensures does { Does (moves.on_state (moves.wait now)) self.old self.new }
         ensures rest { view_of self.new ≡ record (view_of self.old) { answer_due = Some (now + self.old.config.timeout) } }
         ensures outs { self.new.outs ≡ self.old.outs }
     {
-        self.answer_due = Some(now + self.config.timeout);
+        self.answer_due = Some(now.ms() + self.config.timeout);
     }
 
     /// An answer is awaited while text is out.
-    pub(crate) fn wait_if_out(&mut self, now: u64)
-        requires { now ≤ COUNT_MAX }
+    pub(crate) fn wait_if_out(&mut self, now: Millis)
         ensures does { Does (moves.on_state (moves.wait_if_out now)) self.old self.new }
         ensures adds { Adds 0 self.old self.new }
         ensures rest { view_of self.new ≡ record (view_of self.old) { answer_due = self.new.answer_due } }

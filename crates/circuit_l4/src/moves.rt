@@ -6,7 +6,7 @@ use crate::machine::Machine;
 use crate::output::Output;
 use crate::phase::EndPhase;
 use crate::transport::Flags;
-use radio_base::{M256, Modulus};
+use radio_base::{M256, Millis, Modulus};
 
 impl Machine {
     ghost use Rattle.circuit_l4.specs.Moves as moves;
@@ -86,8 +86,7 @@ impl Machine {
     }
 
     /// Puts out what the window has room for.
-    pub(crate) fn fill(&mut self, now: u64)
-        requires now { now ≤ COUNT_MAX }
+    pub(crate) fn fill(&mut self, now: Millis)
         requires room { length self.old.outs.items + self.old.config.window ≤ 2 * self.old.config.window + 2 }
         ensures does { Does (moves.fill now) self.old self.new }
         ensures adds { Adds self.old.config.window self.old self.new }
@@ -99,8 +98,7 @@ impl Machine {
     }
 
     /// So many fragments are out: an answer is awaited.
-    fn count_out(&mut self, many: u64, now: u64)
-        requires now { now ≤ COUNT_MAX }
+    fn count_out(&mut self, many: u64, now: Millis)
         requires window { self.old.outgoing.sent + many ≤ self.old.outgoing.acked + self.old.config.window }
         requires written { self.old.outgoing.sent + many ≤ self.old.outgoing.total }
         ensures does { Does (moves.on_state (moves.count_out now many)) self.old self.new }
@@ -113,8 +111,7 @@ impl Machine {
     }
 
     /// An end that is to close begins to, once all is acknowledged.
-    pub(crate) fn finish(&mut self, now: u64)
-        requires now { now ≤ COUNT_MAX }
+    pub(crate) fn finish(&mut self, now: Millis)
         requires room { length self.old.outs.items + 1 ≤ 2 * self.old.config.window + 2 }
         ensures does { Does (moves.finish now) self.old self.new }
         ensures adds { Adds 1 self.old self.new }
@@ -131,8 +128,7 @@ impl Machine {
         self.is_up() && self.closing && self.outgoing.acked() == self.outgoing.total()
     }
 
-    fn begin_to_close(&mut self, now: u64)
-        requires now { now ≤ COUNT_MAX }
+    fn begin_to_close(&mut self, now: Millis)
         requires room { length self.old.outs.items + 1 ≤ 2 * self.old.config.window + 2 }
         ensures does { Does (moves.begin_to_close now) self.old self.new }
         ensures adds { Adds 1 self.old self.new }
@@ -144,8 +140,7 @@ impl Machine {
         self.wait(now);
     }
 
-    pub(crate) fn fill_and_finish(&mut self, now: u64)
-        requires now { now ≤ COUNT_MAX }
+    pub(crate) fn fill_and_finish(&mut self, now: Millis)
         requires room { length self.old.outs.items + self.old.config.window + 1 ≤ 2 * self.old.config.window + 2 }
         ensures does { Does (moves.supply now) self.old self.new }
         ensures adds { Adds (self.old.config.window + 1) self.old self.new }

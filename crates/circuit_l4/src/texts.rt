@@ -1,6 +1,5 @@
 //! What an end does with the text of an Info.
 ghost use Rattle.std.specs.Prelude.{◌≡◌, ℕ, suc, ◌+◌, ◌-◌, ◌*◌, ◌≤◌, [], length, None, IfSome};
-ghost use Rattle.radio_base.specs.declared.modulus.TheConstants.{COUNT_MAX};
 
 use crate::info::Info;
 use crate::machine::Machine;
@@ -9,7 +8,7 @@ use crate::owed::Owed;
 use crate::piece::Piece;
 use crate::transport::Flags;
 use circuit_reassembly::Oversize;
-use radio_base::{COUNT_MAX, M256, Modulus};
+use radio_base::{M256, Millis, Modulus};
 
 impl Machine {
     ghost use Rattle.radio_base.specs.Modulus.{place_of};
@@ -22,8 +21,7 @@ impl Machine {
     ghost use Rattle.circuit_l4.specs.Receiving.{Receiving, receive};
 
     /// An acknowledgement for itself.
-    pub(crate) fn on_info_ack(&mut self, rx: u8, flags: Flags, now: u64)
-        requires now { now ≤ COUNT_MAX }
+    pub(crate) fn on_info_ack(&mut self, rx: u8, flags: Flags, now: Millis)
         requires outs { self.old.outs.items ≡ [] }
         ensures does { Does (moves.on_info_ack now rx flags) self.old self.new }
         ensures config { self.new.config ≡ self.old.config }
@@ -34,8 +32,7 @@ impl Machine {
     }
 
     /// An information message: its acknowledgement first, then its text.
-    pub(crate) fn on_info(&mut self, info: &Info<'_>, now: u64)
-        requires now { now ≤ COUNT_MAX }
+    pub(crate) fn on_info(&mut self, info: &Info<'_>, now: Millis)
         requires outs { self.old.outs.items ≡ [] }
         requires notice { self.old.notice ≡ None }
         ensures does { Does (moves.on_info now info.now.tx info.now.rx info.now.flags info.now.piece.now) self.old self.new }
@@ -60,8 +57,7 @@ impl Machine {
     }
 
     /// A text that fits its message is answered, and all goes out that has to.
-    fn answer_all(&mut self, nak: bool, owed: Owed, now: u64)
-        requires now { now ≤ COUNT_MAX }
+    fn answer_all(&mut self, nak: bool, owed: Owed, now: Millis)
         requires outs { self.old.outs.items ≡ [] }
         requires owed { IsOwed owed self.old }
         ensures does { Does (moves.answer_all now nak owed) self.old self.new }
@@ -73,8 +69,7 @@ impl Machine {
     }
 
     /// The acknowledgement part of a message. Answers what has to be put out once more.
-    fn acknowledge(&mut self, rx: u8, flags: Flags, now: u64) -> Owed
-        requires now { now ≤ COUNT_MAX }
+    fn acknowledge(&mut self, rx: u8, flags: Flags, now: Millis) -> Owed
         requires outs { self.old.outs.items ≡ [] }
         ensures does { (g : Effect) → KeepsEffect (view_of self.old) g →
             KeepsEffect (view_of self.new) (moves.on_state (λ s. (moves.acknowledge now rx flags s).end) g)
@@ -98,8 +93,7 @@ impl Machine {
         M256::place(rx, acked, self.outgoing.sent() - acked + 1)
     }
 
-    fn acknowledge_at(&mut self, below: u64, flags: Flags, now: u64) -> Owed
-        requires now { now ≤ COUNT_MAX }
+    fn acknowledge_at(&mut self, below: u64, flags: Flags, now: Millis) -> Owed
         requires from { self.old.outgoing.acked ≤ below }
         requires to { below ≤ self.old.outgoing.sent }
         requires outs { self.old.outs.items ≡ [] }
@@ -116,8 +110,7 @@ impl Machine {
     }
 
     /// The fragments below this number are acknowledged.
-    fn advance(&mut self, below: u64, now: u64)
-        requires now { now ≤ COUNT_MAX }
+    fn advance(&mut self, below: u64, now: Millis)
         requires from { self.old.outgoing.acked ≤ below }
         requires to { below ≤ self.old.outgoing.sent }
         requires outs { self.old.outs.items ≡ [] }
@@ -170,15 +163,14 @@ impl Machine {
     }
 
     /// Whether the other end takes no text for now.
-    fn hold(&mut self, choke: bool, now: u64)
-        requires { now ≤ COUNT_MAX }
+    fn hold(&mut self, choke: bool, now: Millis)
         ensures does { Does (moves.on_state (moves.hold now choke)) self.old self.new }
         ensures adds { Adds 0 self.old self.new }
         ensures outgoing { self.new.outgoing ≡ self.old.outgoing }
     {
         if choke {
             self.choked = true;
-            self.answer_due = Some(now + self.config.busy);
+            self.answer_due = Some(now.ms() + self.config.busy);
         } else if self.choked {
             self.choked = false;
             self.wait_if_out(now);

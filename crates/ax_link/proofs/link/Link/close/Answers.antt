@@ -9,17 +9,17 @@ pub returns-clause-does : goal.returns-clause-does
 returns-clause-does g c =
     rw (← c.self.view_is)
     (within g.M.Modulus.SIZE (view_of c.self.inside.machine) _ table.Close c.args.now.0 tt
-    (stepped g.M.Modulus.SIZE (view_of c.self.inside.machine) _ _ _ close (rw (← c.self.view_is) at c.requires) c.moment.ensures c.close.ensures.does))
+    (stepped g.M.Modulus.SIZE (view_of c.self.inside.machine) _ _ _ close (rw (← c.self.view_is) at c.requires) c.of.ensures c.close.ensures.does))
 
 pub returns-clause-kept : goal.returns-clause-kept
 returns-clause-kept g c =
     rw (← c.self.view_is)
     (keeps_on g.M.Modulus.SIZE (view_of c.self.inside.machine) _ table.Close c.args.now.0 tt
-    (stepped g.M.Modulus.SIZE (view_of c.self.inside.machine) _ _ _ close (rw (← c.self.view_is) at c.requires) c.moment.ensures c.close.ensures.does))
+    (stepped g.M.Modulus.SIZE (view_of c.self.inside.machine) _ _ _ close (rw (← c.self.view_is) at c.requires) c.of.ensures c.close.ensures.does))
 
 pub invariant_of-self : goal.invariant_of-self
 invariant_of-self g c = (
   rw c.close.ensures.window c.self.invariant.0,
   all_put g.M.Modulus.SIZE c.self.inside.machine (view_of c.close.new.self) table.Close c.args.now.0 c.self.invariant.0
-      (stepped g.M.Modulus.SIZE (view_of c.self.inside.machine) _ _ _ close (rw (← c.self.view_is) at c.requires) c.moment.ensures c.close.ensures.does),
+      (stepped g.M.Modulus.SIZE (view_of c.self.inside.machine) _ _ _ close (rw (← c.self.view_is) at c.requires) c.of.ensures c.close.ensures.does),
 )

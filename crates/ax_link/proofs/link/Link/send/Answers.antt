@@ -14,7 +14,7 @@ returns-clause-does g c =
     (on_ok c.send.result _ _
     (λ is does. within g.M.Modulus.SIZE (view_of c.self.inside.machine) _ (table.Send c.args.payload.now) c.args.now.0
     (small_of c.args.payload.now (subst (λ r. OnOk r (length c.args.payload.now.info.items ≤ 256)) is c.send.ensures.small))
-    (accepts g.M.Modulus.SIZE (view_of c.self.inside.machine) _ _ _ _ (rw (← c.self.view_is) at c.requires) c.moment.ensures (sym c.send.ensures.answer ∙ is) does))
+    (accepts g.M.Modulus.SIZE (view_of c.self.inside.machine) _ _ _ _ (rw (← c.self.view_is) at c.requires) c.of.ensures (sym c.send.ensures.answer ∙ is) does))
     c.send.ensures.does)
 
 pub returns-clause-kept : goal.returns-clause-kept
@@ -23,7 +23,7 @@ returns-clause-kept g c =
     (on_ok c.send.result _ _
     (λ is does. keeps_on g.M.Modulus.SIZE (view_of c.self.inside.machine) _ (table.Send c.args.payload.now) c.args.now.0
     (small_of c.args.payload.now (subst (λ r. OnOk r (length c.args.payload.now.info.items ≤ 256)) is c.send.ensures.small))
-    (accepts g.M.Modulus.SIZE (view_of c.self.inside.machine) _ _ _ _ (rw (← c.self.view_is) at c.requires) c.moment.ensures (sym c.send.ensures.answer ∙ is) does))
+    (accepts g.M.Modulus.SIZE (view_of c.self.inside.machine) _ _ _ _ (rw (← c.self.view_is) at c.requires) c.of.ensures (sym c.send.ensures.answer ∙ is) does))
     c.send.ensures.does)
 
 pub returns-clause-takes : goal.returns-clause-takes
@@ -33,7 +33,7 @@ pub returns-clause-quiet : goal.returns-clause-quiet
 returns-clause-quiet g c =
     on_ok c.send.result _ _
     (λ is does. quiet g.M.Modulus.SIZE c.self.inside.machine (view_of c.send.new.self) (table.Send c.args.payload.now) c.args.now.0 (quiet_send c.args.now.0 c.args.payload.now)
-    (accepts g.M.Modulus.SIZE (view_of c.self.inside.machine) _ _ _ _ (rw (← c.self.view_is) at c.requires) c.moment.ensures (sym c.send.ensures.answer ∙ is) does))
+    (accepts g.M.Modulus.SIZE (view_of c.self.inside.machine) _ _ _ _ (rw (← c.self.view_is) at c.requires) c.of.ensures (sym c.send.ensures.answer ∙ is) does))
     c.send.ensures.does
 
 pub invariant_of-self : goal.invariant_of-self
@@ -42,7 +42,7 @@ invariant_of-self g c = (
   either c.send.result _
       (on_ok c.send.result _ _
       (λ is does. all_put g.M.Modulus.SIZE c.self.inside.machine (view_of c.send.new.self) (table.Send c.args.payload.now) c.args.now.0 c.self.invariant.0
-      (accepts g.M.Modulus.SIZE (view_of c.self.inside.machine) _ _ _ _ (rw (← c.self.view_is) at c.requires) c.moment.ensures (sym c.send.ensures.answer ∙ is) does))
+      (accepts g.M.Modulus.SIZE (view_of c.self.inside.machine) _ _ _ _ (rw (← c.self.view_is) at c.requires) c.of.ensures (sym c.send.ensures.answer ∙ is) does))
       c.send.ensures.does)
       (on_err_then c.send.result _ _
       (λ e. subst (λ (h : LinkView). AllCanBeSent g.M.Modulus.SIZE h.outs) (sym e) c.self.invariant.1)

@@ -7,5 +7,6 @@ pub returns-then-self-below-clause-does : goal.returns-then-self-below-clause-do
 returns-then-self-below-clause-does g c =
     let self = c.args.self.now in
     let within : c.args.below ≤ self.acked + length self.queue.items = omega (arith, self.sent_is_given, c.requires.below) in
-    acknowledges g.M.Modulus.SIZE (view_of self) (view_of c.update_t1.new.self) _ c.args.now c.args.below c.t1_runs-ran.result c.drop_front.new.queue.items
-    c.if-self-below.true within c.t1_runs-ran.ensures (ap (λ ring. ring.items) c.drop_front.ensures) c.update_t1.ensures refl
+    rw c.ms.ensures.value
+    (acknowledges g.M.Modulus.SIZE (view_of self) (view_of c.update_t1.new.self) _ c.args.now c.args.below c.t1_runs-ran.result c.drop_front.new.queue.items
+    c.if-self-below.true within c.t1_runs-ran.ensures (ap (λ ring. ring.items) c.drop_front.ensures) c.update_t1.ensures refl)

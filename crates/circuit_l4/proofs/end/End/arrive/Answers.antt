@@ -10,7 +10,7 @@ use Rattle.circuit_l4.proofs.end.End.arrive.Goals as goal
 pub returns-clause-does : goal.returns-clause-does
 returns-clause-does c =
     rw (← c.self.view_is)
-    (stepped (view_of c.self.inside.machine) c.arrive.new.self _ _ (λ now g. arrive now c.args.transport.now g) (rw (← c.self.view_is) at c.requires) c.moment.ensures c.arrive.ensures.does)
+    (stepped (view_of c.self.inside.machine) c.arrive.new.self _ _ (λ now g. arrive now c.args.transport.now g) (rw (← c.self.view_is) at c.requires) c.of.ensures c.arrive.ensures.does)
 
 pub arrive-requires-clause-outs : goal.arrive-requires-clause-outs
 arrive-requires-clause-outs c = idle (view_of c.self.inside.machine) c.self.inside.machine.outs.items refl (rw (← c.self.view_is) at c.requires)

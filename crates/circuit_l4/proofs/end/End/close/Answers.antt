@@ -9,10 +9,10 @@ use Rattle.circuit_l4.proofs.end.End.close.Goals as goal
 
 pub returns-clause-does : goal.returns-clause-does
 returns-clause-does c =
-    rw (← c.self.view_is) (stepped (view_of c.self.inside.machine) c.close.new.self _ _ close (rw (← c.self.view_is) at c.requires) c.moment.ensures c.close.ensures.does)
+    rw (← c.self.view_is) (stepped (view_of c.self.inside.machine) c.close.new.self _ _ close (rw (← c.self.view_is) at c.requires) c.of.ensures c.close.ensures.does)
 
-pub close-requires-clause-outs : goal.close-requires-clause-outs
-close-requires-clause-outs c = idle (view_of c.self.inside.machine) c.self.inside.machine.outs.items refl (rw (← c.self.view_is) at c.requires)
+pub close-requires : goal.close-requires
+close-requires c = record { outs = idle (view_of c.self.inside.machine) c.self.inside.machine.outs.items refl (rw (← c.self.view_is) at c.requires) }
 
 pub returns-clause-kept : goal.returns-clause-kept
 returns-clause-kept c = keeps_on c.close.new.self

@@ -9,7 +9,7 @@ use Rattle.circuit_l4.proofs.end.End.tick.Goals as goal
 
 pub returns-clause-does : goal.returns-clause-does
 returns-clause-does c =
-    rw (← c.self.view_is) (stepped (view_of c.self.inside.machine) c.tick.new.self _ _ tick (rw (← c.self.view_is) at c.requires) c.moment.ensures c.tick.ensures.does)
+    rw (← c.self.view_is) (stepped (view_of c.self.inside.machine) c.tick.new.self _ _ tick (rw (← c.self.view_is) at c.requires) c.of.ensures c.tick.ensures.does)
 
 pub tick-requires-clause-outs : goal.tick-requires-clause-outs
 tick-requires-clause-outs c = idle (view_of c.self.inside.machine) c.self.inside.machine.outs.items refl (rw (← c.self.view_is) at c.requires)

@@ -10,11 +10,11 @@ pub returns-clause-does : goal.returns-clause-does
 returns-clause-does c =
     rw (← c.self.view_is)
     (on_ok c.write.result _ _
-    (λ is does. accepts (view_of c.self.inside.machine) c.write.new.self _ _ c.args.message.now c.write.result (rw (← c.self.view_is) at c.requires) c.moment.ensures is c.write.ensures.answer does)
+    (λ is does. accepts (view_of c.self.inside.machine) c.write.new.self _ _ c.args.message.now c.write.result (rw (← c.self.view_is) at c.requires) c.of.ensures is c.write.ensures.answer does)
     c.write.ensures.does)
 
-pub write-requires-clause-outs : goal.write-requires-clause-outs
-write-requires-clause-outs c = idle (view_of c.self.inside.machine) c.self.inside.machine.outs.items refl (rw (← c.self.view_is) at c.requires)
+pub write-requires : goal.write-requires
+write-requires c = record { outs = idle (view_of c.self.inside.machine) c.self.inside.machine.outs.items refl (rw (← c.self.view_is) at c.requires) }
 
 pub returns-clause-kept : goal.returns-clause-kept
 returns-clause-kept c = keeps_on c.write.new.self

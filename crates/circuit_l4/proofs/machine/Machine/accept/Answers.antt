@@ -1,10 +1,10 @@
-use Rattle.std.proofs.Common.{◌≡◌, ◌-◌, List}
+use Rattle.std.proofs.Common.{◌≡◌, ◌-◌, ℕ, List, subst, sym}
 use Rattle.circuit_l4.specs.Sending.{written}
 use Rattle.circuit_l4.specs.State.{Out}
 use Rattle.circuit_l4.specs.Table.{write}
 use Rattle.circuit_l4.specs.Halves.{Outbox}
 use Rattle.circuit_l4.specs.Outputs.{outs_of}
-use Rattle.circuit_l4.specs.Standing.{EndView, view_of}
+use Rattle.circuit_l4.specs.Standing.{EndView, KeepsEffect, effect_of, view_of}
 use Rattle.circuit_l4.proofs.Standings.{itself, standing}
 use Rattle.circuit_l4.proofs.Waiting.{same_none}
 use Rattle.circuit_l4.proofs.machine.Machine.accept.Goals as goal
@@ -15,6 +15,8 @@ returns-clause-does c =
     let o : Outbox = c.write.new.self in
     let outs : List Out = outs_of o.queue (o.acked - o.done) c.args.self.now.outs.items in
     let same : k.outs ≡ outs = same_none _ _ _ _ c.args.self.now.outs.items c.requires.outs in
+    let went : ℕ → EndView = λ at. record k { last_active = at; outgoing = o; outs = outs } in
     standing k _ (write c.args.now c.args.message.now) (λ s r a b.
     rw same
-    (c.fill.ensures.does _ (itself (record k { last_active = c.args.now; outgoing = o; outs = outs }) (written c.args.message.now s) r (c.write.ensures.does s a) b)))
+    (c.fill.ensures.does _ (subst (λ at. KeepsEffect (went at) (effect_of (went c.args.now) (written c.args.message.now s) r)) (sym c.ms-self.ensures.value)
+    (itself (went c.args.now) (written c.args.message.now s) r (c.write.ensures.does s a) b))))

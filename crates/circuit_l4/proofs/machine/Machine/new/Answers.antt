@@ -7,7 +7,7 @@ use Rattle.circuit_l4.proofs.machine.Machine.new.Goals as goal
 pub returns-clause-opening : goal.returns-clause-opening
 returns-clause-opening c =
     let first : Effect = begin (new c.args.beginning c.args.config c.args.now) in
-    rw (c.in_ok-outgoing.ensures, c.in_ok-incoming.ensures.value, c.in_ok-outs.ensures)
+    rw (c.ms.ensures.value, c.in_ok-outgoing.ensures, c.in_ok-incoming.ensures.value, c.in_ok-outs.ensures)
     (record {
       written = unwritten;
       came = unheard c.args.config.window;
