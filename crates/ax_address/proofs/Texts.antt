@@ -10,9 +10,10 @@ use Rattle.std.proofs.lemmas.Bool.Decides.{nat_tests}
 use Rattle.ax_address.specs.declared.call.CallRefusal.{CallRefusal}
 use Rattle.ax_address.specs.declared.call.CallRefusal.TheVariants.{Empty, TooLong}
 use Rattle.ax_address.specs.Callsign.{Callsign, IsCallsign, IsCallChar, is_call_char, name_in, padded, suffix, shown}
-use Rattle.ax_address.specs.CallReading.{◌>>=◌, IsTextOf, ReadsCallTexts, name_end, fits_six, name_at, ssid_at, suffix_of, call_at}
+use Rattle.ax_address.specs.CallReading.{IsTextOf, ReadsCallTexts, name_end, fits_six, name_at, ssid_at, suffix_of, call_at}
 use Rattle.ax_address.proofs.Names.{name_in-padded, padded_is_call, no_bad}
 use Rattle.ax_address.proofs.Suffixes.{decimal_units, ssid_of_takes, ssid_of-decimal}
+use Rattle.ax_address.specs.Results.{◌>>=◌}
 
 pub bind_ok : {A B : Type 0} (r : Result A CallRefusal) (f : A → Result B CallRefusal) (y : B) → (r >>= f) ≡ Ok y → (x : A) × (r ≡ Ok x) × (f x ≡ Ok y)
 bind_ok (Ok x) f y e = (x, refl, e)

@@ -3,13 +3,14 @@ use Rattle.std.proofs.Common.{◌≡◌, ◌≤◌, ◌<◌, ◌+◌, ◌-◌, �
 use Rattle.std.specs.Prelude.{◌||◌, Option, Some, None, Result, Ok, Err, is_some, slice_get, nat_le}
 use Rattle.std.proofs.lemmas.List.{append_assoc, take-append-drop, drop-drop, drop_all, length-drop, get_or-drop}
 use Rattle.std.proofs.lemmas.Bool.Decides.{nat_tests}
+use Rattle.ax_address.specs.Results.{◌>>=◌}
 use Rattle.ax_frame.specs.declared.control.Control.{Control}
 use Rattle.ax_frame.specs.declared.control.Control.TheVariants.{Frmr, Xid, Test}
 use Rattle.ax_frame.specs.declared.head.Head.{Head}
 use Rattle.ax_frame.specs.declared.frame.FrameRefusal.{FrameRefusal}
 use Rattle.ax_frame.specs.declared.frame.FrameRefusal.TheVariants.{ExtraInfo}
 use Rattle.ax_frame.specs.Controls.{IsLinkModulus, control_octets, has_pid, takes_info}
-use Rattle.ax_frame.specs.Reading.{◌>>=◌, head_end, control_or_short, control_at, pid_or_none, pid_at, frame_at}
+use Rattle.ax_frame.specs.Reading.{head_end, control_or_short, control_at, pid_or_none, pid_at, frame_at}
 use Rattle.ax_frame.specs.Frames.{frame, addresses, addresses_octets, pid_octets, BeginsWith, Spells}
 use Rattle.ax_frame.proofs.Words.{bind_ok, get_at_drop, IsBytes}
 use Rattle.ax_frame.proofs.Fields.{TakesField, control_takes}

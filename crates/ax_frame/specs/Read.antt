@@ -3,10 +3,11 @@
 use Rattle.std.specs.Prelude.{ℕ, zero, suc, ◌-◌, ◌/◌, ◌≡◌, ◌++◌, List, [], ◌∷◌, length, take, drop, Result, Ok}
 use Rattle.ax_address.specs.declared.address.Address.{Address}
 use Rattle.ax_address.specs.Octets.{address_in}
+use Rattle.ax_address.specs.Results.{◌>>=◌}
 use Rattle.ax_frame.specs.declared.head.Head.{Head}
 use Rattle.ax_frame.specs.declared.frame.FrameRefusal.{FrameRefusal}
 use Rattle.ax_frame.specs.Controls.{IsLinkModulus}
-use Rattle.ax_frame.specs.Reading.{◌>>=◌, head_end, frame_at}
+use Rattle.ax_frame.specs.Reading.{head_end, frame_at}
 use Rattle.ax_frame.specs.Frames.{Frame, frame, Spells, SpellsHead}
 
 -- so many addresses, of seven octets each

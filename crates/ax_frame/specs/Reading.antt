@@ -5,6 +5,7 @@ use Rattle.std.specs.List.{find}
 use Rattle.std.specs.Result.{result_err}
 use Rattle.ax_address.specs.declared.octets.AddressRefusal.{AddressRefusal}
 use Rattle.ax_address.specs.Octets.{address_fault, place_of}
+use Rattle.ax_address.specs.Results.{◌>>=◌}
 use Rattle.ax_frame.specs.declared.control.Control.{Control}
 use Rattle.ax_frame.specs.declared.control.Control.TheVariants.{I, Rr, Rnr, Rej, Srej, Sabm, Sabme, Disc, Dm, Ua, Frmr, Ui, Xid, Test}
 use Rattle.ax_frame.specs.declared.control.Format.{Format}
@@ -12,11 +13,6 @@ use Rattle.ax_frame.specs.declared.control.Format.TheVariants.{Information, Supe
 use Rattle.ax_frame.specs.declared.frame.FrameRefusal.{FrameRefusal}
 use Rattle.ax_frame.specs.declared.frame.FrameRefusal.TheVariants.{Short, BadCall, TooManyRepeaters, BadControl, NoPid, ExtraInfo}
 use Rattle.ax_frame.specs.Controls.{format_of, has_pid, takes_info}
-
-infixl 10 ◌>>=◌
-abbrev pub ◌>>=◌ : {A B : Type 0} → Result A FrameRefusal → (A → Result B FrameRefusal) → Result B FrameRefusal
-(Ok x) >>= f = f x
-(Err e) >>= f = Err e
 
 -- ---- the addresses
 

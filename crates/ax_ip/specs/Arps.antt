@@ -5,6 +5,7 @@ use Rattle.ax_address.specs.Callsign.{Callsign, IsCallsign}
 use Rattle.ax_address.specs.NetCalls.{SpellsNetCall, net_call_at, net_call_octets}
 use Rattle.ax_address.specs.Octets.{place_of}
 use Rattle.ax_address.specs.declared.octets.AddressRefusal.{AddressRefusal}
+use Rattle.ax_address.specs.Results.{◌>>=◌}
 pub use Rattle.ax_ip.specs.declared.arp.Arp.{Arp}
 use Rattle.ax_ip.specs.declared.arp.ArpRefusal.{ArpRefusal}
 use Rattle.ax_ip.specs.declared.arp.ArpRefusal.TheVariants.{Short, NotAx25, BadOp, BadCall}
@@ -37,11 +38,6 @@ pub record SpellsArp (a : Arp) (octets : List ℕ) : Type 0 where
   pub sender_ip : long octets 15 ≡ a.sender_ip
   pub target : SpellsTarget a.reply a.target (take 7 (drop 19 octets))
   pub target_ip : long octets 26 ≡ a.target_ip
-
-infixl 10 ◌>>=◌
-abbrev pub ◌>>=◌ : {A B : Type 0} → Result A ArpRefusal → (A → Result B ArpRefusal) → Result B ArpRefusal
-(Ok x) >>= f = f x
-(Err e) >>= f = Err e
 
 abbrev pub is_ax25 : List ℕ → Bool
 is_ax25 octets = (word octets 0 == 3) && (word octets 2 == 0xCC) && (octet octets 4 == 7) && (octet octets 5 == 4)

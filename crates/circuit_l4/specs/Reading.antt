@@ -4,16 +4,12 @@ use Rattle.ax_address.specs.Callsign.{Callsign}
 use Rattle.ax_address.specs.NetCalls.{net_call_at}
 use Rattle.ax_address.specs.Octets.{address_fault, place_of}
 use Rattle.ax_address.specs.declared.octets.AddressRefusal.{AddressRefusal}
+use Rattle.ax_address.specs.Results.{◌>>=◌}
 use Rattle.circuit_l4.specs.declared.transport.Transport.{Transport}
 use Rattle.circuit_l4.specs.declared.transport.Transport.TheVariants.{Request, Accept, Refuse, Disconnect, Disconnected, Info, InfoAck}
 use Rattle.circuit_l4.specs.declared.transport.TransportRefusal.{TransportRefusal}
 use Rattle.circuit_l4.specs.declared.transport.TransportRefusal.TheVariants.{Short, BadOpcode, BadCall, TooLong}
 use Rattle.circuit_l4.specs.Transports.{pair_at, opcode, choke, flags_in}
-
-infixl 10 ◌>>=◌
-abbrev pub ◌>>=◌ : {A B : Type 0} → Result A TransportRefusal → (A → Result B TransportRefusal) → Result B TransportRefusal
-(Ok x) >>= f = f x
-(Err e) >>= f = Err e
 
 abbrev pub octet_at : ℕ → List ℕ → Result ℕ TransportRefusal
 octet_at at octets = if nat_le (length octets) at then Err (Short (length octets)) else Ok (slice_index octets at)

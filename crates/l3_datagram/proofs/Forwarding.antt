@@ -5,12 +5,13 @@ use Rattle.std.proofs.lemmas.List.{length-set, get_or-set_same}
 use Rattle.std.proofs.lemmas.Bool.{leb-false, ltb-false}
 use Rattle.ax_address.specs.Callsign.{Callsign}
 use Rattle.ax_address.specs.CallOrder.{same_call}
+use Rattle.ax_address.specs.Results.{◌>>=◌}
 use Rattle.l3_datagram.specs.declared.datagram.DatagramHead.{DatagramHead}
 use Rattle.l3_datagram.specs.declared.datagram.DatagramRefusal.{DatagramRefusal}
 use Rattle.l3_datagram.specs.declared.datagram.DatagramRefusal.TheVariants.{Short, TooLong}
 use Rattle.l3_datagram.specs.declared.routed.Routed.TheVariants.{Mine, Expired, Returned}
 use Rattle.l3_datagram.specs.CarrierCall.{Datagram}
-use Rattle.l3_datagram.specs.Datagrams.{◌>>=◌, head_at, call_from}
+use Rattle.l3_datagram.specs.Datagrams.{head_at, call_from}
 use Rattle.l3_datagram.specs.Hops.{Ends, GoesOn, onward, way_of, with_ttl}
 use Rattle.l3_datagram.specs.Onward.{IsOneHopOn, GoesOneHopOn}
 

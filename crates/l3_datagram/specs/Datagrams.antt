@@ -5,6 +5,7 @@ use Rattle.ax_address.specs.Callsign.{Callsign, IsCallsign}
 use Rattle.ax_address.specs.Octets.{place_of}
 use Rattle.ax_address.specs.NetCalls.{SpellsNetCall, net_call_at, net_call_octets}
 use Rattle.ax_address.specs.declared.octets.AddressRefusal.{AddressRefusal}
+use Rattle.ax_address.specs.Results.{◌>>=◌}
 use Rattle.l3_datagram.specs.declared.datagram.DatagramHead.{DatagramHead}
 use Rattle.l3_datagram.specs.declared.datagram.DatagramRefusal.{DatagramRefusal}
 use Rattle.l3_datagram.specs.declared.datagram.DatagramRefusal.TheVariants.{Short, TooLong, BadCall}
@@ -18,11 +19,6 @@ pub record SpellsDatagram (head : DatagramHead) (transport octets : List ℕ) : 
   pub to : SpellsNetCall head.dest dest
   pub spelled : octets ≡ origin ++ dest ++ head.ttl ∷ transport
   pub fits : length octets ≤ 256
-
-infixl 10 ◌>>=◌
-abbrev pub ◌>>=◌ : {A B : Type 0} → Result A DatagramRefusal → (A → Result B DatagramRefusal) → Result B DatagramRefusal
-(Ok x) >>= f = f x
-(Err e) >>= f = Err e
 
 -- First the length is judged: the octets end before the transport, or there are too many.
 abbrev pub sized : List ℕ → Result (List ℕ) DatagramRefusal

@@ -13,11 +13,7 @@ use Rattle.link_life.specs.declared.act.LifeAct.TheVariants.{At, Tick}
 use Rattle.text_lines.specs.Lines.{is_text}
 use Rattle.text_lines.specs.Numbers.{number_of}
 use Rattle.text_lines.specs.Words.{after_space, past_word, words_of}
-
-infixl 10 ◌>>=◌
-abbrev pub ◌>>=◌ : {A B : Type 0} → Result A LifeWhat → (A → Result B LifeWhat) → Result B LifeWhat
-(Ok x) >>= f = f x
-(Err e) >>= f = Err e
+use Rattle.ax_address.specs.Results.{◌>>=◌}
 
 -- what is wrong where the test fails
 abbrev pub needs : Bool → LifeWhat → Result (Unit {0}) LifeWhat

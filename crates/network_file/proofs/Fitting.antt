@@ -8,6 +8,7 @@ use Rattle.ax_address.specs.CallReading as calls
 use Rattle.ax_address.specs.CallReading.{ReadsCallTexts}
 use Rattle.ax_address.specs.Callsign.{Callsign}
 use Rattle.ax_address.specs.declared.call.CallRefusal.{CallRefusal}
+use Rattle.ax_address.specs.Results.{◌>>=◌}
 use Rattle.network_file.specs.declared.network.NumberedInstruction.{NumberedInstruction}
 use Rattle.network_file.specs.declared.lines.Line.{Line}
 use Rattle.network_file.specs.declared.lines.Line.TheVariants as said
@@ -28,7 +29,7 @@ use Rattle.network_file.specs.Lines.Nodes.{linkfail_line, node_alone, node_and_c
 use Rattle.network_file.proofs.Declared.{more_calls, more_different}
 use Rattle.network_file.proofs.Ranges.{ranged}
 use Rattle.network_file.specs.Networks.{Bad, after_line, after_lines, and_then, network_of, nothing, with_line, with_said}
-use Rattle.network_file.specs.Places.{◌>>=◌, alias_at, call_at, has_call, has_node, known, needs, new_call_at, new_node_at, new_peer_at, node_at, number_at, value_at}
+use Rattle.network_file.specs.Places.{alias_at, call_at, has_call, has_node, known, needs, new_call_at, new_node_at, new_peer_at, node_at, number_at, value_at}
 use Rattle.network_file.specs.Settings.{set_to}
 use Rattle.network_file.specs.Plan.{Plan, is_untouched, may_declare, version_of}
 use Rattle.text_lines.specs.Lines.{is_skipped, is_text}

@@ -12,7 +12,8 @@ use Rattle.network_file.specs.declared.lines.Line.{Line}
 use Rattle.network_file.specs.Plan.{Plan, version_of, is_untouched, may_declare}
 use Rattle.text_lines.specs.Lines.{is_text}
 use Rattle.text_lines.specs.Words.{words_of}
-use Rattle.network_file.specs.Places.{◌>>=◌, needs}
+use Rattle.ax_address.specs.Results.{◌>>=◌}
+use Rattle.network_file.specs.Places.{needs}
 use Rattle.network_file.specs.Lines.Declaring.{version_line, node_line, channel_line, set_line, via_line}
 use Rattle.network_file.specs.Lines.Heard.{heard_line}
 use Rattle.network_file.specs.Lines.Nodes.{lock_line, round_line, linkfail_line, show_line, tick_line, restart_line}

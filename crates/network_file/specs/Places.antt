@@ -6,17 +6,13 @@ use Rattle.ax_address.specs.CallOrder.{same_call}
 use Rattle.ax_address.specs.CallReading as calls
 use Rattle.ax_address.specs.Alias as aliases
 use Rattle.ax_address.specs.declared.alias.Alias.{Alias}
+use Rattle.ax_address.specs.Results.{◌>>=◌}
 use Rattle.network_file.specs.declared.reasons.What.{What}
 use Rattle.network_file.specs.declared.reasons.What.TheVariants as whats
 use Rattle.network_file.specs.declared.plan.declarations.Declaration.{Declaration}
 use Rattle.network_file.specs.declared.plan.vias.Via.{Via}
 use Rattle.network_file.specs.Vias.{has_via, via_count}
 use Rattle.text_lines.specs.Numbers.{is_number, number_of}
-
-infixl 10 ◌>>=◌
-abbrev pub ◌>>=◌ : {A B : Type 0} → Result A What → (A → Result B What) → Result B What
-(Ok x) >>= f = f x
-(Err e) >>= f = Err e
 
 -- what is wrong where the test fails
 abbrev pub needs : Bool → What → Result (Unit {0}) What

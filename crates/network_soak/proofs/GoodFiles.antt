@@ -7,6 +7,7 @@ use Rattle.std.specs.Str.Lines.{lines, lines_of_parts}
 use Rattle.std.proofs.lemmas.List.Splits.{length-slice_split}
 use Rattle.std.proofs.lemmas.Fmt.{length-decimal-le}
 use Rattle.ax_address.specs.CallReading.{call_at}
+use Rattle.ax_address.specs.Results.{◌>>=◌}
 use Rattle.network_file.specs.declared.lines.Line.TheVariants as line
 use Rattle.network_file.specs.declared.network.NumberedInstruction.{NumberedInstruction}
 use Rattle.network_file.specs.declared.plan.instructions.Instruction.{Instruction}
@@ -15,7 +16,7 @@ use Rattle.network_file.specs.Keys.{key_at}
 use Rattle.network_file.specs.Networks.{after_lines, network_of, nothing, Bad}
 use Rattle.network_file.specs.Plan.{Plan}
 use Rattle.network_file.specs.declared.reasons.What.TheVariants as whats
-use Rattle.network_file.specs.Places.{◌>>=◌, needs, node_at, new_node_at, new_call_at, value_at}
+use Rattle.network_file.specs.Places.{needs, node_at, new_node_at, new_call_at, value_at}
 use Rattle.network_file.specs.Lines.{line_at, line_of}
 use Rattle.network_file.specs.Lines.Circuits.{open_line, end_at, say_at, close_line}
 use Rattle.network_file.specs.Lines.Declaring.{declaration_at, channel_line, setting_at}

@@ -5,6 +5,7 @@ use Rattle.std.specs.List.{AllByRecursion, find}
 use Rattle.std.proofs.lemmas.Bool.Decides.{nat_tests}
 use Rattle.radio_base.specs.declared.payload.Payload.{Payload}
 use Rattle.ax_address.specs.Callsign.{Callsign}
+use Rattle.ax_address.specs.Results.{◌>>=◌}
 use Rattle.ax_frame.specs.declared.control.Control.{Control}
 use Rattle.ax_frame.specs.declared.control.Control.TheVariants as control
 use Rattle.ax_frame.specs.declared.frame.FrameRefusal.{FrameRefusal}
@@ -12,7 +13,7 @@ use Rattle.ax_frame.specs.declared.head.Head.{Head}
 use Rattle.ax_frame.specs.Controls.{IsLinkModulus, NumbersFit, control_octets, format_of}
 use Rattle.ax_frame.specs.Frames.{Frame, HeadWithoutFault, IsAddress, addresses, addresses_octets, frame, frame_octets, pid_octets, Spells}
 use Rattle.ax_frame.specs.Read.{SpelledHeadIsRead, SpelledIsRead, head_in, read_at, read_head_at}
-use Rattle.ax_frame.specs.Reading.{◌>>=◌, control_at, control_from, control_or_short, field_end, frame_at, has_code, head_end, numbered, pid_at, poll_bit, supervisory, unnumbered}
+use Rattle.ax_frame.specs.Reading.{control_at, control_from, control_or_short, field_end, frame_at, has_code, head_end, numbered, pid_at, poll_bit, supervisory, unnumbered}
 use Rattle.ax_link.specs.Kinds.{payload_of}
 use Rattle.link_table.specs.Calls.{set_up_size}
 use Rattle.link_table.specs.Frames.{is_numbered}

@@ -5,14 +5,10 @@ use Rattle.ax_address.specs.NetCalls.{net_call_at}
 use Rattle.ax_address.specs.Octets.{place_of}
 use Rattle.ax_address.specs.declared.octets.AddressRefusal.{AddressRefusal}
 use Rattle.ax_address.specs.declared.Entry.{Entry}
+use Rattle.ax_address.specs.Results.{◌>>=◌}
 use Rattle.nodes_broadcast.specs.declared.nodes.NodesRefusal.{NodesRefusal}
 use Rattle.nodes_broadcast.specs.declared.nodes.NodesRefusal.TheVariants.{NotNodes, BadLength, TooMany, BadCall}
 use Rattle.nodes_broadcast.specs.Nodes.{Broadcast}
-
-infixl 10 ◌>>=◌
-abbrev pub ◌>>=◌ : {A B : Type 0} → Result A NodesRefusal → (A → Result B NodesRefusal) → Result B NodesRefusal
-(Ok x) >>= f = f x
-(Err e) >>= f = Err e
 
 abbrev pub is_nodes : List ℕ → Bool
 is_nodes [] = false

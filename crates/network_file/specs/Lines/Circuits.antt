@@ -6,9 +6,10 @@ use Rattle.network_file.specs.declared.lines.Line.{Line}
 use Rattle.network_file.specs.declared.lines.Line.TheVariants as lines
 use Rattle.network_file.specs.declared.plan.instructions.Instruction.TheVariants.{Open, Say, Burst, Take, Close}
 use Rattle.network_file.specs.Plan.{Plan}
-use Rattle.network_file.specs.Places.{◌>>=◌, known, number_at, nth_at, node_at}
+use Rattle.network_file.specs.Places.{known, number_at, nth_at, node_at}
 use Rattle.network_file.specs.Lines.Nodes.{node_and_call}
 use Rattle.text_lines.specs.Words.{after_space, past_word}
+use Rattle.ax_address.specs.Results.{◌>>=◌}
 
 -- open N DEST
 unfoldable pub open_line : Plan → List (List ℕ) → Result Line What

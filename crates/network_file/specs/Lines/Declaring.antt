@@ -1,6 +1,7 @@
 -- Lines that declare: what each says, one word after another. Own profile.
 use Rattle.std.specs.Prelude.{ℕ, List, [], ◌∷◌, ◌++◌, length, Result, Ok, Err, Bool, ◌&&◌, not, nat_le, is_none}
 use Rattle.ax_address.specs.Callsign.{Callsign}
+use Rattle.ax_address.specs.Results.{◌>>=◌}
 use Rattle.network_file.specs.declared.reasons.What.{What}
 use Rattle.network_file.specs.declared.reasons.What.TheVariants as whats
 use Rattle.network_file.specs.declared.lines.Line.{Line}
@@ -10,7 +11,7 @@ use Rattle.network_file.specs.Channels.{has_member}
 use Rattle.network_file.specs.Plan.{Plan, version_of}
 use Rattle.network_file.specs.Keys.{key_at, least_of, most_of, takes}
 use Rattle.network_file.specs.Settings.{set_to}
-use Rattle.network_file.specs.Places.{◌>>=◌, needs, value_at, node_at, new_node_at, call_at, new_call_at, new_peer_at, alias_at}
+use Rattle.network_file.specs.Places.{needs, value_at, node_at, new_node_at, call_at, new_call_at, new_peer_at, alias_at}
 
 -- version V
 unfoldable pub version_at : List ℕ → Result Line What

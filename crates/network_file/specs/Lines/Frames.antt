@@ -1,12 +1,13 @@
 -- Lines that move frames. Own profile.
 use Rattle.std.specs.Prelude.{ℕ, List, [], ◌∷◌, Result, Ok, Err}
+use Rattle.ax_address.specs.Results.{◌>>=◌}
 use Rattle.network_file.specs.declared.reasons.What.{What}
 use Rattle.network_file.specs.declared.reasons.What.TheVariants as whats
 use Rattle.network_file.specs.declared.lines.Line.{Line}
 use Rattle.network_file.specs.declared.lines.Line.TheVariants as lines
 use Rattle.network_file.specs.declared.plan.instructions.Instruction.TheVariants.{Deliver, Again, Lose, Flow, Cut}
 use Rattle.network_file.specs.Plan.{Plan}
-use Rattle.network_file.specs.Places.{◌>>=◌, number_at, nth_at, node_at}
+use Rattle.network_file.specs.Places.{number_at, nth_at, node_at}
 
 abbrev pub frame_alone : List (List ℕ) → Result ℕ What
 frame_alone (word ∷ []) = nth_at word

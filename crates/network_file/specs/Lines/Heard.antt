@@ -1,13 +1,14 @@
 -- The line `heard`. Own profile.
 use Rattle.std.specs.Prelude.{ℕ, ◌%◌, List, [], ◌∷◌, length, Result, Ok, Err, Bool, ◌&&◌, ◌==◌, nat_le}
 use Rattle.ax_address.specs.declared.Entry.{Entry}
+use Rattle.ax_address.specs.Results.{◌>>=◌}
 use Rattle.network_file.specs.declared.reasons.What.{What}
 use Rattle.network_file.specs.declared.reasons.What.TheVariants as whats
 use Rattle.network_file.specs.declared.lines.Line.{Line}
 use Rattle.network_file.specs.declared.lines.Line.TheVariants as lines
 use Rattle.network_file.specs.declared.plan.instructions.Instruction.TheVariants.{Heard}
 use Rattle.network_file.specs.Plan.{Plan}
-use Rattle.network_file.specs.Places.{◌>>=◌, needs, number_at, node_at, call_at, alias_at}
+use Rattle.network_file.specs.Places.{needs, number_at, node_at, call_at, alias_at}
 
 -- DEST ALIAS BEST QUALITY
 unfoldable pub entry_at : List ℕ → List ℕ → List ℕ → List ℕ → Result Entry What

@@ -1,13 +1,14 @@
 -- Lines that speak of a node, or of time. Own profile.
 use Rattle.std.specs.Prelude.{ℕ, List, [], ◌∷◌, Result, Ok, Err}
 use Rattle.ax_address.specs.Callsign.{Callsign}
+use Rattle.ax_address.specs.Results.{◌>>=◌}
 use Rattle.network_file.specs.declared.reasons.What.{What}
 use Rattle.network_file.specs.declared.reasons.What.TheVariants as whats
 use Rattle.network_file.specs.declared.lines.Line.{Line}
 use Rattle.network_file.specs.declared.lines.Line.TheVariants as lines
 use Rattle.network_file.specs.declared.plan.instructions.Instruction.TheVariants.{Lock, Round, LinkFail, Show, Tick, Restart}
 use Rattle.network_file.specs.Plan.{Plan}
-use Rattle.network_file.specs.Places.{◌>>=◌, number_at, node_at, call_at, alias_at}
+use Rattle.network_file.specs.Places.{number_at, node_at, call_at, alias_at}
 
 -- lock N DEST ALIAS NEIGHBOUR QUALITY
 unfoldable pub lock_at : Plan → List ℕ → List ℕ → List ℕ → List ℕ → List ℕ → Result Line What

@@ -1,0 +1,7 @@
+-- What is judged step by step: a step is taken where the one before it found nothing wrong, and what is wrong first is the answer.
+use Rattle.std.specs.Prelude.{Result, Ok, Err}
+
+infixl 10 ◌>>=◌
+abbrev pub ◌>>=◌ : {E A B : Type 0} → Result A E → (A → Result B E) → Result B E
+(Ok x) >>= f = f x
+(Err e) >>= f = Err e
