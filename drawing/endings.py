@@ -30,13 +30,19 @@ def end_rows(ends, chars):
         yield f"and {len(ends) - 6} more", "m", None
 
 
+def mail_rows(run, n):
+    if n in run.mail:
+        queued, stored = run.mail[n]
+        yield f"mail: {queued} queued, {stored} stored", "b", None
+
+
 def box_rows(run, p, chars):
     """The rows of each node's box, in the order of the lanes."""
     over = all(len(f"{r[0]} over {r[2]} {r[3]}") <= chars for rows in run.tables.values() for r in rows)
     for n in p.order:
         call, alias = run.nodes[n]
         name = [(f"{n} {call} {alias}", "b", None)] if p.narrow else []
-        yield n, [*name, *route_rows(run.tables[n], over), *end_rows(run.ends[n], chars)]
+        yield n, [*name, *route_rows(run.tables[n], over), *end_rows(run.ends[n], chars), *mail_rows(run, n)]
 
 
 def final(run, p, out):

@@ -101,6 +101,26 @@ def restarts(run, s, beat, w):
     beat.marks.append((w["node"], "restart", w))
 
 
+def posts(run, s, beat, w):
+    said, (to, dest) = f"posts mail {w['mail']}", s.args[1:3]
+    beat.add(w["node"], Item("do", [f"{said} for {to} at {dest}", f"{said} for {to}", said], title=cut_to(s.text, 300)))
+
+
+def offers(run, s, beat, w):
+    beat.add(w["node"], Item("do", [f"offers mail {w['mail']} on {w['end']}", f"offers mail {w['mail']}"],
+                             title=f"mail {w['mail']} is written at circuit end {w['end']}"))
+
+
+def stores(run, s, beat, w):
+    said = f"stores mail {w['mail']} of {w['origin']}"
+    beat.add(w["node"], Item("got", [said, f"stores mail {w['mail']}"], strong=True,
+                             title=f"{said} for {w['to']}, {plural(w['bytes'], 'byte')}"))
+
+
+def settles(run, s, beat, w):
+    beat.add(w["node"], Item("got", f"mail {w['mail']} is done", strong=True, title=f"mail {w['mail']} is stored where it was to go"))
+
+
 def makes(run, s, beat, w):
     beat.marks.append((w["node"], "made", w))
 
@@ -108,6 +128,7 @@ def makes(run, s, beat, w):
 TELLS = {
     "frame": sends, "lost_frame": loses_frame, "notice": gives_notice, "link": tells_link, "refused": refuses, "took": takes,
     "wrote": writes, "shown": shows, "restarted": restarts, "made": makes,
+    "posted": posts, "offered": offers, "stored": stores, "settled": settles,
     "overflow": fails(lambda w: f"table full {w['live']}/{w['would_be']}"),
     "dropped": fails(lambda w: f"dropped: {w['why']}"),
     "lost_neighbour": fails(lambda w: [f"routes over {w['neighbour']} end", f"no routes by {w['neighbour']}"]),

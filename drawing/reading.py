@@ -19,6 +19,7 @@ class Run:
         self.steps = []                 # (line, kind, words behind it)
         self.frames, self.events = [None], []
         self.tables, self.ends, self.partners = {}, {}, {}
+        self.mail = {}                  # of each node that keeps mail: how many are queued, and how many stored
         self.verdict, self.late = "", None
         # what the drawing adds
         self.link, self.overheard, self.page, self.order = "", True, False, None
@@ -116,6 +117,10 @@ def add_end(run, kind, told):
     run.ends[told["node"]].append((told["end"], told["partner"], phase, told["wrote"], told["received"], told["acked"]))
 
 
+def add_mail(run, kind, told):
+    run.mail[told["node"]] = (told["queued"], told["stored"])
+
+
 def add_verdict(run, kind, told):
     run.verdict = f"verdict late {told['line']} {told['why']}" if told["late"] else "verdict done"
     if told["late"]:
@@ -138,4 +143,4 @@ def add_cause(run, kind, told):
 
 HEADS = {"network": add_network, "node": add_node, "channel": add_channel, "setting": add_setting,
          "path": add_path, "line": add_line, "table": add_table, "route": add_route, "end": add_end,
-         "verdict": add_verdict, "cause": add_cause}
+         "mail": add_mail, "verdict": add_verdict, "cause": add_cause}

@@ -11,6 +11,9 @@ def report_lines(run):
         out += table_lines(run, n, run.tables[n])
         out += [f"end {n} {x} {partner} {phase} wrote={wrote} received={received} acked={acked}"
                 for x, partner, phase, wrote, received, acked in run.ends[n]]
+        if n in run.mail:
+            queued, stored = run.mail[n]
+            out.append(f"mail {n} queued={queued} stored={stored}")
     return out + [run.verdict]
 
 
@@ -35,4 +38,7 @@ EVENTS = {
     "wrote": lambda run, line, w: [f"wrote {w['node']} {w['end']} {w['messages']}"],
     "restarted": lambda run, line, w: [f"restarted {w['node']}"],
     "refused": lambda run, line, w: [f"refused {line} {w['why']}"],
+    "posted": lambda run, line, w: [f"posted {w['node']} {w['mail']}"],
+    "stored": lambda run, line, w: [f"stored {w['node']} {w['origin']} {w['mail']} {w['to']} {w['bytes']}"],
+    "settled": lambda run, line, w: [f"done {w['node']} {w['mail']}"],
 }

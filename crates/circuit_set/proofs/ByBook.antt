@@ -2,14 +2,14 @@
 use Rattle.std.specs.Prelude.{◌≡◌, ℕ, suc, ◌+◌, ◌-◌, ◌*◌, ◌<◌, Bool, true, false, if◌then◌else◌, List, [], ◌∷◌, ◌++◌, length, Contains, Option, Some, None, refl}
 use Rattle.std.proofs.Common.{sym, ◌∙◌, ap, subst, inl, inr, arith, append_assoc, length-append}
 use Rattle.circuit_l4.specs.declared.transport.Pair.{Pair}
-use Rattle.circuit_set.specs.Books.{Book, Fresh, FreshTold, HasRequester, MadeNote, NoOther, SentNote, Timely, TimelyTo, TimelyTold, any_ends, empty, is_lost, latest_in, overtakers, partner, partner_in, was_asked}
+use Rattle.circuit_set.specs.Books.{Book, Fresh, FreshTold, HasRequester, MadeNote, NoOther, SentNote, Timely, TimelyTo, TimelyTold, any_ends, empty, is_lost, is_unknown, latest_in, overtakers, partner, partner_in, was_asked}
 use Rattle.circuit_set.specs.Events.{Event, Name}
 use Rattle.circuit_set.specs.NotedRuns.{allowance, allowed, opened_window, partner_allowance, told_to}
-use Rattle.circuit_set.specs.ByBook.{FreshByBook, TimelyBy128, TimelyByBook}
+use Rattle.circuit_set.specs.ByBook.{FreshByBook, PartnersByBook, TimelyBy128, TimelyByBook}
 use Rattle.circuit_set.specs.Sets.{Told, Made, Sent, Heeded, Notice, Gone, Restarted, Lost}
 use Rattle.circuit_set.specs.TooLate.{Allowing, AllowsByWindow, Gives, InTime, IsFresh, IsNew, IsOpen, IsTimely, OpenedWith, Tells, allows_fixed}
 use Rattle.circuit_set.proofs.Among.{by_snoc, none_split, snoc_split}
-use Rattle.circuit_set.proofs.Joined.{asked_marks, asks, has_none, is_free, partner_looks, requested, requests}
+use Rattle.circuit_set.proofs.Joined.{asked_marks, asks, has_none, is_free, partner_looks, requested, requests, unknown_none}
 use Rattle.circuit_set.proofs.Noted.{book, finds, found, fresh_less, fresh_one, lost_by, marked, marks, not_both, not_true, timely_less, timely_one}
 use Rattle.circuit_set.proofs.Notes.{MadeAt, NoteNow, contained, in_notes, made_at, note_now}
 use Rattle.circuit_set.proofs.Opened.{end_told, opened_with, opens_with, told_end}
@@ -236,3 +236,10 @@ timely_by_book events fresh = (timely_events allowed AllowsByWindow window_agree
 
 pub timely_by_128 : TimelyBy128
 timely_by_128 events fresh = (timely_events (λ b x. 128) allows_fixed fixed_agrees events fresh, events_timely (λ b x. 128) allows_fixed fixed_agrees events fresh)
+
+-- ---- partners ----
+pub partners_by_book : PartnersByBook
+partners_by_book events fresh x = (
+  λ y. (finds (partner_looks x) events fresh y, found (partner_looks x) events fresh y),
+  (λ e. has_none events fresh x (ap is_unknown e), λ none. unknown_none (partner_in (book events).made x) (is_free events fresh x none)),
+)

@@ -176,7 +176,7 @@ partner_looks x = record {
   same = λ a b es e fresh p q. one_joined es (fresh_less es e fresh).0 e x a b p q;
 }
 
-unknown_none : (o : Option Name) → is_unknown o ≡ true → o ≡ None
+pub unknown_none : (o : Option Name) → is_unknown o ≡ true → o ≡ None
 unknown_none None h = refl
 unknown_none (Some x) h = absurd (cc h)
 

@@ -83,6 +83,7 @@ pub mod Kept
 pub mod Refusals
 pub mod Facing
 pub mod Writings
+pub mod Staying
 pub mod Among
 pub mod Noted
 pub mod Sought

@@ -5,7 +5,7 @@ use Rattle.ax_address.specs.Callsign.{Callsign}
 use Rattle.circuit_l4.specs.declared.notice.EndNotice.{EndNotice}
 use Rattle.circuit_l4.specs.declared.notice.EndNotice.TheVariants.{Closed, ClosedByPartner, FailedRetries}
 use Rattle.circuit_set.specs.Among.{Has}
-use Rattle.circuit_set.specs.Books.{Book, Fresh, FreshFrom, MadeNote, Timely, empty, is_unknown, lost_with, noted, noted_all, partner}
+use Rattle.circuit_set.specs.Books.{Book, Fresh, FreshFrom, MadeNote, Timely, empty, lost_with, noted, noted_all, partner}
 use Rattle.circuit_set.specs.Events.{Event, Name, same_name}
 use Rattle.circuit_set.specs.NotedRuns.{Net, allowed, begins, end_at, net_run, net_step, told_to}
 use Rattle.circuit_set.specs.Retries.{RetriesAreTold}
@@ -17,7 +17,7 @@ use Rattle.circuit_set.proofs.Among.{has_nothing}
 use Rattle.circuit_set.proofs.Bridge.{same_names}
 use Rattle.circuit_set.proofs.ByBook.{fresh_by_book, timely_by_book}
 use Rattle.circuit_set.proofs.Expiring.{RetriesNoted}
-use Rattle.circuit_set.proofs.Joined.{is_free, partner_looks}
+use Rattle.circuit_set.proofs.Joined.{is_free, partner_looks, unknown_none}
 use Rattle.circuit_set.proofs.Lookups.{has_note}
 use Rattle.circuit_set.proofs.Noted.{book, finds, found, name_true}
 use Rattle.circuit_set.proofs.Noting.{noted_append}
@@ -162,10 +162,6 @@ fresh_front b lost (x ∷ xs) ys f = (f.0, fresh_front (noted b x) (lost_with lo
 front_are : (xs ys : List Step) → AreSteps (xs ++ ys) → AreSteps xs
 front_are [] ys a = tt
 front_are (x ∷ xs) ys a = (a.0, front_are xs ys a.1)
-
-unknown_none : (o : Option Name) → is_unknown o ≡ true → o ≡ None
-unknown_none None h = refl
-unknown_none (Some x) h = absurd (cc h)
 
 -- one end is held under a name
 one_end : {h k : Holder} (o : Option Holder) → o ≡ Some h → o ≡ Some k → h ≡ k

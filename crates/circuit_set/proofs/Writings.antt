@@ -242,7 +242,7 @@ step_grows : WroteByWrites → (net : Net) → Both net → (st : Step) (z : Nam
 step_grows law net both st z None e = sym (append-nil (wrote_of (end_at net z))) ∙ ap (λ ws. wrote_of (end_at net z) ++ ws) (sym (absent_at net st z (nat_eq st.node z.node) refl e))
 step_grows law net both st z (Some s) e = act_grows law net st.node s e (both.0 st.node s e) st.act z
 
-run_lives : (net : Net) (steps : List Step) → Both net → Both (net_run net steps)
+pub run_lives : (net : Net) (steps : List Step) → Both net → Both (net_run net steps)
 run_lives net [] both = both
 run_lives net (st ∷ sts) both = run_lives (net_step net st) sts (step_lives net st (slice_get net.sets st.node) both refl)
 

@@ -1,9 +1,9 @@
 -- That the notes of the book tell the same as the events: what comes too late by them comes too late.
-use Rattle.std.specs.Prelude.{◌↔◌, List}
-use Rattle.circuit_set.specs.Books.{Fresh, Timely, empty}
-use Rattle.circuit_set.specs.Events.{Event}
+use Rattle.std.specs.Prelude.{◌≡◌, ◌↔◌, List, Some, None}
+use Rattle.circuit_set.specs.Books.{Fresh, Timely, empty, noted_all, partner}
+use Rattle.circuit_set.specs.Events.{Event, Name}
 use Rattle.circuit_set.specs.NotedRuns.{allowed}
-use Rattle.circuit_set.specs.TooLate.{AllowsByWindow, IsFresh, IsTimely, allows_fixed}
+use Rattle.circuit_set.specs.TooLate.{AllowsByWindow, HasPartner, IsFresh, IsTimely, Partners, allows_fixed}
 
 -- of any events, whatever they are
 abbrev pub FreshByBook : Type 0
@@ -15,3 +15,10 @@ TimelyByBook = (events : List Event) → Fresh empty events → Timely allowed e
 
 abbrev pub TimelyBy128 : Type 0
 TimelyBy128 = (events : List Event) → Fresh empty events → Timely (λ b x. 128) empty events ↔ IsTimely allows_fixed events
+
+-- of fresh ones: whose partner an end is, and that it has none
+abbrev pub PartnersByBook : Type 0
+PartnersByBook =
+    (events : List Event) → Fresh empty events → (x : Name)
+    → ((y : Name) → (partner (noted_all empty events) x ≡ Some y) ↔ Partners events x y)
+    × ((partner (noted_all empty events) x ≡ None) ↔ (HasPartner events x → ⊥))

@@ -3,7 +3,7 @@ use Rattle.std.specs.Prelude.{◌≡◌, ℕ, List, slice_get, Some}
 use Rattle.ax_address.specs.Callsign.{Callsign}
 use Rattle.circuit_set.specs.Books.{partner}
 use Rattle.circuit_set.specs.Events.{Name}
-use Rattle.circuit_set.specs.NotedRuns.{Net, begins, end_at, net_run}
+use Rattle.circuit_set.specs.NotedRuns.{Net, begins, end_at, net_run, net_step}
 use Rattle.circuit_set.specs.Returning.{CallsDiffer}
 use Rattle.circuit_set.specs.Runs.{AreStarts, AreSteps, Step}
 use Rattle.circuit_set.specs.Sets.{Holder, SetState}
@@ -27,3 +27,10 @@ abbrev pub PartnersFace : Type 0
 PartnersFace =
     (sets : List SetState) → AreStarts sets → CallsDiffer sets → (steps : List Step) → AreSteps steps
     → (x y : Name) → partner (net_run (begins sets) steps).book x ≡ Some y → Faces (net_run (begins sets) steps) x y
+
+-- At each step of every run, also where nodes start again: an end stays, with the call of its partner's node.
+abbrev pub EndsStay : Type 0
+EndsStay =
+    (sets : List SetState) → AreStarts sets → (steps : List Step) (st : Step) (x : Name) (h : Holder)
+    → let net : Net = net_run (begins sets) steps in
+    end_at net x ≡ Some h → (k : Holder) × (end_at (net_step net st) x ≡ Some k) × (k.at ≡ h.at)

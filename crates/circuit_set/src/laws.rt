@@ -8,14 +8,14 @@ ghost use Rattle.circuit_set.specs.Kept.{HoldsFew, KeepsItsShare, WindowsAreSmal
 ghost use Rattle.circuit_set.specs.Naming.{PairNamesOne, RequestersSend};
 ghost use Rattle.circuit_set.specs.Retries.{RetriesAreTold};
 ghost use Rattle.circuit_set.specs.Returning.{CopiesAloneReturn};
-ghost use Rattle.circuit_set.specs.Facing.{PartnersFace};
+ghost use Rattle.circuit_set.specs.Facing.{EndsStay, PartnersFace};
 ghost use Rattle.circuit_set.specs.Writings.{EndsWroteByWrites};
 ghost use Rattle.circuit_set.specs.Heedings.{SetsHeedPartners};
 ghost use Rattle.circuit_set.specs.Refusals.{RefusalsAreUnheeded, SetsRefuseUnder0, StartsAreNumbered};
 ghost use Rattle.circuit_set.specs.Sendings.{SetsSendTheirOwn};
 ghost use Rattle.circuit_set.specs.Inputs.{ActsGo, HearsGo, HearsLostGoes, TellsGo, TellsLess, TicksGo};
 ghost use Rattle.circuit_set.specs.Examples.{CopyReturns, ForgedIsUnsafe, OneMoreIsTooMany, RestartIsStale};
-ghost use Rattle.circuit_set.specs.ByBook.{FreshByBook, TimelyBy128, TimelyByBook};
+ghost use Rattle.circuit_set.specs.ByBook.{FreshByBook, PartnersByBook, TimelyBy128, TimelyByBook};
 ghost use Rattle.circuit_set.specs.NotedRuns.{NarrowIsTimely, PartnersStay, WindowsFit};
 ghost use Rattle.circuit_set.specs.Safe.{CircuitsSafe, PartnersLast};
 
@@ -36,6 +36,7 @@ pub fn book_tells_what_is_late()
     ensures fresh { FreshByBook }
     ensures timely { TimelyByBook }
     ensures fixed { TimelyBy128 }
+    ensures partners { PartnersByBook }
 {}
 
 /// In a timely run an end keeps its partner once it has one, and partners are two ends of which each is the other's: so no two
@@ -49,6 +50,12 @@ pub fn partners_stay()
 /// the other's node as that of its partner's node.
 pub fn partners_face()
     ensures { PartnersFace }
+{}
+
+/// At each step of every run, whatever comes and also where nodes start again: an end stays, with the call of its partner's
+/// node.
+pub fn ends_stay()
+    ensures { EndsStay }
 {}
 
 /// At each step of every run, whatever comes and also where nodes start again: what an end has written grows by the writes that it accepts, and by

@@ -62,8 +62,7 @@ fn the_first_bad_word_of_the_first_bad_line_is_told(rt: HostRuntime) {
 #[test]
 fn circuits_paths_time_and_versions_have_their_reasons(rt: HostRuntime) {
     let cases = [
-        ("version 7", Some((1, What::Value))),
-        ("version 4", Some((1, What::Value))),
+        ("version 5", Some((1, What::Value))),
         ("version x", Some((1, What::Number))),
         ("node 1 N0AAA A\nversion 1", Some((2, What::Late))),
         ("# one\n\nversion 2\nversion 2", Some((4, What::Late))),
@@ -102,6 +101,52 @@ fn circuits_paths_time_and_versions_have_their_reasons(rt: HostRuntime) {
         ("node 1 N0AAA A\nsay 1 1", Some((2, What::Count))),
         ("node 1 N0AAA A\nsay 1 1 ", None),
         ("node 1 N0AAA A\n say  1  0  x", Some((2, What::Number))),
+    ];
+    for (text, want) in cases {
+        assert_eq!(rt; first_bad(rt.alloc(), text.as_bytes()), want, "{text:?}");
+    }
+}
+
+#[test]
+fn mail_has_its_reasons(rt: HostRuntime) {
+    let cases = [
+        (
+            "version 3\nnode 1 N0AAA A\nset 1 mail 0",
+            Some((3, What::Key)),
+        ),
+        (
+            "version 3\nnode 1 N0AAA A\npost 1 K1ABC N0BBB x",
+            Some((3, What::Word)),
+        ),
+        ("version 3\nnode 1 N0AAA A\nmail 1", Some((3, What::Word))),
+        (
+            "version 4\nnode 1 N0AAA A\nset 1 mail 1\nset 1 prompt 1",
+            Some((4, What::Value)),
+        ),
+        (
+            "version 4\nnode 1 N0AAA A\nset 1 prompt 1\nset 1 mail 1",
+            Some((4, What::Value)),
+        ),
+        (
+            "version 4\nnode 1 N0AAA A\nset 1 prompt 1\nset 1 mail 0\npost 1 K1ABC N0BBB \nmail 1",
+            None,
+        ),
+        (
+            "version 4\nnode 1 N0AAA A\npost 1 K1ABC N0BBB",
+            Some((3, What::Count)),
+        ),
+        (
+            "version 4\nnode 1 N0AAA A\npost 2 k1abc N0BBB x",
+            Some((3, What::Node)),
+        ),
+        (
+            "version 4\nnode 1 N0AAA A\npost 1 k1abc N0BBB x",
+            Some((3, What::Call)),
+        ),
+        (
+            "version 4\nnode 1 N0AAA A\nmail 1 1",
+            Some((3, What::Count)),
+        ),
     ];
     for (text, want) in cases {
         assert_eq!(rt; first_bad(rt.alloc(), text.as_bytes()), want, "{text:?}");

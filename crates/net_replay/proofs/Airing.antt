@@ -195,6 +195,7 @@ put_one old new line node frame came128 f air e count tells w t =
         air = e ∙ ap (λ (fs : List Aired). fs ++ x ∷ []) t.trace.air;
         declared = t.trace.declared;
         nodes = t.trace.nodes;
+        mails = t.trace.mails;
         ends = t.trace.ends;
       };
       now = t.now;

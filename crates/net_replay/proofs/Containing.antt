@@ -1,5 +1,5 @@
 -- What happens in a network is a run of its nodes' circuits: line by line, and move by move.
-use Rattle.std.proofs.Common.{◌≡◌, ◌∙◌, ◌+◌, ◌≤◌, ℕ, zero, suc, refl, sym, ap, subst, arith, List, [], ◌∷◌, ◌++◌, length, append_assoc, append-nil, map, Bool, true, false, cond}
+use Rattle.std.proofs.Common.{◌≡◌, ◌∙◌, ◌+◌, ◌-◌, ◌≤◌, ℕ, zero, suc, refl, sym, ap, subst, arith, List, [], ◌∷◌, ◌++◌, length, append_assoc, append-nil, map, Bool, true, false, cond}
 use Rattle.std.specs.Prelude.{◌≢◌, ◌==◌, nat_eq, not, slice_get, slice_set, Option, Some, None}
 use Rattle.std.specs.List.{AllByRecursion, position_or_len}
 use Rattle.std.proofs.lemmas.List.{map-append}
@@ -23,7 +23,7 @@ use Rattle.net_replay.specs.declared.ends.EndRecord.{EndRecord}
 use Rattle.net_replay.specs.CircuitRuns.{first_sets, set_of}
 use Rattle.net_replay.specs.Circuits as circuits
 use Rattle.net_replay.specs.Circuits.{CircuitEvent}
-use Rattle.net_replay.specs.Ends.{ends_of, note_event, note_events}
+use Rattle.net_replay.specs.Ends.{ends_of, note_event, note_events, with_offered}
 use Rattle.net_replay.specs.Events as events
 use Rattle.net_replay.specs.Events.{Event, NumberedEvent}
 use Rattle.net_replay.specs.Starting.{Placed, config_of, new_nodes}
@@ -138,6 +138,10 @@ event_named nodes line (events.Wrote node end count) = refl
 event_named nodes line (events.Restarted node pair) = told_named nodes line node (sets.Restarted pair)
 event_named nodes line (events.Lost node end facts) = told_named nodes line node (sets.Lost end facts)
 event_named nodes line (events.Refused why) = refl
+event_named nodes line (events.Posted node number) = refl
+event_named nodes line (events.Offered node end number) = refl
+event_named nodes line (events.MailStored node origin number to len) = refl
+event_named nodes line (events.MailSettled node number) = refl
 
 pub events_named : (nodes : List Placed) (es : List NumberedEvent) → circuits.events_at nodes es ≡ events_by (names nodes) es
 events_named nodes [] = refl
@@ -172,8 +176,22 @@ quiet_event ds line (events.Shown table) q = refl
 quiet_event ds line (events.Took node end message) q = refl
 quiet_event ds line (events.Wrote node end count) q = refl
 quiet_event ds line (events.Refused why) q = refl
+quiet_event ds line (events.Posted node number) q = refl
+quiet_event ds line (events.Offered node end number) q = refl
+quiet_event ds line (events.MailStored node origin number to len) q = refl
+quiet_event ds line (events.MailSettled node number) q = refl
 
-pub quiet_note : (number : ℕ) (e : Event) (ends : List EndRecord) → IsQuiet e → note_event number e ends ≡ ends
+offered_length : (mail at : ℕ) (ends : List EndRecord) → length (with_offered mail at ends) ≡ length ends
+offered_length mail at [] = refl
+offered_length mail zero (e ∷ ends) = refl
+offered_length mail (suc at) (e ∷ ends) = ap suc (offered_length mail at ends)
+
+either_length : (b : Bool) (new ends : List EndRecord) → length new ≡ length ends → length (cond b new ends) ≡ length ends
+either_length true new ends e = e
+either_length false new ends e = refl
+
+-- they make no ends
+pub quiet_note : (number : ℕ) (e : Event) (ends : List EndRecord) → IsQuiet e → length (note_event number e ends) ≡ length ends
 quiet_note number (events.Entry node entry) ends q = absurd q
 quiet_note number (events.Restarted node pair) ends q = absurd q
 quiet_note number (events.Lost node end facts) ends q = absurd q
@@ -184,14 +202,19 @@ quiet_note number (events.Shown table) ends q = refl
 quiet_note number (events.Took node end message) ends q = refl
 quiet_note number (events.Wrote node end count) ends q = refl
 quiet_note number (events.Refused why) ends q = refl
+quiet_note number (events.Posted node mail) ends q = refl
+quiet_note number (events.MailStored node origin mail to len) ends q = refl
+quiet_note number (events.MailSettled node mail) ends q = refl
+quiet_note number (events.Offered node end mail) ends q = either_length (node == number) (with_offered mail (end - 1) ends) ends (offered_length mail (end - 1) ends)
 
 pub quiet_events : (ds : List Declaration) (line : ℕ) (es : List Event) → AllByRecursion IsQuiet es → events_by ds (map (numbered line) es) ≡ []
 quiet_events ds line [] q = refl
 quiet_events ds line (e ∷ es) q = ap (λ xs. xs ++ events_by ds (map (numbered line) es)) (quiet_event ds line e q.0) ∙ quiet_events ds line es q.1
 
-pub quiet_notes : (number line : ℕ) (es : List Event) (ends : List EndRecord) → AllByRecursion IsQuiet es → note_events number (map (numbered line) es) ends ≡ ends
+pub quiet_notes : (number line : ℕ) (es : List Event) (ends : List EndRecord) → AllByRecursion IsQuiet es
+    → length (note_events number (map (numbered line) es) ends) ≡ length ends
 quiet_notes number line [] ends q = refl
-quiet_notes number line (e ∷ es) ends q = ap (note_events number (map (numbered line) es)) (quiet_note number e ends q.0) ∙ quiet_notes number line es ends q.1
+quiet_notes number line (e ∷ es) ends q = quiet_notes number line es (note_event number e ends) q.1 ∙ quiet_note number e ends q.0
 
 -- ---- events by which no node starts again
 
@@ -253,8 +276,8 @@ pub record Contains (plan : Plan) (steps : List Step) (nodes : List Placed) (tol
   pub tracks : (at : ℕ) (p : Placed) → slice_get nodes at ≡ Some p → TracksAt plan told (sets_run (first_sets plan) steps) at p
   pub events_are : map (λ (e : CircuitEvent). e.event) (events_by (names (new_nodes plan)) told) ≡ net.events_of (first_sets plan) steps
 
--- the same node, of which others' events tell nothing
-pub retold : (plan : Plan) (told told2 : List NumberedEvent) (s : SetState) (p : Placed) → ends_of p.declared.node told2 ≡ ends_of p.declared.node told → Tracks plan told s p → Tracks plan told2 s p
+-- the same node, of which others' events make no ends
+pub retold : (plan : Plan) (told told2 : List NumberedEvent) (s : SetState) (p : Placed) → length (ends_of p.declared.node told2) ≡ length (ends_of p.declared.node told) → Tracks plan told s p → Tracks plan told2 s p
 retold plan told told2 s p e t = record {
   past = t.past;
   base = t.base;
@@ -264,7 +287,7 @@ retold plan told told2 s p e t = record {
   rises = t.rises;
   rest = t.rest;
   heard = t.heard;
-  number = t.number ∙ ap (λ ends. length ends + 1) (sym e);
+  number = t.number ∙ ap (λ n. n + 1) (sym e);
   own = t.own;
   ttl = t.ttl;
   user = t.user;
@@ -278,7 +301,7 @@ pub record Comes (plan : Plan) (told : List NumberedEvent) (at : ℕ) (p q : Pla
   pub up : AreOn es → AllByRecursion IsUp inputs
   pub tracks : Tracks plan (told ++ es) (runs inputs s).set q
   pub tells : map (λ (e : CircuitEvent). e.event) (events_by (names (new_nodes plan)) es) ≡ net.events_at at s.own (runs inputs s).told
-  pub others : (n : ℕ) → n ≢ p.declared.node → ends_of n (told ++ es) ≡ ends_of n told
+  pub others : (n : ℕ) → n ≢ p.declared.node → length (ends_of n (told ++ es)) ≡ length (ends_of n told)
 
 module _ (plan : Plan) (apart : AreApart (names (new_nodes plan))) (are_steps : InputsAreSteps) where
   pub place_is : (steps : List Step) (nodes : List Placed) (told : List NumberedEvent) (at : ℕ) (p : Placed) → Contains plan steps nodes told → slice_get nodes at ≡ Some p
@@ -345,7 +368,7 @@ module _ (plan : Plan) (apart : AreApart (names (new_nodes plan))) (are_steps : 
         record {
           set = t.set;
           here = t.here;
-          tracks = retold plan told (told ++ map (numbered line) es) t.set r (note_append r.declared.node told (map (numbered line) es) [] ∙ quiet_notes r.declared.node line es (ends_of r.declared.node told) quiet) t.tracks;
+          tracks = retold plan told (told ++ map (numbered line) es) t.set r (ap length (note_append r.declared.node told (map (numbered line) es) []) ∙ quiet_notes r.declared.node line es (ends_of r.declared.node told) quiet) t.tracks;
         });
     events_are =
         ap (map (λ (x : CircuitEvent). x.event)) (events_by_append (names (new_nodes plan)) told (map (numbered line) es)

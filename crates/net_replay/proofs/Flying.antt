@@ -38,6 +38,8 @@ use Rattle.net_replay.specs.Air.{settled_at}
 use Rattle.net_replay.specs.CircuitRuns.{first_sets, set_of}
 use Rattle.net_replay.specs.Events.{Event, NumberedEvent}
 use Rattle.net_replay.specs.Ends.{ends_of}
+use Rattle.net_replay.specs.Mailing.{with_mail}
+use Rattle.node_mail.specs.Lists.{Lists}
 use Rattle.net_replay.specs.Hops.{all_borne, node_at}
 use Rattle.net_replay.specs.Lines.{kiss_bytes, restart, restart_of, settle}
 use Rattle.net_replay.specs.Starting.{Placed, by_number, config_of, is_via_of, new_nodes, path_of, repeater, with_via, with_via_by, with_vias}
@@ -116,6 +118,9 @@ module _ (plan : Plan) (size : ℕ) (apart : AreApart (names (new_nodes plan))) 
   later : (milliseconds : ℕ) (w : World) → Goes w (record w { now = w.now + milliseconds })
   later milliseconds w =
       at_once w (record w { now = w.now + milliseconds }) (λ steps f. record { contains = f.contains; came = f.came; nodes = f.nodes; air = f.air; known = f.known })
+
+  mails_go : (at : ℕ) (s : Lists) (w : World) → Goes w (with_mail at s w)
+  mails_go at s w = at_once w (with_mail at s w) (λ steps f. record { contains = f.contains; came = f.came; nodes = f.nodes; air = f.air; known = f.known })
 
   -- ---- more steps
 
@@ -371,6 +376,7 @@ module _ (plan : Plan) (size : ℕ) (apart : AreApart (names (new_nodes plan))) 
     broadcasts = λ line at call b w i. bytes_go line at (broadcast_octets call b) w (λ air. further.broadcasts size (all_borne size w.air) call b i);
     frames = λ line at place f w e. bytes_go line at f.octets.items w (λ air. one_of (λ (y : Aired). IsAloft size (all_borne size w.air) y.octets.items) w.air place f air e);
     puts = puts_go;
+    mails = mails_go;
     restarts = restarts_go;
     settles = settles;
     later = later;

@@ -21,11 +21,14 @@ use Rattle.net_replay.specs.declared.air.Aired.{Aired}
 use Rattle.net_replay.specs.declared.reasons.LineRefusal.{LineRefusal}
 use Rattle.net_replay.specs.Air.{delivery_fault, frame_of, lost_fault, oldest, settled_at}
 use Rattle.net_replay.specs.CircuitRuns.{IsLine}
-use Rattle.net_replay.specs.Events.{Delivered, Event, Wrote}
-use Rattle.net_replay.specs.Lines.{all_wrote, burst_by, burst_from, cut, deliver_all, deliver_at, deliver_of, do_act, do_line, do_lines, flow, hear, kiss_bytes, lose_at, refusal_events, restart_of, settle, spread, spread_of, tick_from, tick_node, told_of, took_of, unless_refused}
+use Rattle.net_replay.specs.Events.{Delivered, Event, Refused, Wrote}
+use Rattle.net_replay.specs.Lines.{all_wrote, burst, burst_by, burst_from, cut, deliver_all, deliver_at, deliver_of, do_act, do_line, do_lines, flow, hear, kiss_bytes, lose_at, refusal_events, restart_of, settle, spread, spread_of, tick_from, tick_node, told_of, took_of, unless_refused}
 use Rattle.net_replay.specs.Refused.{of_act}
 use Rattle.net_replay.specs.Starting.{Placed}
 use Rattle.net_replay.specs.World.{Act, Bytes, Input, Time, World, aired, answer, place_of, put, put_of, reach, reaches, tell}
+use Rattle.net_replay.specs.declared.reasons.LineRefusal.TheVariants.{Served}
+use Rattle.net_replay.specs.Mailing.{is_agents, unless_agents}
+use Rattle.net_replay.proofs.MailWalks.{AgentMoves, mail_leads, post_leads}
 use Rattle.net_replay.proofs.Oldest.{length-settled_at}
 
 -- ---- the moves
@@ -162,6 +165,26 @@ unless_grows line (Some why) done w h = omega arith
 settle_deliver : (channels : List Channel) (line at node : ℕ) (w : World) → length w.air ≤ length (deliver_at channels line at node (settle at w)).air
 settle_deliver channels line at node w = let more = deliver_grows channels line at node (settle at w) in omega (arith, more, length-settled_at w.air at)
 
+-- ---- mail
+
+pub grown : (channels : List Channel) → AgentMoves channels (λ (u v : World). length u.air ≤ length v.air)
+grown channels = record {
+  still = λ w. omega arith;
+  follows = λ u v w f g. omega (arith, f, g);
+  tells = λ line es w q. omega arith;
+  takes = λ line at id w. (let count = ap (λ (air : List Aired). length air) (reach_stays line at (Act (acts.Take id)) w) in omega (arith, count));
+  writes = λ line at id message w. (let count = ap (λ (air : List Aired). length air) (reach_stays line at (Act (acts.Write id message)) w) in omega (arith, count));
+  puts = λ line at w. put_grows channels line at false w;
+  mails = λ at s w. omega arith;
+}
+
+others_grow : (line node end : ℕ) (first : List Event) (done : World → World) (w : World) → length w.air ≤ length (done w).air → length w.air ≤ length (unless_agents line node end first done w).air
+others_grow line node end first done w h = agents_case (is_agents node end w)
+  where
+    agents_case : (b : Bool) → length w.air ≤ length (cond b (tell line (first ++ Refused Served ∷ []) w) (done w)).air
+    agents_case true = omega arith
+    agents_case false = h
+
 -- ---- each kind of line
 
 pub line_grows : (plan : Plan) (line : ℕ) (instruction : Instruction) (w : World) → length w.air ≤ length (do_line plan line instruction w).air
@@ -174,10 +197,15 @@ line_grows plan line (instructions.Tick milliseconds) w = ticks_grow plan.channe
 line_grows plan line (instructions.Restart node pair) w =
     restart_grows plan line (place_of node w.nodes) (record { index = pair.index; ident = pair.ident }) (slice_get w.nodes (place_of node w.nodes)) w
 line_grows plan line (instructions.Open node dest) w = act_grows plan.channels line node (acts.Connect dest) told_of w
-line_grows plan line (instructions.Say node end text) w = act_grows plan.channels line node (acts.Write end text) told_of w
-line_grows plan line (instructions.Burst node end count) w = burst_grows plan.channels line (place_of node w.nodes) node end 1 count w
-line_grows plan line (instructions.Take node end) w = act_grows plan.channels line node (acts.Take end) (took_of node end) w
+line_grows plan line (instructions.Say node end text) w =
+    others_grow line node end [] (do_act plan.channels line node (acts.Write end text) told_of) w (act_grows plan.channels line node (acts.Write end text) told_of w)
+line_grows plan line (instructions.Burst node end count) w =
+    others_grow line node end (Wrote node end 0 ∷ []) (burst plan.channels line node end count) w (burst_grows plan.channels line (place_of node w.nodes) node end 1 count w)
+line_grows plan line (instructions.Take node end) w =
+    others_grow line node end [] (do_act plan.channels line node (acts.Take end) (took_of node end)) w (act_grows plan.channels line node (acts.Take end) (took_of node end) w)
 line_grows plan line (instructions.Close node end) w = act_grows plan.channels line node (acts.Close end) told_of w
+line_grows plan line (instructions.Post node to dest text) w = post_leads plan.channels _ (grown plan.channels) line node to dest text w
+line_grows plan line (instructions.Mail node) w = mail_leads plan.channels _ (grown plan.channels) line node w
 line_grows plan line (instructions.Deliver frame node) w =
     unless_grows line (delivery_fault plan.channels node false (frame_of w.air frame)) _ w (settle_deliver plan.channels line (frame - 1) node w)
 line_grows plan line (instructions.Again frame node) w =

@@ -91,6 +91,10 @@ event_told nodes line (events.Wrote node end count) = refl
 event_told nodes line (events.Restarted node pair) = refl
 event_told nodes line (events.Lost node end facts) = refl
 event_told nodes line (events.Refused why) = refl
+event_told nodes line (events.Posted node number) = refl
+event_told nodes line (events.Offered node end number) = refl
+event_told nodes line (events.MailStored node origin number to len) = refl
+event_told nodes line (events.MailSettled node number) = refl
 
 -- ---- what is told at the node of a number
 

@@ -158,6 +158,7 @@ module _ (plan : Plan) (apart : AreApart (names (new_nodes plan))) (are_steps : 
     broadcasts = λ line at call b w i. reach_leads plan apart are_steps bytes ticks acts_run line at _ w tt;
     frames = λ line at place f w e. reach_leads plan apart are_steps bytes ticks acts_run line at _ w tt;
     puts = put_leads plan apart are_steps bytes ticks acts_run plan.channels;
+    mails = λ at s w. still plan apart are_steps bytes ticks acts_run w;
     restarts = restart_leads plan apart are_steps bytes ticks acts_run;
     settles = λ at w. still plan apart are_steps bytes ticks acts_run w;
     later = λ ms w. still plan apart are_steps bytes ticks acts_run w;
@@ -176,6 +177,8 @@ module _ (plan : Plan) (apart : AreApart (names (new_nodes plan))) (are_steps : 
   line_is (instructions.Burst node end count) i = tt
   line_is (instructions.Take node end) i = tt
   line_is (instructions.Close node end) i = tt
+  line_is (instructions.Post node to dest text) i = tt
+  line_is (instructions.Mail node) i = tt
   line_is (instructions.Deliver frame node) i = tt
   line_is (instructions.Again frame node) i = tt
   line_is (instructions.Lose frame) i = tt
@@ -186,7 +189,7 @@ module _ (plan : Plan) (apart : AreApart (names (new_nodes plan))) (are_steps : 
   lines_are [] all = tt
   lines_are (l ∷ ls) all = (line_is l.instruction all.0, lines_are ls all.1)
 
-  lead_lines : (ls : List NumberedInstruction) (w : World) → AllByRecursion (λ (l : NumberedInstruction). IsInstruction l.instruction) ls → Lead w (do_lines plan ls w)
+  pub lead_lines : (ls : List NumberedInstruction) (w : World) → AllByRecursion (λ (l : NumberedInstruction). IsInstruction l.instruction) ls → Lead w (do_lines plan ls w)
   lead_lines ls w all = lines_lead plan AnyCall AnyCall IsPair Lead moves ls w (lines_are ls all)
 
   pub lines_append : (xs ys : List NumberedInstruction) (w : World) → do_lines plan (xs ++ ys) w ≡ do_lines plan ys (do_lines plan xs w)

@@ -1,6 +1,6 @@
 -- Lists of which something holds of all.
-use Rattle.std.proofs.Common.{◌≡◌, ◌<◌, ℕ, zero, suc, refl, ap, subst, arith, List, [], ◌∷◌, ◌++◌, length, filter, Bool, true, false, cond}
-use Rattle.std.specs.Prelude.{◌≢◌, slice_get, slice_index_or, slice_set, Contains, Some}
+use Rattle.std.proofs.Common.{◌≡◌, ◌∙◌, ◌<◌, ℕ, zero, suc, refl, sym, ap, subst, arith, List, [], ◌∷◌, ◌++◌, length, filter, Bool, true, false, cond}
+use Rattle.std.specs.Prelude.{◌≢◌, nat_eq, slice_get, slice_index_or, slice_set, Contains, Some}
 use Rattle.std.specs.List.{AllByRecursion}
 use Rattle.net_replay.specs.declared.air.Aired.{Aired}
 use Rattle.net_replay.specs.Air.{settled_at}
@@ -54,3 +54,17 @@ get_beside (z ∷ xs) zero zero y n = absurd (n refl)
 get_beside (z ∷ xs) zero (suc j) y n = refl
 get_beside (z ∷ xs) (suc i) zero y n = refl
 get_beside (z ∷ xs) (suc i) (suc j) y n = get_beside xs i j y (λ e. n (ap suc e))
+
+-- something holds of all of them, where one was changed
+pub put_each : {A : Type 0} (F : ℕ → A → Type 0) (xs : List A) (at : ℕ) (x y : A) → slice_get xs at ≡ Some x → ((k : ℕ) (z : A) → slice_get xs k ≡ Some z → F k z) → F at y
+    → (k : ℕ) (z : A) → slice_get (slice_set xs at y) k ≡ Some z → F k z
+put_each {A} F xs at x y e all mine k z f = by (nat_eq at k) refl
+  where
+    by : (b : Bool) → nat_eq at k ≡ b → F k z
+    by true g =
+        let same : at ≡ k = grind (arith, g) in
+        let is : y ≡ z = (let some : Some y ≡ Some z = sym (get_put xs at x y e) ∙ (ap (slice_get (slice_set xs at y)) same ∙ f) in cc some) in
+        subst (λ n. F n z) same (subst (F at) is mine)
+    by false g =
+        let apart : at ≢ k = λ same. (let bad : ⊥ = grind (arith, g, same) in bad) in
+        all k z (sym (get_beside xs at k y apart) ∙ f)

@@ -90,21 +90,23 @@ module _ (plan : Plan) (apart : AreApart (names (new_nodes plan))) (are_steps : 
             entries_tell (names (new_nodes plan)) line p.declared.node at p.declared.call here r.more
             ∙ (ap (net.events_at at p.declared.call) (r.told ∙ sym (ap (λ d. d.told) run))
             ∙ ap (λ call. net.events_at at call (runs r.inputs t.set).told) (sym (ap (λ (x : SetState). x.own) k.is ∙ k.own)));
-        others = λ m d. note_append m w.told (told_entries line p.declared.node r.more) [] ∙ entries_other line p.declared.node m r.more (ends_of m w.told) d;
+        others = λ m d. ap length (note_append m w.told (told_entries line p.declared.node r.more) [] ∙ entries_other line p.declared.node m r.more (ends_of m w.told) d);
       }
+
+  pub reach_contains : (steps : List Step) (w : World) (line at : ℕ) (p : Placed) (n : NodeState) → Contains plan steps w.nodes w.told → slice_get w.nodes at ≡ Some p → (r : RunsOn p.state.station n.station)
+      → Contains plan (steps ++ steps_at at r.inputs) (tells_entries line at p n w).nodes (tells_entries line at p n w).told
+  reach_contains steps w line at p n c e r =
+      let t : TracksAt plan w.told (sets_run (first_sets plan) steps) at p = c.tracks at p e in
+      let entries : n.station.entries ≡ r.more = r.entries ∙ ap (λ xs. xs ++ r.more) t.tracks.heard in
+      subst (λ xs. Contains plan (steps ++ steps_at at r.inputs) (slice_set w.nodes at (record p { state = all_told n })) (w.told ++ told_entries line p.declared.node xs)) (sym entries)
+      (comes_contains plan apart are_steps steps w.nodes w.told (told_entries line p.declared.node r.more) at p (record p { state = all_told n }) t.set r.inputs c e t.here
+      (reach_comes steps w line at p n c e t r))
 
   reach_case : (line at : ℕ) (input : Input) (w : World) (o : Option Placed) → slice_get w.nodes at ≡ o → IsInput input → Leads w (reaches line at input o w)
   reach_case line at input w None e i steps c = still w steps c
   reach_case line at input w (Some p) e i steps c =
-      let t : TracksAt plan w.told (sets_run (first_sets plan) steps) at p = c.tracks at p e in
       let n : NodeState = after w.now input p.state in
-      let r : RunsOn p.state.station n.station = runs_on w.now input p.state i t.tracks.rest in
-      let entries : n.station.entries ≡ r.more = r.entries ∙ ap (λ xs. xs ++ r.more) t.tracks.heard in (
-        steps_at at r.inputs,
-        subst (λ xs. Contains plan (steps ++ steps_at at r.inputs) (slice_set w.nodes at (record p { state = all_told n })) (w.told ++ told_entries line p.declared.node xs)) (sym entries)
-            (comes_contains plan apart are_steps steps w.nodes w.told (told_entries line p.declared.node r.more) at p (record p { state = all_told n }) t.set r.inputs c e t.here
-            (reach_comes steps w line at p n c e t r)),
-      )
+      let r : RunsOn p.state.station n.station = runs_on w.now input p.state i (c.tracks at p e).tracks.rest in (steps_at at r.inputs, reach_contains steps w line at p n c e r)
 
   pub reach_leads : (line at : ℕ) (input : Input) (w : World) → IsInput input → Leads w (reach line at input w)
   unfolding reach
@@ -121,20 +123,22 @@ module _ (plan : Plan) (apart : AreApart (names (new_nodes plan))) (are_steps : 
     declared = refl;
     allowed = tt;
     up = λ on. tt;
-    tracks = sent_tracks plan told (told ++ map (numbered line) es) s p (note_append p.declared.node told (map (numbered line) es) [] ∙ quiet_notes p.declared.node line es (ends_of p.declared.node told) quiet) t;
+    tracks = sent_tracks plan told (told ++ map (numbered line) es) s p (ap length (note_append p.declared.node told (map (numbered line) es) []) ∙ quiet_notes p.declared.node line es (ends_of p.declared.node told) quiet) t;
     tells = ap (map event) (quiet_events (names (new_nodes plan)) line es quiet);
-    others = λ n d. note_append n told (map (numbered line) es) [] ∙ quiet_notes n line es (ends_of n told) quiet;
+    others = λ n d. ap length (note_append n told (map (numbered line) es) []) ∙ quiet_notes n line es (ends_of n told) quiet;
   }
+
+  pub put_contains : (channels : List Channel) (line at : ℕ) (came128 : Bool) (w : World) (p : Placed) → slice_get w.nodes at ≡ Some p → (steps : List Step) → Contains plan steps w.nodes w.told
+      → Contains plan (steps ++ []) (put_of channels line at came128 (Some p) w).nodes (put_of channels line at came128 (Some p) w).told
+  put_contains channels line at came128 w p e steps c =
+      let t : TracksAt plan w.told (sets_run (first_sets plan) steps) at p = c.tracks at p e in
+      let es : List Event = air_events (length w.air) (length (aired channels came128 p)) in
+      comes_contains plan apart are_steps steps w.nodes w.told (map (numbered line) es) at p (record p { state = all_fetched_of p.state }) t.set [] c e t.here
+      (put_comes w.told line at p t.set es (quiet_air (length w.air) (length (aired channels came128 p))) t.tracks)
 
   put_case : (channels : List Channel) (line at : ℕ) (came128 : Bool) (w : World) (o : Option Placed) → slice_get w.nodes at ≡ o → Leads w (put_of channels line at came128 o w)
   put_case channels line at came128 w None e steps c = still w steps c
-  put_case channels line at came128 w (Some p) e steps c =
-      let t : TracksAt plan w.told (sets_run (first_sets plan) steps) at p = c.tracks at p e in
-      let es : List Event = air_events (length w.air) (length (aired channels came128 p)) in (
-        [],
-        comes_contains plan apart are_steps steps w.nodes w.told (map (numbered line) es) at p (record p { state = all_fetched_of p.state }) t.set [] c e t.here
-            (put_comes w.told line at p t.set es (quiet_air (length w.air) (length (aired channels came128 p))) t.tracks),
-      )
+  put_case channels line at came128 w (Some p) e steps c = ([], put_contains channels line at came128 w p e steps c)
 
   pub put_leads : (channels : List Channel) (line at : ℕ) (came128 : Bool) (w : World) → Leads w (put channels line at came128 w)
   unfolding put
@@ -173,17 +177,19 @@ module _ (plan : Plan) (apart : AreApart (names (new_nodes plan))) (are_steps : 
             ∙ (ap (λ xs. record { node = at; own = p.declared.call; told = sets.Restarted pair } ∷ xs) (lost_tell (names (new_nodes plan)) line p.declared.node at p.declared.call here (set_of p).ends)
             ∙ (ap (λ ts. net.events_at at p.declared.call (sets.Restarted pair ∷ ts)) (sym (append-nil (losses t.set.ends) ∙ (ap losses ends ∙ losses_lift k.past (set_of p).ends k.lost.gone)))
             ∙ ap (λ call. net.events_at at call (sets.Restarted pair ∷ losses t.set.ends ++ [])) (sym owned)));
-        others = λ n d. note_append n w.told (map (numbered line) told) [] ∙ lost_other line p.declared.node n (set_of p).ends (ends_of n w.told) d;
+        others = λ n d. ap length (note_append n w.told (map (numbered line) told) [] ∙ lost_other line p.declared.node n (set_of p).ends (ends_of n w.told) d);
       })
+
+  pub restart_contains : (line at : ℕ) (pair : Pair) (w : World) (p : Placed) → slice_get w.nodes at ≡ Some p → IsPair pair → (steps : List Step) → Contains plan steps w.nodes w.told
+      → Contains plan (steps ++ steps_at at (sets.Restart pair 0 ∷ [])) (restart_of plan line at pair (Some p) w).nodes (restart_of plan line at pair (Some p) w).told
+  restart_contains line at pair w p e i steps c =
+      let t : TracksAt plan w.told (sets_run (first_sets plan) steps) at p = c.tracks at p e in
+      comes_contains plan apart are_steps steps w.nodes w.told _ at p (placed plan p.declared pair (length (ends_of p.declared.node w.told) + 1)) t.set (sets.Restart pair 0 ∷ []) c e t.here
+      (restart_comes steps w line at pair p i c e t)
 
   restart_case : (line at : ℕ) (pair : Pair) (w : World) (o : Option Placed) → slice_get w.nodes at ≡ o → IsPair pair → Leads w (restart_of plan line at pair o w)
   restart_case line at pair w None e i steps c = still w steps c
-  restart_case line at pair w (Some p) e i steps c =
-      let t : TracksAt plan w.told (sets_run (first_sets plan) steps) at p = c.tracks at p e in (
-        steps_at at (sets.Restart pair 0 ∷ []),
-        comes_contains plan apart are_steps steps w.nodes w.told _ at p (placed plan p.declared pair (length (ends_of p.declared.node w.told) + 1)) t.set (sets.Restart pair 0 ∷ []) c e t.here
-            (restart_comes steps w line at pair p i c e t),
-      )
+  restart_case line at pair w (Some p) e i steps c = (steps_at at (sets.Restart pair 0 ∷ []), restart_contains line at pair w p e i steps c)
 
   pub restart_leads : (line number : ℕ) (pair : Pair) (w : World) → IsPair pair → Leads w (restart plan line number pair w)
   restart_leads line number pair w i = restart_case line (place_of number w.nodes) pair w (slice_get w.nodes (place_of number w.nodes)) refl i

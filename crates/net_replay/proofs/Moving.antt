@@ -292,8 +292,8 @@ same_set s t a b c d e f g =
     ∙ (ap (λ x. record s { own = t.own; ttl = t.ttl; user = t.user; config = t.config; next = t.next; number = x }) f
     ∙ ap (λ x. record s { own = t.own; ttl = t.ttl; user = t.user; config = t.config; next = t.next; number = t.number; ends = x }) g)))))
 
--- its frames are fetched, and others' events tell nothing of it
-pub sent_tracks : (plan : Plan) (told told2 : List NumberedEvent) (s : SetState) (p : Placed) → ends_of p.declared.node told2 ≡ ends_of p.declared.node told → Tracks plan told s p
+-- its frames are fetched, and no end is made
+pub sent_tracks : (plan : Plan) (told told2 : List NumberedEvent) (s : SetState) (p : Placed) → length (ends_of p.declared.node told2) ≡ length (ends_of p.declared.node told) → Tracks plan told s p
     → Tracks plan told2 s (record p { state = all_fetched_of p.state })
 sent_tracks plan told told2 s p e t = record {
   past = t.past;
@@ -304,7 +304,7 @@ sent_tracks plan told told2 s p e t = record {
   rises = t.rises;
   rest = t.rest;
   heard = t.heard;
-  number = t.number ∙ ap (λ ends. length ends + 1) (sym e);
+  number = t.number ∙ ap (λ n. n + 1) (sym e);
   own = t.own;
   ttl = t.ttl;
   user = t.user;

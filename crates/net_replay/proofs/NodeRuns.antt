@@ -1,6 +1,6 @@
 -- Each node of a network is what inputs have led to from a start of it.
-use Rattle.std.proofs.Common.{◌≡◌, ◌∙◌, ◌+◌, ℕ, zero, suc, refl, sym, ap, subst, arith, List, [], ◌∷◌, ◌++◌, length, map, filter, Bool, true, false}
-use Rattle.std.specs.Prelude.{◌≢◌, nat_eq, slice_get, slice_set, Option, Some, None, Result, Ok, Err}
+use Rattle.std.proofs.Common.{◌≡◌, ◌∙◌, ◌+◌, ℕ, zero, suc, refl, sym, ap, subst, List, [], ◌∷◌, ◌++◌, length, map, filter, Bool}
+use Rattle.std.specs.Prelude.{slice_get, slice_set, Option, Some, None, Result, Ok, Err}
 use Rattle.std.specs.List.{AllByRecursion}
 use Rattle.ax_address.specs.Callsign.{Callsign}
 use Rattle.circuit_l4.specs.declared.transport.Pair.{Pair}
@@ -30,7 +30,7 @@ use Rattle.net_replay.specs.Starting.{Placed, by_number, config_of, is_via_of, n
 use Rattle.net_replay.specs.World as worlds
 use Rattle.net_replay.specs.World.{Input, Time, World, after, all_fetched_of, all_told, place_of, put, put_of, reach, reaches, start}
 use Rattle.net_replay.proofs.LineWalks.{IsPlain, LineIs, Moves, lines_lead}
-use Rattle.net_replay.proofs.Lists.{both, every, front, get_beside, get_put, one_of}
+use Rattle.net_replay.proofs.Lists.{both, every, front, one_of, put_each}
 use Rattle.net_replay.proofs.SentBefore.{own_calls}
 
 -- ---- inputs one after another
@@ -122,16 +122,7 @@ abbrev Keeps : World → World → Type 0
 Keeps w v = AllLed w → AllLed v
 
 put_led : (ps : List Placed) (at : ℕ) (p q : Placed) → slice_get ps at ≡ Some p → ((k : ℕ) (r : Placed) → slice_get ps k ≡ Some r → Led r) → Led q → (k : ℕ) (r : Placed) → slice_get (slice_set ps at q) k ≡ Some r → Led r
-put_led ps at p q e all l k r f = by (nat_eq at k) refl
-  where
-    by : (b : Bool) → nat_eq at k ≡ b → Led r
-    by true g =
-        let same : at ≡ k = grind (arith, g) in
-        let is : q ≡ r = (let some : Some q ≡ Some r = sym (get_put ps at p q e) ∙ (ap (slice_get (slice_set ps at q)) same ∙ f) in cc some) in
-        subst Led is l
-    by false g =
-        let apart : at ≢ k = λ same. (let bad : ⊥ = grind (arith, g, same) in bad) in
-        all k r (sym (get_beside ps at k q apart) ∙ f)
+put_led ps at p q e all l = put_each (λ k r. Led r) ps at p q e all l
 
 -- as an input of the node
 abbrev input_of : ℕ → Input → nodes.Input
@@ -208,6 +199,7 @@ module _ (entries : FetchesAllEntries) (sent : FetchesAllFrames) where
     broadcasts = λ line at call b w i. reach_led line at _ w tt;
     frames = λ line at place f w e. reach_led line at _ w tt;
     puts = sent_led plan.channels;
+    mails = λ at s w l. l;
     restarts = λ line number pair w i. restart_case plan line (place_of number w.nodes) pair w (slice_get w.nodes (place_of number w.nodes)) refl;
     settles = λ at w l. l;
     later = λ milliseconds w l. l;

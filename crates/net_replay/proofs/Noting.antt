@@ -5,7 +5,7 @@ use Rattle.std.specs.declared.vec.Vec.{Vec}
 use Rattle.std.proofs.lemmas.Bool.Decides.{nat_tests}
 use Rattle.net_replay.specs.declared.ends.EndRecord.{EndRecord}
 use Rattle.net_replay.specs.declared.ends.Outcome.{Outcome}
-use Rattle.net_replay.specs.Ends.{all_items, ends_at, ends_of, note_event, note_events, with_outcome}
+use Rattle.net_replay.specs.Ends.{all_items, ends_at, ends_of, note_event, note_events, with_offered, with_outcome}
 use Rattle.net_replay.specs.Events.{NumberedEvent}
 
 one_behind : (node : ℕ) (es : List NumberedEvent) (e : NumberedEvent) (ends : List EndRecord) → note_events node (es ++ e ∷ []) ends ≡ note_event node e.event (note_events node es ends)
@@ -74,3 +74,16 @@ pub outcome_past : (ends : List EndRecord) (at : ℕ) (outcome : Outcome) → le
 outcome_past [] at outcome h = refl
 outcome_past (f ∷ ends) zero outcome h = absurd (omega arith)
 outcome_past (f ∷ ends) (suc at) outcome h = ap (λ es. f ∷ es) (outcome_past ends at outcome (omega arith))
+
+-- ---- the mail that was offered last at an end
+
+pub set_offered : (ends : List EndRecord) (at number : ℕ) (d : EndRecord) → at < length ends
+    → set ends at (record (get_or ends at d) { offered = number }) ≡ with_offered number at ends
+set_offered [] at number d h = absurd (omega arith)
+set_offered (f ∷ ends) zero number d h = refl
+set_offered (f ∷ ends) (suc at) number d h = ap (λ es. f ∷ es) (set_offered ends at number d (omega arith))
+
+pub offered_past : (ends : List EndRecord) (at number : ℕ) → length ends ≤ at → with_offered number at ends ≡ ends
+offered_past [] at number h = refl
+offered_past (f ∷ ends) zero number h = absurd (omega arith)
+offered_past (f ∷ ends) (suc at) number h = ap (λ es. f ∷ es) (offered_past ends at number (omega arith))

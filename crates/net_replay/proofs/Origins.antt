@@ -103,6 +103,10 @@ module _ (P : CircuitEvent → Type 0) (ds : List Declaration) (each : (line k :
   event_all line (events.Restarted node pair) = told_all line node (sets.Restarted pair)
   event_all line (events.Lost node end facts) = told_all line node (sets.Lost end facts)
   event_all line (events.Refused why) = tt
+  event_all line (events.Posted node number) = tt
+  event_all line (events.Offered node end number) = tt
+  event_all line (events.MailStored node origin number to len) = tt
+  event_all line (events.MailSettled node number) = tt
 
   events_all : (es : List NumberedEvent) → AllByRecursion P (events_by ds es)
   events_all [] = tt

@@ -91,6 +91,7 @@ changed c w at before n step h t here goes =
         air = t.trace.air;
         declared = t.trace.declared ∙ sym (declared_stay w.nodes at p q place.is_in refl);
         nodes = place.replaced n q (goes p.state (subst (λ k. NodeStands k p.state) (sym here) place.stands));
+        mails = t.trace.mails;
         ends = t.trace.ends;
       };
       now = t.now;

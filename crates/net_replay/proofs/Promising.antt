@@ -20,7 +20,7 @@ use Rattle.network_file.specs.declared.plan.declarations.Declaration.{Declaratio
 use Rattle.network_file.specs.declared.plan.keys.Key.{Key}
 use Rattle.network_file.specs.declared.plan.keys.Key.TheVariants.{Window}
 use Rattle.network_file.specs.Keys.{Assignment, takes}
-use Rattle.network_file.specs.Laws.{SettingsFit}
+use Rattle.network_file.specs.Laws.{IsAllowed, SettingsFit}
 use Rattle.network_file.specs.Networks.{network_of}
 use Rattle.network_file.specs.Plan.{Plan, version_of}
 use Rattle.network_file.specs.Settings.{is_of, same_key, value_of}
@@ -48,10 +48,10 @@ narrow_case : (b : Bool) (version node : ℕ) (s : Assignment) (ss : List Assign
 narrow_case true version node s ss e t v rest = window_fits s.key version s.value (both (s.node == node) (same_key s.key Window) e) t v
 narrow_case false version node s ss e t v rest = rest
 
-narrow_in : (version node : ℕ) (ss : List Assignment) → AllByRecursion (λ (s : Assignment). takes version s.key s.value ≡ true) ss → nat_le 3 version ≡ false
+narrow_in : (version node : ℕ) (ss : List Assignment) → AllByRecursion (IsAllowed version) ss → nat_le 3 version ≡ false
     → unwrap_or (option_map (λ (x : Assignment). x.value) (find (is_of node Window) ss)) 4 ≤ 64
 narrow_in version node [] all v = omega arith
-narrow_in version node (s ∷ ss) all v = narrow_case (is_of node Window s) version node s ss refl all.0 v (narrow_in version node ss all.1 v)
+narrow_in version node (s ∷ ss) all v = narrow_case (is_of node Window s) version node s ss refl all.0.1 v (narrow_in version node ss all.1 v)
 
 are_narrow : (plan : Plan) (ds : List Declaration) → ((node : ℕ) → value_of plan.settings node Window ≤ 64) → AreNarrow (map set_of (map (new_placed plan) ds))
 are_narrow plan [] h = tt
@@ -77,6 +77,22 @@ timely_case plan false v pairs by_window by_128 narrow starts low steps are fres
     (narrow (first_sets plan) starts (low v) steps are
     ((by_128 told noted).1 (subst (λ b. IsTimely (verdicts_on.allows_of (cond b verdicts_at.OfWindow verdicts_at.Fixed)) told) v t)))
 
+-- a run of the nodes' circuits through all lines is in time
+pub in_time_run : FreshByBook → TimelyByBook → TimelyBy128 → NetworksAreSound → NarrowIsTimely → SettingsFit → (bytes : List ℕ) (plan : Plan) → network_of bytes ≡ Ok plan → IsVerdictOn plan (world plan) None
+    → (done later : List NumberedInstruction) (r : RunsThrough plan done later)
+    → IsTimely AllowsByWindow (events_of (first_sets plan) (r.steps ++ r.then)) × IsFresh (events_of (first_sets plan) (r.steps ++ r.then))
+in_time_run pairs by_window by_128 sounds narrow fit bytes plan e v done later r =
+    let all : List Step = r.steps ++ r.then in
+    let told : verdicts.events_of v.events ≡ events_of (first_sets plan) all =
+    sym (told_are v.events) ∙ (ap (map (λ (x : CircuitEvent). x.event)) v.are ∙ r.all.told) in
+    let ok = v.verdict.none.0 refl in
+    let fresh : IsFresh (events_of (first_sets plan) all) = subst IsFresh told ok.1 in (
+      timely_case plan (nat_le 3 (version_of plan)) refl pairs by_window by_128 narrow (sounds bytes plan e).starts
+          (λ low. are_narrow plan (by_number plan.declared 1 16) (λ node. narrow_in (version_of plan) node plan.settings (fit bytes plan e) low))
+          all r.all.are fresh (subst (IsTimely (verdicts_on.allows_of (allowance_of plan))) told ok.0),
+      fresh,
+    )
+
 -- each line comes to a run of the nodes' circuits, which goes on to the last line, and is in time
 pub record InTime (plan : Plan) (done later : List NumberedInstruction) : Type 0 where
   pub runs : RunsThrough plan done later
@@ -87,18 +103,7 @@ pub in_time : FreshByBook → TimelyByBook → TimelyBy128 → NetworksAreSound 
     → (done later : List NumberedInstruction) → plan.instructions ≡ done ++ later → InTime plan done later
 in_time pairs by_window by_128 sounds runs narrow fit bytes plan e v done later is =
     let r : RunsThrough plan done later = runs bytes plan e done later is in
-    let all : List Step = r.steps ++ r.then in
-    let told : verdicts.events_of v.events ≡ events_of (first_sets plan) all =
-    sym (told_are v.events) ∙ (ap (map (λ (x : CircuitEvent). x.event)) v.are ∙ r.all.told) in
-    let ok = v.verdict.none.0 refl in
-    let fresh : IsFresh (events_of (first_sets plan) all) = subst IsFresh told ok.1 in
-    record {
-      runs = r;
-      timely = timely_case plan (nat_le 3 (version_of plan)) refl pairs by_window by_128 narrow (sounds bytes plan e).starts
-          (λ low. are_narrow plan (by_number plan.declared 1 16) (λ node. narrow_in (version_of plan) node plan.settings (fit bytes plan e) low))
-          all r.all.are fresh (subst (IsTimely (verdicts_on.allows_of (allowance_of plan))) told ok.0);
-      fresh = fresh;
-    }
+    let t = in_time_run pairs by_window by_128 sounds narrow fit bytes plan e v done later r in record { runs = r; timely = t.0; fresh = t.1 }
 
 -- ---- the ends that the nodes know of
 module _ (plan : Plan) (steps : List Step) (w : World) (run : IsRunOf plan steps w) where

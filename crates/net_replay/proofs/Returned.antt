@@ -45,7 +45,7 @@ same_letters : (xs : List ℕ) → pointwise nat_eq xs xs ≡ true
 same_letters [] = refl
 same_letters (x ∷ xs) = let e : nat_eq x x ≡ true = grind (arith, nat_tests) in ap (λ b. b && pointwise nat_eq xs xs) e ∙ same_letters xs
 
-call_itself : (c : Callsign) → same_call c c ≡ true
+pub call_itself : (c : Callsign) → same_call c c ≡ true
 call_itself c = let e : nat_eq c.ssid c.ssid ≡ true = grind (arith, nat_tests) in ap (λ b. b && nat_eq c.ssid c.ssid) (same_letters c.letters) ∙ e
 
 or_true : (a : Bool) → (a || true) ≡ true
@@ -86,7 +86,7 @@ module _ (plan : Plan) (own : HaveOwnCalls plan.declared) (apart : AreApart (nam
   ds_apart : AreApart ds
   ds_apart = subst AreApart (placed_names plan ds) apart
 
-  calls_differ : CallsDiffer (first_sets plan)
+  pub calls_differ : CallsDiffer (first_sets plan)
   calls_differ i j s t e f same =
       let d = declared_at plan ds i s e in
       let c = declared_at plan ds j t f in

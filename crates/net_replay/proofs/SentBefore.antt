@@ -124,6 +124,8 @@ module _ (sounds : NetworksAreSound) (are_steps : InputsAreSteps) (bytes : Bytes
   line_is (instructions.Burst node end count) i n = tt
   line_is (instructions.Take node end) i n = tt
   line_is (instructions.Close node end) i n = tt
+  line_is (instructions.Post node to dest text) i n = tt
+  line_is (instructions.Mail node) i n = tt
   line_is (instructions.Deliver frame node) i n = tt
   line_is (instructions.Again frame node) i n = tt
   line_is (instructions.Lose frame) i n = tt

@@ -10,14 +10,16 @@ use Rattle.circuit_set.specs.Sets.{Holder, end_of}
 use Rattle.circuit_verdict.specs.declared.verdict.Late.{Late}
 use Rattle.network_file.specs.declared.plan.declarations.Declaration.{Declaration}
 use Rattle.node_core.specs.Kept.{Kept, NodeStands}
+use Rattle.node_mail.specs.Lists.{Lists}
+use Rattle.node_mail.specs.Standing.{StoreView}
 use Rattle.net_replay.specs.declared.ends.EndRecord.{EndRecord}
 use Rattle.net_replay.specs.Ends.{ends_of}
 use Rattle.net_replay.specs.Events.{numbered_of}
 use Rattle.net_replay.specs.Reporting.{AreDeclared, ends_left, text_left}
-use Rattle.net_replay.specs.Reports.{node_text, report_text, told_text, verdict_line}
+use Rattle.net_replay.specs.Reports.{by_place, nodes_text, report_text, told_text, verdict_line}
 use Rattle.net_replay.specs.Starting.{Placed}
 use Rattle.net_replay.specs.ToldEntries.{last_text, last_texts}
-use Rattle.net_replay.specs.Traces.{IsTraceOf, Left, StandFor}
+use Rattle.net_replay.specs.Traces.{IsTraceOf, Left, MailStands, MailsStand, StandFor}
 use Rattle.net_replay.specs.World.{World}
 
 -- the start of the line, the frame, and the line feed
@@ -72,14 +74,29 @@ nodes_joined of (x ∷ xs) (m ∷ ms) d n (p ∷ ps) text mid new some first som
     rest ps rest_declared rest_stand
     ∙ (ap (λ t. t ++ flat_map of ps) (one p (first ∙ same) here) ∙ append_assoc text (of p) (flat_map of ps))
 
--- no nodes
-pub none_declared : (placed : List Placed) (ends : ℕ → List EndRecord) (text : List ℕ) → AreDeclared [] placed → text ≡ text ++ flat_map (node_text ends) placed
-none_declared [] ends text e = sym (append-nil text)
-none_declared (p ∷ ps) ends text e = cc
-
-pub none_standing : (placed : List Placed) (ends : ℕ → List EndRecord) (text : List ℕ) → StandFor [] placed → text ≡ text ++ flat_map (node_text ends) placed
-none_standing [] ends text stand = sym (append-nil text)
-none_standing (p ∷ ps) ends text stand = absurd stand
+-- the first node with its mail, and then the others
+pub kept_joined : {A : Type 0} (of : Placed → Option Lists → List A) (declared : List Declaration) (nodes : List Kept) (mails : List (Option StoreView)) (d : Declaration) (n : Kept) (m : Option StoreView) (placed : List Placed) (kept : List (Option Lists)) (text mid new : List A)
+    → 1 ≤ length declared → d ≡ get_or declared 0 d → 1 ≤ length nodes → n ≡ get_or nodes 0 n → 1 ≤ length mails → m ≡ get_or mails 0 m
+    → AreDeclared declared placed → StandFor nodes placed → MailsStand mails kept
+    → ((p : Placed) (o : Option Lists) → d ≡ p.declared → NodeStands n p.state → MailStands m o → mid ≡ text ++ of p o)
+    → ((ps : List Placed) (os : List (Option Lists)) → AreDeclared (take (length declared - 1) (drop 1 declared)) ps → StandFor (take (length nodes - 1) (drop 1 nodes)) ps
+    → MailsStand (take (length mails - 1) (drop 1 mails)) os → new ≡ mid ++ by_place of ps os)
+    → new ≡ text ++ by_place of placed kept
+kept_joined of [] nodes mails d n m placed kept text mid new some first some_nodes first_node some_mails first_mail e stand keep one rest = absurd (omega (arith, some))
+kept_joined of (x ∷ xs) [] mails d n m placed kept text mid new some first some_nodes first_node some_mails first_mail e stand keep one rest = absurd (omega (arith, some_nodes))
+kept_joined of (x ∷ xs) (y ∷ ys) [] d n m placed kept text mid new some first some_nodes first_node some_mails first_mail e stand keep one rest = absurd (omega (arith, some_mails))
+kept_joined of (x ∷ xs) (y ∷ ys) (z ∷ zs) d n m [] kept text mid new some first some_nodes first_node some_mails first_mail e stand keep one rest = absurd stand
+kept_joined of (x ∷ xs) (y ∷ ys) (z ∷ zs) d n m (p ∷ ps) [] text mid new some first some_nodes first_node some_mails first_mail e stand keep one rest = absurd keep
+kept_joined of (x ∷ xs) (y ∷ ys) (z ∷ zs) d n m (p ∷ ps) (o ∷ os) text mid new some first some_nodes first_node some_mails first_mail e stand keep one rest =
+    let same : x ≡ p.declared = cc e in
+    let others : xs ≡ map (λ (q : Placed). q.declared) ps = cc e in
+    let all : take (length (x ∷ xs) - 1) xs ≡ xs = take_all _ xs (omega arith) in
+    let all_nodes : take (length (y ∷ ys) - 1) ys ≡ ys = take_all _ ys (omega arith) in
+    let all_mails : take (length (z ∷ zs) - 1) zs ≡ zs = take_all _ zs (omega arith) in
+    let here : NodeStands n p.state = subst (λ (k : Kept). NodeStands k p.state) (sym first_node) stand.0 in
+    let mail : MailStands m o = subst (λ (v : Option StoreView). MailStands v o) (sym first_mail) keep.0 in
+    rest ps os (all ∙ others) (subst (λ (ks : List Kept). StandFor ks ps) (sym all_nodes) stand.1) (subst (λ (vs : List (Option StoreView)). MailsStand vs os) (sym all_mails) keep.1)
+    ∙ (ap (λ t. t ++ by_place of ps os) (one p o (first ∙ same) here mail) ∙ append_assoc text (of p o) (by_place of ps os))
 
 -- ---- the report as a whole
 
@@ -93,9 +110,9 @@ told_same left w trace =
     ∙ (ap (λ air. flat_map (told_text air (ends_left left)) w.told) trace.air ∙ ap (λ ends. flat_map (told_text w.air ends) w.told) (ends_same left w trace)))
 
 pub report_joined : (left : Left) (w : World) (late : Option Late) (empty first second third : List ℕ) → IsTraceOf left w → empty ≡ []
-    → first ≡ empty ++ flat_map (text_left left) left.events → second ≡ first ++ flat_map (node_text (ends_left left)) w.nodes → third ≡ second ++ verdict_line late
+    → first ≡ empty ++ flat_map (text_left left) left.events → second ≡ first ++ nodes_text (ends_left left) w.nodes w.mails → third ≡ second ++ verdict_line late
     → third ≡ report_text w late
 report_joined left w late empty first second third trace none events nodes verdict =
     let told : first ≡ flat_map (told_text w.air (λ node. ends_of node w.told)) w.told = events ∙ (ap (λ t. t ++ flat_map (text_left left) left.events) none ∙ told_same left w trace) in
-    let last : flat_map (node_text (ends_left left)) w.nodes ≡ flat_map (node_text (λ node. ends_of node w.told)) w.nodes = ap (λ ends. flat_map (node_text ends) w.nodes) (ends_same left w trace) in
-    verdict ∙ ap (λ t. t ++ verdict_line late) (nodes ∙ (ap (λ t. t ++ flat_map (node_text (ends_left left)) w.nodes) told ∙ ap (λ t. flat_map (told_text w.air (λ node. ends_of node w.told)) w.told ++ t) last))
+    let last : nodes_text (ends_left left) w.nodes w.mails ≡ nodes_text (λ node. ends_of node w.told) w.nodes w.mails = ap (λ ends. nodes_text ends w.nodes w.mails) (ends_same left w trace) in
+    verdict ∙ ap (λ t. t ++ verdict_line late) (nodes ∙ (ap (λ t. t ++ nodes_text (ends_left left) w.nodes w.mails) told ∙ ap (λ t. flat_map (told_text w.air (λ node. ends_of node w.told)) w.told ++ t) last))

@@ -1,5 +1,5 @@
 -- The ends that a node ever made, as the events tell of them. Own profile.
-use Rattle.std.specs.Prelude.{ℕ, zero, suc, ◌-◌, ◌==◌, List, [], ◌∷◌, ◌++◌, if◌then◌else◌}
+use Rattle.std.specs.Prelude.{ℕ, zero, suc, ◌-◌, ◌==◌, List, [], ◌∷◌, ◌++◌, slice_get, Option, Some, None, if◌then◌else◌}
 use Rattle.std.specs.declared.vec.Vec.{Vec}
 use Rattle.circuit_set.specs.Pumps.{Of}
 use Rattle.circuit_set.specs.Sets as sets
@@ -7,7 +7,7 @@ use Rattle.node_core.specs.States as nodes
 use Rattle.net_replay.specs.declared.ends.EndRecord.{EndRecord}
 use Rattle.net_replay.specs.declared.ends.Outcome.{Outcome}
 use Rattle.net_replay.specs.declared.ends.Outcome.TheVariants as outcomes
-use Rattle.net_replay.specs.Events.{Event, Entry, Lost, NumberedEvent}
+use Rattle.net_replay.specs.Events.{Event, Entry, Lost, Offered, NumberedEvent}
 
 -- the records, where the one at a place has come to this
 abbrev pub with_outcome : Outcome → ℕ → List EndRecord → List EndRecord
@@ -15,9 +15,15 @@ with_outcome outcome at [] = []
 with_outcome outcome zero (end ∷ ends) = record end { outcome = outcome } ∷ ends
 with_outcome outcome (suc at) (end ∷ ends) = end ∷ with_outcome outcome at ends
 
+-- the records, where the mail of this number was offered last at the one at a place
+abbrev pub with_offered : ℕ → ℕ → List EndRecord → List EndRecord
+with_offered number at [] = []
+with_offered number zero (end ∷ ends) = record end { offered = number } ∷ ends
+with_offered number (suc at) (end ∷ ends) = end ∷ with_offered number at ends
+
 -- an end is made, behind those before, or is gone. Ends are numbered from 1
 abbrev pub note_told : sets.Told → List EndRecord → List EndRecord
-note_told (sets.Made id pair partner request) ends = ends ++ record { partner = partner; outcome = outcomes.Held } ∷ []
+note_told (sets.Made id pair partner request) ends = ends ++ record { partner = partner; outcome = outcomes.Held; offered = 0 } ∷ []
 note_told (sets.Gone id facts) ends = with_outcome (outcomes.Gone facts) (id - 1) ends
 note_told told ends = ends
 
@@ -29,6 +35,7 @@ note_entry entry ends = ends
 abbrev pub note_event : ℕ → Event → List EndRecord → List EndRecord
 note_event number (Entry node entry) ends = if node == number then note_entry entry ends else ends
 note_event number (Lost node end facts) ends = if node == number then with_outcome (outcomes.Lost facts) (end - 1) ends else ends
+note_event number (Offered node end mail) ends = if node == number then with_offered mail (end - 1) ends else ends
 note_event number event ends = ends
 
 abbrev pub note_events : ℕ → List NumberedEvent → List EndRecord → List EndRecord
@@ -38,6 +45,14 @@ note_events number (e ∷ es) ends = note_events number es (note_event number e.
 -- the ends that the node of that number ever made, in the order of their making
 abbrev pub ends_of : ℕ → List NumberedEvent → List EndRecord
 ends_of number told = note_events number told []
+
+-- the number of the last mail that was offered at an end; 0 where none was
+abbrev pub offered_of : Option EndRecord → ℕ
+offered_of None = 0
+offered_of (Some end) = end.offered
+
+abbrev pub offered_at : ℕ → List EndRecord → ℕ
+offered_at id ends = offered_of (slice_get ends (id - 1))
 
 -- lists of ends by the numbers of their nodes
 abbrev pub ends_at : ℕ → List (List EndRecord) → List EndRecord

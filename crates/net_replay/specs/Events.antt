@@ -1,5 +1,6 @@
 -- What there is to tell of a replay, as plain data. Own profile.
 use Rattle.std.specs.Prelude.{ℕ, List}
+use Rattle.ax_address.specs.Callsign.{Callsign}
 use Rattle.circuit_l4.specs.declared.facts.EndFacts.{EndFacts}
 use Rattle.circuit_l4.specs.declared.transport.Pair.{Pair}
 use Rattle.circuit_set.specs.Pumps.{Of}
@@ -14,7 +15,7 @@ use Rattle.net_replay.specs.Tables.{Table}
 
 -- What the node of a number tells; that a frame was put in the air, goes to a node, or is settled since it is lost; a table that was
 -- shown; a message that was taken, and how many of a burst were written; that a node started again, and that this took an end away;
--- and why an act wasn't done.
+-- and why an act wasn't done; that a mail was posted, offered at an end, is stored, or is settled.
 pub data Event : Type 0 where
   Entry : (node : ℕ) (entry : nodes.Entry) → Event
   InAir : (frame : ℕ) → Event
@@ -26,6 +27,10 @@ pub data Event : Type 0 where
   Restarted : (node : ℕ) (pair : Pair) → Event
   Lost : (node end : ℕ) (facts : EndFacts) → Event
   Refused : LineRefusal → Event
+  Posted : (node number : ℕ) → Event
+  Offered : (node end number : ℕ) → Event
+  MailStored : (node : ℕ) (origin : Callsign) (number : ℕ) (to : Callsign) (len : ℕ) → Event
+  MailSettled : (node number : ℕ) → Event
 
 -- with the number of the line at which it came, from 1
 pub record NumberedEvent : Type 0 where
@@ -47,6 +52,10 @@ event_of (codes.Wrote node end count) = Wrote node end count
 event_of (codes.Restarted node pair) = Restarted node pair
 event_of (codes.Lost node end) = Lost node end.value.id end.value.facts
 event_of (codes.Refused why) = Refused why
+event_of (codes.Posted node number) = Posted node number
+event_of (codes.Offered node offer) = Offered node offer.value.id offer.value.number
+event_of (codes.MailStored node mail) = MailStored node mail.value.origin mail.value.number mail.value.to mail.value.len
+event_of (codes.MailSettled node number) = MailSettled node number
 
 abbrev pub numbered_of : numbered.NumberedEvent → NumberedEvent
 numbered_of e = record { line = e.line; event = event_of e.event }

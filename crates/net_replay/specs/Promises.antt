@@ -8,9 +8,12 @@ use Rattle.circuit_set.specs.Sets.{Holder, end_of}
 use Rattle.network_file.specs.declared.network.NumberedInstruction.{NumberedInstruction}
 use Rattle.network_file.specs.Networks.{network_of}
 use Rattle.network_file.specs.Plan.{Plan}
+use Rattle.node_mail.specs.Lists.{Lists}
+use Rattle.node_mail.specs.MailOnce.{MailOnce}
 use Rattle.net_replay.specs.CircuitRuns.{IsRunOf, first_sets, set_of}
 use Rattle.net_replay.specs.Circuits.{IsVerdictOn, circuit_events}
 use Rattle.net_replay.specs.Lines.{do_lines, world}
+use Rattle.net_replay.specs.Mailing.{mail_at}
 use Rattle.net_replay.specs.Starting.{Placed}
 use Rattle.net_replay.specs.World.{World, start}
 
@@ -44,6 +47,25 @@ SafeThroughout plan = (done later : List NumberedInstruction) → plan.instructi
 -- so it is with each file of which no datagram and no pair comes back too late
 abbrev pub InTimeIsSafe : Type 0
 InTimeIsSafe = (bytes : List ℕ) (plan : Plan) → network_of bytes ≡ Ok plan → IsVerdictOn plan (world plan) None → SafeThroughout plan
+
+-- Of any two nodes that keep mail: what the second has stored from the first has different numbers, and each is as it
+-- was posted there for the second; and each mail that was posted there for it is queued there or stored here.
+abbrev pub MailOnceNow : World → Type 0
+MailOnceNow w =
+    (a b : ℕ) (p q : Placed) (from at : Lists) → slice_get w.nodes a ≡ Some p → slice_get w.nodes b ≡ Some q
+    → mail_at a w ≡ Some from → mail_at b w ≡ Some at → MailOnce p.declared.call q.declared.call from at
+
+-- at each line
+abbrev pub MailOnceThroughout : Plan → Type 0
+MailOnceThroughout plan =
+    (done later : List NumberedInstruction) → plan.instructions ≡ done ++ later
+    → MailOnceNow (do_lines plan done (start plan))
+
+-- so it is with each file of which no datagram and no pair comes back too late
+abbrev pub InTimeMailIsOnce : Type 0
+InTimeMailIsOnce =
+    (bytes : List ℕ) (plan : Plan) → network_of bytes ≡ Ok plan → IsVerdictOn plan (world plan) None
+    → MailOnceThroughout plan
 
 -- At each moment of the run that the lines of a front of a file have come to, an end was told that its retries are used up exactly where
 -- there was one expiry more than there are retries, since it was made, since more was acknowledged, or since it began to close.

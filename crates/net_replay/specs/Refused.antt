@@ -1,5 +1,5 @@
 -- Why a node didn't do what a line asks for, as the line's refusal. Want of memory is none. Own profile.
-use Rattle.std.specs.Prelude.{Option, Some, None}
+use Rattle.std.specs.Prelude.{List, [], ◌∷◌, Option, Some, None}
 use Rattle.circuit_l4.specs.declared.refusal.WriteRefusal.{WriteRefusal}
 use Rattle.circuit_l4.specs.declared.refusal.WriteRefusal.TheVariants as writes
 use Rattle.circuit_set.specs.declared.event.ConnectRefusal.{ConnectRefusal}
@@ -9,6 +9,10 @@ use Rattle.route_table.specs.declared.route.LockRefusal.TheVariants as locks
 use Rattle.net_replay.specs.declared.reasons.LineRefusal.{LineRefusal}
 use Rattle.node_core.specs.declared.acts.ActRefusal.{ActRefusal}
 use Rattle.node_core.specs.declared.acts.ActRefusal.TheVariants as acts
+use Rattle.net_replay.specs.Events as events
+use Rattle.net_replay.specs.Events.{Event}
+use Rattle.node_mail.specs.declared.mail.PostRefusal.{PostRefusal}
+use Rattle.node_mail.specs.declared.mail.PostRefusal.TheVariants as posts
 use Rattle.net_replay.specs.declared.reasons.LineRefusal.TheVariants.{NoEnd, Served, Nothing, Own, NoRoute, Full, NotUp, Closing, Empty, TooLong, QueueFull, Exhausted, TooLow, TableFull}
 
 abbrev pub of_connect : ConnectRefusal → Option LineRefusal
@@ -39,3 +43,17 @@ of_act (acts.Connect why) = of_connect why
 of_act (acts.Lock why) = of_lock why
 of_act (acts.Write why) = Some (of_write why)
 of_act acts.NoMemory = None
+
+-- a mail isn't posted
+abbrev pub of_post : PostRefusal → Option LineRefusal
+of_post posts.Own = Some Own
+of_post posts.Empty = Some Empty
+of_post posts.TooLong = Some TooLong
+of_post posts.Full = Some Full
+of_post posts.Exhausted = Some Exhausted
+of_post posts.NoMemory = None
+
+-- why something isn't done is told
+abbrev pub refusal_events : Option LineRefusal → List Event
+refusal_events None = []
+refusal_events (Some why) = events.Refused why ∷ []

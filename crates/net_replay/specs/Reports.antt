@@ -1,5 +1,5 @@
 -- The report of a network, line by line. Own profile.
-use Rattle.std.specs.Prelude.{ℕ, List, [], ◌++◌, flat_map, Option, Some, None, Result, Ok, Err, codes, if◌then◌else◌}
+use Rattle.std.specs.Prelude.{ℕ, List, [], ◌∷◌, ◌++◌, flat_map, length, Option, Some, None, Result, Ok, Err, codes, if◌then◌else◌}
 use Rattle.std.specs.Fmt.{decimal}
 use Rattle.ax_address.specs.Callsign as calls
 use Rattle.ax_address.specs.Alias as aliases
@@ -10,17 +10,19 @@ use Rattle.ax_frame.specs.Read.{read_at}
 use Rattle.circuit_verdict.specs.declared.verdict.Late.{Late}
 use Rattle.circuit_verdict.specs.declared.verdict.LateWhy.{LateWhy}
 use Rattle.circuit_verdict.specs.declared.verdict.LateWhy.TheVariants.{Overtaken, Returned}
+use Rattle.node_mail.specs.Lists.{Lists}
 use Rattle.route_table.specs.declared.route.Route.{Route}
 use Rattle.net_replay.specs.declared.air.Aired.{Aired}
 use Rattle.net_replay.specs.declared.ends.EndRecord.{EndRecord}
 use Rattle.net_replay.specs.Air.{frame_of}
 use Rattle.net_replay.specs.Ends.{ends_of}
-use Rattle.net_replay.specs.Events.{Event, Entry, InAir, Delivered, Settled, Shown, Took, Wrote, Restarted, Lost, Refused, NumberedEvent}
+use Rattle.net_replay.specs.Events.{Event, Entry, InAir, Delivered, Settled, Shown, Took, Wrote, Restarted, Lost, Refused, Posted, Offered, MailStored, MailSettled, NumberedEvent}
 use Rattle.net_replay.specs.Lines.{table_of}
 use Rattle.net_replay.specs.Reasons.{word_for_why}
 use Rattle.net_replay.specs.Starting.{Placed}
 use Rattle.net_replay.specs.Tables.{Table}
 use Rattle.net_replay.specs.ToldEntries.{entry_text, last_texts}
+use Rattle.net_replay.specs.ToldMails.{done_line, mail_line, posted_line, stored_line}
 use Rattle.net_replay.specs.ToldLines.{restarted_line, took_line, wrote_line}
 use Rattle.net_replay.specs.World.{World}
 
@@ -75,14 +77,35 @@ event_text air ends line (Wrote node end count) = wrote_line node end count
 event_text air ends line (Restarted node pair) = restarted_line node
 event_text air ends line (Lost node end facts) = []
 event_text air ends line (Refused why) = refused_line line (word_for_why why)
+event_text air ends line (Posted node number) = posted_line node number
+event_text air ends line (Offered node end number) = []
+event_text air ends line (MailStored node origin number to len) = stored_line node origin number to len
+event_text air ends line (MailSettled node number) = done_line node number
 
 abbrev pub told_text : List Aired → (ℕ → List EndRecord) → NumberedEvent → List ℕ
 told_text air ends e = event_text air ends e.line e.event
+
+-- how much mail a node has left, where it keeps any
+abbrev pub mail_text : ℕ → Option Lists → List ℕ
+mail_text node None = []
+mail_text node (Some s) = mail_line node (length s.queued) (length s.stored)
 
 -- a node as it was left: its table, and its ends
 abbrev pub node_text : (ℕ → List EndRecord) → Placed → List ℕ
 node_text ends p =
     table_text (table_of p) ++ last_texts p.declared.node 1 (ends p.declared.node) p.state.station.set.set.ends
+
+abbrev pub kept_text : (ℕ → List EndRecord) → Placed → Option Lists → List ℕ
+kept_text ends p mail = node_text ends p ++ mail_text p.declared.node mail
+
+-- what is told of the nodes and their mail, place by place
+abbrev pub by_place : {A : Type 0} → (Placed → Option Lists → List A) → List Placed → List (Option Lists) → List A
+by_place of [] mails = []
+by_place of (p ∷ nodes) [] = []
+by_place of (p ∷ nodes) (mail ∷ mails) = of p mail ++ by_place of nodes mails
+
+abbrev pub nodes_text : (ℕ → List EndRecord) → List Placed → List (Option Lists) → List ℕ
+nodes_text ends nodes mails = by_place (kept_text ends) nodes mails
 
 abbrev pub late_word : LateWhy → List ℕ
 late_word Overtaken = codes "overtaken"
@@ -93,8 +116,8 @@ abbrev pub verdict_line : Option Late → List ℕ
 verdict_line None = codes "verdict done\n"
 verdict_line (Some late) = codes "verdict late " ++ (decimal late.line ++ (codes " " ++ (late_word late.why ++ codes "\n")))
 
--- what was told, each node as it was left, and the verdict
+-- what was told, each node with its mail as it was left, and the verdict
 abbrev pub report_text : World → Option Late → List ℕ
 report_text w late =
-    (flat_map (told_text w.air (λ node. ends_of node w.told)) w.told ++ flat_map (node_text (λ node. ends_of node w.told)) w.nodes)
+    (flat_map (told_text w.air (λ node. ends_of node w.told)) w.told ++ nodes_text (λ node. ends_of node w.told) w.nodes w.mails)
     ++ verdict_line late

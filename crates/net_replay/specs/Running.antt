@@ -30,7 +30,7 @@ pub record Course : Type 0 where
 
 abbrev pub course : code.World → Course
 course w = record {
-  left = record { declared = w.declared.items; nodes = w.nodes.items; air = w.air; ends = w.ends; events = w.events.items };
+  left = record { declared = w.declared.items; nodes = w.nodes.items; mails = w.mails.items; air = w.air; ends = w.ends; events = w.events.items };
   now = w.time.0;
 }
 

@@ -1,5 +1,5 @@
 -- How the nodes of a network start. Own profile.
-use Rattle.std.specs.Prelude.{ℕ, zero, suc, Bool, false, ◌==◌, List, [], ◌∷◌, ◌++◌, map, filter, Option, Some, None, unwrap_or, Result, Ok, Err}
+use Rattle.std.specs.Prelude.{ℕ, zero, suc, Bool, false, ◌==◌, List, [], ◌∷◌, ◌++◌, map, filter, Option, Some, None, unwrap_or, Result, Ok, Err, if◌then◌else◌}
 use Rattle.arrayvec.specs.ArrayVec.{ArrayVec}
 use Rattle.ax_address.specs.Callsign.{Callsign}
 use Rattle.ax_address.specs.declared.address.Address.{Address}
@@ -9,7 +9,7 @@ use Rattle.circuit_l4.specs.declared.transport.Pair.{Pair}
 use Rattle.link_table.specs.Calls as links
 use Rattle.link_table.specs.declared.path_refusal.PathRefusal.{PathRefusal}
 use Rattle.network_file.specs.declared.plan.declarations.Declaration.{Declaration}
-use Rattle.network_file.specs.declared.plan.keys.Key.TheVariants.{Window, Timeout, Retries, Busy, Inactive, TimeToLive, Life, Least, MinimumQuality, PathQuality, Links, Modulo, LinkWindow, SelectiveReject, T1, T3, LinkRetries, Prompt, Interval}
+use Rattle.network_file.specs.declared.plan.keys.Key.TheVariants.{Window, Timeout, Retries, Busy, Inactive, TimeToLive, Life, Least, MinimumQuality, PathQuality, Links, Modulo, LinkWindow, SelectiveReject, T1, T3, LinkRetries, Prompt, Interval, Mail}
 use Rattle.network_file.specs.declared.plan.live.LiveNode.{LiveNode}
 use Rattle.network_file.specs.declared.plan.vias.Via.{Via}
 use Rattle.network_file.specs.Keys.{Assignment}
@@ -21,6 +21,7 @@ use Rattle.node_core.specs.Broadcasts.{address_of}
 use Rattle.route_table.specs.declared.route.RouteRules.{RouteRules}
 use Rattle.node_core.specs.Configs.{new_node}
 use Rattle.node_core.specs.States.{NodeState, at_links}
+use Rattle.node_mail.specs.Lists.{Lists, nothing_kept}
 
 -- ---- the settings of a node
 
@@ -139,3 +140,11 @@ by_number declared number (suc count) = filter (has_number number) declared ++ b
 -- the nodes of a network by number, from 1 to 16, as they start
 abbrev pub new_nodes : Plan → List Placed
 new_nodes plan = map (new_placed plan) (by_number plan.declared 1 16)
+
+-- ---- their mail: a node keeps none unless its key says so, and nothing at first
+
+abbrev pub new_mail : List Assignment → Declaration → Option Lists
+new_mail settings d = if value_of settings d.node Mail == 1 then Some (nothing_kept d.call) else None
+
+abbrev pub new_mails : Plan → List (Option Lists)
+new_mails plan = map (new_mail plan.settings) (by_number plan.declared 1 16)

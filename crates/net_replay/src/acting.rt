@@ -1,11 +1,12 @@
 //! The lines at one node: what its user does, and its table; and time, which goes on at all of them.
-ghost use Rattle.std.specs.Prelude.{◌≡◌, ℕ, false, OnOk, IfOk, length, slice_get};
+ghost use Rattle.std.specs.Prelude.{◌≡◌, [], ℕ, false, OnOk, IfOk, length, slice_get};
 ghost use Rattle.std.specs.Option.{option_map};
 ghost use Rattle.node_core.specs.Broadcasts.{broadcast_octets};
 ghost use Rattle.node_core.specs.UserActs as acts;
 ghost use Rattle.node_core.specs.UserActs.{act_of};
 ghost use Rattle.nodes_broadcast.specs.Nodes.{view};
 ghost use Rattle.net_replay.specs.Lines as lines;
+ghost use Rattle.net_replay.specs.Mailing as mailing;
 ghost use Rattle.net_replay.specs.Running as running;
 ghost use Rattle.net_replay.specs.Running.{GoesOn, Runs, Stands, course};
 ghost use Rattle.net_replay.specs.World as worlds;
@@ -13,7 +14,7 @@ ghost use Rattle.net_replay.specs.World as worlds;
 use crate::answer::Answer;
 use crate::events::{Event, Table};
 use crate::moves::World;
-use crate::reasons::ReplayRefusal;
+use crate::reasons::{LineRefusal, ReplayRefusal};
 use crate::stations::shown;
 use ax_address::Call;
 use network_file::Channel;
@@ -67,7 +68,7 @@ impl World {
         }
     }
 
-    /// A text is written at an end, as a message.
+    /// A text is written at an end, as a message, unless the end is an agent's.
     pub fn say(
         &mut self,
         channels: &[Channel],
@@ -76,8 +77,12 @@ impl World {
         end: u32,
         text: &[u8],
     ) -> Result<(), ReplayRefusal>
-        ensures { Runs (course self.old) (course self.new) (lines.do_act channels.now line number (acts.Write end text.now) lines.told_of) result }
+        ensures { Runs (course self.old) (course self.new) (mailing.unless_agents line number end [] (lines.do_act channels.now line number (acts.Write end text.now) lines.told_of)) result }
     {
+        if self.is_agents(number, end) {
+            self.refuse(line, LineRefusal::Served)?;
+            return Ok(());
+        }
         let act = UserAct::Write {
             id: end as u64,
             message: text,
@@ -85,8 +90,25 @@ impl World {
         self.act(channels, line, number, &act)
     }
 
-    /// A message is taken from an end.
+    /// A message is taken from an end, unless the end is an agent's.
     pub fn take(
+        &mut self,
+        channels: &[Channel],
+        line: u32,
+        number: u8,
+        end: u32,
+    ) -> Result<(), ReplayRefusal>
+        ensures { Runs (course self.old) (course self.new) (mailing.unless_agents line number end [] (lines.do_act channels.now line number (acts.Take end) (lines.took_of number end))) result }
+    {
+        if self.is_agents(number, end) {
+            self.refuse(line, LineRefusal::Served)?;
+            return Ok(());
+        }
+        self.take_there(channels, line, number, end)
+    }
+
+    /// The same at an end that isn't an agent's.
+    fn take_there(
         &mut self,
         channels: &[Channel],
         line: u32,

@@ -1,8 +1,10 @@
 //! Bursts: many messages that are written at an end.
-ghost use Rattle.std.specs.Prelude.{◌≡◌, ◌≤◌, ◌+◌, ℕ, OnOk, IfOk, IfErr, suc};
+ghost use Rattle.std.specs.Prelude.{◌≡◌, ◌≤◌, ◌+◌, ◌∷◌, [], ℕ, OnOk, IfOk, IfErr, suc};
 ghost use Rattle.std.specs.Fmt.{decimal};
 ghost use Rattle.node_core.specs.UserActs as acts;
+ghost use Rattle.net_replay.specs.Events.{Wrote};
 ghost use Rattle.net_replay.specs.Lines as lines;
+ghost use Rattle.net_replay.specs.Mailing as mailing;
 ghost use Rattle.net_replay.specs.Running as running;
 ghost use Rattle.net_replay.specs.Running.{GoesOn, IsAnswerTo, Runs, Stands, Stops, course};
 ghost use Rattle.net_replay.specs.World as worlds;
@@ -10,14 +12,38 @@ ghost use Rattle.net_replay.specs.World as worlds;
 use crate::answer::Answer;
 use crate::events::Event;
 use crate::moves::World;
-use crate::reasons::ReplayRefusal;
+use crate::reasons::{LineRefusal, ReplayRefusal};
 use network_file::Channel;
 use node_core::UserAct;
 use radio_base::NoMemory;
 
 impl World {
-    /// The decimal texts from 1 to `count` are written at an end, up to the first that is refused.
+    /// The decimal texts from 1 to `count` are written at an end, up to the first that is refused; none where the end is an agent's.
     pub fn burst(
+        &mut self,
+        channels: &[Channel],
+        line: u32,
+        number: u8,
+        end: u32,
+        count: u32,
+    ) -> Result<(), ReplayRefusal>
+        ensures { Runs (course self.old) (course self.new) (mailing.unless_agents line number end (Wrote number end 0 ∷ []) (lines.burst channels.now line number end count)) result }
+    {
+        if self.is_agents(number, end) {
+            let none = Event::Wrote {
+                node: number,
+                end,
+                count: 0,
+            };
+            self.tell(line, none)?;
+            self.refuse(line, LineRefusal::Served)?;
+            return Ok(());
+        }
+        self.burst_there(channels, line, number, end, count)
+    }
+
+    /// The same at an end that isn't an agent's.
+    fn burst_there(
         &mut self,
         channels: &[Channel],
         line: u32,

@@ -4,7 +4,7 @@ ghost use Rattle.node_core.specs.Standing.{entry_of};
 ghost use Rattle.net_replay.specs.Ends as ends;
 ghost use Rattle.net_replay.specs.Events.{event_of};
 
-use crate::events::{Event, LostEnd};
+use crate::events::{Event, LostEnd, Offer};
 use ax_address::Call;
 use circuit_l4::EndFacts;
 use circuit_set::SetEvent;
@@ -30,6 +30,8 @@ pub struct EndRecord {
     /// The partner's node.
     pub partner: Call,
     pub outcome: Outcome,
+    /// The number of the last mail that was offered there; 0 where none was.
+    pub offered: u64,
 }
 
 /// The ends that nodes ever made: a list for each number that a node can have.
@@ -52,7 +54,7 @@ impl Model for Ends {
 
 impl Ends {
     ghost use Rattle.std.specs.Prelude.{◌≡◌, ℕ, [], IfOk, OnOk};
-    ghost use Rattle.net_replay.specs.Ends.{ends_at, note_event};
+    ghost use Rattle.net_replay.specs.Ends.{ends_at, note_event, offered_at};
     ghost use Rattle.net_replay.specs.Events.{event_of};
 
     /// No node has made one.
@@ -68,6 +70,16 @@ impl Ends {
         ensures { result.now ≡ ends_at node self.now }
     {
         &self.lists[node as usize]
+    }
+
+    /// The number of the last mail that was offered at the end of that number at a node; 0 where none was.
+    pub fn offered(&self, node: u8, id: u64) -> u64
+        ensures { result ≡ offered_at id (ends_at node self.now) }
+    {
+        match self.of_node(node).get(id.saturating_sub(1) as usize) {
+            Some(end) => end.offered,
+            None => 0,
+        }
     }
 
     /// Keeps what an event tells of ends.
@@ -105,6 +117,11 @@ fn note_in(lists: &mut [Vec<EndRecord>], event: &Event) -> Result<(), NoMemory>
             set_outcome(&mut lists[*node as usize], id, Outcome::Lost(facts));
             Ok(())
         }
+        Event::Offered { node, offer } => {
+            let Offer { id, number } = **offer;
+            set_offered(&mut lists[*node as usize], id, number);
+            Ok(())
+        }
         _ => Ok(()),
     }
 }
@@ -118,6 +135,7 @@ fn note_entry(made: &mut Vec<EndRecord>, entry: &NodeEntry) -> Result<(), NoMemo
             made.push(EndRecord {
                 partner: *partner,
                 outcome: Outcome::Held,
+                offered: 0,
             })?;
             Ok(())
         }
@@ -136,5 +154,15 @@ fn set_outcome(made: &mut [EndRecord], id: u64, outcome: Outcome)
     let at = id.saturating_sub(1) as usize;
     if at < made.len() {
         made[at].outcome = outcome;
+    }
+}
+
+/// Sets which mail was offered last at the end of that number, from 1.
+fn set_offered(made: &mut [EndRecord], id: u64, number: u64)
+    ensures { made.new ≡ ends.with_offered number (id - 1) made.old }
+{
+    let at = id.saturating_sub(1) as usize;
+    if at < made.len() {
+        made[at].offered = number;
     }
 }

@@ -96,6 +96,22 @@ pub struct SentDatagram {
     pub datagram: EndDatagram,
 }
 
+/// A mail that was offered: the end's number at its node, and the mail's.
+#[derive(Clone, Copy, Debug)]
+pub struct Offer {
+    pub id: u64,
+    pub number: u64,
+}
+
+/// A mail that is stored: where it was posted, its number there, its user, and how many octets its text has.
+#[derive(Clone, Copy, Debug)]
+pub struct StoredMail {
+    pub origin: Call,
+    pub number: u64,
+    pub to: Call,
+    pub len: usize,
+}
+
 /// Something that a replay has to tell. What is large and seldom stands on the heap, since there are three events for a frame.
 #[derive(Debug, Drop)]
 pub enum Event {
@@ -156,6 +172,26 @@ pub enum Event {
     /// An act wasn't done.
     Refused {
         why: LineRefusal,
+    },
+    /// A mail was posted at the node, and has this number there.
+    Posted {
+        node: u8,
+        number: u64,
+    },
+    /// The agent of the node has written a queued mail at an end.
+    Offered {
+        node: u8,
+        offer: Box<Offer>,
+    },
+    /// A mail is stored at the node.
+    MailStored {
+        node: u8,
+        mail: Box<StoredMail>,
+    },
+    /// The mail of that number, which was posted at the node, is stored where it was to go.
+    MailSettled {
+        node: u8,
+        number: u64,
     },
 }
 

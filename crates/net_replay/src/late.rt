@@ -141,7 +141,11 @@ fn told_in<'a>(event: &'a Event) -> Option<(u8, Told<'a>)>
         | Event::Shown { .. }
         | Event::Took { .. }
         | Event::Wrote { .. }
-        | Event::Refused { .. } => None,
+        | Event::Refused { .. }
+        | Event::Posted { .. }
+        | Event::Offered { .. }
+        | Event::MailStored { .. }
+        | Event::MailSettled { .. } => None,
     }
 }
 

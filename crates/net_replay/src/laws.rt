@@ -3,7 +3,7 @@ ghost use Rattle.net_replay.specs.CircuitRuns.{NetworksAreSound, WorldsAreRuns};
 ghost use Rattle.net_replay.specs.Conversations.{InTimeUsersAgree};
 ghost use Rattle.net_replay.specs.Datagrams.{DatagramsSent};
 ghost use Rattle.net_replay.specs.Hops.{HopsTakeOne};
-ghost use Rattle.net_replay.specs.Promises.{EachTellsRetries, InTimeIsSafe};
+ghost use Rattle.net_replay.specs.Promises.{EachTellsRetries, InTimeIsSafe, InTimeMailIsOnce};
 ghost use Rattle.net_replay.specs.Returning.{CopiesAloneReturn};
 
 /// In every network of a file the nodes' circuits start as circuits do; a circuit is asked for with a call, and a node starts again at a pair.
@@ -36,6 +36,25 @@ pub fn in_time_is_safe()
     circuit_set::laws::book_tells_what_is_late();
     circuit_set::laws::narrow_is_timely();
     network_file::laws::networks_fit();
+}
+
+/// Where no datagram and no pair comes back too late: at each line, of any two nodes that keep mail, what one has stored from the other has
+/// different numbers, and each is as it was posted there for it; and each mail that was posted there for it is queued there or stored here.
+pub fn mail_in_time()
+    ensures { InTimeMailIsOnce }
+{
+    networks_are_sound();
+    node_core::laws::inputs_are_circuit_runs();
+    node_core::laws::inputs_are_steps();
+    circuit_set::laws::ends_wrote_by_writes();
+    circuit_set::laws::ends_stay();
+    circuit_set::laws::partners_face();
+    circuit_set::laws::circuits_safe();
+    circuit_set::laws::book_tells_what_is_late();
+    circuit_set::laws::partners_stay();
+    circuit_set::laws::narrow_is_timely();
+    network_file::laws::networks_fit();
+    node_mail::laws::mail_once();
 }
 
 /// Where no datagram and no pair comes back too late: at each line, of each user at a prompt whose circuit stands, what the user was given is a

@@ -25,16 +25,19 @@ use ax_address::Call;
 use link_table::{Written, WrittenAs};
 use network_file::{Channel, Declaration, is_on_air};
 use node_core::{Node, NodeEntry, UserAct, broadcast_frame};
+use node_mail::Store;
 use nodes_broadcast::Nodes;
 use radio_base::{Moment, NoMemory};
 use std::alloc::Global;
 
-/// A replay while it runs: the nodes by number, the time, the frames in the air, and the events so far.
+/// A replay while it runs: the nodes by number and their mail, the time, the frames in the air, and the events so far.
 #[derive(Drop)]
 pub struct World {
     pub alloc: Global,
     pub declared: Vec<Declaration>,
     pub nodes: Vec<Node>,
+    /// The mail of each node, by place; none where a node keeps no mail.
+    pub mails: Vec<Option<Store>>,
     pub time: Moment,
     pub air: Air,
     pub ends: Ends,

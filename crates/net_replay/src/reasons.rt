@@ -43,6 +43,8 @@ pub enum LineRefusal {
     Settled,
     /// The frame isn't settled yet.
     NotSettled,
+    /// The node keeps no mail.
+    NoMail,
 }
 
 impl fmt::Display for LineRefusal {
@@ -71,6 +73,7 @@ impl fmt::Display for LineRefusal {
             LineRefusal::NoChannel => "no channel",
             LineRefusal::Settled => "settled",
             LineRefusal::NotSettled => "not settled",
+            LineRefusal::NoMail => "no mail",
         })
     }
 }

@@ -6,6 +6,7 @@ use crate::reasons::LineRefusal;
 use circuit_l4::WriteRefusal;
 use circuit_set::ConnectRefusal;
 use node_core::ActRefusal;
+use node_mail::PostRefusal;
 use route_table::LockRefusal;
 
 /// Why a node didn't act.
@@ -58,5 +59,19 @@ fn of_write(refusal: WriteRefusal) -> LineRefusal
         WriteRefusal::TooLong => LineRefusal::TooLong,
         WriteRefusal::QueueFull => LineRefusal::QueueFull,
         WriteRefusal::Exhausted => LineRefusal::Exhausted,
+    }
+}
+
+/// Why a mail isn't posted.
+pub fn of_post(refusal: PostRefusal) -> Option<LineRefusal>
+    ensures { result ≡ refused.of_post refusal }
+{
+    match refusal {
+        PostRefusal::Own => Some(LineRefusal::Own),
+        PostRefusal::Empty => Some(LineRefusal::Empty),
+        PostRefusal::TooLong => Some(LineRefusal::TooLong),
+        PostRefusal::Full => Some(LineRefusal::Full),
+        PostRefusal::Exhausted => Some(LineRefusal::Exhausted),
+        PostRefusal::NoMemory => None,
     }
 }

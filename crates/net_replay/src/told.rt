@@ -1,3 +1,5 @@
-//! The lines of a report on links, circuits and datagrams, and the words in them.
+//! The lines of a report on links, circuits, datagrams, mail and tables, and the words in them.
 pub mod lines;
+pub mod mails;
+pub mod tables;
 pub mod words;

@@ -88,6 +88,16 @@ impl World {
                 *node,
                 &UserAct::Connect(*dest),
             ),
+            Instruction::Post {
+                node,
+                to,
+                dest,
+                text,
+            } => {
+                self.post(line, *node, to, dest, text.as_slice())?;
+                Ok(())
+            }
+            Instruction::Mail { node } => self.mail(channels, line, *node),
             Instruction::Say { node, end, text } => self.say(
                 channels,
                 line,

@@ -19,30 +19,40 @@ use Rattle.network_file.specs.declared.plan.vias.Via.{Via}
 use Rattle.network_file.specs.declared.reasons.What.{What}
 use Rattle.network_file.specs.declared.reasons.What.TheVariants as whats
 use Rattle.network_file.specs.Keys.{Assignment, key_at, least_of, most_of, takes}
-use Rattle.network_file.specs.Laws.{AreDifferent, ArePairNumbers, CallsAreCalls, CallsDeclaredOnce, DeclaredOnce, HasCalls, HaveOwnCalls, IsCall, IsInRange, NamesCalls, NamesPair, PairsArePairs, SettingsFit, SettingsInRange}
+use Rattle.network_file.specs.Laws.{AreDifferent, ArePairNumbers, CallsAreCalls, CallsDeclaredOnce, DeclaredOnce, HasCalls, HaveOwnCalls, IsAllowed, IsCall, IsInRange, NamesCalls, NamesPair, NoMailAtPrompts, PairsArePairs, SettingsFit, SettingsInRange}
 use Rattle.network_file.specs.Lines.{Kind, all_kinds, in_time, line_at, line_by, line_of}
 use Rattle.network_file.specs.Lines.Circuits.{burst_at, end_alone, end_at, burst_line, close_line, open_line, say_at, say_line, take_line}
 use Rattle.network_file.specs.Lines.Declaring.{are_members, are_repeaters, calls_at, channel_line, members_at, declaration_at, node_line, set_line, setting_at, version_at, version_line, via_at, via_line}
 use Rattle.network_file.specs.Lines.Frames.{again_line, count_alone, frame_alone, frame_and_node, cut_line, deliver_line, flow_line, lose_line}
 use Rattle.network_file.specs.Lines.Heard.{are_entries, broadcast_at, entries_at, heard_line}
+use Rattle.network_file.specs.Lines.Mails.{mail_line, node_and_calls_at, post_at, post_line, posted_text}
 use Rattle.network_file.specs.Lines.Nodes.{linkfail_line, node_alone, node_and_call, node_and_call_at, lock_at, lock_line, restart_at, restart_line, round_line, show_line, tick_at, tick_line}
 use Rattle.network_file.proofs.Declared.{more_calls, more_different}
+use Rattle.network_file.proofs.Prompts.{AreApart, known_key, more_apart}
 use Rattle.network_file.proofs.Ranges.{ranged}
 use Rattle.network_file.specs.Networks.{Bad, after_line, after_lines, and_then, network_of, nothing, with_line, with_said}
 use Rattle.network_file.specs.Places.{alias_at, call_at, has_call, has_node, known, needs, new_call_at, new_node_at, new_peer_at, node_at, number_at, value_at}
-use Rattle.network_file.specs.Settings.{set_to}
+use Rattle.network_file.specs.Settings.{clashes, set_to}
 use Rattle.network_file.specs.Plan.{Plan, is_untouched, may_declare, version_of}
 use Rattle.text_lines.specs.Lines.{is_skipped, is_text}
 use Rattle.text_lines.specs.Numbers.{is_number}
 use Rattle.text_lines.specs.Words.{words_of}
 use Rattle.network_file.specs.Lines.Circuits.{said_text}
 
--- what is known of a line that is read after a plan: a version comes first, a node is declared once, and a setting fits and is of a
--- declared node
+-- what is known of a setting that is read after a plan: it fits, is of a declared node, is set once, and makes no node keep mail that
+-- serves users at a prompt
+record FitsSetting (plan : Plan) (s : Assignment) : Type 0 where
+  allowed : IsAllowed (version_of plan) s
+  declared : has_node plan.declared s.node ≡ true
+  in_range : IsInRange s
+  new : is_none (set_to plan.settings s.node s.key) ≡ true
+  apart : clashes plan.settings s.node s.key s.value ≡ false
+
+-- and of a line: a version comes first, and a node is declared once
 abbrev Fits : Plan → Line → Type 0
 Fits plan (said.Version v) = is_untouched plan ≡ true
 Fits plan (said.Node d) = (has_node plan.declared d.node ≡ false) × (has_call plan.declared d.call ≡ false) × IsCall d.call
-Fits plan (said.Set s) = (takes (version_of plan) s.key s.value ≡ true) × (has_node plan.declared s.node ≡ true) × IsInRange s
+Fits plan (said.Set s) = FitsSetting plan s
 Fits plan (said.Channel c) = Unit {0}
 Fits plan (said.Via v) = AllByRecursion IsCall v.repeaters.items
 Fits plan (said.Instruction i) = NamesCalls i × NamesPair i
@@ -99,14 +109,20 @@ value_ranged least most word = bound (λ n. (least ≤ n) × (n ≤ most)) (need
 
 version_fits : (plan : Plan) → is_untouched plan ≡ true → (words : List (List ℕ)) (l : Line) → version_line words ≡ Ok l → Fits plan l
 unfolding version_at
-version_fits plan h (word ∷ []) l e = bound (Fits plan) (value_at 1 3 word) _ (λ v _. last (Fits plan) (said.Version v) h) l e
+version_fits plan h (word ∷ []) l e = bound (Fits plan) (value_at 1 4 word) _ (λ v _. last (Fits plan) (said.Version v) h) l e
 version_fits plan h other l e = absurd (cc e)
 
 set_fits : (plan : Plan) (words : List (List ℕ)) (l : Line) → set_line plan words ≡ Ok l → Fits plan l
 unfolding setting_at
 set_fits plan (number ∷ key ∷ word ∷ []) l e =
-    bound (Fits plan) (node_at plan.declared number) _ (λ n known. bound (Fits plan) (key_at key) _ (λ k _. bound (Fits plan) (needs (is_none (set_to plan.settings n k)) whats.Twice) _ (λ u _. bound (Fits plan) (value_at (least_of k) (most_of k) word) _ (λ v range. bound (Fits plan) (needs (takes (version_of plan) k v) whats.Value) _ (λ w may.
-    last (Fits plan) (said.Set (record { node = n; key = k; value = v })) (needed (takes (version_of plan) k v) whats.Value w may, declared_at plan.declared number n known, value_ranged (least_of k) (most_of k) word v range)))))) l e
+    bound (Fits plan) (node_at plan.declared number) _ (λ n known. bound (Fits plan) (key_at (version_of plan) key) _ (λ k has. bound (Fits plan) (needs (is_none (set_to plan.settings n k)) whats.Twice) _ (λ u new. bound (Fits plan) (value_at (least_of k) (most_of k) word) _ (λ v range. bound (Fits plan) (needs (takes (version_of plan) k v) whats.Value) _ (λ w may. bound (Fits plan) (needs (not (clashes plan.settings n k v)) whats.Value) _ (λ x apart.
+    last (Fits plan) (said.Set (record { node = n; key = k; value = v })) (record {
+      allowed = (known_key (version_of plan) key k has, needed (takes (version_of plan) k v) whats.Value w may);
+      declared = declared_at plan.declared number n known;
+      in_range = value_ranged (least_of k) (most_of k) word v range;
+      new = needed (is_none (set_to plan.settings n k)) whats.Twice u new;
+      apart = negated (clashes plan.settings n k v) (needed (not (clashes plan.settings n k v)) whats.Value x apart);
+    }))))))) l e
 set_fits plan other l e = absurd (cc e)
 
 channel_fits : (plan : Plan) (words : List (List ℕ)) (l : Line) → channel_line plan words ≡ Ok l → Fits plan l
@@ -206,6 +222,10 @@ module _ (reads : ReadsCallTexts) where
   unfolding close_line
   close_fits plan words l e = bound (Fits plan) (end_alone plan words) _ (λ n _ y z. done plan _ y z tt tt) l e
 
+  mail_fits : (plan : Plan) (words : List (List ℕ)) (l : Line) → mail_line plan words ≡ Ok l → Fits plan l
+  unfolding mail_line
+  mail_fits plan words l e = bound (Fits plan) (node_alone plan words) _ (λ n _ y z. done plan _ y z tt tt) l e
+
   deliver_fits : (plan : Plan) (words : List (List ℕ)) (l : Line) → deliver_line plan words ≡ Ok l → Fits plan l
   unfolding deliver_line
   deliver_fits plan words l e = bound (Fits plan) (frame_and_node plan words) _ (λ n _ y z. done plan _ y z tt tt) l e
@@ -230,6 +250,20 @@ module _ (reads : ReadsCallTexts) where
   unfolding say_at
   say_fits plan line (number ∷ nth ∷ more) l e = bound (Fits plan) (known whats.Count (said_text line)) _ (λ text _. bound (Fits plan) (end_at plan number nth) _ (λ n _ y z. done plan _ y z tt tt)) l e
   say_fits plan line other l e = absurd (cc e)
+
+  abbrev AreCalls : ℕ × Callsign × Callsign → Type 0
+  AreCalls p = IsCall p.1 × IsCall p.2
+
+  posts : (plan : Plan) (number to dest : List ℕ) (p : ℕ × Callsign × Callsign) → node_and_calls_at plan number to dest ≡ Ok p → AreCalls p
+  unfolding node_and_calls_at
+  posts plan number to dest =
+      bound AreCalls (node_at plan.declared number) _ (λ n _. bound AreCalls (call_at to) _ (λ t q. bound AreCalls (call_at dest) _ (λ d r. last AreCalls (n, t, d) (is_call to t q, is_call dest d r))))
+
+  post_fits : (plan : Plan) (line : List ℕ) (words : List (List ℕ)) (l : Line) → post_line plan line words ≡ Ok l → Fits plan l
+  unfolding post_at
+  post_fits plan line (number ∷ to ∷ dest ∷ more) l e =
+      bound (Fits plan) (known whats.Count (posted_text line)) _ (λ text _. bound (Fits plan) (node_and_calls_at plan number to dest) _ (λ p q y z. done plan _ y z (posts plan number to dest p q) tt)) l e
+  post_fits plan line other l e = absurd (cc e)
 
   -- ---- all kinds
 
@@ -274,7 +308,7 @@ module _ (reads : ReadsCallTexts) where
                         tick_fits,
                         (
                           restart_fits,
-                          (open_fits, (burst_fits, (take_fits, (close_fits, (deliver_fits, (again_fits, (lose_fits, (flow_fits, (cut_fits, tt))))))))),
+                          (open_fits, (burst_fits, (take_fits, (close_fits, (mail_fits, (deliver_fits, (again_fits, (lose_fits, (flow_fits, (cut_fits, tt)))))))))),
                         ),
                       ),
                     ),
@@ -290,7 +324,8 @@ module _ (reads : ReadsCallTexts) where
 
   of_fits : (plan : Plan) (line : List ℕ) (words : List (List ℕ)) (l : Line) → line_of plan line words ≡ Ok l → Fits plan l
   of_fits plan line [] l e = absurd (cc e)
-  of_fits plan line (first ∷ words) l e = either plan _ _ _ l (say_fits plan line words l) (by_fits all_kinds all_fit plan first words l) e
+  of_fits plan line (first ∷ words) l e =
+      either plan _ _ _ l (say_fits plan line words l) (either plan _ _ _ l (post_fits plan line words l) (by_fits all_kinds all_fit plan first words l)) e
 
   line_fits : (plan : Plan) (line : List ℕ) (l : Line) → line_at plan line ≡ Ok l → Fits plan l
   unfolding line_at
@@ -299,7 +334,8 @@ module _ (reads : ReadsCallTexts) where
   -- ---- a plan, line by line
 
   record IsFit (plan : Plan) : Type 0 where
-    settings : AllByRecursion (λ (s : Assignment). takes (version_of plan) s.key s.value ≡ true) plan.settings
+    settings : AllByRecursion (IsAllowed (version_of plan)) plan.settings
+    apart : AreApart plan.settings
     ranges : AllByRecursion IsInRange plan.settings
     none : plan.declared ≡ [] → plan.settings ≡ []
     different : AreDifferent plan.declared
@@ -331,7 +367,8 @@ module _ (reads : ReadsCallTexts) where
   line_keeps n (said.Version v) plan f fit =
       let none = fit.none (untouched plan f) in
       record {
-        settings = subst (AllByRecursion (λ (s : Assignment). takes v s.key s.value ≡ true)) (sym none) tt;
+        settings = subst (AllByRecursion (IsAllowed v)) (sym none) tt;
+        apart = fit.apart;
         ranges = fit.ranges;
         none = fit.none;
         different = fit.different;
@@ -341,6 +378,7 @@ module _ (reads : ReadsCallTexts) where
       }
   line_keeps n (said.Node d) plan f fit = record {
     settings = fit.settings;
+    apart = fit.apart;
     ranges = fit.ranges;
     none = λ e. absurd (never_empty plan.declared d e);
     different = more_different plan.declared d f.0 fit.different;
@@ -350,6 +388,7 @@ module _ (reads : ReadsCallTexts) where
   }
   line_keeps n (said.Channel c) plan f fit = record {
     settings = fit.settings;
+    apart = fit.apart;
     ranges = fit.ranges;
     none = fit.none;
     different = fit.different;
@@ -359,9 +398,10 @@ module _ (reads : ReadsCallTexts) where
   }
   line_keeps n (said.Set s) plan f fit =
       record {
-        settings = all_append _ plan.settings s fit.settings f.0;
-        ranges = all_append IsInRange plan.settings s fit.ranges f.2;
-        none = λ e. absurd (cc (subst (λ ds. has_node ds s.node ≡ true) e f.1));
+        settings = all_append _ plan.settings s fit.settings f.allowed;
+        apart = more_apart plan.settings s f.new f.apart fit.apart;
+        ranges = all_append IsInRange plan.settings s fit.ranges f.in_range;
+        none = λ e. absurd (cc (subst (λ ds. has_node ds s.node ≡ true) e f.declared));
         different = fit.different;
         own_calls = fit.own_calls;
         calls = record { nodes = fit.calls.nodes; vias = fit.calls.vias; lines = fit.calls.lines };
@@ -369,6 +409,7 @@ module _ (reads : ReadsCallTexts) where
       }
   line_keeps n (said.Via v) plan f fit = record {
     settings = fit.settings;
+    apart = fit.apart;
     ranges = fit.ranges;
     none = fit.none;
     different = fit.different;
@@ -382,6 +423,7 @@ module _ (reads : ReadsCallTexts) where
   }
   line_keeps n (said.Instruction i) plan f fit = record {
     settings = fit.settings;
+    apart = fit.apart;
     ranges = fit.ranges;
     none = fit.none;
     different = fit.different;
@@ -420,10 +462,13 @@ module _ (reads : ReadsCallTexts) where
 
   plan_fits : (bytes : List ℕ) (plan : Plan) → network_of bytes ≡ Ok plan → IsFit plan
   unfolding network_of
-  plan_fits bytes = lines_keep 0 (lines bytes) nothing (record { settings = tt; ranges = tt; none = λ _. refl; different = tt; own_calls = tt; calls = record { nodes = tt; vias = tt; lines = tt }; pairs = tt })
+  plan_fits bytes = lines_keep 0 (lines bytes) nothing (record { settings = tt; apart = λ node. refl; ranges = tt; none = λ _. refl; different = tt; own_calls = tt; calls = record { nodes = tt; vias = tt; lines = tt }; pairs = tt })
 
   pub settings_fit : SettingsFit
   settings_fit bytes plan e = (plan_fits bytes plan e).settings
+
+  pub no_mail_at_prompts : NoMailAtPrompts
+  no_mail_at_prompts bytes plan node e = (plan_fits bytes plan e).apart node
 
   pub declared_once : DeclaredOnce
   declared_once bytes plan e = (plan_fits bytes plan e).different

@@ -1,4 +1,5 @@
 pub mod KeyRanges
+pub mod Prompts
 pub mod Ranges
 pub mod Fitting
 pub mod Marks

@@ -4,7 +4,7 @@ use Rattle.std.specs.Cmp.Lexicographic.{pointwise}
 use Rattle.network_file.specs.declared.reasons.What.{What}
 use Rattle.network_file.specs.declared.reasons.What.TheVariants as whats
 use Rattle.network_file.specs.declared.plan.keys.Key.{Key}
-use Rattle.network_file.specs.declared.plan.keys.Key.TheVariants.{Window, Timeout, Retries, Busy, Inactive, TimeToLive, Life, Least, MinimumQuality, PathQuality, Links, Modulo, LinkWindow, SelectiveReject, T1, T3, LinkRetries, Prompt, Interval}
+use Rattle.network_file.specs.declared.plan.keys.Key.TheVariants.{Window, Timeout, Retries, Busy, Inactive, TimeToLive, Life, Least, MinimumQuality, PathQuality, Links, Modulo, LinkWindow, SelectiveReject, T1, T3, LinkRetries, Prompt, Interval, Mail}
 
 -- the word of a key, its least and its largest value, and the one where no line sets it
 pub record Row : Type 0 where
@@ -37,6 +37,7 @@ row_of T3 = row (codes "t3") 1 86400000 300000
 row_of LinkRetries = row (codes "lretries") 1 255 10
 row_of Prompt = row (codes "prompt") 0 1 0
 row_of Interval = row (codes "interval") 0 86400000 0
+row_of Mail = row (codes "mail") 0 1 0
 
 abbrev pub word_of : Key → List ℕ
 word_of key = (row_of key).word
@@ -59,16 +60,22 @@ takes version key value = true
 abbrev pub all_keys : List Key
 all_keys =
     Window ∷ Timeout ∷ Retries ∷ Busy ∷ Inactive ∷ TimeToLive ∷ Life ∷ Least ∷ MinimumQuality ∷ PathQuality
-    ∷ Links ∷ Modulo ∷ LinkWindow ∷ SelectiveReject ∷ T1 ∷ T3 ∷ LinkRetries ∷ Prompt ∷ Interval ∷ []
+    ∷ Links ∷ Modulo ∷ LinkWindow ∷ SelectiveReject ∷ T1 ∷ T3 ∷ LinkRetries ∷ Prompt ∷ Interval ∷ Mail ∷ []
 
 -- the first of these keys that a word names
 abbrev pub first_of : List ℕ → List Key → Option Key
 first_of word [] = None
 first_of word (key ∷ keys) = if pointwise nat_eq (word_of key) word then Some key else first_of word keys
 
--- the key that a word names
-unfoldable pub key_at : List ℕ → Result Key What
-key_at word = elim (first_of word all_keys) [ Some key ↦ Ok key | None ↦ Err whats.Key ]
+-- files of a version have a key: `mail` since version 4
+abbrev pub is_known : ℕ → Key → Bool
+is_known version Mail = nat_le 4 version
+is_known version key = true
+
+-- the key that a word names in files of a version
+unfoldable pub key_at : ℕ → List ℕ → Result Key What
+key_at version word =
+    elim (first_of word all_keys) [ Some key ↦ (if is_known version key then Ok key else Err whats.Key) | None ↦ Err whats.Key ]
 
 -- a node's key set to a value
 pub record Assignment : Type 0 where

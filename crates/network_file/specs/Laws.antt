@@ -1,23 +1,33 @@
 -- What holds of every network that a file lays down. Own profile.
-use Rattle.std.specs.Prelude.{ℕ, ◌≡◌, ◌≤◌, List, [], ◌∷◌, Ok, true, false}
+use Rattle.std.specs.Prelude.{ℕ, ◌≡◌, ◌≤◌, ◌==◌, ◌&&◌, List, [], ◌∷◌, Ok, true, false}
 use Rattle.std.specs.List.{AllByRecursion}
 use Rattle.ax_address.specs.Callsign.{Callsign, IsCallsign}
 use Rattle.network_file.specs.declared.network.NumberedInstruction.{NumberedInstruction}
 use Rattle.network_file.specs.declared.plan.declarations.Declaration.{Declaration}
 use Rattle.network_file.specs.declared.plan.instructions.Instruction.{Instruction}
 use Rattle.network_file.specs.declared.plan.instructions.Instruction.TheVariants as instructions
+use Rattle.network_file.specs.declared.plan.keys.Key.TheVariants.{Mail, Prompt}
 use Rattle.network_file.specs.declared.plan.vias.Via.{Via}
-use Rattle.network_file.specs.Keys.{Assignment, least_of, most_of, takes}
+use Rattle.network_file.specs.Keys.{Assignment, is_known, least_of, most_of, takes}
 use Rattle.network_file.specs.Networks.{network_of}
 use Rattle.network_file.specs.Pairs.{PairNumbers}
 use Rattle.network_file.specs.Places.{has_call, has_node}
 use Rattle.network_file.specs.Plan.{Plan, version_of}
+use Rattle.network_file.specs.Settings.{value_of}
+
+-- a setting is one that files of a version may have: the key and the value
+abbrev pub IsAllowed : ℕ → Assignment → Type 0
+IsAllowed version s = (is_known version s.key ≡ true) × (takes version s.key s.value ≡ true)
 
 -- each setting is one that files of the network's version may have
 abbrev pub SettingsFit : Type 0
-SettingsFit =
-    (bytes : List ℕ) (plan : Plan) → network_of bytes ≡ Ok plan
-    → AllByRecursion (λ (s : Assignment). takes (version_of plan) s.key s.value ≡ true) plan.settings
+SettingsFit = (bytes : List ℕ) (plan : Plan) → network_of bytes ≡ Ok plan → AllByRecursion (IsAllowed (version_of plan)) plan.settings
+
+-- no node both serves users at a prompt and keeps mail
+abbrev pub NoMailAtPrompts : Type 0
+NoMailAtPrompts =
+    (bytes : List ℕ) (plan : Plan) (node : ℕ) → network_of bytes ≡ Ok plan
+    → ((value_of plan.settings node Mail == 1) && (value_of plan.settings node Prompt == 1)) ≡ false
 
 -- and its value is within the range of its key
 abbrev pub IsInRange : Assignment → Type 0
@@ -48,11 +58,12 @@ CallsDeclaredOnce = (bytes : List ℕ) (plan : Plan) → network_of bytes ≡ Ok
 abbrev pub IsCall : Callsign → Type 0
 IsCall c = IsCallsign c.letters c.ssid
 
--- who is heard, to whom a route is locked, and for whom a circuit is asked
+-- who is heard, to whom a route is locked, for whom a circuit is asked, and a mail's user and the user's node
 abbrev pub NamesCalls : Instruction → Type 0
 NamesCalls (instructions.Heard node call nodes) = IsCall call
 NamesCalls (instructions.Lock node dest alias neighbour quality) = IsCall neighbour
 NamesCalls (instructions.Open node dest) = IsCall dest
+NamesCalls (instructions.Post node to dest text) = IsCall to × IsCall dest
 NamesCalls _ = Unit {0}
 
 -- these are calls, those of the nodes, and all repeaters

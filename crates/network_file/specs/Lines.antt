@@ -3,6 +3,7 @@ pub mod Declaring
 pub mod Heard
 pub mod Nodes
 pub mod Circuits
+pub mod Mails
 pub mod Frames
 use Rattle.std.specs.Prelude.{ℕ, List, [], ◌∷◌, Result, Err, Bool, true, false, ◌&&◌, nat_le, nat_eq, if◌then◌else◌, codes}
 use Rattle.std.specs.Cmp.Lexicographic.{pointwise}
@@ -18,6 +19,7 @@ use Rattle.network_file.specs.Lines.Declaring.{version_line, node_line, channel_
 use Rattle.network_file.specs.Lines.Heard.{heard_line}
 use Rattle.network_file.specs.Lines.Nodes.{lock_line, round_line, linkfail_line, show_line, tick_line, restart_line}
 use Rattle.network_file.specs.Lines.Circuits.{open_line, say_line, burst_line, take_line, close_line}
+use Rattle.network_file.specs.Lines.Mails.{mail_line, post_line}
 use Rattle.network_file.specs.Lines.Frames.{deliver_line, again_line, lose_line, flow_line, cut_line}
 
 -- what the words behind a kind's own say, after the lines before
@@ -63,6 +65,7 @@ end_kinds =
     ∷ instruction (codes "burst") burst_line
     ∷ instruction (codes "take") take_line
     ∷ instruction (codes "close") close_line
+    ∷ instruction_since 4 (codes "mail") mail_line
     ∷ frame_kinds
 
 abbrev pub node_kinds : List Kind
@@ -76,7 +79,7 @@ node_kinds =
     ∷ instruction_since 2 (codes "restart") restart_line
     ∷ end_kinds
 
--- all kinds but `say`
+-- all kinds but `say` and `post`
 abbrev pub all_kinds : List Kind
 all_kinds =
     opening (codes "version") (λ plan. version_line)
@@ -91,10 +94,16 @@ abbrev pub line_by : List Kind → Plan → List ℕ → List (List ℕ) → Res
 line_by [] plan first words = Err whats.Word
 line_by (k ∷ ks) plan first words = if k.is_known plan && pointwise nat_eq first k.word then k.says plan words else line_by ks plan first words
 
--- TEXT of `say` may hold spaces: it is read from the line, and all else from the words
+-- the line is a `post`, which files have since version 4
+abbrev pub is_post : Plan → List ℕ → Bool
+is_post plan first = nat_le 4 (version_of plan) && pointwise nat_eq first (codes "post")
+
+-- TEXT of `say` and of `post` may hold spaces: it is read from the line, and all else from the words
 abbrev pub line_of : Plan → List ℕ → List (List ℕ) → Result Line What
 line_of plan line [] = Err whats.Word
-line_of plan line (first ∷ words) = if pointwise nat_eq first (codes "say") then say_line plan line words else line_by all_kinds plan first words
+line_of plan line (first ∷ words) =
+    if pointwise nat_eq first (codes "say") then say_line plan line words
+    else (if is_post plan first then post_line plan line words else line_by all_kinds plan first words)
 
 -- what a line says after the lines before it, or the first thing that is wrong with it
 unfoldable pub line_at : Plan → List ℕ → Result Line What

@@ -31,7 +31,7 @@ value_behind name word = behind name (split_once 61 word)
 -- a key and its value: each key once, so nineteen at most
 unfoldable pub with_setting : LiveNode → List ℕ → List ℕ → Result LiveNode What
 with_setting node name text = do
-  k ← key_at name
+  k ← key_at 3 name
   u ← needs (is_none (set_to node.settings.items 1 k)) whats.Twice
   v ← value_at (least_of k) (most_of k) text
   w ← needs (takes 3 k v) whats.Value

@@ -4,7 +4,7 @@
 pub const MAX_NODES: usize = 16;
 /// The most peers that a node reaches over repeaters.
 pub const MAX_VIAS: usize = 16;
-/// How many keys there are.
+/// How many keys a node that runs alone has: all but `mail`.
 pub const MAX_KEYS: usize = 19;
 /// The most repeaters over which a node reaches a peer.
 pub const MAX_VIA_REPEATERS: usize = 2;

@@ -7,12 +7,14 @@ pub mod circuits;
 pub mod declaring;
 pub mod frames;
 pub mod heard;
+pub mod mails;
 pub mod nodes;
 
 use crate::lines::circuits::{burst_line, close_line, open_line, say_line, take_line};
 use crate::lines::declaring::{channel_line, node_line, set_line, version_line, via_line};
 use crate::lines::frames::{again_line, cut_line, deliver_line, flow_line, lose_line};
 use crate::lines::heard::heard_line;
+use crate::lines::mails::{mail_line, post_line};
 use crate::lines::nodes::{
     linkfail_line, lock_line, restart_line, round_line, show_line, tick_line,
 };
@@ -79,6 +81,8 @@ fn line_of(
         [first, rest @ ..] => {
             if *first == b"say".as_slice() {
                 say_line(alloc, before, line, rest)
+            } else if before.version() >= 4 && *first == b"post".as_slice() {
+                post_line(alloc, before, line, rest)
             } else {
                 declaring_kind(alloc, before, first, rest)
             }
@@ -157,6 +161,8 @@ fn end_kind(before: &Network, word: &[u8], words: &[&[u8]]) -> Result<Line, What
         take_line(before, words)
     } else if word == b"close".as_slice() {
         close_line(before, words)
+    } else if before.version() >= 4 && word == b"mail".as_slice() {
+        mail_line(before, words)
     } else {
         frame_kind(before, word, words)
     }

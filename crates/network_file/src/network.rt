@@ -58,7 +58,7 @@ impl Network {
         }
     }
 
-    /// The version of the file, 1 to 3: 1 where it doesn't name it.
+    /// The version of the file, 1 to 4: 1 where it doesn't name it.
     pub fn version(&self) -> u8
         ensures { result ≡ version_of self.now }
     {

@@ -9,7 +9,7 @@ use Rattle.network_file.specs.Reasons.{word_for}
 use Rattle.net_replay.specs.Circuits.{IsVerdictOn}
 use Rattle.net_replay.specs.Files.{AirsFew, AirsTooMany, IsInTime, IsLate, IsNetwork}
 use Rattle.net_replay.specs.Lines.{world}
-use Rattle.net_replay.specs.Promises.{RetriesAreTold, SafeThroughout}
+use Rattle.net_replay.specs.Promises.{MailOnceThroughout, RetriesAreTold, SafeThroughout}
 use Rattle.net_replay.specs.Reports.{report_text}
 use Rattle.net_replay.specs.Soaks.{soak_text}
 use Rattle.net_replay.specs.Traces.{IsTraceOf, left_of}
@@ -63,9 +63,10 @@ pub record Reports (what : Printed) (old new : Option (List ℕ)) (ran : Ran) (n
   pub retries : RetriesAreTold network
 
 -- so it was, and nothing came back too late: at each line each circuit user has received exactly a beginning of what its partner
--- wrote, with all that is acknowledged
+-- wrote, with all that is acknowledged; and mail is stored once between nodes that keep it
 abbrev pub ReportsInTime : Printed → Option (List ℕ) → Option (List ℕ) → Ran → Plan → Type 0
-ReportsInTime what old new ran network = Reports what old new ran network None × SafeThroughout network
+ReportsInTime what old new ran network =
+    Reports what old new ran network None × SafeThroughout network × MailOnceThroughout network
 
 -- so it was, and something came back too late
 abbrev pub ReportsLate : Printed → Option (List ℕ) → Option (List ℕ) → Ran → Plan → Type 0

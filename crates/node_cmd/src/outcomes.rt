@@ -6,7 +6,7 @@ ghost use Rattle.net_replay.specs.Air.{most_frames};
 ghost use Rattle.net_replay.specs.CircuitRuns.{IsSound};
 ghost use Rattle.net_replay.specs.Circuits.{allowance_of};
 ghost use Rattle.net_replay.specs.Lines.{world};
-ghost use Rattle.net_replay.specs.Promises.{RetriesAreTold, SafeThroughout};
+ghost use Rattle.net_replay.specs.Promises.{MailOnceThroughout, RetriesAreTold, SafeThroughout};
 ghost use Rattle.net_replay.specs.Traces.{IsTraceOf, allowance_in, left_of};
 ghost use Rattle.net_replay.specs.World.{World};
 ghost use Rattle.node_cmd.specs.Outcomes.{IsOutcome, NetworkEnds, NotReported, text_of};
@@ -100,10 +100,12 @@ pub fn print_network<K: Sink, N: Sink>(
 /// What comes of the network that a file spells.
 fn outcome_of(alloc: Global, bytes: &[u8], what: Printed) -> Result<Outcome, ReportRefusal>
     requires { length bytes.now ≤ max_file }
-    ensures ok { IfOk result (λ o. (network : Plan) × (network_of bytes.now ≡ Ok network) × IsOutcome what o network × RetriesAreTold network × (o.late ≡ None → SafeThroughout network)) }
+    ensures ok { IfOk result (λ o. (network : Plan) × (network_of bytes.now ≡ Ok network) × IsOutcome what o network
+        × RetriesAreTold network × (o.late ≡ None → SafeThroughout network × MailOnceThroughout network)) }
     ensures err { IfErr result (λ e. NotReported e (network_of bytes.now)) }
 {
     net_replay::laws::in_time_is_safe();
+    net_replay::laws::mail_in_time();
     net_replay::laws::retries_are_told();
     match read_network(alloc, bytes) {
         Ok(network) => outcome_of_network(alloc, &network, what),

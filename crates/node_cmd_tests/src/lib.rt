@@ -14,6 +14,8 @@ mod live;
 #[cfg(test)]
 mod lives;
 #[cfg(test)]
+mod mails;
+#[cfg(test)]
 mod networks;
 #[cfg(test)]
 mod packets;

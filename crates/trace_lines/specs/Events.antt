@@ -8,7 +8,7 @@ use Rattle.network_file.specs.declared.plan.instructions.Instruction.{Instructio
 use Rattle.network_file.specs.declared.plan.instructions.Instruction.TheVariants.{Again}
 use Rattle.net_replay.specs.declared.air.Aired.{Aired}
 use Rattle.net_replay.specs.Air.{frame_of}
-use Rattle.net_replay.specs.Events.{Event, Entry, InAir, Delivered, Settled, Shown, Took, Wrote, Restarted, Lost, Refused, NumberedEvent}
+use Rattle.net_replay.specs.Events.{Event, Entry, InAir, Delivered, Settled, Shown, Took, Wrote, Restarted, Lost, Refused, Posted, Offered, MailStored, MailSettled, NumberedEvent}
 use Rattle.net_replay.specs.Reasons.{word_for_why}
 use Rattle.net_replay.specs.Tables.{Table}
 use Rattle.route_table.specs.declared.route.Route.{Route}
@@ -16,6 +16,7 @@ use Rattle.trace_lines.specs.declared.events.Stand.{Stand}
 use Rattle.trace_lines.specs.Circuits.{entry_text}
 use Rattle.trace_lines.specs.Json.{Bytes, Number, Octets, Truth, Word}
 use Rattle.trace_lines.specs.Left.{facts_fields, route_fields}
+use Rattle.trace_lines.specs.Mails.{offered_line, posted_line, settled_line, stored_line}
 use Rattle.trace_lines.specs.Stands.{event}
 
 -- ---- which lines bring a frame again
@@ -88,6 +89,10 @@ event_text again air s (Wrote node end count) = wrote_line s node end count
 event_text again air s (Restarted node pair) = restarted_line s node pair
 event_text again air s (Lost node end facts) = lost_end_line s node end facts
 event_text again air s (Refused why) = refused_line s (word_for_why why)
+event_text again air s (Posted node number) = posted_line s node number
+event_text again air s (Offered node end number) = offered_line s node end number
+event_text again air s (MailStored node origin number to len) = stored_line s node origin number to len
+event_text again air s (MailSettled node number) = settled_line s node number
 
 -- all events, of which the first has this number
 abbrev pub events_from : (ℕ → Bool) → List Aired → ℕ → List NumberedEvent → List ℕ

@@ -11,10 +11,13 @@ use Rattle.net_replay.specs.declared.ends.EndRecord.{EndRecord}
 use Rattle.net_replay.specs.declared.ends.Outcome.{Outcome}
 use Rattle.net_replay.specs.declared.ends.Outcome.TheVariants.{Held, Gone, Lost}
 use Rattle.net_replay.specs.Lines.{table_of}
+use Rattle.net_replay.specs.Reports.{by_place}
 use Rattle.net_replay.specs.Starting.{Placed}
 use Rattle.net_replay.specs.Tables.{Table}
 use Rattle.net_replay.specs.ToldWords.{phase_word}
+use Rattle.node_mail.specs.Lists.{Lists}
 use Rattle.trace_lines.specs.Json.{object, Field, Number, NumberOrNull, Bytes, Word}
+use Rattle.trace_lines.specs.Mails.{mail_text}
 
 -- ---- tables
 
@@ -79,3 +82,10 @@ ends_text node id (end ∷ ends) held = end_text node id end (facts_at (end_of i
 abbrev pub node_text : (ℕ → List EndRecord) → Placed → List ℕ
 node_text ends p =
     table_text (table_of p) ++ ends_text p.declared.node 1 (ends p.declared.node) p.state.station.set.set.ends
+
+-- a node and its mail
+abbrev pub kept_text : (ℕ → List EndRecord) → Placed → Option Lists → List ℕ
+kept_text ends p mail = node_text ends p ++ mail_text p.declared.node mail
+
+abbrev pub nodes_text : (ℕ → List EndRecord) → List Placed → List (Option Lists) → List ℕ
+nodes_text ends nodes mails = by_place (kept_text ends) nodes mails

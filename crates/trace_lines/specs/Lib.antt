@@ -3,6 +3,7 @@ pub mod Heads
 pub mod Left
 pub mod Stands
 pub mod Circuits
+pub mod Mails
 pub mod Events
 pub mod Marks
 pub mod Verdicts

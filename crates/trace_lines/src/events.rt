@@ -11,6 +11,7 @@ ghost use Rattle.trace_lines.specs.Marks.{mark_at};
 use crate::circuits::{write_entry, write_heeded, write_sent};
 use crate::json::{hex_text, string_text, truth};
 use crate::left::{facts_fields, route_fields};
+use crate::mails::{write_offered, write_posted, write_settled, write_stored};
 use crate::marks::mark_of;
 use circuit_l4::Pair;
 use net_replay::{Aired, Event, LineRefusal, LostEnd, NumberedEvent, Table};
@@ -84,6 +85,10 @@ fn write_event(
         Event::Restarted { node, pair } => write_restarted(alloc, stand, *node, *pair, out),
         Event::Lost { node, end } => write_lost_end(alloc, stand, *node, end, out),
         Event::Refused { why } => write_refused(alloc, stand, why, out),
+        Event::Posted { node, number } => write_posted(alloc, stand, *node, *number, out),
+        Event::Offered { node, offer } => write_offered(alloc, stand, *node, offer, out),
+        Event::MailStored { node, mail } => write_stored(alloc, stand, *node, mail, out),
+        Event::MailSettled { node, number } => write_settled(alloc, stand, *node, *number, out),
     }
 }
 

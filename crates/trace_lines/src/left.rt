@@ -1,19 +1,22 @@
 //! The nodes as they were left: their tables, and the ends that they ever made.
-ghost use Rattle.std.specs.Prelude.{◌≡◌, ◌++◌, List, OnOk, IfOk, string_bytes, flat_map};
+ghost use Rattle.std.specs.Prelude.{◌≡◌, ◌++◌, List, Option, OnOk, IfOk, string_bytes, flat_map};
 ghost use Rattle.std.specs.Fmt.{decimal};
 ghost use Rattle.node_core.specs.Kept.{NodeStands};
 ghost use Rattle.node_core.specs.States.{NodeState};
 ghost use Rattle.net_replay.specs.Reporting.{AreDeclared, ends_left};
 ghost use Rattle.net_replay.specs.Starting.{Placed};
-ghost use Rattle.net_replay.specs.Traces.{StandFor, left_of};
+ghost use Rattle.net_replay.specs.Traces.{MailStands, MailsStand, StandFor, left_of};
+ghost use Rattle.node_mail.specs.Lists.{Lists};
 ghost use Rattle.trace_lines.specs.Json.{fields_text, or_null};
 ghost use Rattle.trace_lines.specs.Left as left;
 
 use crate::json::alias_text;
+use crate::mails::write_left_mail;
 use ax_address::Call;
 use circuit_l4::EndFacts;
 use net_replay::{Declaration, EndRecord, Outcome, Table, Trace, phase_word, shown};
 use node_core::Node;
+use node_mail::Store;
 use radio_base::{NoMemory, TextOut};
 use route_table::Route;
 use std::alloc::{AllocError, Global};
@@ -24,20 +27,24 @@ pub(crate) fn write_nodes(
     trace: &Trace,
     declared: &[Declaration],
     nodes: &[Node],
+    mails: &[Option<Store>],
     out: &mut TextOut,
 ) -> Result<(), NoMemory>
-    ensures { OnOk result ((placed : List Placed) → AreDeclared declared.now placed → StandFor nodes.now placed
-        → out.new ≡ out.old ++ flat_map (left.node_text (ends_left (left_of trace.now))) placed) }
+    ensures { OnOk result ((placed : List Placed) (kept : List (Option Lists)) → AreDeclared declared.now placed → StandFor nodes.now placed → MailsStand mails.now kept
+        → out.new ≡ out.old ++ left.nodes_text (ends_left (left_of trace.now)) placed kept) }
 {
     match declared {
         [] => Ok(()),
         [first, others @ ..] => match nodes {
             [] => Ok(()),
-            [node, more @ ..] => {
-                write_node(alloc, trace, first, node, out)?;
-                write_nodes(alloc, trace, others, more, out)?;
-                Ok(())
-            }
+            [node, more @ ..] => match mails {
+                [] => Ok(()),
+                [mail, left @ ..] => {
+                    write_node(alloc, trace, first, node, mail, out)?;
+                    write_nodes(alloc, trace, others, more, left, out)?;
+                    Ok(())
+                }
+            },
         },
     }
 }
@@ -47,10 +54,11 @@ fn write_node(
     trace: &Trace,
     declared: &Declaration,
     node: &Node,
+    mail: &Option<Store>,
     out: &mut TextOut,
 ) -> Result<(), NoMemory>
-    ensures { OnOk result ((p : Placed) → declared.now ≡ p.declared → NodeStands node.now p.state
-        → out.new ≡ out.old ++ left.node_text (ends_left (left_of trace.now)) p) }
+    ensures { OnOk result ((p : Placed) (kept : Option Lists) → declared.now ≡ p.declared → NodeStands node.now p.state → MailStands mail.now kept
+        → out.new ≡ out.old ++ left.kept_text (ends_left (left_of trace.now)) p kept) }
 {
     let table = shown(alloc, declared, node)?;
     write_table(alloc, &table, out)?;
@@ -61,6 +69,7 @@ fn write_node(
         node,
         out,
     )?;
+    write_left_mail(alloc, declared.node, mail, out)?;
     Ok(())
 }
 

@@ -10,6 +10,7 @@ mod events;
 mod heads;
 mod json;
 mod left;
+mod mails;
 mod marks;
 mod texts;
 

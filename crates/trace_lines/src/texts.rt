@@ -30,7 +30,14 @@ pub fn trace_text(
     write_lines(alloc, file, &mut out)?;
     let marks = repeat_marks(alloc, network.instructions())?;
     write_events(alloc, &marks, trace.frames(), trace.events(), &mut out)?;
-    write_nodes(alloc, trace, trace.declared(), trace.nodes(), &mut out)?;
+    write_nodes(
+        alloc,
+        trace,
+        trace.declared(),
+        trace.nodes(),
+        trace.mails(),
+        &mut out,
+    )?;
     write_verdict(alloc, late, &mut out)?;
     write_cause(alloc, cause, &mut out)?;
     Ok(out)

@@ -10,13 +10,13 @@ use Rattle.network_file.specs.declared.plan.declarations.Declaration.{Declaratio
 use Rattle.network_file.specs.Channels.{has_member}
 use Rattle.network_file.specs.Plan.{Plan, version_of}
 use Rattle.network_file.specs.Keys.{key_at, least_of, most_of, takes}
-use Rattle.network_file.specs.Settings.{set_to}
+use Rattle.network_file.specs.Settings.{clashes, set_to}
 use Rattle.network_file.specs.Places.{needs, value_at, node_at, new_node_at, call_at, new_call_at, new_peer_at, alias_at}
 
 -- version V
 unfoldable pub version_at : List ℕ → Result Line What
 version_at word = do
-  v ← value_at 1 3 word
+  v ← value_at 1 4 word
   Ok (lines.Version v)
 
 abbrev pub version_line : List (List ℕ) → Result Line What
@@ -55,10 +55,11 @@ channel_line plan words = do
 unfoldable pub setting_at : Plan → List ℕ → List ℕ → List ℕ → Result Line What
 setting_at plan number key word = do
   n ← node_at plan.declared number
-  k ← key_at key
+  k ← key_at (version_of plan) key
   u ← needs (is_none (set_to plan.settings n k)) whats.Twice
   v ← value_at (least_of k) (most_of k) word
   w ← needs (takes (version_of plan) k v) whats.Value
+  x ← needs (not (clashes plan.settings n k v)) whats.Value
   Ok (lines.Set (record { node = n; key = k; value = v }))
 
 abbrev pub set_line : Plan → List (List ℕ) → Result Line What

@@ -11,7 +11,7 @@ use crate::places::{alias, call, needs, new_call, new_node, new_peer, node, valu
 use crate::plan::channels::{Channel, has_member};
 use crate::plan::declarations::Declaration;
 use crate::plan::keys::{Key, Setting};
-use crate::plan::settings::set_to;
+use crate::plan::settings::{clashes, set_to};
 use crate::plan::vias::Via;
 use crate::reasons::What;
 use arrayvec::ArrayVec;
@@ -31,7 +31,7 @@ pub fn version_line(words: &[&[u8]]) -> Result<Line, What>
 fn version(word: &[u8]) -> Result<Line, What>
     ensures { result ≡ lines.version_at word.now }
 {
-    let version = value(1, 3, word)?;
+    let version = value(1, 4, word)?;
     Ok(Line::Version(version as u8))
 }
 
@@ -70,11 +70,12 @@ fn setting(before: &Network, number: &[u8], key: &[u8], word: &[u8]) -> Result<L
     ensures { result ≡ lines.setting_at before.now number.now key.now word.now }
 {
     let node = node(before.declared(), number)?;
-    let key = Key::read(key)?;
+    let key = Key::read(before.version(), key)?;
     let is_new = set_to(before.settings(), node, key).is_none();
     needs(is_new, What::Twice)?;
     let value = value(key.least(), key.most(), word)?;
     needs(key.takes(before.version(), value), What::Value)?;
+    needs(!clashes(before.settings(), node, key, value), What::Value)?;
     Ok(Line::Set(Setting { node, key, value }))
 }
 

@@ -49,7 +49,7 @@ fn lock(
 }
 
 /// The number of a declared node, and nothing else.
-fn node_alone(before: &Network, words: &[&[u8]]) -> Result<u8, What>
+pub fn node_alone(before: &Network, words: &[&[u8]]) -> Result<u8, What>
     ensures { result ≡ lines.node_alone before.now (texts words.now) }
 {
     match words {

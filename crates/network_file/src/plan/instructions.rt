@@ -73,6 +73,17 @@ pub enum Instruction {
         node: u8,
         end: u32,
     },
+    /// A mail is posted at the node.
+    Post {
+        node: u8,
+        to: Call,
+        dest: Call,
+        text: Text,
+    },
+    /// A turn of the agent of the node.
+    Mail {
+        node: u8,
+    },
     /// An unsettled frame goes to the node and is settled.
     Deliver {
         frame: u32,

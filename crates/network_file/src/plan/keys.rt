@@ -46,10 +46,12 @@ pub enum Key {
     Prompt,
     /// `interval`: how long a node waits between its rounds; 0 for none of its own.
     Interval,
+    /// `mail`: 1 where the node keeps mail for users, at a node without a prompt.
+    Mail,
 }
 
 /// All keys.
-const KEYS: [Key; 19] = [
+const KEYS: [Key; 20] = [
     Key::Window,
     Key::Timeout,
     Key::Retries,
@@ -69,6 +71,7 @@ const KEYS: [Key; 19] = [
     Key::LinkRetries,
     Key::Prompt,
     Key::Interval,
+    Key::Mail,
 ];
 
 /// The word of a key, its least and its largest value, and the one where no line sets it.
@@ -141,14 +144,30 @@ impl Default for Setting {
 }
 
 impl Key {
-    /// The key that the word names.
+    /// The key that the word names in files of that version: `mail` is none before version 4.
     #[tactic(auto, unfolding(crate::specs::Keys::key_at))]
-    pub fn read(word: &[u8]) -> Result<Key, What>
-        ensures { result ≡ keys.key_at word.now }
+    pub fn read(version: u8, word: &[u8]) -> Result<Key, What>
+        ensures { result ≡ keys.key_at version word.now }
     {
         match first_of(&KEYS, word) {
-            Some(key) => Ok(key),
+            Some(key) => {
+                if key.is_known(version) {
+                    Ok(key)
+                } else {
+                    Err(What::Key)
+                }
+            }
             None => Err(What::Key),
+        }
+    }
+
+    /// Files of that version have the key.
+    fn is_known(self, version: u8) -> bool
+        ensures { result ≡ keys.is_known version self }
+    {
+        match self {
+            Key::Mail => version >= 4,
+            _ => true,
         }
     }
 
@@ -218,6 +237,7 @@ impl Key {
             Key::LinkRetries => row(b"lretries", 1, 255, 10),
             Key::Prompt => row(b"prompt", 0, 1, 0),
             Key::Interval => row(b"interval", 0, 86_400_000, 0),
+            Key::Mail => row(b"mail", 0, 1, 0),
         }
     }
 }

@@ -15,7 +15,7 @@ use crate::reasons::What;
 use arrayvec::ArrayVec;
 use ax_address::{Alias, Call};
 
-/// A node that runs alone: the one node of a network of version 3.
+/// A node that runs alone: the one node of a network of version 3, which keeps no mail.
 #[derive(Debug, Drop)]
 pub struct LiveNode {
     /// Its number is 1.
@@ -167,7 +167,7 @@ fn set_pair(node: &mut LiveNode, index: &[u8], ident: &[u8]) -> Result<(), What>
 fn add_setting(node: &mut LiveNode, name: &[u8], text: &[u8]) -> Result<(), What>
     ensures { MatchResult result (λ _. live.with_setting node.old name.now text.now ≡ Ok node.new) (λ e. live.with_setting node.old name.now text.now ≡ Err e) }
 {
-    let key = Key::read(name)?;
+    let key = Key::read(3, name)?;
     let is_new = set_to(node.settings.as_slice(), 1, key).is_none();
     needs(is_new, What::Twice)?;
     let value = value(key.least(), key.most(), text)?;

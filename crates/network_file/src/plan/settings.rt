@@ -37,3 +37,14 @@ pub fn value_of(settings: &[Setting], node: u8, key: Key) -> u32
         None => key.default_value(),
     }
 }
+
+/// The node would serve users at a prompt and keep mail too, of which it does one alone.
+pub fn clashes(settings: &[Setting], node: u8, key: Key, value: u32) -> bool
+    ensures { result ≡ set.clashes settings.now node key value }
+{
+    match key {
+        Key::Mail => value == 1 && value_of(settings, node, Key::Prompt) == 1,
+        Key::Prompt => value == 1 && value_of(settings, node, Key::Mail) == 1,
+        _ => false,
+    }
+}

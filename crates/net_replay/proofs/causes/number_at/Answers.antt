@@ -1,4 +1,4 @@
-use Rattle.std.proofs.Common.{◌≡◌, ◌<◌, ◌∙◌, sym, ap, arith, get_or, rules, true, false}
+use Rattle.std.proofs.Common.{◌≡◌, ◌∙◌, sym, ap, arith, get_or, rules, true, false}
 use Rattle.std.specs.Prelude.{is_some}
 use Rattle.net_replay.specs.declared.events.NumberedEvent.{NumberedEvent}
 use Rattle.net_replay.specs.Causes.{tells}

@@ -3,8 +3,8 @@ use Rattle.network_file.specs.declared.plan.declarations.Declaration.{Declaratio
 use Rattle.circuit_set.specs.Runs.{AreStarts}
 use Rattle.net_replay.specs.CircuitRuns.{sets_of}
 use Rattle.net_replay.specs.Events.{numbered_of}
-use Rattle.net_replay.specs.Starting.{by_number, new_placed}
-use Rattle.net_replay.specs.Traces.{StandFor}
+use Rattle.net_replay.specs.Starting.{by_number, new_mail, new_placed}
+use Rattle.net_replay.specs.Traces.{MailsStand, StandFor}
 use Rattle.net_replay.proofs.Numbers.{all_declared}
 use Rattle.net_replay.proofs.trace.start.Goals as goal
 
@@ -18,6 +18,8 @@ returns-clause-stands c =
         declared = c.in_ok-declared.ensures ∙ sym (all_declared plan (by_number plan.declared 1 16));
         nodes =
             subst (λ (ds : List Declaration). StandFor c.in_ok-nodes.nodes.items (map (new_placed plan) ds)) (c.deref.ensures.value ∙ c.in_ok-declared.ensures) c.in_ok-nodes.ensures.stand;
+        mails =
+            subst (λ (ds : List Declaration). MailsStand c.in_ok-mails.mails.items (map (new_mail plan.settings) ds)) (c.deref-2.ensures.value ∙ c.in_ok-declared.ensures) c.in_ok-mails.ensures;
         ends = λ node. c.in_ok-new.ensures node;
       };
       now = refl;

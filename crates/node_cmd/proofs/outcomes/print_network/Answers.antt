@@ -38,7 +38,7 @@ returns-in-None-clause-ends g c =
     let written : Appends (g.K.Sink.written c.args.sink.now) (g.K.Sink.written c.write_all.new.sink) (text_of c.args.what (world ok.0) None) =
     subst (Appends (g.K.Sink.written c.args.sink.now) (g.K.Sink.written c.write_all.new.sink)) text c.in-Ok-write_all.ensures.all in
     record {
-      done = λ _. (ok.0, ok.1, (record { few = ok.2.few; verdict = verdict; written = written; left = ok.2.trace; retries = ok.3 }, ok.4 late));
+      done = λ _. (ok.0, ok.1, (record { few = ok.2.few; verdict = verdict; written = written; left = ok.2.trace; retries = ok.3 }, (ok.4 late).0, (ok.4 late).1));
       late = search rules;
       done_comes = search rules;
       late_comes = λ n _. absurd (none_late c.args.bytes.now ok.0 ok.1 verdict n);

@@ -1,22 +1,15 @@
-use Rattle.std.proofs.Common.{false}
+use Rattle.std.proofs.Common.{◌∙◌, [], sym}
+use Rattle.net_replay.specs.Lines.{do_act, took_of}
+use Rattle.net_replay.specs.Running.{course}
 use Rattle.node_core.specs.UserActs.{Take}
-use Rattle.net_replay.specs.Lines.{took_of}
-use Rattle.net_replay.specs.Running.{course, taken_events}
-use Rattle.net_replay.specs.World.{Act, World, answer, put, reach, tell}
-use Rattle.net_replay.proofs.Answered.{acted, at_number, took_is}
+use Rattle.net_replay.proofs.Turning.{agents_refused, others_run}
 use Rattle.net_replay.proofs.moves.World.take.Goals as goal
+
+pub returns-then-is_agents : goal.returns-then-is_agents
+returns-then-is_agents c =
+    agents_refused (course c.args.self.now) (course c.refuse.new.self) c.args.line c.args.number c.args.end [] (do_act c.args.channels.now c.args.line c.args.number (Take c.args.end) (took_of c.args.number c.args.end)) (λ w t. sym c.if-is_agents.true ∙ c.is_agents.ensures w t)
+    c.in_ok-refuse.ensures
 
 pub returns : goal.returns
 returns c =
-    let old = course c.args.self.now in
-    let new = course c.put_in_air.new.self in
-    let at = c.place_of-at.result in
-    let channels = c.args.channels.now in
-    let line = c.args.line in
-    let node = c.args.number in
-    let end = c.args.end in
-    let act = Take end in
-    let a = c.in_ok-answer.answer in
-    at_number old new node at (λ k (w : World). put channels line k false (tell line (took_of node end (answer k act w)) (reach line k (Act act) w))) c.put_in_air.result c.place_of-at.ensures
-    (acted old (course c.act_reaches.new.self) (course c.tell_taken.new.self) new channels line at act c.put_in_air.result (took_of node end) (taken_events node end a)
-    c.in_ok-answer.ensures.goes (λ w t. took_is node end a (answer at act w) (c.in_ok-answer.ensures.answer w t)) c.in_ok-tell_taken.ensures c.put_in_air.ensures)
+    others_run (course c.args.self.now) (course c.take_there.new.self) c.args.line c.args.number c.args.end [] (do_act c.args.channels.now c.args.line c.args.number (Take c.args.end) (took_of c.args.number c.args.end)) c.take_there.result (λ w t. sym c.if-is_agents.false ∙ c.is_agents.ensures w t) c.take_there.ensures

@@ -18,6 +18,7 @@ returns-clause-goes c = λ w t.
         air = t.trace.air;
         declared = t.trace.declared;
         nodes = t.trace.nodes;
+        mails = t.trace.mails;
         ends = λ node. c.in_ok-note.ensures node ∙ (ap (note_event node event) (t.trace.ends node) ∙ sym (one_more node w.told (numbered c.args.line event)));
       };
       now = t.now;

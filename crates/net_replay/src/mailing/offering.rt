@@ -1,0 +1,134 @@
+//! The mails that are queued are offered at the ends of an agent.
+ghost use Rattle.std.specs.Prelude.{◌≡◌, ◌&&◌, ◌+◌, ◌∷◌, ℕ, List, IfOk, IfErr, nat_lt};
+ghost use Rattle.ax_address.specs.CallOrder.{same_call};
+ghost use Rattle.net_replay.specs.Agents as agents;
+ghost use Rattle.net_replay.specs.Mailing as mailing;
+ghost use Rattle.net_replay.specs.Running.{Runs, Stops, course};
+
+use crate::events::{Event, Offer};
+use crate::mails::{queued_at, queued_count, wire_at};
+use crate::moves::World;
+use crate::reasons::ReplayRefusal;
+use ax_address::Call;
+use network_file::Channel;
+
+impl World {
+    /// Offers what is queued at the ends of the node at a place, by number.
+    pub fn offer_at_ends(
+        &mut self,
+        channels: &[Channel],
+        line: u32,
+        node: u8,
+        at: usize,
+    ) -> Result<(), ReplayRefusal>
+        ensures { Runs (course self.old) (course self.new) (mailing.offer_part channels.now line node at) result }
+    {
+        let ids = self.held_ids(at)?;
+        for id in ids.as_slice() {
+            self.offer_all(channels, line, node, at, *id)?;
+        }
+        Ok(())
+    }
+
+    /// Offers the mails that are queued for the node of an end's partner, by number, up to the first refused write. Only an end
+    /// that the node requested and that is up is offered any, and each mail once.
+    fn offer_all(
+        &mut self,
+        channels: &[Channel],
+        line: u32,
+        node: u8,
+        at: usize,
+        id: u64,
+    ) -> Result<(), ReplayRefusal>
+        ensures { Runs (course self.old) (course self.new) (mailing.offer_all channels.now line node at id) result }
+    {
+        match self.dest_of(at, id) {
+            Some(dest) => {
+                let last = self.ends.offered(node, id);
+                self.offer_above(channels, line, node, at, id, &dest, last)
+            }
+            None => Ok(()),
+        }
+    }
+
+    /// Offers the mails that are queued for the node `dest` and have numbers above `last` at an end, up to the first refused write.
+    fn offer_above(
+        &mut self,
+        channels: &[Channel],
+        line: u32,
+        node: u8,
+        at: usize,
+        id: u64,
+        dest: &Call,
+        last: u64,
+    ) -> Result<(), ReplayRefusal>
+        ensures { Runs (course self.old) (course self.new) (agents.offer_from channels.now line node at id dest.now last 0) result }
+    {
+        let count = queued_count(&self.mails, at);
+        for nth in 0..count {
+            let is_refused = self.offer_nth(channels, line, node, at, id, dest, last, nth)?;
+            if is_refused {
+                return Ok(());
+            }
+        }
+        Ok(())
+    }
+
+    /// Offers the nth queued mail at an end, where it is for the node `dest` and has a number above `last`. It answers whether the
+    /// write was refused.
+    fn offer_nth(
+        &mut self,
+        channels: &[Channel],
+        line: u32,
+        node: u8,
+        at: usize,
+        id: u64,
+        dest: &Call,
+        last: u64,
+        nth: usize,
+    ) -> Result<bool, ReplayRefusal>
+        ensures ok { IfOk result (λ refused. agents.Offers (course self.old) (course self.new) (agents.offer_from channels.now line node at id dest.now last nth) (agents.offer_from channels.now line node at id dest.now last (nth + 1)) refused) }
+        ensures err { IfErr result (λ e. Stops (course self.old) e (agents.offer_from channels.now line node at id dest.now last nth)) }
+    {
+        match queued_at(&self.mails, at, nth) {
+            Some((number, to)) => {
+                if is_due(number, &to, dest, last) {
+                    self.offer(channels, line, node, at, id, number)
+                } else {
+                    Ok(false)
+                }
+            }
+            None => Ok(false),
+        }
+    }
+
+    /// Offers the queued mail of that number at an end. It answers whether the write was refused.
+    fn offer(
+        &mut self,
+        channels: &[Channel],
+        line: u32,
+        node: u8,
+        at: usize,
+        id: u64,
+        number: u64,
+    ) -> Result<bool, ReplayRefusal>
+        ensures ok { IfOk result (λ refused. (numbers : List ℕ) → agents.Offers (course self.old) (course self.new) (mailing.offer channels.now line node at id (number ∷ numbers)) (mailing.offer channels.now line node at id numbers) refused) }
+        ensures err { IfErr result (λ e. (numbers : List ℕ) → Stops (course self.old) e (mailing.offer channels.now line node at id (number ∷ numbers))) }
+    {
+        let message = wire_at(&self.mails, at, number);
+        let is_written = self.write_if_taken(channels, line, at, id, message.as_slice())?;
+        if !is_written {
+            return Ok(true);
+        }
+        let offer = Box::new(self.alloc, Offer { id, number })?;
+        self.tell(line, Event::Offered { node, offer })?;
+        Ok(false)
+    }
+}
+
+/// Whether a queued mail is for the node `dest`, and has a number above `last`.
+fn is_due(number: u64, to: &Call, dest: &Call, last: u64) -> bool
+    ensures { result ≡ (same_call to.now dest.now && nat_lt last number) }
+{
+    *to == *dest && number > last
+}

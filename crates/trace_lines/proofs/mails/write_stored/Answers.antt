@@ -1,0 +1,7 @@
+use Rattle.std.proofs.Common.{refl}
+use Rattle.trace_lines.specs.Json.{object}
+use Rattle.trace_lines.proofs.mails.write_stored.Goals as goal
+
+pub returns : goal.returns
+unfolding object
+returns c = rw (c.in_ok-text.ensures.ok, c.as_str.ensures.value, c.in_ok-object.ensures.ok, c.as_str-fields.ensures.value, c.in_ok-fields.ensures) refl

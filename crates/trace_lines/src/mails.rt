@@ -1,0 +1,146 @@
+//! What a trace tells of mail.
+ghost use Rattle.std.specs.Prelude.{◌≡◌, ◌++◌, OnOk, IfOk, Option, string_bytes};
+ghost use Rattle.trace_lines.specs.Json.{fields_text};
+ghost use Rattle.net_replay.specs.Traces.{MailStands};
+ghost use Rattle.node_mail.specs.Lists.{Lists};
+ghost use Rattle.trace_lines.specs.Mails as mails;
+
+use crate::events::Stand;
+use net_replay::{Offer, StoredMail};
+use node_mail::Store;
+use radio_base::{NoMemory, TextOut};
+use std::alloc::{AllocError, Global};
+
+/// A mail was posted at the node, and has this number there.
+#[tactic(auto, unfolding(crate::specs::Json::object))]
+pub(crate) fn write_posted(
+    alloc: Global,
+    stand: Stand,
+    node: u8,
+    mail: u64,
+    out: &mut TextOut,
+) -> Result<(), NoMemory>
+    ensures { OnOk result (out.new ≡ out.old ++ mails.posted_line stand node mail) }
+{
+    let Stand { event, line } = stand;
+    let object = format!(in alloc;
+        "{{\"kind\":\"posted\",\"event\":{event},\"line\":{line},\"node\":{node},\"mail\":{mail}}}\n"
+    )?;
+    out.text(object.as_str())?;
+    Ok(())
+}
+
+/// The agent of the node has written a queued mail at an end.
+#[tactic(auto, unfolding(crate::specs::Json::object))]
+pub(crate) fn write_offered(
+    alloc: Global,
+    stand: Stand,
+    node: u8,
+    offer: &Offer,
+    out: &mut TextOut,
+) -> Result<(), NoMemory>
+    ensures { OnOk result (out.new ≡ out.old ++ mails.offered_line stand node offer.now.id offer.now.number) }
+{
+    let Stand { event, line } = stand;
+    let end = offer.id;
+    let mail = offer.number;
+    let object = format!(in alloc;
+        "{{\"kind\":\"offered\",\"event\":{event},\"line\":{line},\"node\":{node},\"end\":{end},\"mail\":{mail}}}\n"
+    )?;
+    out.text(object.as_str())?;
+    Ok(())
+}
+
+/// A mail is stored at the node.
+#[tactic(auto, unfolding(crate::specs::Json::object))]
+pub(crate) fn write_stored(
+    alloc: Global,
+    stand: Stand,
+    node: u8,
+    stored: &StoredMail,
+    out: &mut TextOut,
+) -> Result<(), NoMemory>
+    ensures { OnOk result (out.new
+        ≡ out.old ++ mails.stored_line stand node stored.now.origin stored.now.number stored.now.to stored.now.len) }
+{
+    let Stand { event, line } = stand;
+    let fields = stored_fields(alloc, stored)?;
+    let fields = fields.as_str();
+    let object = format!(in alloc;
+        "{{\"kind\":\"stored\",\"event\":{event},\"line\":{line},\"node\":{node}{fields}"
+    )?;
+    out.text(object.as_str())?;
+    Ok(())
+}
+
+/// The fields of a mail that is stored, and the end of their object.
+fn stored_fields(alloc: Global, stored: &StoredMail) -> Result<String, AllocError>
+    ensures { IfOk result (λ s. string_bytes s
+        ≡ fields_text (mails.stored_fields stored.now.origin stored.now.number stored.now.to stored.now.len)) }
+{
+    let origin = stored.origin.show();
+    let origin = origin.as_str();
+    let mail = stored.number;
+    let to = stored.to.show();
+    let to = to.as_str();
+    let bytes = stored.len;
+    let fields = format!(in alloc;
+        ",\"origin\":\"{origin}\",\"mail\":{mail},\"to\":\"{to}\",\"bytes\":{bytes}}}\n"
+    )?;
+    Ok(fields)
+}
+
+/// The mail of that number, which was posted at the node, is stored where it was to go.
+#[tactic(auto, unfolding(crate::specs::Json::object))]
+pub(crate) fn write_settled(
+    alloc: Global,
+    stand: Stand,
+    node: u8,
+    mail: u64,
+    out: &mut TextOut,
+) -> Result<(), NoMemory>
+    ensures { OnOk result (out.new ≡ out.old ++ mails.settled_line stand node mail) }
+{
+    let Stand { event, line } = stand;
+    let object = format!(in alloc;
+        "{{\"kind\":\"settled\",\"event\":{event},\"line\":{line},\"node\":{node},\"mail\":{mail}}}\n"
+    )?;
+    out.text(object.as_str())?;
+    Ok(())
+}
+
+/// How much mail a node has left, where it keeps mail.
+pub(crate) fn write_left_mail(
+    alloc: Global,
+    node: u8,
+    mail: &Option<Store>,
+    out: &mut TextOut,
+) -> Result<(), NoMemory>
+    ensures { OnOk result ((kept : Option Lists) → MailStands mail.now kept → out.new ≡ out.old ++ mails.mail_text node kept) }
+{
+    match mail {
+        Some(store) => {
+            let (queued, stored) = store.counts();
+            write_counts(alloc, node, queued, stored, out)?;
+            Ok(())
+        }
+        None => Ok(()),
+    }
+}
+
+#[tactic(auto, unfolding(crate::specs::Json::object))]
+fn write_counts(
+    alloc: Global,
+    node: u8,
+    queued: usize,
+    stored: usize,
+    out: &mut TextOut,
+) -> Result<(), NoMemory>
+    ensures { OnOk result (out.new ≡ out.old ++ mails.mail_line node queued stored) }
+{
+    let object = format!(in alloc;
+        "{{\"kind\":\"mail\",\"node\":{node},\"queued\":{queued},\"stored\":{stored}}}\n"
+    )?;
+    out.text(object.as_str())?;
+    Ok(())
+}
