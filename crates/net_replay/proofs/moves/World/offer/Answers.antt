@@ -43,7 +43,7 @@ returns-clause-ok c = λ numbers w t.
     let wrote = subst (λ v. Stands (course c.write_if_taken.new.self) v) same was in (
       offered_mail channels c.args.line c.args.node c.args.at c.args.id c.args.number w,
       subst (λ v. Stands (course c.tell.new.self) v) (ap (λ (o : Offer). tell c.args.line (Offered c.args.node o.id o.number ∷ []) u) c.in_ok-offer.ensures.ok)
-      (c.in_ok-tell.ensures.goes u wrote),
+          (c.in_ok-tell.ensures.goes u wrote),
       offer_keeps channels c.args.line c.args.node c.args.at c.args.id c.args.number w,
       offer_done channels c.args.line c.args.node c.args.at c.args.id c.args.number numbers w yes,
     )
