@@ -7,8 +7,8 @@ use Rattle.network_file.specs.declared.plan.channels.Channel.{Channel}
 use Rattle.link_table.specs.Fetching.{written}
 use Rattle.link_table.specs.Frames.{Sent}
 use Rattle.link_table.specs.declared.written.Written.{Written}
-use Rattle.node_core.specs.Links.{all_fetched, sent_frames}
-use Rattle.node_core.specs.States.{NodeState, State, fetch_frame, fetch_own, frames}
+use Rattle.node_turns.specs.Links.{all_fetched, sent_frames}
+use Rattle.node_turns.specs.States.{NodeState, State, fetch_frame, fetch_own, frames}
 use Rattle.net_replay.specs.declared.air.Aired.{Aired}
 use Rattle.net_replay.specs.Events.{InAir, NumberedEvent}
 use Rattle.net_replay.specs.Running.{Course, GoesOn, Stands, airs, aired_one, change, change_of, fetched_frame, first_frame, put_by, put_by_of}

@@ -17,8 +17,8 @@ use Rattle.network_file.specs.declared.plan.keys.Key.TheVariants.{TimeToLive}
 use Rattle.network_file.specs.Plan.{Plan}
 use Rattle.network_file.specs.Settings.{value_of}
 use Rattle.node_core.specs.Runs.{InputsAreSteps, StepsOf, steps_at}
-use Rattle.node_core.specs.States as states
-use Rattle.node_core.specs.States.{NodeState, State}
+use Rattle.node_turns.specs.States as states
+use Rattle.node_turns.specs.States.{NodeState, State}
 use Rattle.net_replay.specs.declared.ends.EndRecord.{EndRecord}
 use Rattle.net_replay.specs.CircuitRuns.{first_sets, set_of}
 use Rattle.net_replay.specs.Circuits as circuits

@@ -14,9 +14,9 @@ use Rattle.circuit_set.specs.TooLate.{Partners}
 use Rattle.network_file.specs.Laws.{SettingsFit}
 use Rattle.node_core.specs.Bridged.{Bridged, BridgedAt, IsBridged, IsEndsReader, IsEndsWriter, SessionsBridged, SessionsReadTheirEnds, SessionsWriteTheirEnds}
 use Rattle.node_core.specs.Fetching.{FetchesAllEntries, FetchesAllFrames}
-use Rattle.node_core.specs.Sessions.{Session, waits}
-use Rattle.node_core.specs.States.{State}
-use Rattle.node_core.specs.Users.{is_deaf}
+use Rattle.node_turns.specs.Sessions.{Session, waits}
+use Rattle.node_turns.specs.States.{State}
+use Rattle.node_turns.specs.Users.{is_deaf}
 use Rattle.net_replay.specs.CircuitRuns.{NetworksAreSound, WorldsAreRuns, first_sets}
 use Rattle.net_replay.specs.Conversations.{Agree, AgreeWith, AgreesAt, InTimeUsersAgree, IsSession, WritesTexts}
 use Rattle.net_replay.specs.Lines.{do_lines}

@@ -6,8 +6,8 @@ use Rattle.radio_base.specs.declared.errors.NoMemory.{NoMemory}
 use Rattle.network_file.specs.declared.plan.declarations.Declaration.{Declaration}
 use Rattle.node_core.specs.Kept.{Kept, NodeStands}
 use Rattle.net_replay.specs.declared.events.Event.{Event as SeenEvent}
-use Rattle.node_core.specs.States as states
-use Rattle.node_core.specs.States.{NodeState}
+use Rattle.node_turns.specs.States as states
+use Rattle.node_turns.specs.States.{NodeState}
 use Rattle.net_replay.specs.Events.{Entry, Event, NumberedEvent, event_of}
 use Rattle.net_replay.specs.Running.{Course, IsFirst, Stands, all_entries, all_entries_of, change, change_of, entry_events, fetched_entry, first_entry}
 use Rattle.net_replay.specs.Starting.{Placed}

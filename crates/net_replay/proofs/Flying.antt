@@ -30,7 +30,7 @@ use Rattle.node_core.specs.Carried.{ActsCarry, Borne, BytesCarry, CarriedFurther
 use Rattle.node_core.specs.Configs.{new_node}
 use Rattle.node_core.specs.Runs.{ActsRun, BytesRun, InputsAreSteps, RunsOn, StepsOf, TicksRun, steps_at}
 use Rattle.node_core.specs.Standing.{IsTold}
-use Rattle.node_core.specs.States.{NodeState, frames}
+use Rattle.node_turns.specs.States.{NodeState, frames}
 use Rattle.node_core.specs.UserActs as acts
 use Rattle.node_core.specs.UserActs.{UserAct}
 use Rattle.net_replay.specs.declared.air.Aired.{Aired}

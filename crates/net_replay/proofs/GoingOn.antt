@@ -9,7 +9,7 @@ use Rattle.network_file.specs.declared.plan.channels.Channel.{Channel}
 use Rattle.network_file.specs.declared.plan.instructions.Instruction.{Instruction}
 use Rattle.network_file.specs.declared.plan.instructions.Instruction.TheVariants as instructions
 use Rattle.network_file.specs.Plan.{Plan}
-use Rattle.node_core.specs.States as states
+use Rattle.node_turns.specs.States as states
 use Rattle.node_core.specs.UserActs as acts
 use Rattle.net_replay.specs.CircuitRuns.{IsInstruction}
 use Rattle.net_replay.specs.Datagrams.{LineRestartsNone, RestartsNone}

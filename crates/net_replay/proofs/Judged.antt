@@ -15,7 +15,7 @@ use Rattle.circuit_verdict.specs.Standing.{StandsFor, allowance_in}
 use Rattle.circuit_verdict.specs.Verdicts.{IsVerdict}
 use Rattle.network_file.specs.declared.plan.declarations.Declaration.{Declaration}
 use Rattle.network_file.specs.Plan.{Plan}
-use Rattle.node_core.specs.States as states
+use Rattle.node_turns.specs.States as states
 use Rattle.net_replay.specs.declared.events.NumberedEvent.{NumberedEvent}
 use Rattle.net_replay.specs.Circuits.{CircuitEvent, IsVerdictOn, allowance_of, at_node, event_at, events_at, judged, told_at}
 use Rattle.net_replay.specs.Events as events

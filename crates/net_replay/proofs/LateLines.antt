@@ -15,7 +15,7 @@ use Rattle.circuit_verdict.specs.declared.verdict.Late.{Late}
 use Rattle.circuit_verdict.specs.declared.verdict.LateWhy.{LateWhy}
 use Rattle.circuit_verdict.specs.declared.verdict.LateWhy.TheVariants.{Overtaken, Returned}
 use Rattle.network_file.specs.Plan.{Plan}
-use Rattle.node_core.specs.States as states
+use Rattle.node_turns.specs.States as states
 use Rattle.net_replay.specs.declared.causes.LateCause.{LateCause}
 use Rattle.net_replay.specs.Causes.{ComesLateBy, IsCauseOf, sign_of, what_was_told}
 use Rattle.net_replay.specs.Circuits.{CircuitEvent, IsVerdictOn, allowance_of, at_node, event_at, events_at, judged}

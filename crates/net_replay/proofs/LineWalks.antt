@@ -29,8 +29,8 @@ use Rattle.node_core.specs.declared.acts.ActRefusal.{ActRefusal}
 use Rattle.node_core.specs.declared.acts.ActRefusal.TheVariants as refusal
 use Rattle.node_core.specs.Inputs.{act_answer, moment}
 use Rattle.node_core.specs.Refusals.{write_refusal}
-use Rattle.node_core.specs.Serving.{is_served}
-use Rattle.node_core.specs.States.{NodeState, State}
+use Rattle.node_turns.specs.Serving.{is_served}
+use Rattle.node_turns.specs.States.{NodeState, State}
 use Rattle.node_core.specs.UserActs.{UserAct}
 use Rattle.node_core.specs.UserActs as acts
 use Rattle.net_replay.specs.declared.air.Aired.{Aired}

@@ -16,7 +16,7 @@ use Rattle.circuit_set.specs.Sets.{Holder, end_of}
 use Rattle.circuit_set.specs.Standing.{by_write, take_answer, write_answer}
 use Rattle.link_table.specs.Standing.{TableView}
 use Rattle.node_core.specs.Kept.{Kept, NodeStands}
-use Rattle.node_core.specs.States.{NodeState}
+use Rattle.node_turns.specs.States.{NodeState}
 use Rattle.net_replay.specs.Agents.{is_requested, is_up_end}
 use Rattle.net_replay.specs.Mailing.{dest_of, ends_here, ends_of_placed, is_agents, mail_in, waits}
 use Rattle.net_replay.specs.Running.{Course, Stands}

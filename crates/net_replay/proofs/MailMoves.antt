@@ -27,7 +27,7 @@ use Rattle.node_core.specs.Configs.{new_node}
 use Rattle.node_core.specs.Inputs.{act_answer, moment}
 use Rattle.node_core.specs.Runs.{ActsRun, BytesRun, InputsAreSteps, IsUserAct, RunsBy, RunsOn, TicksRun, steps_at, user_writes, writes_in}
 use Rattle.node_core.specs.Standing.{IsTold}
-use Rattle.node_core.specs.States.{NodeState}
+use Rattle.node_turns.specs.States.{NodeState}
 use Rattle.node_core.specs.UserActs as acts
 use Rattle.node_core.specs.UserActs.{UserAct}
 use Rattle.node_mail.specs.Lists.{Lists}

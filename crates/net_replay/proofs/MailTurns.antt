@@ -31,11 +31,11 @@ use Rattle.node_core.specs.declared.acts.ActRefusal.{ActRefusal}
 use Rattle.node_core.specs.declared.acts.ActRefusal.TheVariants as refusal
 use Rattle.node_core.specs.Inputs.{act_answer, moment}
 use Rattle.node_core.specs.Runs.{ActsRun, BytesRun, InputsAreSteps, RunsBy, TicksRun, steps_at, user_writes, writes_in}
-use Rattle.node_core.specs.Serving.{is_served}
-use Rattle.node_core.specs.States.{NodeState, State}
+use Rattle.node_turns.specs.Serving.{is_served}
+use Rattle.node_turns.specs.States.{NodeState, State}
 use Rattle.node_core.specs.UserActs as acts
 use Rattle.node_core.specs.UserActs.{UserAct}
-use Rattle.node_core.specs.Users.{facts}
+use Rattle.node_turns.specs.Users.{facts}
 use Rattle.node_mail.specs.Lists.{Lists, answer_to, hear_at, hear_step, letter_of, offer, post_step}
 use Rattle.node_mail.specs.Runs as mail
 use Rattle.node_mail.specs.Runs.{MailRun, Written, with_store, with_written}

@@ -13,7 +13,7 @@ use Rattle.circuit_set.specs.Sets.{Holder, SetState, Told, all_gone, end_of, los
 use Rattle.network_file.specs.declared.plan.channels.Channel.{Channel}
 use Rattle.network_file.specs.Plan.{Plan}
 use Rattle.node_core.specs.Runs.{ActsRun, BytesRun, InputsAreSteps, IsUserAct, RunsOn, TicksRun, steps_at}
-use Rattle.node_core.specs.States.{NodeState}
+use Rattle.node_turns.specs.States.{NodeState}
 use Rattle.net_replay.specs.CircuitRuns.{first_sets, set_of}
 use Rattle.net_replay.specs.Ends.{ends_of, note_events}
 use Rattle.net_replay.specs.Events as events

@@ -23,8 +23,8 @@ use Rattle.network_file.specs.Plan.{Plan}
 use Rattle.network_file.specs.Settings.{value_of}
 use Rattle.node_core.specs.Configs.{new_node}
 use Rattle.node_core.specs.Runs.{MadeFrom, circuits_told}
-use Rattle.node_core.specs.States as states
-use Rattle.node_core.specs.States.{NodeState}
+use Rattle.node_turns.specs.States as states
+use Rattle.node_turns.specs.States.{NodeState}
 use Rattle.net_replay.specs.declared.ends.EndRecord.{EndRecord}
 use Rattle.net_replay.specs.declared.ends.Outcome.{Outcome}
 use Rattle.net_replay.specs.declared.ends.Outcome.TheVariants as outcomes

@@ -19,8 +19,8 @@ use Rattle.node_core.specs.Bridged as nodes
 use Rattle.node_core.specs.Bridged.{AsksForCall, EverySession, after_all}
 use Rattle.node_core.specs.Configs.{new_node}
 use Rattle.node_core.specs.Fetching.{FetchesAllEntries, FetchesAllFrames, fetch_entries, fetch_frames}
-use Rattle.node_core.specs.Sessions.{Session}
-use Rattle.node_core.specs.States.{NodeState, State, fetch_entry, fetch_frame, frames}
+use Rattle.node_turns.specs.Sessions.{Session}
+use Rattle.node_turns.specs.States.{NodeState, State, fetch_entry, fetch_frame, frames}
 use Rattle.node_core.specs.UserActs as acts
 use Rattle.node_core.specs.UserActs.{UserAct}
 use Rattle.net_replay.specs.CircuitRuns.{IsInstruction, IsLine, IsSound}

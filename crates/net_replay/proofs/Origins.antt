@@ -20,7 +20,7 @@ use Rattle.l3_datagram.specs.declared.datagram.DatagramRefusal.{DatagramRefusal}
 use Rattle.l3_datagram.specs.declared.datagram.DatagramRefusal.TheVariants.{Short, TooLong}
 use Rattle.link_table.specs.Reaching.{IsCall}
 use Rattle.network_file.specs.declared.plan.declarations.Declaration.{Declaration}
-use Rattle.node_core.specs.States as states
+use Rattle.node_turns.specs.States as states
 use Rattle.net_replay.specs.Circuits.{CircuitEvent}
 use Rattle.net_replay.specs.Events as events
 use Rattle.net_replay.specs.Events.{Event, NumberedEvent}

@@ -8,7 +8,7 @@ use Rattle.std.specs.Option.{option_map}
 use Rattle.network_file.specs.declared.plan.declarations.Declaration.{Declaration}
 use Rattle.node_core.specs.Inputs.{moment}
 use Rattle.node_core.specs.Kept.{Kept, NodeStands, entries_left, frames_left}
-use Rattle.node_core.specs.States.{NodeState}
+use Rattle.node_turns.specs.States.{NodeState}
 use Rattle.net_replay.specs.Running.{Course, Stands, change, change_of, entries_at, frames_at}
 use Rattle.net_replay.specs.Starting.{Placed, has_number}
 use Rattle.net_replay.specs.Traces.{StandFor}

@@ -4,11 +4,10 @@ use Rattle.std.specs.Prelude.{None, min, slice_get, Result}
 use Rattle.node_core.specs.declared.acts.ActDone.{ActDone}
 use Rattle.node_core.specs.declared.acts.ActRefusal.{ActRefusal}
 use Rattle.node_core.specs.UserActs.{UserAct}
-use Rattle.node_core.specs.Inputs.{act_answer, after_items, new_items, settled_act}
+use Rattle.node_core.specs.Inputs.{act_answer, after_input, after_items, new_items, settled_act}
 use Rattle.node_core.specs.Kept.{Kept, NodeStands}
 use Rattle.node_core.specs.Rounds.{tick}
-use Rattle.node_core.specs.Settling.{after_input}
-use Rattle.node_core.specs.States.{NodeState}
+use Rattle.node_turns.specs.States.{NodeState}
 use Rattle.net_replay.specs.Running.{Course, GoesOn, Stands, all_entries, change}
 use Rattle.net_replay.specs.Starting.{Placed}
 use Rattle.net_replay.specs.World.{Act, Bytes, Input, Time, World, after, answer, answers, reach, reaches}

@@ -10,7 +10,7 @@ use Rattle.circuit_verdict.specs.declared.verdict.Late.{Late}
 use Rattle.circuit_verdict.specs.Events as verdicts
 use Rattle.circuit_verdict.specs.Verdicts.{IsVerdict}
 use Rattle.network_file.specs.Plan.{Plan, version_of}
-use Rattle.node_core.specs.States as states
+use Rattle.node_turns.specs.States as states
 use Rattle.net_replay.specs.Events.{Event, Entry, Lost, NumberedEvent, Restarted}
 use Rattle.net_replay.specs.Starting.{Placed}
 use Rattle.net_replay.specs.World.{World, place_of}

@@ -10,11 +10,11 @@ use Rattle.circuit_set.specs.TooLate.{HasPartner, Partners}
 use Rattle.network_file.specs.declared.network.NumberedInstruction.{NumberedInstruction}
 use Rattle.network_file.specs.Networks.{network_of}
 use Rattle.network_file.specs.Plan.{Plan}
-use Rattle.node_core.specs.declared.sessions.session.Circuit.{Circuit}
-use Rattle.node_core.specs.declared.sessions.session.Stage.TheVariants.{Connected}
-use Rattle.node_core.specs.Sessions.{Session}
-use Rattle.node_core.specs.States.{State}
-use Rattle.node_core.specs.Users.{is_deaf}
+use Rattle.node_turns.specs.declared.session.Circuit.{Circuit}
+use Rattle.node_turns.specs.declared.session.Stage.TheVariants.{Connected}
+use Rattle.node_turns.specs.Sessions.{Session}
+use Rattle.node_turns.specs.States.{State}
+use Rattle.node_turns.specs.Users.{is_deaf}
 use Rattle.net_replay.specs.CircuitRuns.{IsRunOf, first_sets}
 use Rattle.net_replay.specs.Circuits.{IsVerdictOn}
 use Rattle.net_replay.specs.Lines.{do_lines, world}

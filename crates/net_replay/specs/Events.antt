@@ -5,7 +5,7 @@ use Rattle.circuit_l4.specs.declared.facts.EndFacts.{EndFacts}
 use Rattle.circuit_l4.specs.declared.transport.Pair.{Pair}
 use Rattle.circuit_set.specs.Pumps.{Of}
 use Rattle.circuit_set.specs.Sets as sets
-use Rattle.node_core.specs.States as nodes
+use Rattle.node_turns.specs.States as nodes
 use Rattle.node_core.specs.Standing.{entry_of}
 use Rattle.net_replay.specs.declared.events.Event as code
 use Rattle.net_replay.specs.declared.events.Event.TheVariants as codes

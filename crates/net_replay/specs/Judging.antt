@@ -8,7 +8,7 @@ use Rattle.circuit_verdict.specs.declared.event.Event.{Event as Coming}
 use Rattle.circuit_verdict.specs.declared.event.Numbered.{Numbered}
 use Rattle.circuit_verdict.specs.declared.verdict.Verdict.{Verdict}
 use Rattle.circuit_verdict.specs.Standing.{StandsFor, allowance_in}
-use Rattle.node_core.specs.States as states
+use Rattle.node_turns.specs.States as states
 use Rattle.net_replay.specs.Circuits.{CircuitEvent, judged}
 use Rattle.net_replay.specs.Events.{Event, Entry, Lost, Restarted}
 

@@ -7,8 +7,8 @@ use Rattle.node_core.specs.declared.acts.ActDone.{ActDone}
 use Rattle.node_core.specs.declared.acts.ActDone.TheVariants as actions
 use Rattle.node_core.specs.declared.acts.ActRefusal.{ActRefusal}
 use Rattle.node_core.specs.Kept.{Kept, entries_left, frames_left}
-use Rattle.node_core.specs.States.{NodeState, fetch_entry, fetch_frame, frames}
-use Rattle.node_core.specs.States as states
+use Rattle.node_turns.specs.States.{NodeState, fetch_entry, fetch_frame, frames}
+use Rattle.node_turns.specs.States as states
 use Rattle.link_table.specs.declared.written.Written.{Written}
 use Rattle.net_replay.specs.declared.air.Aired.{Aired}
 use Rattle.net_replay.specs.declared.answer.Answer.{Answer}

@@ -20,7 +20,7 @@ use Rattle.node_core.specs.declared.config.NodeConfig.{NodeConfig}
 use Rattle.node_core.specs.Broadcasts.{address_of}
 use Rattle.route_table.specs.declared.route.RouteRules.{RouteRules}
 use Rattle.node_core.specs.Configs.{new_node}
-use Rattle.node_core.specs.States.{NodeState, at_links}
+use Rattle.node_turns.specs.States.{NodeState, at_links}
 use Rattle.node_mail.specs.Lists.{Lists, nothing_kept}
 
 -- ---- the settings of a node

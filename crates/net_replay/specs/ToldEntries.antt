@@ -8,7 +8,7 @@ use Rattle.circuit_set.specs.CircuitSets.{facts_at}
 use Rattle.circuit_set.specs.Pumps.{SetTold, Of, Dropped}
 use Rattle.circuit_set.specs.Sets.{Holder, Notice, end_of}
 use Rattle.l3_datagram.specs.declared.routed.Routed.{Routed}
-use Rattle.node_core.specs.States as nodes
+use Rattle.node_turns.specs.States as nodes
 use Rattle.net_replay.specs.declared.ends.EndRecord.{EndRecord}
 use Rattle.net_replay.specs.declared.ends.Outcome.{Outcome}
 use Rattle.net_replay.specs.declared.ends.Outcome.TheVariants.{Held, Gone, Lost}

@@ -1,7 +1,7 @@
 //! The line on what came of a soak.
 ghost use Rattle.std.specs.Prelude.{◌≡◌, ◌++◌, ℕ, List, length, map, flat_map, string_bytes, OnOk, OnErr, IfOk};
 ghost use Rattle.node_core.specs.Kept.{NodeStands};
-ghost use Rattle.node_core.specs.States.{NodeState};
+ghost use Rattle.node_turns.specs.States.{NodeState};
 ghost use Rattle.node_core.specs.Standing.{entry_of};
 ghost use Rattle.net_replay.specs.Events.{Entry, event_of, numbered_of};
 ghost use Rattle.net_replay.specs.Reporting.{AreDeclared, ends_left};

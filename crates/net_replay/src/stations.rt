@@ -6,7 +6,7 @@ ghost use Rattle.circuit_set.specs.Pairs.{IsPair};
 ghost use Rattle.circuit_set.specs.Runs.{AreStarts, IsStart};
 ghost use Rattle.link_table.specs.Calls as links;
 ghost use Rattle.node_core.specs.Kept.{NodeGoes, NodeStands};
-ghost use Rattle.node_core.specs.States.{NodeState, at_links};
+ghost use Rattle.node_turns.specs.States.{NodeState, at_links};
 ghost use Rattle.net_replay.specs.CircuitRuns.{sets_of};
 ghost use Rattle.net_replay.specs.Lines as lines;
 ghost use Rattle.net_replay.specs.Starting as starting;

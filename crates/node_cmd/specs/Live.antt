@@ -9,7 +9,7 @@ use Rattle.node_core.specs.Bounds.{IsWithin}
 use Rattle.node_core.specs.Fetching.{heard, sent}
 use Rattle.node_core.specs.Inputs.{after_bytes, after_tick}
 use Rattle.node_core.specs.Kept.{Kept, NodeStands}
-use Rattle.node_core.specs.States.{NodeState, frames}
+use Rattle.node_turns.specs.States.{NodeState, frames}
 use Rattle.node_cmd.specs.declared.ran.Ran.{Ran}
 use Rattle.node_cmd.specs.declared.ran.Ran.TheVariants.{Nothing, Replayed, Served}
 use Rattle.cmd_streams.specs.Streams.{Read}

@@ -3,7 +3,7 @@ ghost use Rattle.std.specs.Prelude.{◌≡◌, ◌≢◌, ◌++◌, ◌≤◌, L
 ghost use Rattle.node_core.specs.Bounds.{IsWithin};
 ghost use Rattle.node_core.specs.Fetching.{heard, sent};
 ghost use Rattle.node_core.specs.Kept.{NodeGoes, NodeStands};
-ghost use Rattle.node_core.specs.States.{NodeState, frames};
+ghost use Rattle.node_turns.specs.States.{NodeState, frames};
 ghost use Rattle.node_cmd.specs.Live as live;
 ghost use Rattle.node_cmd.specs.Run.{NodeEnds};
 ghost use Rattle.cmd_streams.specs.StatusNotes.{HasNote, IsSilent};
@@ -36,7 +36,7 @@ struct Living {
 impl Taker for Living {
     ghost use Rattle.node_core.specs.Bounds.{IsWithin};
     ghost use Rattle.node_core.specs.Kept.{NodeStands};
-    ghost use Rattle.node_core.specs.States.{NodeState};
+    ghost use Rattle.node_turns.specs.States.{NodeState};
     ghost use Rattle.node_cmd.specs.Live.{HasLived};
 
     ghost took = { λ first last reads text. (n : NodeState) → NodeStands first.node n → IsWithin first.node → HasLived last.node reads text n };

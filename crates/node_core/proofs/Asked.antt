@@ -13,10 +13,11 @@ use Rattle.route_table.specs.Held.{StandsFor}
 use Rattle.route_table.specs.Log.{Item}
 use Rattle.route_table.specs.Table as routes
 use Rattle.node_core.specs.declared.station.Station.{Station}
-use Rattle.node_core.specs.Bridging.{prompt_of}
-use Rattle.node_core.specs.Pumping.{pump}
-use Rattle.node_core.specs.Standing.{Holds, Told}
-use Rattle.node_core.specs.States.{Settings, State, next_hop}
+use Rattle.node_turns.specs.Bridging.{prompt_of}
+use Rattle.node_turns.specs.Pumping.{pump}
+use Rattle.node_core.specs.Going.{Told}
+use Rattle.node_core.specs.Standing.{Holds}
+use Rattle.node_turns.specs.States.{Settings, State, next_hop}
 use Rattle.node_core.proofs.Coming.{pumped_came}
 use Rattle.node_core.proofs.Using.{resting}
 

@@ -14,8 +14,9 @@ use Rattle.link_table.specs.Table.{Linked}
 use Rattle.link_table.specs.declared.entry.Entry.{Entry}
 use Rattle.node_core.specs.Bounds.{IsWithin, pairs_of}
 use Rattle.node_core.specs.Bridged.{UsersAreFew}
-use Rattle.node_core.specs.Kept.{IsSound, Kept}
-use Rattle.node_core.specs.States.{NodeState}
+use Rattle.node_core.specs.Kept.{Kept}
+use Rattle.node_core.specs.Sound.{IsSound}
+use Rattle.node_turns.specs.States.{NodeState}
 use Rattle.node_core.proofs.Serving.{same_number}
 
 -- ---- as many links and ends as the state has

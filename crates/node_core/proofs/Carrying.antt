@@ -35,15 +35,15 @@ use Rattle.node_core.specs.Acts as acts
 use Rattle.node_core.specs.Broadcasts.{is_broadcast}
 use Rattle.node_core.specs.Carried.{ActsCarry, BytesCarry, CarriedOn, CarriesTraced, IsAloft, IsOfNode, ItemAloft, LocksCall, NamesCall, Place, TicksCarry, brings_to, brings_traced, is_aloft, is_borne, is_of_node, offers_traced, sends_in}
 use Rattle.node_core.proofs.Bearing.{same_is}
-use Rattle.node_core.specs.Inputs.{after_item, after_items, moment, new_items}
+use Rattle.node_core.specs.Inputs.{after_input, after_item, after_items, moment, new_items}
 use Rattle.node_core.specs.Laws.{NothingLeftAfterInputs}
-use Rattle.node_core.specs.Links as links
+use Rattle.node_turns.specs.Links as links
 use Rattle.node_core.specs.Receiving as receiving
 use Rattle.node_core.specs.Rounds as rounds
 use Rattle.node_core.specs.Runs.{MadeFrom, circuits_told}
-use Rattle.node_core.specs.Settling as s
+use Rattle.node_turns.specs.Settling as s
 use Rattle.node_core.specs.Standing.{IsTold}
-use Rattle.node_core.specs.States.{Entry, Overflow, State, at_links, put, with_items}
+use Rattle.node_turns.specs.States.{Entry, Overflow, State, at_links, put, with_items}
 use Rattle.node_core.specs.UserActs as user
 use Rattle.node_core.specs.UserActs.{UserAct}
 use Rattle.node_core.proofs.Inputs.{are_acts, are_up}
@@ -252,11 +252,11 @@ module _ (here : Place) (law : CarriesWhatWasOffered) (weaker : CarriesByWeaker)
       by false = still here n sent x
 
   module _ (reads : ReadsCallTexts) where
-    settles : (now : ℕ) (n : State) → Goes here n (s.after_input now n)
+    settles : (now : ℕ) (n : State) → Goes here n (after_input now n)
     settles = settled_on (Goes here) NamesCall (walks here law weaker spelled one_hop) reads
 
-    settled_behind : (sent : List (List ℕ)) (now : ℕ) (n m : State) → Trail here sent n m → Trail here sent n (s.after_input now m)
-    settled_behind sent now n m t = trail_then here sent n m (s.after_input now m) t (settles now m (sent ++ sends_in (runs t.inputs n.set.set).told) t.carries)
+    settled_behind : (sent : List (List ℕ)) (now : ℕ) (n m : State) → Trail here sent n m → Trail here sent n (after_input now m)
+    settled_behind sent now n m t = trail_then here sent n m (after_input now m) t (settles now m (sent ++ sends_in (runs t.inputs n.set.set).told) t.carries)
 
     items_go : (now : ℕ) (items : List kiss.Item) (sent : List (List ℕ)) (n : State) → AllByRecursion (ItemAloft here) items → CarriesTraced here sent n → Trail here sent n (after_items now items n)
     items_go now [] sent n a x = still here n sent x

@@ -13,18 +13,18 @@ use Rattle.circuit_set.specs.Sets as sets
 use Rattle.circuit_set.specs.Sets.{Holder}
 use Rattle.link_table.specs.Ending.{has_link, tells_end}
 use Rattle.link_table.specs.Table.{Linked, link_with}
-use Rattle.node_core.specs.declared.sessions.session.Circuit.{Circuit}
-use Rattle.node_core.specs.declared.sessions.session.Reply.{Reply}
-use Rattle.node_core.specs.declared.sessions.session.Stage.{Stage}
-use Rattle.node_core.specs.declared.sessions.session.Stage.TheVariants.{AtPrompt, Trying, Failed, Connected}
-use Rattle.node_core.specs.declared.sessions.session.User.{User}
-use Rattle.node_core.specs.declared.sessions.session.User.TheVariants.{AtEnd, AtLink}
+use Rattle.node_turns.specs.declared.session.Circuit.{Circuit}
+use Rattle.node_turns.specs.declared.session.Reply.{Reply}
+use Rattle.node_turns.specs.declared.session.Stage.{Stage}
+use Rattle.node_turns.specs.declared.session.Stage.TheVariants.{AtPrompt, Trying, Failed, Connected}
+use Rattle.node_turns.specs.declared.session.User.{User}
+use Rattle.node_turns.specs.declared.session.User.TheVariants.{AtEnd, AtLink}
 use Rattle.node_core.specs.Laws.{NothingLeft}
-use Rattle.node_core.specs.Serving as serving
-use Rattle.node_core.specs.Sessions.{Session, circuit_of}
+use Rattle.node_turns.specs.Serving as serving
+use Rattle.node_turns.specs.Sessions.{Session, circuit_of}
 use Rattle.node_core.specs.Standing.{IsTold}
-use Rattle.node_core.specs.States.{State}
-use Rattle.node_core.specs.Users as users
+use Rattle.node_turns.specs.States.{State}
+use Rattle.node_turns.specs.Users as users
 use Rattle.node_core.specs.Waits.{WaitsForRoom, has_text, has_text_at}
 use Rattle.node_core.proofs.Holders.{is_away}
 use Rattle.node_core.proofs.Housing.{IsQuiet}

@@ -3,10 +3,10 @@ use Rattle.std.proofs.Common.{◌≡◌, ℕ, refl, ap, List, [], ◌∷◌, sli
 use Rattle.std.specs.Prelude.{Bool, true, false, is_some, Some, None}
 use Rattle.ax_address.specs.Callsign.{Callsign}
 use Rattle.link_table.specs.Standing.{text_given}
-use Rattle.node_core.specs.Links as links
-use Rattle.node_core.specs.Settling.{drop_first, drop_text}
-use Rattle.node_core.specs.States.{State, at_links}
-use Rattle.node_core.specs.Turns.{Turn}
+use Rattle.node_turns.specs.Links as links
+use Rattle.node_turns.specs.Settling.{drop_first, drop_text}
+use Rattle.node_turns.specs.States.{State, at_links}
+use Rattle.node_turns.specs.Turns.{Turn}
 
 abbrev pub dropped_at : ℕ → Callsign → State → Turn State
 dropped_at now peer n = record { did = links.has_text peer n.links; after = at_links (links.take_text peer now) n }

@@ -7,26 +7,26 @@ use Rattle.circuit_set.specs.Inputs.{TellsLess}
 use Rattle.ax_address.specs.CallReading.{ReadsCallTexts}
 use Rattle.link_table.specs.Laws.{CarriesWhatWasOffered}
 use Rattle.link_table.specs.Payloads.{OffersLeave, TakesLower}
-use Rattle.node_core.specs.declared.sessions.session.Circuit.{Circuit}
-use Rattle.node_core.specs.declared.sessions.session.Reply.{Reply}
-use Rattle.node_core.specs.declared.sessions.session.Stage.{Stage}
-use Rattle.node_core.specs.declared.sessions.session.Stage.TheVariants.{AtPrompt, Trying, Failed, Connected}
-use Rattle.node_core.specs.declared.sessions.session.User.TheVariants.{AtLink}
-use Rattle.node_core.specs.Bridging as bridging
-use Rattle.node_core.specs.Circuits as circuits
-use Rattle.node_core.specs.Links as links
-use Rattle.node_core.specs.Pumping.{at_router, pump}
-use Rattle.node_core.specs.Serving as serving
-use Rattle.node_core.specs.Serving.{is_at_end}
-use Rattle.node_core.specs.Sessions as sessions
-use Rattle.node_core.specs.Sessions.{Session, circuit_of}
-use Rattle.node_core.specs.States.{State}
-use Rattle.node_core.specs.Turns.{Turn, idle, or_else}
-use Rattle.node_core.specs.Users as users
-use Rattle.node_core.specs.Users.{at_session, session_at}
-use Rattle.node_core.proofs.Falling as falling
-use Rattle.node_core.proofs.Lowering as lowering
-use Rattle.node_core.proofs.Resting.{pumped_dry as dried}
+use Rattle.node_turns.specs.declared.session.Circuit.{Circuit}
+use Rattle.node_turns.specs.declared.session.Reply.{Reply}
+use Rattle.node_turns.specs.declared.session.Stage.{Stage}
+use Rattle.node_turns.specs.declared.session.Stage.TheVariants.{AtPrompt, Trying, Failed, Connected}
+use Rattle.node_turns.specs.declared.session.User.TheVariants.{AtLink}
+use Rattle.node_turns.specs.Bridging as bridging
+use Rattle.node_turns.specs.Circuits as circuits
+use Rattle.node_turns.specs.Links as links
+use Rattle.node_turns.specs.Pumping.{at_router, pump}
+use Rattle.node_turns.specs.Serving as serving
+use Rattle.node_turns.specs.Serving.{is_at_end}
+use Rattle.node_turns.specs.Sessions as sessions
+use Rattle.node_turns.specs.Sessions.{Session, circuit_of}
+use Rattle.node_turns.specs.States.{State}
+use Rattle.node_turns.specs.Turns.{Turn, idle, or_else}
+use Rattle.node_turns.specs.Users as users
+use Rattle.node_turns.specs.Users.{at_session, session_at}
+use Rattle.node_turns.proofs.Falling as falling
+use Rattle.node_turns.proofs.Lowering as lowering
+use Rattle.node_turns.proofs.Resting.{pumped_dry as dried}
 use Rattle.node_core.proofs.Fine.{Fine, close_fine, pumped, session_fine}
 use Rattle.node_core.proofs.Given.{Given, IsDone, away, given_closed, given_new, gone_is}
 use Rattle.node_core.proofs.Soundness.{Every, Sound, changed_here, filter_every, push_every, sound_closed, sound_new}

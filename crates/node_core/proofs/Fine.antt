@@ -19,16 +19,16 @@ use Rattle.circuit_set.specs.Standing as answers
 use Rattle.circuit_set.specs.declared.event.SetRefusal.{SetRefusal}
 use Rattle.circuit_set.specs.declared.event.SetRefusal.TheVariants as set_refusal
 use Rattle.link_table.specs.declared.text_refusal.TextRefusal.{TextRefusal}
-use Rattle.node_core.specs.declared.sessions.session.User.{User}
-use Rattle.node_core.specs.declared.sessions.session.User.TheVariants.{AtEnd, AtLink}
-use Rattle.node_core.specs.Circuits as circuits
-use Rattle.node_core.specs.Links as links
-use Rattle.node_core.specs.Pumping.{at_router, pump}
+use Rattle.node_turns.specs.declared.session.User.{User}
+use Rattle.node_turns.specs.declared.session.User.TheVariants.{AtEnd, AtLink}
+use Rattle.node_turns.specs.Circuits as circuits
+use Rattle.node_turns.specs.Links as links
+use Rattle.node_turns.specs.Pumping.{at_router, pump}
 use Rattle.node_core.specs.Runs.{MadeFrom}
-use Rattle.node_core.specs.Sessions.{Session, hear_circuits}
-use Rattle.node_core.specs.States.{State, at_set}
-use Rattle.node_core.specs.Users as users
-use Rattle.node_core.specs.Users.{Outcome, Taken, Exhausts, at_session, changed, session_at}
+use Rattle.node_turns.specs.Sessions.{Session, hear_circuits}
+use Rattle.node_turns.specs.States.{State, at_set}
+use Rattle.node_turns.specs.Users as users
+use Rattle.node_turns.specs.Users.{Outcome, Taken, Exhausts, at_session, changed, session_at}
 use Rattle.node_core.proofs.Given.{Given, given_heard, given_later}
 use Rattle.node_core.proofs.Holders.{Any, Keeps, Differs, closes_keep, comes_keeps, takes_keep, writes_keep}
 use Rattle.node_core.proofs.Soundness.{Every, Hears, Placed, Sound, changed_every, every_at, heard_every, heard_place, sound_hears, sound_new}

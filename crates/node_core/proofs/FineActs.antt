@@ -23,17 +23,17 @@ use Rattle.node_core.specs.declared.acts.ActRefusal.TheVariants as refusal
 use Rattle.node_core.specs.Acts as acts
 use Rattle.node_core.specs.Acts.{Answered}
 use Rattle.node_core.specs.Broadcasts.{round_frames}
-use Rattle.node_core.specs.Circuits as circuits
+use Rattle.node_turns.specs.Circuits as circuits
 use Rattle.node_core.specs.Receiving as receiving
 use Rattle.node_core.specs.Rounds as rounds
 use Rattle.node_core.specs.Runs.{IsUserAct}
-use Rattle.node_core.specs.Serving.{is_at_end, is_circuit, is_served}
-use Rattle.node_core.specs.Sessions.{Session, circuit_of}
+use Rattle.node_turns.specs.Serving.{is_at_end, is_circuit, is_served}
+use Rattle.node_turns.specs.Sessions.{Session, circuit_of}
 use Rattle.node_core.specs.Standing.{IsTold}
-use Rattle.node_core.specs.States.{State, at_set, next_hop, put, with_items}
+use Rattle.node_turns.specs.States.{State, at_set, next_hop, put, with_items}
 use Rattle.node_core.specs.UserActs as user
 use Rattle.node_core.specs.UserActs.{UserAct}
-use Rattle.node_core.specs.Users.{facts}
+use Rattle.node_turns.specs.Users.{facts}
 use Rattle.node_core.proofs.Fine.{All, Fine, acted, closes_fine, takes_fine, writes_fine}
 use Rattle.node_core.proofs.Holders.{connects_keeps}
 use Rattle.node_core.proofs.Soundness.{Every}

@@ -9,20 +9,20 @@ use Rattle.circuit_set.specs.Pumps.{Of}
 use Rattle.circuit_set.specs.Sets.{Holder, SetState, Told, end_of, set_step}
 use Rattle.circuit_set.specs.Standing as answers
 use Rattle.link_table.specs.declared.text_refusal.TextRefusal.{TextRefusal}
-use Rattle.node_core.specs.declared.sessions.session.Circuit.{Circuit}
-use Rattle.node_core.specs.declared.sessions.session.Reply.{Reply}
-use Rattle.node_core.specs.declared.sessions.session.User.{User}
-use Rattle.node_core.specs.declared.sessions.session.User.TheVariants.{AtEnd, AtLink}
-use Rattle.node_core.specs.Bridging as bridging
-use Rattle.node_core.specs.Circuits as circuits
-use Rattle.node_core.specs.Links as links
-use Rattle.node_core.specs.Pumping.{at_router, pump}
-use Rattle.node_core.specs.Serving.{is_at_end, is_circuit}
-use Rattle.node_core.specs.Sessions.{Session, circuit_of, hear_circuits}
-use Rattle.node_core.specs.States.{State, at_set}
-use Rattle.node_core.specs.Turns.{done, idle}
-use Rattle.node_core.specs.Users as users
-use Rattle.node_core.specs.Users.{Outcome, at_session, changed, session_at}
+use Rattle.node_turns.specs.declared.session.Circuit.{Circuit}
+use Rattle.node_turns.specs.declared.session.Reply.{Reply}
+use Rattle.node_turns.specs.declared.session.User.{User}
+use Rattle.node_turns.specs.declared.session.User.TheVariants.{AtEnd, AtLink}
+use Rattle.node_turns.specs.Bridging as bridging
+use Rattle.node_turns.specs.Circuits as circuits
+use Rattle.node_turns.specs.Links as links
+use Rattle.node_turns.specs.Pumping.{at_router, pump}
+use Rattle.node_turns.specs.Serving.{is_at_end, is_circuit}
+use Rattle.node_turns.specs.Sessions.{Session, circuit_of, hear_circuits}
+use Rattle.node_turns.specs.States.{State, at_set}
+use Rattle.node_turns.specs.Turns.{done, idle}
+use Rattle.node_turns.specs.Users as users
+use Rattle.node_turns.specs.Users.{Outcome, at_session, changed, session_at}
 use Rattle.node_core.proofs.Fine.{Dry, Fine, Goes, fewer_at, pumped_dry, said, session_fine, took_message, write_goes}
 use Rattle.node_core.proofs.Ends.{end_in, every_in, number_of}
 use Rattle.node_core.proofs.Holders.{Any, AreOpen, others_stay, takes_keep}

@@ -6,21 +6,21 @@ use Rattle.ax_address.specs.CallReading.{ReadsCallTexts}
 use Rattle.circuit_set.specs.Inputs.{connect_answer}
 use Rattle.node_prompt.specs.declared.action.Action.{Action}
 use Rattle.node_prompt.specs.declared.action.Action.TheVariants as action
-use Rattle.node_core.specs.declared.sessions.session.Reply.{Reply}
-use Rattle.node_core.specs.declared.sessions.session.Stage.{Stage}
-use Rattle.node_core.specs.declared.sessions.session.Stage.TheVariants.{AtPrompt, Trying, Failed, Connected}
-use Rattle.node_core.specs.declared.sessions.session.User.{User}
-use Rattle.node_core.specs.declared.sessions.session.User.TheVariants.{AtEnd, AtLink}
-use Rattle.node_core.specs.Asking as asking
-use Rattle.node_core.specs.Bridging as bridging
-use Rattle.node_core.specs.Pumping.{at_router}
-use Rattle.node_core.specs.Serving as serving
-use Rattle.node_core.specs.Serving.{is_at_end}
-use Rattle.node_core.specs.Sessions.{Bridge, Session}
-use Rattle.node_core.specs.States.{State, next_hop}
-use Rattle.node_core.specs.Turns.{Turn, done, idle}
-use Rattle.node_core.specs.Users as users
-use Rattle.node_core.specs.Users.{at_session, session_at}
+use Rattle.node_turns.specs.declared.session.Reply.{Reply}
+use Rattle.node_turns.specs.declared.session.Stage.{Stage}
+use Rattle.node_turns.specs.declared.session.Stage.TheVariants.{AtPrompt, Trying, Failed, Connected}
+use Rattle.node_turns.specs.declared.session.User.{User}
+use Rattle.node_turns.specs.declared.session.User.TheVariants.{AtEnd, AtLink}
+use Rattle.node_turns.specs.Asking as asking
+use Rattle.node_turns.specs.Bridging as bridging
+use Rattle.node_turns.specs.Pumping.{at_router}
+use Rattle.node_turns.specs.Serving as serving
+use Rattle.node_turns.specs.Serving.{is_at_end}
+use Rattle.node_turns.specs.Sessions.{Bridge, Session}
+use Rattle.node_turns.specs.States.{State, next_hop}
+use Rattle.node_turns.specs.Turns.{Turn, done, idle}
+use Rattle.node_turns.specs.Users as users
+use Rattle.node_turns.specs.Users.{at_session, session_at}
 use Rattle.node_core.proofs.Fine.{Fine, close_fine, placed_said, said, session_fine}
 use Rattle.node_core.proofs.Given.{Given, given_bye, given_cut, given_dropped}
 use Rattle.node_core.proofs.Served.{IsNamed, at_named}

@@ -14,21 +14,21 @@ use Rattle.circuit_l4.specs.declared.notice.EndNotice.{EndNotice}
 use Rattle.circuit_l4.specs.declared.refusal.WriteRefusal.TheVariants as refusal
 use Rattle.circuit_set.specs.declared.event.SetRefusal.{SetRefusal}
 use Rattle.circuit_set.specs.declared.event.SetRefusal.TheVariants as set_refusal
-use Rattle.node_core.specs.declared.sessions.session.Stage.{Stage}
-use Rattle.node_core.specs.declared.sessions.session.Stage.TheVariants.{AtPrompt, Connected}
-use Rattle.node_core.specs.declared.sessions.session.Circuit.{Circuit}
-use Rattle.node_core.specs.declared.sessions.session.User.{User}
-use Rattle.node_core.specs.declared.sessions.session.User.TheVariants.{AtEnd, AtLink}
-use Rattle.node_core.specs.Bridging as bridging
-use Rattle.node_core.specs.Circuits as circuits
-use Rattle.node_core.specs.Links as links
-use Rattle.node_core.specs.Pumping.{at_router, pump}
-use Rattle.node_core.specs.Sessions as s
-use Rattle.node_core.specs.Sessions.{Bridge, Session, circuit_of}
-use Rattle.node_core.specs.States.{State, at_links, at_set}
-use Rattle.node_core.specs.Turns.{Turn, done, idle}
-use Rattle.node_core.specs.Users as users
-use Rattle.node_core.specs.Users.{Outcome, Taken, Exhausts, Unheard, Refused, at_session, session_at}
+use Rattle.node_turns.specs.declared.session.Stage.{Stage}
+use Rattle.node_turns.specs.declared.session.Stage.TheVariants.{AtPrompt, Connected}
+use Rattle.node_turns.specs.declared.session.Circuit.{Circuit}
+use Rattle.node_turns.specs.declared.session.User.{User}
+use Rattle.node_turns.specs.declared.session.User.TheVariants.{AtEnd, AtLink}
+use Rattle.node_turns.specs.Bridging as bridging
+use Rattle.node_turns.specs.Circuits as circuits
+use Rattle.node_turns.specs.Links as links
+use Rattle.node_turns.specs.Pumping.{at_router, pump}
+use Rattle.node_turns.specs.Sessions as s
+use Rattle.node_turns.specs.Sessions.{Bridge, Session, circuit_of}
+use Rattle.node_turns.specs.States.{State, at_links, at_set}
+use Rattle.node_turns.specs.Turns.{Turn, done, idle}
+use Rattle.node_turns.specs.Users as users
+use Rattle.node_turns.specs.Users.{Outcome, Taken, Exhausts, Unheard, Refused, at_session, session_at}
 use Rattle.node_core.proofs.Bytes.{text_has_bytes}
 use Rattle.node_core.proofs.Fine.{Dry, Fine, fewer_at, pumped, pumped_dry, session_fine, takes_fine, took_message, write_goes}
 use Rattle.node_core.proofs.Holders.{Any, AreOpen, others_stay, takes_keep, writes_keep}

@@ -7,7 +7,7 @@ use Rattle.std.proofs.lemmas.Bool.Decides.{nat_tests}
 use Rattle.std.proofs.lemmas.Option.{cond_some}
 use Rattle.std.proofs.lemmas.List.{drop_all}
 use Rattle.std.proofs.lemmas.List.Sums.{prefix_len-le-length}
-use Rattle.node_core.specs.Asking.{first_line, behind_line, without_lf}
+use Rattle.node_turns.specs.Asking.{first_line, behind_line, without_lf}
 
 at_step : (t : Bool) (b n : ℕ) (xs : List ℕ) → n ≡ length xs → cond (not t) (1 + n) 0 ≡ length (if t then [] else b ∷ xs)
 at_step true b n xs e = refl

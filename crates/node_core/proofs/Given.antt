@@ -7,18 +7,18 @@ use Rattle.circuit_l4.specs.declared.notice.EndNotice.{EndNotice}
 use Rattle.circuit_l4.specs.declared.notice.EndNotice.TheVariants as end
 use Rattle.circuit_set.specs.Pumps.{Of}
 use Rattle.circuit_set.specs.Sets.{SetState, Told, Made, Sent, Heeded, Notice, Gone, Restarted, Lost}
-use Rattle.node_core.specs.declared.sessions.session.Circuit.{Circuit}
-use Rattle.node_core.specs.declared.sessions.session.Stage.{Stage}
-use Rattle.node_core.specs.declared.sessions.session.Stage.TheVariants.{AtPrompt, Trying, Failed, Connected}
-use Rattle.node_core.specs.declared.sessions.session.User.{User}
-use Rattle.node_core.specs.declared.sessions.session.User.TheVariants.{AtEnd, AtLink}
-use Rattle.node_core.specs.Asking as asking
-use Rattle.node_core.specs.Bridging as bridging
-use Rattle.node_core.specs.Sessions as s
-use Rattle.node_core.specs.Sessions.{Bridge, Session, circuit_of}
-use Rattle.node_core.specs.States.{State}
-use Rattle.node_core.specs.Users as users
-use Rattle.node_core.specs.Users.{Outcome, Taken, Exhausts, Unheard, Refused}
+use Rattle.node_turns.specs.declared.session.Circuit.{Circuit}
+use Rattle.node_turns.specs.declared.session.Stage.{Stage}
+use Rattle.node_turns.specs.declared.session.Stage.TheVariants.{AtPrompt, Trying, Failed, Connected}
+use Rattle.node_turns.specs.declared.session.User.{User}
+use Rattle.node_turns.specs.declared.session.User.TheVariants.{AtEnd, AtLink}
+use Rattle.node_turns.specs.Asking as asking
+use Rattle.node_turns.specs.Bridging as bridging
+use Rattle.node_turns.specs.Sessions as s
+use Rattle.node_turns.specs.Sessions.{Bridge, Session, circuit_of}
+use Rattle.node_turns.specs.States.{State}
+use Rattle.node_turns.specs.Users as users
+use Rattle.node_turns.specs.Users.{Outcome, Taken, Exhausts, Unheard, Refused}
 use Rattle.node_core.proofs.Holders.{is_away, is_ended}
 use Rattle.node_core.proofs.Owning.{Owns, below_or, made_by, one, staged}
 use Rattle.node_core.proofs.Soundness.{Every, Hears, map_every, push_every}

@@ -23,11 +23,11 @@ use Rattle.route_table.specs.Table.{usable}
 use Rattle.node_core.specs.declared.entry.NodeEntry.{NodeEntry}
 use Rattle.node_core.specs.declared.station.Station.{Station}
 use Rattle.node_core.specs.Receiving.{has_room, live_with, take_in}
-use Rattle.node_core.specs.Sessions.{Session, bare}
+use Rattle.node_turns.specs.Sessions.{Session, bare}
 use Rattle.node_core.specs.Standing.{Holds, IsTold, entry_of}
 use Rattle.node_core.specs.Rounds.{put_all}
-use Rattle.node_core.specs.States.{Overflow, State, at_links, at_set, enter, fetch_frame, fetch_own, put, with_items}
-use Rattle.node_core.specs.Links.{all_fetched, sent_frames}
+use Rattle.node_turns.specs.States.{Overflow, State, at_links, at_set, enter, fetch_frame, fetch_own, put, with_items}
+use Rattle.node_turns.specs.Links.{all_fetched, sent_frames}
 
 -- ---- the links alone
 

@@ -26,24 +26,24 @@ use Rattle.route_table.specs.Broadcast.{to_broadcast}
 use Rattle.route_table.specs.Log as logs
 use Rattle.route_table.specs.Log.{Item}
 use Rattle.node_core.specs.declared.config.NodeConfig.{NodeConfig}
-use Rattle.node_core.specs.declared.sessions.session.User.{User}
-use Rattle.node_core.specs.declared.sessions.session.User.TheVariants.{AtLink}
+use Rattle.node_turns.specs.declared.session.User.{User}
+use Rattle.node_turns.specs.declared.session.User.TheVariants.{AtLink}
 use Rattle.node_core.specs.Broadcasts.{is_broadcast, round_frames}
-use Rattle.node_core.specs.Circuits as circuits
+use Rattle.node_turns.specs.Circuits as circuits
 use Rattle.node_core.specs.Configs.{new_station}
-use Rattle.node_core.specs.Links as links
-use Rattle.node_core.specs.Pumping as p
+use Rattle.node_turns.specs.Links as links
+use Rattle.node_turns.specs.Pumping as p
 use Rattle.node_core.specs.Receiving as receiving
 use Rattle.node_core.specs.Rounds as rounds
-use Rattle.node_core.specs.Serving as serving
-use Rattle.node_core.specs.Sessions as s
-use Rattle.node_core.specs.Sessions.{Session}
-use Rattle.node_core.specs.Settling as settling
-use Rattle.node_core.specs.States.{State, at_links, fetch_own, next_hop, put, with_items}
-use Rattle.node_core.specs.Users.{at_session, changed}
+use Rattle.node_turns.specs.Serving as serving
+use Rattle.node_turns.specs.Sessions as s
+use Rattle.node_turns.specs.Sessions.{Session}
+use Rattle.node_turns.specs.Settling as settling
+use Rattle.node_turns.specs.States.{State, at_links, fetch_own, next_hop, put, with_items}
+use Rattle.node_turns.specs.Users.{at_session, changed}
 use Rattle.node_core.proofs.Lodging.{Housed, breaks, closes, dropped, greeted, moved, noticed_all, pumped, sends, stepped, takes, ticks, fewer}
 use Rattle.node_core.proofs.Served.{Serves}
-use Rattle.node_core.proofs.Turns.{kept}
+use Rattle.node_turns.proofs.Turns.{kept}
 use Rattle.node_core.proofs.Walking.{Walks}
 
 -- ---- no session where no users are served

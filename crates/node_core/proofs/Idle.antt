@@ -18,10 +18,10 @@ use Rattle.circuit_set.specs.Sets.{SetDone, SetState, Told}
 use Rattle.circuit_set.specs.Standing.{Held, Keeps, Rests, if_so, sents_by, take_answer, untold_of}
 use Rattle.circuit_set.specs.declared.holder.Holder.{Holder}
 use Rattle.link_table.specs.Standing.{TableView as Kept}
-use Rattle.node_core.specs.Circuits as circuits
-use Rattle.node_core.specs.Standing.{SetTold}
-use Rattle.node_core.specs.States.{State}
-use Rattle.node_core.specs.Users.{took}
+use Rattle.node_turns.specs.Circuits as circuits
+use Rattle.node_core.specs.Going.{SetTold}
+use Rattle.node_turns.specs.States.{State}
+use Rattle.node_turns.specs.Users.{took}
 
 -- ---- nothing waits at an end
 

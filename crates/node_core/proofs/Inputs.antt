@@ -15,7 +15,7 @@ use Rattle.l3_datagram.specs.declared.datagram.DatagramHead.{DatagramHead}
 use Rattle.l3_datagram.specs.declared.datagram.DatagramRefusal.{DatagramRefusal}
 use Rattle.l3_datagram.specs.declared.routed.Routed.{Routed}
 use Rattle.l3_datagram.specs.declared.routed.Routed.TheVariants as routed
-use Rattle.node_core.specs.Circuits as circuits
+use Rattle.node_turns.specs.Circuits as circuits
 use Rattle.node_core.specs.Runs.{write_in, writes_in}
 
 -- ---- one input after another

@@ -16,10 +16,10 @@ use Rattle.link_table.specs.Payloads.{OffersLeave, TakesLower}
 use Rattle.link_table.specs.Standing.{TableView as Kept, Made}
 use Rattle.route_table.specs.Table as routes
 use Rattle.node_core.specs.declared.station.Station.{Station}
-use Rattle.node_core.specs.Pumping.{pump, told_entries}
-use Rattle.node_core.specs.Sessions.{hear_circuits, hear_if}
+use Rattle.node_turns.specs.Pumping.{pump, told_entries}
+use Rattle.node_turns.specs.Sessions.{hear_circuits, hear_if}
 use Rattle.node_core.specs.Standing.{Holds}
-use Rattle.node_core.specs.States.{Entry, Of_set, State, next_hop}
+use Rattle.node_turns.specs.States.{Entry, Of_set, State, next_hop}
 use Rattle.node_core.proofs.Calls.{after_call, call_leads, pumped_on}
 
 -- the node after a call, before what was told is entered

@@ -1,6 +1,3 @@
-pub mod Turns
-pub mod Parts
-pub mod Resting
 pub mod Names
 pub mod Holding
 pub mod Outcomes
@@ -8,15 +5,9 @@ pub mod Hearing
 pub mod Idle
 pub mod Weighing
 pub mod Placing
-pub mod Messages
-pub mod Texting
-pub mod Heaping
-pub mod Working
 pub mod Using
-pub mod Lowering
-pub mod Falling
 pub mod Waiting
-pub mod Settled
+pub mod Rested
 pub mod Paging
 pub mod Refusing
 pub mod Entering

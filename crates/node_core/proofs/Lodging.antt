@@ -12,14 +12,14 @@ use Rattle.circuit_set.specs.Sets.{Told, Made, Sent, Heeded, Notice, Gone, Resta
 use Rattle.l3_datagram.specs.CarrierCall.{Datagram}
 use Rattle.link_table.specs.Ending.{EndsAreTold, IsInOrder, Leaves, LeavesTold, TextsAreOfLinks, has_link, is_end, stands_or_told, tells_end}
 use Rattle.link_table.specs.Table.{Table}
-use Rattle.node_core.specs.declared.sessions.session.User.TheVariants.{AtEnd, AtLink}
-use Rattle.node_core.specs.Links as links
-use Rattle.node_core.specs.Pumping.{pump}
-use Rattle.node_core.specs.Serving as serving
-use Rattle.node_core.specs.Sessions as s
-use Rattle.node_core.specs.Sessions.{Session}
-use Rattle.node_core.specs.States.{State}
-use Rattle.node_core.specs.Users.{changed}
+use Rattle.node_turns.specs.declared.session.User.TheVariants.{AtEnd, AtLink}
+use Rattle.node_turns.specs.Links as links
+use Rattle.node_turns.specs.Pumping.{pump}
+use Rattle.node_turns.specs.Serving as serving
+use Rattle.node_turns.specs.Sessions as s
+use Rattle.node_turns.specs.Sessions.{Session}
+use Rattle.node_turns.specs.States.{State}
+use Rattle.node_turns.specs.Users.{changed}
 use Rattle.node_core.proofs.Bearing.{same_is}
 use Rattle.node_core.proofs.Owning.{changed_less, filter_less, map_less, one, push_one, total}
 use Rattle.node_core.proofs.Pumped.{pump_keeps, pump_links}

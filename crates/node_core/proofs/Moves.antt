@@ -25,13 +25,13 @@ use Rattle.link_table.specs.Reaching.{FramesAreSpelled, IsCall, IsSpelled, Reach
 use Rattle.node_core.proofs.Names.{nodes_is_call}
 use Rattle.node_core.specs.Broadcasts.{broadcast_frame, broadcast_octets, entries_of_frame, frame_count, round_frame, round_frames}
 use Rattle.node_core.specs.Carried.{CarriesTraced, IsCarried, IsOfNode, NamesCall, Place, WasBorne, brings_traced, offers_traced}
-use Rattle.node_core.specs.Circuits as circuits
-use Rattle.node_core.specs.Links as links
+use Rattle.node_turns.specs.Circuits as circuits
+use Rattle.node_turns.specs.Links as links
 use Rattle.node_core.specs.Rounds as rounds
-use Rattle.node_core.specs.Sessions.{Session}
-use Rattle.node_core.specs.Settling as s
-use Rattle.node_core.specs.States as states
-use Rattle.node_core.specs.States.{State, Of_link, at_links, at_set, put, with_items}
+use Rattle.node_turns.specs.Sessions.{Session}
+use Rattle.node_turns.specs.Settling as s
+use Rattle.node_turns.specs.States as states
+use Rattle.node_turns.specs.States.{State, Of_link, at_links, at_set, put, with_items}
 use Rattle.node_core.proofs.Inputs.{IsInput}
 use Rattle.node_core.proofs.Pumps.{pumped}
 use Rattle.node_core.proofs.Running.{none_of_links}
@@ -39,8 +39,8 @@ use Rattle.node_core.proofs.Served.{IsAsking}
 use Rattle.node_core.proofs.Tracing.{all_both}
 use Rattle.node_core.proofs.Trails.{Goes, LinksCarry, LinksHold, OwnCarried, input, quiet, still, follows}
 use Rattle.node_core.proofs.Walking.{Walks}
-use Rattle.node_core.specs.Users.{at_session}
-use Rattle.node_core.specs.Serving.{drop_over, greet_links}
+use Rattle.node_turns.specs.Users.{at_session}
+use Rattle.node_turns.specs.Serving.{drop_over, greet_links}
 
 -- a broadcast of a call carries nothing
 pub broadcast_carried : (size : ℕ) (offers : Callsign → Payload → Bool) (own : Callsign) (b : Broadcast) → IsCall own → IsCarried size offers (broadcast_octets own b)

@@ -16,22 +16,24 @@ use Rattle.link_table.specs.Table.{Table}
 use Rattle.link_table.specs.declared.path_refusal.PathRefusal.{PathRefusal}
 use Rattle.link_table.specs.declared.path_refusal.PathRefusal.TheVariants as paths
 use Rattle.node_core.specs.declared.station.Station.{Station}
-use Rattle.node_core.specs.Circuits as circuits
-use Rattle.node_core.specs.Inputs.{after_bytes, after_item, after_items, moment, new_items}
-use Rattle.node_core.specs.Kept.{IsReached, IsSound, Kept, NodeStands, Takes, kept}
+use Rattle.node_turns.specs.Circuits as circuits
+use Rattle.node_core.specs.Inputs.{after_bytes, after_input, after_item, after_items, moment, new_items}
+use Rattle.node_core.specs.Kept.{Kept, NodeStands, kept}
+use Rattle.node_core.specs.Sound.{IsReached, IsSound}
+use Rattle.node_core.specs.Taking.{Takes}
 use Rattle.node_core.specs.Bridged.{AsksForCall, Bytes, Input, after, after_all}
 use Rattle.node_core.specs.Configs.{new_node}
 use Rattle.node_core.specs.Laws.{NothingLeftAfterInputs}
 use Rattle.node_core.specs.Receiving.{take_item}
-use Rattle.node_core.specs.Settling.{after_input}
 use Rattle.link_table.specs.declared.written.Written.{Written}
 use Rattle.node_core.specs.declared.entry.NodeEntry.{NodeEntry}
 use Rattle.circuit_set.specs.Inputs.{TellsLess}
 use Rattle.link_table.specs.Payloads.{OffersLeave, TakesLower}
-use Rattle.node_core.specs.Pumping.{pump}
-use Rattle.node_core.proofs.Resting.{pumped_dry}
-use Rattle.node_core.specs.Standing.{Goes, Holds, IsDrained, IsTold, entry_of, item_of}
-use Rattle.node_core.specs.States.{NodeState, State, at_links, fetch_entry, fetch_frame, fetch_own}
+use Rattle.node_turns.specs.Pumping.{pump}
+use Rattle.node_turns.proofs.Resting.{pumped_dry}
+use Rattle.node_core.specs.Going.{Goes, item_of}
+use Rattle.node_core.specs.Standing.{Holds, IsDrained, IsTold, entry_of}
+use Rattle.node_turns.specs.States.{NodeState, State, at_links, fetch_entry, fetch_frame, fetch_own}
 use Rattle.node_core.proofs.Calls.{rest_of, some_pending}
 use Rattle.node_core.proofs.Holding.{links_go, with_carrier}
 

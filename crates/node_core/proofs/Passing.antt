@@ -1,9 +1,7 @@
--- What needn't be looked at: a frame to another station that goes to no node is no broadcast, and is left alone; where no text waits at a
--- link, nobody is greeted.
-use Rattle.std.proofs.Common.{◌≡◌, ℕ, refl, sym, ap, Bool, true, false, ◌&&◌, List, [], ◌∷◌, length, take, drop, slice_get, Option, None, ◌∙◌}
+-- What needn't be looked at: a frame to another station that goes to no node is no broadcast, and is left alone.
+use Rattle.std.proofs.Common.{◌≡◌, ℕ, refl, sym, ap, Bool, true, false, ◌&&◌, List, length, take, drop, slice_get, Option, None, ◌∙◌}
 use Rattle.std.specs.Prelude.{Result, Ok, Err, IsOkAnd}
 use Rattle.std.proofs.lemmas.List.{take-append-drop}
-use Rattle.ax_address.specs.Callsign.{Callsign}
 use Rattle.ax_address.specs.CallOrder.{same_call}
 use Rattle.ax_address.specs.Results.{◌>>=◌}
 use Rattle.ax_frame.specs.declared.head.Head.{Head}
@@ -14,9 +12,10 @@ use Rattle.ax_frame.specs.Read.{SpelledHeadIsRead, head_in, read_at, read_head_a
 use Rattle.ax_frame.specs.Reading.{frame_at, head_end}
 use Rattle.node_core.specs.Broadcasts.{has_netrom_pid, is_ui, nodes_call}
 use Rattle.node_core.specs.Receiving.{take_frame}
-use Rattle.node_core.specs.Links as links
-use Rattle.node_core.specs.Serving.{greet_each, greet_links}
-use Rattle.node_core.specs.States.{State, at_sessions}
+use Rattle.node_turns.specs.Links as links
+use Rattle.node_turns.specs.Serving.{greet_links}
+use Rattle.node_turns.specs.States.{State}
+use Rattle.node_turns.proofs.Settled.{none_greeted}
 
 not_both : (a b c : Bool) → c ≡ false → (a && (b && c)) ≡ false
 not_both true true c e = e
@@ -45,9 +44,6 @@ head_read read octets h end begins =
     let again : read_head_at octets ≡ Ok (h, length (take end octets)) = ap read_head_at (sym (take-append-drop end octets)) ∙ read h (take end octets) (drop end octets) begins.spelled in
     rw again refl
 
+-- where no text waits at a link, nobody is greeted
 pub nobody_greeted : (n : State) → None ≡ slice_get (links.text_peers n.links) 0 → greet_links n ≡ n
-nobody_greeted n = by (links.text_peers n.links)
-  where
-    by : (peers : List Callsign) → None ≡ slice_get peers 0 → at_sessions (greet_each n.settings.prompt peers) n ≡ n
-    by [] e = refl
-    by (peer ∷ peers) e = absurd (cc e)
+nobody_greeted n none = none_greeted n none

@@ -11,18 +11,17 @@ use Rattle.link_table.specs.declared.written.Written.{Written}
 use Rattle.node_core.specs.Acts as acts
 use Rattle.node_core.specs.Bridged.{Acts, AsksForCall, Bytes, Fetches_entry, Fetches_frame, Input, Paths, Ticks, UsersAreFew as EveryNodes, after, after_all}
 use Rattle.node_core.specs.Configs.{new_node}
-use Rattle.node_core.specs.Inputs.{after_item, after_items, moment, new_items}
+use Rattle.node_core.specs.Inputs.{after_input, after_item, after_items, moment, new_items}
 use Rattle.node_core.specs.Receiving as receiving
 use Rattle.node_core.specs.Rounds as rounds
-use Rattle.node_core.specs.Settling.{after_input}
-use Rattle.node_core.specs.States.{NodeState, State, fetch_own}
+use Rattle.node_turns.specs.States.{NodeState, State, fetch_own}
 use Rattle.node_core.specs.UserActs.{UserAct}
 use Rattle.node_core.specs.UserActs as user
 use Rattle.node_core.proofs.Counting.{UsersAreFew, users_few}
 use Rattle.node_core.proofs.Housing.{Goes, Peopled, fetched_on, item_on, path_on, starts_on, walks}
 use Rattle.node_core.proofs.Nodes.{told_after}
 use Rattle.node_core.proofs.Reached.{Reached, Ready, items_ready, reaches, starts}
-use Rattle.node_core.proofs.Settled.{nothing_left}
+use Rattle.node_core.proofs.Rested.{nothing_left}
 use Rattle.node_core.proofs.Walking.{LocksBy, do_on, settled_on, tick_on}
 
 module _ (offers : OffersLeave) (takes : TakesLower) (less : TellsLess) (law : CarriesWhatWasOffered) (reads : ReadsCallTexts) (told : EndsAreTold) (texts : TextsAreOfLinks) where

@@ -4,10 +4,11 @@ use Rattle.std.specs.Prelude.{Option, Some, None}
 use Rattle.std.specs.Option.{option_map}
 use Rattle.std.proofs.lemmas.Option.{slice_get-map}
 use Rattle.node_core.specs.declared.station.Station.{Station}
-use Rattle.node_core.specs.Sessions.{Session, bare}
-use Rattle.node_core.specs.Standing.{Changes, Holds, Told}
-use Rattle.node_core.specs.States.{State}
-use Rattle.node_core.specs.Users.{at_session, changed, session_at}
+use Rattle.node_turns.specs.Sessions.{Session, bare}
+use Rattle.node_core.specs.Going.{Changes, Told}
+use Rattle.node_core.specs.Standing.{Holds}
+use Rattle.node_turns.specs.States.{State}
+use Rattle.node_turns.specs.Users.{at_session, changed, session_at}
 use Rattle.node_core.proofs.Holding.{with_sessions}
 
 -- the code's session in a place is that of the state, but for its bridge

@@ -18,12 +18,12 @@ use Rattle.l3_datagram.specs.declared.routed.Routed.{Routed}
 use Rattle.l3_datagram.specs.declared.routed.Routed.TheVariants as routed
 use Rattle.link_table.specs.Calls.{collect, tell_lost}
 use Rattle.link_table.specs.Table.{Table}
-use Rattle.node_core.specs.Circuits as circuits
-use Rattle.node_core.specs.Links as links
-use Rattle.node_core.specs.Pumping as p
-use Rattle.node_core.specs.Sessions.{Session, hear_circuits, hear_if}
-use Rattle.node_core.specs.States.{State, at_links, next_hop}
-use Rattle.node_core.proofs.Turns.{kept}
+use Rattle.node_turns.specs.Circuits as circuits
+use Rattle.node_turns.specs.Links as links
+use Rattle.node_turns.specs.Pumping as p
+use Rattle.node_turns.specs.Sessions.{Session, hear_circuits, hear_if}
+use Rattle.node_turns.specs.States.{State, at_links, next_hop}
+use Rattle.node_turns.proofs.Turns.{kept}
 
 module _ (R : SetState → List Told → List Session → Type 0)
     (tell : (prompt : Bool) (set : SetState) (t : Told) (ts : List Told) (ss : List Session) → R set (t ∷ ts) ss → R set ts (hear_circuits prompt (Of t) ss)) where

@@ -24,15 +24,15 @@ use Rattle.link_table.specs.Laws.{CarriesByWeaker, CarriesWhatWasOffered}
 use Rattle.link_table.specs.Reaching.{FramesAreSpelled, IsCall}
 use Rattle.route_table.specs.Log.{Item}
 use Rattle.node_core.specs.Carried.{CarriesTraced, NamesCall, Place, brings_traced, is_borne, is_of_node, is_passed, is_sent, offers_traced, sends_in}
-use Rattle.node_core.specs.Circuits as circuits
-use Rattle.node_core.specs.Links as links
-use Rattle.node_core.specs.Pumping as p
-use Rattle.node_core.specs.States.{Settings, State, at_links, next_hop}
+use Rattle.node_turns.specs.Circuits as circuits
+use Rattle.node_turns.specs.Links as links
+use Rattle.node_turns.specs.Pumping as p
+use Rattle.node_turns.specs.States.{Settings, State, at_links, next_hop}
 use Rattle.node_core.proofs.Coming.{told_entry}
 use Rattle.node_core.proofs.Naming.{hop_is_call}
 use Rattle.node_core.proofs.Tracing.{all_back, all_both, hop_is, or_first, or_second, passed_on, read_long, sends_append}
 use Rattle.node_core.proofs.Trails.{Goes, LinksHold, OwnCarried, input, quiet, still, follows}
-use Rattle.node_core.proofs.Turns.{kept}
+use Rattle.node_turns.proofs.Turns.{kept}
 
 -- a datagram that is handed up is the one that came
 mine_by : (own : Callsign) (d : Datagram) (origin : Callsign) (e : Datagram) (head : DatagramHead) (hop : Option Callsign) (returned mine expired : Bool)

@@ -10,8 +10,8 @@ use Rattle.ax_frame.specs.Frames.{Frame}
 use Rattle.ax_frame.specs.Read.{read_head_at, read_at}
 use Rattle.circuit_l4.specs.Opening.{facts_of}
 use Rattle.circuit_l4.specs.Receiving.{inbox}
-use Rattle.node_core.specs.declared.sessions.session.User.{User}
-use Rattle.node_core.specs.declared.sessions.session.User.TheVariants.{AtEnd, AtLink}
+use Rattle.node_turns.specs.declared.session.User.{User}
+use Rattle.node_turns.specs.declared.session.User.TheVariants.{AtEnd, AtLink}
 use Rattle.circuit_set.specs.CircuitSets.{facts_at}
 use Rattle.circuit_set.specs.Inputs.{TellsLess, runs, ticks_of}
 use Rattle.circuit_set.specs.Sets as sets
@@ -32,23 +32,23 @@ use Rattle.route_table.specs.Log.{Item}
 use Rattle.node_core.specs.declared.config.NodeConfig.{NodeConfig}
 use Rattle.node_core.specs.Acts as acts
 use Rattle.node_core.specs.Acts.{Answered}
-use Rattle.node_core.specs.declared.sessions.session.Stage.{Stage}
-use Rattle.node_core.specs.declared.sessions.session.Stage.TheVariants.{AtPrompt, Trying, Failed, Connected}
+use Rattle.node_turns.specs.declared.session.Stage.{Stage}
+use Rattle.node_turns.specs.declared.session.Stage.TheVariants.{AtPrompt, Trying, Failed, Connected}
 use Rattle.node_core.specs.Bridged.{Acts, BridgedAt, Bytes, EverySession, Fetches_entry, Fetches_frame, Input, IsBounded, IsBridged, IsClosedLast, IsEndsReader, IsEndsWriter, AsksForCall, Paths, SessionsBounded, SessionsBridged, SessionsClosedLast, SessionsReadTheirEnds, SessionsWriteTheirEnds, Ticks, after, after_all}
 use Rattle.node_core.specs.Broadcasts.{is_broadcast}
-use Rattle.node_core.specs.Circuits as circuits
+use Rattle.node_turns.specs.Circuits as circuits
 use Rattle.node_core.specs.Configs.{new_node, new_station}
-use Rattle.node_core.specs.Inputs.{after_item, after_items, moment, new_items}
-use Rattle.node_core.specs.Links as links
-use Rattle.node_core.specs.Pumping.{pump}
+use Rattle.node_core.specs.Inputs.{after_input, after_item, after_items, moment, new_items, turns_settle}
+use Rattle.node_turns.specs.Links as links
+use Rattle.node_turns.specs.Pumping.{pump}
 use Rattle.node_core.specs.Receiving as receiving
 use Rattle.node_core.specs.Rounds as rounds
-use Rattle.node_core.specs.Serving.{serve_sessions}
-use Rattle.node_core.specs.Sessions.{Session, leaves}
-use Rattle.node_core.specs.Settling as s
+use Rattle.node_turns.specs.Serving.{serve_sessions}
+use Rattle.node_turns.specs.Sessions.{Session, leaves}
+use Rattle.node_turns.specs.Settling as s
 use Rattle.node_core.specs.Standing.{IsTold}
-use Rattle.node_core.specs.States.{NodeState, State, at_links, at_set, fetch_own, with_items}
-use Rattle.node_core.specs.Users.{took}
+use Rattle.node_turns.specs.States.{NodeState, State, at_links, at_set, fetch_own, with_items}
+use Rattle.node_turns.specs.Users.{took}
 use Rattle.node_core.specs.Waits.{has_text_at}
 use Rattle.node_core.proofs.Faithful.{sessions_fine}
 use Rattle.node_core.proofs.FineActs.{act_fine, round_fine}
@@ -59,12 +59,12 @@ use Rattle.node_core.proofs.Soundness.{Every, Sound, WritesAt, links_every, soun
 use Rattle.node_core.proofs.Making.{step_ok}
 use Rattle.node_core.proofs.Nodes.{items_told, told_after}
 use Rattle.node_core.proofs.Owning.{links_fewer, owns_fewer, owns_input}
-use Rattle.node_core.proofs.Resting.{pumped_dry}
-use Rattle.node_core.proofs.Settled.{nothing_left}
+use Rattle.node_turns.proofs.Resting.{pumped_dry}
+use Rattle.node_core.proofs.Rested.{nothing_left}
 use Rattle.node_core.proofs.Short.{Goes, IsShort, act_short, fetched_short, item_short, path_short, starts_short, walks}
 use Rattle.node_core.proofs.Walking.{tick_on, turn_on}
 use Rattle.node_core.proofs.Wrote.{Written as WritesAll, WrittenAt, WroteAt, rest_waits, ticks_wrote, written_same}
-use Rattle.node_core.proofs.Turns.{kept}
+use Rattle.node_turns.proofs.Turns.{kept, settled_kept}
 use Rattle.node_core.proofs.Leaving.{calls_leaves}
 
 -- ---- the settling
@@ -104,9 +104,9 @@ module _ (offers : OffersLeave) (takes : TakesLower) (less : TellsLess) (law : C
       by true = let dry = pumped_dry offers takes less now a in sessions_fine offers takes less law reads now b fine still dry.router dry.pending
       by false = dropped now b fine
 
-  settled : (now : ℕ) (n : State) → Ready n → Ready (s.after_input now n)
-  unfolding s.after_input
-  settled now n r = kept (s.turn now) s.left Ready (λ m q. (turned now m q.0 q.1, turn_on Goes (λ item. Unit {0}) (walks law) reads now m q.1)) n r
+  settled : (now : ℕ) (n : State) → Ready n → Ready (after_input now n)
+  unfolding after_input
+  settled now n r = settled_kept (s.turn now) (turns_settle now) Ready (λ m q. (turned now m q.0 q.1, turn_on Goes (λ item. Unit {0}) (walks law) reads now m q.1)) n r
 
   -- ---- KISS items
 

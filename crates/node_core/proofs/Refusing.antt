@@ -15,8 +15,9 @@ use Rattle.node_core.specs.declared.station.Station.{Station}
 use Rattle.node_core.specs.Acts.{lock}
 use Rattle.node_core.specs.Receiving.{has_room}
 use Rattle.node_core.specs.Refusals.{connect_refusal, lock_refusal}
-use Rattle.node_core.specs.Standing.{Answers, Holds, IsAnswer}
-use Rattle.node_core.specs.States.{State, with_items}
+use Rattle.node_core.specs.Going.{Answers}
+use Rattle.node_core.specs.Standing.{Holds, IsAnswer}
+use Rattle.node_turns.specs.States.{State, with_items}
 use Rattle.node_core.proofs.Holding.{no_room}
 
 -- ---- locks

@@ -28,16 +28,16 @@ use Rattle.node_core.specs.declared.acts.ActRefusal.TheVariants as refusal
 use Rattle.node_core.specs.Acts as acts
 use Rattle.node_core.specs.Acts.{Answered}
 use Rattle.node_core.specs.Broadcasts.{is_broadcast, round_frames}
-use Rattle.node_core.specs.Circuits as circuits
-use Rattle.node_core.specs.Inputs.{after_item, after_items, moment, new_items}
+use Rattle.node_turns.specs.Circuits as circuits
+use Rattle.node_core.specs.Inputs.{after_input, after_item, after_items, moment, new_items}
 use Rattle.node_core.specs.Laws.{NothingLeftAfterInputs}
-use Rattle.node_core.specs.Links as links
+use Rattle.node_turns.specs.Links as links
 use Rattle.node_core.specs.Receiving as receiving
 use Rattle.node_core.specs.Rounds as rounds
 use Rattle.node_core.specs.Runs.{ActsRun, BytesRun, IsUserAct, MadeFrom, RunsBy, TicksRun, circuits_told, user_writes, write_in}
-use Rattle.node_core.specs.Settling as s
+use Rattle.node_turns.specs.Settling as s
 use Rattle.node_core.specs.Standing.{IsTold}
-use Rattle.node_core.specs.States.{Of_link, Overflow, Settings, State, at_links, at_set, put, with_items}
+use Rattle.node_turns.specs.States.{Of_link, Overflow, Settings, State, at_links, at_set, put, with_items}
 use Rattle.node_core.specs.UserActs as user
 use Rattle.node_core.specs.UserActs.{UserAct}
 use Rattle.node_core.proofs.Inputs.{are_acts, are_up, retold, stays, ticks_went}
@@ -47,8 +47,8 @@ use Rattle.node_core.proofs.Coming.{Came, act_came, either, pumped_came, same_ca
 use Rattle.node_core.proofs.Served.{IsAsking, Serves, served_on}
 use Rattle.node_core.proofs.Walking.{Parts, ServesSo, do_by, settled_by, tick_by}
 use Rattle.ax_address.specs.CallReading.{ReadsCallTexts}
-use Rattle.node_core.specs.Users.{at_session}
-use Rattle.node_core.specs.Serving.{drop_over, greet_links, serve_sessions}
+use Rattle.node_turns.specs.Users.{at_session}
+use Rattle.node_turns.specs.Serving.{drop_over, greet_links, serve_sessions}
 
 -- ---- each thing that an input is made of
 
@@ -147,7 +147,7 @@ module _ (reads : ReadsCallTexts) where
       let c : CameSome n (serve_sessions now n).after = served_on CameSome serves reads now n in
       record { some = c.0; came = c.1; off = λ off. (let bad : true ≡ false = sym on ∙ off in absurd (cc bad)) }
 
-  settled : (now : ℕ) (n : State) → CameBy [] n (s.after_input now n)
+  settled : (now : ℕ) (n : State) → CameBy [] n (after_input now n)
   settled now n = settled_by (CameBy []) AnyItem parts served_so now n
 
 -- an act, before the node settles
@@ -252,5 +252,5 @@ module _ (nothing : NothingLeftAfterInputs) (reads : ReadsCallTexts) where
       let m : State = a.node in
       let written : List Act = user_writes (moment now) act a.answer in
       exact written n.station _
-      (subst (λ (ws : List Act). CameBy ws n.station (s.after_input (moment now) m)) (append-nil written) (then_by written [] n.station m _ (done_by (moment now) act n.station i) (settled reads (moment now) m)))
+      (subst (λ (ws : List Act). CameBy ws n.station (after_input (moment now) m)) (append-nil written) (then_by written [] n.station m _ (done_by (moment now) act n.station i) (settled reads (moment now) m)))
       e (told_after nothing (moment now) m)

@@ -22,26 +22,26 @@ use Rattle.node_prompt.specs.declared.command.Command.{Command}
 use Rattle.node_prompt.specs.declared.command.Command.TheVariants as command
 use Rattle.node_prompt.specs.declared.command.LineRefusal.{LineRefusal}
 use Rattle.node_prompt.specs.declared.command.LineRefusal.TheVariants.{TooLong}
-use Rattle.node_core.specs.Circuits as circuits
+use Rattle.node_turns.specs.Circuits as circuits
 use Rattle.node_prompt.specs.declared.command.Verb.{Verb}
 use Rattle.node_prompt.specs.declared.command.Verb.TheVariants as verb
-use Rattle.node_core.specs.declared.sessions.session.Circuit.{Circuit}
-use Rattle.node_core.specs.declared.sessions.session.Reply.{Reply}
-use Rattle.node_core.specs.declared.sessions.session.Stage.{Stage}
-use Rattle.node_core.specs.declared.sessions.session.Stage.TheVariants.{AtPrompt, Trying, Failed, Connected}
-use Rattle.node_core.specs.declared.sessions.session.User.{User}
-use Rattle.node_core.specs.declared.sessions.session.User.TheVariants.{AtEnd, AtLink}
-use Rattle.node_core.specs.Asking as asking
-use Rattle.node_core.specs.Bridging as bridging
-use Rattle.node_core.specs.Links as links
-use Rattle.node_core.specs.Pumping.{pump}
-use Rattle.node_core.specs.Serving as serving
-use Rattle.node_core.specs.Sessions.{Session}
-use Rattle.node_core.specs.States.{State, at_links, at_set, next_hop}
-use Rattle.node_core.specs.Turns.{Turn, or_else}
-use Rattle.node_core.specs.Users as users
-use Rattle.node_core.specs.Views.{view}
-use Rattle.node_core.specs.Users.{at_session, session_at}
+use Rattle.node_turns.specs.declared.session.Circuit.{Circuit}
+use Rattle.node_turns.specs.declared.session.Reply.{Reply}
+use Rattle.node_turns.specs.declared.session.Stage.{Stage}
+use Rattle.node_turns.specs.declared.session.Stage.TheVariants.{AtPrompt, Trying, Failed, Connected}
+use Rattle.node_turns.specs.declared.session.User.{User}
+use Rattle.node_turns.specs.declared.session.User.TheVariants.{AtEnd, AtLink}
+use Rattle.node_turns.specs.Asking as asking
+use Rattle.node_turns.specs.Bridging as bridging
+use Rattle.node_turns.specs.Links as links
+use Rattle.node_turns.specs.Pumping.{pump}
+use Rattle.node_turns.specs.Serving as serving
+use Rattle.node_turns.specs.Sessions.{Session}
+use Rattle.node_turns.specs.States.{State, at_links, at_set, next_hop}
+use Rattle.node_turns.specs.Turns.{Turn, or_else}
+use Rattle.node_turns.specs.Users as users
+use Rattle.node_turns.specs.Views.{view}
+use Rattle.node_turns.specs.Users.{at_session, session_at}
 
 -- what a user asks the circuits for
 abbrev pub IsAsking : sets.Act → Type 0

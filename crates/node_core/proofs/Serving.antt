@@ -3,11 +3,11 @@ use Rattle.std.proofs.Common.{◌≡◌, ◌<◌, ◌≤◌, ◌+◌, ◌∙◌,
 use Rattle.std.specs.Prelude.{Bool, true, false, ◌||◌, filter, if◌then◌else◌}
 use Rattle.std.proofs.lemmas.List.{length-map}
 use Rattle.node_core.specs.declared.station.Station.{Station}
-use Rattle.node_core.specs.Serving.{serve, serve_each}
-use Rattle.node_core.specs.Sessions.{Session, bare}
+use Rattle.node_turns.specs.Serving.{serve, serve_each}
+use Rattle.node_turns.specs.Sessions.{Session, bare}
 use Rattle.node_core.specs.Standing.{Holds}
-use Rattle.node_core.specs.States.{State}
-use Rattle.node_core.specs.Turns.{Turn, or_else}
+use Rattle.node_turns.specs.States.{State}
+use Rattle.node_turns.specs.Turns.{Turn, or_else}
 
 -- some were served, and so many more from this place on come to the whole
 pub record IsLeft (now : ℕ) (whole : Turn State) (nth k : ℕ) (served : Bool) (m : State) : Type 0 where

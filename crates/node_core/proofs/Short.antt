@@ -47,12 +47,12 @@ use Rattle.node_core.specs.UserActs as user
 use Rattle.node_core.specs.UserActs.{UserAct}
 use Rattle.node_core.specs.Broadcasts.{is_broadcast, round_frames}
 use Rattle.node_core.specs.Configs.{new_station}
-use Rattle.node_core.specs.Links as links
-use Rattle.node_core.specs.Pumping.{pump}
+use Rattle.node_turns.specs.Links as links
+use Rattle.node_turns.specs.Pumping.{pump}
 use Rattle.node_core.specs.Receiving as receiving
 use Rattle.node_core.specs.Rounds as rounds
-use Rattle.node_core.specs.Settling as s
-use Rattle.node_core.specs.States.{State, at_links, fetch_own, next_hop, put, with_items}
+use Rattle.node_turns.specs.Settling as s
+use Rattle.node_turns.specs.States.{State, at_links, fetch_own, next_hop, put, with_items}
 use Rattle.node_core.proofs.Pumped.{pump_links}
 use Rattle.node_core.proofs.Served.{Serves}
 use Rattle.node_core.proofs.Walking.{Walks}

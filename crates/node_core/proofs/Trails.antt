@@ -15,7 +15,7 @@ use Rattle.link_table.specs.declared.written.Written.{Written}
 use Rattle.node_core.specs.Broadcasts.{is_broadcast}
 use Rattle.node_core.specs.Carried.{Borne, CarriesTraced, IsAloft, IsCarried, IsOfNode, NamesCall, Place, WasBorne, brings_traced, is_aloft, is_borne, is_of_node, is_passed, is_sent, offers_traced, sends_in, with_borne}
 use Rattle.node_core.specs.Runs.{circuits_told}
-use Rattle.node_core.specs.States.{Entry, Settings, State}
+use Rattle.node_turns.specs.States.{Entry, Settings, State}
 use Rattle.node_core.proofs.Coming as coming
 use Rattle.node_core.proofs.Inputs.{IsInput, set_of_both, told_of_both}
 use Rattle.node_core.proofs.Tracing.{all_behind, all_both, all_more, borne_behind, borne_more, or_both, or_map, passed_more, sends_append, sent_more}

@@ -15,16 +15,16 @@ use Rattle.circuit_set.specs.declared.event.ConnectRefusal.{ConnectRefusal}
 use Rattle.circuit_set.specs.declared.event.ConnectRefusal.TheVariants as connecting
 use Rattle.link_table.specs.Reaching.{IsCall}
 use Rattle.node_prompt.specs.Replies as texts
-use Rattle.node_core.specs.declared.sessions.session.Reply.{Reply}
-use Rattle.node_core.specs.declared.sessions.session.Stage.TheVariants.{AtPrompt}
-use Rattle.node_core.specs.Asking as asking
-use Rattle.node_core.specs.Bridging as bridging
-use Rattle.node_core.specs.Circuits as circuits
+use Rattle.node_turns.specs.declared.session.Reply.{Reply}
+use Rattle.node_turns.specs.declared.session.Stage.TheVariants.{AtPrompt}
+use Rattle.node_turns.specs.Asking as asking
+use Rattle.node_turns.specs.Bridging as bridging
+use Rattle.node_turns.specs.Circuits as circuits
 use Rattle.node_core.specs.Runs.{MadeFrom}
-use Rattle.node_core.specs.Sessions.{Session}
-use Rattle.node_core.specs.States.{State, at_set, next_hop}
-use Rattle.node_core.specs.Users as users
-use Rattle.node_core.specs.Users.{at_session, changed, session_at}
+use Rattle.node_turns.specs.Sessions.{Session}
+use Rattle.node_turns.specs.States.{State, at_set, next_hop}
+use Rattle.node_turns.specs.Users as users
+use Rattle.node_turns.specs.Users.{at_session, changed, session_at}
 use Rattle.node_core.proofs.Fine.{Fine, goes_on, pumped, said}
 use Rattle.node_core.proofs.Given.{Given, given_tries}
 use Rattle.node_core.proofs.Holders.{Any, AreOpen, Keeps, connects_keeps, none_closing}

@@ -9,28 +9,28 @@ use Rattle.ax_address.specs.CallOrder.{same_call}
 use Rattle.circuit_set.specs.CircuitSets.{partner_at}
 use Rattle.circuit_set.specs.Inputs.{TellsLess}
 use Rattle.link_table.specs.Payloads.{OffersLeave, TakesLower}
-use Rattle.node_core.specs.declared.sessions.session.Circuit.{Circuit}
-use Rattle.node_core.specs.declared.sessions.session.Reply.{Reply}
-use Rattle.node_core.specs.declared.sessions.session.Stage.{Stage}
-use Rattle.node_core.specs.declared.sessions.session.Stage.TheVariants.{AtPrompt, Trying, Failed, Connected}
-use Rattle.node_core.specs.declared.sessions.session.User.{User}
-use Rattle.node_core.specs.declared.sessions.session.User.TheVariants.{AtEnd, AtLink}
-use Rattle.node_core.specs.Asking as asking
-use Rattle.node_core.specs.Bridging as bridging
-use Rattle.node_core.specs.Circuits as circuits
-use Rattle.node_core.specs.Links as links
-use Rattle.node_core.specs.Pumping.{at_router}
-use Rattle.node_core.specs.Serving as serving
-use Rattle.node_core.specs.Sessions as sessions
-use Rattle.node_core.specs.Sessions.{Session, circuit_of}
-use Rattle.node_core.specs.States.{State}
-use Rattle.node_core.specs.Turns.{Turn, done, idle, or_else}
-use Rattle.node_core.specs.Users as users
-use Rattle.node_core.specs.Users.{at_session, session_at}
+use Rattle.node_turns.specs.declared.session.Circuit.{Circuit}
+use Rattle.node_turns.specs.declared.session.Reply.{Reply}
+use Rattle.node_turns.specs.declared.session.Stage.{Stage}
+use Rattle.node_turns.specs.declared.session.Stage.TheVariants.{AtPrompt, Trying, Failed, Connected}
+use Rattle.node_turns.specs.declared.session.User.{User}
+use Rattle.node_turns.specs.declared.session.User.TheVariants.{AtEnd, AtLink}
+use Rattle.node_turns.specs.Asking as asking
+use Rattle.node_turns.specs.Bridging as bridging
+use Rattle.node_turns.specs.Circuits as circuits
+use Rattle.node_turns.specs.Links as links
+use Rattle.node_turns.specs.Pumping.{at_router}
+use Rattle.node_turns.specs.Serving as serving
+use Rattle.node_turns.specs.Sessions as sessions
+use Rattle.node_turns.specs.Sessions.{Session, circuit_of}
+use Rattle.node_turns.specs.States.{State}
+use Rattle.node_turns.specs.Turns.{Turn, done, idle, or_else}
+use Rattle.node_turns.specs.Users as users
+use Rattle.node_turns.specs.Users.{at_session, session_at}
 use Rattle.node_core.specs.Waits.{WaitsForRoom, has_message, has_text, has_text_at}
-use Rattle.node_core.proofs.Falling as falling
-use Rattle.node_core.proofs.Falling.{IsPumped, pumps_alike}
-use Rattle.node_core.proofs.Lowering as lowering
+use Rattle.node_turns.proofs.Falling as falling
+use Rattle.node_turns.proofs.Falling.{IsPumped, pumps_alike}
+use Rattle.node_turns.proofs.Lowering as lowering
 
 -- ---- whether something is done
 

@@ -14,19 +14,20 @@ use Rattle.route_table.specs.Log as logs
 use Rattle.route_table.specs.Log.{Item}
 use Rattle.node_core.specs.Acts as acts
 use Rattle.node_core.specs.Acts.{Answered}
-use Rattle.node_core.specs.Circuits as circuits
-use Rattle.node_core.specs.Links as links
-use Rattle.node_core.specs.Pumping as p
+use Rattle.node_turns.specs.Circuits as circuits
+use Rattle.node_turns.specs.Links as links
+use Rattle.node_turns.specs.Pumping as p
 use Rattle.node_core.specs.Receiving as receiving
 use Rattle.node_core.specs.Rounds as rounds
 use Rattle.node_core.specs.Runs.{IsUserAct, write_in}
-use Rattle.node_core.specs.Serving.{serve_sessions}
-use Rattle.node_core.specs.Settling as s
-use Rattle.node_core.specs.States.{State, at_links, at_set, next_hop, with_items}
+use Rattle.node_turns.specs.Serving.{serve_sessions}
+use Rattle.node_turns.specs.Settling as s
+use Rattle.node_turns.specs.States.{State, at_links, at_set, next_hop, with_items}
 use Rattle.node_core.specs.UserActs as user
 use Rattle.node_core.specs.UserActs.{UserAct}
 use Rattle.node_core.proofs.Served.{IsAsking, Serves, served_on}
-use Rattle.node_core.proofs.Turns.{kept}
+use Rattle.node_core.specs.Inputs.{after_input, turns_settle}
+use Rattle.node_turns.proofs.Turns.{kept, settled_kept}
 
 -- beside what is done for users: the notices of the links, rounds, time that passes, locks, and links that fail
 pub record Others (P : State → State → Type 0) (Q : Item → Type 0) : Type 0 where
@@ -89,9 +90,9 @@ module _ (P : State → State → Type 0) (Q : Item → Type 0) (w : Parts P Q) 
       let b : State = p.pump now a in
       w.follows n b (s.serve_users now b).after (w.follows n a b (w.others.notices n) (w.pumps now a)) (users_by served now b b.settings.prompt refl)
 
-  pub settled_by : ServesSo P → (now : ℕ) (n : State) → P n (s.after_input now n)
-  unfolding s.after_input
-  settled_by served now n = kept (s.turn now) s.left (P n) (λ m x. w.follows n m (s.turn now m).after x (turn_by served now m)) n (w.still n)
+  pub settled_by : ServesSo P → (now : ℕ) (n : State) → P n (after_input now n)
+  unfolding after_input
+  settled_by served now n = settled_kept (s.turn now) (turns_settle now) (P n) (λ m x. w.follows n m (s.turn now m).after x (turn_by served now m)) n (w.still n)
 
   -- ---- ticks
 
@@ -161,7 +162,7 @@ module _ (P : State → State → Type 0) (Q : Item → Type 0) (w : Walks P Q) 
   pub turn_on : ReadsCallTexts → (now : ℕ) (n : State) → P n (s.turn now n).after
   turn_on reads now n = turn_by P Q parts (serves_so reads) now n
 
-  pub settled_on : ReadsCallTexts → (now : ℕ) (n : State) → P n (s.after_input now n)
+  pub settled_on : ReadsCallTexts → (now : ℕ) (n : State) → P n (after_input now n)
   settled_on reads now n = settled_by P Q parts (serves_so reads) now n
 
   pub tick_on : (now : ℕ) (n : State) → P n (rounds.tick now n)

@@ -9,12 +9,13 @@ use Rattle.circuit_set.specs.Standing.{Held, Here, Keeps, Past}
 use Rattle.circuit_set.specs.declared.holder.Holder.{Holder}
 use Rattle.link_table.specs.Payloads.{CountsPayloads, kept_payloads}
 use Rattle.node_core.specs.declared.station.Station.{Station}
-use Rattle.node_core.specs.Links as links
-use Rattle.node_core.specs.Pumping.{pending}
-use Rattle.node_core.specs.Sessions.{Session, bare}
-use Rattle.node_core.specs.Settling.{end_messages, filled, has_some, is_among, left, messages, messages_but, most_at, one_unless, sessions_work, text_cost}
+use Rattle.node_turns.specs.Links as links
+use Rattle.node_turns.specs.Pumping.{pending}
+use Rattle.node_turns.specs.Sessions.{Session, bare}
+use Rattle.node_turns.specs.Settling.{has_some}
 use Rattle.node_core.specs.Standing.{Holds}
-use Rattle.node_core.specs.States.{State}
+use Rattle.node_turns.specs.States.{State}
+use Rattle.node_turns.proofs.Weights.{end_messages, filled, is_among, left, messages, messages_but, most_at, one_unless, sessions_work, text_cost}
 
 -- ---- messages at the ends that are held
 

@@ -20,17 +20,17 @@ use Rattle.circuit_set.specs.declared.event.SetRefusal.TheVariants as set_refusa
 use Rattle.circuit_l4.specs.Opening.{requesting}
 use Rattle.circuit_l4.specs.declared.refusal.WriteRefusal.{WriteRefusal}
 use Rattle.radio_base.specs.declared.modulus.TheConstants.{COUNT_MAX}
-use Rattle.node_core.specs.Asking as asking
-use Rattle.node_core.specs.declared.sessions.session.Circuit.{Circuit}
-use Rattle.node_core.specs.declared.sessions.session.Stage.{Stage}
-use Rattle.node_core.specs.declared.sessions.session.Stage.TheVariants.{AtPrompt, Trying, Failed, Connected}
-use Rattle.node_core.specs.declared.sessions.session.User.{User}
-use Rattle.node_core.specs.Bridging as bridging
-use Rattle.node_core.specs.Serving.{is_circuit}
-use Rattle.node_core.specs.Sessions as sessions
-use Rattle.node_core.specs.Sessions.{Bridge, Session, circuit_of}
-use Rattle.node_core.specs.Users as users
-use Rattle.node_core.specs.Users.{Outcome, Taken, Exhausts, Unheard, Refused}
+use Rattle.node_turns.specs.Asking as asking
+use Rattle.node_turns.specs.declared.session.Circuit.{Circuit}
+use Rattle.node_turns.specs.declared.session.Stage.{Stage}
+use Rattle.node_turns.specs.declared.session.Stage.TheVariants.{AtPrompt, Trying, Failed, Connected}
+use Rattle.node_turns.specs.declared.session.User.{User}
+use Rattle.node_turns.specs.Bridging as bridging
+use Rattle.node_turns.specs.Serving.{is_circuit}
+use Rattle.node_turns.specs.Sessions as sessions
+use Rattle.node_turns.specs.Sessions.{Bridge, Session, circuit_of}
+use Rattle.node_turns.specs.Users as users
+use Rattle.node_turns.specs.Users.{Outcome, Taken, Exhausts, Unheard, Refused}
 use Rattle.node_core.proofs.Ends as ends_of
 use Rattle.node_core.proofs.Ends.{In, Once, number_of, end_here, is_end, other_end}
 use Rattle.node_core.proofs.Holders.{Alive, Below, calls, comes, connects, others_stay}

@@ -16,15 +16,15 @@ use Rattle.node_core.specs.declared.acts.ActDone.{ActDone}
 use Rattle.node_core.specs.declared.acts.ActDone.TheVariants.{Done, Made, Took}
 use Rattle.node_core.specs.declared.acts.ActRefusal.{ActRefusal}
 use Rattle.node_core.specs.declared.acts.ActRefusal.TheVariants as refusal
-use Rattle.node_core.specs.Circuits as circuits
+use Rattle.node_turns.specs.Circuits as circuits
 use Rattle.node_core.specs.Refusals.{connect_refusal, write_refusal}
-use Rattle.node_core.specs.Links.{break_link}
-use Rattle.node_core.specs.States.{State, at_links, at_set, next_hop, with_items}
+use Rattle.node_turns.specs.Links.{break_link}
+use Rattle.node_turns.specs.States.{State, at_links, at_set, next_hop, with_items}
 use Rattle.node_core.specs.Receiving.{has_room, live_with}
 use Rattle.node_core.specs.Rounds.{do_round}
-use Rattle.node_core.specs.Serving.{is_served}
+use Rattle.node_turns.specs.Serving.{is_served}
 use Rattle.node_core.specs.UserActs.{UserAct, Round, LinkFail, Lock, Connect, Write, Take, Close}
-use Rattle.node_core.specs.Users.{facts}
+use Rattle.node_turns.specs.Users.{facts}
 
 -- what an act comes to: the answer, and the node then
 pub record Answered : Type 0 where

@@ -5,7 +5,7 @@ use Rattle.std.specs.Prelude.{ℕ, ◌+◌, ◌*◌, ◌≤◌, length}
 use Rattle.circuit_set.specs.Kept as ends
 use Rattle.kiss_framing.specs.Deframing as kiss
 use Rattle.link_table.specs.Kept as links
-use Rattle.node_core.specs.Kept.{IsSound, Kept}
+use Rattle.node_core.specs.Kept.{Kept}
 
 -- how many links it has, ends, and usable pairs; what the windows of its ends sum to; and how many users it serves at the prompt
 abbrev pub links_of : Kept → ℕ
@@ -40,7 +40,3 @@ pub record IsWithin (k : Kept) : Type 0 where
   pub ends : ends_of k ≤ 64
   pub pairs : pairs_of k ≤ 16384
   pub users : users_of k ≤ links_of k + ends_of k
-
--- so it is between two inputs, where its table has no more pairs, as each table sees to by itself
-abbrev pub KeepsItsShare : Type 0
-KeepsItsShare = (k : Kept) → IsSound k → pairs_of k ≤ 16384 → IsWithin k

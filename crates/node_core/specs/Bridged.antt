@@ -10,16 +10,16 @@ use Rattle.circuit_set.specs.Sets.{Holder}
 use Rattle.link_table.specs.Calls.{with_path}
 use Rattle.link_table.specs.Reaching.{IsCall}
 use Rattle.node_core.specs.declared.config.NodeConfig.{NodeConfig}
-use Rattle.node_core.specs.declared.sessions.session.Circuit.{Circuit}
-use Rattle.node_core.specs.declared.sessions.session.Stage.{Stage}
-use Rattle.node_core.specs.declared.sessions.session.Stage.TheVariants.{AtPrompt, Trying, Failed, Connected}
+use Rattle.node_turns.specs.declared.session.Circuit.{Circuit}
+use Rattle.node_turns.specs.declared.session.Stage.{Stage}
+use Rattle.node_turns.specs.declared.session.Stage.TheVariants.{AtPrompt, Trying, Failed, Connected}
 use Rattle.node_core.specs.Configs.{new_node}
 use Rattle.node_core.specs.Inputs.{after_act, after_bytes, after_tick}
 use Rattle.node_core.specs.Runs.{IsUserAct}
-use Rattle.node_core.specs.Sessions.{Bridge, Session, circuit_of, waits}
+use Rattle.node_turns.specs.Sessions.{Bridge, Session, circuit_of, waits}
 use Rattle.node_core.specs.UserActs.{UserAct}
-use Rattle.node_core.specs.States.{NodeState, State, at_links, fetch_entry, fetch_frame}
-use Rattle.node_core.specs.Users.{end_at, is_deaf}
+use Rattle.node_turns.specs.States.{NodeState, State, at_links, fetch_entry, fetch_frame}
+use Rattle.node_turns.specs.Users.{end_at, is_deaf}
 use Rattle.node_core.specs.Waits.{has_text}
 
 -- ---- one session

@@ -28,12 +28,12 @@ use Rattle.link_table.specs.Standing.{width}
 use Rattle.node_core.specs.declared.config.NodeConfig.{NodeConfig}
 use Rattle.node_core.specs.Broadcasts.{broadcast_octets, has_netrom_pid, is_broadcast}
 use Rattle.node_core.specs.Configs.{new_station}
-use Rattle.node_core.specs.Links.{all_fetched}
+use Rattle.node_turns.specs.Links.{all_fetched}
 use Rattle.node_core.specs.Inputs.{after_act, after_bytes, after_tick, new_items}
 use Rattle.node_core.specs.Runs.{IsUserAct, RunsOn}
 use Rattle.node_core.specs.Standing.{IsTold}
-use Rattle.node_core.specs.States as states
-use Rattle.node_core.specs.States.{NodeState, State, at_links}
+use Rattle.node_turns.specs.States as states
+use Rattle.node_turns.specs.States.{NodeState, State, at_links}
 use Rattle.node_core.specs.UserActs as acts
 use Rattle.node_core.specs.UserActs.{UserAct}
 

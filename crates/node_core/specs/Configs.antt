@@ -10,7 +10,7 @@ use Rattle.link_table.specs.Standing.{width}
 use Rattle.radio_base.specs.declared.modulus.TheConstants.{COUNT_MAX}
 use Rattle.route_table.specs.Held.{AreRules}
 use Rattle.node_core.specs.declared.config.NodeConfig.{NodeConfig}
-use Rattle.node_core.specs.States.{NodeState, State}
+use Rattle.node_turns.specs.States.{NodeState, State}
 
 -- what each part asks of its settings
 pub record IsConfig (c : NodeConfig) : Type 0 where

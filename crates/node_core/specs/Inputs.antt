@@ -1,14 +1,25 @@
--- The inputs of a node: each KISS item, tick and act is one, and is settled before the next. Own profile.
+-- The inputs of a node: each KISS item, tick and act is one, and is settled before the next: turns follow it until one does nothing. Own
+-- profile.
 use Rattle.std.specs.Prelude.{ℕ, min, List, [], ◌∷◌, ◌++◌, length, drop, Result}
 use Rattle.kiss_framing.specs.Stream as kiss
 use Rattle.node_core.specs.declared.acts.ActDone.{ActDone}
 use Rattle.node_core.specs.declared.acts.ActRefusal.{ActRefusal}
-use Rattle.node_core.specs.States.{NodeState, State}
-use Rattle.node_core.specs.Settling.{after_input}
+use Rattle.node_turns.specs.States.{NodeState, State}
+use Rattle.node_turns.specs.Settling.{turn}
 use Rattle.node_core.specs.Receiving.{take_item}
 use Rattle.node_core.specs.Rounds.{tick}
 use Rattle.node_core.specs.Acts.{Answered, do_act}
 use Rattle.node_core.specs.UserActs.{UserAct}
+use Rattle.node_turns.specs.Turns.{Settled}
+use Rattle.node_turns.proofs.Settled.{turns_end}
+
+-- from each state turns settle, as is proved
+pub turns_settle : (now : ℕ) (n : State) → Settled (turn now) n
+turns_settle now n = turns_end now n
+
+-- what follows an input: the state to which turns settle, of which there is one alone (`InputsSettle`)
+unfoldable pub after_input : ℕ → State → State
+after_input now n = (turns_settle now n).state
 
 -- a moment above 2^62 ms counts as 2^62 ms
 abbrev pub moment : ℕ → ℕ

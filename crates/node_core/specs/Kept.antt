@@ -1,18 +1,11 @@
 -- What contracts see of a node.
-use Rattle.std.specs.Prelude.{ℕ, ◌≡◌, ◌+◌, ◌++◌, Bool, false, List, [], length}
-use Rattle.std.specs.List.{AllByRecursion}
+use Rattle.std.specs.Prelude.{ℕ, ◌≡◌, ◌+◌, Bool, false, length}
 use Rattle.circuit_set.specs.CircuitSets.{Circuits}
 use Rattle.kiss_framing.specs.Deframing as kiss
-use Rattle.kiss_framing.specs.Stream.{Item, items}
 use Rattle.link_table.specs.Standing.{TableView as LinkTable}
 use Rattle.node_core.specs.declared.station.Station.{Station}
-use Rattle.link_table.specs.Reaching.{IsCall}
-use Rattle.node_core.specs.declared.config.NodeConfig.{NodeConfig}
-use Rattle.node_core.specs.Bridged.{AsksForCall, Input, after_all}
-use Rattle.node_core.specs.Configs.{new_node}
-use Rattle.node_core.specs.Inputs.{after_items}
-use Rattle.node_core.specs.Standing.{Goes, Holds, IsDrained, IsTold}
-use Rattle.node_core.specs.States.{NodeState}
+use Rattle.node_core.specs.Standing.{Holds, IsTold}
+use Rattle.node_turns.specs.States.{NodeState}
 
 pub record Kept : Type 0 where
   pub deframer : kiss.Held
@@ -46,25 +39,3 @@ entries_left k = length k.station.entries.items
 
 abbrev pub NodeGoes : (NodeState → NodeState) → Kept → Kept → Type 0
 NodeGoes step old new = (n : NodeState) → NodeStands old n → NodeStands new (step n)
-
--- inputs have led to it, from the start of a node with a call on
-pub record IsReached (n : NodeState) : Type 0 where
-  pub config : NodeConfig
-  pub inputs : List Input
-  pub call : IsCall config.call
-  pub asked : AllByRecursion AsksForCall inputs
-  pub is : after_all inputs (new_node config) ≡ n
-
--- between two inputs a node stands for some state to which inputs have led, nothing of its circuits is untold, and each datagram that came was collected
-pub record IsSound (k : Kept) : Type 0 where
-  pub state : NodeState
-  pub stands : NodeStands k state
-  pub drained : IsDrained k.station
-  pub collected : state.station.links.pending.waiting ≡ []
-  pub reached : IsReached state
-
--- what a station makes of bytes that come behind a stream: it takes the items that they complete
-pub record Takes (now : ℕ) (old new : Station) (stream bytes : List ℕ) : Type 0 where
-  pub given : List Item
-  pub adds : items (stream ++ bytes) ≡ items stream ++ given
-  pub taken : Goes (after_items now given) old new

@@ -1,12 +1,13 @@
 -- What holds of every node.
-use Rattle.std.specs.Prelude.{ℕ, ◌≡◌, true, []}
+use Rattle.std.specs.Prelude.{ℕ, ◌≡◌, ◌↔◌, true, []}
 use Rattle.std.specs.List.{AllByRecursion}
-use Rattle.node_core.specs.Links.{text_peers}
-use Rattle.node_core.specs.Pumping.{pending}
-use Rattle.node_core.specs.Serving.{is_served_link}
-use Rattle.node_core.specs.Settling.{after_input, left, serve_users, turn}
-use Rattle.node_core.specs.States.{State}
-use Rattle.node_core.specs.Turns.{Settles, idle}
+use Rattle.node_turns.specs.Links.{text_peers}
+use Rattle.node_core.specs.Inputs.{after_input}
+use Rattle.node_turns.specs.Pumping.{pending, tell_all, tell_turn}
+use Rattle.node_turns.specs.Serving.{is_served_link}
+use Rattle.node_turns.specs.Settling.{drop_text, drop_texts, serve_users, turn}
+use Rattle.node_turns.specs.States.{State}
+use Rattle.node_turns.specs.Turns.{SettlesTo, Turn, idle}
 use Rattle.node_core.specs.Waits.{WaitsForRoom}
 
 -- nothing is left to be done: no notice is to be entered, nothing is to be told or routed, and to serve the users now does nothing. Where
@@ -24,6 +25,12 @@ pub record NothingLeft (now : ℕ) (n : State) : Type 0 where
 abbrev pub NothingLeftAfterInputs : Type 0
 NothingLeftAfterInputs = (now : ℕ) (n : State) → NothingLeft now (after_input now n)
 
--- What follows an input is a turn, and where that did something a turn again, until one does nothing.
-abbrev pub InputsSettle : Type 0
-InputsSettle = (now : ℕ) → Settles (turn now) left
+-- from each state these turns settle to the one that this gives, and to no other
+abbrev pub SettlesAs : (State → Turn State) → (State → State) → Type 0
+SettlesAs turn settled = (n m : State) → (settled n ≡ m) ↔ SettlesTo turn n m
+
+-- So it is with what follows an input, with the telling, and with the texts that are dropped.
+pub record InputsSettle : Type 0 where
+  pub inputs : (now : ℕ) → SettlesAs (turn now) (after_input now)
+  pub tells : (now : ℕ) → SettlesAs (tell_turn now) (tell_all now)
+  pub drops : (now : ℕ) → SettlesAs (drop_text now) (drop_texts now)

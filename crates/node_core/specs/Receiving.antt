@@ -19,8 +19,8 @@ use Rattle.nodes_broadcast.specs.Reading.{nodes_at}
 use Rattle.route_table.specs.Log.{Item, broadcast}
 use Rattle.route_table.specs.Table.{usable}
 use Rattle.node_core.specs.Broadcasts.{is_broadcast}
-use Rattle.node_core.specs.Links as links
-use Rattle.node_core.specs.States.{Overflow, State, at_links, enter, put, with_items}
+use Rattle.node_turns.specs.Links as links
+use Rattle.node_turns.specs.States.{Overflow, State, at_links, enter, put, with_items}
 
 -- the octet of an address in which its H bit stands, by the repeater's number from 0: behind the two end addresses, of seven
 -- octets each, the last one of its own

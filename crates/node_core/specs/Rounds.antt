@@ -4,9 +4,9 @@ use Rattle.route_table.specs.Log.{Round}
 use Rattle.route_table.specs.Broadcast.{to_broadcast}
 use Rattle.link_table.specs.declared.written.Written.{Written}
 use Rattle.node_core.specs.Broadcasts.{round_frames}
-use Rattle.node_core.specs.Circuits as circuits
-use Rattle.node_core.specs.Links as links
-use Rattle.node_core.specs.States.{State, at_links, at_set, put, with_items}
+use Rattle.node_turns.specs.Circuits as circuits
+use Rattle.node_turns.specs.Links as links
+use Rattle.node_turns.specs.States.{State, at_links, at_set, put, with_items}
 
 -- frames of the node itself, one after another
 abbrev pub put_all : List Written → State → State

@@ -1,16 +1,16 @@
 -- What waits after an input: only what the side that it goes to has no room for. Own profile.
 use Rattle.std.specs.Prelude.{ℕ, ◌≡◌, ◌<◌, Bool, true, false, not, ◌&&◌, ◌||◌, nat_lt, length, Some}
 use Rattle.circuit_set.specs.Standing as answers
-use Rattle.node_core.specs.declared.sessions.session.Circuit.{Circuit}
-use Rattle.node_core.specs.declared.sessions.session.Stage.TheVariants.{AtPrompt, Connected}
-use Rattle.node_core.specs.declared.sessions.session.User.{User}
-use Rattle.node_core.specs.declared.sessions.session.User.TheVariants.{AtEnd, AtLink}
-use Rattle.node_core.specs.Bridging.{may_close}
-use Rattle.node_core.specs.Links as links
-use Rattle.node_core.specs.Serving.{is_over}
-use Rattle.node_core.specs.Sessions.{Session, circuit_of}
-use Rattle.node_core.specs.States.{State}
-use Rattle.node_core.specs.Users.{can_give, can_pass_on, end_at, end_has_room, took}
+use Rattle.node_turns.specs.declared.session.Circuit.{Circuit}
+use Rattle.node_turns.specs.declared.session.Stage.TheVariants.{AtPrompt, Connected}
+use Rattle.node_turns.specs.declared.session.User.{User}
+use Rattle.node_turns.specs.declared.session.User.TheVariants.{AtEnd, AtLink}
+use Rattle.node_turns.specs.Bridging.{may_close}
+use Rattle.node_turns.specs.Links as links
+use Rattle.node_turns.specs.Serving.{is_over}
+use Rattle.node_turns.specs.Sessions.{Session, circuit_of}
+use Rattle.node_turns.specs.States.{State}
+use Rattle.node_turns.specs.Users.{can_give, can_pass_on, end_at, end_has_room, took}
 
 -- a message that came waits at an end
 abbrev pub has_message : ℕ → State → Bool

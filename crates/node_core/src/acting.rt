@@ -3,7 +3,7 @@ ghost use Rattle.std.specs.Prelude.{◌≡◌, OnOk};
 ghost use Rattle.route_table.specs.Log as logs;
 ghost use Rattle.node_core.specs.Acts as acts;
 ghost use Rattle.node_core.specs.Inputs as inputs;
-ghost use Rattle.node_core.specs.States.{State};
+ghost use Rattle.node_turns.specs.States.{State};
 
 use crate::acts::wants_memory;
 use crate::station::Station;
@@ -13,7 +13,8 @@ use l3_datagram::Message;
 use radio_base::{Moment, NoMemory};
 
 impl Station {
-    ghost use Rattle.node_core.specs.Standing.{Acts, Goes, IsAnswer, IsDrained, StandsTold, Told};
+    ghost use Rattle.node_core.specs.Going.{Acts, Goes, StandsTold, Told};
+    ghost use Rattle.node_core.specs.Standing.{IsAnswer, IsDrained};
     ghost use Rattle.node_core.specs.UserActs as user;
     ghost use Rattle.node_core.specs.UserActs.{act_of};
 

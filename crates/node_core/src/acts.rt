@@ -1,6 +1,6 @@
 //! What a node's user can do, and what comes of it.
 ghost use Rattle.std.specs.Prelude.{◌≡◌};
-ghost use Rattle.node_core.specs.Standing as standing;
+ghost use Rattle.node_core.specs.Going as going;
 
 use ax_address::{Alias, Call};
 use circuit_l4::WriteRefusal;
@@ -114,7 +114,7 @@ pub enum ActRefusal {
 
 /// Whether memory ran out.
 pub(crate) fn wants_memory(outcome: &Result<ActDone, ActRefusal>) -> bool
-    ensures { result ≡ standing.wants_memory outcome.now }
+    ensures { result ≡ going.wants_memory outcome.now }
 {
     matches!(outcome, Err(ActRefusal::NoMemory))
 }

@@ -1,15 +1,15 @@
 //! What the definitions promise by themselves.
 ghost use Rattle.circuit_set.specs.Inputs.{TellsLess};
 ghost use Rattle.link_table.specs.Payloads.{CountsPayloads, OffersLeave, TakesLower};
-ghost use Rattle.node_core.specs.Bounds.{KeepsItsShare};
+ghost use Rattle.node_core.specs.Sound.{KeepsItsShare};
 ghost use Rattle.node_core.specs.Bridged.{SessionsBounded, SessionsBridged, SessionsClosedLast, SessionsReadTheirEnds, SessionsWriteTheirEnds, UsersAreFew};
 ghost use Rattle.node_core.specs.Carried.{ActsCarry, BytesCarry, CarriedFurther, TicksCarry};
 ghost use Rattle.node_core.specs.Fetching.{FetchesAllEntries, FetchesAllFrames, FramesInOrder};
 ghost use Rattle.node_core.specs.Runs.{ActsRun, BytesRun, InputsAreSteps, TicksRun};
 ghost use Rattle.node_core.specs.Laws.{InputsSettle, NothingLeftAfterInputs};
 
-/// What follows an input is a turn, and where that did something a turn again, until one does nothing: what is left to do falls
-/// with each turn that does something. And after an input nothing is left to be done.
+/// What follows an input is a turn, and where that did something a turn again, until one does nothing: from each state these come to one
+/// that does, and to no other. So do the telling and the dropping of texts in a turn. And after an input nothing is left to be done.
 pub fn settles()
     ensures settles { InputsSettle }
     ensures nothing { NothingLeftAfterInputs }

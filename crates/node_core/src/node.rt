@@ -12,12 +12,13 @@ ghost use Rattle.kiss_framing.specs.Feeding.{IsSmall, handed_out};
 ghost use Rattle.kiss_framing.specs.Stream.{items};
 ghost use Rattle.node_core.specs.Bounds.{IsWithin};
 ghost use Rattle.node_core.specs.Inputs as inputs;
-ghost use Rattle.node_core.specs.Kept.{Takes};
+ghost use Rattle.node_core.specs.Taking.{Takes};
 ghost use Rattle.node_core.specs.Runs.{IsUserAct};
 ghost use Rattle.node_core.specs.UserActs.{act_of};
-ghost use Rattle.node_core.specs.Standing.{Goes, IsDrained, StandsForSome};
-ghost use Rattle.node_core.specs.States as states;
-ghost use Rattle.node_core.specs.States.{NodeState};
+ghost use Rattle.node_core.specs.Going.{Goes, StandsForSome};
+ghost use Rattle.node_core.specs.Standing.{IsDrained};
+ghost use Rattle.node_turns.specs.States as states;
+ghost use Rattle.node_turns.specs.States.{NodeState};
 
 use crate::acts::wants_memory;
 use crate::station::Station;
@@ -69,7 +70,8 @@ impl Model for Node {
     ghost use Rattle.std.specs.Prelude.{◌≡◌, false};
     ghost use Rattle.std.specs.Coded.{codes};
     ghost use Rattle.indexmap.specs.Layout.{hash_map_code};
-    ghost use Rattle.node_core.specs.Kept.{IsSound, Kept, kept};
+    ghost use Rattle.node_core.specs.Kept.{Kept, kept};
+    ghost use Rattle.node_core.specs.Sound.{IsSound};
 
     ghost Value = { Kept };
 

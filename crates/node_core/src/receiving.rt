@@ -9,10 +9,10 @@ ghost use Rattle.digi_path.specs.Paths.{action, has_repeated};
 ghost use Rattle.kiss_framing.specs.Feeding.{IsSmall};
 ghost use Rattle.nodes_broadcast.specs.Reading.{nodes_at};
 ghost use Rattle.route_table.specs.Log.{broadcast};
-ghost use Rattle.node_core.specs.Links as links;
+ghost use Rattle.node_turns.specs.Links as links;
 ghost use Rattle.node_core.specs.Receiving as receiving;
-ghost use Rattle.node_core.specs.States as states;
-ghost use Rattle.node_core.specs.States.{Overflow, State};
+ghost use Rattle.node_turns.specs.States as states;
+ghost use Rattle.node_turns.specs.States.{Overflow, State};
 
 use crate::NodeEntry;
 use crate::broadcasts::{is_broadcast, is_to_nodes};
@@ -36,7 +36,8 @@ const LAST_OCTET: usize = 6;
 const H_BIT: u8 = 0x80;
 
 impl Station {
-    ghost use Rattle.node_core.specs.Standing.{Goes, Holds, item_of};
+    ghost use Rattle.node_core.specs.Going.{Goes, item_of};
+    ghost use Rattle.node_core.specs.Standing.{Holds};
 
     /// Takes in a KISS item: a node takes data on port 0.
     pub(crate) fn take_item(&mut self, item: &KissItem<'_>, now: Moment) -> Result<(), NoMemory>

@@ -2,10 +2,10 @@
 ghost use Rattle.std.specs.Prelude.{◌≤◌, ◌*◌, OnOk, length};
 ghost use Rattle.ax_link.specs.State.{count_end};
 ghost use Rattle.node_core.specs.Broadcasts.{round_frame};
-ghost use Rattle.node_core.specs.Circuits as circuits;
-ghost use Rattle.node_core.specs.Links as links;
+ghost use Rattle.node_turns.specs.Circuits as circuits;
+ghost use Rattle.node_turns.specs.Links as links;
 ghost use Rattle.node_core.specs.Rounds as rounds;
-ghost use Rattle.node_core.specs.States as states;
+ghost use Rattle.node_turns.specs.States as states;
 
 use crate::broadcasts::{entries_of_frame, frame_count, write_broadcast};
 use crate::station::Station;
@@ -16,7 +16,8 @@ use nodes_broadcast::Nodes;
 use radio_base::{Moment, NoMemory};
 
 impl Station {
-    ghost use Rattle.node_core.specs.Standing.{Goes, GoesWhereTold, IsDrained};
+    ghost use Rattle.node_core.specs.Going.{Goes, GoesWhereTold};
+    ghost use Rattle.node_core.specs.Standing.{IsDrained};
 
     /// Time has passed: for the links, for the ends of circuits, and for the round of the interval.
     pub(crate) fn tick(&mut self, now: Moment) -> Result<(), NoMemory>

@@ -8,4 +8,4 @@ mod session;
 mod users;
 mod views;
 
-pub(crate) use session::{Circuit, Reply, Session, Stage, User};
+pub(crate) use session::Session;

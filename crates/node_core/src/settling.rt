@@ -2,11 +2,12 @@
 //! of these did something.
 ghost use Rattle.std.specs.Prelude.{◌≡◌, ◌<◌, IfOk, IfSome, OnOk, length, slice_get};
 ghost use Rattle.link_table.specs.Calls as calls;
-ghost use Rattle.node_core.specs.Links as links;
-ghost use Rattle.node_core.specs.Pumping as pumping;
-ghost use Rattle.node_core.specs.Settling as settling;
-ghost use Rattle.node_core.specs.States as states;
-ghost use Rattle.node_core.specs.States.{State};
+ghost use Rattle.node_core.specs.Inputs as inputs;
+ghost use Rattle.node_turns.specs.Links as links;
+ghost use Rattle.node_turns.specs.Pumping as pumping;
+ghost use Rattle.node_turns.specs.Settling as settling;
+ghost use Rattle.node_turns.specs.States as states;
+ghost use Rattle.node_turns.specs.States.{State};
 
 use crate::station::Station;
 use crate::{NodeEntry, laws};
@@ -16,12 +17,13 @@ use l3_datagram::Message;
 use radio_base::{Moment, NoMemory};
 
 impl Station {
-    ghost use Rattle.node_core.specs.Standing.{Did, Goes, Holds, IsDrained, IsTold, StandsForSome, StandsTold, Turns};
+    ghost use Rattle.node_core.specs.Going.{Did, Goes, StandsForSome, StandsTold, Turns};
+    ghost use Rattle.node_core.specs.Standing.{Holds, IsDrained, IsTold};
 
     /// All that follows an input.
     pub(crate) fn settle(&mut self, now: Moment) -> Result<(), NoMemory>
         requires { StandsForSome self.old }
-        ensures goes { OnOk result (Goes (settling.after_input now.0) self.old self.new) }
+        ensures goes { OnOk result (Goes (inputs.after_input now.0) self.old self.new) }
         ensures drained { OnOk result (IsDrained self.new) }
     {
         laws::parts();
@@ -182,7 +184,7 @@ impl Station {
     }
 
     /// The first peer at whose link a text waits.
-    #[tactic(auto, unfolding(crate::specs::Links::text_peers))]
+    #[tactic(auto, unfolding(node_turns::specs::Links::text_peers))]
     pub(crate) fn first_text(&self) -> Option<Call>
         ensures { (n : State) → Holds self.now n → result ≡ slice_get (links.text_peers n.links) 0 }
     {

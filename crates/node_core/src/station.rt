@@ -2,9 +2,9 @@
 ghost use Rattle.std.specs.Prelude.{◌≡◌, ◌<◌, IfOk, IfSome, OnOk, length, slice_get};
 ghost use Rattle.node_core.specs.Configs.{IsConfig, new_station};
 ghost use Rattle.link_table.specs.Calls as calls;
-ghost use Rattle.node_core.specs.Links.{sent_frames};
-ghost use Rattle.node_core.specs.States as states;
-ghost use Rattle.node_core.specs.States.{State};
+ghost use Rattle.node_turns.specs.Links.{sent_frames};
+ghost use Rattle.node_turns.specs.States as states;
+ghost use Rattle.node_turns.specs.States.{State};
 
 use crate::sessions::Session;
 use crate::{NodeConfig, NodeEntry};
@@ -38,7 +38,8 @@ pub(crate) struct Station {
 
 impl Station {
     ghost use Rattle.node_core.specs.Kept.{station_frames};
-    ghost use Rattle.node_core.specs.Standing.{Goes, Holds, IsDrained};
+    ghost use Rattle.node_core.specs.Going.{Goes};
+    ghost use Rattle.node_core.specs.Standing.{Holds, IsDrained};
 
     /// The node as it starts.
     pub(crate) fn new(alloc: Global, config: &NodeConfig) -> Result<Station, NoMemory>

@@ -11,7 +11,7 @@ use Rattle.circuit_set.specs.Pumps as pumps
 use Rattle.circuit_set.specs.Pumps.{SetTold, Of, Dropped}
 use Rattle.circuit_set.specs.Sets as sets
 use Rattle.l3_datagram.specs.declared.routed.Routed.{Routed}
-use Rattle.node_core.specs.States as nodes
+use Rattle.node_turns.specs.States as nodes
 use Rattle.net_replay.specs.ToldWords.{drop_word, link_word, notice_word}
 use Rattle.trace_lines.specs.declared.events.Stand.{Stand}
 use Rattle.trace_lines.specs.Json.{Number, NumberOrNull, Octets, OctetsOrNull, Word, WordOrNull}

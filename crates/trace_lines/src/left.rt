@@ -2,7 +2,7 @@
 ghost use Rattle.std.specs.Prelude.{◌≡◌, ◌++◌, List, Option, OnOk, IfOk, string_bytes, flat_map};
 ghost use Rattle.std.specs.Fmt.{decimal};
 ghost use Rattle.node_core.specs.Kept.{NodeStands};
-ghost use Rattle.node_core.specs.States.{NodeState};
+ghost use Rattle.node_turns.specs.States.{NodeState};
 ghost use Rattle.net_replay.specs.Reporting.{AreDeclared, ends_left};
 ghost use Rattle.net_replay.specs.Starting.{Placed};
 ghost use Rattle.net_replay.specs.Traces.{MailStands, MailsStand, StandFor, left_of};

@@ -1,10 +1,10 @@
 //! The lines of a user at the prompt.
 ghost use Rattle.std.specs.Prelude.{◌≡◌, IfOk, OnOk, ◌≢◌};
 ghost use Rattle.circuit_set.specs.declared.event.ConnectRefusal.TheVariants as connecting;
-ghost use Rattle.node_core.specs.Asking as asking;
-ghost use Rattle.node_core.specs.Bridging as bridging;
-ghost use Rattle.node_core.specs.States.{State};
-ghost use Rattle.node_core.specs.Users as users;
+ghost use Rattle.node_turns.specs.Asking as asking;
+ghost use Rattle.node_turns.specs.Bridging as bridging;
+ghost use Rattle.node_turns.specs.States.{State};
+ghost use Rattle.node_turns.specs.Users as users;
 
 use crate::station::Station;
 use ax_address::Call;
@@ -14,7 +14,7 @@ use node_prompt::{Action, Trouble, wanted};
 use radio_base::{Moment, NoMemory};
 
 impl Station {
-    ghost use Rattle.node_core.specs.Standing.{Changes, StandsTold, Steps, Told, Turns};
+    ghost use Rattle.node_core.specs.Going.{Changes, StandsTold, Steps, Told, Turns};
 
     /// Does the next line of a user at the prompt, where its side has room for the reply; the texts of one that is told nothing more
     /// are dropped. Whether there was any.

@@ -1,18 +1,19 @@
 //! What goes between a user and its circuit.
 ghost use Rattle.std.specs.Prelude.{◌≡◌, IfOk, OnOk};
-ghost use Rattle.node_core.specs.Bridging as bridging;
-ghost use Rattle.node_core.specs.States.{State};
-ghost use Rattle.node_core.specs.Users as users;
+ghost use Rattle.node_turns.specs.Bridging as bridging;
+ghost use Rattle.node_turns.specs.States.{State};
+ghost use Rattle.node_turns.specs.Users as users;
 
 use crate::sessions::users::{is_gone, took};
-use crate::sessions::{Circuit, Reply};
 use crate::station::Station;
 use l3_datagram::Message;
 use node_prompt::Session as Prompt;
+use node_turns::{Circuit, Reply};
 use radio_base::{Moment, NoMemory};
 
 impl Station {
-    ghost use Rattle.node_core.specs.Standing.{Changes, Holds, StandsTold, Steps, Told, Turns};
+    ghost use Rattle.node_core.specs.Going.{Changes, StandsTold, Steps, Told, Turns};
+    ghost use Rattle.node_core.specs.Standing.{Holds};
 
     /// The prompt of this node.
     pub(crate) fn prompt(&self) -> Prompt

@@ -1,22 +1,24 @@
 //! What has happened, as the sessions hear it.
 ghost use Rattle.std.specs.Prelude.{◌≡◌, OnOk, map};
 ghost use Rattle.circuit_set.specs.Standing.{seen};
-ghost use Rattle.node_core.specs.Serving as serving;
-ghost use Rattle.node_core.specs.Sessions as sessions;
-ghost use Rattle.node_core.specs.States as states;
-ghost use Rattle.node_core.specs.States.{State};
+ghost use Rattle.node_turns.specs.Serving as serving;
+ghost use Rattle.node_turns.specs.Sessions as sessions;
+ghost use Rattle.node_turns.specs.States as states;
+ghost use Rattle.node_turns.specs.States.{State};
 
+use crate::sessions::Session;
 use crate::sessions::session::is_at_link;
-use crate::sessions::{Session, User};
 use crate::station::Station;
 use ax_address::Call;
 use ax_link::LinkNotice;
 use circuit_l4::EndNotice;
 use circuit_set::SetEvent;
+use node_turns::User;
 use radio_base::NoMemory;
 
 impl Station {
-    ghost use Rattle.node_core.specs.Standing.{Goes, Holds, Steps};
+    ghost use Rattle.node_core.specs.Going.{Goes, Steps};
+    ghost use Rattle.node_core.specs.Standing.{Holds};
 
     /// The sessions hear what has happened at the circuits. Where a request of another node has opened an end, a session is
     /// made for the user there, if users are served.

@@ -1,19 +1,20 @@
 //! The sessions are served in the order of their making, each with at most one thing.
 ghost use Rattle.std.specs.Prelude.{◌≡◌, IfOk, OnOk};
-ghost use Rattle.node_core.specs.Serving as serving;
-ghost use Rattle.node_core.specs.Standing.{SetTold};
-ghost use Rattle.node_core.specs.States.{State};
-ghost use Rattle.node_core.specs.Users as users;
+ghost use Rattle.node_turns.specs.Serving as serving;
+ghost use Rattle.node_core.specs.Going.{SetTold};
+ghost use Rattle.node_turns.specs.States.{State};
+ghost use Rattle.node_turns.specs.Users as users;
 
+use crate::sessions::Session;
 use crate::sessions::users::is_gone;
-use crate::sessions::{Session, Stage};
 use crate::station::Station;
 use circuit_set::CircuitSet;
 use link_table::LinkTable;
+use node_turns::Stage;
 use radio_base::{Moment, NoMemory};
 
 impl Station {
-    ghost use Rattle.node_core.specs.Standing.{StandsTold, Steps, Told, Turns};
+    ghost use Rattle.node_core.specs.Going.{StandsTold, Steps, Told, Turns};
 
     /// Serves each session, and drops those that are over. Whether any of them was served.
     pub(crate) fn serve_sessions(&mut self, now: Moment) -> Result<bool, NoMemory>

@@ -1,16 +1,17 @@
 //! A session: a user at the prompt, and the circuit that it has asked for.
 ghost use Rattle.std.specs.Prelude.{◌≡◌, true, slice_get, OnOk, Some};
-ghost use Rattle.node_core.specs.Bridging as bridging;
-ghost use Rattle.node_core.specs.Asking as asking;
-ghost use Rattle.node_core.specs.Serving as serving;
-ghost use Rattle.node_core.specs.Sessions as sessions;
-ghost use Rattle.node_core.specs.Users as users;
+ghost use Rattle.node_turns.specs.Bridging as bridging;
+ghost use Rattle.node_turns.specs.Asking as asking;
+ghost use Rattle.node_turns.specs.Serving as serving;
+ghost use Rattle.node_turns.specs.Sessions as sessions;
+ghost use Rattle.node_turns.specs.Users as users;
 
 use crate::sessions::lines::{first_line, line_size};
 use ax_address::Call;
 use circuit_l4::EndNotice;
 use l3_datagram::Message;
 use node_prompt::Trouble;
+use node_turns::{Circuit, Reply, Stage, User};
 use radio_base::NoMemory;
 use std::alloc::Global;
 use std::collections::VecDeque;
@@ -18,50 +19,6 @@ use std::marker::Model;
 
 /// The most bytes of a text.
 const MAX_TEXT: usize = 8192;
-
-/// Where the user of a session is.
-#[derive(Clone, Copy, Debug, PartialEq, Eq)]
-pub enum User {
-    /// At the other end of the circuit that has opened the end of this number.
-    AtEnd(u64),
-    /// At the other end of the link with this peer.
-    AtLink(Call),
-}
-
-/// A circuit that a session has asked for.
-#[derive(Clone, Copy, Debug, PartialEq, Eq)]
-pub struct Circuit {
-    /// The number of its end here.
-    pub id: u64,
-    /// The node that was asked for.
-    pub dest: Call,
-    /// The session has closed it.
-    pub closed: bool,
-}
-
-/// How far a session has come.
-#[derive(Clone, Copy, Debug, PartialEq, Eq)]
-pub enum Stage {
-    /// Lines of the user are commands.
-    AtPrompt,
-    /// A circuit is tried, and lines wait.
-    Trying(Circuit),
-    /// That circuit won't stand, and its end isn't gone yet.
-    Failed(Circuit),
-    /// Texts of the user go to the circuit, and its messages to the user.
-    Connected(Circuit),
-}
-
-/// What a user is told of its circuit, until there is room for it.
-#[derive(Clone, Copy, Debug, PartialEq, Eq)]
-pub enum Reply {
-    /// The circuit to this node stands.
-    Connected(Call),
-    /// The circuit to this node doesn't stand, for this reason.
-    Refused(Call, Trouble),
-    /// The circuit to this node has ended.
-    Ended(Call),
-}
 
 /// A user at the prompt.
 #[derive(Drop)]
@@ -81,7 +38,7 @@ pub struct Session {
 
 impl Model for Session {
     ghost use Rattle.std.specs.Prelude.{◌≤◌, drop, length};
-    ghost use Rattle.node_core.specs.Sessions.{Session, unused};
+    ghost use Rattle.node_turns.specs.Sessions.{Session, unused};
 
     ghost Value = { Session };
 

@@ -2,18 +2,19 @@
 ghost use Rattle.std.specs.Prelude.{◌≡◌, IfOk, OnOk, slice_get};
 ghost use Rattle.std.specs.Option.{option_copied};
 ghost use Rattle.circuit_set.specs.CircuitSets.{partner_at};
-ghost use Rattle.node_core.specs.Users as users;
+ghost use Rattle.node_turns.specs.Users as users;
 ghost use Rattle.link_table.specs.Standing.{TextNotNoMemory};
-ghost use Rattle.node_core.specs.Standing.{SetTold};
-ghost use Rattle.node_core.specs.States.{State};
+ghost use Rattle.node_core.specs.Going.{SetTold};
+ghost use Rattle.node_turns.specs.States.{State};
 
-use crate::sessions::{Session, User};
+use crate::sessions::Session;
 use crate::station::Station;
 use ax_address::Call;
 use circuit_l4::EndPhase;
 use circuit_set::{CircuitSet, NoEnd, SetRefusal};
 use l3_datagram::Message;
 use link_table::{LinkTable, TextRefusal};
+use node_turns::User;
 use radio_base::{Moment, NoMemory};
 
 /// With how many bytes queued at most an end has room for a text.
@@ -26,7 +27,7 @@ const LEAST_ROOM: usize = 33;
 const LEAST_ROOM_BESIDE: usize = 34;
 
 impl Station {
-    ghost use Rattle.node_core.specs.Standing.{Changes, StandsTold, Steps, Told, Turns};
+    ghost use Rattle.node_core.specs.Going.{Changes, StandsTold, Steps, Told, Turns};
 
     /// Whether nothing is said to the user any more.
     pub(crate) fn is_deaf(&self, session: &Session) -> bool

@@ -2,8 +2,8 @@
 ghost use Rattle.std.specs.Prelude.{◌≡◌, IfOk, filter, flat_map, take, slice_get};
 ghost use Rattle.std.specs.Option.{option_to_list};
 ghost use Rattle.circuit_set.specs.CircuitSets.{held_ids};
-ghost use Rattle.node_core.specs.States.{State};
-ghost use Rattle.node_core.specs.Views as views;
+ghost use Rattle.node_turns.specs.States.{State};
+ghost use Rattle.node_turns.specs.Views as views;
 
 use crate::station::Station;
 use arrayvec::ArrayVec;
@@ -16,7 +16,8 @@ use route_table::Route;
 const MOST_NAMED: usize = 64;
 
 impl Station {
-    ghost use Rattle.node_core.specs.Standing.{Holds, Told};
+    ghost use Rattle.node_core.specs.Going.{Told};
+    ghost use Rattle.node_core.specs.Standing.{Holds};
 
     /// What there is to see of this node, with the routes to the destination that is wanted.
     pub(crate) fn view(&self, wanted: &Option<Call>) -> Result<View, NoMemory>

@@ -1,6 +1,6 @@
 use Rattle.std.proofs.Common.{◌≡◌, ◌++◌, drop, suc}
 use Rattle.node_core.specs.Kept.{NodeStands}
-use Rattle.node_core.specs.States.{NodeState}
+use Rattle.node_turns.specs.States.{NodeState}
 use Rattle.net_replay.specs.ToldEntries.{last_texts}
 use Rattle.net_replay.proofs.reports.write_ends.Given as goal
 

@@ -1,4 +1,4 @@
-use Rattle.node_core.proofs.Settled.{inputs_settle, nothing_is_left}
+use Rattle.node_core.proofs.Rested.{inputs_settle, nothing_is_left}
 use Rattle.node_core.proofs.laws.settles.Goals as goal
 
 pub returns-clause-settles : goal.returns-clause-settles

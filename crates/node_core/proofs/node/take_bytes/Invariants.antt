@@ -1,7 +1,8 @@
 use Rattle.std.proofs.Common.{ℕ, List, ◌≤◌, ◌-◌, ◌++◌, length, take}
 use Rattle.kiss_framing.specs.Deframing as kiss
-use Rattle.node_core.specs.Kept.{Takes}
-use Rattle.node_core.specs.Standing.{IsDrained, StandsForSome}
+use Rattle.node_core.specs.Taking.{Takes}
+use Rattle.node_core.specs.Going.{StandsForSome}
+use Rattle.node_core.specs.Standing.{IsDrained}
 use Rattle.node_core.proofs.node.take_bytes.Given as goal
 
 -- the front was taken in, and the items that it completes were settled

@@ -1,7 +1,7 @@
 use Rattle.std.proofs.Common.{◌<◌, ◌≤◌, refl, arith, length}
 use Rattle.circuit_set.specs.CircuitSets.{facts_at}
 use Rattle.circuit_set.specs.Sets.{end_of}
-use Rattle.node_core.specs.States.{NodeState}
+use Rattle.node_turns.specs.States.{NodeState}
 use Rattle.net_replay.specs.Running.{course, facts_of}
 use Rattle.net_replay.proofs.Placing.{asked, asked_none}
 use Rattle.net_replay.proofs.moves.World.facts_at.Goals as goal

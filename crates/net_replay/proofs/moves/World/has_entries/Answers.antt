@@ -1,6 +1,6 @@
 use Rattle.std.proofs.Common.{◌<◌, ◌≤◌, refl, arith, length}
 use Rattle.std.specs.Prelude.{Option, is_some, slice_get}
-use Rattle.node_core.specs.States.{NodeState}
+use Rattle.node_turns.specs.States.{NodeState}
 use Rattle.net_replay.specs.Running.{course, first_entry}
 use Rattle.net_replay.specs.Starting.{Placed}
 use Rattle.net_replay.proofs.Placing.{asked, asked_none}

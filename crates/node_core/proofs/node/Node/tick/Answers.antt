@@ -1,7 +1,7 @@
 use Rattle.std.proofs.Common.{ℕ, refl, subst, sym}
 use Rattle.node_core.specs.Kept.{NodeStands, kept}
 use Rattle.node_core.specs.Rounds as rounds
-use Rattle.node_core.specs.States.{State}
+use Rattle.node_turns.specs.States.{State}
 use Rattle.node_core.specs.Bridged.{Ticks}
 use Rattle.node_core.proofs.Nodes.{led, sound_on, stands_on}
 use Rattle.node_core.proofs.node.Node.tick.Goals as goal

@@ -4,7 +4,7 @@ use Rattle.circuit_set.specs.CircuitSets.{SetStands}
 use Rattle.circuit_set.specs.Inputs as inputs
 use Rattle.circuit_set.specs.Sets as sets
 use Rattle.node_core.specs.Acts.{closed}
-use Rattle.node_core.specs.Circuits.{acts}
+use Rattle.node_turns.specs.Circuits.{acts}
 use Rattle.node_core.proofs.Holding.{set_steps}
 use Rattle.node_core.proofs.station.Station.close.Goals as goal
 

@@ -6,9 +6,10 @@ use Rattle.circuit_set.specs.Inputs as inputs
 use Rattle.circuit_set.specs.Sets as sets
 use Rattle.node_core.specs.declared.acts.ActDone.TheVariants.{Made}
 use Rattle.node_core.specs.Acts.{connect_by}
-use Rattle.node_core.specs.Circuits.{acts}
+use Rattle.node_turns.specs.Circuits.{acts}
 use Rattle.node_core.specs.Refusals.{connect_refusal}
-use Rattle.node_core.specs.Standing.{Answers, Holds}
+use Rattle.node_core.specs.Going.{Answers}
+use Rattle.node_core.specs.Standing.{Holds}
 use Rattle.node_core.proofs.Holding.{set_steps}
 use Rattle.node_core.proofs.Refusing.{not_spent, not_spent_by}
 use Rattle.node_core.proofs.station.Station.connect.Goals as goal

@@ -1,8 +1,8 @@
 use Rattle.std.proofs.Common.{refl, subst}
-use Rattle.node_core.specs.Asking as asking
-use Rattle.node_core.specs.Standing.{Told}
-use Rattle.node_core.specs.States.{State}
-use Rattle.node_core.specs.Users.{at_session}
+use Rattle.node_turns.specs.Asking as asking
+use Rattle.node_core.specs.Going.{Told}
+use Rattle.node_turns.specs.States.{State}
+use Rattle.node_turns.specs.Users.{at_session}
 use Rattle.node_core.proofs.Placing.{session_told}
 use Rattle.node_core.proofs.station.Station.do_line.Goals as goal
 

@@ -1,9 +1,9 @@
 use Rattle.std.proofs.Common.{◌≡◌, ◌∙◌, ap, refl, rules}
 use Rattle.std.specs.Prelude.{filter, not}
 use Rattle.std.proofs.lemmas.Fn.{filter_same}
-use Rattle.node_core.specs.Serving.{is_over}
-use Rattle.node_core.specs.Sessions.{Session}
-use Rattle.node_core.specs.Standing.{SetTold}
+use Rattle.node_turns.specs.Serving.{is_over}
+use Rattle.node_turns.specs.Sessions.{Session}
+use Rattle.node_core.specs.Going.{SetTold}
 use Rattle.node_core.proofs.Holding.{with_sessions}
 use Rattle.node_core.proofs.Serving.{bare_filter}
 use Rattle.node_core.proofs.station.Station.drop_over.Goals as goal

@@ -1,8 +1,8 @@
 use Rattle.std.proofs.Common.{◌∙◌, refl, ap, subst}
-use Rattle.node_core.specs.Bridging as bridging
-use Rattle.node_core.specs.Standing.{Told}
-use Rattle.node_core.specs.States.{State}
-use Rattle.node_core.specs.Users.{at_session, say}
+use Rattle.node_turns.specs.Bridging as bridging
+use Rattle.node_core.specs.Going.{Told}
+use Rattle.node_turns.specs.States.{State}
+use Rattle.node_turns.specs.Users.{at_session, say}
 use Rattle.node_core.proofs.Placing.{session_told}
 use Rattle.node_core.proofs.station.Station.give_reply.Goals as goal
 

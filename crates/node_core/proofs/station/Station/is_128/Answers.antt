@@ -1,4 +1,4 @@
-use Rattle.node_core.specs.Links.{is_128}
+use Rattle.node_turns.specs.Links.{is_128}
 use Rattle.node_core.proofs.station.Station.is_128.Goals as goal
 
 pub returns : goal.returns

@@ -1,6 +1,6 @@
 use Rattle.std.proofs.Common.{◌<◌, ◌≤◌, arith, length, refl, subst, sym}
-use Rattle.node_core.specs.Serving.{serve, serve_all}
-use Rattle.node_core.specs.Standing.{Told}
+use Rattle.node_turns.specs.Serving.{serve, serve_all}
+use Rattle.node_core.specs.Going.{Told}
 use Rattle.node_core.proofs.Serving.{none_more, one_more, same_number}
 use Rattle.node_core.proofs.station.Station.serve_each.Goals as goal
 

@@ -1,7 +1,7 @@
 use Rattle.std.proofs.Common.{◌≡◌, ◌+◌, ℕ, length}
-use Rattle.node_core.specs.Serving.{serve_all}
-use Rattle.node_core.specs.Standing.{StandsTold, Told}
-use Rattle.node_core.specs.States.{State}
+use Rattle.node_turns.specs.Serving.{serve_all}
+use Rattle.node_core.specs.Going.{StandsTold, Told}
+use Rattle.node_turns.specs.States.{State}
 use Rattle.node_core.proofs.Serving.{IsLeft}
 use Rattle.node_core.proofs.station.Station.serve_each.Given as goal
 

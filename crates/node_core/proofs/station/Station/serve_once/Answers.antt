@@ -1,9 +1,9 @@
 use Rattle.std.proofs.Common.{◌∙◌, subst, sym}
-use Rattle.node_core.specs.Bridging as bridging
-use Rattle.node_core.specs.Serving as serving
-use Rattle.node_core.specs.Standing.{HasTurned}
-use Rattle.node_core.specs.States.{State}
-use Rattle.node_core.specs.Turns.{or_else}
+use Rattle.node_turns.specs.Bridging as bridging
+use Rattle.node_turns.specs.Serving as serving
+use Rattle.node_core.specs.Going.{HasTurned}
+use Rattle.node_turns.specs.States.{State}
+use Rattle.node_turns.specs.Turns.{or_else}
 use Rattle.node_core.proofs.Outcomes.{if_ok}
 use Rattle.node_core.proofs.Serving.{or_next}
 use Rattle.node_core.proofs.station.Station.serve_once.Goals as goal

@@ -1,27 +1,27 @@
 use Rattle.std.proofs.Common.{◌∙◌, ◌<◌, sym}
-use Rattle.node_core.specs.Settling.{after_input, left, turn}
-use Rattle.node_core.proofs.Settled.{turn_falls, turn_told}
-use Rattle.node_core.proofs.Turns.{ends, goes_on}
+use Rattle.node_core.specs.Inputs.{after_input, turns_settle}
+use Rattle.node_turns.specs.Settling.{turn}
+use Rattle.node_turns.proofs.Settled.{turn_falls, turn_told}
+use Rattle.node_turns.proofs.Turns.{settled_end, settled_on}
 use Rattle.node_core.proofs.Weighing.{same_left}
+use Rattle.node_turns.proofs.Weights.{left}
 use Rattle.node_core.proofs.station.Station.settle.Goals as goal
 
 pub loop-init : goal.loop-init
 unfolding after_input
 loop-init c =
     let now = c.args.now.0 in
-    let falls = turn_falls c.parts.ensures.offers c.parts.ensures.takes c.parts.ensures.less now in
     let told = turn_told c.parts.ensures.offers c.parts.ensures.takes c.parts.ensures.less now in
     let turned = c.in_ok-turn.ensures in
     record {
       some = ((turn now c.requires.0).after, turned.goes c.requires.0 c.requires.1, told c.requires.0);
-      stands = λ n h. ((turn now n).after, turned.goes n h, goes_on (turn now) left falls n (sym (turned.did n h) ∙ c.if-not-branch.false));
+      stands = λ n h. ((turn now n).after, turned.goes n h, settled_on (turn now) (turns_settle now) n (sym (turned.did n h) ∙ c.if-not-branch.false));
     }
 
 pub loop-preserved : goal.loop-preserved
 unfolding after_input
 loop-preserved c =
     let now = c.args.now.0 in
-    let falls = turn_falls c.parts.ensures.offers c.parts.ensures.takes c.parts.ensures.less now in
     let told = turn_told c.parts.ensures.offers c.parts.ensures.takes c.parts.ensures.less now in
     let turned = c.in_ok-turn-2.ensures in
     let some = c.loop.invariant.some in
@@ -29,7 +29,7 @@ loop-preserved c =
       some = ((turn now some.0).after, turned.goes some.0 some.1, told some.0);
       stands = λ n h.
           let i = c.loop.invariant.stands n h in
-          ((turn now i.0).after, turned.goes i.0 i.1, i.2 ∙ goes_on (turn now) left falls i.0 (sym (turned.did i.0 i.1) ∙ c.if-branch.true));
+          ((turn now i.0).after, turned.goes i.0 i.1, i.2 ∙ settled_on (turn now) (turns_settle now) i.0 (sym (turned.did i.0 i.1) ∙ c.if-branch.true));
     }
 
 pub loop-smaller : goal.loop-smaller
@@ -48,12 +48,11 @@ pub returns : goal.returns
 unfolding after_input
 returns c =
     let now = c.args.now.0 in
-    let falls = turn_falls c.parts.ensures.offers c.parts.ensures.takes c.parts.ensures.less now in
     let turned = c.in_ok-turn-2.ensures in
     record {
       goes = λ n h.
           let i = c.loop.invariant.stands n h in
-          rw (i.2 ∙ ends (turn now) left falls i.0 (sym (turned.did i.0 i.1) ∙ c.if-branch.false)) (turned.goes i.0 i.1);
+          rw (i.2 ∙ settled_end (turn now) (turns_settle now) i.0 (sym (turned.did i.0 i.1) ∙ c.if-branch.false)) (turned.goes i.0 i.1);
       drained = turned.drained;
     }
 
@@ -61,5 +60,4 @@ pub returns-then-not-branch-clause-goes : goal.returns-then-not-branch-clause-go
 unfolding after_input
 returns-then-not-branch-clause-goes c = λ n h.
     let now = c.args.now.0 in
-    let falls = turn_falls c.parts.ensures.offers c.parts.ensures.takes c.parts.ensures.less now in
-    rw (ends (turn now) left falls n (sym (c.in_ok-turn.ensures.did n h) ∙ c.if-not-branch.true)) (c.in_ok-turn.ensures.goes n h)
+    rw (settled_end (turn now) (turns_settle now) n (sym (c.in_ok-turn.ensures.did n h) ∙ c.if-not-branch.true)) (c.in_ok-turn.ensures.goes n h)

@@ -5,7 +5,7 @@ use Rattle.circuit_set.specs.Inputs as inputs
 use Rattle.circuit_set.specs.Sets as sets
 use Rattle.circuit_set.specs.Standing.{message_at}
 use Rattle.node_core.specs.Acts.{took}
-use Rattle.node_core.specs.Circuits.{acts}
+use Rattle.node_turns.specs.Circuits.{acts}
 use Rattle.node_core.proofs.Holding.{set_steps}
 use Rattle.node_core.proofs.station.Station.take.Goals as goal
 

@@ -1,13 +1,13 @@
 use Rattle.std.proofs.Common.{◌∙◌, ap, refl, subst}
 use Rattle.circuit_set.specs.Sets as sets
 use Rattle.node_prompt.specs.Replies as texts
-use Rattle.node_core.specs.Asking as asking
-use Rattle.node_core.specs.Bridging as bridging
-use Rattle.node_core.specs.Circuits as circuits
-use Rattle.node_core.specs.Pumping.{pump}
-use Rattle.node_core.specs.Standing.{Told}
-use Rattle.node_core.specs.States.{State, at_set}
-use Rattle.node_core.specs.Users.{at_session, say}
+use Rattle.node_turns.specs.Asking as asking
+use Rattle.node_turns.specs.Bridging as bridging
+use Rattle.node_turns.specs.Circuits as circuits
+use Rattle.node_turns.specs.Pumping.{pump}
+use Rattle.node_core.specs.Going.{Told}
+use Rattle.node_turns.specs.States.{State, at_set}
+use Rattle.node_turns.specs.Users.{at_session, say}
 use Rattle.node_core.proofs.Asked.{answered, prompt_stays, refused_told, unspent}
 use Rattle.node_core.proofs.Placing.{session_goes}
 use Rattle.node_core.proofs.Refusing.{not_spent}

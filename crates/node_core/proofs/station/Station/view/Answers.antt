@@ -1,5 +1,5 @@
 use Rattle.std.proofs.Common.{◌≡◌, ◌-◌, ◌∙◌, ap, arith, filter, flat_map, length, take}
-use Rattle.node_core.specs.Views as views
+use Rattle.node_turns.specs.Views as views
 use Rattle.node_core.proofs.Seeing.{same_view}
 use Rattle.node_core.proofs.station.Station.view.Goals as goal
 

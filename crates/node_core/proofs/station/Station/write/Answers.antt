@@ -6,8 +6,8 @@ use Rattle.circuit_set.specs.Inputs as inputs
 use Rattle.circuit_set.specs.Sets as sets
 use Rattle.node_core.specs.declared.acts.ActDone.TheVariants.{Done}
 use Rattle.node_core.specs.Acts.{write_by}
-use Rattle.node_core.specs.Circuits.{acts}
-use Rattle.node_core.specs.Standing.{Answers}
+use Rattle.node_turns.specs.Circuits.{acts}
+use Rattle.node_core.specs.Going.{Answers}
 use Rattle.node_core.specs.Refusals.{write_refusal}
 use Rattle.node_core.proofs.Holding.{set_steps, set_unchanged}
 use Rattle.node_core.proofs.station.Station.write.Goals as goal

@@ -1,8 +1,8 @@
 use Rattle.std.proofs.Common.{refl, subst}
-use Rattle.node_core.specs.Bridging as bridging
-use Rattle.node_core.specs.Standing.{Told}
-use Rattle.node_core.specs.States.{State}
-use Rattle.node_core.specs.Users as users
+use Rattle.node_turns.specs.Bridging as bridging
+use Rattle.node_core.specs.Going.{Told}
+use Rattle.node_turns.specs.States.{State}
+use Rattle.node_turns.specs.Users as users
 use Rattle.node_core.proofs.Placing.{logged, session_told}
 use Rattle.node_core.proofs.station.Station.write_rest.Goals as goal
 

@@ -4,12 +4,12 @@ use Rattle.ax_address.specs.Callsign.{Callsign}
 use Rattle.circuit_set.specs.Pumps.{SetTold, Turn, Turned, Says, Offers}
 use Rattle.l3_datagram.specs.CarrierCall.{Parcel}
 use Rattle.link_table.specs.Calls.{collect, tell_lost}
-use Rattle.node_core.specs.Circuits as circuits
-use Rattle.node_core.specs.Links.{offer, offer_answer}
-use Rattle.node_core.specs.Sessions.{hear_if}
-use Rattle.node_core.specs.States.{Entry, Of_set, State, at_links, next_hop}
-use Rattle.node_core.specs.Turns as turns
-use Rattle.node_core.specs.Turns.{settle}
+use Rattle.node_turns.specs.Circuits as circuits
+use Rattle.node_turns.specs.Links.{offer, offer_answer}
+use Rattle.node_turns.specs.Sessions.{hear_if}
+use Rattle.node_turns.specs.States.{Entry, Of_set, State, at_links, next_hop}
+use Rattle.node_turns.specs.Turns as turns
+use Rattle.node_turns.specs.Turns.{settle}
 
 abbrev pub told_entries : Option SetTold → List Entry
 told_entries None = []

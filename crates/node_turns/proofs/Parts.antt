@@ -8,8 +8,8 @@ use Rattle.l3_datagram.specs.CarrierCall.{Datagram}
 use Rattle.link_table.specs.Calls.{collect, tell_lost}
 use Rattle.link_table.specs.Payloads.{OffersLeave, TakesLower}
 use Rattle.link_table.specs.Table.{Table}
-use Rattle.node_core.specs.Circuits as circuits
-use Rattle.node_core.specs.Links as links
+use Rattle.node_turns.specs.Circuits as circuits
+use Rattle.node_turns.specs.Links as links
 
 -- nothing that waits for the node is changed but frames, and no payload that came
 pub record Leaves (old new : Table) : Type 0 where

@@ -4,15 +4,15 @@ use Rattle.circuit_set.specs.Sets as sets
 use Rattle.circuit_set.specs.Standing as answers
 use Rattle.node_prompt.specs.Prompts.{Prompt}
 use Rattle.node_prompt.specs.Replies as texts
-use Rattle.node_core.specs.declared.sessions.session.Circuit.{Circuit}
-use Rattle.node_core.specs.declared.sessions.session.Reply.{Reply}
-use Rattle.node_core.specs.declared.sessions.session.Reply.TheVariants as reply
-use Rattle.node_core.specs.declared.sessions.session.Stage.{Stage}
-use Rattle.node_core.specs.declared.sessions.session.Stage.TheVariants.{AtPrompt, Trying, Failed, Connected}
-use Rattle.node_core.specs.Sessions.{Bridge, Session, circuit_of}
-use Rattle.node_core.specs.States.{State}
-use Rattle.node_core.specs.Turns.{Turn, done, idle}
-use Rattle.node_core.specs.Users.{Outcome, Taken, Exhausts, Unheard, Refused, acts, at_session, can_give, can_pass_on, close, end_at, end_has_room, is_gone, said, say, session_at, take_text, took, write_answer, write_to, wrote_by}
+use Rattle.node_turns.specs.declared.session.Circuit.{Circuit}
+use Rattle.node_turns.specs.declared.session.Reply.{Reply}
+use Rattle.node_turns.specs.declared.session.Reply.TheVariants as reply
+use Rattle.node_turns.specs.declared.session.Stage.{Stage}
+use Rattle.node_turns.specs.declared.session.Stage.TheVariants.{AtPrompt, Trying, Failed, Connected}
+use Rattle.node_turns.specs.Sessions.{Bridge, Session, circuit_of}
+use Rattle.node_turns.specs.States.{State}
+use Rattle.node_turns.specs.Turns.{Turn, done, idle}
+use Rattle.node_turns.specs.Users.{Outcome, Taken, Exhausts, Unheard, Refused, acts, at_session, can_give, can_pass_on, close, end_at, end_has_room, is_gone, said, say, session_at, take_text, took, write_answer, write_to, wrote_by}
 
 abbrev pub prompt_of : State → Prompt
 prompt_of n = record { alias = n.settings.alias; call = n.settings.call }

@@ -22,10 +22,10 @@ use Rattle.l3_datagram.specs.declared.datagram.DatagramHead.{DatagramHead}
 use Rattle.l3_datagram.specs.declared.datagram.DatagramRefusal.{DatagramRefusal}
 use Rattle.l3_datagram.specs.declared.datagram.TheConstants.{HEAD_SIZE}
 use Rattle.l3_datagram.specs.Datagrams.{head_at}
-use Rattle.node_core.specs.Settling.{end_messages, is_among, messages_but, most_at}
-use Rattle.node_core.specs.Users.{took}
-use Rattle.node_core.proofs.Messages as m
-use Rattle.node_core.proofs.Messages.{count}
+use Rattle.node_turns.specs.Users.{took}
+use Rattle.node_turns.proofs.Messages as m
+use Rattle.node_turns.proofs.Messages.{count}
+use Rattle.node_turns.proofs.Weights.{end_messages, is_among, messages_but, most_at}
 
 -- ---- one end in the place of all of its number
 

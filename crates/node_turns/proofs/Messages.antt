@@ -18,7 +18,7 @@ use Rattle.circuit_l4.specs.declared.owed.Owed.{Owed}
 use Rattle.circuit_l4.specs.declared.transport.Flags.{Flags}
 use Rattle.circuit_l4.specs.declared.transport.Transport.{Transport}
 use Rattle.circuit_l4.specs.declared.transport.Transport.TheVariants.{Request, Accept, Refuse, Disconnect, Disconnected, Info, InfoAck}
-use Rattle.node_core.specs.Settling.{filled}
+use Rattle.node_turns.proofs.Weights.{filled}
 
 abbrev pub count : Receiving → ℕ
 count h = length (inbox h) + filled h.early

@@ -13,14 +13,14 @@ use Rattle.circuit_set.specs.declared.event.NoEnd.{NoEnd}
 use Rattle.circuit_set.specs.declared.event.SetRefusal.{SetRefusal}
 use Rattle.circuit_set.specs.declared.event.SetRefusal.TheVariants as set_refusal
 use Rattle.link_table.specs.declared.text_refusal.TextRefusal.{TextRefusal}
-use Rattle.node_core.specs.declared.sessions.session.User.{User}
-use Rattle.node_core.specs.declared.sessions.session.User.TheVariants.{AtEnd, AtLink}
-use Rattle.node_core.specs.Circuits as circuits
-use Rattle.node_core.specs.Links as links
-use Rattle.node_core.specs.Pumping.{pump}
-use Rattle.node_core.specs.Sessions.{Session}
-use Rattle.node_core.specs.States.{State, at_links, at_set, next_hop}
-use Rattle.node_core.specs.Turns.{Turn, done, idle}
+use Rattle.node_turns.specs.declared.session.User.{User}
+use Rattle.node_turns.specs.declared.session.User.TheVariants.{AtEnd, AtLink}
+use Rattle.node_turns.specs.Circuits as circuits
+use Rattle.node_turns.specs.Links as links
+use Rattle.node_turns.specs.Pumping.{pump}
+use Rattle.node_turns.specs.Sessions.{Session}
+use Rattle.node_turns.specs.States.{State, at_links, at_set, next_hop}
+use Rattle.node_turns.specs.Turns.{Turn, done, idle}
 
 -- ---- sessions by their place
 

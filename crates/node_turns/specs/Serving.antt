@@ -1,19 +1,19 @@
 -- The sessions are served in the order of their making, each with at most one thing. Own profile.
 use Rattle.std.specs.Prelude.{ℕ, zero, suc, Bool, false, ◌&&◌, ◌||◌, not, is_none, nat_eq, nat_lt, slice_get, if◌then◌else◌, List, [], ◌∷◌, length, filter, Option, Some, None}
 use Rattle.ax_address.specs.Callsign.{Callsign}
-use Rattle.node_core.specs.declared.sessions.session.Circuit.{Circuit}
-use Rattle.node_core.specs.declared.sessions.session.Stage.{Stage}
-use Rattle.node_core.specs.declared.sessions.session.Stage.TheVariants.{AtPrompt, Trying, Failed, Connected}
-use Rattle.node_core.specs.declared.sessions.session.User.{User}
-use Rattle.node_core.specs.declared.sessions.session.User.TheVariants.{AtEnd, AtLink}
-use Rattle.node_core.specs.Asking.{take_line}
-use Rattle.node_core.specs.Bridging.{close_circuit, give_message, give_reply, write_text}
-use Rattle.node_core.specs.Links as links
-use Rattle.node_core.specs.Pumping.{pump}
-use Rattle.node_core.specs.Sessions.{Session, circuit_of, greet, is_at_link}
-use Rattle.node_core.specs.States.{State, at_sessions}
-use Rattle.node_core.specs.Turns.{Turn, and_then, idle, or_else}
-use Rattle.node_core.specs.Users.{is_gone, session_at}
+use Rattle.node_turns.specs.declared.session.Circuit.{Circuit}
+use Rattle.node_turns.specs.declared.session.Stage.{Stage}
+use Rattle.node_turns.specs.declared.session.Stage.TheVariants.{AtPrompt, Trying, Failed, Connected}
+use Rattle.node_turns.specs.declared.session.User.{User}
+use Rattle.node_turns.specs.declared.session.User.TheVariants.{AtEnd, AtLink}
+use Rattle.node_turns.specs.Asking.{take_line}
+use Rattle.node_turns.specs.Bridging.{close_circuit, give_message, give_reply, write_text}
+use Rattle.node_turns.specs.Links as links
+use Rattle.node_turns.specs.Pumping.{pump}
+use Rattle.node_turns.specs.Sessions.{Session, circuit_of, greet, is_at_link}
+use Rattle.node_turns.specs.States.{State, at_sessions}
+use Rattle.node_turns.specs.Turns.{Turn, and_then, idle, or_else}
+use Rattle.node_turns.specs.Users.{is_gone, session_at}
 
 -- ---- links with a first text
 

@@ -9,13 +9,13 @@ use Rattle.circuit_l4.specs.declared.notice.EndNotice.TheVariants as end
 use Rattle.circuit_set.specs.Pumps.{SetTold, Of}
 use Rattle.circuit_set.specs.Sets.{Gone, Made, Notice}
 use Rattle.node_prompt.specs.declared.action.Trouble.TheVariants.{Busy, Failure}
-use Rattle.node_core.specs.declared.sessions.session.Circuit.{Circuit}
-use Rattle.node_core.specs.declared.sessions.session.Reply.{Reply}
-use Rattle.node_core.specs.declared.sessions.session.Reply.TheVariants as reply
-use Rattle.node_core.specs.declared.sessions.session.Stage.{Stage}
-use Rattle.node_core.specs.declared.sessions.session.Stage.TheVariants.{AtPrompt, Trying, Failed, Connected}
-use Rattle.node_core.specs.declared.sessions.session.User.{User}
-use Rattle.node_core.specs.declared.sessions.session.User.TheVariants.{AtEnd, AtLink}
+use Rattle.node_turns.specs.declared.session.Circuit.{Circuit}
+use Rattle.node_turns.specs.declared.session.Reply.{Reply}
+use Rattle.node_turns.specs.declared.session.Reply.TheVariants as reply
+use Rattle.node_turns.specs.declared.session.Stage.{Stage}
+use Rattle.node_turns.specs.declared.session.Stage.TheVariants.{AtPrompt, Trying, Failed, Connected}
+use Rattle.node_turns.specs.declared.session.User.{User}
+use Rattle.node_turns.specs.declared.session.User.TheVariants.{AtEnd, AtLink}
 
 -- What went between a user and its circuit: texts since that stood, messages since it was asked for, in whole. No node keeps it.
 pub record Bridge : Type 0 where

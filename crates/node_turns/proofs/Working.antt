@@ -21,22 +21,23 @@ use Rattle.l3_datagram.specs.declared.routed.Routed.{Routed}
 use Rattle.l3_datagram.specs.declared.routed.Routed.TheVariants as routed
 use Rattle.link_table.specs.Calls.{collect}
 use Rattle.link_table.specs.Payloads.{OffersLeave, TakesLower}
-use Rattle.node_core.specs.declared.sessions.session.Circuit.{Circuit}
-use Rattle.node_core.specs.declared.sessions.session.Stage.{Stage}
-use Rattle.node_core.specs.declared.sessions.session.Stage.TheVariants.{AtPrompt, Trying, Failed, Connected}
-use Rattle.node_core.specs.declared.sessions.session.Reply.TheVariants as reply
-use Rattle.node_core.specs.declared.sessions.session.User.{User}
-use Rattle.node_core.specs.declared.sessions.session.User.TheVariants.{AtEnd}
-use Rattle.node_core.specs.Circuits as circuits
-use Rattle.node_core.specs.Links as links
-use Rattle.node_core.specs.Pumping as p
-use Rattle.node_core.specs.Sessions as s
-use Rattle.node_core.specs.Sessions.{Session, circuit_of}
-use Rattle.node_core.specs.Settling.{is_unclosed, messages, messages_but, payloads, session_work, sessions_work, stage_replies}
-use Rattle.node_core.specs.States.{State, at_links, next_hop}
-use Rattle.node_core.proofs.Heaping.{comes_most}
-use Rattle.node_core.proofs.Parts.{collect_payloads, lost_payloads, offer_leaves}
-use Rattle.node_core.proofs.Turns.{kept}
+use Rattle.node_turns.specs.declared.session.Circuit.{Circuit}
+use Rattle.node_turns.specs.declared.session.Stage.{Stage}
+use Rattle.node_turns.specs.declared.session.Stage.TheVariants.{AtPrompt, Trying, Failed, Connected}
+use Rattle.node_turns.specs.declared.session.Reply.TheVariants as reply
+use Rattle.node_turns.specs.declared.session.User.{User}
+use Rattle.node_turns.specs.declared.session.User.TheVariants.{AtEnd}
+use Rattle.node_turns.specs.Circuits as circuits
+use Rattle.node_turns.specs.Links as links
+use Rattle.node_turns.specs.Pumping as p
+use Rattle.node_turns.specs.Sessions as s
+use Rattle.node_turns.specs.Sessions.{Session, circuit_of}
+use Rattle.node_turns.specs.Settling.{payloads}
+use Rattle.node_turns.specs.States.{State, at_links, next_hop}
+use Rattle.node_turns.proofs.Heaping.{comes_most}
+use Rattle.node_turns.proofs.Parts.{collect_payloads, lost_payloads, offer_leaves}
+use Rattle.node_turns.proofs.Turns.{kept}
+use Rattle.node_turns.proofs.Weights.{is_unclosed, messages, messages_but, session_work, sessions_work, stage_replies}
 
 -- ---- what the sessions hear
 

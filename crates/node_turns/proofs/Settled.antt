@@ -1,29 +1,27 @@
--- A node comes to rest after each input.
-use Rattle.std.proofs.Common.{◌≡◌, ◌≤◌, ◌<◌, ◌∙◌, ℕ, zero, suc, refl, ap, subst, arith, length, sym, slice_get, List, [], ◌∷◌}
-use Rattle.std.specs.List.{AllByRecursion}
-use Rattle.std.specs.Prelude.{Bool, true, false, not, filter, None, ◌||◌, if◌then◌else◌}
+-- What is left to do falls with each turn that follows an input and does something, so that the turns settle.
+use Rattle.std.proofs.Common.{◌≡◌, ◌≤◌, ◌<◌, ◌∙◌, ℕ, zero, suc, refl, ap, arith, length, sym, slice_get, List, [], ◌∷◌}
+use Rattle.std.specs.Prelude.{Bool, true, false, not, filter, None, if◌then◌else◌}
 use Rattle.ax_address.specs.Callsign.{Callsign}
 use Rattle.circuit_set.specs.Inputs.{TellsLess}
 use Rattle.link_table.specs.Payloads.{OffersLeave, TakesLower}
-use Rattle.node_core.specs.Circuits as circuits
-use Rattle.node_core.specs.Laws.{InputsSettle, NothingLeft, NothingLeftAfterInputs}
-use Rattle.node_core.specs.Links as links
-use Rattle.node_core.specs.Pumping as p
-use Rattle.node_core.specs.Serving as serving
-use Rattle.node_core.specs.Sessions.{Session}
-use Rattle.node_core.specs.Settling as s
-use Rattle.node_core.specs.Settling.{work}
-use Rattle.node_core.specs.States.{State}
-use Rattle.node_core.specs.Turns.{Falls, Turn, idle}
-use Rattle.node_core.specs.Waits.{WaitsForRoom}
-use Rattle.node_core.proofs.Falling.{ServesAll, sessions_served}
-use Rattle.node_core.proofs.Parts.{noticed_payloads, untaken}
-use Rattle.node_core.proofs.Passing.{nobody_greeted}
-use Rattle.node_core.proofs.Resting.{drop_falls, dropped_none, dry_is_quiet, or_false, pumped_dry, Quiet, quiet_is, quiet_pumped, same_entries}
-use Rattle.node_core.proofs.Texting.{text_leaves_less}
-use Rattle.node_core.proofs.Turns.{goes_on, kept, rests, unfolds}
-use Rattle.node_core.proofs.Waiting.{sessions_rest}
-use Rattle.node_core.proofs.Working.{links_less, pumped_below}
+use Rattle.node_turns.specs.Circuits as circuits
+use Rattle.node_turns.specs.Links as links
+use Rattle.node_turns.specs.Pumping as p
+use Rattle.node_turns.specs.Serving as serving
+use Rattle.node_turns.specs.Sessions.{Session}
+use Rattle.node_turns.specs.Settling as s
+use Rattle.node_turns.specs.States.{State, at_sessions}
+use Rattle.node_turns.specs.Turns.{Settled, Turn, idle}
+use Rattle.circuit_set.proofs.ByInputs.{tells_less}
+use Rattle.link_table.proofs.Payloads.{offers_leave, takes_lower}
+use Rattle.node_turns.proofs.Falling.{ServesAll, sessions_served}
+use Rattle.node_turns.proofs.Parts.{noticed_payloads, untaken}
+use Rattle.node_turns.proofs.Resting.{drop_falls, dropped_none, dry_is_quiet, or_false, pumped_dry, Quiet, quiet_is, quiet_pumped, same_entries}
+use Rattle.node_turns.proofs.Texting.{text_leaves_less}
+use Rattle.node_turns.proofs.Turns.{Falls, goes_on, kept, settles_where}
+use Rattle.node_turns.proofs.Weights as weights
+use Rattle.node_turns.proofs.Weights.{work}
+use Rattle.node_turns.proofs.Working.{links_less, pumped_below}
 
 drop_set : (now : ℕ) (o n : State) (peers : List Callsign) → n.set ≡ o.set → (s.drop_first now peers n).after.set ≡ o.set
 drop_set now o n [] e = e
@@ -31,6 +29,13 @@ drop_set now o n (peer ∷ peers) e = e
 
 pub dropped_set : (now : ℕ) (n : State) → (s.drop_texts now n).set ≡ n.set
 dropped_set now n = kept (s.drop_text now) (s.payloads) (λ m. m.set ≡ n.set) (λ m e. drop_set now n m (links.text_peers m.links) e) n refl
+
+pub none_greeted : (n : State) → None ≡ slice_get (links.text_peers n.links) 0 → serving.greet_links n ≡ n
+none_greeted n = by (links.text_peers n.links)
+  where
+    by : (peers : List Callsign) → None ≡ slice_get peers 0 → at_sessions (serving.greet_each n.settings.prompt peers) n ≡ n
+    by [] e = refl
+    by (peer ∷ peers) e = absurd (cc e)
 
 module _ (offers : OffersLeave) (takes : TakesLower) (less : TellsLess) where
   -- ---- texts that are dropped
@@ -75,7 +80,7 @@ module _ (offers : OffersLeave) (takes : TakesLower) (less : TellsLess) where
   sessions_idle : (now : ℕ) (n : State) → n.sessions ≡ [] → None ≡ slice_get (links.text_peers n.links) 0 → serving.serve_sessions now n ≡ idle n
   unfolding serving.serve_sessions
   sessions_idle now n e none =
-      ap (serving.serve_greeted now) (nobody_greeted n none)
+      ap (serving.serve_greeted now) (none_greeted n none)
       ∙ (ap (λ (k : ℕ). dropping (serving.serve_each now 0 k n)) (ap length e)
       ∙ (ap (λ (ss : List Session). idle (dropped n ss)) e ∙ ap (λ (ss : List Session). idle (left_with n ss)) (sym e)))
 
@@ -105,7 +110,7 @@ module _ (offers : OffersLeave) (takes : TakesLower) (less : TellsLess) where
 
   -- ---- a turn
 
-  most_one : (b : Bool) → s.one_unless b < 2
+  most_one : (b : Bool) → weights.one_unless b < 2
   most_one true = omega arith
   most_one false = omega arith
 
@@ -120,7 +125,7 @@ module _ (offers : OffersLeave) (takes : TakesLower) (less : TellsLess) where
       let z = noticed_payloads n.links in
       omega (arith, x.units, x.sessions, y, z)
 
-  then_quiet : (now : ℕ) (n : State) (ss : List Session) → s.is_quiet (record (pumped now n) { sessions = ss }) ≡ true
+  then_quiet : (now : ℕ) (n : State) (ss : List Session) → weights.is_quiet (record (pumped now n) { sessions = ss }) ≡ true
   unfolding pumped
   then_quiet now n ss =
       let dry = pumped_dry offers takes less now (s.enter_notices n) in
@@ -130,15 +135,15 @@ module _ (offers : OffersLeave) (takes : TakesLower) (less : TellsLess) where
   quiet_does_nothing now n q e =
       or_false offers takes less _ _ _ q.notices (rw (quiet_pumped offers takes less now n q) (same_entries offers takes less (s.enter_notices n))) e
 
-  turn_by : (now : ℕ) (n : State) (served quiet : Bool) → (s.serve_users now (p.pump now (s.enter_notices n))).did ≡ served → s.is_quiet n ≡ quiet
-      → (s.turn now n).did ≡ true → s.left (s.turn now n).after < s.left n
+  turn_by : (now : ℕ) (n : State) (served quiet : Bool) → (s.serve_users now (p.pump now (s.enter_notices n))).did ≡ served → weights.is_quiet n ≡ quiet
+      → (s.turn now n).did ≡ true → weights.left (s.turn now n).after < weights.left n
   unfolding pumped
   turn_by now n true quiet e f did =
       let b : State = p.pump now (s.enter_notices n) in
       let x = users_served now b in
       let fewer = x.less e in
       let stay = work_stays now n in
-      let most = most_one (s.is_quiet (s.serve_users now b).after) in
+      let most = most_one (weights.is_quiet (s.serve_users now b).after) in
       omega (arith, fewer, stay, most)
   turn_by now n false true e f did =
       let none = quiet_does_nothing now n (quiet_is offers takes less n f) e in
@@ -151,12 +156,12 @@ module _ (offers : OffersLeave) (takes : TakesLower) (less : TellsLess) where
       let quiet = then_quiet now n y.0 in
       let stay = work_stays now n in
       let most = x.most in
-      let after : s.is_quiet (s.serve_users now b).after ≡ true = rw y.1 quiet in
+      let after : weights.is_quiet (s.serve_users now b).after ≡ true = rw y.1 quiet in
       rw (after, f) (omega (arith, most, stay))
 
   -- each turn that does something leaves less to do
-  pub turn_falls : (now : ℕ) → Falls (s.turn now) (s.left)
-  turn_falls now n did = turn_by now n (s.serve_users now (p.pump now (s.enter_notices n))).did (s.is_quiet n) refl refl did
+  pub turn_falls : (now : ℕ) → Falls (s.turn now) weights.left
+  turn_falls now n did = turn_by now n (s.serve_users now (p.pump now (s.enter_notices n))).did (weights.is_quiet n) refl refl did
 
   -- ---- nothing is untold after a turn
 
@@ -180,76 +185,6 @@ module _ (offers : OffersLeave) (takes : TakesLower) (less : TellsLess) where
   pub turn_told : (now : ℕ) (n : State) → circuits.pending (s.turn now n).after.set ≡ 0
   turn_told now n = users_told now (p.pump now (s.enter_notices n)) (pumped_dry offers takes less now (s.enter_notices n)).pending
 
-  -- ---- at rest
-
-  no_list : {A : Type 0} (xs : List A) → length xs ≡ 0 → xs ≡ []
-  no_list [] e = refl
-  no_list (x ∷ xs) e = absurd (omega (arith, e))
-
-  last_false : (a b c : Bool) → ((a || b) || c) ≡ false → c ≡ false
-  last_false true b c e = absurd (cc e)
-  last_false false true c e = absurd (cc e)
-  last_false false false c e = e
-
-  record Rested (now : ℕ) (n : State) : Type 0 where
-    served : s.serve_users now n ≡ idle n
-    greeted : n.settings.prompt ≡ true → AllByRecursion (λ peer. serving.is_served_link peer n.sessions ≡ true) (links.text_peers n.links)
-    sessions : n.settings.prompt ≡ true → AllByRecursion (WaitsForRoom n) n.sessions
-
-  sessions_prompt : (now : ℕ) (m n : State) (ss : List Session) → n ≡ record m { sessions = ss } → n.settings.prompt ≡ m.settings.prompt
-  sessions_prompt now m n ss e = ap (λ (x : State). x.settings.prompt) e
-
-  -- when the users were served and nothing could be done
-  rested : (now : ℕ) (m : State) → circuits.pending m.set ≡ 0 → p.at_router m ≡ 0 → (b : Bool) → m.settings.prompt ≡ b
-      → (if b then serving.serve_sessions now m else s.drop_turn now m).did ≡ false → Rested now (if b then serving.serve_sessions now m else s.drop_turn now m).after
-  rested now m told router true prompt e =
-      let r = sessions_rest offers takes less now m prompt told router e in
-      let y = (sessions_served offers takes less now m).idle e told router in
-      let n : State = (serving.serve_sessions now m).after in
-      let still : n.settings.prompt ≡ true = sessions_prompt now m n y.0 y.1 ∙ prompt in
-      record {
-        served = ap (λ (b : Bool). if b then serving.serve_sessions now n else s.drop_turn now n) still ∙ r.served;
-        greeted = λ on. r.greeted;
-        sessions = λ on. r.sessions;
-      }
-  rested now m told router false prompt e =
-      let same : s.drop_texts now m ≡ m = dropped_none offers takes less now m e in
-      let none : s.drop_turn now m ≡ idle m = rw (e, same) refl in
-      let at : Rested now m =
-      record {
-        served = ap (λ (b : Bool). if b then serving.serve_sessions now m else s.drop_turn now m) prompt ∙ none;
-        greeted = λ on. absurd (cc (on, prompt));
-        sessions = λ on. absurd (cc (on, prompt));
-      } in
-      subst (Rested now) (sym same) at
-
-  -- after an input nothing is left to be done
-  pub nothing_left : (now : ℕ) (n : State) → NothingLeft now (s.after_input now n)
-  unfolding s.after_input
-  nothing_left now n =
-      let r = rests (s.turn now) (s.left) (turn_falls now) n in
-      let m : State = p.pump now (s.enter_notices r.last) in
-      let dry = pumped_dry offers takes less now (s.enter_notices r.last) in
-      let none : (s.serve_users now m).did ≡ false =
-      last_false (s.has_some r.last.links.pending.notices) (s.has_told (s.enter_notices r.last) m) (s.serve_users now m).did r.nothing in
-      let y = (users_served now m).idle none dry.pending dry.router in
-      let is = r.is ∙ y.1 in
-      let rest = subst (Rested now) (sym r.is) (rested now m dry.pending dry.router m.settings.prompt refl none) in
-      record {
-        notices = ap (λ (x : State). x.links.pending.notices) is ∙ dry.notices;
-        pending = ap (λ (x : State). p.pending x) is ∙ dry.pending;
-        lost = ap (λ (x : State). x.links.pending.lost) is ∙ no_list (m.links.pending.lost) (omega (arith, dry.router));
-        waiting = ap (λ (x : State). x.links.pending.waiting) is ∙ no_list (m.links.pending.waiting) (omega (arith, dry.router));
-        served = rest.served;
-        greeted = rest.greeted;
-        sessions = rest.sessions;
-      }
-
-  pub nothing_is_left : NothingLeftAfterInputs
-  nothing_is_left now n = nothing_left now n
-
-  pub inputs_settle : InputsSettle
-  inputs_settle now = record {
-    unfolds = unfolds (s.turn now) s.left (turn_falls now);
-    rests = rests (s.turn now) s.left (turn_falls now);
-  }
+-- from each state the turns settle
+pub turns_end : (now : ℕ) (n : State) → Settled (s.turn now) n
+turns_end now = settles_where (s.turn now) weights.left (turn_falls offers_leave takes_lower tells_less now)

@@ -8,7 +8,7 @@ use Rattle.circuit_set.specs.Sets.{Holder, end_of}
 use Rattle.node_prompt.specs.declared.action.View.{View}
 use Rattle.route_table.specs.declared.route.Route.{Route}
 use Rattle.route_table.specs.Table as table
-use Rattle.node_core.specs.States.{State}
+use Rattle.node_turns.specs.States.{State}
 
 abbrev pub destinations : State → List Callsign
 destinations n = table.destinations n.settings.rules n.log

@@ -11,14 +11,14 @@ use Rattle.node_prompt.specs.declared.action.Action.{Action}
 use Rattle.node_prompt.specs.declared.action.Action.TheVariants.{Say, Connect, Bye, Nothing}
 use Rattle.node_prompt.specs.declared.action.Trouble.{Trouble}
 use Rattle.node_prompt.specs.declared.action.Trouble.TheVariants as trouble
-use Rattle.node_core.specs.declared.sessions.session.Circuit.{Circuit}
-use Rattle.node_core.specs.declared.sessions.session.Stage.TheVariants.{Trying}
-use Rattle.node_core.specs.Bridging.{drop_rest, next_text, prompt_of}
-use Rattle.node_core.specs.Sessions.{Session, unused}
-use Rattle.node_core.specs.States.{State, next_hop}
-use Rattle.node_core.specs.Turns.{Turn, done, idle}
-use Rattle.node_core.specs.Users.{acts, at_session, close_user, has_room, is_deaf, say, session_at}
-use Rattle.node_core.specs.Views.{view}
+use Rattle.node_turns.specs.declared.session.Circuit.{Circuit}
+use Rattle.node_turns.specs.declared.session.Stage.TheVariants.{Trying}
+use Rattle.node_turns.specs.Bridging.{drop_rest, next_text, prompt_of}
+use Rattle.node_turns.specs.Sessions.{Session, unused}
+use Rattle.node_turns.specs.States.{State, next_hop}
+use Rattle.node_turns.specs.Turns.{Turn, done, idle}
+use Rattle.node_turns.specs.Users.{acts, at_session, close_user, has_room, is_deaf, say, session_at}
+use Rattle.node_turns.specs.Views.{view}
 
 -- ---- lines of a text
 

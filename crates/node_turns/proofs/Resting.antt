@@ -9,14 +9,14 @@ use Rattle.l3_datagram.specs.CarrierCall.{Parcel}
 use Rattle.link_table.specs.Calls.{collect, tell_lost}
 use Rattle.link_table.specs.Payloads.{OffersLeave, TakesLower}
 use Rattle.link_table.specs.Table.{Table}
-use Rattle.node_core.specs.Circuits as circuits
-use Rattle.node_core.specs.Links as links
-use Rattle.node_core.specs.Pumping as p
-use Rattle.node_core.specs.Settling as s
-use Rattle.node_core.specs.States.{State, next_hop}
-use Rattle.node_core.specs.Turns.{Falls}
-use Rattle.node_core.proofs.Parts.{Leaves, collect_payloads, lost_payloads, offer_leaves, taken, tells_less, untaken}
-use Rattle.node_core.proofs.Turns.{ends, goes_on, kept, rests}
+use Rattle.node_turns.specs.Circuits as circuits
+use Rattle.node_turns.specs.Links as links
+use Rattle.node_turns.specs.Pumping as p
+use Rattle.node_turns.specs.Settling as s
+use Rattle.node_turns.specs.States.{State, next_hop}
+use Rattle.node_turns.proofs.Parts.{Leaves, collect_payloads, lost_payloads, offer_leaves, taken, tells_less, untaken}
+use Rattle.node_turns.proofs.Turns.{Falls, ends, goes_on, kept, rests}
+use Rattle.node_turns.proofs.Weights.{is_quiet}
 
 module _ (offers : OffersLeave) (takes : TakesLower) (less : TellsLess) where
   -- what is told, and handed down, leaves what waits for the node
@@ -174,11 +174,11 @@ module _ (offers : OffersLeave) (takes : TakesLower) (less : TellsLess) where
   quiet_by n false false true e f g q = absurd (grind (arith, q))
   quiet_by n false false false e f g q = record { notices = e; pending = f; router = grind (arith, nat_tests, g) }
 
-  pub quiet_is : (n : State) → s.is_quiet n ≡ true → Quiet n
+  pub quiet_is : (n : State) → is_quiet n ≡ true → Quiet n
   quiet_is n q = quiet_by n (s.has_some (n.links.pending.notices)) (nat_lt 0 (circuits.pending n.set)) (nat_lt 0 (p.at_router n)) refl refl refl q
 
   -- what is pumped dry, and has no notice, is quiet
-  pub dry_is_quiet : (n : State) → n.links.pending.notices ≡ [] → circuits.pending n.set ≡ 0 → p.at_router n ≡ 0 → s.is_quiet n ≡ true
+  pub dry_is_quiet : (n : State) → n.links.pending.notices ≡ [] → circuits.pending n.set ≡ 0 → p.at_router n ≡ 0 → is_quiet n ≡ true
   dry_is_quiet n e f g = rw (e, f, g) refl
 
   pub same_entries : (n : State) → s.has_told n n ≡ false

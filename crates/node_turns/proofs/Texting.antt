@@ -18,7 +18,7 @@ use Rattle.link_table.specs.Table.{Linked, Table, link_with, with_link, without}
 use Rattle.link_table.specs.Sending as sending
 use Rattle.link_table.specs.Texts as texts
 use Rattle.link_table.specs.Works.{Work, first_to_take, is_down, is_text, most_taken, settle, step_link, take_payload, unless_text}
-use Rattle.node_core.specs.Links as links
+use Rattle.node_turns.specs.Links as links
 
 -- ---- a take of a link
 

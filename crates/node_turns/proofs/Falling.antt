@@ -8,32 +8,32 @@ use Rattle.circuit_set.specs.Sets as sets
 use Rattle.link_table.specs.Payloads.{OffersLeave, TakesLower}
 use Rattle.node_prompt.specs.declared.action.Action.{Action}
 use Rattle.node_prompt.specs.declared.action.Action.TheVariants as action
-use Rattle.node_core.specs.declared.sessions.session.Stage.{Stage}
-use Rattle.node_core.specs.declared.sessions.session.Stage.TheVariants.{AtPrompt, Trying, Failed, Connected}
-use Rattle.node_core.specs.declared.sessions.session.User.{User}
-use Rattle.node_core.specs.declared.sessions.session.User.TheVariants.{AtEnd, AtLink}
-use Rattle.node_core.specs.Asking as asking
-use Rattle.node_core.specs.Bridging as bridging
-use Rattle.node_core.specs.Circuits as circuits
-use Rattle.node_core.specs.Links as links
-use Rattle.node_core.specs.Pumping.{at_router, pump}
-use Rattle.node_core.specs.Views.{view}
+use Rattle.node_turns.specs.declared.session.Stage.{Stage}
+use Rattle.node_turns.specs.declared.session.Stage.TheVariants.{AtPrompt, Trying, Failed, Connected}
+use Rattle.node_turns.specs.declared.session.User.{User}
+use Rattle.node_turns.specs.declared.session.User.TheVariants.{AtEnd, AtLink}
+use Rattle.node_turns.specs.Asking as asking
+use Rattle.node_turns.specs.Bridging as bridging
+use Rattle.node_turns.specs.Circuits as circuits
+use Rattle.node_turns.specs.Links as links
+use Rattle.node_turns.specs.Pumping.{at_router, pump}
+use Rattle.node_turns.specs.Views.{view}
 use Rattle.node_prompt.specs.Commands as commands
 use Rattle.node_prompt.specs.Replies as texts
 use Rattle.node_prompt.specs.declared.command.Command.TheVariants as command
-use Rattle.node_core.specs.Serving as serving
-use Rattle.node_core.specs.Sessions as sessions
-use Rattle.node_core.specs.Sessions.{Session}
-use Rattle.node_core.specs.Settling.{session_work, sessions_work, work}
-use Rattle.node_core.specs.States.{State, next_hop}
-use Rattle.node_core.specs.Turns.{Turn, or_else}
-use Rattle.node_core.specs.Users as users
-use Rattle.node_core.specs.Users.{at_session, session_at}
-use Rattle.node_core.proofs.Texting.{closed_most}
-use Rattle.node_core.proofs.Resting.{pumped_nothing}
-use Rattle.node_core.proofs.Working.{greeted_same}
-use Rattle.node_core.proofs.Lowering.{changed_to, Adds, itself, session_adds, connects_less, Lowers, idles, either}
-use Rattle.node_core.proofs.Lowering as lowering
+use Rattle.node_turns.specs.Serving as serving
+use Rattle.node_turns.specs.Sessions as sessions
+use Rattle.node_turns.specs.Sessions.{Session}
+use Rattle.node_turns.specs.States.{State, next_hop}
+use Rattle.node_turns.specs.Turns.{Turn, or_else}
+use Rattle.node_turns.specs.Users as users
+use Rattle.node_turns.specs.Users.{at_session, session_at}
+use Rattle.node_turns.proofs.Texting.{closed_most}
+use Rattle.node_turns.proofs.Resting.{pumped_nothing}
+use Rattle.node_turns.proofs.Working.{greeted_same}
+use Rattle.node_turns.proofs.Lowering.{changed_to, Adds, itself, session_adds, connects_less, Lowers, idles, either}
+use Rattle.node_turns.proofs.Lowering as lowering
+use Rattle.node_turns.proofs.Weights.{session_work, sessions_work, work}
 
 -- pumping it does nothing
 abbrev pub IsPumped : ℕ → State → Type 0

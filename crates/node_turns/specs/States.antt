@@ -10,8 +10,8 @@ use Rattle.link_table.specs.declared.written.Written.{Written}
 use Rattle.route_table.specs.declared.route.RouteRules.{RouteRules}
 use Rattle.route_table.specs.Log.{Item}
 use Rattle.route_table.specs.Table as routes
-use Rattle.node_core.specs.Links.{all_fetched, sent_frames}
-use Rattle.node_core.specs.Sessions.{Session}
+use Rattle.node_turns.specs.Links.{all_fetched, sent_frames}
+use Rattle.node_turns.specs.Sessions.{Session}
 
 pub record Settings : Type 0 where
   pub call : Callsign

@@ -9,26 +9,26 @@ use Rattle.circuit_set.specs.Sets as sets
 use Rattle.circuit_set.specs.Standing as answers
 use Rattle.link_table.specs.Payloads.{OffersLeave, TakesLower}
 use Rattle.link_table.specs.declared.text_refusal.TextRefusal.{TextRefusal}
-use Rattle.node_core.specs.declared.sessions.session.Circuit.{Circuit}
-use Rattle.node_core.specs.declared.sessions.session.Reply.{Reply}
-use Rattle.node_core.specs.declared.sessions.session.Stage.{Stage}
-use Rattle.node_core.specs.declared.sessions.session.Stage.TheVariants.{AtPrompt, Trying, Failed, Connected}
-use Rattle.node_core.specs.declared.sessions.session.User.{User}
-use Rattle.node_core.specs.declared.sessions.session.User.TheVariants.{AtEnd, AtLink}
-use Rattle.node_core.specs.Asking as asking
-use Rattle.node_core.specs.Bridging as bridging
-use Rattle.node_core.specs.Circuits as circuits
-use Rattle.node_core.specs.Links as links
-use Rattle.node_core.specs.Pumping.{pump}
-use Rattle.node_core.specs.Sessions.{Session, circuit_of}
-use Rattle.node_core.specs.Settling.{is_unclosed, messages, session_work, sessions_work, stage_replies, work}
-use Rattle.node_core.specs.States.{State, at_links, at_set}
-use Rattle.node_core.specs.Turns.{Turn, done, idle}
-use Rattle.node_core.specs.Users as users
-use Rattle.node_core.specs.Users.{at_session, changed, session_at}
-use Rattle.node_core.proofs.Heaping.{closes_most, connects_most, takes_fewer, writes_most}
-use Rattle.node_core.proofs.Texting.{sent_most, text_leaves_less}
-use Rattle.node_core.proofs.Working.{Below, pumped_below, units}
+use Rattle.node_turns.specs.declared.session.Circuit.{Circuit}
+use Rattle.node_turns.specs.declared.session.Reply.{Reply}
+use Rattle.node_turns.specs.declared.session.Stage.{Stage}
+use Rattle.node_turns.specs.declared.session.Stage.TheVariants.{AtPrompt, Trying, Failed, Connected}
+use Rattle.node_turns.specs.declared.session.User.{User}
+use Rattle.node_turns.specs.declared.session.User.TheVariants.{AtEnd, AtLink}
+use Rattle.node_turns.specs.Asking as asking
+use Rattle.node_turns.specs.Bridging as bridging
+use Rattle.node_turns.specs.Circuits as circuits
+use Rattle.node_turns.specs.Links as links
+use Rattle.node_turns.specs.Pumping.{pump}
+use Rattle.node_turns.specs.Sessions.{Session, circuit_of}
+use Rattle.node_turns.specs.States.{State, at_links, at_set}
+use Rattle.node_turns.specs.Turns.{Turn, done, idle}
+use Rattle.node_turns.specs.Users as users
+use Rattle.node_turns.specs.Users.{at_session, changed, session_at}
+use Rattle.node_turns.proofs.Heaping.{closes_most, connects_most, takes_fewer, writes_most}
+use Rattle.node_turns.proofs.Texting.{sent_most, text_leaves_less}
+use Rattle.node_turns.proofs.Working.{Below, pumped_below, units}
+use Rattle.node_turns.proofs.Weights.{is_unclosed, messages, session_work, sessions_work, stage_replies, work}
 
 -- ---- sessions by their place
 

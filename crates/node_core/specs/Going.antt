@@ -1,0 +1,87 @@
+-- How a node's code goes on with the states that it stands for: words for the clauses of its own functions, which no public clause cites.
+use Rattle.std.specs.Prelude.{ℕ, ◌≡◌, Bool, true, false, slice_get, Result, Ok, Err}
+use Rattle.circuit_set.specs.CircuitSets.{Circuits, SetStands}
+use Rattle.kiss_framing.specs.Stream.{Item, Frame, Too_long}
+use Rattle.kiss_framing.specs.declared.deframer.KissItem.{KissItem}
+use Rattle.kiss_framing.specs.declared.deframer.KissItem.TheVariants as kiss
+use Rattle.link_table.specs.Standing.{TableView as Kept}
+use Rattle.node_core.specs.declared.acts.ActDone.{ActDone}
+use Rattle.node_core.specs.declared.acts.ActRefusal.{ActRefusal}
+use Rattle.node_core.specs.declared.acts.ActRefusal.TheVariants as refusal
+use Rattle.node_core.specs.declared.station.Station.{Station}
+use Rattle.node_core.specs.Acts.{Answered}
+use Rattle.node_turns.specs.Sessions.{Session}
+use Rattle.node_core.specs.Standing.{Holds, IsAnswer, IsTold}
+use Rattle.node_turns.specs.States.{State}
+use Rattle.node_turns.specs.Turns.{Turn}
+use Rattle.node_turns.specs.Users.{changed}
+
+-- a KISS item, as plain data
+abbrev pub item_of : KissItem → Item
+item_of (kiss.Frame port command payload) = Frame port command payload.now
+item_of kiss.TooLong = Too_long
+
+-- Whatever state it stood for, it stands for the one after the step now.
+abbrev pub Goes : (State → State) → Station → Station → Type 0
+Goes step old new = (n : State) → Holds old n → Holds new (step n)
+
+-- whether a step does something, by whatever state it stands for
+abbrev pub Did : (State → Bool) → Station → Bool → Type 0
+Did test s did = (n : State) → Holds s n → did ≡ test n
+
+-- it stands for some state
+abbrev pub StandsForSome : Station → Type 0
+StandsForSome s = (n : State) × Holds s n
+
+-- it stands for a state of which nothing is untold
+abbrev pub Told : Station → State → Type 0
+Told s n = Holds s n × IsTold n
+
+-- the same of its circuits alone
+abbrev pub SetTold : Circuits Kept → State → Type 0
+SetTold c n = SetStands c n.set × IsTold n
+
+abbrev pub StandsTold : Station → Type 0
+StandsTold s = (n : State) × Told s n
+
+abbrev pub GoesWhereTold : (State → State) → Station → Station → Type 0
+GoesWhereTold step old new = (n : State) → Holds old n → IsTold n → Holds new (step n)
+
+-- from each such state it goes over to the one after the step, which is such a one, too
+abbrev pub Steps : (State → State) → Station → Station → Type 0
+Steps step old new = (n : State) → Told old n → Told new (step n)
+
+-- the same of a turn, and whether it did something
+pub record HasTurned (t : Turn State) (new : Station) (did : Bool) : Type 0 where
+  pub did_is : did ≡ t.did
+  pub stands : Told new t.after
+
+abbrev pub Turns : (State → Turn State) → Station → Station → Bool → Type 0
+Turns turn old new did = (n : State) → Told old n → HasTurned (turn n) new did
+
+-- the session in a place is changed, if there is one
+pub record Changes (nth : ℕ) (change : Session → Session) (old new : Station) : Type 0 where
+  pub sessions : new.sessions.items ≡ changed (slice_get old.sessions.items nth) nth change old.sessions.items
+  pub same : new ≡ record old { sessions = new.sessions }
+
+abbrev pub is_no_memory : ActRefusal → Bool
+is_no_memory refusal.NoMemory = true
+is_no_memory refusal.NoEnd = false
+is_no_memory refusal.Served = false
+is_no_memory refusal.Nothing = false
+is_no_memory (refusal.Connect why) = false
+is_no_memory (refusal.Lock why) = false
+is_no_memory (refusal.Write why) = false
+
+-- an act was refused for want of memory
+abbrev pub wants_memory : Result ActDone ActRefusal → Bool
+wants_memory (Ok _) = false
+wants_memory (Err why) = is_no_memory why
+
+-- Whatever state it stood for: what an act comes to.
+pub record Answers (new : Station) (result : Result ActDone ActRefusal) (a : Answered) : Type 0 where
+  pub answer : result ≡ a.answer
+  pub stands : Holds new a.node
+
+abbrev pub Acts : (State → Answered) → Station → Station → Result ActDone ActRefusal → Type 0
+Acts act old new result = IsAnswer result → (n : State) → Holds old n → IsTold n → Answers new result (act n)

@@ -1,0 +1,11 @@
+pub mod Turns
+pub mod Parts
+pub mod Weights
+pub mod Resting
+pub mod Messages
+pub mod Texting
+pub mod Heaping
+pub mod Working
+pub mod Lowering
+pub mod Falling
+pub mod Settled

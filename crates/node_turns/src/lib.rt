@@ -1,0 +1,8 @@
+//! The turns of a node, which follow each of its inputs until one does nothing: definitions, and that they come to an end.
+//!
+//! They stand below `node_core`, whose definitions can so go by that proof.
+#![tactic(auto)]
+
+mod session;
+
+pub use session::{Circuit, Reply, Stage, User};
