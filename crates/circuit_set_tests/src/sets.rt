@@ -8,7 +8,6 @@ use radio_base::{Moment, NoMemory};
 use route_table::{RouteRules, RouteTable};
 use std::alloc::Global;
 use std::process::Abort;
-use std::test::Fail;
 
 pub type Set = CircuitSet<PlainCarrier>;
 
@@ -203,49 +202,26 @@ fn datagram(octets: &[u8]) -> Datagram {
     datagram
 }
 
-fn expect_event(rt: &impl Abort, event: &Option<SetEvent>, wanted: Told) {
-    match event {
-        Some(event) => assert!(rt; told_by(event) == wanted),
-        None => rt.abort(),
-    }
-}
-
 /// The carrier was given these octets for N0BBB.
 fn expect_offered(rt: &impl Abort, set: &mut Set, octets: &[u8]) {
     let offered = set.router_mut().carrier_mut().fetch();
     assert!(rt; offered == Some((b_call(), datagram(octets))));
 }
 
-/// The lines that stand at `CircuitSet`.
+/// The calls that stand at `CircuitSet`, in their order.
 #[test]
-fn a_set_in_use(rt: HostRuntime) -> Result<(), Fail> {
-    let (alloc, user, node, now) = (rt.alloc(), a_call(), b_call(), NOW);
-    let (config, pair, window) = (CONFIG, pair(1), 4);
-    let (accept, message) = (datagram(&ACCEPT), *b"hello");
-    let mut router = router_of(alloc, user);
-    router
-        .table_mut()
-        .heard(&node, &Alias::default(), 192, &[])?;
-
-    let mut set = CircuitSet::new(alloc, router, user, config, pair, 1)?;
-    let id = set.connect(&node, now)?; // 1, the number of the new end
-    let made = set.pump(now)?; // Made
-    let sent = set.pump(now)?; // Sent: its Request has gone to the carrier
-    set.router_mut().carrier_mut().bring(&node, &accept)?;
-    let heeded = set.pump(now)?; // Heeded
-    let opened = set.pump(now)?; // a Notice: Opened, with the window
-    let none = set.pump(now)?; // None
+fn a_set_in_use(rt: HostRuntime) {
+    let mut set = set_of(&rt, rt.alloc(), a_call(), CONFIG.retries);
+    hears(&rt, &mut set, &b_call());
+    connect(&rt, &mut set, &b_call(), NOW, Ok(1));
+    expect(&rt, &mut set, &[Told::Made(pair(1)), Told::Sent(1)], NOW);
+    let carrier = set.router_mut().carrier_mut();
+    rows::bring(&rt, carrier, &b_call(), &datagram(&ACCEPT));
+    let opened = Told::Notice(EndNotice::Opened { window: 4 });
+    expect(&rt, &mut set, &[Told::Other, opened], NOW); // Heeded before the notice
     assert!(rt; set.drained());
-    set.write(id, &message, now)?; // an Info goes out at the next pump
-
-    assert!(rt; id == 1);
-    expect_event(&rt, &made, Told::Made(pair));
-    expect_event(&rt, &sent, Told::Sent(1));
-    assert!(rt; matches!(heeded, Some(SetEvent::Heeded { id: 1, .. })));
-    expect_event(&rt, &opened, Told::Notice(EndNotice::Opened { window }));
-    assert!(rt; none.is_none());
-    settle(&rt, &mut set, now);
+    assert!(rt; set.write(1, b"hello", NOW) == Ok(()));
+    settle(&rt, &mut set, NOW);
     expect_offered(&rt, &mut set, &REQUEST);
     expect_offered(&rt, &mut set, &INFO);
-    Ok(())
 }

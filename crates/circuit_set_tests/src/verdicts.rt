@@ -1,12 +1,11 @@
 //! Verdicts on made-up lists of events at two nodes, N0AAA and N0BBB. The first ends of both are partners, and N0AAA's asks.
 use ax_address::Call;
 use circuit_l4::{EndFacts, EndNotice, EndPhase, Pair};
-use circuit_verdict::{Allowance, Cause, Event, Late, LateWhy, Numbered, Told, Verdict, too_late};
+use circuit_verdict::{Allowance, Event, Late, LateWhy, Numbered, Told, Verdict, too_late};
 use l3_datagram::{Datagram, DatagramHead, write_datagram};
 use std::alloc::Global;
 use std::process::Abort;
 use std::rt::HostRuntime;
-use std::test::Fail;
 
 const FIRST: Pair = Pair { index: 1, ident: 1 };
 
@@ -201,50 +200,20 @@ fn returned(line: u32) -> Option<Late> {
     Some(Late { line, why })
 }
 
-/// The first end of a node, with the first pair, is made.
-fn first_made(node: u64, request: Option<&[u8]>) -> Event<'_> {
-    let told = Told::Made {
-        id: 1,
-        pair: FIRST,
-        partner: partner_of(node),
-        request,
-    };
-    let own = call_of(node);
-    Event { node, own, told }
-}
-
-/// The lines that stand at `Verdict`.
+/// What is heeded at `Verdict`, and the verdict before and behind it.
 #[test]
-fn a_verdict_in_use(rt: HostRuntime) -> Result<(), Fail> {
-    let (alloc, node, own, id) = (rt.alloc(), 1, call_of(1), 1);
-    let (request, accept) = (request(1), datagram(2, 25, &[1, 1, 1, 1, 2, 4]));
-    let (number, datagram) = (None, request.as_slice());
-    let told = Told::Sent {
-        id,
-        number,
-        datagram,
+fn a_verdict_in_use(rt: HostRuntime) {
+    let mut trial = Trial {
+        verdict: Verdict::new(rt.alloc(), Allowance::OfWindow),
+        line: 0,
     };
-    let (made, sent) = (first_made(1, None), Event { node, own, told });
-    let opened = first_made(2, Some(request.as_slice()));
-    let datagram = accept.as_slice();
-    let told = Told::Heeded { id, datagram };
-    let heeded = Event { node, own, told };
-
-    let mut verdict = Verdict::new(alloc, Allowance::OfWindow);
-    verdict.heed(&made, 1)?; // an end of N0AAA, which
-    verdict.heed(&sent, 2)?; // has sent its Request
-    let in_time = verdict.cause(&opened)?; // None: the Request opens an end of N0BBB
-    verdict.heed(&opened, 3)?;
-    let none = verdict.late(); // None
-    let why = verdict.cause(&heeded)?; // Unsent: N0BBB's end has sent nothing yet
-    verdict.heed(&heeded, 4)?; // and N0AAA's has heeded it
-    let late = verdict.late(); // line 4, Overtaken
-
-    assert!(rt; in_time == None);
-    assert!(rt; none == None);
-    assert!(rt; why == Some(Cause::Unsent));
-    assert!(rt; late == overtaken(4));
-    Ok(())
+    let (request, accept) = (request(1), datagram(2, 25, &[1, 1, 1, 1, 2, 4]));
+    trial.made(&rt, 1, 1, FIRST, None);
+    trial.sent(&rt, 1, None, request.as_slice());
+    trial.made(&rt, 2, 1, FIRST, Some(request.as_slice()));
+    assert_eq!(rt; trial.verdict.late(), None);
+    trial.heeded(&rt, 1, accept.as_slice());
+    assert_eq!(rt; trial.verdict.late(), overtaken(4));
 }
 
 #[test]
