@@ -1,5 +1,8 @@
-"""Time and peak memory of a command, for the scripts beside this file."""
+"""Time and peak memory of a command, and how it compares with another one, for the scripts beside this file."""
 import os
+import re
+import shutil
+import statistics
 import subprocess
 import sys
 
@@ -47,3 +50,34 @@ def shortest(command, path=os.devnull, times=3):
     """The seconds of the shortest of some runs, and the largest peak."""
     runs = [run(command, path) for _ in range(times)]
     return min(runs)[0], max(one[1] for one in runs)
+
+
+def instructions(command, path=os.devnull):
+    """The instructions of one run with all that it starts, by valgrind, which counts them however busy the machine is; none without it."""
+    if not shutil.which("valgrind"):
+        return None
+    counted = ["valgrind", "--tool=callgrind", "--callgrind-out-file=/dev/null", "--trace-children=yes"]
+    with open(path, "rb") as source:
+        told = subprocess.run(counted + command, stdin=source, stdout=subprocess.DEVNULL, stderr=subprocess.PIPE, text=True)
+    return sum(int(count) for count in re.findall(r"Collected : (\d+)", told.stderr))
+
+
+def heads(other):
+    """The heads of what `beside` prints."""
+    return f" {'other s':>8} {'least':>6} {'median':>7} {'instructions':>13}" if other else ""
+
+
+def beside(command, other, path=os.devnull, few=5):
+    """Seconds of the shortest run, the largest peak, and what a row tells of another command, where there is one.
+
+    Fifteen runs of each then take turns. A row has the other's shortest run, and how many times its time the command takes: by the
+    shortest runs, by the medians, and by instructions.
+    """
+    if not other:
+        return (*shortest(command, path, few), "")
+    turns = [(run(command, path), run(other, path)) for _ in range(15)]
+    ours, others = [one[0] for one, _ in turns], [one[0] for _, one in turns]
+    told = f" {min(others):8.3f} {min(ours) / min(others):6.2f} {statistics.median(ours) / statistics.median(others):7.2f}"
+    counts = instructions(command, path), instructions(other, path)
+    told += f" {counts[0] / counts[1]:13.2f}" if None not in counts else f" {'-':>13}"
+    return min(ours), max(peak for (_, peak), _ in turns), told
