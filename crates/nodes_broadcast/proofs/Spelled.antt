@@ -31,7 +31,7 @@ last_octet os q h = sym (get_or_drop 20 os 0) ∙ ap (λ xs. get_or xs 0 0) h
     get_or_drop (suc n) [] d = refl
     get_or_drop (suc n) (x ∷ xs) d = get_or_drop n xs d
 
-abbrev entry_told : Callsign → Alias → Callsign → ℕ → Result Entry NodesRefusal
+abbrev pub entry_told : Callsign → Alias → Callsign → ℕ → Result Entry NodesRefusal
 entry_told dest alias best quality = Ok (record { dest = dest; alias = alias; best = best; quality = quality })
 
 calls_read : (at : ℕ) (p q : Result Callsign AddressRefusal) (c d : Callsign) (a : Alias) (k : ℕ) → p ≡ Ok c → q ≡ Ok d → (call_from at p >>= (λ dest. call_from (at + 13) q >>= (λ best. entry_told dest a best k))) ≡ entry_told c a d k
@@ -65,7 +65,7 @@ entries_read law [] at os h = refl
 entries_read law (e ∷ es) at os h =
     both_read (entry_at at (take 21 os)) (entries_at (length es) (at + 21) (drop 21 os)) e es (entry_read law e at (take 21 os) h.0) (entries_read law es (at + 21) (drop 21 os) h.1)
 
-abbrev broadcast_told : Alias → List Entry → Result Broadcast NodesRefusal
+abbrev pub broadcast_told : Alias → List Entry → Result Broadcast NodesRefusal
 broadcast_told alias entries = Ok (record { alias = alias; entries = entries })
 
 all_read : (p : Result (List Entry) NodesRefusal) (a b : Alias) (es : List Entry) → p ≡ Ok es → a ≡ b → (p >>= (λ xs. broadcast_told a xs)) ≡ broadcast_told b es
@@ -106,16 +106,17 @@ both_true p q h g = rw (h, g) refl
 pub spelled_len : (b : Broadcast) (os : List ℕ) → Spells b os → length os ≡ 7 + 21 * length b.entries
 spelled_len b os h = omega (arith, length-drop 7 os, length-drop 1 os, length-take 6 (drop 1 os), ap length h.alias, h.six, entries_len b.entries (drop 7 os) h.entries)
 
-shape_good : (b : Broadcast) (os : List ℕ) → Spells b os → shape_fault os ≡ None
-shape_good b os h =
-    let len = spelled_len b os h in
-    let few = h.few in
+pub shape_of : (n : ℕ) (os : List ℕ) → take 1 os ≡ 255 ∷ [] → length os ≡ 7 + 21 * n → n ≤ 11 → shape_fault os ≡ None
+shape_of n os first len few =
     let head : nat_le 7 (length os) ≡ true = grind (arith, nat_tests) in
     let rest : (length os - 7) % 21 ≡ 0 = omega (arith, len) in
     let whole : ((length os - 7) % 21 == 0) ≡ true = eq-eqb ((length os - 7) % 21) 0 rest in
     let short : nat_lt 238 (length os) ≡ false = grind (arith, nat_tests) in
-    no_fault (is_nodes os) (is_length (length os)) (nat_lt 238 (length os)) (length os) (first_is os h.is_nodes)
+    no_fault (is_nodes os) (is_length (length os)) (nat_lt 238 (length os)) (length os) (first_is os first)
     (both_true (nat_le 7 (length os)) ((length os - 7) % 21 == 0) head whole) short
+
+shape_good : (b : Broadcast) (os : List ℕ) → Spells b os → shape_fault os ≡ None
+shape_good b os h = shape_of (length b.entries) os h.is_nodes (spelled_len b os h) h.few
 
 taken : (f : Option NodesRefusal) (p : Result Broadcast NodesRefusal) (b : Broadcast) → f ≡ None → p ≡ Ok b → unless_misshapen f p ≡ Ok b
 taken f p b h g = rw (h, g) refl

@@ -1,3 +1,4 @@
 pub mod Nodes
 pub mod Reading
 pub mod Laws
+pub mod Faults

@@ -1,5 +1,6 @@
 //! What the definitions promise by themselves.
 
+ghost use Rattle.nodes_broadcast.specs.Faults.{FaultIsFirst};
 ghost use Rattle.nodes_broadcast.specs.Laws as law;
 
 /// Octets that spell a broadcast are read as it, and so spell no other; what is written for a broadcast spells it, and
@@ -11,4 +12,11 @@ pub fn nodes_spelling()
     ensures same { law.WrittenAgainIsTheSame }
 {
     ax_address::laws::net_call_spelling();
+}
+
+/// The octet that a refusal names is the first that no broadcast has at its place, or no broadcast has so many octets.
+pub fn nodes_faults()
+    ensures { FaultIsFirst }
+{
+    ax_address::laws::address_faults();
 }
