@@ -1,4 +1,6 @@
 pub mod Steps
 pub mod Spelling
+pub mod CallFaults
+pub mod Faults
 pub mod Forwarding
 pub mod Offers

@@ -55,7 +55,7 @@ module _ (a b : List ℕ) (ttl : ℕ) (transport : List ℕ) (seven_a : length a
   rest : drop 15 (a ++ b ++ ttl ∷ transport) ≡ transport
   rest = drop_at (a ++ b) (ttl ∷ transport) 14 1 both
 
-sized_whole : (octets : List ℕ) → 15 ≤ length octets → length octets ≤ 256 → sized octets ≡ Ok octets
+pub sized_whole : (octets : List ℕ) → 15 ≤ length octets → length octets ≤ 256 → sized octets ≡ Ok octets
 sized_whole octets low high = grind arith
 
 read_by : (octets : List ℕ) (origin dest : Callsign) → sized octets ≡ Ok octets → call_from 0 octets ≡ Ok origin → call_from 7 octets ≡ Ok dest

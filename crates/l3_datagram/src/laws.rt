@@ -1,5 +1,6 @@
 //! What the definitions promise by themselves.
 ghost use Rattle.l3_datagram.specs.Datagrams.{SpelledDatagramIsRead, WrittenAgainIsTheSame, WrittenDatagramSpellsIt};
+ghost use Rattle.l3_datagram.specs.Faults.{FaultIsFirst};
 ghost use Rattle.l3_datagram.specs.Onward.{GoesOneHopOn};
 ghost use Rattle.l3_datagram.specs.Network.{WaitingWasOffered};
 
@@ -12,6 +13,13 @@ pub fn datagram_spelling()
     ensures same { WrittenAgainIsTheSame }
 {
     ax_address::laws::net_call_spelling();
+}
+
+/// The octet that a refusal names is the first that no datagram has at its place, or no datagram has so many octets.
+pub fn datagram_faults()
+    ensures { FaultIsFirst }
+{
+    ax_address::laws::address_faults();
 }
 
 /// A datagram that goes on to a neighbour has every octet of the one that came but its time to live, which is one less.
