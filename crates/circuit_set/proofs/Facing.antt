@@ -5,7 +5,7 @@ use Rattle.circuit_set.specs.Books.{MadeNote, noted_all, partner}
 use Rattle.circuit_set.specs.Events.{Name}
 use Rattle.circuit_set.specs.NotedRuns.{Net, begins, net_run, net_step}
 use Rattle.circuit_set.specs.Facing.{Faces, PartnersFace}
-use Rattle.circuit_set.specs.Runs.{AreStarts, AreSteps, IsAct, Step, sets_at, told_at}
+use Rattle.circuit_set.specs.Runs.{AreSteps, IsAct, Step, sets_at, told_at}
 use Rattle.circuit_set.specs.Sets.{SetState}
 use Rattle.circuit_set.proofs.Knowing.{Known, MadeOk, Opened}
 use Rattle.circuit_set.proofs.Learning.{start_known, step_known}

@@ -1,5 +1,5 @@
 -- Each step keeps what is known of the run, also one by which a node starts again.
-use Rattle.std.specs.Prelude.{◌≡◌, ◌≢◌, ℕ, suc, ◌⊎◌, Bool, true, false, ◌&&◌, nat_eq, if◌then◌else◌, List, [], ◌∷◌, ◌++◌, drop, length, slice_get, slice_set, Option, Some, None, Result, Ok, Err, refl}
+use Rattle.std.specs.Prelude.{◌≡◌, ◌≢◌, ℕ, suc, ◌⊎◌, Bool, true, false, ◌&&◌, nat_eq, if◌then◌else◌, List, [], ◌∷◌, ◌++◌, drop, slice_get, slice_set, Option, Some, None, Result, Ok, Err, refl}
 use Rattle.std.specs.List.{AllByRecursion}
 use Rattle.std.proofs.Common.{sym, ◌∙◌, ap, subst, inl, inr, arith}
 use Rattle.std.proofs.lemmas.Bool.Decides.{nat_tests}
@@ -13,7 +13,6 @@ use Rattle.circuit_l4.specs.declared.notice.EndNotice.{EndNotice}
 use Rattle.circuit_l4.specs.declared.role.Role.TheVariants.{Responder}
 use Rattle.circuit_l4.specs.State.{Effect, State}
 use Rattle.circuit_l4.specs.Opening.{facts_of}
-use Rattle.circuit_l4.specs.Receiving.{inbox}
 use Rattle.circuit_set.specs.Books.{Book, MadeNote, asked_by, has_sent, if_asked, is_unknown, made_last, noted, noted_all, partner, requester}
 use Rattle.circuit_set.specs.Events.{Name}
 use Rattle.circuit_set.specs.NotedRuns.{Net, begins, end_at}

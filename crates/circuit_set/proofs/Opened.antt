@@ -1,5 +1,5 @@
 -- With what window an end was told that its circuit is open, and whether it was told how it ended: by the book and by the events.
-use Rattle.std.specs.Prelude.{◌≡◌, ℕ, ◌-◌, ◌⊎◌, Bool, true, false, ◌||◌, if◌then◌else◌, List, [], ◌∷◌, ◌++◌, Some, refl}
+use Rattle.std.specs.Prelude.{◌≡◌, ℕ, ◌⊎◌, Bool, true, false, ◌||◌, if◌then◌else◌, List, [], ◌∷◌, ◌++◌, Some, refl}
 use Rattle.std.proofs.Common.{sym, ◌∙◌, ap, subst, inl, inr}
 use Rattle.circuit_l4.specs.declared.notice.EndNotice.{EndNotice}
 use Rattle.circuit_l4.specs.declared.notice.EndNotice.TheVariants.{Opened, Refused, Closed, ClosedByPartner, FailedRetries, FailedOversize, FailedInactive}
@@ -11,7 +11,7 @@ use Rattle.circuit_set.specs.Sets.{Told, Made, Sent, Heeded, Notice, Gone, Resta
 use Rattle.circuit_set.specs.TooLate.{Ends, OpenedWith, Tells}
 use Rattle.circuit_set.proofs.Bridge.{same_names}
 use Rattle.circuit_set.proofs.Lookups.{has_note}
-use Rattle.circuit_set.proofs.Noted.{book, marks, name_true, not_both, or_none, or_so}
+use Rattle.circuit_set.proofs.Noted.{book, name_true, not_both, or_none, or_so}
 use Rattle.circuit_set.proofs.Windows.{last_made, noted_made, notices_in, told_is}
 use Rattle.circuit_set.proofs.Among.{none_split}
 

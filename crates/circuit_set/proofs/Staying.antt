@@ -8,7 +8,7 @@ use Rattle.circuit_set.specs.Facing.{EndsStay}
 use Rattle.circuit_set.specs.Givings.{IsUp}
 use Rattle.circuit_set.specs.NotedRuns.{Net, begins, end_at, net_run}
 use Rattle.circuit_set.specs.Runs.{Step, end_in, sets_at, told_at}
-use Rattle.circuit_set.specs.Sets.{Act, Calls, Comes, Connect, Discard, Restart, Holder, SetDone, SetState, end_of, holder_of, is_over, made, restarted, set_step, with_end}
+use Rattle.circuit_set.specs.Sets.{Act, Calls, Comes, Connect, Discard, Restart, Holder, SetDone, SetState, end_of, holder_of, is_over, made, set_step, with_end}
 use Rattle.circuit_set.proofs.Acts.{set_self}
 use Rattle.circuit_set.proofs.Cases.{step_every}
 use Rattle.circuit_set.proofs.Given.{Numbers, none_of, one}

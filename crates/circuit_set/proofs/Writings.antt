@@ -12,14 +12,13 @@ use Rattle.circuit_set.specs.Books.{Book, noted_all}
 use Rattle.circuit_set.specs.Events.{Name}
 use Rattle.circuit_set.specs.NotedRuns.{Net, begins, end_at, net_run, net_step}
 use Rattle.circuit_set.specs.Givings.{IsUp}
-use Rattle.circuit_set.specs.Runs.{AreStarts, Step, end_in, events_at, sets_at, told_at}
+use Rattle.circuit_set.specs.Runs.{Step, end_in, events_at, sets_at, told_at}
 use Rattle.circuit_set.specs.Sets.{Act, Call, Calls, Comes, Connect, Discard, Restart, Holder, SetDone, SetState, end_of, holder_of, input_of, is_over, made, restarted, set_step, with_end}
 use Rattle.circuit_set.specs.Writings.{EndsWroteByWrites, act_writes, called_writes, step_writes, wrote_of}
 use Rattle.circuit_set.proofs.Acts.{set_self}
 use Rattle.circuit_set.proofs.Cases.{Idle, MadeBy, MovedBy, NoCall, step_every}
 use Rattle.circuit_set.proofs.Given.{Numbers, none_of, one}
 use Rattle.circuit_set.proofs.Moved.{same_or}
-use Rattle.circuit_set.proofs.Restarts.{gone_of}
 use Rattle.circuit_set.proofs.Retries.{Both, start_lives, step_lives}
 use Rattle.circuit_set.proofs.Stepped as stepped
 

@@ -1,5 +1,5 @@
 -- Safe: what the two ends of a circuit have, by the events that were told (this project's profile).
-use Rattle.std.specs.Prelude.{◌≡◌, ◌≢◌, ℕ, ◌+◌, ◌⊎◌, ◌↔◌, List, [], ◌++◌, take, Option, Some}
+use Rattle.std.specs.Prelude.{◌≡◌, ◌≢◌, ◌+◌, ◌⊎◌, ◌↔◌, List, [], ◌++◌, take, Option, Some}
 use Rattle.circuit_l4.specs.declared.notice.EndNotice.TheVariants.{Closed, ClosedByPartner, FailedRetries}
 use Rattle.circuit_l4.specs.State.{State}
 use Rattle.circuit_set.specs.Beginnings.{IsBeginning, wholes}
