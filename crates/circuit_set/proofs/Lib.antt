@@ -39,6 +39,7 @@ pub mod Meeting
 pub mod Holding
 pub mod Moving
 pub mod Telling
+pub mod Stillness
 pub mod Searching
 pub mod Arriving
 pub mod Making

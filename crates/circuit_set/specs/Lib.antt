@@ -19,6 +19,7 @@ pub mod NotedRuns
 pub mod Examples
 pub mod Pumps
 pub mod Inputs
+pub mod Still
 pub mod Standing
 pub mod CircuitSets
 pub mod SetTurns

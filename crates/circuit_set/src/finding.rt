@@ -2,6 +2,7 @@
 ghost use Rattle.std.specs.Prelude.{◌≡◌, None};
 ghost use Rattle.circuit_set.specs.Sets as sets;
 ghost use Rattle.circuit_set.specs.Standing.{FirstFit, FirstLoud, Rests};
+ghost use Rattle.circuit_set.specs.Still.{AreStill};
 
 use crate::holder::Holder;
 use ax_address::Call;
@@ -12,6 +13,7 @@ use indexmap::map::Slice;
 pub(crate) fn first_untold(ends: Slice<'_, u64, Holder>) -> Option<u64>
     ensures first { FirstLoud result ends.entry }
     ensures rests { result ≡ None → Rests ends.entry }
+    ensures still { result ≡ None → AreStill ends.entry }
 {
     let mut rest = ends;
     while let Some(((id, holder), later)) = rest.split_first() {

@@ -4,11 +4,12 @@ ghost use Rattle.std.specs.Map.{lookup, remove_entry};
 ghost use Rattle.radio_base.specs.declared.modulus.TheConstants.{COUNT_MAX};
 ghost use Rattle.circuit_l4.specs.Opening.{IsConfig};
 ghost use Rattle.circuit_set.specs.Sets as sets;
+ghost use Rattle.circuit_set.specs.Still.{OthersAreStill, OthersAreStill-prop};
 
 use crate::MAX_ENDS;
 use crate::event::{DiscardRefusal, NoEnd, SetRefusal};
-use crate::finding::first_untold;
 use crate::holder::{Holder, Untold, is_last};
+use crate::loud::Loud;
 use crate::pair_order::{following, next_free};
 use ax_address::Call;
 use circuit_l4::{End, EndConfig, Pair};
@@ -30,8 +31,11 @@ pub(crate) struct HeldEnds {
     /// The number of the next end.
     pub(crate) number: u64,
     pub(crate) ends: IndexMap<u64, Holder>,
+    /// Which of them may have something to tell, so that not all are looked at for each thing that is told.
+    pub(crate) loud: Loud,
     ghost config_fits: { IsConfig config },
     ghost few: { length ends.entries ≤ 64 },
+    ghost others: { OthersAreStill loud ends.entries } by { OthersAreStill-prop loud ends.entries },
 }
 
 impl HeldEnds {
@@ -65,7 +69,9 @@ impl HeldEnds {
     {
         let id = self.number;
         let pair = holder.pair;
+        let loud = self.loud_at(id);
         self.ends.insert(id, holder)?;
+        self.loud = loud;
         self.next = following(pair);
         self.number = id + 1;
         Ok(id)
@@ -92,9 +98,13 @@ impl HeldEnds {
         ensures err { OnErr result (self.new.ends.entries ≡ self.old.ends.entries) }
         ensures goes { OnOk result (Goes (sets.Calls id (sets.Writes message.now) now.0) self.old self.new) }
     {
+        let loud = self.loud_at(id);
         match self.ends.get_mut(&id) {
             Some(holder) => match holder.end.write(message, now) {
-                Ok(()) => Ok(()),
+                Ok(()) => {
+                    self.loud = loud;
+                    Ok(())
+                }
                 Err(refusal) => Err(SetRefusal::Write(refusal)),
             },
             None => Err(SetRefusal::NoEnd),
@@ -109,8 +119,13 @@ impl HeldEnds {
         ensures goes { Goes (sets.Calls id sets.Takes now.0) self.old self.new }
         ensures err { OnErr result ((self.new ≡ self.old) × (out.new ≡ out.old)) }
     {
+        let loud = self.loud_at(id);
         match self.ends.get_mut(&id) {
-            Some(holder) => Ok(holder.take(out, now)),
+            Some(holder) => {
+                let took = holder.take(out, now);
+                self.loud = loud.after(id, holder);
+                Ok(took)
+            }
             None => Err(NoEnd),
         }
     }
@@ -130,9 +145,11 @@ impl HeldEnds {
         ensures goes { Goes (sets.Calls id sets.Closes now.0) self.old self.new }
         ensures err { OnErr result (self.new ≡ self.old) }
     {
+        let loud = self.loud_at(id);
         match self.ends.get_mut(&id) {
             Some(holder) => {
                 holder.end.close(now);
+                self.loud = loud;
                 Ok(())
             }
             None => Err(NoEnd),
@@ -161,8 +178,10 @@ impl HeldEnds {
         ensures same { SameNode self.old self.new }
         ensures goes { Goes (sets.Discard id) self.old self.new }
     {
+        let loud = self.loud_at(id);
         if let Some(holder) = self.ends.get_mut(&id) {
             holder.discarded = true;
+            self.loud = loud;
         }
     }
 
@@ -174,6 +193,7 @@ impl HeldEnds {
     {
         if let Some(holder) = self.ends.get_index_mut(nth) {
             holder.end.tick(now);
+            self.loud = Loud::Any;
         }
     }
 
@@ -186,6 +206,7 @@ impl HeldEnds {
         for nth in 0..self.ends.len() {
             self.tick_nth(nth, now);
         }
+        self.look();
     }
 
     /// Whether no end has anything to tell.
@@ -193,7 +214,7 @@ impl HeldEnds {
         ensures exact { (s : SetState) (told : List Told) → HeldStands self.now s told → result ≡ is_empty told }
         ensures rests { result ≡ true → Rests self.now.ends.entries }
     {
-        first_untold(self.ends.as_slice()).is_none()
+        self.first_loud().is_none()
     }
 
     /// What the end with a number tells next, where such an end is held. It is put where it is to stand, here and below, since a
@@ -203,8 +224,12 @@ impl HeldEnds {
         ensures told { ToldBy id (lookup (nat_eq id) self.old.ends.entries) untold.new self.old.ends.entries self.new.ends.entries }
         ensures same { SameNode self.old self.new }
     {
+        let loud = self.loud_at(id);
         match self.ends.get_mut(&id) {
-            Some(holder) => holder.next(id, untold),
+            Some(holder) => {
+                holder.next(id, untold);
+                self.loud = loud.after(id, holder);
+            }
             None => {}
         }
     }
@@ -227,6 +252,10 @@ impl HeldEnds {
     {
         self.told_by(id, untold);
         self.leave(id, is_last(untold));
+        // Once the last of several has told all, they aren't looked at any more.
+        if let Loud::Any = self.loud {
+            self.look();
+        }
     }
 
     /// What is told next, of the first end that has something to tell.
@@ -237,7 +266,7 @@ impl HeldEnds {
         ensures falls { FallsBy untold.new (untold_in self.old.ends.entries) (untold_in self.new.ends.entries) }
         ensures same { SameNode self.old self.new }
     {
-        match first_untold(self.ends.as_slice()) {
+        match self.first_loud() {
             Some(id) => self.next_of(id, untold),
             None => {}
         }

@@ -12,6 +12,7 @@ ghost use Rattle.circuit_set.specs.Sets.{Told};
 ghost use Rattle.circuit_set.specs.Pumps.{is_empty};
 ghost use Rattle.circuit_set.specs.Standing as last;
 ghost use Rattle.circuit_set.specs.Standing.{Fits, IsSilent, Keeps, Tells, cost, counted, left_at, untold_at};
+ghost use Rattle.circuit_set.specs.Still.{IsStill};
 
 use crate::SetEvent;
 use ax_address::Call;
@@ -132,7 +133,7 @@ impl Holder {
     pub(crate) fn is_named_by(&self, origin: &Call, pair: Pair) -> bool
         ensures { Fits (sets.named_by origin.now pair) self.now result }
     {
-        self.is_open() && self.pair == pair && self.at == *origin
+        self.pair == pair && self.at == *origin && self.is_open()
     }
 
     /// Takes the first message.
@@ -156,6 +157,7 @@ impl Holder {
     pub(crate) fn is_quiet(&self) -> bool
         ensures silent { IsSilent self.now result }
         ensures drained { result ≡ true → IsDrained self.now.end }
+        ensures still { result ≡ true → IsStill self.now }
     {
         if self.unannounced {
             return false;

@@ -7,6 +7,7 @@ mod heeding;
 mod held_ends;
 mod holder;
 pub mod laws;
+mod loud;
 mod pair_order;
 mod pump;
 mod receiving;

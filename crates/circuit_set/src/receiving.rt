@@ -119,10 +119,12 @@ impl HeldEnds {
         ensures same { SameNode self.old self.new }
         ensures hands { Hands id (lookup (nat_eq id) self.old.ends.entries) transport.now now.0 result self.old.ends.entries self.new.ends.entries }
     {
+        let loud = self.loud_at(id);
         match self.ends.get_mut(&id) {
             Some(holder) => {
                 let heeded = heeds(holder.end.facts().phase, transport);
                 holder.end.arrive(transport, now);
+                self.loud = loud.after(id, holder);
                 heeded
             }
             None => false,

@@ -7,6 +7,7 @@ ghost use Rattle.radio_base.specs.declared.modulus.TheConstants.{COUNT_MAX};
 use crate::MAX_ENDS;
 use crate::event::{ConnectRefusal, DiscardRefusal, NoEnd, SetRefusal};
 use crate::held_ends::HeldEnds;
+use crate::loud::Loud;
 use ax_address::Call;
 use circuit_l4::{End, EndConfig, EndFacts, Pair};
 use indexmap::IndexMap;
@@ -62,10 +63,11 @@ impl<C> Model for CircuitSet<C> {
     ghost use Rattle.std.specs.Coded.{codes};
     ghost use Rattle.indexmap.specs.Layout.{hash_map_code};
     ghost use Rattle.circuit_set.specs.CircuitSets.{Circuits};
+    ghost use Rattle.circuit_set.specs.contracts.held_ends.HeldEnds.{the_row as held_row};
 
     ghost Value = { Circuits C };
 
-    ghost coded = { Prim.hlevel (codes, hash_map_code) };
+    ghost coded = { Prim.hlevel (codes, hash_map_code, held_row.coded) };
 
     ghost view = { λ c. record { router = c.router; held = c.held; lost = c.lost; spent = c.spent } };
 }
@@ -107,6 +109,7 @@ impl<C: Carrier + Drop> CircuitSet<C> {
                 next: pair,
                 number: first,
                 ends,
+                loud: Loud::Nobody,
             },
             lost: None,
             spent: false,

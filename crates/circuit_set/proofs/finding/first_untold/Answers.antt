@@ -10,6 +10,7 @@ pub loop-id-preserved : goal.loop-id-preserved
 loop-id-preserved c = record {
   first = λ r later. c.loop-id.invariant.first r (rw c.in-Some.ensures.parts (inr (rw c.if-not-is_quiet.false at c.is_quiet.ensures.silent, later)));
   rests = λ later. c.loop-id.invariant.rests (rw c.in-Some.ensures.parts (c.is_quiet.ensures.drained c.if-not-is_quiet.false, later));
+  still = λ later. c.loop-id.invariant.still (rw c.in-Some.ensures.parts (c.is_quiet.ensures.still c.if-not-is_quiet.false, later));
 }
 
 pub returns-clause-first : goal.returns-clause-first

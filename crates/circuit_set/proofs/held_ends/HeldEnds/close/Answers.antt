@@ -4,6 +4,7 @@ use Rattle.circuit_set.specs.Sets as sets
 use Rattle.circuit_set.proofs.Moving.{call_goes, call_of_none, no_close, rests_at, some_close}
 use Rattle.circuit_set.specs.Standing.{counted}
 use Rattle.circuit_set.proofs.Taken.{taken_same}
+use Rattle.circuit_set.proofs.Stillness.{set_beside}
 use Rattle.circuit_set.proofs.held_ends.HeldEnds.close.Goals as goal
 
 pub close-requires : goal.close-requires
@@ -26,3 +27,8 @@ returns-in-Some-clause-answer c = λ s st. some_close c.args.self.now c.args.id 
 
 pub returns-in-None-clause-answer : goal.returns-in-None-clause-answer
 returns-in-None-clause-answer c = λ s st. no_close c.args.self.now c.args.id s st (sym c.in-None.ensures.value)
+
+pub invariant_of-self-clause-others : goal.invariant_of-self-clause-others
+invariant_of-self-clause-others c =
+    let k = record c.in-Some.holder.now { end = c.close.new.self } in
+    set_beside c.args.id _ c.args.self.now.ends.entries _ k c.loud_at-loud.ensures (c.get_mut.follows.holds k).0

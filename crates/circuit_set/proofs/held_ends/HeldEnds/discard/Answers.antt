@@ -1,6 +1,7 @@
 use Rattle.std.proofs.Common.{refl, subst, sym, true}
 use Rattle.circuit_set.specs.Standing.{HasEnded}
 use Rattle.circuit_set.proofs.Moving.{discard_goes}
+use Rattle.circuit_set.proofs.Stillness.{set_beside}
 use Rattle.circuit_set.proofs.held_ends.HeldEnds.discard.Goals as goal
 
 pub returns-in-Some-clause-goes : goal.returns-in-Some-clause-goes
@@ -11,3 +12,8 @@ returns-in-Some-clause-goes c =
 
 pub returns-in_default-clause-goes : goal.returns-in_default-clause-goes
 returns-in_default-clause-goes c = absurd (subst HasEnded (sym c.in_default.ensures.value) c.requires)
+
+pub invariant_of-self-clause-others : goal.invariant_of-self-clause-others
+invariant_of-self-clause-others c =
+    let k = record c.in-Some.holder.now { discarded = true } in
+    set_beside c.args.id _ c.args.self.now.ends.entries _ k c.loud_at-loud.ensures (c.get_mut.follows.holds k).0

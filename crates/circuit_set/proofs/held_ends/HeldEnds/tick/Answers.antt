@@ -1,4 +1,4 @@
-use Rattle.std.proofs.Common.{sym, ◌∙◌, subst, length, ◌≡◌, arith, suc, ◌+◌}
+use Rattle.std.proofs.Common.{ap, sym, ◌∙◌, subst, length, ◌≡◌, arith, suc, ◌+◌}
 use Rattle.circuit_set.specs.Standing.{TicksTo}
 use Rattle.circuit_set.proofs.Ticking.{rests_in, same_node, tick_goes, ticks_more, untouched}
 use Rattle.circuit_set.proofs.held_ends.HeldEnds.tick.Goals as goal
@@ -25,4 +25,6 @@ returns-clause-goes c = λ s st.
     let bound = c.loop-nth.auto.nth-end in
     let done = c.loop-nth-test.false in
     let all : n ≡ length old = omega arith in
-    tick_goes c.args.self.now c.loop-nth.self c.args.now.0 s c.loop-nth.invariant.0 st (subst (λ k. TicksTo c.args.now.0 k old c.loop-nth.self.ends.entries) all c.loop-nth.invariant.1)
+    let ticks = subst (λ k. TicksTo c.args.now.0 k old c.loop-nth.self.ends.entries) all c.loop-nth.invariant.1 in
+    tick_goes c.args.self.now c.look.new.self c.args.now.0 s (same_node c.args.self.now c.loop-nth.self c.look.new.self c.loop-nth.invariant.0 c.look.ensures.same) st
+    (subst (TicksTo c.args.now.0 (length old) old) (sym (ap (λ m. m.entries) c.look.ensures.ends)) ticks)

@@ -20,5 +20,6 @@ invariant_of-self c =
     let k = c.in-Some.holder.now in
     record {
       config_fits = c.args.self.now.config_fits;
+      others = tt;
       few = subst (λ n. n ≤ 64) (sym (length-set_value_at c.args.self.now.ends.entries c.args.nth (record k { end = c.tick.new.self }))) c.args.self.now.few;
     }

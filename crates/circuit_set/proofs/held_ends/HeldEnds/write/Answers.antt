@@ -1,12 +1,14 @@
-use Rattle.std.proofs.Common.{sym, ap, refl, ◌∙◌, Ok, Err}
-use Rattle.std.proofs.Common.{nat_eq}
+use Rattle.std.proofs.Common.{sym, ap, refl, subst, ◌∙◌, ◌≤◌, Ok, Err, List, length, nat_eq, ℕ}
 use Rattle.std.specs.Map.{set_value}
 use Rattle.circuit_l4.specs.Standing.{EndView}
 use Rattle.circuit_l4.specs.Table.{Write}
+use Rattle.circuit_set.specs.declared.holder.Holder.{Holder}
 use Rattle.circuit_set.specs.Sets as sets
+use Rattle.circuit_set.specs.Still.{OthersAreStill}
 use Rattle.circuit_set.proofs.Moving.{call_goes, no_write, rests_at, set_back, some_write}
 use Rattle.circuit_set.specs.Standing.{counted}
 use Rattle.circuit_set.proofs.Taken.{taken_same}
+use Rattle.circuit_set.proofs.Stillness.{set_beside}
 use Rattle.circuit_set.proofs.held_ends.HeldEnds.write.Goals as goal
 
 pub write-requires : goal.write-requires
@@ -37,3 +39,20 @@ returns-in-Err-clause-err c =
     (c.get_mut.follows.holds (record k { end = c.write.new.self })).0
     ∙ ap (λ (e : EndView). set_value (nat_eq c.args.id) es (record k { end = e })) c.in-Err.ensures.err
     ∙ set_back c.args.id es k (sym c.in-Some.ensures.value)
+
+pub invariant_of-self-clause-others : goal.invariant_of-self-clause-others
+invariant_of-self-clause-others c =
+    let k = record c.in-Some.holder.now { end = c.write.new.self } in
+    set_beside c.args.id _ c.args.self.now.ends.entries _ k c.loud_at-loud.ensures (c.get_mut.follows.holds k).0
+
+pub invariant_of-self-in-Err-1 : goal.invariant_of-self-in-Err-1
+invariant_of-self-in-Err-1 c =
+    let k = c.in-Some.holder.now in
+    let es = c.args.self.now.ends.entries in
+    let put = (c.get_mut.follows.holds (record k { end = c.write.new.self })).0 in
+    let back = ap (λ (e : EndView). set_value (nat_eq c.args.id) es (record k { end = e })) c.in-Err.ensures.err ∙ set_back c.args.id es k (sym c.in-Some.ensures.value) in
+    record {
+      config_fits = c.args.self.now.config_fits;
+      few = subst (λ (now : List (ℕ × Holder)). length now ≤ 64) (sym (put ∙ back)) c.args.self.now.few;
+      others = subst (OthersAreStill c.args.self.now.loud) (sym (put ∙ back)) c.args.self.now.others;
+    }
