@@ -1,4 +1,6 @@
 pub mod Spelling
+pub mod TransportsRead
+pub mod TransportFaults
 pub mod Again
 pub mod Acknowledged
 pub mod Standings

@@ -20,7 +20,7 @@ use Rattle.circuit_l4.specs.Spelling.{SpelledTransportIsRead, WrittenTransportSp
 tested : (long short : Bool) (n : ℕ) (r : Result Transport TransportRefusal) → long ≡ false → short ≡ false → cond long (Err TooLong) (cond short (Err (Short n)) r) ≡ r
 tested long short n r h g = rw (h, g) refl
 
-sized : (octets : List ℕ) (r : Result Transport TransportRefusal) → 5 ≤ length octets → length octets ≤ 241 → of_opcode octets ≡ r → transport_at octets ≡ r
+pub sized : (octets : List ℕ) (r : Result Transport TransportRefusal) → 5 ≤ length octets → length octets ≤ 241 → of_opcode octets ≡ r → transport_at octets ≡ r
 unfolding transport_at
 sized octets r low high h =
     let long : nat_lt 241 (length octets) ≡ false = grind (arith, nat_tests) in
@@ -30,7 +30,7 @@ sized octets r low high h =
 begun : (code : ℕ) (to : Pair) (octets : List ℕ) (r : Result Transport TransportRefusal) → Begins code to octets → of_opcode octets ≡ r → transport_at octets ≡ r
 begun code to octets r h g = sized octets r h.whole h.fits g
 
-octet_there : (at : ℕ) (octets : List ℕ) → at < length octets → octet_at at octets ≡ Ok (get_or octets at 0)
+pub octet_there : (at : ℕ) (octets : List ℕ) → at < length octets → octet_at at octets ≡ Ok (get_or octets at 0)
 octet_there at octets h =
     let more : nat_le (length octets) at ≡ false = grind (arith, nat_tests) in
     rw more refl
@@ -40,11 +40,11 @@ call_there read at octets call len h =
     let whole : nat_lt (length octets) (at + 7) ≡ false = grind (arith, nat_tests) in
     rw whole (ap (fault_from at) (read call (take 7 (drop at octets)) h))
 
-requested : (octets : List ℕ) (window : ℕ) (user node : Callsign) → octet_at 5 octets ≡ Ok window → call_from 6 octets ≡ Ok user → call_from 13 octets ≡ Ok node → request_at octets ≡ Ok (Request (pair_at 0 octets) window user node)
+pub requested : (octets : List ℕ) (window : ℕ) (user node : Callsign) → octet_at 5 octets ≡ Ok window → call_from 6 octets ≡ Ok user → call_from 13 octets ≡ Ok node → request_at octets ≡ Ok (Request (pair_at 0 octets) window user node)
 unfolding request_at
 requested octets window user node w u n = rw (w, u, n) refl
 
-on_accept : (octets : List ℕ) (window : ℕ) → octet_at 5 octets ≡ Ok window → accept_at octets ≡ Ok (Accept (pair_at 0 octets) (pair_at 2 octets) window)
+pub on_accept : (octets : List ℕ) (window : ℕ) → octet_at 5 octets ≡ Ok window → accept_at octets ≡ Ok (Accept (pair_at 0 octets) (pair_at 2 octets) window)
 unfolding accept_at
 on_accept octets window w = rw w refl
 

@@ -1,6 +1,7 @@
 pub mod Transports
 pub mod Reading
 pub mod Spelling
+pub mod Faults
 pub mod Sending
 pub mod Receiving
 pub mod Queued

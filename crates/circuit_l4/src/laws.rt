@@ -1,5 +1,6 @@
 //! What the definitions promise by themselves.
 ghost use Rattle.std.specs.Prelude.{◌≡◌};
+ghost use Rattle.circuit_l4.specs.Faults.{FaultIsFirst};
 ghost use Rattle.circuit_l4.specs.Laws as end_law;
 ghost use Rattle.circuit_l4.specs.Kept.{KeepsItsShare};
 ghost use Rattle.circuit_l4.specs.Spelling as law;
@@ -15,6 +16,14 @@ pub fn transport_spelling()
     ensures same { law.WrittenAgainIsTheSame }
 {
     ax_address::laws::net_call_spelling();
+}
+
+/// The octet that a refusal names is the first that no transport has at its place, or one that must follow, or no transport
+/// has so many octets.
+pub fn transport_faults()
+    ensures { FaultIsFirst }
+{
+    ax_address::laws::address_faults();
 }
 
 /// Whatever an end is given: it fails for want of an answer exactly where there was one expiry more than there are retries,
