@@ -1,14 +1,14 @@
 -- The octet that a refusal names is the first that no transport has at its place, or one that must follow.
 use Rattle.std.proofs.Common.{◌≡◌, ◌≤◌, ◌<◌, ◌+◌, ◌-◌, ◌%◌, ◌/◌, ◌++◌, ◌∙◌, inl, inr, ℕ, refl, sym, ap, subst, List, [], ◌∷◌, length, take, drop, replicate, get_or, arith, Bool, true, false}
-use Rattle.std.specs.Prelude.{Option, Some, None, Result, Ok, Err, nat_lt, ◌==◌}
+use Rattle.std.specs.Prelude.{Some, None, Result, Ok, Err, nat_lt, ◌==◌}
 use Rattle.std.proofs.lemmas.Bool.{ltb-true, ltb-false}
-use Rattle.std.proofs.lemmas.List.{append_assoc, drop-append-le, drop-take, take-take, take-append-le, get_or_append_left, get_or-take, get_or_at, length-append, length-drop, length-replicate, length-take}
-use Rattle.std.proofs.Math.Seq.{drop-append-add}
+use Rattle.std.proofs.lemmas.List.{append_assoc, drop-append-le, drop-take, take-append-drop, take-append-le, get_or_append_left, get_or-take, get_or_at, length-append, length-drop, length-replicate, length-take}
 use Rattle.ax_address.specs.NetCalls.{net_call_in}
 use Rattle.ax_address.specs.Octets as octets
 use Rattle.ax_address.specs.Octets.{address_fault, fault_in, place_of}
 use Rattle.ax_address.specs.declared.octets.AddressRefusal.{AddressRefusal}
-use Rattle.l3_datagram.proofs.CallFaults.{call_bad, still_none}
+use Rattle.l3_datagram.proofs.CallFaults.{call_bad, not_both, still_none}
+use Rattle.l3_datagram.proofs.Spelling.{drop_at}
 use Rattle.circuit_l4.specs.declared.transport.Transport.{Transport}
 use Rattle.circuit_l4.specs.declared.transport.Transport.TheVariants.{Request, Accept, Disconnect}
 use Rattle.circuit_l4.specs.declared.transport.TransportRefusal.{TransportRefusal}
@@ -21,9 +21,6 @@ use Rattle.circuit_l4.proofs.TransportsRead.{CallFault, RequestFault, CodeFault,
 
 -- ---- octets that are kept
 
-past : (front back : List ℕ) (n more : ℕ) → length front ≡ n → drop (n + more) (front ++ back) ≡ drop more back
-past front back n more len = ap (λ k. drop (k + more) (front ++ back)) (sym len) ∙ drop-append-add front back more
-
 -- octet 4
 fifth_kept : (k : ℕ) (os more : List ℕ) → 5 ≤ k → k ≤ length os → get_or (take k os ++ more) 4 0 ≡ get_or os 4 0
 fifth_kept k os more h g = get_or_append_left (take k os) more 0 4 (omega (arith, length-take k os, h, g)) ∙ get_or-take k os 4 0 (omega (arith, h))
@@ -35,11 +32,13 @@ code_of : (os other : List ℕ) → get_or other 4 0 ≡ get_or os 4 0 → opcod
 code_of os other h = ap (λ n. n % 32) h
 
 -- the characters of the user's call
+user_before : (os more : List ℕ) → 12 ≤ length os → address_fault (drop 6 (os ++ more)) ≡ address_fault (drop 6 os)
+user_before os more h = ap fault_in (sym (drop-take 6 6 (os ++ more)) ∙ (ap (drop 6) (take-append-le 12 os more h) ∙ drop-take 6 6 os))
+
 user_kept : (k : ℕ) (os more : List ℕ) → 12 ≤ k → k ≤ length os → address_fault (drop 6 (take k os ++ more)) ≡ address_fault (drop 6 os)
 user_kept k os more h g =
-    let all = take k os ++ more in
-    let twelve : take 12 all ≡ take 12 os = take-append-le 12 (take k os) more (omega (arith, length-take k os, h, g)) ∙ take-take 12 k os h in
-    ap fault_in (sym (drop-take 6 6 all) ∙ (ap (drop 6) twelve ∙ drop-take 6 6 os))
+    let long : 12 ≤ length (take k os) = omega (arith, length-take k os, h, g) in
+    user_before (take k os) more long ∙ (sym (user_before (take k os) (drop k os) long) ∙ ap (λ xs. address_fault (drop 6 xs)) (take-append-drop k os))
 
 -- ---- what goes on to a transport
 
@@ -104,8 +103,8 @@ head_goes os len code =
       low = omega (arith, long);
       high = omega (arith, long);
       code = code_of os all (fifth_before os behind_head (omega (arith, len))) ∙ code;
-      user = ap address_fault (past os behind_head 5 1 len);
-      node = ap address_fault (past os behind_head 5 8 len);
+      user = ap address_fault (drop_at os behind_head 5 1 len);
+      node = ap address_fault (drop_at os behind_head 5 8 len);
     })
 
 user_goes : (front more : List ℕ) → length (front ++ more) ≡ 12 → opcode (front ++ more) ≡ 1 → address_fault (drop 6 (front ++ more)) ≡ None → GoesOn front
@@ -118,7 +117,7 @@ user_goes front more len code none =
       high = omega (arith, long);
       code = code_of twelve all (fifth_before twelve behind_user (omega (arith, len))) ∙ code;
       user = still_none 6 twelve behind_user len none;
-      node = ap address_fault (past twelve behind_user 12 1 len);
+      node = ap address_fault (drop_at twelve behind_user 12 1 len);
     })
 
 node_goes : (front more : List ℕ) → length (front ++ more) ≡ 19 → opcode (front ++ more) ≡ 1 → address_fault (drop 6 (front ++ more)) ≡ None → address_fault (drop 13 (front ++ more)) ≡ None → GoesOn front
@@ -126,19 +125,15 @@ node_goes front more len code user none =
     let most = front ++ more in
     let all = most ++ behind_node in
     let long : length all ≡ 20 = omega (arith, length-append most behind_node, len) in
-    let same : take 12 all ≡ take 12 most = take-append-le 12 most behind_node (omega (arith, len)) in
     in_parts front more behind_node (record {
       low = omega (arith, long);
       high = omega (arith, long);
       code = code_of most all (fifth_before most behind_node (omega (arith, len))) ∙ code;
-      user = ap fault_in (sym (drop-take 6 6 all) ∙ (ap (drop 6) same ∙ drop-take 6 6 most)) ∙ user;
+      user = user_before most behind_node (omega (arith, len)) ∙ user;
       node = still_none 13 most behind_node len none;
     })
 
 -- ---- a call at fault
-
-not_both : (o : Option AddressRefusal) (r : AddressRefusal) → o ≡ None → o ≡ Some r → ⊥
-not_both o r h k = cc
 
 reads : (os : List ℕ) (t : Transport) → opcode os ≡ 1 → transport_at os ≡ Ok t → ReadRequest os
 reads os t code h = request_ok os t (sym (requesting os code) ∙ (transport_ok os t h).read)
@@ -187,9 +182,8 @@ user_cut law os code low high none =
 node_cut : octets.FrontGoesOn → (os : List ℕ) → opcode os ≡ 1 → 13 ≤ length os → length os < 20 → address_fault (drop 6 os) ≡ None → address_fault (drop 13 os) ≡ None → GoesOn os
 node_cut law os code low high user none =
     let c = cut law 13 os low (omega (arith, high)) none in
-    let same : take 12 (os ++ c.0) ≡ take 12 os = take-append-le 12 os c.0 (omega (arith, low)) in
     node_goes os c.0 c.1 (code_of os (os ++ c.0) (fifth_before os c.0 (omega (arith, low))) ∙ code)
-    (ap fault_in (sym (drop-take 6 6 (os ++ c.0)) ∙ (ap (drop 6) same ∙ drop-take 6 6 os)) ∙ user) c.2
+    (user_before os c.0 (omega (arith, low)) ∙ user) c.2
 
 short_goes : (os : List ℕ) → length os < 5 → GoesOn os
 short_goes os h =

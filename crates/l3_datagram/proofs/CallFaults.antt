@@ -1,6 +1,6 @@
 -- Where the first fault of a call stands.
 use Rattle.std.proofs.Common.{◌≡◌, ◌≤◌, ◌<◌, ◌+◌, ◌++◌, ◌∙◌, ℕ, ap, List, length, take, drop, arith}
-use Rattle.std.specs.Prelude.{Some, None}
+use Rattle.std.specs.Prelude.{Option, Some, None}
 use Rattle.std.proofs.lemmas.List.{drop-append-le, drop-take, take-append-le, length-append, length-drop, length-take}
 use Rattle.ax_address.specs.declared.octets.AddressRefusal.{AddressRefusal}
 use Rattle.ax_address.specs.Octets.{FaultIsFirst, FrontGoesOn, address_fault, fault_in, place_of}
@@ -41,3 +41,6 @@ call_bad first law at os r h =
       six = omega (arith, length-append (take (at + p) os) m.0, length-take (at + p) os, length-append front m.0, m.1, len, there);
       none = ap address_fault (drop_front at p os m.0 (omega (arith, there))) ∙ m.2;
     }
+
+pub not_both : (o : Option AddressRefusal) (r : AddressRefusal) → o ≡ None → o ≡ Some r → ⊥
+not_both o r h k = cc

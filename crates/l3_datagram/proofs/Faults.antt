@@ -3,7 +3,6 @@ use Rattle.std.proofs.Common.{◌≡◌, ◌≤◌, ◌<◌, ◌+◌, ◌++◌, 
 use Rattle.std.specs.Prelude.{Option, Some, None, Result, Ok, Err, nat_lt}
 use Rattle.std.proofs.lemmas.Bool.{ltb-true, ltb-false}
 use Rattle.std.proofs.lemmas.List.{append_assoc, take-take, take-append-le, length-append, length-take}
-use Rattle.std.proofs.Math.Seq.{drop-append-add}
 use Rattle.ax_address.specs.Callsign.{Callsign}
 use Rattle.ax_address.specs.NetCalls.{net_call_in, unless_at_fault}
 use Rattle.ax_address.specs.Octets as octets
@@ -15,8 +14,8 @@ use Rattle.l3_datagram.specs.declared.datagram.DatagramRefusal.{DatagramRefusal}
 use Rattle.l3_datagram.specs.declared.datagram.DatagramRefusal.TheVariants.{Short, TooLong, BadCall}
 use Rattle.l3_datagram.specs.Datagrams.{sized, fault_from, call_from, head_at}
 use Rattle.l3_datagram.specs.Faults.{FirstBad, FirstFault, FaultIsFirst}
-use Rattle.l3_datagram.proofs.CallFaults.{call_bad, still_none}
-use Rattle.l3_datagram.proofs.Spelling.{sized_whole}
+use Rattle.l3_datagram.proofs.CallFaults.{call_bad, not_both, still_none}
+use Rattle.l3_datagram.proofs.Spelling.{sized_whole, drop_at}
 
 -- ---- a head is read by the number of octets and the faults of its two calls
 
@@ -96,12 +95,6 @@ heads_by os h =
 
 -- ---- a call at fault
 
-past : (front back : List ℕ) (n more : ℕ) → length front ≡ n → drop (n + more) (front ++ back) ≡ drop more back
-past front back n more len = ap (λ k. drop (k + more) (front ++ back)) (sym len) ∙ drop-append-add front back more
-
-not_both : (o : Option AddressRefusal) (r : AddressRefusal) → o ≡ None → o ≡ Some r → ⊥
-not_both o r h k = cc
-
 -- a last octet of a call, the call A, and a time to live
 abbrev behind_origin : List ℕ
 behind_origin = 96 ∷ 130 ∷ 64 ∷ 64 ∷ 64 ∷ 64 ∷ 64 ∷ 96 ∷ 0 ∷ []
@@ -130,7 +123,7 @@ origin_bad first law os r h =
         low = omega (arith, len);
         high = omega (arith, len);
         origin = still_none 0 front behind_origin b.six b.none;
-        dest = ap address_fault (past front behind_origin 6 1 b.six);
+        dest = ap address_fault (drop_at front behind_origin 6 1 b.six);
       });
       stays = λ more head k. not_both (address_fault (drop 0 (take (p + 1) os ++ more))) r (heads (take (p + 1) os ++ more) head k).origin (b.stays more);
     }

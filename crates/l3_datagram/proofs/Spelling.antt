@@ -29,7 +29,7 @@ same_call c octets h =
     let back : get_or (doubled ++ h.last ∷ []) 6 0 ≡ h.last = get_or-append_right doubled (h.last ∷ []) 6 6 0 six (omega arith) in
     rw (h.spelled, front, back, h.ssid) refl
 
-drop_at : (front back : List ℕ) (n more : ℕ) → length front ≡ n → drop (n + more) (front ++ back) ≡ drop more back
+pub drop_at : (front back : List ℕ) (n more : ℕ) → length front ≡ n → drop (n + more) (front ++ back) ≡ drop more back
 drop_at front back n more len = ap (λ k. drop (k + more) (front ++ back)) (sym len) ∙ drop-append-add front back more
 
 -- the parts of a datagram's octets
