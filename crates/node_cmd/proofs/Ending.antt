@@ -1,6 +1,6 @@
 -- How the two commands end that run a network, from how its file is printed.
 use Rattle.std.proofs.Common.{◌≡◌, inl, inr, ℕ, List, arith}
-use Rattle.std.specs.Prelude.{Option}
+use Rattle.std.specs.Prelude.{None}
 use Rattle.network_file.specs.Plan.{Plan}
 use Rattle.network_soak.specs.Files.{soak_file}
 use Rattle.network_soak.specs.Laws.{AreNetworks}
@@ -12,16 +12,19 @@ use Rattle.node_cmd.specs.Outcomes.{NetworkEnds}
 use Rattle.cmd_streams.specs.Reading.{ReadsAll}
 use Rattle.node_cmd.specs.Replays.{Tells}
 use Rattle.node_cmd.specs.Run.{ReplayEnds, SoakEnds}
-use Rattle.cmd_streams.specs.Told.{told}
+use Rattle.cmd_streams.specs.Told.{Told, told}
 use Rattle.node_cmd.proofs.Verdicts.{told_whole}
 
-module _ (left left' sizes sizes' : Option (List ℕ)) (reads reads' : ℕ) (written written' : Option (List ℕ)) (writes writes' : ℕ) (notes notes' : Option (List ℕ)) (note_faults note_faults' : ℕ) (ran : Ran) (status : Status) where
+-- without the source
+abbrev pub output : Told → Told
+output t = told None None 0 t.written t.write_faults t.notes t.note_faults
+
+module _ (before after : Told) (ran : Ran) (status : Status) where
   -- a file that was read to its end
-  pub replay_ends : (bytes : List ℕ) → ReadsAll left left' bytes → reads' ≡ reads
-      → NetworkEnds Report bytes written written' writes writes' notes notes' note_faults note_faults' ran status
-      → ReplayEnds (told left sizes reads written writes notes note_faults) (told left' sizes' reads' written' writes' notes' note_faults') ran status
+  pub replay_ends : (bytes : List ℕ) → ReadsAll before.left after.left bytes → after.read_faults ≡ before.read_faults
+      → NetworkEnds Report bytes (output before) (output after) ran status → ReplayEnds before after ran status
   replay_ends bytes all same e =
-      let whole : (P : Plan → Type 0) → Tells P left → IsNetwork bytes P = λ P tells. (told_whole left left' bytes _ all.taken all.ended tells).1 in
+      let whole : (P : Plan → Type 0) → Tells P before.left → IsNetwork bytes P = λ P tells. (told_whole before.left after.left bytes _ all.taken all.ended tells).1 in
       record {
         done = λ s. (bytes, all, e.done s);
         late = λ s. (bytes, all, e.late s);
@@ -31,28 +34,26 @@ module _ (left left' sizes sizes' : Option (List ℕ)) (reads reads' : ℕ) (wri
         read_few = λ s. absurd (e.others.1 s);
         read_same = λ s. same;
         too_long = λ s. inr (bytes, all, e.too_long s);
-        too_long_comes = λ tells _. elim tells [ inl much ↦ absurd (let more = told_whole left left' bytes _ all.taken all.ended much in let few = all.fits in omega arith) | inr many ↦ e.too_long_comes (whole _ many) ];
+        too_long_comes = λ tells _. elim tells [ inl much ↦ absurd (let more = told_whole before.left after.left bytes _ all.taken all.ended much in let few = all.fits in omega arith) | inr many ↦ e.too_long_comes (whole _ many) ];
         bad_file = λ s. (bytes, all, e.bad_file s);
-        bad_file_comes = λ tells _. e.bad_file_comes (told_whole left left' bytes _ all.taken all.ended tells).1;
+        bad_file_comes = λ tells _. e.bad_file_comes (told_whole before.left after.left bytes _ all.taken all.ended tells).1;
         write_fault = e.write_fault;
         write_front = λ s. (bytes, all, e.write_front s);
         write_same = e.write_same;
         others = e.others.0;
       }
 
--- the file of a number, in which no line is bad
-pub soak_ends : (seed : ℕ) (written written' : Option (List ℕ)) (writes writes' : ℕ) (notes notes' : Option (List ℕ)) (note_faults note_faults' : ℕ) (ran : Ran) (status : Status) → AreNetworks
-    → NetworkEnds (SoakLine seed) (soak_file seed) written written' writes writes' notes notes' note_faults note_faults' ran status
-    → SoakEnds seed written written' writes writes' ran status
-soak_ends seed written written' writes writes' notes notes' note_faults note_faults' ran status networks e = record {
-  done = e.done;
-  late = e.late;
-  done_comes = e.done_comes;
-  late_comes = e.late_comes;
-  too_long = e.too_long;
-  too_long_comes = e.too_long_comes;
-  write_fault = e.write_fault;
-  write_front = e.write_front;
-  write_same = e.write_same;
-  others = (e.others.0, e.others.1, λ s. let bad = e.bad_file s in let good = networks seed in absurd (cc (bad.1, good.1)));
-}
+  -- the file of a number, in which no line is bad
+  pub soak_ends : (seed : ℕ) → AreNetworks → NetworkEnds (SoakLine seed) (soak_file seed) before after ran status → SoakEnds seed before after ran status
+  soak_ends seed networks e = record {
+    done = e.done;
+    late = e.late;
+    done_comes = e.done_comes;
+    late_comes = e.late_comes;
+    too_long = e.too_long;
+    too_long_comes = e.too_long_comes;
+    write_fault = e.write_fault;
+    write_front = e.write_front;
+    write_same = e.write_same;
+    others = (e.others.0, e.others.1, λ s. let bad = e.bad_file s in let good = networks seed in absurd (cc (bad.1, good.1)));
+  }

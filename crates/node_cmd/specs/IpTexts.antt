@@ -1,6 +1,10 @@
 -- Addresses and routes as texts: A.B.C.D, and A.B.C.D/L,A.B.C.D. (RFC 791, section 3.2, as numbers in decimal; own profile.)
-use Rattle.std.specs.Prelude.{ℕ, ◌+◌, ◌-◌, ◌*◌, List, [], ◌∷◌, take, drop, position, Bool, ◌&&◌, ◌==◌, nat_le, not, Option, Some, None, if◌then◌else◌}
+use Rattle.std.specs.Prelude.{ℕ, ◌≡◌, ◌+◌, ◌-◌, ◌*◌, List, [], ◌∷◌, take, drop, position, Bool, ◌&&◌, ◌==◌, nat_le, not, Option, Some, None, MatchOption, if◌then◌else◌}
 use Rattle.node_cmd.specs.declared.ip.texts.RouteText.{RouteText}
+
+-- a call answers with what there is, as `view` shows it, or with none where there is none
+abbrev pub Gives : {A X : Type 0} → Option X → Option A → (X → A) → Type 0
+Gives result answer view = MatchOption result (answer ≡ None) (λ x. answer ≡ Some (view x))
 
 abbrev pub is_digit : ℕ → Bool
 is_digit b = nat_le 48 b && nat_le b 57
@@ -12,7 +16,9 @@ small n = if nat_le n 255 then Some n else None
 abbrev pub octet_at : List ℕ → Option ℕ
 octet_at (a ∷ []) = if is_digit a then Some (a - 48) else None
 octet_at (a ∷ b ∷ []) = if is_digit a && not (a == 48) && is_digit b then Some (10 * (a - 48) + (b - 48)) else None
-octet_at (a ∷ b ∷ c ∷ []) = if is_digit a && not (a == 48) && is_digit b && is_digit c then small (100 * (a - 48) + 10 * (b - 48) + (c - 48)) else None
+octet_at (a ∷ b ∷ c ∷ []) =
+    if is_digit a && not (a == 48) && is_digit b && is_digit c
+    then small (100 * (a - 48) + 10 * (b - 48) + (c - 48)) else None
 octet_at _ = None
 
 infixl 10 ◌>>=◌

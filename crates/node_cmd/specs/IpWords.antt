@@ -1,6 +1,6 @@
 -- The words of `ip`: `call=CALL`, `addr=IP`, and each route as `route=IP/N,IP`. Own profile.
 use Rattle.std.specs.Cmp.Lexicographic.{pointwise}
-use Rattle.std.specs.Prelude.{ℕ, ◌≡◌, ◌++◌, List, [], ◌∷◌, length, take, drop, nat_eq, Option, Some, None, Result, Ok, Err, codes, if◌then◌else◌}
+use Rattle.std.specs.Prelude.{ℕ, ◌≡◌, List, [], ◌∷◌, length, take, drop, nat_eq, Option, Some, None, Result, Ok, Err, codes, if◌then◌else◌}
 use Rattle.ax_address.specs.Callsign.{Callsign}
 use Rattle.ax_address.specs.declared.call.CallRefusal.{CallRefusal}
 use Rattle.ax_address.specs.CallReading as reading
@@ -8,6 +8,7 @@ use Rattle.ax_ip.specs.Machine.{State}
 use Rattle.ax_ip.specs.declared.route.Route.{Route}
 use Rattle.ax_ip.specs.Routes as routes
 use Rattle.node_cmd.specs.declared.ip.texts.RouteText.{RouteText}
+use Rattle.node_cmd.specs.Gateways.{with_route}
 use Rattle.node_cmd.specs.IpTexts.{◌>>=◌, address_at, route_at}
 
 -- what stands behind the key of a word
@@ -45,7 +46,7 @@ pub record AddsRoute (word : List ℕ) (old new : State) : Type 0 where
   pub taken : routes.route_at text.prefix text.len old.routes ≡ Ok tt
   pub route : Route
   pub parts : routes.IsRoute text.prefix text.len text.hop route
-  pub last : new ≡ record old { routes = old.routes ++ route ∷ [] }
+  pub last : new ≡ with_route route old
 
 -- route by route
 abbrev pub Adds : List (List ℕ) → State → State → Type 0

@@ -25,6 +25,10 @@ kiss_of_frame f = framed 0 0 f.octets.items
 abbrev pub kiss_of : List Written → List ℕ
 kiss_of fs = flat_map kiss_of_frame fs
 
+-- the text gains all frames that the node has to send
+abbrev pub AddsFrames : Kept → List ℕ → List ℕ → Type 0
+AddsFrames node old new = (n : NodeState) → NodeStands node n → new ≡ old ++ kiss_of (frames n.station)
+
 -- all that it has to send and to tell was fetched
 abbrev pub fetched : NodeState → NodeState
 fetched n = record n { station = heard (sent n.station) }
@@ -50,7 +54,8 @@ IsKept n = (node : Kept) × NodeStands node n × IsWithin node
 abbrev pub StaysWithin : List Read → NodeState → Type 0
 StaysWithin [] n = IsKept n
 StaysWithin (read ∷ later) n =
-    IsKept n × IsKept (after_bytes read.now read.bytes n) × IsKept (after_read read n) × StaysWithin later (fetched (after_read read n))
+    IsKept n × IsKept (after_bytes read.now read.bytes n) × IsKept (after_read read n)
+    × StaysWithin later (fetched (after_read read n))
 
 -- a node has taken these reads from that machine on, and answered them with that text
 pub record HasLived (node : Kept) (reads : List Read) (text : List ℕ) (n : NodeState) : Type 0 where
@@ -59,9 +64,15 @@ pub record HasLived (node : Kept) (reads : List Read) (text : List ℕ) (n : Nod
   pub answer : text ≡ answer_to_reads reads n
   pub stays : StaysWithin reads n
 
+-- the first node became the last so, from whatever machine it stood for
+abbrev pub LivesThrough : Kept → Kept → List Read → List ℕ → Type 0
+LivesThrough first last reads text = (n : NodeState) → NodeStands first n → IsWithin first → HasLived last reads text n
+
 -- a text is what the declared node sends at these reads, and at each moment of them it keeps no more than its bound
 abbrev pub IsAnswerOf : LiveNode → List Read → List ℕ → Type 0
-IsAnswerOf declared reads text = let n : NodeState = live_started declared in (text ≡ answer_to_reads reads n) × StaysWithin reads n
+IsAnswerOf declared reads text =
+    let n : NodeState = live_started declared in
+    (text ≡ answer_to_reads reads n) × StaysWithin reads n
 
 -- the node that is left stands for the machine after these reads, and keeps no more than its bound
 abbrev pub LeavesNode : Ran → NodeState → Type 0
@@ -70,4 +81,5 @@ LeavesNode (Replayed trace) n = ⊥
 LeavesNode (Served node) n = NodeStands node n × IsWithin node
 
 abbrev pub ServesReads : LiveNode → Ran → List Read → List ℕ → Type 0
-ServesReads declared ran reads text = IsAnswerOf declared reads text × LeavesNode ran (after_reads reads (live_started declared))
+ServesReads declared ran reads text =
+    IsAnswerOf declared reads text × LeavesNode ran (after_reads reads (live_started declared))

@@ -1,19 +1,23 @@
 -- What a command that runs a network writes and leaves of it.
-use Rattle.std.specs.Prelude.{ℕ, ◌≡◌, ◌≢◌, ◌⊎◌, List, Option, Some, None, Result, Ok, Err}
+use Rattle.std.specs.Prelude.{ℕ, ◌≡◌, ◌≢◌, ◌≤◌, List, length, Option, Some, None, Result, Ok, Err}
 use Rattle.std.specs.Io.KnownBytes.{Appends}
 use Rattle.radio_base.specs.Causes.{Rose}
 use Rattle.circuit_verdict.specs.declared.verdict.Late.{Late}
 use Rattle.network_file.specs.Networks.{Bad, network_of}
 use Rattle.network_file.specs.Plan.{Plan}
 use Rattle.network_file.specs.Reasons.{word_for}
-use Rattle.net_replay.specs.Circuits.{IsVerdictOn}
+use Rattle.net_replay.specs.declared.trace.Trace.{Trace}
+use Rattle.net_replay.specs.Air.{most_frames}
+use Rattle.net_replay.specs.Circuits.{IsVerdictOn, allowance_of}
 use Rattle.net_replay.specs.Files.{AirsFew, AirsTooMany, IsInTime, IsLate, IsNetwork}
 use Rattle.net_replay.specs.Lines.{world}
 use Rattle.net_replay.specs.Promises.{MailOnceThroughout, RetriesAreTold, SafeThroughout}
 use Rattle.net_replay.specs.Reports.{report_text}
 use Rattle.net_replay.specs.Soaks.{soak_text}
-use Rattle.net_replay.specs.Traces.{IsTraceOf, left_of}
+use Rattle.net_replay.specs.Traces.{IsTraceOf, allowance_in, left_of}
 use Rattle.net_replay.specs.World.{World}
+use Rattle.node_cmd.specs.Statuses.{Comes, WritesWell}
+use Rattle.node_cmd.specs.ToldBy.{IsNoted}
 use Rattle.node_cmd.specs.declared.outcomes.Outcome.{Outcome}
 use Rattle.node_cmd.specs.declared.outcomes.Printed.{Printed}
 use Rattle.node_cmd.specs.declared.outcomes.Printed.TheVariants.{Report, SoakLine}
@@ -24,7 +28,8 @@ use Rattle.node_cmd.specs.declared.ran.Ran.TheVariants.{Nothing, Replayed, Serve
 use Rattle.cmd_streams.specs.declared.status.Status.{Status}
 use Rattle.cmd_streams.specs.declared.status.Status.TheVariants as statuses
 use Rattle.cmd_streams.specs.Notes.{bad_line_note}
-use Rattle.cmd_streams.specs.Writing.{AppendsFront, Says}
+use Rattle.cmd_streams.specs.Told.{Told}
+use Rattle.cmd_streams.specs.Writing.{AppendsFront}
 
 -- what is written of a network, with the verdict on it: its report, or the line on the soak of a number
 abbrev pub text_of : Printed → World → Option Late → List ℕ
@@ -47,6 +52,12 @@ pub record IsOutcome (what : Printed) (o : Outcome) (network : Plan) : Type 0 wh
   pub trace : IsTraceOf (left_of o.trace) (world network)
   pub verdict : IsVerdictOn network (world network) o.late
   pub text : o.text ≡ text_of what (world network) o.late
+
+-- P holds, if the trace is one that a replay of the network may leave
+abbrev pub IfReplayed : Trace → Plan → Type 0 → Type 0
+IfReplayed trace network P =
+    allowance_in trace ≡ allowance_of network → IsTraceOf (left_of trace) (world network)
+    → length (left_of trace).air ≤ most_frames → P
 
 -- the trace of a world is left
 abbrev pub Leaves : Ran → World → Type 0
@@ -80,16 +91,16 @@ pub record WritesFront (what : Printed) (old new : Option (List ℕ)) (network :
   pub written : AppendsFront old new (text_of what (world network) late)
 
 -- What is written and noted of the network of a file, as the two commands that run one share it; how each of them ends is said in `Run`.
-pub record NetworkEnds (what : Printed) (bytes : List ℕ) (written written' : Option (List ℕ)) (writes writes' : ℕ) (notes notes' : Option (List ℕ)) (note_faults note_faults' : ℕ) (ran : Ran) (status : Status) : Type 0 where
-  pub done : status ≡ statuses.Done → IsNetwork bytes (ReportsInTime what written written' ran)
-  pub late : status ≡ statuses.TooLate → IsNetwork bytes (ReportsLate what written written' ran)
-  pub done_comes : IsNetwork bytes IsInTime → ¬ Rose writes writes' → (status ≡ statuses.Done) ⊎ (status ≡ statuses.NoMemory)
-  pub late_comes : IsNetwork bytes IsLate → ¬ Rose writes writes' → (status ≡ statuses.TooLate) ⊎ (status ≡ statuses.NoMemory)
+pub record NetworkEnds (what : Printed) (bytes : List ℕ) (before after : Told) (ran : Ran) (status : Status) : Type 0 where
+  pub done : status ≡ statuses.Done → IsNetwork bytes (ReportsInTime what before.written after.written ran)
+  pub late : status ≡ statuses.TooLate → IsNetwork bytes (ReportsLate what before.written after.written ran)
+  pub done_comes : IsNetwork bytes IsInTime → WritesWell before after → Comes statuses.Done status
+  pub late_comes : IsNetwork bytes IsLate → WritesWell before after → Comes statuses.TooLate status
   pub too_long : status ≡ statuses.TooLong → IsNetwork bytes AirsTooMany
-  pub too_long_comes : IsNetwork bytes AirsTooMany → (status ≡ statuses.TooLong) ⊎ (status ≡ statuses.NoMemory)
-  pub bad_file : status ≡ statuses.BadFile → IsBadFile bytes (Says notes notes' note_faults note_faults')
-  pub bad_file_comes : ((bad : Bad) × (network_of bytes ≡ Err bad)) → (status ≡ statuses.BadFile) ⊎ (status ≡ statuses.NoMemory)
-  pub write_fault : status ≡ statuses.WriteFault → Rose writes writes'
-  pub write_front : status ≡ statuses.WriteFault → IsNetwork bytes (WritesFront what written written')
-  pub write_same : status ≢ statuses.WriteFault → writes' ≡ writes
+  pub too_long_comes : IsNetwork bytes AirsTooMany → Comes statuses.TooLong status
+  pub bad_file : status ≡ statuses.BadFile → IsBadFile bytes (IsNoted before after)
+  pub bad_file_comes : ((bad : Bad) × (network_of bytes ≡ Err bad)) → Comes statuses.BadFile status
+  pub write_fault : status ≡ statuses.WriteFault → Rose before.write_faults after.write_faults
+  pub write_front : status ≡ statuses.WriteFault → IsNetwork bytes (WritesFront what before.written after.written)
+  pub write_same : status ≢ statuses.WriteFault → after.write_faults ≡ before.write_faults
   pub others : (status ≢ statuses.Usage) × (status ≢ statuses.ReadFault)

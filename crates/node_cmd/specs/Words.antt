@@ -1,5 +1,5 @@
 -- The commands, and the words that ask for them.
-use Rattle.std.specs.Prelude.{ℕ, ◌≡◌, ◌⊎◌, ◌<◌, ◌^◌, ◌++◌, List, [], ◌∷◌, map, Ok, codes, String, string_bytes}
+use Rattle.std.specs.Prelude.{ℕ, ◌≡◌, ◌⊎◌, ◌<◌, ◌^◌, ◌++◌, List, [], ◌∷◌, Ok, codes, String}
 use Rattle.std.specs.Fmt.{decimal}
 use Rattle.std.specs.declared.alloc.Global.{Global}
 use Rattle.ax_ip.specs.Machine.{state}
@@ -13,6 +13,7 @@ use Rattle.node_cmd.specs.declared.words.FrameModulus.{FrameModulus}
 use Rattle.node_cmd.specs.FrameModuli.{modulo_word}
 use Rattle.node_cmd.specs.IpWords.{IsGateway}
 use Rattle.node_cmd.specs.LifeWords.{AreSettings}
+use Rattle.node_cmd.specs.WordTexts.{texts_of}
 
 -- decimal, without a sign and without leading zeros
 abbrev pub seed_word : ℕ → List ℕ
@@ -29,10 +30,11 @@ Ask words (Frames m) = words ≡ codes "frames" ∷ modulo_word m ∷ []
 Ask words (Soak seed) = (words ≡ codes "soak" ∷ seed_word seed ∷ []) × (seed < 2 ^ 64)
 Ask words (Life s) = (later : List (List ℕ)) × (words ≡ codes "life" ∷ later) × AreSettings later s
 Ask words (Node declared) = (later : List (List ℕ)) × (words ≡ codes "node" ∷ later) × Declare later declared
-Ask words (Ip gateway) = (later : List (List ℕ)) × (words ≡ codes "ip" ∷ later) × IsGateway later (state gateway.forwarder)
+Ask words (Ip gateway) =
+    (later : List (List ℕ)) × (words ≡ codes "ip" ∷ later) × IsGateway later (state gateway.forwarder)
 
 abbrev pub AskFor : List (String Global) → Command → Type 0
-AskFor words command = Ask (map (λ w. string_bytes w) words) command
+AskFor words command = Ask (texts_of words) command
 
 -- for a live node
 abbrev pub AskForNode : List (String Global) → Type 0

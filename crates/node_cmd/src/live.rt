@@ -2,13 +2,11 @@
 ghost use Rattle.std.specs.Prelude.{◌≡◌, ◌≢◌, ◌++◌, ◌≤◌, List, ℕ, false, length, OnOk};
 ghost use Rattle.node_core.specs.Bounds.{IsWithin};
 ghost use Rattle.node_core.specs.Fetching.{heard, sent};
-ghost use Rattle.node_core.specs.Kept.{NodeGoes, NodeStands};
-ghost use Rattle.node_turns.specs.States.{NodeState, frames};
+ghost use Rattle.node_core.specs.Kept.{NodeGoes};
 ghost use Rattle.node_cmd.specs.Live as live;
 ghost use Rattle.node_cmd.specs.Run.{NodeEnds};
 ghost use Rattle.cmd_streams.specs.StatusNotes.{HasNote, IsSilent};
-ghost use Rattle.cmd_streams.specs.Told.{told};
-ghost use Rattle.cmd_streams.specs.Writing.{Says};
+ghost use Rattle.node_cmd.specs.ToldBy.{SaysTo, told_by};
 ghost use Rattle.node_cmd.specs.declared.ran.Ran.TheVariants as rans;
 
 use crate::ran::Ran;
@@ -34,12 +32,9 @@ struct Living {
 }
 
 impl Taker for Living {
-    ghost use Rattle.node_core.specs.Bounds.{IsWithin};
-    ghost use Rattle.node_core.specs.Kept.{NodeStands};
-    ghost use Rattle.node_turns.specs.States.{NodeState};
-    ghost use Rattle.node_cmd.specs.Live.{HasLived};
+    ghost use Rattle.node_cmd.specs.Live.{LivesThrough};
 
-    ghost took = { λ first last reads text. (n : NodeState) → NodeStands first.node n → IsWithin first.node → HasLived last.node reads text n };
+    ghost took = { λ first last reads text. LivesThrough first.node last.node reads text };
 
     fn take(&mut self, bytes: &[u8], now: Moment, answer: &mut TextOut) -> Result<(), NoMemory> {
         self.node.kiss_bytes(bytes, now)?;
@@ -53,7 +48,7 @@ impl Taker for Living {
 /// Fetches all frames of the node, and adds them as KISS bytes.
 fn add_frames(node: &mut Node, text: &mut TextOut) -> Result<(), NoMemory>
     ensures goes { OnOk result (NodeGoes (λ n. record n { station = sent n.station }) node.old node.new) }
-    ensures added { OnOk result ((n : NodeState) → NodeStands node.old n → text.new ≡ text.old ++ live.kiss_of (frames n.station)) }
+    ensures added { OnOk result (live.AddsFrames node.old text.old text.new) }
     ensures grows { OnOk result ((more : List ℕ) × (text.new ≡ text.old ++ more)) }
 {
     node_core::laws::fetching_empties();
@@ -99,13 +94,13 @@ pub fn run_node<S: Source, K: Sink, N: Sink, C: Clock>(
 
     // How it ends: the bytes written are the frames of the node's machine, and each status has its reason.
     ensures ends { NodeEnds declared.now (C.given clock.old) (C.given clock.new)
-        (told (S.left source.old) (S.reads source.old) (S.faults source.old) (K.written sink.old) (K.faults sink.old) (N.written notes.old) (N.faults notes.old))
-        (told (S.left source.new) (S.reads source.new) (S.faults source.new) (K.written sink.new) (K.faults sink.new) (N.written notes.new) (N.faults notes.new))
+        (told_by S.Source K.Sink N.Sink source.old sink.old notes.old)
+        (told_by S.Source K.Sink N.Sink source.new sink.new notes.new)
         ran.new result }
 
     // What isn't said above to be left isn't, and nothing else is noted.
     ensures nothing { result ≢ Status.Done → ran.new ≡ ran.old }
-    ensures noted { HasNote result (Says (N.written notes.old) (N.written notes.new) (N.faults notes.old) (N.faults notes.new)) }
+    ensures noted { HasNote result (SaysTo N.Sink notes.old notes.new) }
     ensures silent { IsSilent result → notes.new ≡ notes.old }
 {
     let node = match live_node(alloc, declared) {

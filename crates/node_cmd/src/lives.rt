@@ -5,8 +5,7 @@ ghost use Rattle.node_cmd.specs.Lives.{IsScript, report_of};
 ghost use Rattle.cmd_streams.specs.Reading.{max_file};
 ghost use Rattle.node_cmd.specs.Run.{LifeEnds};
 ghost use Rattle.cmd_streams.specs.StatusNotes.{HasNote, IsSilent};
-ghost use Rattle.cmd_streams.specs.Told.{told};
-ghost use Rattle.cmd_streams.specs.Writing.{Says};
+ghost use Rattle.node_cmd.specs.ToldBy.{SaysTo, told_by};
 
 pub mod words;
 
@@ -29,12 +28,12 @@ pub fn life_of_file<S: Source, K: Sink, N: Sink>(
 ) -> Status
     // How it ends: the report is that of the script's life, and each status has its reason.
     ensures ends { LifeEnds settings
-        (told (S.left source.old) (S.reads source.old) (S.faults source.old) (K.written sink.old) (K.faults sink.old) (N.written notes.old) (N.faults notes.old))
-        (told (S.left source.new) (S.reads source.new) (S.faults source.new) (K.written sink.new) (K.faults sink.new) (N.written notes.new) (N.faults notes.new)) result }
+        (told_by S.Source K.Sink N.Sink source.old sink.old notes.old)
+        (told_by S.Source K.Sink N.Sink source.new sink.new notes.new) result }
 
     // What isn't said above to be written isn't, and nothing else is noted.
     ensures unwritten { result ≢ Status.Done → result ≢ Status.WriteFault → sink.new ≡ sink.old }
-    ensures noted { HasNote result (Says (N.written notes.old) (N.written notes.new) (N.faults notes.old) (N.faults notes.new)) }
+    ensures noted { HasNote result (SaysTo N.Sink notes.old notes.new) }
     ensures silent { IsSilent result → notes.new ≡ notes.old }
 {
     let bytes = match read_file(alloc, source) {

@@ -2,17 +2,15 @@
 ghost use Rattle.std.specs.Prelude.{◌≡◌, ◌≢◌, ◌≤◌, ◌++◌, length, None, Ok, OnOk, IfOk, IfErr};
 ghost use Rattle.network_file.specs.Networks.{network_of};
 ghost use Rattle.network_file.specs.Plan.{Plan};
-ghost use Rattle.net_replay.specs.Air.{most_frames};
 ghost use Rattle.net_replay.specs.CircuitRuns.{IsSound};
-ghost use Rattle.net_replay.specs.Circuits.{allowance_of};
-ghost use Rattle.net_replay.specs.Lines.{world};
 ghost use Rattle.net_replay.specs.Promises.{MailOnceThroughout, RetriesAreTold, SafeThroughout};
-ghost use Rattle.net_replay.specs.Traces.{IsTraceOf, allowance_in, left_of};
+ghost use Rattle.net_replay.specs.Traces.{IsTraceOf, left_of};
 ghost use Rattle.net_replay.specs.World.{World};
-ghost use Rattle.node_cmd.specs.Outcomes.{IsOutcome, NetworkEnds, NotReported, text_of};
+ghost use Rattle.node_cmd.specs.Outcomes.{IfReplayed, IsOutcome, NetworkEnds, NotReported, text_of};
 ghost use Rattle.cmd_streams.specs.Reading.{max_file};
 ghost use Rattle.cmd_streams.specs.StatusNotes.{HasNote, IsSilent};
-ghost use Rattle.cmd_streams.specs.Writing.{Says};
+ghost use Rattle.node_cmd.specs.ToldBy.{SaysTo, output_by};
+ghost use Rattle.node_cmd.specs.Statuses.{UnlessItWrote};
 ghost use Rattle.node_cmd.specs.declared.outcomes.ReportRefusal.TheVariants as Refusal;
 ghost use Rattle.node_cmd.specs.declared.ran.Ran.TheVariants as rans;
 
@@ -65,13 +63,14 @@ pub fn print_network<K: Sink, N: Sink>(
     requires nothing { ran.old ≡ rans.Nothing }
 
     // How it ends: the text is that of the file's network, and each status has its reason.
-    ensures ends { NetworkEnds what bytes.now (K.written sink.old) (K.written sink.new) (K.faults sink.old) (K.faults sink.new)
-        (N.written notes.old) (N.written notes.new) (N.faults notes.old) (N.faults notes.new) ran.new result }
+    ensures ends { NetworkEnds what bytes.now
+        (output_by K.Sink N.Sink sink.old notes.old)
+        (output_by K.Sink N.Sink sink.new notes.new) ran.new result }
 
     // What isn't said above to be written or left isn't, and nothing else is noted.
-    ensures unwritten { result ≢ Status.Done → result ≢ Status.TooLate → result ≢ Status.WriteFault → sink.new ≡ sink.old }
+    ensures unwritten { UnlessItWrote result (sink.new ≡ sink.old) }
     ensures nothing { result ≢ Status.Done → result ≢ Status.TooLate → ran.new ≡ ran.old }
-    ensures noted { HasNote result (Says (N.written notes.old) (N.written notes.new) (N.faults notes.old) (N.faults notes.new)) }
+    ensures noted { HasNote result (SaysTo N.Sink notes.old notes.new) }
     ensures silent { IsSilent result → notes.new ≡ notes.old }
 {
     let Outcome { trace, late, text } = match outcome_of(alloc, bytes, what) {
@@ -130,7 +129,7 @@ fn outcome_of_network(
 }
 
 fn outcome_of_trace(alloc: Global, trace: Trace, what: Printed) -> Result<Outcome, ReportRefusal>
-    ensures ok { IfOk result (λ o. (plan : Plan) → allowance_in trace ≡ allowance_of plan → IsTraceOf (left_of trace) (world plan) → length (left_of trace).air ≤ most_frames → IsOutcome what o plan) }
+    ensures ok { IfOk result (λ o. (plan : Plan) → IfReplayed trace plan (IsOutcome what o plan)) }
     ensures err { IfErr result (λ e. e ≡ Refusal.NoMemory) }
 {
     let late = match too_late(alloc, &trace) {

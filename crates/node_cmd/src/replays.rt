@@ -1,8 +1,8 @@
 //! The command `replay`.
 ghost use Rattle.std.specs.Prelude.{◌≡◌, ◌≢◌};
-ghost use Rattle.cmd_streams.specs.Writing.{Says};
+ghost use Rattle.node_cmd.specs.ToldBy.{SaysTo, told_by};
+ghost use Rattle.node_cmd.specs.Statuses.{UnlessItWrote};
 ghost use Rattle.cmd_streams.specs.StatusNotes.{HasNote, IsSilent};
-ghost use Rattle.cmd_streams.specs.Told.{told};
 ghost use Rattle.node_cmd.specs.Run.{ReplayEnds};
 ghost use Rattle.node_cmd.specs.declared.ran.Ran.TheVariants as rans;
 
@@ -26,14 +26,14 @@ pub fn replay_file<S: Source, K: Sink, N: Sink>(
 
     // How it ends: the report is that of the file, and each status has its reason.
     ensures ends { ReplayEnds
-        (told (S.left source.old) (S.reads source.old) (S.faults source.old) (K.written sink.old) (K.faults sink.old) (N.written notes.old) (N.faults notes.old))
-        (told (S.left source.new) (S.reads source.new) (S.faults source.new) (K.written sink.new) (K.faults sink.new) (N.written notes.new) (N.faults notes.new))
+        (told_by S.Source K.Sink N.Sink source.old sink.old notes.old)
+        (told_by S.Source K.Sink N.Sink source.new sink.new notes.new)
         ran.new result }
 
     // What isn't said above to be written or left isn't, and nothing else is noted.
-    ensures unwritten { result ≢ Status.Done → result ≢ Status.TooLate → result ≢ Status.WriteFault → sink.new ≡ sink.old }
+    ensures unwritten { UnlessItWrote result (sink.new ≡ sink.old) }
     ensures nothing { result ≢ Status.Done → result ≢ Status.TooLate → ran.new ≡ ran.old }
-    ensures noted { HasNote result (Says (N.written notes.old) (N.written notes.new) (N.faults notes.old) (N.faults notes.new)) }
+    ensures noted { HasNote result (SaysTo N.Sink notes.old notes.new) }
     ensures silent { IsSilent result → notes.new ≡ notes.old }
 {
     match read_file(alloc, source) {

@@ -1,6 +1,7 @@
 //! The command `soak`.
 ghost use Rattle.std.specs.Prelude.{◌≡◌, ◌≢◌};
-ghost use Rattle.cmd_streams.specs.Writing.{Says};
+ghost use Rattle.node_cmd.specs.ToldBy.{SaysTo, output_by};
+ghost use Rattle.node_cmd.specs.Statuses.{UnlessItWrote};
 ghost use Rattle.cmd_streams.specs.StatusNotes.{HasNote, IsSilent};
 ghost use Rattle.node_cmd.specs.Run.{SoakEnds};
 ghost use Rattle.node_cmd.specs.declared.ran.Ran.TheVariants as rans;
@@ -23,12 +24,14 @@ pub fn soak<K: Sink, N: Sink>(
     requires { ran.old ≡ rans.Nothing }
 
     // How it ends: the line is that of the number's network, and each status has its reason.
-    ensures ends { SoakEnds seed (K.written sink.old) (K.written sink.new) (K.faults sink.old) (K.faults sink.new) ran.new result }
+    ensures ends { SoakEnds seed
+        (output_by K.Sink N.Sink sink.old notes.old)
+        (output_by K.Sink N.Sink sink.new notes.new) ran.new result }
 
     // What isn't said above to be written or left isn't, and nothing else is noted.
-    ensures unwritten { result ≢ Status.Done → result ≢ Status.TooLate → result ≢ Status.WriteFault → sink.new ≡ sink.old }
+    ensures unwritten { UnlessItWrote result (sink.new ≡ sink.old) }
     ensures nothing { result ≢ Status.Done → result ≢ Status.TooLate → ran.new ≡ ran.old }
-    ensures noted { HasNote result (Says (N.written notes.old) (N.written notes.new) (N.faults notes.old) (N.faults notes.new)) }
+    ensures noted { HasNote result (SaysTo N.Sink notes.old notes.new) }
     ensures silent { IsSilent result → notes.new ≡ notes.old }
 {
     network_soak::laws::soak_files_are_networks();

@@ -9,9 +9,9 @@ ghost use Rattle.node_cmd.specs.declared.words.FrameModulus.{FrameModulus};
 ghost use Rattle.network_file.specs.declared.plan.live.LiveNode.{LiveNode};
 ghost use Rattle.node_cmd.specs.Words.{AskFor, AskForLife, AskForNode, AskForStream};
 ghost use Rattle.node_cmd.specs.FrameModuli.{size_of};
-ghost use Rattle.cmd_streams.specs.Writing.{Says};
+ghost use Rattle.node_cmd.specs.ToldBy.{SaysTo, output_by, told_by};
+ghost use Rattle.node_cmd.specs.Statuses.{UnlessItWrote};
 ghost use Rattle.cmd_streams.specs.StatusNotes.{HasNote, IsSilent};
-ghost use Rattle.cmd_streams.specs.Told.{told};
 ghost use Rattle.node_cmd.specs.Usage.{usage_note};
 ghost use Rattle.node_cmd.specs.Run.{FramesEnd, IpEnds, LifeEnds, NodeEnds, ReplayEnds, SoakEnds};
 
@@ -52,38 +52,40 @@ pub fn run<S: Source, K: Sink, N: Sink, C: Clock>(
 
     // How each command ends.
     ensures replay { AskFor words.now Command.Replay → ReplayEnds
-        (told (S.left source.old) (S.reads source.old) (S.faults source.old) (K.written sink.old) (K.faults sink.old) (N.written notes.old) (N.faults notes.old))
-        (told (S.left source.new) (S.reads source.new) (S.faults source.new) (K.written sink.new) (K.faults sink.new) (N.written notes.new) (N.faults notes.new))
+        (told_by S.Source K.Sink N.Sink source.old sink.old notes.old)
+        (told_by S.Source K.Sink N.Sink source.new sink.new notes.new)
         ran.new result }
     ensures frames { (m : FrameModulus) → AskFor words.now (Command.Frames m) → FramesEnd (size_of m)
-        (told (S.left source.old) (S.reads source.old) (S.faults source.old) (K.written sink.old) (K.faults sink.old) (N.written notes.old) (N.faults notes.old))
-        (told (S.left source.new) (S.reads source.new) (S.faults source.new) (K.written sink.new) (K.faults sink.new) (N.written notes.new) (N.faults notes.new)) result }
+        (told_by S.Source K.Sink N.Sink source.old sink.old notes.old)
+        (told_by S.Source K.Sink N.Sink source.new sink.new notes.new) result }
     ensures soak { (seed : ℕ) → AskFor words.now (Command.Soak seed) → SoakEnds seed
-        (K.written sink.old) (K.written sink.new) (K.faults sink.old) (K.faults sink.new) ran.new result }
+        (output_by K.Sink N.Sink sink.old notes.old)
+        (output_by K.Sink N.Sink sink.new notes.new) ran.new result }
     ensures life { (s : LifeSettings) → AskFor words.now (Command.Life s) → LifeEnds s
-        (told (S.left source.old) (S.reads source.old) (S.faults source.old) (K.written sink.old) (K.faults sink.old) (N.written notes.old) (N.faults notes.old))
-        (told (S.left source.new) (S.reads source.new) (S.faults source.new) (K.written sink.new) (K.faults sink.new) (N.written notes.new) (N.faults notes.new)) result }
-    ensures node { (declared : LiveNode) → AskFor words.now (Command.Node declared) → NodeEnds declared (C.given clock.old) (C.given clock.new)
-        (told (S.left source.old) (S.reads source.old) (S.faults source.old) (K.written sink.old) (K.faults sink.old) (N.written notes.old) (N.faults notes.old))
-        (told (S.left source.new) (S.reads source.new) (S.faults source.new) (K.written sink.new) (K.faults sink.new) (N.written notes.new) (N.faults notes.new))
+        (told_by S.Source K.Sink N.Sink source.old sink.old notes.old)
+        (told_by S.Source K.Sink N.Sink source.new sink.new notes.new) result }
+    ensures node { (declared : LiveNode) → AskFor words.now (Command.Node declared) → NodeEnds declared
+        (C.given clock.old) (C.given clock.new)
+        (told_by S.Source K.Sink N.Sink source.old sink.old notes.old)
+        (told_by S.Source K.Sink N.Sink source.new sink.new notes.new)
         ran.new result }
     ensures ip { (g : Gateway) → AskFor words.now (Command.Ip g) → IpEnds (state g.forwarder)
-        (told (S.left source.old) (S.reads source.old) (S.faults source.old) (K.written sink.old) (K.faults sink.old) (N.written notes.old) (N.faults notes.old))
-        (told (S.left source.new) (S.reads source.new) (S.faults source.new) (K.written sink.new) (K.faults sink.new) (N.written notes.new) (N.faults notes.new)) result }
+        (told_by S.Source K.Sink N.Sink source.old sink.old notes.old)
+        (told_by S.Source K.Sink N.Sink source.new sink.new notes.new) result }
 
     // `soak` reads nothing.
     ensures sourceless { (seed : ℕ) → AskFor words.now (Command.Soak seed) → source.new ≡ source.old }
 
     // `replay`, `soak` and `life` write at the end: elsewhere they write nothing.
-    ensures whole { ¬ AskForStream words.now → ¬ AskForNode words.now → result ≢ Status.Done → result ≢ Status.TooLate → result ≢ Status.WriteFault → sink.new ≡ sink.old }
+    ensures whole { ¬ AskForStream words.now → ¬ AskForNode words.now → UnlessItWrote result (sink.new ≡ sink.old) }
 
     // What ran is left after `replay`, `node` and `soak`: where they are done, and where it is too late.
     ensures nothing { result ≢ Status.Done → result ≢ Status.TooLate → ran.new ≡ ran.old }
     ensures no_network { AskForStream words.now ⊎ AskForLife words.now → ran.new ≡ ran.old }
 
     // The notes are those of the status, and no others.
-    ensures noted { HasNote result (Says (N.written notes.old) (N.written notes.new) (N.faults notes.old) (N.faults notes.new)) }
-    ensures usage_noted { result ≡ Status.Usage → Says (N.written notes.old) (N.written notes.new) (N.faults notes.old) (N.faults notes.new) usage_note }
+    ensures noted { HasNote result (SaysTo N.Sink notes.old notes.new) }
+    ensures usage_noted { result ≡ Status.Usage → SaysTo N.Sink notes.old notes.new usage_note }
     ensures silent { IsSilent result → notes.new ≡ notes.old }
 
     // No command but `node` asks the clock.

@@ -1,10 +1,7 @@
 //! A forwarder of packets at a KISS stream: what comes, and what is sent.
-ghost use Rattle.std.specs.Prelude.{◌≡◌, ◌≤◌, ◌++◌, ◌∷◌, [], length, None, OnOk, OnErr};
-ghost use Rattle.kiss_framing.specs.Enframing as kiss;
+ghost use Rattle.std.specs.Prelude.{◌≡◌, ◌≤◌, [], length, None, OnOk, OnErr};
 ghost use Rattle.ax_address.specs.Callsign.{IsCallsign};
-ghost use Rattle.ax_frame.specs.Read.{read_at};
 ghost use Rattle.ax_ip.specs.Machine.{state, waiting};
-ghost use Rattle.ax_ip.specs.declared.route.Route.{Route};
 ghost use Rattle.ax_ip.specs.Routes as routes;
 ghost use Rattle.node_cmd.specs.Gateways as gateways;
 
@@ -60,7 +57,8 @@ impl Gateway {
     /// Takes a route in.
     pub fn route(&mut self, prefix: u32, len: u8, hop: u32) -> Result<(), RouteRefusal>
         ensures exact { result ≡ routes.route_at prefix len (state self.old.forwarder).routes }
-        ensures entered { OnOk result ((r : Route) × routes.IsRoute prefix len hop r × (state self.new.forwarder ≡ record (state self.old.forwarder) { routes = (state self.old.forwarder).routes ++ r ∷ [] })) }
+        ensures entered { OnOk result
+            (gateways.EntersRoute prefix len hop (state self.old.forwarder) (state self.new.forwarder)) }
         ensures err { OnErr result (self.new ≡ self.old) }
     {
         self.forwarder.route(prefix, len, hop)
@@ -68,8 +66,8 @@ impl Gateway {
 
     /// Takes an item of a KISS stream in, and leaves the frame that is sent for it in `framed`.
     fn answer_item(&mut self, item: &KissItem<'_>)
-        ensures state { state self.new.forwarder ≡ (gateways.by_item (state self.old.forwarder) (gateways.item_of item.now)).0 }
-        ensures sent { self.new.framed.items ≡ (gateways.by_item (state self.old.forwarder) (gateways.item_of item.now)).1 }
+        ensures state { state self.new.forwarder ≡ (gateways.by_kiss_item (state self.old.forwarder) item.now).0 }
+        ensures sent { self.new.framed.items ≡ (gateways.by_kiss_item (state self.old.forwarder) item.now).1 }
     {
         self.framed.clear();
         match item {
@@ -84,8 +82,8 @@ impl Gateway {
 
     fn answer_frame(&mut self, octets: &[u8])
         requires { self.old.framed.items ≡ [] }
-        ensures state { state self.new.forwarder ≡ (gateways.by_read (state self.old.forwarder) (read_at 8 octets.now)).0 }
-        ensures sent { self.new.framed.items ≡ (gateways.by_read (state self.old.forwarder) (read_at 8 octets.now)).1 }
+        ensures state { state self.new.forwarder ≡ (gateways.by_octets (state self.old.forwarder) octets.now).0 }
+        ensures sent { self.new.framed.items ≡ (gateways.by_octets (state self.old.forwarder) octets.now).1 }
     {
         match read_frame::<M8>(octets) {
             Ok(frame) => {
@@ -103,7 +101,7 @@ impl Gateway {
 /// Puts the frame that is sent into the buffer, which is empty.
 fn put_frame(call: &Call, sent: &IpOut, octets: &mut FrameBytes, framed: &mut Framed)
     requires { framed.old.items ≡ [] }
-    ensures { framed.new.items ≡ kiss.framed 0 0 (gateways.ui_octets call.now sent.now.to sent.now.pid sent.now.info.items) }
+    ensures { framed.new.items ≡ gateways.sent_frame call.now sent.now }
 {
     write_ui(call, &sent.to, sent.pid, sent.info.as_slice(), octets);
     let _ = enframe(0, 0, octets.as_slice(), framed);

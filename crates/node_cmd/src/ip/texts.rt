@@ -1,5 +1,5 @@
 //! Addresses and routes as texts.
-ghost use Rattle.std.specs.Prelude.{◌≡◌, ◌<◌, ◌≤◌, ◌+◌, ◌^◌, ◌==◌, length, position, MatchOption, IfSome, Some, None, true};
+ghost use Rattle.std.specs.Prelude.{◌≡◌, ◌<◌, ◌≤◌, ◌+◌, ◌^◌, ◌==◌, length, position, IfSome, true};
 ghost use Rattle.node_cmd.specs.IpTexts as texts;
 
 /// What the text of a route gives.
@@ -40,7 +40,7 @@ pub fn read_route(text: &[u8]) -> Option<RouteText>
 
 /// What stands before and behind the first such character.
 fn parts_of(mark: u8, text: &[u8]) -> Option<(&[u8], &[u8])>
-    ensures { MatchOption result (texts.parts_at mark text.now ≡ None) (λ x. texts.parts_at mark text.now ≡ Some (x.0.now, x.1.now)) }
+    ensures { texts.Gives result (texts.parts_at mark text.now) (λ x. (x.0.now, x.1.now)) }
 {
     match place_of(mark, text) {
         Some(at) => Some((&text[..at], &text[at + 1..])),

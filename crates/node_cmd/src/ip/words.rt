@@ -1,7 +1,9 @@
 //! The words of `ip`.
-ghost use Rattle.std.specs.Prelude.{◌≡◌, map, string_bytes, MatchOption, IfSome, IfNone, Some, None, true, false};
+ghost use Rattle.std.specs.Prelude.{◌≡◌, IfSome, IfNone, true, false};
 ghost use Rattle.ax_ip.specs.Machine.{State, state};
+ghost use Rattle.node_cmd.specs.IpTexts.{Gives};
 ghost use Rattle.node_cmd.specs.IpWords as ips;
+ghost use Rattle.node_cmd.specs.WordTexts.{texts_of};
 
 use super::gateway::Gateway;
 use super::texts::{RouteText, read_address, read_route};
@@ -9,8 +11,8 @@ use ax_address::Call;
 
 /// The gateway that the words behind `ip` ask for: `call=CALL`, `addr=IP`, and then each of its routes.
 pub fn gateway_of(words: &[String]) -> Option<Gateway>
-    ensures found { IfSome result (λ g. ips.IsGateway (map (λ w. string_bytes w) words.now) (state g.forwarder)) }
-    ensures none { IfNone result ((s : State) → ¬ ips.IsGateway (map (λ w. string_bytes w) words.now) s) }
+    ensures found { IfSome result (λ g. ips.IsGateway (texts_of words.now) (state g.forwarder)) }
+    ensures none { IfNone result ((s : State) → ¬ ips.IsGateway (texts_of words.now) s) }
 {
     match words {
         [call, addr, routes @ ..] => {
@@ -28,7 +30,7 @@ pub fn gateway_of(words: &[String]) -> Option<Gateway>
 /// The gateway by its call and its address, without routes.
 #[tactic(auto, unfolding(crate::specs::IpWords::start_at))]
 fn start_of(call: &[u8], addr: &[u8]) -> Option<Gateway>
-    ensures { MatchOption result (ips.start_at call.now addr.now ≡ None) (λ g. ips.start_at call.now addr.now ≡ Some (state g.forwarder)) }
+    ensures { Gives result (ips.start_at call.now addr.now) (λ g. state g.forwarder) }
 {
     let call = behind(b"call=", call)?;
     let call = read_call(call)?;
@@ -39,8 +41,9 @@ fn start_of(call: &[u8], addr: &[u8]) -> Option<Gateway>
 
 /// Takes the routes in, until one is none, or isn't taken.
 fn add_routes(words: &[String], gateway: &mut Gateway) -> bool
-    ensures added { result ≡ true → ips.Adds (map (λ w. string_bytes w) words.now) (state gateway.old.forwarder) (state gateway.new.forwarder) }
-    ensures none { result ≡ false → (s : State) → ¬ ips.Adds (map (λ w. string_bytes w) words.now) (state gateway.old.forwarder) s }
+    ensures added { result ≡ true →
+        ips.Adds (texts_of words.now) (state gateway.old.forwarder) (state gateway.new.forwarder) }
+    ensures none { result ≡ false → (s : State) → ¬ ips.Adds (texts_of words.now) (state gateway.old.forwarder) s }
 {
     match words {
         [] => true,
@@ -76,7 +79,7 @@ fn read_call(text: &[u8]) -> Option<Call>
 
 /// What stands behind the key of a word.
 fn behind<'a>(key: &[u8], word: &'a [u8]) -> Option<&'a [u8]>
-    ensures { MatchOption result (ips.behind key.now word.now ≡ None) (λ x. ips.behind key.now word.now ≡ Some x.now) }
+    ensures { Gives result (ips.behind key.now word.now) (λ x. x.now) }
 {
     word.strip_prefix(key)
 }

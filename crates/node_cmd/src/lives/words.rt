@@ -1,7 +1,8 @@
 //! The words of `life`.
-ghost use Rattle.std.specs.Prelude.{◌≡◌, ◌≢◌, ◌≤◌, ◌∷◌, [], ℕ, Bool, map, string_bytes, IfSome, IfNone};
+ghost use Rattle.std.specs.Prelude.{◌≡◌, ◌≢◌, ◌≤◌, ◌∷◌, [], ℕ, Bool, IfSome, IfNone};
 ghost use Rattle.node_cmd.specs.declared.lives.words.LifeSettings.{LifeSettings};
 ghost use Rattle.node_cmd.specs.LifeWords as lives;
+ghost use Rattle.node_cmd.specs.WordTexts.{texts_of};
 
 use crate::words::{FrameModulus, modulo_of, number_behind};
 
@@ -20,8 +21,8 @@ const MAX_DELAY: u64 = 1_499;
 /// The settings that the words behind `life` give: `modulo=8` or `modulo=128`, `srej=0` or `srej=1`, and `delay=D`, each once, in any order.
 #[tactic(auto, unfolding(crate::specs::LifeWords::AreSettings))]
 pub fn settings_of(words: &[String]) -> Option<LifeSettings>
-    ensures found { IfSome result (λ s. lives.AreSettings (map (λ w. string_bytes w) words.now) s) }
-    ensures none { IfNone result ((s : LifeSettings) → ¬ lives.AreSettings (map (λ w. string_bytes w) words.now) s) }
+    ensures found { IfSome result (λ s. lives.AreSettings (texts_of words.now) s) }
+    ensures none { IfNone result ((s : LifeSettings) → ¬ lives.AreSettings (texts_of words.now) s) }
 {
     match words {
         [x, y, z] => settings_in(x.as_str(), y.as_str(), z.as_str()),

@@ -1,15 +1,15 @@
-use Rattle.std.proofs.Common.{◌≡◌, ◌++◌, ◌∙◌, sym, List, [], ◌∷◌, ℕ}
+use Rattle.std.proofs.Common.{◌≡◌, ◌∙◌, sym, List, ℕ}
 use Rattle.std.specs.Prelude.{Some, Result, Ok, Err, IsOk, OnOk}
-use Rattle.ax_ip.specs.declared.route.Route.{Route}
 use Rattle.ax_ip.specs.declared.routes.RouteRefusal.{RouteRefusal}
 use Rattle.ax_ip.specs.Machine.{State}
-use Rattle.ax_ip.specs.Routes.{IsRoute, route_at}
+use Rattle.ax_ip.specs.Routes.{route_at}
 use Rattle.node_cmd.specs.declared.ip.texts.RouteText.{RouteText}
+use Rattle.node_cmd.specs.Gateways.{EntersRoute}
 use Rattle.node_cmd.specs.IpWords.{AddsRoute, route_word_at}
 use Rattle.node_cmd.proofs.ip.words.add_route.Goals as goal
 
 entered : (r : Result Unit RouteRefusal) (word : List ℕ) (old new : State) (text : RouteText) → IsOk r → route_word_at word ≡ Some text → r ≡ route_at text.prefix text.len old.routes
-    → OnOk r ((route : Route) × IsRoute text.prefix text.len text.hop route × (new ≡ record old { routes = old.routes ++ route ∷ [] })) → AddsRoute word old new
+    → OnOk r (EntersRoute text.prefix text.len text.hop old new) → AddsRoute word old new
 entered (Ok u) word old new text ok spelled exact more =
     record { text = text; spelled = spelled; taken = sym exact; route = more.0; parts = more.1; last = more.2 }
 entered (Err e) word old new text ok spelled exact more = absurd (cc ok)
