@@ -1,36 +1,38 @@
 -- How `trace` ends, from how the trace of its file is printed.
-use Rattle.std.proofs.Common.{◌≡◌, inl, inr, ℕ, List, arith}
-use Rattle.std.specs.Prelude.{Option}
+use Rattle.std.proofs.Common.{◌≡◌, inr, inl, ℕ, List, arith}
+use Rattle.std.specs.Prelude.{None}
 use Rattle.network_file.specs.Plan.{Plan}
 use Rattle.net_replay.specs.Files.{IsNetwork}
 use Rattle.cmd_streams.specs.declared.status.Status.{Status}
 use Rattle.cmd_streams.specs.Reading.{ReadsAll}
-use Rattle.cmd_streams.specs.Told.{told}
+use Rattle.cmd_streams.specs.Told.{Told, told}
 use Rattle.look_cmd.specs.Look.{TraceEnds}
 use Rattle.look_cmd.specs.Traced.{TellsNetwork, TracedEnds}
 use Rattle.look_cmd.proofs.Verdicts.{told_whole}
 
-module _ (left left' sizes sizes' : Option (List ℕ)) (reads reads' : ℕ) (written written' : Option (List ℕ)) (writes writes' : ℕ) (notes notes' : Option (List ℕ)) (note_faults note_faults' : ℕ) (status : Status) where
-  -- a file that was read to its end
-  pub trace_ends : (bytes : List ℕ) → ReadsAll left left' bytes → reads' ≡ reads
-      → TracedEnds bytes written written' writes writes' notes notes' note_faults note_faults' status
-      → TraceEnds (told left sizes reads written writes notes note_faults) (told left' sizes' reads' written' writes' notes' note_faults') status
-  trace_ends bytes all same e =
-      let whole : (P : Plan → Type 0) → TellsNetwork left P → IsNetwork bytes P = λ P tells. (told_whole left left' bytes _ all.taken all.ended tells).1 in
-      record {
-        done = λ s. (bytes, all, e.done s);
-        late = λ s. (bytes, all, e.late s);
-        done_comes = λ tells _ fault. e.done_comes (whole _ tells) fault;
-        late_comes = λ tells _ fault. e.late_comes (whole _ tells) fault;
-        read_fault = λ s. absurd (e.others.1 s);
-        read_few = λ s. absurd (e.others.1 s);
-        read_same = λ s. same;
-        too_long = λ s. inr (bytes, all, e.too_long s);
-        too_long_comes = λ tells _. elim tells [ inl much ↦ absurd (let more = told_whole left left' bytes _ all.taken all.ended much in let few = all.fits in omega arith) | inr many ↦ e.too_long_comes (whole _ many) ];
-        bad_file = λ s. (bytes, all, e.bad_file s);
-        bad_file_comes = λ tells _. e.bad_file_comes (told_whole left left' bytes _ all.taken all.ended tells).1;
-        write_fault = e.write_fault;
-        write_front = λ s. (bytes, all, e.write_front s);
-        write_same = e.write_same;
-        others = e.others.0;
-      }
+-- without the source
+abbrev pub output : Told → Told
+output t = told None None 0 t.written t.write_faults t.notes t.note_faults
+
+-- a file that was read to its end
+pub trace_ends : (before after : Told) (status : Status) (bytes : List ℕ) → ReadsAll before.left after.left bytes → after.read_faults ≡ before.read_faults
+    → TracedEnds bytes (output before) (output after) status → TraceEnds before after status
+trace_ends before after status bytes all same e =
+    let whole : (P : Plan → Type 0) → TellsNetwork before.left P → IsNetwork bytes P = λ P tells. (told_whole before.left after.left bytes _ all.taken all.ended tells).1 in
+    record {
+      done = λ s. (bytes, all, e.done s);
+      late = λ s. (bytes, all, e.late s);
+      done_comes = λ tells _ fault. e.done_comes (whole _ tells) fault;
+      late_comes = λ tells _ fault. e.late_comes (whole _ tells) fault;
+      read_fault = λ s. absurd (e.others.1 s);
+      read_few = λ s. absurd (e.others.1 s);
+      read_same = λ s. same;
+      too_long = λ s. inr (bytes, all, e.too_long s);
+      too_long_comes = λ tells _. elim tells [ inl much ↦ absurd (let more = told_whole before.left after.left bytes _ all.taken all.ended much in let few = all.fits in omega arith) | inr many ↦ e.too_long_comes (whole _ many) ];
+      bad_file = λ s. (bytes, all, e.bad_file s);
+      bad_file_comes = λ tells _. e.bad_file_comes (told_whole before.left after.left bytes _ all.taken all.ended tells).1;
+      write_fault = e.write_fault;
+      write_front = λ s. (bytes, all, e.write_front s);
+      write_same = e.write_same;
+      others = e.others.0;
+    }

@@ -1,19 +1,19 @@
 -- How each command ends.
-use Rattle.std.specs.Prelude.{ℕ, ◌≡◌, ◌≢◌, ◌⊎◌, List, [], Err, None}
+use Rattle.std.specs.Prelude.{ℕ, ◌≡◌, ◌≢◌, ◌⊎◌, List, [], None}
 use Rattle.radio_base.specs.Causes.{Rose}
 use Rattle.cmd_streams.specs.declared.status.Status.{Status}
-use Rattle.cmd_streams.specs.declared.status.Status.TheVariants.{Done, Usage, BadFile, ReadFault, WriteFault, TooLong, TooLate, NoMemory}
-use Rattle.cmd_streams.specs.Reading.{ReadsFew, ReadsFile, ReadsTooMuch, TellsFile, TellsTooMuch}
+use Rattle.cmd_streams.specs.declared.status.Status.TheVariants.{Done, Usage, BadFile, ReadFault, WriteFault, TooLong, TooLate}
+use Rattle.cmd_streams.specs.Reading.{ReadsFew, ReadsTooMuch, TellsTooMuch}
 use Rattle.cmd_streams.specs.StreamEnds.{StreamEnds}
 use Rattle.cmd_streams.specs.Streams.{Read, bytes_of}
 use Rattle.cmd_streams.specs.Told.{Told}
-use Rattle.cmd_streams.specs.Writing.{Says}
 use Rattle.frame_lines.specs.declared.listener.Modulo.{Modulo}
 use Rattle.frame_lines.specs.Hearing.{Listening, by_items}
 use Rattle.kiss_framing.specs.Stream.{items}
-use Rattle.network_file.specs.Networks.{Bad, network_of}
-use Rattle.net_replay.specs.Files.{AirsTooMany, IsInTime, IsLate}
-use Rattle.look_cmd.specs.Traced.{IsBadFile, ReadsNetwork, TellsNetwork, TracesInTime, TracesLate, WritesFront}
+use Rattle.net_replay.specs.Files.{AirsTooMany}
+use Rattle.look_cmd.specs.Statuses.{Comes, ReadsWell, WritesWell}
+use Rattle.look_cmd.specs.ToldBy.{IsNoted}
+use Rattle.look_cmd.specs.Traced.{ReadsBadFile, ReadsNetwork, TellsBadFile, TellsInTime, TellsLate, TellsTooManyFrames, TracesInTime, TracesLate, WritesFront}
 
 -- a listener that has heard nothing
 abbrev pub silent : Modulo → Listening
@@ -31,25 +31,27 @@ ListenEnds m before after status = StreamEnds 16384 (HearsReads m) None None bef
 pub record TraceEnds (before after : Told) (status : Status) : Type 0 where
   -- Where it is done, the bytes read are a network's file, and the bytes written are the trace of that network. Where it is too late, the
   -- same: the verdict names the first line at which something came back too late, and the cause by what that shows.
-  pub done : status ≡ Done → ReadsNetwork before.left after.left (λ file. TracesInTime file before.written after.written)
-  pub late : status ≡ TooLate → ReadsNetwork before.left after.left (λ file. TracesLate file before.written after.written)
+  pub done : status ≡ Done → ReadsNetwork before after (λ file. TracesInTime file before.written after.written)
+  pub late : status ≡ TooLate → ReadsNetwork before after (λ file. TracesLate file before.written after.written)
   -- A good file is done, or too late, exactly by its verdict, but for faults and want of memory.
-  pub done_comes : TellsNetwork before.left IsInTime → ¬ Rose before.read_faults after.read_faults → ¬ Rose before.write_faults after.write_faults → (status ≡ Done) ⊎ (status ≡ NoMemory)
-  pub late_comes : TellsNetwork before.left IsLate → ¬ Rose before.read_faults after.read_faults → ¬ Rose before.write_faults after.write_faults → (status ≡ TooLate) ⊎ (status ≡ NoMemory)
+  pub done_comes : TellsInTime before.left → ReadsWell before after → WritesWell before after → Comes Done status
+  pub late_comes : TellsLate before.left → ReadsWell before after → WritesWell before after → Comes TooLate status
   -- A read fault comes only where the source's count rose, before a file was too long. Elsewhere the count stays.
   pub read_fault : status ≡ ReadFault → Rose before.read_faults after.read_faults
   pub read_few : status ≡ ReadFault → ReadsFew before.left after.left
   pub read_same : status ≢ ReadFault → after.read_faults ≡ before.read_faults
   -- It is too long exactly where one more byte was read than a file may have, or where a good file would put one more frame
   -- in the air than may be there.
-  pub too_long : status ≡ TooLong → ReadsTooMuch before.left after.left ⊎ ReadsNetwork before.left after.left (λ file. AirsTooMany)
-  pub too_long_comes : TellsTooMuch before.left ⊎ TellsNetwork before.left AirsTooMany → ¬ Rose before.read_faults after.read_faults → (status ≡ TooLong) ⊎ (status ≡ NoMemory)
+  pub too_long : status ≡ TooLong → ReadsTooMuch before.left after.left ⊎ ReadsNetwork before after (λ _. AirsTooMany)
+  pub too_long_comes : TellsTooMuch before.left ⊎ TellsTooManyFrames before.left
+      → ReadsWell before after → Comes TooLong status
   -- A file is bad exactly where it was read to its end and has a first bad line, which the note names.
-  pub bad_file : status ≡ BadFile → ReadsFile before.left after.left (λ file. IsBadFile file (Says before.notes after.notes before.note_faults after.note_faults))
-  pub bad_file_comes : TellsFile before.left (λ file. (bad : Bad) × (network_of file ≡ Err bad)) → ¬ Rose before.read_faults after.read_faults → (status ≡ BadFile) ⊎ (status ≡ NoMemory)
+  pub bad_file : status ≡ BadFile → ReadsBadFile before after (IsNoted before after)
+  pub bad_file_comes : TellsBadFile before.left → ReadsWell before after → Comes BadFile status
   -- A write fault comes only where the sink's count rose, behind a front of the trace. Elsewhere the count stays.
   pub write_fault : status ≡ WriteFault → Rose before.write_faults after.write_faults
-  pub write_front : status ≡ WriteFault → ReadsNetwork before.left after.left (λ file. WritesFront file before.written after.written)
+  pub write_front : status ≡ WriteFault
+      → ReadsNetwork before after (λ file. WritesFront file before.written after.written)
   pub write_same : status ≢ WriteFault → after.write_faults ≡ before.write_faults
   -- No other status comes.
   pub others : status ≢ Usage

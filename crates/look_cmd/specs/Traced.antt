@@ -1,5 +1,5 @@
 -- What `trace` writes of a network.
-use Rattle.std.specs.Prelude.{ℕ, ◌≡◌, ◌≢◌, ◌⊎◌, List, Option, Some, None, Result, Ok, Err}
+use Rattle.std.specs.Prelude.{ℕ, ◌≡◌, ◌≢◌, List, Option, Some, None, Result, Ok, Err}
 use Rattle.std.specs.Io.KnownBytes.{Appends}
 use Rattle.radio_base.specs.Causes.{Rose}
 use Rattle.circuit_verdict.specs.declared.verdict.Late.{Late}
@@ -7,18 +7,27 @@ use Rattle.cmd_streams.specs.declared.status.Status.{Status}
 use Rattle.cmd_streams.specs.declared.status.Status.TheVariants as statuses
 use Rattle.cmd_streams.specs.Notes.{bad_line_note}
 use Rattle.cmd_streams.specs.Reading.{ReadsFile, TellsFile}
-use Rattle.cmd_streams.specs.Writing.{AppendsFront, Says}
+use Rattle.cmd_streams.specs.Told.{Told}
+use Rattle.cmd_streams.specs.Writing.{AppendsFront}
 use Rattle.network_file.specs.Networks.{Bad, network_of}
 use Rattle.network_file.specs.Plan.{Plan}
 use Rattle.network_file.specs.Reasons.{word_for}
 use Rattle.net_replay.specs.declared.causes.LateCause.{LateCause}
+use Rattle.net_replay.specs.declared.trace.Trace.{Trace}
 use Rattle.net_replay.specs.Causes.{IsCauseOf}
-use Rattle.net_replay.specs.Circuits.{IsVerdictOn}
+use Rattle.net_replay.specs.Circuits.{IsVerdictOn, allowance_of}
 use Rattle.net_replay.specs.Files.{AirsFew, AirsTooMany, IsInTime, IsLate, IsNetwork}
 use Rattle.net_replay.specs.Lines.{world}
+use Rattle.net_replay.specs.Traces.{IsTraceOf, allowance_in, left_of}
+use Rattle.look_cmd.specs.Statuses.{Comes, WritesWell}
+use Rattle.look_cmd.specs.ToldBy.{IsNoted}
 use Rattle.look_cmd.specs.declared.traces.TraceRefusal.{TraceRefusal}
 use Rattle.look_cmd.specs.declared.traces.TraceRefusal.TheVariants.{BadLine, TooManyFrames, NoMemory}
 use Rattle.trace_lines.specs.Texts.{trace_text}
+
+-- P holds, if the trace has the allowance of the network and stands for its world
+abbrev pub IfTraceOf : Trace → Plan → Type 0 → Type 0
+IfTraceOf trace network P = allowance_in trace ≡ allowance_of network → IsTraceOf (left_of trace) (world network) → P
 
 -- a file has a first bad line, of whose note P holds
 abbrev pub IsBadFile : List ℕ → (List ℕ → Type 0) → Type 0
@@ -50,27 +59,47 @@ TracesLate file old new network = (late : Late) × Traces file old new (Some lat
 
 -- a front of it was written
 abbrev pub WritesFront : List ℕ → Option (List ℕ) → Option (List ℕ) → Plan → Type 0
-WritesFront file old new network = (late : Option Late) × (text : List ℕ) × IsTraced file text late network × AppendsFront old new text
+WritesFront file old new network =
+    (late : Option Late) × (text : List ℕ) × IsTraced file text late network × AppendsFront old new text
 
 -- a file was read to its end, and it is one of a network of which P holds, which is told of the file too
-abbrev pub ReadsNetwork : Option (List ℕ) → Option (List ℕ) → (List ℕ → Plan → Type 0) → Type 0
-ReadsNetwork old new P = ReadsFile old new (λ bytes. IsNetwork bytes (P bytes))
+abbrev pub ReadsNetwork : Told → Told → (List ℕ → Plan → Type 0) → Type 0
+ReadsNetwork before after P = ReadsFile before.left after.left (λ bytes. IsNetwork bytes (P bytes))
+
+-- a file was read to its end, and it has a first bad line, of whose note P holds
+abbrev pub ReadsBadFile : Told → Told → (List ℕ → Type 0) → Type 0
+ReadsBadFile before after P = ReadsFile before.left after.left (λ bytes. IsBadFile bytes P)
 
 -- the source tells its bytes, and they are the file of a network of which P holds
 abbrev pub TellsNetwork : Option (List ℕ) → (Plan → Type 0) → Type 0
 TellsNetwork left P = TellsFile left (λ bytes. IsNetwork bytes P)
 
+-- one that puts as many frames in the air as it may, and in which nothing comes back too late, or something; or one that puts too
+-- many there
+abbrev pub TellsInTime : Option (List ℕ) → Type 0
+TellsInTime left = TellsNetwork left IsInTime
+
+abbrev pub TellsLate : Option (List ℕ) → Type 0
+TellsLate left = TellsNetwork left IsLate
+
+abbrev pub TellsTooManyFrames : Option (List ℕ) → Type 0
+TellsTooManyFrames left = TellsNetwork left AirsTooMany
+
+-- the source tells its bytes, and they are a file with a bad line
+abbrev pub TellsBadFile : Option (List ℕ) → Type 0
+TellsBadFile left = TellsFile left (λ bytes. (bad : Bad) × (network_of bytes ≡ Err bad))
+
 -- What is written and noted of the network of a file; how the command ends is said in `Look`.
-pub record TracedEnds (file : List ℕ) (written written' : Option (List ℕ)) (writes writes' : ℕ) (notes notes' : Option (List ℕ)) (note_faults note_faults' : ℕ) (status : Status) : Type 0 where
-  pub done : status ≡ statuses.Done → IsNetwork file (TracesInTime file written written')
-  pub late : status ≡ statuses.TooLate → IsNetwork file (TracesLate file written written')
-  pub done_comes : IsNetwork file IsInTime → ¬ Rose writes writes' → (status ≡ statuses.Done) ⊎ (status ≡ statuses.NoMemory)
-  pub late_comes : IsNetwork file IsLate → ¬ Rose writes writes' → (status ≡ statuses.TooLate) ⊎ (status ≡ statuses.NoMemory)
+pub record TracedEnds (file : List ℕ) (before after : Told) (status : Status) : Type 0 where
+  pub done : status ≡ statuses.Done → IsNetwork file (TracesInTime file before.written after.written)
+  pub late : status ≡ statuses.TooLate → IsNetwork file (TracesLate file before.written after.written)
+  pub done_comes : IsNetwork file IsInTime → WritesWell before after → Comes statuses.Done status
+  pub late_comes : IsNetwork file IsLate → WritesWell before after → Comes statuses.TooLate status
   pub too_long : status ≡ statuses.TooLong → IsNetwork file AirsTooMany
-  pub too_long_comes : IsNetwork file AirsTooMany → (status ≡ statuses.TooLong) ⊎ (status ≡ statuses.NoMemory)
-  pub bad_file : status ≡ statuses.BadFile → IsBadFile file (Says notes notes' note_faults note_faults')
-  pub bad_file_comes : ((bad : Bad) × (network_of file ≡ Err bad)) → (status ≡ statuses.BadFile) ⊎ (status ≡ statuses.NoMemory)
-  pub write_fault : status ≡ statuses.WriteFault → Rose writes writes'
-  pub write_front : status ≡ statuses.WriteFault → IsNetwork file (WritesFront file written written')
-  pub write_same : status ≢ statuses.WriteFault → writes' ≡ writes
+  pub too_long_comes : IsNetwork file AirsTooMany → Comes statuses.TooLong status
+  pub bad_file : status ≡ statuses.BadFile → IsBadFile file (IsNoted before after)
+  pub bad_file_comes : ((bad : Bad) × (network_of file ≡ Err bad)) → Comes statuses.BadFile status
+  pub write_fault : status ≡ statuses.WriteFault → Rose before.write_faults after.write_faults
+  pub write_front : status ≡ statuses.WriteFault → IsNetwork file (WritesFront file before.written after.written)
+  pub write_same : status ≢ statuses.WriteFault → after.write_faults ≡ before.write_faults
   pub others : (status ≢ statuses.Usage) × (status ≢ statuses.ReadFault)

@@ -1,8 +1,7 @@
 //! The command `listen`.
 ghost use Rattle.std.specs.Prelude.{◌≡◌};
 ghost use Rattle.cmd_streams.specs.StatusNotes.{HasNote, IsSilent};
-ghost use Rattle.cmd_streams.specs.Told.{told};
-ghost use Rattle.cmd_streams.specs.Writing.{Says};
+ghost use Rattle.look_cmd.specs.ToldBy.{SaysTo, told_by};
 ghost use Rattle.look_cmd.specs.Look.{ListenEnds};
 
 use cmd_streams::{ItemTaker, Status, answer_items};
@@ -44,11 +43,11 @@ pub fn listen_to_stream<S: Source, K: Sink, N: Sink>(
 ) -> Status
     // How it ends: the lines written are those of the stream, and each status has its reason.
     ensures ends { ListenEnds modulo
-        (told (S.left source.old) (S.reads source.old) (S.faults source.old) (K.written sink.old) (K.faults sink.old) (N.written notes.old) (N.faults notes.old))
-        (told (S.left source.new) (S.reads source.new) (S.faults source.new) (K.written sink.new) (K.faults sink.new) (N.written notes.new) (N.faults notes.new)) result }
+        (told_by S.Source K.Sink N.Sink source.old sink.old notes.old)
+        (told_by S.Source K.Sink N.Sink source.new sink.new notes.new) result }
 
     // Nothing else is noted.
-    ensures noted { HasNote result (Says (N.written notes.old) (N.written notes.new) (N.faults notes.old) (N.faults notes.new)) }
+    ensures noted { HasNote result (SaysTo N.Sink notes.old notes.new) }
     ensures silent { IsSilent result → notes.new ≡ notes.old }
 {
     let mut buf = [0u8; READ_SIZE];

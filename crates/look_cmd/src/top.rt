@@ -1,8 +1,8 @@
 //! The top call.
-ghost use Rattle.std.specs.Prelude.{◌≡◌, ◌≢◌, ◌↔◌};
+ghost use Rattle.std.specs.Prelude.{◌≡◌, ◌↔◌};
 ghost use Rattle.cmd_streams.specs.StatusNotes.{HasNote, IsSilent};
-ghost use Rattle.cmd_streams.specs.Told.{told};
-ghost use Rattle.cmd_streams.specs.Writing.{Says};
+ghost use Rattle.look_cmd.specs.ToldBy.{SaysTo, told_by};
+ghost use Rattle.look_cmd.specs.Statuses.{UnlessItWrote};
 ghost use Rattle.frame_lines.specs.declared.listener.Modulo.{Modulo};
 ghost use Rattle.look_cmd.specs.declared.words.Command.{Command};
 ghost use Rattle.look_cmd.specs.Look.{ListenEnds, TraceEnds};
@@ -35,19 +35,19 @@ pub fn look<S: Source, K: Sink, N: Sink>(
 
     // How each command ends.
     ensures listen { (m : Modulo) → AskFor words.now (Command.Listen m) → ListenEnds m
-        (told (S.left source.old) (S.reads source.old) (S.faults source.old) (K.written sink.old) (K.faults sink.old) (N.written notes.old) (N.faults notes.old))
-        (told (S.left source.new) (S.reads source.new) (S.faults source.new) (K.written sink.new) (K.faults sink.new) (N.written notes.new) (N.faults notes.new)) result }
+        (told_by S.Source K.Sink N.Sink source.old sink.old notes.old)
+        (told_by S.Source K.Sink N.Sink source.new sink.new notes.new) result }
 
     ensures trace { AskFor words.now Command.Trace → TraceEnds
-        (told (S.left source.old) (S.reads source.old) (S.faults source.old) (K.written sink.old) (K.faults sink.old) (N.written notes.old) (N.faults notes.old))
-        (told (S.left source.new) (S.reads source.new) (S.faults source.new) (K.written sink.new) (K.faults sink.new) (N.written notes.new) (N.faults notes.new)) result }
+        (told_by S.Source K.Sink N.Sink source.old sink.old notes.old)
+        (told_by S.Source K.Sink N.Sink source.new sink.new notes.new) result }
 
     // `trace` writes at the end: elsewhere it writes nothing.
-    ensures whole { AskFor words.now Command.Trace → result ≢ Status.Done → result ≢ Status.TooLate → result ≢ Status.WriteFault → sink.new ≡ sink.old }
+    ensures whole { AskFor words.now Command.Trace → UnlessItWrote result (sink.new ≡ sink.old) }
 
     // The notes are those of the status, and no others.
-    ensures noted { HasNote result (Says (N.written notes.old) (N.written notes.new) (N.faults notes.old) (N.faults notes.new)) }
-    ensures usage_noted { result ≡ Status.Usage → Says (N.written notes.old) (N.written notes.new) (N.faults notes.old) (N.faults notes.new) usage_note }
+    ensures noted { HasNote result (SaysTo N.Sink notes.old notes.new) }
+    ensures usage_noted { result ≡ Status.Usage → SaysTo N.Sink notes.old notes.new usage_note }
     ensures silent { IsSilent result → notes.new ≡ notes.old }
 {
     match command_of(words) {

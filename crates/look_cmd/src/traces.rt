@@ -1,18 +1,19 @@
 //! The command `trace`.
-ghost use Rattle.std.specs.Prelude.{◌≡◌, ◌≢◌, ◌≤◌, length, Ok, IfOk, IfErr};
+ghost use Rattle.std.specs.Prelude.{◌≡◌, ◌≤◌, length, Ok, IfOk, IfErr};
 ghost use Rattle.cmd_streams.specs.Reading.{max_file};
 ghost use Rattle.cmd_streams.specs.StatusNotes.{HasNote, IsSilent};
-ghost use Rattle.cmd_streams.specs.Told.{told};
-ghost use Rattle.cmd_streams.specs.Writing.{Says};
+ghost use Rattle.look_cmd.specs.ToldBy.{SaysTo, output_by, told_by};
+ghost use Rattle.look_cmd.specs.Statuses.{UnlessItWrote};
 ghost use Rattle.network_file.specs.Networks.{network_of};
 ghost use Rattle.network_file.specs.Plan.{Plan};
 ghost use Rattle.net_replay.specs.Air.{most_frames};
 ghost use Rattle.net_replay.specs.Causes.{IsCauseOf};
-ghost use Rattle.net_replay.specs.Circuits.{IsVerdictOn, allowance_of};
+ghost use Rattle.net_replay.specs.Circuits.{IsVerdictOn};
+ghost use Rattle.net_replay.specs.Files.{IsNetwork};
 ghost use Rattle.net_replay.specs.Lines.{world};
-ghost use Rattle.net_replay.specs.Traces.{IsTraceOf, allowance_in, left_of};
+ghost use Rattle.net_replay.specs.Traces.{left_of};
 ghost use Rattle.look_cmd.specs.Look.{TraceEnds};
-ghost use Rattle.look_cmd.specs.Traced.{IsTraced, NotTraced, TracedEnds};
+ghost use Rattle.look_cmd.specs.Traced.{IfTraceOf, IsTraced, NotTraced, TracedEnds};
 
 use cmd_streams::{Status, TOO_LONG, read_file, refuse_input, refuse_line, say, write_all};
 use net_replay::{
@@ -62,12 +63,12 @@ pub fn trace_file<S: Source, K: Sink, N: Sink>(
 ) -> Status
     // How it ends: the trace is that of the file, and each status has its reason.
     ensures ends { TraceEnds
-        (told (S.left source.old) (S.reads source.old) (S.faults source.old) (K.written sink.old) (K.faults sink.old) (N.written notes.old) (N.faults notes.old))
-        (told (S.left source.new) (S.reads source.new) (S.faults source.new) (K.written sink.new) (K.faults sink.new) (N.written notes.new) (N.faults notes.new)) result }
+        (told_by S.Source K.Sink N.Sink source.old sink.old notes.old)
+        (told_by S.Source K.Sink N.Sink source.new sink.new notes.new) result }
 
     // What isn't said above to be written isn't, and nothing else is noted.
-    ensures unwritten { result ≢ Status.Done → result ≢ Status.TooLate → result ≢ Status.WriteFault → sink.new ≡ sink.old }
-    ensures noted { HasNote result (Says (N.written notes.old) (N.written notes.new) (N.faults notes.old) (N.faults notes.new)) }
+    ensures unwritten { UnlessItWrote result (sink.new ≡ sink.old) }
+    ensures noted { HasNote result (SaysTo N.Sink notes.old notes.new) }
     ensures silent { IsSilent result → notes.new ≡ notes.old }
 {
     match read_file(alloc, source) {
@@ -79,10 +80,11 @@ pub fn trace_file<S: Source, K: Sink, N: Sink>(
 /// Writes the trace of the network that a file spells.
 fn print_trace<K: Sink, N: Sink>(alloc: Global, bytes: &[u8], sink: &mut K, notes: &mut N) -> Status
     requires { length bytes.now ≤ max_file }
-    ensures ends { TracedEnds bytes.now (K.written sink.old) (K.written sink.new) (K.faults sink.old) (K.faults sink.new)
-        (N.written notes.old) (N.written notes.new) (N.faults notes.old) (N.faults notes.new) result }
-    ensures unwritten { result ≢ Status.Done → result ≢ Status.TooLate → result ≢ Status.WriteFault → sink.new ≡ sink.old }
-    ensures noted { HasNote result (Says (N.written notes.old) (N.written notes.new) (N.faults notes.old) (N.faults notes.new)) }
+    ensures ends { TracedEnds bytes.now
+        (output_by K.Sink N.Sink sink.old notes.old)
+        (output_by K.Sink N.Sink sink.new notes.new) result }
+    ensures unwritten { UnlessItWrote result (sink.new ≡ sink.old) }
+    ensures noted { HasNote result (SaysTo N.Sink notes.old notes.new) }
     ensures silent { IsSilent result → notes.new ≡ notes.old }
 {
     let Traced { late, text } = match traced_file(alloc, bytes) {
@@ -108,7 +110,7 @@ fn print_trace<K: Sink, N: Sink>(alloc: Global, bytes: &[u8], sink: &mut K, note
 /// The trace of the network that a file spells.
 fn traced_file(alloc: Global, bytes: &[u8]) -> Result<Traced, TraceRefusal>
     requires { length bytes.now ≤ max_file }
-    ensures ok { IfOk result (λ t. (network : Plan) × (network_of bytes.now ≡ Ok network) × IsTraced bytes.now t.text t.late network) }
+    ensures ok { IfOk result (λ t. IsNetwork bytes.now (IsTraced bytes.now t.text t.late)) }
     ensures err { IfErr result (λ e. NotTraced e (network_of bytes.now)) }
 {
     match read_network(alloc, bytes) {
@@ -138,8 +140,8 @@ fn traced_trace(
     network: &Network,
     trace: &Trace,
 ) -> Result<Traced, NoMemory>
-    ensures { IfOk result (λ t. allowance_in trace.now ≡ allowance_of network.now → IsTraceOf (left_of trace.now) (world network.now) → length (left_of trace.now).air ≤ most_frames
-        → IsTraced bytes.now t.text t.late network.now) }
+    ensures { IfOk result (λ t. IfTraceOf trace.now network.now
+        (length (left_of trace.now).air ≤ most_frames → IsTraced bytes.now t.text t.late network.now)) }
 {
     let late = too_late(alloc, trace)?;
     let cause = cause_of(alloc, trace, late)?;
@@ -149,8 +151,8 @@ fn traced_trace(
 
 /// The cause of a verdict, where something came too late.
 fn cause_of(alloc: Global, trace: &Trace, late: Option<Late>) -> Result<Option<LateCause>, NoMemory>
-    ensures { IfOk result (λ cause. (plan : Plan) → allowance_in trace.now ≡ allowance_of plan → IsTraceOf (left_of trace.now) (world plan)
-        → IsVerdictOn plan (world plan) late → IsCauseOf plan (world plan) late cause) }
+    ensures { IfOk result (λ cause. (plan : Plan) → IfTraceOf trace.now plan
+        (IsVerdictOn plan (world plan) late → IsCauseOf plan (world plan) late cause)) }
 {
     match late {
         Some(_) => late_cause(alloc, trace),
