@@ -4,6 +4,7 @@ use Rattle.std.specs.Prelude.{Bool, true, false, ◌||◌, ◌&&◌, nat_eq, if�
 use Rattle.std.proofs.lemmas.Bool.Decides.{nat_tests}
 use Rattle.ax_address.specs.CallReading.{ReadsCallTexts}
 use Rattle.circuit_set.specs.Inputs.{connect_answer}
+use Rattle.node_prompt.specs.Replies as texts
 use Rattle.node_prompt.specs.declared.action.Action.{Action}
 use Rattle.node_prompt.specs.declared.action.Action.TheVariants as action
 use Rattle.node_turns.specs.declared.session.Reply.{Reply}
@@ -21,6 +22,7 @@ use Rattle.node_turns.specs.States.{State, next_hop}
 use Rattle.node_turns.specs.Turns.{Turn, done, idle}
 use Rattle.node_turns.specs.Users as users
 use Rattle.node_turns.specs.Users.{at_session, session_at}
+use Rattle.node_turns.specs.Views.{view}
 use Rattle.node_core.proofs.Fine.{Fine, close_fine, placed_said, said, session_fine}
 use Rattle.node_core.proofs.Given.{Given, given_bye, given_cut, given_dropped}
 use Rattle.node_core.proofs.Served.{IsNamed, at_named}
@@ -102,6 +104,7 @@ said_bye now nth text m y f e i = subst (λ (o : Option Session). Fine (users.cl
 
 acting : (now nth : ℕ) (a : Action) (m : State) (y : Session) → IsNamed a → Fine m → session_at nth m ≡ Some y → Idle y → Fine (asking.do_action now nth a m)
 acting now nth (action.Say text) m y named f e i = said now nth text.items m f
+acting now nth (action.Show sight) m y named f e i = said now nth (texts.view_text (bridging.prompt_of m) (view sight m)).items m f
 acting now nth (action.Bye text) m y named f e i = said_bye now nth text.items m y f e i
 acting now nth (action.Connect dest) m y named f e i = tried now nth dest (connect_answer (next_hop m) dest m.set.set) m y named refl f e i
 acting now nth action.Nothing m y named f e i = f

@@ -1,4 +1,4 @@
--- What a session sees of its node.
+-- What a user sees of a node.
 use Rattle.std.proofs.Common.{◌≡◌, ◌<◌, ◌≤◌, ◌+◌, ◌∙◌, ℕ, zero, suc, refl, sym, ap, arith, List, [], ◌∷◌, ◌++◌, length, take, get_or, add-one, Bool, true, false, filter, flat_map, length-append, append-nil}
 use Rattle.std.specs.Prelude.{Option, Result, Ok, Err, IsOk, OnOk, OnErr, min, slice_get}
 use Rattle.std.specs.Option.{option_to_list}
@@ -6,8 +6,7 @@ use Rattle.std.proofs.lemmas.List.{length-take, take_all, take-take}
 use Rattle.std.proofs.lemmas.List.Concat.{flat_map-append}
 use Rattle.std.proofs.lemmas.List.Elements.{filter_more}
 use Rattle.arrayvec.specs.ArrayVec.{ArrayVec}
-use Rattle.ax_address.specs.Callsign.{Callsign}
-use Rattle.node_prompt.specs.declared.action.View.{View}
+use Rattle.node_prompt.specs.declared.action.View.TheVariants as see
 use Rattle.route_table.specs.declared.route.Route.{Route}
 
 -- ---- a list that is full at so many
@@ -65,6 +64,10 @@ pub first_so_many : {X : Type 0} (n m i : ℕ) (xs : List X) → m ≡ min (leng
 first_so_many n m i xs e h =
     take_all i (take m xs) h ∙ sym (take-take m n xs (omega (arith, e))) ∙ take_all m (take n xs) (omega (arith, length-take n xs, e))
 
-pub same_view : (v : View) (nodes neighbours routes : List Route) (users : List Callsign) (more : ℕ) → v.nodes.items ≡ nodes → v.more ≡ more → v.routes.items ≡ routes → v.neighbours.items ≡ neighbours → v.users.items ≡ users
-    → v ≡ record { nodes = record { items = nodes }; more = more; routes = record { items = routes }; neighbours = record { items = neighbours }; users = record { items = users } }
-same_view v nodes neighbours routes users more a b c d e = rw (← a, ← b, ← c, ← d, ← e) refl
+-- ---- views
+
+pub nodes_seen : (v : ArrayVec Route) (nodes : List Route) (m more : ℕ) → v.items ≡ nodes → m ≡ more → see.Nodes v m ≡ see.Nodes (record { items = nodes }) more
+nodes_seen v nodes m more a b = rw (← a, ← b) refl
+
+pub neighbours_seen : (v : ArrayVec Route) (routes : List Route) → v.items ≡ routes → see.Routes v ≡ see.Routes (record { items = routes })
+neighbours_seen v routes a = rw (← a) refl

@@ -17,7 +17,6 @@ use Rattle.node_prompt.specs.Prompts.{Prompt}
 use Rattle.node_prompt.specs.Replies as texts
 use Rattle.node_prompt.specs.declared.action.Action.{Action}
 use Rattle.node_prompt.specs.declared.action.Action.TheVariants as action
-use Rattle.node_prompt.specs.declared.action.View.{View}
 use Rattle.node_prompt.specs.declared.command.Command.{Command}
 use Rattle.node_prompt.specs.declared.command.Command.TheVariants as command
 use Rattle.node_prompt.specs.declared.command.LineRefusal.{LineRefusal}
@@ -79,17 +78,17 @@ abbrev IsAsked : Result Command LineRefusal → Type 0
 IsAsked (Ok (command.Connect dest)) = IsCallsign dest.letters dest.ssid
 IsAsked _ = Unit {0}
 
-named : (p : Prompt) (view : View) (r : Result Command LineRefusal) → IsAsked r → IsNamed (texts.action_of p view r)
-named p view (Err why) i = tt
-named p view (Ok command.Nothing) i = tt
-named p view (Ok (command.Connect dest)) i = i
-named p view (Ok command.Nodes) i = tt
-named p view (Ok (command.RoutesTo dest)) i = tt
-named p view (Ok command.Routes) i = tt
-named p view (Ok command.Users) i = tt
-named p view (Ok command.Info) i = tt
-named p view (Ok command.Bye) i = tt
-named p view (Ok command.Help) i = tt
+named : (p : Prompt) (r : Result Command LineRefusal) → IsAsked r → IsNamed (texts.action_of p r)
+named p (Err why) i = tt
+named p (Ok command.Nothing) i = tt
+named p (Ok (command.Connect dest)) i = i
+named p (Ok command.Nodes) i = tt
+named p (Ok (command.RoutesTo dest)) i = tt
+named p (Ok command.Routes) i = tt
+named p (Ok command.Users) i = tt
+named p (Ok command.Info) i = tt
+named p (Ok command.Bye) i = tt
+named p (Ok command.Help) i = tt
 
 module _ (reads : ReadsCallTexts) where
   read_call : (word : List ℕ) (r : Result Callsign CallRefusal) → call_at word ≡ r → IsAsked (commands.about command.Connect r)
@@ -140,7 +139,7 @@ module _ (reads : ReadsCallTexts) where
   asked_at line = asked_if (nat_lt 80 (length line)) TooLong (commands.command_of (words_of (map capital line))) (asked_of (words_of (map capital line)))
 
   action_named : (line : List ℕ) (n : State) → IsNamed (asking.action_for line n)
-  action_named line n = named (bridging.prompt_of n) (view (commands.wanted line) n) (commands.command_at line) (asked_at line)
+  action_named line n = named (bridging.prompt_of n) (commands.command_at line) (asked_at line)
 
   pub at_named : (o : Option Session) (n : State) → IsNamed (asking.action_at o n)
   at_named None n = tt
@@ -267,6 +266,7 @@ module _ (P : State → State → Type 0) (w : Serves P) (reads : ReadsCallTexts
 
   done_on : (now nth : ℕ) (a : Action) (n : State) → IsNamed a → P n (asking.do_action now nth a n)
   done_on now nth (action.Say text) n i = say_on now nth text.items n
+  done_on now nth (action.Show sight) n i = say_on now nth (texts.view_text (bridging.prompt_of n) (view sight n)).items n
   done_on now nth (action.Bye text) n i = bye_on now nth text.items n
   done_on now nth (action.Connect dest) n i = tried_on now nth dest (connect_answer (next_hop n) dest n.set.set) n i
   done_on now nth action.Nothing n i = w.still n

@@ -1,7 +1,7 @@
 //! The prompt: the rows of the table of commands, by the texts that a user sees.
 use arrayvec::ArrayVec;
 use ax_address::{Alias, Call};
-use node_prompt::{Action, Session, Trouble, View, wanted};
+use node_prompt::{Action, Prompt, Sight, Trouble, View};
 use route_table::Route;
 
 fn call(text: &str) -> Call {
@@ -12,8 +12,8 @@ fn alias(text: &str) -> Alias {
     Alias::read(text.as_bytes()).ok().unwrap_or_default()
 }
 
-fn session() -> Session {
-    Session::new(alias("ANODE"), call("N0AAA"))
+fn prompt() -> Prompt {
+    Prompt::new(alias("ANODE"), call("N0AAA"))
 }
 
 fn route(name: &str, dest: &str, neighbour: &str, quality: u8, count: Option<u8>) -> Route {
@@ -26,30 +26,34 @@ fn route(name: &str, dest: &str, neighbour: &str, quality: u8, count: Option<u8>
     }
 }
 
-fn empty_view() -> View {
-    View {
-        nodes: ArrayVec::new(),
-        more: 0,
-        routes: ArrayVec::new(),
-        neighbours: ArrayVec::new(),
-        users: ArrayVec::new(),
+fn nodes() -> View {
+    let mut routes = ArrayVec::new();
+    let _ = routes.try_push(route("BNODE", "N0BBB", "N0BBB", 255, Some(6)));
+    let _ = routes.try_push(route("CNODE", "N0CCC-7", "N0BBB", 191, Some(5)));
+    View::Nodes { routes, more: 3 }
+}
+
+fn routes_to() -> View {
+    let mut routes = ArrayVec::new();
+    let _ = routes.try_push(route("CNODE", "N0CCC-7", "N0BBB", 191, Some(5)));
+    let _ = routes.try_push(route("CNODE", "N0CCC-7", "N0DDD-1", 10, None));
+    View::RoutesTo {
+        dest: call("N0CCC-7"),
+        routes,
     }
 }
 
-fn view() -> View {
-    let mut view = empty_view();
-    view.more = 3;
-    let nodes = &mut view.nodes;
-    let _ = nodes.try_push(route("BNODE", "N0BBB", "N0BBB", 255, Some(6)));
-    let _ = nodes.try_push(route("CNODE", "N0CCC-7", "N0BBB", 191, Some(5)));
-    let routes = &mut view.routes;
-    let _ = routes.try_push(route("CNODE", "N0CCC-7", "N0BBB", 191, Some(5)));
-    let _ = routes.try_push(route("CNODE", "N0CCC-7", "N0DDD-1", 10, None));
-    let neighbours = &mut view.neighbours;
-    let _ = neighbours.try_push(route("BNODE", "N0BBB", "N0BBB", 255, Some(6)));
-    let _ = view.users.try_push(call("N0EEE"));
-    let _ = view.users.try_push(call("N0FFF-15"));
-    view
+fn neighbours() -> View {
+    let mut routes = ArrayVec::new();
+    let _ = routes.try_push(route("BNODE", "N0BBB", "N0BBB", 255, Some(6)));
+    View::Routes(routes)
+}
+
+fn users() -> View {
+    let mut users = ArrayVec::new();
+    let _ = users.try_push(call("N0EEE"));
+    let _ = users.try_push(call("N0FFF-15"));
+    View::Users(users)
 }
 
 /// The text that goes to the user.
@@ -57,6 +61,7 @@ fn text_of(action: &Action) -> &[u8] {
     match action {
         Action::Say(text) => text,
         Action::Bye(text) => text,
+        Action::Show(_) => b"",
         Action::Connect(_) => b"",
         Action::Nothing => b"",
     }
@@ -65,13 +70,6 @@ fn text_of(action: &Action) -> &[u8] {
 #[test]
 fn each_command_has_its_reply(rt: HostRuntime) {
     for (line, reply) in [
-        ("NODES", "Nodes:\rBNODE:N0BBB\rCNODE:N0CCC-7\rand 3 more\r"),
-        (
-            "N n0ccc-7",
-            "Routes to N0CCC-7:\r191 5 N0BBB\r10 locked N0DDD-1\r",
-        ),
-        ("routes", "Routes:\rN0BBB 255\r"),
-        ("U", "Users:\rN0EEE\rN0FFF-15\r"),
         ("i", "NET/ROM node\r"),
         ("?", "CONNECT NODES ROUTES USERS INFO BYE HELP\r"),
         ("  hElP  ", "CONNECT NODES ROUTES USERS INFO BYE HELP\r"),
@@ -83,18 +81,32 @@ fn each_command_has_its_reply(rt: HostRuntime) {
         ("NODES N0BBB-16", "Bad call\r"),
         ("C BNODE:N0BBB", "Bad call\r"),
     ] {
-        let action = session().line(line.as_bytes(), &view());
-        let mut expected: ArrayVec<u8, 100> = ArrayVec::new();
-        let _ = expected.try_extend_from_slice(b"ANODE:N0AAA} ");
-        let _ = expected.try_extend_from_slice(reply.as_bytes());
-        assert!(rt; text_of(&action) == expected.as_slice(), "{line}");
+        let action = prompt().line(line.as_bytes());
+        expect_reply(&rt, text_of(&action), reply);
         assert!(rt; matches!(action, Action::Say(_)), "{line}");
     }
 }
 
+fn expect_reply(rt: &impl Abort, text: &[u8], reply: &str) {
+    let mut expected: ArrayVec<u8, 100> = ArrayVec::new();
+    let _ = expected.try_extend_from_slice(b"ANODE:N0AAA} ");
+    let _ = expected.try_extend_from_slice(reply.as_bytes());
+    assert!(rt; text == expected.as_slice(), "{reply}");
+}
+
+#[test]
+fn what_there_is_to_see_is_shown(rt: HostRuntime) {
+    let reply = "Nodes:\rBNODE:N0BBB\rCNODE:N0CCC-7\rand 3 more\r";
+    expect_reply(&rt, &prompt().show(&nodes()), reply);
+    let reply = "Routes to N0CCC-7:\r191 5 N0BBB\r10 locked N0DDD-1\r";
+    expect_reply(&rt, &prompt().show(&routes_to()), reply);
+    expect_reply(&rt, &prompt().show(&neighbours()), "Routes:\rN0BBB 255\r");
+    expect_reply(&rt, &prompt().show(&users()), "Users:\rN0EEE\rN0FFF-15\r");
+}
+
 #[test]
 fn help_has_54_bytes(rt: HostRuntime) {
-    let action = Session::new(alias("BNODE"), call("N0BBB")).line(b"help", &empty_view());
+    let action = Prompt::new(alias("BNODE"), call("N0BBB")).line(b"help");
     let reply = b"BNODE:N0BBB} CONNECT NODES ROUTES USERS INFO BYE HELP\r";
     assert!(rt; text_of(&action) == reply.as_slice());
     assert_eq!(rt; text_of(&action).len(), 54);
@@ -102,25 +114,31 @@ fn help_has_54_bytes(rt: HostRuntime) {
 
 #[test]
 fn lists_may_be_empty(rt: HostRuntime) {
-    let action = session().line(b"NODES", &empty_view());
-    assert!(rt; text_of(&action) == b"ANODE:N0AAA} Nodes:\r".as_slice());
-    let action = session().line(b"NODES N0QQQ", &empty_view());
-    assert!(rt; text_of(&action) == b"ANODE:N0AAA} Routes to N0QQQ:\r".as_slice());
+    let nodes = View::Nodes {
+        routes: ArrayVec::new(),
+        more: 0,
+    };
+    expect_reply(&rt, &prompt().show(&nodes), "Nodes:\r");
+    let routes = View::RoutesTo {
+        dest: call("N0QQQ"),
+        routes: ArrayVec::new(),
+    };
+    expect_reply(&rt, &prompt().show(&routes), "Routes to N0QQQ:\r");
 }
 
 #[test]
 fn lines_have_at_most_80_bytes(rt: HostRuntime) {
-    let long = session().line(&[b' '; 81], &view());
+    let long = prompt().line(&[b' '; 81]);
     assert!(rt; text_of(&long) == b"ANODE:N0AAA} Line too long\r".as_slice());
-    assert!(rt; session().line(&[b' '; 80], &view()) == Action::Nothing);
-    assert!(rt; session().line(b"", &view()) == Action::Nothing);
+    assert!(rt; prompt().line(&[b' '; 80]) == Action::Nothing);
+    assert!(rt; prompt().line(b"") == Action::Nothing);
 }
 
 #[test]
 fn a_circuit_is_asked_for(rt: HostRuntime) {
     let connect = Action::Connect(call("N0QQQ-3"));
-    assert!(rt; session().line(b"connect n0qqq-3", &view()) == connect);
-    let bye = session().line(b"b", &view());
+    assert!(rt; prompt().line(b"connect n0qqq-3") == connect);
+    let bye = prompt().line(b"b");
     assert!(rt; text_of(&bye) == b"ANODE:N0AAA} Bye\r".as_slice());
     assert!(rt; matches!(bye, Action::Bye(_)));
 }
@@ -128,12 +146,12 @@ fn a_circuit_is_asked_for(rt: HostRuntime) {
 #[test]
 fn what_comes_of_a_circuit_is_told(rt: HostRuntime) {
     let dest = call("N0QQQ");
-    let mut session = session();
-    let trying = session.trying(&dest);
+    let prompt = prompt();
+    let trying = prompt.trying(&dest);
     assert!(rt; trying.as_slice() == b"ANODE:N0AAA} Trying N0QQQ\r".as_slice());
-    let connected = session.connected(&dest);
+    let connected = prompt.connected(&dest);
     assert!(rt; connected.as_slice() == b"ANODE:N0AAA} Connected to N0QQQ\r".as_slice());
-    let ended = session.ended(&dest);
+    let ended = prompt.ended(&dest);
     assert!(rt; ended.as_slice() == b"ANODE:N0AAA} Disconnected from N0QQQ\r".as_slice());
     for (why, reply) in [
         (Trouble::NoRoute, "ANODE:N0AAA} No route to N0QQQ\r"),
@@ -143,18 +161,24 @@ fn what_comes_of_a_circuit_is_told(rt: HostRuntime) {
         (Trouble::Failure, "ANODE:N0AAA} Failure with N0QQQ\r"),
     ] {
         assert!(rt;
-            session.refused(&dest, why).as_slice() == reply.as_bytes(),
+            prompt.refused(&dest, why).as_slice() == reply.as_bytes(),
             "{reply}"
         );
     }
 }
 
 #[test]
-fn a_line_names_whose_routes_it_wants(rt: HostRuntime) {
-    for line in ["NODES N0CCC-7", " n  n0ccc-7 "] {
-        assert!(rt; wanted(line.as_bytes()) == Some(call("N0CCC-7")), "{line}");
+fn a_line_names_what_it_shows(rt: HostRuntime) {
+    for (line, sight) in [
+        ("NODES N0CCC-7", Sight::RoutesTo(call("N0CCC-7"))),
+        (" n  n0ccc-7 ", Sight::RoutesTo(call("N0CCC-7"))),
+        ("NODES", Sight::Nodes),
+        ("routes", Sight::Routes),
+        ("U", Sight::Users),
+    ] {
+        assert!(rt; prompt().line(line.as_bytes()) == Action::Show(sight), "{line}");
     }
-    for line in ["", "NODES", "C N0CCC-7", "N N0CCC-7 X", "N N0CCC-16"] {
-        assert!(rt; wanted(line.as_bytes()) == None, "{line}");
+    for line in ["", "C N0CCC-7", "N N0CCC-7 X", "N N0CCC-16"] {
+        assert!(rt; !matches!(prompt().line(line.as_bytes()), Action::Show(_)), "{line}");
     }
 }

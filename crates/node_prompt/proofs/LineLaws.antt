@@ -7,17 +7,18 @@ use Rattle.std.specs.Fmt.{decimal}
 use Rattle.std.proofs.lemmas.Bool.Decides.{nat_tests}
 use Rattle.std.proofs.lemmas.List.{length-map}
 use Rattle.std.proofs.lemmas.Slice.Eq.{bytes_eq-Decides}
-use Rattle.arrayvec.specs.ArrayVec.{ArrayVec}
 use Rattle.ax_address.specs.Callsign.{Callsign}
 use Rattle.ax_address.specs.Alias as aliases
 use Rattle.ax_address.specs.Callsign as calls
 use Rattle.ax_address.specs.CallReading.{call_at}
 use Rattle.ax_address.specs.declared.call.CallRefusal.{CallRefusal}
 use Rattle.route_table.specs.declared.route.Route.{Route}
-use Rattle.node_prompt.specs.declared.action.Action.TheVariants.{Say}
+use Rattle.node_prompt.specs.declared.action.Action.TheVariants.{Show}
+use Rattle.node_prompt.specs.declared.action.Sight.TheVariants as sight
 use Rattle.node_prompt.specs.declared.action.Trouble.{Trouble}
 use Rattle.node_prompt.specs.declared.action.Trouble.TheVariants.{NoRoute, Own, Full, Busy, Failure}
 use Rattle.node_prompt.specs.declared.action.View.{View}
+use Rattle.node_prompt.specs.declared.action.View.TheVariants as see
 use Rattle.node_prompt.specs.declared.command.Command.{Command}
 use Rattle.node_prompt.specs.declared.command.Command.TheVariants as ask
 use Rattle.node_prompt.specs.declared.command.LineRefusal.{LineRefusal}
@@ -25,12 +26,17 @@ use Rattle.node_prompt.specs.declared.command.LineRefusal.TheVariants.{TooLong, 
 use Rattle.node_prompt.specs.declared.command.Verb.{Verb}
 use Rattle.node_prompt.specs.declared.command.Verb.TheVariants.{Connect, Nodes, Routes, Users, Info, Bye, Help}
 use Rattle.node_prompt.specs.Words.{capital, words_of}
-use Rattle.node_prompt.specs.Commands.{is_either, verb_of, about, command_from, command_of, command_at, wanted_by, wanted}
+use Rattle.node_prompt.specs.Commands.{is_either, verb_of, about, command_from, command_of, command_at}
 use Rattle.node_prompt.specs.Prompts.{Prompt, prefix_of, ended}
 use Rattle.node_prompt.specs.Replies as replies
-use Rattle.node_prompt.specs.Laws.{AsksForRoutes, WantedIsAskedFor, WantedIsShown, OthersAreUnread, IsReply, AllIsReply, CaseIsNothing}
+use Rattle.node_prompt.specs.Laws.{AsksForRoutes, RoutesAreAskedFor, IsReply, AllIsReply, CaseIsNothing}
 
--- ---- which line wants routes
+-- ---- which line asks for routes
+
+-- the destination whose routes are asked for
+abbrev wanted_by : Result Command LineRefusal → Option Callsign
+wanted_by (Ok (ask.RoutesTo dest)) = Some dest
+wanted_by other = None
 
 abbrev maybe_verb : Verb → Option Verb
 maybe_verb v = Some v
@@ -110,54 +116,50 @@ asks_for line dest false l e =
     let a = asks (words_of (map capital line)) dest e in
     record { first = a.first; second = a.second; fits = grind (arith, nat_tests); words = a.words; named = named a.first a.named; call = a.call }
 
-wanted_asks : (line : List ℕ) (dest : Callsign) → wanted line ≡ Some dest → AsksForRoutes line dest
+wanted_asks : (line : List ℕ) (dest : Callsign) → wanted_by (command_at line) ≡ Some dest → AsksForRoutes line dest
 unfolding command_at
 wanted_asks line dest e = asks_for line dest (nat_lt 80 (length line)) refl e
 
-asks_wanted : (line : List ℕ) (dest : Callsign) → AsksForRoutes line dest → wanted line ≡ Some dest
+asks_wanted : (line : List ℕ) (dest : Callsign) → AsksForRoutes line dest → wanted_by (command_at line) ≡ Some dest
 unfolding command_at
 asks_wanted line dest a =
     let short : nat_lt 80 (length line) ≡ false = grind (arith, nat_tests, a.fits) in
     rw (short, a.words, names a.first a.named, a.call) refl
 
-pub wanted_is_asked_for : WantedIsAskedFor
-wanted_is_asked_for line dest = (wanted_asks line dest, asks_wanted line dest)
+-- these are what is shown then
+shown_wanted : (p : Prompt) (dest : Callsign) (r : Result Command LineRefusal) → replies.action_of p r ≡ Show (sight.RoutesTo dest) → wanted_by r ≡ Some dest
+shown_wanted p dest (Err why) e = absurd (cc)
+shown_wanted p dest (Ok ask.Nothing) e = absurd (cc)
+shown_wanted p dest (Ok (ask.Connect x)) e = absurd (cc)
+shown_wanted p dest (Ok ask.Nodes) e = absurd (cc)
+shown_wanted p dest (Ok (ask.RoutesTo x)) e = cc
+shown_wanted p dest (Ok ask.Routes) e = absurd (cc)
+shown_wanted p dest (Ok ask.Users) e = absurd (cc)
+shown_wanted p dest (Ok ask.Info) e = absurd (cc)
+shown_wanted p dest (Ok ask.Bye) e = absurd (cc)
+shown_wanted p dest (Ok ask.Help) e = absurd (cc)
 
--- ---- what it is answered by
+wanted_shown : (p : Prompt) (dest : Callsign) (r : Result Command LineRefusal) → wanted_by r ≡ Some dest → replies.action_of p r ≡ Show (sight.RoutesTo dest)
+wanted_shown p dest (Err why) e = absurd (cc)
+wanted_shown p dest (Ok ask.Nothing) e = absurd (cc)
+wanted_shown p dest (Ok (ask.Connect x)) e = absurd (cc)
+wanted_shown p dest (Ok ask.Nodes) e = absurd (cc)
+wanted_shown p dest (Ok (ask.RoutesTo x)) e = let same : x ≡ dest = cc in rw same refl
+wanted_shown p dest (Ok ask.Routes) e = absurd (cc)
+wanted_shown p dest (Ok ask.Users) e = absurd (cc)
+wanted_shown p dest (Ok ask.Info) e = absurd (cc)
+wanted_shown p dest (Ok ask.Bye) e = absurd (cc)
+wanted_shown p dest (Ok ask.Help) e = absurd (cc)
 
-shown_by : (p : Prompt) (view : View) (dest : Callsign) (r : Result Command LineRefusal) → wanted_by r ≡ Some dest → replies.action_of p view r ≡ Say (replies.reply p (replies.routes_to_text dest view.routes.items))
-shown_by p view dest (Err why) e = absurd (cc)
-shown_by p view dest (Ok ask.Nothing) e = absurd (cc)
-shown_by p view dest (Ok (ask.Connect x)) e = absurd (cc)
-shown_by p view dest (Ok ask.Nodes) e = absurd (cc)
-shown_by p view dest (Ok (ask.RoutesTo x)) e = let same : x ≡ dest = cc in rw same refl
-shown_by p view dest (Ok ask.Routes) e = absurd (cc)
-shown_by p view dest (Ok ask.Users) e = absurd (cc)
-shown_by p view dest (Ok ask.Info) e = absurd (cc)
-shown_by p view dest (Ok ask.Bye) e = absurd (cc)
-shown_by p view dest (Ok ask.Help) e = absurd (cc)
+pub routes_are_asked_for : RoutesAreAskedFor
+routes_are_asked_for p line dest =
+    (λ e. wanted_asks line dest (shown_wanted p dest (command_at line) e), λ a. wanted_shown p dest (command_at line) (asks_wanted line dest a))
 
-pub wanted_is_shown : WantedIsShown
-wanted_is_shown p line view dest e = shown_by p view dest (command_at line) e
-
-unread_by : (p : Prompt) (view : View) (routes : ArrayVec Route) (r : Result Command LineRefusal) → wanted_by r ≡ None → replies.action_of p (record view { routes = routes }) r ≡ replies.action_of p view r
-unread_by p view routes (Err why) e = refl
-unread_by p view routes (Ok ask.Nothing) e = refl
-unread_by p view routes (Ok (ask.Connect x)) e = refl
-unread_by p view routes (Ok ask.Nodes) e = refl
-unread_by p view routes (Ok (ask.RoutesTo x)) e = absurd (cc)
-unread_by p view routes (Ok ask.Routes) e = refl
-unread_by p view routes (Ok ask.Users) e = refl
-unread_by p view routes (Ok ask.Info) e = refl
-unread_by p view routes (Ok ask.Bye) e = refl
-unread_by p view routes (Ok ask.Help) e = refl
-
-pub others_are_unread : OthersAreUnread
-others_are_unread p line view routes e = unread_by p view routes (command_at line) e
+-- ---- the case of letters
 
 pub case_is_nothing : CaseIsNothing
 unfolding command_at
-case_is_nothing p line other view same =
+case_is_nothing p line other same =
     let len : length line ≡ length other = sym (length-map line capital) ∙ (ap length same ∙ length-map other capital) in
     rw (len, same) refl
 
@@ -188,20 +190,26 @@ nodes_end routes more =
     let all = ends_more more (more == 0) (ended (codes "Nodes:") ++ flat_map replies.node_line routes) lines in
     (all.0, sym (append_assoc (ended (codes "Nodes:")) (flat_map replies.node_line routes) (replies.more_line more)) ∙ all.1)
 
-replied_by : (p : Prompt) (view : View) (r : Result Command LineRefusal) → IfSome (replies.said (replies.action_of p view r)) (IsReply p)
-replied_by p view (Err TooLong) = (codes "Line too long", refl)
-replied_by p view (Err UnknownCommand) = (codes "Unknown command", refl)
-replied_by p view (Err WrongWords) = (codes "Wrong words", refl)
-replied_by p view (Err BadCall) = (codes "Bad call", refl)
-replied_by p view (Ok ask.Nothing) = tt
-replied_by p view (Ok (ask.Connect x)) = tt
-replied_by p view (Ok ask.Nodes) = is_reply p _ (nodes_end view.nodes.items view.more)
-replied_by p view (Ok (ask.RoutesTo x)) = is_reply p _ (ends_lines (λ (r : Route). decimal r.quality ++ codes " " ++ replies.count_text r.count ++ codes " " ++ calls.shown r.neighbour) view.routes.items _ (codes "Routes to " ++ calls.shown x ++ codes ":", refl))
-replied_by p view (Ok ask.Routes) = is_reply p _ (ends_lines (λ (r : Route). calls.shown r.dest ++ codes " " ++ decimal r.quality) view.neighbours.items _ (codes "Routes:", refl))
-replied_by p view (Ok ask.Users) = is_reply p _ (ends_lines calls.shown view.users.items _ (codes "Users:", refl))
-replied_by p view (Ok ask.Info) = (codes "NET/ROM node", refl)
-replied_by p view (Ok ask.Bye) = (codes "Bye", refl)
-replied_by p view (Ok ask.Help) = (codes "CONNECT NODES ROUTES USERS INFO BYE HELP", refl)
+replied_by : (p : Prompt) (r : Result Command LineRefusal) → IfSome (replies.said (replies.action_of p r)) (IsReply p)
+replied_by p (Err TooLong) = (codes "Line too long", refl)
+replied_by p (Err UnknownCommand) = (codes "Unknown command", refl)
+replied_by p (Err WrongWords) = (codes "Wrong words", refl)
+replied_by p (Err BadCall) = (codes "Bad call", refl)
+replied_by p (Ok ask.Nothing) = tt
+replied_by p (Ok (ask.Connect x)) = tt
+replied_by p (Ok ask.Nodes) = tt
+replied_by p (Ok (ask.RoutesTo x)) = tt
+replied_by p (Ok ask.Routes) = tt
+replied_by p (Ok ask.Users) = tt
+replied_by p (Ok ask.Info) = (codes "NET/ROM node", refl)
+replied_by p (Ok ask.Bye) = (codes "Bye", refl)
+replied_by p (Ok ask.Help) = (codes "CONNECT NODES ROUTES USERS INFO BYE HELP", refl)
+
+viewed_by : (p : Prompt) (view : View) → IsReply p (replies.view_text p view).items
+viewed_by p (see.Nodes routes more) = is_reply p _ (nodes_end routes.items more)
+viewed_by p (see.RoutesTo x routes) = is_reply p _ (ends_lines (λ (r : Route). decimal r.quality ++ codes " " ++ replies.count_text r.count ++ codes " " ++ calls.shown r.neighbour) routes.items _ (codes "Routes to " ++ calls.shown x ++ codes ":", refl))
+viewed_by p (see.Routes neighbours) = is_reply p _ (ends_lines (λ (r : Route). calls.shown r.dest ++ codes " " ++ decimal r.quality) neighbours.items _ (codes "Routes:", refl))
+viewed_by p (see.Users users) = is_reply p _ (ends_lines calls.shown users.items _ (codes "Users:", refl))
 
 refused_by : (p : Prompt) (dest : Callsign) (why : Trouble) → IsReply p (replies.refused p dest why).items
 refused_by p dest NoRoute = (codes "No route to " ++ calls.shown dest, refl)
@@ -212,7 +220,8 @@ refused_by p dest Failure = (codes "Failure with " ++ calls.shown dest, refl)
 
 pub all_is_reply : AllIsReply
 all_is_reply = record {
-  line = λ p line view. replied_by p view (command_at line);
+  line = λ p line. replied_by p (command_at line);
+  show = viewed_by;
   trying = λ p dest. (codes "Trying " ++ calls.shown dest, refl);
   connected = λ p dest. (codes "Connected to " ++ calls.shown dest, refl);
   refused = refused_by;

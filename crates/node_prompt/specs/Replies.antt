@@ -8,10 +8,12 @@ use Rattle.ax_address.specs.Callsign as calls
 use Rattle.ax_address.specs.Callsign.{Callsign}
 use Rattle.route_table.specs.declared.route.Route.{Route}
 use Rattle.node_prompt.specs.declared.action.Action.{Action}
-use Rattle.node_prompt.specs.declared.action.Action.TheVariants.{Say, Connect, Bye, Nothing}
+use Rattle.node_prompt.specs.declared.action.Action.TheVariants.{Say, Show, Connect, Bye, Nothing}
+use Rattle.node_prompt.specs.declared.action.Sight.TheVariants as sight
 use Rattle.node_prompt.specs.declared.action.Trouble.{Trouble}
 use Rattle.node_prompt.specs.declared.action.Trouble.TheVariants.{NoRoute, Own, Full, Busy, Failure}
 use Rattle.node_prompt.specs.declared.action.View.{View}
+use Rattle.node_prompt.specs.declared.action.View.TheVariants as view
 use Rattle.node_prompt.specs.declared.command.Command.{Command}
 use Rattle.node_prompt.specs.declared.command.Command.TheVariants as ask
 use Rattle.node_prompt.specs.declared.command.LineRefusal.{LineRefusal}
@@ -65,27 +67,35 @@ abbrev pub reply : Prompt → List ℕ → ArrayVec ℕ
 reply p lines = record { items = prefix_of p ++ lines }
 
 -- what is done for a line that asks for this, or for nothing that there is
-abbrev pub action_of : Prompt → View → Result Command LineRefusal → Action
-action_of p view (Err why) = Say (reply p (refusal_text why))
-action_of p view (Ok ask.Nothing) = Nothing
-action_of p view (Ok (ask.Connect dest)) = Connect dest
-action_of p view (Ok ask.Nodes) = Say (reply p (nodes_text view.nodes.items view.more))
-action_of p view (Ok (ask.RoutesTo dest)) = Say (reply p (routes_to_text dest view.routes.items))
-action_of p view (Ok ask.Routes) = Say (reply p (routes_text view.neighbours.items))
-action_of p view (Ok ask.Users) = Say (reply p (users_text view.users.items))
-action_of p view (Ok ask.Info) = Say (reply p (ended (codes "NET/ROM node")))
-action_of p view (Ok ask.Bye) = Bye (reply p (ended (codes "Bye")))
-action_of p view (Ok ask.Help) = Say (reply p (ended (codes "CONNECT NODES ROUTES USERS INFO BYE HELP")))
+abbrev pub action_of : Prompt → Result Command LineRefusal → Action
+action_of p (Err why) = Say (reply p (refusal_text why))
+action_of p (Ok ask.Nothing) = Nothing
+action_of p (Ok (ask.Connect dest)) = Connect dest
+action_of p (Ok ask.Nodes) = Show sight.Nodes
+action_of p (Ok (ask.RoutesTo dest)) = Show (sight.RoutesTo dest)
+action_of p (Ok ask.Routes) = Show sight.Routes
+action_of p (Ok ask.Users) = Show sight.Users
+action_of p (Ok ask.Info) = Say (reply p (ended (codes "NET/ROM node")))
+action_of p (Ok ask.Bye) = Bye (reply p (ended (codes "Bye")))
+action_of p (Ok ask.Help) = Say (reply p (ended (codes "CONNECT NODES ROUTES USERS INFO BYE HELP")))
 
-abbrev pub action_for : Prompt → List ℕ → View → Action
-action_for p line view = action_of p view (command_at line)
+abbrev pub action_for : Prompt → List ℕ → Action
+action_for p line = action_of p (command_at line)
 
 -- the text that goes to the user
 abbrev pub said : Action → Option (List ℕ)
 said (Say text) = Some text.items
 said (Bye text) = Some text.items
+said (Show what) = None
 said (Connect dest) = None
 said Nothing = None
+
+-- the text for what there is to see
+abbrev pub view_text : Prompt → View → ArrayVec ℕ
+view_text p (view.Nodes routes more) = reply p (nodes_text routes.items more)
+view_text p (view.RoutesTo dest routes) = reply p (routes_to_text dest routes.items)
+view_text p (view.Routes neighbours) = reply p (routes_text neighbours.items)
+view_text p (view.Users users) = reply p (users_text users.items)
 
 -- what is told of a circuit to a destination
 abbrev pub trying : Prompt → Callsign → ArrayVec ℕ

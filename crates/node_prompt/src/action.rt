@@ -1,4 +1,4 @@
-//! What a session sees of its node, and what it wants done.
+//! What is to be done for a line, and what there is to see of a node.
 use arrayvec::ArrayVec;
 use ax_address::Call;
 use l3_datagram::Message;
@@ -9,6 +9,8 @@ use route_table::Route;
 pub enum Action {
     /// This text goes to the user.
     Say(Message),
+    /// What there is to see of this goes to the user.
+    Show(Sight),
     /// A circuit to this destination is tried.
     Connect(Call),
     /// This text goes to the user, and then the user's side is closed.
@@ -31,17 +33,34 @@ pub enum Trouble {
     Failure,
 }
 
-/// What there is to see of a node.
-#[derive(Debug, Drop, PartialEq, Eq)]
-pub struct View {
-    /// A route to each of the first 64 destinations.
-    pub nodes: ArrayVec<Route, 64>,
-    /// How many destinations there are beside those.
-    pub more: usize,
-    /// The routes to the destination that the line names, as `wanted` says.
-    pub routes: ArrayVec<Route, 3>,
+/// What a user can ask to see of a node.
+#[derive(Clone, Copy, Debug, PartialEq, Eq)]
+pub enum Sight {
+    /// The destinations.
+    Nodes,
+    /// The routes to this destination.
+    RoutesTo(Call),
+    /// The destinations that have a route over themselves.
+    Routes,
+    /// The partners of the ends that are held.
+    Users,
+}
+
+/// What there is to see of it.
+#[derive(Debug, Drop)]
+pub enum View {
+    /// A route to each of the first 64 destinations, and how many destinations there are beside those.
+    Nodes {
+        routes: ArrayVec<Route, 64>,
+        more: usize,
+    },
+    /// The routes to a destination.
+    RoutesTo {
+        dest: Call,
+        routes: ArrayVec<Route, 3>,
+    },
     /// The routes of the first 64 destinations that have one over themselves.
-    pub neighbours: ArrayVec<Route, 64>,
+    Routes(ArrayVec<Route, 64>),
     /// The partner of each end that is held.
-    pub users: ArrayVec<Call, 64>,
+    Users(ArrayVec<Call, 64>),
 }

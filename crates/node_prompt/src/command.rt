@@ -1,5 +1,5 @@
 //! What a line asks for.
-ghost use Rattle.std.specs.Prelude.{◌≡◌, Ok};
+ghost use Rattle.std.specs.Prelude.{◌≡◌};
 ghost use Rattle.node_prompt.specs.Words as words;
 ghost use Rattle.node_prompt.specs.Commands as commands;
 
@@ -27,18 +27,6 @@ pub enum Command {
     Bye,
     /// The commands.
     Help,
-}
-
-impl Command {
-    /// The destination whose routes are asked for.
-    pub fn wanted(&self) -> Option<Call>
-        ensures { result ≡ commands.wanted_by (Ok self.now) }
-    {
-        match self {
-            Command::RoutesTo(dest) => Some(*dest),
-            _ => None,
-        }
-    }
 }
 
 /// Why a line asks for nothing that there is.

@@ -1,12 +1,9 @@
 //! What the definitions promise by themselves.
-ghost use Rattle.node_prompt.specs.Laws.{WantedIsAskedFor, WantedIsShown, OthersAreUnread, CaseIsNothing, AllIsReply};
+ghost use Rattle.node_prompt.specs.Laws.{RoutesAreAskedFor, CaseIsNothing, AllIsReply};
 
-/// A line wants the routes to a destination exactly where it is `NODES` or `N` and a call, in letters of any case. It is
-/// answered by the routes of the view, as those to this destination, and to no other line do they mean anything.
-pub fn wanted_routes()
-    ensures asked { WantedIsAskedFor }
-    ensures shown { WantedIsShown }
-    ensures others { OthersAreUnread }
+/// The routes to a destination are shown exactly for a line that is `NODES` or `N` and a call, in letters of any case.
+pub fn routes_to()
+    ensures { RoutesAreAskedFor }
 {}
 
 /// Two lines that differ in the case of letters from a to z alone are answered alike.

@@ -1,15 +1,15 @@
 //! The prompt of a node: what a line of a user asks for, and every text that the node says to one.
 //!
-//! A `Session` is a pure machine. Lines come in, one by one, with what there is to see of the node, and an `Action` goes
-//! out. It cuts no lines, makes no circuit and keeps nothing of what it said: that is the node's part.
+//! A `Prompt` goes by the node's names alone. Lines come in, one by one, and an `Action` goes out; where it shows something of the node,
+//! the node hands in what there is of it. A prompt cuts no lines, makes no circuit and keeps nothing of what it said: that is the node's part.
 #![tactic(auto)]
 
 mod action;
 mod command;
 pub mod laws;
 mod lines;
-mod session;
+mod prompt;
 mod words;
 
-pub use action::{Action, Trouble, View};
-pub use session::{Session, wanted};
+pub use action::{Action, Sight, Trouble, View};
+pub use prompt::Prompt;

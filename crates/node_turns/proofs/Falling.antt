@@ -86,6 +86,7 @@ module _ (offers : OffersLeave) (takes : TakesLower) (less : TellsLess) where
 
   acting : (now nth : ℕ) (a : Action) (n : State) → Adds 3 n (asking.do_action now nth a n)
   acting now nth (action.Say text) n = let x = lowering.said offers takes less now nth text.items n in record { units = x.units; sessions = omega (arith, x.sessions) }
+  acting now nth (action.Show sight) n = let x = lowering.said offers takes less now nth (texts.view_text (bridging.prompt_of n) (view sight n)).items n in record { units = x.units; sessions = omega (arith, x.sessions) }
   acting now nth (action.Bye text) n = let x = byes now nth text.items n in record { units = x.units; sessions = omega (arith, x.sessions) }
   acting now nth (action.Connect dest) n = tried now nth dest (connect_answer (next_hop n) dest n.set.set) n
   acting now nth action.Nothing n = record { units = omega arith; sessions = omega arith }
@@ -122,7 +123,7 @@ module _ (offers : OffersLeave) (takes : TakesLower) (less : TellsLess) where
   nothing_asked = refl
 
   nothing_done : (n : State) → asking.action_for [] n ≡ action.Nothing
-  nothing_done n = ap (texts.action_of (bridging.prompt_of n) (view (commands.wanted []) n)) nothing_asked
+  nothing_done n = ap (texts.action_of (bridging.prompt_of n)) nothing_asked
 
   line_less : (now nth : ℕ) (n : State) (s : Session) → session_at nth n ≡ Some s → 0 < length s.rest → work (asking.do_line now nth n) < work n
   line_less now nth n s e some =

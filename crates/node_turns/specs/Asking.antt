@@ -5,10 +5,10 @@ use Rattle.circuit_set.specs.declared.event.ConnectRefusal.{ConnectRefusal}
 use Rattle.circuit_set.specs.declared.event.ConnectRefusal.TheVariants as refusal
 use Rattle.circuit_set.specs.Inputs.{connect_answer}
 use Rattle.circuit_set.specs.Sets as sets
-use Rattle.node_prompt.specs.Commands.{wanted}
 use Rattle.node_prompt.specs.Replies as texts
 use Rattle.node_prompt.specs.declared.action.Action.{Action}
-use Rattle.node_prompt.specs.declared.action.Action.TheVariants.{Say, Connect, Bye, Nothing}
+use Rattle.node_prompt.specs.declared.action.Action.TheVariants.{Say, Show, Connect, Bye, Nothing}
+use Rattle.node_prompt.specs.declared.action.Sight.{Sight}
 use Rattle.node_prompt.specs.declared.action.Trouble.{Trouble}
 use Rattle.node_prompt.specs.declared.action.Trouble.TheVariants as trouble
 use Rattle.node_turns.specs.declared.session.Circuit.{Circuit}
@@ -69,14 +69,19 @@ leaves s = record s { bye = true; rest = [] }
 abbrev pub say_bye : ℕ → ℕ → List ℕ → State → State
 say_bye now nth text n = close_user now nth (at_session nth leaves (say now nth text n))
 
+-- what there is to see
+abbrev pub show : ℕ → ℕ → Sight → State → State
+show now nth sight n = say now nth (texts.view_text (prompt_of n) (view sight n)).items n
+
 abbrev pub do_action : ℕ → ℕ → Action → State → State
 do_action now nth (Say text) n = say now nth text.items n
+do_action now nth (Show sight) n = show now nth sight n
 do_action now nth (Bye text) n = say_bye now nth text.items n
 do_action now nth (Connect dest) n = try_circuit now nth dest n
 do_action now nth Nothing n = n
 
 abbrev pub action_for : List ℕ → State → Action
-action_for line n = texts.action_for (prompt_of n) line (view (wanted line) n)
+action_for line n = texts.action_for (prompt_of n) line
 
 abbrev pub action_at : Option Session → State → Action
 action_at None n = Nothing

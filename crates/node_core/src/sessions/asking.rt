@@ -10,7 +10,7 @@ use crate::station::Station;
 use ax_address::Call;
 use circuit_set::ConnectRefusal;
 use l3_datagram::Message;
-use node_prompt::{Action, Trouble, wanted};
+use node_prompt::{Action, Sight, Trouble};
 use radio_base::{Moment, NoMemory};
 
 impl Station {
@@ -86,28 +86,20 @@ impl Station {
         requires { StandsTold self.old }
         ensures { OnOk result (Steps (asking.do_line now.0 nth) self.old self.new) }
     {
-        let action = self.action(nth)?;
+        let action = self.action(nth);
         self.cut_line(nth);
         self.do_action(nth, &action, now)?;
         Ok(())
     }
 
     /// What is to be done for that line.
-    fn action(&self, nth: usize) -> Result<Action, NoMemory>
-        ensures { IfOk result (λ action. (n : State) → Told self.now n → action ≡ asking.action_at (users.session_at nth n) n) }
+    fn action(&self, nth: usize) -> Action
+        ensures { (n : State) → Told self.now n → result ≡ asking.action_at (users.session_at nth n) n }
     {
         match self.session(nth) {
-            Some(session) => self.action_for(session.line()),
-            None => Ok(Action::Nothing),
+            Some(session) => self.prompt().line(session.line()),
+            None => Action::Nothing,
         }
-    }
-
-    /// What is to be done for a line.
-    fn action_for(&self, line: &[u8]) -> Result<Action, NoMemory>
-        ensures { IfOk result (λ action. (n : State) → Told self.now n → action ≡ asking.action_for line.now n) }
-    {
-        let view = self.view(&wanted(line))?;
-        Ok(self.prompt().line(line, &view))
     }
 
     fn cut_line(&mut self, nth: usize)
@@ -125,10 +117,22 @@ impl Station {
     {
         match action {
             Action::Say(text) => self.say(nth, text, now),
+            Action::Show(sight) => self.show(nth, sight, now),
             Action::Bye(text) => self.say_bye(nth, text, now),
             Action::Connect(dest) => self.try_circuit(nth, dest, now),
             Action::Nothing => Ok(()),
         }
+    }
+
+    /// Says what there is to see.
+    fn show(&mut self, nth: usize, sight: &Sight, now: Moment) -> Result<(), NoMemory>
+        requires { StandsTold self.old }
+        ensures { OnOk result (Steps (asking.show now.0 nth sight.now) self.old self.new) }
+    {
+        let view = self.view(sight)?;
+        let text = self.prompt().show(&view);
+        self.say(nth, &text, now)?;
+        Ok(())
     }
 
     /// Says the last text to a user, and closes its side. What is left of its text is dropped.

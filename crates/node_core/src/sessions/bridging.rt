@@ -7,7 +7,7 @@ ghost use Rattle.node_turns.specs.Users as users;
 use crate::sessions::users::{is_gone, took};
 use crate::station::Station;
 use l3_datagram::Message;
-use node_prompt::Session as Prompt;
+use node_prompt::Prompt;
 use node_turns::{Circuit, Reply};
 use radio_base::{Moment, NoMemory};
 
@@ -29,7 +29,7 @@ impl Station {
     {
         match self.next_reply(nth) {
             Some(reply) => {
-                let text = reply_text(&mut self.prompt(), &reply);
+                let text = reply_text(&self.prompt(), &reply);
                 self.drop_reply(nth);
                 self.say(nth, &text, now)?;
                 Ok(true)
@@ -210,8 +210,8 @@ impl Station {
 }
 
 /// The text of a reply.
-fn reply_text(prompt: &mut Prompt, reply: &Reply) -> Message
-    ensures { result.items ≡ bridging.reply_text prompt.old reply.now }
+fn reply_text(prompt: &Prompt, reply: &Reply) -> Message
+    ensures { result.items ≡ bridging.reply_text prompt.now reply.now }
 {
     match reply {
         Reply::Connected(dest) => prompt.connected(dest),

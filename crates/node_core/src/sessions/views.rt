@@ -1,14 +1,15 @@
-//! What a session sees of its node.
+//! What a user sees of this node.
 ghost use Rattle.std.specs.Prelude.{◌≡◌, IfOk, filter, flat_map, take, slice_get};
 ghost use Rattle.std.specs.Option.{option_to_list};
 ghost use Rattle.circuit_set.specs.CircuitSets.{held_ids};
+ghost use Rattle.node_prompt.specs.declared.action.Sight.TheVariants as sights;
 ghost use Rattle.node_turns.specs.States.{State};
 ghost use Rattle.node_turns.specs.Views as views;
 
 use crate::station::Station;
 use arrayvec::ArrayVec;
 use ax_address::Call;
-use node_prompt::View;
+use node_prompt::{Sight, View};
 use radio_base::NoMemory;
 use route_table::Route;
 
@@ -19,19 +20,45 @@ impl Station {
     ghost use Rattle.node_core.specs.Going.{Told};
     ghost use Rattle.node_core.specs.Standing.{Holds};
 
-    /// What there is to see of this node, with the routes to the destination that is wanted.
-    pub(crate) fn view(&self, wanted: &Option<Call>) -> Result<View, NoMemory>
-        ensures { IfOk result (λ view. (n : State) → Told self.now n → view ≡ views.view wanted.now n) }
+    /// What there is to see of this node.
+    pub(crate) fn view(&self, sight: &Sight) -> Result<View, NoMemory>
+        ensures { IfOk result (λ view. (n : State) → Told self.now n → view ≡ views.view sight.now n) }
+    {
+        match sight {
+            Sight::Nodes => self.nodes(),
+            Sight::RoutesTo(dest) => Ok(self.routes_to(dest)),
+            Sight::Routes => self.neighbours(),
+            Sight::Users => Ok(View::Users(self.users())),
+        }
+    }
+
+    /// The destinations.
+    fn nodes(&self) -> Result<View, NoMemory>
+        ensures { IfOk result (λ view. (n : State) → Told self.now n → view ≡ views.view sights.Nodes n) }
+    {
+        let destinations = self.set.router().table().destinations(self.alloc)?;
+        Ok(View::Nodes {
+            routes: self.best_routes(&destinations),
+            more: destinations.len().saturating_sub(MOST_NAMED),
+        })
+    }
+
+    /// The routes to a destination.
+    fn routes_to(&self, dest: &Call) -> View
+        ensures { (n : State) → Told self.now n → result ≡ views.view (sights.RoutesTo dest.now) n }
+    {
+        View::RoutesTo {
+            dest: *dest,
+            routes: self.set.router().table().routes(dest),
+        }
+    }
+
+    /// The destinations that have a route over themselves.
+    fn neighbours(&self) -> Result<View, NoMemory>
+        ensures { IfOk result (λ view. (n : State) → Told self.now n → view ≡ views.view sights.Routes n) }
     {
         let routes = self.set.router().table().routes_of_all(self.alloc)?;
-        let destinations = self.set.router().table().destinations(self.alloc)?;
-        Ok(View {
-            nodes: self.best_routes(&destinations),
-            more: destinations.len().saturating_sub(MOST_NAMED),
-            routes: self.wanted_routes(wanted),
-            neighbours: neighbours(&routes),
-            users: self.users(),
-        })
+        Ok(View::Routes(direct_routes(&routes)))
     }
 
     /// The best route to each of the first 64 of these destinations.
@@ -53,16 +80,6 @@ impl Station {
         ensures { (n : State) → Holds self.now n → option_to_list result ≡ views.best_route n dest.now }
     {
         self.set.router().table().routes(dest).first().copied()
-    }
-
-    /// The routes to a destination, where one is wanted.
-    fn wanted_routes(&self, wanted: &Option<Call>) -> ArrayVec<Route, 3>
-        ensures { (n : State) → Holds self.now n → result.items ≡ views.wanted_routes wanted.now n }
-    {
-        match wanted {
-            Some(dest) => self.set.router().table().routes(dest),
-            None => ArrayVec::new(),
-        }
     }
 
     /// The partner of each end that is held.
@@ -90,7 +107,7 @@ impl Station {
 }
 
 /// The first 64 of these routes that lead to a neighbour over itself.
-fn neighbours(routes: &[Route]) -> ArrayVec<Route, 64>
+fn direct_routes(routes: &[Route]) -> ArrayVec<Route, 64>
     ensures { result.items ≡ take 64 (filter views.is_direct routes.now) }
 {
     let mut direct = ArrayVec::new();

@@ -15,4 +15,4 @@ pub returns : goal.returns
 returns c = λ n t.
     let m : State = at_session c.args.nth asking.cut_line n in
     let h = session_told asking.cut_line (λ x. refl) c.args.self.now c.cut_line.new.self c.args.nth c.cut_line.ensures n t in
-    subst (λ a. Told c.do_action.new.self (asking.do_action c.args.now.0 c.args.nth a m)) (c.in_ok-action.ensures n t) (c.in_ok-do_action.ensures m h)
+    subst (λ a. Told c.do_action.new.self (asking.do_action c.args.now.0 c.args.nth a m)) (c.action-action.ensures n t) (c.in_ok-do_action.ensures m h)

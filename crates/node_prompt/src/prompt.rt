@@ -1,40 +1,30 @@
-//! A session of a user at the prompt.
+//! What a node says at its prompt.
 ghost use Rattle.std.specs.Prelude.{◌≡◌, ◌≤◌, ◌+◌, ◌*◌, ◌++◌, length, IfSome, Ok};
 ghost use Rattle.ax_address.specs.Callsign as calls;
-ghost use Rattle.node_prompt.specs.Commands as commands;
 ghost use Rattle.node_prompt.specs.Prompts.{ended, prefix_of};
 ghost use Rattle.node_prompt.specs.Replies as replies;
 
 use crate::command::{Command, LineRefusal, command_at};
 use crate::lines::{add, add_nodes, add_routes, add_routes_to, add_users};
-use crate::{Action, Trouble, View};
+use crate::{Action, Sight, Trouble, View};
+use arrayvec::ArrayVec;
 use ax_address::{Alias, Call};
 use l3_datagram::Message;
+use route_table::Route;
 use std::marker::Model;
 
-/// The call X where the line is `NODES X` or `N X`, and None elsewhere: the destination whose routes the view of this line has
-/// to hold. A line of more than 80 bytes asks for no routes.
-pub fn wanted(text: &[u8]) -> Option<Call>
-    ensures { result ≡ commands.wanted text.now }
-{
-    match command_at(text) {
-        Ok(command) => command.wanted(),
-        Err(_) => None,
-    }
-}
-
-/// A session of a user at the prompt of a node.
+/// The prompt of a node.
 ///
-/// `line` says what is to be done for a line. Where it is `Action::Connect`, the node tries a circuit, and what comes of
-/// that is told by `trying`, `connected`, `refused` and `ended`. A session goes by the node's alias and call alone: no call
-/// takes memory, and none changes it.
+/// `line` says what is to be done for a line. Where it is `Action::Show`, the node makes the view, and `show` gives its text; where it is
+/// `Action::Connect`, the node tries a circuit, and what comes of that is told by `trying`, `connected`, `refused` and `ended`. A prompt
+/// goes by the node's alias and call alone: no call takes memory, and none changes it.
 #[derive(Clone, Copy, Debug, PartialEq, Eq)]
-pub struct Session {
+pub struct Prompt {
     alias: Alias,
     call: Call,
 }
 
-impl Model for Session {
+impl Model for Prompt {
     ghost use Rattle.node_prompt.specs.Prompts.{Prompt};
 
     ghost Value = { Prompt };
@@ -44,50 +34,58 @@ impl Model for Session {
     ghost inverse = { λ p. record { alias = p.alias; call = p.call } };
 }
 
-impl Session {
-    /// A session at the node of this alias and this call.
-    pub fn new(alias: Alias, call: Call) -> Session
+impl Prompt {
+    /// The prompt of the node of this alias and this call.
+    pub fn new(alias: Alias, call: Call) -> Prompt
         ensures { result ≡ record { alias = alias; call = call } }
     {
-        Session { alias, call }
+        Prompt { alias, call }
     }
 
-    /// What is to be done for a line, without the CR that ended it. Where `wanted` names a destination, the view has to hold
-    /// the routes to it.
-    pub fn line(&mut self, text: &[u8], view: &View) -> Action
-        ensures answer { result ≡ replies.action_for self.old text.now view.now }
-        ensures short { IfSome (replies.said result) (λ text. length text ≤ 1143) }
-        ensures same { self.new ≡ self.old }
+    /// What is to be done for a line, without the CR that ended it.
+    pub fn line(&self, text: &[u8]) -> Action
+        ensures answer { result ≡ replies.action_for self.now text.now }
+        ensures short { IfSome (replies.said result) (λ text. length text ≤ 98) }
     {
         match command_at(text) {
-            Ok(command) => self.done_for(command, view),
+            Ok(command) => self.action_for(command),
             Err(why) => Action::Say(self.said(refusal_text(why))),
         }
     }
 
+    /// The text for what there is to see.
+    pub fn show(&self, view: &View) -> Message
+        ensures text { result ≡ replies.view_text self.now view.now }
+        ensures short { length result.items ≤ 1143 }
+    {
+        match view {
+            View::Nodes { routes, more } => self.nodes(routes, *more),
+            View::RoutesTo { dest, routes } => self.routes_to(dest, routes),
+            View::Routes(neighbours) => self.routes(neighbours),
+            View::Users(users) => self.users(users),
+        }
+    }
+
     /// The text for a destination to which a circuit is tried.
-    pub fn trying(&mut self, dest: &Call) -> Message
-        ensures text { result ≡ replies.trying self.old dest.now }
+    pub fn trying(&self, dest: &Call) -> Message
+        ensures text { result ≡ replies.trying self.now dest.now }
         ensures short { length result.items ≤ 46 }
-        ensures same { self.new ≡ self.old }
     {
         self.about("Trying ", dest)
     }
 
     /// The text for a destination to which a circuit stands.
-    pub fn connected(&mut self, dest: &Call) -> Message
-        ensures text { result ≡ replies.connected self.old dest.now }
+    pub fn connected(&self, dest: &Call) -> Message
+        ensures text { result ≡ replies.connected self.now dest.now }
         ensures short { length result.items ≤ 46 }
-        ensures same { self.new ≡ self.old }
     {
         self.about("Connected to ", dest)
     }
 
     /// The text for a destination to which no circuit stands, and why.
-    pub fn refused(&mut self, dest: &Call, why: Trouble) -> Message
-        ensures text { result ≡ replies.refused self.old dest.now why }
+    pub fn refused(&self, dest: &Call, why: Trouble) -> Message
+        ensures text { result ≡ replies.refused self.now dest.now why }
         ensures short { length result.items ≤ 46 }
-        ensures same { self.new ≡ self.old }
     {
         match why {
             Trouble::NoRoute => self.about("No route to ", dest),
@@ -99,65 +97,64 @@ impl Session {
     }
 
     /// The text for a destination whose circuit has ended.
-    pub fn ended(&mut self, dest: &Call) -> Message
-        ensures text { result ≡ replies.disconnected self.old dest.now }
+    pub fn ended(&self, dest: &Call) -> Message
+        ensures text { result ≡ replies.disconnected self.now dest.now }
         ensures short { length result.items ≤ 46 }
-        ensures same { self.new ≡ self.old }
     {
         self.about("Disconnected from ", dest)
     }
 
     /// What is to be done for a command.
-    fn done_for(&self, command: Command, view: &View) -> Action
-        ensures answer { result ≡ replies.action_of self.now view.now (Ok command) }
-        ensures short { IfSome (replies.said result) (λ text. length text ≤ 1143) }
+    fn action_for(&self, command: Command) -> Action
+        ensures answer { result ≡ replies.action_of self.now (Ok command) }
+        ensures short { IfSome (replies.said result) (λ text. length text ≤ 98) }
     {
         match command {
             Command::Nothing => Action::Nothing,
             Command::Connect(dest) => Action::Connect(dest),
-            Command::Nodes => Action::Say(self.nodes(view)),
-            Command::RoutesTo(dest) => Action::Say(self.routes_to(&dest, view)),
-            Command::Routes => Action::Say(self.routes(view)),
-            Command::Users => Action::Say(self.users(view)),
+            Command::Nodes => Action::Show(Sight::Nodes),
+            Command::RoutesTo(dest) => Action::Show(Sight::RoutesTo(dest)),
+            Command::Routes => Action::Show(Sight::Routes),
+            Command::Users => Action::Show(Sight::Users),
             Command::Info => Action::Say(self.said("NET/ROM node\r")),
             Command::Bye => Action::Bye(self.said("Bye\r")),
             Command::Help => Action::Say(self.said("CONNECT NODES ROUTES USERS INFO BYE HELP\r")),
         }
     }
 
-    fn nodes(&self, view: &View) -> Message
-        ensures text { result ≡ replies.reply self.now (replies.nodes_text view.now.nodes.items view.now.more) }
+    fn nodes(&self, routes: &ArrayVec<Route, 64>, more: usize) -> Message
+        ensures text { result ≡ replies.reply self.now (replies.nodes_text routes.now.items more) }
         ensures len { length result.items ≤ 18 + 7 + 64 * 17 + 30 }
     {
         let mut reply = self.begun();
-        add_nodes(&view.nodes, view.more, &mut reply);
+        add_nodes(routes, more, &mut reply);
         reply
     }
 
-    fn routes_to(&self, dest: &Call, view: &View) -> Message
-        ensures text { result ≡ replies.reply self.now (replies.routes_to_text dest.now view.now.routes.items) }
+    fn routes_to(&self, dest: &Call, routes: &ArrayVec<Route, 3>) -> Message
+        ensures text { result ≡ replies.reply self.now (replies.routes_to_text dest.now routes.now.items) }
         ensures len { length result.items ≤ 18 + 21 + 3 * 21 }
     {
         let mut reply = self.begun();
-        add_routes_to(dest, &view.routes, &mut reply);
+        add_routes_to(dest, routes, &mut reply);
         reply
     }
 
-    fn routes(&self, view: &View) -> Message
-        ensures text { result ≡ replies.reply self.now (replies.routes_text view.now.neighbours.items) }
+    fn routes(&self, neighbours: &ArrayVec<Route, 64>) -> Message
+        ensures text { result ≡ replies.reply self.now (replies.routes_text neighbours.now.items) }
         ensures len { length result.items ≤ 18 + 8 + 64 * 14 }
     {
         let mut reply = self.begun();
-        add_routes(&view.neighbours, &mut reply);
+        add_routes(neighbours, &mut reply);
         reply
     }
 
-    fn users(&self, view: &View) -> Message
-        ensures text { result ≡ replies.reply self.now (replies.users_text view.now.users.items) }
+    fn users(&self, users: &ArrayVec<Call, 64>) -> Message
+        ensures text { result ≡ replies.reply self.now (replies.users_text users.now.items) }
         ensures len { length result.items ≤ 18 + 7 + 64 * 10 }
     {
         let mut reply = self.begun();
-        add_users(&view.users, &mut reply);
+        add_users(users, &mut reply);
         reply
     }
 
