@@ -34,19 +34,15 @@ impl Station {
     fn is_deaf_at(&self, nth: usize) -> bool
         ensures { (n : State) → Told self.now n → result ≡ asking.is_deaf_at (users.session_at nth n) n }
     {
-        match self.session(nth) {
-            Some(session) => self.is_deaf(session),
-            None => false,
-        }
+        self.session(nth)
+            .is_some_and(|session| self.is_deaf(session))
     }
 
     fn has_room_at(&self, nth: usize) -> bool
         ensures { (n : State) → Told self.now n → result ≡ asking.has_room_at (users.session_at nth n) n }
     {
-        match self.session(nth) {
-            Some(session) => self.has_room(session),
-            None => false,
-        }
+        self.session(nth)
+            .is_some_and(|session| self.has_room(session))
     }
 
     /// Drops the next text of a user.

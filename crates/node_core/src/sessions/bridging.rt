@@ -42,15 +42,11 @@ impl Station {
     fn next_reply(&self, nth: usize) -> Option<Reply>
         ensures { (n : State) → Told self.now n → result ≡ bridging.next_reply (users.session_at nth n) n }
     {
-        match self.session(nth) {
-            Some(session) => {
-                if self.can_give(session) {
-                    session.first_reply()
-                } else {
-                    None
-                }
-            }
-            None => None,
+        let session = self.session(nth)?;
+        if self.can_give(session) {
+            session.first_reply()
+        } else {
+            None
         }
     }
 
@@ -77,18 +73,12 @@ impl Station {
     fn giving_circuit(&self, nth: usize) -> Option<Circuit>
         ensures { (n : State) → Told self.now n → result ≡ bridging.giving_circuit (users.session_at nth n) n }
     {
-        match self.session(nth) {
-            Some(session) => match session.circuit() {
-                Some(circuit) => {
-                    if self.can_pass_on(session, circuit.id) {
-                        Some(circuit)
-                    } else {
-                        None
-                    }
-                }
-                None => None,
-            },
-            None => None,
+        let session = self.session(nth)?;
+        let circuit = session.circuit()?;
+        if self.can_pass_on(session, circuit.id) {
+            Some(circuit)
+        } else {
+            None
         }
     }
 
@@ -140,10 +130,7 @@ impl Station {
     fn has_rest(&self, nth: usize) -> bool
         ensures { (n : State) → Told self.now n → result ≡ bridging.has_rest (users.session_at nth n) }
     {
-        match self.session(nth) {
-            Some(session) => session.has_rest(),
-            None => false,
-        }
+        self.session(nth).is_some_and(|session| session.has_rest())
     }
 
     /// Writes what is left of the text that was taken last to the circuit of an end.
@@ -185,18 +172,12 @@ impl Station {
     fn circuit_to_close(&self, nth: usize) -> Option<Circuit>
         ensures { (n : State) → Told self.now n → result ≡ bridging.circuit_to_close (users.session_at nth n) n }
     {
-        match self.session(nth) {
-            Some(session) => match session.circuit() {
-                Some(circuit) => {
-                    if !circuit.closed && is_gone(&self.set, session) && !session.has_rest() {
-                        Some(circuit)
-                    } else {
-                        None
-                    }
-                }
-                None => None,
-            },
-            None => None,
+        let session = self.session(nth)?;
+        let circuit = session.circuit()?;
+        if !circuit.closed && is_gone(&self.set, session) && !session.has_rest() {
+            Some(circuit)
+        } else {
+            None
         }
     }
 

@@ -91,10 +91,8 @@ impl Station {
     fn stage(&self, nth: usize) -> Option<Stage>
         ensures { (n : State) → Told self.now n → result ≡ serving.stage_of (users.session_at nth n) }
     {
-        match self.session(nth) {
-            Some(session) => Some(session.stage()),
-            None => None,
-        }
+        let session = self.session(nth)?;
+        Some(session.stage())
     }
 
     /// Drops the sessions that are over.

@@ -151,15 +151,11 @@ impl Station {
     fn present(&self, nth: usize) -> Option<User>
         ensures { (n : State) → Told self.now n → result ≡ users.present (users.session_at nth n) }
     {
-        match self.session(nth) {
-            Some(session) => {
-                if session.has_left() {
-                    None
-                } else {
-                    Some(session.user())
-                }
-            }
-            None => None,
+        let session = self.session(nth)?;
+        if session.has_left() {
+            None
+        } else {
+            Some(session.user())
         }
     }
 
@@ -167,15 +163,11 @@ impl Station {
     fn listener(&self, nth: usize) -> Option<User>
         ensures { (n : State) → Told self.now n → result ≡ users.listener (users.session_at nth n) n }
     {
-        match self.session(nth) {
-            Some(session) => {
-                if self.is_deaf(session) {
-                    None
-                } else {
-                    Some(session.user())
-                }
-            }
-            None => None,
+        let session = self.session(nth)?;
+        if self.is_deaf(session) {
+            None
+        } else {
+            Some(session.user())
         }
     }
 
