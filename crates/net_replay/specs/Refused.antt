@@ -2,10 +2,6 @@
 use Rattle.std.specs.Prelude.{List, [], ◌∷◌, Option, Some, None}
 use Rattle.circuit_l4.specs.declared.refusal.WriteRefusal.{WriteRefusal}
 use Rattle.circuit_l4.specs.declared.refusal.WriteRefusal.TheVariants as writes
-use Rattle.circuit_set.specs.declared.event.ConnectRefusal.{ConnectRefusal}
-use Rattle.circuit_set.specs.declared.event.ConnectRefusal.TheVariants as connects
-use Rattle.route_table.specs.declared.route.LockRefusal.{LockRefusal}
-use Rattle.route_table.specs.declared.route.LockRefusal.TheVariants as locks
 use Rattle.net_replay.specs.declared.reasons.LineRefusal.{LineRefusal}
 use Rattle.node_core.specs.declared.acts.ActRefusal.{ActRefusal}
 use Rattle.node_core.specs.declared.acts.ActRefusal.TheVariants as acts
@@ -14,18 +10,6 @@ use Rattle.net_replay.specs.Events.{Event}
 use Rattle.node_mail.specs.declared.mail.PostRefusal.{PostRefusal}
 use Rattle.node_mail.specs.declared.mail.PostRefusal.TheVariants as posts
 use Rattle.net_replay.specs.declared.reasons.LineRefusal.TheVariants.{NoEnd, Served, Nothing, Own, NoRoute, Full, NotUp, Closing, Empty, TooLong, QueueFull, Exhausted, TooLow, TableFull}
-
-abbrev pub of_connect : ConnectRefusal → Option LineRefusal
-of_connect connects.Own = Some Own
-of_connect connects.NoRoute = Some NoRoute
-of_connect connects.Full = Some Full
-of_connect connects.NoMemory = None
-
-abbrev pub of_lock : LockRefusal → Option LineRefusal
-of_lock locks.Own = Some Own
-of_lock locks.TooLow = Some TooLow
-of_lock (locks.TableFull live would_be) = Some TableFull
-of_lock locks.NoMemory = None
 
 abbrev pub of_write : WriteRefusal → LineRefusal
 of_write writes.NotUp = NotUp
@@ -39,8 +23,11 @@ abbrev pub of_act : ActRefusal → Option LineRefusal
 of_act acts.NoEnd = Some NoEnd
 of_act acts.Served = Some Served
 of_act acts.Nothing = Some Nothing
-of_act (acts.Connect why) = of_connect why
-of_act (acts.Lock why) = of_lock why
+of_act acts.Own = Some Own
+of_act acts.NoRoute = Some NoRoute
+of_act acts.Full = Some Full
+of_act acts.TooLow = Some TooLow
+of_act (acts.TableFull live would_be) = Some TableFull
 of_act (acts.Write why) = Some (of_write why)
 of_act acts.NoMemory = None
 

@@ -4,10 +4,8 @@ ghost use Rattle.net_replay.specs.Refused as refused;
 
 use crate::reasons::LineRefusal;
 use circuit_l4::WriteRefusal;
-use circuit_set::ConnectRefusal;
 use node_core::ActRefusal;
 use node_mail::PostRefusal;
-use route_table::LockRefusal;
 
 /// Why a node didn't act.
 pub fn of_act(refusal: ActRefusal) -> Option<LineRefusal>
@@ -17,34 +15,13 @@ pub fn of_act(refusal: ActRefusal) -> Option<LineRefusal>
         ActRefusal::NoEnd => Some(LineRefusal::NoEnd),
         ActRefusal::Served => Some(LineRefusal::Served),
         ActRefusal::Nothing => Some(LineRefusal::Nothing),
-        ActRefusal::Connect(refusal) => of_connect(refusal),
-        ActRefusal::Lock(refusal) => of_lock(refusal),
+        ActRefusal::Own => Some(LineRefusal::Own),
+        ActRefusal::NoRoute => Some(LineRefusal::NoRoute),
+        ActRefusal::Full => Some(LineRefusal::Full),
+        ActRefusal::TooLow => Some(LineRefusal::TooLow),
+        ActRefusal::TableFull { .. } => Some(LineRefusal::TableFull),
         ActRefusal::Write(refusal) => Some(of_write(refusal)),
         ActRefusal::NoMemory => None,
-    }
-}
-
-/// Why a circuit isn't asked for.
-fn of_connect(refusal: ConnectRefusal) -> Option<LineRefusal>
-    ensures { result ≡ refused.of_connect refusal }
-{
-    match refusal {
-        ConnectRefusal::Own => Some(LineRefusal::Own),
-        ConnectRefusal::NoRoute => Some(LineRefusal::NoRoute),
-        ConnectRefusal::Full => Some(LineRefusal::Full),
-        ConnectRefusal::NoMemory => None,
-    }
-}
-
-/// Why a route isn't locked in.
-fn of_lock(refusal: LockRefusal) -> Option<LineRefusal>
-    ensures { result ≡ refused.of_lock refusal }
-{
-    match refusal {
-        LockRefusal::Own => Some(LineRefusal::Own),
-        LockRefusal::TooLow => Some(LineRefusal::TooLow),
-        LockRefusal::TableFull { .. } => Some(LineRefusal::TableFull),
-        LockRefusal::NoMemory => None,
     }
 }
 

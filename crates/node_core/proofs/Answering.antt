@@ -14,8 +14,11 @@ is_answer (Err refusal.NoMemory) f = absurd (cc f)
 is_answer (Err refusal.NoEnd) f = tt
 is_answer (Err refusal.Served) f = tt
 is_answer (Err refusal.Nothing) f = tt
-is_answer (Err (refusal.Connect why)) f = tt
-is_answer (Err (refusal.Lock why)) f = tt
+is_answer (Err refusal.Own) f = tt
+is_answer (Err refusal.NoRoute) f = tt
+is_answer (Err refusal.Full) f = tt
+is_answer (Err refusal.TooLow) f = tt
+is_answer (Err (refusal.TableFull live would_be)) f = tt
 is_answer (Err (refusal.Write why)) f = tt
 
 pub answer_is : (r : Result ActDone ActRefusal) → IsAnswer r → wants_memory r ≡ false
@@ -24,6 +27,9 @@ answer_is (Err refusal.NoMemory) a = absurd a
 answer_is (Err refusal.NoEnd) a = refl
 answer_is (Err refusal.Served) a = refl
 answer_is (Err refusal.Nothing) a = refl
-answer_is (Err (refusal.Connect why)) a = refl
-answer_is (Err (refusal.Lock why)) a = refl
+answer_is (Err refusal.Own) a = refl
+answer_is (Err refusal.NoRoute) a = refl
+answer_is (Err refusal.Full) a = refl
+answer_is (Err refusal.TooLow) a = refl
+answer_is (Err (refusal.TableFull live would_be)) a = refl
 answer_is (Err (refusal.Write why)) a = refl

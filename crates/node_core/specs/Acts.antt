@@ -11,7 +11,6 @@ use Rattle.circuit_set.specs.Standing.{close_answer, message_at, take_answer, wr
 use Rattle.route_table.specs.Log as logs
 use Rattle.route_table.specs.Log.{Item}
 use Rattle.route_table.specs.Table.{usable}
-use Rattle.route_table.specs.declared.route.LockRefusal.TheVariants as locking
 use Rattle.node_core.specs.declared.acts.ActDone.{ActDone}
 use Rattle.node_core.specs.declared.acts.ActDone.TheVariants.{Done, Made, Took}
 use Rattle.node_core.specs.declared.acts.ActRefusal.{ActRefusal}
@@ -45,10 +44,10 @@ fail_link peer n = with_items (logs.Failure peer ∷ []) (at_links (break_link p
 -- a lock is refused of the node itself, of too low a quality, or where there is no room, in this order
 abbrev pub lock : Callsign → Item → ℕ → State → Answered
 lock dest item quality n =
-    if same_call dest n.settings.call then refuse (refusal.Lock locking.Own) n
-    else if nat_lt quality n.settings.rules.minq then refuse (refusal.Lock locking.TooLow) n
+    if same_call dest n.settings.call then refuse refusal.Own n
+    else if nat_lt quality n.settings.rules.minq then refuse refusal.TooLow n
     else if has_room (item ∷ []) n then done (with_items (item ∷ []) n)
-    else refuse (refusal.Lock (locking.TableFull (length (usable n.settings.rules n.log)) (live_with (item ∷ []) n))) n
+    else refuse (refusal.TableFull (length (usable n.settings.rules n.log)) (live_with (item ∷ []) n)) n
 
 -- ---- circuits: what each call answers, and the circuits after it
 

@@ -66,12 +66,7 @@ pub record Changes (nth : ℕ) (change : Session → Session) (old new : Station
 
 abbrev pub is_no_memory : ActRefusal → Bool
 is_no_memory refusal.NoMemory = true
-is_no_memory refusal.NoEnd = false
-is_no_memory refusal.Served = false
-is_no_memory refusal.Nothing = false
-is_no_memory (refusal.Connect why) = false
-is_no_memory (refusal.Lock why) = false
-is_no_memory (refusal.Write why) = false
+is_no_memory _ = false
 
 -- an act was refused for want of memory
 abbrev pub wants_memory : Result ActDone ActRefusal → Bool

@@ -9,16 +9,16 @@ use Rattle.node_core.specs.declared.acts.ActRefusal.{ActRefusal}
 use Rattle.node_core.specs.declared.acts.ActRefusal.TheVariants as refusal
 
 abbrev pub connect_refusal : ConnectRefusal → ActRefusal
+connect_refusal connecting.Own = refusal.Own
+connect_refusal connecting.NoRoute = refusal.NoRoute
+connect_refusal connecting.Full = refusal.Full
 connect_refusal connecting.NoMemory = refusal.NoMemory
-connect_refusal connecting.Own = refusal.Connect connecting.Own
-connect_refusal connecting.NoRoute = refusal.Connect connecting.NoRoute
-connect_refusal connecting.Full = refusal.Connect connecting.Full
 
 abbrev pub lock_refusal : LockRefusal → ActRefusal
+lock_refusal locking.Own = refusal.Own
+lock_refusal locking.TooLow = refusal.TooLow
+lock_refusal (locking.TableFull live would_be) = refusal.TableFull live would_be
 lock_refusal locking.NoMemory = refusal.NoMemory
-lock_refusal locking.Own = refusal.Lock locking.Own
-lock_refusal locking.TooLow = refusal.Lock locking.TooLow
-lock_refusal (locking.TableFull live would_be) = refusal.Lock (locking.TableFull live would_be)
 
 abbrev pub write_refusal : SetRefusal → ActRefusal
 write_refusal set_refusal.NoEnd = refusal.NoEnd

@@ -65,9 +65,4 @@ IsTold n = n.set ≡ at_rest n.set.set
 abbrev pub IsAnswer : Result ActDone ActRefusal → Type 0
 IsAnswer (Ok _) = Unit {0}
 IsAnswer (Err refusal.NoMemory) = ⊥
-IsAnswer (Err refusal.NoEnd) = Unit {0}
-IsAnswer (Err refusal.Served) = Unit {0}
-IsAnswer (Err refusal.Nothing) = Unit {0}
-IsAnswer (Err (refusal.Connect why)) = Unit {0}
-IsAnswer (Err (refusal.Lock why)) = Unit {0}
-IsAnswer (Err (refusal.Write why)) = Unit {0}
+IsAnswer (Err _) = Unit {0}

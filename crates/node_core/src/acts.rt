@@ -102,10 +102,16 @@ pub enum ActRefusal {
     Served,
     /// No message waits at that end.
     Nothing,
-    /// The circuit isn't asked for.
-    Connect(ConnectRefusal),
-    /// The route isn't locked in.
-    Lock(LockRefusal),
+    /// The node to which a circuit or a route would lead is this one.
+    Own,
+    /// No route leads to the node with which a circuit is asked for.
+    NoRoute,
+    /// 64 ends are held, or the numbers of ends have come to their end.
+    Full,
+    /// The quality of the route is below the least that is used.
+    TooLow,
+    /// The table has `live` usable routes, and would have `would_be`, more than it may have.
+    TableFull { live: usize, would_be: usize },
     /// The message isn't written.
     Write(WriteRefusal),
     /// Memory ran out, now or in an earlier call.
@@ -149,8 +155,10 @@ impl From<ConnectRefusal> for ActRefusal {
 
     fn from(why: ConnectRefusal) -> Self {
         match why {
+            ConnectRefusal::Own => ActRefusal::Own,
+            ConnectRefusal::NoRoute => ActRefusal::NoRoute,
+            ConnectRefusal::Full => ActRefusal::Full,
             ConnectRefusal::NoMemory => ActRefusal::NoMemory,
-            _ => ActRefusal::Connect(why),
         }
     }
 }
@@ -163,8 +171,10 @@ impl From<LockRefusal> for ActRefusal {
 
     fn from(why: LockRefusal) -> Self {
         match why {
+            LockRefusal::Own => ActRefusal::Own,
+            LockRefusal::TooLow => ActRefusal::TooLow,
+            LockRefusal::TableFull { live, would_be } => ActRefusal::TableFull { live, would_be },
             LockRefusal::NoMemory => ActRefusal::NoMemory,
-            _ => ActRefusal::Lock(why),
         }
     }
 }
