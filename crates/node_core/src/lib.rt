@@ -8,6 +8,7 @@ mod acts;
 mod broadcasts;
 mod config;
 mod entry;
+mod feeding;
 pub mod laws;
 mod node;
 mod receiving;

@@ -1,32 +1,27 @@
 //! A whole node.
-ghost use Rattle.std.specs.Prelude.{◌≡◌, ◌<◌, ◌≤◌, ◌↔◌, ◌++◌, ℕ, List, IfOk, IfSome, Some, OnOk, OnErr, IsErr, IsErrOf, IsTrue, false, is_some, length, slice_get, take};
+ghost use Rattle.std.specs.Prelude.{◌≡◌, ◌<◌, ◌≤◌, ◌↔◌, IfOk, IfSome, OnOk, OnErr, IsErr, IsErrOf, IsTrue, false, is_some, slice_get};
 ghost use Rattle.std.specs.Option.{option_copied, option_map};
 ghost use Rattle.ax_address.specs.Callsign.{IsCallsign};
 ghost use Rattle.ax_link.specs.State.{count_end};
 ghost use Rattle.link_table.specs.Calls as calls;
 ghost use Rattle.link_table.specs.Standing.{NotNoMemory};
 ghost use Rattle.node_core.specs.Configs.{IsConfig, new_node};
-ghost use Rattle.kiss_framing.specs.Deframing as kiss;
 ghost use Rattle.kiss_framing.specs.Enframing.{framed};
-ghost use Rattle.kiss_framing.specs.Feeding.{IsSmall, handed_out};
-ghost use Rattle.kiss_framing.specs.Stream.{items};
 ghost use Rattle.node_core.specs.Bounds.{IsWithin};
 ghost use Rattle.node_core.specs.Inputs as inputs;
-ghost use Rattle.node_core.specs.Taking.{Takes};
 ghost use Rattle.node_core.specs.Runs.{IsUserAct};
 ghost use Rattle.node_core.specs.UserActs.{act_of};
-ghost use Rattle.node_core.specs.Going.{Goes, StandsForSome};
-ghost use Rattle.node_core.specs.Standing.{IsDrained};
 ghost use Rattle.node_turns.specs.States as states;
 ghost use Rattle.node_turns.specs.States.{NodeState};
 
 use crate::acts::wants_memory;
+use crate::feeding::{take_bytes, take_kiss_frame};
 use crate::station::Station;
 use crate::{ActDone, ActRefusal, NodeConfig, NodeEntry, UserAct, laws};
 use ax_address::{Call, Path};
 use circuit_l4::EndFacts;
 use circuit_set::CircuitSet;
-use kiss_framing::{Deframer, FEND, KissItem, LONGEST};
+use kiss_framing::Deframer;
 use link_table::{LinkTable, PathRefusal, Written};
 use radio_base::{COUNT_MAX, Moment, NoMemory};
 use route_table::RouteTable;
@@ -202,7 +197,6 @@ impl Node {
         if self.spent {
             return Err(ActRefusal::NoMemory);
         }
-        self.spent = true;
         laws::settles();
         asks_for_call(act);
         let outcome = self.station.act(act, moment(now));
@@ -289,107 +283,6 @@ impl Node {
         ensures stands { (n : NodeState) → NodeStands self.now n → SetStands result.now (at_rest n.station.set.set) }
     {
         &self.station.set
-    }
-}
-
-/// Takes in KISS bytes: each item that they complete is taken and settled before the next.
-fn take_bytes(
-    deframer: &mut Deframer,
-    station: &mut Station,
-    bytes: &[u8],
-    now: Moment,
-) -> Result<(), NoMemory>
-    requires { StandsForSome station.old }
-    ensures fed { OnOk result ((stream : List ℕ) → kiss.StandsFor deframer.old stream → kiss.StandsFor deframer.new (stream ++ bytes.now)) }
-    ensures taken { OnOk result ((stream : List ℕ) → kiss.StandsFor deframer.old stream → Takes now.0 station.old station.new stream bytes.now) }
-    ensures drained { OnOk result (IsDrained station.old → IsDrained station.new) }
-{
-    let mut taken = 0;
-    while taken < bytes.len() {
-        taken += take_some(deframer, station, &bytes[taken..], now)?;
-    }
-    Ok(())
-}
-
-/// Takes in bytes up to the first that ends an item, and that item, or takes in all where none does. Answers with how many it
-/// took in.
-fn take_some(
-    deframer: &mut Deframer,
-    station: &mut Station,
-    bytes: &[u8],
-    now: Moment,
-) -> Result<usize, NoMemory>
-    requires { StandsForSome station.old }
-    ensures fed { IfOk result (λ count. (stream : List ℕ) → kiss.StandsFor deframer.old stream → kiss.StandsFor deframer.new (stream ++ take count bytes.now)) }
-    ensures taken { IfOk result (λ count. (stream : List ℕ) → kiss.StandsFor deframer.old stream → Takes now.0 station.old station.new stream (take count bytes.now)) }
-    ensures drained { OnOk result (IsDrained station.old → IsDrained station.new) }
-    ensures some { OnOk result (StandsForSome station.new) }
-    ensures within { IfOk result (λ count. count ≤ length bytes.now) }
-    ensures moves { IfOk result (λ count. 0 < length bytes.now → 0 < count) }
-{
-    let (count, item) = deframer.feed_until_item(bytes);
-    take_given(station, item, now)?;
-    Ok(count)
-}
-
-/// Takes in a frame by its octets, as if it had come as KISS bytes. The `FEND` before it ends what came before, and then nothing is
-/// held, nor is behind the frame: so it needn't be written and read again.
-fn take_kiss_frame(
-    deframer: &mut Deframer,
-    station: &mut Station,
-    octets: &[u8],
-    now: Moment,
-) -> Result<(), NoMemory>
-    requires { StandsForSome station.old }
-    ensures fed { OnOk result ((stream : List ℕ) → kiss.StandsFor deframer.old stream → kiss.StandsFor deframer.new (stream ++ framed 0 0 octets.now)) }
-    ensures taken { OnOk result ((stream : List ℕ) → kiss.StandsFor deframer.old stream → Takes now.0 station.old station.new stream (framed 0 0 octets.now)) }
-    ensures drained { OnOk result (IsDrained station.old → IsDrained station.new) }
-{
-    kiss_framing::laws::fend_ends();
-    kiss_framing::laws::fend_parts();
-    take_given(station, deframer.feed(FEND), now)?;
-    take_given(station, Some(read_back(octets)), now)?;
-    Ok(())
-}
-
-/// Takes in an item and settles, if there is one.
-fn take_given(
-    station: &mut Station,
-    item: Option<KissItem<'_>>,
-    now: Moment,
-) -> Result<(), NoMemory>
-    requires some { StandsForSome station.old }
-    requires small { IfSome item IsSmall }
-    ensures goes { OnOk result (Goes (inputs.after_items now.0 (handed_out item.entry)) station.old station.new) }
-    ensures drained { OnOk result (IsDrained station.old → IsDrained station.new) }
-    ensures some { OnOk result (StandsForSome station.new) }
-{
-    match item {
-        Some(item) => {
-            station.take_item(&item, now)?;
-            station.settle(now)?;
-            Ok(())
-        }
-        None => Ok(()),
-    }
-}
-
-/// The item of a frame's KISS bytes, as data on port 0, by its octets.
-fn read_back(octets: &[u8]) -> KissItem<'_>
-    ensures item { items (framed 0 0 octets.now) ≡ handed_out (Some result) }
-    ensures small { IsSmall result }
-{
-    kiss_framing::laws::frames_read_back();
-    kiss_framing::laws::long_frames();
-    kiss_framing::laws::numbers();
-    if octets.len() < LONGEST {
-        KissItem::Frame {
-            port: 0,
-            command: 0,
-            payload: octets,
-        }
-    } else {
-        KissItem::TooLong
     }
 }
 

@@ -1,6 +1,6 @@
 use Rattle.std.proofs.Common.{◌++◌, append_assoc, arith, drop, length-drop, take, take-add}
 use Rattle.node_core.proofs.Nodes.{bytes_left, takes_both}
-use Rattle.node_core.proofs.node.take_bytes.Goals as goal
+use Rattle.node_core.proofs.feeding.take_bytes.Goals as goal
 
 pub loop-taken-preserved : goal.loop-taken-preserved
 loop-taken-preserved c =

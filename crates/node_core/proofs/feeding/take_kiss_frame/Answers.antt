@@ -1,6 +1,6 @@
 use Rattle.node_core.proofs.Framing.{frame_adds, frame_held}
 use Rattle.node_core.proofs.Nodes.{items_both}
-use Rattle.node_core.proofs.node.take_kiss_frame.Goals as goal
+use Rattle.node_core.proofs.feeding.take_kiss_frame.Goals as goal
 
 pub returns-clause-fed : goal.returns-clause-fed
 returns-clause-fed c stream stands = frame_held c.fend_ends.ensures c.feed.follows.lender-at-none stream c.args.octets.now (c.feed.follows.holds-at-none stream stands)

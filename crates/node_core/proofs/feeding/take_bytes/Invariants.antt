@@ -3,7 +3,7 @@ use Rattle.kiss_framing.specs.Deframing as kiss
 use Rattle.node_core.specs.Taking.{Takes}
 use Rattle.node_core.specs.Going.{StandsForSome}
 use Rattle.node_core.specs.Standing.{IsDrained}
-use Rattle.node_core.proofs.node.take_bytes.Given as goal
+use Rattle.node_core.proofs.feeding.take_bytes.Given as goal
 
 -- the front was taken in, and the items that it completes were settled
 abbrev pub invariant-loop-taken : goal.invariant-loop-taken

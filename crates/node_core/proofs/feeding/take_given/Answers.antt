@@ -3,7 +3,7 @@ use Rattle.std.specs.Prelude.{Option}
 use Rattle.kiss_framing.specs.Feeding.{handed_out}
 use Rattle.kiss_framing.specs.declared.deframer.KissItem.{KissItem}
 use Rattle.node_core.proofs.Nodes.{handed_is}
-use Rattle.node_core.proofs.node.take_given.Goals as goal
+use Rattle.node_core.proofs.feeding.take_given.Goals as goal
 
 pub returns-in_ok-settle-in-Some-clause-goes : goal.returns-in_ok-settle-in-Some-clause-goes
 returns-in_ok-settle-in-Some-clause-goes c =

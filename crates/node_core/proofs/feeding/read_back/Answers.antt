@@ -1,5 +1,5 @@
 use Rattle.std.proofs.Common.{◌≤◌, arith, length}
-use Rattle.node_core.proofs.node.read_back.Goals as goal
+use Rattle.node_core.proofs.feeding.read_back.Goals as goal
 
 pub returns-then-octets-lt-LONGEST-clause-item : goal.returns-then-octets-lt-LONGEST-clause-item
 returns-then-octets-lt-LONGEST-clause-item c =
