@@ -176,9 +176,15 @@ fn a_line_names_what_it_shows(rt: HostRuntime) {
         ("routes", Sight::Routes),
         ("U", Sight::Users),
     ] {
-        assert!(rt; prompt().line(line.as_bytes()) == Action::Show(sight), "{line}");
+        assert!(rt;
+            prompt().line(line.as_bytes()) == Action::Show(sight),
+            "{line}"
+        );
     }
     for line in ["", "C N0CCC-7", "N N0CCC-7 X", "N N0CCC-16"] {
-        assert!(rt; !matches!(prompt().line(line.as_bytes()), Action::Show(_)), "{line}");
+        assert!(rt;
+            !matches!(prompt().line(line.as_bytes()), Action::Show(_)),
+            "{line}"
+        );
     }
 }
