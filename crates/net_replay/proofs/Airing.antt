@@ -3,7 +3,6 @@ use Rattle.std.proofs.Common.{◌≡◌, ◌≤◌, ◌+◌, ◌++◌, ◌∙◌
 use Rattle.std.specs.Prelude.{Option, Some, None, slice_get, slice_set}
 use Rattle.std.proofs.lemmas.List.{length-append, map-append}
 use Rattle.network_file.specs.Channels.{is_on_air}
-use Rattle.network_file.specs.declared.plan.channels.Channel.{Channel}
 use Rattle.link_table.specs.Fetching.{written}
 use Rattle.link_table.specs.Frames.{Sent}
 use Rattle.link_table.specs.declared.written.Written.{Written}
@@ -11,9 +10,10 @@ use Rattle.node_turns.specs.Links.{all_fetched, sent_frames}
 use Rattle.node_turns.specs.States.{NodeState, State, fetch_frame, fetch_own, frames}
 use Rattle.net_replay.specs.declared.air.Aired.{Aired}
 use Rattle.net_replay.specs.Events.{InAir, NumberedEvent}
-use Rattle.net_replay.specs.Running.{Course, GoesOn, Stands, airs, aired_one, change, change_of, fetched_frame, first_frame, put_by, put_by_of}
+use Rattle.net_replay.specs.Running.{Course, GoesOn, Stands, airs, aired_one, change, fetched_frame, first_frame, put_by}
 use Rattle.net_replay.specs.Starting.{Placed}
-use Rattle.net_replay.specs.World.{World, air_events, aired_as, all_fetched_of, numbered, put, put_of, puts, tell}
+use Rattle.net_replay.specs.World.{World, air_events, aired_as, all_fetched_of, numbered, put, puts, tell}
+use Rattle.net_replay.proofs.Looks.{change_of, put_by_of, put_of}
 use Rattle.net_replay.proofs.Placing.{set_same, set_twice}
 use Rattle.net_replay.proofs.Runs.{with_air}
 
@@ -165,21 +165,21 @@ pub put_by_grows : (line at node : ℕ) (on_air came128 : Bool) (w : World) → 
 unfolding put_by
 put_by_grows line at node on_air came128 w = put_of_grows line at node on_air came128 w (slice_get w.nodes at)
 
--- the frames of a node in the channels are those of its number
-put_case : (channels : List Channel) (line at node : ℕ) (came128 : Bool) (w : World) (o : Option Placed) → ((p : Placed) → o ≡ Some p → p.declared.node ≡ node)
-    → put_by_of line at node (is_on_air channels node) came128 o w ≡ put_of channels line at came128 o w
-put_case channels line at node came128 w None same = refl
-put_case channels line at node came128 w (Some p) same =
-    ap (λ n. puts line at p (cond (is_on_air channels n) (map (aired_as n came128) (frames p.state.station)) []) w) (sym (same p refl))
+-- the frames of a node with a number are those of the node at its place
+put_case : (line at node : ℕ) (came128 : Bool) (w : World) (o : Option Placed) → ((p : Placed) → o ≡ Some p → p.declared.node ≡ node)
+    → put_by_of line at node (is_on_air w.channels node) came128 o w ≡ put_of line at came128 o w
+put_case line at node came128 w None same = refl
+put_case line at node came128 w (Some p) same =
+    ap (λ n. puts line at p (cond (is_on_air w.channels n) (map (aired_as n came128) (frames p.state.station)) []) w) (sym (same p refl))
 
-pub put_is : (channels : List Channel) (line at node : ℕ) (came128 : Bool) (w : World) → ((p : Placed) → slice_get w.nodes at ≡ Some p → p.declared.node ≡ node)
-    → put_by line at node (is_on_air channels node) came128 w ≡ put channels line at came128 w
+pub put_is : (line at node : ℕ) (on_air came128 : Bool) (w : World) → on_air ≡ is_on_air w.channels node → ((p : Placed) → slice_get w.nodes at ≡ Some p → p.declared.node ≡ node)
+    → put_by line at node on_air came128 w ≡ put line at came128 w
 unfolding put_by put
-put_is channels line at node came128 w same = put_case channels line at node came128 w (slice_get w.nodes at) same
+put_is line at node on_air came128 w says same = ap (λ b. put_by_of line at node b came128 (slice_get w.nodes at) w) says ∙ put_case line at node came128 w (slice_get w.nodes at) same
 
-pub put_none : (channels : List Channel) (line at : ℕ) (came128 : Bool) (w : World) → slice_get w.nodes at ≡ None → put channels line at came128 w ≡ w
+pub put_none : (line at : ℕ) (came128 : Bool) (w : World) → slice_get w.nodes at ≡ None → put line at came128 w ≡ w
 unfolding put
-put_none channels line at came128 w e = ap (λ o. put_of channels line at came128 o w) e
+put_none line at came128 w e = ap (λ o. put_of line at came128 o w) e
 
 -- ---- one frame put in the air by the code
 
@@ -198,6 +198,7 @@ put_one old new line node frame came128 f air e count tells w t =
         mails = t.trace.mails;
         ends = t.trace.ends;
       };
+      channels = t.channels;
       now = t.now;
     }
     in

@@ -9,9 +9,10 @@ use Rattle.net_replay.specs.declared.events.Event.{Event as SeenEvent}
 use Rattle.node_turns.specs.States as states
 use Rattle.node_turns.specs.States.{NodeState}
 use Rattle.net_replay.specs.Events.{Entry, Event, NumberedEvent, event_of}
-use Rattle.net_replay.specs.Running.{Course, IsFirst, Stands, all_entries, all_entries_of, change, change_of, entry_events, fetched_entry, first_entry}
+use Rattle.net_replay.specs.Running.{Course, IsFirst, Stands, all_entries, change, entry_events, fetched_entry, first_entry}
 use Rattle.net_replay.specs.Starting.{Placed}
-use Rattle.net_replay.specs.World.{Input, World, after, all_told, numbered, reach, reaches, tell}
+use Rattle.net_replay.specs.World.{Input, World, after, all_told, numbered, reach, tell}
+use Rattle.net_replay.proofs.Looks.{all_entries_of, change_of, reaches}
 use Rattle.net_replay.proofs.Placing.{at_place, declared_is, set_itself, set_same, set_twice}
 
 -- ---- what reaches a node, and then its entries

@@ -41,12 +41,13 @@ use Rattle.net_replay.specs.Ends.{ends_of}
 use Rattle.net_replay.specs.Mailing.{with_mail}
 use Rattle.node_mail.specs.Lists.{Lists}
 use Rattle.net_replay.specs.Hops.{all_borne, node_at}
-use Rattle.net_replay.specs.Lines.{kiss_bytes, restart, restart_of, settle}
+use Rattle.net_replay.specs.Lines.{kiss_bytes, restart, settle}
 use Rattle.net_replay.specs.Starting.{Placed, by_number, config_of, is_via_of, new_nodes, path_of, repeater, with_via, with_via_by, with_vias}
 use Rattle.net_replay.specs.World as worlds
-use Rattle.net_replay.specs.World.{Bytes, Input, Time, World, after, aired, aired_as, air_events, all_fetched_of, all_told, numbered, place_of, put, put_of, reach, reaches, tell}
+use Rattle.net_replay.specs.World.{Bytes, Input, Time, World, after, aired, aired_as, air_events, all_fetched_of, all_told, numbered, place_of, put, reach, tell}
 use Rattle.net_replay.proofs.Containing.{AreApart, Contains, IsQuiet, Tracks, TracksAt, comes_contains, events_append, name_at, names, quiet_contains}
 use Rattle.net_replay.proofs.LineWalks.{IsPlain, Moves}
+use Rattle.net_replay.proofs.Looks.{put_of, reaches, restart_of}
 use Rattle.net_replay.proofs.Moving.{placed, told_entries}
 use Rattle.net_replay.proofs.MovesRun.{put_comes, quiet_air, reach_comes, restart_comes}
 use Rattle.net_replay.proofs.Comings.{KnownAir, StepsCame, came_both, inputs_came, named_alike, new_known, steps_within}
@@ -275,12 +276,12 @@ module _ (plan : Plan) (size : ℕ) (apart : AreApart (names (new_nodes plan))) 
       (every (λ (f : Aired). IsAloft size (all_borne size new) f.octets.items) (λ (f : Aired). IsAloft size (all_borne size air ++ all_borne size new) f.octets.items)
       (λ f x. further.behind size (all_borne size air) (all_borne size new) f.octets.items x) new b))
 
-  put_by : (line at : ℕ) (came128 : Bool) (w : World) (o : Option Placed) → slice_get w.nodes at ≡ o → Goes w (put_of plan.channels line at came128 o w)
+  put_by : (line at : ℕ) (came128 : Bool) (w : World) (o : Option Placed) → slice_get w.nodes at ≡ o → Goes w (put_of line at came128 o w)
   put_by line at came128 w None e = still w
   put_by line at came128 w (Some p) e =
-      at_once w (put_of plan.channels line at came128 (Some p) w)
+      at_once w (put_of line at came128 (Some p) w)
       (λ steps f. (let t : TracksAt plan w.told (sets_run (first_sets plan) steps) at p = f.contains.tracks at p e in
-      let new : List Aired = aired plan.channels came128 p in
+      let new : List Aired = aired w.channels came128 p in
       let es : List Event = air_events (length w.air) (length new) in
       let q : Placed = record p { state = all_fetched_of p.state } in
       let ds : List (List ℕ) = sent_at at (told steps) in
@@ -293,13 +294,13 @@ module _ (plan : Plan) (size : ℕ) (apart : AreApart (names (new_nodes plan))) 
         came = steps_within plan size [] w.air (w.air ++ new) (within_more w.air new) (first_sets plan) steps f.came;
         nodes = λ i x g. beside (λ k r. NodeFlies w.air (sent_at k (told steps)) r) (λ k r. NodeFlies (w.air ++ new) (sent_at k (told steps)) r) w.nodes at p q e f.nodes
             (λ k r n y. node_more w.air new (sent_at k (told steps)) r y) (node_more w.air new ds q mine) i x g (nat_eq at i) refl;
-        air = air_both w.air new f.air (aired_aloft w.air ds came128 (is_on_air plan.channels p.declared.node) p (f.nodes at p e));
+        air = air_both w.air new f.air (aired_aloft w.air ds came128 (is_on_air w.channels p.declared.node) p (f.nodes at p e));
         known = new_known plan size (told steps) w.air new at p.declared (named steps w at p f e)
             (named_alike (by_number plan.declared 1 16) at p.declared (told steps) (named steps w at p f e) (all_named steps w f)) f.known
-            (aired_new w.air ds came128 (is_on_air plan.channels p.declared.node) p (f.nodes at p e));
+            (aired_new w.air ds came128 (is_on_air w.channels p.declared.node) p (f.nodes at p e));
       }))
 
-  puts_go : (line at : ℕ) (came128 : Bool) (w : World) → Goes w (put plan.channels line at came128 w)
+  puts_go : (line at : ℕ) (came128 : Bool) (w : World) → Goes w (put line at came128 w)
   unfolding put
   puts_go line at came128 w = put_by line at came128 w (slice_get w.nodes at) refl
 

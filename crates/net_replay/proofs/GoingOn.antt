@@ -5,7 +5,6 @@ use Rattle.std.specs.List.{AllByRecursion}
 use Rattle.ax_address.specs.Callsign.{Callsign}
 use Rattle.circuit_l4.specs.declared.transport.Pair.{Pair}
 use Rattle.network_file.specs.declared.network.NumberedInstruction.{NumberedInstruction}
-use Rattle.network_file.specs.declared.plan.channels.Channel.{Channel}
 use Rattle.network_file.specs.declared.plan.instructions.Instruction.{Instruction}
 use Rattle.network_file.specs.declared.plan.instructions.Instruction.TheVariants as instructions
 use Rattle.network_file.specs.Plan.{Plan}
@@ -18,9 +17,10 @@ use Rattle.net_replay.specs.Events.{Event}
 use Rattle.net_replay.specs.Lines.{do_lines}
 use Rattle.net_replay.specs.Starting.{Placed}
 use Rattle.net_replay.specs.World as worlds
-use Rattle.net_replay.specs.World.{Input, World, after, aired, air_events, numbered, put, put_of, reach, reaches, tell}
+use Rattle.net_replay.specs.World.{Input, World, after, aired, air_events, numbered, put, reach, tell}
 use Rattle.net_replay.proofs.Containing.{AreOn, IsQuiet, on_both}
 use Rattle.net_replay.proofs.LineWalks.{LineIs, Moves, lines_lead}
+use Rattle.net_replay.proofs.Looks.{put_of, reaches}
 use Rattle.net_replay.proofs.Moving.{told_entries}
 
 -- what is told then is told by no start
@@ -64,14 +64,14 @@ reach_on : (line at : ℕ) (input : Input) (w : World) → Stays w (reach line a
 unfolding reach
 reach_on line at input w = reach_by line at input w (slice_get w.nodes at)
 
-put_by : (channels : List Channel) (line at : ℕ) (came128 : Bool) (w : World) (o : Option Placed) → Stays w (put_of channels line at came128 o w)
-put_by channels line at came128 w None a = a
-put_by channels line at came128 w (Some p) a =
-    on_both w.told (map (numbered line) (air_events (length w.air) (length (aired channels came128 p)))) a (air_on line (length w.air) (length (aired channels came128 p)))
+put_by : (line at : ℕ) (came128 : Bool) (w : World) (o : Option Placed) → Stays w (put_of line at came128 o w)
+put_by line at came128 w None a = a
+put_by line at came128 w (Some p) a =
+    on_both w.told (map (numbered line) (air_events (length w.air) (length (aired w.channels came128 p)))) a (air_on line (length w.air) (length (aired w.channels came128 p)))
 
-put_on : (channels : List Channel) (line at : ℕ) (came128 : Bool) (w : World) → Stays w (put channels line at came128 w)
+put_on : (line at : ℕ) (came128 : Bool) (w : World) → Stays w (put line at came128 w)
 unfolding put
-put_on channels line at came128 w = put_by channels line at came128 w (slice_get w.nodes at)
+put_on line at came128 w = put_by line at came128 w (slice_get w.nodes at)
 
 -- ---- the lines
 
@@ -93,7 +93,7 @@ moves plan = record {
   times = λ line at w. reach_on line at worlds.Time w;
   broadcasts = λ line at call b w i. reach_on line at _ w;
   frames = λ line at place f w e. reach_on line at _ w;
-  puts = put_on plan.channels;
+  puts = put_on;
   mails = λ at s w a. a;
   restarts = λ line number pair w i. absurd i;
   settles = λ at w a. a;

@@ -9,7 +9,6 @@ use Rattle.circuit_l4.specs.declared.transport.Pair.{Pair}
 use Rattle.network_file.specs.Channels.{hearers}
 use Rattle.network_file.specs.Plan.{Plan}
 use Rattle.network_file.specs.declared.network.NumberedInstruction.{NumberedInstruction}
-use Rattle.network_file.specs.declared.plan.channels.Channel.{Channel}
 use Rattle.network_file.specs.declared.plan.instructions.Instruction.{Instruction}
 use Rattle.network_file.specs.declared.plan.instructions.Instruction.TheVariants as instructions
 use Rattle.node_core.specs.Broadcasts.{broadcast_octets}
@@ -22,12 +21,13 @@ use Rattle.net_replay.specs.declared.reasons.LineRefusal.{LineRefusal}
 use Rattle.net_replay.specs.Air.{delivery_fault, frame_of, lost_fault, oldest, settled_at}
 use Rattle.net_replay.specs.CircuitRuns.{IsLine}
 use Rattle.net_replay.specs.Events.{Delivered, Event, Refused, Wrote}
-use Rattle.net_replay.specs.Lines.{all_wrote, burst, burst_by, burst_from, cut, deliver_all, deliver_at, deliver_of, do_act, do_line, do_lines, flow, hear, kiss_bytes, lose_at, refusal_events, restart_of, settle, spread, spread_of, tick_from, tick_node, told_of, took_of, unless_refused}
+use Rattle.net_replay.specs.Lines.{all_wrote, burst, burst_from, cut, deliver_all, deliver_at, do_act, do_line, do_lines, flow, hear, kiss_bytes, lose_at, refusal_events, settle, spread, tick_from, tick_node, told_of, took_of, unless_refused}
 use Rattle.net_replay.specs.Refused.{of_act}
 use Rattle.net_replay.specs.Starting.{Placed}
-use Rattle.net_replay.specs.World.{Act, Bytes, Input, Time, World, aired, answer, place_of, put, put_of, reach, reaches, tell}
+use Rattle.net_replay.specs.World.{Act, Bytes, Input, Time, World, aired, answer, place_of, put, reach, tell}
 use Rattle.net_replay.specs.declared.reasons.LineRefusal.TheVariants.{Served}
 use Rattle.net_replay.specs.Mailing.{is_agents, unless_agents}
+use Rattle.net_replay.proofs.Looks.{burst_by, deliver_of, put_of, reaches, restart_of, shown_of, spread_of}
 use Rattle.net_replay.proofs.MailWalks.{AgentMoves, mail_leads, post_leads}
 use Rattle.net_replay.proofs.Oldest.{length-settled_at}
 
@@ -41,63 +41,67 @@ pub reach_stays : (line at : ℕ) (input : Input) (w : World) → (reach line at
 unfolding reach
 reach_stays line at input w = reaches_stays line at input (slice_get w.nodes at) w
 
-put_of_grows : (channels : List Channel) (line at : ℕ) (came128 : Bool) (o : Option Placed) (w : World) → length w.air ≤ length (put_of channels line at came128 o w).air
-put_of_grows channels line at came128 None w = omega arith
-put_of_grows channels line at came128 (Some p) w = omega (arith, length-append w.air (aired channels came128 p))
+put_of_grows : (line at : ℕ) (came128 : Bool) (o : Option Placed) (w : World) → length w.air ≤ length (put_of line at came128 o w).air
+put_of_grows line at came128 None w = omega arith
+put_of_grows line at came128 (Some p) w = omega (arith, length-append w.air (aired w.channels came128 p))
 
-pub put_grows : (channels : List Channel) (line at : ℕ) (came128 : Bool) (w : World) → length w.air ≤ length (put channels line at came128 w).air
+pub put_grows : (line at : ℕ) (came128 : Bool) (w : World) → length w.air ≤ length (put line at came128 w).air
 unfolding put
-put_grows channels line at came128 w = put_of_grows channels line at came128 (slice_get w.nodes at) w
+put_grows line at came128 w = put_of_grows line at came128 (slice_get w.nodes at) w
 
 -- something reaches a node, something is told, and its frames are put in the air
-reach_put : (channels : List Channel) (line at : ℕ) (input : Input) (came128 : Bool) (w v : World) → v.air ≡ (reach line at input w).air
-    → length w.air ≤ length (put channels line at came128 v).air
-reach_put channels line at input came128 w v same =
+reach_put : (line at : ℕ) (input : Input) (came128 : Bool) (w v : World) → v.air ≡ (reach line at input w).air
+    → length w.air ≤ length (put line at came128 v).air
+reach_put line at input came128 w v same =
     let air : v.air ≡ w.air = same ∙ reach_stays line at input w in
-    let more = put_grows channels line at came128 v in
+    let more = put_grows line at came128 v in
     let count = ap (λ (air : List Aired). length air) air in
     omega (arith, more, count)
 
 -- ---- lines at one node
 
-hear_grows : (channels : List Channel) (line number : ℕ) (bytes : List ℕ) (modulo128 : Bool) (w : World) → length w.air ≤ length (hear channels line number bytes modulo128 w).air
-hear_grows channels line number bytes modulo128 w =
-    reach_put channels line (place_of number w.nodes) (Bytes bytes) modulo128 w (reach line (place_of number w.nodes) (Bytes bytes) w) refl
+hear_grows : (line number : ℕ) (bytes : List ℕ) (modulo128 : Bool) (w : World) → length w.air ≤ length (hear line number bytes modulo128 w).air
+hear_grows line number bytes modulo128 w =
+    reach_put line (place_of number w.nodes) (Bytes bytes) modulo128 w (reach line (place_of number w.nodes) (Bytes bytes) w) refl
 
-act_grows : (channels : List Channel) (line number : ℕ) (act : UserAct) (told : Result ActDone ActRefusal → List Event) (w : World)
-    → length w.air ≤ length (do_act channels line number act told w).air
-act_grows channels line number act told w = reach_put channels line (place_of number w.nodes) (Act act) false w _ refl
+act_grows : (line number : ℕ) (act : UserAct) (told : Result ActDone ActRefusal → List Event) (w : World)
+    → length w.air ≤ length (do_act line number act told w).air
+act_grows line number act told w = reach_put line (place_of number w.nodes) (Act act) false w _ refl
 
-pub tick_node_grows : (channels : List Channel) (line at : ℕ) (w : World) → length w.air ≤ length (tick_node channels line at w).air
-tick_node_grows channels line at w = reach_put channels line at Time false w (reach line at Time w) refl
+pub tick_node_grows : (line at : ℕ) (w : World) → length w.air ≤ length (tick_node line at w).air
+tick_node_grows line at w = reach_put line at Time false w (reach line at Time w) refl
 
-pub ticks_grow : (channels : List Channel) (line at count : ℕ) (w : World) → length w.air ≤ length (tick_from channels line at count w).air
-ticks_grow channels line at zero w = omega arith
-ticks_grow channels line at (suc count) w =
-    let first = tick_node_grows channels line at w in
-    let more = ticks_grow channels line (suc at) count (tick_node channels line at w) in
+pub ticks_grow : (line at count : ℕ) (w : World) → length w.air ≤ length (tick_from line at count w).air
+ticks_grow line at zero w = omega arith
+ticks_grow line at (suc count) w =
+    let first = tick_node_grows line at w in
+    let more = ticks_grow line (suc at) count (tick_node line at w) in
     omega (arith, first, more)
 
-burst_by_grows : (channels : List Channel) (line at node end nth more : ℕ) (r : Result ActDone ActRefusal) (later : World → World) (w v : World)
-    → ((u : World) → length u.air ≤ length (later u).air) → v.air ≡ w.air → length w.air ≤ length (burst_by channels line at node end nth more r later v).air
-burst_by_grows channels line at node end nth more (Ok _) later w v grows same =
+burst_by_grows : (line at node end nth more : ℕ) (r : Result ActDone ActRefusal) (w v : World)
+    → ((u : World) → length u.air ≤ length (burst_from line at node end (nth + 1) more u).air) → v.air ≡ w.air → length w.air ≤ length (burst_by line at node end nth more r v).air
+burst_by_grows line at node end nth more (Ok _) w v grows same =
     let u : World = tell line (all_wrote node end nth more) v in
-    let first = put_grows channels line at false u in
-    let rest = grows (put channels line at false u) in
+    let first = put_grows line at false u in
+    let rest = grows (put line at false u) in
     let count = ap (λ (air : List Aired). length air) same in
     omega (arith, first, rest, count)
-burst_by_grows channels line at node end nth more (Err why) later w v grows same =
-    let first = put_grows channels line at false (tell line (Wrote node end (nth - 1) ∷ refusal_events (of_act why)) v) in
+burst_by_grows line at node end nth more (Err why) w v grows same =
+    let first = put_grows line at false (tell line (Wrote node end (nth - 1) ∷ refusal_events (of_act why)) v) in
     let count = ap (λ (air : List Aired). length air) same in
     omega (arith, first, count)
 
-pub burst_grows : (channels : List Channel) (line at node end nth more : ℕ) (w : World) → length w.air ≤ length (burst_from channels line at node end nth more w).air
+pub burst_grows : (line at node end nth more : ℕ) (w : World) → length w.air ≤ length (burst_from line at node end nth more w).air
 unfolding burst_from
-burst_grows channels line at node end nth zero w = omega arith
-burst_grows channels line at node end nth (suc more) w =
+burst_grows line at node end nth zero w = omega arith
+burst_grows line at node end nth (suc more) w =
     let act : UserAct = acts.Write end (decimal nth) in
-    burst_by_grows channels line at node end nth more (answer at act w) (burst_from channels line at node end (nth + 1) more) w (reach line at (Act act) w)
-    (burst_grows channels line at node end (nth + 1) more) (reach_stays line at (Act act) w)
+    burst_by_grows line at node end nth more (answer at act w) w (reach line at (Act act) w)
+    (burst_grows line at node end (nth + 1) more) (reach_stays line at (Act act) w)
+
+show_grows : (line : ℕ) (o : Option Placed) (w : World) → length w.air ≤ length (shown_of line o w).air
+show_grows line None w = omega arith
+show_grows line (Some p) w = omega arith
 
 restart_grows : (plan : Plan) (line at : ℕ) (pair : Pair) (o : Option Placed) (w : World) → length w.air ≤ length (restart_of plan line at pair o w).air
 restart_grows plan line at pair None w = omega arith
@@ -105,46 +109,46 @@ restart_grows plan line at pair (Some p) w = omega arith
 
 -- ---- lines on frames
 
-deliver_of_grows : (channels : List Channel) (line at node : ℕ) (f : Option Aired) (w : World) → length w.air ≤ length (deliver_of channels line at node f w).air
-deliver_of_grows channels line at node None w = omega arith
-deliver_of_grows channels line at node (Some f) w = hear_grows channels line node (kiss_bytes f.octets.items) f.modulo128 (tell line (Delivered (at + 1) node ∷ []) w)
+deliver_of_grows : (line at node : ℕ) (f : Option Aired) (w : World) → length w.air ≤ length (deliver_of line at node f w).air
+deliver_of_grows line at node None w = omega arith
+deliver_of_grows line at node (Some f) w = hear_grows line node (kiss_bytes f.octets.items) f.modulo128 (tell line (Delivered (at + 1) node ∷ []) w)
 
-pub deliver_grows : (channels : List Channel) (line at node : ℕ) (w : World) → length w.air ≤ length (deliver_at channels line at node w).air
+pub deliver_grows : (line at node : ℕ) (w : World) → length w.air ≤ length (deliver_at line at node w).air
 unfolding deliver_at
-deliver_grows channels line at node w = deliver_of_grows channels line at node (slice_get w.air at) w
+deliver_grows line at node w = deliver_of_grows line at node (slice_get w.air at) w
 
-pub all_grows : (channels : List Channel) (line at : ℕ) (nodes : List ℕ) (w : World) → length w.air ≤ length (deliver_all channels line at nodes w).air
-all_grows channels line at [] w = omega arith
-all_grows channels line at (node ∷ more) w =
-    let first = deliver_grows channels line at node w in
-    let rest = all_grows channels line at more (deliver_at channels line at node w) in
+pub all_grows : (line at : ℕ) (nodes : List ℕ) (w : World) → length w.air ≤ length (deliver_all line at nodes w).air
+all_grows line at [] w = omega arith
+all_grows line at (node ∷ more) w =
+    let first = deliver_grows line at node w in
+    let rest = all_grows line at more (deliver_at line at node w) in
     omega (arith, first, rest)
 
-spread_of_grows : (channels : List Channel) (line at : ℕ) (f : Option Aired) (w : World) → length w.air ≤ length (spread_of channels line at f w).air
-spread_of_grows channels line at None w = omega arith
-spread_of_grows channels line at (Some f) w = all_grows channels line at (hearers channels f.sender) w
+spread_of_grows : (line at : ℕ) (f : Option Aired) (w : World) → length w.air ≤ length (spread_of line at f w).air
+spread_of_grows line at None w = omega arith
+spread_of_grows line at (Some f) w = all_grows line at (hearers w.channels f.sender) w
 
 -- the oldest is settled, and goes where it goes
-settle_spread : (channels : List Channel) (line at : ℕ) (w : World) → length w.air ≤ length (spread channels line at (settle at w)).air
-settle_spread channels line at w =
-    let more = spread_of_grows channels line at (slice_get (settled_at at w.air) at) (settle at w) in
+settle_spread : (line at : ℕ) (w : World) → length w.air ≤ length (spread line at (settle at w)).air
+settle_spread line at w =
+    let more = spread_of_grows line at (slice_get (settled_at at w.air) at) (settle at w) in
     omega (arith, length-settled_at w.air at, more)
 
-abbrev flow_from : List Channel → ℕ → ℕ → World → Option ℕ → World
-flow_from channels line count w o = elim o [ None ↦ w | Some at ↦ flow channels line count (spread channels line at (settle at w)) ]
+abbrev flow_from : ℕ → ℕ → World → Option ℕ → World
+flow_from line count w o = elim o [ None ↦ w | Some at ↦ flow line count (spread line at (settle at w)) ]
 
-flow_from_grows : (channels : List Channel) (line count : ℕ) (w : World) (o : Option ℕ) → ((v : World) → length v.air ≤ length (flow channels line count v).air)
-    → length w.air ≤ length (flow_from channels line count w o).air
-flow_from_grows channels line count w None rest = omega arith
-flow_from_grows channels line count w (Some at) rest =
-    let first = settle_spread channels line at w in
-    let more = rest (spread channels line at (settle at w)) in
+flow_from_grows : (line count : ℕ) (w : World) (o : Option ℕ) → ((v : World) → length v.air ≤ length (flow line count v).air)
+    → length w.air ≤ length (flow_from line count w o).air
+flow_from_grows line count w None rest = omega arith
+flow_from_grows line count w (Some at) rest =
+    let first = settle_spread line at w in
+    let more = rest (spread line at (settle at w)) in
     omega (arith, first, more)
 
-pub flow_grows : (channels : List Channel) (line count : ℕ) (w : World) → length w.air ≤ length (flow channels line count w).air
+pub flow_grows : (line count : ℕ) (w : World) → length w.air ≤ length (flow line count w).air
 unfolding flow
-flow_grows channels line zero w = omega arith
-flow_grows channels line (suc count) w = flow_from_grows channels line count w (oldest w.air) (flow_grows channels line count)
+flow_grows line zero w = omega arith
+flow_grows line (suc count) w = flow_from_grows line count w (oldest w.air) (flow_grows line count)
 
 abbrev cut_from : ℕ → ℕ → World → Option ℕ → World
 cut_from line count w o = elim o [ None ↦ w | Some at ↦ cut line count (lose_at line at (at + 1) w) ]
@@ -162,19 +166,19 @@ unless_grows : (line : ℕ) (why : Option LineRefusal) (done w : World) → leng
 unless_grows line None done w h = h
 unless_grows line (Some why) done w h = omega arith
 
-settle_deliver : (channels : List Channel) (line at node : ℕ) (w : World) → length w.air ≤ length (deliver_at channels line at node (settle at w)).air
-settle_deliver channels line at node w = let more = deliver_grows channels line at node (settle at w) in omega (arith, more, length-settled_at w.air at)
+settle_deliver : (line at node : ℕ) (w : World) → length w.air ≤ length (deliver_at line at node (settle at w)).air
+settle_deliver line at node w = let more = deliver_grows line at node (settle at w) in omega (arith, more, length-settled_at w.air at)
 
 -- ---- mail
 
-pub grown : (channels : List Channel) → AgentMoves channels (λ (u v : World). length u.air ≤ length v.air)
-grown channels = record {
+pub grown : AgentMoves (λ (u v : World). length u.air ≤ length v.air)
+grown = record {
   still = λ w. omega arith;
   follows = λ u v w f g. omega (arith, f, g);
   tells = λ line es w q. omega arith;
   takes = λ line at id w. (let count = ap (λ (air : List Aired). length air) (reach_stays line at (Act (acts.Take id)) w) in omega (arith, count));
   writes = λ line at id message w. (let count = ap (λ (air : List Aired). length air) (reach_stays line at (Act (acts.Write id message)) w) in omega (arith, count));
-  puts = λ line at w. put_grows channels line at false w;
+  puts = λ line at w. put_grows line at false w;
   mails = λ at s w. omega arith;
 }
 
@@ -188,31 +192,31 @@ others_grow line node end first done w h = agents_case (is_agents node end w)
 -- ---- each kind of line
 
 pub line_grows : (plan : Plan) (line : ℕ) (instruction : Instruction) (w : World) → length w.air ≤ length (do_line plan line instruction w).air
-line_grows plan line (instructions.Heard node call nodes) w = hear_grows plan.channels line node (kiss_bytes (broadcast_octets call (view nodes))) false w
-line_grows plan line (instructions.Lock node dest alias neighbour quality) w = act_grows plan.channels line node (acts.Lock dest alias neighbour quality) told_of w
-line_grows plan line (instructions.Round node) w = act_grows plan.channels line node acts.Round told_of w
-line_grows plan line (instructions.LinkFail node call) w = act_grows plan.channels line node (acts.LinkFail call) told_of w
-line_grows plan line (instructions.Show node) w = omega arith
-line_grows plan line (instructions.Tick milliseconds) w = ticks_grow plan.channels line 0 (length w.nodes) (record w { now = w.now + milliseconds })
+line_grows plan line (instructions.Heard node call nodes) w = hear_grows line node (kiss_bytes (broadcast_octets call (view nodes))) false w
+line_grows plan line (instructions.Lock node dest alias neighbour quality) w = act_grows line node (acts.Lock dest alias neighbour quality) told_of w
+line_grows plan line (instructions.Round node) w = act_grows line node acts.Round told_of w
+line_grows plan line (instructions.LinkFail node call) w = act_grows line node (acts.LinkFail call) told_of w
+line_grows plan line (instructions.Show node) w = show_grows line (slice_get w.nodes (place_of node w.nodes)) w
+line_grows plan line (instructions.Tick milliseconds) w = ticks_grow line 0 (length w.nodes) (record w { now = w.now + milliseconds })
 line_grows plan line (instructions.Restart node pair) w =
     restart_grows plan line (place_of node w.nodes) (record { index = pair.index; ident = pair.ident }) (slice_get w.nodes (place_of node w.nodes)) w
-line_grows plan line (instructions.Open node dest) w = act_grows plan.channels line node (acts.Connect dest) told_of w
+line_grows plan line (instructions.Open node dest) w = act_grows line node (acts.Connect dest) told_of w
 line_grows plan line (instructions.Say node end text) w =
-    others_grow line node end [] (do_act plan.channels line node (acts.Write end text) told_of) w (act_grows plan.channels line node (acts.Write end text) told_of w)
+    others_grow line node end [] (do_act line node (acts.Write end text) told_of) w (act_grows line node (acts.Write end text) told_of w)
 line_grows plan line (instructions.Burst node end count) w =
-    others_grow line node end (Wrote node end 0 ∷ []) (burst plan.channels line node end count) w (burst_grows plan.channels line (place_of node w.nodes) node end 1 count w)
+    others_grow line node end (Wrote node end 0 ∷ []) (burst line node end count) w (burst_grows line (place_of node w.nodes) node end 1 count w)
 line_grows plan line (instructions.Take node end) w =
-    others_grow line node end [] (do_act plan.channels line node (acts.Take end) (took_of node end)) w (act_grows plan.channels line node (acts.Take end) (took_of node end) w)
-line_grows plan line (instructions.Close node end) w = act_grows plan.channels line node (acts.Close end) told_of w
-line_grows plan line (instructions.Post node to dest text) w = post_leads plan.channels _ (grown plan.channels) line node to dest text w
-line_grows plan line (instructions.Mail node) w = mail_leads plan.channels _ (grown plan.channels) line node w
+    others_grow line node end [] (do_act line node (acts.Take end) (took_of node end)) w (act_grows line node (acts.Take end) (took_of node end) w)
+line_grows plan line (instructions.Close node end) w = act_grows line node (acts.Close end) told_of w
+line_grows plan line (instructions.Post node to dest text) w = post_leads _ (grown) line node to dest text w
+line_grows plan line (instructions.Mail node) w = mail_leads _ (grown) line node w
 line_grows plan line (instructions.Deliver frame node) w =
-    unless_grows line (delivery_fault plan.channels node false (frame_of w.air frame)) _ w (settle_deliver plan.channels line (frame - 1) node w)
+    unless_grows line (delivery_fault w.channels node false (frame_of w.air frame)) _ w (settle_deliver line (frame - 1) node w)
 line_grows plan line (instructions.Again frame node) w =
-    unless_grows line (delivery_fault plan.channels node true (frame_of w.air frame)) _ w (deliver_grows plan.channels line (frame - 1) node w)
+    unless_grows line (delivery_fault w.channels node true (frame_of w.air frame)) _ w (deliver_grows line (frame - 1) node w)
 line_grows plan line (instructions.Lose frame) w =
     unless_grows line (lost_fault false (frame_of w.air frame)) (lose_at line (frame - 1) frame w) w (omega (arith, length-settled_at w.air (frame - 1)))
-line_grows plan line (instructions.Flow count) w = flow_grows plan.channels line count w
+line_grows plan line (instructions.Flow count) w = flow_grows line count w
 line_grows plan line (instructions.Cut count) w = cut_grows line count w
 
 pub lines_grow : (plan : Plan) (ls : List NumberedInstruction) (w : World) → length w.air ≤ length (do_lines plan ls w).air
@@ -224,15 +228,15 @@ lines_grow plan (l ∷ ls) w =
 
 -- ---- one step more
 
-pub flow_one : (channels : List Channel) (line count at : ℕ) (w : World) → oldest w.air ≡ Some at
-    → flow channels line (suc count) w ≡ flow channels line count (spread channels line at (settle at w))
+pub flow_one : (line count at : ℕ) (w : World) → oldest w.air ≡ Some at
+    → flow line (suc count) w ≡ flow line count (spread line at (settle at w))
 unfolding flow
-flow_one channels line count at w e = ap (flow_from channels line count w) e
+flow_one line count at w e = ap (flow_from line count w) e
 
-pub flow_none : (channels : List Channel) (line count : ℕ) (w : World) → oldest w.air ≡ None → flow channels line count w ≡ w
+pub flow_none : (line count : ℕ) (w : World) → oldest w.air ≡ None → flow line count w ≡ w
 unfolding flow
-flow_none channels line zero w e = refl
-flow_none channels line (suc count) w e = ap (flow_from channels line count w) e
+flow_none line zero w e = refl
+flow_none line (suc count) w e = ap (flow_from line count w) e
 
 pub cut_one : (line count at : ℕ) (w : World) → oldest w.air ≡ Some at → cut line (suc count) w ≡ cut line count (lose_at line at (at + 1) w)
 unfolding cut
@@ -243,36 +247,36 @@ unfolding cut
 cut_none line zero w e = refl
 cut_none line (suc count) w e = ap (cut_from line count w) e
 
-all_case : (channels : List Channel) (line at n : ℕ) (others : List ℕ) (w : World) (b : Bool)
-    → deliver_all channels line at (cond b (n ∷ others) others) w ≡ deliver_all channels line at others (deliver_all channels line at (cond b (n ∷ []) []) w)
-all_case channels line at n others w true = refl
-all_case channels line at n others w false = refl
+all_case : (line at n : ℕ) (others : List ℕ) (w : World) (b : Bool)
+    → deliver_all line at (cond b (n ∷ others) others) w ≡ deliver_all line at others (deliver_all line at (cond b (n ∷ []) []) w)
+all_case line at n others w true = refl
+all_case line at n others w false = refl
 
-pub all_next : (channels : List Channel) (line at n : ℕ) (p : ℕ → Bool) (w : World) → n < 17
-    → deliver_all channels line at (filter p (range_with_len n (17 - n))) w
-    ≡ deliver_all channels line at (filter p (range_with_len (n + 1) (17 - (n + 1)))) (deliver_all channels line at (filter p (n ∷ [])) w)
-all_next channels line at n p w h =
+pub all_next : (line at n : ℕ) (p : ℕ → Bool) (w : World) → n < 17
+    → deliver_all line at (filter p (range_with_len n (17 - n))) w
+    ≡ deliver_all line at (filter p (range_with_len (n + 1) (17 - (n + 1)))) (deliver_all line at (filter p (n ∷ [])) w)
+all_next line at n p w h =
     let left : 17 - n ≡ suc (17 - (n + 1)) = omega arith in
-    rw left (all_case channels line at n (filter p (range_with_len (n + 1) (17 - (n + 1)))) w (p n))
+    rw left (all_case line at n (filter p (range_with_len (n + 1) (17 - (n + 1)))) w (p n))
 
 pub cut_end : (line n : ℕ) (w : World) → n ≡ 0 → cut line n w ≡ w
 unfolding cut
 cut_end line n w e = ap (λ k. cut line k w) e
 
-pub flow_end : (channels : List Channel) (line n : ℕ) (w : World) → n ≡ 0 → flow channels line n w ≡ w
+pub flow_end : (line n : ℕ) (w : World) → n ≡ 0 → flow line n w ≡ w
 unfolding flow
-flow_end channels line n w e = ap (λ k. flow channels line k w) e
+flow_end line n w e = ap (λ k. flow line k w) e
 
-pub burst_end : (channels : List Channel) (line at node end nth n : ℕ) (w : World) → n ≡ 0 → burst_from channels line at node end nth n w ≡ w
+pub burst_end : (line at node end nth n : ℕ) (w : World) → n ≡ 0 → burst_from line at node end nth n w ≡ w
 unfolding burst_from
-burst_end channels line at node end nth n w e = ap (λ k. burst_from channels line at node end nth k w) e
+burst_end line at node end nth n w e = ap (λ k. burst_from line at node end nth k w) e
 
-pub tick_next : (channels : List Channel) (line at count : ℕ) (w : World) → at < count
-    → tick_from channels line at (count - at) w ≡ tick_from channels line (at + 1) (count - (at + 1)) (tick_node channels line at w)
-tick_next channels line at count w h = let left : count - at ≡ suc (count - (at + 1)) = omega arith in rw (left, add-one) refl
+pub tick_next : (line at count : ℕ) (w : World) → at < count
+    → tick_from line at (count - at) w ≡ tick_from line (at + 1) (count - (at + 1)) (tick_node line at w)
+tick_next line at count w h = let left : count - at ≡ suc (count - (at + 1)) = omega arith in rw (left, add-one) refl
 
-pub tick_end : (channels : List Channel) (line at n : ℕ) (w : World) → n ≡ 0 → tick_from channels line at n w ≡ w
-tick_end channels line at n w e = ap (λ k. tick_from channels line at k w) e
+pub tick_end : (line at n : ℕ) (w : World) → n ≡ 0 → tick_from line at n w ≡ w
+tick_end line at n w e = ap (λ k. tick_from line at k w) e
 
 pub line_behind : (ls : List NumberedInstruction) (l : NumberedInstruction) → AllByRecursion IsLine ls → IsLine l → AllByRecursion IsLine (ls ++ l ∷ [])
 line_behind [] l all one = (one, tt)

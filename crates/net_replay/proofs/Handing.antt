@@ -3,13 +3,13 @@ use Rattle.std.proofs.Common.{◌≡◌, ◌<◌, ◌+◌, ◌∙◌, ℕ, ap, s
 use Rattle.std.specs.Prelude.{Some, None, Result, nat_lt, slice_get}
 use Rattle.std.proofs.lemmas.Bool.{ltb-false}
 use Rattle.std.proofs.lemmas.Option.{slice_get-get_or, slice_get_past}
-use Rattle.network_file.specs.declared.plan.channels.Channel.{Channel}
 use Rattle.net_replay.specs.declared.air.Aired.{Aired}
 use Rattle.net_replay.specs.declared.reasons.ReplayRefusal.{ReplayRefusal}
 use Rattle.net_replay.specs.Events.{Delivered}
-use Rattle.net_replay.specs.Lines.{deliver_at, deliver_of, hear, kiss_bytes}
+use Rattle.net_replay.specs.Lines.{deliver_at, hear, kiss_bytes}
 use Rattle.net_replay.specs.Running.{Course, GoesOn, Runs, Stands}
 use Rattle.net_replay.specs.World.{tell}
+use Rattle.net_replay.proofs.Looks.{deliver_of}
 use Rattle.net_replay.proofs.Runs.{runs_as, runs_then}
 
 -- a frame that the code has found at a place
@@ -19,16 +19,16 @@ found frames air at f same h e = ap (λ (fs : List Aired). slice_get fs at) (sym
 pub not_found : (frames air : List Aired) (at : ℕ) → frames ≡ air → false ≡ nat_lt at (length frames) → slice_get air at ≡ None
 not_found frames air at same e = ap (λ (fs : List Aired). slice_get fs at) (sym same) ∙ slice_get_past frames at (ltb-false at (length frames) (sym e))
 
-pub delivered : (old mid new : Course) (channels : List Channel) (line at node : ℕ) (f : Aired) (r : Result (Unit {0}) ReplayRefusal)
+pub delivered : (old mid new : Course) (line at node : ℕ) (f : Aired) (r : Result (Unit {0}) ReplayRefusal)
     → slice_get old.left.air at ≡ Some f → GoesOn old mid (tell line (Delivered (at + 1) node ∷ []))
-    → Runs mid new (hear channels line node (kiss_bytes f.octets.items) f.modulo128) r → Runs old new (deliver_at channels line at node) r
+    → Runs mid new (hear line node (kiss_bytes f.octets.items) f.modulo128) r → Runs old new (deliver_at line at node) r
 unfolding deliver_at
-delivered old mid new channels line at node f r is tells hears =
-    runs_as old new (λ w. hear channels line node (kiss_bytes f.octets.items) f.modulo128 (tell line (Delivered (at + 1) node ∷ []) w)) (λ w. deliver_of channels line at node (slice_get w.air at) w) r
-    (λ w t. sym (ap (λ o. deliver_of channels line at node o w) (ap (λ (fs : List Aired). slice_get fs at) (sym t.trace.air) ∙ is)))
-    (runs_then old mid new (tell line (Delivered (at + 1) node ∷ [])) (hear channels line node (kiss_bytes f.octets.items) f.modulo128) r tells hears)
+delivered old mid new line at node f r is tells hears =
+    runs_as old new (λ w. hear line node (kiss_bytes f.octets.items) f.modulo128 (tell line (Delivered (at + 1) node ∷ []) w)) (λ w. deliver_of line at node (slice_get w.air at) w) r
+    (λ w t. sym (ap (λ o. deliver_of line at node o w) (ap (λ (fs : List Aired). slice_get fs at) (sym t.trace.air) ∙ is)))
+    (runs_then old mid new (tell line (Delivered (at + 1) node ∷ [])) (hear line node (kiss_bytes f.octets.items) f.modulo128) r tells hears)
 
-pub not_delivered : (c : Course) (channels : List Channel) (line at node : ℕ) → slice_get c.left.air at ≡ None → GoesOn c c (deliver_at channels line at node)
+pub not_delivered : (c : Course) (line at node : ℕ) → slice_get c.left.air at ≡ None → GoesOn c c (deliver_at line at node)
 unfolding deliver_at
-not_delivered c channels line at node is w t =
-    subst (λ v. Stands c v) (sym (ap (λ o. deliver_of channels line at node o w) (ap (λ (fs : List Aired). slice_get fs at) (sym t.trace.air) ∙ is))) t
+not_delivered c line at node is w t =
+    subst (λ v. Stands c v) (sym (ap (λ o. deliver_of line at node o w) (ap (λ (fs : List Aired). slice_get fs at) (sym t.trace.air) ∙ is))) t

@@ -157,7 +157,7 @@ module _ (plan : Plan) (apart : AreApart (names (new_nodes plan))) (are_steps : 
     times = λ line at w. reach_leads plan apart are_steps bytes ticks acts_run line at Time w tt;
     broadcasts = λ line at call b w i. reach_leads plan apart are_steps bytes ticks acts_run line at _ w tt;
     frames = λ line at place f w e. reach_leads plan apart are_steps bytes ticks acts_run line at _ w tt;
-    puts = put_leads plan apart are_steps bytes ticks acts_run plan.channels;
+    puts = put_leads plan apart are_steps bytes ticks acts_run;
     mails = λ at s w. still plan apart are_steps bytes ticks acts_run w;
     restarts = restart_leads plan apart are_steps bytes ticks acts_run;
     settles = λ at w. still plan apart are_steps bytes ticks acts_run w;

@@ -18,7 +18,6 @@ use Rattle.nodes_broadcast.specs.Nodes.{Broadcast, view}
 use Rattle.network_file.specs.declared.network.NumberedInstruction.{NumberedInstruction}
 use Rattle.network_file.specs.declared.plan.instructions.Instruction.{Instruction}
 use Rattle.network_file.specs.declared.plan.instructions.Instruction.TheVariants as instructions
-use Rattle.network_file.specs.declared.plan.channels.Channel.{Channel}
 use Rattle.network_file.specs.Channels.{hearers}
 use Rattle.network_file.specs.Plan.{Plan}
 use Rattle.node_core.specs.Acts.{refuse, write, write_by}
@@ -38,14 +37,15 @@ use Rattle.net_replay.specs.declared.reasons.LineRefusal.{LineRefusal}
 use Rattle.net_replay.specs.Air.{delivery_fault, frame_of, lost_fault, oldest}
 use Rattle.net_replay.specs.Events as events
 use Rattle.net_replay.specs.Events.{Event}
-use Rattle.net_replay.specs.Lines.{all_wrote, burst, burst_by, burst_from, cut, deliver_all, deliver_at, deliver_of, do_act, do_line, do_lines, flow, hear, kiss_bytes, lose_at, refusal_events, restart, settle, shown_of, spread, spread_of, tick_from, tick_node, told_of, took_of, unless_refused}
+use Rattle.net_replay.specs.Lines.{all_wrote, burst, burst_from, cut, deliver_all, deliver_at, do_act, do_line, do_lines, flow, hear, kiss_bytes, lose_at, refusal_events, restart, settle, spread, table_of, tick_from, tick_node, told_of, took_of, unless_refused}
 use Rattle.net_replay.specs.Refused.{of_act}
 use Rattle.net_replay.specs.Starting.{Placed}
 use Rattle.net_replay.specs.World as worlds
-use Rattle.net_replay.specs.World.{Bytes, Input, Time, World, answer, answers, place_of, put, put_of, reach, reaches, tell}
-use Rattle.net_replay.specs.Mailing.{ends_here, ends_of_placed, mail_at, mail_in, unless_agents, with_mail}
+use Rattle.net_replay.specs.World.{Bytes, Input, Time, World, answer, place_of, put, reach, tell}
+use Rattle.net_replay.specs.Mailing.{ends_here, mail_at, mail_in, unless_agents, with_mail}
 use Rattle.node_mail.specs.Lists.{Lists}
 use Rattle.net_replay.proofs.Containing.{IsQuiet}
+use Rattle.net_replay.proofs.Looks.{answers, burst_by, deliver_of, ends_of_placed, put_of, reaches, shown_of, spread_of}
 use Rattle.net_replay.proofs.MailWalks.{AnyUser, TurnMoves, mail_goes, post_goes, put_mails, quiet_refusal, reach_mails, turns_of, unless_agents_goes}
 
 -- ---- what is told of a line itself tells nothing of circuits
@@ -59,10 +59,6 @@ quiet_took node end (Ok Done) = tt
 quiet_took node end (Ok (Made id)) = tt
 quiet_took node end (Ok (Took message)) = (tt, tt)
 quiet_took node end (Err why) = quiet_refusal (of_act why)
-
-quiet_shown : (o : Option Placed) → AllByRecursion IsQuiet (shown_of o)
-quiet_shown None = tt
-quiet_shown (Some p) = (tt, tt)
 
 quiet_wrote : (node end nth more : ℕ) → AllByRecursion IsQuiet (all_wrote node end nth more)
 quiet_wrote node end nth zero = (tt, tt)
@@ -114,7 +110,7 @@ pub record Moves (plan : Plan) (Heard_from Locks : Callsign → Type 0) (Again :
   pub times : (line at : ℕ) (w : World) → P w (reach line at Time w)
   pub broadcasts : (line at : ℕ) (call : Callsign) (b : Broadcast) (w : World) → Heard_from call → P w (reach line at (Bytes (kiss_bytes (broadcast_octets call b))) w)
   pub frames : (line at place : ℕ) (f : Aired) (w : World) → slice_get w.air place ≡ Some f → P w (reach line at (Bytes (kiss_bytes f.octets.items)) w)
-  pub puts : (line at : ℕ) (came128 : Bool) (w : World) → P w (put plan.channels line at came128 w)
+  pub puts : (line at : ℕ) (came128 : Bool) (w : World) → P w (put line at came128 w)
   pub mails : (at : ℕ) (s : Lists) (w : World) → P w (with_mail at s w)
   pub restarts : (line number : ℕ) (pair : Pair) (w : World) → Again pair → P w (restart plan line number pair w)
   pub settles : (at : ℕ) (w : World) → P w (settle at w)
@@ -126,7 +122,7 @@ IsFree at id w = (mail_at at w ≡ None) ⊎ (facts_at (end_of id (ends_here at 
 
 -- The same of moves that are less small, where a line's own writes are at such ends, and an agent's belong to its turn.
 pub record LineMoves (plan : Plan) (Heard_from Locks Users : Callsign → Type 0) (Again : Pair → Type 0) (P : World → World → Type 0) : Type 0 where
-  pub turns : TurnMoves plan.channels Users P
+  pub turns : TurnMoves Users P
   pub does : (line at : ℕ) (act : UserAct) (w : World) → IsMute act → P w (reach line at (worlds.Act act) w)
   pub writes : (line at id : ℕ) (message : List ℕ) (w : World) → IsFree at id w → P w (reach line at (worlds.Act (acts.Write id message)) w)
   pub locks : (line at : ℕ) (dest : Callsign) (alias : Alias) (neighbour : Callsign) (quality : ℕ) (w : World) → Locks neighbour
@@ -135,14 +131,14 @@ pub record LineMoves (plan : Plan) (Heard_from Locks Users : Callsign → Type 0
   pub times : (line at : ℕ) (w : World) → P w (reach line at Time w)
   pub broadcasts : (line at : ℕ) (call : Callsign) (b : Broadcast) (w : World) → Heard_from call → P w (reach line at (Bytes (kiss_bytes (broadcast_octets call b))) w)
   pub frames : (line at place : ℕ) (f : Aired) (w : World) → slice_get w.air place ≡ Some f → P w (reach line at (Bytes (kiss_bytes f.octets.items)) w)
-  pub puts : (line at : ℕ) (came128 : Bool) (w : World) → P w (put plan.channels line at came128 w)
+  pub puts : (line at : ℕ) (came128 : Bool) (w : World) → P w (put line at came128 w)
   pub restarts : (line number : ℕ) (pair : Pair) (w : World) → Again pair → P w (restart plan line number pair w)
   pub settles : (at : ℕ) (w : World) → P w (settle at w)
   pub later : (milliseconds : ℕ) (w : World) → P w (record w { now = w.now + milliseconds })
 
 lines_of : (plan : Plan) (Heard_from Locks : Callsign → Type 0) (Again : Pair → Type 0) (P : World → World → Type 0) → Moves plan Heard_from Locks Again P → LineMoves plan Heard_from Locks AnyUser Again P
 lines_of plan Heard_from Locks Again P k = record {
-  turns = turns_of plan.channels AnyUser P (record {
+  turns = turns_of AnyUser P (record {
     still = k.still;
     follows = k.follows;
     tells = k.tells;
@@ -189,26 +185,26 @@ reach_none : (line at : ℕ) (x : Input) (w : World) → slice_get w.nodes at �
 unfolding reach
 reach_none line at x w e = ap (λ o. reaches line at x o w) e
 
-put_none : (channels : List Channel) (line at : ℕ) (came128 : Bool) (w : World) → slice_get w.nodes at ≡ None → put channels line at came128 w ≡ w
+put_none : (line at : ℕ) (came128 : Bool) (w : World) → slice_get w.nodes at ≡ None → put line at came128 w ≡ w
 unfolding put
-put_none channels line at came128 w e = ap (λ o. put_of channels line at came128 o w) e
+put_none line at came128 w e = ap (λ o. put_of line at came128 o w) e
 
 absent : (at id : ℕ) (message : List ℕ) (d : ActDone) (w : World) → facts_at (end_of id (ends_here at w)) ≡ None → answer at (acts.Write id message) w ≡ Ok d → slice_get w.nodes at ≡ None
 unfolding answer
 absent at id message d w none e =
     answered (acts.Write id message) w.now (slice_get w.nodes at) d (λ p here. write_refused w.now id message p.state (sym (ap (λ o. facts_at (end_of id (ends_of_placed o))) here) ∙ none)) e
 
-still_free : (channels : List Channel) (line at id : ℕ) (message : List ℕ) (es : List Event) (d : ActDone) (w : World) → IsFree at id w → answer at (acts.Write id message) w ≡ Ok d
-    → IsFree at id (put channels line at false (tell line es (reach line at (worlds.Act (acts.Write id message)) w)))
-still_free channels line at id message es d w (inl none) e =
+still_free : (line at id : ℕ) (message : List ℕ) (es : List Event) (d : ActDone) (w : World) → IsFree at id w → answer at (acts.Write id message) w ≡ Ok d
+    → IsFree at id (put line at false (tell line es (reach line at (worlds.Act (acts.Write id message)) w)))
+still_free line at id message es d w (inl none) e =
     let v : World = reach line at (worlds.Act (acts.Write id message)) w in
-    inl (ap (mail_in at) (put_mails channels line at false (tell line es v) ∙ reach_mails line at (worlds.Act (acts.Write id message)) w) ∙ none)
-still_free channels line at id message es d w (inr none) e =
+    inl (ap (mail_in at) (put_mails line at false (tell line es v) ∙ reach_mails line at (worlds.Act (acts.Write id message)) w) ∙ none)
+still_free line at id message es d w (inr none) e =
     let v : World = reach line at (worlds.Act (acts.Write id message)) w in
     let away : slice_get w.nodes at ≡ None = absent at id message d w none e in
     let gone : slice_get v.nodes at ≡ None = ap (λ (u : World). slice_get u.nodes at) (reach_none line at (worlds.Act (acts.Write id message)) w away) ∙ away in
     inr
-    (ap (λ (u : World). facts_at (end_of id (ends_here at u))) (put_none channels line at false (tell line es v) gone) ∙ ap (λ o. facts_at (end_of id (ends_of_placed o))) gone)
+    (ap (λ (u : World). facts_at (end_of id (ends_here at u))) (put_none line at false (tell line es v) gone) ∙ ap (λ o. facts_at (end_of id (ends_of_placed o))) gone)
 
 free_of : (m : Option Lists) (f : Option EndFacts) → (is_some m && is_some f) ≡ false → (m ≡ None) ⊎ (f ≡ None)
 free_of None f e = inl refl
@@ -225,70 +221,72 @@ module _ (plan : Plan) (Heard_from Locks Users : Callsign → Type 0) (Again : P
   tells : (line : ℕ) (es : List Event) (w : World) → AllByRecursion IsQuiet es → P w (tell line es w)
   tells = k.turns.tells
 
-  puts : (line at : ℕ) (came128 : Bool) (w : World) → P w (put plan.channels line at came128 w)
+  puts : (line at : ℕ) (came128 : Bool) (w : World) → P w (put line at came128 w)
   puts = k.puts
 
   -- at an end of an agent that alone is told
   others_lead : (line node end : ℕ) (first : List Event) (done : World → World) (w : World) → AllByRecursion IsQuiet first → (IsFree (place_of node w.nodes) end w → P w (done w)) → P w (unless_agents line node end first done w)
   others_lead line node end first done w quiet f =
       let at : ℕ = place_of node w.nodes in
-      unless_agents_goes plan.channels Users P k.turns line node end first done w quiet (λ e. f (free_of (mail_at at w) (facts_at (end_of end (ends_here at w))) e))
+      unless_agents_goes Users P k.turns line node end first done w quiet (λ e. f (free_of (mail_at at w) (facts_at (end_of end (ends_here at w))) e))
 
   act_leads : (line number : ℕ) (act : UserAct) (told : Result ActDone ActRefusal → List Event) (w : World) → P w (reach line (place_of number w.nodes) (worlds.Act act) w)
-      → ((r : Result ActDone ActRefusal) → AllByRecursion IsQuiet (told r)) → P w (do_act plan.channels line number act told w)
+      → ((r : Result ActDone ActRefusal) → AllByRecursion IsQuiet (told r)) → P w (do_act line number act told w)
   act_leads line number act told w reached quiet =
       let at : ℕ = place_of number w.nodes in
       let v : World = reach line at (worlds.Act act) w in
       let u : World = tell line (told (answer at act w)) v in
-      next w v (put plan.channels line at false u) reached
-      (next v u (put plan.channels line at false u) (tells line (told (answer at act w)) v (quiet (answer at act w))) (puts line at false u))
+      next w v (put line at false u) reached
+      (next v u (put line at false u) (tells line (told (answer at act w)) v (quiet (answer at act w))) (puts line at false u))
 
-  hear_leads : (line number : ℕ) (octets : List ℕ) (came128 : Bool) (w : World) → P w (reach line (place_of number w.nodes) (Bytes octets) w) → P w (hear plan.channels line number octets came128 w)
+  hear_leads : (line number : ℕ) (octets : List ℕ) (came128 : Bool) (w : World) → P w (reach line (place_of number w.nodes) (Bytes octets) w) → P w (hear line number octets came128 w)
   hear_leads line number octets came128 w reached =
       let at : ℕ = place_of number w.nodes in
       let v : World = reach line at (Bytes octets) w in
-      next w v (put plan.channels line at came128 v) reached (puts line at came128 v)
+      next w v (put line at came128 v) reached (puts line at came128 v)
 
-  tick_leads : (line at : ℕ) (w : World) → P w (tick_node plan.channels line at w)
+  tick_leads : (line at : ℕ) (w : World) → P w (tick_node line at w)
   tick_leads line at w =
       let v : World = reach line at Time w in
-      next w v (put plan.channels line at false v) (k.times line at w) (puts line at false v)
+      next w v (put line at false v) (k.times line at w) (puts line at false v)
 
-  ticks_lead : (line count at : ℕ) (w : World) → P w (tick_from plan.channels line at count w)
+  ticks_lead : (line count at : ℕ) (w : World) → P w (tick_from line at count w)
   ticks_lead line zero at w = stays w
   ticks_lead line (suc count) at w =
-      let v : World = tick_node plan.channels line at w in
-      next w v (tick_from plan.channels line (suc at) count v) (tick_leads line at w) (ticks_lead line count (suc at) v)
+      let v : World = tick_node line at w in
+      next w v (tick_from line (suc at) count v) (tick_leads line at w) (ticks_lead line count (suc at) v)
 
-  burst_case : (line at node end nth more : ℕ) (r : Result ActDone ActRefusal) (later : World → World) (v : World)
-      → ((d : ActDone) → r ≡ Ok d → let u : World = put plan.channels line at false (tell line (all_wrote node end nth more) v) in P u (later u)) → P v (burst_by plan.channels line at node end nth more r later v)
-  burst_case line at node end nth more (Ok d) later v rest =
+  burst_case : (line at node end nth more : ℕ) (r : Result ActDone ActRefusal) (v : World)
+      → ((d : ActDone) → r ≡ Ok d → let u : World = put line at false (tell line (all_wrote node end nth more) v) in P u (burst_from line at node end (nth + 1) more u))
+      → P v (burst_by line at node end nth more r v)
+  burst_case line at node end nth more (Ok d) v rest =
       let u : World = tell line (all_wrote node end nth more) v in
-      let x : World = put plan.channels line at false u in
-      next v u (later x) (tells line (all_wrote node end nth more) v (quiet_wrote node end nth more)) (next u x (later x) (puts line at false u) (rest d refl))
-  burst_case line at node end nth more (Err why) later v rest =
+      let x : World = put line at false u in
+      let end_at : World = burst_from line at node end (nth + 1) more x in
+      next v u end_at (tells line (all_wrote node end nth more) v (quiet_wrote node end nth more)) (next u x end_at (puts line at false u) (rest d refl))
+  burst_case line at node end nth more (Err why) v rest =
       let u : World = tell line (events.Wrote node end (nth - 1) ∷ refusal_events (of_act why)) v in
-      next v u (put plan.channels line at false u) (tells line (events.Wrote node end (nth - 1) ∷ refusal_events (of_act why)) v (tt, quiet_refusal (of_act why))) (puts line at false u)
+      next v u (put line at false u) (tells line (events.Wrote node end (nth - 1) ∷ refusal_events (of_act why)) v (tt, quiet_refusal (of_act why))) (puts line at false u)
 
-  burst_leads : (line more at node end nth : ℕ) (w : World) → IsFree at end w → P w (burst_from plan.channels line at node end nth more w)
+  burst_leads : (line more at node end nth : ℕ) (w : World) → IsFree at end w → P w (burst_from line at node end nth more w)
   unfolding burst_from
   burst_leads line zero at node end nth w free = stays w
   burst_leads line (suc more) at node end nth w free =
       let act : UserAct = acts.Write end (decimal nth) in
       let v : World = reach line at (worlds.Act act) w in
-      next w v (burst_by plan.channels line at node end nth more (answer at act w) (burst_from plan.channels line at node end (nth + 1) more) v)
+      next w v (burst_by line at node end nth more (answer at act w) v)
       (k.writes line at end (decimal nth) w free)
-      (burst_case line at node end nth more (answer at act w) (burst_from plan.channels line at node end (nth + 1) more) v
-      (λ d e. burst_leads line more at node end (nth + 1) _ (still_free plan.channels line at end (decimal nth) (all_wrote node end nth more) d w free e)))
+      (burst_case line at node end nth more (answer at act w) v
+      (λ d e. burst_leads line more at node end (nth + 1) _ (still_free line at end (decimal nth) (all_wrote node end nth more) d w free e)))
 
-  delivered : (line at node : ℕ) (o : Option Aired) (w : World) → slice_get w.air at ≡ o → P w (deliver_of plan.channels line at node o w)
+  delivered : (line at node : ℕ) (o : Option Aired) (w : World) → slice_get w.air at ≡ o → P w (deliver_of line at node o w)
   delivered line at node None w e = stays w
   delivered line at node (Some f) w e =
       let v : World = tell line (events.Delivered (at + 1) node ∷ []) w in
-      next w v (hear plan.channels line node (kiss_bytes f.octets.items) f.modulo128 v) (tells line (events.Delivered (at + 1) node ∷ []) w (tt, tt))
+      next w v (hear line node (kiss_bytes f.octets.items) f.modulo128 v) (tells line (events.Delivered (at + 1) node ∷ []) w (tt, tt))
       (hear_leads line node (kiss_bytes f.octets.items) f.modulo128 v (k.frames line (place_of node v.nodes) at f v e))
 
-  deliver_leads : (line at node : ℕ) (w : World) → P w (deliver_at plan.channels line at node w)
+  deliver_leads : (line at node : ℕ) (w : World) → P w (deliver_at line at node w)
   unfolding deliver_at
   deliver_leads line at node w = delivered line at node (slice_get w.air at) w refl
 
@@ -296,26 +294,26 @@ module _ (plan : Plan) (Heard_from Locks Users : Callsign → Type 0) (Again : P
   unless_leads line None done w l = l
   unless_leads line (Some why) done w l = tells line (events.Refused why ∷ []) w (tt, tt)
 
-  all_leads : (line at : ℕ) (nodes : List ℕ) (w : World) → P w (deliver_all plan.channels line at nodes w)
+  all_leads : (line at : ℕ) (nodes : List ℕ) (w : World) → P w (deliver_all line at nodes w)
   all_leads line at [] w = stays w
   all_leads line at (node ∷ more) w =
-      let v : World = deliver_at plan.channels line at node w in
-      next w v (deliver_all plan.channels line at more v) (deliver_leads line at node w) (all_leads line at more v)
+      let v : World = deliver_at line at node w in
+      next w v (deliver_all line at more v) (deliver_leads line at node w) (all_leads line at more v)
 
-  spread_leads : (line at : ℕ) (o : Option Aired) (w : World) → P w (spread_of plan.channels line at o w)
+  spread_leads : (line at : ℕ) (o : Option Aired) (w : World) → P w (spread_of line at o w)
   spread_leads line at None w = stays w
-  spread_leads line at (Some f) w = all_leads line at (hearers plan.channels f.sender) w
+  spread_leads line at (Some f) w = all_leads line at (hearers w.channels f.sender) w
 
   abbrev flow_by : ℕ → ℕ → World → Option ℕ → World
-  flow_by line count w o = elim o [ None ↦ w | Some at ↦ flow plan.channels line count (spread plan.channels line at (settle at w)) ]
+  flow_by line count w o = elim o [ None ↦ w | Some at ↦ flow line count (spread line at (settle at w)) ]
 
-  flow_case : (line count : ℕ) (w : World) (o : Option ℕ) → ((u : World) → P u (flow plan.channels line count u)) → P w (flow_by line count w o)
+  flow_case : (line count : ℕ) (w : World) (o : Option ℕ) → ((u : World) → P u (flow line count u)) → P w (flow_by line count w o)
   flow_case line count w None rest = stays w
   flow_case line count w (Some at) rest =
-      let v : World = spread plan.channels line at (settle at w) in
-      next w v (flow plan.channels line count v) (next w (settle at w) v (k.settles at w) (spread_leads line at (slice_get (settle at w).air at) (settle at w))) (rest v)
+      let v : World = spread line at (settle at w) in
+      next w v (flow line count v) (next w (settle at w) v (k.settles at w) (spread_leads line at (slice_get (settle at w).air at) (settle at w))) (rest v)
 
-  flow_leads : (line count : ℕ) (w : World) → P w (flow plan.channels line count w)
+  flow_leads : (line count : ℕ) (w : World) → P w (flow line count w)
   unfolding flow
   flow_leads line zero w = stays w
   flow_leads line (suc count) w = flow_case line count w (oldest w.air) (flow_leads line count)
@@ -337,31 +335,35 @@ module _ (plan : Plan) (Heard_from Locks Users : Callsign → Type 0) (Again : P
   cut_leads line zero w = stays w
   cut_leads line (suc count) w = cut_case line count w (oldest w.air) (cut_leads line count)
 
+  shows : (line : ℕ) (o : Option Placed) (w : World) → P w (shown_of line o w)
+  shows line None w = stays w
+  shows line (Some p) w = tells line (events.Shown (table_of p) ∷ []) w (tt, tt)
+
   line_leads : (line : ℕ) (i : Instruction) (w : World) → LineMay Heard_from Locks Users Again i → P w (do_line plan line i w)
   line_leads line (instructions.Heard node call nodes) w i = hear_leads line node (kiss_bytes (broadcast_octets call (view nodes))) false w (k.broadcasts line (place_of node w.nodes) call (view nodes) w i)
   line_leads line (instructions.Lock node dest alias neighbour quality) w i = act_leads line node (acts.Lock dest alias neighbour quality) told_of w (k.locks line (place_of node w.nodes) dest alias neighbour quality w i) quiet_told
   line_leads line (instructions.Round node) w i = act_leads line node acts.Round told_of w (k.does line (place_of node w.nodes) acts.Round w tt) quiet_told
   line_leads line (instructions.LinkFail node call) w i = act_leads line node (acts.LinkFail call) told_of w (k.does line (place_of node w.nodes) (acts.LinkFail call) w tt) quiet_told
   line_leads line (instructions.Show node) w i =
-      tells line (shown_of (slice_get w.nodes (place_of node w.nodes))) w (quiet_shown (slice_get w.nodes (place_of node w.nodes)))
+      shows line (slice_get w.nodes (place_of node w.nodes)) w
   line_leads line (instructions.Tick milliseconds) w i = (let v : World = record w { now = w.now + milliseconds } in next w v _ (k.later milliseconds w) (ticks_lead line (length w.nodes) 0 v))
   line_leads line (instructions.Restart node pair) w i = k.restarts line node (record { index = pair.index; ident = pair.ident }) w i
   line_leads line (instructions.Open node dest) w i = act_leads line node (acts.Connect dest) told_of w (k.connects line (place_of node w.nodes) dest w i) quiet_told
   line_leads line (instructions.Say node end text) w i =
-      others_lead line node end [] (do_act plan.channels line node (acts.Write end text) told_of) w tt
+      others_lead line node end [] (do_act line node (acts.Write end text) told_of) w tt
       (λ free. act_leads line node (acts.Write end text) told_of w (k.writes line (place_of node w.nodes) end text w free) quiet_told)
   line_leads line (instructions.Burst node end count) w i =
-      others_lead line node end (events.Wrote node end 0 ∷ []) (burst plan.channels line node end count) w (tt, tt) (burst_leads line count (place_of node w.nodes) node end 1 w)
+      others_lead line node end (events.Wrote node end 0 ∷ []) (burst line node end count) w (tt, tt) (burst_leads line count (place_of node w.nodes) node end 1 w)
   line_leads line (instructions.Take node end) w i =
-      others_lead line node end [] (do_act plan.channels line node (acts.Take end) (took_of node end)) w tt
+      others_lead line node end [] (do_act line node (acts.Take end) (took_of node end)) w tt
       (λ free. act_leads line node (acts.Take end) (took_of node end) w (k.does line (place_of node w.nodes) (acts.Take end) w tt) (quiet_took node end))
   line_leads line (instructions.Close node end) w i = act_leads line node (acts.Close end) told_of w (k.does line (place_of node w.nodes) (acts.Close end) w tt) quiet_told
-  line_leads line (instructions.Post node to dest text) w i = post_goes plan.channels Users P k.turns line node to dest text w i
-  line_leads line (instructions.Mail node) w i = mail_goes plan.channels Users P k.turns line node w
+  line_leads line (instructions.Post node to dest text) w i = post_goes Users P k.turns line node to dest text w i
+  line_leads line (instructions.Mail node) w i = mail_goes Users P k.turns line node w
   line_leads line (instructions.Deliver frame node) w i =
-      unless_leads line (delivery_fault plan.channels node false (frame_of w.air frame)) _ w (next w (settle (frame - 1) w) _ (k.settles (frame - 1) w) (deliver_leads line (frame - 1) node (settle (frame - 1) w)))
+      unless_leads line (delivery_fault w.channels node false (frame_of w.air frame)) _ w (next w (settle (frame - 1) w) _ (k.settles (frame - 1) w) (deliver_leads line (frame - 1) node (settle (frame - 1) w)))
   line_leads line (instructions.Again frame node) w i =
-      unless_leads line (delivery_fault plan.channels node true (frame_of w.air frame)) _ w (deliver_leads line (frame - 1) node w)
+      unless_leads line (delivery_fault w.channels node true (frame_of w.air frame)) _ w (deliver_leads line (frame - 1) node w)
   line_leads line (instructions.Lose frame) w i = unless_leads line (lost_fault false (frame_of w.air frame)) (lose_at line (frame - 1) frame w) w (lost line (frame - 1) frame w)
   line_leads line (instructions.Flow count) w i = flow_leads line count w
   line_leads line (instructions.Cut count) w i = cut_leads line count w

@@ -18,10 +18,11 @@ use Rattle.link_table.specs.Standing.{TableView}
 use Rattle.node_core.specs.Kept.{Kept, NodeStands}
 use Rattle.node_turns.specs.States.{NodeState}
 use Rattle.net_replay.specs.Agents.{is_requested, is_up_end}
-use Rattle.net_replay.specs.Mailing.{dest_of, ends_here, ends_of_placed, is_agents, mail_in, waits}
+use Rattle.net_replay.specs.Mailing.{dest_of, ends_here, is_agents, mail_in, waits}
 use Rattle.net_replay.specs.Running.{Course, Stands}
 use Rattle.net_replay.specs.Starting.{has_number}
 use Rattle.net_replay.specs.World.{World}
+use Rattle.net_replay.proofs.Looks.{ends_of_placed}
 use Rattle.net_replay.proofs.Placing.{at_place, past_place, place_is}
 
 -- ---- the ends of the node at a place are those of its circuits, of which nothing is untold

@@ -124,7 +124,7 @@ module _ (plan : Plan) (apart : AreApart (names (new_nodes plan))) (are_steps : 
   abbrev Has_store : Callsign → Bool
   Has_store = moves.keeps plan apart are_steps bytes ticks acts_run wrote_law stay starts calls prompts
 
-  turn_moves : TurnMoves plan.channels IsCall Goes_on
+  turn_moves : TurnMoves IsCall Goes_on
   turn_moves = record {
     still = moves.still plan apart are_steps bytes ticks acts_run wrote_law stay starts calls prompts;
     follows = moves.follows plan apart are_steps bytes ticks acts_run wrote_law stay starts calls prompts;

@@ -35,15 +35,16 @@ use Rattle.node_mail.specs.Runs.{MailRun, Written, with_store}
 use Rattle.net_replay.specs.CircuitRuns.{first_sets, set_of}
 use Rattle.net_replay.specs.Ends.{ends_of}
 use Rattle.net_replay.specs.Events.{Event}
-use Rattle.net_replay.specs.Lines.{restart, restart_of}
-use Rattle.net_replay.specs.Mailing.{ends_of_placed, joined, mail_at, mail_in, with_mail}
+use Rattle.net_replay.specs.Lines.{restart}
+use Rattle.net_replay.specs.Mailing.{mail_at, mail_in, with_mail}
 use Rattle.net_replay.specs.Starting.{Placed, by_number, config_of, is_via_of, new_nodes, new_placed, path_of, started, with_via, with_via_by, with_vias}
 use Rattle.net_replay.specs.World as worlds
-use Rattle.net_replay.specs.World.{Bytes, Input, Time, World, after, all_fetched_of, all_told, place_of, put, put_of, reach, reaches, tell, tells_entries}
+use Rattle.net_replay.specs.World.{Bytes, Input, Time, World, after, all_fetched_of, all_told, place_of, put, reach, tell, tells_entries}
 use Rattle.net_replay.proofs.Containing.{AreApart, Contains, IsQuiet, name_at, names, quiet_contains}
 use Rattle.net_replay.proofs.Hopping.{same_is}
 use Rattle.net_replay.proofs.LineWalks.{IsFree, IsMute, write_refused}
 use Rattle.net_replay.proofs.Lists.{get_beside, get_put, put_each}
+use Rattle.net_replay.proofs.Looks.{ends_of_placed, joined, put_of, reaches, restart_of}
 use Rattle.net_replay.proofs.Moving.{set_is}
 use Rattle.net_replay.proofs.MovesRun.{put_contains, reach_contains, restart_contains}
 use Rattle.net_replay.proofs.Returned.{call_itself}
@@ -263,23 +264,23 @@ module _ (plan : Plan) (apart : AreApart (names (new_nodes plan))) (are_steps : 
 
   -- frames are put in the air
   put_case : (line at : ℕ) (came128 : Bool) (w : World) (steps : List Step) → Contains plan steps w.nodes w.told → (o : Option Placed) → slice_get w.nodes at ≡ o
-      → (let v : World = put_of plan.channels line at came128 o w in Contains plan steps v.nodes v.told × ((m : MailRun) → EachKeeps m w → EachKeeps m v))
+      → (let v : World = put_of line at came128 o w in Contains plan steps v.nodes v.told × ((m : MailRun) → EachKeeps m w → EachKeeps m v))
   put_case line at came128 w steps c None e = (c, λ m all. all)
   put_case line at came128 w steps c (Some p) e =
-      let v : World = put_of plan.channels line at came128 (Some p) w in (
-        subst (λ ss. Contains plan ss v.nodes v.told) (append-nil steps) (put_contains plan apart are_steps bytes ticks acts_run plan.channels line at came128 w p e steps c),
+      let v : World = put_of line at came128 (Some p) w in (
+        subst (λ ss. Contains plan ss v.nodes v.told) (append-nil steps) (put_contains plan apart are_steps bytes ticks acts_run line at came128 w p e steps c),
         λ m all. replaced m w v at p (all_fetched_of p.state) e refl refl (all at p e).prompt all,
       )
 
   pub put_stays : (line at : ℕ) (came128 : Bool) (w : World) (steps : List Step) → Contains plan steps w.nodes w.told
-      → (let v : World = put plan.channels line at came128 w in Contains plan steps v.nodes v.told × ((m : MailRun) → EachKeeps m w → EachKeeps m v))
+      → (let v : World = put line at came128 w in Contains plan steps v.nodes v.told × ((m : MailRun) → EachKeeps m w → EachKeeps m v))
   unfolding put
   put_stays line at came128 w steps c = put_case line at came128 w steps c (slice_get w.nodes at) refl
 
-  pub puts : (line at : ℕ) (came128 : Bool) (w : World) → Mails w (put plan.channels line at came128 w)
+  pub puts : (line at : ℕ) (came128 : Bool) (w : World) → Mails w (put line at came128 w)
   puts line at came128 w steps c =
       let r = put_stays line at came128 w steps c in
-      at_once w (put plan.channels line at came128 w) steps r.0 (λ h. record { run = h.run; reached = h.reached; nodes = r.1 h.run h.nodes; wrote = h.wrote })
+      at_once w (put line at came128 w) steps r.0 (λ h. record { run = h.run; reached = h.reached; nodes = r.1 h.run h.nodes; wrote = h.wrote })
 
   -- ---- something reaches a node
 

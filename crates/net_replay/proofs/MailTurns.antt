@@ -19,7 +19,6 @@ use Rattle.circuit_set.specs.Sets.{Act, Holder, SetState, end_of, set_step}
 use Rattle.circuit_set.specs.Standing.{message_at, take_answer}
 use Rattle.circuit_set.specs.TooLate.{IsFresh, Partners}
 use Rattle.circuit_set.specs.Writings.{EndsWroteByWrites}
-use Rattle.network_file.specs.declared.plan.channels.Channel.{Channel}
 use Rattle.network_file.specs.declared.plan.declarations.Declaration.{Declaration}
 use Rattle.network_file.specs.declared.plan.keys.Key.TheVariants.{Mail, Prompt}
 use Rattle.network_file.specs.Plan.{Plan}
@@ -45,15 +44,16 @@ use Rattle.net_replay.specs.CircuitRuns.{first_sets, set_of}
 use Rattle.net_replay.specs.Ends.{ends_of, offered_at}
 use Rattle.net_replay.specs.Events as events
 use Rattle.net_replay.specs.Mailing as mailing
-use Rattle.net_replay.specs.Mailing.{Agent, dest_of, ends_here, ends_of_placed, heard_by, input, joined, mail_at, mail_in, may_write, numbers_for, offer_all, offer_by, offer_octets, offer_where, queued_of, take_then, took_by, with_mail, write_answer_to}
+use Rattle.net_replay.specs.Mailing.{Agent, dest_of, ends_here, heard_by, input, mail_at, mail_in, may_write, numbers_for, offer_all, offer_by, offer_octets, queued_of, take_then, took_by, with_mail, write_answer_to}
 use Rattle.net_replay.specs.Starting.{Placed, new_nodes}
 use Rattle.net_replay.specs.World as worlds
-use Rattle.net_replay.specs.World.{World, after, answer, answers, put, put_of, reach, reaches, tell, tells_entries}
+use Rattle.net_replay.specs.World.{World, after, answer, put, reach, tell, tells_entries}
 use Rattle.net_replay.proofs.Containing.{AreApart, Contains, TracksAt, name_at, names, quiet_contains}
 use Rattle.net_replay.proofs.EndWrites as ends
 use Rattle.net_replay.proofs.EndWrites.{Leads_to, WritesOnly, are_silent, leads_walk, none_only, one_only, only_walk, same_end, silent_walk, wrote_more}
 use Rattle.net_replay.proofs.LineRuns.{is_run}
 use Rattle.net_replay.proofs.Lists.{front, get_put}
+use Rattle.net_replay.proofs.Looks.{answers, ends_of_placed, joined, offer_where, put_of, reaches}
 use Rattle.net_replay.proofs.MailMoves as moves
 use Rattle.net_replay.proofs.MailMoves.{EachKeeps, Goes, Holds, InTime, Mails, NodeKeeps, Wrote_in, joined_some, keeps}
 use Rattle.net_replay.proofs.MailOrder.{IsFor, all_for, hear_order, post_order}
@@ -131,13 +131,13 @@ ends_put (x ∷ nodes) zero p q e same (suc k) = refl
 ends_put (x ∷ nodes) (suc at) p q e same zero = refl
 ends_put (x ∷ nodes) (suc at) p q e same (suc k) = ends_put nodes at p q e same k
 
-put_ends_case : (channels : List Channel) (line at : ℕ) (came128 : Bool) (w : World) (k : ℕ) (o : Option Placed) → slice_get w.nodes at ≡ o → ends_here k (put_of channels line at came128 o w) ≡ ends_here k w
-put_ends_case channels line at came128 w k None e = refl
-put_ends_case channels line at came128 w k (Some p) e = ends_put w.nodes at p (record p { state = worlds.all_fetched_of p.state }) e refl k
+put_ends_case : (line at : ℕ) (came128 : Bool) (w : World) (k : ℕ) (o : Option Placed) → slice_get w.nodes at ≡ o → ends_here k (put_of line at came128 o w) ≡ ends_here k w
+put_ends_case line at came128 w k None e = refl
+put_ends_case line at came128 w k (Some p) e = ends_put w.nodes at p (record p { state = worlds.all_fetched_of p.state }) e refl k
 
-put_ends : (channels : List Channel) (line at : ℕ) (came128 : Bool) (w : World) (k : ℕ) → ends_here k (put channels line at came128 w) ≡ ends_here k w
+put_ends : (line at : ℕ) (came128 : Bool) (w : World) (k : ℕ) → ends_here k (put line at came128 w) ≡ ends_here k w
 unfolding put
-put_ends channels line at came128 w k = put_ends_case channels line at came128 w k (slice_get w.nodes at) refl
+put_ends line at came128 w k = put_ends_case line at came128 w k (slice_get w.nodes at) refl
 
 -- ---- runs
 
@@ -279,15 +279,15 @@ module _ (plan : Plan) (apart : AreApart (names (new_nodes plan))) (are_steps : 
   reach_writes line at id text w steps c = reach_case line at id text w steps (slice_get w.nodes at) refl c
 
   put_stays : (line at : ℕ) (w : World) (steps : List Step) → Contains plan steps w.nodes w.told
-      → (let v : World = put plan.channels line at false w in Contains plan steps v.nodes v.told × ((m : MailRun) → Kept m w → Kept m v))
+      → (let v : World = put line at false w in Contains plan steps v.nodes v.told × ((m : MailRun) → Kept m w → Kept m v))
   put_stays line at w steps c = moves.put_stays plan apart are_steps bytes ticks acts_run wrote_law stay starts calls prompts line at false w steps c
 
   -- an input of an agent
-  input_writes : (line at id : ℕ) (text : List ℕ) (w : World) (steps : List Step) → Contains plan steps w.nodes w.told → Writing at id text steps w (input plan.channels line at (acts.Write id text) w)
+  input_writes : (line at id : ℕ) (text : List ℕ) (w : World) (steps : List Step) → Contains plan steps w.nodes w.told → Writing at id text steps w (input line at (acts.Write id text) w)
   input_writes line at id text w steps c =
-      let v : World = put plan.channels line at false w in
+      let v : World = put line at false w in
       let r = put_stays line at w steps c in
-      let mails : v.mails ≡ w.mails = put_mails plan.channels line at false w in
+      let mails : v.mails ≡ w.mails = put_mails line at false w in
       let b : Writing at id text steps v (reach line at (worlds.Act (acts.Write id text)) v) = reach_writes line at id text v steps r.0 in record {
         more = b.more;
         contains = b.contains;
@@ -312,8 +312,8 @@ module _ (plan : Plan) (apart : AreApart (names (new_nodes plan))) (are_steps : 
 
   -- a mail is written
   wrote_one : (line at id number : ℕ) (dest : Callsign) (steps : List Step) (w : World) (s : Lists) (d : Declaration) → Contains plan steps w.nodes w.told → mail_at at w ≡ Some s → slice_get Declared at ≡ Some d
-      → LeadsTo steps at id dest → IsFor dest s.queued number → (b : Writing at id (octets_or [] (letter_of number (queued_of (mail_at at w)))) steps w (input plan.channels line at (acts.Write id (octets_or [] (letter_of number (queued_of (mail_at at w))))) w))
-      → Held steps w → Held (steps ++ b.more) (input plan.channels line at (acts.Write id (octets_or [] (letter_of number (queued_of (mail_at at w))))) w)
+      → LeadsTo steps at id dest → IsFor dest s.queued number → (b : Writing at id (octets_or [] (letter_of number (queued_of (mail_at at w)))) steps w (input line at (acts.Write id (octets_or [] (letter_of number (queued_of (mail_at at w))))) w))
+      → Held steps w → Held (steps ++ b.more) (input line at (acts.Write id (octets_or [] (letter_of number (queued_of (mail_at at w))))) w)
   wrote_one line at id number dest steps w s d c mine here leads for b h =
       let p = named_at w.nodes at d (ap (λ xs. slice_get xs at) c.names_are ∙ here) in
       let k : NodeKeeps plan apart are_steps bytes ticks acts_run wrote_law stay starts calls prompts h.run p.0 (mail_at at w) = h.nodes at p.0 p.1 in
@@ -331,16 +331,16 @@ module _ (plan : Plan) (apart : AreApart (names (new_nodes plan))) (are_steps : 
 
   module _ (line node at id : ℕ) (dest : Callsign) where
     offered_case : (number : ℕ) (numbers : List ℕ) (steps : List Step) (w : World) → Contains plan steps w.nodes w.told
-        → ((more : List Step) (u : World) → Contains plan more u.nodes u.told → Offering at id dest numbers more u (mailing.offer plan.channels line node at id numbers u))
-        → (b : Bool) → Offering at id dest (number ∷ numbers) steps w (offer_by plan.channels line node at id number b (mailing.offer plan.channels line node at id numbers) w)
+        → ((more : List Step) (u : World) → Contains plan more u.nodes u.told → Offering at id dest numbers more u (mailing.offer line node at id numbers u))
+        → (b : Bool) → Offering at id dest (number ∷ numbers) steps w (offer_by line node at id number b (mailing.offer line node at id numbers) w)
     offered_case number numbers steps w c rest false = nothing_offered at id dest (number ∷ numbers) steps w c
     offered_case number numbers steps w c rest true =
         let text : List ℕ = octets_or [] (letter_of number (queued_of (mail_at at w))) in
-        let v : World = input plan.channels line at (acts.Write id text) w in
+        let v : World = input line at (acts.Write id text) w in
         let b : Writing at id text steps w v = input_writes line at id text w steps c in
         let u : World = tell line (events.Offered node id number ∷ []) v in
         let told : Contains plan (steps ++ b.more) u.nodes u.told = quiet_contains plan apart are_steps (steps ++ b.more) v.nodes v.told line (events.Offered node id number ∷ []) (tt, tt) b.contains in
-        let x : World = mailing.offer plan.channels line node at id numbers u in
+        let x : World = mailing.offer line node at id numbers u in
         let o : Offering at id dest numbers (steps ++ b.more) u x = rest (steps ++ b.more) u told in record {
           more = b.more ++ o.more;
           contains = subst (λ ss. Contains plan ss x.nodes x.told) (append_assoc steps b.more o.more) o.contains;
@@ -351,10 +351,10 @@ module _ (plan : Plan) (apart : AreApart (names (new_nodes plan))) (are_steps : 
               (o.holds s d (ap (mail_in at) b.mails ∙ mine) here (leads_walk wrote_law stay (first_sets plan) starts Declared b.more steps at id dest leads) all.1 now));
         }
 
-    offers_case : (numbers : List ℕ) (steps : List Step) (w : World) → Contains plan steps w.nodes w.told → Offering at id dest numbers steps w (mailing.offer plan.channels line node at id numbers w)
+    offers_case : (numbers : List ℕ) (steps : List Step) (w : World) → Contains plan steps w.nodes w.told → Offering at id dest numbers steps w (mailing.offer line node at id numbers w)
     offers_case [] steps w c = nothing_offered at id dest [] steps w c
     offers_case (number ∷ numbers) steps w c =
-        offered_case number numbers steps w c (offers_case numbers) (may_write at id (offer_octets plan.channels line node at number w) w)
+        offered_case number numbers steps w c (offers_case numbers) (may_write at id (offer_octets line node at number w) w)
 
   -- the end to which the run of the circuits has led, of one that the node knows of
   known_end : (steps : List Step) (w : World) (at id : ℕ) (p : Placed) (h : Holder) → Contains plan steps w.nodes w.told → slice_get w.nodes at ≡ Some p → end_of id (set_of p).ends ≡ Some h
@@ -371,18 +371,18 @@ module _ (plan : Plan) (apart : AreApart (names (new_nodes plan))) (are_steps : 
       by true true q f = (let bad : None ≡ Some dest = sym (ap (λ c. cond c None (Some h.at)) q) ∙ f in absurd (cc bad))
       by true false q f = (h, refl, partner_is (Some h) dest h refl q f)
 
-  where_case : (line node at id : ℕ) (w : World) (o : Option Callsign) → dest_of (end_of id (ends_here at w)) ≡ o → Goes_on w (offer_where plan.channels line node at id o w)
+  where_case : (line node at id : ℕ) (w : World) (o : Option Callsign) → dest_of (end_of id (ends_here at w)) ≡ o → Goes_on w (offer_where line node at id o w)
   where_case line node at id w None e steps c = moves.still plan apart are_steps bytes ticks acts_run wrote_law stay starts calls prompts w steps c
   where_case line node at id w (Some dest) e steps c = by (slice_get w.nodes at) refl (mail_at at w) refl
     where
       by : (o : Option Placed) → slice_get w.nodes at ≡ o → (m : Option Lists) → mail_at at w ≡ m
-          → Went_on steps w (mailing.offer plan.channels line node at id (numbers_for dest (offered_at id (ends_of node w.told)) (queued_of (mail_at at w))) w)
+          → Went_on steps w (mailing.offer line node at id (numbers_for dest (offered_at id (ends_of node w.told)) (queued_of (mail_at at w))) w)
       by None none m q =
           (let h = dest_end (end_of id (ends_here at w)) dest e in
           let bad : None ≡ Some h.0 = sym (ap (λ o. end_of id (ends_of_placed o)) none) ∙ h.1 in
           absurd (cc bad))
       by (Some p) there None q =
-          subst (λ ns. Went_on steps w (mailing.offer plan.channels line node at id ns w)) (sym (ap (λ o. numbers_for dest (offered_at id (ends_of node w.told)) (queued_of o)) q))
+          subst (λ ns. Went_on steps w (mailing.offer line node at id ns w)) (sym (ap (λ o. numbers_for dest (offered_at id (ends_of node w.told)) (queued_of o)) q))
           (moves.still plan apart are_steps bytes ticks acts_run wrote_law stay starts calls prompts w steps c)
       by (Some p) there (Some s) q =
           let h = dest_end (end_of id (ends_here at w)) dest e in
@@ -390,7 +390,7 @@ module _ (plan : Plan) (apart : AreApart (names (new_nodes plan))) (are_steps : 
           let leads : LeadsTo steps at id dest = (h.0, known_end steps w at id p h.0 c there end, h.2) in
           let named : slice_get Declared at ≡ Some p.declared = ap (λ xs. slice_get xs at) (sym c.names_are) ∙ name_at w.nodes at p there in
           let ns : List ℕ = numbers_for dest (offered_at id (ends_of node w.told)) (queued_of (mail_at at w)) in
-          let o : Offering at id dest ns steps w (mailing.offer plan.channels line node at id ns w) = offers_case line node at id dest ns steps w c in (
+          let o : Offering at id dest ns steps w (mailing.offer line node at id ns w) = offers_case line node at id dest ns steps w c in (
             o.more,
             o.contains,
             λ later t k. o.holds s p.declared q named leads
@@ -399,7 +399,7 @@ module _ (plan : Plan) (apart : AreApart (names (new_nodes plan))) (are_steps : 
                 k,
           )
 
-  pub offers : (line node at id : ℕ) (w : World) → Goes_on w (offer_all plan.channels line node at id w)
+  pub offers : (line node at id : ℕ) (w : World) → Goes_on w (offer_all line node at id w)
   offers line node at id w = where_case line node at id w (dest_of (end_of id (ends_here at w))) refl
 
   -- ---- what waits is taken, and heard
@@ -559,7 +559,7 @@ module _ (plan : Plan) (apart : AreApart (names (new_nodes plan))) (are_steps : 
 
         -- an answer is written
         abbrev y : Wire → World
-        y wire = input plan.channels line at (acts.Write id (wire_octets wire)) x
+        y wire = input line at (acts.Write id (wire_octets wire)) x
 
         answered : (wire : Wire) → answer_to (hear_at s from text) ≡ Some wire → Went_on steps u (y wire)
         answered wire a =
@@ -589,7 +589,7 @@ module _ (plan : Plan) (apart : AreApart (names (new_nodes plan))) (are_steps : 
         written_case wire a true = answered wire a
         written_case wire a false = unanswered false (λ m. ap (mail.answers m (message from p.declared.call text) false) a)
 
-        answer_case : (o : Option Wire) → answer_to (hear_at s from text) ≡ o → Went_on steps u (write_answer_to plan.channels line at id o x)
+        answer_case : (o : Option Wire) → answer_to (hear_at s from text) ≡ o → Went_on steps u (write_answer_to line at id o x)
         answer_case None a = unanswered false (λ m. ap (mail.answers m (message from p.declared.call text) false) a)
         answer_case (Some wire) a = written_case wire a (may_write at id (wire_octets wire) x)
 
@@ -598,13 +598,13 @@ module _ (plan : Plan) (apart : AreApart (names (new_nodes plan))) (are_steps : 
         b = record { world = v; answers = answers_before }
 
         heard_case : (text : List ℕ) → Taken (end_of id (set_of p).ends) text → (from : Option Callsign) → partner_at (end_of id (set_of p).ends) ≡ from → (o : Option Lists) → mail_at at w ≡ o
-            → Went_on steps u (heard_by plan.channels line node at id text from o b).world
+            → Went_on steps u (heard_by line node at id text from o b).world
         heard_case text got None f o q = only_taken
         heard_case text got (Some from) f None q = only_taken
         heard_case text got (Some from) f (Some s) q = answer_case text got from (partner_is (end_of id (set_of p).ends) from got.end got.there got.held f) s q (answer_to (hear_at s from text)) refl
 
         took_case : (from : Option Callsign) → partner_at (end_of id (set_of p).ends) ≡ from → (r : Result ActDone ActRefusal) → act_answer w.now act p.state ≡ r
-            → Went_on steps u (took_by plan.channels line node at id from r (λ d. d) b).world
+            → Went_on steps u (took_by line node at id from r (λ d. d) b).world
         took_case from f (Ok (Took text)) a = heard_case text (taken w.now id p.state text a) from f (mail_at at w) refl
         took_case from f (Ok Done) a = only_taken
         took_case from f (Ok (Made made)) a = only_taken
@@ -613,16 +613,16 @@ module _ (plan : Plan) (apart : AreApart (names (new_nodes plan))) (are_steps : 
     node_case : (line node at id : ℕ) (a : Agent) (w : World) (steps : List Step) → Contains plan steps w.nodes w.told → ((m : MailRun) → Kept m a.world → Kept m w) → ends_here at w ≡ ends_here at a.world
         → (o : Option Placed) → slice_get w.nodes at ≡ o
         → Went_on steps a.world
-        (took_by plan.channels line node at id (partner_at (end_of id (ends_here at a.world))) (answers (acts.Take id) w.now o) (λ b. b) (record { world = reaches line at (worlds.Act (acts.Take id)) o w; answers = a.answers })).world
+        (took_by line node at id (partner_at (end_of id (ends_here at a.world))) (answers (acts.Take id) w.now o) (λ b. b) (record { world = reaches line at (worlds.Act (acts.Take id)) o w; answers = a.answers })).world
     node_case line node at id a w steps c kept same None e =
         moves.at_once plan apart are_steps bytes ticks acts_run wrote_law stay starts calls prompts a.world w steps c (λ h. record { run = h.run; reached = h.reached; nodes = kept h.run h.nodes; wrote = h.wrote })
     node_case line node at id a w steps c kept same (Some p) e =
         took_case line node at id a.world w steps c kept p e a.answers (partner_at (end_of id (ends_here at a.world)))
         (ap (λ hs. partner_at (end_of id hs)) (sym (ap ends_of_placed e) ∙ same)) (act_answer w.now (acts.Take id) p.state) refl
 
-    pub takes : (line node at id : ℕ) (a : Agent) → Goes_on a.world (take_then plan.channels line node at id (λ b. b) a).world
+    pub takes : (line node at id : ℕ) (a : Agent) → Goes_on a.world (take_then line node at id (λ b. b) a).world
     unfolding reach answer
     takes line node at id a steps c =
-        let w : World = put plan.channels line at false a.world in
+        let w : World = put line at false a.world in
         let r = put_stays line at a.world steps c in
-        node_case line node at id a w steps r.0 r.1 (put_ends plan.channels line at false a.world at) (slice_get w.nodes at) refl
+        node_case line node at id a w steps r.0 r.1 (put_ends line at false a.world at) (slice_get w.nodes at) refl

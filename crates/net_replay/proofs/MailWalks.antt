@@ -6,7 +6,6 @@ use Rattle.ax_address.specs.Callsign.{Callsign}
 use Rattle.circuit_set.specs.CircuitSets.{held_ids, partner_at}
 use Rattle.circuit_set.specs.Sets.{end_of}
 use Rattle.circuit_set.specs.Standing.{take_answer}
-use Rattle.network_file.specs.declared.plan.channels.Channel.{Channel}
 use Rattle.node_core.specs.declared.acts.ActDone.{ActDone}
 use Rattle.node_core.specs.declared.acts.ActDone.TheVariants.{Done, Made, Took}
 use Rattle.node_core.specs.declared.acts.ActRefusal.{ActRefusal}
@@ -21,21 +20,22 @@ use Rattle.net_replay.specs.declared.reasons.LineRefusal.{LineRefusal}
 use Rattle.net_replay.specs.declared.reasons.LineRefusal.TheVariants.{NoMail, Served}
 use Rattle.net_replay.specs.Events as events
 use Rattle.net_replay.specs.Events.{Event}
-use Rattle.net_replay.specs.Mailing.{Agent, dest_of, ends_here, heard_by, heard_events, input, is_agents, mail, mail_at, may_write, offer, offer_all, offer_at, offer_by, offer_octets, offer_where, post, post_by, posted_events, take_at, take_from, take_then, took_by, turn_by, unless_agents, waits, with_mail, write_answer_to, write_if_taken}
+use Rattle.net_replay.specs.Mailing.{Agent, dest_of, ends_here, heard_by, heard_events, input, is_agents, mail, mail_at, may_write, offer, offer_all, offer_at, offer_by, offer_octets, post, post_by, posted_events, take_at, take_from, take_then, took_by, turn_by, unless_agents, waits, with_mail, write_answer_to, write_if_taken}
 use Rattle.net_replay.specs.Refused.{of_post, refusal_events}
 use Rattle.net_replay.specs.Starting.{Placed}
 use Rattle.net_replay.specs.World as worlds
-use Rattle.net_replay.specs.World.{Input, World, answer, place_of, put, put_of, reach, reaches, tell}
+use Rattle.net_replay.specs.World.{Input, World, answer, place_of, put, reach, tell}
 use Rattle.net_replay.proofs.Containing.{IsQuiet}
+use Rattle.net_replay.proofs.Looks.{offer_where, put_of, reaches}
 
 -- what is so of each move
-pub record AgentMoves (channels : List Channel) (P : World → World → Type 0) : Type 0 where
+pub record AgentMoves (P : World → World → Type 0) : Type 0 where
   pub still : (w : World) → P w w
   pub follows : (u v w : World) → P u v → P v w → P u w
   pub tells : (line : ℕ) (es : List Event) (w : World) → AllByRecursion IsQuiet es → P w (tell line es w)
   pub takes : (line at id : ℕ) (w : World) → P w (reach line at (worlds.Act (acts.Take id)) w)
   pub writes : (line at id : ℕ) (message : List ℕ) (w : World) → P w (reach line at (worlds.Act (acts.Write id message)) w)
-  pub puts : (line at : ℕ) (w : World) → P w (put channels line at false w)
+  pub puts : (line at : ℕ) (w : World) → P w (put line at false w)
   pub mails : (at : ℕ) (s : Lists) (w : World) → P w (with_mail at s w)
 
 -- ---- the mail of all nodes stays
@@ -48,13 +48,13 @@ pub reach_mails : (line at : ℕ) (x : Input) (w : World) → (reach line at x w
 unfolding reach
 reach_mails line at x w = reaches_mails line at x (slice_get w.nodes at) w
 
-puts_mails : (channels : List Channel) (line at : ℕ) (came128 : Bool) (o : Option Placed) (w : World) → (put_of channels line at came128 o w).mails ≡ w.mails
-puts_mails channels line at came128 None w = refl
-puts_mails channels line at came128 (Some p) w = refl
+puts_mails : (line at : ℕ) (came128 : Bool) (o : Option Placed) (w : World) → (put_of line at came128 o w).mails ≡ w.mails
+puts_mails line at came128 None w = refl
+puts_mails line at came128 (Some p) w = refl
 
-pub put_mails : (channels : List Channel) (line at : ℕ) (came128 : Bool) (w : World) → (put channels line at came128 w).mails ≡ w.mails
+pub put_mails : (line at : ℕ) (came128 : Bool) (w : World) → (put line at came128 w).mails ≡ w.mails
 unfolding put
-put_mails channels line at came128 w = puts_mails channels line at came128 (slice_get w.nodes at) w
+put_mails line at came128 w = puts_mails line at came128 (slice_get w.nodes at) w
 
 -- ---- what is told of mail tells nothing of circuits
 
@@ -78,19 +78,19 @@ both_quiet : (es fs : List Event) → AllByRecursion IsQuiet es → AllByRecursi
 both_quiet [] fs a b = b
 both_quiet (e ∷ es) fs a b = (a.0, both_quiet es fs a.1 b)
 
-module _ (channels : List Channel) (P : World → World → Type 0) (k : AgentMoves channels P) where
-  pub input_leads : (line at : ℕ) (act : UserAct) (w : World) → ((v : World) → P v (reach line at (worlds.Act act) v)) → P w (input channels line at act w)
+module _ (P : World → World → Type 0) (k : AgentMoves P) where
+  pub input_leads : (line at : ℕ) (act : UserAct) (w : World) → ((v : World) → P v (reach line at (worlds.Act act) v)) → P w (input line at act w)
   input_leads line at act w does =
-      let v : World = put channels line at false w in k.follows w v (reach line at (worlds.Act act) v) (k.puts line at w) (does v)
+      let v : World = put line at false w in k.follows w v (reach line at (worlds.Act act) v) (k.puts line at w) (does v)
 
-  written : (b : Bool) (line at id : ℕ) (message : List ℕ) (w : World) → P w (cond b (input channels line at (acts.Write id message) w) w)
+  written : (b : Bool) (line at id : ℕ) (message : List ℕ) (w : World) → P w (cond b (input line at (acts.Write id message) w) w)
   written true line at id message w = input_leads line at (acts.Write id message) w (k.writes line at id message)
   written false line at id message w = k.still w
 
-  pub write_leads : (line at id : ℕ) (message : List ℕ) (w : World) → P w (write_if_taken channels line at id message w)
+  pub write_leads : (line at id : ℕ) (message : List ℕ) (w : World) → P w (write_if_taken line at id message w)
   write_leads line at id message w = written (may_write at id message w) line at id message w
 
-  answer_leads : (line at id : ℕ) (o : Option Wire) (w : World) → P w (write_answer_to channels line at id o w)
+  answer_leads : (line at id : ℕ) (o : Option Wire) (w : World) → P w (write_answer_to line at id o w)
   answer_leads line at id None w = k.still w
   answer_leads line at id (Some wire) w = write_leads line at id (wire_octets wire) w
 
@@ -106,75 +106,75 @@ module _ (channels : List Channel) (P : World → World → Type 0) (k : AgentMo
     leads_then : (a b c : Agent) → Leads a b → Leads b c → Leads a c
     leads_then a b c f g = (k.follows a.world b.world c.world f.0 g.0, λ q. g.1 (f.1 q))
 
-    heard_leads : (id : ℕ) (octets : List ℕ) (from : Option Callsign) (m : Option Lists) (a : Agent) → Leads a (heard_by channels line node at id octets from m a)
+    heard_leads : (id : ℕ) (octets : List ℕ) (from : Option Callsign) (m : Option Lists) (a : Agent) → Leads a (heard_by line node at id octets from m a)
     heard_leads id octets (Some from) (Some s) a =
         let v : World = with_mail at (hear_step s from octets) a.world in
         let h = hear_at s from octets in (
-          k.follows a.world v (write_answer_to channels line at id (answer_to h) v) (k.mails at (hear_step s from octets) a.world) (answer_leads line at id (answer_to h) v),
+          k.follows a.world v (write_answer_to line at id (answer_to h) v) (k.mails at (hear_step s from octets) a.world) (answer_leads line at id (answer_to h) v),
           λ q. both_quiet a.answers (heard_events node from (length (text_of (wire_at octets))) h) q (quiet_heard node from (length (text_of (wire_at octets))) h),
         )
     heard_leads id octets (Some from) None a = rests a
     heard_leads id octets None m a = rests a
 
-    pub took_leads : (id : ℕ) (from : Option Callsign) (r : Result ActDone ActRefusal) (later : Agent → Agent) (a : Agent) → ((b : Agent) → Leads b (later b)) → Leads a (took_by channels line node at id from r later a)
+    pub took_leads : (id : ℕ) (from : Option Callsign) (r : Result ActDone ActRefusal) (later : Agent → Agent) (a : Agent) → ((b : Agent) → Leads b (later b)) → Leads a (took_by line node at id from r later a)
     took_leads id from (Ok (Took message)) later a rest =
-        let b : Agent = heard_by channels line node at id message from (mail_at at a.world) a in
+        let b : Agent = heard_by line node at id message from (mail_at at a.world) a in
         leads_then a b (later b) (heard_leads id message from (mail_at at a.world) a) (rest b)
     took_leads id from (Ok Done) later a rest = rests a
     took_leads id from (Ok (Made made)) later a rest = rests a
     took_leads id from (Err why) later a rest = rests a
 
-    take_leads : (id : ℕ) (later : Agent → Agent) (a : Agent) → ((b : Agent) → Leads b (later b)) → Leads a (take_then channels line node at id later a)
+    take_leads : (id : ℕ) (later : Agent → Agent) (a : Agent) → ((b : Agent) → Leads b (later b)) → Leads a (take_then line node at id later a)
     take_leads id later a rest =
-        let w : World = put channels line at false a.world in
+        let w : World = put line at false a.world in
         let v : World = reach line at (worlds.Act (acts.Take id)) w in
         let b : Agent = record a { world = v } in
-        leads_then a b (take_then channels line node at id later a) (k.follows a.world w v (k.puts line at a.world) (k.takes line at id w), λ q. q)
+        leads_then a b (take_then line node at id later a) (k.follows a.world w v (k.puts line at a.world) (k.takes line at id w), λ q. q)
         (took_leads id (partner_at (end_of id (ends_here at a.world))) (answer at (acts.Take id) w) later b rest)
 
     -- ---- mails are offered
 
-    offered : (id number : ℕ) (b : Bool) (later : World → World) (w : World) → ((v : World) → P v (later v)) → P w (offer_by channels line node at id number b later w)
+    offered : (id number : ℕ) (b : Bool) (later : World → World) (w : World) → ((v : World) → P v (later v)) → P w (offer_by line node at id number b later w)
     offered id number false later w rest = k.still w
     offered id number true later w rest =
-        let message = offer_octets channels line node at number w in
-        let v : World = input channels line at (acts.Write id message) w in
+        let message = offer_octets line node at number w in
+        let v : World = input line at (acts.Write id message) w in
         let u : World = tell line (events.Offered node id number ∷ []) v in
         k.follows w v (later u) (input_leads line at (acts.Write id message) w (k.writes line at id message))
         (k.follows v u (later u) (k.tells line (events.Offered node id number ∷ []) v (tt, tt)) (rest u))
 
-    pub offers_lead : (id : ℕ) (numbers : List ℕ) (w : World) → P w (offer channels line node at id numbers w)
+    pub offers_lead : (id : ℕ) (numbers : List ℕ) (w : World) → P w (offer line node at id numbers w)
     offers_lead id [] w = k.still w
     offers_lead id (number ∷ numbers) w =
-        offered id number (may_write at id (offer_octets channels line node at number w) w) (offer channels line node at id numbers) w (offers_lead id numbers)
+        offered id number (may_write at id (offer_octets line node at number w) w) (offer line node at id numbers) w (offers_lead id numbers)
 
-    where_leads : (id : ℕ) (o : Option Callsign) (w : World) → P w (offer_where channels line node at id o w)
+    where_leads : (id : ℕ) (o : Option Callsign) (w : World) → P w (offer_where line node at id o w)
     where_leads id None w = k.still w
     where_leads id (Some dest) w = offers_lead id _ w
 
-    offer_all_leads : (id : ℕ) (w : World) → P w (offer_all channels line node at id w)
+    offer_all_leads : (id : ℕ) (w : World) → P w (offer_all line node at id w)
     offer_all_leads id w = where_leads id (dest_of (end_of id (ends_here at w))) w
 
 -- ---- moves that are less small: a taking with all that it leads to, and all that is offered at an end
 
-pub record TurnMoves (channels : List Channel) (Users : Callsign → Type 0) (P : World → World → Type 0) : Type 0 where
+pub record TurnMoves (Users : Callsign → Type 0) (P : World → World → Type 0) : Type 0 where
   pub still : (w : World) → P w w
   pub follows : (u v w : World) → P u v → P v w → P u w
   pub tells : (line : ℕ) (es : List Event) (w : World) → AllByRecursion IsQuiet es → P w (tell line es w)
-  pub puts : (line at : ℕ) (w : World) → P w (put channels line at false w)
-  pub takes : (line node at id : ℕ) (a : Agent) → P a.world (take_then channels line node at id (λ b. b) a).world
-  pub offers : (line node at id : ℕ) (w : World) → P w (offer_all channels line node at id w)
+  pub puts : (line at : ℕ) (w : World) → P w (put line at false w)
+  pub takes : (line node at id : ℕ) (a : Agent) → P a.world (take_then line node at id (λ b. b) a).world
+  pub offers : (line node at id : ℕ) (w : World) → P w (offer_all line node at id w)
   pub posts : (at : ℕ) (to dest : Callsign) (text : List ℕ) (s : Lists) (w : World) → mail_at at w ≡ Some s → Users to → P w (with_mail at (post_step s to dest text) w)
 
 -- so it is of these where it is so of the smaller ones
-pub turns_of : (channels : List Channel) (Users : Callsign → Type 0) (P : World → World → Type 0) → AgentMoves channels P → TurnMoves channels Users P
-turns_of channels Users P k = record {
+pub turns_of : (Users : Callsign → Type 0) (P : World → World → Type 0) → AgentMoves P → TurnMoves Users P
+turns_of Users P k = record {
   still = k.still;
   follows = k.follows;
   tells = k.tells;
   puts = k.puts;
-  takes = λ line node at id a. (take_leads channels P k line node at id (λ b. b) a (rests channels P k line node at)).0;
-  offers = λ line node at id w. offer_all_leads channels P k line node at id w;
+  takes = λ line node at id a. (take_leads P k line node at id (λ b. b) a (rests P k line node at)).0;
+  offers = λ line node at id w. offer_all_leads P k line node at id w;
   posts = λ at to dest text s w e u. k.mails at (post_step s to dest text) w;
 }
 
@@ -182,8 +182,8 @@ turns_of channels Users P k = record {
 abbrev Anything : World → World → Type 0
 Anything u v = Unit {0}
 
-anything : (channels : List Channel) → AgentMoves channels Anything
-anything channels = record {
+anything : AgentMoves Anything
+anything = record {
   still = λ w. tt;
   follows = λ u v w f g. tt;
   tells = λ line es w q. tt;
@@ -193,7 +193,7 @@ anything channels = record {
   mails = λ at s w. tt;
 }
 
-module _ (channels : List Channel) (Users : Callsign → Type 0) (P : World → World → Type 0) (k : TurnMoves channels Users P) where
+module _ (Users : Callsign → Type 0) (P : World → World → Type 0) (k : TurnMoves Users P) where
   module _ (line node at : ℕ) where
     abbrev pub Goes : Agent → Agent → Type 0
     Goes a b = P a.world b.world × (AllByRecursion IsQuiet a.answers → AllByRecursion IsQuiet b.answers)
@@ -201,17 +201,17 @@ module _ (channels : List Channel) (Users : Callsign → Type 0) (P : World → 
     goes_then : (a b c : Agent) → Goes a b → Goes b c → Goes a c
     goes_then a b c f g = (k.follows a.world b.world c.world f.0 g.0, λ q. g.1 (f.1 q))
 
-    one_taken : (id : ℕ) (a : Agent) → Goes a (take_then channels line node at id (λ b. b) a)
+    one_taken : (id : ℕ) (a : Agent) → Goes a (take_then line node at id (λ b. b) a)
     one_taken id a = (
       k.takes line node at id a,
-      (take_leads channels Anything (anything channels) line node at id (λ b. b) a (rests channels Anything (anything channels) line node at)).1,
+      (take_leads Anything (anything) line node at id (λ b. b) a (rests Anything (anything) line node at)).1,
     )
 
     -- a taking, and then all else
-    then_later : (id : ℕ) (from : Option Callsign) (r : Result ActDone ActRefusal) (later : Agent → Agent) (a b : Agent) → Goes a (took_by channels line node at id from r (λ c. c) b) → ((c : Agent) → Goes c (later c))
-        → Goes a (took_by channels line node at id from r later b)
+    then_later : (id : ℕ) (from : Option Callsign) (r : Result ActDone ActRefusal) (later : Agent → Agent) (a b : Agent) → Goes a (took_by line node at id from r (λ c. c) b) → ((c : Agent) → Goes c (later c))
+        → Goes a (took_by line node at id from r later b)
     then_later id from (Ok (Took message)) later a b f rest =
-        let c : Agent = heard_by channels line node at id message from (mail_at at b.world) b in goes_then a c (later c) f (rest c)
+        let c : Agent = heard_by line node at id message from (mail_at at b.world) b in goes_then a c (later c) f (rest c)
     then_later id from (Ok Done) later a b f rest = f
     then_later id from (Ok (Made made)) later a b f rest = f
     then_later id from (Err why) later a b f rest = f
@@ -220,41 +220,41 @@ module _ (channels : List Channel) (Users : Callsign → Type 0) (P : World → 
     either true a x f = f
     either false a x f = (k.still a.world, λ q. q)
 
-    pub takes_go : (id more : ℕ) (a : Agent) → Goes a (take_from channels line node at id more a)
+    pub takes_go : (id more : ℕ) (a : Agent) → Goes a (take_from line node at id more a)
     unfolding take_from
     takes_go id zero a = (k.still a.world, λ q. q)
     takes_go id (suc more) a =
-        let w : World = put channels line at false a.world in
+        let w : World = put line at false a.world in
         let b : Agent = record a { world = reach line at (worlds.Act (acts.Take id)) w } in
-        either (waits (take_answer (end_of id (ends_here at a.world)))) a (take_then channels line node at id (take_from channels line node at id more) a)
-        (then_later id (partner_at (end_of id (ends_here at a.world))) (answer at (acts.Take id) w) (take_from channels line node at id more) a b (one_taken id a) (takes_go id more))
+        either (waits (take_answer (end_of id (ends_here at a.world)))) a (take_then line node at id (take_from line node at id more) a)
+        (then_later id (partner_at (end_of id (ends_here at a.world))) (answer at (acts.Take id) w) (take_from line node at id more) a b (one_taken id a) (takes_go id more))
 
-    pub take_at_goes : (ids : List ℕ) (a : Agent) → Goes a (take_at channels line node at ids a)
+    pub take_at_goes : (ids : List ℕ) (a : Agent) → Goes a (take_at line node at ids a)
     take_at_goes [] a = (k.still a.world, λ q. q)
     take_at_goes (id ∷ ids) a =
-        let b : Agent = take_from channels line node at id 100000 a in goes_then a b (take_at channels line node at ids b) (takes_go id 100000 a) (take_at_goes ids b)
+        let b : Agent = take_from line node at id 100000 a in goes_then a b (take_at line node at ids b) (takes_go id 100000 a) (take_at_goes ids b)
 
-    pub offer_at_goes : (ids : List ℕ) (w : World) → P w (offer_at channels line node at ids w)
+    pub offer_at_goes : (ids : List ℕ) (w : World) → P w (offer_at line node at ids w)
     offer_at_goes [] w = k.still w
     offer_at_goes (id ∷ ids) w =
-        let v : World = offer_all channels line node at id w in k.follows w v (offer_at channels line node at ids v) (k.offers line node at id w) (offer_at_goes ids v)
+        let v : World = offer_all line node at id w in k.follows w v (offer_at line node at ids v) (k.offers line node at id w) (offer_at_goes ids v)
 
-    turn_goes : (b : Bool) (w : World) → P w (turn_by channels line node at b w)
+    turn_goes : (b : Bool) (w : World) → P w (turn_by line node at b w)
     turn_goes false w = k.tells line (events.Refused NoMail ∷ []) w (tt, tt)
     turn_goes true w =
         let start : Agent = record { world = w; answers = [] } in
-        let taken : Agent = take_at channels line node at (held_ids (ends_here at w)) start in
+        let taken : Agent = take_at line node at (held_ids (ends_here at w)) start in
         let first : Goes start taken = take_at_goes (held_ids (ends_here at w)) start in
-        let v : World = offer_at channels line node at (held_ids (ends_here at taken.world)) taken.world in
+        let v : World = offer_at line node at (held_ids (ends_here at taken.world)) taken.world in
         let u : World = tell line taken.answers v in
-        let x : World = put channels line at false u in
+        let x : World = put line at false u in
         k.follows w taken.world x (first.0)
         (k.follows taken.world v x (offer_at_goes (held_ids (ends_here at taken.world)) taken.world)
         (k.follows v u x (k.tells line taken.answers v (first.1 tt)) (k.puts line at u)))
 
   -- ---- the lines
 
-  pub mail_goes : (line node : ℕ) (w : World) → P w (mail channels line node w)
+  pub mail_goes : (line node : ℕ) (w : World) → P w (mail line node w)
   mail_goes line node w = let at : ℕ = place_of node w.nodes in turn_goes line node at (is_some (mail_at at w)) w
 
   posted : (line node at : ℕ) (to dest : Callsign) (text : List ℕ) (m : Option Lists) (w : World) → mail_at at w ≡ m → Users to → P w (post_by line node at to dest text m w)
@@ -280,21 +280,21 @@ module _ (channels : List Channel) (Users : Callsign → Type 0) (P : World → 
 abbrev pub AnyUser : Callsign → Type 0
 AnyUser call = Unit {0}
 
-module _ (channels : List Channel) (P : World → World → Type 0) (k : AgentMoves channels P) where
-  abbrev turns : TurnMoves channels AnyUser P
-  turns = turns_of channels AnyUser P k
+module _ (P : World → World → Type 0) (k : AgentMoves P) where
+  abbrev turns : TurnMoves AnyUser P
+  turns = turns_of AnyUser P k
 
-  pub takes_lead : (line node at id more : ℕ) (a : Agent) → Goes channels AnyUser P turns line node at a (take_from channels line node at id more a)
-  takes_lead line node at id more a = takes_go channels AnyUser P turns line node at id more a
+  pub takes_lead : (line node at id more : ℕ) (a : Agent) → Goes AnyUser P turns line node at a (take_from line node at id more a)
+  takes_lead line node at id more a = takes_go AnyUser P turns line node at id more a
 
-  pub take_at_leads : (line node at : ℕ) (ids : List ℕ) (a : Agent) → Goes channels AnyUser P turns line node at a (take_at channels line node at ids a)
-  take_at_leads line node at ids a = take_at_goes channels AnyUser P turns line node at ids a
+  pub take_at_leads : (line node at : ℕ) (ids : List ℕ) (a : Agent) → Goes AnyUser P turns line node at a (take_at line node at ids a)
+  take_at_leads line node at ids a = take_at_goes AnyUser P turns line node at ids a
 
-  pub offer_at_leads : (line node at : ℕ) (ids : List ℕ) (w : World) → P w (offer_at channels line node at ids w)
-  offer_at_leads line node at ids w = offer_at_goes channels AnyUser P turns line node at ids w
+  pub offer_at_leads : (line node at : ℕ) (ids : List ℕ) (w : World) → P w (offer_at line node at ids w)
+  offer_at_leads line node at ids w = offer_at_goes AnyUser P turns line node at ids w
 
-  pub mail_leads : (line node : ℕ) (w : World) → P w (mail channels line node w)
-  mail_leads line node w = mail_goes channels AnyUser P turns line node w
+  pub mail_leads : (line node : ℕ) (w : World) → P w (mail line node w)
+  mail_leads line node w = mail_goes AnyUser P turns line node w
 
   pub post_leads : (line node : ℕ) (to dest : Callsign) (text : List ℕ) (w : World) → P w (post line node to dest text w)
-  post_leads line node to dest text w = post_goes channels AnyUser P turns line node to dest text w tt
+  post_leads line node to dest text w = post_goes AnyUser P turns line node to dest text w tt

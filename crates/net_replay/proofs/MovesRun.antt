@@ -10,7 +10,6 @@ use Rattle.circuit_set.specs.Runs as net
 use Rattle.circuit_set.specs.Runs.{IsAct, Step, sets_run}
 use Rattle.circuit_set.specs.Sets as sets
 use Rattle.circuit_set.specs.Sets.{Holder, SetState, Told, all_gone, end_of, losses}
-use Rattle.network_file.specs.declared.plan.channels.Channel.{Channel}
 use Rattle.network_file.specs.Plan.{Plan}
 use Rattle.node_core.specs.Runs.{ActsRun, BytesRun, InputsAreSteps, IsUserAct, RunsOn, TicksRun, steps_at}
 use Rattle.node_turns.specs.States.{NodeState}
@@ -18,11 +17,12 @@ use Rattle.net_replay.specs.CircuitRuns.{first_sets, set_of}
 use Rattle.net_replay.specs.Ends.{ends_of, note_events}
 use Rattle.net_replay.specs.Events as events
 use Rattle.net_replay.specs.Events.{Event, NumberedEvent}
-use Rattle.net_replay.specs.Lines.{losses_of, restart, restart_of}
+use Rattle.net_replay.specs.Lines.{losses_of, restart}
 use Rattle.net_replay.specs.Starting.{Placed, new_nodes}
 use Rattle.net_replay.specs.World as worlds
-use Rattle.net_replay.specs.World.{Bytes, Input, Time, World, after, aired, air_events, all_fetched_of, all_told, numbered, place_of, put, put_of, puts, reach, reaches, tell, tells_entries}
+use Rattle.net_replay.specs.World.{Bytes, Input, Time, World, after, aired, air_events, all_fetched_of, all_told, numbered, place_of, put, puts, reach, tell, tells_entries}
 use Rattle.net_replay.proofs.Containing.{AreApart, Comes, Contains, IsQuiet, Tracks, TracksAt, comes_contains, events_by, name_at, names, note_append, place_is, quiet_contains, quiet_events, quiet_notes}
+use Rattle.net_replay.proofs.Looks.{put_of, reaches, restart_of}
 use Rattle.net_replay.proofs.Remembering.{Lifts, Rising, lift, losses_lift, rising_le, runs_lift}
 use Rattle.net_replay.proofs.Moving.{told_entries, made_length, entries_other, TellsAt, tells_at, event, entries_tell, lost_events, losses_are, lost_tell, lost_length, lost_other, placed, new_tracks, all_gone_gone, past_below, same_set, sent_tracks}
 
@@ -128,21 +128,21 @@ module _ (plan : Plan) (apart : AreApart (names (new_nodes plan))) (are_steps : 
     others = λ n d. ap length (note_append n told (map (numbered line) es) []) ∙ quiet_notes n line es (ends_of n told) quiet;
   }
 
-  pub put_contains : (channels : List Channel) (line at : ℕ) (came128 : Bool) (w : World) (p : Placed) → slice_get w.nodes at ≡ Some p → (steps : List Step) → Contains plan steps w.nodes w.told
-      → Contains plan (steps ++ []) (put_of channels line at came128 (Some p) w).nodes (put_of channels line at came128 (Some p) w).told
-  put_contains channels line at came128 w p e steps c =
+  pub put_contains : (line at : ℕ) (came128 : Bool) (w : World) (p : Placed) → slice_get w.nodes at ≡ Some p → (steps : List Step) → Contains plan steps w.nodes w.told
+      → Contains plan (steps ++ []) (put_of line at came128 (Some p) w).nodes (put_of line at came128 (Some p) w).told
+  put_contains line at came128 w p e steps c =
       let t : TracksAt plan w.told (sets_run (first_sets plan) steps) at p = c.tracks at p e in
-      let es : List Event = air_events (length w.air) (length (aired channels came128 p)) in
+      let es : List Event = air_events (length w.air) (length (aired w.channels came128 p)) in
       comes_contains plan apart are_steps steps w.nodes w.told (map (numbered line) es) at p (record p { state = all_fetched_of p.state }) t.set [] c e t.here
-      (put_comes w.told line at p t.set es (quiet_air (length w.air) (length (aired channels came128 p))) t.tracks)
+      (put_comes w.told line at p t.set es (quiet_air (length w.air) (length (aired w.channels came128 p))) t.tracks)
 
-  put_case : (channels : List Channel) (line at : ℕ) (came128 : Bool) (w : World) (o : Option Placed) → slice_get w.nodes at ≡ o → Leads w (put_of channels line at came128 o w)
-  put_case channels line at came128 w None e steps c = still w steps c
-  put_case channels line at came128 w (Some p) e steps c = ([], put_contains channels line at came128 w p e steps c)
+  put_case : (line at : ℕ) (came128 : Bool) (w : World) (o : Option Placed) → slice_get w.nodes at ≡ o → Leads w (put_of line at came128 o w)
+  put_case line at came128 w None e steps c = still w steps c
+  put_case line at came128 w (Some p) e steps c = ([], put_contains line at came128 w p e steps c)
 
-  pub put_leads : (channels : List Channel) (line at : ℕ) (came128 : Bool) (w : World) → Leads w (put channels line at came128 w)
+  pub put_leads : (line at : ℕ) (came128 : Bool) (w : World) → Leads w (put line at came128 w)
   unfolding put
-  put_leads channels line at came128 w = put_case channels line at came128 w (slice_get w.nodes at) refl
+  put_leads line at came128 w = put_case line at came128 w (slice_get w.nodes at) refl
 
   -- a node starts again
   pub restart_comes : (steps : List Step) (w : World) (line at : ℕ) (pair : Pair) (p : Placed) → IsPair pair → Contains plan steps w.nodes w.told → slice_get w.nodes at ≡ Some p

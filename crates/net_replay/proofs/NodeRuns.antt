@@ -8,7 +8,6 @@ use Rattle.link_table.specs.Calls as links
 use Rattle.link_table.specs.Reaching.{IsCall}
 use Rattle.link_table.specs.declared.path_refusal.PathRefusal.{PathRefusal}
 use Rattle.network_file.specs.declared.network.NumberedInstruction.{NumberedInstruction}
-use Rattle.network_file.specs.declared.plan.channels.Channel.{Channel}
 use Rattle.network_file.specs.declared.plan.declarations.Declaration.{Declaration}
 use Rattle.network_file.specs.declared.plan.instructions.Instruction.{Instruction}
 use Rattle.network_file.specs.declared.plan.instructions.Instruction.TheVariants as instructions
@@ -25,12 +24,13 @@ use Rattle.node_core.specs.UserActs as acts
 use Rattle.node_core.specs.UserActs.{UserAct}
 use Rattle.net_replay.specs.CircuitRuns.{IsInstruction, IsLine, IsSound}
 use Rattle.net_replay.specs.Ends.{ends_of}
-use Rattle.net_replay.specs.Lines.{do_lines, restart_of}
+use Rattle.net_replay.specs.Lines.{do_lines}
 use Rattle.net_replay.specs.Starting.{Placed, by_number, config_of, is_via_of, new_nodes, new_placed, path_of, started, with_via, with_via_by, with_vias}
 use Rattle.net_replay.specs.World as worlds
-use Rattle.net_replay.specs.World.{Input, Time, World, after, all_fetched_of, all_told, place_of, put, put_of, reach, reaches, start}
+use Rattle.net_replay.specs.World.{Input, Time, World, after, all_fetched_of, all_told, place_of, put, reach, start}
 use Rattle.net_replay.proofs.LineWalks.{IsPlain, LineIs, Moves, lines_lead}
 use Rattle.net_replay.proofs.Lists.{both, every, front, one_of, put_each}
+use Rattle.net_replay.proofs.Looks.{put_of, reaches, restart_of}
 use Rattle.net_replay.proofs.SentBefore.{own_calls}
 
 -- ---- inputs one after another
@@ -170,16 +170,16 @@ module _ (entries : FetchesAllEntries) (sent : FetchesAllFrames) where
   unfolding reach
   reach_led line at input w a = reach_case line at input w (slice_get w.nodes at) refl a
 
-  sent_case : (channels : List Channel) (line at : ℕ) (came128 : Bool) (w : World) (o : Option Placed) → slice_get w.nodes at ≡ o → Keeps w (put_of channels line at came128 o w)
-  sent_case channels line at came128 w None e l = l
-  sent_case channels line at came128 w (Some p) e l =
+  sent_case : (line at : ℕ) (came128 : Bool) (w : World) (o : Option Placed) → slice_get w.nodes at ≡ o → Keeps w (put_of line at came128 o w)
+  sent_case line at came128 w None e l = l
+  sent_case line at came128 w (Some p) e l =
       let count : ℕ = length (frames p.state.station) in
       put_led w.nodes at p (record p { state = all_fetched_of p.state }) e l
       (led_on p (times count nodes.Fetches_frame) (all_fetched_of p.state) (times_ask count nodes.Fetches_frame tt) (fetched_is p.state) (l at p e))
 
-  sent_led : (channels : List Channel) (line at : ℕ) (came128 : Bool) (w : World) → Keeps w (put channels line at came128 w)
+  sent_led : (line at : ℕ) (came128 : Bool) (w : World) → Keeps w (put line at came128 w)
   unfolding put
-  sent_led channels line at came128 w = sent_case channels line at came128 w (slice_get w.nodes at) refl
+  sent_led line at came128 w = sent_case line at came128 w (slice_get w.nodes at) refl
 
   restart_case : (plan : Plan) (line at : ℕ) (pair : Pair) (w : World) (o : Option Placed) → slice_get w.nodes at ≡ o → Keeps w (restart_of plan line at pair o w)
   restart_case plan line at pair w None e l = l
@@ -198,7 +198,7 @@ module _ (entries : FetchesAllEntries) (sent : FetchesAllFrames) where
     times = λ line at w. reach_led line at Time w tt;
     broadcasts = λ line at call b w i. reach_led line at _ w tt;
     frames = λ line at place f w e. reach_led line at _ w tt;
-    puts = sent_led plan.channels;
+    puts = sent_led;
     mails = λ at s w l. l;
     restarts = λ line number pair w i. restart_case plan line (place_of number w.nodes) pair w (slice_get w.nodes (place_of number w.nodes)) refl;
     settles = λ at w l. l;

@@ -9,10 +9,11 @@ use Rattle.network_file.specs.declared.plan.declarations.Declaration.{Declaratio
 use Rattle.node_core.specs.Inputs.{moment}
 use Rattle.node_core.specs.Kept.{Kept, NodeStands, entries_left, frames_left}
 use Rattle.node_turns.specs.States.{NodeState}
-use Rattle.net_replay.specs.Running.{Course, Stands, change, change_of, entries_at, frames_at}
+use Rattle.net_replay.specs.Running.{Course, Stands, change, entries_at, frames_at}
 use Rattle.net_replay.specs.Starting.{Placed, has_number}
 use Rattle.net_replay.specs.Traces.{StandFor}
 use Rattle.net_replay.specs.World.{World, place_of}
+use Rattle.net_replay.proofs.Looks.{change_of}
 
 abbrev pub declared_of : Placed → Declaration
 declared_of p = p.declared
@@ -94,6 +95,7 @@ changed c w at before n step h t here goes =
         mails = t.trace.mails;
         ends = t.trace.ends;
       };
+      channels = t.channels;
       now = t.now;
     })
 

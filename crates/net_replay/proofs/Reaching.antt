@@ -10,8 +10,9 @@ use Rattle.node_core.specs.Rounds.{tick}
 use Rattle.node_turns.specs.States.{NodeState}
 use Rattle.net_replay.specs.Running.{Course, GoesOn, Stands, all_entries, change}
 use Rattle.net_replay.specs.Starting.{Placed}
-use Rattle.net_replay.specs.World.{Act, Bytes, Input, Time, World, after, answer, answers, reach, reaches}
+use Rattle.net_replay.specs.World.{Act, Bytes, Input, Time, World, after, answer, reach}
 use Rattle.net_replay.proofs.Entering.{reach_is}
+use Rattle.net_replay.proofs.Looks.{answers, reaches}
 use Rattle.net_replay.proofs.Placing.{at_place, changed, past_place, same_moment, with_nodes}
 
 -- ---- the code's time is the world's for a node

@@ -63,6 +63,7 @@ pub same_air : (c : Course) (air : List Aired) (w : World) → Stands c w → ai
 same_air c air w t e =
     record {
       trace = record { told = t.trace.told; air = e ∙ t.trace.air; declared = t.trace.declared; nodes = t.trace.nodes; mails = t.trace.mails; ends = t.trace.ends };
+      channels = t.channels;
       now = t.now;
     }
 
@@ -77,5 +78,6 @@ settled_air c air at e = λ w t.
         mails = t.trace.mails;
         ends = t.trace.ends;
       };
+      channels = t.channels;
       now = t.now;
     }

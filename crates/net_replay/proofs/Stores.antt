@@ -11,8 +11,9 @@ use Rattle.node_mail.specs.Lists.{Lists}
 use Rattle.net_replay.specs.Starting.{new_mail}
 use Rattle.node_mail.specs.Standing.{StandsFor, StoreView}
 use Rattle.net_replay.specs.Agents.{change_mail}
-use Rattle.net_replay.specs.Mailing.{joined, mail_in}
+use Rattle.net_replay.specs.Mailing.{mail_in}
 use Rattle.net_replay.specs.Traces.{MailStands, MailsStand}
+use Rattle.net_replay.proofs.Looks.{joined}
 
 pub past : (vs : List (Option StoreView)) (ls : List (Option Lists)) (at : ℕ) → MailsStand vs ls → length vs ≤ at → mail_in at ls ≡ None
 past [] [] at h k = refl

@@ -11,11 +11,12 @@ use Rattle.network_file.specs.Plan.{Plan}
 use Rattle.std.specs.Option.{option_map}
 use Rattle.net_replay.specs.Events.{Event, NumberedEvent, Restarted, Shown}
 use Rattle.net_replay.specs.Ends.{ends_of}
-use Rattle.net_replay.specs.Lines.{loss_of, losses_of, restart_of, shown_of, table_of}
+use Rattle.net_replay.specs.Lines.{loss_of, losses_of, table_of}
 use Rattle.net_replay.specs.Tables.{Table}
-use Rattle.net_replay.specs.Running.{change, change_of, loss_at, losses_at}
+use Rattle.net_replay.specs.Running.{change, loss_at, losses_at}
 use Rattle.net_replay.specs.Starting.{Placed, started}
 use Rattle.net_replay.specs.World.{World, numbered, tell}
+use Rattle.net_replay.proofs.Looks.{change_of, restart_of, shown_of}
 
 pub tell_both : (line : ℕ) (es fs : List Event) (w : World) → tell line fs (tell line es w) ≡ tell line (es ++ fs) w
 tell_both line es fs w =
@@ -83,10 +84,10 @@ restarted plan line at made pair w p is count = restart_case plan line at made p
 
 -- ---- a table that is shown
 
-pub shown_some : (o : Option Placed) (table : Table) → Some table ≡ option_map table_of o → shown_of o ≡ Shown table ∷ []
-shown_some None table e = absurd (cc)
-shown_some (Some p) table e = let same : table ≡ table_of p = cc in ap (λ t. Shown t ∷ []) (sym same)
+pub shown_some : (line : ℕ) (w : World) (o : Option Placed) (table : Table) → Some table ≡ option_map table_of o → shown_of line o w ≡ tell line (Shown table ∷ []) w
+shown_some line w None table e = absurd (cc)
+shown_some line w (Some p) table e = let same : table ≡ table_of p = cc in ap (λ t. tell line (Shown t ∷ []) w) (sym same)
 
-pub shown_none : (o : Option Placed) → None ≡ option_map table_of o → shown_of o ≡ []
-shown_none None e = refl
-shown_none (Some p) e = absurd (cc)
+pub shown_none : (line : ℕ) (w : World) (o : Option Placed) → None ≡ option_map table_of o → shown_of line o w ≡ w
+shown_none line w None e = refl
+shown_none line w (Some p) e = absurd (cc)

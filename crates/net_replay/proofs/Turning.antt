@@ -8,7 +8,6 @@ use Rattle.ax_address.specs.CallOrder.{same_call}
 use Rattle.circuit_set.specs.CircuitSets.{partner_at}
 use Rattle.circuit_set.specs.Sets.{end_of}
 use Rattle.circuit_set.specs.Standing.{take_answer}
-use Rattle.network_file.specs.declared.plan.channels.Channel.{Channel}
 use Rattle.node_core.specs.declared.acts.ActDone.{ActDone}
 use Rattle.node_core.specs.declared.acts.ActDone.TheVariants.{Done, Made, Took}
 use Rattle.node_core.specs.declared.acts.ActRefusal.{ActRefusal}
@@ -64,12 +63,14 @@ pub mailed : (c : Course) (w : World) (stores : List (Option StoreView)) (ls : L
     → Stands (with_stores c stores) (record w { mails = ls })
 mailed c w stores ls t m = record {
   trace = record { told = t.trace.told; air = t.trace.air; declared = t.trace.declared; nodes = t.trace.nodes; mails = m; ends = t.trace.ends };
+  channels = t.channels;
   now = t.now;
 }
 
 pub mailed_same : (c : Course) (w : World) (stores : List (Option StoreView)) → Stands c w → MailsStand stores w.mails → Stands (with_stores c stores) w
 mailed_same c w stores t m = record {
   trace = record { told = t.trace.told; air = t.trace.air; declared = t.trace.declared; nodes = t.trace.nodes; mails = m; ends = t.trace.ends };
+  channels = t.channels;
   now = t.now;
 }
 
@@ -118,9 +119,9 @@ told_post old mid new line es f whole (Err e) goes same told = tt
 
 -- ---- a message is written, where the end takes it
 
-pub wrote_if : (channels : List Channel) (line at id : ℕ) (message : List ℕ) (w : World) (b : Bool) → b ≡ may_write at id message w
-    → cond b (input channels line at (acts.Write id message) w) w ≡ write_if_taken channels line at id message w
-wrote_if channels line at id message w b e = ap (λ x. cond x (input channels line at (acts.Write id message) w) w) e
+pub wrote_if : (line at id : ℕ) (message : List ℕ) (w : World) (b : Bool) → b ≡ may_write at id message w
+    → cond b (input line at (acts.Write id message) w) w ≡ write_if_taken line at id message w
+wrote_if line at id message w b e = ap (λ x. cond x (input line at (acts.Write id message) w) w) e
 
 -- an answer isn't empty
 pub no_answer : (wire : Option Wire) → length (octets_in wire) ≡ 0 → wire ≡ None
@@ -129,23 +130,23 @@ no_answer None e = refl
 no_answer (Some (Carries number to text)) e = absurd (cc e)
 no_answer (Some (Receipt number)) e = absurd (cc e)
 
-module _ (old new : Course) (channels : List Channel) (line at id : ℕ) (message : List ℕ) where
-  pub answer_goes : (wire : Option Wire) → message ≡ octets_in wire → (length message ≡ 0 → ⊥) → GoesOn old new (write_if_taken channels line at id message)
-      → GoesOn old new (write_answer_to channels line at id wire)
+module _ (old new : Course) (line at id : ℕ) (message : List ℕ) where
+  pub answer_goes : (wire : Option Wire) → message ≡ octets_in wire → (length message ≡ 0 → ⊥) → GoesOn old new (write_if_taken line at id message)
+      → GoesOn old new (write_answer_to line at id wire)
   answer_goes None e some goes = absurd (some (ap length e))
-  answer_goes (Some wire) e some goes = λ w t. subst (λ m. Stands new (write_if_taken channels line at id m w)) e (goes w t)
+  answer_goes (Some wire) e some goes = λ w t. subst (λ m. Stands new (write_if_taken line at id m w)) e (goes w t)
 
-  pub answer_stops : (wire : Option Wire) (refusal : ReplayRefusal) → message ≡ octets_in wire → (length message ≡ 0 → ⊥) → Stops old refusal (write_if_taken channels line at id message)
-      → Stops old refusal (write_answer_to channels line at id wire)
+  pub answer_stops : (wire : Option Wire) (refusal : ReplayRefusal) → message ≡ octets_in wire → (length message ≡ 0 → ⊥) → Stops old refusal (write_if_taken line at id message)
+      → Stops old refusal (write_answer_to line at id wire)
   answer_stops None refusal e some stop = absurd (some (ap length e))
-  answer_stops (Some wire) refusal e some stop = λ w t. subst (λ m. IsRefusal refusal (length (write_if_taken channels line at id m w).air)) e (stop w t)
+  answer_stops (Some wire) refusal e some stop = λ w t. subst (λ m. IsRefusal refusal (length (write_if_taken line at id m w).air)) e (stop w t)
 
 -- ---- a message is heard
 
-pub heard_none : (channels : List Channel) (line node at id : ℕ) (octets : List ℕ) (from : Callsign) (o : Option Lists) (a : Agent) → HearsAt None o from octets
-    → a ≡ heard_by channels line node at id octets (Some from) o a
-heard_none channels line node at id octets from None a h = refl
-heard_none channels line node at id octets from (Some s) a h = absurd (cc)
+pub heard_none : (line node at id : ℕ) (octets : List ℕ) (from : Callsign) (o : Option Lists) (a : Agent) → HearsAt None o from octets
+    → a ≡ heard_by line node at id octets (Some from) o a
+heard_none line node at id octets from None a h = refl
+heard_none line node at id octets from (Some s) a h = absurd (cc)
 
 receipt_len : (node number n m : ℕ) (from : Callsign) (b : Bool)
     → heard_events node from n (cond b (hearing.Settled number) (hearing.Stray number)) ≡ heard_events node from m (cond b (hearing.Settled number) (hearing.Stray number))
@@ -160,22 +161,22 @@ told_len node from s octets (Some (Carries number to text)) e = ap (λ n. heard_
 told_len node from s octets (Some (Receipt number)) e = receipt_len node number 0 (length octets - 16) from (is_queued_for s.queued from number)
 
 -- the answer is written once the mail has changed
-abbrev pub heard_as : List Channel → ℕ → ℕ → ℕ → ℕ → List ℕ → Callsign → Heard → Agent → Agent
-heard_as channels line node at id octets from heard a = record {
-  world = write_answer_to channels line at id (answer_to heard) (record a.world { mails = heard_at at from octets a.world.mails });
+abbrev pub heard_as : ℕ → ℕ → ℕ → ℕ → List ℕ → Callsign → Heard → Agent → Agent
+heard_as line node at id octets from heard a = record {
+  world = write_answer_to line at id (answer_to heard) (record a.world { mails = heard_at at from octets a.world.mails });
   answers = a.answers ++ heard_events node from (length octets - 16) heard;
 }
 
-pub heard_some : (channels : List Channel) (line node at id : ℕ) (octets : List ℕ) (from : Callsign) (heard : Heard) (o : Option Lists) (a : Agent) → mail_in at a.world.mails ≡ o
-    → HearsAt (Some heard) o from octets → heard_as channels line node at id octets from heard a ≡ heard_by channels line node at id octets (Some from) o a
-heard_some channels line node at id octets from heard None a e h = absurd (cc)
-heard_some channels line node at id octets from heard (Some s) a e h =
+pub heard_some : (line node at id : ℕ) (octets : List ℕ) (from : Callsign) (heard : Heard) (o : Option Lists) (a : Agent) → mail_in at a.world.mails ≡ o
+    → HearsAt (Some heard) o from octets → heard_as line node at id octets from heard a ≡ heard_by line node at id octets (Some from) o a
+heard_some line node at id octets from heard None a e h = absurd (cc)
+heard_some line node at id octets from heard (Some s) a e h =
     let is : heard ≡ hear_at s from octets = cc in
     let mails : heard_at at from octets a.world.mails ≡ slice_set a.world.mails at (Some (hear_step s from octets)) =
     ap (λ o. change_mail at (λ (x : Lists). hear_step x from octets) o a.world.mails) e in
-    ap (λ h. heard_as channels line node at id octets from h a) is
-    ∙ (ap (λ ms. record { world = write_answer_to channels line at id (answer_to (hear_at s from octets)) (record a.world { mails = ms }); answers = a.answers ++ heard_events node from (length octets - 16) (hear_at s from octets) }) mails
-    ∙ ap (λ es. record { world = write_answer_to channels line at id (answer_to (hear_at s from octets)) (with_mail at (hear_step s from octets) a.world); answers = a.answers ++ es })
+    ap (λ h. heard_as line node at id octets from h a) is
+    ∙ (ap (λ ms. record { world = write_answer_to line at id (answer_to (hear_at s from octets)) (record a.world { mails = ms }); answers = a.answers ++ heard_events node from (length octets - 16) (hear_at s from octets) }) mails
+    ∙ ap (λ es. record { world = write_answer_to line at id (answer_to (hear_at s from octets)) (with_mail at (hear_step s from octets) a.world); answers = a.answers ++ es })
     (sym (told_len node from s octets (wire_at octets) refl)))
 
 -- where no mail is kept nothing is heard
@@ -188,21 +189,21 @@ pub unheard : (c : Course) (w : World) (stores : List (Option StoreView)) (from 
     → MailsStand stores (heard_at at from octets w.mails) → Stands (with_stores c stores) w
 unheard c w stores from octets at t h m = mailed_same c w stores t (unheard_case stores w.mails from octets at (mail_in at w.mails) refl h m)
 
-module _ (channels : List Channel) (line node at id : ℕ) (octets : List ℕ) (from : Callsign) (heard : Heard) (old new : Course) (before after : List code.Event) (stores : List (Option StoreView)) where
+module _ (line node at id : ℕ) (octets : List ℕ) (from : Callsign) (heard : Heard) (old new : Course) (before after : List code.Event) (stores : List (Option StoreView)) where
   pub hearing_runs : (r : Result (Unit {0}) ReplayRefusal) → ((ls : List (Option Lists)) → MailsStand old.left.mails ls → HearsAt (Some heard) (mail_in at ls) from octets)
       → ((ls : List (Option Lists)) → MailsStand old.left.mails ls → MailsStand stores (heard_at at from octets ls))
       → map event_of after ≡ map event_of before ++ heard_events node from (length octets - 16) heard
-      → Runs (with_stores old stores) new (write_answer_to channels line at id (answer_to heard)) r
-      → AgentRuns old before new after (λ a. heard_by channels line node at id octets (Some from) (mail_at at a.world) a) r
+      → Runs (with_stores old stores) new (write_answer_to line at id (answer_to heard)) r
+      → AgentRuns old before new after (λ a. heard_by line node at id octets (Some from) (mail_at at a.world) a) r
   hearing_runs (Ok done) says goes noted runs = λ a t.
       let v : World = record a.world { mails = heard_at at from octets a.world.mails } in
       let mid = mailed old a.world stores (heard_at at from octets a.world.mails) t.world (goes a.world.mails t.world.trace.mails) in
-      subst (λ (b : Agent). AgentStands new after b) (heard_some channels line node at id octets from heard (mail_at at a.world) a refl (says a.world.mails t.world.trace.mails))
+      subst (λ (b : Agent). AgentStands new after b) (heard_some line node at id octets from heard (mail_at at a.world) a refl (says a.world.mails t.world.trace.mails))
       (record { world = runs v mid; answers = noted ∙ ap (λ es. es ++ heard_events node from (length octets - 16) heard) t.answers })
   hearing_runs (Err e) says goes noted runs = λ a t.
       let v : World = record a.world { mails = heard_at at from octets a.world.mails } in
       let mid = mailed old a.world stores (heard_at at from octets a.world.mails) t.world (goes a.world.mails t.world.trace.mails) in
-      subst (λ (b : Agent). IsRefusal e (length b.world.air)) (heard_some channels line node at id octets from heard (mail_at at a.world) a refl (says a.world.mails t.world.trace.mails)) (runs v mid)
+      subst (λ (b : Agent). IsRefusal e (length b.world.air)) (heard_some line node at id octets from heard (mail_at at a.world) a refl (says a.world.mails t.world.trace.mails)) (runs v mid)
 
 -- ---- what waits at an end is taken, one message after another
 
@@ -211,72 +212,72 @@ took_message Done message e = absurd (cc)
 took_message (Made id) message e = absurd (cc)
 took_message (Took other) message e = ap Took (cc)
 
-module _ (channels : List Channel) (line node at id : ℕ) where
+module _ (line node at id : ℕ) where
   -- the agent once its node was asked for the message
   abbrev pub asked : Agent → Agent
-  asked a = record a { world = input channels line at (acts.Take id) a.world }
+  asked a = record a { world = input line at (acts.Take id) a.world }
 
   abbrev pub waits_at : World → Bool
   waits_at w = waits (take_answer (end_of id (ends_here at w)))
 
   abbrev pub said : World → Result ActDone ActRefusal
-  said w = answer at (acts.Take id) (put channels line at false w)
+  said w = answer at (acts.Take id) (put line at false w)
 
-  pub none_waits : (more : ℕ) (a : Agent) → false ≡ waits_at a.world → a ≡ take_from channels line node at id (suc more) a
+  pub none_waits : (more : ℕ) (a : Agent) → false ≡ waits_at a.world → a ≡ take_from line node at id (suc more) a
   unfolding take_from
-  none_waits more a e = ap (λ b. cond b (take_then channels line node at id (take_from channels line node at id more) a) a) e
+  none_waits more a e = ap (λ b. cond b (take_then line node at id (take_from line node at id more) a) a) e
 
   one_waits : (more : ℕ) (a : Agent) → true ≡ waits_at a.world
-      → take_from channels line node at id (suc more) a ≡ took_by channels line node at id (partner_at (end_of id (ends_here at a.world))) (said a.world) (take_from channels line node at id more) (asked a)
+      → take_from line node at id (suc more) a ≡ took_by line node at id (partner_at (end_of id (ends_here at a.world))) (said a.world) (take_from line node at id more) (asked a)
   unfolding take_from
-  one_waits more a e = ap (λ b. cond b (take_then channels line node at id (take_from channels line node at id more) a) a) (sym e)
+  one_waits more a e = ap (λ b. cond b (take_then line node at id (take_from line node at id more) a) a) (sym e)
 
   pub one_taken : (more : ℕ) (a : Agent) (message : List ℕ) (from : Option Callsign) → true ≡ waits_at a.world → from ≡ partner_at (end_of id (ends_here at a.world))
       → (d : ActDone) → said a.world ≡ Ok d → message_in d ≡ Some message
-      → take_from channels line node at id (suc more) a ≡ take_from channels line node at id more (heard_by channels line node at id message from (mail_at at (asked a).world) (asked a))
+      → take_from line node at id (suc more) a ≡ take_from line node at id more (heard_by line node at id message from (mail_at at (asked a).world) (asked a))
   one_taken more a message from e f d g m =
-      let later : Agent → Agent = take_from channels line node at id more in
+      let later : Agent → Agent = take_from line node at id more in
       one_waits more a e
-      ∙ (ap (λ o. took_by channels line node at id o (said a.world) later (asked a)) (sym f)
-      ∙ ap (λ r. took_by channels line node at id from r later (asked a)) (g ∙ ap (λ x. Ok x) (took_message d message m)))
+      ∙ (ap (λ o. took_by line node at id o (said a.world) later (asked a)) (sym f)
+      ∙ ap (λ r. took_by line node at id from r later (asked a)) (g ∙ ap (λ x. Ok x) (took_message d message m)))
 
-  done_case : (from : Option Callsign) (d : ActDone) (later : Agent → Agent) (b : Agent) → message_in d ≡ None → b ≡ took_by channels line node at id from (Ok d) later b
+  done_case : (from : Option Callsign) (d : ActDone) (later : Agent → Agent) (b : Agent) → message_in d ≡ None → b ≡ took_by line node at id from (Ok d) later b
   done_case from Done later b m = refl
   done_case from (Made made) later b m = refl
   done_case from (Took message) later b m = absurd (cc)
 
   -- an answer without a message ends the taking there
-  pub none_taken : (more : ℕ) (a : Agent) → true ≡ waits_at a.world → (d : ActDone) → said a.world ≡ Ok d → message_in d ≡ None → asked a ≡ take_from channels line node at id (suc more) a
+  pub none_taken : (more : ℕ) (a : Agent) → true ≡ waits_at a.world → (d : ActDone) → said a.world ≡ Ok d → message_in d ≡ None → asked a ≡ take_from line node at id (suc more) a
   none_taken more a e d g m =
-      let later : Agent → Agent = take_from channels line node at id more in
+      let later : Agent → Agent = take_from line node at id more in
       let from : Option Callsign = partner_at (end_of id (ends_here at a.world)) in
-      done_case from d later (asked a) m ∙ (ap (λ r. took_by channels line node at id from r later (asked a)) (sym g) ∙ sym (one_waits more a e))
+      done_case from d later (asked a) m ∙ (ap (λ r. took_by line node at id from r later (asked a)) (sym g) ∙ sym (one_waits more a e))
 
-  pub none_given : (more : ℕ) (a : Agent) → true ≡ waits_at a.world → (why : ActRefusal) → said a.world ≡ Err why → asked a ≡ take_from channels line node at id (suc more) a
+  pub none_given : (more : ℕ) (a : Agent) → true ≡ waits_at a.world → (why : ActRefusal) → said a.world ≡ Err why → asked a ≡ take_from line node at id (suc more) a
   none_given more a e why g =
-      let later : Agent → Agent = take_from channels line node at id more in
+      let later : Agent → Agent = take_from line node at id more in
       let from : Option Callsign = partner_at (end_of id (ends_here at a.world)) in
-      ap (λ r. took_by channels line node at id from r later (asked a)) (sym g) ∙ sym (one_waits more a e)
+      ap (λ r. took_by line node at id from r later (asked a)) (sym g) ∙ sym (one_waits more a e)
 
-  pub takes_grow : (more : ℕ) (a : Agent) → length a.world.air ≤ length (take_from channels line node at id more a).world.air
-  takes_grow more a = (takes_lead channels _ (grown channels) line node at id more a).0
+  pub takes_grow : (more : ℕ) (a : Agent) → length a.world.air ≤ length (take_from line node at id more a).world.air
+  takes_grow more a = (takes_lead _ (grown) line node at id more a).0
 
   -- what stopped while the node was asked
   pub asking_stops : (more : ℕ) (a : Agent) (e : ReplayRefusal) → true ≡ waits_at a.world → IsRefusal e (length (asked a).world.air)
-      → IsRefusal e (length (take_from channels line node at id (suc more) a).world.air)
+      → IsRefusal e (length (take_from line node at id (suc more) a).world.air)
   asking_stops more a e w stop =
-      let later : Agent → Agent = take_from channels line node at id more in
+      let later : Agent → Agent = take_from line node at id more in
       let from : Option Callsign = partner_at (end_of id (ends_here at a.world)) in
       subst (λ (b : Agent). IsRefusal e (length b.world.air)) (sym (one_waits more a w))
-      (refused_still e _ _ (took_leads channels _ (grown channels) line node at id from (said a.world) later (asked a) (takes_lead channels _ (grown channels) line node at id more)).0 stop)
+      (refused_still e _ _ (took_leads _ (grown) line node at id from (said a.world) later (asked a) (takes_lead _ (grown) line node at id more)).0 stop)
 
-  pub take_end : (more : ℕ) (a : Agent) → more ≡ 0 → take_from channels line node at id more a ≡ a
+  pub take_end : (more : ℕ) (a : Agent) → more ≡ 0 → take_from line node at id more a ≡ a
   unfolding take_from
   take_end zero a e = refl
   take_end (suc more) a e = absurd (omega (arith, e))
 
-pub take_at_grows : (channels : List Channel) (line node at : ℕ) (ids : List ℕ) (a : Agent) → length a.world.air ≤ length (take_at channels line node at ids a).world.air
-take_at_grows channels line node at ids a = (take_at_leads channels _ (grown channels) line node at ids a).0
+pub take_at_grows : (line node at : ℕ) (ids : List ℕ) (a : Agent) → length a.world.air ≤ length (take_at line node at ids a).world.air
+take_at_grows line node at ids a = (take_at_leads _ (grown) line node at ids a).0
 
 -- ---- mails are offered
 
@@ -307,34 +308,34 @@ numbers_past dest last [] (suc nth) h = refl
 numbers_past dest last (l ∷ ls) zero h = absurd (omega (arith, h))
 numbers_past dest last (l ∷ ls) (suc nth) h = numbers_past dest last ls nth (omega (arith, h))
 
-module _ (channels : List Channel) (line node at id number : ℕ) where
+module _ (line node at id number : ℕ) where
   -- the network once the mail of the number was written
   abbrev pub wrote_mail : World → World
-  wrote_mail w = input channels line at (acts.Write id (offer_octets channels line node at number w)) w
+  wrote_mail w = input line at (acts.Write id (offer_octets line node at number w)) w
 
   abbrev pub offered_mail : World → World
   offered_mail w = tell line (events.Offered node id number ∷ []) (wrote_mail w)
 
-  pub offer_refused : (numbers : List ℕ) (w : World) → false ≡ may_write at id (offer_octets channels line node at number w) w → w ≡ offer channels line node at id (number ∷ numbers) w
-  offer_refused numbers w e = ap (λ b. offer_by channels line node at id number b (offer channels line node at id numbers) w) e
+  pub offer_refused : (numbers : List ℕ) (w : World) → false ≡ may_write at id (offer_octets line node at number w) w → w ≡ offer line node at id (number ∷ numbers) w
+  offer_refused numbers w e = ap (λ b. offer_by line node at id number b (offer line node at id numbers) w) e
 
-  pub offer_done : (numbers : List ℕ) (w : World) → true ≡ may_write at id (offer_octets channels line node at number w) w
-      → offer channels line node at id (number ∷ numbers) w ≡ offer channels line node at id numbers (offered_mail w)
-  offer_done numbers w e = ap (λ b. offer_by channels line node at id number b (offer channels line node at id numbers) w) (sym e)
+  pub offer_done : (numbers : List ℕ) (w : World) → true ≡ may_write at id (offer_octets line node at number w) w
+      → offer line node at id (number ∷ numbers) w ≡ offer line node at id numbers (offered_mail w)
+  offer_done numbers w e = ap (λ b. offer_by line node at id number b (offer line node at id numbers) w) (sym e)
 
   pub offer_keeps : (w : World) → (offered_mail w).mails ≡ w.mails
-  offer_keeps w = reach_mails line at (worlds.Act (acts.Write id (offer_octets channels line node at number w))) (put channels line at false w) ∙ put_mails channels line at false w
+  offer_keeps w = reach_mails line at (worlds.Act (acts.Write id (offer_octets line node at number w))) (put line at false w) ∙ put_mails line at false w
 
-  offer_case : (numbers : List ℕ) (w : World) (b : Bool) → length (cond b (wrote_mail w) w).air ≤ length (offer_by channels line node at id number b (offer channels line node at id numbers) w).air
-  offer_case numbers w true = offers_lead channels _ (grown channels) line node at id numbers (offered_mail w)
+  offer_case : (numbers : List ℕ) (w : World) (b : Bool) → length (cond b (wrote_mail w) w).air ≤ length (offer_by line node at id number b (offer line node at id numbers) w).air
+  offer_case numbers w true = offers_lead _ (grown) line node at id numbers (offered_mail w)
   offer_case numbers w false = omega arith
 
-  pub offer_stops : (numbers : List ℕ) (w : World) (e : ReplayRefusal) → IsRefusal e (length (write_if_taken channels line at id (offer_octets channels line node at number w) w).air)
-      → IsRefusal e (length (offer channels line node at id (number ∷ numbers) w).air)
-  offer_stops numbers w e stop = refused_still e _ _ (offer_case numbers w (may_write at id (offer_octets channels line node at number w) w)) stop
+  pub offer_stops : (numbers : List ℕ) (w : World) (e : ReplayRefusal) → IsRefusal e (length (write_if_taken line at id (offer_octets line node at number w) w).air)
+      → IsRefusal e (length (offer line node at id (number ∷ numbers) w).air)
+  offer_stops numbers w e stop = refused_still e _ _ (offer_case numbers w (may_write at id (offer_octets line node at number w) w)) stop
 
-pub offer_at_grows : (channels : List Channel) (line node at : ℕ) (ids : List ℕ) (w : World) → length w.air ≤ length (offer_at channels line node at ids w).air
-offer_at_grows channels line node at ids w = offer_at_leads channels _ (grown channels) line node at ids w
+pub offer_at_grows : (line node at : ℕ) (ids : List ℕ) (w : World) → length w.air ≤ length (offer_at line node at ids w).air
+offer_at_grows line node at ids w = offer_at_leads _ (grown) line node at ids w
 
 -- ---- the whole turn
 
@@ -342,14 +343,14 @@ offer_at_grows channels line node at ids w = offer_at_leads channels _ (grown ch
 pub starts : (c : Course) (w : World) (answers : List code.Event) → Stands c w → answers ≡ [] → AgentStands c answers (record { world = w; answers = [] })
 starts c w answers t e = record { world = t; answers = ap (map event_of) e }
 
-module _ (channels : List Channel) (line node at : ℕ) (old taken offered told new : Course) (answers : List code.Event) where
-  pub turn_runs : (r : Result (Unit {0}) ReplayRefusal) → ((w : World) → Stands old w → AgentStands taken answers (take_part channels line node at w)) → GoesOn taken offered (offer_part channels line node at)
-      → GoesOn offered told (tell line (map event_of answers)) → Runs told new (put channels line at false) r → Runs old new (agent_turn channels line node at) r
+module _ (line node at : ℕ) (old taken offered told new : Course) (answers : List code.Event) where
+  pub turn_runs : (r : Result (Unit {0}) ReplayRefusal) → ((w : World) → Stands old w → AgentStands taken answers (take_part line node at w)) → GoesOn taken offered (offer_part line node at)
+      → GoesOn offered told (tell line (map event_of answers)) → Runs told new (put line at false) r → Runs old new (agent_turn line node at) r
   turn_runs (Ok done) takes offers tells puts = λ w t.
       let a = takes w t in
-      subst (λ es. Stands new (put channels line at false (tell line es (offer_part channels line node at (take_part channels line node at w).world)))) a.answers
+      subst (λ es. Stands new (put line at false (tell line es (offer_part line node at (take_part line node at w).world)))) a.answers
       (puts _ (tells _ (offers _ a.world)))
   turn_runs (Err e) takes offers tells puts = λ w t.
       let a = takes w t in
-      subst (λ es. IsRefusal e (length (put channels line at false (tell line es (offer_part channels line node at (take_part channels line node at w).world))).air)) a.answers
+      subst (λ es. IsRefusal e (length (put line at false (tell line es (offer_part line node at (take_part line node at w).world))).air)) a.answers
       (puts _ (tells _ (offers _ a.world)))

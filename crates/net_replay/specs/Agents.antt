@@ -3,7 +3,6 @@ use Rattle.std.specs.Prelude.{ℕ, ◌≡◌, Bool, true, false, List, drop, len
 use Rattle.ax_address.specs.Callsign.{Callsign}
 use Rattle.circuit_l4.specs.State.{is_up}
 use Rattle.circuit_set.specs.Sets.{Holder}
-use Rattle.network_file.specs.declared.plan.channels.Channel.{Channel}
 use Rattle.node_mail.specs.declared.mail.Heard.{Heard}
 use Rattle.node_mail.specs.declared.mail.PostRefusal.{PostRefusal}
 use Rattle.node_mail.specs.Lists.{Lists, answer_to, hear_at, hear_step, post_at, post_step}
@@ -76,10 +75,10 @@ abbrev pub Offers : Course → Course → (World → World) → (World → World
 Offers old new whole later true = GoesOn old new whole
 Offers old new whole later false = (w : World) → Stands old w → (v : World) × Stands new v × (v.mails ≡ w.mails) × (whole w ≡ later v)
 
-module _ (channels : List Channel) (line node at id : ℕ) where
+module _ (line node at id : ℕ) where
   -- the mails that are queued for a node are offered from the nth queued one on
   abbrev pub offer_from : Callsign → ℕ → ℕ → World → World
-  offer_from dest last nth w = offer channels line node at id (numbers_for dest last (drop nth (queued_of (mail_at at w)))) w
+  offer_from dest last nth w = offer line node at id (numbers_for dest last (drop nth (queued_of (mail_at at w)))) w
 
 -- ---- an end that is held
 

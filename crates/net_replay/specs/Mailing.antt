@@ -1,5 +1,5 @@
 -- The lines `post` and `mail`: mail is posted at a node, and the agent of a node takes in what waits for it and offers what is queued. Own profile.
-use Rattle.std.specs.Prelude.{ℕ, zero, suc, ◌==◌, ◌&&◌, Bool, true, false, List, [], ◌∷◌, ◌++◌, length, map, filter, nat_lt, slice_get, slice_set, is_none, is_ok, is_some, Option, Some, None, Result, Ok, Err, if◌then◌else◌}
+use Rattle.std.specs.Prelude.{ℕ, zero, suc, ◌==◌, ◌&&◌, Bool, true, false, List, [], ◌∷◌, ◌++◌, length, map, filter, nat_lt, slice_get, slice_set, is_none, is_ok, is_some, Option, Some, None, option_map, unwrap_or, Result, Ok, Err, if◌then◌else◌}
 use Rattle.ax_address.specs.Callsign.{Callsign}
 use Rattle.ax_address.specs.CallOrder.{same_call}
 use Rattle.circuit_l4.specs.State.{is_up}
@@ -7,7 +7,6 @@ use Rattle.circuit_set.specs.CircuitSets.{facts_at, held_ids, partner_at}
 use Rattle.circuit_set.specs.declared.event.NoEnd.{NoEnd}
 use Rattle.circuit_set.specs.Sets.{Holder, end_of}
 use Rattle.circuit_set.specs.Standing.{take_answer, write_answer}
-use Rattle.network_file.specs.declared.plan.channels.Channel.{Channel}
 use Rattle.node_core.specs.declared.acts.ActDone.{ActDone}
 use Rattle.node_core.specs.declared.acts.ActDone.TheVariants.{Took}
 use Rattle.node_core.specs.declared.acts.ActRefusal.{ActRefusal}
@@ -25,16 +24,12 @@ use Rattle.net_replay.specs.Events as events
 use Rattle.net_replay.specs.Events.{Event}
 use Rattle.net_replay.specs.Refused.{of_post, refusal_events}
 use Rattle.net_replay.specs.Starting.{Placed}
-use Rattle.net_replay.specs.World.{Act, World, answer, place_of, put, reach, tell}
+use Rattle.net_replay.specs.World.{Act, World, answer, place_of, put, reach, tell, with_found}
 
 -- ---- what a node keeps
 
-abbrev pub joined : Option (Option Lists) → Option Lists
-joined (Some mail) = mail
-joined None = None
-
 abbrev pub mail_in : ℕ → List (Option Lists) → Option Lists
-mail_in at mails = joined (slice_get mails at)
+mail_in at mails = unwrap_or (slice_get mails at) None
 
 -- the mail of the node at a place, where it keeps any
 abbrev pub mail_at : ℕ → World → Option Lists
@@ -44,12 +39,8 @@ abbrev pub with_mail : ℕ → Lists → World → World
 with_mail at s w = record w { mails = slice_set w.mails at (Some s) }
 
 -- the ends of the node at a place
-abbrev pub ends_of_placed : Option Placed → List Holder
-ends_of_placed None = []
-ends_of_placed (Some p) = p.state.station.set.set.ends
-
 abbrev pub ends_here : ℕ → World → List Holder
-ends_here at w = ends_of_placed (slice_get w.nodes at)
+ends_here at w = unwrap_or (option_map (λ (p : Placed). p.state.station.set.set.ends) (slice_get w.nodes at)) []
 
 -- ---- all ends of a node that keeps mail are its agent's: others don't write or take there
 
@@ -108,10 +99,10 @@ dest_of (Some h) = if is_none h.asked && is_up h.end.phase then partner_at (Some
 abbrev pub may_write : ℕ → ℕ → List ℕ → World → Bool
 may_write at id message w = is_ok (write_answer (end_of id (ends_here at w)) message)
 
-module _ (channels : List Channel) (line at : ℕ) where
+module _ (line at : ℕ) where
   -- an act of the agent is an input: what the inputs before it have put out is put in the air first
   abbrev pub aired_before : World → World
-  aired_before w = put channels line at false w
+  aired_before w = put line at false w
 
   abbrev pub input : UserAct → World → World
   input act w = reach line at (Act act) (aired_before w)
@@ -121,16 +112,15 @@ module _ (channels : List Channel) (line at : ℕ) where
   write_if_taken id message w = if may_write at id message w then input (acts.Write id message) w else w
 
   abbrev pub write_answer_to : ℕ → Option Wire → World → World
-  write_answer_to id None w = w
-  write_answer_to id (Some wire) w = write_if_taken id (wire_octets wire) w
+  write_answer_to id answer w = with_found answer (λ wire. write_if_taken id (wire_octets wire)) w
 
-module _ (channels : List Channel) (line node at : ℕ) where
+module _ (line node at : ℕ) where
   -- ---- what waits at an end is taken and heard
 
   -- a message that was taken is heard of the partner's node; its answer, where there is one, is written at the end
   abbrev pub heard_from : ℕ → List ℕ → Callsign → Lists → Agent → Agent
   heard_from id octets from s a = record {
-    world = write_answer_to channels line at id (answer_to (hear_at s from octets)) (with_mail at (hear_step s from octets) a.world);
+    world = write_answer_to line at id (answer_to (hear_at s from octets)) (with_mail at (hear_step s from octets) a.world);
     answers = a.answers ++ heard_events node from (length (text_of (wire_at octets))) (hear_at s from octets);
   }
 
@@ -145,7 +135,7 @@ module _ (channels : List Channel) (line node at : ℕ) where
   abbrev pub take_then : ℕ → (Agent → Agent) → Agent → Agent
   take_then id later a =
       let act : UserAct = acts.Take id in
-      let w : World = aired_before channels line at a.world in
+      let w : World = aired_before line at a.world in
       took_by id (partner_at (end_of id (ends_here at a.world))) (answer at act w) later (record a { world = reach line at (Act act) w })
 
   -- one message after another, so many at most, while one waits
@@ -169,7 +159,7 @@ module _ (channels : List Channel) (line node at : ℕ) where
 
   abbrev pub offer_by : ℕ → ℕ → Bool → (World → World) → World → World
   offer_by id number false later w = w
-  offer_by id number true later w = later (tell line (events.Offered node id number ∷ []) (input channels line at (acts.Write id (offer_octets number w)) w))
+  offer_by id number true later w = later (tell line (events.Offered node id number ∷ []) (input line at (acts.Write id (offer_octets number w)) w))
 
   abbrev pub offer : ℕ → List ℕ → World → World
   offer id [] w = w
@@ -179,13 +169,9 @@ module _ (channels : List Channel) (line node at : ℕ) where
   abbrev pub offer_to : ℕ → Callsign → World → World
   offer_to id dest w = offer id (numbers_for dest (offered_at id (ends_of node w.told)) (queued_of (mail_at at w))) w
 
-  abbrev pub offer_where : ℕ → Option Callsign → World → World
-  offer_where id None w = w
-  offer_where id (Some dest) w = offer_to id dest w
-
   -- where the node asked for the circuit and it is up
   abbrev pub offer_all : ℕ → World → World
-  offer_all id w = offer_where id (dest_of (end_of id (ends_here at w))) w
+  offer_all id w = with_found (dest_of (end_of id (ends_here at w))) (offer_to id) w
 
   abbrev pub offer_at : List ℕ → World → World
   offer_at [] w = w
@@ -200,12 +186,12 @@ module _ (channels : List Channel) (line node at : ℕ) where
   offer_part w = offer_at (held_ids (ends_here at w)) w
 
   abbrev pub agent_turn : World → World
-  agent_turn w = let taken : Agent = take_part w in put channels line at false (tell line taken.answers (offer_part taken.world))
+  agent_turn w = let taken : Agent = take_part w in put line at false (tell line taken.answers (offer_part taken.world))
 
   abbrev pub turn_by : Bool → World → World
   turn_by false w = tell line (events.Refused NoMail ∷ []) w
   turn_by true w = agent_turn w
 
 -- mail N
-abbrev pub mail : List Channel → ℕ → ℕ → World → World
-mail channels line node w = let at : ℕ = place_of node w.nodes in turn_by channels line node at (is_some (mail_at at w)) w
+abbrev pub mail : ℕ → ℕ → World → World
+mail line node w = let at : ℕ = place_of node w.nodes in turn_by line node at (is_some (mail_at at w)) w

@@ -1,5 +1,5 @@
 -- A replay while it runs. No public clause speaks of it: this isn't for the reader.
-use Rattle.std.specs.Prelude.{ℕ, zero, suc, ◌≡◌, min, List, [], ◌∷◌, ◌++◌, length, map, Option, Some, None, Result, Ok, Err, Bool, true, false, if◌then◌else◌, slice_get, slice_set}
+use Rattle.std.specs.Prelude.{ℕ, zero, suc, ◌≡◌, min, List, [], ◌∷◌, ◌++◌, length, map, Option, Some, None, Result, Ok, Err, Bool, true, false, if◌then◌else◌, slice_get}
 use Rattle.circuit_l4.specs.declared.facts.EndFacts.{EndFacts}
 use Rattle.circuit_set.specs.CircuitSets.{facts_at}
 use Rattle.circuit_set.specs.Sets.{end_of}
@@ -10,10 +10,11 @@ use Rattle.node_core.specs.Kept.{Kept, entries_left, frames_left}
 use Rattle.node_turns.specs.States.{NodeState, fetch_entry, fetch_frame, frames}
 use Rattle.node_turns.specs.States as states
 use Rattle.link_table.specs.declared.written.Written.{Written}
+use Rattle.network_file.specs.declared.plan.channels.Channel.{Channel}
 use Rattle.net_replay.specs.declared.air.Aired.{Aired}
 use Rattle.net_replay.specs.declared.answer.Answer.{Answer}
 use Rattle.net_replay.specs.declared.answer.Answer.TheVariants as answers
-use Rattle.net_replay.specs.declared.moves.World as code
+use Rattle.net_replay.specs.declared.world.World as code
 use Rattle.net_replay.specs.declared.reasons.LineRefusal.{LineRefusal}
 use Rattle.net_replay.specs.declared.reasons.ReplayRefusal.{ReplayRefusal}
 use Rattle.net_replay.specs.Events.{Event, Entry, Took}
@@ -21,21 +22,24 @@ use Rattle.net_replay.specs.Lines.{loss_of, losses_of, refusal_events}
 use Rattle.net_replay.specs.Refused.{of_act}
 use Rattle.net_replay.specs.Starting.{Placed}
 use Rattle.net_replay.specs.Traces.{IsRefusal, IsTraceOf, Left}
-use Rattle.net_replay.specs.World.{World, air_events, aired_as, puts, tell, tells_entries}
+use Rattle.net_replay.specs.World.{World, air_events, aired_as, at_node, puts, tell, tells_entries, with_state}
 
 -- what is there while a replay runs: its time is at most 2^64 - 1 milliseconds
 pub record Course : Type 0 where
   pub left : Left
+  pub channels : List Channel
   pub now : ℕ
 
 abbrev pub course : code.World → Course
 course w = record {
   left = record { declared = w.declared.items; nodes = w.nodes.items; mails = w.mails.items; air = w.air; ends = w.ends; events = w.events.items };
+  channels = w.channels.now;
   now = w.time.0;
 }
 
 pub record Stands (c : Course) (w : World) : Type 0 where
   pub trace : IsTraceOf c.left w
+  pub channels : c.channels ≡ w.channels
   pub now : c.now ≡ min w.now 18446744073709551615
 
 -- Whatever world it stood for, it stands for the next one now.
@@ -52,13 +56,9 @@ Runs old new next (Err refusal) = Stops old refusal next
 
 -- ---- steps within a move
 
-abbrev pub change_of : ℕ → (NodeState → NodeState) → Option Placed → World → World
-change_of at step None w = w
-change_of at step (Some p) w = record w { nodes = slice_set w.nodes at (record p { state = step p.state }) }
-
 -- the node at a place does a step
 unfoldable pub change : ℕ → (NodeState → NodeState) → World → World
-change at step w = change_of at step (slice_get w.nodes at) w
+change at step w = at_node at (λ p. with_state at p (step p.state)) w
 
 abbrev pub fetched_entry : NodeState → NodeState
 fetched_entry n = record n { station = fetch_entry n.station }
@@ -97,13 +97,9 @@ IsFirst None o = Unit {0}
 IsFirst (Some event) None = ⊥
 IsFirst (Some event) (Some p) = (entry : states.Entry) × (Some entry ≡ first_entry (Some p)) × (event ≡ Entry p.declared.node entry)
 
-abbrev pub all_entries_of : ℕ → ℕ → Option Placed → World → World
-all_entries_of line at None w = w
-all_entries_of line at (Some p) w = tells_entries line at p p.state w
-
 -- all entries of the node at a place are told
 unfoldable pub all_entries : ℕ → ℕ → World → World
-all_entries line at w = all_entries_of line at (slice_get w.nodes at) w
+all_entries line at w = at_node at (λ p. tells_entries line at p p.state) w
 
 -- frames come in the air
 abbrev pub airs : ℕ → List Aired → World → World
@@ -112,13 +108,10 @@ airs line new w = tell line (air_events (length w.air) (length new)) (record w {
 abbrev pub aired_one : Bool → ℕ → Bool → Written → List Aired
 aired_one on_air node came128 f = if on_air then aired_as node came128 f ∷ [] else []
 
-abbrev pub put_by_of : ℕ → ℕ → ℕ → Bool → Bool → Option Placed → World → World
-put_by_of line at node on_air came128 None w = w
-put_by_of line at node on_air came128 (Some p) w = puts line at p (if on_air then map (aired_as node came128) (frames p.state.station) else []) w
-
 -- all frames of the node at a place, which has this number and is on a channel or not
 unfoldable pub put_by : ℕ → ℕ → ℕ → Bool → Bool → World → World
-put_by line at node on_air came128 w = put_by_of line at node on_air came128 (slice_get w.nodes at) w
+put_by line at node on_air came128 w =
+    at_node at (λ p. puts line at p (if on_air then map (aired_as node came128) (frames p.state.station) else [])) w
 
 -- ---- answers
 

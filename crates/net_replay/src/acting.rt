@@ -13,46 +13,38 @@ ghost use Rattle.net_replay.specs.World as worlds;
 
 use crate::answer::Answer;
 use crate::events::{Event, Table};
-use crate::moves::World;
 use crate::reasons::{LineRefusal, ReplayRefusal};
 use crate::stations::shown;
+use crate::world::World;
 use ax_address::Call;
-use network_file::Channel;
 use node_core::UserAct;
 use nodes_broadcast::Nodes;
 use radio_base::{Moment, NoMemory};
 
-impl World {
+impl World<'_> {
     /// The node of that number hears a broadcast.
     pub fn hear_broadcast(
         &mut self,
-        channels: &[Channel],
         line: u32,
         number: u8,
         call: &Call,
         nodes: &Nodes,
     ) -> Result<(), ReplayRefusal>
-        ensures { Runs (course self.old) (course self.new) (lines.hear channels.now line number (lines.kiss_bytes (broadcast_octets call.now (view nodes.now))) false) result }
+        ensures { Runs (course self.old) (course self.new) (lines.hear line number (lines.kiss_bytes (broadcast_octets call.now (view nodes.now))) false) result }
     {
         let at = self.place_of(number);
         self.broadcast_reaches(line, at, call, nodes)?;
-        self.put_in_air(channels, line, at, false)
+        self.put_in_air(line, at, false)
     }
 
     /// A node's user acts, or it is told why that isn't done.
-    pub fn act(
-        &mut self,
-        channels: &[Channel],
-        line: u32,
-        number: u8,
-        act: &UserAct,
-    ) -> Result<(), ReplayRefusal>
-        ensures { Runs (course self.old) (course self.new) (lines.do_act channels.now line number (act_of act.now) lines.told_of) result }
+    pub fn act(&mut self, line: u32, number: u8, act: &UserAct) -> Result<(), ReplayRefusal>
+        ensures { Runs (course self.old) (course self.new) (lines.do_act line number (act_of act.now) lines.told_of) result }
     {
         let at = self.place_of(number);
         let answer = self.act_reaches(line, at, act)?;
         self.tell_answer(line, &answer)?;
-        self.put_in_air(channels, line, at, false)
+        self.put_in_air(line, at, false)
     }
 
     /// Tells why an act isn't done.
@@ -69,15 +61,8 @@ impl World {
     }
 
     /// A text is written at an end, as a message, unless the end is an agent's.
-    pub fn say(
-        &mut self,
-        channels: &[Channel],
-        line: u32,
-        number: u8,
-        end: u32,
-        text: &[u8],
-    ) -> Result<(), ReplayRefusal>
-        ensures { Runs (course self.old) (course self.new) (mailing.unless_agents line number end [] (lines.do_act channels.now line number (acts.Write end text.now) lines.told_of)) result }
+    pub fn say(&mut self, line: u32, number: u8, end: u32, text: &[u8]) -> Result<(), ReplayRefusal>
+        ensures { Runs (course self.old) (course self.new) (mailing.unless_agents line number end [] (lines.do_act line number (acts.Write end text.now) lines.told_of)) result }
     {
         if self.is_agents(number, end) {
             self.refuse(line, LineRefusal::Served)?;
@@ -87,40 +72,28 @@ impl World {
             id: end as u64,
             message: text,
         };
-        self.act(channels, line, number, &act)
+        self.act(line, number, &act)
     }
 
     /// A message is taken from an end, unless the end is an agent's.
-    pub fn take(
-        &mut self,
-        channels: &[Channel],
-        line: u32,
-        number: u8,
-        end: u32,
-    ) -> Result<(), ReplayRefusal>
-        ensures { Runs (course self.old) (course self.new) (mailing.unless_agents line number end [] (lines.do_act channels.now line number (acts.Take end) (lines.took_of number end))) result }
+    pub fn take(&mut self, line: u32, number: u8, end: u32) -> Result<(), ReplayRefusal>
+        ensures { Runs (course self.old) (course self.new) (mailing.unless_agents line number end [] (lines.do_act line number (acts.Take end) (lines.took_of number end))) result }
     {
         if self.is_agents(number, end) {
             self.refuse(line, LineRefusal::Served)?;
             return Ok(());
         }
-        self.take_there(channels, line, number, end)
+        self.take_there(line, number, end)
     }
 
     /// The same at an end that isn't an agent's.
-    fn take_there(
-        &mut self,
-        channels: &[Channel],
-        line: u32,
-        number: u8,
-        end: u32,
-    ) -> Result<(), ReplayRefusal>
-        ensures { Runs (course self.old) (course self.new) (lines.do_act channels.now line number (acts.Take end) (lines.took_of number end)) result }
+    fn take_there(&mut self, line: u32, number: u8, end: u32) -> Result<(), ReplayRefusal>
+        ensures { Runs (course self.old) (course self.new) (lines.do_act line number (acts.Take end) (lines.took_of number end)) result }
     {
         let at = self.place_of(number);
         let answer = self.act_reaches(line, at, &UserAct::Take { id: end as u64 })?;
         self.tell_taken(line, number, end, answer)?;
-        self.put_in_air(channels, line, at, false)
+        self.put_in_air(line, at, false)
     }
 
     /// Tells the message that was taken, or why none was.
@@ -173,31 +146,26 @@ impl World {
     }
 
     /// Time goes on, and each node is told, by number.
-    pub fn tick(
-        &mut self,
-        channels: &[Channel],
-        line: u32,
-        milliseconds: u32,
-    ) -> Result<(), ReplayRefusal>
-        ensures { Runs (course self.old) (course self.new) (lines.tick channels.now line milliseconds) result }
+    pub fn tick(&mut self, line: u32, milliseconds: u32) -> Result<(), ReplayRefusal>
+        ensures { Runs (course self.old) (course self.new) (lines.tick line milliseconds) result }
     {
         self.time = Moment(self.time.0.saturating_add(milliseconds as u64));
-        self.tick_nodes(channels, line)
+        self.tick_nodes(line)
     }
 
-    fn tick_nodes(&mut self, channels: &[Channel], line: u32) -> Result<(), ReplayRefusal>
-        ensures { Runs (course self.old) (course self.new) (λ w. lines.tick_from channels.now line 0 (length w.nodes) w) result }
+    fn tick_nodes(&mut self, line: u32) -> Result<(), ReplayRefusal>
+        ensures { Runs (course self.old) (course self.new) (λ w. lines.tick_from line 0 (length w.nodes) w) result }
     {
         for at in 0..self.nodes.len() {
-            self.tick_node(channels, line, at)?;
+            self.tick_node(line, at)?;
         }
         Ok(())
     }
 
-    fn tick_node(&mut self, channels: &[Channel], line: u32, at: usize) -> Result<(), ReplayRefusal>
-        ensures { Runs (course self.old) (course self.new) (lines.tick_node channels.now line at) result }
+    fn tick_node(&mut self, line: u32, at: usize) -> Result<(), ReplayRefusal>
+        ensures { Runs (course self.old) (course self.new) (lines.tick_node line at) result }
     {
         self.time_reaches(line, at)?;
-        self.put_in_air(channels, line, at, false)
+        self.put_in_air(line, at, false)
     }
 }

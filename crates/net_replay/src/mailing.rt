@@ -13,15 +13,15 @@ ghost use Rattle.net_replay.specs.World as worlds;
 use crate::answer::Answer;
 use crate::events::Event;
 use crate::mails::{Posting, keeps_mail, post_at};
-use crate::moves::World;
+use crate::places::LineAt;
 use crate::reasons::{LineRefusal, ReplayRefusal};
 use crate::refused::of_post;
+use crate::world::World;
 use ax_address::Call;
-use network_file::Channel;
 use node_core::UserAct;
 use radio_base::NoMemory;
 
-impl World {
+impl World<'_> {
     /// A mail is posted at the node of that number, or it is told why it isn't.
     pub fn post(
         &mut self,
@@ -64,32 +64,26 @@ impl World {
     }
 
     /// A turn of the agent of the node of that number. It takes in what waits at its ends, and offers what is queued.
-    pub fn mail(&mut self, channels: &[Channel], line: u32, node: u8) -> Result<(), ReplayRefusal>
-        ensures { Runs (course self.old) (course self.new) (mailing.mail channels.now line node) result }
+    pub fn mail(&mut self, line: u32, node: u8) -> Result<(), ReplayRefusal>
+        ensures { Runs (course self.old) (course self.new) (mailing.mail line node) result }
     {
         let at = self.place_of(node);
         if keeps_mail(&self.mails, at) {
-            self.agent_turn(channels, line, node, at)
+            self.agent_turn(LineAt { line, node, at })
         } else {
             self.refuse(line, LineRefusal::NoMail)?;
             Ok(())
         }
     }
 
-    fn agent_turn(
-        &mut self,
-        channels: &[Channel],
-        line: u32,
-        node: u8,
-        at: usize,
-    ) -> Result<(), ReplayRefusal>
-        ensures { Runs (course self.old) (course self.new) (mailing.agent_turn channels.now line node at) result }
+    fn agent_turn(&mut self, here: LineAt) -> Result<(), ReplayRefusal>
+        ensures { Runs (course self.old) (course self.new) (mailing.agent_turn here.line here.node here.at) result }
     {
         let mut answers = Vec::new(self.alloc);
-        self.take_at_ends(channels, line, node, at, &mut answers)?;
-        self.offer_at_ends(channels, line, node, at)?;
-        self.tell_each(line, answers)?;
-        self.put_in_air(channels, line, at, false)
+        self.take_at_ends(here, &mut answers)?;
+        self.offer_at_ends(here)?;
+        self.tell_each(here.line, answers)?;
+        self.put_in_air(here.line, here.at, false)
     }
 
     fn tell_each(&mut self, line: u32, events: Vec<Event>) -> Result<(), NoMemory>
@@ -102,39 +96,31 @@ impl World {
     }
 
     /// An act of the agent is an input of its node: what the inputs before it have put out is put in the air first.
-    fn input(
-        &mut self,
-        channels: &[Channel],
-        line: u32,
-        at: usize,
-        act: &UserAct,
-    ) -> Result<Answer, ReplayRefusal>
-        ensures goes { OnOk result (GoesOn (course self.old) (course self.new) (mailing.input channels.now line at (act_of act.now))) }
-        ensures answer { IfOk result (λ answer. (w : worlds.World) → Stands (course self.old) w → IsAnswerTo answer (worlds.answer at (act_of act.now) (mailing.aired_before channels.now line at w))) }
-        ensures err { IfErr result (λ e. Stops (course self.old) e (mailing.input channels.now line at (act_of act.now))) }
+    fn input(&mut self, here: LineAt, act: &UserAct) -> Result<Answer, ReplayRefusal>
+        ensures goes { OnOk result (GoesOn (course self.old) (course self.new) (mailing.input here.line here.at (act_of act.now))) }
+        ensures answer { IfOk result (λ answer. (w : worlds.World) → Stands (course self.old) w → IsAnswerTo answer (worlds.answer here.at (act_of act.now) (mailing.aired_before here.line here.at w))) }
+        ensures err { IfErr result (λ e. Stops (course self.old) e (mailing.input here.line here.at (act_of act.now))) }
     {
-        self.put_in_air(channels, line, at, false)?;
-        let answer = self.act_reaches(line, at, act)?;
+        self.put_in_air(here.line, here.at, false)?;
+        let answer = self.act_reaches(here.line, here.at, act)?;
         Ok(answer)
     }
 
     /// Writes a message at an end, where the end takes it: a refused one is no input. Whether it was written.
     fn write_if_taken(
         &mut self,
-        channels: &[Channel],
-        line: u32,
-        at: usize,
+        here: LineAt,
         id: u64,
         message: &[u8],
     ) -> Result<bool, ReplayRefusal>
-        ensures goes { OnOk result (GoesOn (course self.old) (course self.new) (mailing.write_if_taken channels.now line at id message.now)) }
-        ensures answer { IfOk result (λ written. (w : worlds.World) → Stands (course self.old) w → written ≡ mailing.may_write at id message.now w) }
-        ensures err { IfErr result (λ e. Stops (course self.old) e (mailing.write_if_taken channels.now line at id message.now)) }
+        ensures goes { OnOk result (GoesOn (course self.old) (course self.new) (mailing.write_if_taken here.line here.at id message.now)) }
+        ensures answer { IfOk result (λ written. (w : worlds.World) → Stands (course self.old) w → written ≡ mailing.may_write here.at id message.now w) }
+        ensures err { IfErr result (λ e. Stops (course self.old) e (mailing.write_if_taken here.line here.at id message.now)) }
     {
-        if !self.may_write(at, id, message) {
+        if !self.may_write(here.at, id, message) {
             return Ok(false);
         }
-        self.input(channels, line, at, &UserAct::Write { id, message })?;
+        self.input(here, &UserAct::Write { id, message })?;
         Ok(true)
     }
 }

@@ -2,7 +2,6 @@
 ghost use Rattle.std.specs.Prelude.{◌≡◌, ◌∷◌, [], ℕ, List, true, false, is_some, IfOk, IfSome, OnOk, length, slice_get, ◌<◌};
 ghost use Rattle.std.specs.List.{position_or_len};
 ghost use Rattle.std.specs.Option.{option_map};
-ghost use Rattle.network_file.specs.Channels as hearing;
 ghost use Rattle.node_core.specs.Standing.{entry_of};
 ghost use Rattle.node_core.specs.UserActs.{act_of};
 ghost use Rattle.node_core.specs.Broadcasts.{broadcast_octets};
@@ -15,36 +14,19 @@ ghost use Rattle.net_replay.specs.Running.{GoesOn, IsAnswerTo, Runs, Stands, cou
 ghost use Rattle.net_replay.specs.Starting.{has_number};
 ghost use Rattle.net_replay.specs.World as worlds;
 
-use crate::air::Air;
 use crate::answer::{Answer, answer_of};
-use crate::ends::Ends;
 use crate::events::{Event, NumberedEvent, datagram_event, entry_event};
 use crate::places::place_of;
 use crate::reasons::ReplayRefusal;
+use crate::world::World;
 use ax_address::Call;
 use link_table::{Written, WrittenAs};
-use network_file::{Channel, Declaration, is_on_air};
-use node_core::{Node, NodeEntry, UserAct, broadcast_frame};
-use node_mail::Store;
+use network_file::is_on_air;
+use node_core::{NodeEntry, UserAct, broadcast_frame};
 use nodes_broadcast::Nodes;
-use radio_base::{Moment, NoMemory};
-use std::alloc::Global;
+use radio_base::NoMemory;
 
-/// A replay while it runs: the nodes by number and their mail, the time, the frames in the air, and the events so far.
-#[derive(Drop)]
-pub struct World {
-    pub alloc: Global,
-    pub declared: Vec<Declaration>,
-    pub nodes: Vec<Node>,
-    /// The mail of each node, by place; none where a node keeps no mail.
-    pub mails: Vec<Option<Store>>,
-    pub time: Moment,
-    pub air: Air,
-    pub ends: Ends,
-    pub events: Vec<NumberedEvent>,
-}
-
-impl World {
+impl World<'_> {
     /// The place of the node of that number, or how many nodes there are.
     pub fn place_of(&self, number: u8) -> usize
         ensures { result ≡ position_or_len (has_number number) self.now.declared.items }
@@ -251,18 +233,13 @@ impl World {
     /// Puts all frames of the node at a place in the air, where it is on a channel. A frame that is repeated was written as the
     /// frame that came.
     #[inline(always)]
-    pub fn put_in_air(
-        &mut self,
-        channels: &[Channel],
-        line: u32,
-        at: usize,
-        came128: bool,
-    ) -> Result<(), ReplayRefusal>
-        ensures { Runs (course self.old) (course self.new) (worlds.put channels.now line at came128) result }
+    pub fn put_in_air(&mut self, line: u32, at: usize, came128: bool) -> Result<(), ReplayRefusal>
+        ensures { Runs (course self.old) (course self.new) (worlds.put line at came128) result }
     {
         if at < self.declared.len() {
             let node = self.declared[at].node;
-            self.put_frames(channels, line, at, node, came128)
+            let on_air = is_on_air(self.channels, node);
+            self.put_frames(line, at, node, on_air, came128)
         } else {
             Ok(())
         }
@@ -270,16 +247,16 @@ impl World {
 
     fn put_frames(
         &mut self,
-        channels: &[Channel],
         line: u32,
         at: usize,
         node: u8,
+        on_air: bool,
         came128: bool,
     ) -> Result<(), ReplayRefusal>
-        ensures { Runs (course self.old) (course self.new) (running.put_by line at node (hearing.is_on_air channels.now node) came128) result }
+        ensures { Runs (course self.old) (course self.new) (running.put_by line at node on_air came128) result }
     {
         while let Some(written) = self.next_frame(at) {
-            self.put_frame(channels, line, node, came128, written)?;
+            self.put_frame(line, node, on_air, came128, written)?;
         }
         Ok(())
     }
@@ -300,16 +277,16 @@ impl World {
     /// Puts a frame of a node in the air, where the node is on a channel.
     fn put_frame(
         &mut self,
-        channels: &[Channel],
         line: u32,
         node: u8,
+        on_air: bool,
         came128: bool,
         written: Written,
     ) -> Result<(), ReplayRefusal>
-        ensures runs { Runs (course self.old) (course self.new) (running.airs line (running.aired_one (hearing.is_on_air channels.now node) node came128 written)) result }
+        ensures runs { Runs (course self.old) (course self.new) (running.airs line (running.aired_one on_air node came128 written)) result }
         ensures nodes { self.new.nodes.items ≡ self.old.nodes.items }
     {
-        if is_on_air(channels, node) {
+        if on_air {
             let modulo128 = is_modulo128(came128, written.how);
             self.air.put(node, written.octets, modulo128)?;
             let frame = self.air.frames().len() as u32;

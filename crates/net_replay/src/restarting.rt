@@ -7,13 +7,13 @@ ghost use Rattle.net_replay.specs.Running.{GoesOn, Stands, course};
 ghost use Rattle.net_replay.specs.World as worlds;
 
 use crate::events::{Event, LostEnd};
-use crate::moves::World;
 use crate::stations::started;
+use crate::world::World;
 use circuit_l4::{EndFacts, Pair};
 use network_file::{Declaration, Network};
 use radio_base::{COUNT_MAX, NoMemory};
 
-impl World {
+impl World<'_> {
     /// The node of that number starts again, at a pair: its ends are lost.
     pub fn restart(
         &mut self,
@@ -49,7 +49,7 @@ impl World {
         requires pair { IsPair pair }
         requires within { at < length self.old.nodes.items }
         requires number { declared.now ≡ slice_index_or self.old.declared.items at declared.now }
-        ensures { OnOk result (GoesOn (course self.old) (course self.new) (λ w. lines.restart_of network.now line at pair (slice_get w.nodes at) w)) }
+        ensures { OnOk result (GoesOn (course self.old) (course self.new) (worlds.at_node at (lines.restarts network.now line at pair))) }
     {
         let node = declared.node;
         let made = self.ends.of_node(node).len() as u64;

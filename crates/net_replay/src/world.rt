@@ -1,145 +1,53 @@
-//! What each line does: something reaches a node, events are told, a node's frames are put in the air.
-ghost use Rattle.std.specs.Prelude.{◌≡◌, ◌≤◌, ◌∷◌, [], OnOk, length, slice_get, filter};
-ghost use Rattle.circuit_set.specs.Pairs.{IsPair};
-ghost use Rattle.network_file.specs.Channels.{can_hear, hearers};
-ghost use Rattle.std.specs.List.{AllByRecursion};
-ghost use Rattle.net_replay.specs.CircuitRuns.{IsInstruction, IsLine};
-ghost use Rattle.net_replay.specs.Lines as lines;
-ghost use Rattle.net_replay.specs.Running.{GoesOn, Runs, course};
-ghost use Rattle.net_replay.specs.Running as running;
+//! A replay while it runs, and its start.
+ghost use Rattle.std.specs.Prelude.{◌≡◌, IfOk};
+ghost use Rattle.circuit_set.specs.Runs.{AreStarts};
+ghost use Rattle.net_replay.specs.CircuitRuns.{first_sets};
+ghost use Rattle.net_replay.specs.Running.{Stands, course};
 ghost use Rattle.net_replay.specs.World as worlds;
 
-use crate::moves::World;
-use crate::reasons::ReplayRefusal;
-use crate::stations::is_callsign;
-use circuit_l4::Pair;
-use network_file::{Instruction, Network, NumberedInstruction};
-use node_core::UserAct;
+use crate::air::Air;
+use crate::ends::Ends;
+use crate::events::NumberedEvent;
+use crate::mails::new_mails;
+use crate::stations::{declared_by_number, nodes_of};
+use network_file::{Channel, Declaration, Network};
+use node_core::Node;
+use node_mail::Store;
+use radio_base::{Moment, NoMemory};
+use std::alloc::Global;
 
-impl World {
-    /// Does one instruction after another.
-    pub fn do_all(
-        &mut self,
-        network: &Network,
-        instructions: &[NumberedInstruction],
-    ) -> Result<(), ReplayRefusal>
-        ensures runs { Runs (course self.old) (course self.new) (lines.do_lines network.now instructions.now) result }
-        ensures sound { OnOk result (AllByRecursion IsLine instructions.now) }
-    {
-        for numbered in instructions {
-            is_instruction(&numbered.instruction);
-            self.do_line(network, numbered.line, &numbered.instruction)?;
-        }
-        Ok(())
-    }
-
-    /// Does what a line says.
-    fn do_line(
-        &mut self,
-        network: &Network,
-        line: u32,
-        instruction: &Instruction,
-    ) -> Result<(), ReplayRefusal>
-        ensures { Runs (course self.old) (course self.new) (lines.do_line network.now line instruction.now) result }
-    {
-        let channels = network.channels();
-        match instruction {
-            Instruction::Heard { node, call, nodes } => {
-                self.hear_broadcast(channels, line, *node, call, nodes.as_nodes())
-            }
-            Instruction::Lock {
-                node,
-                dest,
-                alias,
-                neighbour,
-                quality,
-            } => {
-                let act = UserAct::Lock {
-                    dest: *dest,
-                    alias: *alias,
-                    neighbour: *neighbour,
-                    quality: *quality,
-                };
-                self.act(channels, line, *node, &act)
-            }
-            Instruction::Round { node } => self.act(channels, line, *node, &UserAct::Round),
-            Instruction::LinkFail { node, call } => self.act(
-                channels,
-                line,
-                *node,
-                &UserAct::LinkFail(*call),
-            ),
-            Instruction::Show { node } => {
-                self.show(line, *node)?;
-                Ok(())
-            }
-            Instruction::Tick { milliseconds } => self.tick(channels, line, *milliseconds),
-            Instruction::Restart { node, pair } => {
-                let pair = Pair {
-                    index: pair.index(),
-                    ident: pair.ident(),
-                };
-                self.restart(network, line, *node, pair)?;
-                Ok(())
-            }
-            Instruction::Open { node, dest } => self.act(
-                channels,
-                line,
-                *node,
-                &UserAct::Connect(*dest),
-            ),
-            Instruction::Post {
-                node,
-                to,
-                dest,
-                text,
-            } => {
-                self.post(line, *node, to, dest, text.as_slice())?;
-                Ok(())
-            }
-            Instruction::Mail { node } => self.mail(channels, line, *node),
-            Instruction::Say { node, end, text } => self.say(
-                channels,
-                line,
-                *node,
-                *end,
-                text.as_slice(),
-            ),
-            Instruction::Burst { node, end, count } => self.burst(
-                channels, line, *node, *end, *count,
-            ),
-            Instruction::Take { node, end } => self.take(channels, line, *node, *end),
-            Instruction::Close { node, end } => self.act(
-                channels,
-                line,
-                *node,
-                &UserAct::Close { id: *end as u64 },
-            ),
-            Instruction::Deliver { frame, node } => self.deliver(channels, line, *frame, *node),
-            Instruction::Again { frame, node } => self.repeat(channels, line, *frame, *node),
-            Instruction::Lose { frame } => {
-                self.lose(line, *frame)?;
-                Ok(())
-            }
-            Instruction::Flow { count } => self.flow(channels, line, *count),
-            Instruction::Cut { count } => {
-                self.cut(line, *count)?;
-                Ok(())
-            }
-        }
-    }
+/// A replay while it runs: the channels, the nodes by number and their mail, the time, the frames in the air, and the events so far.
+#[derive(Drop)]
+pub struct World<'a> {
+    pub alloc: Global,
+    pub channels: &'a [Channel],
+    pub declared: Vec<Declaration>,
+    pub nodes: Vec<Node>,
+    /// The mail of each node, by place; none where a node keeps no mail.
+    pub mails: Vec<Option<Store>>,
+    pub time: Moment,
+    pub air: Air,
+    pub ends: Ends,
+    pub events: Vec<NumberedEvent>,
 }
 
-/// What holds of every instruction: a circuit is asked for with a callsign, and a node starts again with a pair.
-fn is_instruction(instruction: &Instruction)
-    ensures { IsInstruction instruction.now }
+/// The nodes as they start, at time 0.
+pub fn start(alloc: Global, network: &Network) -> Result<World<'_>, NoMemory>
+    ensures stands { IfOk result (λ world. Stands (course world) (worlds.start network.now)) }
+    ensures starts { IfOk result (λ _. AreStarts (first_sets network.now)) }
 {
-    match instruction {
-        Instruction::Open { dest, .. } => is_callsign(dest),
-        Instruction::Restart { pair, .. } => {
-            let _ = pair.index();
-            let _ = pair.ident();
-        }
-        _ => {}
-    }
+    let declared = declared_by_number(alloc, network)?;
+    let nodes = nodes_of(alloc, network, &declared)?;
+    let mails = new_mails(alloc, network, &declared)?;
+    Ok(World {
+        alloc,
+        channels: network.channels(),
+        declared,
+        nodes,
+        mails,
+        time: Moment(0),
+        air: Air::new(alloc),
+        ends: Ends::new(alloc)?,
+        events: Vec::new(alloc),
+    })
 }

@@ -12,7 +12,7 @@ ghost use Rattle.net_replay.specs.Mailing.{ends_here};
 ghost use Rattle.net_replay.specs.Running.{Stands, course};
 ghost use Rattle.net_replay.specs.World as worlds;
 
-use crate::moves::World;
+use crate::world::World;
 use ax_address::Call;
 use circuit_l4::{End, EndPhase};
 use radio_base::NoMemory;
@@ -20,7 +20,7 @@ use radio_base::NoMemory;
 /// A node holds 64 ends at most.
 const MAX_ENDS: usize = 64;
 
-impl World {
+impl World<'_> {
     /// The ends that the node at a place holds, by number. They are named first, since taking its last message takes an ended end
     /// away.
     pub fn held_ids(&self, at: usize) -> Result<Vec<u64>, NoMemory>

@@ -13,11 +13,11 @@ ghost use Rattle.net_replay.specs.Running.{Runs, course};
 use crate::answer::Answer;
 use crate::events::{Event, StoredMail};
 use crate::mails::hear_at;
-use crate::moves::World;
+use crate::places::LineAt;
 use crate::reasons::ReplayRefusal;
+use crate::world::World;
 use ax_address::Call;
 use l3_datagram::Message;
-use network_file::Channel;
 use node_core::UserAct;
 use node_mail::Heard;
 use radio_base::NoMemory;
@@ -27,21 +27,18 @@ const MAX_TAKES: usize = 100_000;
 /// Where the text of a mail begins in the message that offers it.
 const TEXT_AT: usize = 16;
 
-impl World {
+impl World<'_> {
     /// Takes in what waits at the ends of the node at a place, by number. `answers` gets what the line is to answer.
     pub fn take_at_ends(
         &mut self,
-        channels: &[Channel],
-        line: u32,
-        node: u8,
-        at: usize,
+        here: LineAt,
         answers: &mut Vec<Event>,
     ) -> Result<(), ReplayRefusal>
-        ensures { AgentRuns (course self.old) answers.old.items (course self.new) answers.new.items (λ a. mailing.take_at channels.now line node at (held_ids (ends_here at a.world)) a) result }
+        ensures { AgentRuns (course self.old) answers.old.items (course self.new) answers.new.items (λ a. mailing.take_at here.line here.node here.at (held_ids (ends_here here.at a.world)) a) result }
     {
-        let ids = self.held_ids(at)?;
+        let ids = self.held_ids(here.at)?;
         for id in ids.as_slice() {
-            self.take_all(channels, line, node, at, *id, answers)?;
+            self.take_all(here, *id, answers)?;
         }
         Ok(())
     }
@@ -49,17 +46,14 @@ impl World {
     /// Takes one message after another at an end, until none waits.
     fn take_all(
         &mut self,
-        channels: &[Channel],
-        line: u32,
-        node: u8,
-        at: usize,
+        here: LineAt,
         id: u64,
         answers: &mut Vec<Event>,
     ) -> Result<(), ReplayRefusal>
-        ensures { AgentRuns (course self.old) answers.old.items (course self.new) answers.new.items (mailing.take_all channels.now line node at id) result }
+        ensures { AgentRuns (course self.old) answers.old.items (course self.new) answers.new.items (mailing.take_all here.line here.node here.at id) result }
     {
         for _ in 0..MAX_TAKES {
-            let has_taken = self.take_one(channels, line, node, at, id, answers)?;
+            let has_taken = self.take_one(here, id, answers)?;
             if !has_taken {
                 return Ok(());
             }
@@ -70,25 +64,22 @@ impl World {
     /// Takes the first message that waits at an end, and hears it. Whether there was one.
     fn take_one(
         &mut self,
-        channels: &[Channel],
-        line: u32,
-        node: u8,
-        at: usize,
+        here: LineAt,
         id: u64,
         answers: &mut Vec<Event>,
     ) -> Result<bool, ReplayRefusal>
-        ensures ok { IfOk result (λ took. (more : ℕ) → agents.Takes (course self.old) answers.old.items (course self.new) answers.new.items (mailing.take_from channels.now line node at id (suc more)) (mailing.take_from channels.now line node at id more) took) }
-        ensures err { IfErr result (λ e. (more : ℕ) → AgentRuns (course self.old) answers.old.items (course self.new) answers.new.items (mailing.take_from channels.now line node at id (suc more)) (Err e)) }
+        ensures ok { IfOk result (λ took. (more : ℕ) → agents.Takes (course self.old) answers.old.items (course self.new) answers.new.items (mailing.take_from here.line here.node here.at id (suc more)) (mailing.take_from here.line here.node here.at id more) took) }
+        ensures err { IfErr result (λ e. (more : ℕ) → AgentRuns (course self.old) answers.old.items (course self.new) answers.new.items (mailing.take_from here.line here.node here.at id (suc more)) (Err e)) }
     {
-        if !self.has_message(at, id) {
+        if !self.has_message(here.at, id) {
             return Ok(false);
         }
-        let from = self.partner_at(at, id);
-        let answer = self.input(channels, line, at, &UserAct::Take { id })?;
+        let from = self.partner_at(here.at, id);
+        let answer = self.input(here, &UserAct::Take { id })?;
         match answer {
             Answer::Took(message) => match from {
                 Some(from) => {
-                    self.hear(channels, line, node, at, id, &from, &message, answers)?;
+                    self.hear(here, id, &from, &message, answers)?;
                     Ok(true)
                 }
                 None => Ok(true),
@@ -101,43 +92,33 @@ impl World {
     /// Hears a message that was taken at an end, of the node of its partner, and writes the answer there.
     fn hear(
         &mut self,
-        channels: &[Channel],
-        line: u32,
-        node: u8,
-        at: usize,
+        here: LineAt,
         id: u64,
         from: &Call,
         message: &[u8],
         answers: &mut Vec<Event>,
     ) -> Result<(), ReplayRefusal>
-        ensures { AgentRuns (course self.old) answers.old.items (course self.new) answers.new.items (λ a. mailing.heard_by channels.now line node at id message.now (Some from.now) (mailing.mail_at at a.world) a) result }
+        ensures { AgentRuns (course self.old) answers.old.items (course self.new) answers.new.items (λ a. mailing.heard_by here.line here.node here.at id message.now (Some from.now) (mailing.mail_at here.at a.world) a) result }
     {
         let mut out = Message::new();
-        let outcome = hear_at(&mut self.mails, at, from, message, &mut out)?;
+        let outcome = hear_at(&mut self.mails, here.at, from, message, &mut out)?;
         match outcome {
             Some(heard) => {
-                self.note_heard(node, from, message.len(), &heard, answers)?;
-                self.write_answer(channels, line, at, id, out.as_slice())
+                self.note_heard(here.node, from, message.len(), &heard, answers)?;
+                self.write_answer(here, id, out.as_slice())
             }
             None => Ok(()),
         }
     }
 
     /// Writes an answer at an end, where there is one: it isn't empty.
-    fn write_answer(
-        &mut self,
-        channels: &[Channel],
-        line: u32,
-        at: usize,
-        id: u64,
-        answer: &[u8],
-    ) -> Result<(), ReplayRefusal>
-        ensures { (wire : Option Wire) → answer.now ≡ octets_in wire → Runs (course self.old) (course self.new) (mailing.write_answer_to channels.now line at id wire) result }
+    fn write_answer(&mut self, here: LineAt, id: u64, answer: &[u8]) -> Result<(), ReplayRefusal>
+        ensures { (wire : Option Wire) → answer.now ≡ octets_in wire → Runs (course self.old) (course self.new) (mailing.write_answer_to here.line here.at id wire) result }
     {
         if answer.is_empty() {
             return Ok(());
         }
-        self.write_if_taken(channels, line, at, id, answer)?;
+        self.write_if_taken(here, id, answer)?;
         Ok(())
     }
 

@@ -1,0 +1,23 @@
+use Rattle.std.proofs.Common.{sym, subst}
+use Rattle.std.proofs.lemmas.Result.{err_from_is_err_and}
+use Rattle.net_replay.specs.Lines.{world}
+use Rattle.net_replay.specs.Traces.{IsTraceOf, Left}
+use Rattle.net_replay.specs.World.{start}
+use Rattle.net_replay.proofs.replaying.replay.Goals as goal
+
+pub returns-clause-ok : goal.returns-clause-ok
+unfolding world
+returns-clause-ok c =
+    let plan = c.args.network.now in
+    let all = rw c.instructions.ensures at c.in_ok-do_all.ensures.runs in
+    let there = all (start plan) c.in_ok-world.ensures.stands in
+    subst (λ (l : Left). IsTraceOf l (world plan)) (sym c.new.ensures.left) there.trace
+
+pub returns-in_err-do_all-clause-err : goal.returns-in_err-do_all-clause-err
+unfolding world
+returns-in_err-do_all-clause-err c =
+    let p = err_from_is_err_and c.from_residual-in_err-do_all.result c.from_residual-in_err-do_all.ensures.1 in
+    rw (p.1, p.2) ((rw c.instructions.ensures at c.in_err-do_all.ensures.runs) (start c.args.network.now) c.in_ok-world.ensures.stands)
+
+pub returns-clause-sound : goal.returns-clause-sound
+returns-clause-sound c = record { starts = c.in_ok-world.ensures.starts; instructions = rw c.instructions.ensures at c.in_ok-do_all.ensures.sound }

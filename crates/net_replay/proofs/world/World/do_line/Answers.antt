@@ -1,0 +1,4 @@
+use Rattle.net_replay.proofs.world.World.do_line.Goals as goal
+
+pub returns-in-Heard : goal.returns-in-Heard
+returns-in-Heard c = rw c.in-Heard.is (rw c.as_nodes.ensures at c.hear_broadcast.ensures)

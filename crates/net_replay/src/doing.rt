@@ -1,0 +1,114 @@
+//! What each line does: something reaches a node, events are told, a node's frames are put in the air.
+ghost use Rattle.std.specs.Prelude.{◌≡◌, ◌∷◌, [], OnOk};
+ghost use Rattle.std.specs.List.{AllByRecursion};
+ghost use Rattle.net_replay.specs.CircuitRuns.{IsInstruction, IsLine};
+ghost use Rattle.net_replay.specs.Lines as lines;
+ghost use Rattle.net_replay.specs.Running.{GoesOn, Runs, course};
+ghost use Rattle.net_replay.specs.Running as running;
+ghost use Rattle.net_replay.specs.World as worlds;
+
+use crate::reasons::ReplayRefusal;
+use crate::stations::is_callsign;
+use crate::world::World;
+use circuit_l4::Pair;
+use network_file::{Instruction, Network, NumberedInstruction};
+use node_core::UserAct;
+
+impl World<'_> {
+    /// Does one instruction after another.
+    pub fn do_all(
+        &mut self,
+        network: &Network,
+        instructions: &[NumberedInstruction],
+    ) -> Result<(), ReplayRefusal>
+        ensures runs { Runs (course self.old) (course self.new) (lines.do_lines network.now instructions.now) result }
+        ensures sound { OnOk result (AllByRecursion IsLine instructions.now) }
+    {
+        for numbered in instructions {
+            is_instruction(&numbered.instruction);
+            self.do_line(network, numbered.line, &numbered.instruction)?;
+        }
+        Ok(())
+    }
+
+    /// Does what a line says.
+    fn do_line(
+        &mut self,
+        network: &Network,
+        line: u32,
+        instruction: &Instruction,
+    ) -> Result<(), ReplayRefusal>
+        ensures { Runs (course self.old) (course self.new) (lines.do_line network.now line instruction.now) result }
+    {
+        match instruction {
+            Instruction::Heard { node, call, nodes } => {
+                self.hear_broadcast(line, *node, call, nodes.as_nodes())
+            }
+            Instruction::Lock {
+                node,
+                dest,
+                alias,
+                neighbour,
+                quality,
+            } => {
+                let act = UserAct::Lock {
+                    dest: *dest,
+                    alias: *alias,
+                    neighbour: *neighbour,
+                    quality: *quality,
+                };
+                self.act(line, *node, &act)
+            }
+            Instruction::Round { node } => self.act(line, *node, &UserAct::Round),
+            Instruction::LinkFail { node, call } => self.act(
+                line,
+                *node,
+                &UserAct::LinkFail(*call),
+            ),
+            Instruction::Show { node } => Ok(self.show(line, *node)?),
+            Instruction::Tick { milliseconds } => self.tick(line, *milliseconds),
+            Instruction::Restart { node, pair } => {
+                let pair = Pair {
+                    index: pair.index(),
+                    ident: pair.ident(),
+                };
+                Ok(self.restart(network, line, *node, pair)?)
+            }
+            Instruction::Open { node, dest } => self.act(line, *node, &UserAct::Connect(*dest)),
+            Instruction::Post {
+                node,
+                to,
+                dest,
+                text,
+            } => { Ok(self.post(line, *node, to, dest, text.as_slice())?) }
+            Instruction::Mail { node } => self.mail(line, *node),
+            Instruction::Say { node, end, text } => self.say(line, *node, *end, text.as_slice()),
+            Instruction::Burst { node, end, count } => self.burst(line, *node, *end, *count),
+            Instruction::Take { node, end } => self.take(line, *node, *end),
+            Instruction::Close { node, end } => self.act(
+                line,
+                *node,
+                &UserAct::Close { id: *end as u64 },
+            ),
+            Instruction::Deliver { frame, node } => self.deliver(line, *frame, *node),
+            Instruction::Again { frame, node } => self.repeat(line, *frame, *node),
+            Instruction::Lose { frame } => Ok(self.lose(line, *frame)?),
+            Instruction::Flow { count } => self.flow(line, *count),
+            Instruction::Cut { count } => Ok(self.cut(line, *count)?),
+        }
+    }
+}
+
+/// What holds of every instruction: a circuit is asked for with a callsign, and a node starts again with a pair.
+fn is_instruction(instruction: &Instruction)
+    ensures { IsInstruction instruction.now }
+{
+    match instruction {
+        Instruction::Open { dest, .. } => is_callsign(dest),
+        Instruction::Restart { pair, .. } => {
+            let _ = pair.index();
+            let _ = pair.ident();
+        }
+        _ => {}
+    }
+}
