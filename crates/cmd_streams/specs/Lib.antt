@@ -8,3 +8,5 @@ pub mod Streams
 pub mod Told
 pub mod Wider
 pub mod Writing
+pub mod Comings
+pub mod ToldBy

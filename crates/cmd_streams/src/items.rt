@@ -6,7 +6,7 @@ ghost use Rattle.kiss_framing.specs.Stream.{Item, items};
 ghost use Rattle.cmd_streams.specs.StatusNotes.{HasNote, IsSilent};
 ghost use Rattle.cmd_streams.specs.StreamEnds.{StreamEnds};
 ghost use Rattle.cmd_streams.specs.Streams.{bytes_of};
-ghost use Rattle.cmd_streams.specs.Told.{told};
+ghost use Rattle.cmd_streams.specs.ToldBy.{told_by};
 ghost use Rattle.cmd_streams.specs.Writing.{Says};
 
 use crate::status::Status;
@@ -123,8 +123,8 @@ pub fn answer_items<T: ItemTaker + Drop, S: Source, K: Sink, N: Sink>(
 
     // How it ends: what was written is what the taker answered, and each status has its reason.
     ensures ends { StreamEnds (length buf.old) (λ reads text. (last : T) × T.took taker last (items (bytes_of reads)) text) None None
-        (told (S.left source.old) (S.reads source.old) (S.faults source.old) (K.written sink.old) (K.faults sink.old) (N.written notes.old) (N.faults notes.old))
-        (told (S.left source.new) (S.reads source.new) (S.faults source.new) (K.written sink.new) (K.faults sink.new) (N.written notes.new) (N.faults notes.new)) result }
+        (told_by S.Source K.Sink N.Sink source.old sink.old notes.old)
+        (told_by S.Source K.Sink N.Sink source.new sink.new notes.new) result }
 
     // Nothing else is noted.
     ensures noted { HasNote result (Says (N.written notes.old) (N.written notes.new) (N.faults notes.old) (N.faults notes.new)) }

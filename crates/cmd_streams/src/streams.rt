@@ -6,7 +6,7 @@ ghost use Rattle.cmd_streams.specs.Answering.{WhyNoAnswer};
 ghost use Rattle.cmd_streams.specs.StatusNotes.{HasNote, IsSilent};
 ghost use Rattle.cmd_streams.specs.StreamEnds.{StreamEnds};
 ghost use Rattle.cmd_streams.specs.Streams.{Read, AnswersAll, WhyUnanswered, input_of, read_of};
-ghost use Rattle.cmd_streams.specs.Told.{told};
+ghost use Rattle.cmd_streams.specs.ToldBy.{told_by};
 ghost use Rattle.cmd_streams.specs.Writing.{Says};
 
 use crate::notes::{READ_FAULT, TOO_LONG, say};
@@ -56,8 +56,8 @@ pub fn answer_stream<T: Taker, S: Source, K: Sink, N: Sink, C: Clock>(
 
     // How it ends: what was written is what the taker answered, and each status has its reason.
     ensures ends { StreamEnds (length buf.old) (λ reads text. (last : T) × T.took taker.old last reads text) (C.given clock.old) (C.given clock.new)
-        (told (S.left source.old) (S.reads source.old) (S.faults source.old) (K.written sink.old) (K.faults sink.old) (N.written notes.old) (N.faults notes.old))
-        (told (S.left source.new) (S.reads source.new) (S.faults source.new) (K.written sink.new) (K.faults sink.new) (N.written notes.new) (N.faults notes.new)) result }
+        (told_by S.Source K.Sink N.Sink source.old sink.old notes.old)
+        (told_by S.Source K.Sink N.Sink source.new sink.new notes.new) result }
     ensures taken { result ≡ Done → AnswersAll (length buf.old) (λ reads text. T.took taker.old taker.new reads text) (input_of (S.left source.old) (S.reads source.old) (C.given clock.old)) (input_of (S.left source.new) (S.reads source.new) (C.given clock.new)) (K.written sink.old) (K.written sink.new) }
 
     // Nothing else is noted.

@@ -11,8 +11,8 @@ use Rattle.frame_lines.specs.declared.listener.Modulo.{Modulo}
 use Rattle.frame_lines.specs.Hearing.{Listening, by_items}
 use Rattle.kiss_framing.specs.Stream.{items}
 use Rattle.net_replay.specs.Files.{AirsTooMany}
-use Rattle.look_cmd.specs.Statuses.{Comes, ReadsWell, WritesWell}
-use Rattle.look_cmd.specs.ToldBy.{IsNoted}
+use Rattle.cmd_streams.specs.Comings.{Comes, ReadsWell, WritesWell}
+use Rattle.cmd_streams.specs.ToldBy.{IsNoted}
 use Rattle.look_cmd.specs.Traced.{ReadsBadFile, ReadsNetwork, TellsBadFile, TellsInTime, TellsLate, TellsTooManyFrames, TracesInTime, TracesLate, WritesFront}
 
 -- a listener that has heard nothing

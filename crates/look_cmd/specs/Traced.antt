@@ -19,8 +19,8 @@ use Rattle.net_replay.specs.Circuits.{IsVerdictOn, allowance_of}
 use Rattle.net_replay.specs.Files.{AirsFew, AirsTooMany, IsInTime, IsLate, IsNetwork}
 use Rattle.net_replay.specs.Lines.{world}
 use Rattle.net_replay.specs.Traces.{IsTraceOf, allowance_in, left_of}
-use Rattle.look_cmd.specs.Statuses.{Comes, WritesWell}
-use Rattle.look_cmd.specs.ToldBy.{IsNoted}
+use Rattle.cmd_streams.specs.Comings.{Comes, WritesWell}
+use Rattle.cmd_streams.specs.ToldBy.{IsNoted}
 use Rattle.look_cmd.specs.declared.traces.TraceRefusal.{TraceRefusal}
 use Rattle.look_cmd.specs.declared.traces.TraceRefusal.TheVariants.{BadLine, TooManyFrames, NoMemory}
 use Rattle.trace_lines.specs.Texts.{trace_text}

@@ -1,8 +1,8 @@
 //! The top call.
 ghost use Rattle.std.specs.Prelude.{◌≡◌, ◌↔◌};
 ghost use Rattle.cmd_streams.specs.StatusNotes.{HasNote, IsSilent};
-ghost use Rattle.look_cmd.specs.ToldBy.{SaysTo, told_by};
-ghost use Rattle.look_cmd.specs.Statuses.{UnlessItWrote};
+ghost use Rattle.cmd_streams.specs.ToldBy.{SaysTo, told_by};
+ghost use Rattle.cmd_streams.specs.Comings.{UnlessItWrote};
 ghost use Rattle.frame_lines.specs.declared.listener.Modulo.{Modulo};
 ghost use Rattle.look_cmd.specs.declared.words.Command.{Command};
 ghost use Rattle.look_cmd.specs.Look.{ListenEnds, TraceEnds};

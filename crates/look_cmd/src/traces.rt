@@ -2,8 +2,8 @@
 ghost use Rattle.std.specs.Prelude.{◌≡◌, ◌≤◌, length, Ok, IfOk, IfErr};
 ghost use Rattle.cmd_streams.specs.Reading.{max_file};
 ghost use Rattle.cmd_streams.specs.StatusNotes.{HasNote, IsSilent};
-ghost use Rattle.look_cmd.specs.ToldBy.{SaysTo, output_by, told_by};
-ghost use Rattle.look_cmd.specs.Statuses.{UnlessItWrote};
+ghost use Rattle.cmd_streams.specs.ToldBy.{SaysTo, output_by, told_by};
+ghost use Rattle.cmd_streams.specs.Comings.{UnlessItWrote};
 ghost use Rattle.network_file.specs.Networks.{network_of};
 ghost use Rattle.network_file.specs.Plan.{Plan};
 ghost use Rattle.net_replay.specs.Air.{most_frames};

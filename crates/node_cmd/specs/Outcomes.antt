@@ -16,8 +16,8 @@ use Rattle.net_replay.specs.Reports.{report_text}
 use Rattle.net_replay.specs.Soaks.{soak_text}
 use Rattle.net_replay.specs.Traces.{IsTraceOf, allowance_in, left_of}
 use Rattle.net_replay.specs.World.{World}
-use Rattle.node_cmd.specs.Statuses.{Comes, WritesWell}
-use Rattle.node_cmd.specs.ToldBy.{IsNoted}
+use Rattle.cmd_streams.specs.Comings.{Comes, WritesWell}
+use Rattle.cmd_streams.specs.ToldBy.{IsNoted}
 use Rattle.node_cmd.specs.declared.outcomes.Outcome.{Outcome}
 use Rattle.node_cmd.specs.declared.outcomes.Printed.{Printed}
 use Rattle.node_cmd.specs.declared.outcomes.Printed.TheVariants.{Report, SoakLine}

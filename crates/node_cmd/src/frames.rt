@@ -1,6 +1,6 @@
 //! The command `frames`.
 ghost use Rattle.std.specs.Prelude.{◌≡◌};
-ghost use Rattle.node_cmd.specs.ToldBy.{SaysTo, told_by};
+ghost use Rattle.cmd_streams.specs.ToldBy.{SaysTo, told_by};
 ghost use Rattle.cmd_streams.specs.StatusNotes.{HasNote, IsSilent};
 ghost use Rattle.node_cmd.specs.Run.{FramesEnd};
 ghost use Rattle.node_cmd.specs.FrameModuli.{size_of};

@@ -1,7 +1,7 @@
 //! The command `ip`.
 ghost use Rattle.std.specs.Prelude.{◌≡◌};
 ghost use Rattle.ax_ip.specs.Machine.{state};
-ghost use Rattle.node_cmd.specs.ToldBy.{SaysTo, told_by};
+ghost use Rattle.cmd_streams.specs.ToldBy.{SaysTo, told_by};
 ghost use Rattle.cmd_streams.specs.StatusNotes.{HasNote, IsSilent};
 ghost use Rattle.node_cmd.specs.Run.{IpEnds};
 

@@ -6,7 +6,7 @@ ghost use Rattle.node_core.specs.Kept.{NodeGoes};
 ghost use Rattle.node_cmd.specs.Live as live;
 ghost use Rattle.node_cmd.specs.Run.{NodeEnds};
 ghost use Rattle.cmd_streams.specs.StatusNotes.{HasNote, IsSilent};
-ghost use Rattle.node_cmd.specs.ToldBy.{SaysTo, told_by};
+ghost use Rattle.cmd_streams.specs.ToldBy.{SaysTo, told_by};
 ghost use Rattle.node_cmd.specs.declared.ran.Ran.TheVariants as rans;
 
 use crate::ran::Ran;

@@ -5,7 +5,7 @@ ghost use Rattle.node_cmd.specs.Lives.{IsScript, report_of};
 ghost use Rattle.cmd_streams.specs.Reading.{max_file};
 ghost use Rattle.node_cmd.specs.Run.{LifeEnds};
 ghost use Rattle.cmd_streams.specs.StatusNotes.{HasNote, IsSilent};
-ghost use Rattle.node_cmd.specs.ToldBy.{SaysTo, told_by};
+ghost use Rattle.cmd_streams.specs.ToldBy.{SaysTo, told_by};
 
 pub mod words;
 

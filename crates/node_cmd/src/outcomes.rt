@@ -9,8 +9,8 @@ ghost use Rattle.net_replay.specs.World.{World};
 ghost use Rattle.node_cmd.specs.Outcomes.{IfReplayed, IsOutcome, NetworkEnds, NotReported, text_of};
 ghost use Rattle.cmd_streams.specs.Reading.{max_file};
 ghost use Rattle.cmd_streams.specs.StatusNotes.{HasNote, IsSilent};
-ghost use Rattle.node_cmd.specs.ToldBy.{SaysTo, output_by};
-ghost use Rattle.node_cmd.specs.Statuses.{UnlessItWrote};
+ghost use Rattle.cmd_streams.specs.ToldBy.{SaysTo, output_by};
+ghost use Rattle.cmd_streams.specs.Comings.{UnlessItWrote};
 ghost use Rattle.node_cmd.specs.declared.outcomes.ReportRefusal.TheVariants as Refusal;
 ghost use Rattle.node_cmd.specs.declared.ran.Ran.TheVariants as rans;
 

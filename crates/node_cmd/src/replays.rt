@@ -1,7 +1,7 @@
 //! The command `replay`.
 ghost use Rattle.std.specs.Prelude.{◌≡◌, ◌≢◌};
-ghost use Rattle.node_cmd.specs.ToldBy.{SaysTo, told_by};
-ghost use Rattle.node_cmd.specs.Statuses.{UnlessItWrote};
+ghost use Rattle.cmd_streams.specs.ToldBy.{SaysTo, told_by};
+ghost use Rattle.cmd_streams.specs.Comings.{UnlessItWrote};
 ghost use Rattle.cmd_streams.specs.StatusNotes.{HasNote, IsSilent};
 ghost use Rattle.node_cmd.specs.Run.{ReplayEnds};
 ghost use Rattle.node_cmd.specs.declared.ran.Ran.TheVariants as rans;
