@@ -3,6 +3,7 @@ use arrayvec::ArrayVec;
 use ax_address::{Alias, Call};
 use node_prompt::{Action, Prompt, Sight, Trouble, View};
 use route_table::Route;
+use std::process::Abort;
 
 fn call(text: &str) -> Call {
     Call::read(text.as_bytes()).ok().unwrap_or_default()
