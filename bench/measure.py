@@ -59,7 +59,7 @@ def instructions(command, path=os.devnull):
     counted = ["valgrind", "--tool=callgrind", "--callgrind-out-file=/dev/null", "--trace-children=yes"]
     with open(path, "rb") as source:
         told = subprocess.run(counted + command, stdin=source, stdout=subprocess.DEVNULL, stderr=subprocess.PIPE, text=True)
-    return sum(int(count) for count in re.findall(r"Collected : (\d+)", told.stderr))
+    return sum(int(count) for count in re.findall(r"Collected : (\d+)", told.stderr)) or None
 
 
 def heads(other):
