@@ -13,6 +13,7 @@ use Rattle.ax_address.specs.Callsign.{padded}
 use Rattle.ax_address.specs.Octets.{is_char_octet, is_space_octet, good_octets, refusal_at, place_of, fault_in, address_fault, FaultIsFirst, FrontGoesOn}
 use Rattle.ax_address.proofs.CallOctets.{halves, doubles, chars, spaces, none_past, no_refusal}
 use Rattle.ax_address.proofs.AddressLaws.{name_has_none, doubles-padded}
+use Rattle.ax_address.proofs.CallFaults.{drop_front}
 
 -- ---- how many at the front pass a test, where the octets behind the first that doesn't are others
 
@@ -47,11 +48,6 @@ prefix_taken p [] (suc k) h = refl
 prefix_taken p (o ∷ os) zero h = none_passes p os (p o) h
 prefix_taken p (o ∷ os) (suc k) h = kept_step p (take k os) os o (p o) refl (λ e. prefix_taken p os k (not_more p os k (p o) e h))
 
-drop_kept : (n m : ℕ) (os more : List ℕ) → n + m ≤ length os → drop n (take (n + m) os ++ more) ≡ take m (drop n os) ++ more
-drop_kept zero m os more h = let e : 0 + m ≡ m = omega arith in rw e refl
-drop_kept (suc n) m [] more h = absurd (omega (arith, h))
-drop_kept (suc n) m (o ∷ os) more h = let e : suc n + m ≡ suc (n + m) = omega arith in rw e (drop_kept n m os more (omega (arith, h)))
-
 get_kept : (i k : ℕ) (os more : List ℕ) → i < k → i < length os → slice_get (take k os ++ more) i ≡ slice_get os i
 get_kept i k [] more h l = absurd (omega (arith, l))
 get_kept i zero (o ∷ os) more h l = absurd (omega (arith, h))
@@ -65,7 +61,7 @@ good_kept_by n g os more true e is l = is
 good_kept_by n g os more false e is l =
     let m = prefix_len is_space_octet (drop n os) in
     let next : g + 1 ≡ n + (m + 1) = omega (arith, is) in
-    let rest : drop n (take (g + 1) os ++ more) ≡ take (m + 1) (drop n os) ++ more = rw next (drop_kept n (m + 1) os more (omega (arith, is, l))) in
+    let rest : drop n (take (g + 1) os ++ more) ≡ take (m + 1) (drop n os) ++ more = rw next (drop_front n (m + 1) os more (omega (arith, is, l))) in
     let len : length (drop n os) ≡ length os - n = length-drop n os in
     let same : prefix_len is_space_octet (take (m + 1) (drop n os) ++ more) ≡ m = prefix_kept is_space_octet (drop n os) more (m + 1) (omega arith) (omega (arith, len, is, l)) in
     ap (λ k. n + k) (ap (prefix_len is_space_octet) rest ∙ same) ∙ is

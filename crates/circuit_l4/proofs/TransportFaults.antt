@@ -7,7 +7,7 @@ use Rattle.ax_address.specs.NetCalls.{net_call_in}
 use Rattle.ax_address.specs.Octets as octets
 use Rattle.ax_address.specs.Octets.{address_fault, fault_in, place_of}
 use Rattle.ax_address.specs.declared.octets.AddressRefusal.{AddressRefusal}
-use Rattle.l3_datagram.proofs.CallFaults.{call_bad, not_both, still_none}
+use Rattle.ax_address.proofs.CallFaults.{call_bad, not_both, still_none}
 use Rattle.l3_datagram.proofs.Spelling.{drop_at}
 use Rattle.circuit_l4.specs.declared.transport.Transport.{Transport}
 use Rattle.circuit_l4.specs.declared.transport.Transport.TheVariants.{Request, Accept, Disconnect}

@@ -14,7 +14,7 @@ use Rattle.l3_datagram.specs.declared.datagram.DatagramRefusal.{DatagramRefusal}
 use Rattle.l3_datagram.specs.declared.datagram.DatagramRefusal.TheVariants.{Short, TooLong, BadCall}
 use Rattle.l3_datagram.specs.Datagrams.{sized, fault_from, call_from, head_at}
 use Rattle.l3_datagram.specs.Faults.{FirstBad, FirstFault, FaultIsFirst}
-use Rattle.l3_datagram.proofs.CallFaults.{call_bad, not_both, still_none}
+use Rattle.ax_address.proofs.CallFaults.{call_bad, not_both, still_none}
 use Rattle.l3_datagram.proofs.Spelling.{sized_whole, drop_at}
 
 -- ---- a head is read by the number of octets and the faults of its two calls

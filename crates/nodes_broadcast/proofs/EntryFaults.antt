@@ -13,7 +13,7 @@ use Rattle.ax_address.specs.declared.Entry.{Entry}
 use Rattle.nodes_broadcast.specs.declared.nodes.NodesRefusal.{NodesRefusal}
 use Rattle.nodes_broadcast.specs.declared.nodes.NodesRefusal.TheVariants.{BadCall}
 use Rattle.nodes_broadcast.specs.Reading.{call_from, entry_at, entries_at}
-use Rattle.nodes_broadcast.proofs.CallFaults.{call_bad, drop_front, still_none}
+use Rattle.ax_address.proofs.CallFaults.{call_bad, drop_front, still_none}
 use Rattle.nodes_broadcast.proofs.Spelled.{entry_told}
 
 -- ---- one entry

@@ -12,7 +12,7 @@ use Rattle.nodes_broadcast.specs.declared.nodes.NodesRefusal.TheVariants.{NotNod
 use Rattle.nodes_broadcast.specs.Nodes.{Broadcast}
 use Rattle.nodes_broadcast.specs.Reading.{is_nodes, is_length, shape_fault, entries_at, broadcast_at, unless_misshapen, nodes_at}
 use Rattle.nodes_broadcast.specs.Faults.{NoneHas, FirstFault, FaultIsFirst}
-use Rattle.nodes_broadcast.proofs.CallFaults.{drop_front}
+use Rattle.ax_address.proofs.CallFaults.{drop_front}
 use Rattle.nodes_broadcast.proofs.EntryFaults.{EntriesBad, entries_bad}
 use Rattle.nodes_broadcast.proofs.Spelled.{broadcast_told, shape_of, reads_entries}
 

@@ -3,6 +3,5 @@ pub mod Written
 pub mod Heeded
 pub mod Turns
 pub mod Joined
-pub mod CallFaults
 pub mod EntryFaults
 pub mod Faults
