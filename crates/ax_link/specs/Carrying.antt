@@ -1,4 +1,4 @@
--- How an end of a link goes on while it is up.
+-- How an end of a link stays on while it is up.
 use Rattle.std.specs.Prelude.{◌≡◌, ℕ, Bool, true, false, None}
 use Rattle.std.specs.List.{AllByRecursion}
 use Rattle.ax_link.specs.declared.kind.Kind.{Kind}
@@ -27,14 +27,14 @@ is_on Up = true
 is_on Releasing = true
 
 -- an end is on after a step, which put out only such frames
-pub record GoesOn (g : Effect) : Type 0 where
+pub record StaysOn (g : Effect) : Type 0 where
   pub phase : is_on g.link.phase ≡ true
   pub outs : AllByRecursion (λ f. carries f.kind ≡ true) g.outs
 
--- an end that is Up goes on with each input that gives no notice
-abbrev pub UpGoesOn : Type 0
-UpGoesOn = (s : State) (i : Input) (now : ℕ) → s.phase ≡ Up → notice_of s i now ≡ None → GoesOn (step s i now)
+-- an end that is Up stays on with each input that gives no notice
+abbrev pub UpStaysOn : Type 0
+UpStaysOn = (s : State) (i : Input) (now : ℕ) → s.phase ≡ Up → notice_of s i now ≡ None → StaysOn (step s i now)
 
 -- and so does an end from when it comes up by a UA with F
 abbrev pub OpensSo : Type 0
-OpensSo = (s : State) (f : Frame) (now : ℕ) → s.phase ≡ SettingUp → f.kind ≡ Ua true → GoesOn (step s (Arrive f) now)
+OpensSo = (s : State) (f : Frame) (now : ℕ) → s.phase ≡ SettingUp → f.kind ≡ Ua true → StaysOn (step s (Arrive f) now)

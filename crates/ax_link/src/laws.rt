@@ -9,7 +9,7 @@ ghost use Rattle.ax_link.specs.Table.{Arrive, Input, Send, step};
 ghost use Rattle.ax_link.specs.Pair.{PairSound, Both, Core, Queue, InScope, IsNew, Fits, NoRestartIn, OfNoAccount, core, opens_count, texts_of, acks_of, after_ua};
 ghost use Rattle.ax_link.specs.Runs.{CleanRun, Ends, EndsBounded, Event, Safe, Side, Starts, TakenSafe, carrying, losing, new_ends, run, two_new};
 ghost use Rattle.ax_link.specs.Opening.{rules_new};
-ghost use Rattle.ax_link.specs.Carrying.{OpensSo, UpGoesOn};
+ghost use Rattle.ax_link.specs.Carrying.{OpensSo, UpStaysOn};
 ghost use Rattle.ax_link.specs.Kept.{KeepsItsShare};
 ghost use Rattle.ax_link.specs.Laws.{BoundsStay, FramesCanBeWritten, KindsGoOut, NoticesAre, PayloadsStay, SettingsStay};
 ghost use Rattle.ax_link.specs.declared.config.LinkConfig.{LinkConfig};
@@ -116,8 +116,8 @@ pub fn steps()
 
 /// An end that is Up stays so or releases with each input that gives no notice, and so does one that comes up by a UA with F; what it
 /// puts out are payloads, supervisory frames and the release.
-pub fn up_goes_on()
-    ensures up { UpGoesOn }
+pub fn up_stays_on()
+    ensures up { UpStaysOn }
     ensures opens { OpensSo }
 {}
 

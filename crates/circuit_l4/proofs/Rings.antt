@@ -129,12 +129,12 @@ is_here it rest bytes n start left count e c less h =
     rw e (sym (in_first n rest bytes start left first (omega (arith, less, c))))
 
 -- it isn't in the first one
-pub record GoesOn (it rest bytes : List ℕ) (n start left count : ℕ) : Type 0 where
+pub record BehindFirst (it rest bytes : List ℕ) (n start left count : ℕ) : Type 0 where
   pub others : Left rest bytes (start + n)
   pub same : slice_get (fragments_from it bytes start) left ≡ slice_get (fragments_from rest bytes (start + n)) (left - count)
 
 pub resume : (it rest bytes : List ℕ) (n start left count : ℕ) → it ≡ n ∷ rest → count ≡ fragments_in n → count ≤ left → Left it bytes start →
-    GoesOn it rest bytes n start left count
+    BehindFirst it rest bytes n start left count
 resume it rest bytes n start left count e c more h =
     let first = subst (λ (ns : List ℕ). Left ns bytes start) e h in
     record {

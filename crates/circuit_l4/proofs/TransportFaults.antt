@@ -15,7 +15,7 @@ use Rattle.circuit_l4.specs.declared.transport.TransportRefusal.{TransportRefusa
 use Rattle.circuit_l4.specs.declared.transport.TransportRefusal.TheVariants.{Short, BadOpcode, TooLong}
 use Rattle.circuit_l4.specs.Transports.{pair_at, opcode, choke}
 use Rattle.circuit_l4.specs.Reading.{of_opcode, transport_at}
-use Rattle.circuit_l4.specs.Faults.{GoesOn, FirstBad, FirstFault, FaultIsFirst}
+use Rattle.circuit_l4.specs.Faults.{BeginsTransport, FirstBad, FirstFault, FaultIsFirst}
 use Rattle.circuit_l4.proofs.Spelling.{sized, octet_there, requested, on_accept}
 use Rattle.circuit_l4.proofs.TransportsRead.{CallFault, RequestFault, CodeFault, NoCode, ReadRequest, by_size, size_is, call_good, request_ok, request_err, accept_err, code_err, no_code, requesting, accepting, disconnecting, transport_ok}
 
@@ -88,14 +88,14 @@ behind_user = 96 ∷ 130 ∷ 64 ∷ 64 ∷ 64 ∷ 64 ∷ 64 ∷ 96 ∷ []
 abbrev behind_node : List ℕ
 behind_node = 96 ∷ []
 
-request_goes : (front more : List ℕ) → Requests (front ++ more) → GoesOn front
+request_goes : (front more : List ℕ) → Requests (front ++ more) → BeginsTransport front
 request_goes front more h = (more, request_in (front ++ more), requests (front ++ more) h)
 
 -- octets that are put behind in two parts
-in_parts : (front more rest : List ℕ) → Requests ((front ++ more) ++ rest) → GoesOn front
+in_parts : (front more rest : List ℕ) → Requests ((front ++ more) ++ rest) → BeginsTransport front
 in_parts front more rest h = request_goes front (more ++ rest) (subst Requests (append_assoc front more rest) h)
 
-head_goes : (os : List ℕ) → length os ≡ 5 → opcode os ≡ 1 → GoesOn os
+head_goes : (os : List ℕ) → length os ≡ 5 → opcode os ≡ 1 → BeginsTransport os
 head_goes os len code =
     let all = os ++ behind_head in
     let long : length all ≡ 20 = omega (arith, length-append os behind_head, len) in
@@ -107,7 +107,7 @@ head_goes os len code =
       node = ap address_fault (drop_at os behind_head 5 8 len);
     })
 
-user_goes : (front more : List ℕ) → length (front ++ more) ≡ 12 → opcode (front ++ more) ≡ 1 → address_fault (drop 6 (front ++ more)) ≡ None → GoesOn front
+user_goes : (front more : List ℕ) → length (front ++ more) ≡ 12 → opcode (front ++ more) ≡ 1 → address_fault (drop 6 (front ++ more)) ≡ None → BeginsTransport front
 user_goes front more len code none =
     let twelve = front ++ more in
     let all = twelve ++ behind_user in
@@ -120,7 +120,7 @@ user_goes front more len code none =
       node = ap address_fault (drop_at twelve behind_user 12 1 len);
     })
 
-node_goes : (front more : List ℕ) → length (front ++ more) ≡ 19 → opcode (front ++ more) ≡ 1 → address_fault (drop 6 (front ++ more)) ≡ None → address_fault (drop 13 (front ++ more)) ≡ None → GoesOn front
+node_goes : (front more : List ℕ) → length (front ++ more) ≡ 19 → opcode (front ++ more) ≡ 1 → address_fault (drop 6 (front ++ more)) ≡ None → address_fault (drop 13 (front ++ more)) ≡ None → BeginsTransport front
 node_goes front more len code user none =
     let most = front ++ more in
     let all = most ++ behind_node in
@@ -174,18 +174,18 @@ cut law at os low high none =
     let m = law rest (omega (arith, length-drop at os, high)) none in
     (m.0, omega (arith, length-append os m.0, length-append rest m.0, length-drop at os, m.1, low), ap address_fault (drop-append-le at os m.0 low) ∙ m.2)
 
-user_cut : octets.FrontGoesOn → (os : List ℕ) → opcode os ≡ 1 → 6 ≤ length os → length os < 13 → address_fault (drop 6 os) ≡ None → GoesOn os
+user_cut : octets.FrontGoesOn → (os : List ℕ) → opcode os ≡ 1 → 6 ≤ length os → length os < 13 → address_fault (drop 6 os) ≡ None → BeginsTransport os
 user_cut law os code low high none =
     let c = cut law 6 os low (omega (arith, high)) none in
     user_goes os c.0 c.1 (code_of os (os ++ c.0) (fifth_before os c.0 (omega (arith, low))) ∙ code) c.2
 
-node_cut : octets.FrontGoesOn → (os : List ℕ) → opcode os ≡ 1 → 13 ≤ length os → length os < 20 → address_fault (drop 6 os) ≡ None → address_fault (drop 13 os) ≡ None → GoesOn os
+node_cut : octets.FrontGoesOn → (os : List ℕ) → opcode os ≡ 1 → 13 ≤ length os → length os < 20 → address_fault (drop 6 os) ≡ None → address_fault (drop 13 os) ≡ None → BeginsTransport os
 node_cut law os code low high user none =
     let c = cut law 13 os low (omega (arith, high)) none in
     node_goes os c.0 c.1 (code_of os (os ++ c.0) (fifth_before os c.0 (omega (arith, low))) ∙ code)
     (user_before os c.0 (omega (arith, low)) ∙ user) c.2
 
-short_goes : (os : List ℕ) → length os < 5 → GoesOn os
+short_goes : (os : List ℕ) → length os < 5 → BeginsTransport os
 short_goes os h =
     let rest = replicate (4 - length os) 0 in
     let four : length (os ++ rest) ≡ 4 = omega (arith, length-append os rest, length-replicate {A = ℕ} (4 - length os) 0, h) in
@@ -229,7 +229,7 @@ by_code first law os w low (inl r) = by_request first law os w low r.0 (request_
 by_code first law os w low (inr (inl a)) =
     let s = accept_err os w a.2 in
     let all = os ++ 1 ∷ [] in
-    let goes : GoesOn os = (1 ∷ [], Accept (pair_at 0 all) (pair_at 2 all) (get_or all 5 0), accepts os (omega (arith, low, s.0)) a.0 a.1) in
+    let goes : BeginsTransport os = (1 ∷ [], Accept (pair_at 0 all) (pair_at 2 all) (get_or all 5 0), accepts os (omega (arith, low, s.0)) a.0 a.1) in
     subst (FirstFault os) s.1 (refl, goes)
 by_code first law os w low (inr (inr n)) = subst (FirstFault os) n.1 (no_opcode os low n.0)
 

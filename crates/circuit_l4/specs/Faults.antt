@@ -7,13 +7,13 @@ use Rattle.circuit_l4.specs.declared.transport.TransportRefusal.TheVariants.{Sho
 use Rattle.circuit_l4.specs.Reading.{transport_at}
 
 -- with something behind it, it is read as a transport. What is read is spelled so, by the clauses of `read_transport`.
-abbrev pub GoesOn : List ℕ → Type 0
-GoesOn front = (more : List ℕ) × (transport : Transport) × (transport_at (front ++ more) ≡ Ok transport)
+abbrev pub BeginsTransport : List ℕ → Type 0
+BeginsTransport front = (more : List ℕ) × (transport : Transport) × (transport_at (front ++ more) ≡ Ok transport)
 
 -- the octet there is the first that none has there
 pub record FirstBad (octets : List ℕ) (at : ℕ) : Type 0 where
   pub within : at < length octets
-  pub before : GoesOn (take at octets)
+  pub before : BeginsTransport (take at octets)
   -- with it nothing is a transport
   pub stays : (more : List ℕ) (transport : Transport) → transport_at (take (at + 1) octets ++ more) ≡ Ok transport → ⊥
 
@@ -23,7 +23,7 @@ NoneHas many = (other : List ℕ) (transport : Transport) → length other ≡ m
 
 -- the number of octets is judged before them. The opcode stands in octet 4.
 abbrev pub FirstFault : List ℕ → TransportRefusal → Type 0
-FirstFault octets (Short at) = (at ≡ length octets) × GoesOn octets
+FirstFault octets (Short at) = (at ≡ length octets) × BeginsTransport octets
 FirstFault octets BadOpcode = FirstBad octets 4
 FirstFault octets (BadCall at) = FirstBad octets at
 FirstFault octets TooLong = (many : ℕ) → length octets ≤ many → NoneHas many

@@ -12,7 +12,7 @@ use Rattle.l3_datagram.specs.declared.carrier.Offered.TheVariants as offered
 use Rattle.l3_datagram.specs.declared.routed.Routed.{Routed}
 use Rattle.l3_datagram.specs.declared.routed.Routed.TheVariants as routed
 use Rattle.l3_datagram.specs.CarrierCall.{CarrierCall, Collect, Fail, Parcel}
-use Rattle.l3_datagram.specs.Hops.{Way, Ends, GoesOn, forwarded_by, offers_of, pumping, told_of, way}
+use Rattle.l3_datagram.specs.Hops.{Way, Ends, ToNeighbour, forwarded_by, offers_of, pumping, told_of, way}
 use Rattle.l3_datagram.specs.Routers as routers
 use Rattle.l3_datagram.specs.Routers.{NoneWhereEmpty, Routing, SameRouter, waiting_left}
 use Rattle.circuit_set.specs.declared.event.SetEvent.{SetEvent}
@@ -45,14 +45,14 @@ module _ (nh : Callsign → Option Callsign) (now : ℕ) (s : SetState) where
 
   way_offers : (w : Way) (r : Routed) (a b : Offered) → r ≡ told_of w a → offer_of (hears_by now (at_rest s) w) now (pick r a b) ≡ offers_of w now a
   way_offers (Ends told) r a b e = refl
-  way_offers (GoesOn neighbour d) r a b e = ap (λ x. routers_offer x) (forwards r a b e)
+  way_offers (ToNeighbour neighbour d) r a b e = ap (λ x. routers_offer x) (forwards r a b e)
     where
       routers_offer : Offered → List CarrierCall
-      routers_offer x = offers_of (GoesOn neighbour d) now x
+      routers_offer x = offers_of (ToNeighbour neighbour d) now x
 
   way_outcome : (w : Way) (r : Routed) (a b : Offered) → r ≡ told_of w a → outcome (hears_by now (at_rest s) w) (pick r a b) ≡ heard_as now (at_rest s) r
   way_outcome (Ends told) r a b e = ap (λ x. heard_as now (at_rest s) x) (sym e)
-  way_outcome (GoesOn neighbour d) r a b e = ap (λ x. heard_as now (at_rest s) (forwarded_by x)) (forwards r a b e) ∙ ap (λ x. heard_as now (at_rest s) x) (sym e)
+  way_outcome (ToNeighbour neighbour d) r a b e = ap (λ x. heard_as now (at_rest s) (forwarded_by x)) (forwards r a b e) ∙ ap (λ x. heard_as now (at_rest s) x) (sym e)
 
   -- a datagram is taken, and what it brings is told
   takes_by : (p : Parcel) (r : Routed) (a b : Offered) → r ≡ told_of (way s.own nh p.1) a

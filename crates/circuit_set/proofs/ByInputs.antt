@@ -10,7 +10,7 @@ use Rattle.l3_datagram.specs.declared.datagram.DatagramRefusal.{DatagramRefusal}
 use Rattle.l3_datagram.specs.declared.routed.Routed.{Routed}
 use Rattle.l3_datagram.specs.declared.routed.Routed.TheVariants as routed
 use Rattle.l3_datagram.specs.Datagrams.{head_at}
-use Rattle.l3_datagram.specs.Hops.{Way, Ends, GoesOn, forwarded_by, way}
+use Rattle.l3_datagram.specs.Hops.{Way, Ends, ToNeighbour, forwarded_by, way}
 use Rattle.circuit_set.specs.Sets.{Act, Comes, SetState, Told, Made, Sent, Heeded, Notice, Gone, Restarted, Lost, set_step}
 use Rattle.circuit_set.specs.Pumps.{Dropped, Turn, Turned, Says, Offers, Waiting, dropped_by, heard_as, hears_by, pending, sent_by_head, sent_to, tells_first, tells_of, weight, weights, with_done}
 use Rattle.circuit_set.specs.Inputs.{ActsGo, GoesBy, HearsGo, HearsLostGoes, OfEach, TellsGo, TellsLess, TicksGo, TurnGoes, of_circuits, ticks_of}
@@ -45,7 +45,7 @@ heard_goes now w routed.Bad = by_none w w [] refl refl
 
 by_way : (now : ℕ) (w : Waiting) (x : Way) → OfEach (TurnGoes w) (hears_by now w x)
 by_way now w (Ends told) = heard_goes now w told
-by_way now w (GoesOn neighbour d) = λ answer. heard_goes now w (forwarded_by answer)
+by_way now w (ToNeighbour neighbour d) = λ answer. heard_goes now w (forwarded_by answer)
 
 pub hears_go : HearsGo
 hears_go next_hop now parcel w = by_way now w (way w.set.own next_hop parcel.1)

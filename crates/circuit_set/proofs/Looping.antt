@@ -15,7 +15,7 @@ use Rattle.l3_datagram.specs.declared.routed.Routed.{Routed}
 use Rattle.l3_datagram.specs.declared.routed.Routed.TheVariants as routed
 use Rattle.l3_datagram.specs.CarrierCall.{CarrierCall, Parcel}
 use Rattle.l3_datagram.specs.Datagrams.{head_at}
-use Rattle.l3_datagram.specs.Hops.{Way, Ends, GoesOn, forwarded_by, way}
+use Rattle.l3_datagram.specs.Hops.{Way, Ends, ToNeighbour, forwarded_by, way}
 use Rattle.l3_datagram.specs.Routers.{SameRouter, waiting_left}
 use Rattle.circuit_set.specs.declared.event.SetEvent.{SetEvent}
 use Rattle.circuit_set.specs.Sets.{SetState, Told, Made, Sent, Heeded, Notice, Gone, Restarted, Lost}
@@ -84,7 +84,7 @@ module _ (nh : Callsign → Option Callsign) where
 
   way_items : (now : ℕ) (w : Waiting) (x : Way) (answer : Offered) → (outcome (hears_by now w x) answer).items ≡ []
   way_items now w (Ends told) answer = heard_items now w told
-  way_items now w (GoesOn neighbour d) answer = heard_items now w (forwarded_by answer)
+  way_items now w (ToNeighbour neighbour d) answer = heard_items now w (forwarded_by answer)
 
   pub silent_takes : (now : ℕ) (s : SetState) (p : Parcel) (answer : Offered) → (takes nh now s p answer).told ≡ None → Silent (takes nh now s p answer)
   silent_takes now s p answer e =

@@ -12,7 +12,7 @@ use Rattle.l3_datagram.specs.declared.routed.Routed.{Routed}
 use Rattle.l3_datagram.specs.declared.routed.Routed.TheVariants as routed
 use Rattle.l3_datagram.specs.CarrierCall.{CarrierCall, Datagram, Parcel, Collect, Fail, Offer}
 use Rattle.l3_datagram.specs.Datagrams.{head_at}
-use Rattle.l3_datagram.specs.Hops.{Way, Ends, GoesOn, forwarded_by, way}
+use Rattle.l3_datagram.specs.Hops.{Way, Ends, ToNeighbour, forwarded_by, way}
 use Rattle.circuit_set.specs.Sets.{SetDone, SetState, Told, Sent, Comes, set_step}
 
 -- a set between its calls: what is untold, and what a sending that was told came to, where it came to nothing
@@ -96,7 +96,7 @@ heard_as now w r = speaks (Dropped r) w
 
 abbrev pub hears_by : ℕ → Waiting → Way → Turn
 hears_by now w (Ends told) = Says (heard_as now w told)
-hears_by now w (GoesOn neighbour d) = Offers neighbour d (λ answer. heard_as now w (forwarded_by answer))
+hears_by now w (ToNeighbour neighbour d) = Offers neighbour d (λ answer. heard_as now w (forwarded_by answer))
 
 -- a neighbour was lost, so that the routing table knows of it
 abbrev pub hears_lost : Callsign → Waiting → Turned

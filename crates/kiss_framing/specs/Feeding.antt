@@ -20,8 +20,8 @@ IsSmall (kiss.Frame port command payload) = (port ≤ 15) × (command ≤ 15) ×
 IsSmall kiss.TooLong = Unit {0}
 
 -- once what was lent is given back, the deframer stands for the stream that it stood for, with these bytes behind it
-abbrev pub GoesOn : MutBor Held → List ℕ → Fml
-GoesOn deframer bytes =
+abbrev pub TakesIn : MutBor Held → List ℕ → Fml
+TakesIn deframer bytes =
     follows_so the_row the_row deframer.ghost_name none (λ _ _. ⊤)
     (λ later. (stream : List ℕ) → StandsFor deframer.now stream → StandsFor later (stream ++ bytes))
 

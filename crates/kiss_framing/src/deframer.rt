@@ -3,7 +3,7 @@ ghost use Rattle.std.specs.Prelude.{◌≡◌, ℕ, ◌≤◌, List, [], ◌∷�
 ghost use Rattle.kiss_framing.specs.Stream.{items, given_by_byte, frame_of as frame_in};
 ghost use Rattle.kiss_framing.specs.Deframing.{StandsFor, kept, pending_of};
 ghost use Rattle.kiss_framing.specs.Stepping.{items_at};
-ghost use Rattle.kiss_framing.specs.Feeding.{GoesOn, IsQuietBefore, IsSmall, handed_out};
+ghost use Rattle.kiss_framing.specs.Feeding.{TakesIn, IsQuietBefore, IsSmall, handed_out};
 
 use crate::piece::{Ends, Piece};
 use std::marker::Model;
@@ -63,7 +63,7 @@ impl Deframer {
 
     /// Takes in the next byte of the stream, and hands out the item that it completes, if any.
     pub fn feed(&mut self, byte: u8) -> Option<KissItem<'_>>
-        ensures* goes_on { sem 𝓛 (GoesOn self.entry (byte ∷ [])) }
+        ensures* goes_on { sem 𝓛 (TakesIn self.entry (byte ∷ [])) }
         ensures adds { (stream : List ℕ) → StandsFor self.old stream → items (stream ++ byte ∷ []) ≡ items stream ++ handed_out result }
         ensures exact { (stream : List ℕ) → StandsFor self.old stream → handed_out result ≡ given_by_byte stream byte }
         ensures small { IfSome result IsSmall }
@@ -75,7 +75,7 @@ impl Deframer {
     /// Takes in bytes of the stream up to the first that completes an item, or all of them where none does: how many
     /// it took in, and the item.
     pub fn feed_until_item(&mut self, bytes: &[u8]) -> (usize, Option<KissItem<'_>>)
-        ensures* goes_on { sem 𝓛 (GoesOn self.entry (take result.0 bytes.now)) }
+        ensures* goes_on { sem 𝓛 (TakesIn self.entry (take result.0 bytes.now)) }
         ensures adds { (stream : List ℕ) → StandsFor self.old stream → items (stream ++ take result.0 bytes.now) ≡ items stream ++ handed_out result.1 }
 
         // No byte before the last gives an item, and where none gives one all are taken in.

@@ -102,10 +102,10 @@ behind_origin = 96 ∷ 130 ∷ 64 ∷ 64 ∷ 64 ∷ 64 ∷ 64 ∷ 96 ∷ 0 ∷ [
 abbrev behind_dest : List ℕ
 behind_dest = 96 ∷ 0 ∷ []
 
-abbrev GoesOn : List ℕ → Type 0
-GoesOn front = (more : List ℕ) × (head : DatagramHead) × (head_at (front ++ more) ≡ Ok head)
+abbrev BeginsHead : List ℕ → Type 0
+BeginsHead front = (more : List ℕ) × (head : DatagramHead) × (head_at (front ++ more) ≡ Ok head)
 
-goes_on : (front more rest : List ℕ) → Heads ((front ++ more) ++ rest) → GoesOn front
+goes_on : (front more rest : List ℕ) → Heads ((front ++ more) ++ rest) → BeginsHead front
 goes_on front more rest h =
     let all = (front ++ more) ++ rest in
     (more ++ rest, record { origin = origin_in all; dest = dest_in all; ttl = get_or all 14 0 }, ap head_at (sym (append_assoc front more rest)) ∙ heads_by all h)

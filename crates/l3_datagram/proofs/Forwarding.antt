@@ -12,7 +12,7 @@ use Rattle.l3_datagram.specs.declared.datagram.DatagramRefusal.TheVariants.{Shor
 use Rattle.l3_datagram.specs.declared.routed.Routed.TheVariants.{Mine, Expired, Returned}
 use Rattle.l3_datagram.specs.CarrierCall.{Datagram}
 use Rattle.l3_datagram.specs.Datagrams.{head_at, call_from}
-use Rattle.l3_datagram.specs.Hops.{Ends, GoesOn, onward, way_of, with_ttl}
+use Rattle.l3_datagram.specs.Hops.{Ends, ToNeighbour, onward, way_of, with_ttl}
 use Rattle.l3_datagram.specs.Onward.{IsOneHopOn, GoesOneHopOn}
 
 -- what was read has as many octets as a head, and the time to live at its place
@@ -44,7 +44,7 @@ read_is octets head e = size_read octets head (nat_lt (length octets) 15) (nat_l
 
 -- hops were left, and one was taken
 went_on : (d : Datagram) (head : DatagramHead) (neighbour : Callsign) (on : Datagram) (returned mine expired : Bool) (hop : Option Callsign) →
-    (if returned then Ends Returned else (if mine then Ends (Mine head.origin d) else (if expired then Ends Expired else onward d head.ttl hop))) ≡ GoesOn neighbour on →
+    (if returned then Ends Returned else (if mine then Ends (Mine head.origin d) else (if expired then Ends Expired else onward d head.ttl hop))) ≡ ToNeighbour neighbour on →
     (expired ≡ false) × (on ≡ with_ttl d (head.ttl - 1))
 went_on d head neighbour on true mine expired hop e = absurd (cc)
 went_on d head neighbour on false true expired hop e = absurd (cc)
@@ -71,7 +71,7 @@ one_on d head r more = record {
 }
 
 by_head : (own : Callsign) (next_hop : Callsign → Option Callsign) (d : Datagram) (neighbour : Callsign) (on : Datagram) (r : Result DatagramHead DatagramRefusal) →
-    head_at d.items ≡ r → way_of own next_hop d r ≡ GoesOn neighbour on → IsOneHopOn d.items on.items
+    head_at d.items ≡ r → way_of own next_hop d r ≡ ToNeighbour neighbour on → IsOneHopOn d.items on.items
 by_head own next_hop d neighbour on (Err e) read goes = absurd (cc)
 by_head own next_hop d neighbour on (Ok head) read goes =
     let w = went_on d head neighbour on (same_call head.origin own) (same_call head.dest own) (nat_le head.ttl 1) (next_hop head.dest) goes in

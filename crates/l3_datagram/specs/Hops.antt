@@ -17,7 +17,7 @@ use Rattle.l3_datagram.specs.Datagrams.{head_at}
 -- where a datagram goes: it ends here, with what is told of it, or goes on to a neighbour
 pub data Way : Type 0 where
   Ends : (told : Routed) → Way
-  GoesOn : (neighbour : Callsign) (datagram : Datagram) → Way
+  ToNeighbour : (neighbour : Callsign) (datagram : Datagram) → Way
 
 -- the datagram with another time to live, and every other octet as it came
 abbrev pub with_ttl : Datagram → ℕ → Datagram
@@ -26,7 +26,7 @@ with_ttl d ttl = record { items = slice_set d.items 14 ttl }
 -- to the next hop, if there is one, with one hop less to go
 abbrev pub onward : Datagram → ℕ → Option Callsign → Way
 onward d ttl None = Ends NoRoute
-onward d ttl (Some neighbour) = GoesOn neighbour (with_ttl d (ttl - 1))
+onward d ttl (Some neighbour) = ToNeighbour neighbour (with_ttl d (ttl - 1))
 
 -- the first of these that is so: it can't be read, it came from this node, it is for this node, its time to live is
 -- used up, no route leads to its destination; else it goes on
@@ -50,12 +50,12 @@ forwarded_by offered.Dropped = Dropped
 
 abbrev pub told_of : Way → Offered → Routed
 told_of (Ends told) answer = told
-told_of (GoesOn neighbour d) answer = forwarded_by answer
+told_of (ToNeighbour neighbour d) answer = forwarded_by answer
 
 -- it is offered once where it goes on, and else not at all
 abbrev pub offers_of : Way → ℕ → Offered → List CarrierCall
 offers_of (Ends told) now answer = []
-offers_of (GoesOn neighbour d) now answer = Offer neighbour d now answer ∷ []
+offers_of (ToNeighbour neighbour d) now answer = Offer neighbour d now answer ∷ []
 
 -- what a step comes to: what is told, the calls of the carrier in their order, and what the routing table takes in
 pub record Pumping : Type 0 where

@@ -2,7 +2,7 @@
 use Rattle.std.specs.Prelude.{ℕ, ◌≡◌, ◌≢◌, ◌+◌, List, length, slice_get, slice_index, Option}
 use Rattle.ax_address.specs.Callsign.{Callsign}
 use Rattle.l3_datagram.specs.CarrierCall.{Datagram}
-use Rattle.l3_datagram.specs.Hops.{GoesOn, way}
+use Rattle.l3_datagram.specs.Hops.{ToNeighbour, way}
 
 -- the octets are the same but for the time to live, which is one less
 pub record IsOneHopOn (old new : List ℕ) : Type 0 where
@@ -14,4 +14,4 @@ pub record IsOneHopOn (old new : List ℕ) : Type 0 where
 abbrev pub GoesOneHopOn : Type 0
 GoesOneHopOn =
     (own : Callsign) (next_hop : Callsign → Option Callsign) (d : Datagram) (neighbour : Callsign) (onward : Datagram) →
-    way own next_hop d ≡ GoesOn neighbour onward → IsOneHopOn d.items onward.items
+    way own next_hop d ≡ ToNeighbour neighbour onward → IsOneHopOn d.items onward.items

@@ -10,7 +10,7 @@ use Rattle.ax_link.specs.declared.notice.LinkNotice.{LinkNotice}
 use Rattle.ax_link.specs.declared.notice.LinkNotice.TheVariants.{Failed}
 use Rattle.ax_link.specs.declared.phase.LinkPhase.{LinkPhase}
 use Rattle.ax_link.specs.declared.phase.LinkPhase.TheVariants.{Down, SettingUp, Up, Releasing}
-use Rattle.ax_link.specs.Carrying.{GoesOn, carries}
+use Rattle.ax_link.specs.Carrying.{StaysOn, carries}
 use Rattle.ax_link.specs.Laws.{notice_of}
 use Rattle.ax_link.specs.Moves.{fill, start_poll}
 use Rattle.ax_link.specs.Pair.{Both, Core, IsNew, NoRestartIn, core, opens, reach}
@@ -102,9 +102,9 @@ pub data Case (s : State) (i : Input) (now : ℕ) (g : Effect) : Type 0 where
   fails : s.phase ≡ SettingUp → g.link.phase ≡ Down → any_begins g.notes ≡ false → g.outs ≡ [] →
       ((i ≡ Tick) × (s.t1_at ≤ min now count_end)) ⊎ ((f : Frame) × (i ≡ Arrive f) × (answers f.kind ≡ true)) → Case s i now g
   -- and comes up
-  comes_up : (f : Frame) → s.phase ≡ SettingUp → any_begins g.notes ≡ true → i ≡ Arrive f → f.kind ≡ kind.Ua true → GoesOn g → (IsNew s → IsFresh (core g.link)) → Case s i now g
+  comes_up : (f : Frame) → s.phase ≡ SettingUp → any_begins g.notes ≡ true → i ≡ Arrive f → f.kind ≡ kind.Ua true → StaysOn g → (IsNew s → IsFresh (core g.link)) → Case s i now g
   -- Up goes on, or releases
-  goes_on : s.phase ≡ Up → any_begins g.notes ≡ false → NoRestartIn i → GoesOn g → Case s i now g
+  goes_on : s.phase ≡ Up → any_begins g.notes ≡ false → NoRestartIn i → StaysOn g → Case s i now g
   -- Up goes Down
   leaves : s.phase ≡ Up → g.link.phase ≡ Down → any_begins g.notes ≡ false → NoRestartIn i → NoneOf asks g.outs → Case s i now g
   -- Releasing stays so
@@ -185,7 +185,7 @@ setting_step : (known : Known) (command : Bool) (k : Kind) (p : Option Payload) 
 setting_step known command (kind.Ua true) p s now m =
     let f : Frame = record { command = command; kind = kind.Ua true; payload = p } in
     let t : State = record s { phase = SettingUp } in
-    let on : GoesOn (step t (Arrive f) now) = known.comes_up t f now refl refl in
+    let on : StaysOn (step t (Arrive f) now) = known.comes_up t f now refl refl in
     record {
       is = comes_up f refl (notes_at (step t (Arrive f) now) (notice_of t (Arrive f) now) true (known.notices t (Arrive f) now) refl) refl refl on
           (λ x. fresh_if (is_up Up && s.closing && nat_eq s.acked (length s.given)) _ (fill (min now count_end) (come_up (min now count_end) (begin (record t { last_arrival = min now count_end }))))
@@ -266,7 +266,7 @@ releasing_tick false d s now = idles_now s Tick now (record s { phase = Releasin
 on_now : (known : Known) (s : State) (i : Input) (now : ℕ) → NoRestartIn i → notice_of (record s { phase = Up }) i now ≡ None → Step (record s { phase = Up }) i now (step (record s { phase = Up }) i now)
 on_now known s i now r e =
     let t : State = record s { phase = Up } in
-    let on : GoesOn (step t i now) = known.up t i now refl e in
+    let on : StaysOn (step t i now) = known.up t i now refl e in
     record {
       is = goes_on refl (notes_at (step t i now) (notice_of t i now) false (known.notices t i now) (ap (λ n. any_begins (option_to_list n)) e)) r on;
       few = omega (arith, carried_none (step t i now).outs on.outs);

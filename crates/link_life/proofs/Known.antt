@@ -3,7 +3,7 @@ use Rattle.std.proofs.Common.{◌≡◌, ◌⊎◌, ◌≤◌, ◌++◌, ℕ, tr
 use Rattle.ax_link.specs.declared.kind.Kind.TheVariants.{Ua}
 use Rattle.ax_link.specs.declared.config.LinkConfig.{LinkConfig}
 use Rattle.ax_link.specs.declared.phase.LinkPhase.TheVariants.{SettingUp, Up}
-use Rattle.ax_link.specs.Carrying.{OpensSo, UpGoesOn}
+use Rattle.ax_link.specs.Carrying.{OpensSo, UpStaysOn}
 use Rattle.ax_link.specs.Laws.{BoundsStay, KindsGoOut, NoticesAre, SettingsStay}
 use Rattle.ax_link.specs.Opening.{rules_new}
 use Rattle.ax_link.specs.Pair.{Both, Core, Fits, IsNew, NoRestartIn, PairSound, Queue, acks_of, after_ua, core, opens_count, texts_of}
@@ -17,7 +17,7 @@ pub record Known : Type 0 where
   pub bounds : BoundsStay
   pub notices : NoticesAre
   pub kinds : KindsGoOut
-  pub up : UpGoesOn
+  pub up : UpStaysOn
   pub comes_up : OpensSo
   pub both : (now : ℕ) (l : State) (i : Input) (other : Core) (to_l to_l2 to_other : List Frame) →
       l.phase ≡ Up → Queue i to_l to_l2 → NoRestartIn i → Both (core l) other to_l to_other →

@@ -4,7 +4,7 @@ use Rattle.ax_link.specs.declared.kind.Kind.{Kind}
 use Rattle.ax_link.specs.declared.kind.Kind.TheVariants as kind
 use Rattle.ax_link.specs.declared.phase.LinkPhase.{LinkPhase}
 use Rattle.ax_link.specs.declared.phase.LinkPhase.TheVariants.{Down, SettingUp, Up, Releasing}
-use Rattle.ax_link.specs.Carrying.{GoesOn, is_on}
+use Rattle.ax_link.specs.Carrying.{StaysOn, is_on}
 use Rattle.ax_link.specs.Pair.{Both, IsNew, NoRestart, NoRestartIn, Queue, core, opens}
 use Rattle.ax_link.specs.Runs.{sets_up}
 use Rattle.ax_link.specs.State.{Effect, Rules, count_end}
@@ -102,7 +102,7 @@ module _ (known : Known) (set : Rules) (now delay : ℕ) (settled : Settled set 
 
   -- ---- it comes up
 
-  pub comes_on : (f : Flight) → x.link.phase ≡ SettingUp → any_begins g.notes ≡ true → i ≡ Arrive f.frame → x.coming ≡ f ∷ rest → f.frame.kind ≡ kind.Ua true → GoesOn g →
+  pub comes_on : (f : Flight) → x.link.phase ≡ SettingUp → any_begins g.notes ≡ true → i ≡ Arrive f.frame → x.coming ≡ f ∷ rest → f.frame.kind ≡ kind.Ua true → StaysOn g →
       (IsNew x.link → IsFresh (core g.link)) →
       SoundAfter set now delay g x rest x.heard y
   comes_on f u e q c k on fresh = by (next_or_off x s.talk.near s.talk.far.heard s.talk.one.stand u)
@@ -169,7 +169,7 @@ module _ (known : Known) (set : Rules) (now delay : ℕ) (settled : Settled set 
   other_over e j n = get_other x.over e j n
 
   pub up_on : (h : List ℕ) → x.link.phase ≡ Up → Stand y s.talk.far h → OfEpoch s.talk.far.number h → (h ≡ [] → IsFresh (core g.link)) →
-      any_begins g.notes ≡ false → NoRestartIn i → GoesOn g →
+      any_begins g.notes ≡ false → NoRestartIn i → StaysOn g →
       SoundAfter set now delay g x rest (Some h) y
   up_on h u other o fresh e n on = by (on_phase g.link.phase on.phase)
     where

@@ -20,7 +20,7 @@ pub fn life_safe()
     ax_link::laws::pair_left();
     ax_link::laws::pair_start();
     ax_link::laws::steps();
-    ax_link::laws::up_goes_on();
+    ax_link::laws::up_stays_on();
 }
 
 /// The epochs with which a report ends are those of the life of which the laws speak.

@@ -10,7 +10,7 @@ use Rattle.circuit_set.specs.Sets as sets
 use Rattle.circuit_set.specs.Sets.{SetState}
 use Rattle.l3_datagram.specs.CarrierCall.{CarrierCall, Collect, Fail, Parcel}
 use Rattle.l3_datagram.specs.Datagrams.{head_at}
-use Rattle.l3_datagram.specs.Hops.{Way, Ends, GoesOn, way}
+use Rattle.l3_datagram.specs.Hops.{Way, Ends, ToNeighbour, way}
 use Rattle.l3_datagram.specs.declared.carrier.Offered.{Offered}
 use Rattle.l3_datagram.specs.declared.carrier.Offered.TheVariants.{Taken, Dropped as No_room}
 use Rattle.l3_datagram.specs.declared.datagram.DatagramHead.{DatagramHead}
@@ -145,8 +145,8 @@ heard_items now w routed.Bad = refl
 
 by_items : (now : ℕ) (w : Waiting) (x : Way) (answer : Offered) → (outcome (pumps.hears_by now w x) answer).items ≡ []
 by_items now w (Ends r) answer = heard_items now w r
-by_items now w (GoesOn to d) Taken = refl
-by_items now w (GoesOn to d) No_room = refl
+by_items now w (ToNeighbour to d) Taken = refl
+by_items now w (ToNeighbour to d) No_room = refl
 
 hears_items : (hop : Callsign → Option Callsign) (now : ℕ) (parcel : Parcel) (w : Waiting) (answer : Offered) → (outcome (pumps.hears hop now parcel w) answer).items ≡ []
 hears_items hop now parcel w answer = by_items now w (way w.set.own hop parcel.1) answer

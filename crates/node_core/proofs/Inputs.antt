@@ -10,7 +10,7 @@ use Rattle.circuit_set.specs.Runs.{IsAct}
 use Rattle.circuit_set.specs.Sets.{Act, Connect, Comes, Calls, Discard, Restart, Ticks, Holder, SetState, Told, Made, Sent, Heeded, Notice, Gone, Restarted, Lost, set_step}
 use Rattle.l3_datagram.specs.CarrierCall.{Parcel}
 use Rattle.l3_datagram.specs.Datagrams.{head_at}
-use Rattle.l3_datagram.specs.Hops.{Way, Ends, GoesOn, forwarded_by, way}
+use Rattle.l3_datagram.specs.Hops.{Way, Ends, ToNeighbour, forwarded_by, way}
 use Rattle.l3_datagram.specs.declared.datagram.DatagramHead.{DatagramHead}
 use Rattle.l3_datagram.specs.declared.datagram.DatagramRefusal.{DatagramRefusal}
 use Rattle.l3_datagram.specs.declared.routed.Routed.{Routed}
@@ -150,7 +150,7 @@ heard_went now w routed.Bad = by_none w w [] refl refl
 
 by_way : (now : ℕ) (w : Waiting) (x : Way) → OfEach (TurnWent w) (hears_by now w x)
 by_way now w (Ends told) = heard_went now w told
-by_way now w (GoesOn neighbour d) = λ answer. heard_went now w (forwarded_by answer)
+by_way now w (ToNeighbour neighbour d) = λ answer. heard_went now w (forwarded_by answer)
 
 pub hears_went : (next_hop : Callsign → Option Callsign) (now : ℕ) (parcel : Parcel) (w : Waiting) → OfEach (TurnWent w) (circuits.hears next_hop now parcel w)
 unfolding circuits.hears

@@ -9,7 +9,7 @@ use Rattle.circuit_set.specs.Sets as sets
 use Rattle.circuit_set.specs.Sets.{SetState, Told, set_step}
 use Rattle.l3_datagram.specs.CarrierCall.{Datagram, Parcel}
 use Rattle.l3_datagram.specs.Datagrams.{head_at}
-use Rattle.l3_datagram.specs.Hops.{Way, Ends, GoesOn, forwarded_by, way}
+use Rattle.l3_datagram.specs.Hops.{Way, Ends, ToNeighbour, forwarded_by, way}
 use Rattle.l3_datagram.specs.declared.carrier.Offered.{Offered}
 use Rattle.l3_datagram.specs.declared.carrier.Offered.TheVariants.{Taken, Dropped as No_room}
 use Rattle.l3_datagram.specs.declared.datagram.DatagramHead.{DatagramHead}
@@ -95,7 +95,7 @@ module _ (R : SetState → List Told → List Session → Type 0)
 
     way_on : (prompt : Bool) (now : ℕ) (w : Waiting) (ss : List Session) (x : Way) → R w.set w.untold ss → OfEach (On prompt ss) (pumps.hears_by now w x)
     way_on prompt now w ss (Ends r) x = heard_on prompt now w ss r x
-    way_on prompt now w ss (GoesOn to d) x = by
+    way_on prompt now w ss (ToNeighbour to d) x = by
       where
         by : (answer : Offered) → On prompt ss (pumps.heard_as now w (forwarded_by answer))
         by Taken = x

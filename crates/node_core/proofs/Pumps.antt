@@ -11,7 +11,7 @@ use Rattle.circuit_set.specs.Sets as sets
 use Rattle.circuit_set.specs.Sets.{SetDone, Told, set_step}
 use Rattle.l3_datagram.specs.CarrierCall.{Datagram, Parcel}
 use Rattle.l3_datagram.specs.Datagrams.{head_at}
-use Rattle.l3_datagram.specs.Hops.{Way, Ends, GoesOn, forwarded_by, onward, way, way_of}
+use Rattle.l3_datagram.specs.Hops.{Way, Ends, ToNeighbour, forwarded_by, onward, way, way_of}
 use Rattle.l3_datagram.specs.Onward.{GoesOneHopOn}
 use Rattle.l3_datagram.specs.declared.carrier.Offered.{Offered}
 use Rattle.l3_datagram.specs.declared.carrier.Offered.TheVariants as offered
@@ -50,7 +50,7 @@ mine_of own hop d origin e (Ok head) q = mine_by own d origin e head (hop head.d
 
 -- a datagram goes on to a next hop
 hop_by : (d : Datagram) (next : Callsign) (e : Datagram) (head : DatagramHead) (hop : Callsign → Option Callsign) (o : Option Callsign) (returned mine expired : Bool) → hop head.dest ≡ o
-    → (if returned then Ends routed.Returned else (if mine then Ends (routed.Mine head.origin d) else (if expired then Ends routed.Expired else onward d head.ttl o))) ≡ GoesOn next e → hop head.dest ≡ Some next
+    → (if returned then Ends routed.Returned else (if mine then Ends (routed.Mine head.origin d) else (if expired then Ends routed.Expired else onward d head.ttl o))) ≡ ToNeighbour next e → hop head.dest ≡ Some next
 hop_by d next e head hop o true mine expired h q = absurd (cc q)
 hop_by d next e head hop o false true expired h q = absurd (cc q)
 hop_by d next e head hop o false false true h q = absurd (cc q)
@@ -58,13 +58,13 @@ hop_by d next e head hop None false false false h q = absurd (cc q)
 hop_by d next e head hop (Some n) false false false h q = let same : n ≡ next = cc q in h ∙ ap Some same
 
 hop_of : (own : Callsign) (hop : Callsign → Option Callsign) (d : Datagram) (next : Callsign) (e : Datagram) (r : Result DatagramHead DatagramRefusal)
-    → ((dest : Callsign) → hop dest ≡ Some next → IsCall next) → way_of own hop d r ≡ GoesOn next e → IsCall next
+    → ((dest : Callsign) → hop dest ≡ Some next → IsCall next) → way_of own hop d r ≡ ToNeighbour next e → IsCall next
 hop_of own hop d next e (Err why) f q = absurd (cc q)
 hop_of own hop d next e (Ok head) f q =
     f head.dest (hop_by d next e head hop (hop head.dest) (same_call head.origin own) (same_call head.dest own) (nat_le head.ttl 1) refl q)
 
 -- what goes on can be read
-read_of : (own : Callsign) (hop : Callsign → Option Callsign) (d : Datagram) (next : Callsign) (e : Datagram) (r : Result DatagramHead DatagramRefusal) → way_of own hop d r ≡ GoesOn next e
+read_of : (own : Callsign) (hop : Callsign → Option Callsign) (d : Datagram) (next : Callsign) (e : Datagram) (r : Result DatagramHead DatagramRefusal) → way_of own hop d r ≡ ToNeighbour next e
     → (head : DatagramHead) × (r ≡ Ok head)
 read_of own hop d next e (Err why) q = absurd (cc q)
 read_of own hop d next e (Ok head) q = (head, refl)
@@ -195,7 +195,7 @@ module _ (here : Place) (law : CarriesWhatWasOffered) (weaker : CarriesByWeaker)
     parcel_traced sent x = (subst (λ ps. AllByRecursion (λ (q : Parcel). is_borne here.borne here.own q.1.items ≡ true) ps) e x.links.waiting).0
 
     -- it is passed on
-    onward_traced : (hop : Callsign → Option Callsign) (next : Callsign) (d : Datagram) → way n.set.set.own hop parcel.1 ≡ GoesOn next d → Traced n d.items
+    onward_traced : (hop : Callsign → Option Callsign) (next : Callsign) (d : Datagram) → way n.set.set.own hop parcel.1 ≡ ToNeighbour next d → Traced n d.items
     onward_traced hop next d is sent x =
         let read = read_of n.set.set.own hop parcel.1 next d (head_at parcel.1.items) is in
         or_second (is_sent sent d.items) (is_passed here.borne here.own d.items)
@@ -218,8 +218,8 @@ module _ (here : Place) (law : CarriesWhatWasOffered) (weaker : CarriesByWeaker)
 
     way_ok : (hop : Callsign → Option Callsign) (w : Way) → HopsAreCalls n hop → way n.set.set.own hop parcel.1 ≡ w → EachOk n (pumps.hears_by now n.set w)
     way_ok hop (Ends r) hops is = heard_ok (Ends r) r (λ origin d same. mine_of n.set.set.own hop parcel.1 origin d (head_at parcel.1.items) (is ∙ ap Ends same))
-    way_ok hop (GoesOn next d) hops is =
-        (onward_traced hop next d is, λ sent x. hop_of n.set.set.own hop parcel.1 next d (head_at parcel.1.items) (λ dest e. hops sent dest next x e) is, λ answer. answered_ok (GoesOn next d) answer)
+    way_ok hop (ToNeighbour next d) hops is =
+        (onward_traced hop next d is, λ sent x. hop_of n.set.set.own hop parcel.1 next d (head_at parcel.1.items) (λ dest e. hops sent dest next x e) is, λ answer. answered_ok (ToNeighbour next d) answer)
 
     hears_ok : (hop : Callsign → Option Callsign) → HopsAreCalls n hop → EachOk n (circuits.hears hop now parcel n.set)
     unfolding circuits.hears

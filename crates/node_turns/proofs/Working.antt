@@ -12,7 +12,7 @@ use Rattle.circuit_set.specs.Sets as sets
 use Rattle.circuit_set.specs.Sets.{SetState}
 use Rattle.l3_datagram.specs.CarrierCall.{Parcel}
 use Rattle.l3_datagram.specs.Datagrams.{head_at}
-use Rattle.l3_datagram.specs.Hops.{Way, Ends, GoesOn, forwarded_by, way}
+use Rattle.l3_datagram.specs.Hops.{Way, Ends, ToNeighbour, forwarded_by, way}
 use Rattle.l3_datagram.specs.declared.carrier.Offered.{Offered}
 use Rattle.l3_datagram.specs.declared.carrier.Offered.TheVariants.{Taken, Dropped as No_room}
 use Rattle.l3_datagram.specs.declared.datagram.DatagramHead.{DatagramHead}
@@ -164,7 +164,7 @@ heard_most now w routed.Bad = omega arith
 
 way_most : (now : ℕ) (w : Waiting) (x : Way) → OfEach (λ u. messages_but [] u.after.set.ends ≤ suc (messages_but [] w.set.ends)) (pumps.hears_by now w x)
 way_most now w (Ends r) = heard_most now w r
-way_most now w (GoesOn to d) = by
+way_most now w (ToNeighbour to d) = by
   where
     by : (answer : Offered) → messages_but [] (pumps.heard_as now w (forwarded_by answer)).after.set.ends ≤ suc (messages_but [] w.set.ends)
     by Taken = omega arith

@@ -1,8 +1,0 @@
-use Rattle.ax_link.proofs.Carrying.{opens_so, up_goes_on}
-use Rattle.ax_link.proofs.laws.up_goes_on.Goals as goal
-
-pub returns-clause-up : goal.returns-clause-up
-returns-clause-up c = up_goes_on
-
-pub returns-clause-opens : goal.returns-clause-opens
-returns-clause-opens c = opens_so
