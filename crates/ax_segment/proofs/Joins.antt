@@ -4,12 +4,12 @@ use Rattle.std.proofs.lemmas.List.{append-nil}
 use Rattle.std.proofs.lemmas.Grind.{common_steps}
 use Rattle.ax_segment.specs.declared.TheConstants.{FIRST_BIT}
 use Rattle.ax_segment.specs.Segments.{cut, counted_down, with_first, segments_of, IsSplittable}
-use Rattle.ax_segment.specs.Joining.{Held, Nothing, Part, Answer, More, Whole, counted, join_step, held_after, answers}
+use Rattle.ax_segment.specs.Joining.{HeldMessage, Nothing, Part, Answer, More, Whole, counted, join_step, held_after, answers}
 use Rattle.ax_segment.specs.Laws.{joined, SegmentsJoin}
 use Rattle.ax_segment.proofs.Cutting.{cut_next, pieces_are_full, length-with_first}
 
 -- these segments are answered by More, and the last by Whole, and nothing is held then
-pub record Join (held : Held) (segments : List (List ℕ)) (n : ℕ) (pid : ℕ) (message : List ℕ) : Type 0 where
+pub record Join (held : HeldMessage) (segments : List (List ℕ)) (n : ℕ) (pid : ℕ) (message : List ℕ) : Type 0 where
   pub given : answers held segments ≡ replicate n More ++ Whole pid message ∷ []
   pub left : held_after held segments ≡ Nothing
 
@@ -27,7 +27,7 @@ joins pid bytes p (q ∷ ps) =
     let rest = joins pid (bytes ++ p) q ps in
     record {
       given = rw (step, rest.given, append_assoc) refl;
-      left = ap (λ (next : Held × Answer). held_after next.0 (counted_down (q ∷ ps))) step ∙ rest.left;
+      left = ap (λ (next : HeldMessage × Answer). held_after next.0 (counted_down (q ∷ ps))) step ∙ rest.left;
     }
 
 -- the same of all, from the first one on
@@ -47,7 +47,7 @@ joins_all pid bytes (p ∷ ps) h =
     let rest = joins pid bytes p ps in
     record {
       given = rw (step, rest.given) refl;
-      left = ap (λ (next : Held × Answer). held_after next.0 (counted_down (p ∷ ps))) step ∙ rest.left;
+      left = ap (λ (next : HeldMessage × Answer). held_after next.0 (counted_down (p ∷ ps))) step ∙ rest.left;
     }
 
 -- the pieces of a PID and a message: the first one begins with the PID

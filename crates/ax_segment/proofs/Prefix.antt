@@ -2,12 +2,12 @@
 use Rattle.std.proofs.Common.{◌≡◌, ℕ, zero, suc, ◌<◌, List, [], ◌∷◌, ◌++◌, length, replicate, slice_index_or, refl, ap, sym, ◌∙◌, arith}
 use Rattle.std.proofs.lemmas.Grind.{flat_map-append}
 use Rattle.ax_segment.specs.Segments.{segments_of, IsSplittable}
-use Rattle.ax_segment.specs.Joining.{Held, Nothing, Answer, More, Whole, join_step, held_after, answers}
+use Rattle.ax_segment.specs.Joining.{HeldMessage, Nothing, Answer, More, Whole, join_step, held_after, answers}
 use Rattle.ax_segment.specs.Laws.{Message, segments_of_all, whole_in, wholes, JoinedPrefix}
 use Rattle.ax_segment.proofs.Joins.{joins_whole}
 
 -- the answers to segments that come in two parts
-answers-append : (held : Held) (first rest : List (List ℕ)) → answers held (first ++ rest) ≡ answers held first ++ answers (held_after held first) rest
+answers-append : (held : HeldMessage) (first rest : List (List ℕ)) → answers held (first ++ rest) ≡ answers held first ++ answers (held_after held first) rest
 answers-append held [] rest = refl
 answers-append held (segment ∷ first) rest =
     ap (λ given. (join_step held segment).1 ∷ given) (answers-append (join_step held segment).0 first rest)

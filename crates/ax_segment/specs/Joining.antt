@@ -3,9 +3,9 @@ use Rattle.std.specs.Prelude.{ℕ, ◌-◌, ◌%◌, ◌==◌, nat_lt, if◌then
 use Rattle.ax_segment.specs.declared.TheConstants.{FIRST_BIT}
 
 -- what is held: nothing, or the PID and the bytes of a message, and how many of its segments are still to come
-pub data Held : Type 0 where
-  Nothing : Held
-  Part : (pid : ℕ) (bytes : List ℕ) (to_come : ℕ) → Held
+pub data HeldMessage : Type 0 where
+  Nothing : HeldMessage
+  Part : (pid : ℕ) (bytes : List ℕ) (to_come : ℕ) → HeldMessage
 
 -- what a segment comes to
 pub data Answer : Type 0 where
@@ -15,37 +15,37 @@ pub data Answer : Type 0 where
   Broken : (expected : Option ℕ) (found : ℕ) → Answer
 
 -- with these bytes, and so many segments still to come
-abbrev pub counted : ℕ → List ℕ → ℕ → Held × Answer
+abbrev pub counted : ℕ → List ℕ → ℕ → HeldMessage × Answer
 counted pid bytes to_come =
     if to_come == 0 then (Nothing, Whole pid bytes) else (Part pid bytes to_come, More)
 
 -- by the octets behind the first one of a first segment
-abbrev pub begun_with : ℕ → List ℕ → Held × Answer
+abbrev pub begun_with : ℕ → List ℕ → HeldMessage × Answer
 begun_with to_come [] = (Nothing, Short)
 begun_with to_come (pid ∷ bytes) = counted pid bytes to_come
 
 -- by a segment where a first one has to come
-abbrev pub begun_by : ℕ → List ℕ → Held × Answer
+abbrev pub begun_by : ℕ → List ℕ → HeldMessage × Answer
 begun_by header rest = if nat_lt header FIRST_BIT then (Nothing, Broken None header) else begun_with (header % FIRST_BIT) rest
 
 -- by a segment where the one with the next lower count has to come
-abbrev pub continued_by : ℕ → List ℕ → ℕ → ℕ → List ℕ → Held × Answer
+abbrev pub continued_by : ℕ → List ℕ → ℕ → ℕ → List ℕ → HeldMessage × Answer
 continued_by pid bytes to_come header rest =
     if header == to_come - 1
     then counted pid (bytes ++ rest) (to_come - 1)
     else (Nothing, Broken (Some (to_come - 1)) header)
 
-abbrev pub taken_in : Held → ℕ → List ℕ → Held × Answer
+abbrev pub taken_in : HeldMessage → ℕ → List ℕ → HeldMessage × Answer
 taken_in Nothing header rest = begun_by header rest
 taken_in (Part pid bytes to_come) header rest = continued_by pid bytes to_come header rest
 
 -- by a segment: what is held then, and what it comes to
-abbrev pub join_step : Held → List ℕ → Held × Answer
+abbrev pub join_step : HeldMessage → List ℕ → HeldMessage × Answer
 join_step held [] = (Nothing, Short)
 join_step held (header ∷ rest) = taken_in held header rest
 
 -- the PID, the number of bytes and the count still to come of what is held
-abbrev pub held_of : Held → Option (ℕ × ℕ × ℕ)
+abbrev pub held_of : HeldMessage → Option (ℕ × ℕ × ℕ)
 held_of Nothing = None
 held_of (Part pid bytes to_come) = Some (pid, length bytes, to_come)
 
@@ -57,10 +57,10 @@ whole_of Short = None
 whole_of (Broken expected found) = None
 
 -- what is held after these segments, and what they come to, in order
-abbrev pub held_after : Held → List (List ℕ) → Held
+abbrev pub held_after : HeldMessage → List (List ℕ) → HeldMessage
 held_after held [] = held
 held_after held (segment ∷ rest) = held_after (join_step held segment).0 rest
 
-abbrev pub answers : Held → List (List ℕ) → List Answer
+abbrev pub answers : HeldMessage → List (List ℕ) → List Answer
 answers held [] = []
 answers held (segment ∷ rest) = (join_step held segment).1 ∷ answers (join_step held segment).0 rest

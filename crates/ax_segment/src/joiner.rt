@@ -19,11 +19,11 @@ pub struct Joiner {
 
 impl Model for Joiner {
     ghost use Rattle.std.specs.Prelude.{◌≡◌, length};
-    ghost use Rattle.ax_segment.specs.Joining.{Held};
+    ghost use Rattle.ax_segment.specs.Joining.{HeldMessage};
     ghost use Rattle.ax_segment.specs.Gathering.{held_at};
     ghost use Rattle.ax_segment.specs.Kept.{kept};
 
-    ghost Value = { Held };
+    ghost Value = { HeldMessage };
 
     ghost view = { λ j. held_at j.gathered };
 

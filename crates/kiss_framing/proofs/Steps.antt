@@ -4,14 +4,14 @@ use Rattle.std.proofs.lemmas.List.{append-nil}
 use Rattle.std.proofs.lemmas.Grind.{common_steps, flat_map-append}
 use Rattle.kiss_framing.specs.declared.TheConstants.{FEND, FESC, TFEND, TFESC}
 use Rattle.kiss_framing.specs.Stream.{Item, Too_long, meaning, unescaped, is_too_long, ended_items, open_items, open_piece, given_by_byte, items}
-use Rattle.kiss_framing.specs.Deframing.{Held, Piece, Skipped, held_of, ends_in_escape, StandsFor}
+use Rattle.kiss_framing.specs.Deframing.{HeldPiece, Piece, Skipped, held_of, ends_in_escape, StandsFor}
 use Rattle.kiss_framing.specs.Laws.{BytesAdd}
 use Rattle.kiss_framing.specs.Stepping.{grown, after_fend, within, step}
 use Rattle.kiss_framing.proofs.Escapes.{added, waits, longer}
 use Rattle.kiss_framing.proofs.Pieces.{cut_of, given_by, items_of_front, last_of_front}
 
 -- what is held of these unescaped bytes
-abbrev pub held_by : List ℕ → Bool → Held
+abbrev pub held_by : List ℕ → Bool → HeldPiece
 held_by bytes in_escape = if is_too_long bytes then Skipped else Piece bytes in_escape
 
 -- by one byte that is no FEND, of a piece with these unescaped bytes to one with those
@@ -130,12 +130,12 @@ pub bytes_add : BytesAdd
 bytes_add bytes b = (steps bytes b).items ∙ ap (λ more. items bytes ++ more) (given bytes b _ refl)
 
 -- what a deframer is and gives after one byte more
-pub record Fed (held : Held) (b : ℕ) (later : Held) (handed_out : List Item) : Type 0 where
+pub record Fed (held : HeldPiece) (b : ℕ) (later : HeldPiece) (handed_out : List Item) : Type 0 where
   pub goes_on : (stream : List ℕ) → StandsFor held stream → StandsFor later (stream ++ b ∷ [])
   pub adds : (stream : List ℕ) → StandsFor held stream → items (stream ++ b ∷ []) ≡ items stream ++ handed_out
   pub exact : (stream : List ℕ) → StandsFor held stream → handed_out ≡ given_by_byte stream b
 
-pub fed : (held : Held) (b : ℕ) (later : Held) (handed_out : List Item) → (later, handed_out) ≡ step held b → Fed held b later handed_out
+pub fed : (held : HeldPiece) (b : ℕ) (later : HeldPiece) (handed_out : List Item) → (later, handed_out) ≡ step held b → Fed held b later handed_out
 fed held b later handed_out e =
     record {
       goes_on = λ stream h. ap (λ s. s.0) e ∙ rw h (steps stream b).held;

@@ -6,7 +6,7 @@ use Rattle.kiss_framing.specs.declared.deframer.KissItem.{KissItem}
 use Rattle.kiss_framing.specs.declared.deframer.KissItem.TheVariants as kiss
 use Rattle.kiss_framing.specs.contracts.deframer.Deframer.{the_row}
 use Rattle.kiss_framing.specs.Stream.{Item, Frame, Too_long, items}
-use Rattle.kiss_framing.specs.Deframing.{Held, StandsFor}
+use Rattle.kiss_framing.specs.Deframing.{HeldPiece, StandsFor}
 
 -- the item that is handed out, if any
 abbrev pub handed_out : Option KissItem → List Item
@@ -20,7 +20,7 @@ IsSmall (kiss.Frame port command payload) = (port ≤ 15) × (command ≤ 15) ×
 IsSmall kiss.TooLong = Unit {0}
 
 -- once what was lent is given back, the deframer stands for the stream that it stood for, with these bytes behind it
-abbrev pub TakesIn : MutBor Held → List ℕ → Fml
+abbrev pub TakesIn : MutBor HeldPiece → List ℕ → Fml
 TakesIn deframer bytes =
     follows_so the_row the_row deframer.ghost_name none (λ _ _. ⊤)
     (λ later. (stream : List ℕ) → StandsFor deframer.now stream → StandsFor later (stream ++ bytes))

@@ -30,10 +30,10 @@ pub struct Deframer {
 
 impl Model for Deframer {
     ghost use Rattle.std.specs.Prelude.{◌≡◌, ◌≤◌, length};
-    ghost use Rattle.kiss_framing.specs.Deframing.{Held, kept};
+    ghost use Rattle.kiss_framing.specs.Deframing.{HeldPiece, kept};
     ghost use Rattle.kiss_framing.specs.Stepping.{held_at};
 
-    ghost Value = { Held };
+    ghost Value = { HeldPiece };
 
     ghost view = { λ d. held_at d.piece.place d.piece.bytes.items };
 

@@ -9,7 +9,7 @@ use Rattle.ax_link.specs.declared.notice.LinkNotice.TheVariants.{Opened, Reset, 
 use Rattle.ax_link.specs.Standing.{LinkView, StandsFor, frame_of}
 use Rattle.ax_link.specs.State.{Frame, Effect, State}
 use Rattle.ax_link.specs.Table.{Arrive, Input, Take, step}
-use Rattle.ax_segment.specs.Joining.{Held as Joined, join_step}
+use Rattle.ax_segment.specs.Joining.{HeldMessage as Joined, join_step}
 use Rattle.ax_segment.specs.Kept.{IsWithin}
 use Rattle.link_table.specs.declared.route.Route.{Route}
 use Rattle.link_table.specs.declared.pending.Pending.{Pending}

@@ -9,7 +9,7 @@ use Rattle.ax_address.specs.CallOrder.{same_call}
 use Rattle.ax_link.specs.Standing.{LinkView, StandsFor}
 use Rattle.ax_link.specs.State.{State, count_end}
 use Rattle.ax_link.specs.Table.{Take, may_close}
-use Rattle.ax_segment.specs.Joining.{Held as Joined, join_step, whole_of}
+use Rattle.ax_segment.specs.Joining.{HeldMessage as Joined, join_step, whole_of}
 use Rattle.ax_segment.specs.Kept.{IsWithin}
 use Rattle.link_table.specs.declared.entry.Entry.{Entry}
 use Rattle.link_table.specs.declared.held_links.HeldLinks.{HeldLinks}

@@ -10,7 +10,7 @@ use Rattle.ax_link.specs.State.{State, count_end}
 use Rattle.ax_link.specs.Table.{may_close, Input, Send, step, takes}
 use Rattle.l3_datagram.specs.declared.carrier.Offered.{Offered}
 use Rattle.l3_datagram.specs.declared.carrier.Offered.TheVariants.{Taken, Dropped}
-use Rattle.ax_segment.specs.Joining.{Held as Joined, join_step}
+use Rattle.ax_segment.specs.Joining.{HeldMessage as Joined, join_step}
 use Rattle.ax_segment.specs.Kept.{IsWithin}
 use Rattle.radio_base.specs.declared.payload.Payload.{Payload}
 use Rattle.l3_datagram.specs.CarrierCall.{Parcel}

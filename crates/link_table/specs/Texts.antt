@@ -4,7 +4,7 @@ use Rattle.radio_base.specs.declared.payload.Payload.{Payload}
 use Rattle.ax_address.specs.Callsign.{Callsign}
 use Rattle.ax_link.specs.State.{State, count_end}
 use Rattle.ax_link.specs.Table.{may_close}
-use Rattle.ax_segment.specs.Joining.{Answer, Held, More, Whole, Short, Broken, join_step}
+use Rattle.ax_segment.specs.Joining.{Answer, HeldMessage, More, Whole, Short, Broken, join_step}
 use Rattle.link_table.specs.Calls.{at_link}
 use Rattle.link_table.specs.Frames.{plain_text}
 use Rattle.link_table.specs.Table.{Linked, Table, link_with}
@@ -18,11 +18,11 @@ message_of Short = []
 message_of (Broken expected found) = []
 
 -- the text that a payload is, or that the message has which it makes whole
-abbrev pub text_of : Held → Payload → List ℕ
+abbrev pub text_of : HeldMessage → Payload → List ℕ
 text_of joiner p = if p.pid == plain_text then p.info.items else message_of (join_step joiner p.info.items).1
 
 -- the text that waits, by the oldest payload
-abbrev pub first_text : Held → Option Payload → Option (List ℕ)
+abbrev pub first_text : HeldMessage → Option Payload → Option (List ℕ)
 first_text joiner None = None
 first_text joiner (Some p) = if is_text joiner p then Some (text_of joiner p) else None
 

@@ -8,7 +8,7 @@ use Rattle.ax_link.specs.declared.phase.LinkPhase.{LinkPhase}
 use Rattle.ax_link.specs.declared.phase.LinkPhase.TheVariants.{Down, SettingUp, Up, Releasing}
 use Rattle.ax_link.specs.State.{Frame, Effect}
 use Rattle.ax_link.specs.Table.{Input, Arrive, Take, step}
-use Rattle.ax_segment.specs.Joining.{Held, Nothing, join_step, whole_of}
+use Rattle.ax_segment.specs.Joining.{HeldMessage, Nothing, join_step, whole_of}
 use Rattle.link_table.specs.Frames.{Sent, netrom, plain_text, segmented, all_sent}
 use Rattle.link_table.specs.Table.{Linked, Pending}
 
@@ -18,7 +18,7 @@ pub record Work : Type 0 where
   pub pending : Pending
 
 -- a Reset empties the joiner
-abbrev pub joiner_after : List LinkNotice → Held → Held
+abbrev pub joiner_after : List LinkNotice → HeldMessage → HeldMessage
 joiner_after [] held = held
 joiner_after (Reset ∷ notes) held = Nothing
 joiner_after (n ∷ notes) held = joiner_after notes held
@@ -65,14 +65,14 @@ text_by None = false
 text_by (Some m) = (m.0 == plain_text) && (nat_le 1 m.1 && nat_le m.1 8192)
 
 -- whether a payload is a text, or a segment at which the joiner would give one
-abbrev pub is_text : Held → Payload → Bool
+abbrev pub is_text : HeldMessage → Payload → Bool
 is_text joiner p =
     if p.pid == plain_text then nat_le 1 (length p.info.items)
     else if p.pid == segmented then text_by (whole_of (join_step joiner p.info.items).1)
     else false
 
 -- the payload that may be taken at once: the oldest one, unless it is a text
-abbrev pub unless_text : Held → Option Payload → Option Payload
+abbrev pub unless_text : HeldMessage → Option Payload → Option Payload
 unless_text joiner None = None
 unless_text joiner (Some p) = if is_text joiner p then None else Some p
 

@@ -4,7 +4,7 @@ use Rattle.std.specs.Prelude.{Bool, true, false, ◌&&◌, ◌==◌, nat_le, is_
 use Rattle.std.proofs.lemmas.Bool.Decides.{nat_tests}
 use Rattle.radio_base.specs.declared.payload.Payload.{Payload}
 use Rattle.ax_address.specs.Callsign.{Callsign}
-use Rattle.ax_segment.specs.Joining.{Answer, Held, More, Whole, Short, Broken, join_step, whole_of}
+use Rattle.ax_segment.specs.Joining.{Answer, HeldMessage, More, Whole, Short, Broken, join_step, whole_of}
 use Rattle.link_table.specs.Frames.{plain_text, segmented}
 use Rattle.link_table.specs.Table.{Linked, Table, link_with}
 use Rattle.link_table.specs.Texts as texts
@@ -22,7 +22,7 @@ some_bytes More e = absurd (cc e)
 some_bytes Short e = absurd (cc e)
 some_bytes (Broken expected found) e = absurd (cc e)
 
-text_bytes : (j : Held) (p : Payload) → is_text j p ≡ true → 1 ≤ length (texts.text_of j p)
+text_bytes : (j : HeldMessage) (p : Payload) → is_text j p ≡ true → 1 ≤ length (texts.text_of j p)
 text_bytes j p e = by (p.pid == plain_text) e
   where
     joined : (b : Bool) → (if b then text_by (whole_of (join_step j p.info.items).1) else false) ≡ true → 1 ≤ length (texts.message_of (join_step j p.info.items).1)
@@ -34,7 +34,7 @@ text_bytes j p e = by (p.pid == plain_text) e
     by true f = grind (arith, nat_tests, f)
     by false f = joined (p.pid == segmented) f
 
-first_bytes : (j : Held) (o : Option Payload) → is_some (texts.first_text j o) ≡ true → 1 ≤ length (unwrap_or (texts.first_text j o) [])
+first_bytes : (j : HeldMessage) (o : Option Payload) → is_some (texts.first_text j o) ≡ true → 1 ≤ length (unwrap_or (texts.first_text j o) [])
 first_bytes j None e = absurd (cc e)
 first_bytes j (Some p) e = by (is_text j p) refl e
   where

@@ -2,7 +2,7 @@
 use Rattle.std.proofs.Common.{◌≡◌, ◌∙◌, ℕ, List, [], ◌∷◌, ◌++◌, ap, append_assoc, sym}
 use Rattle.std.specs.List.{flat_map}
 use Rattle.kiss_framing.specs.declared.TheConstants.{FEND}
-use Rattle.kiss_framing.specs.Deframing.{Held, StandsFor, held_of}
+use Rattle.kiss_framing.specs.Deframing.{HeldPiece, StandsFor, held_of}
 use Rattle.kiss_framing.specs.Enframing.{escape_of, framed}
 use Rattle.kiss_framing.specs.Laws.{FendEnds, FendParts}
 use Rattle.kiss_framing.specs.Stream.{Item, items, open_piece}
@@ -16,7 +16,7 @@ frame_adds parts stream octets given own e f =
     parts stream tail ∙ (ap (λ is. is ++ items tail) e ∙ (append_assoc (items stream) given (items tail) ∙ ap (λ is. items stream ++ (given ++ is)) whole))
 
 -- it leaves no more held than the FEND before it
-pub frame_held : FendEnds → (held : Held) (stream octets : List ℕ) → StandsFor held (stream ++ FEND ∷ []) → StandsFor held (stream ++ framed 0 0 octets)
+pub frame_held : FendEnds → (held : HeldPiece) (stream octets : List ℕ) → StandsFor held (stream ++ FEND ∷ []) → StandsFor held (stream ++ framed 0 0 octets)
 frame_held ends held stream octets h =
     let front : List ℕ = stream ++ FEND ∷ flat_map escape_of (0 ∷ octets) in
     let behind : open_piece (stream ++ framed 0 0 octets) ≡ [] =

@@ -190,7 +190,7 @@ items_collected : NothingLeftAfterInputs → (now : ℕ) (is : List Item) (n : S
 items_collected nothing now [] n e = e
 items_collected nothing now (i ∷ is) n e = items_collected nothing now is (after_item now i n) (nothing now (take_item now i n)).waiting
 
-pub bytes_on : NothingLeftAfterInputs → (now m : ℕ) (bytes : List ℕ) (k : Kept) (d : kiss.Held) (s : Station) → m ≡ moment now
+pub bytes_on : NothingLeftAfterInputs → (now m : ℕ) (bytes : List ℕ) (k : Kept) (d : kiss.HeldPiece) (s : Station) → m ≡ moment now
     → ((stream : List ℕ) → kiss.StandsFor k.deframer stream → kiss.StandsFor d (stream ++ bytes))
     → ((stream : List ℕ) → kiss.StandsFor k.deframer stream → Takes m k.station s stream bytes)
     → (n : NodeState) → NodeStands k n → NodeStands (kept d s false) (after_bytes now bytes n)
@@ -204,7 +204,7 @@ bytes_on nothing now m bytes k d s e fed taken n h =
       told = items_told nothing (moment now) (new_items n.stream bytes) n.station h.told;
     }
 
-pub sound_bytes : NothingLeftAfterInputs → (now m : ℕ) (bytes : List ℕ) (k : Kept) (d : kiss.Held) (s : Station) → m ≡ moment now
+pub sound_bytes : NothingLeftAfterInputs → (now m : ℕ) (bytes : List ℕ) (k : Kept) (d : kiss.HeldPiece) (s : Station) → m ≡ moment now
     → ((stream : List ℕ) → kiss.StandsFor k.deframer stream → kiss.StandsFor d (stream ++ bytes))
     → ((stream : List ℕ) → kiss.StandsFor k.deframer stream → Takes m k.station s stream bytes)
     → (IsDrained k.station → IsDrained s) → IsSound k → IsSound (kept d s false)

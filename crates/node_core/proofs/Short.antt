@@ -16,7 +16,7 @@ use Rattle.ax_frame.specs.Frames.{Frame}
 use Rattle.ax_frame.specs.Read.{read_at, read_head_at}
 use Rattle.ax_link.specs.Kinds.{payload_of}
 use Rattle.ax_link.specs.Outputs.{Has}
-use Rattle.ax_segment.specs.Joining.{Answer, Held, More, Whole, Short, Broken, join_step, whole_of}
+use Rattle.ax_segment.specs.Joining.{Answer, HeldMessage, More, Whole, Short, Broken, join_step, whole_of}
 use Rattle.circuit_set.specs.Sets as sets
 use Rattle.digi_path.specs.Paths.{Action, For_me, Repeat, Not_yet, Heard, action}
 use Rattle.kiss_framing.specs.Stream as kiss
@@ -91,7 +91,7 @@ joined_most More e = absurd (cc e)
 joined_most Short e = absurd (cc e)
 joined_most (Broken expected found) e = absurd (cc e)
 
-text_most : (j : Held) (p : Payload) → length p.info.items ≤ 256 → is_text j p ≡ true → length (texts.text_of j p) ≤ 8192
+text_most : (j : HeldMessage) (p : Payload) → length p.info.items ≤ 256 → is_text j p ≡ true → length (texts.text_of j p) ≤ 8192
 text_most j p few e = by (p.pid == plain_text) e
   where
     joined : (b : Bool) → (if b then text_by (whole_of (join_step j p.info.items).1) else false) ≡ true → length (texts.message_of (join_step j p.info.items).1) ≤ 8192
@@ -103,7 +103,7 @@ text_most j p few e = by (p.pid == plain_text) e
     by true f = omega (arith, few)
     by false f = joined (p.pid == segmented) f
 
-first_most : (call : Callsign) (j : Held) (ps : List Payload) → AllByRecursion (Has (few_bytes call)) ps → is_some (texts.first_text j (slice_get ps 0)) ≡ true → length (unwrap_or (texts.first_text j (slice_get ps 0)) []) ≤ 8192
+first_most : (call : Callsign) (j : HeldMessage) (ps : List Payload) → AllByRecursion (Has (few_bytes call)) ps → is_some (texts.first_text j (slice_get ps 0)) ≡ true → length (unwrap_or (texts.first_text j (slice_get ps 0)) []) ≤ 8192
 first_most call j [] a e = absurd (cc e)
 first_most call j (p ∷ ps) a e = by (is_text j p) refl e
   where

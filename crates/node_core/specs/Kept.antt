@@ -8,11 +8,11 @@ use Rattle.node_core.specs.Standing.{Holds, IsTold}
 use Rattle.node_turns.specs.States.{NodeState}
 
 pub record Kept : Type 0 where
-  pub deframer : kiss.Held
+  pub deframer : kiss.HeldPiece
   pub station : Station
   pub spent : Bool  -- memory ran out in an earlier call
 
-abbrev pub kept : kiss.Held → Station → Bool → Kept
+abbrev pub kept : kiss.HeldPiece → Station → Bool → Kept
 kept deframer station spent = record { deframer = deframer; station = station; spent = spent }
 
 -- the circuits that it lends, and with them its router, table and links

@@ -10,7 +10,7 @@ use Rattle.ax_link.specs.Moves.{first_early, follow_by, next_early, resume, take
 use Rattle.ax_link.specs.State.{Effect, State, begin, busy, count_end, is_up}
 use Rattle.ax_link.specs.Table as link
 use Rattle.ax_link.specs.Table.{Take, step}
-use Rattle.ax_segment.specs.Joining.{Held, join_step}
+use Rattle.ax_segment.specs.Joining.{HeldMessage, join_step}
 use Rattle.link_table.specs.Calls as calls
 use Rattle.link_table.specs.Frames.{netrom, plain_text, segmented}
 use Rattle.link_table.specs.Payloads.{all_payloads, filled, link_payloads, payloads}
@@ -103,7 +103,7 @@ unfolding held
 one_most own now p q w e =
     omega (arith, lighter own now p q w e, handed_waiting p (step_link own Take now w) (p.pid == netrom) (p.pid == segmented))
 
-untexted : (j : Held) (x : Option Payload) (p : Payload) → unless_text j x ≡ Some p → x ≡ Some p
+untexted : (j : HeldMessage) (x : Option Payload) (p : Payload) → unless_text j x ≡ Some p → x ≡ Some p
 untexted j None p e = absurd (cc e)
 untexted j (Some q) p e = by (is_text j q) e
   where
@@ -129,7 +129,7 @@ not_netrom pid x y true b c e f g h = grind (arith, nat_tests, e, g)
 not_netrom pid x y false true c e f g h = grind (arith, nat_tests, f, g)
 not_netrom pid x y false false c e f g h = absurd (cc h)
 
-text_pid : (j : Held) (p : Payload) → is_text j p ≡ true → (p.pid == netrom) ≡ false
+text_pid : (j : HeldMessage) (p : Payload) → is_text j p ≡ true → (p.pid == netrom) ≡ false
 text_pid j p e = not_netrom p.pid _ _ (p.pid == plain_text) (p.pid == segmented) (p.pid == netrom) refl refl refl e
 
 text_less : (own : Callsign) (now : ℕ) (w : Work) (r : Option Payload) → slice_get w.linked.link.inbox 0 ≡ r → is_some (texts.first_text w.linked.joiner r) ≡ true
