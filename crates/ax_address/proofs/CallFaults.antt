@@ -3,7 +3,7 @@ use Rattle.std.proofs.Common.{◌≡◌, ◌≤◌, ◌<◌, ◌+◌, ◌++◌, 
 use Rattle.std.specs.Prelude.{Option, Some, None}
 use Rattle.std.proofs.lemmas.List.{drop-append-le, drop-take, take-append-le, length-append, length-drop, length-take}
 use Rattle.ax_address.specs.declared.octets.AddressRefusal.{AddressRefusal}
-use Rattle.ax_address.specs.Octets.{FaultIsFirst, FrontGoesOn, address_fault, fault_in, place_of}
+use Rattle.ax_address.specs.Octets.{FaultIsFirst, FrontGoesOn, address_fault, fault_in, refused_octet}
 
 -- from a place on, of a front and what is put behind it
 pub drop_front : (at n : ℕ) (os more : List ℕ) → at + n ≤ length os → drop at (take (at + n) os ++ more) ≡ take n (drop at os) ++ more
@@ -16,17 +16,17 @@ still_none at os more len none =
 
 -- a fault in the call that stands at a place
 pub record CallBad (at : ℕ) (os : List ℕ) (r : AddressRefusal) : Type 0 where
-  pub within : at + place_of r < length os
-  pub among : place_of r < 6
-  pub stays : (more : List ℕ) → address_fault (drop at (take (at + place_of r + 1) os ++ more)) ≡ Some r
+  pub within : at + refused_octet r < length os
+  pub among : refused_octet r < 6
+  pub stays : (more : List ℕ) → address_fault (drop at (take (at + refused_octet r + 1) os ++ more)) ≡ Some r
   -- the six octets are completed
   pub more : List ℕ
-  pub six : length (take (at + place_of r) os ++ more) ≡ at + 6
-  pub none : address_fault (drop at (take (at + place_of r) os ++ more)) ≡ None
+  pub six : length (take (at + refused_octet r) os ++ more) ≡ at + 6
+  pub none : address_fault (drop at (take (at + refused_octet r) os ++ more)) ≡ None
 
 pub call_bad : FaultIsFirst → FrontGoesOn → (at : ℕ) (os : List ℕ) (r : AddressRefusal) → address_fault (drop at os) ≡ Some r → CallBad at os r
 call_bad first law at os r h =
-    let p = place_of r in
+    let p = refused_octet r in
     let f = first (drop at os) r h in
     let there : at + p < length os = omega (arith, f.within, length-drop at os) in
     let front = take p (drop at os) in

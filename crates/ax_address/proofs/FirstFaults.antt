@@ -10,7 +10,7 @@ use Rattle.std.proofs.lemmas.Bool.Decides.{nat_tests}
 use Rattle.ax_address.specs.declared.octets.AddressRefusal.{AddressRefusal}
 use Rattle.ax_address.specs.declared.octets.AddressRefusal.TheVariants.{BadChar, BadPadding}
 use Rattle.ax_address.specs.Callsign.{padded}
-use Rattle.ax_address.specs.Octets.{is_char_octet, is_space_octet, good_octets, refusal_at, place_of, fault_in, address_fault, FaultIsFirst, FrontGoesOn}
+use Rattle.ax_address.specs.Octets.{is_char_octet, is_space_octet, good_octets, refusal_at, refused_octet, fault_in, address_fault, FaultIsFirst, FrontGoesOn}
 use Rattle.ax_address.proofs.CallOctets.{halves, doubles, chars, spaces, none_past, no_refusal}
 use Rattle.ax_address.proofs.AddressLaws.{name_has_none, doubles-padded}
 use Rattle.ax_address.proofs.CallFaults.{drop_front}
@@ -100,17 +100,17 @@ good_taken os =
 abbrev some_refusal : AddressRefusal → Option AddressRefusal
 some_refusal r = Some r
 
-placed_by : (at : ℕ) (r : AddressRefusal) (b : Bool) → some_refusal (cond b (BadPadding at) (BadChar at)) ≡ some_refusal r → place_of r ≡ at
-placed_by at r true e = let k : BadPadding at ≡ r = cc in ap place_of (sym k)
-placed_by at r false e = let k : BadChar at ≡ r = cc in ap place_of (sym k)
+placed_by : (at : ℕ) (r : AddressRefusal) (b : Bool) → some_refusal (cond b (BadPadding at) (BadChar at)) ≡ some_refusal r → refused_octet r ≡ at
+placed_by at r true e = let k : BadPadding at ≡ r = cc in ap refused_octet (sym k)
+placed_by at r false e = let k : BadChar at ≡ r = cc in ap refused_octet (sym k)
 
-refused_at : (at : ℕ) (o : Option ℕ) (r : AddressRefusal) → refusal_at at o ≡ Some r → (n : ℕ) × (o ≡ Some n) × (place_of r ≡ at)
+refused_at : (at : ℕ) (o : Option ℕ) (r : AddressRefusal) → refusal_at at o ≡ Some r → (n : ℕ) × (o ≡ Some n) × (refused_octet r ≡ at)
 refused_at at None r h = absurd cc
 refused_at at (Some n) r h = (n, refl, placed_by at r (is_char_octet n) h)
 
 -- what holds of the six octets for characters, or of fewer
 record Placed (os : List ℕ) (r : AddressRefusal) : Type 0 where
-  place : place_of r ≡ good_octets os
+  place : refused_octet r ≡ good_octets os
   within : good_octets os < length os
 
 placed : (os : List ℕ) (r : AddressRefusal) → fault_in os ≡ Some r → Placed os r
@@ -118,7 +118,7 @@ placed os r h =
     let f = refused_at (good_octets os) (slice_get os (good_octets os)) r h in
     record { place = f.2; within = slice_get_within os (good_octets os) f.0 f.1 }
 
-stays_in : (os more : List ℕ) (r : AddressRefusal) → fault_in os ≡ Some r → fault_in (take (place_of r + 1) os ++ more) ≡ Some r
+stays_in : (os more : List ℕ) (r : AddressRefusal) → fault_in os ≡ Some r → fault_in (take (refused_octet r + 1) os ++ more) ≡ Some r
 stays_in os more r h =
     let p = placed os r h in
     let g = good_octets os in
@@ -126,7 +126,7 @@ stays_in os more r h =
     let same : slice_get (take (g + 1) os ++ more) g ≡ slice_get os g = get_kept g (g + 1) os more (omega arith) p.within in
     rw p.place (rw (good, same) h)
 
-before_in : (os : List ℕ) (r : AddressRefusal) → fault_in os ≡ Some r → fault_in (take (place_of r) os) ≡ None
+before_in : (os : List ℕ) (r : AddressRefusal) → fault_in os ≡ Some r → fault_in (take (refused_octet r) os) ≡ None
 before_in os r h =
     let p = placed os r h in
     let g = good_octets os in
@@ -144,15 +144,15 @@ fault_is_first octets r h =
     let os = take 6 octets in
     let p = placed os r h in
     let len : length os ≤ 6 = omega (arith, length-take 6 octets) in
-    let n : place_of r < length os = omega (arith, p.place, p.within) in
-    let front : take (place_of r + 1) octets ≡ take (place_of r + 1) os = sym (take-take (place_of r + 1) 6 octets (omega (arith, n, len))) in
-    let short : length (take (place_of r + 1) os) ≤ 6 = omega (arith, length-take (place_of r + 1) os, len) in
-    let before : take (place_of r) octets ≡ take (place_of r) os = sym (take-take (place_of r) 6 octets (omega (arith, n, len))) in
-    let all : take 6 (take (place_of r) os) ≡ take (place_of r) os = take_all 6 (take (place_of r) os) (omega (arith, length-take (place_of r) os, len)) in
+    let n : refused_octet r < length os = omega (arith, p.place, p.within) in
+    let front : take (refused_octet r + 1) octets ≡ take (refused_octet r + 1) os = sym (take-take (refused_octet r + 1) 6 octets (omega (arith, n, len))) in
+    let short : length (take (refused_octet r + 1) os) ≤ 6 = omega (arith, length-take (refused_octet r + 1) os, len) in
+    let before : take (refused_octet r) octets ≡ take (refused_octet r) os = sym (take-take (refused_octet r) 6 octets (omega (arith, n, len))) in
+    let all : take 6 (take (refused_octet r) os) ≡ take (refused_octet r) os = take_all 6 (take (refused_octet r) os) (omega (arith, length-take (refused_octet r) os, len)) in
     record {
       within = omega (arith, n, length-take 6 octets);
       among = omega (arith, n, len);
-      stays = λ more. rw (front, six_of (take (place_of r + 1) os) more short) (stays_in os _ r h);
+      stays = λ more. rw (front, six_of (take (refused_octet r + 1) os) more short) (stays_in os _ r h);
       before = rw (before, all) (before_in os r h);
     }
 

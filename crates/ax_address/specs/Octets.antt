@@ -45,9 +45,10 @@ good_behind n octets = if n == 0 then 0 else n + prefix_len is_space_octet (drop
 abbrev pub good_octets : List ℕ → ℕ
 good_octets octets = good_behind (prefix_len is_char_octet octets) octets
 
-abbrev pub place_of : AddressRefusal → ℕ
-place_of (BadChar at) = at
-place_of (BadPadding at) = at
+-- the place of the octet that a refusal names
+abbrev pub refused_octet : AddressRefusal → ℕ
+refused_octet (BadChar at) = at
+refused_octet (BadPadding at) = at
 
 -- a character that can't stand at its place comes after a space
 abbrev pub refusal_at : ℕ → Option ℕ → Option AddressRefusal
@@ -76,10 +77,10 @@ SpelledOnce = (a b : Address) (last end : Bool) (octets : List ℕ) → SpellsAd
 -- the octet that a refusal names is there, and is the first that no call has at its place: whatever stands behind it, it
 -- is refused, and what stands before it has no fault
 pub record FirstBad (octets : List ℕ) (refusal : AddressRefusal) : Type 0 where
-  pub within : place_of refusal < length octets
-  pub among : place_of refusal < 6
-  pub stays : (more : List ℕ) → address_fault (take (place_of refusal + 1) octets ++ more) ≡ Some refusal
-  pub before : address_fault (take (place_of refusal) octets) ≡ None
+  pub within : refused_octet refusal < length octets
+  pub among : refused_octet refusal < 6
+  pub stays : (more : List ℕ) → address_fault (take (refused_octet refusal + 1) octets ++ more) ≡ Some refusal
+  pub before : address_fault (take (refused_octet refusal) octets) ≡ None
 
 abbrev pub FaultIsFirst : Type 0
 FaultIsFirst = (octets : List ℕ) (refusal : AddressRefusal) → address_fault octets ≡ Some refusal → FirstBad octets refusal

@@ -18,7 +18,7 @@ pub fn read_net_call(octets: &[u8; 7]) -> Result<Call, AddressRefusal>
 
     // What is spelled so is read.
     ensures only { (call : Callsign) → net.SpellsNetCall call octets.now → result ≡ Ok call }
-    ensures place { IfErr result (λ refusal. octet.place_of refusal < 6) }
+    ensures place { IfErr result (λ refusal. octet.refused_octet refusal < 6) }
 {
     match address_fault(octets) {
         Some(refusal) => Err(refusal),

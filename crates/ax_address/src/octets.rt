@@ -20,7 +20,7 @@ pub enum AddressRefusal {
 impl AddressRefusal {
     /// The place of the octet.
     pub fn at(&self) -> usize
-        ensures { result ≡ octet.place_of self.now }
+        ensures { result ≡ octet.refused_octet self.now }
     {
         match *self {
             AddressRefusal::BadChar { at } | AddressRefusal::BadPadding { at } => at,
@@ -33,14 +33,14 @@ impl AddressRefusal {
 #[tactic(auto, using(std::proofs::lemmas::List::take_min))]
 pub fn address_fault(octets: &[u8]) -> Option<AddressRefusal>
     ensures exact { result ≡ octet.address_fault octets.now }
-    ensures place { IfSome result (λ refusal. octet.place_of refusal < 6) }
+    ensures place { IfSome result (λ refusal. octet.refused_octet refusal < 6) }
 {
     fault_in(&octets[..octets.len().min(6)])
 }
 
 fn fault_in(octets: &[u8]) -> Option<AddressRefusal>
     ensures exact { result ≡ octet.fault_in octets.now }
-    ensures place { IfSome result (λ refusal. octet.place_of refusal < length octets.now) }
+    ensures place { IfSome result (λ refusal. octet.refused_octet refusal < length octets.now) }
 {
     let at = good_octets(octets);
     match octets.get(at) {
@@ -101,7 +101,7 @@ pub fn read_address(octets: &[u8; 7]) -> Result<(Address, bool), AddressRefusal>
 
     // It is refused exactly where an octet is at fault.
     ensures refused { result_err result ≡ octet.address_fault octets.now }
-    ensures place { IfErr result (λ refusal. octet.place_of refusal < 6) }
+    ensures place { IfErr result (λ refusal. octet.refused_octet refusal < 6) }
 {
     match address_fault(octets) {
         Some(refusal) => Err(refusal),

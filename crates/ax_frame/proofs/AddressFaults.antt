@@ -9,7 +9,7 @@ use Rattle.ax_address.specs.Octets.{fault_in, address_fault}
 use Rattle.ax_frame.specs.declared.frame.FrameRefusal.{FrameRefusal}
 use Rattle.ax_frame.specs.declared.frame.FrameRefusal.TheVariants.{Short, BadCall}
 use Rattle.ax_frame.specs.Reading.{extension_from, extension_at}
-use Rattle.ax_frame.specs.Faults.{place_of, IsPlaced}
+use Rattle.ax_frame.specs.Faults.{refused_place, IsPlaced}
 use Rattle.ax_frame.proofs.Kept.{Kept, kept_less, kept_get_or, kept_drop, drop_front}
 
 -- ---- one address
@@ -56,12 +56,12 @@ extension_read at bytes last h =
 
 -- a fault in an address
 pub record Bad (at : ℕ) (bytes : List ℕ) (e : FrameRefusal) : Type 0 where
-  pub later : at ≤ place_of e
+  pub later : at ≤ refused_place e
   pub place : IsPlaced bytes e
-  pub within : place_of e ≤ length bytes
-  pub stays : place_of e < length bytes → (other : List ℕ) → Kept (place_of e + 1) bytes other → extension_at at other ≡ Err e
+  pub within : refused_place e ≤ length bytes
+  pub stays : refused_place e < length bytes → (other : List ℕ) → Kept (refused_place e + 1) bytes other → extension_at at other ≡ Err e
   -- six octets for characters, whatever follows
-  pub goes_on : (more : List ℕ) × (length (take (place_of e) bytes ++ more) ≡ at + 6) × (address_fault (drop at (take (place_of e) bytes ++ more)) ≡ None)
+  pub goes_on : (more : List ℕ) × (length (take (refused_place e) bytes ++ more) ≡ at + 6) × (address_fault (drop at (take (refused_place e) bytes ++ more)) ≡ None)
 
 goes_on_from : octets.FrontGoesOn → (at p : ℕ) (bytes : List ℕ) → at + p ≤ length bytes → p ≤ 6 → address_fault (take p (drop at bytes)) ≡ None
     → (more : List ℕ) × (length (take (at + p) bytes ++ more) ≡ at + 6) × (address_fault (drop at (take (at + p) bytes ++ more)) ≡ None)
@@ -77,9 +77,9 @@ err_bool e = Err e
 same_refusal : (d e : FrameRefusal) → err_bool d ≡ err_bool e → d ≡ e
 same_refusal d e h = cc
 
-bad_call : octets.FaultIsFirst → octets.FrontGoesOn → (at : ℕ) (bytes : List ℕ) (r : AddressRefusal) → address_fault (drop at bytes) ≡ Some r → Bad at bytes (BadCall (at + octets.place_of r))
+bad_call : octets.FaultIsFirst → octets.FrontGoesOn → (at : ℕ) (bytes : List ℕ) (r : AddressRefusal) → address_fault (drop at bytes) ≡ Some r → Bad at bytes (BadCall (at + octets.refused_octet r))
 bad_call first law at bytes r h =
-    let p = octets.place_of r in
+    let p = octets.refused_octet r in
     let f = first (drop at bytes) r h in
     let there : at + p < length bytes = omega (arith, f.within, length-drop at bytes) in
     record {
@@ -113,7 +113,7 @@ bad_length law at bytes e true within t none h = subst (Bad at bytes) (same_refu
 bad_length law at bytes e false within t none h = absurd cc
 
 bad_by : octets.FaultIsFirst → octets.FrontGoesOn → (at : ℕ) (bytes : List ℕ) (e : FrameRefusal) (fault : Option AddressRefusal) → at ≤ length bytes → address_fault (drop at bytes) ≡ fault → extension_from at (length bytes) (get_or bytes (at + 6) 0) fault ≡ Err e → Bad at bytes e
-bad_by first law at bytes e (Some r) within f h = subst (Bad at bytes) (same_refusal (BadCall (at + octets.place_of r)) e h) (bad_call first law at bytes r f)
+bad_by first law at bytes e (Some r) within f h = subst (Bad at bytes) (same_refusal (BadCall (at + octets.refused_octet r)) e h) (bad_call first law at bytes r f)
 bad_by first law at bytes e None within f h = bad_length law at bytes e (nat_lt (length bytes) (at + 7)) within refl f h
 
 pub extension_bad : octets.FaultIsFirst → octets.FrontGoesOn → (at : ℕ) (bytes : List ℕ) (e : FrameRefusal) → at ≤ length bytes → extension_at at bytes ≡ Err e → Bad at bytes e

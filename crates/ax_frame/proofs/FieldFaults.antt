@@ -10,7 +10,7 @@ use Rattle.ax_frame.specs.declared.frame.FrameRefusal.{FrameRefusal}
 use Rattle.ax_frame.specs.declared.frame.FrameRefusal.TheVariants.{Short, BadControl, NoPid, ExtraInfo}
 use Rattle.ax_frame.specs.Controls.{has_pid, takes_info}
 use Rattle.ax_frame.specs.Reading.{unnumbered, numbered, poll_bit, field_end, two_octets, control_from, control_or_short, control_at, pid_at}
-use Rattle.ax_frame.specs.Faults.{place_of, IsPlaced}
+use Rattle.ax_frame.specs.Faults.{refused_place, IsPlaced}
 use Rattle.ax_frame.proofs.Kept.{Kept, kept_of, kept_get}
 
 -- ---- octets at a place
@@ -113,11 +113,11 @@ pub record FieldGoes (size at : ℕ) (front : List ℕ) : Type 0 where
   pub told : pid_at control end (front ++ more) ≡ Ok (pid, info)
 
 pub record FieldBad (size at : ℕ) (bytes : List ℕ) (e : FrameRefusal) : Type 0 where
-  pub later : at ≤ place_of e
+  pub later : at ≤ refused_place e
   pub place : IsPlaced bytes e
-  pub within : place_of e ≤ length bytes
-  pub stays : place_of e < length bytes → (other : List ℕ) → Kept (place_of e + 1) bytes other → control_at size at other ≡ Err e
-  pub goes_on : FieldGoes size at (take (place_of e) bytes)
+  pub within : refused_place e ≤ length bytes
+  pub stays : refused_place e < length bytes → (other : List ℕ) → Kept (refused_place e + 1) bytes other → control_at size at other ≡ Err e
+  pub goes_on : FieldGoes size at (take (refused_place e) bytes)
 
 abbrev pub Field : ℕ → ℕ → List ℕ → Result (Control × ℕ) FrameRefusal → Type 0
 Field size at bytes (Ok x) = FieldRead size at bytes x.0 x.1

@@ -9,7 +9,7 @@ use Rattle.ax_frame.specs.declared.frame.FrameRefusal.{FrameRefusal}
 use Rattle.ax_frame.specs.declared.frame.FrameRefusal.TheVariants.{NoPid, ExtraInfo}
 use Rattle.ax_frame.specs.Controls.{has_pid, takes_info}
 use Rattle.ax_frame.specs.Reading.{head_end, control_at, pid_at, frame_at, first_fault}
-use Rattle.ax_frame.specs.Faults.{place_of, FirstBad, FaultIsFirst}
+use Rattle.ax_frame.specs.Faults.{refused_place, FirstBad, FaultIsFirst}
 use Rattle.ax_frame.proofs.Kept.{kept_less, kept_of}
 use Rattle.ax_frame.proofs.HeadFaults.{Ends, Fails, head_ends, head_fails}
 use Rattle.ax_frame.proofs.FieldFaults.{Field, FieldRead, FieldBad, field_of, sabm_goes, past_length, get_behind, pid_plain, pid_there, pid_extra, pid_info, pid_missing}
@@ -42,30 +42,30 @@ same_fault d e h = cc
 
 in_head : (size : ℕ) (bytes : List ℕ) (e : FrameRefusal) → Fails head_end bytes e → FirstBad size bytes e
 in_head size bytes e f =
-    let front = take (place_of e) bytes ++ f.more in
+    let front = take (refused_place e) bytes ++ f.more in
     let goes = sabm_goes size (length front) front refl in
     record {
       place = f.place;
       before = (
         f.more ++ goes.more,
-        ap (first_fault size) (sym (append_assoc (take (place_of e) bytes) f.more goes.more))
+        ap (first_fault size) (sym (append_assoc (take (refused_place e) bytes) f.more goes.more))
             ∙ no_fault size (length front) goes.end goes.info (front ++ goes.more) goes.control goes.pid (f.goes_on goes.more) goes.read goes.told,
       );
-      stays = λ there more. fault_in_head size (take (place_of e + 1) bytes ++ more) e (f.stays there (take (place_of e + 1) bytes ++ more) (kept_of (place_of e + 1) bytes more (omega (arith, there))));
+      stays = λ there more. fault_in_head size (take (refused_place e + 1) bytes ++ more) e (f.stays there (take (refused_place e + 1) bytes ++ more) (kept_of (refused_place e + 1) bytes more (omega (arith, there))));
     }
 
 in_field : (size at : ℕ) (bytes : List ℕ) (e : FrameRefusal) → Ends head_end bytes at → FieldBad size at bytes e → FirstBad size bytes e
 in_field size at bytes e head bad =
     let goes = bad.goes_on in
-    let os = take (place_of e) bytes ++ goes.more in
-    let kept = kept_of (place_of e) bytes goes.more bad.within in
+    let os = take (refused_place e) bytes ++ goes.more in
+    let kept = kept_of (refused_place e) bytes goes.more bad.within in
     record {
       place = bad.place;
-      before = (goes.more, no_fault size at goes.end goes.info os goes.control goes.pid (head.kept os (kept_less at (place_of e) bytes os bad.later kept)) goes.read goes.told);
+      before = (goes.more, no_fault size at goes.end goes.info os goes.control goes.pid (head.kept os (kept_less at (refused_place e) bytes os bad.later kept)) goes.read goes.told);
       stays = λ there more.
-          let other = take (place_of e + 1) bytes ++ more in
-          let same = kept_of (place_of e + 1) bytes more (omega (arith, there)) in
-          fault_in_field size at other e (head.kept other (kept_less at (place_of e + 1) bytes other (omega (arith, bad.later)) same)) (bad.stays there other same);
+          let other = take (refused_place e + 1) bytes ++ more in
+          let same = kept_of (refused_place e + 1) bytes more (omega (arith, there)) in
+          fault_in_field size at other e (head.kept other (kept_less at (refused_place e + 1) bytes other (omega (arith, bad.later)) same)) (bad.stays there other same);
     }
 
 -- the PID is missing

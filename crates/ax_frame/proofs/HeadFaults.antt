@@ -7,7 +7,7 @@ use Rattle.ax_address.specs.Octets.{address_fault}
 use Rattle.ax_frame.specs.declared.frame.FrameRefusal.{FrameRefusal}
 use Rattle.ax_frame.specs.declared.frame.FrameRefusal.TheVariants.{BadCall, TooManyRepeaters}
 use Rattle.ax_frame.specs.Reading.{extension_at, addresses_end, head_end}
-use Rattle.ax_frame.specs.Faults.{place_of, IsPlaced}
+use Rattle.ax_frame.specs.Faults.{refused_place, IsPlaced}
 use Rattle.ax_frame.proofs.Kept.{Kept, kept_less, kept_of}
 use Rattle.ax_frame.proofs.Addresses.{end_refused, end_here, end_later, end_nowhere, head_refused, head_ended, head_goes_on}
 use Rattle.ax_frame.proofs.AddressFaults.{Read, Bad, extension_read, extension_bad, ended_by, six_same, extension_is}
@@ -22,11 +22,11 @@ pub record Ends (parse : List ℕ → Result ℕ FrameRefusal) (bytes : List ℕ
 -- a fault
 pub record Fails (parse : List ℕ → Result ℕ FrameRefusal) (bytes : List ℕ) (e : FrameRefusal) : Type 0 where
   pub place : IsPlaced bytes e
-  pub within : place_of e ≤ length bytes
-  pub stays : place_of e < length bytes → (other : List ℕ) → Kept (place_of e + 1) bytes other → parse other ≡ Err e
+  pub within : refused_place e ≤ length bytes
+  pub stays : refused_place e < length bytes → (other : List ℕ) → Kept (refused_place e + 1) bytes other → parse other ≡ Err e
   -- octets with which they end, whatever follows
   pub more : List ℕ
-  pub goes_on : (tail : List ℕ) → parse ((take (place_of e) bytes ++ more) ++ tail) ≡ Ok (length (take (place_of e) bytes ++ more))
+  pub goes_on : (tail : List ℕ) → parse ((take (refused_place e) bytes ++ more) ++ tail) ≡ Ok (length (take (refused_place e) bytes ++ more))
 
 abbrev ok_place : ℕ → Result ℕ FrameRefusal
 ok_place n = Ok n
@@ -81,13 +81,13 @@ ends_later zero at bytes end h = absurd cc
 ends_later (suc n) at bytes end h = ends_by n at bytes end (extension_at at bytes) refl (λ last k. ends_later n (at + 7) bytes last k) h
 
 record FailsLater (n at : ℕ) (bytes : List ℕ) (e : FrameRefusal) : Type 0 where
-  later : at ≤ place_of e
+  later : at ≤ refused_place e
   fails : Fails (addresses_end n at) bytes e
 
 -- 97 is a last octet with SSID 0, both reserved bits and the extension bit; 96 is one without that bit
 fails_here : (n at : ℕ) (bytes : List ℕ) (e : FrameRefusal) → Bad at bytes e → FailsLater (suc n) at bytes e
 fails_here n at bytes e bad =
-    let front = take (place_of e) bytes in
+    let front = take (refused_place e) bytes in
     let m = bad.goes_on.0 in
     let last : List ℕ = 97 ∷ [] in
     let long : length (front ++ (m ++ last)) ≡ at + 7 = omega (arith, length-append front (m ++ last), length-append m last, length-append front m, bad.goes_on.1) in
@@ -137,17 +137,17 @@ fails_next n at bytes e read ih =
     let step : (other : List ℕ) → Kept (at + 7) bytes other → addresses_end (suc n) at other ≡ addresses_end n (at + 7) other =
     λ other kept. rw k at (end_later (suc n) at other (omega arith) (read.kept other kept)) in
     let more = ih.fails.more in
-    let front = take (place_of e) bytes in
+    let front = take (refused_place e) bytes in
     record {
       later = omega (arith, ih.later);
       fails = record {
         place = ih.fails.place;
         within = ih.fails.within;
-        stays = λ there other kept. step other (kept_less (at + 7) (place_of e + 1) bytes other (omega (arith, ih.later)) kept) ∙ ih.fails.stays there other kept;
+        stays = λ there other kept. step other (kept_less (at + 7) (refused_place e + 1) bytes other (omega (arith, ih.later)) kept) ∙ ih.fails.stays there other kept;
         more = more;
         goes_on = λ tail.
-            let kept : Kept (place_of e) bytes ((front ++ more) ++ tail) = subst (Kept (place_of e) bytes) (sym (append_assoc front more tail)) (kept_of (place_of e) bytes (more ++ tail) ih.fails.within) in
-            step ((front ++ more) ++ tail) (kept_less (at + 7) (place_of e) bytes ((front ++ more) ++ tail) ih.later kept) ∙ ih.fails.goes_on tail;
+            let kept : Kept (refused_place e) bytes ((front ++ more) ++ tail) = subst (Kept (refused_place e) bytes) (sym (append_assoc front more tail)) (kept_of (refused_place e) bytes (more ++ tail) ih.fails.within) in
+            step ((front ++ more) ++ tail) (kept_less (at + 7) (refused_place e) bytes ((front ++ more) ++ tail) ih.later kept) ∙ ih.fails.goes_on tail;
       };
     }
 
@@ -210,7 +210,7 @@ with_source front tail len none =
 
 head_fails_here : (bytes : List ℕ) (e : FrameRefusal) → Bad 0 bytes e → Fails head_end bytes e
 head_fails_here bytes e bad =
-    let front = take (place_of e) bytes in
+    let front = take (refused_place e) bytes in
     let m = bad.goes_on.0 in
     let long : length (front ++ (m ++ 96 ∷ source)) ≡ 14 = omega (arith, length-append front (m ++ 96 ∷ source), length-append m (96 ∷ source), length-append front m, bad.goes_on.1) in
     record {
@@ -248,15 +248,15 @@ head_fails_by first law bytes e (Ok false) x h =
     let f = fails_later first law 8 7 bytes e (omega (arith, read.long)) refl (sym (head_goes_on bytes x) ∙ h) in
     let step : (other : List ℕ) → Kept 7 bytes other → head_end other ≡ addresses_end 9 7 other = λ other kept. head_goes_on other (read.kept other kept) in
     let more = f.fails.more in
-    let front = take (place_of e) bytes in
+    let front = take (refused_place e) bytes in
     record {
       place = f.fails.place;
       within = f.fails.within;
-      stays = λ there other kept. step other (kept_less 7 (place_of e + 1) bytes other (omega (arith, f.later)) kept) ∙ f.fails.stays there other kept;
+      stays = λ there other kept. step other (kept_less 7 (refused_place e + 1) bytes other (omega (arith, f.later)) kept) ∙ f.fails.stays there other kept;
       more = more;
       goes_on = λ tail.
-          let kept : Kept (place_of e) bytes ((front ++ more) ++ tail) = subst (Kept (place_of e) bytes) (sym (append_assoc front more tail)) (kept_of (place_of e) bytes (more ++ tail) f.fails.within) in
-          step ((front ++ more) ++ tail) (kept_less 7 (place_of e) bytes ((front ++ more) ++ tail) f.later kept) ∙ f.fails.goes_on tail;
+          let kept : Kept (refused_place e) bytes ((front ++ more) ++ tail) = subst (Kept (refused_place e) bytes) (sym (append_assoc front more tail)) (kept_of (refused_place e) bytes (more ++ tail) f.fails.within) in
+          step ((front ++ more) ++ tail) (kept_less 7 (refused_place e) bytes ((front ++ more) ++ tail) f.later kept) ∙ f.fails.goes_on tail;
     }
 
 pub head_fails : octets.FaultIsFirst → octets.FrontGoesOn → (bytes : List ℕ) (e : FrameRefusal) → head_end bytes ≡ Err e → Fails head_end bytes e

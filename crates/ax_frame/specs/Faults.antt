@@ -7,13 +7,13 @@ use Rattle.ax_frame.specs.declared.frame.FrameRefusal.TheVariants.{Short, BadCal
 use Rattle.ax_frame.specs.Reading.{first_fault}
 
 -- the place that a refusal names: where there are too many repeaters, that of the last octet of the eighth
-abbrev pub place_of : FrameRefusal → ℕ
-place_of (Short at) = at
-place_of (BadCall at) = at
-place_of TooManyRepeaters = 69
-place_of (BadControl at) = at
-place_of (NoPid at) = at
-place_of (ExtraInfo at) = at
+abbrev pub refused_place : FrameRefusal → ℕ
+refused_place (Short at) = at
+refused_place (BadCall at) = at
+refused_place TooManyRepeaters = 69
+refused_place (BadControl at) = at
+refused_place (NoPid at) = at
+refused_place (ExtraInfo at) = at
 
 -- whether it names an octet that is missing
 abbrev pub is_missing : FrameRefusal → Bool
@@ -23,14 +23,14 @@ is_missing _ = false
 
 -- the octet is there, or missing at the end
 abbrev pub IsPlaced : List ℕ → FrameRefusal → Type 0
-IsPlaced octets refusal = MatchBool (is_missing refusal) (place_of refusal ≡ length octets) (place_of refusal < length octets)
+IsPlaced octets refusal = MatchBool (is_missing refusal) (refused_place refusal ≡ length octets) (refused_place refusal < length octets)
 
 pub record FirstBad (size : ℕ) (octets : List ℕ) (refusal : FrameRefusal) : Type 0 where
   pub place : IsPlaced octets refusal
   -- what stands before it goes on to octets without a fault
-  pub before : (more : List ℕ) × (first_fault size (take (place_of refusal) octets ++ more) ≡ None)
+  pub before : (more : List ℕ) × (first_fault size (take (refused_place refusal) octets ++ more) ≡ None)
   -- with the octet that it names nothing does: whatever follows, they are refused for it
-  pub stays : place_of refusal < length octets → (more : List ℕ) → first_fault size (take (place_of refusal + 1) octets ++ more) ≡ Some refusal
+  pub stays : refused_place refusal < length octets → (more : List ℕ) → first_fault size (take (refused_place refusal + 1) octets ++ more) ≡ Some refusal
 
 -- octets without a fault are those of a frame, as the clauses of `read_frame` say
 abbrev pub FaultIsFirst : Type 0

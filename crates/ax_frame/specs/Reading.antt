@@ -4,7 +4,7 @@ use Rattle.std.specs.Prelude.{ℕ, zero, suc, ◌+◌, ◌-◌, ◌*◌, ◌/◌
 use Rattle.std.specs.List.{find}
 use Rattle.std.specs.Result.{result_err}
 use Rattle.ax_address.specs.declared.octets.AddressRefusal.{AddressRefusal}
-use Rattle.ax_address.specs.Octets.{address_fault, place_of}
+use Rattle.ax_address.specs.Octets.{address_fault, refused_octet}
 use Rattle.ax_address.specs.Results.{◌>>=◌}
 use Rattle.ax_frame.specs.declared.control.Control.{Control}
 use Rattle.ax_frame.specs.declared.control.Control.TheVariants.{I, Rr, Rnr, Rej, Srej, Sabm, Sabme, Disc, Dm, Ua, Frmr, Ui, Xid, Test}
@@ -18,7 +18,7 @@ use Rattle.ax_frame.specs.Controls.{format_of, has_pid, takes_info}
 
 -- the extension bit of the address at a place, which has seven octets of `len`
 abbrev pub extension_from : ℕ → ℕ → ℕ → Option AddressRefusal → Result Bool FrameRefusal
-extension_from at len ssid_octet (Some refusal) = Err (BadCall (at + place_of refusal))
+extension_from at len ssid_octet (Some refusal) = Err (BadCall (at + refused_octet refusal))
 extension_from at len ssid_octet None = if nat_lt len (at + 7) then Err (Short len) else Ok (ssid_octet % 2 == 1)
 
 abbrev pub extension_at : ℕ → List ℕ → Result Bool FrameRefusal

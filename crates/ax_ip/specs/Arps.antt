@@ -3,7 +3,7 @@
 use Rattle.std.specs.Prelude.{ℕ, ◌≡◌, ◌+◌, ◌<◌, ◌≤◌, ◌^◌, List, [], ◌∷◌, ◌++◌, length, take, drop, replicate, Bool, true, false, ◌&&◌, ◌==◌, nat_lt, not, Option, Some, None, is_some, Result, Ok, Err, if◌then◌else◌}
 use Rattle.ax_address.specs.Callsign.{Callsign, IsCallsign}
 use Rattle.ax_address.specs.NetCalls.{SpellsNetCall, net_call_at, net_call_octets}
-use Rattle.ax_address.specs.Octets.{place_of}
+use Rattle.ax_address.specs.Octets.{refused_octet}
 use Rattle.ax_address.specs.declared.octets.AddressRefusal.{AddressRefusal}
 use Rattle.ax_address.specs.Results.{◌>>=◌}
 pub use Rattle.ax_ip.specs.declared.arp.Arp.{Arp}
@@ -50,7 +50,7 @@ reply_at octets =
 
 abbrev pub call_from : ℕ → Result Callsign AddressRefusal → Result Callsign ArpRefusal
 call_from at (Ok call) = Ok call
-call_from at (Err refusal) = Err (BadCall (at + place_of refusal))
+call_from at (Err refusal) = Err (BadCall (at + refused_octet refusal))
 
 -- the call of these seven octets, which stand at that place
 abbrev pub call_at : ℕ → List ℕ → Result Callsign ArpRefusal

@@ -5,7 +5,7 @@ use Rattle.std.proofs.lemmas.Bool.{ltb-true, ltb-false}
 use Rattle.std.proofs.lemmas.List.{append_assoc, drop-append-le, drop-take, take-append-drop, take-append-le, get_or_append_left, get_or-take, get_or_at, length-append, length-drop, length-replicate, length-take}
 use Rattle.ax_address.specs.NetCalls.{net_call_in}
 use Rattle.ax_address.specs.Octets as octets
-use Rattle.ax_address.specs.Octets.{address_fault, fault_in, place_of}
+use Rattle.ax_address.specs.Octets.{address_fault, fault_in, refused_octet}
 use Rattle.ax_address.specs.declared.octets.AddressRefusal.{AddressRefusal}
 use Rattle.ax_address.proofs.CallFaults.{call_bad, not_both, still_none}
 use Rattle.l3_datagram.proofs.Spelling.{drop_at}
@@ -138,10 +138,10 @@ node_goes front more len code user none =
 reads : (os : List ℕ) (t : Transport) → opcode os ≡ 1 → transport_at os ≡ Ok t → ReadRequest os
 reads os t code h = request_ok os t (sym (requesting os code) ∙ (transport_ok os t h).read)
 
-user_bad : octets.FaultIsFirst → octets.FrontGoesOn → (os : List ℕ) (r : AddressRefusal) → opcode os ≡ 1 → address_fault (drop 6 os) ≡ Some r → FirstBad os (6 + place_of r)
+user_bad : octets.FaultIsFirst → octets.FrontGoesOn → (os : List ℕ) (r : AddressRefusal) → opcode os ≡ 1 → address_fault (drop 6 os) ≡ Some r → FirstBad os (6 + refused_octet r)
 user_bad first law os r code h =
     let b = call_bad first law 6 os r h in
-    let p = 6 + place_of r in
+    let p = 6 + refused_octet r in
     record {
       within = b.within;
       before = user_goes (take p os) b.more b.six (code_of os (take p os ++ b.more) (fifth_kept p os b.more (omega arith) (omega (arith, b.within))) ∙ code) b.none;
@@ -151,10 +151,10 @@ user_bad first law os r code h =
           not_both (address_fault (drop 6 other)) r (reads other t same k).user (b.stays more);
     }
 
-node_bad : octets.FaultIsFirst → octets.FrontGoesOn → (os : List ℕ) (r : AddressRefusal) → opcode os ≡ 1 → address_fault (drop 6 os) ≡ None → address_fault (drop 13 os) ≡ Some r → FirstBad os (13 + place_of r)
+node_bad : octets.FaultIsFirst → octets.FrontGoesOn → (os : List ℕ) (r : AddressRefusal) → opcode os ≡ 1 → address_fault (drop 6 os) ≡ None → address_fault (drop 13 os) ≡ Some r → FirstBad os (13 + refused_octet r)
 node_bad first law os r code none h =
     let b = call_bad first law 13 os r h in
-    let p = 13 + place_of r in
+    let p = 13 + refused_octet r in
     record {
       within = b.within;
       before =

@@ -6,7 +6,7 @@ use Rattle.std.proofs.lemmas.Bool.Decides.{nat_tests}
 use Rattle.std.proofs.lemmas.List.{take-take}
 use Rattle.ax_address.specs.Callsign.{Callsign}
 use Rattle.ax_address.specs.NetCalls.{net_call_in, unless_at_fault}
-use Rattle.ax_address.specs.Octets.{address_fault, fault_in, place_of}
+use Rattle.ax_address.specs.Octets.{address_fault, fault_in, refused_octet}
 use Rattle.ax_address.specs.Results.{◌>>=◌}
 use Rattle.ax_address.specs.declared.octets.AddressRefusal.{AddressRefusal}
 use Rattle.circuit_l4.specs.declared.transport.Pair.{Pair}
@@ -38,7 +38,7 @@ call_by_ok true at len (Some r) c d h = absurd cc
 
 -- an octet that can't stand there, or the octets end
 abbrev pub CallFault : ℕ → ℕ → Option AddressRefusal → TransportRefusal → Type 0
-CallFault at len f w = ((r : AddressRefusal) × (f ≡ Some r) × (BadCall (at + place_of r) ≡ w)) ⊎ ((len < at + 7) × (f ≡ None) × (Short len ≡ w))
+CallFault at len f w = ((r : AddressRefusal) × (f ≡ Some r) × (BadCall (at + refused_octet r) ≡ w)) ⊎ ((len < at + 7) × (f ≡ None) × (Short len ≡ w))
 
 call_by_err : (short : Bool) (at len : ℕ) (f : Option AddressRefusal) (c : Callsign) (w : TransportRefusal) → nat_lt len (at + 7) ≡ short → call_by short at len f f c ≡ Err w → CallFault at len f w
 call_by_err false at len None c w e h = absurd cc

@@ -2,7 +2,7 @@
 use Rattle.std.specs.Prelude.{ℕ, ◌+◌, List, length, take, drop, slice_index, nat_le, nat_lt, ◌==◌, Option, Some, None, Result, Ok, Err, if◌then◌else◌}
 use Rattle.ax_address.specs.Callsign.{Callsign}
 use Rattle.ax_address.specs.NetCalls.{net_call_at}
-use Rattle.ax_address.specs.Octets.{address_fault, place_of}
+use Rattle.ax_address.specs.Octets.{address_fault, refused_octet}
 use Rattle.ax_address.specs.declared.octets.AddressRefusal.{AddressRefusal}
 use Rattle.ax_address.specs.Results.{◌>>=◌}
 use Rattle.circuit_l4.specs.declared.transport.Transport.{Transport}
@@ -16,12 +16,12 @@ octet_at at octets = if nat_le (length octets) at then Err (Short (length octets
 
 abbrev pub fault_from : ℕ → Result Callsign AddressRefusal → Result Callsign TransportRefusal
 fault_from at (Ok call) = Ok call
-fault_from at (Err refusal) = Err (BadCall (at + place_of refusal))
+fault_from at (Err refusal) = Err (BadCall (at + refused_octet refusal))
 
 -- of a call that isn't whole, an octet that can't stand in it comes before the one that is missing
 abbrev pub cut_off : ℕ → ℕ → Option AddressRefusal → Result Callsign TransportRefusal
 cut_off at len None = Err (Short len)
-cut_off at len (Some refusal) = Err (BadCall (at + place_of refusal))
+cut_off at len (Some refusal) = Err (BadCall (at + refused_octet refusal))
 
 -- the call in the seven octets from a place on
 abbrev pub call_from : ℕ → List ℕ → Result Callsign TransportRefusal

@@ -6,7 +6,7 @@ use Rattle.std.proofs.lemmas.List.{append_assoc, take-take, take-append-le, leng
 use Rattle.ax_address.specs.Callsign.{Callsign}
 use Rattle.ax_address.specs.NetCalls.{net_call_in, unless_at_fault}
 use Rattle.ax_address.specs.Octets as octets
-use Rattle.ax_address.specs.Octets.{address_fault, fault_in, place_of}
+use Rattle.ax_address.specs.Octets.{address_fault, fault_in, refused_octet}
 use Rattle.ax_address.specs.Results.{◌>>=◌}
 use Rattle.ax_address.specs.declared.octets.AddressRefusal.{AddressRefusal}
 use Rattle.l3_datagram.specs.declared.datagram.DatagramHead.{DatagramHead}
@@ -44,10 +44,10 @@ two_ok None (Some r) c d ttl head h = absurd cc
 two_ok (Some r) g c d ttl head h = absurd cc
 
 abbrev FirstCall : Option AddressRefusal → DatagramRefusal → Type 0
-FirstCall f w = (r : AddressRefusal) × (f ≡ Some r) × (BadCall (0 + place_of r) ≡ w)
+FirstCall f w = (r : AddressRefusal) × (f ≡ Some r) × (BadCall (0 + refused_octet r) ≡ w)
 
 abbrev SecondCall : Option AddressRefusal → Option AddressRefusal → DatagramRefusal → Type 0
-SecondCall f g w = (r : AddressRefusal) × (f ≡ None) × (g ≡ Some r) × (BadCall (7 + place_of r) ≡ w)
+SecondCall f g w = (r : AddressRefusal) × (f ≡ None) × (g ≡ Some r) × (BadCall (7 + refused_octet r) ≡ w)
 
 two_err : (f g : Option AddressRefusal) (c d : Callsign) (ttl : ℕ) (w : DatagramRefusal) → two_calls f g c d ttl ≡ Err w → FirstCall f w ⊎ SecondCall f g w
 two_err None None c d ttl w h = absurd cc
@@ -110,10 +110,10 @@ goes_on front more rest h =
     let all = (front ++ more) ++ rest in
     (more ++ rest, record { origin = origin_in all; dest = dest_in all; ttl = get_or all 14 0 }, ap head_at (sym (append_assoc front more rest)) ∙ heads_by all h)
 
-origin_bad : octets.FaultIsFirst → octets.FrontGoesOn → (os : List ℕ) (r : AddressRefusal) → address_fault (drop 0 os) ≡ Some r → FirstBad os (0 + place_of r)
+origin_bad : octets.FaultIsFirst → octets.FrontGoesOn → (os : List ℕ) (r : AddressRefusal) → address_fault (drop 0 os) ≡ Some r → FirstBad os (0 + refused_octet r)
 origin_bad first law os r h =
     let b = call_bad first law 0 os r h in
-    let p = 0 + place_of r in
+    let p = 0 + refused_octet r in
     let front = take p os ++ b.more in
     let all = front ++ behind_origin in
     let len : length all ≡ 15 = omega (arith, length-append front behind_origin, b.six) in
@@ -132,10 +132,10 @@ origin_bad first law os r h =
 origin_kept : (k : ℕ) (os more : List ℕ) → 6 ≤ k → k ≤ length os → address_fault (drop 0 (take k os ++ more)) ≡ address_fault (drop 0 os)
 origin_kept k os more h g = ap fault_in (take-append-le 6 (take k os) more (omega (arith, length-take k os, h, g)) ∙ take-take 6 k os h)
 
-dest_bad : octets.FaultIsFirst → octets.FrontGoesOn → (os : List ℕ) (r : AddressRefusal) → address_fault (drop 0 os) ≡ None → address_fault (drop 7 os) ≡ Some r → FirstBad os (7 + place_of r)
+dest_bad : octets.FaultIsFirst → octets.FrontGoesOn → (os : List ℕ) (r : AddressRefusal) → address_fault (drop 0 os) ≡ None → address_fault (drop 7 os) ≡ Some r → FirstBad os (7 + refused_octet r)
 dest_bad first law os r none h =
     let b = call_bad first law 7 os r h in
-    let p = 7 + place_of r in
+    let p = 7 + refused_octet r in
     let front = take p os ++ b.more in
     let all = front ++ behind_dest in
     let len : length all ≡ 15 = omega (arith, length-append front behind_dest, b.six) in

@@ -2,7 +2,7 @@
 -- (NET/ROM, Appendix B.)
 use Rattle.std.specs.Prelude.{ℕ, ◌≡◌, ◌+◌, ◌*◌, ◌/◌, ◌%◌, ◌≤◌, List, [], ◌∷◌, ◌++◌, length, take, drop, slice_index, Result, Ok, Err, nat_lt, if◌then◌else◌}
 use Rattle.ax_address.specs.Callsign.{Callsign, IsCallsign}
-use Rattle.ax_address.specs.Octets.{place_of}
+use Rattle.ax_address.specs.Octets.{refused_octet}
 use Rattle.ax_address.specs.NetCalls.{SpellsNetCall, net_call_at, net_call_octets}
 use Rattle.ax_address.specs.declared.octets.AddressRefusal.{AddressRefusal}
 use Rattle.ax_address.specs.Results.{◌>>=◌}
@@ -29,7 +29,7 @@ sized octets =
 
 abbrev pub fault_from : ℕ → Result Callsign AddressRefusal → Result Callsign DatagramRefusal
 fault_from at (Ok call) = Ok call
-fault_from at (Err refusal) = Err (BadCall (at + place_of refusal))
+fault_from at (Err refusal) = Err (BadCall (at + refused_octet refusal))
 
 -- the call in the seven octets from a place on
 abbrev pub call_from : ℕ → List ℕ → Result Callsign DatagramRefusal

@@ -5,7 +5,7 @@ use Rattle.std.proofs.lemmas.List.{append_assoc, drop-take, take-take, take-appe
 use Rattle.std.proofs.Math.Seq.{drop-append-add}
 use Rattle.ax_address.specs.Callsign.{Callsign}
 use Rattle.ax_address.specs.NetCalls.{net_call_in, unless_at_fault}
-use Rattle.ax_address.specs.Octets.{FaultIsFirst, FrontGoesOn, address_fault, fault_in, place_of}
+use Rattle.ax_address.specs.Octets.{FaultIsFirst, FrontGoesOn, address_fault, fault_in, refused_octet}
 use Rattle.ax_address.specs.Results.{◌>>=◌}
 use Rattle.ax_address.specs.declared.octets.AddressRefusal.{AddressRefusal}
 use Rattle.ax_address.specs.declared.alias.Alias.{Alias}
@@ -34,10 +34,10 @@ two_ok at None (Some r) c d a k e h = absurd cc
 two_ok at (Some r) g c d a k e h = absurd cc
 
 abbrev FirstCall : ℕ → Option AddressRefusal → NodesRefusal → Type 0
-FirstCall at f w = (r : AddressRefusal) × (f ≡ Some r) × (w ≡ BadCall (at + place_of r))
+FirstCall at f w = (r : AddressRefusal) × (f ≡ Some r) × (w ≡ BadCall (at + refused_octet r))
 
 abbrev SecondCall : ℕ → Option AddressRefusal → Option AddressRefusal → NodesRefusal → Type 0
-SecondCall at f g w = (r : AddressRefusal) × (f ≡ None) × (g ≡ Some r) × (w ≡ BadCall (at + 13 + place_of r))
+SecondCall at f g w = (r : AddressRefusal) × (f ≡ None) × (g ≡ Some r) × (w ≡ BadCall (at + 13 + refused_octet r))
 
 two_err : (at : ℕ) (f g : Option AddressRefusal) (c d : Callsign) (a : Alias) (k : ℕ) (w : NodesRefusal) → two_calls at f g c d a k ≡ Err w → FirstCall at f w ⊎ SecondCall at f g w
 two_err at None None c d a k w h = absurd cc
@@ -97,10 +97,10 @@ behind_dest = 96 ∷ 32 ∷ 32 ∷ 32 ∷ 32 ∷ 32 ∷ 32 ∷ 130 ∷ 64 ∷ 64
 abbrev behind_best : List ℕ
 behind_best = 96 ∷ 0 ∷ []
 
-dest_bad : FaultIsFirst → FrontGoesOn → (at : ℕ) (os : List ℕ) (w : NodesRefusal) (r : AddressRefusal) → address_fault os ≡ Some r → w ≡ BadCall (at + place_of r) → EntryBad at os w
+dest_bad : FaultIsFirst → FrontGoesOn → (at : ℕ) (os : List ℕ) (w : NodesRefusal) (r : AddressRefusal) → address_fault os ≡ Some r → w ≡ BadCall (at + refused_octet r) → EntryBad at os w
 dest_bad first law at os w r h is =
     let b = call_bad first law 0 os r h in
-    let p = 0 + place_of r in
+    let p = 0 + refused_octet r in
     let front = take p os ++ b.more in
     let all = front ++ behind_dest in
     let whole : take p os ++ (b.more ++ behind_dest) ≡ all = sym (append_assoc (take p os) b.more behind_dest) in
@@ -121,10 +121,10 @@ dest_bad first law at os w r h is =
 dest_kept : (k : ℕ) (os more : List ℕ) → 6 ≤ k → k ≤ length os → address_fault (take k os ++ more) ≡ address_fault os
 dest_kept k os more h g = ap fault_in (take-append-le 6 (take k os) more (omega (arith, length-take k os, h, g)) ∙ take-take 6 k os h)
 
-best_bad : FaultIsFirst → FrontGoesOn → (at : ℕ) (os : List ℕ) (w : NodesRefusal) (r : AddressRefusal) → address_fault os ≡ None → address_fault (drop 13 os) ≡ Some r → w ≡ BadCall (at + 13 + place_of r) → EntryBad at os w
+best_bad : FaultIsFirst → FrontGoesOn → (at : ℕ) (os : List ℕ) (w : NodesRefusal) (r : AddressRefusal) → address_fault os ≡ None → address_fault (drop 13 os) ≡ Some r → w ≡ BadCall (at + 13 + refused_octet r) → EntryBad at os w
 best_bad first law at os w r none h is =
     let b = call_bad first law 13 os r h in
-    let p = 13 + place_of r in
+    let p = 13 + refused_octet r in
     let front = take p os ++ b.more in
     let all = front ++ behind_best in
     let whole : take p os ++ (b.more ++ behind_best) ≡ all = sym (append_assoc (take p os) b.more behind_best) in

@@ -2,7 +2,7 @@
 use Rattle.std.specs.Prelude.{ℕ, zero, suc, ◌≡◌, ◌≤◌, ◌+◌, ◌-◌, ◌/◌, ◌%◌, List, [], ◌∷◌, length, take, drop, get_or, Bool, false, ◌&&◌, ◌==◌, nat_le, nat_lt, not, Option, Some, None, Result, Ok, Err, if◌then◌else◌}
 use Rattle.ax_address.specs.Callsign.{Callsign}
 use Rattle.ax_address.specs.NetCalls.{net_call_at}
-use Rattle.ax_address.specs.Octets.{place_of}
+use Rattle.ax_address.specs.Octets.{refused_octet}
 use Rattle.ax_address.specs.declared.octets.AddressRefusal.{AddressRefusal}
 use Rattle.ax_address.specs.declared.Entry.{Entry}
 use Rattle.ax_address.specs.Results.{◌>>=◌}
@@ -35,7 +35,7 @@ pub record HasShape (octets : List ℕ) : Type 0 where
 
 abbrev pub call_from : ℕ → Result Callsign AddressRefusal → Result Callsign NodesRefusal
 call_from at (Ok call) = Ok call
-call_from at (Err refusal) = Err (BadCall (at + place_of refusal))
+call_from at (Err refusal) = Err (BadCall (at + refused_octet refusal))
 
 -- the call of these seven octets, which stand at that place
 abbrev pub call_at : ℕ → List ℕ → Result Callsign NodesRefusal
