@@ -7,4 +7,6 @@
 #[cfg(test)]
 mod circuit_ends;
 #[cfg(test)]
+mod ends;
+#[cfg(test)]
 mod transports;
