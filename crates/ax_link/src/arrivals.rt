@@ -18,12 +18,11 @@ impl<M: Modulus> Machine<M> {
     ghost use Rattle.ax_link.specs.State as state;
     ghost use Rattle.ax_link.specs.Moves as moves;
     ghost use Rattle.ax_link.specs.Table as table;
-    ghost use Rattle.ax_link.specs.Standing.{Adds, state_of};
+    ghost use Rattle.ax_link.specs.Standing.{Adds, IsDrained, state_of};
     ghost use Rattle.ax_link.specs.Calls.{Does, arrive, brought, frame_come, view_of, text_again};
 
     pub(crate) fn arrive(&mut self, frame: &FrameIn<'_>, now: Millis)
-        requires outs { self.old.outs.items ≡ [] }
-        requires notice { self.old.notice ≡ None }
+        requires drained { IsDrained (view_of self.old) }
         requires size { self.old.window < M.SIZE }
         ensures does { Does M.SIZE (arrive now (frame_come frame.now)) self.old self.new }
         ensures window { self.new.window ≡ self.old.window }
@@ -38,8 +37,7 @@ impl<M: Modulus> Machine<M> {
     }
 
     fn arrive_down(&mut self, command: bool, kind: Kind, now: Millis)
-        requires outs { self.old.outs.items ≡ [] }
-        requires notice { self.old.notice ≡ None }
+        requires { IsDrained (view_of self.old) }
         ensures does { Does M.SIZE (table.arrive_down now command kind) self.old self.new }
         ensures window { self.new.window ≡ self.old.window }
     {
@@ -71,8 +69,7 @@ impl<M: Modulus> Machine<M> {
     }
 
     fn arrive_setting_up(&mut self, kind: Kind, now: Millis)
-        requires outs { self.old.outs.items ≡ [] }
-        requires notice { self.old.notice ≡ None }
+        requires { IsDrained (view_of self.old) }
         ensures does { Does M.SIZE (table.arrive_setting_up now kind) self.old self.new }
         ensures window { self.new.window ≡ self.old.window }
     {
@@ -93,8 +90,7 @@ impl<M: Modulus> Machine<M> {
     }
 
     fn arrive_up(&mut self, frame: &FrameIn<'_>, now: Millis)
-        requires outs { self.old.outs.items ≡ [] }
-        requires notice { self.old.notice ≡ None }
+        requires drained { IsDrained (view_of self.old) }
         requires size { self.old.window < M.SIZE }
         ensures does { Does M.SIZE (table.arrive_up now frame.now.command frame.now.kind (frame_come frame.now).payload) self.old self.new }
         ensures window { self.new.window ≡ self.old.window }
@@ -135,8 +131,7 @@ impl<M: Modulus> Machine<M> {
     }
 
     fn arrive_releasing(&mut self, kind: Kind, now: Millis)
-        requires outs { self.old.outs.items ≡ [] }
-        requires notice { self.old.notice ≡ None }
+        requires { IsDrained (view_of self.old) }
         ensures does { Does M.SIZE (table.arrive_releasing now kind) self.old self.new }
         ensures window { self.new.window ≡ self.old.window }
     {

@@ -9,13 +9,12 @@ use radio_base::{Millis, Modulus};
 
 impl<M: Modulus> Machine<M> {
     ghost use Rattle.ax_link.specs.Table as table;
-    ghost use Rattle.ax_link.specs.Standing.{Adds};
+    ghost use Rattle.ax_link.specs.Standing.{Adds, IsDrained};
     ghost use Rattle.ax_link.specs.Calls.{Does, ask_once_more, tell_end, view_of};
 
     /// Time has passed.
     pub(crate) fn tick(&mut self, now: Millis)
-        requires outs { self.old.outs.items ≡ [] }
-        requires notice { self.old.notice ≡ None }
+        requires { IsDrained (view_of self.old) }
         ensures does { Does M.SIZE (table.tick now) self.old self.new }
         ensures window { self.new.window ≡ self.old.window }
     {
@@ -30,8 +29,7 @@ impl<M: Modulus> Machine<M> {
 
     /// T1 has come: no answer did.
     fn expire(&mut self, now: Millis)
-        requires outs { self.old.outs.items ≡ [] }
-        requires notice { self.old.notice ≡ None }
+        requires { IsDrained (view_of self.old) }
         ensures does { Does M.SIZE (table.expire now) self.old self.new }
         ensures window { self.new.window ≡ self.old.window }
     {
@@ -43,8 +41,7 @@ impl<M: Modulus> Machine<M> {
     }
 
     fn fail(&mut self, now: Millis)
-        requires outs { self.old.outs.items ≡ [] }
-        requires notice { self.old.notice ≡ None }
+        requires { IsDrained (view_of self.old) }
         ensures does { Does M.SIZE (table.fail now) self.old self.new }
         ensures window { self.new.window ≡ self.old.window }
     {
