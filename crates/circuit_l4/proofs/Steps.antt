@@ -7,6 +7,7 @@ use Rattle.circuit_l4.specs.State.{Effect, State, begin}
 use Rattle.circuit_l4.specs.Table.{write_answer, write}
 use Rattle.circuit_l4.specs.Standing.{IsDrained, EndView, KeepsEffect, Stands, StandsFor, view_of}
 use Rattle.circuit_l4.specs.declared.machine.Machine.{Machine}
+use Rattle.circuit_l4.specs.Calls.{IsIdle}
 use Rattle.circuit_l4.specs.Outputs.{outs_of}
 use Rattle.circuit_l4.specs.declared.output.Output.{Output}
 use Rattle.circuit_l4.proofs.Bounds.{stands}
@@ -46,6 +47,9 @@ on_ok (Err e) P Q f p = tt
 -- where nothing goes out, nothing waits
 pub idle : (k : EndView) (outputs : List Output) → k.outs ≡ outs_of k.outgoing.queue (k.outgoing.acked - k.outgoing.done) outputs → IsDrained k → outputs ≡ []
 idle k outputs e h = emptied _ _ outputs (sym e ∙ h.outs)
+
+pub is_idle : (m : Machine) → IsDrained (view_of m) → IsIdle m
+is_idle m h = record { outs = idle (view_of m) m.outs.items refl h; notice = h.notice }
 
 -- no output waits, so nothing does where there is no notice
 pub drained : (k : EndView) (outputs : List Output) (notice : Option EndNotice) (none : Bool) → k.outs ≡ outs_of k.outgoing.queue (k.outgoing.acked - k.outgoing.done) outputs →

@@ -18,6 +18,11 @@ use Rattle.circuit_l4.specs.Outputs.{out_of}
 abbrev pub Does : (Effect → Effect) → Machine → Machine → Type 0
 Does part old new = (g : Effect) → KeepsEffect (view_of old) g → KeepsEffect (view_of new) (part g)
 
+-- no output and no notice waits
+pub record IsIdle (m : Machine) : Type 0 where
+  pub outs : m.outs.items ≡ []
+  pub notice : m.notice ≡ None
+
 -- a call adds at most so many outputs to those that wait, and leaves the notice and the configuration
 pub record Adds (k : ℕ) (old new : Machine) : Type 0 where
   pub outs : length new.outs.items ≤ length old.outs.items + k

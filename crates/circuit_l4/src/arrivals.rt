@@ -19,12 +19,11 @@ pub(crate) fn common_window(own: u8, other: u8) -> u8
 }
 
 impl Machine {
-    ghost use Rattle.circuit_l4.specs.Calls.{Does};
+    ghost use Rattle.circuit_l4.specs.Calls.{Does, IsIdle};
     ghost use Rattle.circuit_l4.specs.Table.{arrive};
 
     pub(crate) fn arrive(&mut self, transport: &Transport, now: Millis)
-        requires outs { self.old.outs.items ≡ [] }
-        requires notice { self.old.notice ≡ None }
+        requires { IsIdle self.old }
         ensures does { Does (arrive now transport.now) self.old self.new }
         ensures config { self.new.config ≡ self.old.config }
     {
@@ -37,8 +36,7 @@ impl Machine {
     }
 
     fn arrive_connecting(&mut self, transport: &Transport, now: Millis)
-        requires outs { self.old.outs.items ≡ [] }
-        requires notice { self.old.notice ≡ None }
+        requires { IsIdle self.old }
         ensures does { Does (table.arrive_connecting now transport.now) self.old self.new }
         ensures config { self.new.config ≡ self.old.config }
     {
@@ -50,8 +48,7 @@ impl Machine {
     }
 
     fn on_accept(&mut self, own: Pair, window: u8, now: Millis)
-        requires outs { self.old.outs.items ≡ [] }
-        requires notice { self.old.notice ≡ None }
+        requires { IsIdle self.old }
         ensures does { Does (table.on_accept now own window) self.old self.new }
         ensures config { self.new.config ≡ self.old.config }
     {
@@ -67,8 +64,7 @@ impl Machine {
     }
 
     fn arrive_up(&mut self, transport: &Transport, now: Millis)
-        requires outs { self.old.outs.items ≡ [] }
-        requires notice { self.old.notice ≡ None }
+        requires { IsIdle self.old }
         ensures does { Does (table.arrive_up now transport.now) self.old self.new }
         ensures config { self.new.config ≡ self.old.config }
     {
@@ -96,8 +92,7 @@ impl Machine {
     }
 
     fn hear_info(&mut self, info: &Info<'_>, now: Millis)
-        requires outs { self.old.outs.items ≡ [] }
-        requires notice { self.old.notice ≡ None }
+        requires { IsIdle self.old }
         ensures does { Does (table.hear_info now info.now.tx info.now.rx info.now.flags info.now.piece.now) self.old self.new }
         ensures config { self.new.config ≡ self.old.config }
     {
@@ -115,8 +110,7 @@ impl Machine {
     }
 
     fn arrive_closing(&mut self, transport: &Transport)
-        requires outs { self.old.outs.items ≡ [] }
-        requires notice { self.old.notice ≡ None }
+        requires { IsIdle self.old }
         ensures does { Does (table.arrive_closing transport.now) self.old self.new }
         ensures config { self.new.config ≡ self.old.config }
     {
@@ -128,8 +122,7 @@ impl Machine {
     }
 
     fn closed_by_partner(&mut self)
-        requires outs { self.old.outs.items ≡ [] }
-        requires notice { self.old.notice ≡ None }
+        requires { IsIdle self.old }
         ensures does { Does table.closed_by_partner self.old self.new }
         ensures config { self.new.config ≡ self.old.config }
     {

@@ -20,7 +20,7 @@ impl Machine {
     ghost use Rattle.circuit_l4.specs.State.{State, begin, is_up};
     ghost use Rattle.circuit_l4.specs.Opening as opening;
     ghost use Rattle.circuit_l4.specs.Opening.{IsConfig};
-    ghost use Rattle.circuit_l4.specs.Calls.{Adds, Does, MayWrite};
+    ghost use Rattle.circuit_l4.specs.Calls.{Adds, Does, IsIdle, MayWrite};
     ghost use Rattle.circuit_l4.specs.Standing.{KeepsEffect, StandsFor, view_of};
     ghost use Rattle.circuit_l4.specs.Table.{resume};
     ghost use Rattle.circuit_l4.specs.Halves.{IsReceiving, first_or};
@@ -137,8 +137,7 @@ impl Machine {
     }
 
     pub(crate) fn take(&mut self, out: &mut Message) -> bool
-        requires outs { self.old.outs.items ≡ [] }
-        requires notice { self.old.notice ≡ None }
+        requires { IsIdle self.old }
         ensures does { Does table.take_first self.old self.new }
         ensures message { out.new.items ≡ first_or out.old.items self.old.incoming.messages }
         ensures answer { result ≡ nat_lt 0 (length self.old.incoming.messages) }
@@ -162,8 +161,7 @@ impl Machine {
 
     /// An end that was busy goes on: early fragments follow, and the other end is told.
     fn resume(&mut self)
-        requires outs { self.old.outs.items ≡ [] }
-        requires notice { self.old.notice ≡ None }
+        requires { IsIdle self.old }
         ensures does { Does resume self.old self.new }
         ensures config { self.new.config ≡ self.old.config }
     {

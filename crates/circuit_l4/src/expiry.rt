@@ -10,14 +10,13 @@ use radio_base::Millis;
 
 impl Machine {
     ghost use Rattle.circuit_l4.specs.Table as table;
-    ghost use Rattle.circuit_l4.specs.Calls.{Adds, Does, request_by};
+    ghost use Rattle.circuit_l4.specs.Calls.{Adds, Does, IsIdle, request_by};
     ghost use Rattle.circuit_l4.specs.Standing.{view_of};
     ghost use Rattle.circuit_l4.specs.Table.{ask, ask_once_more, fall_due, fall_due_up};
 
     /// Time has passed.
     pub(crate) fn tick(&mut self, now: Millis)
-        requires outs { self.old.outs.items ≡ [] }
-        requires notice { self.old.notice ≡ None }
+        requires { IsIdle self.old }
         ensures does { Does (table.tick now) self.old self.new }
         ensures config { self.new.config ≡ self.old.config }
     {
@@ -38,8 +37,7 @@ impl Machine {
     }
 
     fn fall_due(&mut self, now: Millis)
-        requires outs { self.old.outs.items ≡ [] }
-        requires notice { self.old.notice ≡ None }
+        requires { IsIdle self.old }
         ensures does { Does (fall_due now) self.old self.new }
         ensures config { self.new.config ≡ self.old.config }
     {
@@ -51,8 +49,7 @@ impl Machine {
     }
 
     fn fall_due_up(&mut self, now: Millis)
-        requires outs { self.old.outs.items ≡ [] }
-        requires notice { self.old.notice ≡ None }
+        requires { IsIdle self.old }
         ensures does { Does (fall_due_up now) self.old self.new }
         ensures config { self.new.config ≡ self.old.config }
     {
@@ -78,8 +75,7 @@ impl Machine {
 
     /// An answer hasn't come: it is awaited once more, or no longer.
     fn expire(&mut self, now: Millis)
-        requires outs { self.old.outs.items ≡ [] }
-        requires notice { self.old.notice ≡ None }
+        requires { IsIdle self.old }
         ensures does { Does (table.expire now) self.old self.new }
         ensures config { self.new.config ≡ self.old.config }
     {

@@ -14,7 +14,7 @@ impl Machine {
     ghost use Rattle.radio_base.specs.Modulus.{place_of};
     ghost use Rattle.circuit_l4.specs.State.{Effect};
     ghost use Rattle.circuit_l4.specs.Moves as moves;
-    ghost use Rattle.circuit_l4.specs.Calls.{Adds, Does, IsOwed};
+    ghost use Rattle.circuit_l4.specs.Calls.{Adds, Does, IsIdle, IsOwed};
     ghost use Rattle.circuit_l4.specs.Standing.{KeepsEffect, view_of, state_of};
     ghost use Rattle.circuit_l4.specs.Halves.{IsSending, receipt_answer};
     ghost use Rattle.circuit_l4.specs.Sending.{Sending};
@@ -33,8 +33,7 @@ impl Machine {
 
     /// An information message: its acknowledgement first, then its text.
     pub(crate) fn on_info(&mut self, info: &Info<'_>, now: Millis)
-        requires outs { self.old.outs.items ≡ [] }
-        requires notice { self.old.notice ≡ None }
+        requires { IsIdle self.old }
         ensures does { Does (moves.on_info now info.now.tx info.now.rx info.now.flags info.now.piece.now) self.old self.new }
         ensures config { self.new.config ≡ self.old.config }
     {

@@ -1,9 +1,9 @@
-use Rattle.std.proofs.Common.{refl, ap, arith}
+use Rattle.std.proofs.Common.{ap, arith}
 use Rattle.circuit_l4.specs.declared.config.EndConfig.{EndConfig}
 use Rattle.circuit_l4.specs.Standing.{EndView, view_of}
 use Rattle.circuit_l4.specs.Table.{arrive}
 use Rattle.circuit_l4.proofs.Bounds.{keeps_on}
-use Rattle.circuit_l4.proofs.Steps.{idle, stepped}
+use Rattle.circuit_l4.proofs.Steps.{is_idle, stepped}
 use Rattle.circuit_l4.proofs.Waiting.{few_out}
 use Rattle.circuit_l4.proofs.end.End.arrive.Goals as goal
 
@@ -12,8 +12,8 @@ returns-clause-does c =
     rw (← c.self.view_is)
     (stepped (view_of c.self.inside.machine) c.arrive.new.self _ _ (λ now g. arrive now c.args.transport.now g) (rw (← c.self.view_is) at c.requires) c.of.ensures c.arrive.ensures.does)
 
-pub arrive-requires-clause-outs : goal.arrive-requires-clause-outs
-arrive-requires-clause-outs c = idle (view_of c.self.inside.machine) c.self.inside.machine.outs.items refl (rw (← c.self.view_is) at c.requires)
+pub arrive-requires : goal.arrive-requires
+arrive-requires c = is_idle c.self.inside.machine (rw (← c.self.view_is) at c.requires)
 
 pub returns-clause-kept : goal.returns-clause-kept
 returns-clause-kept c = keeps_on c.arrive.new.self

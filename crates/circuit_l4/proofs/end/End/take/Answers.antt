@@ -3,7 +3,7 @@ use Rattle.circuit_l4.specs.Table.{take_first}
 use Rattle.circuit_l4.specs.declared.config.EndConfig.{EndConfig}
 use Rattle.circuit_l4.specs.Standing.{EndView, view_of}
 use Rattle.circuit_l4.proofs.Bounds.{keeps_on}
-use Rattle.circuit_l4.proofs.Steps.{idle, stepped}
+use Rattle.circuit_l4.proofs.Steps.{is_idle, stepped}
 use Rattle.circuit_l4.proofs.Waiting.{few_out}
 use Rattle.circuit_l4.proofs.end.End.take.Goals as goal
 
@@ -12,8 +12,8 @@ returns-clause-does c =
     rw (← c.self.view_is)
     (stepped (view_of c.self.inside.machine) c.take.new.self 0 0 (λ _ g. take_first g) (rw (← c.self.view_is) at c.requires) refl c.take.ensures.does)
 
-pub take-requires-clause-outs : goal.take-requires-clause-outs
-take-requires-clause-outs c = idle (view_of c.self.inside.machine) c.self.inside.machine.outs.items refl (rw (← c.self.view_is) at c.requires)
+pub take-requires : goal.take-requires
+take-requires c = is_idle c.self.inside.machine (rw (← c.self.view_is) at c.requires)
 
 pub returns-clause-kept : goal.returns-clause-kept
 returns-clause-kept c = keeps_on c.take.new.self

@@ -1,9 +1,9 @@
-use Rattle.std.proofs.Common.{refl, ap, arith}
+use Rattle.std.proofs.Common.{ap, arith}
 use Rattle.circuit_l4.specs.Table.{tick}
 use Rattle.circuit_l4.specs.declared.config.EndConfig.{EndConfig}
 use Rattle.circuit_l4.specs.Standing.{EndView, view_of}
 use Rattle.circuit_l4.proofs.Bounds.{keeps_on}
-use Rattle.circuit_l4.proofs.Steps.{idle, stepped}
+use Rattle.circuit_l4.proofs.Steps.{is_idle, stepped}
 use Rattle.circuit_l4.proofs.Waiting.{few_out}
 use Rattle.circuit_l4.proofs.end.End.tick.Goals as goal
 
@@ -11,8 +11,8 @@ pub returns-clause-does : goal.returns-clause-does
 returns-clause-does c =
     rw (← c.self.view_is) (stepped (view_of c.self.inside.machine) c.tick.new.self _ _ tick (rw (← c.self.view_is) at c.requires) c.of.ensures c.tick.ensures.does)
 
-pub tick-requires-clause-outs : goal.tick-requires-clause-outs
-tick-requires-clause-outs c = idle (view_of c.self.inside.machine) c.self.inside.machine.outs.items refl (rw (← c.self.view_is) at c.requires)
+pub tick-requires : goal.tick-requires
+tick-requires c = is_idle c.self.inside.machine (rw (← c.self.view_is) at c.requires)
 
 pub returns-clause-kept : goal.returns-clause-kept
 returns-clause-kept c = keeps_on c.tick.new.self
