@@ -15,9 +15,9 @@ use Rattle.circuit_set.specs.Lines.{Elem, count_from}
 use Rattle.circuit_set.specs.Circuits.{ComesInTime, Flight, IsCall, PairOk, Side, comes, hear, heard_it, hear_text, now_at}
 use Rattle.circuit_set.specs.Heeds.{heeds}
 use Rattle.circuit_set.specs.Events.{Name, is_copy, same_name}
-use Rattle.circuit_set.specs.NotedRuns.{Net, allowance, allowed, opened_window, partner_allowance, told_to}
+use Rattle.circuit_set.specs.NotedRuns.{Net, allowance, allowance_at, opened_window, partner_allowance, told_to}
 use Rattle.circuit_set.specs.Sets.{Call, Closes, Holder, SetState, Takes, Ticks, Heeded, Writes, accept_again, end_of, goes_to, input_of, is_over, told_by}
-use Rattle.circuit_set.specs.Books.{was_asked, Book, HeardNote, SentNote, TimelyTo, has, heard_number, heard_sending, is_number, latest_by, latest_in, noted, noted_all, overtakers, partner}
+use Rattle.circuit_set.specs.Books.{was_asked, Book, HeardNote, SentNote, TimelyTo, has, heard_number, heard_sending, is_number, latest_by, latest_in, with_event, with_events, overtakers, partner}
 use Rattle.circuit_set.specs.Runs.{end_in, events_at}
 use Rattle.circuit_set.proofs.Bridge.{TopAt, WasSent, bridge, heard_of}
 use Rattle.circuit_set.proofs.Copies.{copy_reads}
@@ -122,8 +122,8 @@ module _ (net : Net) (k : Kept net) (n : ℕ) (s : SetState) (h : Holder) (here 
       (λ w o r p. unheeded h.end.phase t w (min now COUNT_MAX) (side_of net.book k.past x h.end) o refl e p)
 
   -- the whole step
-  pub goes : (g : Effect) → Move net k.past x h g net.book → Kept (record { sets = slice_set net.sets n (goes_to s h [] g).set; book = noted_all net.book (events_at n s.own (goes_to s h [] g).told) })
-  goes g m = moved net k n s h g net.book (noted_all net.book (events_at n s.own (told_by s h g))) (is_over g.end) here there m (told_noted s n s.own h g net.book)
+  pub goes : (g : Effect) → Move net k.past x h g net.book → Kept (record { sets = slice_set net.sets n (goes_to s h [] g).set; book = with_events net.book (events_at n s.own (goes_to s h [] g).told) })
+  goes g m = moved net k n s h g net.book (with_events net.book (events_at n s.own (told_by s h g))) (is_over g.end) here there m (told_noted s n s.own h g net.book)
 
 -- ---- what is heeded ----
 abbrev hear_any : Option ℕ → List ℕ → List ℕ
@@ -205,11 +205,11 @@ module _ (net : Net) (k : Kept net) (me y : Name) (h : Holder) (mine : EndInv ne
         ap (λ q. partner_allowance net.book q) met ∙ ap allowance (o.opens role) ∙ ap (λ w. 256 - 2 * w) (c.kept.end_theirs.answers role))
   ]
 
-  pub allow_is : (c : CircuitOk net k.past me y h.end) → allowed net.book me ≡ 256 - 2 * c.window
+  pub allow_is : (c : CircuitOk net k.past me y h.end) → allowance_at net.book me ≡ 256 - 2 * c.window
   allow_is c = allow_case c (was_asked net.book.made me) refl
 
 module _ (net : Net) (k : Kept net) (n : ℕ) (s : SetState) (h : Holder) (here : slice_get net.sets n ≡ Some s) (there : end_of h.id s.ends ≡ Some h)
-    (d : List ℕ) (t : Transport) (now : ℕ) (read : transport_at (drop 15 d) ≡ Ok t) (heeded : heeds h.end.phase t ≡ true) (time : TimelyTo allowed net.book (record { node = n; id = h.id }) d) where
+    (d : List ℕ) (t : Transport) (now : ℕ) (read : transport_at (drop 15 d) ≡ Ok t) (heeded : heeds h.end.phase t ≡ true) (time : TimelyTo allowance_at net.book (record { node = n; id = h.id }) d) where
   abbrev me : Name
   me = record { node = n; id = h.id }
 
@@ -229,7 +229,7 @@ module _ (net : Net) (k : Kept net) (n : ℕ) (s : SetState) (h : Holder) (here 
   hs = heard_of me net.book.heard
 
   b1 : Book
-  b1 = noted net.book (record { node = n; own = s.own; told = Heeded h.id d })
+  b1 = with_event net.book (record { node = n; own = s.own; told = Heeded h.id d })
 
   same_t : found.past.flight.out ≡ t
   same_t =
@@ -247,7 +247,7 @@ module _ (net : Net) (k : Kept net) (n : ℕ) (s : SetState) (h : Holder) (here 
   now_heard : heard_of me b1.heard ≡ hear_any latest_one.number hs
   now_heard = ap (λ ns. heard_of me ns) heard1 ∙ noted_heard me latest_one.number net.book
 
-  in_time : count_from found.past.flight.own hs + count_from found.past.flight.other (heard_of y net.book.heard) < allowed net.book me
+  in_time : count_from found.past.flight.own hs + count_from found.past.flight.other (heard_of y net.book.heard) < allowance_at net.book me
   in_time =
       let pair : PairInv net me y = k.pairs me y time.2 in
       let tops : Tops net.book found.past = k.tops found.past found.inside in
@@ -258,7 +258,7 @@ module _ (net : Net) (k : Kept net) (n : ℕ) (s : SetState) (h : Holder) (here 
       let sent : WasSent y me net.book.sent net.book.heard = was_sent y me net.book.sent net.book.heard pair.heard (k.pairs y me pair.back).heard in
       let most : count_from found.past.flight.own hs + count_from found.past.flight.other (heard_of y net.book.heard) ≤ overtakers y me latest_one.place net.book.sent net.book.heard
       = bridge y me latest_one.place found.past.flight.own found.past.flight.other net.book.sent net.book.heard (λ e. pair.apart (sym e)) own other sent in
-      let few : overtakers y me latest_one.place net.book.sent net.book.heard < allowed net.book me = time.4 in
+      let few : overtakers y me latest_one.place net.book.sent net.book.heard < allowance_at net.book me = time.4 in
       omega arith
 
   -- the circuit heeds it
@@ -269,8 +269,8 @@ module _ (net : Net) (k : Kept net) (n : ℕ) (s : SetState) (h : Holder) (here 
       let f : Flight = found.past.flight in
       let a : ℕ = 256 - 2 * c.window in
       let low : c.window ≤ 127 = c.fits in
-      let is_allowed : allowed net.book me ≡ 256 - 2 * c.window = allow_is net k me y h my_inv time.2 c in
-      let few : count_from found.past.flight.own hs + count_from found.past.flight.other (heard_of y net.book.heard) < allowed net.book me = in_time in
+      let is_allowed : allowance_at net.book me ≡ 256 - 2 * c.window = allow_is net k me y h my_inv time.2 c in
+      let few : count_from found.past.flight.own hs + count_from found.past.flight.other (heard_of y net.book.heard) < allowance_at net.book me = in_time in
       let fine : ComesInTime (256 - 2 * c.window) sx sy (slice_get sy.outs found.nth) = subst (λ o. ComesInTime (256 - 2 * c.window) sx sy o) (sym found.at) (λ q. subst (λ i. count_from found.past.flight.own hs + count_from found.past.flight.other (heard_of y net.book.heard) < i) is_allowed in_time) in
       let came : PairOk c.window (comes sx sy (slice_get sy.outs found.nth) now) sy = comes_ok c.window (256 - 2 * c.window) now sx sy found.nth (omega arith) c.kept fine in
       let one : PairOk c.window (now_at sx sy (step h.end (Arrive f.out) now) (if heeds h.end.phase f.out then hear_text f.out f.number hs else hs)) sy = subst (λ o. PairOk c.window (comes sx sy o now) sy) found.at came in
@@ -311,8 +311,8 @@ module _ (net : Net) (k : Kept net) (n : ℕ) (s : SetState) (h : Holder) (here 
         paired = λ z e. subst (λ w. (c : CircuitOk net k.past me w h.end) → PairOk c.window (now_at (side_of net.book k.past me h.end) (side_of net.book k.past w c.end.end) (step h.end (Arrive t) now) (heard_of me b1.heard)) (side_of net.book k.past w c.end.end)) (partner_one z e) circuit;
       }
 
-  pub heeds_it : Kept (record { sets = slice_set net.sets n (goes_to s h (Heeded h.id d ∷ []) (step h.end (Arrive t) now)).set; book = noted_all net.book (events_at n s.own (goes_to s h (Heeded h.id d ∷ []) (step h.end (Arrive t) now)).told) })
+  pub heeds_it : Kept (record { sets = slice_set net.sets n (goes_to s h (Heeded h.id d ∷ []) (step h.end (Arrive t) now)).set; book = with_events net.book (events_at n s.own (goes_to s h (Heeded h.id d ∷ []) (step h.end (Arrive t) now)).told) })
   unfolding b1
   heeds_it =
-      moved net k n s h (step h.end (Arrive t) now) b1 (noted_all b1 (events_at n s.own (told_by s h (step h.end (Arrive t) now)))) (is_over (step h.end (Arrive t) now).end) here there heeded_move
+      moved net k n s h (step h.end (Arrive t) now) b1 (with_events b1 (events_at n s.own (told_by s h (step h.end (Arrive t) now)))) (is_over (step h.end (Arrive t) now).end) here there heeded_move
       (told_noted s n s.own h (step h.end (Arrive t) now) b1)

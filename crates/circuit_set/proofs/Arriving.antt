@@ -16,8 +16,8 @@ use Rattle.circuit_set.specs.declared.holder.Untold.TheVariants as untold
 use Rattle.circuit_set.specs.declared.held_ends.HeldEnds.{HeldEnds}
 use Rattle.circuit_set.specs.Heeds.{heeds}
 use Rattle.circuit_set.specs.Sets as sets
-use Rattle.circuit_set.specs.Sets.{SetDone, SetState, Told, arrives_at, end_of, first_open, goes_to, handed, named_by}
-use Rattle.circuit_set.specs.Standing.{FirstFit, Gives, Hands, HeldStands, SameNode, counted, of_holder}
+use Rattle.circuit_set.specs.Sets.{SetDone, SetState, Told, arrives_at, end_of, first_open, goes_to, hands_to, named_by}
+use Rattle.circuit_set.specs.Standing.{FirstFit, Gives, Hands, HeldStands, SameNode, capped_count, of_holder}
 use Rattle.circuit_set.proofs.Unheeded.{arrival_same}
 use Rattle.circuit_set.proofs.Taken.{taken_same}
 use Rattle.circuit_set.proofs.Meeting.{asked_step}
@@ -43,7 +43,7 @@ module _ (c c2 : HeldEnds) (id : ℕ) (t : Transport) (now : ℕ) (b : Bool) (sa
       let e : w ≡ h = cc z in
       let stands : StandsFor k.end x = stood k.end f.g f.stands in
       let done : HeldStands c2 (goes_to s w [] (step x (Arrive t) now)).set (goes_to s w [] (step x (Arrive t) now)).told =
-      f.to (step x (Arrive t) now) (does x stands) ((arrival_same x t now).pair ∙ f.pair) (f.taken ∙ ap counted (sym (taken_same x (Arrive t) now tt))) (asked_step k.asked x (Arrive t) now f.met) in
+      f.to (step x (Arrive t) now) (does x stands) ((arrival_same x t now).pair ∙ f.pair) (f.taken ∙ ap capped_count (sym (taken_same x (Arrive t) now tt))) (asked_step k.asked x (Arrive t) now f.met) in
       record {
         hears = hears x stands ∙ ap (λ (y : sets.Holder). heeds y.end.phase t) e;
         stands = subst (λ (y : sets.Holder). HeldStands c2 (goes_to s y [] (step y.end (Arrive t) now)).set (goes_to s y [] (step y.end (Arrive t) now)).told) e done;
@@ -61,7 +61,7 @@ module _ (c c2 : HeldEnds) (id : ℕ) (t : Transport) (now : ℕ) (b : Bool) (sa
     heard_case true e = (sets.Heeded h.id d.items, moved.told, refl, ap (λ n. Some (sets.Heeded n d.items)) (sym number), (hand_goes hands).stands)
     heard_case false e = absurd (cc e)
 
-    pub gives_heard : b ≡ true → Gives (handed s h d.items t now) (Some (untold.Event (event.Heeded id d))) c2
+    pub gives_heard : b ≡ true → Gives (hands_to s h d.items t now) (Some (untold.Event (event.Heeded id d))) c2
     gives_heard e = heard_case (heeds h.end.phase t) (sym (hand_goes hands).hears ∙ e)
 
     unheard_case : (v : Bool) → v ≡ false → (r : Option Untold) (c3 : HeldEnds) → Gives moved r c3
@@ -69,7 +69,7 @@ module _ (c c2 : HeldEnds) (id : ℕ) (t : Transport) (now : ℕ) (b : Bool) (sa
     unheard_case true e r c3 g = absurd (cc e)
     unheard_case false e r c3 g = g
 
-    pub gives_unheard : b ≡ false → (r : Option Untold) (c3 : HeldEnds) → ((s2 : SetState) (told : List Told) → HeldStands c2 s2 told → Gives (record { set = s2; told = told }) r c3) → Gives (handed s h d.items t now) r c3
+    pub gives_unheard : b ≡ false → (r : Option Untold) (c3 : HeldEnds) → ((s2 : SetState) (told : List Told) → HeldStands c2 s2 told → Gives (record { set = s2; told = told }) r c3) → Gives (hands_to s h d.items t now) r c3
     gives_unheard e r c3 next = unheard_case (heeds h.end.phase t) (sym (hand_goes hands).hears ∙ e) r c3 (next moved.set moved.told (hand_goes hands).stands)
 
 -- what no open end is named by gives nothing
@@ -80,17 +80,17 @@ arrives_none c s origin d to t now st f =
     none_case c s d t now st (first_open (named_by origin to) s.ends) none
   where
     none_case : (c : HeldEnds) (s : SetState) (d : List ℕ) (t : Transport) (now : ℕ) → HeldStands c s [] → (o : Option sets.Holder) → o ≡ None
-        → Gives (elim o as (λ x. SetDone) [ Some h ↦ handed s h d t now | None ↦ sets.untold s ]) None c
+        → Gives (elim o as (λ x. SetDone) [ Some h ↦ hands_to s h d t now | None ↦ sets.does_nothing s ]) None c
     none_case c s d t now st None e = (refl, st)
     none_case c s d t now st (Some h) e = absurd (cc e)
 
 pub arrives_some : (c c2 : HeldEnds) (s : SetState) (origin : Callsign) (d : List ℕ) (to : Pair) (t : Transport) (now id : ℕ) (r : Option Untold) → HeldStands c s [] → FirstFit (named_by origin to) (Some id) c.ends.entries
-    → ((h : sets.Holder) → end_of id s.ends ≡ Some h → h.gone ≡ false → h.id ≡ id → Gives (handed s h d t now) r c2) → Gives (arrives_at s origin d to t now) r c2
+    → ((h : sets.Holder) → end_of id s.ends ≡ Some h → h.gone ≡ false → h.id ≡ id → Gives (hands_to s h d t now) r c2) → Gives (arrives_at s origin d to t now) r c2
 arrives_some c c2 s origin d to t now id r st f gives =
     let x : Fitting s.own s.ttl (named_by origin to) 0 id s.ends = fitting s.own s.ttl (named_by origin to) s.number 0 id c.ends.entries s.ends [] st.ends f in
     some_case (first_open (named_by origin to) s.ends) x.h x.first (gives x.h x.end x.held x.number)
   where
-    some_case : (o : Option sets.Holder) (h : sets.Holder) → o ≡ Some h → Gives (handed s h d t now) r c2
-        → Gives (elim o as (λ x. SetDone) [ Some h ↦ handed s h d t now | None ↦ sets.untold s ]) r c2
+    some_case : (o : Option sets.Holder) (h : sets.Holder) → o ≡ Some h → Gives (hands_to s h d t now) r c2
+        → Gives (elim o as (λ x. SetDone) [ Some h ↦ hands_to s h d t now | None ↦ sets.does_nothing s ]) r c2
     some_case None h e g = absurd (cc e)
-    some_case (Some y) h e g = let same : h ≡ y = cc (sym e) in subst (λ (y : sets.Holder). Gives (handed s y d t now) r c2) same g
+    some_case (Some y) h e g = let same : h ≡ y = cc (sym e) in subst (λ (y : sets.Holder). Gives (hands_to s y d t now) r c2) same g

@@ -4,7 +4,7 @@ use Rattle.std.proofs.Common.{sym, ◌∙◌, ap, subst, inl, inr, arith, append
 use Rattle.circuit_l4.specs.declared.transport.Pair.{Pair}
 use Rattle.circuit_set.specs.Books.{Book, Fresh, FreshTold, HasRequester, MadeNote, NoOther, SentNote, Timely, TimelyTo, TimelyTold, any_ends, empty, is_lost, is_unknown, latest_in, overtakers, partner_in, was_asked}
 use Rattle.circuit_set.specs.Events.{Event, Name}
-use Rattle.circuit_set.specs.NotedRuns.{allowance, allowed, opened_window, partner_allowance, told_to}
+use Rattle.circuit_set.specs.NotedRuns.{allowance, allowance_at, opened_window, partner_allowance, told_to}
 use Rattle.circuit_set.specs.ByBook.{FreshByBook, PartnersByBook, TimelyBy128, TimelyByBook}
 use Rattle.circuit_set.specs.Sets.{Told, Made, Sent, Heeded, Notice, Gone, Restarted, Lost}
 use Rattle.circuit_set.specs.TooLate.{Allowing, AllowsByWindow, Gives, InTime, IsFresh, IsNew, IsOpen, IsTimely, OpenedWith, Tells, allows_fixed}
@@ -206,13 +206,13 @@ window_case k None l = absurd (omega (arith, l))
 window_case k (Some w) l = (w, refl, l)
 
 module _ (es : List Event) (fresh : Fresh empty es) (x y : Name) (joined : partner_in (book es).made x ≡ Some y) (k : ℕ) where
-  by_partner : was_asked (book es).made x ≡ false → allowed (book es) x ≡ allowance (opened_window (told_to (book es).made y))
+  by_partner : was_asked (book es).made x ≡ false → allowance_at (book es) x ≡ allowance (opened_window (told_to (book es).made y))
   by_partner h = ap (λ c. if c then allowance (opened_window (told_to (book es).made x)) else partner_allowance (book es) (partner_in (book es).made x)) h ∙ ap (partner_allowance (book es)) joined
 
-  by_itself : was_asked (book es).made x ≡ true → allowed (book es) x ≡ allowance (opened_window (told_to (book es).made x))
+  by_itself : was_asked (book es).made x ≡ true → allowance_at (book es) x ≡ allowance (opened_window (told_to (book es).made x))
   by_itself h = ap (λ c. if c then allowance (opened_window (told_to (book es).made x)) else partner_allowance (book es) (partner_in (book es).made x)) h
 
-  allows_case : (c : Bool) → was_asked (book es).made x ≡ c → k < allowed (book es) x → (n : ℕ) × AllowsByWindow es x y n × (k < n)
+  allows_case : (c : Bool) → was_asked (book es).made x ≡ c → k < allowance_at (book es) x → (n : ℕ) × AllowsByWindow es x y n × (k < n)
   allows_case true h l =
       let w = window_case k (opened_window (told_to (book es).made x)) (subst (λ n. k < n) (by_itself h) l) in
       (256 - 2 * w.0, record { opened = x; which = inl (marks (asked_marks x) es fresh h, refl); window = w.0; told = opened_with x es fresh w.0 w.1; is = refl }, w.2)
@@ -220,19 +220,19 @@ module _ (es : List Event) (fresh : Fresh empty es) (x y : Name) (joined : partn
       let w = window_case k (opened_window (told_to (book es).made y)) (subst (λ n. k < n) (by_partner h) l) in
       (256 - 2 * w.0, record { opened = y; which = inr ((λ p. not_both (was_asked (book es).made x) h (marked (asked_marks x) es fresh p)), refl); window = w.0; told = opened_with y es fresh w.0 w.1; is = refl }, w.2)
 
-  allowed_is : (n : ℕ) → AllowsByWindow es x y n → allowed (book es) x ≡ n
+  allowed_is : (n : ℕ) → AllowsByWindow es x y n → allowance_at (book es) x ≡ n
   allowed_is n a = elim a.which [
     | inl p ↦ by_itself (marked (asked_marks x) es fresh p.0) ∙ (ap allowance (opens_with x es fresh a.window (subst (λ z. OpenedWith es z a.window) p.1 a.told)) ∙ sym a.is)
     | inr p ↦ by_partner (not_true (was_asked (book es).made x) (λ h. p.0 (marks (asked_marks x) es fresh h)))
         ∙ (ap allowance (opens_with y es fresh a.window (subst (λ z. OpenedWith es z a.window) p.1 a.told)) ∙ sym a.is)
   ]
 
-window_agrees : Agrees allowed AllowsByWindow
+window_agrees : Agrees allowance_at AllowsByWindow
 window_agrees es fresh x y joined k =
-    (allows_case es fresh x y joined k (was_asked (book es).made x) refl, λ p. (let is : allowed (book es) x ≡ p.0 = allowed_is es fresh x y joined k p.0 p.1 in let l : k < p.0 = p.2 in omega (arith, is, l)))
+    (allows_case es fresh x y joined k (was_asked (book es).made x) refl, λ p. (let is : allowance_at (book es) x ≡ p.0 = allowed_is es fresh x y joined k p.0 p.1 in let l : k < p.0 = p.2 in omega (arith, is, l)))
 
 pub timely_by_book : TimelyByBook
-timely_by_book events fresh = (timely_events allowed AllowsByWindow window_agrees events fresh, events_timely allowed AllowsByWindow window_agrees events fresh)
+timely_by_book events fresh = (timely_events allowance_at AllowsByWindow window_agrees events fresh, events_timely allowance_at AllowsByWindow window_agrees events fresh)
 
 pub timely_by_128 : TimelyBy128
 timely_by_128 events fresh = (timely_events (λ b x. 128) allows_fixed fixed_agrees events fresh, events_timely (λ b x. 128) allows_fixed fixed_agrees events fresh)

@@ -12,7 +12,7 @@ use Rattle.l3_datagram.specs.declared.routed.Routed.TheVariants as routed
 use Rattle.l3_datagram.specs.Datagrams.{head_at}
 use Rattle.l3_datagram.specs.Hops.{Way, Ends, ToNeighbour, forwarded_by, way}
 use Rattle.circuit_set.specs.Sets.{Act, Comes, SetState, Told, Made, Sent, Heeded, Notice, Gone, Restarted, Lost, set_step}
-use Rattle.circuit_set.specs.Pumps.{Dropped, Turn, Turned, Says, Offers, Waiting, dropped_by, heard_as, hears_by, pending, sent_by_head, sent_to, tells_first, tells_of, weight, weights, with_done}
+use Rattle.circuit_set.specs.Pumps.{Dropped, Turn, Turned, Says, Offers, Waiting, dropped_by, heard_as, hears_by, untold_weight, sent_by_head, sent_to, tells_first, tells_of, weight, weights, with_done}
 use Rattle.circuit_set.specs.Inputs.{ActsGo, GoesBy, HearsGo, HearsLostGoes, OfEach, TellsGo, TellsLess, TicksGo, TurnGoes, of_circuits, ticks_of}
 
 -- one input
@@ -95,9 +95,9 @@ tells_go next_hop w = tells_by next_hop w w.lost
 
 -- ---- it falls ----
 abbrev Less : Told → List Told → Turned → Type 0
-Less t rest u = pending u.after < weight t + weights rest
+Less t rest u = untold_weight u.after < weight t + weights rest
 
-answer_less : (s : SetState) (rest : List Told) (answer : Offered) → pending (record { set = s; untold = rest; lost = dropped_by answer }) < 2 + weights rest
+answer_less : (s : SetState) (rest : List Told) (answer : Offered) → untold_weight (record { set = s; untold = rest; lost = dropped_by answer }) < 2 + weights rest
 answer_less s rest offered.Taken = omega arith
 answer_less s rest offered.Dropped = omega arith
 
@@ -120,18 +120,18 @@ module _ (next_hop : Callsign → Option Callsign) where
   tells_less_it s (Restarted pair) rest = omega arith
   tells_less_it s (Lost id facts) rest = omega arith
 
-less_untold : (next_hop : Callsign → Option Callsign) (s : SetState) (ts : List Told) → 0 < weights ts → OfEach (λ u. pending u.after < weights ts) (tells_of next_hop s ts)
+less_untold : (next_hop : Callsign → Option Callsign) (s : SetState) (ts : List Told) → 0 < weights ts → OfEach (λ u. untold_weight u.after < weights ts) (tells_of next_hop s ts)
 less_untold next_hop s [] p = absurd (omega arith)
 less_untold next_hop s (t ∷ rest) p = tells_less_it next_hop s t rest
 
-less_by : (next_hop : Callsign → Option Callsign) (s : SetState) (ts : List Told) (o : Option Routed) → 0 < pending (record { set = s; untold = ts; lost = o })
-    → OfEach (λ u. pending u.after < pending (record { set = s; untold = ts; lost = o })) (elim o as (λ x. Turn) [
+less_by : (next_hop : Callsign → Option Callsign) (s : SetState) (ts : List Told) (o : Option Routed) → 0 < untold_weight (record { set = s; untold = ts; lost = o })
+    → OfEach (λ u. untold_weight u.after < untold_weight (record { set = s; untold = ts; lost = o })) (elim o as (λ x. Turn) [
       | Some r ↦ Says (record { told = Some (Dropped r); after = record { set = s; untold = ts; lost = None }; items = [] })
       | None ↦ tells_of next_hop s ts
     ])
 less_by next_hop s ts (Some r) p = omega arith
 less_by next_hop s ts None p =
-    each_goes (λ u. pending u.after < weights ts) (λ u. pending u.after < pending (record { set = s; untold = ts; lost = None })) (λ u f. omega arith) (tells_of next_hop s ts) (less_untold next_hop s ts (omega arith))
+    each_goes (λ u. untold_weight u.after < weights ts) (λ u. untold_weight u.after < untold_weight (record { set = s; untold = ts; lost = None })) (λ u f. omega arith) (tells_of next_hop s ts) (less_untold next_hop s ts (omega arith))
 
 pub tells_less : TellsLess
 tells_less next_hop w p = less_by next_hop w.set w.untold w.lost p

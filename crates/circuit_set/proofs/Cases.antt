@@ -23,7 +23,7 @@ use Rattle.circuit_l4.specs.Table.{Arrive, step}
 use Rattle.circuit_l4.specs.Opening.{facts_of, requesting, responding}
 use Rattle.circuit_set.specs.Heeds.{heeds}
 use Rattle.circuit_set.specs.NotedRuns.{opened_window}
-use Rattle.circuit_set.specs.Sets.{Act, Call, Writes, Ticks, Closes, Takes, Calls, Comes, Connect, Discard, Restart, Sent, Heeded, Gone, Holder, SetDone, SetState, accept_again, arrives_at, called, datagram_to, discarded, end_of, first_open, goes_to, handed, handed_up, has_ended, input_of, is_full, is_open, made, named_by, new_pair, opened_by, read_as, received, requested_anew, requests, responds, set_step, untold, with_end}
+use Rattle.circuit_set.specs.Sets.{Act, Call, Writes, Ticks, Closes, Takes, Calls, Comes, Connect, Discard, Restart, Sent, Heeded, Gone, Holder, SetDone, SetState, accept_again, arrives_at, after_call, datagram_to, after_discarding, end_of, first_open, goes_to, hands_to, after_datagram, has_ended, input_of, is_full, is_open, makes_end, named_by, new_pair, opened_by, read_as, after_transport, after_new_request, requests, responds, set_step, does_nothing, with_end}
 use Rattle.circuit_set.specs.Books.{any_ends}
 use Rattle.circuit_set.specs.Givings.{IsUp}
 use Rattle.circuit_set.proofs.Acts.{call_names, lives_on, lives_same}
@@ -140,13 +140,13 @@ pub record IsNew (s : SetState) (asked : Option Pair) (request : Option (List �
   pub born : laws.IsNew g
 
 pub record Cases (s : SetState) (P : SetDone → Type 0) : Type 0 where
-  pub rests : P (untold s)
+  pub rests : P (does_nothing s)
   pub refuses : (d : List ℕ) → P (record { set = s; told = Sent 0 None d ∷ [] })
   pub moves : (h : Holder) (heeded : Bool) (d : List ℕ) (g : Effect) → end_of h.id s.ends ≡ Some h → h.gone ≡ false → SameEnd h.end g.end → Ends h.end g → Says h heeded d g → Lives h.end g
       → P (goes_to s h (if heeded then Heeded h.id d ∷ [] else []) g)
   pub leaves : (h : Holder) → end_of h.id s.ends ≡ Some h → h.gone ≡ false
       → P (record { set = record s { ends = with_end (record h { gone = true }) s.ends }; told = Gone h.id (facts_of h.end) ∷ [] })
-  pub makes : (at : Callsign) (asked : Option Pair) (request : Option (List ℕ)) (g : Effect) → IsNew s asked request g → P (made s at asked request g)
+  pub makes : (at : Callsign) (asked : Option Pair) (request : Option (List ℕ)) (g : Effect) → IsNew s asked request g → P (makes_end s at asked request g)
 
 -- ---- the cases, with more of what is known in each ----
 -- a datagram has come from another node
@@ -175,14 +175,14 @@ MadeBy s a at role (Some pair) (Some d) = Opener s a at pair d × (role ≡ Resp
 MadeBy s a at role _ _ = ⊥
 
 pub record Every (s : SetState) (a : Act) (P : SetDone → Type 0) : Type 0 where
-  pub rests : Idle s a → P (untold s)
+  pub rests : Idle s a → P (does_nothing s)
   pub refuses : (at : Callsign) (pair : Pair) → IsCallsign at.letters at.ssid → NoCall a → P (record { set = s; told = Sent 0 None (datagram_to s at (Refuse pair)) ∷ [] })
   pub moves : (h : Holder) (heeded : Bool) (d : List ℕ) (g : Effect) → end_of h.id s.ends ≡ Some h → h.gone ≡ false → SameEnd h.end g.end → Ends h.end g → Says h heeded d g → Lives h.end g
       → asking.Asks h.end g.outs → MovedBy a h g → P (goes_to s h (if heeded then Heeded h.id d ∷ [] else []) g)
   pub leaves : (h : Holder) → end_of h.id s.ends ≡ Some h → h.gone ≡ false → has_ended h.end.phase ≡ true → NoCall a
       → P (record { set = record s { ends = with_end (record h { gone = true }) s.ends }; told = Gone h.id (facts_of h.end) ∷ [] })
   pub makes : (at : Callsign) (asked : Option Pair) (request : Option (List ℕ)) (g : Effect) → IsNew s asked request g → MadeBy s a at g.end.role asked request → asking.Asks g.end g.outs
-      → P (made s at asked request g)
+      → P (makes_end s at asked request g)
 
 either_done : (P : SetDone → Type 0) (b : Bool) (x y : SetDone) → P x → P y → P (if b then x else y)
 either_done P true x y p q = p
@@ -206,7 +206,7 @@ module _ (s : SetState) (one : (h : Holder) → InEnds h s.ends → end_of h.id 
   gone_one : (id : ℕ) (h j : Holder) → end_of id s.ends ≡ Some h → h.gone ≡ true → end_of id s.ends ≡ Some j → j.gone ≡ true
   gone_one id h j there e q = let two : Some h ≡ Some j = sym there ∙ q in let same : h ≡ j = cc two in subst (λ (x : Holder). x.gone ≡ true) same e
 
-  call_case : (h : Holder) (call : Call) (now : ℕ) (b : Bool) → a ≡ Calls h.id call now → h.gone ≡ b → end_of h.id s.ends ≡ Some h → P (if b then untold s else goes_to s h [] (step h.end (input_of call) now))
+  call_case : (h : Holder) (call : Call) (now : ℕ) (b : Bool) → a ≡ Calls h.id call now → h.gone ≡ b → end_of h.id s.ends ≡ Some h → P (if b then does_nothing s else goes_to s h [] (step h.end (input_of call) now))
   call_case h call now true i e there = k.rests (subst (Idle s) (sym i) (λ j q. gone_one h.id h j there e q))
   call_case h call now false i e there =
       let names = call_names h.end call now in
@@ -215,18 +215,18 @@ module _ (s : SetState) (one : (h : Holder) → InEnds h s.ends → end_of h.id 
       (λ ns l. lives_on h.end ns (input_of call) now l) (asking.step_asks h.end (input_of call) now)
       (subst (λ (b : Act). MovedBy b h (step h.end (input_of call) now)) (sym i) (refl, refl))
 
-  called_so : (id : ℕ) (call : Call) (now : ℕ) (o : Option Holder) → a ≡ Calls id call now → end_of id s.ends ≡ o → P (called s o call now)
+  called_so : (id : ℕ) (call : Call) (now : ℕ) (o : Option Holder) → a ≡ Calls id call now → end_of id s.ends ≡ o → P (after_call s o call now)
   called_so id call now None i e = k.rests (subst (Idle s) (sym i) (λ j q. let bad : None ≡ Some j = sym e ∙ q in absurd (cc bad)))
   called_so id call now (Some h) i e =
       let number : h.id ≡ id = number_of id h s.ends e in
       call_case h call now h.gone (i ∙ ap (λ n. Calls n call now) (sym number)) refl (ap (λ i. end_of i s.ends) number ∙ e)
 
   discard_case : (h : Holder) (b : Bool) → Idle s a → NoCall a → (not h.gone && has_ended h.end.phase) ≡ b → end_of h.id s.ends ≡ Some h
-      → P (if b then record { set = record s { ends = with_end (record h { gone = true }) s.ends }; told = Gone h.id (facts_of h.end) ∷ [] } else untold s)
+      → P (if b then record { set = record s { ends = with_end (record h { gone = true }) s.ends }; told = Gone h.id (facts_of h.end) ∷ [] } else does_nothing s)
   discard_case h false i none e there = k.rests i
   discard_case h true i none e there = let r = and_parts (not h.gone) (has_ended h.end.phase) e in k.leaves h there (is_false h.gone r.0) r.1 none
 
-  discard_so : (id : ℕ) (o : Option Holder) → Idle s a → NoCall a → end_of id s.ends ≡ o → P (discarded s o)
+  discard_so : (id : ℕ) (o : Option Holder) → Idle s a → NoCall a → end_of id s.ends ≡ o → P (after_discarding s o)
   discard_so id None i none e = k.rests i
   discard_so id (Some h) i none e = discard_case h (not h.gone && has_ended h.end.phase) i none refl (ap (λ i. end_of i s.ends) (number_of id h s.ends e) ∙ e)
 
@@ -242,7 +242,7 @@ module _ (s : SetState) (one : (h : Holder) → InEnds h s.ends → end_of h.id 
     idle = subst (Idle s) (sym c.came) tt
 
     arrives_case : (to : Pair) (t : Transport) (o : Option Holder) → transport_at (drop 15 d) ≡ Ok t → first_open (named_by c.head.origin to) s.ends ≡ o
-        → P (elim o as (λ x. SetDone) [ Some h ↦ handed s h d t c.now | None ↦ untold s ])
+        → P (elim o as (λ x. SetDone) [ Some h ↦ hands_to s h d t c.now | None ↦ does_nothing s ])
     arrives_case to t None read e = k.rests idle
     arrives_case to t (Some h) read e =
         let f = open_one (named_by c.head.origin to) h e in
@@ -270,7 +270,7 @@ module _ (s : SetState) (one : (h : Holder) → InEnds h s.ends → end_of h.id 
         }) (o, refl) ((refl, refl), tt)
 
     requested_case : (pair : Pair) (window : ℕ) (user node : Callsign) (o : Option Holder) → first_open (opened_by c.head.origin pair) s.ends ≡ o → transport_at (drop 15 d) ≡ Ok (Request pair window user node)
-        → P (elim o as (λ x. SetDone) [ Some h ↦ goes_to s h [] (accept_again h.end) | None ↦ requested_anew s c.head.origin d pair window c.now ])
+        → P (elim o as (λ x. SetDone) [ Some h ↦ goes_to s h [] (accept_again h.end) | None ↦ after_new_request s c.head.origin d pair window c.now ])
     requested_case pair window user node None e read =
         anew_case pair window (is_full s) refl (record { comer = c; origin = refl; window = window; user = user; node = node; request = read; none = e })
     requested_case pair window user node (Some h) e read =
@@ -278,7 +278,7 @@ module _ (s : SetState) (one : (h : Holder) → InEnds h s.ends → end_of h.id 
         k.moves h false [] (accept_again h.end) o.0 o.1 (record { role = refl; pair = refl; config = refl }) (record { told = λ e. cc; stays = λ e. e; says = λ e. inl e }) (inl (record { unopened = refl; to = refl }))
         (λ ns l. lives_same h.end ns l) ((refl, refl), tt) (subst (λ (b : Act). MovedBy b h (accept_again h.end)) (sym c.came) (inr (refl, refl)))
 
-    received_so : (t : Transport) → transport_at (drop 15 d) ≡ Ok t → P (received s c.head.origin d t c.now)
+    received_so : (t : Transport) → transport_at (drop 15 d) ≡ Ok t → P (after_transport s c.head.origin d t c.now)
     received_so (Request pair window user node) read = requested_case pair window user node (first_open (opened_by c.head.origin pair) s.ends) refl read
     received_so (Accept to own window) read = arrives_so to (Accept to own window) read
     received_so (Refuse to) read = arrives_so to (Refuse to) read
@@ -292,17 +292,17 @@ module _ (s : SetState) (one : (h : Holder) → InEnds h s.ends → end_of h.id 
     read_so (Ok t) read = received_so t read
 
   handed_case : (d : List ℕ) (head : DatagramHead) (now : ℕ) (v w : Bool) → a ≡ Comes d now → head_at d ≡ Ok head → same_call head.origin s.own ≡ v → not (same_call head.dest s.own) ≡ w
-      → P (if v || w then untold s else read_as s head.origin d (transport_at (drop 15 d)) now)
+      → P (if v || w then does_nothing s else read_as s head.origin d (transport_at (drop 15 d)) now)
   handed_case d head now true w i e f g = k.rests (subst (Idle s) (sym i) tt)
   handed_case d head now false true i e f g = k.rests (subst (Idle s) (sym i) tt)
   handed_case d head now false false i e f g =
       read_so d (record { now = now; came = i; head = head; read = e; other = f; mine = is_true (same_call head.dest s.own) g }) (transport_at (drop 15 d)) refl
 
-  handed_so : (d : List ℕ) (r : Result DatagramHead DatagramRefusal) (now : ℕ) → a ≡ Comes d now → head_at d ≡ r → P (handed_up s d r now)
+  handed_so : (d : List ℕ) (r : Result DatagramHead DatagramRefusal) (now : ℕ) → a ≡ Comes d now → head_at d ≡ r → P (after_datagram s d r now)
   handed_so d (Err e) now i h = k.rests (subst (Idle s) (sym i) tt)
   handed_so d (Ok head) now i h = handed_case d head now (same_call head.origin s.own) (not (same_call head.dest s.own)) i h refl refl
 
-  connected_case : (dest : Callsign) (now : ℕ) (v w : Bool) → a ≡ Connect dest now → is_full s ≡ w → P (if v || w then untold s else requests s dest now)
+  connected_case : (dest : Callsign) (now : ℕ) (v w : Bool) → a ≡ Connect dest now → is_full s ≡ w → P (if v || w then does_nothing s else requests s dest now)
   connected_case dest now true w i e = k.rests (subst (Idle s) (sym i) tt)
   connected_case dest now false true i e = k.rests (subst (Idle s) (sym i) tt)
   connected_case dest now false false i e =

@@ -8,18 +8,18 @@ use Rattle.circuit_l4.specs.Reading.{transport_at}
 use Rattle.circuit_set.specs.Sets.{Holder}
 use Rattle.circuit_set.specs.Books.{Fresh, MadeNote, Timely, empty, is_unknown, partner_in}
 use Rattle.circuit_set.specs.Events.{Event, Name}
-use Rattle.circuit_set.specs.NotedRuns.{Net, allowed, begins, end_at, net_run}
+use Rattle.circuit_set.specs.NotedRuns.{Net, allowance_at, begins, end_at, net_run}
 use Rattle.circuit_set.specs.Runs.{events_of}
 use Rattle.circuit_set.specs.Safe.{IsSafe, Safe, SafeAlone}
 use Rattle.circuit_set.proofs.Joined.{has_none}
 use Rattle.circuit_set.proofs.Noted.{book}
-use Rattle.circuit_set.specs.Examples.{ForgedIsUnsafe, OneMoreIsTooMany, RestartIsStale, again_at, forged, here, node, pair_of, there}
+use Rattle.circuit_set.specs.Examples.{ForgedIsUnsafe, OneMoreIsTooMany, RestartIsStale, again_at, forged_steps, n0aaa, node, pair_of, n0bbb}
 
 abbrev first : Name
 first = record { node = 0; id = 1 }
 
 abbrev forged_net : Net
-forged_net = net_run (begins (node here ∷ [])) forged
+forged_net = net_run (begins (node n0aaa ∷ [])) forged_steps
 
 abbrev received_by : Option Holder → List (List ℕ)
 received_by None = []
@@ -30,7 +30,7 @@ unfolding head_at transport_at reading.accept_at
 heard = refl
 
 abbrev told : List Event
-told = events_of (node here ∷ []) forged
+told = events_of (node n0aaa ∷ []) forged_steps
 
 forged_fresh : Fresh empty told
 unfolding head_at transport_at reading.accept_at
@@ -40,15 +40,15 @@ free : is_unknown (partner_in (book told).made first) ≡ true
 unfolding head_at transport_at reading.accept_at
 free = refl
 
-unsafe_case : (o : Option Holder) → end_at forged_net first ≡ o → received_by o ≡ (88 ∷ []) ∷ [] → Safe (node here ∷ []) forged → ⊥
+unsafe_case : (o : Option Holder) → end_at forged_net first ≡ o → received_by o ≡ (88 ∷ []) ∷ [] → Safe (node n0aaa ∷ []) forged_steps → ⊥
 unsafe_case None e r safe = cc r
 unsafe_case (Some h) e r safe =
-    let s : IsSafe (node here ∷ []) forged first h = safe first h e in
+    let s : IsSafe (node n0aaa ∷ []) forged_steps first h = safe first h e in
     let a : SafeAlone h.end = s.end.alone (has_none told forged_fresh first free) in
     let z : [] ≡ (88 ∷ []) ∷ [] = sym a.received ∙ r in
     cc z
 
-late : Timely allowed empty (events_of (node here ∷ []) forged) → ⊥
+late : Timely allowance_at empty (events_of (node n0aaa ∷ []) forged_steps) → ⊥
 unfolding head_at transport_at reading.accept_at
 late t = let met = t.1.1.0.2 in cc met
 
@@ -58,18 +58,18 @@ forged_is_unsafe = record { late = late; unsafe = unsafe_case (end_at forged_net
 pub one_more_is_too_many : OneMoreIsTooMany
 one_more_is_too_many acked low = omega arith
 
-timely : Timely allowed empty (events_of (node here ∷ node there ∷ []) (again_at 1))
+timely : Timely allowance_at empty (events_of (node n0aaa ∷ node n0bbb ∷ []) (again_at 1))
 unfolding head_at transport_at reading.request_at
 timely = (tt, (tt, (tt, (tt, (tt, (tt, (tt, (tt, (tt, tt)))))))))
 
 apart : (n : ℕ) → n ≡ 0 → 1 ≤ n → ⊥
 apart n e l = omega arith
 
-stale : Fresh empty (events_of (node here ∷ node there ∷ []) (again_at 1)) → ⊥
+stale : Fresh empty (events_of (node n0aaa ∷ node n0bbb ∷ []) (again_at 1)) → ⊥
 unfolding head_at transport_at reading.request_at
 stale f =
-    let other : MadeNote = record { who = record { node = 1; id = 1 }; own = there; pair = pair_of 1; partner = Some first; told = Opened 1 ∷ [] } in
-    let old : MadeNote = record { who = first; own = here; pair = pair_of 1; partner = None; told = [] } in
+    let other : MadeNote = record { who = record { node = 1; id = 1 }; own = n0bbb; pair = pair_of 1; partner = Some first; told = Opened 1 ∷ [] } in
+    let old : MadeNote = record { who = first; own = n0aaa; pair = pair_of 1; partner = None; told = [] } in
     f.1.1.1.1.1.1.1.0.1 other old (0, lit< tt, refl) (1, lit< tt, refl) refl refl (λ e. apart 1 e (omega arith)) refl refl refl
 
 pub restart_is_stale : RestartIsStale

@@ -16,11 +16,11 @@ use Rattle.circuit_l4.specs.Laws.{FailsAfterRetries}
 use Rattle.circuit_l4.specs.Table.{Arrive, Input, step}
 use Rattle.circuit_l4.specs.Expiries as ends
 use Rattle.circuit_l4.specs.Expiries.{Moment, expiries}
-use Rattle.circuit_set.specs.Sets.{Act, Call, Calls, Closes, Comes, Connect, Discard, Restart, Takes, Ticks, Writes, Made, Sent, Heeded, Gone, Restarted, Holder, SetDone, SetState, datagram_to, end_of, goes_to, holder_of, input_of, is_over, losses, made, new_pair, restarted, set_step, told_by, with_end}
-use Rattle.circuit_set.specs.Books.{Book, noted, noted_all}
+use Rattle.circuit_set.specs.Sets.{Act, Call, Calls, Closes, Comes, Connect, Discard, Restart, Takes, Ticks, Writes, Made, Sent, Heeded, Gone, Restarted, Holder, SetDone, SetState, datagram_to, end_of, goes_to, holder_of, input_of, is_over, losses, makes_end, new_pair, after_restart, set_step, told_by, with_end}
+use Rattle.circuit_set.specs.Books.{Book, with_event, with_events}
 use Rattle.circuit_set.specs.Events.{Name}
 use Rattle.circuit_set.specs.NotedRuns.{Net, begins, end_at, net_run, net_step, told_to}
-use Rattle.circuit_set.specs.Runs.{AreStarts, AreSteps, Step, expiries_in, between, end_in, events_at, moments, sets_at, tick_at, tick_by, tick_of, told_at}
+use Rattle.circuit_set.specs.Runs.{AreStarts, AreSteps, Step, expiries_in, moment_between, end_in, events_at, moments, sets_at, tick_at, tick_by, tick_of, told_at}
 use Rattle.circuit_set.specs.Givings.{IsUp}
 use Rattle.circuit_set.proofs.Acts.{set_self}
 use Rattle.circuit_set.proofs.Bridge.{name_itself}
@@ -50,7 +50,7 @@ abbrev Forth : Net → Net → Type 0
 Forth net new = (x : Name) (h : Holder) → end_at net x ≡ Some h → (k : Holder) × (end_at new x ≡ Some k)
 
 abbrev next : (Name → List Moment) → Net → Step → Net → Name → List Moment
-next past net st new x = onward (past x) (between (end_at net x) (tick_at st x) (end_at new x))
+next past net st new x = onward (past x) (moment_between (end_at net x) (tick_at st x) (end_at new x))
 
 -- ---- ticks ----
 abbrev nothing : Option ℕ
@@ -147,13 +147,13 @@ made_quiet s a at role None (Some d) by = absurd by
 made_quiet s a at role (Some pair) None by = absurd by
 
 -- ---- one end ----
-between_is : (o p : Option Holder) (tick : Option ℕ) (h k : Holder) → o ≡ Some h → p ≡ Some k → between o tick p ≡ (if h.gone then [] else record { was = h.end; tick = tick; is = k.end } ∷ [])
-between_is o p tick h k e f = ap (λ x. between x tick p) e ∙ ap (λ x. between (Some h) tick x) f
+between_is : (o p : Option Holder) (tick : Option ℕ) (h k : Holder) → o ≡ Some h → p ≡ Some k → moment_between o tick p ≡ (if h.gone then [] else record { was = h.end; tick = tick; is = k.end } ∷ [])
+between_is o p tick h k e f = ap (λ x. moment_between x tick p) e ∙ ap (λ x. moment_between (Some h) tick x) f
 
 still_lived : (past : List Moment) (o p : Option Holder) (tick : Option ℕ) (h k : Holder) (notes : List EndNotice) → o ≡ Some h → p ≡ Some k → k.end ≡ h.end → (tick ≡ None) ⊎ (h.gone ≡ true) → Life past h.end notes
-    → Life (onward past (between o tick p)) k.end notes
+    → Life (onward past (moment_between o tick p)) k.end notes
 still_lived past o p tick h k notes e f same (inr gone) c =
-    let none : between o tick p ≡ [] = between_is o p tick h k e f ∙ ap (λ (b : Bool). if b then [] else record { was = h.end; tick = tick; is = k.end } ∷ []) gone in
+    let none : moment_between o tick p ≡ [] = between_is o p tick h k e f ∙ ap (λ (b : Bool). if b then [] else record { was = h.end; tick = tick; is = k.end } ∷ []) gone in
     subst (λ ms. Life (onward past ms) k.end notes) (sym none) (subst (λ s. Life past s notes) (sym same) c)
 still_lived past o p tick h k notes e f same (inl none) c = by h.gone refl
   where
@@ -163,19 +163,19 @@ still_lived past o p tick h k notes e f same (inl none) c = by h.gone refl
     idle : m ≡ record { was = h.end; tick = None; is = h.end }
     idle = ap (λ t. (let x : Moment = record { was = h.end; tick = t; is = k.end } in x)) none ∙ ap (λ s. (let x : Moment = record { was = h.end; tick = None; is = s } in x)) same
 
-    by : (b : Bool) → h.gone ≡ b → Life (onward past (between o tick p)) k.end notes
+    by : (b : Bool) → h.gone ≡ b → Life (onward past (moment_between o tick p)) k.end notes
     by true g =
-        let is : between o tick p ≡ [] = between_is o p tick h k e f ∙ ap (λ (b : Bool). if b then [] else m ∷ []) g in
+        let is : moment_between o tick p ≡ [] = between_is o p tick h k e f ∙ ap (λ (b : Bool). if b then [] else m ∷ []) g in
         subst (λ ms. Life (onward past ms) k.end notes) (sym is) (subst (λ s. Life past s notes) (sym same) c)
     by false g =
-        let is : between o tick p ≡ m ∷ [] = between_is o p tick h k e f ∙ ap (λ (b : Bool). if b then [] else m ∷ []) g in
+        let is : moment_between o tick p ≡ m ∷ [] = between_is o p tick h k e f ∙ ap (λ (b : Bool). if b then [] else m ∷ []) g in
         let on : Life (and_then past m) h.end notes = subst (λ (x : Moment). Life (and_then past x) h.end notes) (sym idle) (living.still past h.end notes c) in
         subst (λ ms. Life (onward past ms) k.end notes) (sym is) (subst (λ s. Life (and_then past m) s notes) (sym same) on)
 
 -- ---- a step of a set ----
 module _ (net : Net) (sets : SetsOk net) (live : AllLive net) (n : ℕ) (s : SetState) (here : slice_get net.sets n ≡ Some s) (a : Act) (past : Name → List Moment) (all : AllLived past net) (none : NoneLives past net) where
   abbrev After : SetDone → Net
-  After done = record { sets = slice_set net.sets n done.set; book = noted_all net.book (events_at n s.own done.told) }
+  After done = record { sets = slice_set net.sets n done.set; book = with_events net.book (events_at n s.own done.told) }
 
   abbrev st : Step
   st = record { node = n; act = a }
@@ -196,8 +196,8 @@ module _ (net : Net) (sets : SetsOk net) (live : AllLive net) (n : ℕ) (s : Set
   )
 
   heeded_made : (h : Holder) (b : Bool) (d : List ℕ) (g : Effect)
-      → (noted_all net.book (events_at n s.own ((if b then Heeded h.id d ∷ [] else []) ++ told_by s h g))).made ≡ with_notices (record { node = n; id = h.id }) g.notes net.book.made
-  heeded_made h true d g = (told_noted s n s.own h g (noted net.book (record { node = n; own = s.own; told = Heeded h.id d }))).made
+      → (with_events net.book (events_at n s.own ((if b then Heeded h.id d ∷ [] else []) ++ told_by s h g))).made ≡ with_notices (record { node = n; id = h.id }) g.notes net.book.made
+  heeded_made h true d g = (told_noted s n s.own h g (with_event net.book (record { node = n; own = s.own; told = Heeded h.id d }))).made
   heeded_made h false d g = (told_noted s n s.own h g net.book).made
 
   -- ---- an end that was made ----
@@ -223,7 +223,7 @@ module _ (net : Net) (sets : SetsOk net) (live : AllLive net) (n : ℕ) (s : Set
         let is : to ≡ j = same_holder to j (end_at new z) (subst (λ w. end_at new w ≡ Some to) same now) q in
         let note : has_note net.book.made x ≡ true = (live x h was).note in
         let told : told_to c.made x ≡ told_to net.book.made x ++ notes = ap (λ ms. told_to ms x) made ∙ all_noticed x notes net.book.made note in
-        let one : between (end_at net x) (tick_at st x) (end_at new x) ≡ record { was = h.end; tick = tick_at st x; is = e } ∷ [] =
+        let one : moment_between (end_at net x) (tick_at st x) (end_at new x) ≡ record { was = h.end; tick = tick_at st x; is = e } ∷ [] =
         between_is (end_at net x) (end_at new x) (tick_at st x) h to was now ∙ ap (λ (b : Bool). if b then [] else record { was = h.end; tick = tick_at st x; is = e } ∷ []) held in
         let done : Life (next past net st new x) to.end (told_to c.made x) =
         subst (λ ms. Life (onward (past x) ms) e (told_to c.made x)) (sym one) (subst (λ ns. Life (and_then (past x) (record { was = h.end; tick = tick_at st x; is = e })) e ns) (sym told) mine) in
@@ -257,7 +257,7 @@ module _ (net : Net) (sets : SetsOk net) (live : AllLive net) (n : ℕ) (s : Set
 
   moves_so : (h : Holder) (b : Bool) (d : List ℕ) (g : Effect) → end_of h.id s.ends ≡ Some h → h.gone ≡ false → g.end.config.retries ≡ h.end.config.retries → MovedBy a h g → P (goes_to s h (if b then Heeded h.id d ∷ [] else []) g)
   moves_so h b d g there held kept by =
-      let c : Book = noted_all net.book (events_at n s.own ((if b then Heeded h.id d ∷ [] else []) ++ told_by s h g)) in
+      let c : Book = with_events net.book (events_at n s.own ((if b then Heeded h.id d ∷ [] else []) ++ told_by s h g)) in
       let x : Name = record { node = n; id = h.id } in (
         λ z k q. forth_case h g.end (is_over g.end) c g.notes there held (heeded_made h b d g) z k q (same_or x z),
         λ z j q. changed h g.end (is_over g.end) c g.notes there held (heeded_made h b d g) (moved_one h g there kept (own_tick n a h g by)) (λ w far. far_tick n a h g by w far) z j q (same_or x z),
@@ -266,7 +266,7 @@ module _ (net : Net) (sets : SetsOk net) (live : AllLive net) (n : ℕ) (s : Set
   leaves_so : (h : Holder) → end_of h.id s.ends ≡ Some h → h.gone ≡ false → ((z : Name) → tick_at st z ≡ None)
       → P (record { set = record s { ends = with_end (record h { gone = true }) s.ends }; told = Gone h.id (facts_of h.end) ∷ [] })
   leaves_so h there held quiet =
-      let c : Book = noted_all net.book (events_at n s.own (Gone h.id (facts_of h.end) ∷ [])) in
+      let c : Book = with_events net.book (events_at n s.own (Gone h.id (facts_of h.end) ∷ [])) in
       let x : Name = record { node = n; id = h.id } in
       let g : Effect = record { end = h.end; outs = []; notes = [] } in (
         λ z k q. forth_case h h.end true c [] there held refl z k q (same_or x z),
@@ -274,7 +274,7 @@ module _ (net : Net) (sets : SetsOk net) (live : AllLive net) (n : ℕ) (s : Set
       )
 
   -- ---- an end that is made ----
-  makes_so : (at : Callsign) (asked : Option Pair) (request : Option (List ℕ)) (g : Effect) → IsNew s asked request g → ((z : Name) → tick_at st z ≡ None) → P (made s at asked request g)
+  makes_so : (at : Callsign) (asked : Option Pair) (request : Option (List ℕ)) (g : Effect) → IsNew s asked request g → ((z : Name) → tick_at st z ≡ None) → P (makes_end s at asked request g)
   makes_so at asked request g fresh quiet = (
     λ z k q. (k, stepped.old_end net n s here t h c refl refl none_yet z k q),
     λ z j q. by z j q (same_or y z),
@@ -287,13 +287,13 @@ module _ (net : Net) (sets : SetsOk net) (live : AllLive net) (n : ℕ) (s : Set
       y = record { node = n; id = s.number }
 
       t : SetState
-      t = (made s at asked request g).set
+      t = (makes_end s at asked request g).set
 
       b : Book
-      b = noted net.book (record { node = n; own = s.own; told = Made s.number (new_pair s) at request })
+      b = with_event net.book (record { node = n; own = s.own; told = Made s.number (new_pair s) at request })
 
       c : Book
-      c = noted_all b (events_at n s.own (told_by s h g))
+      c = with_events b (events_at n s.own (told_by s h g))
 
       none_yet : end_of s.number s.ends ≡ None
       none_yet = none_of s.number s.ends (sets n s here).below
@@ -310,7 +310,7 @@ module _ (net : Net) (sets : SetsOk net) (live : AllLive net) (n : ℕ) (s : Set
           let is : h ≡ j = same_holder h j (end_at new z) (subst (λ w. end_at new w ≡ Some h) same (stepped.end_here net n s here t h c refl refl none_yet)) q in
           let noted_y : has_note b.made y ≡ true = ap (λ v. v || has_note net.book.made y) (name_itself y) in
           let told : told_to c.made y ≡ g.notes = ap (λ ms. told_to ms y) made_is ∙ all_noticed y g.notes b.made noted_y ∙ ap (λ v. (if v then [] else told_to net.book.made y) ++ g.notes) (name_itself y) in
-          let start : next past net st new y ≡ [] = ap (λ o. onward (past y) (between o (tick_at st y) (end_at new y))) was ∙ none y was in
+          let start : next past net st new y ≡ [] = ap (λ o. onward (past y) (moment_between o (tick_at st y) (end_at new y))) was ∙ none y was in
           let done : Life (next past net st new y) g.end (told_to c.made y) = subst (λ k. Life k g.end (told_to c.made y)) (sym start) (subst (λ ns. Life [] g.end ns) (sym told) (living.begins g fresh.born)) in
           subst (λ w. Life (next past net st new w) j.end (told_to c.made w)) same (subst (λ (i : Holder). Life (next past net st new y) i.end (told_to c.made y)) is done)
       by z j q (inr far) =
@@ -320,7 +320,7 @@ module _ (net : Net) (sets : SetsOk net) (live : AllLive net) (n : ℕ) (s : Set
           (still_lived (past z) (end_at net z) (end_at new z) (tick_at st z) j j (told_to net.book.made z) was q refl (inl (quiet z)) (all z j was))
 
   -- ---- the node starts again ----
-  again_so : (pair : Pair) (more : ℕ) → a ≡ Restart pair more → P (restarted s pair more)
+  again_so : (pair : Pair) (more : ℕ) → a ≡ Restart pair more → P (after_restart s pair more)
   again_so pair more i = (
     λ z k q. (let r = stepped.is_lost_now net n s here pair more c z k (nat_eq z.node n) refl q in (gone_of k r.0, r.1)),
     λ z j q.
@@ -328,12 +328,12 @@ module _ (net : Net) (sets : SetsOk net) (live : AllLive net) (n : ℕ) (s : Set
         let told : told_to c.made z ≡ told_to net.book.made z = ap (λ ms. told_to ms z) made_is in
         let quiet : tick_at st z ≡ None = ap (λ (x : Act). tick_at (record { node = n; act = x }) z) i ∙ either_none (nat_eq n z.node) in
         let end : j.end ≡ (r.0).end = ap (λ (k : Holder). k.end) (sym r.3) in
-        subst (λ ns. Life (next past net st (After (restarted s pair more)) z) j.end ns) (sym told)
+        subst (λ ns. Life (next past net st (After (after_restart s pair more)) z) j.end ns) (sym told)
         (still_lived (past z) (end_at net z) _ (tick_at st z) r.0 j (told_to net.book.made z) r.1 q end (inl quiet) (all z r.0 r.1)),
   )
     where
       c : Book
-      c = noted_all net.book (events_at n s.own (Restarted pair ∷ losses s.ends))
+      c = with_events net.book (events_at n s.own (Restarted pair ∷ losses s.ends))
 
       b : Book
       b = record { places = suc net.book.places; made = net.book.made; sent = net.book.sent; heard = net.book.heard }
@@ -344,7 +344,7 @@ module _ (net : Net) (sets : SetsOk net) (live : AllLive net) (n : ℕ) (s : Set
   every : Every s a P
   every = record {
     rests = λ idle. rests_so net.book refl idle;
-    refuses = λ at pair call quiet. rests_so (noted net.book (record { node = n; own = s.own; told = Sent 0 None (datagram_to s at (Refuse pair)) })) refl (idle_of s a quiet);
+    refuses = λ at pair call quiet. rests_so (with_event net.book (record { node = n; own = s.own; told = Sent 0 None (datagram_to s at (Refuse pair)) })) refl (idle_of s a quiet);
     moves = λ h heeded d g there held same ends says lives asks by. moves_so h heeded d g there held (ap (λ (c : EndConfig). c.retries) same.config) by;
     leaves = λ h there held ended quiet. leaves_so h there held (λ z. no_tick n a quiet z);
     makes = λ at asked request g fresh by asks. makes_so at asked request g fresh (λ z. no_tick n a (made_quiet s a at g.end.role asked request by) z);
@@ -374,11 +374,11 @@ none_lived net st past all e z j q =
     by false f = refl
 
 step_lived : (net : Net) (st : Step) (o : Option SetState) (past : Name → List Moment) → Both net → slice_get net.sets st.node ≡ o → AllLived past net → NoneLives past net
-    → (let new : Net = record { sets = sets_at net.sets st.node o st.act; book = noted_all net.book (told_at net.sets st.node o st.act) } in Forth net new × AllLived (next past net st new) new)
+    → (let new : Net = record { sets = sets_at net.sets st.node o st.act; book = with_events net.book (told_at net.sets st.node o st.act) } in Forth net new × AllLived (next past net st new) new)
 step_lived net st None past b e all none = (λ z h q. (h, q), none_lived net st past all e)
 step_lived net st (Some s) past b e all none = act_lived net b.0 b.1 st.node s e st.act past all none
 
-no_end : (o : Option Holder) (tick : Option ℕ) → between o tick None ≡ []
+no_end : (o : Option Holder) (tick : Option ℕ) → moment_between o tick None ≡ []
 no_end None tick = refl
 no_end (Some h) tick = refl
 
@@ -388,7 +388,7 @@ was_none net new x (Some h) f e q = let r = f x h e in let bad : None ≡ Some r
 
 next_none : (past : Name → List Moment) (net : Net) (st : Step) (new : Net) → Forth net new → NoneLives past net → NoneLives (next past net st new) new
 next_none past net st new f none x e =
-    let still : between (end_at net x) (tick_at st x) (end_at new x) ≡ [] = ap (λ o. between (end_at net x) (tick_at st x) o) e ∙ no_end (end_at net x) (tick_at st x) in
+    let still : moment_between (end_at net x) (tick_at st x) (end_at new x) ≡ [] = ap (λ o. moment_between (end_at net x) (tick_at st x) o) e ∙ no_end (end_at net x) (tick_at st x) in
     ap (onward (past x)) still ∙ none x (was_none net new x (end_at net x) f refl e)
 
 run_lived : (net : Net) (steps : List Step) (past : Name → List Moment) → Both net → AllLived past net → NoneLives past net → AllLived (λ x. onward (past x) (moments net.sets steps x)) (net_run net steps)
@@ -398,7 +398,7 @@ run_lived net (st ∷ sts) past b all none =
     let r = step_lived net st (slice_get net.sets st.node) past b refl all none in
     let later : AllLived (λ x. onward (next past net st new x) (moments new.sets sts x)) (net_run new sts) =
     run_lived new sts (next past net st new) (step_lives net st (slice_get net.sets st.node) b refl) r.1 (next_none past net st new r.0 none) in
-    λ x h e. subst (λ k. Life k h.end (told_to (net_run new sts).book.made x)) (sym (onward_on (past x) (between (end_at net x) (tick_at st x) (end_at new x)) (moments new.sets sts x))) (later x h e)
+    λ x h e. subst (λ k. Life k h.end (told_to (net_run new sts).book.made x)) (sym (onward_on (past x) (moment_between (end_at net x) (tick_at st x) (end_at new x)) (moments new.sets sts x))) (later x h e)
 
 -- by the notes of the book
 abbrev pub RetriesNoted : Type 0

@@ -1,7 +1,7 @@
 -- Partners name each other's nodes.
 use Rattle.std.specs.Prelude.{◌≡◌, List, [], ◌∷◌, slice_get, Option, Some, None, refl}
 use Rattle.std.proofs.Common.{subst, inl, inr}
-use Rattle.circuit_set.specs.Books.{MadeNote, noted_all, partner}
+use Rattle.circuit_set.specs.Books.{MadeNote, with_events, partner}
 use Rattle.circuit_set.specs.Events.{Name}
 use Rattle.circuit_set.specs.NotedRuns.{Net, begins, net_run, net_step}
 use Rattle.circuit_set.specs.Facing.{Faces, PartnersFace}
@@ -14,7 +14,7 @@ use Rattle.circuit_set.proofs.Retries.{Both, start_lives, step_lives}
 
 -- ---- a run ----
 step_case : (net : Net) → Known net → Both net → (st : Step) → IsAct st.act → (o : Option SetState) → slice_get net.sets st.node ≡ o
-    → Known (record { sets = sets_at net.sets st.node o st.act; book = noted_all net.book (told_at net.sets st.node o st.act) })
+    → Known (record { sets = sets_at net.sets st.node o st.act; book = with_events net.book (told_at net.sets st.node o st.act) })
 step_case net k both st is None e = k
 step_case net k both st is (Some s) e = step_known net k st.node s e (both.0 st.node s e) st.act is
 

@@ -9,9 +9,9 @@ use Rattle.circuit_l4.specs.declared.notice.EndNotice.{EndNotice}
 use Rattle.circuit_l4.specs.State.{Effect, Out}
 use Rattle.circuit_l4.specs.Opening.{facts_of}
 use Rattle.circuit_l4.specs.Receiving.{inbox}
-use Rattle.circuit_set.specs.Pairs.{Change, Gives, Giving, Goes, following, gave, given, pairs_given, without}
+use Rattle.circuit_set.specs.Pairs.{Change, Gives, Giving, Goes, pair_after, after_giving, pair_given, pairs_given, without}
 use Rattle.circuit_set.specs.Pairs as pairs
-use Rattle.circuit_set.specs.Sets.{Act, Calls, Comes, Connect, Discard, Restart, Made, Sent, Heeded, Notice, Gone, Restarted, Lost, Holder, SetDone, SetState, Told, all_gone, end_of, held_pairs, holder_of, is_over, made, new_pair, notices, restarted, sents, set_step, settled, told_by, with_end}
+use Rattle.circuit_set.specs.Sets.{Act, Calls, Comes, Connect, Discard, Restart, Made, Sent, Heeded, Notice, Gone, Restarted, Lost, Holder, SetDone, SetState, Told, all_gone, end_of, held_pairs, holder_of, is_over, makes_end, new_pair, notices, after_restart, sendings, set_step, after_effect, told_by, with_end}
 use Rattle.circuit_set.specs.Inputs.{runs}
 use Rattle.circuit_set.specs.Runs.{IsStart}
 use Rattle.circuit_set.specs.Givings.{GivenBy, MadeAreGiven, MadeDiffer, StaysUp, after_changes, giving, pairs_made}
@@ -144,7 +144,7 @@ made_append (Lost id facts ∷ xs) ys = made_append xs ys
 pub none_append : (xs ys : List Told) → pairs_made xs ≡ [] → pairs_made ys ≡ [] → pairs_made (xs ++ ys) ≡ []
 none_append xs ys p q = made_append xs ys ∙ ap (λ ps. ps ++ pairs_made ys) p ∙ q
 
-sents_none : (s : SetState) (id : ℕ) (at : Callsign) (os : List Out) → pairs_made (sents s id at os) ≡ []
+sents_none : (s : SetState) (id : ℕ) (at : Callsign) (os : List Out) → pairs_made (sendings s id at os) ≡ []
 sents_none s id at [] = refl
 sents_none s id at (o ∷ os) = sents_none s id at os
 
@@ -158,8 +158,8 @@ gone_none false t e = refl
 
 pub told_none : (s : SetState) (h : Holder) (g : Effect) → pairs_made (told_by s h g) ≡ []
 told_none s h g =
-    none_append (sents s h.id h.at g.outs ++ notices h.id g.notes) (if is_over g.end then Gone h.id (facts_of g.end) ∷ [] else [])
-    (none_append (sents s h.id h.at g.outs) (notices h.id g.notes) (sents_none s h.id h.at g.outs) (notices_none h.id g.notes)) (gone_none (is_over g.end) (Gone h.id (facts_of g.end)) refl)
+    none_append (sendings s h.id h.at g.outs ++ notices h.id g.notes) (if is_over g.end then Gone h.id (facts_of g.end) ∷ [] else [])
+    (none_append (sendings s h.id h.at g.outs) (notices h.id g.notes) (sents_none s h.id h.at g.outs) (notices_none h.id g.notes)) (gone_none (is_over g.end) (Gone h.id (facts_of g.end)) refl)
 
 -- ---- changes, one after another ----
 given_case : (b : Bool) (cs ds : List Change) (g h : Giving) (p : Pair) → pairs_given (cs ++ ds) g ≡ pairs_given cs g ++ pairs_given ds (after_changes cs g)
@@ -171,7 +171,7 @@ given_case false cs ds g h p e f = ap (λ ps. p ∷ ps) f
 
 given_append : (cs ds : List Change) (g : Giving) → pairs_given (cs ++ ds) g ≡ pairs_given cs g ++ pairs_given ds (after_changes cs g)
 given_append [] ds g = refl
-given_append (Gives ∷ cs) ds g = given_case (pairs.is_full g) cs ds g (gave g) (given g) (given_append cs ds g) (given_append cs ds (gave g))
+given_append (Gives ∷ cs) ds g = given_case (pairs.is_full g) cs ds g (after_giving g) (pair_given g) (given_append cs ds g) (given_append cs ds (after_giving g))
 given_append (Goes nth ∷ cs) ds g = given_append cs ds (record { next = g.next; held = without nth g.held })
 
 after_case : (b : Bool) (cs ds : List Change) (g h : Giving) → after_changes (cs ++ ds) g ≡ after_changes ds (after_changes cs g) → after_changes (cs ++ ds) h ≡ after_changes ds (after_changes cs h)
@@ -181,7 +181,7 @@ after_case false cs ds g h e f = f
 
 after_append : (cs ds : List Change) (g : Giving) → after_changes (cs ++ ds) g ≡ after_changes ds (after_changes cs g)
 after_append [] ds g = refl
-after_append (Gives ∷ cs) ds g = after_case (pairs.is_full g) cs ds g (gave g) (after_append cs ds g) (after_append cs ds (gave g))
+after_append (Gives ∷ cs) ds g = after_case (pairs.is_full g) cs ds g (after_giving g) (after_append cs ds g) (after_append cs ds (after_giving g))
 after_append (Goes nth ∷ cs) ds g = after_append cs ds (record { next = g.next; held = without nth g.held })
 
 held_is : (p : Pair) (xs ys : List Pair) → xs ≡ ys → (let g : Giving = record { next = p; held = xs } in g) ≡ record { next = p; held = ys }
@@ -222,7 +222,7 @@ module _ (s : SetState) (nums : Numbers s) where
       let r : Leaves to (held_pairs (with_end to s.ends)) (held_pairs s.ends) = held_put to h s.ends nums.once (ap (λ i. end_of i s.ends) number ∙ there) lasts same in
       (leaves to.gone r.0 (with_end to s.ends) told r.1 none, put_numbers to)
 
-  new_one : (at : Callsign) (asked : Option Pair) (request : Option (List ℕ)) (g : Effect) → IsNew s asked request g → Fine s (made s at asked request g)
+  new_one : (at : Callsign) (asked : Option Pair) (request : Option (List ℕ)) (g : Effect) → IsNew s asked request g → Fine s (makes_end s at asked request g)
   new_one at asked request g new =
       let h : Holder = holder_of s at asked g in
       let lasts : is_over g.end ≡ false = ap (λ b. b && nat_eq (length (inbox g.end.receiving)) 0) new.lasts in
@@ -230,10 +230,10 @@ module _ (s : SetState) (nums : Numbers s) where
       let up : Below (s.number + 1) s.ends = below_up s.number (s.number + 1) s.ends (omega arith) nums.below in (
         record {
           changes = Gives ∷ [];
-          pairs = ap (λ ps. new_pair s ∷ ps) (told_none s h g) ∙ sym (ap (λ b. if b then [] else given (giving s) ∷ []) fits);
+          pairs = ap (λ ps. new_pair s ∷ ps) (told_none s h g) ∙ sym (ap (λ b. if b then [] else pair_given (giving s) ∷ []) fits);
           stands =
-              held_is (following (new_pair s)) (held_pairs (s.ends ++ h ∷ [])) (held_pairs s.ends ++ new_pair s ∷ []) (held_push h s.ends lasts ∙ ap (λ p. held_pairs s.ends ++ p ∷ []) new.pair)
-              ∙ sym (ap (λ b. if b then giving s else gave (giving s)) fits);
+              held_is (pair_after (new_pair s)) (held_pairs (s.ends ++ h ∷ [])) (held_pairs s.ends ++ new_pair s ∷ []) (held_push h s.ends lasts ∙ ap (λ p. held_pairs s.ends ++ p ∷ []) new.pair)
+              ∙ sym (ap (λ b. if b then giving s else after_giving (giving s)) fits);
         },
         record { below = below_push (s.number + 1) h s.ends (omega arith) up; once = once_push h s.ends nums.below nums.once },
       )
@@ -243,14 +243,14 @@ module _ (s : SetState) (nums : Numbers s) where
     rests = (record { changes = []; pairs = refl; stands = refl }, nums);
     refuses = λ d. (record { changes = []; pairs = refl; stands = refl }, nums);
     moves = λ h b d g there lasts same ends says lives.
-        changed h (settled h g) ((if b then Heeded h.id d ∷ [] else []) ++ told_by s h g) refl there lasts same.pair
+        changed h (after_effect h g) ((if b then Heeded h.id d ∷ [] else []) ++ told_by s h g) refl there lasts same.pair
         (none_append (if b then Heeded h.id d ∷ [] else []) (told_by s h g) (heard_none b h.id d) (told_none s h g));
     leaves = λ h there lasts. changed h (record h { gone = true }) (Gone h.id (facts_of h.end) ∷ []) refl there lasts refl refl;
     makes = new_one;
   }
 
   -- the node starts again
-  again_numbers : (pair : Pair) (more : ℕ) → Numbers (restarted s pair more).set
+  again_numbers : (pair : Pair) (more : ℕ) → Numbers (after_restart s pair more).set
   again_numbers pair more = record {
     below = below_gone (s.number + more) s.ends (below_up s.number (s.number + more) s.ends (omega arith) nums.below);
     once = once_gone s.ends nums.once;

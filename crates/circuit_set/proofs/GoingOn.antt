@@ -16,7 +16,7 @@ use Rattle.circuit_set.specs.declared.event.SetEvent.TheVariants as event
 use Rattle.circuit_set.specs.declared.held_ends.HeldEnds.{HeldEnds}
 use Rattle.circuit_set.specs.declared.holder.Untold.{Untold}
 use Rattle.circuit_set.specs.Sets.{SetState, Told}
-use Rattle.circuit_set.specs.Pumps.{Dropped, Pumped, asks, at_rest, ends_with, is_empty, pumped, silent, tells_first, turned}
+use Rattle.circuit_set.specs.Pumps.{Dropped, Pumped, asks, at_rest, ends_with, is_empty, pump_step, says_nothing, tells_first, turn_step}
 use Rattle.circuit_set.specs.Standing.{Gives, HeldStands}
 use Rattle.circuit_set.specs.CircuitSets.{Circuits, DoesPump, Pumps, SetStands}
 use Rattle.circuit_set.specs.SetTurns.{Asks, Tells}
@@ -29,7 +29,7 @@ is_none_by (Some r) e = absurd (cc e)
 module _ {C : Type 0} (made : C → List CarrierCall → C → Type 0) (none_made : (c : C) → made c [] c) (old : Circuits C) (lost : List Callsign) (waiting : List Parcel) (now : ℕ) where
   -- what a sending came to
   lost_case : (nh : Callsign → Option Callsign) (s : SetState) (ts : List Told) (o : Option Routed) (r : Routed) (ps : List (Parcel × Offered)) (a : Offered) → o ≡ Some r
-      → ends_with [] (record { told = Some (Dropped r); after = record { set = s; untold = ts; lost = None }; items = [] }) ≡ pumped nh now (record { set = s; untold = ts; lost = o }) lost ps a
+      → ends_with [] (record { told = Some (Dropped r); after = record { set = s; untold = ts; lost = None }; items = [] }) ≡ pump_step nh now (record { set = s; untold = ts; lost = o }) lost ps a
   lost_case nh s ts None r ps a e = absurd (cc e)
   lost_case nh s ts (Some x) r ps a e =
       let same : r ≡ x = cc (sym e) in
@@ -53,13 +53,13 @@ module _ {C : Type 0} (made : C → List CarrierCall → C → Type 0) (none_mad
 
   -- what an end tells
   told_case : (nh : Callsign → Option Callsign) (s : SetState) (ts : List Told) (o : Option Routed) (t : Told) (rest : List Told) (ps : List (Parcel × Offered)) (a : Offered) → ts ≡ t ∷ rest → o ≡ None
-      → turned now (tells_first nh s t rest) a ≡ pumped nh now (record { set = s; untold = ts; lost = o }) lost ps a
+      → turn_step now (tells_first nh s t rest) a ≡ pump_step nh now (record { set = s; untold = ts; lost = o }) lost ps a
   told_case nh s ts (Some r) t rest ps a e f = absurd (cc f)
   told_case nh s [] None t rest ps a e f = absurd (cc e)
   told_case nh s (x ∷ xs) None t rest ps a e f =
       let one : t ≡ x = cc (sym e) in
       let two : rest ≡ xs = cc (sym e) in
-      ap (λ y. turned now (tells_first nh s y rest) a) one ∙ ap (λ ys. turned now (tells_first nh s x ys) a) two
+      ap (λ y. turn_step now (tells_first nh s y rest) a) one ∙ ap (λ ys. turn_step now (tells_first nh s x ys) a) two
 
   abbrev mid : HeldEnds → Option Routed → Circuits C
   mid h left = record { router = old.router; held = h; lost = left; spent = old.spent }
@@ -75,8 +75,8 @@ module _ {C : Type 0} (made : C → List CarrierCall → C → Type 0) (none_mad
         let nh = next_hop old.router.table.rules log in
         let x = subst (λ (o : Option Untold). Gives (record { set = w.set; told = w.untold }) o h) is (gives w.set w.untold st.ends) in
         let held : SetStands (mid h left) (record { set = w.set; untold = x.1; lost = None }) = record { ends = x.4; own = st.own; ttl = st.ttl; lost = sym n; unspent = st.unspent } in
-        let y : DoesPump made (mid h left) new log told (turned now (tells_first nh w.set x.0 x.1) tells.0) = tells.1 log w.set x.0 x.1 stands held x.3 in
-        let z : DoesPump made old new log told (turned now (tells_first nh w.set x.0 x.1) tells.0) = record { told = y.told; calls = y.calls; table = y.table; stands = y.stands } in
+        let y : DoesPump made (mid h left) new log told (turn_step now (tells_first nh w.set x.0 x.1) tells.0) = tells.1 log w.set x.0 x.1 stands held x.3 in
+        let z : DoesPump made old new log told (turn_step now (tells_first nh w.set x.0 x.1) tells.0) = record { told = y.told; calls = y.calls; table = y.table; stands = y.stands } in
         subst (λ (p : Pumped). DoesPump made old new log told p) (told_case nh w.set w.untold w.lost x.0 x.1 (all_taken waiting) tells.0 x.2 (st.lost ∙ e)) z,
   )
 
@@ -88,7 +88,7 @@ module _ {C : Type 0} (made : C → List CarrierCall → C → Type 0) (none_mad
 
   -- what comes of the router
   asks_case : (nh : Callsign → Option Callsign) (s : SetState) (ts : List Told) (o : Option Routed) (ps : List (Parcel × Offered)) → ts ≡ [] → o ≡ None
-      → asks nh now s lost ps ≡ pumped nh now (record { set = s; untold = ts; lost = o }) lost ps offered.Taken
+      → asks nh now s lost ps ≡ pump_step nh now (record { set = s; untold = ts; lost = o }) lost ps offered.Taken
   asks_case nh s ts (Some r) ps e f = absurd (cc f)
   asks_case nh s (t ∷ ts) None ps e f = absurd (cc e)
   asks_case nh s [] None ps e f = refl
@@ -121,7 +121,7 @@ module _ {C : Type 0} (made : C → List CarrierCall → C → Type 0) (none_mad
   empty_is (t ∷ ts) e = absurd (cc e)
 
   idle_case : (nh : Callsign → Option Callsign) (s : SetState) (ts : List Told) (o : Option Routed) (ls : List Callsign) → ts ≡ [] → o ≡ None → ls ≡ []
-      → ends_with [] (silent (at_rest s)) ≡ pumped nh now (record { set = s; untold = ts; lost = o }) ls [] offered.Taken
+      → ends_with [] (says_nothing (at_rest s)) ≡ pump_step nh now (record { set = s; untold = ts; lost = o }) ls [] offered.Taken
   idle_case nh s (t ∷ ts) o ls e f g = absurd (cc e)
   idle_case nh s [] (Some r) ls e f g = absurd (cc f)
   idle_case nh s [] None (l ∷ ls) e f g = absurd (cc g)
@@ -136,7 +136,7 @@ module _ {C : Type 0} (made : C → List CarrierCall → C → Type 0) (none_mad
     λ log at stands st.
         let nh = next_hop old.router.table.rules log in
         let none : at.untold ≡ [] = empty_is at.untold (quiet at.set at.untold st.ends) in
-        let done : DoesPump made old old log None (ends_with [] (silent (at_rest at.set))) = record {
+        let done : DoesPump made old old log None (ends_with [] (says_nothing (at_rest at.set))) = record {
           told = refl;
           calls = none_made old.router.carrier;
           table = subst (λ (items : List Item). StandsFor old.router.table items) (sym (append-nil log)) stands;

@@ -18,7 +18,7 @@ use Rattle.circuit_l4.specs.Opening.{facts_of, requesting, responding}
 use Rattle.circuit_l4.specs.Table.{Arrive, step}
 use Rattle.circuit_set.specs.Heeds.{heeds}
 use Rattle.circuit_set.specs.Heedings.{HeedsFor, SetsHeedPartners, pair_named}
-use Rattle.circuit_set.specs.Sets.{Act, Call, Calls, Comes, Connect, Discard, Restart, Gone, Heeded, Holder, Lost, Made, Notice, Restarted, Sent, SetDone, SetState, Told, accept_again, called, datagram_to, discarded, end_of, first_open, goes_to, handed, handed_up, has_ended, holder_of, is_open, input_of, is_full, is_over, losses, made, named_by, new_pair, notices, opened_by, read_as, received, requested_anew, requests, responds, sents, told_by, untold, with_end}
+use Rattle.circuit_set.specs.Sets.{Act, Call, Calls, Comes, Connect, Discard, Restart, Gone, Heeded, Holder, Lost, Made, Notice, Restarted, Sent, SetDone, SetState, Told, accept_again, after_call, datagram_to, after_discarding, end_of, first_open, goes_to, hands_to, after_datagram, has_ended, holder_of, is_open, input_of, is_full, is_over, losses, makes_end, named_by, new_pair, notices, opened_by, read_as, after_transport, after_new_request, requests, responds, sendings, told_by, does_nothing, with_end}
 
 and_both : (a b : Bool) → (a && b) ≡ true → (a ≡ true) × (b ≡ true)
 and_both true b e = (refl, e)
@@ -52,7 +52,7 @@ module _ (s : SetState) (a : Act) where
   both (Restarted pair ∷ xs) ys p q = both xs ys p q
   both (Lost id facts ∷ xs) ys p q = both xs ys p q
 
-  sents_for : (id : ℕ) (at : Callsign) (os : List Out) → For (sents s id at os)
+  sents_for : (id : ℕ) (at : Callsign) (os : List Out) → For (sendings s id at os)
   sents_for id at [] = tt
   sents_for id at (o ∷ os) = sents_for id at os
 
@@ -62,7 +62,7 @@ module _ (s : SetState) (a : Act) where
 
   told_for : (h : Holder) (g : Effect) → For (told_by s h g)
   told_for h g =
-      both (sents s h.id h.at g.outs ++ notices h.id g.notes) _ (both (sents s h.id h.at g.outs) (notices h.id g.notes) (sents_for h.id h.at g.outs) (notices_for h.id g.notes)) (by (is_over g.end))
+      both (sendings s h.id h.at g.outs ++ notices h.id g.notes) _ (both (sendings s h.id h.at g.outs) (notices h.id g.notes) (sents_for h.id h.at g.outs) (notices_for h.id g.notes)) (by (is_over g.end))
     where
       by : (b : Bool) → HeedsFor s a (if b then Gone h.id (facts_of g.end) ∷ [] else [])
       by true = tt
@@ -71,22 +71,22 @@ module _ (s : SetState) (a : Act) where
   goes_for : (h : Holder) (first : List Told) (g : Effect) → For first → For (goes_to s h first g).told
   goes_for h first g p = both first (told_by s h g) p (told_for h g)
 
-  made_for : (at : Callsign) (asked : Option Pair) (request : Option (List ℕ)) (g : Effect) → For (made s at asked request g).told
+  made_for : (at : Callsign) (asked : Option Pair) (request : Option (List ℕ)) (g : Effect) → For (makes_end s at asked request g).told
   made_for at asked request g = told_for (holder_of s at asked g) g
 
-  either_for : (b : Bool) (r : SetDone) → For r.told → For (if b then untold s else r).told
+  either_for : (b : Bool) (r : SetDone) → For r.told → For (if b then does_nothing s else r).told
   either_for true r p = tt
   either_for false r p = p
 
-  called_for : (o : Option Holder) (call : Call) (now : ℕ) → For (called s o call now).told
+  called_for : (o : Option Holder) (call : Call) (now : ℕ) → For (after_call s o call now).told
   called_for None call now = tt
   called_for (Some h) call now = either_for h.gone (goes_to s h [] (step h.end (input_of call) now)) (goes_for h [] (step h.end (input_of call) now) tt)
 
-  discarded_for : (o : Option Holder) → For (discarded s o).told
+  discarded_for : (o : Option Holder) → For (after_discarding s o).told
   discarded_for None = tt
   discarded_for (Some h) = by (not h.gone && has_ended h.end.phase)
     where
-      by : (b : Bool) → HeedsFor s a (if b then record { set = record s { ends = with_end (record h { gone = true }) s.ends }; told = Gone h.id (facts_of h.end) ∷ [] } else untold s).told
+      by : (b : Bool) → HeedsFor s a (if b then record { set = record s { ends = with_end (record h { gone = true }) s.ends }; told = Gone h.id (facts_of h.end) ∷ [] } else does_nothing s).told
       by true = tt
       by false = tt
 
@@ -109,7 +109,7 @@ module _ (s : SetState) (d : List ℕ) (now : ℕ) where
   anew_for origin pair window false = made_for s (Comes d now) origin (Some pair) (Some d) (responding (new_pair s) pair window s.config (min now COUNT_MAX))
 
   requested_for : (origin : Callsign) (pair : Pair) (window : ℕ) (o : Option Holder)
-      → Came (elim o as (λ x. SetDone) [ Some h ↦ goes_to s h [] (accept_again h.end) | None ↦ requested_anew s origin d pair window now ]).told
+      → Came (elim o as (λ x. SetDone) [ Some h ↦ goes_to s h [] (accept_again h.end) | None ↦ after_new_request s origin d pair window now ]).told
   requested_for origin pair window None = anew_for origin pair window (is_full s)
   requested_for origin pair window (Some h) = goes_for s (Comes d now) h [] (accept_again h.end) tt
 
@@ -122,13 +122,13 @@ module _ (s : SetState) (d : List ℕ) (now : ℕ) where
     )
     heeded_for to h false e n f = tt
 
-    arrives_by : (to : Pair) (o : Option Holder) → first_open (named_by head.origin to) s.ends ≡ o → pair_named t ≡ Some to → Came (elim o as (λ x. SetDone) [ Some h ↦ handed s h d t now | None ↦ untold s ]).told
+    arrives_by : (to : Pair) (o : Option Holder) → first_open (named_by head.origin to) s.ends ≡ o → pair_named t ≡ Some to → Came (elim o as (λ x. SetDone) [ Some h ↦ hands_to s h d t now | None ↦ does_nothing s ]).told
     arrives_by to None e n = tt
     arrives_by to (Some h) e n =
         goes_for s (Comes d now) h (if heeds h.end.phase t then Heeded h.id d ∷ [] else []) (step h.end (Arrive t) now)
         (heeded_for to h (heeds h.end.phase t) refl n (open_is (named_by head.origin to) s.ends h e))
 
-  received_for : (head : DatagramHead) → head_at d ≡ Ok head → (t : Transport) → transport_at (drop 15 d) ≡ Ok t → Came (received s head.origin d t now).told
+  received_for : (head : DatagramHead) → head_at d ≡ Ok head → (t : Transport) → transport_at (drop 15 d) ≡ Ok t → Came (after_transport s head.origin d t now).told
   received_for head r (Request pair window user node) c = requested_for head.origin pair window (first_open (opened_by head.origin pair) s.ends)
   received_for head r (Accept to own window) c = arrives_by head r (Accept to own window) c to (first_open (named_by head.origin to) s.ends) refl refl
   received_for head r (Refuse to) c = arrives_by head r (Refuse to) c to (first_open (named_by head.origin to) s.ends) refl refl
@@ -141,7 +141,7 @@ module _ (s : SetState) (d : List ℕ) (now : ℕ) where
   read_for head h (Err why) e = tt
   read_for head h (Ok t) e = received_for head h t e
 
-  came_for : (r : Result DatagramHead DatagramRefusal) → head_at d ≡ r → Came (handed_up s d r now).told
+  came_for : (r : Result DatagramHead DatagramRefusal) → head_at d ≡ r → Came (after_datagram s d r now).told
   came_for (Err why) e = tt
   came_for (Ok head) e =
       either_for s (Comes d now) (same_call head.origin s.own || not (same_call head.dest s.own)) (read_as s head.origin d (transport_at (drop 15 d)) now)

@@ -6,7 +6,7 @@ use Rattle.circuit_l4.specs.declared.transport.Pair.{Pair}
 use Rattle.circuit_set.specs.Givings.{GivenBy, IsUp, after_changes, giving}
 use Rattle.circuit_set.specs.Inputs.{runs}
 use Rattle.circuit_set.specs.Kept.{HoldsFew}
-use Rattle.circuit_set.specs.Pairs.{Change, Gives, Giving, Goes, gave, given, is_full, without}
+use Rattle.circuit_set.specs.Pairs.{Change, Gives, Giving, Goes, after_giving, pair_given, is_full, without}
 use Rattle.circuit_set.specs.Sets.{Act, Calls, Comes, Connect, Discard, Restart, Holder, SetState, all_gone, held_pairs, set_step}
 use Rattle.circuit_set.proofs.Given.{Numbers, runs_given, start_numbers, step_numbers}
 
@@ -18,11 +18,11 @@ without_few (suc n) (p ∷ ps) = omega (arith, without_few n ps)
 abbrev Later : List Change → Type 0
 Later cs = (g : Giving) → length g.held ≤ 64 → length (after_changes cs g).held ≤ 64
 
-gives_few : (b : Bool) (cs : List Change) (g : Giving) → is_full g ≡ b → length g.held ≤ 64 → Later cs → length (if b then after_changes cs g else after_changes cs (gave g)).held ≤ 64
+gives_few : (b : Bool) (cs : List Change) (g : Giving) → is_full g ≡ b → length g.held ≤ 64 → Later cs → length (if b then after_changes cs g else after_changes cs (after_giving g)).held ≤ 64
 gives_few true cs g e few later = later g few
 gives_few false cs g e few later =
     let fewer : length g.held ≤ 63 = grind (arith, nat_tests) in
-    later (gave g) (omega (arith, length-append g.held (given g ∷ []), fewer))
+    later (after_giving g) (omega (arith, length-append g.held (pair_given g ∷ []), fewer))
 
 after_few : (cs : List Change) → Later cs
 after_few [] g few = few

@@ -7,7 +7,7 @@ use Rattle.l3_datagram.specs.declared.datagram.DatagramRefusal.{DatagramRefusal}
 use Rattle.l3_datagram.specs.Datagrams.{head_at}
 use Rattle.circuit_l4.specs.declared.transport.Pair.{Pair}
 use Rattle.circuit_l4.specs.Transports.{pair_at}
-use Rattle.circuit_set.specs.Books.{Book, Fresh, FreshTold, HasRequester, MadeNote, asked_by, empty, first_name, has_sent, if_asked, is_unknown, made_last, noted, partner_in, requester, was_asked}
+use Rattle.circuit_set.specs.Books.{Book, Fresh, FreshTold, HasRequester, MadeNote, asked_by, empty, first_name, has_sent, if_asked, is_unknown, made_last, with_event, partner_in, requester, was_asked}
 use Rattle.circuit_set.specs.Events.{Event, Name, same_name}
 use Rattle.circuit_set.specs.Sets.{Told, Made, Sent, Heeded, Notice, Gone, Restarted, Lost}
 use Rattle.circuit_set.specs.TooLate.{Asks, HasPartner, Joins, Makes, Opens}
@@ -97,7 +97,7 @@ module _ (es : List Event) (fresh : Fresh empty es) (e : Event) where
 -- an event that makes an end for this request, by the end that asks for it
 module _ (es : List Event) (fresh : Fresh empty es) (x : Name) where
   abbrev Joined : Event → Type 0
-  Joined e = ((y : Name) × Joins x y es e × (partner_in (noted (book es) e).made x ≡ Some y)) ⊎ (((y : Name) → Joins x y es e → ⊥) × (partner_in (noted (book es) e).made x ≡ partner_in (book es).made x))
+  Joined e = ((y : Name) × Joins x y es e × (partner_in (with_event (book es) e).made x ≡ Some y)) ⊎ (((y : Name) → Joins x y es e → ⊥) × (partner_in (with_event (book es) e).made x ≡ partner_in (book es).made x))
 
   abbrev asked_note : ℕ → Callsign → ℕ → Pair → Option Name → MadeNote
   asked_note node own id pair by = record { who = record { node = node; id = id }; own = own; pair = pair; partner = by; told = [] }
@@ -194,7 +194,7 @@ is_free es fresh x none = none_case es fresh x none (partner_in (book es).made x
 -- ---- an end that a request has opened ----
 module _ (es : List Event) (fresh : Fresh empty es) (x : Name) where
   abbrev Asked : Event → Type 0
-  Asked e = (((y : Name) × Opens y x es e) × (was_asked (noted (book es) e).made x ≡ true)) ⊎ ((((y : Name) × Opens y x es e) → ⊥) × (was_asked (noted (book es) e).made x ≡ was_asked (book es).made x))
+  Asked e = (((y : Name) × Opens y x es e) × (was_asked (with_event (book es) e).made x ≡ true)) ⊎ ((((y : Name) × Opens y x es e) → ⊥) × (was_asked (with_event (book es) e).made x ≡ was_asked (book es).made x))
 
   and_false : (a : Bool) → (a && false) ≡ false
   and_false true = refl

@@ -13,14 +13,14 @@ use Rattle.circuit_l4.specs.declared.notice.EndNotice.{EndNotice}
 use Rattle.circuit_l4.specs.declared.role.Role.TheVariants.{Responder}
 use Rattle.circuit_l4.specs.State.{Effect, State}
 use Rattle.circuit_l4.specs.Opening.{facts_of}
-use Rattle.circuit_set.specs.Books.{Book, MadeNote, asked_by, has_sent, if_asked, is_unknown, made_last, noted, noted_all, partner, requester}
+use Rattle.circuit_set.specs.Books.{Book, MadeNote, asked_by, has_sent, if_asked, is_unknown, made_last, with_event, with_events, partner, requester}
 use Rattle.circuit_set.specs.Events.{Name}
 use Rattle.circuit_set.specs.NotedRuns.{Net, begins, end_at}
 use Rattle.circuit_set.specs.Facing.{IsCallOf}
 use Rattle.circuit_set.specs.Givings.{IsUp}
 use Rattle.circuit_set.specs.Returning.{CallsDiffer}
 use Rattle.circuit_set.specs.Runs.{AreStarts, IsAct, IsStart, events_at}
-use Rattle.circuit_set.specs.Sets.{Act, Connect, Comes, Calls, Discard, Restart, Made, Sent, Heeded, Gone, Restarted, Holder, SetDone, SetState, datagram_to, end_of, goes_to, has_ended, holder_of, is_over, losses, made, new_pair, restarted, set_step, told_by, with_end}
+use Rattle.circuit_set.specs.Sets.{Act, Connect, Comes, Calls, Discard, Restart, Made, Sent, Heeded, Gone, Restarted, Holder, SetDone, SetState, datagram_to, end_of, goes_to, has_ended, holder_of, is_over, losses, makes_end, new_pair, after_restart, set_step, told_by, with_end}
 use Rattle.circuit_l4.specs.Transports.{pair_at}
 use Rattle.circuit_set.proofs.Acts.{set_self}
 use Rattle.circuit_set.proofs.Asks.{Asks}
@@ -73,7 +73,7 @@ by_sent b d x (Ok head) e = asked_sent b d x (made_last b.made head.origin (pair
 
 module _ (net : Net) (k : Known net) (n : ℕ) (s : SetState) (here : slice_get net.sets n ≡ Some s) (nums : Numbers s) where
   abbrev After : SetDone → Net
-  After done = record { sets = slice_set net.sets n done.set; book = noted_all net.book (events_at n s.own done.told) }
+  After done = record { sets = slice_set net.sets n done.set; book = with_events net.book (events_at n s.own done.told) }
 
   abbrev P : SetDone → Type 0
   P done = Known (After done)
@@ -138,11 +138,11 @@ module _ (net : Net) (k : Known net) (n : ℕ) (s : SetState) (here : slice_get 
 
   -- what a step of an end leaves in the book
   heeded_noted : (h : Holder) (b : Bool) (d : List ℕ) (g : Effect)
-      → (let c : Book = noted_all net.book (events_at n s.own ((if b then Heeded h.id d ∷ [] else []) ++ told_by s h g)) in
+      → (let c : Book = with_events net.book (events_at n s.own ((if b then Heeded h.id d ∷ [] else []) ++ told_by s h g)) in
       let x : Name = record { node = n; id = h.id } in
       (c.made ≡ with_notices x g.notes net.book.made) × ((i : ℕ) × (c.sent ≡ put_sents x i (datagram_to s h.at) g.outs net.book.sent)))
   heeded_noted h true d g =
-      let b : Book = noted net.book (record { node = n; own = s.own; told = Heeded h.id d }) in
+      let b : Book = with_event net.book (record { node = n; own = s.own; told = Heeded h.id d }) in
       let r = told_noted s n s.own h g b in
       (r.made, (b.places, r.sent))
   heeded_noted h false d g = let r = told_noted s n s.own h g net.book in (r.made, (net.book.places, r.sent))
@@ -154,7 +154,7 @@ module _ (net : Net) (k : Known net) (n : ℕ) (s : SetState) (here : slice_get 
       → P (goes_to s h (if heeded then Heeded h.id d ∷ [] else []) g)
   moves_so h heeded d g there held same ends says lives asks =
       let over : Bool = is_over g.end in
-      let c : Book = noted_all net.book (events_at n s.own ((if heeded then Heeded h.id d ∷ [] else []) ++ told_by s h g)) in
+      let c : Book = with_events net.book (events_at n s.own ((if heeded then Heeded h.id d ∷ [] else []) ++ told_by s h g)) in
       let x : Name = record { node = n; id = h.id } in
       let to : Holder = record { id = h.id; at = h.at; asked = h.asked; end = g.end; gone = over } in
       let new : Net = record { sets = slice_set net.sets n (record s { ends = with_end to s.ends }); book = c } in
@@ -174,7 +174,7 @@ module _ (net : Net) (k : Known net) (n : ℕ) (s : SetState) (here : slice_get 
   leaves_so : (h : Holder) → end_of h.id s.ends ≡ Some h → h.gone ≡ false → has_ended h.end.phase ≡ true
       → P (record { set = record s { ends = with_end (record h { gone = true }) s.ends }; told = Gone h.id (facts_of h.end) ∷ [] })
   leaves_so h there held ended =
-      let c : Book = noted_all net.book (events_at n s.own (Gone h.id (facts_of h.end) ∷ [])) in
+      let c : Book = with_events net.book (events_at n s.own (Gone h.id (facts_of h.end) ∷ [])) in
       let to : Holder = record { id = h.id; at = h.at; asked = h.asked; end = h.end; gone = true } in
       let new : Net = record { sets = slice_set net.sets n (record s { ends = with_end to s.ends }); book = c } in
       let ok : EndOk h = k.ends (record { node = n; id = h.id }) h (stepped.end_then net n s here h h.end true c there) in
@@ -208,7 +208,7 @@ module _ (net : Net) (k : Known net) (n : ℕ) (s : SetState) (here : slice_get 
         is = refl;
         by = tt;
       } in
-      beside (noted net.book (record { node = n; own = s.own; told = Sent 0 None (datagram_to s at (Refuse pair)) })) refl (now, k.sent)
+      beside (with_event net.book (record { node = n; own = s.own; told = Sent 0 None (datagram_to s at (Refuse pair)) })) refl (now, k.sent)
 
   -- ---- a new end ----
   module _ (a : Act) (is_act : IsAct a) (at : Callsign) (asked : Option Pair) (request : Option (List ℕ)) (g : Effect) (fresh : IsNew s asked request g) (asks : Asks g.end g.outs) where
@@ -219,13 +219,13 @@ module _ (net : Net) (k : Known net) (n : ℕ) (s : SetState) (here : slice_get 
     y = record { node = n; id = s.number }
 
     abbrev t2 : SetState
-    t2 = (made s at asked request g).set
+    t2 = (makes_end s at asked request g).set
 
     abbrev first : Book
-    first = noted net.book (record { node = n; own = s.own; told = Made s.number (new_pair s) at request })
+    first = with_event net.book (record { node = n; own = s.own; told = Made s.number (new_pair s) at request })
 
     abbrev last : Book
-    last = noted_all first (events_at n s.own (told_by s h2 g))
+    last = with_events first (events_at n s.own (told_by s h2 g))
 
     abbrev new2 : Net
     new2 = record { sets = slice_set net.sets n t2; book = last }
@@ -320,12 +320,12 @@ module _ (net : Net) (k : Known net) (n : ℕ) (s : SetState) (here : slice_get 
   gone_ok : (h : Holder) (b : Bool) → EndOk h → EndOk (gone_of h b)
   gone_ok h b ok = record { at = ok.at; speaks = ok.speaks; asked = ok.asked }
 
-  again_so : (pair : Pair) (more : ℕ) → P (restarted s pair more)
+  again_so : (pair : Pair) (more : ℕ) → P (after_restart s pair more)
   again_so pair more =
-      let t : SetState = (restarted s pair more).set in
-      let c : Book = noted_all net.book (events_at n s.own (Restarted pair ∷ losses s.ends)) in
+      let t : SetState = (after_restart s pair more).set in
+      let c : Book = with_events net.book (events_at n s.own (Restarted pair ∷ losses s.ends)) in
       let b : Book = record { places = suc net.book.places; made = net.book.made; sent = net.book.sent; heard = net.book.heard } in
-      let new : Net = After (restarted s pair more) in
+      let new : Net = After (after_restart s pair more) in
       let made_is : c.made ≡ net.book.made = ap (λ (a : Book). a.made) (noted_losses n s.own s.ends b).2 in
       let sent_is : c.sent ≡ net.book.sent = ap (λ (a : Book). a.sent) (noted_losses n s.own s.ends b).2 in
       let f : Forth net new = record {

@@ -5,12 +5,12 @@ use Rattle.ax_address.specs.Callsign.{Callsign}
 use Rattle.circuit_l4.specs.declared.transport.Pair.{Pair}
 use Rattle.circuit_l4.specs.State.{Effect, State}
 use Rattle.circuit_l4.specs.Receiving.{inbox}
-use Rattle.circuit_set.specs.Books.{Book, noted_all}
+use Rattle.circuit_set.specs.Books.{Book, with_events}
 use Rattle.circuit_set.specs.Events.{Name}
 use Rattle.circuit_set.specs.NotedRuns.{Net, begins, end_at}
 use Rattle.circuit_set.specs.Givings.{IsUp}
 use Rattle.circuit_set.specs.Runs.{AreStarts, events_at}
-use Rattle.circuit_set.specs.Sets.{Act, Holder, SetDone, SetState, end_of, has_ended, holder_of, is_over, made, set_step, with_end}
+use Rattle.circuit_set.specs.Sets.{Act, Holder, SetDone, SetState, end_of, has_ended, holder_of, is_over, makes_end, set_step, with_end}
 use Rattle.circuit_set.proofs.Acts.{set_self}
 use Rattle.circuit_set.proofs.Cases.{step_every}
 use Rattle.circuit_set.proofs.Given.{Numbers, none_of, one}
@@ -35,7 +35,7 @@ over_ended e o = and_first (has_ended e.phase) (nat_eq (length (inbox e.receivin
 
 module _ (net : Net) (k : GoneEnded net) (n : ℕ) (s : SetState) (here : slice_get net.sets n ≡ Some s) (nums : Numbers s) where
   abbrev P : SetDone → Type 0
-  P done = GoneEnded (record { sets = slice_set net.sets n done.set; book = noted_all net.book (events_at n s.own done.told) })
+  P done = GoneEnded (record { sets = slice_set net.sets n done.set; book = with_events net.book (events_at n s.own done.told) })
 
   stays : (c : Book) → GoneEnded (record { sets = slice_set net.sets n s; book = c })
   stays c = let now : GoneEnded (record { sets = net.sets; book = c }) = k in subst (λ ss. GoneEnded (record { sets = ss; book = c })) (sym (set_self net.sets n s here)) now
@@ -64,7 +64,7 @@ module _ (net : Net) (k : GoneEnded net) (n : ℕ) (s : SetState) (here : slice_
     y = record { node = n; id = s.number }
 
     abbrev t : SetState
-    t = (made s at asked request g).set
+    t = (makes_end s at asked request g).set
 
     abbrev after : Net
     after = record { sets = slice_set net.sets n t; book = c }

@@ -14,7 +14,7 @@ use Rattle.circuit_set.specs.declared.held_ends.HeldEnds.{HeldEnds}
 use Rattle.circuit_set.specs.Sets as sets
 use Rattle.circuit_set.specs.Sets.{SetState, Told, end_of}
 use Rattle.circuit_set.specs.Pumps.{Waiting, at_rest}
-use Rattle.circuit_set.specs.Inputs.{ticked, ticks, ticks_of}
+use Rattle.circuit_set.specs.Inputs.{after_ticks, ticks, ticks_of}
 use Rattle.circuit_set.specs.Standing.{Held, HeldStands, Rests, SameNode}
 use Rattle.circuit_set.specs.CircuitSets.{Circuits, Goes, IsDrained, IsUnchanged, LentStands, SetStands, facts_at, held_by, held_ids, partner_at, requested_at}
 use Rattle.circuit_set.proofs.Shown.{FoundAt, Shown, find, ids, keys, miss, shown}
@@ -143,11 +143,11 @@ unchanged_on old h (Ok x) same e = e
 unchanged_on old h (Err x) same e = unchanged old h same e
 
 -- ---- a tick ----
-pub ticks_goes : {C : Type 0} (old : Circuits C) (h : HeldEnds) (now : ℕ) → ((s : SetState) → HeldStands old.held s [] → HeldStands h (ticked now s).set (ticked now s).told)
+pub ticks_goes : {C : Type 0} (old : Circuits C) (h : HeldEnds) (now : ℕ) → ((s : SetState) → HeldStands old.held s [] → HeldStands h (after_ticks now s).set (after_ticks now s).told)
     → Goes old (record old { held = h }) (λ s. ticks now (at_rest s))
 ticks_goes old h now goes = record {
   stands = λ s st.
-      let same : SameOwn s (ticked now s).set = runs_own (ticks_of now s.ends) s in
+      let same : SameOwn s (after_ticks now s).set = runs_own (ticks_of now s.ends) s in
       record { ends = goes s st.ends; own = same.own ∙ st.own; ttl = same.ttl ∙ st.ttl; lost = st.lost; unspent = st.unspent };
   router = refl;
 }

@@ -19,7 +19,7 @@ use Rattle.l3_datagram.specs.Hops.{Way, Ends, ToNeighbour, forwarded_by, way}
 use Rattle.l3_datagram.specs.Routers.{SameRouter, waiting_left}
 use Rattle.circuit_set.specs.declared.event.SetEvent.{SetEvent}
 use Rattle.circuit_set.specs.Sets.{SetState, Told, Made, Sent, Heeded, Notice, Gone, Restarted, Lost}
-use Rattle.circuit_set.specs.Pumps.{Pumped, Turn, Turned, Waiting, after_calls, asks, at_rest, ends_with, heard_as, hears, hears_by, is_drained, outcome, sent_by_head, sent_to, takes, takes_all, tells, tells_first, turned}
+use Rattle.circuit_set.specs.Pumps.{Pumped, Turn, Turned, Waiting, after_calls, asks, at_rest, ends_with, heard_as, hears, hears_by, is_drained, outcome, sent_by_head, sent_to, takes, takes_all, tells, tells_first, turn_step}
 use Rattle.circuit_set.specs.Standing.{Rests}
 use Rattle.circuit_set.specs.CircuitSets.{Circuits, DoesPump, SetStands, untold_by}
 use Rattle.circuit_set.specs.SetTurns.{Asks, AsksOnce, IsAsked, Onward, SoFar, asks_once}
@@ -61,14 +61,14 @@ module _ (nh : Callsign → Option Callsign) where
   drained_is s [] None e = refl
   drained_is s (t ∷ ts) None e = absurd (cc e)
 
-  quiet_case : (now : ℕ) (u : Turned) (answer : Offered) (b : Bool) → is_drained u.after ≡ b → u.told ≡ None → u.items ≡ [] → (if b then ends_with [] u else turned now (tells nh u.after) answer).told ≡ None
-      → Silent (if b then ends_with [] u else turned now (tells nh u.after) answer)
+  quiet_case : (now : ℕ) (u : Turned) (answer : Offered) (b : Bool) → is_drained u.after ≡ b → u.told ≡ None → u.items ≡ [] → (if b then ends_with [] u else turn_step now (tells nh u.after) answer).told ≡ None
+      → Silent (if b then ends_with [] u else turn_step now (tells nh u.after) answer)
   quiet_case now u answer true d n i e = record { after = drained_is u.after.set u.after.untold u.after.lost d; items = i }
   quiet_case now u answer false d n i e = absurd (turn_speaks u.after.set u.after.untold u.after.lost answer d e)
 
   on_case : (now : ℕ) (u : Turned) (answer : Offered) (o : Option _) → u.told ≡ o → u.items ≡ []
-      → (elim o as (λ x. Pumped) [ Some told ↦ ends_with [] u | None ↦ (if is_drained u.after then ends_with [] u else turned now (tells nh u.after) answer) ]).told ≡ None
-      → Silent (elim o as (λ x. Pumped) [ Some told ↦ ends_with [] u | None ↦ (if is_drained u.after then ends_with [] u else turned now (tells nh u.after) answer) ])
+      → (elim o as (λ x. Pumped) [ Some told ↦ ends_with [] u | None ↦ (if is_drained u.after then ends_with [] u else turn_step now (tells nh u.after) answer) ]).told ≡ None
+      → Silent (elim o as (λ x. Pumped) [ Some told ↦ ends_with [] u | None ↦ (if is_drained u.after then ends_with [] u else turn_step now (tells nh u.after) answer) ])
   on_case now u answer (Some told) f i e = let z : Some told ≡ None = sym f ∙ e in absurd (cc z)
   on_case now u answer None f i e = quiet_case now u answer (is_drained u.after) refl f i e
 

@@ -11,7 +11,7 @@ use Rattle.circuit_l4.specs.State.{Effect, State}
 use Rattle.circuit_l4.specs.Standing.{EndView, Stands, StandsFor}
 use Rattle.circuit_set.specs.declared.holder.Holder.{Holder}
 use Rattle.circuit_set.specs.declared.held_ends.HeldEnds.{HeldEnds}
-use Rattle.circuit_set.specs.Pairs.{following, next_free}
+use Rattle.circuit_set.specs.Pairs.{pair_after, next_free}
 use Rattle.circuit_set.specs.Sets as sets
 use Rattle.circuit_set.specs.declared.event.SetEvent.TheVariants as event
 use Rattle.circuit_set.specs.declared.holder.Untold.TheVariants as untold
@@ -20,7 +20,7 @@ use Rattle.arrayvec.specs.ArrayVec.{ArrayVec}
 use Rattle.circuit_l4.specs.Opening.{facts_of, requesting, responding}
 use Rattle.circuit_l4.specs.declared.config.EndConfig.{EndConfig}
 use Rattle.indexmap.proofs.CallerLemmas.{insert_entry-new}
-use Rattle.circuit_set.specs.Standing.{FirstFit, Gives, Held, HeldStands, Here, Holds, Keeps, MetBy, counted, Past, if_so, of_holder, pairs_of, sents_by}
+use Rattle.circuit_set.specs.Standing.{FirstFit, Gives, Held, HeldStands, Here, Holds, Keeps, MetBy, capped_count, Past, if_so, of_holder, pairs_of, sents_by}
 use Rattle.circuit_l4.specs.declared.transport.Transport.TheVariants.{Accept, Refuse}
 use Rattle.circuit_set.proofs.Holding.{At, at, some_is, stood}
 use Rattle.circuit_set.proofs.Searching.{Fitting, fitting, unfitting}
@@ -180,12 +180,12 @@ module _ (c c2 : HeldEnds) (k : Holder) (x : Holds k c c2) (s : SetState) (st : 
       let fresh : lookup (nat_eq c.number) c.ends.entries ≡ None = subst (λ n. lookup (nat_eq n) c.ends.entries ≡ None) st.number b.fresh in
       x.ends ∙ insert_entry-new nat_eq c.ends c.number k fresh ∙ ap (λ (n : ℕ). c.ends.entries ++ (n, k) ∷ []) (sym st.number)
 
-  pub made_held : (request : Option (List ℕ)) → HeldStands c2 (sets.made s k.at k.asked request g).set (untold_first k.unannounced)
+  pub made_held : (request : Option (List ℕ)) → HeldStands c2 (sets.makes_end s k.at k.asked request g).set (untold_first k.unannounced)
   made_held request = record {
     own = st.own ∙ sym x.own;
     user = st.user ∙ sym x.user;
     config = st.config ∙ sym x.config;
-    next = ap following (sym pair) ∙ sym x.next;
+    next = ap pair_after (sym pair) ∙ sym x.next;
     number = ap (λ n. n + 1) st.number ∙ sym x.number;
     ends =
         let held : Held s.own s.ttl (suc s.number) 0 (c.ends.entries ++ (s.number, k) ∷ []) (s.ends ++ h ∷ []) (untold_first k.unannounced) =
@@ -195,23 +195,23 @@ module _ (c c2 : HeldEnds) (k : Holder) (x : Holds k c c2) (s : SetState) (st : 
   }
 
   -- its making is untold, too
-  pub made_quietly : k.unannounced ≡ true → k.asked ≡ None → HeldStands c2 (sets.made s k.at None None g).set (sets.made s k.at None None g).told
+  pub made_quietly : k.unannounced ≡ true → k.asked ≡ None → HeldStands c2 (sets.makes_end s k.at None None g).set (sets.makes_end s k.at None None g).told
   made_quietly u a =
-      let told : untold_first k.unannounced ≡ (sets.made s k.at None None g).told = ap untold_first u ∙ ap (λ (p : Pair). sets.Made s.number p k.at None ∷ told_by s h g) pair ∙ ap (λ (o : Option Pair). sets.Made s.number (sets.new_pair s) k.at None ∷ told_by s (sets.holder_of s k.at o g) g) a in
-      subst (λ ts. HeldStands c2 (sets.made s k.at None None g).set ts) told (subst (λ (o : Option Pair). HeldStands c2 (sets.made s k.at o None g).set (untold_first k.unannounced)) a (made_held None))
+      let told : untold_first k.unannounced ≡ (sets.makes_end s k.at None None g).told = ap untold_first u ∙ ap (λ (p : Pair). sets.Made s.number p k.at None ∷ told_by s h g) pair ∙ ap (λ (o : Option Pair). sets.Made s.number (sets.new_pair s) k.at None ∷ told_by s (sets.holder_of s k.at o g) g) a in
+      subst (λ ts. HeldStands c2 (sets.makes_end s k.at None None g).set ts) told (subst (λ (o : Option Pair). HeldStands c2 (sets.makes_end s k.at o None g).set (untold_first k.unannounced)) a (made_held None))
 
   -- its making is told
   pub made_aloud : (q : Pair) (d : ArrayVec ℕ) → k.unannounced ≡ false → k.asked ≡ Some q → (id : ℕ) → id ≡ c.number
-      → Gives (sets.made s k.at (Some q) (Some d.items) g) (Some (untold.Event (event.Made id k.pair k.at (Some d)))) c2
+      → Gives (sets.makes_end s k.at (Some q) (Some d.items) g) (Some (untold.Event (event.Made id k.pair k.at (Some d)))) c2
   made_aloud q d u a id e =
       let same : Some (sets.Made id k.pair k.at (Some d.items)) ≡ Some (sets.Made s.number (sets.new_pair s) k.at (Some d.items)) =
       ap (λ (n : ℕ). Some (sets.Made n k.pair k.at (Some d.items))) (e ∙ sym st.number) ∙ ap (λ (p : Pair). Some (sets.Made s.number p k.at (Some d.items))) pair in
-      let held : HeldStands c2 (sets.made s k.at k.asked (Some d.items) g).set (told_by s h g) = subst (λ ts. HeldStands c2 (sets.made s k.at k.asked (Some d.items) g).set ts) (ap untold_first u) (made_held (Some d.items)) in (
+      let held : HeldStands c2 (sets.makes_end s k.at k.asked (Some d.items) g).set (told_by s h g) = subst (λ ts. HeldStands c2 (sets.makes_end s k.at k.asked (Some d.items) g).set ts) (ap untold_first u) (made_held (Some d.items)) in (
         sets.Made s.number (sets.new_pair s) k.at (Some d.items),
         told_by s (sets.holder_of s k.at (Some q) g) g,
         refl,
         same,
-        subst (λ (o : Option Pair). HeldStands c2 (sets.made s k.at o (Some d.items) g).set (told_by s (sets.holder_of s k.at o g) g)) a held,
+        subst (λ (o : Option Pair). HeldStands c2 (sets.makes_end s k.at o (Some d.items) g).set (told_by s (sets.holder_of s k.at o g) g)) a held,
       )
 
 abbrev as_requester : Pair → Callsign → EndView → Holder
@@ -226,14 +226,14 @@ pub requests_held : (c c2 : HeldEnds) (k : Holder) (e : EndView) (node : Callsig
 requests_held c c2 k e node now p is holds stands pair = λ s st.
     let g : Effect = requesting p c.user c.own c.config (min now COUNT_MAX) in
     let x : Holds (as_requester p node e) c c2 = subst (λ (y : Holder). Holds y c c2) is holds in
-    let held : HeldStands c2 (sets.made s node None None g).set (sets.made s node None None g).told =
+    let held : HeldStands c2 (sets.makes_end s node None None g).set (sets.makes_end s node None None g).told =
     made_quietly c c2 (as_requester p node e) x s st g stands refl refl refl (pair s st) refl tt refl refl in
     let same : g ≡ requesting (sets.new_pair s) s.user s.own s.config (min now COUNT_MAX) =
     ap (λ (q : Pair). requesting q c.user c.own c.config (min now COUNT_MAX)) (pair s st)
     ∙ ap (λ (u : Callsign). requesting (sets.new_pair s) u c.own c.config (min now COUNT_MAX)) (sym st.user)
     ∙ ap (λ (o : Callsign). requesting (sets.new_pair s) s.user o c.config (min now COUNT_MAX)) (sym st.own)
     ∙ ap (λ (f : EndConfig). requesting (sets.new_pair s) s.user s.own f (min now COUNT_MAX)) (sym st.config) in
-    subst (λ (y : Effect). HeldStands c2 (sets.made s node None None y).set (sets.made s node None None y).told) same held
+    subst (λ (y : Effect). HeldStands c2 (sets.makes_end s node None None y).set (sets.makes_end s node None None y).told) same held
 
 pub responds_gives : (c c2 : HeldEnds) (k : Holder) (e : EndView) (origin : Callsign) (d : ArrayVec ℕ) (now window : ℕ) (p q : Pair) (id : ℕ) → k ≡ as_responder p origin q e → Holds k c c2 → id ≡ c.number
     → Stands e (responding p q window c.config (min now COUNT_MAX)) → ((s : SetState) → HeldStands c s [] → p ≡ sets.new_pair s)
@@ -241,11 +241,11 @@ pub responds_gives : (c c2 : HeldEnds) (k : Holder) (e : EndView) (origin : Call
 responds_gives c c2 k e origin d now window p q id is holds number stands pair = λ s st.
     let g : Effect = responding p q window c.config (min now COUNT_MAX) in
     let x : Holds (as_responder p origin q e) c c2 = subst (λ (y : Holder). Holds y c c2) is holds in
-    let gives : Gives (sets.made s origin (Some q) (Some d.items) g) (Some (untold.Event (event.Made id p origin (Some d)))) c2 =
+    let gives : Gives (sets.makes_end s origin (Some q) (Some d.items) g) (Some (untold.Event (event.Made id p origin (Some d)))) c2 =
     made_aloud c c2 (as_responder p origin q e) x s st g stands refl refl refl (pair s st) refl (refl, refl) q d refl refl id number in
     let same : g ≡ responding (sets.new_pair s) q window s.config (min now COUNT_MAX) =
     ap (λ (r : Pair). responding r q window c.config (min now COUNT_MAX)) (pair s st) ∙ ap (λ (f : EndConfig). responding (sets.new_pair s) q window f (min now COUNT_MAX)) (sym st.config) in
-    subst (λ (y : Effect). Gives (sets.made s origin (Some q) (Some d.items) y) (Some (untold.Event (event.Made id p origin (Some d)))) c2) same gives
+    subst (λ (y : Effect). Gives (sets.makes_end s origin (Some q) (Some d.items) y) (Some (untold.Event (event.Made id p origin (Some d)))) c2) same gives
 
 -- ---- the Accept again ----
 both_true : (a b : Bool) → (a && b) ≡ true → (a ≡ true) × (b ≡ true)
@@ -267,12 +267,12 @@ again_told : (s : SetState) (h : sets.Holder) → is_over h.end ≡ false → to
 again_told s h e = simp e refl
 
 again_case : (c : HeldEnds) (id : ℕ) (k : Holder) → lookup (nat_eq id) c.ends.entries ≡ Some k → (q : Pair) (w : ℕ) (s : SetState) (g : Effect) → Stands k.end g → g.end.pair ≡ k.pair
-    → k.taken ≡ counted g.end.receiving.taken → MetBy k.asked g.end → IsQuiet k g → w ≡ g.end.window → (h : sets.Holder) → h ≡ of_holder id k g → HeldStands c s []
+    → k.taken ≡ capped_count g.end.receiving.taken → MetBy k.asked g.end → IsQuiet k g → w ≡ g.end.window → (h : sets.Holder) → h ≡ of_holder id k g → HeldStands c s []
     → (a : At s.own s.ttl s.number 0 id c.ends.entries s.ends []) → a.h ≡ h → a.theirs ≡ [] → a.before ≡ [] → sets.asked_with h.asked q ≡ true
     → Gives (sets.goes_to s h [] (sets.accept_again h.end)) (Some (untold.Out id None k.at (Accept q k.pair w))) c
 again_case c id k found q w s g stands pair taken met quiet_k window h is st a same_h none_after none_before asked =
     let y : sets.Holder = of_holder id k g in
-    let h2 : sets.Holder = sets.settled y (sets.accept_again g.end) in
+    let h2 : sets.Holder = sets.after_effect y (sets.accept_again g.end) in
     let keep2 : Keeps s.own s.ttl id k h2 [] = record { going = g; stands = stands; is = simp quiet_k.kept refl; pair = pair; taken = taken; met = met; untold = simp (quiet_k.announced, quiet_k.kept, quiet_k.stays, quiet_k.outs, quiet_k.notes) refl } in
     let put = a.put k h2 [] refl keep2 in
     let empty : a.before ++ [] ++ a.theirs ≡ [] = rw (none_before, none_after) refl in
@@ -308,7 +308,7 @@ accepts_again c id k found q w window s h st is held asked =
 
 -- ---- a request ----
 pub refuses : (c : HeldEnds) (s : SetState) → HeldStands c s [] → (origin : Callsign) (d : List ℕ) (pair : Pair) (window now : ℕ) (b : Bool) → b ≡ true → b ≡ sets.is_full s
-    → Gives (sets.requested_anew s origin d pair window now) (Some (untold.Out 0 None origin (Refuse pair))) c
+    → Gives (sets.after_new_request s origin d pair window now) (Some (untold.Out 0 None origin (Refuse pair))) c
 refuses c s st origin d pair window now b t e = by (sets.is_full s) (sym e ∙ t)
   where
     by : (v : Bool) → v ≡ true → Gives (if v then record { set = s; told = sets.Sent 0 None (sets.datagram_to s origin (Refuse pair)) ∷ [] } else sets.responds s origin d pair window now) (Some (untold.Out 0 None origin (Refuse pair))) c
@@ -316,7 +316,7 @@ refuses c s st origin d pair window now b t e = by (sets.is_full s) (sym e ∙ t
     by false f = absurd (cc f)
 
 pub answers_anew : (c2 : HeldEnds) (s : SetState) (origin : Callsign) (d : List ℕ) (pair : Pair) (window now : ℕ) (r : Option Untold) (b : Bool) → b ≡ false → b ≡ sets.is_full s
-    → Gives (sets.responds s origin d pair window now) r c2 → Gives (sets.requested_anew s origin d pair window now) r c2
+    → Gives (sets.responds s origin d pair window now) r c2 → Gives (sets.after_new_request s origin d pair window now) r c2
 answers_anew c2 s origin d pair window now r b t e g = by (sets.is_full s) (sym e ∙ t)
   where
     by : (v : Bool) → v ≡ false → Gives (if v then record { set = s; told = sets.Sent 0 None (sets.datagram_to s origin (Refuse pair)) ∷ [] } else sets.responds s origin d pair window now) r c2
@@ -325,22 +325,22 @@ answers_anew c2 s origin d pair window now r b t e g = by (sets.is_full s) (sym 
 
 pub requested_again : (c c2 : HeldEnds) (s : SetState) (origin : Callsign) (d : List ℕ) (pair : Pair) (window now id : ℕ) (r : Option Untold) → HeldStands c s [] → FirstFit (sets.opened_by origin pair) (Some id) c.ends.entries
     → ((h : sets.Holder) → end_of id s.ends ≡ Some h → h.gone ≡ false → sets.asked_with h.asked pair ≡ true → Gives (sets.goes_to s h [] (sets.accept_again h.end)) r c2)
-    → Gives (sets.requested s origin d pair window now) r c2
+    → Gives (sets.after_request s origin d pair window now) r c2
 requested_again c c2 s origin d pair window now id r st f gives =
     let x : Fitting s.own s.ttl (sets.opened_by origin pair) 0 id s.ends = fitting s.own s.ttl (sets.opened_by origin pair) s.number 0 id c.ends.entries s.ends [] st.ends f in
     some_case (sets.first_open (sets.opened_by origin pair) s.ends) x.h x.first (gives x.h x.end x.held (both_true (sets.asked_with x.h.asked pair) (same_call x.h.at origin) x.passes).0)
   where
     some_case : (o : Option sets.Holder) (h : sets.Holder) → o ≡ Some h → Gives (sets.goes_to s h [] (sets.accept_again h.end)) r c2
-        → Gives (elim o as (λ x. sets.SetDone) [ Some h ↦ sets.goes_to s h [] (sets.accept_again h.end) | None ↦ sets.requested_anew s origin d pair window now ]) r c2
+        → Gives (elim o as (λ x. sets.SetDone) [ Some h ↦ sets.goes_to s h [] (sets.accept_again h.end) | None ↦ sets.after_new_request s origin d pair window now ]) r c2
     some_case None h e g = absurd (cc e)
     some_case (Some y) h e g = let same : h ≡ y = cc (sym e) in subst (λ (y : sets.Holder). Gives (sets.goes_to s y [] (sets.accept_again y.end)) r c2) same g
 
 pub requested_first : (c c2 : HeldEnds) (s : SetState) (origin : Callsign) (d : List ℕ) (pair : Pair) (window now : ℕ) (r : Option Untold) → HeldStands c s [] → FirstFit (sets.opened_by origin pair) None c.ends.entries
-    → Gives (sets.requested_anew s origin d pair window now) r c2 → Gives (sets.requested s origin d pair window now) r c2
+    → Gives (sets.after_new_request s origin d pair window now) r c2 → Gives (sets.after_request s origin d pair window now) r c2
 requested_first c c2 s origin d pair window now r st f gives =
     none_case (sets.first_open (sets.opened_by origin pair) s.ends) (unfitting s.own s.ttl (sets.opened_by origin pair) s.number 0 c.ends.entries s.ends [] st.ends f)
   where
     none_case : (o : Option sets.Holder) → o ≡ None
-        → Gives (elim o as (λ x. sets.SetDone) [ Some h ↦ sets.goes_to s h [] (sets.accept_again h.end) | None ↦ sets.requested_anew s origin d pair window now ]) r c2
+        → Gives (elim o as (λ x. sets.SetDone) [ Some h ↦ sets.goes_to s h [] (sets.accept_again h.end) | None ↦ sets.after_new_request s origin d pair window now ]) r c2
     none_case None e = gives
     none_case (Some h) e = absurd (cc e)

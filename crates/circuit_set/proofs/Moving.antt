@@ -18,14 +18,14 @@ use Rattle.circuit_set.specs.declared.event.DiscardRefusal.TheVariants as discar
 use Rattle.circuit_set.specs.declared.holder.Holder.{Holder}
 use Rattle.circuit_set.specs.declared.held_ends.HeldEnds.{HeldEnds}
 use Rattle.circuit_set.specs.Sets as sets
-use Rattle.circuit_set.specs.Sets.{Call, Writes, Ticks, Closes, Takes, untold, SetDone, SetState, Told, called, datagram_to, end_of, goes_to, input_of, is_over, notices, sents, settled, told_by, with_end}
-use Rattle.circuit_set.specs.Standing.{Goes, SameNode, Held, HeldStands, Keeps, Rests, MetBy, counted, by_write, close_answer, discard_answer, message_at, take_answer, write_answer, if_so, of_holder, sents_by, untold_of}
+use Rattle.circuit_set.specs.Sets.{Call, Writes, Ticks, Closes, Takes, does_nothing, SetDone, SetState, Told, after_call, datagram_to, end_of, goes_to, input_of, is_over, notices, sendings, after_effect, told_by, with_end}
+use Rattle.circuit_set.specs.Standing.{Goes, SameNode, Held, HeldStands, Keeps, Rests, MetBy, capped_count, by_write, close_answer, discard_answer, message_at, take_answer, write_answer, if_so, of_holder, sents_by, untold_of}
 use Rattle.circuit_set.proofs.Sends.{Named}
 use Rattle.circuit_set.proofs.Acts.{call_names}
 use Rattle.circuit_set.proofs.Meeting.{asked_step}
 use Rattle.circuit_set.proofs.Holding.{At, at, missing, some_is, stood}
 
-pub sents_is : (s : SetState) (id : ℕ) (to : Callsign) (os : List Out) → sents s id to os ≡ sents_by s.own s.ttl id to os
+pub sents_is : (s : SetState) (id : ℕ) (to : Callsign) (os : List Out) → sendings s id to os ≡ sents_by s.own s.ttl id to os
 sents_is s id to [] = refl
 sents_is s id to (o ∷ os) = ap (λ ts. sets.Sent id o.1 (datagram_to s to o.0) ∷ ts) (sents_is s id to os)
 
@@ -70,8 +70,8 @@ quiet own ttl id k g e =
     record { announced = no_told k.unannounced _ one.0; kept = last.0; stays = last.1; outs = no_outs own ttl id k.at g.outs one.1; notes = no_notes id g.notes two.1 }
 
 module _ (s : SetState) (id : ℕ) (k : Holder) (g : Effect) (e2 : EndView) (n : ℕ) (g2 : Effect) where
-  pub moved_keeps : IsQuiet k g → Stands e2 g2 → g2.end.pair ≡ k.pair → n ≡ counted g2.end.receiving.taken → MetBy k.asked g2.end
-      → Keeps s.own s.ttl id (record k { end = e2; taken = n }) (settled (of_holder id k g) g2) (told_by s (of_holder id k g) g2)
+  pub moved_keeps : IsQuiet k g → Stands e2 g2 → g2.end.pair ≡ k.pair → n ≡ capped_count g2.end.receiving.taken → MetBy k.asked g2.end
+      → Keeps s.own s.ttl id (record k { end = e2; taken = n }) (after_effect (of_holder id k g) g2) (told_by s (of_holder id k g) g2)
   moved_keeps q st p t m = record {
     going = g2;
     stands = st;
@@ -95,7 +95,7 @@ pub record Stood (s : SetState) (id : ℕ) (k : Holder) : Type 0 where
   pub g : Effect
   pub is : end_of id s.ends ≡ Some (of_holder id k g)
   pub stands : Stands k.end g
-  pub taken : k.taken ≡ counted g.end.receiving.taken
+  pub taken : k.taken ≡ capped_count g.end.receiving.taken
   pub quiet : IsQuiet k g
 
 pub stood_at : (c : HeldEnds) (id : ℕ) (k : Holder) → lookup (nat_eq id) c.ends.entries ≡ Some k → (s : SetState) → HeldStands c s [] → Stood s id k
@@ -124,10 +124,10 @@ module _ (c c2 : HeldEnds) (id : ℕ) (k : Holder) (e2 : EndView) (n : ℕ) (sam
     pub is : end_of id s.ends ≡ Some (of_holder id k g)
     pub stands : Stands k.end g
     pub pair : g.end.pair ≡ k.pair
-    pub taken : k.taken ≡ counted g.end.receiving.taken
+    pub taken : k.taken ≡ capped_count g.end.receiving.taken
     pub met : MetBy k.asked g.end
     pub quiet : IsQuiet k g
-    pub to : (g2 : Effect) → Stands e2 g2 → g2.end.pair ≡ k.pair → n ≡ counted g2.end.receiving.taken → MetBy k.asked g2.end → HeldStands c2 (goes_to s (of_holder id k g) [] g2).set (goes_to s (of_holder id k g) [] g2).told
+    pub to : (g2 : Effect) → Stands e2 g2 → g2.end.pair ≡ k.pair → n ≡ capped_count g2.end.receiving.taken → MetBy k.asked g2.end → HeldStands c2 (goes_to s (of_holder id k g) [] g2).set (goes_to s (of_holder id k g) [] g2).told
 
   pub find : Found
   find =
@@ -147,7 +147,7 @@ module _ (c c2 : HeldEnds) (id : ℕ) (k : Holder) (e2 : EndView) (n : ℕ) (sam
         met = keeps.met;
         to = λ g2 x p t m.
             let h : sets.Holder = of_holder id k keeps.going in
-            let h2 : sets.Holder = settled h g2 in
+            let h2 : sets.Holder = after_effect h g2 in
             let ks = moved_keeps s id k keeps.going e2 n g2 q x p t m in
             let put = a.put (record k { end = e2; taken = n }) h2 (told_by s h g2) refl ks in
             let told : a.before ++ told_by s h g2 ++ a.theirs ≡ told_by s h g2 = rw (two.0, all.1) (append-nil (told_by s h g2)) in
@@ -165,10 +165,10 @@ module _ (c c2 : HeldEnds) (id : ℕ) (k : Holder) (e2 : EndView) (n : ℕ) (sam
 pub call_pair : (s : State) (call : Call) (now : ℕ) → (step s (input_of call) now).end.pair ≡ s.pair
 call_pair s call now = ap (λ (n : Named). n.pair) (call_names s call now)
 
-called_held : (s : SetState) (h : sets.Holder) (call : Call) (now : ℕ) → h.gone ≡ false → goes_to s h [] (step h.end (input_of call) now) ≡ called s (Some h) call now
+called_held : (s : SetState) (h : sets.Holder) (call : Call) (now : ℕ) → h.gone ≡ false → goes_to s h [] (step h.end (input_of call) now) ≡ after_call s (Some h) call now
 called_held s h call now e = simp e refl
 
-called_gone : (s : SetState) (o : Option sets.Holder) (call : Call) (now : ℕ) → ((x : sets.Holder) → o ≡ Some x → x.gone ≡ true) → called s o call now ≡ untold s
+called_gone : (s : SetState) (o : Option sets.Holder) (call : Call) (now : ℕ) → ((x : sets.Holder) → o ≡ Some x → x.gone ≡ true) → after_call s o call now ≡ does_nothing s
 called_gone s None call now f = refl
 called_gone s (Some h) call now f = simp (f h refl) refl
 
@@ -176,7 +176,7 @@ called_gone s (Some h) call now f = simp (f h refl) refl
 pub call_goes : (c c2 : HeldEnds) (id : ℕ) (k : Holder) (e2 : EndView) (n : ℕ) (call : Call) (now : ℕ) → SameNode c c2 → lookup (nat_eq id) c.ends.entries ≡ Some k
     → c2.ends.entries ≡ set_value (nat_eq id) c.ends.entries (record k { end = e2; taken = n })
     → ((x : State) → StandsFor k.end x → Stands e2 (step x (input_of call) now))
-    → ((x : State) → StandsFor k.end x → k.taken ≡ counted x.receiving.taken → n ≡ counted (step x (input_of call) now).end.receiving.taken)
+    → ((x : State) → StandsFor k.end x → k.taken ≡ capped_count x.receiving.taken → n ≡ capped_count (step x (input_of call) now).end.receiving.taken)
     → Goes (sets.Calls id call now) c c2
 call_goes c c2 id k e2 n call now same found left does taken = λ s st.
     let f : Found c c2 id k e2 n same found left s st = find c c2 id k e2 n same found left s st in
@@ -186,15 +186,15 @@ call_goes c c2 id k e2 n call now same found left does taken = λ s st.
     let held : h.gone ≡ false = simp (f.quiet.kept, f.quiet.stays) refl in
     let done : HeldStands c2 (goes_to s h [] (step x (input_of call) now)).set (goes_to s h [] (step x (input_of call) now)).told =
     f.to (step x (input_of call) now) (does x stands) (call_pair x call now ∙ f.pair) (taken x stands f.taken) (asked_step k.asked x (input_of call) now f.met) in
-    let is : goes_to s h [] (step x (input_of call) now) ≡ called s (end_of id s.ends) call now =
-    called_held s h call now held ∙ ap (λ (o : Option sets.Holder). called s o call now) (sym f.is) in
+    let is : goes_to s h [] (step x (input_of call) now) ≡ after_call s (end_of id s.ends) call now =
+    called_held s h call now held ∙ ap (λ (o : Option sets.Holder). after_call s o call now) (sym f.is) in
     subst (λ (d : SetDone). HeldStands c2 d.set d.told) is done
 
 -- a call of an end that isn't
 pub call_of_none : (c c2 : HeldEnds) (id : ℕ) (call : Call) (now : ℕ) → SameNode c c2 → lookup (nat_eq id) c.ends.entries ≡ None → c2.ends.entries ≡ c.ends.entries
     → Goes (sets.Calls id call now) c c2
 call_of_none c c2 id call now same none left = λ s st.
-    let is : called s (end_of id s.ends) call now ≡ untold s = called_gone s (end_of id s.ends) call now (missing s.own s.ttl s.number 0 id c.ends.entries s.ends [] st.ends none) in
+    let is : after_call s (end_of id s.ends) call now ≡ does_nothing s = called_gone s (end_of id s.ends) call now (missing s.own s.ttl s.number 0 id c.ends.entries s.ends [] st.ends none) in
     subst (λ (d : SetDone). HeldStands c2 d.set d.told) (sym is)
     (record {
       own = st.own ∙ sym same.own;
@@ -305,7 +305,7 @@ pub discard_open : (c : HeldEnds) (id : ℕ) (s : SetState) → HeldStands c s [
 discard_open c id s st k found b e f = ap (λ (x : Bool). if x then Ok tt else Err discard_refusal.NotEnded) (sym e) ∙ some_discard c id s st k found b f
 
 discarded_ended : (s : SetState) (h : sets.Holder) → h.gone ≡ false → sets.has_ended h.end.phase ≡ true
-    → record { set = record s { ends = with_end (record h { gone = true }) s.ends }; told = sets.Gone h.id (facts_of h.end) ∷ [] } ≡ sets.discarded s (Some h)
+    → record { set = record s { ends = with_end (record h { gone = true }) s.ends }; told = sets.Gone h.id (facts_of h.end) ∷ [] } ≡ sets.after_discarding s (Some h)
 discarded_ended s h e f = simp (e, f) refl
 
 pub discard_goes : (c c2 : HeldEnds) (id : ℕ) (k : Holder) → SameNode c c2 → lookup (nat_eq id) c.ends.entries ≡ Some k
@@ -335,8 +335,8 @@ discard_goes c c2 id k same found left ended = λ s st.
       ends = subst (λ es. Held s.own s.ttl s.number 0 es (with_end h2 s.ends) told) (sym left)
           (subst (λ ts. Held s.own s.ttl s.number 0 (set_value (nat_eq id) c.ends.entries k2) (with_end h2 s.ends) ts) both put);
     } in
-    let is : record { set = record s { ends = with_end h2 s.ends }; told = told } ≡ sets.discarded s (end_of id s.ends) =
-    discarded_ended s h (not_gone id k g q) (sym (ended g.end (stood k.end g keeps.stands))) ∙ ap (λ (o : Option sets.Holder). sets.discarded s o) (sym (a.end ∙ ap Some keeps.is)) in
+    let is : record { set = record s { ends = with_end h2 s.ends }; told = told } ≡ sets.after_discarding s (end_of id s.ends) =
+    discarded_ended s h (not_gone id k g q) (sym (ended g.end (stood k.end g keeps.stands))) ∙ ap (λ (o : Option sets.Holder). sets.after_discarding s o) (sym (a.end ∙ ap Some keeps.is)) in
     subst (λ (d : SetDone). HeldStands c2 d.set d.told) is held
 
 pub never_missing : (c : HeldEnds) (id : ℕ) → lookup (nat_eq id) c.ends.entries ≡ None → (s : SetState) → HeldStands c s [] → (h : sets.Holder) → end_of id s.ends ≡ Some h → h.gone ≡ false → ⊥

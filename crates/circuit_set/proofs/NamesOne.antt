@@ -9,8 +9,8 @@ use Rattle.circuit_l4.specs.declared.notice.EndNotice.{EndNotice}
 use Rattle.circuit_l4.specs.State.{Effect, Out, State}
 use Rattle.circuit_l4.specs.Opening.{facts_of}
 use Rattle.circuit_set.specs.Pairs.{IsPair, is_used}
-use Rattle.circuit_set.specs.Sets.{Act, Calls, Comes, Connect, Discard, Restart, Made, Sent, Heeded, Notice, Gone, Restarted, Lost, Holder, SetDone, SetState, Told, all_gone, end_of, goes_to, has_ended, held_pairs, holder_of, is_over, losses, made, new_pair, notices, restarted, sents, set_step, told_by, with_end}
-use Rattle.circuit_set.specs.Books.{Book, FreshFrom, any_ends, is_lost, lost_with, noted, noted_all, partner_in, requester}
+use Rattle.circuit_set.specs.Sets.{Act, Calls, Comes, Connect, Discard, Restart, Made, Sent, Heeded, Notice, Gone, Restarted, Lost, Holder, SetDone, SetState, Told, all_gone, end_of, goes_to, has_ended, held_pairs, holder_of, is_over, losses, makes_end, new_pair, notices, after_restart, sendings, set_step, told_by, with_end}
+use Rattle.circuit_set.specs.Books.{Book, FreshFrom, any_ends, is_lost, lost_with, with_event, with_events, partner_in, requester}
 use Rattle.circuit_set.specs.Events.{Event, Name, same_name}
 use Rattle.circuit_set.specs.NotedRuns.{Net, begins, end_at, net_run, net_step, told_to}
 use Rattle.circuit_set.specs.Runs.{AreStarts, AreSteps, IsAct, IsStart, Step, end_in, events_at, events_of, sets_at, told_at}
@@ -62,7 +62,7 @@ no_append (Gone id facts ∷ xs) ys p q = no_append xs ys p q
 no_append (Restarted pair ∷ xs) ys p q = no_append xs ys p q
 no_append (Lost id facts ∷ xs) ys p q = absurd p
 
-no_sents : (s : SetState) (id : ℕ) (at : Callsign) (os : List Out) → NoLoss (sents s id at os)
+no_sents : (s : SetState) (id : ℕ) (at : Callsign) (os : List Out) → NoLoss (sendings s id at os)
 no_sents s id at [] = tt
 no_sents s id at (o ∷ os) = no_sents s id at os
 
@@ -80,8 +80,8 @@ no_heeded false id d = tt
 
 told_none : (s : SetState) (h : Holder) (g : Effect) → NoLoss (told_by s h g)
 told_none s h g =
-    no_append (sents s h.id h.at g.outs ++ notices h.id g.notes) (if is_over g.end then Gone h.id (facts_of g.end) ∷ [] else [])
-    (no_append (sents s h.id h.at g.outs) (notices h.id g.notes) (no_sents s h.id h.at g.outs) (no_notices h.id g.notes)) (no_gone (is_over g.end) h.id g.end)
+    no_append (sendings s h.id h.at g.outs ++ notices h.id g.notes) (if is_over g.end then Gone h.id (facts_of g.end) ∷ [] else [])
+    (no_append (sendings s h.id h.at g.outs) (notices h.id g.notes) (no_sents s h.id h.at g.outs) (no_notices h.id g.notes)) (no_gone (is_over g.end) h.id g.end)
 
 name_case : (n : ℕ) (h : Holder) (hs : List Holder) (lost : List Name) (x : Name) (b : Bool) → same_name (record { node = n; id = h.id }) x ≡ b → (b || is_lost lost x) ≡ true
     → (is_lost lost x ≡ true) ⊎ ((j : Holder) × InEnds j (h ∷ hs) × (x ≡ record { node = n; id = j.id }))
@@ -104,9 +104,9 @@ lost_in n own [] lost x e = inl e
 lost_in n own (h ∷ hs) lost x e = lost_case n own h hs lost x h.gone e (λ gone q. lost_in n own hs gone x q)
 
 -- ---- a fresh run goes on ----
-fresh_parts : (b : Book) (lost : List Name) (xs ys : List Event) → FreshFrom b lost (xs ++ ys) → FreshFrom b lost xs × FreshFrom (noted_all b xs) (lost_all lost xs) ys
+fresh_parts : (b : Book) (lost : List Name) (xs ys : List Event) → FreshFrom b lost (xs ++ ys) → FreshFrom b lost xs × FreshFrom (with_events b xs) (lost_all lost xs) ys
 fresh_parts b lost [] ys f = (tt, f)
-fresh_parts b lost (x ∷ xs) ys f = let r = fresh_parts (noted b x) (lost_with lost x.node x.told) xs ys f.1 in ((f.0, r.0), r.1)
+fresh_parts b lost (x ∷ xs) ys f = let r = fresh_parts (with_event b x) (lost_with lost x.node x.told) xs ys f.1 in ((f.0, r.0), r.1)
 
 -- the book has the same ends
 same_fair : (net : Net) (lost : List Name) (f : Fair net lost) (ss : List SetState) (c : Book) → ss ≡ net.sets → c.made ≡ net.book.made → Fair (record { sets = ss; book = c }) lost
@@ -154,7 +154,7 @@ module _ (net : Net) (lost : List Name) (f : Fair net lost) (n : ℕ) (s : SetSt
   next = (f.sets n s here).1
 
   abbrev After : SetDone → Net
-  After done = record { sets = slice_set net.sets n done.set; book = noted_all net.book (events_at n s.own done.told) }
+  After done = record { sets = slice_set net.sets n done.set; book = with_events net.book (events_at n s.own done.told) }
 
   abbrev P : SetDone → Type 0
   P done = Numbers done.set → IsPair done.set.next → FreshFrom net.book lost (events_at n s.own done.told) → Fair (After done) (lost_all lost (events_at n s.own done.told))
@@ -184,13 +184,13 @@ module _ (net : Net) (lost : List Name) (f : Fair net lost) (n : ℕ) (s : SetSt
       (overs_noticed net new lost f g x to notes (stepped.end_now net n s here h e over c there) made (f.ends x h (stepped.end_then net n s here h e over c there)) told) (losts_now net new lost f g)
 
   heeded_made : (h : Holder) (b : Bool) (d : List ℕ) (g : Effect)
-      → (noted_all net.book (events_at n s.own ((if b then Heeded h.id d ∷ [] else []) ++ told_by s h g))).made ≡ with_notices (record { node = n; id = h.id }) g.notes net.book.made
-  heeded_made h true d g = (told_noted s n s.own h g (noted net.book (record { node = n; own = s.own; told = Heeded h.id d }))).made
+      → (with_events net.book (events_at n s.own ((if b then Heeded h.id d ∷ [] else []) ++ told_by s h g))).made ≡ with_notices (record { node = n; id = h.id }) g.notes net.book.made
+  heeded_made h true d g = (told_noted s n s.own h g (with_event net.book (record { node = n; own = s.own; told = Heeded h.id d }))).made
   heeded_made h false d g = (told_noted s n s.own h g net.book).made
 
-  settles : (told : List Told) (to : SetState) → NoLoss told → Fair (record { sets = slice_set net.sets n to; book = noted_all net.book (events_at n s.own told) }) lost
-      → Fair (record { sets = slice_set net.sets n to; book = noted_all net.book (events_at n s.own told) }) (lost_all lost (events_at n s.own told))
-  settles told to none fair = subst (λ l. Fair (record { sets = slice_set net.sets n to; book = noted_all net.book (events_at n s.own told) }) l) (sym (none_lost n s.own told lost none)) fair
+  settles : (told : List Told) (to : SetState) → NoLoss told → Fair (record { sets = slice_set net.sets n to; book = with_events net.book (events_at n s.own told) }) lost
+      → Fair (record { sets = slice_set net.sets n to; book = with_events net.book (events_at n s.own told) }) (lost_all lost (events_at n s.own told))
+  settles told to none fair = subst (λ l. Fair (record { sets = slice_set net.sets n to; book = with_events net.book (events_at n s.own told) }) l) (sym (none_lost n s.own told lost none)) fair
 
   moves_so : (h : Holder) (heeded : Bool) (d : List ℕ) (g : Effect) → end_of h.id s.ends ≡ Some h → h.gone ≡ false → SameEnd h.end g.end → Ends h.end g → Says h heeded d g → Lives h.end g
       → P (goes_to s h (if heeded then Heeded h.id d ∷ [] else []) g)
@@ -199,36 +199,36 @@ module _ (net : Net) (lost : List Name) (f : Fair net lost) (n : ℕ) (s : SetSt
       let o : Onto h (record { id = h.id; at = h.at; asked = h.asked; end = g.end; gone = is_over g.end }) = record { pair = same.pair; gone = λ e. let bad : true ≡ false = sym e ∙ held in cc; ended = ends.stays } in
       settles told (record s { ends = with_end (record { id = h.id; at = h.at; asked = h.asked; end = g.end; gone = is_over g.end }) s.ends })
       (no_append (if heeded then Heeded h.id d ∷ [] else []) (told_by s h g) (no_heeded heeded h.id d) (told_none s h g))
-      (changed h g.end (is_over g.end) (noted_all net.book (events_at n s.own told)) g.notes there o (heeded_made h heeded d g) ends.told numbers)
+      (changed h g.end (is_over g.end) (with_events net.book (events_at n s.own told)) g.notes there o (heeded_made h heeded d g) ends.told numbers)
 
   leaves_so : (h : Holder) → end_of h.id s.ends ≡ Some h → h.gone ≡ false
       → P (record { set = record s { ends = with_end (record h { gone = true }) s.ends }; told = Gone h.id (facts_of h.end) ∷ [] })
   leaves_so h there held numbers ok fr =
       let told : List Told = Gone h.id (facts_of h.end) ∷ [] in
       let o : Onto h (record { id = h.id; at = h.at; asked = h.asked; end = h.end; gone = true }) = record { pair = refl; gone = λ e. refl; ended = λ e. e } in
-      changed h h.end true (noted_all net.book (events_at n s.own told)) [] there o refl (λ e. cc) numbers
+      changed h h.end true (with_events net.book (events_at n s.own told)) [] there o refl (λ e. cc) numbers
 
-  makes_so : (at : Callsign) (asked : Option Pair) (request : Option (List ℕ)) (g : Effect) → IsNew s asked request g → P (made s at asked request g)
+  makes_so : (at : Callsign) (asked : Option Pair) (request : Option (List ℕ)) (g : Effect) → IsNew s asked request g → P (makes_end s at asked request g)
   makes_so at asked request g new numbers ok fr =
       let h : Holder = holder_of s at asked g in
-      let t : SetState = (made s at asked request g).set in
+      let t : SetState = (makes_end s at asked request g).set in
       let p : Pair = new_pair s in
       let y : Name = record { node = n; id = s.number } in
       let from : Option Name = requester net.book request in
-      let b : Book = noted net.book (record { node = n; own = s.own; told = Made s.number (new_pair s) at request }) in
+      let b : Book = with_event net.book (record { node = n; own = s.own; told = Made s.number (new_pair s) at request }) in
       let few : length (held_pairs s.ends) ≤ 63 = room_is (length (held_pairs s.ends)) (or_false (nat_le 64 (length (held_pairs s.ends))) (nat_lt COUNT_MAX s.number) new.room) in
       let unused : is_used p (held_pairs s.ends) ≡ false = next_unused (held_pairs s.ends) s.next next few in
       let asks = λ (a : Name) (e : from ≡ Some a). asked_for net s request a f.passed new.foreign e in
       let first : Fair (record { sets = slice_set net.sets n t; book = b }) lost = new_fair net lost f n s t h p from b here refl new.pair refl refl numbers ok unused asks refl fr.0.1 in
       let there : end_at (record { sets = slice_set net.sets n t; book = b }) y ≡ Some h = end_here net lost f n s t h p from b here refl new.pair refl refl numbers ok unused asks refl fr.0.1 in
       settles (Made s.number (new_pair s) at request ∷ told_by s h g) t (told_none s h g)
-      (told_fair (record { sets = slice_set net.sets n t; book = b }) lost first (noted_all b (events_at n s.own (told_by s h g))) y h g.notes there (told_noted s n s.own h g b).made
+      (told_fair (record { sets = slice_set net.sets n t; book = b }) lost first (with_events b (events_at n s.own (told_by s h g))) y h g.notes there (told_noted s n s.own h g b).made
       (λ e. let bad : true ≡ false = sym e ∙ new.told in cc))
 
   cases : Cases s P
   cases = record {
     rests = λ numbers ok fr. same_fair net lost f (slice_set net.sets n s) net.book (set_self net.sets n s here) refl;
-    refuses = λ d numbers ok fr. same_fair net lost f (slice_set net.sets n s) (noted net.book (record { node = n; own = s.own; told = Sent 0 None d })) (set_self net.sets n s here) refl;
+    refuses = λ d numbers ok fr. same_fair net lost f (slice_set net.sets n s) (with_event net.book (record { node = n; own = s.own; told = Sent 0 None d })) (set_self net.sets n s here) refl;
     moves = moves_so;
     leaves = leaves_so;
     makes = makes_so;
@@ -237,15 +237,15 @@ module _ (net : Net) (lost : List Name) (f : Fair net lost) (n : ℕ) (s : SetSt
   -- ---- the node starts again ----
   module _ (pair : Pair) (more : ℕ) where
     abbrev again : SetState
-    again = (restarted s pair more).set
+    again = (after_restart s pair more).set
 
     abbrev told_again : List Told
     told_again = Restarted pair ∷ losses s.ends
 
     abbrev started : Net
-    started = record { sets = slice_set net.sets n again; book = noted_all net.book (events_at n s.own told_again) }
+    started = record { sets = slice_set net.sets n again; book = with_events net.book (events_at n s.own told_again) }
 
-    made_again : (noted_all net.book (events_at n s.own told_again)).made ≡ net.book.made
+    made_again : (with_events net.book (events_at n s.own told_again)).made ≡ net.book.made
     made_again =
         let b : Book = record { places = suc net.book.places; made = net.book.made; sent = net.book.sent; heard = net.book.heard } in
         ap (λ (c : Book). c.made) (noted_losses n s.own s.ends b).2
@@ -255,12 +255,12 @@ module _ (net : Net) (lost : List Name) (f : Fair net lost) (n : ℕ) (s : SetSt
 
     was_again : (z : Name) (k : Holder) → end_at started z ≡ Some k → (j : Holder) × (end_at net z ≡ Some j) × Onto j k
     was_again z k e =
-        let r = stepped.was_lost net n s here pair more (noted_all net.book (events_at n s.own told_again)) z k (nat_eq z.node n) refl e in
+        let r = stepped.was_lost net n s here pair more (with_events net.book (events_at n s.own told_again)) z k (nat_eq z.node n) refl e in
         (r.0, r.1, subst (λ (i : Holder). Onto r.0 i) r.3 (gone_onto r.0 r.2 r.4))
 
     is_again : (z : Name) (j : Holder) → end_at net z ≡ Some j → (k : Holder) × (end_at started z ≡ Some k) × Onto j k
     is_again z j e =
-        let r = stepped.is_lost_now net n s here pair more (noted_all net.book (events_at n s.own told_again)) z j (nat_eq z.node n) refl e in
+        let r = stepped.is_lost_now net n s here pair more (with_events net.book (events_at n s.own told_again)) z j (nat_eq z.node n) refl e in
         (gone_of j r.0, r.1, gone_onto j r.0 r.2)
 
     grown : Grown net started
@@ -285,7 +285,7 @@ module _ (net : Net) (lost : List Name) (f : Fair net lost) (n : ℕ) (s : SetSt
     losts_again : LostOk started (lost_all lost (events_at n s.own told_again))
     losts_again z e = elim (lost_in n s.own s.ends lost z e) [ inl r ↦ losts_now net started lost f grown z r | inr r ↦ lost_end z r.0 r.1 r.2 ]
 
-    starts_so : IsPair pair → P (restarted s pair more)
+    starts_so : IsPair pair → P (after_restart s pair more)
     starts_so is numbers ok fr =
         fair_grown net started lost f grown (lost_all lost (events_at n s.own told_again)) (sets_now again numbers is) overs_again losts_again
 
@@ -311,7 +311,7 @@ module _ (net : Net) (lost : List Name) (f : Fair net lost) (n : ℕ) (s : SetSt
 
 -- ---- a run ----
 step_case : (net : Net) (lost : List Name) (st : Step) (o : Option SetState) → Fair net lost → IsAct st.act → slice_get net.sets st.node ≡ o → FreshFrom net.book lost (told_at net.sets st.node o st.act)
-    → Fair (record { sets = sets_at net.sets st.node o st.act; book = noted_all net.book (told_at net.sets st.node o st.act) }) (lost_all lost (told_at net.sets st.node o st.act))
+    → Fair (record { sets = sets_at net.sets st.node o st.act; book = with_events net.book (told_at net.sets st.node o st.act) }) (lost_all lost (told_at net.sets st.node o st.act))
 step_case net lost st None f act e fr = f
 step_case net lost st (Some s) f act e fr = act_fair net lost f st.node s e st.act act fr
 

@@ -7,7 +7,7 @@ use Rattle.ax_address.specs.Callsign.{Callsign}
 use Rattle.ax_address.specs.CallOrder.{same_call}
 use Rattle.circuit_l4.specs.declared.transport.Pair.{Pair}
 use Rattle.circuit_set.specs.Among.{Has, Last}
-use Rattle.circuit_set.specs.Books.{Book, Fresh, FreshFrom, Timely, TimelyTold, FreshTold, empty, lost_with, noted, noted_all}
+use Rattle.circuit_set.specs.Books.{Book, Fresh, FreshFrom, Timely, TimelyTold, FreshTold, empty, lost_with, with_event, with_events}
 use Rattle.circuit_set.specs.Events.{Event, Name, same_name}
 use Rattle.circuit_set.specs.Sets.{same_pair}
 use Rattle.circuit_set.proofs.Among.{by_snoc, has_cases, has_last, has_new, has_nothing, has_old, last_cases, last_new, last_old}
@@ -16,9 +16,9 @@ use Rattle.circuit_set.proofs.Noting.{noted_append}
 
 -- ---- the book of these events ----
 abbrev pub book : List Event → Book
-book es = noted_all empty es
+book es = with_events empty es
 
-pub book_more : (es : List Event) (e : Event) → book (es ++ e ∷ []) ≡ noted (book es) e
+pub book_more : (es : List Event) (e : Event) → book (es ++ e ∷ []) ≡ with_event (book es) e
 book_more es e = noted_append empty es (e ∷ [])
 
 abbrev pub lost_by : List Name → List Event → List Name
@@ -29,13 +29,13 @@ pub lost_more : (lost : List Name) (es : List Event) (e : Event) → lost_by los
 lost_more lost [] e = refl
 lost_more lost (k ∷ es) e = lost_more (lost_with lost k.node k.told) es e
 
-fresh_parts : (b : Book) (lost : List Name) (xs : List Event) (e : Event) → FreshFrom b lost (xs ++ e ∷ []) → FreshFrom b lost xs × FreshTold (noted_all b xs) (lost_by lost xs) e.node e.told
+fresh_parts : (b : Book) (lost : List Name) (xs : List Event) (e : Event) → FreshFrom b lost (xs ++ e ∷ []) → FreshFrom b lost xs × FreshTold (with_events b xs) (lost_by lost xs) e.node e.told
 fresh_parts b lost [] e f = (tt, f.0)
-fresh_parts b lost (x ∷ xs) e f = let r = fresh_parts (noted b x) (lost_with lost x.node x.told) xs e f.1 in ((f.0, r.0), r.1)
+fresh_parts b lost (x ∷ xs) e f = let r = fresh_parts (with_event b x) (lost_with lost x.node x.told) xs e f.1 in ((f.0, r.0), r.1)
 
-fresh_joined : (b : Book) (lost : List Name) (xs : List Event) (e : Event) → FreshFrom b lost xs → FreshTold (noted_all b xs) (lost_by lost xs) e.node e.told → FreshFrom b lost (xs ++ e ∷ [])
+fresh_joined : (b : Book) (lost : List Name) (xs : List Event) (e : Event) → FreshFrom b lost xs → FreshTold (with_events b xs) (lost_by lost xs) e.node e.told → FreshFrom b lost (xs ++ e ∷ [])
 fresh_joined b lost [] e f g = (g, tt)
-fresh_joined b lost (x ∷ xs) e f g = (f.0, fresh_joined (noted b x) (lost_with lost x.node x.told) xs e f.1 g)
+fresh_joined b lost (x ∷ xs) e f g = (f.0, fresh_joined (with_event b x) (lost_with lost x.node x.told) xs e f.1 g)
 
 pub fresh_less : (es : List Event) (e : Event) → Fresh empty (es ++ e ∷ []) → Fresh empty es × FreshTold (book es) (lost_by [] es) e.node e.told
 fresh_less es e f = fresh_parts empty [] es e f
@@ -43,13 +43,13 @@ fresh_less es e f = fresh_parts empty [] es e f
 pub fresh_one : (es : List Event) (e : Event) → Fresh empty es → FreshTold (book es) (lost_by [] es) e.node e.told → Fresh empty (es ++ e ∷ [])
 fresh_one es e f g = fresh_joined empty [] es e f g
 
-pub timely_less : (allow : Book → Name → ℕ) (b : Book) (xs : List Event) (e : Event) → Timely allow b (xs ++ e ∷ []) → Timely allow b xs × TimelyTold allow (noted_all b xs) e.node e.told
+pub timely_less : (allow : Book → Name → ℕ) (b : Book) (xs : List Event) (e : Event) → Timely allow b (xs ++ e ∷ []) → Timely allow b xs × TimelyTold allow (with_events b xs) e.node e.told
 timely_less allow b [] e t = (tt, t.0)
-timely_less allow b (x ∷ xs) e t = let r = timely_less allow (noted b x) xs e t.1 in ((t.0, r.0), r.1)
+timely_less allow b (x ∷ xs) e t = let r = timely_less allow (with_event b x) xs e t.1 in ((t.0, r.0), r.1)
 
-pub timely_one : (allow : Book → Name → ℕ) (b : Book) (xs : List Event) (e : Event) → Timely allow b xs → TimelyTold allow (noted_all b xs) e.node e.told → Timely allow b (xs ++ e ∷ [])
+pub timely_one : (allow : Book → Name → ℕ) (b : Book) (xs : List Event) (e : Event) → Timely allow b xs → TimelyTold allow (with_events b xs) e.node e.told → Timely allow b (xs ++ e ∷ [])
 timely_one allow b [] e t h = (h, tt)
-timely_one allow b (x ∷ xs) e t h = (t.0, timely_one allow (noted b x) xs e t.1 h)
+timely_one allow b (x ∷ xs) e t h = (t.0, timely_one allow (with_event b x) xs e t.1 h)
 
 -- ---- something that is looked up, the last first ----
 -- one event more, fresh behind fresh ones, is so of a and found, or is so of nothing and changes nothing

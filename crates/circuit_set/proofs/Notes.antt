@@ -5,7 +5,7 @@ use Rattle.std.proofs.lemmas.Bool.Decides.{nat_tests}
 use Rattle.ax_address.specs.Callsign.{Callsign}
 use Rattle.circuit_l4.specs.declared.transport.Pair.{Pair}
 use Rattle.circuit_l4.specs.declared.notice.EndNotice.{EndNotice}
-use Rattle.circuit_set.specs.Books.{Book, MadeNote, empty, noted, noted_all, requester, with_notice}
+use Rattle.circuit_set.specs.Books.{Book, MadeNote, empty, with_event, with_events, requester, with_notice}
 use Rattle.circuit_set.specs.Events.{Event, Name, same_name}
 use Rattle.circuit_set.specs.Sets.{Told, Made, Sent, Heeded, Notice, Gone, Restarted, Lost}
 use Rattle.circuit_set.specs.TooLate.{Gives, Makes}
@@ -72,10 +72,10 @@ pub record Kept (m : MadeNote) (es : List Event) (ms : List MadeNote) : Type 0 w
   pub inside : InNotes note ms
   pub same : Same m note (notices_in m.who es)
 
-kept_one : (m : MadeNote) (b : Book) (e : Event) → InNotes m b.made → (k : MadeNote) × InNotes k (noted b e).made × Same m k (notice_in m.who e.node e.told)
+kept_one : (m : MadeNote) (b : Book) (e : Event) → InNotes m b.made → (k : MadeNote) × InNotes k (with_event b e).made × Same m k (notice_in m.who e.node e.told)
 kept_one m b e i = by e.told
   where
-    by : (t : Told) → (k : MadeNote) × InNotes k (noted b (record { node = e.node; own = e.own; told = t })).made × Same m k (notice_in m.who e.node t)
+    by : (t : Told) → (k : MadeNote) × InNotes k (with_event b (record { node = e.node; own = e.own; told = t })).made × Same m k (notice_in m.who e.node t)
     by (Made id p at r) = (m, inr i, same_itself m)
     by (Sent id number d) = (m, i, same_itself m)
     by (Heeded id d) = (m, i, same_itself m)
@@ -86,12 +86,12 @@ kept_one m b e i = by e.told
     by (Restarted p) = (m, i, same_itself m)
     by (Lost id facts) = (m, i, same_itself m)
 
-pub kept : (es : List Event) (m : MadeNote) (b : Book) → InNotes m b.made → Kept m es (noted_all b es).made
+pub kept : (es : List Event) (m : MadeNote) (b : Book) → InNotes m b.made → Kept m es (with_events b es).made
 kept [] m b i = record { note = m; inside = i; same = same_itself m }
 kept (e ∷ es) m b i =
     let one = kept_one m b e i in
     let s : Same m one.0 (notice_in m.who e.node e.told) = one.2 in
-    let rest : Kept one.0 es (noted_all (noted b e) es).made = kept es one.0 (noted b e) one.1 in
+    let rest : Kept one.0 es (with_events (with_event b e) es).made = kept es one.0 (with_event b e) one.1 in
     record {
       note = rest.note;
       inside = rest.inside;
@@ -111,10 +111,10 @@ pub record NewNote (own : Callsign) (pair : Pair) (z : Name) (ms : List MadeNote
   pub pair_is : note.pair ≡ pair
   pub told : note.told ≡ []
 
-new_note : (own : Callsign) (pair : Pair) (z : Name) (e : Event) → Gives own pair z e → (b : Book) → NewNote own pair z (noted b e).made
+new_note : (own : Callsign) (pair : Pair) (z : Name) (e : Event) → Gives own pair z e → (b : Book) → NewNote own pair z (with_event b e).made
 new_note own pair z e g b = by e.told g
   where
-    by : (t : Told) → Gives own pair z (record { node = e.node; own = e.own; told = t }) → NewNote own pair z (noted b (record { node = e.node; own = e.own; told = t })).made
+    by : (t : Told) → Gives own pair z (record { node = e.node; own = e.own; told = t }) → NewNote own pair z (with_event b (record { node = e.node; own = e.own; told = t })).made
     by (Made id p at r) k = record {
       note = record { who = record { node = e.node; id = id }; own = e.own; pair = p; partner = requester b r; told = [] };
       inside = inl refl;
@@ -139,9 +139,9 @@ pub record NoteNow (pair : Pair) (z : Name) (since : List Event) (ms : List Made
 
 pub note_now : (own : Callsign) (pair : Pair) (z : Name) (es before after : List Event) (e : Event) → es ≡ before ++ e ∷ after → Gives own pair z e → NoteNow pair z after (book es).made
 note_now own pair z es before after e parts g =
-    let n : NewNote own pair z (noted (book before) e).made = new_note own pair z e g (book before) in
-    let k : Kept n.note after (noted_all (noted (book before) e) after).made = kept after n.note (noted (book before) e) n.inside in
-    let whole : book es ≡ noted_all (noted (book before) e) after = ap book parts ∙ noted_append empty before (e ∷ after) in
+    let n : NewNote own pair z (with_event (book before) e).made = new_note own pair z e g (book before) in
+    let k : Kept n.note after (with_events (with_event (book before) e) after).made = kept after n.note (with_event (book before) e) n.inside in
+    let whole : book es ≡ with_events (with_event (book before) e) after = ap book parts ∙ noted_append empty before (e ∷ after) in
     record {
       note = k.note;
       inside = subst (λ (b : Book). InNotes k.note b.made) (sym whole) k.inside;
@@ -173,10 +173,10 @@ later_at es e m k a s = record {
   told = s.told ∙ (ap (λ ns. ns ++ notice_in m.who e.node e.told) a.told ∙ (sym (notices_more m.who a.after e) ∙ ap (λ z. notices_in z (a.after ++ e ∷ [])) (sym s.who)));
 }
 
-made_one : (es : List Event) (e : Event) → ((m : MadeNote) → InNotes m (book es).made → MadeAt es m) → (m : MadeNote) → InNotes m (noted (book es) e).made → MadeAt (es ++ e ∷ []) m
+made_one : (es : List Event) (e : Event) → ((m : MadeNote) → InNotes m (book es).made → MadeAt es m) → (m : MadeNote) → InNotes m (with_event (book es) e).made → MadeAt (es ++ e ∷ []) m
 made_one es e old m i = by e.told i
   where
-    by : (t : Told) → InNotes m (noted (book es) (record { node = e.node; own = e.own; told = t })).made → MadeAt (es ++ record { node = e.node; own = e.own; told = t } ∷ []) m
+    by : (t : Told) → InNotes m (with_event (book es) (record { node = e.node; own = e.own; told = t })).made → MadeAt (es ++ record { node = e.node; own = e.own; told = t } ∷ []) m
     by (Made id p at r) (inl q) =
         let k : Event = record { node = e.node; own = e.own; told = Made id p at r } in
         let n : MadeNote = record { who = record { node = e.node; id = id }; own = e.own; pair = p; partner = requester (book es) r; told = [] } in

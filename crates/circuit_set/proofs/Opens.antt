@@ -22,10 +22,10 @@ use Rattle.circuit_l4.specs.Table.{Arrive, common_window, step}
 use Rattle.circuit_l4.specs.Opening.{requesting, responding}
 use Rattle.circuit_set.specs.Heeds.{heeds}
 use Rattle.circuit_set.specs.Events.{Event, Name, is_copy, same_name}
-use Rattle.circuit_set.specs.NotedRuns.{Net, allowed, net_run, net_step}
-use Rattle.circuit_set.specs.Pairs.{following}
-use Rattle.circuit_set.specs.Sets.{Act, Call, Calls, Comes, Connect, Discard, Restart, restarted, Holder, SetDone, SetState, Heeded, Sent, accept_again, arrives_at, asked_with, called, connected, datagram_to, discarded, end_of, first_open, goes_to, handed_up, has_ended, input_of, is_full, is_open, is_over, made, named_by, new_pair, opened_by, read_as, received, same_pair, set_step, told_by, untold}
-use Rattle.circuit_set.specs.Books.{Book, MadeNote, SentNote, Timely, asked_by, has_sent, if_asked, is_unknown, made_last, noted, noted_all, partner, partner_in, requester}
+use Rattle.circuit_set.specs.NotedRuns.{Net, allowance_at, net_run, net_step}
+use Rattle.circuit_set.specs.Pairs.{pair_after}
+use Rattle.circuit_set.specs.Sets.{Act, Call, Calls, Comes, Connect, Discard, Restart, after_restart, Holder, SetDone, SetState, Heeded, Sent, accept_again, arrives_at, asked_with, after_call, after_connecting, datagram_to, after_discarding, end_of, first_open, goes_to, after_datagram, has_ended, input_of, is_full, is_open, is_over, makes_end, named_by, new_pair, opened_by, read_as, after_transport, same_pair, set_step, told_by, does_nothing}
+use Rattle.circuit_set.specs.Books.{Book, MadeNote, SentNote, Timely, asked_by, has_sent, if_asked, is_unknown, made_last, with_event, with_events, partner, partner_in, requester}
 use Rattle.circuit_set.specs.Runs.{AreSteps, IsAct, Step, events_at, events_of, sets_at, told_at}
 use Rattle.circuit_set.proofs.Bridge.{name_itself, same_names}
 use Rattle.circuit_set.proofs.Copies.{copy_reads}
@@ -224,49 +224,49 @@ module _ (net : Net) (k : Kept net) (n : ℕ) (s : SetState) (here : slice_get n
   -- what a step comes to is kept, where what it heeds is timely
   abbrev K : SetDone → Type 0
   K done =
-      Timely allowed net.book (events_at n s.own done.told)
-      → Kept (record { sets = slice_set net.sets n done.set; book = noted_all net.book (events_at n s.own done.told) }) × Stays net.book (noted_all net.book (events_at n s.own done.told))
+      Timely allowance_at net.book (events_at n s.own done.told)
+      → Kept (record { sets = slice_set net.sets n done.set; book = with_events net.book (events_at n s.own done.told) }) × Stays net.book (with_events net.book (events_at n s.own done.told))
 
-  told_stays : (b : Book) (h : Holder) (g : Effect) → Stays b (noted_all b (events_at n s.own (told_by s h g)))
+  told_stays : (b : Book) (h : Holder) (g : Effect) → Stays b (with_events b (events_at n s.own (told_by s h g)))
   told_stays b h g x y e = ap (λ ms. partner_in ms x) (told_noted s n s.own h g b).made ∙ same_partners (record { node = n; id = h.id }) x g.notes b.made ∙ e
 
   same_net : (ss : List SetState) → ss ≡ net.sets → Kept (record { sets = ss; book = net.book })
   same_net ss e = subst (λ xs. Kept (record { sets = xs; book = net.book })) (sym e) k
 
-  untold_so : K (untold s)
+  untold_so : K (does_nothing s)
   untold_so time = (same_net (slice_set net.sets n s) (acts.set_self net.sets n s here), λ x y e. e)
 
   inv : SetInv s
   inv = k.sets n s here
 
-  called_case : (id : ℕ) (call : Call) (now : ℕ) (o : Option Holder) → end_of id s.ends ≡ o → K (called s o call now)
+  called_case : (id : ℕ) (call : Call) (now : ℕ) (o : Option Holder) → end_of id s.ends ≡ o → K (after_call s o call now)
   called_case id call now None e = untold_so
   called_case id call now (Some h) e =
       let there : end_of h.id s.ends ≡ Some h = ap (λ i. end_of i s.ends) (end_id id h s.ends e) ∙ e in
-      either_done K h.gone (untold s) (goes_to s h [] (step h.end (input_of call) now)) untold_so
+      either_done K h.gone (does_nothing s) (goes_to s h [] (step h.end (input_of call) now)) untold_so
       (λ time. (acts.goes net k n s h here there (step h.end (input_of call) now) (acts.called_move net k n s h here there call now), told_stays net.book h (step h.end (input_of call) now)))
 
-  discard_case : (id : ℕ) (o : Option Holder) → end_of id s.ends ≡ o → K (discarded s o)
+  discard_case : (id : ℕ) (o : Option Holder) → end_of id s.ends ≡ o → K (after_discarding s o)
   discard_case id None e = untold_so
   discard_case id (Some h) e =
       let there : end_of h.id s.ends ≡ Some h = ap (λ i. end_of i s.ends) (end_id id h s.ends e) ∙ e in
       let b : Book = record { places = suc net.book.places; made = net.book.made; sent = net.book.sent; heard = net.book.heard } in
-      either_done K (not h.gone && has_ended h.end.phase) _ (untold s)
+      either_done K (not h.gone && has_ended h.end.phase) _ (does_nothing s)
       (λ time. (moved net k n s h (begin h.end) net.book b true here there (acts.discard_move net k n s h here there) (record { sent = refl; made = refl; heard = refl; places = omega arith }), λ x y e. e)) untold_so
 
-  new_end : (at : Callsign) (asked : Option Pair) (request : Option (List ℕ)) (g : Effect) → IsMade net s at asked (requester net.book request) g → K (made s at asked request g)
+  new_end : (at : Callsign) (asked : Option Pair) (request : Option (List ℕ)) (g : Effect) → IsMade net s at asked (requester net.book request) g → K (makes_end s at asked request g)
   new_end at asked request g m time =
       let y : Name = record { node = n; id = s.number } in
       let b : Book = record { places = suc net.book.places; made = record { who = y; own = s.own; pair = new_pair s; partner = requester net.book request; told = [] } ∷ net.book.made; sent = net.book.sent; heard = net.book.heard } in
       let h : Holder = record { id = s.number; at = at; asked = asked; end = g.end; gone = is_over g.end } in (
-        making.made net k n s at asked (new_pair s) (following (new_pair s)) (requester net.book request) g (noted_all b (events_at n s.own (told_by s h g))) (is_over g.end) here m (told_noted s n s.own h g b),
-        making.partner_stays net k n s at asked (new_pair s) (following (new_pair s)) (requester net.book request) g (noted_all b (events_at n s.own (told_by s h g))) (is_over g.end) here m (told_noted s n s.own h g b),
+        making.made net k n s at asked (new_pair s) (pair_after (new_pair s)) (requester net.book request) g (with_events b (events_at n s.own (told_by s h g))) (is_over g.end) here m (told_noted s n s.own h g b),
+        making.partner_stays net k n s at asked (new_pair s) (pair_after (new_pair s)) (requester net.book request) g (with_events b (events_at n s.own (told_by s h g))) (is_over g.end) here m (told_noted s n s.own h g b),
       )
 
   refused_so : (origin : Callsign) (pair : Pair) → IsCallsign origin.letters origin.ssid
       → K (record { set = s; told = Sent 0 None (datagram_to s origin (Refuse pair)) ∷ [] })
   refused_so origin pair call time = (
-    subst (λ xs. Kept (record { sets = xs; book = noted net.book (record { node = n; own = s.own; told = Sent 0 None (datagram_to s origin (Refuse pair)) }) })) (sym (acts.set_self net.sets n s here))
+    subst (λ xs. Kept (record { sets = xs; book = with_event net.book (record { node = n; own = s.own; told = Sent 0 None (datagram_to s origin (Refuse pair)) }) })) (sym (acts.set_self net.sets n s here))
         (refusing.refused net k n s (Refuse pair) (datagram_to s origin (Refuse pair)) here
         (record { head = record { origin = s.own; dest = origin; ttl = s.ttl }; is = refl; origin = inv.own; dest = call; transport = tt })),
     λ x y e. e,
@@ -277,7 +277,7 @@ module _ (net : Net) (k : Kept net) (n : ℕ) (s : SetState) (here : slice_get n
       → K (elim o as (λ x. SetDone) [
         | Some h ↦ goes_to s h [] (accept_again h.end)
         | None ↦ (if is_full s then record { set = s; told = Sent 0 None (datagram_to s origin (Refuse pair)) ∷ [] }
-            else made s origin (Some pair) (Some d) (responding (new_pair s) pair window s.config (min now COUNT_MAX)))
+            else makes_end s origin (Some pair) (Some d) (responding (new_pair s) pair window s.config (min now COUNT_MAX)))
       ])
   requested_case origin d pair window now user node (Some h) e call read =
       let f = open_found (opened_by origin pair) h s.ends e in
@@ -287,20 +287,20 @@ module _ (net : Net) (k : Kept net) (n : ℕ) (s : SetState) (here : slice_get n
       let role : h.end.role ≡ Responder = (acts.inv net k n s h here there).answers q.0 q.1 in
       λ time. (acts.goes net k n s h here there (accept_again h.end) (acts.again_move net k n s h here there role), told_stays net.book h (accept_again h.end))
   requested_case origin d pair window now user node None e call read =
-      either_done K (is_full s) _ (made s origin (Some pair) (Some d) (responding (new_pair s) pair window s.config (min now COUNT_MAX))) (refused_so origin pair call)
+      either_done K (is_full s) _ (makes_end s origin (Some pair) (Some d) (responding (new_pair s) pair window s.config (min now COUNT_MAX))) (refused_so origin pair call)
       (new_end origin (Some pair) (Some d) (responding (new_pair s) pair window s.config (min now COUNT_MAX))
       (responder_made net s (new_pair s) pair origin window (min now COUNT_MAX) (requester net.book (Some d)) inv call
       (asked_for net k s (new_pair s) pair pair window (min now COUNT_MAX) user node d inv read)))
 
   heeds_case : (h : Holder) (d : List ℕ) (t : Transport) (now : ℕ) (b : Bool) → end_of h.id s.ends ≡ Some h → transport_at (drop 15 d) ≡ Ok t → heeds h.end.phase t ≡ b
       → K (goes_to s h (if b then Heeded h.id d ∷ [] else []) (step h.end (Arrive t) now))
-  heeds_case h d t now true there read e time = (acts.heeds_it net k n s h here there d t now read e time.0, told_stays (noted net.book (record { node = n; own = s.own; told = Heeded h.id d })) h (step h.end (Arrive t) now))
+  heeds_case h d t now true there read e time = (acts.heeds_it net k n s h here there d t now read e time.0, told_stays (with_event net.book (record { node = n; own = s.own; told = Heeded h.id d })) h (step h.end (Arrive t) now))
   heeds_case h d t now false there read e time = (acts.goes net k n s h here there (step h.end (Arrive t) now) (acts.unheeded_move net k n s h here there t now e), told_stays net.book h (step h.end (Arrive t) now))
 
   arrives_case : (origin : Callsign) (d : List ℕ) (to : Pair) (t : Transport) (now : ℕ) (o : Option Holder) → first_open (named_by origin to) s.ends ≡ o → transport_at (drop 15 d) ≡ Ok t
       → K (elim o as (λ x. SetDone) [
         | Some h ↦ goes_to s h (if heeds h.end.phase t then Heeded h.id d ∷ [] else []) (step h.end (Arrive t) now)
-        | None ↦ untold s
+        | None ↦ does_nothing s
       ])
   arrives_case origin d to t now None e read = untold_so
   arrives_case origin d to t now (Some h) e read =
@@ -309,7 +309,7 @@ module _ (net : Net) (k : Kept net) (n : ℕ) (s : SetState) (here : slice_get n
   arrives_so : (origin : Callsign) (d : List ℕ) (to : Pair) (t : Transport) (now : ℕ) → transport_at (drop 15 d) ≡ Ok t → K (arrives_at s origin d to t now)
   arrives_so origin d to t now read = arrives_case origin d to t now (first_open (named_by origin to) s.ends) refl read
 
-  received_so : (origin : Callsign) (d : List ℕ) (t : Transport) (now : ℕ) → IsCallsign origin.letters origin.ssid → transport_at (drop 15 d) ≡ Ok t → K (received s origin d t now)
+  received_so : (origin : Callsign) (d : List ℕ) (t : Transport) (now : ℕ) → IsCallsign origin.letters origin.ssid → transport_at (drop 15 d) ≡ Ok t → K (after_transport s origin d t now)
   received_so origin d (Request pair window user node) now call read = requested_case origin d pair window now user node (first_open (opened_by origin pair) s.ends) refl call read
   received_so origin d (Accept to own window) now call read = arrives_so origin d to (Accept to own window) now read
   received_so origin d (Refuse to) now call read = arrives_so origin d to (Refuse to) now read
@@ -322,23 +322,23 @@ module _ (net : Net) (k : Kept net) (n : ℕ) (s : SetState) (here : slice_get n
   read_case origin d (Err e) now call read = untold_so
   read_case origin d (Ok t) now call read = received_so origin d t now call read
 
-  handed_case : (d : List ℕ) (r : Result DatagramHead DatagramRefusal) (now : ℕ) → head_at d ≡ r → K (handed_up s d r now)
+  handed_case : (d : List ℕ) (r : Result DatagramHead DatagramRefusal) (now : ℕ) → head_at d ≡ r → K (after_datagram s d r now)
   handed_case d (Err e) now h = untold_so
   handed_case d (Ok head) now h =
-      either_done K (same_call head.origin s.own || not (same_call head.dest s.own)) (untold s) (read_as s head.origin d (transport_at (drop 15 d)) now) untold_so
+      either_done K (same_call head.origin s.own || not (same_call head.dest s.own)) (does_nothing s) (read_as s head.origin d (transport_at (drop 15 d)) now) untold_so
       (read_case head.origin d (transport_at (drop 15 d)) now (origin_read d head h) refl)
 
-  connected_so : (dest : Callsign) (now : ℕ) → IsCallsign dest.letters dest.ssid → K (connected s dest now)
+  connected_so : (dest : Callsign) (now : ℕ) → IsCallsign dest.letters dest.ssid → K (after_connecting s dest now)
   connected_so dest now call =
-      either_done K (same_call dest s.own || is_full s) (untold s) (made s dest None None (requesting (new_pair s) s.user s.own s.config (min now COUNT_MAX))) untold_so
+      either_done K (same_call dest s.own || is_full s) (does_nothing s) (makes_end s dest None None (requesting (new_pair s) s.user s.own s.config (min now COUNT_MAX))) untold_so
       (new_end dest None None (requesting (new_pair s) s.user s.own s.config (min now COUNT_MAX)) (requester_made net s (new_pair s) dest (min now COUNT_MAX) inv call))
 
-  restarted_so : (pair : Pair) (more : ℕ) → K (restarted s pair more)
+  restarted_so : (pair : Pair) (more : ℕ) → K (after_restart s pair more)
   restarted_so pair more time =
       let b : Book = record { places = suc net.book.places; made = net.book.made; sent = net.book.sent; heard = net.book.heard } in
       let r = noted_losses n s.own s.ends b in
       let low : suc net.book.places ≤ r.0 = r.1 in (
-        subst (λ c. Kept (record { sets = slice_set net.sets n (restarted s pair more).set; book = c })) (sym r.2) (restarting.restart_kept net k n s pair more r.0 here (omega arith)),
+        subst (λ c. Kept (record { sets = slice_set net.sets n (after_restart s pair more).set; book = c })) (sym r.2) (restarting.restart_kept net k n s pair more r.0 here (omega arith)),
         λ x y e. ap (λ c. partner c x) r.2 ∙ e,
       )
 
@@ -350,38 +350,38 @@ module _ (net : Net) (k : Kept net) (n : ℕ) (s : SetState) (here : slice_get n
   act_so (Restart pair more) call = restarted_so pair more
 
 -- ---- a run ----
-step_case : (net : Net) (st : Step) (o : Option SetState) → Kept net → IsAct st.act → slice_get net.sets st.node ≡ o → Timely allowed net.book (told_at net.sets st.node o st.act)
-    → Kept (record { sets = sets_at net.sets st.node o st.act; book = noted_all net.book (told_at net.sets st.node o st.act) }) × Stays net.book (noted_all net.book (told_at net.sets st.node o st.act))
+step_case : (net : Net) (st : Step) (o : Option SetState) → Kept net → IsAct st.act → slice_get net.sets st.node ≡ o → Timely allowance_at net.book (told_at net.sets st.node o st.act)
+    → Kept (record { sets = sets_at net.sets st.node o st.act; book = with_events net.book (told_at net.sets st.node o st.act) }) × Stays net.book (with_events net.book (told_at net.sets st.node o st.act))
 step_case net st None k act e time = (k, λ x y e. e)
 step_case net st (Some s) k act e time = act_so net k st.node s e st.act act time
 
-pub step_kept : (net : Net) (st : Step) → Kept net → IsAct st.act → Timely allowed net.book (told_at net.sets st.node (slice_get net.sets st.node) st.act) → Kept (net_step net st) × Stays net.book (net_step net st).book
+pub step_kept : (net : Net) (st : Step) → Kept net → IsAct st.act → Timely allowance_at net.book (told_at net.sets st.node (slice_get net.sets st.node) st.act) → Kept (net_step net st) × Stays net.book (net_step net st).book
 step_kept net st k act time = step_case net st (slice_get net.sets st.node) k act refl time
 
-pub timely_parts : (allow : Book → Name → ℕ) (b : Book) (xs ys : List Event) → Timely allow b (xs ++ ys) → Timely allow b xs × Timely allow (noted_all b xs) ys
+pub timely_parts : (allow : Book → Name → ℕ) (b : Book) (xs ys : List Event) → Timely allow b (xs ++ ys) → Timely allow b xs × Timely allow (with_events b xs) ys
 timely_parts allow b [] ys t = (tt, t)
-timely_parts allow b (x ∷ xs) ys t = let r = timely_parts allow (noted b x) xs ys t.1 in ((t.0, r.0), r.1)
+timely_parts allow b (x ∷ xs) ys t = let r = timely_parts allow (with_event b x) xs ys t.1 in ((t.0, r.0), r.1)
 
-pub run_kept : (net : Net) (steps later : List Step) → Kept net → AreSteps (steps ++ later) → Timely allowed net.book (events_of net.sets (steps ++ later)) → Kept (net_run net steps)
+pub run_kept : (net : Net) (steps later : List Step) → Kept net → AreSteps (steps ++ later) → Timely allowance_at net.book (events_of net.sets (steps ++ later)) → Kept (net_run net steps)
 run_kept net [] later k are time = k
 run_kept net (st ∷ sts) later k are time =
     let told : List Event = told_at net.sets st.node (slice_get net.sets st.node) st.act in
-    let parts = timely_parts allowed net.book told (events_of (sets_at net.sets st.node (slice_get net.sets st.node) st.act) (sts ++ later)) time in
+    let parts = timely_parts allowance_at net.book told (events_of (sets_at net.sets st.node (slice_get net.sets st.node) st.act) (sts ++ later)) time in
     run_kept (net_step net st) sts later (step_kept net st k are.0 parts.0).0 are.1 parts.1
 
-pub run_stays : (net : Net) (steps : List Step) → Kept net → AreSteps steps → Timely allowed net.book (events_of net.sets steps) → (x y : Name) → partner net.book x ≡ Some y → partner (net_run net steps).book x ≡ Some y
+pub run_stays : (net : Net) (steps : List Step) → Kept net → AreSteps steps → Timely allowance_at net.book (events_of net.sets steps) → (x y : Name) → partner net.book x ≡ Some y → partner (net_run net steps).book x ≡ Some y
 run_stays net [] k are time x y e = e
 run_stays net (st ∷ sts) k are time x y e =
     let told : List Event = told_at net.sets st.node (slice_get net.sets st.node) st.act in
-    let parts = timely_parts allowed net.book told (events_of (sets_at net.sets st.node (slice_get net.sets st.node) st.act) sts) time in
+    let parts = timely_parts allowance_at net.book told (events_of (sets_at net.sets st.node (slice_get net.sets st.node) st.act) sts) time in
     let next = step_kept net st k are.0 parts.0 in
     run_stays (net_step net st) sts next.0 are.1 parts.1 x y (next.1 x y e)
 
 -- partners of a beginning of a run are so at its end
-pub later_stays : (net : Net) (steps later : List Step) → Kept net → AreSteps (steps ++ later) → Timely allowed net.book (events_of net.sets (steps ++ later))
+pub later_stays : (net : Net) (steps later : List Step) → Kept net → AreSteps (steps ++ later) → Timely allowance_at net.book (events_of net.sets (steps ++ later))
     → (x y : Name) → partner (net_run net steps).book x ≡ Some y → partner (net_run net (steps ++ later)).book x ≡ Some y
 later_stays net [] later k are time x y e = run_stays net later k are time x y e
 later_stays net (st ∷ sts) later k are time x y e =
     let told : List Event = told_at net.sets st.node (slice_get net.sets st.node) st.act in
-    let parts = timely_parts allowed net.book told (events_of (sets_at net.sets st.node (slice_get net.sets st.node) st.act) (sts ++ later)) time in
+    let parts = timely_parts allowance_at net.book told (events_of (sets_at net.sets st.node (slice_get net.sets st.node) st.act) (sts ++ later)) time in
     later_stays (net_step net st) sts later (step_kept net st k are.0 parts.0).0 are.1 parts.1 x y e

@@ -4,7 +4,7 @@ use Rattle.std.proofs.Common.{sym, ◌∙◌, ap, subst, inl, inr, arith, length
 use Rattle.std.proofs.lemmas.Bool.Decides.{nat_tests}
 use Rattle.ax_address.specs.Callsign.{Callsign}
 use Rattle.circuit_set.specs.Among.{Has}
-use Rattle.circuit_set.specs.Books.{Book, Fresh, HeardNote, SentNote, empty, first_place, has, heard_number, heard_sending, is_heard, latest_by, latest_in, noted, noted_all, partner_in, sends}
+use Rattle.circuit_set.specs.Books.{Book, Fresh, HeardNote, SentNote, empty, first_place, has, heard_number, heard_sending, is_heard, latest_by, latest_in, with_event, with_events, partner_in, sends}
 use Rattle.circuit_set.specs.Events.{Event, Name, same_name}
 use Rattle.circuit_set.specs.Sets.{Told, Made, Sent, Heeded, Notice, Gone, Restarted, Lost}
 use Rattle.circuit_set.specs.TooLate.{FirstSent, HeedsFragment, LatestSending, SendsFragment}
@@ -108,16 +108,16 @@ module _ (es : List Event) (fresh : Fresh empty es) (x : Name) (n : ℕ) (node :
       inr ((λ h. (let r : HeedsNote es w x d n = heeds_note h in let z = sym p ∙ r.partner_is in absurd (cc z))), refl)
   partner_case (Some y) p = sending_case y p (latest_in (book es).sent y d) refl
 
-  pub heard_turn : HeardTurn (noted (book es) e).heard
+  pub heard_turn : HeardTurn (with_event (book es) e).heard
   heard_turn = partner_case (partner_in (book es).made w) refl
 
 module _ (x : Name) (n : ℕ) where
   turn : (es : List Event) → Fresh empty es → (e : Event)
-      → (HeedsFragment x n es e × (is_heard x n (noted (book es) e).heard ≡ true)) ⊎ ((HeedsFragment x n es e → ⊥) × (is_heard x n (noted (book es) e).heard ≡ is_heard x n (book es).heard))
+      → (HeedsFragment x n es e × (is_heard x n (with_event (book es) e).heard ≡ true)) ⊎ ((HeedsFragment x n es e → ⊥) × (is_heard x n (with_event (book es) e).heard ≡ is_heard x n (book es).heard))
   turn es fresh e = by e.told
     where
       by : (t : Told) → (let k : Event = record { node = e.node; own = e.own; told = t } in
-          (HeedsFragment x n es k × (is_heard x n (noted (book es) k).heard ≡ true)) ⊎ ((HeedsFragment x n es k → ⊥) × (is_heard x n (noted (book es) k).heard ≡ is_heard x n (book es).heard)))
+          (HeedsFragment x n es k × (is_heard x n (with_event (book es) k).heard ≡ true)) ⊎ ((HeedsFragment x n es k → ⊥) × (is_heard x n (with_event (book es) k).heard ≡ is_heard x n (book es).heard)))
       by (Made id p at r) = inr ((λ h. absurd (cc (h.1.1))), refl)
       by (Sent id number sent) = inr ((λ h. absurd (cc (h.1.1))), refl)
       by (Heeded id d) = heard_turn es fresh x n e.node e.own id d
@@ -161,10 +161,10 @@ module _ (x : Name) (n : ℕ) where
     first = λ h k. (let z = sym h ∙ (sym (ap (has x n) s) ∙ k) in absurd (cc z));
   }
 
-  later : (b : Book) (e : Event) → Later b (noted b e)
+  later : (b : Book) (e : Event) → Later b (with_event b e)
   later b e = by e.told
     where
-      by : (t : Told) → Later b (noted b (record { node = e.node; own = e.own; told = t }))
+      by : (t : Told) → Later b (with_event b (record { node = e.node; own = e.own; told = t }))
       by (Made id p at r) = same_later b _ refl refl
       by (Sent id number sent) =
           let s : SentNote = record { who = record { node = e.node; id = id }; place = b.places; number = number; datagram = sent } in
@@ -179,34 +179,34 @@ module _ (x : Name) (n : ℕ) where
       by (Restarted q) = same_later b _ refl refl
       by (Lost id facts) = same_later b _ refl refl
 
-  stays_first : (es : List Event) (b : Book) → has x n b.sent ≡ true → first_place x n (noted_all b es).sent ≡ first_place x n b.sent
+  stays_first : (es : List Event) (b : Book) → has x n b.sent ≡ true → first_place x n (with_events b es).sent ≡ first_place x n b.sent
   stays_first [] b h = refl
-  stays_first (e ∷ es) b h = let r = (later b e).sent h in stays_first es (noted b e) r.0 ∙ r.1
+  stays_first (e ∷ es) b h = let r = (later b e).sent h in stays_first es (with_event b e) r.0 ∙ r.1
 
-  comes_first : (es : List Event) (b : Book) (k : ℕ) → has x n b.sent ≡ false → k ≤ b.places → has x n (noted_all b es).sent ≡ true → k ≤ first_place x n (noted_all b es).sent
+  comes_first : (es : List Event) (b : Book) (k : ℕ) → has x n b.sent ≡ false → k ≤ b.places → has x n (with_events b es).sent ≡ true → k ≤ first_place x n (with_events b es).sent
   comes_first [] b k h l t = let z = sym h ∙ t in absurd (cc z)
   comes_first (v ∷ es) b k h l t =
-      let p : (noted b v).places ≡ suc b.places = (later b v).places in
-      by (has x n (noted b v).sent) refl (λ q. comes_first es (noted b v) k q (omega (arith, p, l)) t)
+      let p : (with_event b v).places ≡ suc b.places = (later b v).places in
+      by (has x n (with_event b v).sent) refl (λ q. comes_first es (with_event b v) k q (omega (arith, p, l)) t)
     where
-      by : (c : Bool) → has x n (noted b v).sent ≡ c → (has x n (noted b v).sent ≡ false → k ≤ first_place x n (noted_all (noted b v) es).sent) → k ≤ first_place x n (noted_all (noted b v) es).sent
-      by true q rest = let a : first_place x n (noted_all (noted b v) es).sent ≡ b.places = stays_first es (noted b v) q ∙ (later b v).first h q in omega (arith, a, l)
+      by : (c : Bool) → has x n (with_event b v).sent ≡ c → (has x n (with_event b v).sent ≡ false → k ≤ first_place x n (with_events (with_event b v) es).sent) → k ≤ first_place x n (with_events (with_event b v) es).sent
+      by true q rest = let a : first_place x n (with_events (with_event b v) es).sent ≡ b.places = stays_first es (with_event b v) q ∙ (later b v).first h q in omega (arith, a, l)
       by false q rest = rest q
 
   -- a first sending stands among the events
   below : (es : List Event) → first_place x n (book es).sent ≤ length es - 1
   below = by_snoc (λ es. first_place x n (book es).sent ≤ length es - 1)
       (λ es e old. (let more : length (es ++ e ∷ []) ≡ length es + 1 = length-append es (e ∷ []) in
-      let same : first_place x n (book (es ++ e ∷ [])).sent ≡ first_place x n (noted (book es) e).sent = ap (λ (b : Book). first_place x n b.sent) (book_more es e) in
-      let now : first_place x n (noted (book es) e).sent ≤ length es = at es e old (has x n (book es).sent) refl (has x n (noted (book es) e).sent) refl in
+      let same : first_place x n (book (es ++ e ∷ [])).sent ≡ first_place x n (with_event (book es) e).sent = ap (λ (b : Book). first_place x n b.sent) (book_more es e) in
+      let now : first_place x n (with_event (book es) e).sent ≤ length es = at es e old (has x n (book es).sent) refl (has x n (with_event (book es) e).sent) refl in
       omega (arith, more, same, now)))
       (omega arith)
     where
-      at : (es : List Event) (e : Event) → first_place x n (book es).sent ≤ length es - 1 → (h : Bool) → has x n (book es).sent ≡ h → (c : Bool) → has x n (noted (book es) e).sent ≡ c → first_place x n (noted (book es) e).sent ≤ length es
-      at es e old true h c k = let a : first_place x n (noted (book es) e).sent ≡ first_place x n (book es).sent = ((later (book es) e).sent h).1 in omega (arith, a, old)
+      at : (es : List Event) (e : Event) → first_place x n (book es).sent ≤ length es - 1 → (h : Bool) → has x n (book es).sent ≡ h → (c : Bool) → has x n (with_event (book es) e).sent ≡ c → first_place x n (with_event (book es) e).sent ≤ length es
+      at es e old true h c k = let a : first_place x n (with_event (book es) e).sent ≡ first_place x n (book es).sent = ((later (book es) e).sent h).1 in omega (arith, a, old)
       at es e old false h true k =
-          let a : first_place x n (noted (book es) e).sent ≡ (book es).places = (later (book es) e).first h k in let p : (book es).places ≡ length es = places_are es in omega (arith, a, p)
-      at es e old false h false k = let a : first_place x n (noted (book es) e).sent ≡ 0 = none_place (noted (book es) e).sent k in omega (arith, a)
+          let a : first_place x n (with_event (book es) e).sent ≡ (book es).places = (later (book es) e).first h k in let p : (book es).places ≡ length es = places_are es in omega (arith, a, p)
+      at es e old false h false k = let a : first_place x n (with_event (book es) e).sent ≡ 0 = none_place (with_event (book es) e).sent k in omega (arith, a)
 
 -- ---- events before and since ----
 has_front : {P : Event → Type 0} (upto since : List Event) → Has (λ p e. P e) upto → Has (λ p e. P e) (upto ++ since)
@@ -241,7 +241,7 @@ module _ (x : Name) (n : ℕ) (upto since : List Event) (fresh : Fresh empty (up
   abbrev all : List Event
   all = upto ++ since
 
-  whole : book all ≡ noted_all (book upto) since
+  whole : book all ≡ with_events (book upto) since
   whole = noted_append empty upto since
 
   known : Has (λ p e. SendsFragment x n e) upto → has x n (book upto).sent ≡ true
@@ -273,10 +273,10 @@ module _ (x : Name) (n : ℕ) (upto since : List Event) (fresh : Fresh empty (up
   first_by : FirstSent upto since x n → (c : Bool) → has x n (book upto).sent ≡ c → nat_lt i (first_place x n (book all).sent) ≡ true
   first_by f true h = absurd (f.1 (marks (fragment_marks x n) upto (fresh_front upto since fresh) h))
   first_by f false h =
-      let t : has x n (noted_all (book upto) since).sent ≡ true = ap (λ (b : Book). has x n b.sent) (sym whole) ∙ marked (fragment_marks x n) all fresh (has_back {P = SendsFragment x n} upto since f.0) in
+      let t : has x n (with_events (book upto) since).sent ≡ true = ap (λ (b : Book). has x n b.sent) (sym whole) ∙ marked (fragment_marks x n) all fresh (has_back {P = SendsFragment x n} upto since f.0) in
       let p : (book upto).places ≡ length upto = places_are upto in
-      let a : length upto ≤ first_place x n (noted_all (book upto) since).sent = comes_first x n since (book upto) (length upto) h (omega (arith, p)) t in
-      let same : first_place x n (book all).sent ≡ first_place x n (noted_all (book upto) since).sent = ap (λ (b : Book). first_place x n b.sent) whole in
+      let a : length upto ≤ first_place x n (with_events (book upto) since).sent = comes_first x n since (book upto) (length upto) h (omega (arith, p)) t in
+      let same : first_place x n (book all).sent ≡ first_place x n (with_events (book upto) since).sent = ap (λ (b : Book). first_place x n b.sent) whole in
       let under : i < first_place x n (book all).sent = omega (arith, a, same, size) in
       grind (arith, nat_tests, under)
 

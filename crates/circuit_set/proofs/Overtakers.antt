@@ -4,7 +4,7 @@ use Rattle.std.specs.List.{AllByRecursion, IsDistinct, list_any}
 use Rattle.std.specs.Cmp.{IsEquivalence}
 use Rattle.std.proofs.Common.{sym, ◌∙◌, ap, subst, inl, inr, arith}
 use Rattle.std.proofs.lemmas.Map.Made.{length-le_from_is_member}
-use Rattle.circuit_set.specs.Books.{Book, Fresh, HeardNote, SentNote, empty, first_place, heard_number, heard_sending, is_heard, latest, noted, overtakers, overtakes}
+use Rattle.circuit_set.specs.Books.{Book, Fresh, HeardNote, SentNote, empty, first_place, heard_number, heard_sending, is_heard, latest_to, with_event, overtakers, overtakes}
 use Rattle.circuit_set.specs.Events.{Event, Name, same_name}
 use Rattle.circuit_set.specs.Sets.{Told, Made, Sent, Heeded, Notice, Gone, Restarted, Lost}
 use Rattle.circuit_set.specs.TooLate.{Overtaker, Overtakes, same_overtaker}
@@ -76,13 +76,13 @@ once_sending : (x : Name) (s : Option SentNote) (hs : List HeardNote) → Once h
 once_sending x None hs o = o
 once_sending x (Some s) hs o = once_number x s.number hs o
 
-once_more : (b : Book) (e : Event) → Once b.heard → Once (noted b e).heard
+once_more : (b : Book) (e : Event) → Once b.heard → Once (with_event b e).heard
 once_more b e o = by e.told
   where
-    by : (t : Told) → Once (noted b (record { node = e.node; own = e.own; told = t })).heard
+    by : (t : Told) → Once (with_event b (record { node = e.node; own = e.own; told = t })).heard
     by (Made id p at r) = o
     by (Sent id number d) = o
-    by (Heeded id d) = once_sending (record { node = e.node; id = id }) (latest b (record { node = e.node; id = id }) d) b.heard o
+    by (Heeded id d) = once_sending (record { node = e.node; id = id }) (latest_to b (record { node = e.node; id = id }) d) b.heard o
     by (Notice id n) = o
     by (Gone id facts) = o
     by (Restarted q) = o

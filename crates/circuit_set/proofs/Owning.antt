@@ -13,7 +13,7 @@ use Rattle.circuit_l4.specs.declared.transport.TransportRefusal.{TransportRefusa
 use Rattle.circuit_l4.specs.Reading.{transport_at}
 use Rattle.circuit_l4.specs.Table.{step}
 use Rattle.circuit_l4.specs.Opening.{facts_of}
-use Rattle.circuit_set.specs.Sets.{Act, Call, Calls, Comes, Connect, Discard, Restart, Holder, SetDone, SetState, accept_again, called, discarded, end_of, first_open, goes_to, handed, handed_up, has_ended, is_full, input_of, named_by, opened_by, with_end, Gone, Sent, datagram_to, read_as, received, requested_anew, requests, responds, set_step, untold}
+use Rattle.circuit_set.specs.Sets.{Act, Call, Calls, Comes, Connect, Discard, Restart, Holder, SetDone, SetState, accept_again, after_call, after_discarding, end_of, first_open, goes_to, hands_to, after_datagram, has_ended, is_full, input_of, named_by, opened_by, with_end, Gone, Sent, datagram_to, read_as, after_transport, after_new_request, requests, responds, set_step, does_nothing}
 use Rattle.circuit_set.specs.Inputs.{runs}
 
 pub record SameOwn (s t : SetState) : Type 0 where
@@ -28,16 +28,16 @@ either s true c d x y = x
 either s false c d x y = y
 
 module _ (s : SetState) where
-  named : (d : List ℕ) (t : Transport) (now : ℕ) (o : Option Holder) → SameOwn s (elim o as (λ x. SetDone) [ Some h ↦ handed s h d t now | None ↦ untold s ]).set
+  named : (d : List ℕ) (t : Transport) (now : ℕ) (o : Option Holder) → SameOwn s (elim o as (λ x. SetDone) [ Some h ↦ hands_to s h d t now | None ↦ does_nothing s ]).set
   named d t now (Some h) = record { own = refl; ttl = refl }
   named d t now None = same s
 
   asked : (origin : Callsign) (d : List ℕ) (pair : Pair) (window now : ℕ) (o : Option Holder)
-      → SameOwn s (elim o as (λ x. SetDone) [ Some h ↦ goes_to s h [] (accept_again h.end) | None ↦ requested_anew s origin d pair window now ]).set
+      → SameOwn s (elim o as (λ x. SetDone) [ Some h ↦ goes_to s h [] (accept_again h.end) | None ↦ after_new_request s origin d pair window now ]).set
   asked origin d pair window now (Some h) = record { own = refl; ttl = refl }
   asked origin d pair window now None = either s (is_full s) (record { set = s; told = Sent 0 None (datagram_to s origin (Refuse pair)) ∷ [] }) (responds s origin d pair window now) (same s) (record { own = refl; ttl = refl })
 
-  pub comes : (origin : Callsign) (d : List ℕ) (t : Transport) (now : ℕ) → SameOwn s (received s origin d t now).set
+  pub comes : (origin : Callsign) (d : List ℕ) (t : Transport) (now : ℕ) → SameOwn s (after_transport s origin d t now).set
   comes origin d (Request pair window user node) now = asked origin d pair window now (first_open (opened_by origin pair) s.ends)
   comes origin d (Accept to own window) now = named d (Accept to own window) now (first_open (named_by origin to) s.ends)
   comes origin d (Refuse to) now = named d (Refuse to) now (first_open (named_by origin to) s.ends)
@@ -50,23 +50,23 @@ module _ (s : SetState) where
   read origin d (Err e) now = same s
   read origin d (Ok t) now = comes origin d t now
 
-  headed : (d : List ℕ) (r : Result DatagramHead DatagramRefusal) (now : ℕ) → SameOwn s (handed_up s d r now).set
+  headed : (d : List ℕ) (r : Result DatagramHead DatagramRefusal) (now : ℕ) → SameOwn s (after_datagram s d r now).set
   headed d (Err e) now = same s
   headed d (Ok head) now =
-      either s (same_call head.origin s.own || not (same_call head.dest s.own)) (untold s) (read_as s head.origin d (transport_at (drop 15 d)) now) (same s) (read head.origin d (transport_at (drop 15 d)) now)
+      either s (same_call head.origin s.own || not (same_call head.dest s.own)) (does_nothing s) (read_as s head.origin d (transport_at (drop 15 d)) now) (same s) (read head.origin d (transport_at (drop 15 d)) now)
 
-  calls : (o : Option Holder) (call : Call) (now : ℕ) → SameOwn s (called s o call now).set
+  calls : (o : Option Holder) (call : Call) (now : ℕ) → SameOwn s (after_call s o call now).set
   calls None call now = same s
-  calls (Some h) call now = either s h.gone (untold s) (goes_to s h [] (step h.end (input_of call) now)) (same s) (record { own = refl; ttl = refl })
+  calls (Some h) call now = either s h.gone (does_nothing s) (goes_to s h [] (step h.end (input_of call) now)) (same s) (record { own = refl; ttl = refl })
 
-  discards : (o : Option Holder) → SameOwn s (discarded s o).set
+  discards : (o : Option Holder) → SameOwn s (after_discarding s o).set
   discards None = same s
   discards (Some h) =
       let d : SetDone = record { set = record s { ends = with_end (record h { gone = true }) s.ends }; told = Gone h.id (facts_of h.end) ∷ [] } in
-      either s (not h.gone && has_ended h.end.phase) d (untold s) (record { own = refl; ttl = refl }) (same s)
+      either s (not h.gone && has_ended h.end.phase) d (does_nothing s) (record { own = refl; ttl = refl }) (same s)
 
   pub step_own : (a : Act) → SameOwn s (set_step s a).set
-  step_own (Connect dest now) = either s (same_call dest s.own || is_full s) (untold s) (requests s dest now) (same s) (record { own = refl; ttl = refl })
+  step_own (Connect dest now) = either s (same_call dest s.own || is_full s) (does_nothing s) (requests s dest now) (same s) (record { own = refl; ttl = refl })
   step_own (Comes d now) = headed d (head_at d) now
   step_own (Calls id call now) = calls (end_of id s.ends) call now
   step_own (Discard id) = discards (end_of id s.ends)

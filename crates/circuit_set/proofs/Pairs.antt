@@ -3,7 +3,7 @@ use Rattle.std.specs.Prelude.{◌≡◌, ◌≢◌, ℕ, ◌+◌, ◌*◌, ◌-�
 use Rattle.std.proofs.Common.{sym, ◌∙◌, ap, arith}
 use Rattle.std.proofs.lemmas.Bool.Decides.{nat_tests}
 use Rattle.circuit_l4.specs.declared.transport.Pair.{Pair}
-use Rattle.circuit_set.specs.Pairs.{Change, Gives, Giving, Goes, IsPair, PairsDiffer, following, gave, given, is_full, is_used, next_free, pairs_given, without}
+use Rattle.circuit_set.specs.Pairs.{Change, Gives, Giving, Goes, IsPair, PairsDiffer, pair_after, after_giving, pair_given, is_full, is_used, next_free, pairs_given, without}
 use Rattle.circuit_set.proofs.Walks.{Walk, full, give_next, gone, next_place, give, places, skip, started, used}
 use Rattle.circuit_set.proofs.Places.{PlacesOk, Rising, all_places, started_ok}
 
@@ -48,7 +48,7 @@ following_case s n false e =
     let last : (s + n) % 255 ≡ 254 = omega arith in
     pair_is _ _ _ _ (omega arith) (last_case s n (nat_lt ((s + n) / 255 % 255 + 1) 255) refl last)
 
-following_at : (s n : ℕ) → following (at s n) ≡ at s (suc n)
+following_at : (s n : ℕ) → pair_after (at s n) ≡ at s (suc n)
 unfolding at
 following_at s n = following_case s n (nat_lt ((s + n) % 255 + 1) 255) refl
 
@@ -109,22 +109,22 @@ length_map s (q ∷ qs) = ap suc (length_map s qs)
 stands : ℕ → Walk → Giving
 stands s w = record { next = at s w.passed; held = map (at s) w.held }
 
-given_at : (s : ℕ) (w : Walk) → given (stands s w) ≡ at s (next_place 255 w.held w.passed)
+given_at : (s : ℕ) (w : Walk) → pair_given (stands s w) ≡ at s (next_place 255 w.held w.passed)
 unfolding stands
 given_at s w = free_at 255 s w.passed w.held
 
 giving_is : (a b : Pair) (xs ys : List Pair) → a ≡ b → xs ≡ ys → (let g : Giving = record { next = a; held = xs } in g) ≡ record { next = b; held = ys }
 giving_is a b xs ys e f = rw (e, f) refl
 
-gave_at : (s : ℕ) (w : Walk) → gave (stands s w) ≡ stands s (give_next 255 w)
+gave_at : (s : ℕ) (w : Walk) → after_giving (stands s w) ≡ stands s (give_next 255 w)
 unfolding stands
 gave_at s w =
     let p : ℕ = next_place 255 w.held w.passed in
     let v : Walk = give_next 255 w in
     let l : LeftAt w.held v p = left_at 255 w in
     let e : next_free 255 (map (at s) w.held) (at s w.passed) ≡ at s p = free_at 255 s w.passed w.held in
-    giving_is (following (next_free 255 (map (at s) w.held) (at s w.passed))) (at s v.passed) (map (at s) w.held ++ next_free 255 (map (at s) w.held) (at s w.passed) ∷ []) (map (at s) v.held)
-    (ap following e ∙ following_at s p ∙ ap (at s) (sym l.next))
+    giving_is (pair_after (next_free 255 (map (at s) w.held) (at s w.passed))) (at s v.passed) (map (at s) w.held ++ next_free 255 (map (at s) w.held) (at s w.passed) ∷ []) (map (at s) v.held)
+    (ap pair_after e ∙ following_at s p ∙ ap (at s) (sym l.next))
     (ap (λ x. map (at s) w.held ++ x ∷ []) e ∙ sym (map_push s p w.held) ∙ ap (λ qs. map (at s) qs) (sym l.has))
 
 gone_at : (s k : ℕ) (w : Walk) → (let g : Giving = record { next = (stands s w).next; held = without k (stands s w).held } in g) ≡ stands s (gone w k)
@@ -137,11 +137,11 @@ full_at s w = ap (λ n. nat_lt 63 n) (length_map s w.held)
 
 gives_case : (s : ℕ) (w : Walk) (more : List Change) (b : Bool) → pairs_given more (stands s w) ≡ map (at s) (places more w)
     → pairs_given more (stands s (give_next 255 w)) ≡ map (at s) (places more (give_next 255 w))
-    → (if b then pairs_given more (stands s w) else given (stands s w) ∷ pairs_given more (gave (stands s w)))
+    → (if b then pairs_given more (stands s w) else pair_given (stands s w) ∷ pairs_given more (after_giving (stands s w)))
     ≡ map (at s) (if b then places more w else next_place 255 w.held w.passed ∷ places more (give_next 255 w))
 gives_case s w more true h k = h
 gives_case s w more false h k =
-    ap (λ g. given (stands s w) ∷ pairs_given more g) (gave_at s w) ∙ ap (λ x. x ∷ pairs_given more (stands s (give_next 255 w))) (given_at s w)
+    ap (λ g. pair_given (stands s w) ∷ pairs_given more g) (gave_at s w) ∙ ap (λ x. x ∷ pairs_given more (stands s (give_next 255 w))) (given_at s w)
     ∙ ap (λ xs. at s (next_place 255 w.held w.passed) ∷ xs) k
 
 -- the pairs given are those of the places of the walk

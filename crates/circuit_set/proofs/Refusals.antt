@@ -24,7 +24,7 @@ use Rattle.circuit_l4.specs.Table.{Arrive, step}
 use Rattle.circuit_l4.proofs.Spelling as transports
 use Rattle.circuit_set.specs.Heeds.{heeds}
 use Rattle.circuit_set.specs.Refusals.{FromOne, IsNumbered, RefusalsAreUnheeded, RefusesUnder0, SetsRefuseUnder0, StartsAreNumbered}
-use Rattle.circuit_set.specs.Sets.{Call, Calls, Comes, Connect, Discard, Restart, Gone, Heeded, Holder, Lost, Made, Notice, Restarted, Sent, SetDone, SetState, Told, accept_again, all_gone, called, datagram_to, discarded, end_of, first_open, goes_to, handed, handed_up, has_ended, holder_of, input_of, is_open, is_full, is_over, losses, made, named_by, new_pair, notices, opened_by, read_as, received, requests, responds, sents, settled, told_by, untold, with_end}
+use Rattle.circuit_set.specs.Sets.{Call, Calls, Comes, Connect, Discard, Restart, Gone, Heeded, Holder, Lost, Made, Notice, Restarted, Sent, SetDone, SetState, Told, accept_again, all_gone, after_call, datagram_to, after_discarding, end_of, first_open, goes_to, hands_to, after_datagram, has_ended, holder_of, input_of, is_open, is_full, is_over, losses, makes_end, named_by, new_pair, notices, opened_by, read_as, after_transport, requests, responds, sendings, after_effect, told_by, does_nothing, with_end}
 use Rattle.circuit_set.proofs.Unheeded.{origin_read}
 
 -- ---- the numbers of ends ----
@@ -103,16 +103,16 @@ module _ (s : SetState) (n : IsNumbered s) where
   abbrev Fine : SetDone → Type 0
   Fine r = IsNumbered r.set × RefusesUnder0 r.told
 
-  stays : Fine (untold s)
+  stays : Fine (does_nothing s)
   stays = (n, tt)
 
-  sents_so : (id : ℕ) (at : Callsign) (os : List Out) → 1 ≤ id → RefusesUnder0 (sents s id at os)
+  sents_so : (id : ℕ) (at : Callsign) (os : List Out) → 1 ≤ id → RefusesUnder0 (sendings s id at os)
   sents_so id at [] one = tt
   sents_so id at (o ∷ os) one = (λ e. absurd (omega (arith, e, one)), sents_so id at os one)
 
   told_so : (h : Holder) (g : Effect) → 1 ≤ h.id → RefusesUnder0 (told_by s h g)
   told_so h g one =
-      both (sents s h.id h.at g.outs ++ notices h.id g.notes) _ (both (sents s h.id h.at g.outs) (notices h.id g.notes) (sents_so h.id h.at g.outs one) (notices_so h.id g.notes)) (by (is_over g.end))
+      both (sendings s h.id h.at g.outs ++ notices h.id g.notes) _ (both (sendings s h.id h.at g.outs) (notices h.id g.notes) (sents_so h.id h.at g.outs one) (notices_so h.id g.notes)) (by (is_over g.end))
     where
       by : (b : Bool) → RefusesUnder0 (if b then Gone h.id (facts_of g.end) ∷ [] else [])
       by true = tt
@@ -123,28 +123,28 @@ module _ (s : SetState) (n : IsNumbered s) where
   put h one = record { own = n.own; next = n.next; ends = one_with h s.ends one n.ends }
 
   goes_so : (h : Holder) (first : List Told) (g : Effect) → 1 ≤ h.id → RefusesUnder0 first → Fine (goes_to s h first g)
-  goes_so h first g one p = (put (settled h g) one, both first (told_by s h g) p (told_so h g one))
+  goes_so h first g one p = (put (after_effect h g) one, both first (told_by s h g) p (told_so h g one))
 
-  made_so : (at : Callsign) (asked : Option Pair) (request : Option (List ℕ)) (g : Effect) → Fine (made s at asked request g)
+  made_so : (at : Callsign) (asked : Option Pair) (request : Option (List ℕ)) (g : Effect) → Fine (makes_end s at asked request g)
   made_so at asked request g =
       let h : Holder = holder_of s at asked g in
       let next : 1 ≤ s.number = n.next in
       (record { own = n.own; next = omega (arith, next); ends = one_more h s.ends n.next n.ends }, told_so h g n.next)
 
-  either_so : (b : Bool) (r : SetDone) → Fine r → Fine (if b then untold s else r)
+  either_so : (b : Bool) (r : SetDone) → Fine r → Fine (if b then does_nothing s else r)
   either_so true r p = stays
   either_so false r p = p
 
-  called_so : (id : ℕ) (o : Option Holder) (call : Call) (now : ℕ) → end_of id s.ends ≡ o → Fine (called s o call now)
+  called_so : (id : ℕ) (o : Option Holder) (call : Call) (now : ℕ) → end_of id s.ends ≡ o → Fine (after_call s o call now)
   called_so id None call now e = stays
   called_so id (Some h) call now e =
       either_so h.gone (goes_to s h [] (step h.end (input_of call) now)) (goes_so h [] (step h.end (input_of call) now) (one_of id s.ends h n.ends e) tt)
 
-  discarded_so : (id : ℕ) (o : Option Holder) → end_of id s.ends ≡ o → Fine (discarded s o)
+  discarded_so : (id : ℕ) (o : Option Holder) → end_of id s.ends ≡ o → Fine (after_discarding s o)
   discarded_so id None e = stays
   discarded_so id (Some h) e = by (not h.gone && has_ended h.end.phase)
     where
-      by : (b : Bool) → Fine (if b then record { set = record s { ends = with_end (record h { gone = true }) s.ends }; told = Gone h.id (facts_of h.end) ∷ [] } else untold s)
+      by : (b : Bool) → Fine (if b then record { set = record s { ends = with_end (record h { gone = true }) s.ends }; told = Gone h.id (facts_of h.end) ∷ [] } else does_nothing s)
       by true = (put (record h { gone = true }) (one_of id s.ends h n.ends e), tt)
       by false = stays
 
@@ -167,12 +167,12 @@ module _ (s : SetState) (n : IsNumbered s) where
     requested_so origin pair window from (Some h) e = goes_so h [] (accept_again h.end) (one_open (opened_by origin pair) s.ends h n.ends e) tt
 
     arrives_so : (origin : Callsign) (to : Pair) (t : Transport) (o : Option Holder) → first_open (named_by origin to) s.ends ≡ o
-        → Fine (elim o as (λ x. SetDone) [ Some h ↦ handed s h d t now | None ↦ untold s ])
+        → Fine (elim o as (λ x. SetDone) [ Some h ↦ hands_to s h d t now | None ↦ does_nothing s ])
     arrives_so origin to t None e = stays
     arrives_so origin to t (Some h) e =
         goes_so h (if heeds h.end.phase t then Heeded h.id d ∷ [] else []) (step h.end (Arrive t) now) (one_open (named_by origin to) s.ends h n.ends e) (heeded_so h.id d (heeds h.end.phase t))
 
-    received_so : (origin : Callsign) → IsCallsign origin.letters origin.ssid → (t : Transport) → Fine (received s origin d t now)
+    received_so : (origin : Callsign) → IsCallsign origin.letters origin.ssid → (t : Transport) → Fine (after_transport s origin d t now)
     received_so origin from (Request pair window user node) = requested_so origin pair window from (first_open (opened_by origin pair) s.ends) refl
     received_so origin from (Accept to own window) = arrives_so origin to (Accept to own window) (first_open (named_by origin to) s.ends) refl
     received_so origin from (Refuse to) = arrives_so origin to (Refuse to) (first_open (named_by origin to) s.ends) refl
@@ -185,7 +185,7 @@ module _ (s : SetState) (n : IsNumbered s) where
     read_so origin from (Err why) = stays
     read_so origin from (Ok t) = received_so origin from t
 
-    came_so : (r : Result DatagramHead DatagramRefusal) → head_at d ≡ r → Fine (handed_up s d r now)
+    came_so : (r : Result DatagramHead DatagramRefusal) → head_at d ≡ r → Fine (after_datagram s d r now)
     came_so (Err why) e = stays
     came_so (Ok head) e =
         either_so (same_call head.origin s.own || not (same_call head.dest s.own)) (read_as s head.origin d (transport_at (drop 15 d)) now)

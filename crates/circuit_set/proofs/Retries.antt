@@ -6,8 +6,8 @@ use Rattle.circuit_l4.specs.declared.transport.Pair.{Pair}
 use Rattle.circuit_l4.specs.declared.notice.EndNotice.{EndNotice}
 use Rattle.circuit_l4.specs.State.{Effect, State}
 use Rattle.circuit_l4.specs.Opening.{facts_of}
-use Rattle.circuit_set.specs.Sets.{Act, Calls, Comes, Connect, Discard, Restart, Made, Sent, Heeded, Gone, Restarted, Holder, SetDone, SetState, end_of, goes_to, holder_of, is_over, losses, made, new_pair, restarted, set_step, told_by, with_end}
-use Rattle.circuit_set.specs.Books.{Book, noted, noted_all}
+use Rattle.circuit_set.specs.Sets.{Act, Calls, Comes, Connect, Discard, Restart, Made, Sent, Heeded, Gone, Restarted, Holder, SetDone, SetState, end_of, goes_to, holder_of, is_over, losses, makes_end, new_pair, after_restart, set_step, told_by, with_end}
+use Rattle.circuit_set.specs.Books.{Book, with_event, with_events}
 use Rattle.circuit_set.specs.Events.{Name}
 use Rattle.circuit_set.specs.NotedRuns.{Net, begins, end_at, told_to}
 use Rattle.circuit_set.specs.Runs.{AreStarts, Step, events_at, sets_at, told_at}
@@ -42,14 +42,14 @@ or_true false = refl
 
 module _ (net : Net) (sets : SetsOk net) (live : AllLive net) (n : ℕ) (s : SetState) (here : slice_get net.sets n ≡ Some s) where
   abbrev After : SetDone → Net
-  After done = record { sets = slice_set net.sets n done.set; book = noted_all net.book (events_at n s.own done.told) }
+  After done = record { sets = slice_set net.sets n done.set; book = with_events net.book (events_at n s.own done.told) }
 
   abbrev P : SetDone → Type 0
   P done = AllLive (After done)
 
   heeded_made : (h : Holder) (b : Bool) (d : List ℕ) (g : Effect)
-      → (noted_all net.book (events_at n s.own ((if b then Heeded h.id d ∷ [] else []) ++ told_by s h g))).made ≡ with_notices (record { node = n; id = h.id }) g.notes net.book.made
-  heeded_made h true d g = (told_noted s n s.own h g (noted net.book (record { node = n; own = s.own; told = Heeded h.id d }))).made
+      → (with_events net.book (events_at n s.own ((if b then Heeded h.id d ∷ [] else []) ++ told_by s h g))).made ≡ with_notices (record { node = n; id = h.id }) g.notes net.book.made
+  heeded_made h true d g = (told_noted s n s.own h g (with_event net.book (record { node = n; own = s.own; told = Heeded h.id d }))).made
   heeded_made h false d g = (told_noted s n s.own h g net.book).made
 
   -- ---- an end that was made ----
@@ -77,7 +77,7 @@ module _ (net : Net) (sets : SetsOk net) (live : AllLive net) (n : ℕ) (s : Set
   moves_so : (h : Holder) (b : Bool) (d : List ℕ) (g : Effect) → end_of h.id s.ends ≡ Some h → h.gone ≡ false → SameEnd h.end g.end → Ends h.end g → Says h b d g → Lives h.end g
       → P (goes_to s h (if b then Heeded h.id d ∷ [] else []) g)
   moves_so h b d g there held same ends says lives z j q =
-      changed h g.end (is_over g.end) (noted_all net.book (events_at n s.own ((if b then Heeded h.id d ∷ [] else []) ++ told_by s h g))) g.notes there (heeded_made h b d g) lives z j q
+      changed h g.end (is_over g.end) (with_events net.book (events_at n s.own ((if b then Heeded h.id d ∷ [] else []) ++ told_by s h g))) g.notes there (heeded_made h b d g) lives z j q
       (same_or (record { node = n; id = h.id }) z)
 
   nil_right : (ns : List EndNotice) → ns ++ [] ≡ ns
@@ -87,41 +87,41 @@ module _ (net : Net) (sets : SetsOk net) (live : AllLive net) (n : ℕ) (s : Set
   leaves_so : (h : Holder) → end_of h.id s.ends ≡ Some h → h.gone ≡ false
       → P (record { set = record s { ends = with_end (record h { gone = true }) s.ends }; told = Gone h.id (facts_of h.end) ∷ [] })
   leaves_so h there held z j q =
-      changed h h.end true (noted_all net.book (events_at n s.own (Gone h.id (facts_of h.end) ∷ []))) [] there refl (λ ns l. subst (λ ms. Lived h.end ms) (sym (nil_right ns)) l) z j q
+      changed h h.end true (with_events net.book (events_at n s.own (Gone h.id (facts_of h.end) ∷ []))) [] there refl (λ ns l. subst (λ ms. Lived h.end ms) (sym (nil_right ns)) l) z j q
       (same_or (record { node = n; id = h.id }) z)
 
   refused_so : (d : List ℕ) → P (record { set = s; told = Sent 0 None d ∷ [] })
   refused_so d =
-      let c : Book = noted net.book (record { node = n; own = s.own; told = Sent 0 None d }) in
+      let c : Book = with_event net.book (record { node = n; own = s.own; told = Sent 0 None d }) in
       let now : AllLive (record { sets = net.sets; book = c }) = λ x h e. (let o : LivesOn net x h = live x h e in record { note = o.note; lived = o.lived }) in
       subst (λ ss. AllLive (record { sets = ss; book = c })) (sym (set_self net.sets n s here)) now
 
   -- ---- an end that is made ----
-  new_case : (at : Callsign) (asked : Option Pair) (request : Option (List ℕ)) (g : Effect) → IsNew s asked request g → (z : Name) (j : Holder) → end_at (After (made s at asked request g)) z ≡ Some j
-      → ((let y : Name = record { node = n; id = s.number } in y) ≡ z) ⊎ ((let y : Name = record { node = n; id = s.number } in y) ≡ z → ⊥) → LivesOn (After (made s at asked request g)) z j
+  new_case : (at : Callsign) (asked : Option Pair) (request : Option (List ℕ)) (g : Effect) → IsNew s asked request g → (z : Name) (j : Holder) → end_at (After (makes_end s at asked request g)) z ≡ Some j
+      → ((let y : Name = record { node = n; id = s.number } in y) ≡ z) ⊎ ((let y : Name = record { node = n; id = s.number } in y) ≡ z → ⊥) → LivesOn (After (makes_end s at asked request g)) z j
   new_case at asked request g new z j q (inl same) =
       let h : Holder = holder_of s at asked g in
       let y : Name = record { node = n; id = s.number } in
-      let b : Book = noted net.book (record { node = n; own = s.own; told = Made s.number (new_pair s) at request }) in
-      let c : Book = noted_all b (events_at n s.own (told_by s h g)) in
+      let b : Book = with_event net.book (record { node = n; own = s.own; told = Made s.number (new_pair s) at request }) in
+      let c : Book = with_events b (events_at n s.own (told_by s h g)) in
       let none_yet : end_of s.number s.ends ≡ None = none_of s.number s.ends (sets n s here).below in
       let made_is : c.made ≡ with_notices y g.notes b.made = (told_noted s n s.own h g b).made in
       let noted_y : has_note b.made y ≡ true = ap (λ v. v || has_note net.book.made y) (name_itself y) in
-      let is : h ≡ j = same_holder h j (end_at (After (made s at asked request g)) z) (subst (λ w. end_at (After (made s at asked request g)) w ≡ Some h) same (stepped.end_here net n s here (made s at asked request g).set h c refl refl none_yet)) q in
+      let is : h ≡ j = same_holder h j (end_at (After (makes_end s at asked request g)) z) (subst (λ w. end_at (After (makes_end s at asked request g)) w ≡ Some h) same (stepped.end_here net n s here (makes_end s at asked request g).set h c refl refl none_yet)) q in
       let told : told_to c.made y ≡ g.notes = ap (λ ms. told_to ms y) made_is ∙ all_noticed y g.notes b.made noted_y ∙ ap (λ v. (if v then [] else told_to net.book.made y) ++ g.notes) (name_itself y) in
-      let now : LivesOn (After (made s at asked request g)) y h = record {
+      let now : LivesOn (After (makes_end s at asked request g)) y h = record {
         note = ap (λ ms. has_note ms y) made_is ∙ same_notes y y g.notes b.made ∙ noted_y;
         lived = subst (λ ns. Lived g.end ns) (sym told) new.lives;
       } in
-      subst (λ w. LivesOn (After (made s at asked request g)) w j) same (subst (λ (i : Holder). LivesOn (After (made s at asked request g)) y i) is now)
+      subst (λ w. LivesOn (After (makes_end s at asked request g)) w j) same (subst (λ (i : Holder). LivesOn (After (makes_end s at asked request g)) y i) is now)
   new_case at asked request g new z j q (inr far) =
       let h : Holder = holder_of s at asked g in
       let y : Name = record { node = n; id = s.number } in
-      let b : Book = noted net.book (record { node = n; own = s.own; told = Made s.number (new_pair s) at request }) in
-      let c : Book = noted_all b (events_at n s.own (told_by s h g)) in
+      let b : Book = with_event net.book (record { node = n; own = s.own; told = Made s.number (new_pair s) at request }) in
+      let c : Book = with_events b (events_at n s.own (told_by s h g)) in
       let none_yet : end_of s.number s.ends ≡ None = none_of s.number s.ends (sets n s here).below in
       let made_is : c.made ≡ with_notices y g.notes b.made = (told_noted s n s.own h g b).made in
-      let o : LivesOn net z j = live z j (sym (stepped.end_other net n s here (made s at asked request g).set h c refl refl none_yet z far) ∙ q) in
+      let o : LivesOn net z j = live z j (sym (stepped.end_other net n s here (makes_end s at asked request g).set h c refl refl none_yet z far) ∙ q) in
       let told : told_to c.made z ≡ told_to net.book.made z = ap (λ ms. told_to ms z) made_is ∙ none_noticed y z g.notes b.made far ∙ ap (λ v. if v then [] else told_to net.book.made z) (not_same y z far) in
       let note : has_note c.made z ≡ true = ap (λ ms. has_note ms z) made_is ∙ same_notes y z g.notes b.made ∙ ap (λ v. v || has_note net.book.made z) (not_same y z far) ∙ o.note in
       record { note = note; lived = subst (λ ns. Lived j.end ns) (sym told) o.lived }
@@ -136,9 +136,9 @@ module _ (net : Net) (sets : SetsOk net) (live : AllLive net) (n : ℕ) (s : Set
   }
 
   -- ---- the node starts again ----
-  again_so : (pair : Pair) (more : ℕ) → AllLive (After (restarted s pair more))
+  again_so : (pair : Pair) (more : ℕ) → AllLive (After (after_restart s pair more))
   again_so pair more z j q =
-      let c : Book = noted_all net.book (events_at n s.own (Restarted pair ∷ losses s.ends)) in
+      let c : Book = with_events net.book (events_at n s.own (Restarted pair ∷ losses s.ends)) in
       let b : Book = record { places = suc net.book.places; made = net.book.made; sent = net.book.sent; heard = net.book.heard } in
       let made_is : c.made ≡ net.book.made = ap (λ (a : Book). a.made) (noted_losses n s.own s.ends b).2 in
       let r = stepped.was_lost net n s here pair more c z j (nat_eq z.node n) refl q in
@@ -160,7 +160,7 @@ module _ (net : Net) (sets : SetsOk net) (live : AllLive net) (n : ℕ) (s : Set
 abbrev pub Both : Net → Type 0
 Both net = SetsOk net × AllLive net
 
-pub step_lives : (net : Net) (st : Step) (o : Option SetState) → Both net → slice_get net.sets st.node ≡ o → Both (record { sets = sets_at net.sets st.node o st.act; book = noted_all net.book (told_at net.sets st.node o st.act) })
+pub step_lives : (net : Net) (st : Step) (o : Option SetState) → Both net → slice_get net.sets st.node ≡ o → Both (record { sets = sets_at net.sets st.node o st.act; book = with_events net.book (told_at net.sets st.node o st.act) })
 step_lives net st None b e = b
 step_lives net st (Some s) b e = (act_sets net b.0 b.1 st.node s e st.act, act_lives net b.0 b.1 st.node s e st.act)
 

@@ -7,14 +7,14 @@ use Rattle.circuit_l4.specs.Reading as reading
 use Rattle.circuit_l4.specs.Reading.{transport_at}
 use Rattle.circuit_set.specs.Books.{Fresh, empty}
 use Rattle.circuit_set.specs.Events.{Event}
-use Rattle.circuit_set.specs.Examples.{CopyReturns, ask, asked_again, here, node, there}
+use Rattle.circuit_set.specs.Examples.{CopyReturns, ask, asked_again, n0aaa, node, n0bbb}
 use Rattle.circuit_set.specs.Givings.{pairs_made}
 use Rattle.circuit_set.specs.Returning.{CallsDiffer, WasSent, given_by, told_of}
 use Rattle.circuit_set.specs.Runs.{Step, events_of}
 use Rattle.circuit_set.specs.Sets.{Act, Comes, Made, Sent, Heeded, Notice, Gone, Restarted, Lost, SetState, Told}
 
 abbrev both : List SetState
-both = node here ∷ node there ∷ []
+both = node n0aaa ∷ node n0bbb ∷ []
 
 stale : Fresh empty (events_of both asked_again) → ⊥
 unfolding head_at transport_at reading.request_at
@@ -46,19 +46,19 @@ few : (n : ℕ) → given_by n (events_of both asked_again) ≤ 48960
 few n = let l : given_by n (events_of both asked_again) ≤ length (events_of both asked_again) = few_given n (events_of both asked_again) in let m : length (events_of both asked_again) ≡ 10 = events_are in omega arith
 
 -- ---- two calls ----
-not_both : (P : Type 0) → here ≡ there → P
-not_both P e = let bad : false ≡ true = ap (λ c. same_call c there) e in cc
+not_both : (P : Type 0) → n0aaa ≡ n0bbb → P
+not_both P e = let bad : false ≡ true = ap (λ c. same_call c n0bbb) e in cc
 
 calls_differ : CallsDiffer both
 calls_differ zero zero s t e f same = refl
 calls_differ (suc zero) (suc zero) s t e f same = refl
 calls_differ zero (suc zero) s t e f same =
-    let a : node here ≡ s = cc in
-    let b : node there ≡ t = cc in
+    let a : node n0aaa ≡ s = cc in
+    let b : node n0bbb ≡ t = cc in
     not_both (0 ≡ 1) (ap (λ (u : SetState). u.own) a ∙ same ∙ sym (ap (λ (u : SetState). u.own) b))
 calls_differ (suc zero) zero s t e f same =
-    let a : node there ≡ s = cc in
-    let b : node here ≡ t = cc in
+    let a : node n0bbb ≡ s = cc in
+    let b : node n0aaa ≡ t = cc in
     not_both (1 ≡ 0) (ap (λ (u : SetState). u.own) b ∙ sym same ∙ sym (ap (λ (u : SetState). u.own) a))
 calls_differ (suc (suc i)) j s t e f same = cc
 calls_differ zero (suc (suc j)) s t e f same = cc
@@ -66,11 +66,11 @@ calls_differ (suc zero) (suc (suc j)) s t e f same = cc
 
 -- ---- what comes was sent ----
 first_sent : WasSent (events_of both (take 1 asked_again)) ask
-first_sent = record { node = 0; own = here; id = 1; number = None; sent = ask; told = (1, lit< tt, refl); copy = refl }
+first_sent = record { node = 0; own = n0aaa; id = 1; number = None; sent = ask; told = (1, lit< tt, refl); copy = refl }
 
 then_sent : WasSent (events_of both (take 3 asked_again)) ask
 unfolding head_at transport_at reading.request_at
-then_sent = record { node = 0; own = here; id = 1; number = None; sent = ask; told = (1, lit< tt, refl); copy = refl }
+then_sent = record { node = 0; own = n0aaa; id = 1; number = None; sent = ask; told = (1, lit< tt, refl); copy = refl }
 
 -- what comes by the step at a place
 abbrev comes_by : Act → Option (List ℕ)

@@ -6,13 +6,13 @@ use Rattle.ax_address.specs.Callsign.{Callsign}
 use Rattle.circuit_l4.specs.declared.transport.Pair.{Pair}
 use Rattle.circuit_l4.specs.declared.role.Role.{Role}
 use Rattle.circuit_l4.specs.State.{Effect}
-use Rattle.circuit_set.specs.Books.{Book, empty, has_sent, lost_with, noted, noted_all}
+use Rattle.circuit_set.specs.Books.{Book, empty, has_sent, lost_with, with_event, with_events}
 use Rattle.circuit_set.specs.Events.{Event, Name, is_copy, same_name}
 use Rattle.circuit_set.specs.NotedRuns.{Net, begins, net_step}
 use Rattle.circuit_set.specs.Givings.{IsUp, pairs_made}
 use Rattle.circuit_set.specs.Returning.{CopiesAloneReturn, FreshButFrom, IsUnbroken, WasSent}
 use Rattle.circuit_set.specs.Runs.{AreSteps, IsAct, Step, events_at, events_of, sets_at, told_at}
-use Rattle.circuit_set.specs.Sets.{Act, Comes, Made, Sent, Heeded, Notice, Gone, Restarted, Lost, Holder, SetDone, SetState, Told, holder_of, made, new_pair, set_step, told_by}
+use Rattle.circuit_set.specs.Sets.{Act, Comes, Made, Sent, Heeded, Notice, Gone, Restarted, Lost, Holder, SetDone, SetState, Told, holder_of, makes_end, new_pair, set_step, told_by}
 use Rattle.circuit_set.proofs.Askers.{asked_or_returned, no_other}
 use Rattle.circuit_set.proofs.Bridge.{name_itself}
 use Rattle.circuit_set.proofs.Cases.{Every, MadeBy, Opener, step_every}
@@ -27,9 +27,9 @@ use Rattle.circuit_set.proofs.Retries.{Both, start_lives, step_lives}
 use Rattle.circuit_set.proofs.Unrepeated.{AllDiffer, Differ, FarFrom, events_differ, new_far}
 
 -- ---- what is told ----
-fresh_append : (b : Book) (lost : List Name) (xs ys : List Event) → FreshButFrom b lost xs → FreshButFrom (noted_all b xs) (lost_all lost xs) ys → FreshButFrom b lost (xs ++ ys)
+fresh_append : (b : Book) (lost : List Name) (xs ys : List Event) → FreshButFrom b lost xs → FreshButFrom (with_events b xs) (lost_all lost xs) ys → FreshButFrom b lost (xs ++ ys)
 fresh_append b lost [] ys p q = q
-fresh_append b lost (x ∷ xs) ys p q = (p.0, fresh_append (noted b x) (lost_with lost x.node x.told) xs ys p.1 q)
+fresh_append b lost (x ∷ xs) ys p q = (p.0, fresh_append (with_event b x) (lost_with lost x.node x.told) xs ys p.1 q)
 
 -- where no end is made all is fresh
 none_made : (ts : List Told) (b : Book) (lost : List Name) (n : ℕ) (own : Callsign) → pairs_made ts ≡ [] → FreshButFrom b lost (events_at n own ts)
@@ -48,10 +48,10 @@ or_true true = refl
 or_true false = refl
 
 -- what was sent stays so
-still_sent : (b : Book) (e : Event) (x : Name) (d : List ℕ) → has_sent b.sent x d ≡ true → has_sent (noted b e).sent x d ≡ true
+still_sent : (b : Book) (e : Event) (x : Name) (d : List ℕ) → has_sent b.sent x d ≡ true → has_sent (with_event b e).sent x d ≡ true
 still_sent b e x d h = by e.told
   where
-    by : (t : Told) → has_sent (noted b (record { node = e.node; own = e.own; told = t })).sent x d ≡ true
+    by : (t : Told) → has_sent (with_event b (record { node = e.node; own = e.own; told = t })).sent x d ≡ true
     by (Made id pair at request) = h
     by (Sent id number s) = ap (λ v. (same_name (record { node = e.node; id = id }) x && is_copy d s) || v) h ∙ or_true (same_name (record { node = e.node; id = id }) x && is_copy d s)
     by (Heeded id s) = h
@@ -60,20 +60,20 @@ still_sent b e x d h = by e.told
     by (Restarted pair) = h
     by (Lost id facts) = h
 
-all_sent : (es : List Event) (b : Book) (x : Name) (d : List ℕ) → has_sent b.sent x d ≡ true → has_sent (noted_all b es).sent x d ≡ true
+all_sent : (es : List Event) (b : Book) (x : Name) (d : List ℕ) → has_sent b.sent x d ≡ true → has_sent (with_events b es).sent x d ≡ true
 all_sent [] b x d h = h
-all_sent (e ∷ es) b x d h = all_sent es (noted b e) x d (still_sent b e x d h)
+all_sent (e ∷ es) b x d h = all_sent es (with_event b e) x d (still_sent b e x d h)
 
 told_sent : (es : List Event) (b : Book) (i node id : ℕ) (own : Callsign) (number : Option ℕ) (s d : List ℕ)
-    → (let e : Event = record { node = node; own = own; told = Sent id number s } in i < length es → get_or es i e ≡ e → is_copy d s ≡ true → has_sent (noted_all b es).sent (record { node = node; id = id }) d ≡ true)
+    → (let e : Event = record { node = node; own = own; told = Sent id number s } in i < length es → get_or es i e ≡ e → is_copy d s ≡ true → has_sent (with_events b es).sent (record { node = node; id = id }) d ≡ true)
 told_sent [] b i node id own number s d l e c = absurd (omega arith)
 told_sent (x ∷ es) b zero node id own number s d l e c =
     let now : Event = record { node = node; own = own; told = Sent id number s } in
     let name : Name = record { node = node; id = id } in
-    let here : has_sent (noted b now).sent name d ≡ true =
+    let here : has_sent (with_event b now).sent name d ≡ true =
     ap (λ v. (v && is_copy d s) || has_sent b.sent name d) (name_itself name) ∙ ap (λ v. v || has_sent b.sent name d) c in
-    subst (λ (y : Event). has_sent (noted_all (noted b y) es).sent name d ≡ true) (sym e) (all_sent es (noted b now) name d here)
-told_sent (x ∷ es) b (suc i) node id own number s d l e c = told_sent es (noted b x) i node id own number s d (omega arith) e c
+    subst (λ (y : Event). has_sent (with_events (with_event b y) es).sent name d ≡ true) (sym e) (all_sent es (with_event b now) name d here)
+told_sent (x ∷ es) b (suc i) node id own number s d l e c = told_sent es (with_event b x) i node id own number s d (omega arith) e c
 
 -- ---- a step ----
 module _ (net : Net) (k : Known net) (left : GoneEnded net) (both : Both net) (before : List Event) (differ : Differ before net.book) (lost : List Name) (n : ℕ) (s : SetState) (here : slice_get net.sets n ≡ Some s) (a : Act)
@@ -96,14 +96,14 @@ module _ (net : Net) (k : Known net) (left : GoneEnded net) (both : Both net) (b
   request_case at role None (Some d) id pair by far b f = absurd by
   request_case at role (Some p) None id pair by far b f = absurd by
 
-  makes_so : (at : Callsign) (asked : Option Pair) (request : Option (List ℕ)) (g : Effect) → MadeBy s a at g.end.role asked request → P (made s at asked request g)
+  makes_so : (at : Callsign) (asked : Option Pair) (request : Option (List ℕ)) (g : Effect) → MadeBy s a at g.end.role asked request → P (makes_end s at asked request g)
   makes_so at asked request g by post all =
       let h : Holder = holder_of s at asked g in
       let e : Event = record { node = n; own = s.own; told = Made s.number (new_pair s) at request } in
       let rest : List Event = events_at n s.own (told_by s h g) in
       let far : FarFrom n (new_pair s) net.book.made = new_far before (rest ++ post) n s.own s.number (new_pair s) at request net.book.made all differ.0 in
       fresh_append net.book lost (e ∷ []) rest (request_case at g.end.role asked request s.number (new_pair s) by far net.book tt)
-      (none_made (told_by s h g) (noted net.book e) lost n s.own (told_none s h g))
+      (none_made (told_by s h g) (with_event net.book e) lost n s.own (told_none s h g))
 
   every : Every s a P
   every = record {
@@ -125,8 +125,8 @@ abbrev StepOk : Net → List Event → List Name → Step → Option SetState �
 StepOk net before lost st o post =
     let told : List Event = told_at net.sets st.node o st.act in
     AllDiffer (before ++ (told ++ post)) →
-    FreshButFrom net.book lost told × Known (record { sets = sets_at net.sets st.node o st.act; book = noted_all net.book told })
-    × GoneEnded (record { sets = sets_at net.sets st.node o st.act; book = noted_all net.book told })
+    FreshButFrom net.book lost told × Known (record { sets = sets_at net.sets st.node o st.act; book = with_events net.book told })
+    × GoneEnded (record { sets = sets_at net.sets st.node o st.act; book = with_events net.book told })
 
 step_fresh : (net : Net) (k : Known net) (left : GoneEnded net) (both : Both net) (before : List Event) (differ : Differ before net.book) (lost : List Name) (st : Step)
     → ((d : List ℕ) (now : ℕ) → st.act ≡ Comes d now → (x : Name) × (has_sent net.book.sent x d ≡ true)) → IsAct st.act → IsUp st.act → (o : Option SetState) → slice_get net.sets st.node ≡ o → (post : List Event) → StepOk net before lost st o post
@@ -140,7 +140,7 @@ step_fresh net k left both before differ lost st sent is up (Some s) e post all 
 module _ (sets : List SetState) (steps : List Step) (unbroken : IsUnbroken sets steps) (all : AllDiffer (events_of sets steps)) where
   -- where the run stands after some of its steps
   record Stands (done : List Step) (net : Net) : Type 0 where
-    book : net.book ≡ noted_all empty (events_of sets done)
+    book : net.book ≡ with_events empty (events_of sets done)
     goes : (more : List Step) → events_of sets (done ++ more) ≡ events_of sets done ++ events_of net.sets more
     known : Known net
     left : GoneEnded net
@@ -164,7 +164,7 @@ module _ (sets : List SetState) (steps : List Step) (unbroken : IsUnbroken sets 
       let r = step_fresh net k.known k.left k.both (events_of sets done) k.differ lost st (sent_before done sts net st k e) are.0 up.0 (slice_get net.sets st.node) refl post (subst AllDiffer whole all) in
       let one : events_of sets (done ++ st ∷ []) ≡ events_of sets done ++ told = k.goes (st ∷ []) ∙ ap (λ es. events_of sets done ++ es) (append-nil told) in
       let stands : Stands (done ++ st ∷ []) next = record {
-        book = ap (λ (b : Book). noted_all b told) k.book ∙ sym (noted_append empty (events_of sets done) told) ∙ ap (noted_all empty) (sym one);
+        book = ap (λ (b : Book). with_events b told) k.book ∙ sym (noted_append empty (events_of sets done) told) ∙ ap (with_events empty) (sym one);
         goes = λ more.
             ap (events_of sets) (append_assoc done (st ∷ []) more) ∙ k.goes (st ∷ more) ∙ sym (append_assoc (events_of sets done) told (events_of next.sets more))
             ∙ ap (λ es. es ++ events_of next.sets more) (sym one);

@@ -7,7 +7,7 @@ use Rattle.circuit_l4.specs.State.{State}
 use Rattle.circuit_set.specs.Circuits.{SafeTo}
 use Rattle.circuit_set.specs.Beginnings.{IsBeginning, wholes}
 use Rattle.circuit_set.specs.Events.{Name}
-use Rattle.circuit_set.specs.NotedRuns.{Net, PartnersStay, WindowsFit, allowed, begins, end_at, net_run, told_to}
+use Rattle.circuit_set.specs.NotedRuns.{Net, PartnersStay, WindowsFit, allowance_at, begins, end_at, net_run, told_to}
 use Rattle.circuit_set.specs.Sets.{Holder, SetState, end_of}
 use Rattle.circuit_set.specs.Books.{Timely, empty, partner}
 use Rattle.circuit_set.specs.Runs.{AreStarts, AreSteps, IsStart, Step, events_of, end_in}
@@ -79,7 +79,7 @@ circuit_case net k x h i (Some y) e =
 pub circuits_now : (net : Net) → Kept net → (x : Name) (h : Holder) → end_at net x ≡ Some h → SafeWith net x h (partner net.book x)
 circuits_now net k x h e = circuit_case net k x h (k.ends x h e) (partner net.book x) refl
 
-pub circuits_kept : (sets : List SetState) → AreStarts sets → (steps later : List Step) → AreSteps (steps ++ later) → Timely allowed empty (events_of sets (steps ++ later)) → Kept (net_run (begins sets) steps)
+pub circuits_kept : (sets : List SetState) → AreStarts sets → (steps later : List Step) → AreSteps (steps ++ later) → Timely allowance_at empty (events_of sets (steps ++ later)) → Kept (net_run (begins sets) steps)
 circuits_kept sets starts steps later are timely = run_kept (begins sets) steps later (start_kept sets starts) are timely
 
 pub windows_fit : WindowsFit

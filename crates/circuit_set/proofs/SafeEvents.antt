@@ -5,9 +5,9 @@ use Rattle.ax_address.specs.Callsign.{Callsign}
 use Rattle.circuit_l4.specs.declared.notice.EndNotice.{EndNotice}
 use Rattle.circuit_l4.specs.declared.notice.EndNotice.TheVariants.{Closed, ClosedByPartner, FailedRetries}
 use Rattle.circuit_set.specs.Among.{Has}
-use Rattle.circuit_set.specs.Books.{Book, Fresh, FreshFrom, MadeNote, Timely, empty, lost_with, noted, noted_all, partner}
+use Rattle.circuit_set.specs.Books.{Book, Fresh, FreshFrom, MadeNote, Timely, empty, lost_with, with_event, with_events, partner}
 use Rattle.circuit_set.specs.Events.{Event, Name, same_name}
-use Rattle.circuit_set.specs.NotedRuns.{Net, allowed, begins, end_at, net_run, net_step, told_to}
+use Rattle.circuit_set.specs.NotedRuns.{Net, allowance_at, begins, end_at, net_run, net_step, told_to}
 use Rattle.circuit_set.specs.Retries.{RetriesAreTold}
 use Rattle.circuit_set.specs.Runs.{AreStarts, AreSteps, Step, end_named, events_of, sets_at, sets_run, told_at}
 use Rattle.circuit_set.specs.Safe.{CircuitsSafe, IsSafe, PartnersLast, Safe, SafeBetween}
@@ -115,7 +115,7 @@ module _ (z : Name) (n : EndNotice) where
       (r.0, r.1, said_in r.1.after (subst (λ ns. Contains ns n) (told_is z es r.0 r.1) k))
 
 -- ---- a run ----
-run_book : (net : Net) (steps : List Step) → (net_run net steps).book ≡ noted_all net.book (events_of net.sets steps)
+run_book : (net : Net) (steps : List Step) → (net_run net steps).book ≡ with_events net.book (events_of net.sets steps)
 run_book net [] = refl
 run_book net (st ∷ sts) =
     run_book (net_step net st) sts
@@ -142,8 +142,8 @@ module _ (sets : List SetState) (steps : List Step) where
   at_sets x h e = sym (ap (λ ss. end_named ss x) (run_sets (begins sets) steps)) ∙ e
 
 pub retries_are_told : RetriesNoted → RetriesAreTold
-retries_are_told noted sets starts steps are x h e =
-    let r = noted sets starts steps are x h (at_net sets steps x h e) in
+retries_are_told with_event sets starts steps are x h e =
+    let r = with_event sets starts steps are x h (at_net sets steps x h e) in
     (λ w. r.0 (told_by_book sets steps x FailedRetries w), λ q. told_by_events sets steps x FailedRetries (r.1 q))
 
 -- what is told by more steps begins with what is told by these
@@ -157,7 +157,7 @@ events_begin sets (st ∷ sts) later =
 
 fresh_front : (b : Book) (lost : List Name) (xs ys : List Event) → FreshFrom b lost (xs ++ ys) → FreshFrom b lost xs
 fresh_front b lost [] ys f = tt
-fresh_front b lost (x ∷ xs) ys f = (f.0, fresh_front (noted b x) (lost_with lost x.node x.told) xs ys f.1)
+fresh_front b lost (x ∷ xs) ys f = (f.0, fresh_front (with_event b x) (lost_with lost x.node x.told) xs ys f.1)
 
 front_are : (xs ys : List Step) → AreSteps (xs ++ ys) → AreSteps xs
 front_are [] ys a = tt
@@ -182,7 +182,7 @@ module _ (sets : List SetState) (starts : AreStarts sets) (steps later : List St
   all_fresh : Fresh empty all
   all_fresh = (fresh_by_book all).1 fresh
 
-  all_timely : Timely allowed empty all
+  all_timely : Timely allowance_at empty all
   all_timely = (timely_by_book all all_fresh).1 timely
 
   front : Fresh empty events

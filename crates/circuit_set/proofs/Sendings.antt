@@ -18,7 +18,7 @@ use Rattle.circuit_l4.specs.Opening.{facts_of, requesting, responding}
 use Rattle.circuit_l4.specs.Table.{Arrive, step}
 use Rattle.circuit_set.specs.Heeds.{heeds}
 use Rattle.circuit_set.specs.Sendings.{SendsFrom, SetsSendTheirOwn}
-use Rattle.circuit_set.specs.Sets.{Call, Calls, Comes, Connect, Discard, Restart, Gone, Heeded, Holder, Lost, Made, Notice, Restarted, Sent, SetDone, SetState, Told, accept_again, called, datagram_to, discarded, end_of, first_open, goes_to, handed, handed_up, has_ended, holder_of, input_of, is_full, is_over, losses, made, named_by, new_pair, notices, opened_by, read_as, received, requested_anew, requests, responds, sents, told_by, untold, with_end}
+use Rattle.circuit_set.specs.Sets.{Call, Calls, Comes, Connect, Discard, Restart, Gone, Heeded, Holder, Lost, Made, Notice, Restarted, Sent, SetDone, SetState, Told, accept_again, after_call, datagram_to, after_discarding, end_of, first_open, goes_to, hands_to, after_datagram, has_ended, holder_of, input_of, is_full, is_over, losses, makes_end, named_by, new_pair, notices, opened_by, read_as, after_transport, after_new_request, requests, responds, sendings, told_by, does_nothing, with_end}
 
 module _ (s : SetState) where
   abbrev Own : List Told → Type 0
@@ -34,7 +34,7 @@ module _ (s : SetState) where
   both (Restarted pair ∷ xs) ys a b = both xs ys a b
   both (Lost id facts ∷ xs) ys a b = both xs ys a b
 
-  sents_own : (id : ℕ) (at : Callsign) (os : List Out) → Own (sents s id at os)
+  sents_own : (id : ℕ) (at : Callsign) (os : List Out) → Own (sendings s id at os)
   sents_own id at [] = tt
   sents_own id at (o ∷ os) = (record { dest = at; transport = _; are = refl }, sents_own id at os)
 
@@ -43,7 +43,7 @@ module _ (s : SetState) where
   notices_own id (n ∷ ns) = notices_own id ns
 
   told_own : (h : Holder) (g : Effect) → Own (told_by s h g)
-  told_own h g = both (sents s h.id h.at g.outs ++ notices h.id g.notes) _ (both (sents s h.id h.at g.outs) (notices h.id g.notes) (sents_own h.id h.at g.outs) (notices_own h.id g.notes)) (by (is_over g.end))
+  told_own h g = both (sendings s h.id h.at g.outs ++ notices h.id g.notes) _ (both (sendings s h.id h.at g.outs) (notices h.id g.notes) (sents_own h.id h.at g.outs) (notices_own h.id g.notes)) (by (is_over g.end))
     where
       by : (b : Bool) → SendsFrom s.own s.ttl (if b then Gone h.id (facts_of g.end) ∷ [] else [])
       by true = tt
@@ -52,7 +52,7 @@ module _ (s : SetState) where
   goes_own : (h : Holder) (first : List Told) (g : Effect) → Own first → Own (goes_to s h first g).told
   goes_own h first g a = both first (told_by s h g) a (told_own h g)
 
-  made_own : (at : Callsign) (asked : Option Pair) (request : Option (List ℕ)) (g : Effect) → Own (made s at asked request g).told
+  made_own : (at : Callsign) (asked : Option Pair) (request : Option (List ℕ)) (g : Effect) → Own (makes_end s at asked request g).told
   made_own at asked request g = told_own (holder_of s at asked g) g
 
   anew_own : (origin : Callsign) (d : List ℕ) (pair : Pair) (window now : ℕ) (b : Bool)
@@ -61,7 +61,7 @@ module _ (s : SetState) where
   anew_own origin d pair window now false = made_own origin (Some pair) (Some d) (responding (new_pair s) pair window s.config (min now COUNT_MAX))
 
   requested_own : (origin : Callsign) (d : List ℕ) (pair : Pair) (window now : ℕ) (o : Option Holder)
-      → Own (elim o as (λ x. SetDone) [ Some h ↦ goes_to s h [] (accept_again h.end) | None ↦ requested_anew s origin d pair window now ]).told
+      → Own (elim o as (λ x. SetDone) [ Some h ↦ goes_to s h [] (accept_again h.end) | None ↦ after_new_request s origin d pair window now ]).told
   requested_own origin d pair window now None = anew_own origin d pair window now (is_full s)
   requested_own origin d pair window now (Some h) = goes_own h [] (accept_again h.end) tt
 
@@ -69,11 +69,11 @@ module _ (s : SetState) where
   heeded_own id d true = tt
   heeded_own id d false = tt
 
-  arrives_own : (origin : Callsign) (d : List ℕ) (t : Transport) (now : ℕ) (o : Option Holder) → Own (elim o as (λ x. SetDone) [ Some h ↦ handed s h d t now | None ↦ untold s ]).told
+  arrives_own : (origin : Callsign) (d : List ℕ) (t : Transport) (now : ℕ) (o : Option Holder) → Own (elim o as (λ x. SetDone) [ Some h ↦ hands_to s h d t now | None ↦ does_nothing s ]).told
   arrives_own origin d t now None = tt
   arrives_own origin d t now (Some h) = goes_own h (if heeds h.end.phase t then Heeded h.id d ∷ [] else []) (step h.end (Arrive t) now) (heeded_own h.id d (heeds h.end.phase t))
 
-  received_own : (origin : Callsign) (d : List ℕ) (t : Transport) (now : ℕ) → Own (received s origin d t now).told
+  received_own : (origin : Callsign) (d : List ℕ) (t : Transport) (now : ℕ) → Own (after_transport s origin d t now).told
   received_own origin d (Request pair window user node) now = requested_own origin d pair window now (first_open (opened_by origin pair) s.ends)
   received_own origin d (Accept to own window) now = arrives_own origin d (Accept to own window) now (first_open (named_by origin to) s.ends)
   received_own origin d (Refuse to) now = arrives_own origin d (Refuse to) now (first_open (named_by origin to) s.ends)
@@ -86,24 +86,24 @@ module _ (s : SetState) where
   read_own origin d (Err why) now = tt
   read_own origin d (Ok t) now = received_own origin d t now
 
-  either_own : (b : Bool) (r : SetDone) → Own r.told → Own (if b then untold s else r).told
+  either_own : (b : Bool) (r : SetDone) → Own r.told → Own (if b then does_nothing s else r).told
   either_own true r a = tt
   either_own false r a = a
 
-  handed_own : (d : List ℕ) (r : Result DatagramHead DatagramRefusal) (now : ℕ) → Own (handed_up s d r now).told
+  handed_own : (d : List ℕ) (r : Result DatagramHead DatagramRefusal) (now : ℕ) → Own (after_datagram s d r now).told
   handed_own d (Err why) now = tt
   handed_own d (Ok head) now =
       either_own (same_call head.origin s.own || not (same_call head.dest s.own)) (read_as s head.origin d (transport_at (drop 15 d)) now) (read_own head.origin d (transport_at (drop 15 d)) now)
 
-  called_own : (o : Option Holder) (call : Call) (now : ℕ) → Own (called s o call now).told
+  called_own : (o : Option Holder) (call : Call) (now : ℕ) → Own (after_call s o call now).told
   called_own None call now = tt
   called_own (Some h) call now = either_own h.gone (goes_to s h [] (step h.end (input_of call) now)) (goes_own h [] (step h.end (input_of call) now) tt)
 
-  discarded_own : (o : Option Holder) → Own (discarded s o).told
+  discarded_own : (o : Option Holder) → Own (after_discarding s o).told
   discarded_own None = tt
   discarded_own (Some h) = by (not h.gone && has_ended h.end.phase)
     where
-      by : (b : Bool) → SendsFrom s.own s.ttl (if b then record { set = record s { ends = with_end (record h { gone = true }) s.ends }; told = Gone h.id (facts_of h.end) ∷ [] } else untold s).told
+      by : (b : Bool) → SendsFrom s.own s.ttl (if b then record { set = record s { ends = with_end (record h { gone = true }) s.ends }; told = Gone h.id (facts_of h.end) ∷ [] } else does_nothing s).told
       by true = tt
       by false = tt
 

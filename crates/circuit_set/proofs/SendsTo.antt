@@ -9,10 +9,10 @@ use Rattle.circuit_l4.specs.declared.notice.EndNotice.TheVariants.{Opened, Refus
 use Rattle.circuit_l4.specs.Reading.{transport_at}
 use Rattle.circuit_l4.specs.State.{Effect, State}
 use Rattle.circuit_l4.specs.Opening.{facts_of}
-use Rattle.circuit_set.specs.Sets.{Act, Calls, Comes, Connect, Discard, Restart, Made, Sent, Heeded, Gone, Restarted, Holder, SetDone, SetState, end_of, goes_to, holder_of, is_over, losses, made, new_pair, restarted, set_step, told_by, with_end}
-use Rattle.circuit_set.specs.Books.{Book, Timely, TimelyTo, noted, noted_all, partner, partner_in}
+use Rattle.circuit_set.specs.Sets.{Act, Calls, Comes, Connect, Discard, Restart, Made, Sent, Heeded, Gone, Restarted, Holder, SetDone, SetState, end_of, goes_to, holder_of, is_over, losses, makes_end, new_pair, after_restart, set_step, told_by, with_end}
+use Rattle.circuit_set.specs.Books.{Book, Timely, TimelyTo, with_event, with_events, partner, partner_in}
 use Rattle.circuit_set.specs.Events.{Event, Name}
-use Rattle.circuit_set.specs.NotedRuns.{Net, allowed, begins, end_at, net_run, net_step, opened_window, told_to}
+use Rattle.circuit_set.specs.NotedRuns.{Net, allowance_at, begins, end_at, net_run, net_step, opened_window, told_to}
 use Rattle.circuit_set.specs.Runs.{AreStarts, AreSteps, Step, end_in, events_at, events_of, sets_at, told_at}
 use Rattle.circuit_set.specs.Naming.{RequestersSend, SendsToPartner}
 use Rattle.circuit_set.proofs.Acts.{set_self}
@@ -59,13 +59,13 @@ carried net new x h to g same k =
 
 module _ (net : Net) (k : Kept net) (known : Known net) (n : ℕ) (s : SetState) (here : slice_get net.sets n ≡ Some s) where
   abbrev After : SetDone → Net
-  After done = record { sets = slice_set net.sets n done.set; book = noted_all net.book (events_at n s.own done.told) }
+  After done = record { sets = slice_set net.sets n done.set; book = with_events net.book (events_at n s.own done.told) }
 
   abbrev Stays : SetDone → Type 0
   Stays done = (x y : Name) → partner net.book x ≡ Some y → partner (After done).book x ≡ Some y
 
   abbrev P : SetDone → Type 0
-  P done = Stays done → Timely allowed net.book (events_at n s.own done.told) → Known (After done)
+  P done = Stays done → Timely allowance_at net.book (events_at n s.own done.told) → Known (After done)
 
   -- ---- an end that was made ----
   module _ (h : Holder) (e : State) (over : Bool) (c : Book) (notes : List EndNotice) (there : end_of h.id s.ends ≡ Some h) (made : c.made ≡ with_notices (record { node = n; id = h.id }) notes net.book.made) (pair : e.pair ≡ h.end.pair) where
@@ -106,7 +106,7 @@ module _ (net : Net) (k : Kept net) (known : Known net) (n : ℕ) (s : SetState)
   -- ---- what is heeded ----
   -- an Accept that is heeded in time is the partner's, and has its pair
   module _ (h : Holder) (d : List ℕ) (to own : Pair) (window : ℕ) (there : end_of h.id s.ends ≡ Some h) (read : transport_at (drop 15 d) ≡ Ok (Accept to own window))
-      (time : TimelyTo allowed net.book (record { node = n; id = h.id }) d) where
+      (time : TimelyTo allowance_at net.book (record { node = n; id = h.id }) d) where
     abbrev me : Name
     me = record { node = n; id = h.id }
 
@@ -126,26 +126,26 @@ module _ (net : Net) (k : Kept net) (known : Known net) (n : ℕ) (s : SetState)
         (time.0, c.end, time.2, c.there, ask.0)
 
   heeded_made : (h : Holder) (b : Bool) (d : List ℕ) (g : Effect)
-      → (noted_all net.book (events_at n s.own ((if b then Heeded h.id d ∷ [] else []) ++ told_by s h g))).made ≡ with_notices (record { node = n; id = h.id }) g.notes net.book.made
-  heeded_made h true d g = (told_noted s n s.own h g (noted net.book (record { node = n; own = s.own; told = Heeded h.id d }))).made
+      → (with_events net.book (events_at n s.own ((if b then Heeded h.id d ∷ [] else []) ++ told_by s h g))).made ≡ with_notices (record { node = n; id = h.id }) g.notes net.book.made
+  heeded_made h true d g = (told_noted s n s.own h g (with_event net.book (record { node = n; own = s.own; told = Heeded h.id d }))).made
   heeded_made h false d g = (told_noted s n s.own h g net.book).made
 
   note_here : (h : Holder) → end_of h.id s.ends ≡ Some h → has_note net.book.made (record { node = n; id = h.id }) ≡ true
   note_here h there = (k.ends (record { node = n; id = h.id }) h (ap (λ o. end_in o h.id) here ∙ there)).note
 
   mine_case : (h : Holder) (b : Bool) (d : List ℕ) (g : Effect) (there : end_of h.id s.ends ≡ Some h) (same : SameEnd h.end g.end) (stays : Stays (goes_to s h (if b then Heeded h.id d ∷ [] else []) g))
-      → Timely allowed net.book (events_at n s.own ((if b then Heeded h.id d ∷ [] else []) ++ told_by s h g)) → Says h b d g
+      → Timely allowance_at net.book (events_at n s.own ((if b then Heeded h.id d ∷ [] else []) ++ told_by s h g)) → Says h b d g
       → h.asked ≡ None → (w : ℕ) → opened_window (told_to net.book.made (record { node = n; id = h.id }) ++ g.notes) ≡ Some w
       → SendsToPartner (After (goes_to s h (if b then Heeded h.id d ∷ [] else []) g)) (record { node = n; id = h.id }) (record { id = h.id; at = h.at; asked = h.asked; end = g.end; gone = is_over g.end })
   mine_case h b d g there same stays time (inl r) asked w lasts =
       let me : Name = record { node = n; id = h.id } in
-      let c : Book = noted_all net.book (events_at n s.own ((if b then Heeded h.id d ∷ [] else []) ++ told_by s h g)) in
+      let c : Book = with_events net.book (events_at n s.own ((if b then Heeded h.id d ∷ [] else []) ++ told_by s h g)) in
       let old : SendsToPartner net me h = known me h (ap (λ o. end_in o h.id) here ∙ there) asked w (window_back (told_to net.book.made me) g.notes w r.unopened lasts) in
       kept_on h g.end (is_over g.end) c g.notes there (heeded_made h b d g) same.pair stays me h (record { id = h.id; at = h.at; asked = h.asked; end = g.end; gone = is_over g.end }) r.to old
   mine_case h b d g there same stays time (inr r) asked w lasts =
       let me : Name = record { node = n; id = h.id } in
-      let c : Book = noted_all net.book (events_at n s.own ((if b then Heeded h.id d ∷ [] else []) ++ told_by s h g)) in
-      let heard : Timely allowed net.book (events_at n s.own ((if true then Heeded h.id d ∷ [] else []) ++ told_by s h g)) = subst (λ v. Timely allowed net.book (events_at n s.own ((if v then Heeded h.id d ∷ [] else []) ++ told_by s h g))) r.3 time in
+      let c : Book = with_events net.book (events_at n s.own ((if b then Heeded h.id d ∷ [] else []) ++ told_by s h g)) in
+      let heard : Timely allowance_at net.book (events_at n s.own ((if true then Heeded h.id d ∷ [] else []) ++ told_by s h g)) = subst (λ v. Timely allowance_at net.book (events_at n s.own ((if v then Heeded h.id d ∷ [] else []) ++ told_by s h g))) r.3 time in
       let a = accepted h d r.0 r.1 r.2 there r.4 heard.0 in
       let i = is_now h g.end (is_over g.end) c g.notes there (heeded_made h b d g) same.pair a.0 a.1 a.3 (same_or me a.0) in
       record { partner_is = a.0; met = stays me a.0 a.2; end = i.0; there = i.1; to = r.5 ∙ a.4 ∙ sym i.2 }
@@ -153,22 +153,22 @@ module _ (net : Net) (k : Kept net) (known : Known net) (n : ℕ) (s : SetState)
   moves_so : (h : Holder) (b : Bool) (d : List ℕ) (g : Effect) → end_of h.id s.ends ≡ Some h → h.gone ≡ false → SameEnd h.end g.end → Ends h.end g → Says h b d g → Lives h.end g
       → P (goes_to s h (if b then Heeded h.id d ∷ [] else []) g)
   moves_so h b d g there held same ends says lives stays time z j q asked w lasts =
-      let c : Book = noted_all net.book (events_at n s.own ((if b then Heeded h.id d ∷ [] else []) ++ told_by s h g)) in
+      let c : Book = with_events net.book (events_at n s.own ((if b then Heeded h.id d ∷ [] else []) ++ told_by s h g)) in
       known_case h g.end (is_over g.end) c g.notes there (heeded_made h b d g) same.pair stays (note_here h there) (mine_case h b d g there same stays time says) z j q asked w lasts (same_or (record { node = n; id = h.id }) z)
 
   leaves_so : (h : Holder) → end_of h.id s.ends ≡ Some h → h.gone ≡ false
       → P (record { set = record s { ends = with_end (record h { gone = true }) s.ends }; told = Gone h.id (facts_of h.end) ∷ [] })
   leaves_so h there held stays time z j q asked w lasts =
       let me : Name = record { node = n; id = h.id } in
-      let c : Book = noted_all net.book (events_at n s.own (Gone h.id (facts_of h.end) ∷ [])) in
+      let c : Book = with_events net.book (events_at n s.own (Gone h.id (facts_of h.end) ∷ [])) in
       let mine = λ (a : h.asked ≡ None) (v : ℕ) (o : opened_window (told_to net.book.made me ++ []) ≡ Some v).
       kept_on h h.end true c [] there refl refl stays me h (record { id = h.id; at = h.at; asked = h.asked; end = h.end; gone = true }) refl
       (known me h (ap (λ o. end_in o h.id) here ∙ there) a v (window_back (told_to net.book.made me) [] v refl o)) in
       known_case h h.end true c [] there refl refl stays (note_here h there) mine z j q asked w lasts (same_or me z)
 
-  refused_known : (d : List ℕ) → Known (record { sets = slice_set net.sets n s; book = noted net.book (record { node = n; own = s.own; told = Sent 0 None d }) })
+  refused_known : (d : List ℕ) → Known (record { sets = slice_set net.sets n s; book = with_event net.book (record { node = n; own = s.own; told = Sent 0 None d }) })
   refused_known d =
-      let c : Book = noted net.book (record { node = n; own = s.own; told = Sent 0 None d }) in
+      let c : Book = with_event net.book (record { node = n; own = s.own; told = Sent 0 None d }) in
       let new : Net = record { sets = net.sets; book = c } in
       let g : GoesOn net new = record { stays = λ x y e. e; is = λ x h e. (h, e, onto_itself h) } in
       let now : Known new = λ x h e asked w lasts. carried net new x h h g refl (known x h e asked w lasts) in
@@ -180,16 +180,16 @@ module _ (net : Net) (k : Kept net) (known : Known net) (n : ℕ) (s : SetState)
     h = holder_of s at asked g
 
     abbrev t : SetState
-    t = (made s at asked request g).set
+    t = (makes_end s at asked request g).set
 
     abbrev y : Name
     y = record { node = n; id = s.number }
 
     abbrev b : Book
-    b = noted net.book (record { node = n; own = s.own; told = Made s.number (new_pair s) at request })
+    b = with_event net.book (record { node = n; own = s.own; told = Made s.number (new_pair s) at request })
 
     abbrev c : Book
-    c = noted_all b (events_at n s.own (told_by s h g))
+    c = with_events b (events_at n s.own (told_by s h g))
 
     abbrev after : Net
     after = record { sets = slice_set net.sets n t; book = c }
@@ -227,7 +227,7 @@ module _ (net : Net) (k : Kept net) (known : Known net) (n : ℕ) (s : SetState)
     new_case stays z j q none w lasts (inr far) =
         old_on stays z j (known z j (sym (stepped.end_other net n s here t h c refl refl none_yet z far) ∙ q) none w (sym (ap opened_window (told_old z far)) ∙ lasts))
 
-  makes_so : (at : Callsign) (asked : Option Pair) (request : Option (List ℕ)) (g : Effect) → IsNew s asked request g → P (made s at asked request g)
+  makes_so : (at : Callsign) (asked : Option Pair) (request : Option (List ℕ)) (g : Effect) → IsNew s asked request g → P (makes_end s at asked request g)
   makes_so at asked request g new stays time z j q none w lasts = new_case at asked request g new stays z j q none w lasts (same_or (record { node = n; id = s.number }) z)
 
   cases : Cases s P
@@ -240,10 +240,10 @@ module _ (net : Net) (k : Kept net) (known : Known net) (n : ℕ) (s : SetState)
   }
 
   -- ---- the node starts again ----
-  again_so : (pair : Pair) (more : ℕ) → Known (After (restarted s pair more))
+  again_so : (pair : Pair) (more : ℕ) → Known (After (after_restart s pair more))
   again_so pair more z j q asked w lasts =
-      let c : Book = noted_all net.book (events_at n s.own (Restarted pair ∷ losses s.ends)) in
-      let new : Net = After (restarted s pair more) in
+      let c : Book = with_events net.book (events_at n s.own (Restarted pair ∷ losses s.ends)) in
+      let new : Net = After (after_restart s pair more) in
       let b : Book = record { places = suc net.book.places; made = net.book.made; sent = net.book.sent; heard = net.book.heard } in
       let made_is : c.made ≡ net.book.made = ap (λ (a : Book). a.made) (noted_losses n s.own s.ends b).2 in
       let r = stepped.was_lost net n s here pair more c z j (nat_eq z.node n) refl q in
@@ -259,7 +259,7 @@ module _ (net : Net) (k : Kept net) (known : Known net) (n : ℕ) (s : SetState)
   one : (h : Holder) → InEnds h s.ends → end_of h.id s.ends ≡ Some h
   one = (k.sets n s here).one
 
-  pub act_known : (a : Act) → Stays (set_step s a) → Timely allowed net.book (events_at n s.own (set_step s a).told) → Known (After (set_step s a))
+  pub act_known : (a : Act) → Stays (set_step s a) → Timely allowance_at net.book (events_at n s.own (set_step s a).told) → Known (After (set_step s a))
   act_known (Connect dest now) stays time = step_cases s one P cases (Connect dest now) tt stays time
   act_known (Comes d now) stays time = step_cases s one P cases (Comes d now) tt stays time
   act_known (Calls id call now) stays time = step_cases s one P cases (Calls id call now) tt stays time
@@ -268,16 +268,16 @@ module _ (net : Net) (k : Kept net) (known : Known net) (n : ℕ) (s : SetState)
 
 -- ---- a run ----
 step_case : (net : Net) (k : Kept net) (known : Known net) (st : Step) (o : Option SetState) → slice_get net.sets st.node ≡ o
-    → ((x y : Name) → partner net.book x ≡ Some y → partner (noted_all net.book (told_at net.sets st.node o st.act)) x ≡ Some y) → Timely allowed net.book (told_at net.sets st.node o st.act)
-    → Known (record { sets = sets_at net.sets st.node o st.act; book = noted_all net.book (told_at net.sets st.node o st.act) })
+    → ((x y : Name) → partner net.book x ≡ Some y → partner (with_events net.book (told_at net.sets st.node o st.act)) x ≡ Some y) → Timely allowance_at net.book (told_at net.sets st.node o st.act)
+    → Known (record { sets = sets_at net.sets st.node o st.act; book = with_events net.book (told_at net.sets st.node o st.act) })
 step_case net k known st None e stays time = known
 step_case net k known st (Some s) e stays time = act_known net k known st.node s e st.act stays time
 
-run_known : (net : Net) (steps later : List Step) → Kept net → Known net → AreSteps (steps ++ later) → Timely allowed net.book (events_of net.sets (steps ++ later)) → Known (net_run net steps)
+run_known : (net : Net) (steps later : List Step) → Kept net → Known net → AreSteps (steps ++ later) → Timely allowance_at net.book (events_of net.sets (steps ++ later)) → Known (net_run net steps)
 run_known net [] later k known are time = known
 run_known net (st ∷ sts) later k known are time =
     let told : List Event = told_at net.sets st.node (slice_get net.sets st.node) st.act in
-    let parts = timely_parts allowed net.book told (events_of (sets_at net.sets st.node (slice_get net.sets st.node) st.act) (sts ++ later)) time in
+    let parts = timely_parts allowance_at net.book told (events_of (sets_at net.sets st.node (slice_get net.sets st.node) st.act) (sts ++ later)) time in
     let next = step_kept net st k are.0 parts.0 in
     run_known (net_step net st) sts later next.0 (step_case net k known st (slice_get net.sets st.node) refl next.1 parts.0) are.1 parts.1
 

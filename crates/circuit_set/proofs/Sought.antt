@@ -6,7 +6,7 @@ use Rattle.ax_address.specs.CallOrder.{same_call}
 use Rattle.circuit_l4.specs.declared.transport.Pair.{Pair}
 use Rattle.circuit_l4.specs.declared.notice.EndNotice.{EndNotice}
 use Rattle.circuit_set.specs.Among.{Last}
-use Rattle.circuit_set.specs.Books.{Book, MadeNote, SentNote, has, has_sent, is_lost, is_number, latest_in, lost_with, made_last, noted, with_notice}
+use Rattle.circuit_set.specs.Books.{Book, MadeNote, SentNote, has, has_sent, is_lost, is_number, latest_in, lost_with, made_last, with_event, with_notice}
 use Rattle.circuit_set.specs.Events.{Event, Name, is_copy, same_name}
 use Rattle.circuit_set.specs.Sets.{Told, Made, Sent, Heeded, Notice, Gone, Restarted, Lost, same_pair}
 use Rattle.circuit_set.specs.TooLate.{Gives, LatestSending, Loses, SendsCopy, SendsFragment, Tells}
@@ -16,10 +16,10 @@ use Rattle.circuit_set.proofs.Copies.{same_calls}
 use Rattle.circuit_set.proofs.Noted.{LooksUp, Marks, book, book_more, both_so, both_true, call_itself, lost_by, lost_more, name_true, named, names_so, nat_itself, nat_same, not_both, or_none, or_so, pair_itself, pairs_same}
 
 -- ---- places ----
-one_place : (b : Book) (e : Event) → (noted b e).places ≡ suc b.places
+one_place : (b : Book) (e : Event) → (with_event b e).places ≡ suc b.places
 one_place b e = by e.told
   where
-    by : (t : Told) → (noted b (record { node = e.node; own = e.own; told = t })).places ≡ suc b.places
+    by : (t : Told) → (with_event b (record { node = e.node; own = e.own; told = t })).places ≡ suc b.places
     by (Made id pair at request) = refl
     by (Sent id number d) = refl
     by (Heeded id d) = refl
@@ -45,7 +45,7 @@ last_noticed x n own pair (m ∷ ms) = by (same_name m.who x) (last_noticed x n 
 
 module _ (own : Callsign) (pair : Pair) where
   abbrev Given : Book → Event → Type 0
-  Given b e = ((x : Name) × Gives own pair x e × (made_last (noted b e).made own pair ≡ Some x)) ⊎ (((x : Name) → Gives own pair x e → ⊥) × (made_last (noted b e).made own pair ≡ made_last b.made own pair))
+  Given b e = ((x : Name) × Gives own pair x e × (made_last (with_event b e).made own pair ≡ Some x)) ⊎ (((x : Name) → Gives own pair x e → ⊥) × (made_last (with_event b e).made own pair ≡ made_last b.made own pair))
 
   made_case : (b : Book) (node : ℕ) (call : Callsign) (id : ℕ) (p : Pair) (at : Callsign) (r : Option (List ℕ)) (c : Bool) → (same_call call own && same_pair p pair) ≡ c → Given b (record { node = node; own = call; told = Made id p at r })
   made_case b node call id p at r true h =
@@ -95,7 +95,7 @@ notes_so s t a b c d = rw (a, b, c, d) refl
 
 module _ (y : Name) (d : List ℕ) where
   abbrev Latest : Book → List Event → Event → Type 0
-  Latest b es e = ((s : SentNote) × IsNote y d s es e × (latest_in (noted b e).sent y d ≡ Some s)) ⊎ (((s : SentNote) → IsNote y d s es e → ⊥) × (latest_in (noted b e).sent y d ≡ latest_in b.sent y d))
+  Latest b es e = ((s : SentNote) × IsNote y d s es e × (latest_in (with_event b e).sent y d ≡ Some s)) ⊎ (((s : SentNote) → IsNote y d s es e → ⊥) × (latest_in (with_event b e).sent y d ≡ latest_in b.sent y d))
 
   sent_case : (b : Book) (es : List Event) → b.places ≡ length es → (node : ℕ) (own : Callsign) (id : ℕ) (number : Option ℕ) (sent : List ℕ) (c : Bool) → (same_name (record { node = node; id = id }) y && is_copy d sent) ≡ c
       → Latest b es (record { node = node; own = own; told = Sent id number sent })
@@ -159,7 +159,7 @@ module _ (x : Name) (d : List ℕ) where
   SendsIt e = (number : Option ℕ) × SendsCopy x d number e
 
   abbrev SentTurn : Book → Event → Type 0
-  SentTurn b e = (SendsIt e × (has_sent (noted b e).sent x d ≡ true)) ⊎ ((SendsIt e → ⊥) × (has_sent (noted b e).sent x d ≡ has_sent b.sent x d))
+  SentTurn b e = (SendsIt e × (has_sent (with_event b e).sent x d ≡ true)) ⊎ ((SendsIt e → ⊥) × (has_sent (with_event b e).sent x d ≡ has_sent b.sent x d))
 
   has_case : (b : Book) (node : ℕ) (own : Callsign) (id : ℕ) (number : Option ℕ) (sent : List ℕ) (c : Bool) → (same_name (record { node = node; id = id }) x && is_copy d sent) ≡ c
       → SentTurn b (record { node = node; own = own; told = Sent id number sent })
@@ -203,7 +203,7 @@ number_is (Some m) n h = ap (λ k. Some k) (nat_same m n h)
 
 module _ (x : Name) (n : ℕ) where
   abbrev FragmentTurn : Book → Event → Type 0
-  FragmentTurn b e = (SendsFragment x n e × (has x n (noted b e).sent ≡ true)) ⊎ ((SendsFragment x n e → ⊥) × (has x n (noted b e).sent ≡ has x n b.sent))
+  FragmentTurn b e = (SendsFragment x n e × (has x n (with_event b e).sent ≡ true)) ⊎ ((SendsFragment x n e → ⊥) × (has x n (with_event b e).sent ≡ has x n b.sent))
 
   fragment_case : (b : Book) (node : ℕ) (own : Callsign) (id : ℕ) (number : Option ℕ) (sent : List ℕ) (c : Bool) → (same_name (record { node = node; id = id }) x && is_number number n) ≡ c
       → FragmentTurn b (record { node = node; own = own; told = Sent id number sent })

@@ -2,13 +2,13 @@
 use Rattle.std.specs.Prelude.{◌≡◌, ℕ, ◌⊎◌, Bool, true, nat_eq, slice_get, slice_set, Option, Some, None, refl}
 use Rattle.std.proofs.Common.{◌∙◌, ap, subst, inl, inr}
 use Rattle.circuit_l4.specs.State.{State}
-use Rattle.circuit_set.specs.Books.{Book, noted_all}
+use Rattle.circuit_set.specs.Books.{Book, with_events}
 use Rattle.circuit_set.specs.Events.{Name}
 use Rattle.circuit_set.specs.Facing.{EndsStay}
 use Rattle.circuit_set.specs.Givings.{IsUp}
 use Rattle.circuit_set.specs.NotedRuns.{Net, begins, end_at, net_run}
 use Rattle.circuit_set.specs.Runs.{Step, end_in, sets_at, told_at}
-use Rattle.circuit_set.specs.Sets.{Act, Calls, Comes, Connect, Discard, Restart, Holder, SetDone, SetState, end_of, holder_of, is_over, made, set_step, with_end}
+use Rattle.circuit_set.specs.Sets.{Act, Calls, Comes, Connect, Discard, Restart, Holder, SetDone, SetState, end_of, holder_of, is_over, makes_end, set_step, with_end}
 use Rattle.circuit_set.proofs.Acts.{set_self}
 use Rattle.circuit_set.proofs.Cases.{step_every}
 use Rattle.circuit_set.proofs.Given.{Numbers, none_of, one}
@@ -59,7 +59,7 @@ module _ (net : Net) (n : ℕ) (s : SetState) (here : slice_get net.sets n ≡ S
         moves = λ h heeded d g there held same ends says lives asks by c. changes h g.end (is_over g.end) c there;
         leaves = λ h there held ended none c. changes h h.end true c there;
         makes = λ at asked request g fresh by asks c z j q.
-            (j, stepped.old_end net n s here (made s at asked request g).set (holder_of s at asked g) c refl refl (none_of s.number s.ends nums.below) z j q, refl);
+            (j, stepped.old_end net n s here (makes_end s at asked request g).set (holder_of s at asked g) c refl refl (none_of s.number s.ends nums.below) z j q, refl);
       }) up
 
   act_stays : (a : Act) → P (set_step s a)
@@ -71,9 +71,9 @@ module _ (net : Net) (n : ℕ) (s : SetState) (here : slice_get net.sets n ≡ S
 
 -- a step at a node, or where none is
 step_case : (net : Net) (st : Step) → ((s : SetState) → slice_get net.sets st.node ≡ Some s → Numbers s) → (o : Option SetState) → slice_get net.sets st.node ≡ o → (z : Name) (j : Holder) → end_at net z ≡ Some j
-    → (k : Holder) × (end_at (record { sets = sets_at net.sets st.node o st.act; book = noted_all net.book (told_at net.sets st.node o st.act) }) z ≡ Some k) × (k.at ≡ j.at)
+    → (k : Holder) × (end_at (record { sets = sets_at net.sets st.node o st.act; book = with_events net.book (told_at net.sets st.node o st.act) }) z ≡ Some k) × (k.at ≡ j.at)
 step_case net st nums None e z j q = (j, q, refl)
-step_case net st nums (Some s) e z j q = act_stays net st.node s e (nums s e) st.act (noted_all net.book (told_at net.sets st.node (Some s) st.act)) z j q
+step_case net st nums (Some s) e z j q = act_stays net st.node s e (nums s e) st.act (with_events net.book (told_at net.sets st.node (Some s) st.act)) z j q
 
 pub ends_stay : EndsStay
 ends_stay sets starts steps st x h e =

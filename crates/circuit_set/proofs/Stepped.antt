@@ -4,7 +4,7 @@ use Rattle.std.proofs.Common.{sym, ◌∙◌, ap, subst, inl, inr, arith}
 use Rattle.std.proofs.lemmas.Bool.Decides.{nat_tests}
 use Rattle.circuit_l4.specs.declared.transport.Pair.{Pair}
 use Rattle.circuit_l4.specs.State.{State}
-use Rattle.circuit_set.specs.Sets.{Holder, SetState, end_of, has_ended, restarted, with_end}
+use Rattle.circuit_set.specs.Sets.{Holder, SetState, end_of, has_ended, after_restart, with_end}
 use Rattle.circuit_set.specs.Books.{Book}
 use Rattle.circuit_set.specs.Events.{Name}
 use Rattle.circuit_set.specs.NotedRuns.{Net, end_at}
@@ -123,7 +123,7 @@ module _ (net : Net) (n : ℕ) (s : SetState) (here : slice_get net.sets n ≡ S
   -- ---- the node starts again ----
   module _ (pair : Pair) (more : ℕ) (c : Book) where
     abbrev again : SetState
-    again = (restarted s pair more).set
+    again = (after_restart s pair more).set
 
     abbrev started : Net
     started = record { sets = slice_set net.sets n again; book = c }

@@ -6,7 +6,7 @@ use Rattle.circuit_l4.specs.State.{Effect, State, begin, is_up}
 use Rattle.circuit_l4.specs.Moves.{end_with, with_receiving, emit_ack}
 use Rattle.circuit_l4.specs.Table.{Input, Take, resume_by, step, take_from}
 use Rattle.circuit_l4.specs.Receiving.{Appended, busy, without_first, inbox, follow}
-use Rattle.circuit_set.specs.Standing.{counted}
+use Rattle.circuit_set.specs.Standing.{capped_count}
 use Rattle.circuit_set.proofs.Lasting.{lasts, move_on_taken}
 use Rattle.circuit_set.proofs.Sends.{either_going}
 
@@ -37,5 +37,5 @@ take_case s false = refl
 pub taken_more : (s : State) (now : ℕ) → (step s Take now).end.receiving.taken ≡ taken_by (nat_lt 0 (length (inbox s.receiving))) s.receiving.taken
 taken_more s now = take_case s (nat_lt 0 (length (inbox s.receiving)))
 
-pub one_more : (k n r : ℕ) → k ≡ counted n → r ≡ counted (k + 1) → r ≡ counted (n + 1)
+pub one_more : (k n r : ℕ) → k ≡ capped_count n → r ≡ capped_count (k + 1) → r ≡ capped_count (n + 1)
 one_more k n r e f = omega (arith, e, f)

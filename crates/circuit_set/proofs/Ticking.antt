@@ -13,9 +13,9 @@ use Rattle.circuit_l4.specs.Opening.{facts_of}
 use Rattle.circuit_set.specs.declared.holder.Holder.{Holder}
 use Rattle.circuit_set.specs.declared.held_ends.HeldEnds.{HeldEnds}
 use Rattle.circuit_set.specs.Sets as sets
-use Rattle.circuit_set.specs.Sets.{Calls, SetDone, SetState, Told, called, end_of, goes_to, settled, told_by, with_end, untold}
-use Rattle.circuit_set.specs.Inputs.{runs, ticked, ticks_of}
-use Rattle.circuit_set.specs.Standing.{Held, HeldStands, Here, Keeps, Past, MetBy, Rests, SameNode, Ticks, TicksAt, TicksNth, TicksTo, counted, of_holder}
+use Rattle.circuit_set.specs.Sets.{Calls, SetDone, SetState, Told, after_call, end_of, goes_to, after_effect, told_by, with_end, does_nothing}
+use Rattle.circuit_set.specs.Inputs.{runs, after_ticks, ticks_of}
+use Rattle.circuit_set.specs.Standing.{Held, HeldStands, Here, Keeps, Past, MetBy, Rests, SameNode, Ticks, TicksAt, TicksNth, TicksTo, capped_count, of_holder}
 use Rattle.circuit_set.proofs.Taken.{taken_same}
 use Rattle.circuit_set.proofs.Meeting.{asked_step}
 use Rattle.circuit_set.proofs.Holding.{stood}
@@ -76,7 +76,7 @@ ticks_more now (suc n) (e ∷ es) (f ∷ fs) new t x = more_at now n e f es fs n
 
 -- ---- all of them ----
 abbrev tick_end : ℕ → sets.Holder → sets.Holder
-tick_end now h = if h.gone then h else settled h (step h.end Tick now)
+tick_end now h = if h.gone then h else after_effect h (step h.end Tick now)
 
 abbrev tick_told : SetState → ℕ → sets.Holder → List Told
 tick_told s now h = if h.gone then [] else told_by s h (step h.end Tick now)
@@ -99,12 +99,12 @@ module _ (s : SetState) (now : ℕ) where
       let held : Stay hi lo fs (h ∷ ticked_ends now hs) (ticked_told s now hs) = (low, inl (record { gone = gone; others = later })) in
       simp gone held
 
-  tick_keeps : (id : ℕ) (k k2 : Holder) (g : Effect) → IsQuiet k g → Stands k.end g → g.end.pair ≡ k.pair → k.taken ≡ counted g.end.receiving.taken → MetBy k.asked g.end → Ticks now k k2
-      → Keeps s.own s.ttl id k2 (settled (of_holder id k g) (step g.end Tick now)) (told_by s (of_holder id k g) (step g.end Tick now))
+  tick_keeps : (id : ℕ) (k k2 : Holder) (g : Effect) → IsQuiet k g → Stands k.end g → g.end.pair ≡ k.pair → k.taken ≡ capped_count g.end.receiving.taken → MetBy k.asked g.end → Ticks now k k2
+      → Keeps s.own s.ttl id k2 (after_effect (of_holder id k g) (step g.end Tick now)) (told_by s (of_holder id k g) (step g.end Tick now))
   tick_keeps id k k2 g q st p t m (e2, is, does) =
       let x : State = g.end in
-      let kept = moved_keeps s id k g e2 k.taken (step x Tick now) q (does x (stood k.end g st)) (call_pair x sets.Ticks now ∙ p) (t ∙ ap counted (sym (taken_same x Tick now tt))) (asked_step k.asked x Tick now m) in
-      subst (λ (y : Holder). Keeps s.own s.ttl id y (settled (of_holder id k g) (step x Tick now)) (told_by s (of_holder id k g) (step x Tick now))) (sym is) kept
+      let kept = moved_keeps s id k g e2 k.taken (step x Tick now) q (does x (stood k.end g st)) (call_pair x sets.Ticks now ∙ p) (t ∙ ap capped_count (sym (taken_same x Tick now tt))) (asked_step k.asked x Tick now m) in
+      subst (λ (y : Holder). Keeps s.own s.ttl id y (after_effect (of_holder id k g) (step x Tick now)) (told_by s (of_holder id k g) (step x Tick now))) (sym is) kept
 
   tick_here : (hi lo : ℕ) (h : sets.Holder) (hs : List sets.Holder) (k : Holder) (f : ℕ × Holder) (fs : List (ℕ × Holder)) → lo ≤ h.id → Keeps s.own s.ttl h.id k h [] → f.0 ≡ h.id → Ticks now k f.1
       → Stay hi (suc h.id) fs (ticked_ends now hs) (ticked_told s now hs) → Stay hi lo (f ∷ fs) (ticked_ends now (h ∷ hs)) (ticked_told s now (h ∷ hs))
@@ -113,10 +113,10 @@ module _ (s : SetState) (now : ℕ) where
       let q : IsQuiet k g = quiet s.own s.ttl h.id k g keep.untold in
       let y : sets.Holder = of_holder h.id k g in
       let held : h.gone ≡ false = ap (λ (x : sets.Holder). x.gone) keep.is ∙ not_gone h.id k g q in
-      let kept : Keeps s.own s.ttl h.id f.1 (settled y (step g.end Tick now)) (told_by s y (step g.end Tick now)) = tick_keeps h.id k f.1 g q keep.stands keep.pair keep.taken keep.met t in
-      let kept2 : Keeps s.own s.ttl h.id f.1 (settled h (step h.end Tick now)) (told_by s h (step h.end Tick now)) =
-      subst (λ (x : sets.Holder). Keeps s.own s.ttl h.id f.1 (settled x (step x.end Tick now)) (told_by s x (step x.end Tick now))) (sym keep.is) kept in
-      let all : Stay hi lo (f ∷ fs) (settled h (step h.end Tick now) ∷ ticked_ends now hs) (told_by s h (step h.end Tick now) ++ ticked_told s now hs) =
+      let kept : Keeps s.own s.ttl h.id f.1 (after_effect y (step g.end Tick now)) (told_by s y (step g.end Tick now)) = tick_keeps h.id k f.1 g q keep.stands keep.pair keep.taken keep.met t in
+      let kept2 : Keeps s.own s.ttl h.id f.1 (after_effect h (step h.end Tick now)) (told_by s h (step h.end Tick now)) =
+      subst (λ (x : sets.Holder). Keeps s.own s.ttl h.id f.1 (after_effect x (step x.end Tick now)) (told_by s x (step x.end Tick now))) (sym keep.is) kept in
+      let all : Stay hi lo (f ∷ fs) (after_effect h (step h.end Tick now) ∷ ticked_ends now hs) (told_by s h (step h.end Tick now) ++ ticked_told s now hs) =
       (low, inr (record { k = f.1; rest = fs; mine = told_by s h (step h.end Tick now); theirs = ticked_told s now hs; is = ap (λ n. (n, f.1) ∷ fs) number; both = refl; keeps = kept2; others = later })) in
       simp held all
 
@@ -203,15 +203,15 @@ module _ (s : SetState) (now : ℕ) where
       (sents_is (with_ends hs) h.id h.at g.outs ∙ sym (sents_is s h.id h.at g.outs))
 
   one_tick : (h : sets.Holder) (done hs : List sets.Holder) → h.gone ≡ false → Lower h.id done → Rising (suc h.id) hs
-      → sets.set_step (with_ends (done ++ h ∷ hs)) (Calls h.id sets.Ticks now) ≡ done_by (done ++ settled h (step h.end Tick now) ∷ hs) (told_by s h (step h.end Tick now))
+      → sets.set_step (with_ends (done ++ h ∷ hs)) (Calls h.id sets.Ticks now) ≡ done_by (done ++ after_effect h (step h.end Tick now) ∷ hs) (told_by s h (step h.end Tick now))
   one_tick h done hs held l r =
       let g : Effect = step h.end Tick now in
       let at : SetState = with_ends (done ++ h ∷ hs) in
-      let first : called at (end_of h.id (done ++ h ∷ hs)) sets.Ticks now ≡ called at (Some h) sets.Ticks now = ap (λ o. called at o sets.Ticks now) (found_in h done hs l) in
-      let second : called at (Some h) sets.Ticks now ≡ goes_to at h [] g = simp held refl in
-      let third : goes_to at h [] g ≡ done_by (with_end (settled h g) (done ++ h ∷ hs)) (told_by s h g) = ap (λ ts. done_by (with_end (settled h g) (done ++ h ∷ hs)) ts) (same_told (done ++ h ∷ hs) h g) in
-      let fourth : done_by (with_end (settled h g) (done ++ h ∷ hs)) (told_by s h g) ≡ done_by (done ++ settled h g ∷ hs) (told_by s h g) =
-      ap (λ xs. done_by xs (told_by s h g)) (put_in (settled h g) h done hs refl l r) in
+      let first : after_call at (end_of h.id (done ++ h ∷ hs)) sets.Ticks now ≡ after_call at (Some h) sets.Ticks now = ap (λ o. after_call at o sets.Ticks now) (found_in h done hs l) in
+      let second : after_call at (Some h) sets.Ticks now ≡ goes_to at h [] g = simp held refl in
+      let third : goes_to at h [] g ≡ done_by (with_end (after_effect h g) (done ++ h ∷ hs)) (told_by s h g) = ap (λ ts. done_by (with_end (after_effect h g) (done ++ h ∷ hs)) ts) (same_told (done ++ h ∷ hs) h g) in
+      let fourth : done_by (with_end (after_effect h g) (done ++ h ∷ hs)) (told_by s h g) ≡ done_by (done ++ after_effect h g ∷ hs) (told_by s h g) =
+      ap (λ xs. done_by xs (told_by s h g)) (put_in (after_effect h g) h done hs refl l r) in
       first ∙ second ∙ third ∙ fourth
 
   abbrev runs_on : List sets.Act → SetDone → SetDone
@@ -225,14 +225,14 @@ module _ (s : SetState) (now : ℕ) where
 
   run_case : (h : sets.Holder) (hs done : List sets.Holder) (lo : ℕ) (b : Bool) → h.gone ≡ b → Lower lo done → lo ≤ h.id → Rising (suc h.id) hs → Runs hs
       → runs (if b then ticks_of now hs else Calls h.id sets.Ticks now ∷ ticks_of now hs) (with_ends (done ++ h ∷ hs))
-      ≡ done_by (done ++ (if b then h else settled h (step h.end Tick now)) ∷ ticked_ends now hs) ((if b then [] else told_by s h (step h.end Tick now)) ++ ticked_told s now hs)
+      ≡ done_by (done ++ (if b then h else after_effect h (step h.end Tick now)) ∷ ticked_ends now hs) ((if b then [] else told_by s h (step h.end Tick now)) ++ ticked_told s now hs)
   run_case h hs done lo true e l low r later =
       let below : Lower (suc h.id) (done ++ h ∷ []) = lower_push (suc h.id) h done (omega arith) (lower_more lo (suc h.id) done (omega arith) l) in
       ap (λ xs. runs (ticks_of now hs) (with_ends xs)) (push done h hs) ∙ later (done ++ h ∷ []) (suc h.id) below r
       ∙ ap (λ xs. done_by xs (ticked_told s now hs)) (sym (push done h (ticked_ends now hs)))
   run_case h hs done lo false e l low r later =
       let g : Effect = step h.end Tick now in
-      let h2 : sets.Holder = settled h g in
+      let h2 : sets.Holder = after_effect h g in
       let below : Lower (suc h.id) (done ++ h2 ∷ []) = lower_push (suc h.id) h2 done (omega arith) (lower_more lo (suc h.id) done (omega arith) l) in
       let rest : runs (ticks_of now hs) (with_ends (done ++ h2 ∷ hs)) ≡ done_by (done ++ h2 ∷ ticked_ends now hs) (ticked_told s now hs) =
       ap (λ xs. runs (ticks_of now hs) (with_ends xs)) (push done h2 hs) ∙ later (done ++ h2 ∷ []) (suc h.id) below r
@@ -244,11 +244,11 @@ module _ (s : SetState) (now : ℕ) where
   runs_ticks [] done lo l r = refl
   runs_ticks (h ∷ hs) done lo l r = run_case h hs done lo h.gone refl l r.0 r.1 (runs_ticks hs)
 
-  ticked_is : Rising 0 s.ends → ticked now s ≡ done_by (ticked_ends now s.ends) (ticked_told s now s.ends)
+  ticked_is : Rising 0 s.ends → after_ticks now s ≡ done_by (ticked_ends now s.ends) (ticked_told s now s.ends)
   ticked_is r = runs_ticks s.ends [] 0 tt r
 
 pub tick_goes : (c c2 : HeldEnds) (now : ℕ) (s : SetState) → SameNode c c2 → HeldStands c s [] → TicksTo now (length c.ends.entries) c.ends.entries c2.ends.entries
-    → HeldStands c2 (ticked now s).set (ticked now s).told
+    → HeldStands c2 (after_ticks now s).set (after_ticks now s).told
 tick_goes c c2 now s same st t =
     let held : Held s.own s.ttl s.number 0 c2.ends.entries (ticked_ends now s.ends) (ticked_told s now s.ends) = ticked_held s now s.number 0 s.ends c.ends.entries c2.ends.entries st.ends t in
     let all : HeldStands c2 (with_ends s now (ticked_ends now s.ends)) (ticked_told s now s.ends) = record {

@@ -22,21 +22,21 @@ use Rattle.circuit_set.specs.declared.event.SetEvent.{SetEvent}
 use Rattle.circuit_set.specs.declared.event.SetEvent.TheVariants as event
 use Rattle.circuit_set.specs.declared.held_ends.HeldEnds.{HeldEnds}
 use Rattle.circuit_set.specs.Sets as sets
-use Rattle.circuit_set.specs.Sets.{Comes, SetDone, SetState, Told, handed_up, read_as, received, set_step, untold}
-use Rattle.circuit_set.specs.Pumps.{Of, Turned, at_rest, ends_with, silent, tells_first, tells_on, turned, with_done}
-use Rattle.circuit_set.specs.Standing.{Gives, HeldStands, seen, told_by_end}
+use Rattle.circuit_set.specs.Sets.{Comes, SetDone, SetState, Told, after_datagram, read_as, after_transport, set_step, does_nothing}
+use Rattle.circuit_set.specs.Pumps.{Of, Turned, at_rest, ends_with, says_nothing, tells_first, tells_on, turn_step, with_done}
+use Rattle.circuit_set.specs.Standing.{Gives, HeldStands, event_told, told_by_end}
 use Rattle.circuit_set.specs.CircuitSets.{Circuits, DoesPump, SetStands}
 use Rattle.circuit_set.proofs.Owning.{SameOwn}
 
 module _ {C : Type 0} (made : C → List CarrierCall → C → Type 0) (none_made : (c : C) → made c [] c) where
   -- a turn that makes no call
-  pub says : (old : Circuits C) (log : List Item) (e : Option SetEvent) (t : Turned) → StandsFor old.router.table log → option_map seen e ≡ t.told → t.items ≡ [] → SetStands old t.after
+  pub says : (old : Circuits C) (log : List Item) (e : Option SetEvent) (t : Turned) → StandsFor old.router.table log → option_map event_told e ≡ t.told → t.items ≡ [] → SetStands old t.after
       → DoesPump made old old log e (ends_with [] t)
   says old log e t stands told items st = record { told = told; calls = none_made old.router.carrier; table = rw (items, append-nil log) stands; stands = st }
 
   module _ (next_hop : Callsign → Option Callsign) (now : ℕ) where
     abbrev First : Circuits C → List Item → SetState → List Told → SetEvent → Told → Type 0
-    First old log s rest e t = DoesPump made old old log (Some e) (turned now (tells_first next_hop s t rest) offered.Taken)
+    First old log s rest e t = DoesPump made old old log (Some e) (turn_step now (tells_first next_hop s t rest) offered.Taken)
 
     -- what an end tells is told
     pub tells_event : (old : Circuits C) (log : List Item) (s : SetState) (t : Told) (rest : List Told) (e : SetEvent) → StandsFor old.router.table log → SetStands old (record { set = s; untold = rest; lost = None })
@@ -62,13 +62,13 @@ module _ {C : Type 0} (made : C → List CarrierCall → C → Type 0) (none_mad
     tells_event old log s t rest (event.Lost call) stands st e = absurd (cc e)
 
 -- ---- a datagram for this node ----
-by_tests : (s : SetState) (r : SetDone) (a b : Bool) → a ≡ false → b ≡ true → (if a || not b then untold s else r) ≡ r
+by_tests : (s : SetState) (r : SetDone) (a b : Bool) → a ≡ false → b ≡ true → (if a || not b then does_nothing s else r) ≡ r
 by_tests s r true b e f = absurd (cc e)
 by_tests s r false true e f = refl
 by_tests s r false false e f = absurd (cc f)
 
 headed : (s : SetState) (origin : Callsign) (d : List ℕ) (now : ℕ) (head : DatagramHead) (r : Result DatagramHead DatagramRefusal) → r ≡ Ok head → head.origin ≡ origin → same_call head.origin s.own ≡ false
-    → same_call head.dest s.own ≡ true → handed_up s d r now ≡ read_as s origin d (transport_at (drop 15 d)) now
+    → same_call head.dest s.own ≡ true → after_datagram s d r now ≡ read_as s origin d (transport_at (drop 15 d)) now
 headed s origin d now head (Err e) f from other mine = absurd (cc f)
 headed s origin d now head (Ok x) f from other mine =
     let is : head ≡ x = cc (sym f) in
@@ -95,11 +95,11 @@ module _ {C : Type 0} (made : C → List CarrierCall → C → Type 0) (none_mad
   nh = next_hop old.router.table.rules log
 
   abbrev Up : Option SetEvent → Circuits C → SetDone → Offered → Type 0
-  Up e new d answer = DoesPump made old new log e (tells_on nh now (silent (with_done (at_rest s) d)) answer)
+  Up e new d answer = DoesPump made old new log e (tells_on nh now (says_nothing (with_done (at_rest s) d)) answer)
 
   -- it can't be read
-  pub unread : (d : SetDone) → d ≡ untold s → Up None old d offered.Taken
-  unread d e = subst (λ x. Up None old x offered.Taken) (sym e) (says made none_made old log None (silent (at_rest s)) stands refl refl st)
+  pub unread : (d : SetDone) → d ≡ does_nothing s → Up None old d offered.Taken
+  unread d e = subst (λ x. Up None old x offered.Taken) (sym e) (says made none_made old log None (says_nothing (at_rest s)) stands refl refl st)
 
   abbrev with_held : HeldEnds → Circuits C
   with_held h = record old { held = h }
@@ -107,7 +107,7 @@ module _ {C : Type 0} (made : C → List CarrierCall → C → Type 0) (none_mad
   pub held_stands : (h : HeldEnds) (d : SetState) (rest : List Told) → SameOwn s d → HeldStands h d rest → SetStands (with_held h) (record { set = d; untold = rest; lost = None })
   held_stands h d rest same x = record { ends = x; own = same.own ∙ st.own; ttl = same.ttl ∙ st.ttl; lost = st.lost; unspent = st.unspent }
 
-  silent_list : (d : SetState) (ts : List Told) (h : HeldEnds) → ts ≡ [] → SetStands (with_held h) (at_rest d) → DoesPump made old (with_held h) log None (tells_on nh now (silent (record { set = d; untold = ts; lost = None })) offered.Taken)
+  silent_list : (d : SetState) (ts : List Told) (h : HeldEnds) → ts ≡ [] → SetStands (with_held h) (at_rest d) → DoesPump made old (with_held h) log None (tells_on nh now (says_nothing (record { set = d; untold = ts; lost = None })) offered.Taken)
   silent_list d [] h e x = record { told = refl; calls = none_made old.router.carrier; table = rw (append-nil log) stands; stands = x }
   silent_list d (t ∷ ts) h e x = absurd (cc e)
 
@@ -117,11 +117,11 @@ module _ {C : Type 0} (made : C → List CarrierCall → C → Type 0) (none_mad
       subst (λ x. Up None (with_held h) x offered.Taken) (sym is) (silent_list d.set d.told h g.0 (held_stands h d.set [] same g.1))
 
   loud_list : (d : SetState) (ts : List Told) (t : Told) (rest : List Told) (answer : Offered) → ts ≡ t ∷ rest
-      → turned now (tells_first nh d t rest) answer ≡ tells_on nh now (silent (record { set = d; untold = ts; lost = None })) answer
-  loud_list d ts t rest answer e = ap (λ xs. tells_on nh now (silent (record { set = d; untold = xs; lost = None })) answer) (sym e)
+      → turn_step now (tells_first nh d t rest) answer ≡ tells_on nh now (says_nothing (record { set = d; untold = ts; lost = None })) answer
+  loud_list d ts t rest answer e = ap (λ xs. tells_on nh now (says_nothing (record { set = d; untold = xs; lost = None })) answer) (sym e)
 
   pub takes_loud : (d e : SetDone) (new : Circuits C) (h : HeldEnds) (t : Told) (rest : List Told) (answer : Offered) (told : Option SetEvent) → e ≡ d → d.told ≡ t ∷ rest
-      → DoesPump made (with_held h) new log told (turned now (tells_first nh d.set t rest) answer) → Up told new e answer
+      → DoesPump made (with_held h) new log told (turn_step now (tells_first nh d.set t rest) answer) → Up told new e answer
   takes_loud d e new h t rest answer told is first x =
       subst (λ y. Up told new y answer) (sym is)
       (subst (λ p. DoesPump made old new log told p) (loud_list d.set d.told t rest answer first) (record { told = x.told; calls = x.calls; table = x.table; stands = x.stands }))

@@ -6,7 +6,7 @@ use Rattle.std.proofs.lemmas.Bool.Decides.{nat_tests}
 use Rattle.ax_address.specs.Callsign.{Callsign}
 use Rattle.circuit_l4.specs.declared.transport.Pair.{Pair}
 use Rattle.circuit_l4.specs.declared.notice.EndNotice.{EndNotice}
-use Rattle.circuit_set.specs.Books.{Book, MadeNote, noted, noted_all, with_notice}
+use Rattle.circuit_set.specs.Books.{Book, MadeNote, with_event, with_events, with_notice}
 use Rattle.circuit_set.specs.Events.{Event, Name, same_name}
 use Rattle.circuit_set.specs.Givings.{pairs_made}
 use Rattle.circuit_set.specs.Returning.{told_of}
@@ -75,7 +75,7 @@ Differ es b = AreGiven es b.made × Unrepeated b.made
 
 -- ---- one more event ----
 told_differ : (es post : List Event) (n : ℕ) (own : Callsign) (t : Told) (b : Book) → AllDiffer (es ++ record { node = n; own = own; told = t } ∷ post) → Differ es b
-    → (let e : Event = record { node = n; own = own; told = t } in Differ (es ++ e ∷ []) (noted b e))
+    → (let e : Event = record { node = n; own = own; told = t } in Differ (es ++ e ∷ []) (with_event b e))
 told_differ es post n own (Made id pair at request) b all d =
     let e : Event = record { node = n; own = own; told = Made id pair at request } in
     let is : given n (es ++ e ∷ []) ≡ given n es ++ pair ∷ [] = given_append n es (e ∷ []) ∙ ap (λ ps. given n es ++ ps) (given_one n own id pair at request []) in (
@@ -94,10 +94,10 @@ told_differ es post n own (Restarted pair) b all d = (more_given es (record { no
 told_differ es post n own (Lost id facts) b all d = (more_given es (record { node = n; own = own; told = Lost id facts } ∷ []) b.made d.0, d.1)
 
 -- and more of them
-pub events_differ : (es more post : List Event) (b : Book) → AllDiffer (es ++ (more ++ post)) → Differ es b → Differ (es ++ more) (noted_all b more)
+pub events_differ : (es more post : List Event) (b : Book) → AllDiffer (es ++ (more ++ post)) → Differ es b → Differ (es ++ more) (with_events b more)
 events_differ es [] post b all d = subst (λ xs. Differ xs b) (sym (append-nil es)) d
 events_differ es (e ∷ more) post b all d =
-    let now : Differ (es ++ e ∷ []) (noted b e) = told_differ es (more ++ post) e.node e.own e.told b all d in
-    let rest : Differ ((es ++ e ∷ []) ++ more) (noted_all (noted b e) more) =
-    events_differ (es ++ e ∷ []) more post (noted b e) (subst AllDiffer (sym (append_assoc es (e ∷ []) (more ++ post))) all) now in
-    subst (λ xs. Differ xs (noted_all (noted b e) more)) (append_assoc es (e ∷ []) more) rest
+    let now : Differ (es ++ e ∷ []) (with_event b e) = told_differ es (more ++ post) e.node e.own e.told b all d in
+    let rest : Differ ((es ++ e ∷ []) ++ more) (with_events (with_event b e) more) =
+    events_differ (es ++ e ∷ []) more post (with_event b e) (subst AllDiffer (sym (append_assoc es (e ∷ []) (more ++ post))) all) now in
+    subst (λ xs. Differ xs (with_events (with_event b e) more)) (append_assoc es (e ∷ []) more) rest

@@ -21,7 +21,7 @@ use Rattle.circuit_set.specs.Lines.{Elem, Known}
 use Rattle.circuit_set.specs.Heaps.{Heap, AreMessages, gather, nothing}
 use Rattle.circuit_set.specs.Beginnings.{IsBeginning, wholes}
 use Rattle.circuit_set.specs.Ways.{DirectionOk, EarlyIn, Holds, early_numbers, line}
-use Rattle.circuit_set.specs.Circuits.{AllAcked, Circuit, ComesInTime, Event, Left, Right, To_left, To_right, Accepts, EventInTime, Facts, Flight, InTimeAll, IsCall, OutFact, PairOk, SafeTo, Side, accepts_again, after, comes, does, opened, run}
+use Rattle.circuit_set.specs.Circuits.{AllAcked, Circuit, ComesInTime, Event, Left, Right, To_left, To_right, Accepts, EventInTime, Facts, Flight, InTimeAll, IsCall, OutFact, PairOk, SafeTo, Side, accepts_again, after_event, comes, does, new_circuit, run}
 use Rattle.circuit_set.proofs.Gathers.{gather_prefix, gathering_of, wholes_all, wholes_grow}
 use Rattle.circuit_set.proofs.Keeps.{Grows, mine_kept, theirs_kept, told_before}
 use Rattle.circuit_set.proofs.Rows.{Keeps, closes, nothing_comes, one_note, takes, ticks, writes}
@@ -99,7 +99,7 @@ accepts_ok w x y role k =
       };
     }
 
-pub after_ok : (w a : ℕ) (c : Circuit) (e : Event) → 2 * w + a ≤ 256 → PairOk w c.left c.right → EventInTime a c e → PairOk w (after c e).left (after c e).right
+pub after_ok : (w a : ℕ) (c : Circuit) (e : Event) → 2 * w + a ≤ 256 → PairOk w c.left c.right → EventInTime a c e → PairOk w (after_event c e).left (after_event c e).right
 after_ok w a c (Left i now) fit k time = does_ok w c.left c.right i now time k
 after_ok w a c (Right i now) fit k time = turned w (does c.right c.left i now) c.left (does_ok w c.right c.left i now time (turned w c.left c.right k))
 after_ok w a c (To_left n now) fit k time = comes_ok w a now c.left c.right n fit k time
@@ -109,7 +109,7 @@ after_ok w a c Accepts fit k time = turned w (accepts_again c.right c.left) c.le
 
 pub run_ok : (es : List Event) (w a : ℕ) (c : Circuit) → 2 * w + a ≤ 256 → PairOk w c.left c.right → InTimeAll a es c → PairOk w (run es c).left (run es c).right
 run_ok [] w a c fit k time = k
-run_ok (e ∷ es) w a c fit k time = run_ok es w a (after c e) fit (after_ok w a c e fit k time.0) time.1
+run_ok (e ∷ es) w a c fit k time = run_ok es w a (after_event c e) fit (after_ok w a c e fit k time.0) time.1
 
 -- ---- the opening ----
 pub no_early : (m k n : ℕ) → Elem m (early_numbers k (replicate n None)) → ⊥
@@ -138,7 +138,7 @@ no_note : (P : Type 0) → Contains [] Closed → P
 no_note P h = let below : h.0 < 0 = h.1 in absurd (omega arith)
 
 pub opened_ok : (pair partner : Pair) (user node : Callsign) (config own : EndConfig) (asked now : ℕ) → 1 ≤ config.window → 1 ≤ own.window
-    → PairOk (common_window own.window config.window) (opened pair partner user node config own asked now).left (opened pair partner user node config own asked now).right
+    → PairOk (common_window own.window config.window) (new_circuit pair partner user node config own asked now).left (new_circuit pair partner user node config own asked now).right
 opened_ok pair partner user node config own asked now some more =
     let w : ℕ = common_window own.window config.window in
     record {
@@ -198,10 +198,10 @@ safe_of w x y k =
     }
 
 pub circuit_safe : (pair partner : Pair) (user node : Callsign) (config own : EndConfig) (asked now a : ℕ) (es : List Event) → 1 ≤ config.window → 1 ≤ own.window
-    → 2 * common_window own.window config.window + a ≤ 256 → InTimeAll a es (opened pair partner user node config own asked now)
-    → let c : Circuit = run es (opened pair partner user node config own asked now) in SafeTo c.left c.right × SafeTo c.right c.left
+    → 2 * common_window own.window config.window + a ≤ 256 → InTimeAll a es (new_circuit pair partner user node config own asked now)
+    → let c : Circuit = run es (new_circuit pair partner user node config own asked now) in SafeTo c.left c.right × SafeTo c.right c.left
 circuit_safe pair partner user node config own asked now a es some more fit time =
     let w : ℕ = common_window own.window config.window in
-    let c : Circuit = run es (opened pair partner user node config own asked now) in
-    let k : PairOk w c.left c.right = run_ok es w a (opened pair partner user node config own asked now) fit (opened_ok pair partner user node config own asked now some more) time in
+    let c : Circuit = run es (new_circuit pair partner user node config own asked now) in
+    let k : PairOk w c.left c.right = run_ok es w a (new_circuit pair partner user node config own asked now) fit (opened_ok pair partner user node config own asked now some more) time in
     (safe_of w c.left c.right k, safe_of w c.right c.left (turned w c.left c.right k))

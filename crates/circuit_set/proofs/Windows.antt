@@ -6,7 +6,7 @@ use Rattle.circuit_l4.specs.declared.transport.Pair.{Pair}
 use Rattle.circuit_l4.specs.declared.notice.EndNotice.{EndNotice}
 use Rattle.circuit_l4.specs.declared.notice.EndNotice.TheVariants.{Opened}
 use Rattle.circuit_set.specs.Among.{Has, Last}
-use Rattle.circuit_set.specs.Books.{Book, noted, with_notice}
+use Rattle.circuit_set.specs.Books.{Book, with_event, with_notice}
 use Rattle.circuit_set.specs.Events.{Event, Name, same_name}
 use Rattle.circuit_set.specs.NotedRuns.{told_to}
 use Rattle.circuit_set.specs.Sets.{Told, Made, Sent, Heeded, Notice, Gone, Restarted, Lost}
@@ -67,8 +67,8 @@ module _ (z : Name) where
       ap (λ ns. notice_in k.node k.told ++ ns) (notices_more es e) ∙ sym (append_assoc (notice_in k.node k.told) (notices_in es) (notice_in e.node e.told))
 
   abbrev NoteTurn : Book → Event → Type 0
-  NoteTurn b e = (IsMade e × (has_note (noted b e).made z ≡ true) × (told_to (noted b e).made z ≡ []))
-      ⊎ (((r : Option (List ℕ)) → Makes z r e → ⊥) × (has_note (noted b e).made z ≡ has_note b.made z) × (has_note b.made z ≡ true → told_to (noted b e).made z ≡ told_to b.made z ++ notice_in e.node e.told))
+  NoteTurn b e = (IsMade e × (has_note (with_event b e).made z ≡ true) × (told_to (with_event b e).made z ≡ []))
+      ⊎ (((r : Option (List ℕ)) → Makes z r e → ⊥) × (has_note (with_event b e).made z ≡ has_note b.made z) × (has_note b.made z ≡ true → told_to (with_event b e).made z ≡ told_to b.made z ++ notice_in e.node e.told))
 
   made_turn : (b : Book) (node : ℕ) (own : Callsign) (id : ℕ) (p : Pair) (at : Callsign) (r : Option (List ℕ)) (c : Bool) → same_name (record { node = node; id = id }) z ≡ c
       → NoteTurn b (record { node = node; own = own; told = Made id p at r })
@@ -115,7 +115,7 @@ module _ (z : Name) where
   -- it has a note exactly where it was made
   pub made_noted : (es : List Event) → Has (λ p e. IsMade e) es → has_note (book es).made z ≡ true
   made_noted = by_snoc (λ es. Has (λ p e. IsMade e) es → has_note (book es).made z ≡ true)
-      (λ es e old h. (let same : has_note (book (es ++ e ∷ [])).made z ≡ has_note (noted (book es) e).made z = ap (λ (b : Book). has_note b.made z) (book_more es e) in
+      (λ es e old h. (let same : has_note (book (es ++ e ∷ [])).made z ≡ has_note (with_event (book es) e).made z = ap (λ (b : Book). has_note b.made z) (book_more es e) in
       elim (note_turn (book es) e) [
         | inl s ↦ same ∙ s.1
         | inr s ↦ elim (has_cases es e h) [
@@ -127,7 +127,7 @@ module _ (z : Name) where
 
   pub noted_made : (es : List Event) → has_note (book es).made z ≡ true → Has (λ p e. IsMade e) es
   noted_made = by_snoc (λ es. has_note (book es).made z ≡ true → Has (λ p e. IsMade e) es)
-      (λ es e old h. (let same : has_note (book (es ++ e ∷ [])).made z ≡ has_note (noted (book es) e).made z = ap (λ (b : Book). has_note b.made z) (book_more es e) in
+      (λ es e old h. (let same : has_note (book (es ++ e ∷ [])).made z ≡ has_note (with_event (book es) e).made z = ap (λ (b : Book). has_note b.made z) (book_more es e) in
       elim (note_turn (book es) e) [
         | inl s ↦ has_new es e s.0
         | inr s ↦ has_old es e (old (sym s.1 ∙ (sym same ∙ h)))
@@ -136,7 +136,7 @@ module _ (z : Name) where
 
   pub told_is : (es : List Event) (r : Option (List ℕ)) (l : Last (λ q p e. Makes z q e) r es) → told_to (book es).made z ≡ notices_in l.after
   told_is = by_snoc (λ es. (r : Option (List ℕ)) (l : Last (λ q p e. Makes z q e) r es) → told_to (book es).made z ≡ notices_in l.after)
-      (λ es e old r l. (let same : told_to (book (es ++ e ∷ [])).made z ≡ told_to (noted (book es) e).made z = ap (λ (b : Book). told_to b.made z) (book_more es e) in
+      (λ es e old r l. (let same : told_to (book (es ++ e ∷ [])).made z ≡ told_to (with_event (book es) e).made z = ap (λ (b : Book). told_to b.made z) (book_more es e) in
       elim (note_turn (book es) e) [
         | inl s ↦ elim (last_cases r es e l) [
           | inl c ↦ same ∙ (s.2 ∙ ap notices_in (sym c.after))

@@ -8,12 +8,12 @@ use Rattle.circuit_l4.specs.declared.transport.Pair.{Pair}
 use Rattle.circuit_l4.specs.Laws.{Accepts, Asks, IsNew, WroteByWrites, written_by}
 use Rattle.circuit_l4.specs.State.{Effect, State}
 use Rattle.circuit_l4.specs.Table.{Arrive}
-use Rattle.circuit_set.specs.Books.{Book, noted_all}
+use Rattle.circuit_set.specs.Books.{Book, with_events}
 use Rattle.circuit_set.specs.Events.{Name}
 use Rattle.circuit_set.specs.NotedRuns.{Net, begins, end_at, net_run, net_step}
 use Rattle.circuit_set.specs.Givings.{IsUp}
 use Rattle.circuit_set.specs.Runs.{Step, end_in, events_at, sets_at, told_at}
-use Rattle.circuit_set.specs.Sets.{Act, Call, Calls, Comes, Connect, Discard, Restart, Holder, SetDone, SetState, end_of, holder_of, input_of, is_over, made, restarted, set_step, with_end}
+use Rattle.circuit_set.specs.Sets.{Act, Call, Calls, Comes, Connect, Discard, Restart, Holder, SetDone, SetState, end_of, holder_of, input_of, is_over, makes_end, after_restart, set_step, with_end}
 use Rattle.circuit_set.specs.Writings.{EndsWroteByWrites, act_writes, called_writes, step_writes, wrote_of}
 use Rattle.circuit_set.proofs.Acts.{set_self}
 use Rattle.circuit_set.proofs.Cases.{Idle, MadeBy, MovedBy, NoCall, step_every}
@@ -61,7 +61,7 @@ module _ (law : WroteByWrites) (net : Net) (n : ℕ) (s : SetState) (here : slic
   Grows a new z = wrote_of (end_at new z) ≡ wrote_of (end_at net z) ++ step_writes net (step_of a) z
 
   abbrev P : Act → SetDone → Type 0
-  P a done = (z : Name) → Grows a (record { sets = slice_set net.sets n done.set; book = noted_all net.book (events_at n s.own done.told) }) z
+  P a done = (z : Name) → Grows a (record { sets = slice_set net.sets n done.set; book = with_events net.book (events_at n s.own done.told) }) z
 
   same_at : (a : Act) (new : Net) (z : Name) → wrote_of (end_at new z) ≡ wrote_of (end_at net z) → step_writes net (step_of a) z ≡ [] → Grows a new z
   same_at a new z e none = e ∙ sym (append-nil (wrote_of (end_at net z))) ∙ ap (λ ws. wrote_of (end_at net z) ++ ws) (sym none)
@@ -166,7 +166,7 @@ module _ (law : WroteByWrites) (net : Net) (n : ℕ) (s : SetState) (here : slic
     y = record { node = n; id = s.number }
 
     abbrev t : SetState
-    t = (made s at asked request g).set
+    t = (makes_end s at asked request g).set
 
     abbrev after : Net
     after = record { sets = slice_set net.sets n t; book = c }
@@ -186,7 +186,7 @@ module _ (law : WroteByWrites) (net : Net) (n : ℕ) (s : SetState) (here : slic
   -- ---- the node starts again ----
   module _ (pair : Pair) (more : ℕ) (c : Book) where
     abbrev again : Net
-    again = record { sets = slice_set net.sets n (restarted s pair more).set; book = c }
+    again = record { sets = slice_set net.sets n (after_restart s pair more).set; book = c }
 
     lost_none : (z : Name) (o : Option Holder) → end_at net z ≡ None → end_at again z ≡ o → wrote_of o ≡ []
     lost_none z None e q = refl
@@ -196,7 +196,7 @@ module _ (law : WroteByWrites) (net : Net) (n : ℕ) (s : SetState) (here : slic
     lost_case z None e = lost_none z (end_at again z) e refl
     lost_case z (Some j) e = ap wrote_of (stepped.is_lost_now net n s here pair more c z j (nat_eq z.node n) refl e).1
 
-  restarts : (pair : Pair) (more : ℕ) → P (Restart pair more) (restarted s pair more)
+  restarts : (pair : Pair) (more : ℕ) → P (Restart pair more) (after_restart s pair more)
   restarts pair more z = same_at (Restart pair more) (again pair more net.book) z (lost_case pair more net.book z (end_at net z) refl) (none_if (nat_eq n z.node) [] refl)
 
   up_grows : (a : Act) → IsUp a → P a (set_step s a)
@@ -237,7 +237,7 @@ absent_at net st z true e none =
 absent_at net st z false e none = refl
 
 step_grows : WroteByWrites → (net : Net) → Both net → (st : Step) (z : Name) (o : Option SetState) → slice_get net.sets st.node ≡ o
-    → wrote_of (end_at (record { sets = sets_at net.sets st.node o st.act; book = noted_all net.book (told_at net.sets st.node o st.act) }) z) ≡ wrote_of (end_at net z) ++ step_writes net st z
+    → wrote_of (end_at (record { sets = sets_at net.sets st.node o st.act; book = with_events net.book (told_at net.sets st.node o st.act) }) z) ≡ wrote_of (end_at net z) ++ step_writes net st z
 step_grows law net both st z None e = sym (append-nil (wrote_of (end_at net z))) ∙ ap (λ ws. wrote_of (end_at net z) ++ ws) (sym (absent_at net st z (nat_eq st.node z.node) refl e))
 step_grows law net both st z (Some s) e = act_grows law net st.node s e (both.0 st.node s e) st.act z
 

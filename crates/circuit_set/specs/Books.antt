@@ -101,8 +101,8 @@ latest_by b None d = None
 latest_by b (Some y) d = latest_in b.sent y d
 
 -- of what has come to x: the latest sending by its partner of which it is a copy
-abbrev pub latest : Book → Name → List ℕ → Option SentNote
-latest b x d = latest_by b (partner b x) d
+abbrev pub latest_to : Book → Name → List ℕ → Option SentNote
+latest_to b x d = latest_by b (partner b x) d
 
 -- ---- overtakers ----
 abbrev pub is_number : Option ℕ → ℕ → Bool
@@ -158,18 +158,18 @@ note_told b node own (Sent id number d) =
     let who : Name = record { node = node; id = id } in
     record b { places = suc b.places; sent = record { who = who; place = b.places; number = number; datagram = d } ∷ b.sent }
 note_told b node own (Heeded id d) =
-    record b { places = suc b.places; heard = heard_sending (record { node = node; id = id }) (latest b (record { node = node; id = id }) d) b.heard }
+    record b { places = suc b.places; heard = heard_sending (record { node = node; id = id }) (latest_to b (record { node = node; id = id }) d) b.heard }
 note_told b node own (Notice id n) = record b { places = suc b.places; made = with_notice (record { node = node; id = id }) n b.made }
 note_told b node own (Gone id facts) = record b { places = suc b.places }
 note_told b node own (Restarted pair) = record b { places = suc b.places }
 note_told b node own (Lost id facts) = record b { places = suc b.places }
 
-abbrev pub noted : Book → Event → Book
-noted b e = note_told b e.node e.own e.told
+abbrev pub with_event : Book → Event → Book
+with_event b e = note_told b e.node e.own e.told
 
-abbrev pub noted_all : Book → List Event → Book
-noted_all b [] = b
-noted_all b (e ∷ es) = noted_all (noted b e) es
+abbrev pub with_events : Book → List Event → Book
+with_events b [] = b
+with_events b (e ∷ es) = with_events (with_event b e) es
 
 -- ---- too late ----
 -- `allow` is how many overtakers are too many at an end
@@ -189,7 +189,7 @@ TimelyTold allow b node _ = Unit {0}
 
 abbrev pub Timely : (Book → Name → ℕ) → Book → List Event → Type 0
 Timely allow b [] = Unit {0}
-Timely allow b (e ∷ es) = TimelyTold allow b e.node e.told × Timely allow (noted b e) es
+Timely allow b (e ∷ es) = TimelyTold allow b e.node e.told × Timely allow (with_event b e) es
 
 abbrev pub any_ends : List EndNotice → Bool
 any_ends [] = false
@@ -221,7 +221,7 @@ lost_with lost node _ = lost
 
 abbrev pub FreshFrom : Book → List Name → List Event → Type 0
 FreshFrom b lost [] = Unit {0}
-FreshFrom b lost (e ∷ es) = FreshTold b lost e.node e.told × FreshFrom (noted b e) (lost_with lost e.node e.told) es
+FreshFrom b lost (e ∷ es) = FreshTold b lost e.node e.told × FreshFrom (with_event b e) (lost_with lost e.node e.told) es
 
 abbrev pub Fresh : Book → List Event → Type 0
 Fresh b es = FreshFrom b [] es

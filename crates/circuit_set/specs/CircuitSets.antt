@@ -15,9 +15,9 @@ use Rattle.circuit_l4.specs.Standing as end
 use Rattle.circuit_set.specs.declared.event.SetEvent.{SetEvent}
 use Rattle.circuit_set.specs.declared.held_ends.HeldEnds.{HeldEnds}
 use Rattle.circuit_set.specs.Sets.{Act, Holder, SetState, Told, Gone}
-use Rattle.circuit_set.specs.Pumps.{Pumped, Waiting, at_rest, pumped}
+use Rattle.circuit_set.specs.Pumps.{Pumped, Waiting, at_rest, pump_step}
 use Rattle.circuit_set.specs.Inputs.{acts}
-use Rattle.circuit_set.specs.Standing.{HeldStands, Rests, SameNode, seen, untold_in}
+use Rattle.circuit_set.specs.Standing.{HeldStands, Rests, SameNode, event_told, untold_in}
 
 -- what contracts see of a set
 pub record Circuits (C : Type 0) : Type 0 where
@@ -62,7 +62,7 @@ module _ {C : Type 0} (made : C → List CarrierCall → C → Type 0) where
   -- the call told this and made these calls of the carrier, the routing table took these items in, and the set stands for what
   -- it came to
   pub record DoesPump (old new : Circuits C) (log : List Item) (result : Option SetEvent) (p : Pumped) : Type 0 where
-    pub told : option_map seen result ≡ p.told
+    pub told : option_map event_told result ≡ p.told
     pub calls : made old.router.carrier p.calls new.router.carrier
     pub table : StandsFor new.router.table (log ++ p.items)
     pub stands : SetStands new p.after
@@ -75,7 +75,7 @@ module _ {C : Type 0} (made : C → List CarrierCall → C → Type 0) where
       × (answer : Offered)
       × (map (λ p. p.0) parcels ≡ waiting)
       × ((log : List Item) (w : Waiting) → StandsFor old.router.table log → SetStands old w →
-      DoesPump old new log result (pumped (next_hop old.router.table.rules log) now w lost parcels answer))
+      DoesPump old new log result (pump_step (next_hop old.router.table.rules log) now w lost parcels answer))
 
 -- A number that falls with each call of `pump` that tells something: by what the set has to tell, and by what lies at the router,
 -- one of which brings less than a thousand.

@@ -88,16 +88,16 @@ pub data Event : Type 0 where
   To_right : (place now : ℕ) → Event
   Accepts : Event
 
-abbrev pub after : Circuit → Event → Circuit
-after c (Left i now) = record { left = does c.left c.right i now; right = c.right }
-after c (Right i now) = record { left = c.left; right = does c.right c.left i now }
-after c (To_left k now) = record { left = comes c.left c.right (slice_get c.right.outs k) now; right = c.right }
-after c (To_right k now) = record { left = c.left; right = comes c.right c.left (slice_get c.left.outs k) now }
-after c Accepts = record { left = c.left; right = accepts_again c.right c.left }
+abbrev pub after_event : Circuit → Event → Circuit
+after_event c (Left i now) = record { left = does c.left c.right i now; right = c.right }
+after_event c (Right i now) = record { left = c.left; right = does c.right c.left i now }
+after_event c (To_left k now) = record { left = comes c.left c.right (slice_get c.right.outs k) now; right = c.right }
+after_event c (To_right k now) = record { left = c.left; right = comes c.right c.left (slice_get c.left.outs k) now }
+after_event c Accepts = record { left = c.left; right = accepts_again c.right c.left }
 
 abbrev pub run : List Event → Circuit → Circuit
 run [] c = c
-run (e ∷ es) c = run es (after c e)
+run (e ∷ es) c = run es (after_event c e)
 
 -- of a sending by y that comes to x: fewer than a overtakers, of either direction
 abbrev pub InTime : ℕ → Side → Side → Flight → Type 0
@@ -124,7 +124,7 @@ EventInTime a c Accepts = c.right.e.role ≡ Responder
 
 abbrev pub InTimeAll : ℕ → List Event → Circuit → Type 0
 InTimeAll a [] c = Unit {0}
-InTimeAll a (e ∷ es) c = EventInTime a c e × InTimeAll a es (after c e)
+InTimeAll a (e ∷ es) c = EventInTime a c e × InTimeAll a es (after_event c e)
 
 -- what x wrote and y received
 pub record SafeTo (x y : Side) : Type 0 where
@@ -188,10 +188,10 @@ pub record PairOk (w : ℕ) (x y : Side) : Type 0 where
 
 -- ---- the opening ----
 -- a side at its making
-abbrev pub begun : Effect → Side
-begun g = record { e = g.end; outs = tag_on 0 0 0 g.outs []; heard = []; notes = g.notes }
+abbrev pub new_side : Effect → Side
+new_side g = record { e = g.end; outs = tag_on 0 0 0 g.outs []; heard = []; notes = g.notes }
 
 -- a requester and the responder that its request has made: each with its pair, its settings and its moment
-abbrev pub opened : (pair partner : Pair) (user node : Callsign) (config own : EndConfig) (asked now : ℕ) → Circuit
-opened pair partner user node config own asked now =
-    record { left = begun (requesting pair user node config asked); right = begun (responding partner pair config.window own now) }
+abbrev pub new_circuit : (pair partner : Pair) (user node : Callsign) (config own : EndConfig) (asked now : ℕ) → Circuit
+new_circuit pair partner user node config own asked now =
+    record { left = new_side (requesting pair user node config asked); right = new_side (responding partner pair config.window own now) }

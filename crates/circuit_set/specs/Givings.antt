@@ -1,7 +1,7 @@
 -- The pairs that a set gives its ends, as it tells them.
 use Rattle.std.specs.Prelude.{◌≡◌, ◌≢◌, ℕ, ◌<◌, if◌then◌else◌, List, [], ◌∷◌, slice_get, Some}
 use Rattle.circuit_l4.specs.declared.transport.Pair.{Pair}
-use Rattle.circuit_set.specs.Pairs.{Change, Gives, Giving, Goes, IsPair, gave, is_full, pairs_given, without}
+use Rattle.circuit_set.specs.Pairs.{Change, Gives, Giving, Goes, IsPair, after_giving, is_full, pairs_given, without}
 use Rattle.circuit_set.specs.Sets.{Act, Made, Restart, SetDone, SetState, Told, held_pairs}
 use Rattle.circuit_set.specs.Inputs.{runs}
 use Rattle.circuit_set.specs.Runs.{IsStart}
@@ -13,7 +13,7 @@ giving s = record { next = s.next; held = held_pairs s.ends }
 -- where a node stands after these changes
 abbrev pub after_changes : List Change → Giving → Giving
 after_changes [] g = g
-after_changes (Gives ∷ more) g = if is_full g then after_changes more g else after_changes more (gave g)
+after_changes (Gives ∷ more) g = if is_full g then after_changes more g else after_changes more (after_giving g)
 after_changes (Goes nth ∷ more) g = after_changes more (record { next = g.next; held = without nth g.held })
 
 -- the pairs of the ends that are made, in order

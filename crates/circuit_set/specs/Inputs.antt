@@ -7,12 +7,12 @@ use Rattle.l3_datagram.specs.CarrierCall.{Parcel}
 use Rattle.l3_datagram.specs.declared.carrier.Offered.{Offered}
 use Rattle.circuit_set.specs.declared.event.ConnectRefusal.{ConnectRefusal}
 use Rattle.circuit_set.specs.declared.event.ConnectRefusal.TheVariants as refusal
-use Rattle.circuit_set.specs.Sets.{Act, Calls, Holder, SetDone, SetState, Ticks, Told, is_full, set_step, untold}
-use Rattle.circuit_set.specs.Pumps.{SetTold, Of, Dropped, Lost, Says, Offers, Turn, Turned, Waiting, pending, hears, hears_lost, tells, with_done}
+use Rattle.circuit_set.specs.Sets.{Act, Calls, Holder, SetDone, SetState, Ticks, Told, is_full, set_step, does_nothing}
+use Rattle.circuit_set.specs.Pumps.{SetTold, Of, Dropped, Lost, Says, Offers, Turn, Turned, Waiting, untold_weight, hears, hears_lost, tells, with_done}
 
 -- one input after another
 abbrev pub runs : List Act → SetState → SetDone
-runs [] s = untold s
+runs [] s = does_nothing s
 runs (a ∷ acts) s = let r : SetDone = set_step s a in let q : SetDone = runs acts r.set in record { set = q.set; told = r.told ++ q.told }
 
 -- ---- the calls ----
@@ -25,11 +25,11 @@ abbrev pub ticks_of : ℕ → List Holder → List Act
 ticks_of now [] = []
 ticks_of now (h ∷ hs) = if h.gone then ticks_of now hs else Calls h.id Ticks now ∷ ticks_of now hs
 
-abbrev pub ticked : ℕ → SetState → SetDone
-ticked now s = runs (ticks_of now s.ends) s
+abbrev pub after_ticks : ℕ → SetState → SetDone
+after_ticks now s = runs (ticks_of now s.ends) s
 
 abbrev pub ticks : ℕ → Waiting → Waiting
-ticks now w = with_done w (ticked now w.set)
+ticks now w = with_done w (after_ticks now w.set)
 
 -- A circuit is asked for: the first of these that is so refuses it, and else the end that is made has the next number.
 abbrev pub connect_answer : (Callsign → Option Callsign) → Callsign → SetState → Result ℕ ConnectRefusal
@@ -76,4 +76,4 @@ HearsLostGoes = (neighbour : Callsign) (w : Waiting) → TurnGoes w (hears_lost 
 
 -- what is untold falls with each thing that is told
 abbrev pub TellsLess : Type 0
-TellsLess = (next_hop : Callsign → Option Callsign) (w : Waiting) → 0 < pending w → OfEach (λ t. pending t.after < pending w) (tells next_hop w)
+TellsLess = (next_hop : Callsign → Option Callsign) (w : Waiting) → 0 < untold_weight w → OfEach (λ t. untold_weight t.after < untold_weight w) (tells next_hop w)

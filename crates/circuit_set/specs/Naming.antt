@@ -3,7 +3,7 @@ use Rattle.std.specs.Prelude.{◌≡◌, ℕ, true, false, List, ◌++◌, Some,
 use Rattle.circuit_set.specs.Sets.{Holder, SetState, is_open}
 use Rattle.circuit_set.specs.Books.{Fresh, Timely, empty, partner}
 use Rattle.circuit_set.specs.Events.{Name}
-use Rattle.circuit_set.specs.NotedRuns.{Net, allowed, begins, end_at, net_run, opened_window, told_to}
+use Rattle.circuit_set.specs.NotedRuns.{Net, allowance_at, begins, end_at, net_run, opened_window, told_to}
 use Rattle.circuit_set.specs.Runs.{AreStarts, AreSteps, Step, events_of}
 
 -- it has a partner, and sends to its partner's pair
@@ -17,7 +17,7 @@ pub record SendsToPartner (net : Net) (x : Name) (h : Holder) : Type 0 where
 -- At each moment of a timely run: so does each requester's end that was told that its circuit is open.
 abbrev pub RequestersSend : Type 0
 RequestersSend =
-    (sets : List SetState) → AreStarts sets → (steps later : List Step) → AreSteps (steps ++ later) → Timely allowed empty (events_of sets (steps ++ later))
+    (sets : List SetState) → AreStarts sets → (steps later : List Step) → AreSteps (steps ++ later) → Timely allowance_at empty (events_of sets (steps ++ later))
     → let net : Net = net_run (begins sets) steps in
     (x : Name) (h : Holder) → end_at net x ≡ Some h → h.asked ≡ None → (window : ℕ) → opened_window (told_to net.book.made x) ≡ Some window → SendsToPartner net x h
 

@@ -2,7 +2,7 @@
 use Rattle.std.specs.Prelude.{◌≡◌, ◌≢◌, ℕ, ◌+◌, ◌-◌, ◌*◌, ◌≤◌, if◌then◌else◌, List, [], ◌∷◌, ◌++◌, slice_get, Option, Some, None}
 use Rattle.circuit_l4.specs.declared.notice.EndNotice.{EndNotice}
 use Rattle.circuit_l4.specs.declared.notice.EndNotice.TheVariants.{Opened}
-use Rattle.circuit_set.specs.Books.{Book, MadeNote, Timely, empty, noted_all, partner, was_asked}
+use Rattle.circuit_set.specs.Books.{Book, MadeNote, Timely, empty, with_events, partner, was_asked}
 use Rattle.circuit_set.specs.Events.{Name, same_name}
 use Rattle.circuit_set.specs.Runs.{AreNarrow, AreStarts, AreSteps, Step, end_named, events_of, sets_at, told_at}
 use Rattle.circuit_set.specs.Sets.{Holder, SetState}
@@ -14,7 +14,7 @@ pub record Net : Type 0 where
 abbrev pub net_step : Net → Step → Net
 net_step net st = record {
   sets = sets_at net.sets st.node (slice_get net.sets st.node) st.act;
-  book = noted_all net.book (told_at net.sets st.node (slice_get net.sets st.node) st.act);
+  book = with_events net.book (told_at net.sets st.node (slice_get net.sets st.node) st.act);
 }
 
 abbrev pub net_run : Net → List Step → Net
@@ -48,14 +48,14 @@ partner_allowance b None = 0
 partner_allowance b (Some y) = allowance (opened_window (told_to b.made y))
 
 -- how many overtakers are too many: by the window of that end of the circuit which a request has opened
-abbrev pub allowed : Book → Name → ℕ
-allowed b x = if was_asked b.made x then allowance (opened_window (told_to b.made x)) else partner_allowance b (partner b x)
+abbrev pub allowance_at : Book → Name → ℕ
+allowance_at b x = if was_asked b.made x then allowance (opened_window (told_to b.made x)) else partner_allowance b (partner b x)
 
 -- a partner stays, and partners are two ends of which each is the other's
 abbrev pub PartnersStay : Type 0
 PartnersStay =
     (sets : List SetState) → AreStarts sets → (steps later : List Step) → AreSteps (steps ++ later)
-    → Timely allowed empty (events_of sets (steps ++ later))
+    → Timely allowance_at empty (events_of sets (steps ++ later))
     → (x y : Name) → partner (net_run (begins sets) steps).book x ≡ Some y
     → (partner (net_run (begins sets) (steps ++ later)).book x ≡ Some y) × (partner (net_run (begins sets) steps).book y ≡ Some x) × (x ≢ y)
 
@@ -67,4 +67,4 @@ WindowsFit = (w : ℕ) → 1 ≤ w → w ≤ 127 → 2 * w + allowance (Some w) 
 abbrev pub NarrowIsTimely : Type 0
 NarrowIsTimely =
     (sets : List SetState) → AreStarts sets → AreNarrow sets → (steps : List Step) → AreSteps steps
-    → Timely (λ b x. 128) empty (events_of sets steps) → Timely allowed empty (events_of sets steps)
+    → Timely (λ b x. 128) empty (events_of sets steps) → Timely allowance_at empty (events_of sets steps)

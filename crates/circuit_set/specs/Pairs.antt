@@ -3,8 +3,8 @@ use Rattle.std.specs.Prelude.{◌≡◌, ◌≢◌, ℕ, zero, suc, ◌+◌, ◌
 use Rattle.circuit_l4.specs.declared.transport.Pair.{Pair}
 
 -- the index fastest
-abbrev pub following : Pair → Pair
-following p =
+abbrev pub pair_after : Pair → Pair
+pair_after p =
     if nat_lt p.index 255 then record { index = p.index + 1; ident = p.ident }
     else record { index = 1; ident = if nat_lt p.ident 255 then p.ident + 1 else 1 }
 
@@ -16,7 +16,7 @@ is_used p (q ∷ qs) = nat_eq q.index p.index || is_used p qs
 -- the first pair from p on whose index none of these has, where at most so many are skipped
 abbrev pub next_free : ℕ → List Pair → Pair → Pair
 next_free zero held p = p
-next_free (suc many) held p = if is_used p held then next_free many held (following p) else p
+next_free (suc many) held p = if is_used p held then next_free many held (pair_after p) else p
 
 -- where a node stands with its pairs
 pub record Giving : Type 0 where
@@ -26,11 +26,11 @@ pub record Giving : Type 0 where
 abbrev pub is_full : Giving → Bool
 is_full g = nat_lt 63 (length g.held)
 
-abbrev pub given : Giving → Pair
-given g = next_free 255 g.held g.next
+abbrev pub pair_given : Giving → Pair
+pair_given g = next_free 255 g.held g.next
 
-abbrev pub gave : Giving → Giving
-gave g = record { next = following (given g); held = g.held ++ given g ∷ [] }
+abbrev pub after_giving : Giving → Giving
+after_giving g = record { next = pair_after (pair_given g); held = g.held ++ pair_given g ∷ [] }
 
 -- all but the one behind so many others
 abbrev pub without : {A : Type 0} → ℕ → List A → List A
@@ -45,7 +45,7 @@ pub data Change : Type 0 where
 
 abbrev pub pairs_given : List Change → Giving → List Pair
 pairs_given [] g = []
-pairs_given (Gives ∷ more) g = if is_full g then pairs_given more g else given g ∷ pairs_given more (gave g)
+pairs_given (Gives ∷ more) g = if is_full g then pairs_given more g else pair_given g ∷ pairs_given more (after_giving g)
 pairs_given (Goes nth ∷ more) g = pairs_given more (record { next = g.next; held = without nth g.held })
 
 pub record IsPair (p : Pair) : Type 0 where

@@ -45,8 +45,8 @@ abbrev pub weights : List Told → ℕ
 weights [] = 0
 weights (t ∷ ts) = weight t + weights ts
 
-abbrev pub pending : Waiting → ℕ
-pending w = (if is_none w.lost then 0 else 1) + weights w.untold
+abbrev pub untold_weight : Waiting → ℕ
+untold_weight w = (if is_none w.lost then 0 else 1) + weights w.untold
 
 -- ---- turns ----
 -- what a turn tells
@@ -75,8 +75,8 @@ offer_of (Says t) now answer = []
 offer_of (Offers to d by) now answer = Offer to d now answer ∷ []
 
 -- nothing is told
-abbrev pub silent : Waiting → Turned
-silent w = record { told = None; after = w; items = [] }
+abbrev pub says_nothing : Waiting → Turned
+says_nothing w = record { told = None; after = w; items = [] }
 
 -- this is told, and changes nothing
 abbrev pub speaks : SetTold → Waiting → Turned
@@ -89,8 +89,8 @@ dropped_by offered.Dropped = Some routed.Dropped
 
 -- by what became of a datagram: what was for this node is taken in, and one that was forwarded isn't told
 abbrev pub heard_as : ℕ → Waiting → Routed → Turned
-heard_as now w (routed.Mine origin d) = silent (with_done w (set_step w.set (Comes d.items now)))
-heard_as now w routed.Forwarded = silent w
+heard_as now w (routed.Mine origin d) = says_nothing (with_done w (set_step w.set (Comes d.items now)))
+heard_as now w routed.Forwarded = says_nothing w
 heard_as now w (routed.Lost call) = speaks (Lost call) w
 heard_as now w r = speaks (Dropped r) w
 
@@ -117,8 +117,8 @@ ends_with calls t = record { told = t.told; after = t.after; calls = calls; item
 abbrev pub after_calls : List CarrierCall → Pumped → Pumped
 after_calls calls p = record { told = p.told; after = p.after; calls = calls ++ p.calls; items = p.items }
 
-abbrev pub turned : ℕ → Turn → Offered → Pumped
-turned now t answer = ends_with (offer_of t now answer) (outcome t answer)
+abbrev pub turn_step : ℕ → Turn → Offered → Pumped
+turn_step now t answer = ends_with (offer_of t now answer) (outcome t answer)
 
 module _ (next_hop : Callsign → Option Callsign) where
   -- a datagram of this node goes to the next hop towards its destination
@@ -137,7 +137,7 @@ module _ (next_hop : Callsign → Option Callsign) where
   tells_first s t rest = Says (record { told = Some (Of t); after = record { set = s; untold = rest; lost = None }; items = [] })
 
   abbrev pub tells_of : SetState → List Told → Turn
-  tells_of s [] = Says (silent (at_rest s))
+  tells_of s [] = Says (says_nothing (at_rest s))
   tells_of s (t ∷ rest) = tells_first s t rest
 
   -- what a sending came to stands before all else that is untold
@@ -155,7 +155,7 @@ module _ (next_hop : Callsign → Option Callsign) where
   abbrev pub tells_on : ℕ → Turned → Offered → Pumped
   tells_on now t answer = elim t.told as (λ x. Pumped) [
     | Some told ↦ ends_with [] t
-    | None ↦ (if is_drained t.after then ends_with [] t else turned now (tells t.after) answer)
+    | None ↦ (if is_drained t.after then ends_with [] t else turn_step now (tells t.after) answer)
   ]
 
   -- both turns; `answer` is the carrier's, where it is offered a datagram
@@ -166,7 +166,7 @@ module _ (next_hop : Callsign → Option Callsign) where
 
   -- one datagram after another is taken, until something is told; where nothing lies at the router it isn't asked
   abbrev pub takes_all : ℕ → SetState → List (Parcel × Offered) → Pumped
-  takes_all now s [] = ends_with [] (silent (at_rest s))
+  takes_all now s [] = ends_with [] (says_nothing (at_rest s))
   takes_all now s (p ∷ ps) =
       let first : Pumped = takes now s p.0 p.1 in
       elim first.told as (λ x. Pumped) [ Some told ↦ first | None ↦ after_calls first.calls (takes_all now first.after.set ps) ]
@@ -177,5 +177,5 @@ module _ (next_hop : Callsign → Option Callsign) where
   asks now s (neighbour ∷ _) waiting = ends_with (Fail (Some neighbour) ∷ []) (hears_lost neighbour (at_rest s))
 
   -- one call of `pump`
-  abbrev pub pumped : ℕ → Waiting → List Callsign → List (Parcel × Offered) → Offered → Pumped
-  pumped now w lost waiting answer = if is_drained w then asks now w.set lost waiting else turned now (tells w) answer
+  abbrev pub pump_step : ℕ → Waiting → List Callsign → List (Parcel × Offered) → Offered → Pumped
+  pump_step now w lost waiting answer = if is_drained w then asks now w.set lost waiting else turn_step now (tells w) answer

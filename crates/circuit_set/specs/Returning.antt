@@ -8,7 +8,7 @@ use Rattle.l3_datagram.specs.declared.datagram.TheConstants.{HEAD_SIZE}
 use Rattle.circuit_l4.specs.Reading.{transport_at}
 use Rattle.circuit_l4.specs.declared.transport.Pair.{Pair}
 use Rattle.circuit_l4.specs.declared.transport.Transport.TheVariants.{Request}
-use Rattle.circuit_set.specs.Books.{Book, FreshTold, MadeNote, any_ends, empty, has_sent, lost_with, made_last, noted}
+use Rattle.circuit_set.specs.Books.{Book, FreshTold, MadeNote, any_ends, empty, has_sent, lost_with, made_last, with_event}
 use Rattle.circuit_set.specs.Events.{Event, Name, is_copy}
 use Rattle.circuit_set.specs.Givings.{IsUp, pairs_made}
 use Rattle.circuit_set.specs.Runs.{AreStarts, AreSteps, Step, events_of}
@@ -75,7 +75,7 @@ ReturnTold b node _ = ⊥
 -- at each event a run is fresh, but where a copy returns
 abbrev pub FreshButFrom : Book → List Name → List Event → Type 0
 FreshButFrom b lost [] = Unit {0}
-FreshButFrom b lost (e ∷ es) = (FreshTold b lost e.node e.told ⊎ ReturnTold b e.node e.told) × FreshButFrom (noted b e) (lost_with lost e.node e.told) es
+FreshButFrom b lost (e ∷ es) = (FreshTold b lost e.node e.told ⊎ ReturnTold b e.node e.told) × FreshButFrom (with_event b e) (lost_with lost e.node e.told) es
 
 abbrev pub FreshBut : List Event → Type 0
 FreshBut es = FreshButFrom empty [] es

@@ -87,17 +87,17 @@ abbrev pub tick_at : Step → Name → Option ℕ
 tick_at st x = if nat_eq st.node x.node then tick_of st.act x.id else None
 
 -- an end before and after a step; nothing comes to one that is held no longer
-abbrev pub between : Option Holder → Option ℕ → Option Holder → List Moment
-between None tick after = []
-between (Some h) tick None = []
-between (Some h) tick (Some k) = if h.gone then [] else record { was = h.end; tick = tick; is = k.end } ∷ []
+abbrev pub moment_between : Option Holder → Option ℕ → Option Holder → List Moment
+moment_between None tick after = []
+moment_between (Some h) tick None = []
+moment_between (Some h) tick (Some k) = if h.gone then [] else record { was = h.end; tick = tick; is = k.end } ∷ []
 
 -- what has become of an end, step by step from its making
 abbrev pub moments : List SetState → List Step → Name → List Moment
 moments sets [] x = []
 moments sets (st ∷ sts) x =
     let next : List SetState = sets_at sets st.node (slice_get sets st.node) st.act in
-    between (end_named sets x) (tick_at st x) (end_named next x) ++ moments next sts x
+    moment_between (end_named sets x) (tick_at st x) (end_named next x) ++ moments next sts x
 
 -- how many expiries there were since the last advance of what is acknowledged, since the end began to close, or else since its making
 abbrev pub expiries_in : List SetState → List Step → Name → ℕ

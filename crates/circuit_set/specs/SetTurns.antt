@@ -14,7 +14,7 @@ use Rattle.l3_datagram.specs.Routers.{SameRouter}
 use Rattle.circuit_set.specs.declared.event.SetEvent.{SetEvent}
 use Rattle.circuit_set.specs.declared.holder.Untold.{Untold}
 use Rattle.circuit_set.specs.Sets.{SetState, Told}
-use Rattle.circuit_set.specs.Pumps.{Pumped, after_calls, asks, at_rest, ends_with, heard_as, hears_lost, silent, takes, tells_first, tells_on, turned}
+use Rattle.circuit_set.specs.Pumps.{Pumped, after_calls, asks, at_rest, ends_with, heard_as, hears_lost, says_nothing, takes, tells_first, tells_on, turn_step}
 use Rattle.circuit_set.specs.Standing.{Rests, told_of}
 use Rattle.circuit_set.specs.CircuitSets.{Circuits, DoesPump, SetStands, untold_by}
 
@@ -27,7 +27,7 @@ came_to_nothing sending.Dropped = Some routed.Dropped
 -- the router is asked once
 abbrev pub asks_once : (Callsign → Option Callsign) → ℕ → SetState → List Callsign → List Parcel → Offered → Pumped
 asks_once next_hop now s (neighbour ∷ _) waiting answer = ends_with (Fail (Some neighbour) ∷ []) (hears_lost neighbour (at_rest s))
-asks_once next_hop now s [] [] answer = ends_with [] (silent (at_rest s))
+asks_once next_hop now s [] [] answer = ends_with [] (says_nothing (at_rest s))
 asks_once next_hop now s [] (parcel ∷ _) answer = takes next_hop now s parcel answer
 
 -- a lost neighbour is told
@@ -55,7 +55,7 @@ module _ {C : Type 0} (made : C → List CarrierCall → C → Type 0) where
       (answer : Offered)
       × ((log : List Item) (s : SetState) (t : Told) (rest : List Told) → StandsFor old.router.table log
       → SetStands old (record { set = s; untold = rest; lost = None }) → told_of s.own s.ttl u ≡ Some t
-      → DoesPump made old new log result (turned now (tells_first (next_hop old.router.table.rules log) s t rest) answer))
+      → DoesPump made old new log result (turn_step now (tells_first (next_hop old.router.table.rules log) s t rest) answer))
 
   -- what the router has answered is taken in, and what it brings is told, the first of it
   abbrev pub TakesIn : Circuits C → Circuits C → Routed → ℕ → Option SetEvent → Type 0

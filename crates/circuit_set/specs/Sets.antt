@@ -22,7 +22,7 @@ use Rattle.circuit_l4.specs.State.{Effect, Out, State}
 use Rattle.circuit_l4.specs.Table.{Input, Write, Arrive, Tick, Close, Take, step}
 use Rattle.circuit_l4.specs.Opening.{facts_of, requesting, responding}
 use Rattle.circuit_l4.specs.Receiving.{inbox}
-use Rattle.circuit_set.specs.Pairs.{following, next_free}
+use Rattle.circuit_set.specs.Pairs.{pair_after, next_free}
 use Rattle.circuit_set.specs.Heeds.{heeds}
 
 -- an end of a set, also one that is held no longer
@@ -56,8 +56,8 @@ pub record SetDone : Type 0 where
   pub set : SetState
   pub told : List Told
 
-abbrev pub untold : SetState → SetDone
-untold s = record { set = s; told = [] }
+abbrev pub does_nothing : SetState → SetDone
+does_nothing s = record { set = s; told = [] }
 
 -- ---- ends by number ----
 abbrev pub end_of : ℕ → List Holder → Option Holder
@@ -85,9 +85,9 @@ is_open h = not h.gone && not (has_ended h.end.phase)
 abbrev pub datagram_to : SetState → Callsign → Transport → List ℕ
 datagram_to s at t = octets_with (record { origin = s.own; dest = at; ttl = s.ttl }) (transport_octets t)
 
-abbrev pub sents : SetState → ℕ → Callsign → List Out → List Told
-sents s id at [] = []
-sents s id at (o ∷ os) = Sent id o.1 (datagram_to s at o.0) ∷ sents s id at os
+abbrev pub sendings : SetState → ℕ → Callsign → List Out → List Told
+sendings s id at [] = []
+sendings s id at (o ∷ os) = Sent id o.1 (datagram_to s at o.0) ∷ sendings s id at os
 
 abbrev pub notices : ℕ → List EndNotice → List Told
 notices id [] = []
@@ -99,13 +99,13 @@ is_over e = has_ended e.phase && nat_eq (length (inbox e.receiving)) 0
 
 -- what an end tells that has come to g
 abbrev pub told_by : SetState → Holder → Effect → List Told
-told_by s h g = sents s h.id h.at g.outs ++ notices h.id g.notes ++ (if is_over g.end then Gone h.id (facts_of g.end) ∷ [] else [])
+told_by s h g = sendings s h.id h.at g.outs ++ notices h.id g.notes ++ (if is_over g.end then Gone h.id (facts_of g.end) ∷ [] else [])
 
-abbrev pub settled : Holder → Effect → Holder
-settled h g = record h { end = g.end; gone = is_over g.end }
+abbrev pub after_effect : Holder → Effect → Holder
+after_effect h g = record h { end = g.end; gone = is_over g.end }
 
 abbrev pub goes_to : SetState → Holder → List Told → Effect → SetDone
-goes_to s h first g = record { set = record s { ends = with_end (settled h g) s.ends }; told = first ++ told_by s h g }
+goes_to s h first g = record { set = record s { ends = with_end (after_effect h g) s.ends }; told = first ++ told_by s h g }
 
 -- ---- a new end ----
 abbrev pub new_pair : SetState → Pair
@@ -117,11 +117,11 @@ is_full s = nat_le 64 (length (held_pairs s.ends)) || nat_lt COUNT_MAX s.number
 abbrev pub holder_of : SetState → Callsign → Option Pair → Effect → Holder
 holder_of s at asked g = record { id = s.number; at = at; asked = asked; end = g.end; gone = is_over g.end }
 
-abbrev pub made : SetState → Callsign → Option Pair → Option (List ℕ) → Effect → SetDone
-made s at asked request g =
+abbrev pub makes_end : SetState → Callsign → Option Pair → Option (List ℕ) → Effect → SetDone
+makes_end s at asked request g =
     let h : Holder = holder_of s at asked g in
     record {
-      set = record s { next = following (new_pair s); number = s.number + 1; ends = s.ends ++ h ∷ [] };
+      set = record s { next = pair_after (new_pair s); number = s.number + 1; ends = s.ends ++ h ∷ [] };
       told = Made s.number (new_pair s) at request ∷ told_by s h g;
     }
 
@@ -151,50 +151,50 @@ accept_again e = record { end = e; outs = (Accept e.to e.pair e.window, None) �
 -- an end is made by a request that came from a node
 abbrev pub responds : SetState → Callsign → List ℕ → Pair → ℕ → ℕ → SetDone
 responds s origin d pair window now =
-    made s origin (Some pair) (Some d) (responding (new_pair s) pair window s.config (min now COUNT_MAX))
+    makes_end s origin (Some pair) (Some d) (responding (new_pair s) pair window s.config (min now COUNT_MAX))
 
 -- it is refused where no end can be made
-abbrev pub requested_anew : SetState → Callsign → List ℕ → Pair → ℕ → ℕ → SetDone
-requested_anew s origin d pair window now =
+abbrev pub after_new_request : SetState → Callsign → List ℕ → Pair → ℕ → ℕ → SetDone
+after_new_request s origin d pair window now =
     if is_full s then record { set = s; told = Sent 0 None (datagram_to s origin (Refuse pair)) ∷ [] }
     else responds s origin d pair window now
 
-abbrev pub requested : SetState → Callsign → List ℕ → Pair → ℕ → ℕ → SetDone
-requested s origin d pair window now =
+abbrev pub after_request : SetState → Callsign → List ℕ → Pair → ℕ → ℕ → SetDone
+after_request s origin d pair window now =
     elim (first_open (opened_by origin pair) s.ends) as (λ x. SetDone) [
       | Some h ↦ goes_to s h [] (accept_again h.end)
-      | None ↦ requested_anew s origin d pair window now
+      | None ↦ after_new_request s origin d pair window now
     ]
 
 -- an end takes in a transport, in this datagram
-abbrev pub handed : SetState → Holder → List ℕ → Transport → ℕ → SetDone
-handed s h d t now = goes_to s h (if heeds h.end.phase t then Heeded h.id d ∷ [] else []) (step h.end (Arrive t) now)
+abbrev pub hands_to : SetState → Holder → List ℕ → Transport → ℕ → SetDone
+hands_to s h d t now = goes_to s h (if heeds h.end.phase t then Heeded h.id d ∷ [] else []) (step h.end (Arrive t) now)
 
 abbrev pub arrives_at : SetState → Callsign → List ℕ → Pair → Transport → ℕ → SetDone
 arrives_at s origin d to t now =
     elim (first_open (named_by origin to) s.ends) as (λ x. SetDone) [
-      | Some h ↦ handed s h d t now
-      | None ↦ untold s
+      | Some h ↦ hands_to s h d t now
+      | None ↦ does_nothing s
     ]
 
-abbrev pub received : SetState → Callsign → List ℕ → Transport → ℕ → SetDone
-received s origin d (Request pair window user node) now = requested s origin d pair window now
-received s origin d (Accept to own window) now = arrives_at s origin d to (Accept to own window) now
-received s origin d (Refuse to) now = arrives_at s origin d to (Refuse to) now
-received s origin d (Disconnect to) now = arrives_at s origin d to (Disconnect to) now
-received s origin d (Disconnected to) now = arrives_at s origin d to (Disconnected to) now
-received s origin d (Info to tx rx flags text) now = arrives_at s origin d to (Info to tx rx flags text) now
-received s origin d (InfoAck to rx flags) now = arrives_at s origin d to (InfoAck to rx flags) now
+abbrev pub after_transport : SetState → Callsign → List ℕ → Transport → ℕ → SetDone
+after_transport s origin d (Request pair window user node) now = after_request s origin d pair window now
+after_transport s origin d (Accept to own window) now = arrives_at s origin d to (Accept to own window) now
+after_transport s origin d (Refuse to) now = arrives_at s origin d to (Refuse to) now
+after_transport s origin d (Disconnect to) now = arrives_at s origin d to (Disconnect to) now
+after_transport s origin d (Disconnected to) now = arrives_at s origin d to (Disconnected to) now
+after_transport s origin d (Info to tx rx flags text) now = arrives_at s origin d to (Info to tx rx flags text) now
+after_transport s origin d (InfoAck to rx flags) now = arrives_at s origin d to (InfoAck to rx flags) now
 
 abbrev pub read_as : SetState → Callsign → List ℕ → Result Transport TransportRefusal → ℕ → SetDone
-read_as s origin d (Err e) now = untold s
-read_as s origin d (Ok t) now = received s origin d t now
+read_as s origin d (Err e) now = does_nothing s
+read_as s origin d (Ok t) now = after_transport s origin d t now
 
 -- the router hands up what is for this node, and comes from another one
-abbrev pub handed_up : SetState → List ℕ → Result DatagramHead DatagramRefusal → ℕ → SetDone
-handed_up s d (Err e) now = untold s
-handed_up s d (Ok head) now =
-    if same_call head.origin s.own || not (same_call head.dest s.own) then untold s else read_as s head.origin d (transport_at (drop HEAD_SIZE d)) now
+abbrev pub after_datagram : SetState → List ℕ → Result DatagramHead DatagramRefusal → ℕ → SetDone
+after_datagram s d (Err e) now = does_nothing s
+after_datagram s d (Ok head) now =
+    if same_call head.origin s.own || not (same_call head.dest s.own) then does_nothing s else read_as s head.origin d (transport_at (drop HEAD_SIZE d)) now
 
 -- ---- the steps ----
 -- what a user or the time gives an end
@@ -222,23 +222,23 @@ pub data Act : Type 0 where
 
 -- an end is made that asks for a circuit with a node
 abbrev pub requests : SetState → Callsign → ℕ → SetDone
-requests s dest now = made s dest None None (requesting (new_pair s) s.user s.own s.config (min now COUNT_MAX))
+requests s dest now = makes_end s dest None None (requesting (new_pair s) s.user s.own s.config (min now COUNT_MAX))
 
-abbrev pub connected : SetState → Callsign → ℕ → SetDone
-connected s dest now =
-    if same_call dest s.own || is_full s then untold s
+abbrev pub after_connecting : SetState → Callsign → ℕ → SetDone
+after_connecting s dest now =
+    if same_call dest s.own || is_full s then does_nothing s
     else requests s dest now
 
-abbrev pub called : SetState → Option Holder → Call → ℕ → SetDone
-called s None call now = untold s
-called s (Some h) call now = if h.gone then untold s else goes_to s h [] (step h.end (input_of call) now)
+abbrev pub after_call : SetState → Option Holder → Call → ℕ → SetDone
+after_call s None call now = does_nothing s
+after_call s (Some h) call now = if h.gone then does_nothing s else goes_to s h [] (step h.end (input_of call) now)
 
-abbrev pub discarded : SetState → Option Holder → SetDone
-discarded s None = untold s
-discarded s (Some h) =
+abbrev pub after_discarding : SetState → Option Holder → SetDone
+after_discarding s None = does_nothing s
+after_discarding s (Some h) =
     if not h.gone && has_ended h.end.phase
     then record { set = record s { ends = with_end (record h { gone = true }) s.ends }; told = Gone h.id (facts_of h.end) ∷ [] }
-    else untold s
+    else does_nothing s
 
 -- a node that starts again has lost its ends, which stay as they were
 abbrev pub all_gone : List Holder → List Holder
@@ -249,17 +249,17 @@ abbrev pub losses : List Holder → List Told
 losses [] = []
 losses (h ∷ hs) = if h.gone then losses hs else Lost h.id (facts_of h.end) ∷ losses hs
 
-abbrev pub restarted : SetState → Pair → ℕ → SetDone
-restarted s pair more =
+abbrev pub after_restart : SetState → Pair → ℕ → SetDone
+after_restart s pair more =
     record { set = record s { next = pair; number = s.number + more; ends = all_gone s.ends }; told = Restarted pair ∷ losses s.ends }
 
 abbrev pub set_step : SetState → Act → SetDone
-set_step s (Connect dest now) = connected s dest now
-set_step s (Comes d now) = handed_up s d (head_at d) now
-set_step s (Calls id call now) = called s (end_of id s.ends) call now
-set_step s (Discard id) = discarded s (end_of id s.ends)
-set_step s (Restart pair more) = restarted s pair more
+set_step s (Connect dest now) = after_connecting s dest now
+set_step s (Comes d now) = after_datagram s d (head_at d) now
+set_step s (Calls id call now) = after_call s (end_of id s.ends) call now
+set_step s (Discard id) = after_discarding s (end_of id s.ends)
+set_step s (Restart pair more) = after_restart s pair more
 
 -- a set at its start
-abbrev pub started : Callsign → ℕ → Callsign → EndConfig → Pair → ℕ → SetState
-started own ttl user config pair first = record { own = own; ttl = ttl; user = user; config = config; next = pair; number = first; ends = [] }
+abbrev pub new_set : Callsign → ℕ → Callsign → EndConfig → Pair → ℕ → SetState
+new_set own ttl user config pair first = record { own = own; ttl = ttl; user = user; config = config; next = pair; number = first; ends = [] }

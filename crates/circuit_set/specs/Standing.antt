@@ -30,21 +30,21 @@ use Rattle.circuit_set.specs.declared.holder.Untold.TheVariants as untold
 use Rattle.circuit_set.specs.declared.held_ends.HeldEnds.{HeldEnds}
 use Rattle.indexmap.specs.IndexMap.{insert_entry}
 use Rattle.indexmap.specs.IndexMap.{set_value_at}
-use Rattle.circuit_set.specs.Pairs.{following}
+use Rattle.circuit_set.specs.Pairs.{pair_after}
 use Rattle.circuit_set.specs.Sets as sets
 use Rattle.circuit_set.specs.Sets.{SetState, Told, is_over, notices}
 use Rattle.circuit_set.specs.Heeds.{heeds}
 use Rattle.circuit_set.specs.Pumps.{SetTold, Of, Dropped, Lost, is_empty}
 
 -- ---- what is told ----
-abbrev pub seen : SetEvent → SetTold
-seen (event.Made id pair partner request) = Of (sets.Made id pair partner (option_map (λ d. d.items) request))
-seen (event.Sent id number datagram) = Of (sets.Sent id number datagram.items)
-seen (event.Heeded id datagram) = Of (sets.Heeded id datagram.items)
-seen (event.Notice id notice) = Of (sets.Notice id notice)
-seen (event.Dropped routed) = Dropped routed
-seen (event.Lost call) = Lost call
-seen (event.Gone id facts) = Of (sets.Gone id facts)
+abbrev pub event_told : SetEvent → SetTold
+event_told (event.Made id pair partner request) = Of (sets.Made id pair partner (option_map (λ d. d.items) request))
+event_told (event.Sent id number datagram) = Of (sets.Sent id number datagram.items)
+event_told (event.Heeded id datagram) = Of (sets.Heeded id datagram.items)
+event_told (event.Notice id notice) = Of (sets.Notice id notice)
+event_told (event.Dropped routed) = Dropped routed
+event_told (event.Lost call) = Lost call
+event_told (event.Gone id facts) = Of (sets.Gone id facts)
 
 -- a transport to a node, in a datagram of the node that has this call, over so many hops at most
 abbrev pub datagram_by : Callsign → ℕ → Callsign → Transport → List ℕ
@@ -85,8 +85,8 @@ untold_of own ttl id k g =
     ++ if_so (k.discarded || is_over g.end) (sets.Gone id (facts_of g.end))
 
 -- a count stands still at its type's end
-abbrev pub counted : ℕ → ℕ
-counted n = min n (2 ^ 64 - 1)
+abbrev pub capped_count : ℕ → ℕ
+capped_count n = min n (2 ^ 64 - 1)
 
 abbrev pub is_connecting : EndPhase → Bool
 is_connecting Connecting = true
@@ -109,7 +109,7 @@ pub record Keeps (own : Callsign) (ttl id : ℕ) (k : Holder) (h : sets.Holder) 
   pub stands : Stands k.end going
   pub is : h ≡ of_holder id k going
   pub pair : going.end.pair ≡ k.pair
-  pub taken : k.taken ≡ counted going.end.receiving.taken
+  pub taken : k.taken ≡ capped_count going.end.receiving.taken
   pub met : MetBy k.asked going.end
   pub untold : told ≡ untold_of own ttl id k going
 
@@ -309,7 +309,7 @@ pub record Holds (k : Holder) (old new : HeldEnds) : Type 0 where
   pub own : new.own ≡ old.own
   pub user : new.user ≡ old.user
   pub config : new.config ≡ old.config
-  pub next : new.next ≡ following k.pair
+  pub next : new.next ≡ pair_after k.pair
   pub number : new.number ≡ old.number + 1
   pub ends : new.ends.entries ≡ insert_entry nat_eq old.ends.entries old.number k
 

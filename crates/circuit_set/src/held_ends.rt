@@ -10,7 +10,7 @@ use crate::MAX_ENDS;
 use crate::event::{DiscardRefusal, NoEnd, SetRefusal};
 use crate::holder::{Holder, Untold, is_last};
 use crate::loud::Loud;
-use crate::pair_order::{following, next_free};
+use crate::pair_order::{next_free, pair_after};
 use ax_address::Call;
 use circuit_l4::{End, EndConfig, Pair};
 use indexmap::IndexMap;
@@ -40,7 +40,7 @@ pub(crate) struct HeldEnds {
 
 impl HeldEnds {
     ghost use Rattle.circuit_set.specs.Pumps.{is_empty};
-    ghost use Rattle.circuit_set.specs.Inputs.{ticked};
+    ghost use Rattle.circuit_set.specs.Inputs.{after_ticks};
     ghost use Rattle.circuit_set.specs.declared.event.SetRefusal.TheVariants as refusals;
     ghost use Rattle.circuit_set.specs.Sets.{SetState, Told};
     ghost use Rattle.circuit_set.specs.Standing.{Gives, Goes, HasEnded, Holds, RestsAt, TicksNth, HeldStands, NextOf, ToldBy, Rests, FallsBy, untold_in, SameNode, close_answer, discard_answer, message_at, take_answer, write_answer};
@@ -72,7 +72,7 @@ impl HeldEnds {
         let loud = self.loud_at(id);
         self.ends.insert(id, holder)?;
         self.loud = loud;
-        self.next = following(pair);
+        self.next = pair_after(pair);
         self.number = id + 1;
         Ok(id)
     }
@@ -201,7 +201,7 @@ impl HeldEnds {
     pub(crate) fn tick(&mut self, now: Moment)
         requires { Rests self.old.ends.entries }
         ensures same { SameNode self.old self.new }
-        ensures goes { (s : SetState) → HeldStands self.old s [] → HeldStands self.new (ticked now.0 s).set (ticked now.0 s).told }
+        ensures goes { (s : SetState) → HeldStands self.old s [] → HeldStands self.new (after_ticks now.0 s).set (after_ticks now.0 s).told }
     {
         for nth in 0..self.ends.len() {
             self.tick_nth(nth, now);

@@ -11,7 +11,7 @@ ghost use Rattle.circuit_set.specs.Sets as sets;
 ghost use Rattle.circuit_set.specs.Sets.{Told};
 ghost use Rattle.circuit_set.specs.Pumps.{is_empty};
 ghost use Rattle.circuit_set.specs.Standing as last;
-ghost use Rattle.circuit_set.specs.Standing.{Fits, IsSilent, Keeps, Tells, cost, counted, left_at, untold_at};
+ghost use Rattle.circuit_set.specs.Standing.{Fits, IsSilent, Keeps, Tells, cost, capped_count, left_at, untold_at};
 ghost use Rattle.circuit_set.specs.Still.{IsStill};
 
 use crate::SetEvent;
@@ -98,7 +98,7 @@ impl Holder {
 
     /// Whether the circuit has ended and no message waits.
     fn is_over(&self) -> bool
-        ensures { (x : State) → StandsFor self.now.end x → self.now.taken ≡ counted x.receiving.taken → result ≡ sets.is_over x }
+        ensures { (x : State) → StandsFor self.now.end x → self.now.taken ≡ capped_count x.receiving.taken → result ≡ sets.is_over x }
     {
         let facts = self.end.facts();
         facts.phase == EndPhase::Ended && facts.received == self.taken
@@ -106,7 +106,7 @@ impl Holder {
 
     /// Whether it is to be held no longer.
     fn is_gone(&self) -> bool
-        ensures { (x : State) → StandsFor self.now.end x → self.now.taken ≡ counted x.receiving.taken →
+        ensures { (x : State) → StandsFor self.now.end x → self.now.taken ≡ capped_count x.receiving.taken →
             result ≡ (self.now.discarded || sets.is_over x) }
     {
         self.discarded || self.is_over()
@@ -140,8 +140,8 @@ impl Holder {
     pub(crate) fn take(&mut self, out: &mut Message, now: Moment) -> bool
         requires { IsDrained self.old.end }
         ensures does { (x : State) → StandsFor self.old.end x → Stands self.new.end (table.step x table.Take now.0) }
-        ensures taken { (x : State) → StandsFor self.old.end x → self.old.taken ≡ counted x.receiving.taken →
-            self.new.taken ≡ counted (table.step x table.Take now.0).end.receiving.taken }
+        ensures taken { (x : State) → StandsFor self.old.end x → self.old.taken ≡ capped_count x.receiving.taken →
+            self.new.taken ≡ capped_count (table.step x table.Take now.0).end.receiving.taken }
         ensures message { (x : State) → StandsFor self.old.end x → out.new.items ≡ first_or out.old.items (inbox x.receiving) }
         ensures answer { (x : State) → StandsFor self.old.end x → result ≡ nat_lt 0 (length (inbox x.receiving)) }
         ensures rest { self.new ≡ record self.old { end = self.new.end; taken = self.new.taken } }

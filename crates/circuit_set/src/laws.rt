@@ -1,6 +1,6 @@
 //! What is promised of circuits over every schedule, and the parts on which it stands.
 ghost use Rattle.std.specs.Prelude.{◌≡◌, ℕ, ◌+◌, ◌*◌, ◌≤◌, ◌<◌, ◌%◌};
-ghost use Rattle.circuit_set.specs.Lines.{Line, Infos, over, at_place};
+ghost use Rattle.circuit_set.specs.Lines.{Line, Infos, overtakers_since, at_place};
 ghost use Rattle.circuit_set.specs.Laws.{OneCircuitSafe};
 ghost use Rattle.circuit_set.specs.Pairs.{PairsDiffer};
 ghost use Rattle.circuit_set.specs.Givings.{MadeAreGiven, MadeDiffer};
@@ -162,14 +162,14 @@ pub fn one_circuit_safe()
 /// which it went out, and `x` is its place.
 pub fn info_place()
     ensures { (w a n top x : ℕ) (l : Line) → 2 * w + a ≤ 256 → Infos w l → l.acked ≤ l.got →
-        n < top → top ≤ n + w → top ≤ l.sent → over top l < a → at_place (n % 256) l.got w x → x ≡ n }
+        n < top → top ≤ n + w → top ≤ l.sent → overtakers_since top l < a → at_place (n % 256) l.got w x → x ≡ n }
 {}
 
 /// The same of an acknowledgement: the count that is taken is the one that was got. Its sender had got `h` texts and `top` had
 /// been sent to it by the end of the step in which it went out, and `x` is its place.
 pub fn ack_place()
     ensures { (w a h top x : ℕ) (l : Line) → 2 * w + a ≤ 256 → Infos w l → l.acked ≤ l.got →
-        h ≤ l.got → top ≤ h + w → over top l < a → l.acked ≤ x → x ≤ l.sent → x % 256 ≡ h % 256 → x ≡ h }
+        h ≤ l.got → top ≤ h + w → overtakers_since top l < a → l.acked ≤ x → x ≤ l.sent → x % 256 ≡ h % 256 → x ≡ h }
 {}
 
 /// Each call of a set is inputs of its machine: what it tells, with what is then untold, is what was untold and what those inputs tell,

@@ -8,8 +8,8 @@ use circuit_l4::Pair;
 use indexmap::map::Slice;
 
 /// The pair after this one: the index goes first, and both go from 1 to 255.
-pub(crate) fn following(pair: Pair) -> Pair
-    ensures { result ≡ order.following pair }
+pub(crate) fn pair_after(pair: Pair) -> Pair
+    ensures { result ≡ order.pair_after pair }
 {
     if pair.index < 255 {
         return Pair {
@@ -40,5 +40,5 @@ pub(crate) fn next_free(ends: &Slice<'_, u64, Holder>, many: u8, from: Pair) -> 
     if many == 0 || !is_used(ends, from) {
         return from;
     }
-    next_free(ends, many - 1, following(from))
+    next_free(ends, many - 1, pair_after(from))
 }

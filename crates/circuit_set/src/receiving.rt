@@ -73,7 +73,7 @@ impl HeldEnds {
         now: Moment,
     ) -> Result<Untold, NoMemory>
         ensures gives { IfOk result (λ told. (s : SetState) → HeldStands self.old s [] →
-            Gives (sets.requested_anew s origin datagram.items pair window now.0) (Some told) self.new) }
+            Gives (sets.after_new_request s origin datagram.items pair window now.0) (Some told) self.new) }
         ensures few { IfOk result (λ told. Brings (untold_in self.old.ends.entries) (untold_in self.new.ends.entries)) }
     {
         if self.is_full() {
@@ -100,7 +100,7 @@ impl HeldEnds {
     ) -> Result<Option<Untold>, NoMemory>
         requires { Rests self.old.ends.entries }
         ensures gives { IfOk result (λ told. (s : SetState) → HeldStands self.old s [] →
-            Gives (sets.requested s origin datagram.items pair window now.0) told self.new) }
+            Gives (sets.after_request s origin datagram.items pair window now.0) told self.new) }
         ensures rests { IfOk result (λ told. told ≡ None → Rests self.new.ends.entries) }
         ensures few { IfOk result (λ told. Brings (untold_in self.old.ends.entries) (untold_in self.new.ends.entries)) }
     {
@@ -144,7 +144,7 @@ impl HeldEnds {
         requires none { untold.old ≡ None }
         ensures same { SameNode self.old self.new }
         ensures gives { (s : SetState) (h : sets.Holder) → HeldStands self.old s [] → sets.end_of id s.ends ≡ Some h → h.gone ≡ false → h.id ≡ id →
-            Gives (sets.handed s h datagram.items transport.now now.0) untold.new self.new }
+            Gives (sets.hands_to s h datagram.items transport.now now.0) untold.new self.new }
         ensures rests { untold.new ≡ None → Rests self.new.ends.entries }
         ensures few { Brings (untold_in self.old.ends.entries) (untold_in self.new.ends.entries) }
     {
@@ -190,7 +190,7 @@ impl HeldEnds {
         requires rests { Rests self.old.ends.entries }
         requires none { untold.old ≡ None }
         ensures gives { OnOk result ((s : SetState) → HeldStands self.old s [] →
-            Gives (sets.received s origin datagram.items transport.now now.0) untold.new self.new) }
+            Gives (sets.after_transport s origin datagram.items transport.now now.0) untold.new self.new) }
         ensures rests { OnOk result (untold.new ≡ None → Rests self.new.ends.entries) }
         ensures few { OnOk result (Brings (untold_in self.old.ends.entries) (untold_in self.new.ends.entries)) }
     {

@@ -76,7 +76,7 @@ impl<C: Carrier + Drop> CircuitSet<C> {
     ghost use Rattle.circuit_l4.specs.Opening.{IsConfig};
     ghost use Rattle.circuit_set.specs.Pairs.{IsPair};
     ghost use Rattle.circuit_set.specs.Pumps.{at_rest};
-    ghost use Rattle.circuit_set.specs.Sets.{started};
+    ghost use Rattle.circuit_set.specs.Sets.{new_set};
     ghost use Rattle.circuit_set.specs.CircuitSets.{IsDrained, SetStands};
 
     /// A set without ends, of the node of this router. Its circuits are asked for by `user`, the first pair is `pair`, and the
@@ -93,7 +93,7 @@ impl<C: Carrier + Drop> CircuitSet<C> {
         requires pair { IsPair pair }
         requires first { 1 ≤ first }
         requires last { first ≤ COUNT_MAX + 1 }
-        ensures stands { IfOk result (λ set. SetStands set (at_rest (started router.own router.ttl user config pair first))) }
+        ensures stands { IfOk result (λ set. SetStands set (at_rest (new_set router.own router.ttl user config pair first))) }
         ensures router { IfOk result (λ set. set.router ≡ router) }
         ensures drained { IfOk result IsDrained }
     {

@@ -1,7 +1,7 @@
 -- A verdict by what is kept is one by the events themselves.
 use Rattle.std.proofs.Common.{◌≡◌, ◌↔◌, ℕ, refl, sym, List, [], ◌∷◌, ◌++◌}
 use Rattle.std.specs.Prelude.{Option, Some, None}
-use Rattle.circuit_set.specs.Books.{Fresh, FreshTold, Timely, TimelyTold, empty, noted_all}
+use Rattle.circuit_set.specs.Books.{Fresh, FreshTold, Timely, TimelyTold, empty, with_events}
 use Rattle.circuit_set.specs.Events.{Event}
 use Rattle.circuit_set.specs.ByBook.{FreshByBook, TimelyBy128, TimelyByBook}
 use Rattle.circuit_set.specs.Sets.{Told, Made, Sent, Heeded, Notice, Gone, Restarted, Lost}
@@ -31,10 +31,10 @@ module _ (pairs : FreshByBook) (by_window : TimelyByBook) (by_128 : TimelyBy128)
   as_noted a es t = let fresh : Fresh empty es = (pairs es).1 t.1 in ((timely_as a es fresh).1 t.0, fresh)
 
   -- an event that comes too late as a datagram is fresh
-  overtaken : (a : Allowance) (es : List Event) (e : Event) → Fresh empty es → (TimelyTold (allowance_of a) (noted_all empty es) e.node e.told → ⊥) → Fresh empty (es ++ e ∷ [])
+  overtaken : (a : Allowance) (es : List Event) (e : Event) → Fresh empty es → (TimelyTold (allowance_of a) (with_events empty es) e.node e.told → ⊥) → Fresh empty (es ++ e ∷ [])
   overtaken a es e fresh late = by e.told late
     where
-      by : (t : Told) → (TimelyTold (allowance_of a) (noted_all empty es) e.node t → ⊥) → Fresh empty (es ++ record { node = e.node; own = e.own; told = t } ∷ [])
+      by : (t : Told) → (TimelyTold (allowance_of a) (with_events empty es) e.node t → ⊥) → Fresh empty (es ++ record { node = e.node; own = e.own; told = t } ∷ [])
       by (Heeded id d) f = fresh_more empty [] es (record { node = e.node; own = e.own; told = Heeded id d }) fresh tt
       by (Made id pair at request) f = absurd (f tt)
       by (Sent id number d) f = absurd (f tt)
@@ -43,7 +43,7 @@ module _ (pairs : FreshByBook) (by_window : TimelyByBook) (by_128 : TimelyBy128)
       by (Restarted pair) f = absurd (f tt)
       by (Lost id facts) f = absurd (f tt)
 
-  fails_as : (a : Allowance) (es : List Event) (e : Event) (why : LateWhy) → Fresh empty es → FailsAt a (noted_all empty es) (lost_in [] es) e why → Fails a (es ++ e ∷ []) why
+  fails_as : (a : Allowance) (es : List Event) (e : Event) (why : LateWhy) → Fresh empty es → FailsAt a (with_events empty es) (lost_in [] es) e why → Fails a (es ++ e ∷ []) why
   fails_as a es e Overtaken fresh f = λ timely.
       f (timely_at (allowance_of a) empty es [] e ((timely_as a (es ++ e ∷ []) (overtaken a es e fresh f)).1 timely))
   fails_as a es e Returned fresh f = λ all. f (fresh_at empty [] es [] e ((pairs (es ++ e ∷ [])).1 all))

@@ -4,7 +4,7 @@ use Rattle.std.specs.Prelude.{Bool, true, false, ◌&&◌, ◌||◌, cond, if◌
 use Rattle.std.specs.List.{list_any}
 use Rattle.std.proofs.lemmas.Bool.Decides.{nat_tests}
 use Rattle.circuit_l4.specs.declared.transport.Pair.{Pair}
-use Rattle.circuit_set.specs.Books.{Book, FreshTold, HasRequester, MadeNote, NoOther, SentNote, TimelyTo, TimelyTold, empty, first_name, is_unknown, latest_in, noted_all, overtakers, partner, requester}
+use Rattle.circuit_set.specs.Books.{Book, FreshTold, HasRequester, MadeNote, NoOther, SentNote, TimelyTo, TimelyTold, empty, first_name, is_unknown, latest_in, with_events, overtakers, partner, requester}
 use Rattle.circuit_set.specs.Events.{Event, Name}
 use Rattle.circuit_set.specs.Sets.{Told, Made, Sent, Heeded, Notice, Gone, Restarted, Lost}
 use Rattle.circuit_verdict.specs.declared.cause.Cause.{Cause}
@@ -206,7 +206,7 @@ told_none a b lost node (Lost id facts) e f = refl
 pub none_after : (a : Allowance) (es : List Event) (e : Event) → InTimeByBook a es → cause_after a es e ≡ None ↔ InTimeByBook a (es ++ e ∷ [])
 none_after a es e before = (
   λ none.
-      let here = none_told a (noted_all empty es) (lost_in [] es) e.node e.told none in
+      let here = none_told a (with_events empty es) (lost_in [] es) e.node e.told none in
       (timely_more (allowance_of a) empty es e before.0 here.0, fresh_more empty [] es e before.1 here.1),
-  λ all. told_none a (noted_all empty es) (lost_in [] es) e.node e.told (timely_at (allowance_of a) empty es [] e all.0) (fresh_at empty [] es [] e all.1),
+  λ all. told_none a (with_events empty es) (lost_in [] es) e.node e.told (timely_at (allowance_of a) empty es [] e all.0) (fresh_at empty [] es [] e all.1),
 )

@@ -8,7 +8,7 @@ use Rattle.circuit_l4.specs.declared.transport.Pair.{Pair}
 use Rattle.circuit_set.specs.Sets as sets
 use Rattle.circuit_set.specs.Books as books
 use Rattle.circuit_set.specs.Events.{Event, Name, is_copy, same_name}
-use Rattle.circuit_set.specs.Books.{HasRequester, HeardNote, SentNote, TimelyTo, has_sent, heard_number, heard_sending, if_asked, is_unknown, latest, latest_in, overtakers, partner, requester}
+use Rattle.circuit_set.specs.Books.{HasRequester, HeardNote, SentNote, TimelyTo, has_sent, heard_number, heard_sending, if_asked, is_unknown, latest_to, latest_in, overtakers, partner, requester}
 use Rattle.circuit_verdict.specs.declared.book.Book.{Book}
 use Rattle.circuit_verdict.specs.declared.sendings.Sending.{Sending}
 use Rattle.circuit_verdict.specs.declared.sendings.Sendings.{Sendings}
@@ -119,7 +119,7 @@ in_time allow b x p d v e f few =
     (p, k.note, e, k.latest, fewer)
 
 pub heard_is : (b : books.Book) (x p : Name) (d : List ℕ) (v : Sending) → partner b x ≡ Some p → Some v ≡ sending_in (latest_in b.sent p d)
-    → heard_sending x (latest b x d) b.heard ≡ heard_number x v.number b.heard
+    → heard_sending x (latest_to b x d) b.heard ≡ heard_number x v.number b.heard
 heard_is b x p d v e f =
     let k = found b p d v f in
     let of_number : Sending → List HeardNote = λ w. heard_number x w.number b.heard in

@@ -9,7 +9,7 @@ use Rattle.circuit_set.specs.NotedRuns.{opened_window, told_to}
 use Rattle.circuit_set.specs.Events.{Name, same_name}
 use Rattle.circuit_set.specs.Books.{MadeNote, first_name, is_some_name, is_unknown, partner_in, was_asked, any_ends}
 use Rattle.circuit_verdict.specs.declared.ends.EndNote.{EndNote}
-use Rattle.circuit_verdict.specs.Ends.{fresh_note, given_in, is_going, is_made, joined, made_note, note_in, note_is_going, note_of, with_facing}
+use Rattle.circuit_verdict.specs.Ends.{fresh_note, given_in, is_going, is_made, partner_after_joining, made_note, note_in, note_is_going, note_of, with_facing}
 use Rattle.circuit_verdict.proofs.Same.{name_same, nat_same, pair_same}
 use Rattle.circuit_verdict.proofs.Tests.{both_true, not_not}
 
@@ -55,12 +55,12 @@ joined_by true (Some z) p x y = refl
 joined_by false (Some z) p x y = refl
 
 joined_cases : (end : Name) (r : Option Name) (y : Name) (p : Option Name)
-    → joined end r y p ≡ (elim r as (λ s. Option Name) [ None ↦ p | Some z ↦ if same_name z y then Some end else (if same_name end y then Some z else p) ])
+    → partner_after_joining end r y p ≡ (elim r as (λ s. Option Name) [ None ↦ p | Some z ↦ if same_name z y then Some end else (if same_name end y then Some z else p) ])
 joined_cases end None y p = refl
 joined_cases end (Some z) y p = refl
 
 pub partner_made : (x y : Name) (own : Callsign) (pair : Pair) (r : Option Name) (ms : List MadeNote)
-    → joined x r y (partner_in ms y) ≡ partner_in (made_note x own pair r ∷ ms) y
+    → partner_after_joining x r y (partner_in ms y) ≡ partner_in (made_note x own pair r ∷ ms) y
 partner_made x y own pair r ms = joined_cases x r y (partner_in ms y) ∙ joined_by (same_name x y) r (partner_in ms y) x y
 
 given_by : (b : Bool) (x : Name) (node : ℕ) (own : Callsign) (pair p : Pair) (r : Option Name) (ms : List MadeNote) → nat_eq x.node node && same_pair pair p ≡ b

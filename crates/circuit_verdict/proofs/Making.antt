@@ -10,7 +10,7 @@ use Rattle.circuit_set.specs.Books.{MadeNote}
 use Rattle.circuit_set.specs.Events.{Name, same_name}
 use Rattle.circuit_verdict.specs.declared.ends.Ends.{Ends}
 use Rattle.circuit_verdict.specs.Lists.{list_in}
-use Rattle.circuit_verdict.specs.Ends.{EndsStand, fresh_note, joined, key_of, made_note, note_in, same_call_pair, same_node_pair, with_facing}
+use Rattle.circuit_verdict.specs.Ends.{EndsStand, fresh_note, partner_after_joining, key_of, made_note, note_in, same_call_pair, same_node_pair, with_facing}
 use Rattle.circuit_verdict.proofs.Made.{given_made, note_made, partner_made}
 
 -- from before to given, noted and joined
@@ -25,7 +25,7 @@ pub record Makes (before given noted joined_then : Ends) (end : Name) (own : Cal
   pub noting : (ms : List MadeNote) → ((x : Name) → get same_name given.notes x ≡ note_in ms x)
       → (x : Name) → get same_name noted.notes x ≡ cond (same_name end x) (Some (fresh_note (is_some r) ms end)) (note_in ms x)
   pub joins : joined_then ≡ record noted { partners = joined_then.partners; facing = joined_then.facing }
-  pub partners : (x : Name) → get same_name joined_then.partners x ≡ joined end r x (get same_name noted.partners x)
+  pub partners : (x : Name) → get same_name joined_then.partners x ≡ partner_after_joining end r x (get same_name noted.partners x)
   pub faces : (x : Name) → list_in (get same_name joined_then.facing.lists x) ≡ with_facing end r x (list_in (get same_name noted.facing.lists x))
 
 pub made_stands : (before given noted joined_then : Ends) (end : Name) (own : Callsign) (pair : Pair) (r : Option Name) (ms : List MadeNote) (lost : List Name)

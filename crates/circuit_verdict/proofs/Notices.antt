@@ -9,7 +9,7 @@ use Rattle.circuit_set.specs.Books.{MadeNote, any_ends, made_last, partner_in, w
 use Rattle.circuit_set.specs.Events.{Name, ends_it, same_name}
 use Rattle.circuit_set.specs.NotedRuns.{opened_window, told_to}
 use Rattle.circuit_verdict.specs.declared.ends.EndNote.{EndNote}
-use Rattle.circuit_verdict.specs.Ends.{facing_in, first_window, given_in, is_going, is_made, note_in, noticed, noticed_in, with_facing}
+use Rattle.circuit_verdict.specs.Ends.{facing_in, first_window, given_in, is_going, is_made, note_in, after_notice, after_notice_in, with_facing}
 use Rattle.circuit_verdict.proofs.Same.{name_same}
 use Rattle.circuit_verdict.proofs.Tests.{and_false, or_false, or_or}
 
@@ -157,7 +157,7 @@ window_more (FailedInactive ∷ ns) n = window_more ns n
 abbrev note : Bool → Bool → Option ℕ → EndNote
 note asked ended window = record { asked = asked; ended = ended; window = window }
 
-noticed_by : (n : EndNotice) (asked g : Bool) (w : Option ℕ) → note asked (not (g && not (ends_it n))) (window_then w n) ≡ noticed n (note asked (not g) w)
+noticed_by : (n : EndNotice) (asked g : Bool) (w : Option ℕ) → note asked (not (g && not (ends_it n))) (window_then w n) ≡ after_notice n (note asked (not g) w)
 noticed_by (Opened v) asked true w = refl
 noticed_by (Opened v) asked false w = refl
 noticed_by Refused asked g w = rw (and_false g) refl
@@ -168,7 +168,7 @@ noticed_by FailedOversize asked g w = rw (and_false g) refl
 noticed_by FailedInactive asked g w = rw (and_false g) refl
 
 note_here_by : (made : Bool) (ms : List MadeNote) (n : EndNotice) (x : Name) → is_made ms x ≡ made
-    → note_in (with_notice x n ms) x ≡ noticed_in n (note_in ms x)
+    → note_in (with_notice x n ms) x ≡ after_notice_in n (note_in ms x)
 note_here_by true ms n x e =
     let told : told_to (with_notice x n ms) x ≡ told_to ms x ++ n ∷ [] = told_here ms n x ∙ rw e refl in
     rw (made_noticed ms x n x, e, asked_noticed ms x n x, going_here ms n x, told, window_more (told_to ms x) n)
@@ -176,10 +176,10 @@ note_here_by true ms n x e =
 note_here_by false ms n x e = rw (made_noticed ms x n x, e) refl
 
 note_noticed_by : (b : Bool) (ms : List MadeNote) (y : Name) (n : EndNotice) (x : Name) → same_name y x ≡ b
-    → cond b (noticed_in n (note_in ms x)) (note_in ms x) ≡ note_in (with_notice y n ms) x
+    → cond b (after_notice_in n (note_in ms x)) (note_in ms x) ≡ note_in (with_notice y n ms) x
 note_noticed_by true ms y n x e = rw (name_same y x e) (sym (note_here_by (is_made ms x) ms n x refl))
 note_noticed_by false ms y n x e = rw (made_noticed ms y n x, asked_noticed ms y n x, going_apart ms y n x e, told_apart ms y n x e) refl
 
 pub note_noticed : (ms : List MadeNote) (y : Name) (n : EndNotice) (x : Name)
-    → cond (same_name y x) (noticed_in n (note_in ms x)) (note_in ms x) ≡ note_in (with_notice y n ms) x
+    → cond (same_name y x) (after_notice_in n (note_in ms x)) (note_in ms x) ≡ note_in (with_notice y n ms) x
 note_noticed ms y n x = note_noticed_by (same_name y x) ms y n x refl

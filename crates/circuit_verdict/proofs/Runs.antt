@@ -5,7 +5,7 @@ use Rattle.ax_address.specs.Callsign.{Callsign}
 use Rattle.circuit_set.specs.Sets.{Told, Made, Sent, Heeded, Notice, Gone, Restarted, Lost}
 use Rattle.circuit_set.specs.Books as books
 use Rattle.circuit_set.specs.Events.{Event, Name}
-use Rattle.circuit_set.specs.Books.{Fresh, FreshFrom, FreshTold, Timely, TimelyTold, empty, lost_with, noted, noted_all}
+use Rattle.circuit_set.specs.Books.{Fresh, FreshFrom, FreshTold, Timely, TimelyTold, empty, lost_with, with_event, with_events}
 use Rattle.circuit_verdict.specs.declared.book.Book.{Book}
 use Rattle.circuit_verdict.specs.declared.event.Event.{Event as Coming}
 use Rattle.circuit_verdict.specs.declared.event.Numbered.{Numbered}
@@ -20,17 +20,17 @@ use Rattle.circuit_verdict.specs.ByBook.{FailsAt, FirstLateByBook, InTimeByBook,
 use Rattle.circuit_verdict.specs.Verdicts.{late_of}
 
 -- ---- one more event ----
-pub timely_more : (allow : books.Book → Name → ℕ) (b : books.Book) (es : List Event) (e : Event) → Timely allow b es → TimelyTold allow (noted_all b es) e.node e.told → Timely allow b (es ++ e ∷ [])
+pub timely_more : (allow : books.Book → Name → ℕ) (b : books.Book) (es : List Event) (e : Event) → Timely allow b es → TimelyTold allow (with_events b es) e.node e.told → Timely allow b (es ++ e ∷ [])
 timely_more allow b [] e all here = (here, tt)
-timely_more allow b (k ∷ es) e all here = (all.0, timely_more allow (noted b k) es e all.1 here)
+timely_more allow b (k ∷ es) e all here = (all.0, timely_more allow (with_event b k) es e all.1 here)
 
-pub fresh_more : (b : books.Book) (lost : List Name) (es : List Event) (e : Event) → FreshFrom b lost es → FreshTold (noted_all b es) (lost_in lost es) e.node e.told → FreshFrom b lost (es ++ e ∷ [])
+pub fresh_more : (b : books.Book) (lost : List Name) (es : List Event) (e : Event) → FreshFrom b lost es → FreshTold (with_events b es) (lost_in lost es) e.node e.told → FreshFrom b lost (es ++ e ∷ [])
 fresh_more b lost [] e all here = (here, tt)
-fresh_more b lost (k ∷ es) e all here = (all.0, fresh_more (noted b k) (lost_with lost k.node k.told) es e all.1 here)
+fresh_more b lost (k ∷ es) e all here = (all.0, fresh_more (with_event b k) (lost_with lost k.node k.told) es e all.1 here)
 
-noted_more : (b : books.Book) (es : List Event) (e : Event) → noted_all b (es ++ e ∷ []) ≡ noted (noted_all b es) e
+noted_more : (b : books.Book) (es : List Event) (e : Event) → with_events b (es ++ e ∷ []) ≡ with_event (with_events b es) e
 noted_more b [] e = refl
-noted_more b (k ∷ es) e = noted_more (noted b k) es e
+noted_more b (k ∷ es) e = noted_more (with_event b k) es e
 
 lost_more : (lost : List Name) (es : List Event) (e : Event) → lost_in lost (es ++ e ∷ []) ≡ lost_with (lost_in lost es) e.node e.told
 lost_more lost [] e = refl
@@ -50,13 +50,13 @@ one_place b node own (Restarted pair) = refl
 one_place b node own (Lost id facts) = refl
 
 -- ---- an event among others ----
-pub timely_at : (allow : books.Book → Name → ℕ) (b : books.Book) (es later : List Event) (e : Event) → Timely allow b (es ++ e ∷ later) → TimelyTold allow (noted_all b es) e.node e.told
+pub timely_at : (allow : books.Book → Name → ℕ) (b : books.Book) (es later : List Event) (e : Event) → Timely allow b (es ++ e ∷ later) → TimelyTold allow (with_events b es) e.node e.told
 timely_at allow b [] later e all = all.0
-timely_at allow b (k ∷ es) later e all = timely_at allow (noted b k) es later e all.1
+timely_at allow b (k ∷ es) later e all = timely_at allow (with_event b k) es later e all.1
 
-pub fresh_at : (b : books.Book) (lost : List Name) (es later : List Event) (e : Event) → FreshFrom b lost (es ++ e ∷ later) → FreshTold (noted_all b es) (lost_in lost es) e.node e.told
+pub fresh_at : (b : books.Book) (lost : List Name) (es later : List Event) (e : Event) → FreshFrom b lost (es ++ e ∷ later) → FreshTold (with_events b es) (lost_in lost es) e.node e.told
 fresh_at b lost [] later e all = all.0
-fresh_at b lost (k ∷ es) later e all = fresh_at (noted b k) (lost_with lost k.node k.told) es later e all.1
+fresh_at b lost (k ∷ es) later e all = fresh_at (with_event b k) (lost_with lost k.node k.told) es later e all.1
 
 events_among : (ns later : List Numbered) (n : Numbered) → events_of (ns ++ n ∷ later) ≡ events_of ns ++ event_of n.event ∷ events_of later
 events_among [] later n = refl
@@ -73,7 +73,7 @@ late_fails a ns late l timely fresh =
     let split = ap events_of l.parts ∙ events_among l.before l.after l.at in
     let timely_there : Timely (allowance_of a) empty (events_of l.before ++ event_of l.at.event ∷ events_of l.after) = rw (← split) timely in
     let fresh_there : FreshFrom empty [] (events_of l.before ++ event_of l.at.event ∷ events_of l.after) = rw (← split) fresh in
-    fails_by a (noted_all empty (events_of l.before)) (lost_in [] (events_of l.before)) (event_of l.at.event) late.why l.fails
+    fails_by a (with_events empty (events_of l.before)) (lost_in [] (events_of l.before)) (event_of l.at.event) late.why l.fails
     (timely_at (allowance_of a) empty (events_of l.before) (events_of l.after) (event_of l.at.event) timely_there)
     (fresh_at empty [] (events_of l.before) (events_of l.after) (event_of l.at.event) fresh_there)
 
@@ -92,15 +92,15 @@ stays_late a (Some late) k ns n e l = record {
 }
 
 judged_by : (a : Allowance) (line : ℕ) (e : Coming) (why : Option LateWhy) (old new : Book) (ns : List Numbered) → InTime a old ns
-    → Judges a (noted_all empty (events_of ns)) (lost_in [] (events_of ns)) (event_of e) why new
-    → new.places ≡ (noted_all empty (events_of ns)).places + 1
+    → Judges a (with_events empty (events_of ns)) (lost_in [] (events_of ns)) (event_of e) why new
+    → new.places ≡ (with_events empty (events_of ns)).places + 1
     → Follows a (late_of line why) new (ns ++ record { line = line; event = e } ∷ [])
 judged_by a line e None old new ns k j places =
     let es = events_of ns in
     let next = event_of e in
     let n : Numbered = record { line = line; event = e } in
-    let stands : BookStands new (noted (noted_all empty es) next) (lost_with (lost_in [] es) next.node next.told) =
-    record { places = places ∙ let one = one_place (noted_all empty es) next.node next.own next.told in omega (arith, one); parts = j.parts } in
+    let stands : BookStands new (with_event (with_events empty es) next) (lost_with (lost_in [] es) next.node next.told) =
+    record { places = places ∙ let one = one_place (with_events empty es) next.node next.own next.told in omega (arith, one); parts = j.parts } in
     record {
       timely = rw (events_more ns n) (timely_more (allowance_of a) empty es next k.timely j.timely);
       fresh = rw (events_more ns n) (fresh_more empty [] es next k.fresh j.fresh);
@@ -121,12 +121,12 @@ pub goes_on : (a : Allowance) (o : Option Late) (line : ℕ) (e : Coming) (why :
     → ((b : books.Book) (lost : List Name) → BookStands old b lost → Judges a b lost (event_of e) why new × (new.places ≡ b.places + 1))
     → Follows a (late_of line why) new (ns ++ record { line = line; event = e } ∷ [])
 goes_on a None line e why old new ns none k told =
-    let judged = told (noted_all empty (events_of ns)) (lost_in [] (events_of ns)) k.book in
+    let judged = told (with_events empty (events_of ns)) (lost_in [] (events_of ns)) k.book in
     judged_by a line e why old new ns k judged.0 judged.1
 goes_on a (Some late) line e why old new ns none k told = absurd (cc none)
 
 -- nothing was late, so that the book has all of it
 pub book_in_time : (a : Allowance) (o : Option Late) (k : Book) (ns : List Numbered) → Follows a o k ns → InTimeByBook a (events_of ns)
-    → BookStands k (noted_all empty (events_of ns)) (lost_in [] (events_of ns))
+    → BookStands k (with_events empty (events_of ns)) (lost_in [] (events_of ns))
 book_in_time a None k ns f t = f.book
 book_in_time a (Some l) k ns f t = absurd (late_fails a ns l f t.0 t.1)

@@ -1,8 +1,8 @@
 -- The same by the notes that are kept of the events, as `circuit_set` says. Of the public calls `Verdict::cause` alone speaks by them.
 use Rattle.std.specs.Prelude.{◌≡◌, ℕ, List, [], ◌∷◌, ◌++◌}
-use Rattle.circuit_set.specs.Books.{Book, Timely, TimelyTold, Fresh, FreshTold, empty, noted_all, lost_with}
+use Rattle.circuit_set.specs.Books.{Book, Timely, TimelyTold, Fresh, FreshTold, empty, with_events, lost_with}
 use Rattle.circuit_set.specs.Events.{Event, Name}
-use Rattle.circuit_set.specs.NotedRuns.{allowed}
+use Rattle.circuit_set.specs.NotedRuns.{allowance_at}
 use Rattle.circuit_verdict.specs.declared.event.Numbered.{Numbered}
 use Rattle.circuit_verdict.specs.declared.verdict.Allowance.{Allowance}
 use Rattle.circuit_verdict.specs.declared.verdict.Allowance.TheVariants.{Fixed, OfWindow}
@@ -14,7 +14,7 @@ use Rattle.circuit_verdict.specs.Events.{event_of, events_of}
 -- how many overtakers are too many
 abbrev pub allowance_of : Allowance → Book → Name → ℕ
 allowance_of Fixed b x = 128
-allowance_of OfWindow b x = allowed b x
+allowance_of OfWindow b x = allowance_at b x
 
 -- the ends that restarts took away
 abbrev pub lost_in : List Name → List Event → List Name
@@ -39,4 +39,4 @@ pub record FirstLateByBook (a : Allowance) (ns : List Numbered) (late : Late) : 
   pub line : late.line ≡ at.line
   pub timely : Timely (allowance_of a) empty (events_of before)
   pub fresh : Fresh empty (events_of before)
-  pub fails : FailsAt a (noted_all empty (events_of before)) (lost_in [] (events_of before)) (event_of at.event) late.why
+  pub fails : FailsAt a (with_events empty (events_of before)) (lost_in [] (events_of before)) (event_of at.event) late.why

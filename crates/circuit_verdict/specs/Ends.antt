@@ -110,18 +110,18 @@ abbrev pub fresh_note : Bool → List MadeNote → Name → EndNote
 fresh_note by_request ms x = record { asked = by_request || was_asked ms x; ended = false; window = None }
 
 -- its requester and it become partners
-abbrev pub joined : Name → Option Name → Name → Option Name → Option Name
-joined end None x partner = partner
-joined end (Some y) x partner = if same_name y x then Some end else (if same_name end x then Some y else partner)
+abbrev pub partner_after_joining : Name → Option Name → Name → Option Name → Option Name
+partner_after_joining end None x partner = partner
+partner_after_joining end (Some y) x partner = if same_name y x then Some end else (if same_name end x then Some y else partner)
 
 abbrev pub first_window : Option ℕ → ℕ → Option ℕ
 first_window None w = Some w
 first_window (Some v) w = Some v
 
-abbrev pub noticed : EndNotice → EndNote → EndNote
-noticed (Opened w) n = record n { window = first_window n.window w }
-noticed _ n = record n { ended = true }
+abbrev pub after_notice : EndNotice → EndNote → EndNote
+after_notice (Opened w) n = record n { window = first_window n.window w }
+after_notice _ n = record n { ended = true }
 
-abbrev pub noticed_in : EndNotice → Option EndNote → Option EndNote
-noticed_in notice None = None
-noticed_in notice (Some n) = Some (noticed notice n)
+abbrev pub after_notice_in : EndNotice → Option EndNote → Option EndNote
+after_notice_in notice None = None
+after_notice_in notice (Some n) = Some (after_notice notice n)

@@ -2,7 +2,7 @@
 use Rattle.std.specs.Prelude.{◌≡◌, List, Option, Some, None}
 use Rattle.circuit_set.specs.Books as books
 use Rattle.circuit_set.specs.Events.{Event, Name}
-use Rattle.circuit_set.specs.Books.{FreshTold, TimelyTold, lost_with, noted}
+use Rattle.circuit_set.specs.Books.{FreshTold, TimelyTold, lost_with, with_event}
 use Rattle.circuit_verdict.specs.declared.book.Book.{Book}
 use Rattle.circuit_verdict.specs.declared.verdict.Allowance.{Allowance}
 use Rattle.circuit_verdict.specs.declared.verdict.LateWhy.{LateWhy}
@@ -23,7 +23,7 @@ pub record BookStands (k : Book) (b : books.Book) (lost : List Name) : Type 0 wh
 pub record Noted (a : Allowance) (b : books.Book) (lost : List Name) (e : Event) (new : Book) : Type 0 where
   pub timely : TimelyTold (allowance_of a) b e.node e.told
   pub fresh : FreshTold b lost e.node e.told
-  pub parts : PartsStand new (noted b e) (lost_with lost e.node e.told)
+  pub parts : PartsStand new (with_event b e) (lost_with lost e.node e.told)
 
 abbrev pub Judges : Allowance → books.Book → List Name → Event → Option LateWhy → Book → Type 0
 Judges a b lost e None new = Noted a b lost e new
@@ -31,11 +31,11 @@ Judges a b lost e (Some why) new = FailsAt a b lost e why
 
 -- the same where an end was made, and where one has heeded a datagram
 abbrev pub JudgesMade : books.Book → List Name → Event → Option LateWhy → Book → Type 0
-JudgesMade b lost e None new = FreshTold b lost e.node e.told × PartsStand new (noted b e) lost
+JudgesMade b lost e None new = FreshTold b lost e.node e.told × PartsStand new (with_event b e) lost
 JudgesMade b lost e (Some Returned) new = FreshTold b lost e.node e.told → ⊥
 JudgesMade b lost e (Some Overtaken) new = ⊥
 
 abbrev pub JudgesHeeded : Allowance → books.Book → List Name → Event → Option LateWhy → Book → Type 0
-JudgesHeeded a b lost e None new = TimelyTold (allowance_of a) b e.node e.told × PartsStand new (noted b e) lost
+JudgesHeeded a b lost e None new = TimelyTold (allowance_of a) b e.node e.told × PartsStand new (with_event b e) lost
 JudgesHeeded a b lost e (Some Overtaken) new = TimelyTold (allowance_of a) b e.node e.told → ⊥
 JudgesHeeded a b lost e (Some Returned) new = ⊥

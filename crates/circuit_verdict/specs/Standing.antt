@@ -1,6 +1,6 @@
 -- What a verdict stands for: the events that it has taken in.
 use Rattle.std.specs.Prelude.{◌≡◌, List, [], Option, Some, None, true}
-use Rattle.circuit_set.specs.Books.{Fresh, Timely, empty, noted_all}
+use Rattle.circuit_set.specs.Books.{Fresh, Timely, empty, with_events}
 use Rattle.circuit_verdict.specs.declared.event.Numbered.{Numbered}
 use Rattle.circuit_verdict.specs.declared.verdict.Allowance.{Allowance}
 use Rattle.circuit_verdict.specs.declared.verdict.Late.{Late}
@@ -14,7 +14,7 @@ use Rattle.circuit_verdict.specs.ByBook.{FirstLateByBook, allowance_of, lost_in}
 pub record InTime (a : Allowance) (k : Book) (ns : List Numbered) : Type 0 where
   pub timely : Timely (allowance_of a) empty (events_of ns)
   pub fresh : Fresh empty (events_of ns)
-  pub book : BookStands k (noted_all empty (events_of ns)) (lost_in [] (events_of ns))
+  pub book : BookStands k (with_events empty (events_of ns)) (lost_in [] (events_of ns))
 
 abbrev pub Follows : Allowance → Option Late → Book → List Numbered → Type 0
 Follows a None k ns = InTime a k ns

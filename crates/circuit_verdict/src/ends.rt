@@ -34,7 +34,7 @@ pub(crate) struct EndNote {
 impl EndNote {
     /// The end has given notice.
     fn hear(&mut self, notice: &EndNotice)
-        ensures { self.new ≡ made.noticed notice.now self.old }
+        ensures { self.new ≡ made.after_notice notice.now self.old }
     {
         match notice {
             EndNotice::Opened { window } => self.window = self.window.or(Some(*window)),
@@ -226,7 +226,7 @@ impl Ends {
     fn join(&mut self, end: &Name, requester: Option<Name>) -> Result<(), NoMemory>
         ensures rest { self.new ≡ record self.old { partners = self.new.partners; facing = self.new.facing } }
         ensures partners { OnOk result ((x : set_events.Name) → get set_events.same_name self.new.partners x
-            ≡ made.joined end.now requester x (get set_events.same_name self.old.partners x)) }
+            ≡ made.partner_after_joining end.now requester x (get set_events.same_name self.old.partners x)) }
         ensures facing { OnOk result ((x : set_events.Name) → list_in (get set_events.same_name self.new.facing.lists x)
             ≡ made.with_facing end.now requester x (list_in (get set_events.same_name self.old.facing.lists x))) }
     {
@@ -239,7 +239,7 @@ impl Ends {
     fn join_both(&mut self, end: &Name, requester: &Name) -> Result<(), NoMemory>
         ensures rest { self.new ≡ record self.old { partners = self.new.partners; facing = self.new.facing } }
         ensures partners { OnOk result ((x : set_events.Name) → get set_events.same_name self.new.partners x
-            ≡ made.joined end.now (Some requester.now) x (get set_events.same_name self.old.partners x)) }
+            ≡ made.partner_after_joining end.now (Some requester.now) x (get set_events.same_name self.old.partners x)) }
         ensures facing { OnOk result ((x : set_events.Name) → list_in (get set_events.same_name self.new.facing.lists x)
             ≡ made.with_facing end.now (Some requester.now) x (list_in (get set_events.same_name self.old.facing.lists x))) }
     {
@@ -261,7 +261,7 @@ impl Ends {
     fn note_notice(&mut self, end: &Name, notice: &EndNotice)
         ensures rest { self.new ≡ record self.old { notes = self.new.notes } }
         ensures notes { (x : set_events.Name) → get set_events.same_name self.new.notes x
-            ≡ cond (set_events.same_name end.now x) (made.noticed_in notice.now (get set_events.same_name self.old.notes x)) (get set_events.same_name self.old.notes x) }
+            ≡ cond (set_events.same_name end.now x) (made.after_notice_in notice.now (get set_events.same_name self.old.notes x)) (get set_events.same_name self.old.notes x) }
     {
         if let Some(note) = self.notes.get_mut(end) {
             note.hear(notice);

@@ -6,7 +6,7 @@ use Rattle.ax_address.specs.Callsign.{Callsign, IsCallsign}
 use Rattle.circuit_l4.specs.Halves.{first_or}
 use Rattle.circuit_l4.specs.Receiving.{inbox}
 use Rattle.circuit_l4.specs.State.{is_up}
-use Rattle.circuit_set.specs.Books.{Book, Fresh, empty, noted, noted_all, partner}
+use Rattle.circuit_set.specs.Books.{Book, Fresh, empty, with_event, with_events, partner}
 use Rattle.circuit_set.specs.ByBook.{FreshByBook, PartnersByBook}
 use Rattle.circuit_set.specs.CircuitSets.{partner_at}
 use Rattle.circuit_set.specs.Events.{Event, Name}
@@ -141,11 +141,11 @@ put_ends line at came128 w k = put_ends_case line at came128 w k (slice_get w.no
 
 -- ---- runs
 
-noted_append : (b : Book) (xs ys : List Event) → noted_all b (xs ++ ys) ≡ noted_all (noted_all b xs) ys
+noted_append : (b : Book) (xs ys : List Event) → with_events b (xs ++ ys) ≡ with_events (with_events b xs) ys
 noted_append b [] ys = refl
-noted_append b (x ∷ xs) ys = noted_append (noted b x) xs ys
+noted_append b (x ∷ xs) ys = noted_append (with_event b x) xs ys
 
-run_book : (net : Net) (steps : List Step) → (net_run net steps).book ≡ noted_all net.book (events_of net.sets steps)
+run_book : (net : Net) (steps : List Step) → (net_run net steps).book ≡ with_events net.book (events_of net.sets steps)
 run_book net [] = refl
 run_book net (st ∷ sts) =
     run_book (net_step net st) sts
@@ -453,7 +453,7 @@ module _ (plan : Plan) (apart : AreApart (names (new_nodes plan))) (are_steps : 
           let none : inbox h.end.receiving ≡ [] = ap (λ ms. drop h.end.receiving.taken ms) a.received ∙ drop_nothing h.end.receiving.taken in
           let bad : [] ≡ text ∷ got.rest = sym none ∙ got.waits in absurd (cc bad)
 
-      by_partner : (y : Name) → Partners told mine_is y → partner (noted_all empty told) mine_is ≡ Some y → IsWritten ws h.at p.declared.call text
+      by_partner : (y : Name) → Partners told mine_is y → partner (with_events empty told) mine_is ≡ Some y → IsWritten ws h.at p.declared.call text
       by_partner y j q =
           let f : Faces net mine_is y = face (first_sets plan) starts calls steps (front_are steps later t.are) mine_is y (ap (λ (b : Book). partner b mine_is) (run_book (begins (first_sets plan)) steps) ∙ q) in
           let mine : f.mine ≡ h = same_end (end_named (sets_run (first_sets plan) steps) mine_is) (end_is mine_is f.mine f.here) there in
@@ -473,12 +473,12 @@ module _ (plan : Plan) (apart : AreApart (names (new_nodes plan))) (are_steps : 
           subst (AllByRecursion (IsWritten ws node_y.0.declared.call k.at)) got.waits (drop_all (IsWritten ws node_y.0.declared.call k.at) h.end.receiving.taken h.end.receiving.received received) in
           subst (λ a. IsWritten ws a p.declared.call text) from (subst (λ b. IsWritten ws node_y.0.declared.call b text) to waiting.0)
 
-      partner_case : (o : Option Name) → partner (noted_all empty told) mine_is ≡ o → IsWritten ws h.at p.declared.call text
+      partner_case : (o : Option Name) → partner (with_events empty told) mine_is ≡ o → IsWritten ws h.at p.declared.call text
       partner_case None q = alone ((all_safe mine_is h there).end.alone ((partners told noted_fresh mine_is).1.0 q))
       partner_case (Some y) q = by_partner y (((partners told noted_fresh mine_is).0 y).0 q) q
 
       came_from : IsWritten ws h.at p.declared.call text
-      came_from = partner_case (partner (noted_all empty told) mine_is) refl
+      came_from = partner_case (partner (with_events empty told) mine_is) refl
 
     -- one taking, at the node at a place
     module _ (line node at id : ℕ) (u w : World) (steps : List Step) (c : Contains plan steps w.nodes w.told) (kept : (m : MailRun) → Kept m u → Kept m w) (p : Placed) (e : slice_get w.nodes at ≡ Some p) where

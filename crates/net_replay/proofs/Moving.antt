@@ -236,7 +236,7 @@ vias_set (via ∷ vias) n =
     let more = vias_set vias (with_via via n) in (more.0 ∙ one.0, more.1 ∙ one.1)
 
 abbrev pub first_set : Plan → Declaration → Pair → ℕ → SetState
-first_set plan d pair first = sets.started d.call (value_of plan.settings d.node TimeToLive) d.call (ends_config plan d) pair first
+first_set plan d pair first = sets.new_set d.call (value_of plan.settings d.node TimeToLive) d.call (ends_config plan d) pair first
 
 started_set : (plan : Plan) (d : Declaration) (pair : Pair) (first : ℕ) → ((started plan d pair first).station.set ≡ at_rest (first_set plan d pair first)) × ((started plan d pair first).station.entries ≡ [])
 started_set plan d pair first = vias_set (filter (is_via_of d.node) plan.vias) (new_node (config_of plan.settings d pair first))

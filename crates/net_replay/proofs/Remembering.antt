@@ -19,8 +19,8 @@ use Rattle.circuit_l4.specs.Table.{Arrive, step}
 use Rattle.circuit_l4.specs.Reading.{transport_at}
 use Rattle.circuit_set.specs.Heeds.{heeds}
 use Rattle.circuit_set.specs.Inputs.{runs}
-use Rattle.circuit_set.specs.Pairs.{following, next_free}
-use Rattle.circuit_set.specs.Sets.{Act, Connect, Comes, Calls, Discard, Restart, Call, Holder, SetDone, SetState, Told, Heeded, Made, Lost, Gone, Restarted, Sent, accept_again, all_gone, arrives_at, called, connected, datagram_to, discarded, end_of, first_open, goes_to, handed, handed_up, has_ended, held_pairs, holder_of, input_of, is_open, losses, named_by, opened_by, read_as, received, requested, requested_anew, restarted, set_step, settled, told_by, untold, with_end}
+use Rattle.circuit_set.specs.Pairs.{pair_after, next_free}
+use Rattle.circuit_set.specs.Sets.{Act, Connect, Comes, Calls, Discard, Restart, Call, Holder, SetDone, SetState, Told, Heeded, Made, Lost, Gone, Restarted, Sent, accept_again, all_gone, arrives_at, after_call, after_connecting, datagram_to, after_discarding, end_of, first_open, goes_to, hands_to, after_datagram, has_ended, held_pairs, holder_of, input_of, is_open, losses, named_by, opened_by, read_as, after_transport, after_request, after_new_request, after_restart, set_step, after_effect, told_by, does_nothing, with_end}
 
 -- the ends that were lost: each is gone, and its number is below that of each end since
 pub record Past (base : ℕ) (past : List Holder) : Type 0 where
@@ -167,7 +167,7 @@ module _ (base : ℕ) (past : List Holder) (lost : Past base past) where
   abbrev Lifting : SetState → SetDone → SetDone → Type 0
   Lifting s d e = Lifts base past s d e
 
-  stays : (s : SetState) → Rising base s.ends s.number → Lifting s (untold (lift past s)) (untold s)
+  stays : (s : SetState) → Rising base s.ends s.number → Lifting s (does_nothing (lift past s)) (does_nothing s)
   stays s r = record { is = refl; rises = r; own = refl; ttl = refl; user = refl; config = refl }
 
   choose : (s : SetState) (b : Bool) (d d2 e e2 : SetDone) → Lifting s d e → Lifting s d2 e2 → Lifting s (cond b d d2) (cond b e e2)
@@ -176,8 +176,8 @@ module _ (base : ℕ) (past : List Holder) (lost : Past base past) where
 
   goes_lift : (s : SetState) (h : Holder) (first : List Told) (g : Effect) → base ≤ h.id → Rising base s.ends s.number → Lifting s (goes_to (lift past s) h first g) (goes_to s h first g)
   goes_lift s h first g k r = record {
-    is = ap (λ es. record { set = record s { ends = es }; told = first ++ told_by s h g }) (with_lift base (settled h g) past s.ends lost.below k);
-    rises = with_rises base s.number (settled h g) s.ends r;
+    is = ap (λ es. record { set = record s { ends = es }; told = first ++ told_by s h g }) (with_lift base (after_effect h g) past s.ends lost.below k);
+    rises = with_rises base s.number (after_effect h g) s.ends r;
     own = refl;
     ttl = refl;
     user = refl;
@@ -187,14 +187,14 @@ module _ (base : ℕ) (past : List Holder) (lost : Past base past) where
   -- a new end, with this pair
   abbrev make : Pair → SetState → Callsign → Option Pair → Option (List ℕ) → Effect → SetDone
   make pair s at asked request g = record {
-    set = record s { next = following pair; number = s.number + 1; ends = s.ends ++ holder_of s at asked g ∷ [] };
+    set = record s { next = pair_after pair; number = s.number + 1; ends = s.ends ++ holder_of s at asked g ∷ [] };
     told = Made s.number pair at request ∷ told_by s (holder_of s at asked g) g;
   }
 
   make_lift : (pair : Pair) (s : SetState) (at : Callsign) (asked : Option Pair) (request : Option (List ℕ)) (g : Effect) → Rising base s.ends s.number
       → Lifting s (make pair (lift past s) at asked request g) (make pair s at asked request g)
   make_lift pair s at asked request g r = record {
-    is = ap (λ es. record { set = record s { next = following pair; number = s.number + 1; ends = es }; told = Made s.number pair at request ∷ told_by s (holder_of s at asked g) g })
+    is = ap (λ es. record { set = record s { next = pair_after pair; number = s.number + 1; ends = es }; told = Made s.number pair at request ∷ told_by s (holder_of s at asked g) g })
         (append_assoc past s.ends (holder_of s at asked g ∷ []));
     rises = add_rises base s.number (holder_of s at asked g) s.ends refl r;
     own = refl;
@@ -209,10 +209,10 @@ module _ (base : ℕ) (past : List Holder) (lost : Past base past) where
 
   abbrev connect_by : List Pair → SetState → Callsign → ℕ → SetDone
   connect_by pairs s dest now =
-      cond (same_call dest s.own || full pairs s) (untold s)
+      cond (same_call dest s.own || full pairs s) (does_nothing s)
       (make (next_free 255 pairs s.next) s dest None None (requesting (next_free 255 pairs s.next) s.user s.own s.config (min now COUNT_MAX)))
 
-  connect_lift : (s : SetState) (dest : Callsign) (now : ℕ) → Rising base s.ends s.number → Lifting s (connected (lift past s) dest now) (connected s dest now)
+  connect_lift : (s : SetState) (dest : Callsign) (now : ℕ) → Rising base s.ends s.number → Lifting s (after_connecting (lift past s) dest now) (after_connecting s dest now)
   connect_lift s dest now r =
       subst (λ pairs. Lifting s (connect_by pairs (lift past s) dest now) (connect_by (held_pairs s.ends) s dest now)) (sym (pairs_lift past s.ends lost.gone))
       (choose s (same_call dest s.own || full (held_pairs s.ends) s) _ _ _ _ (stays s r)
@@ -227,7 +227,7 @@ module _ (base : ℕ) (past : List Holder) (lost : Past base past) where
   refuse_lift s told r = record { is = refl; rises = r; own = refl; ttl = refl; user = refl; config = refl }
 
   anew_lift : (s : SetState) (origin : Callsign) (d : List ℕ) (pair : Pair) (window now : ℕ) → Rising base s.ends s.number
-      → Lifting s (requested_anew (lift past s) origin d pair window now) (requested_anew s origin d pair window now)
+      → Lifting s (after_new_request (lift past s) origin d pair window now) (after_new_request s origin d pair window now)
   anew_lift s origin d pair window now r =
       subst (λ pairs. Lifting s (respond_by pairs (lift past s) origin d pair window now) (respond_by (held_pairs s.ends) s origin d pair window now)) (sym (pairs_lift past s.ends lost.gone))
       (choose s (full (held_pairs s.ends) s) _ _ _ _ (refuse_lift s _ r)
@@ -237,7 +237,7 @@ module _ (base : ℕ) (past : List Holder) (lost : Past base past) where
 
   abbrev request_by : Option Holder → SetState → Callsign → List ℕ → Pair → ℕ → ℕ → SetDone
   request_by o s origin d pair window now =
-      elim o as (λ x. SetDone) [ Some h ↦ goes_to s h [] (accept_again h.end) | None ↦ requested_anew s origin d pair window now ]
+      elim o as (λ x. SetDone) [ Some h ↦ goes_to s h [] (accept_again h.end) | None ↦ after_new_request s origin d pair window now ]
 
   request_case : (o : Option Holder) (s : SetState) (origin : Callsign) (d : List ℕ) (pair : Pair) (window now : ℕ) → ((h : Holder) → o ≡ Some h → base ≤ h.id) → Rising base s.ends s.number
       → Lifting s (request_by o (lift past s) origin d pair window now) (request_by o s origin d pair window now)
@@ -245,14 +245,14 @@ module _ (base : ℕ) (past : List Holder) (lost : Past base past) where
   request_case (Some h) s origin d pair window now above r = goes_lift s h [] (accept_again h.end) (above h refl) r
 
   request_lift : (s : SetState) (origin : Callsign) (d : List ℕ) (pair : Pair) (window now : ℕ) → Rising base s.ends s.number
-      → Lifting s (requested (lift past s) origin d pair window now) (requested s origin d pair window now)
+      → Lifting s (after_request (lift past s) origin d pair window now) (after_request s origin d pair window now)
   request_lift s origin d pair window now r =
       subst (λ o. Lifting s (request_by o (lift past s) origin d pair window now) (request_by (first_open (opened_by origin pair) s.ends) s origin d pair window now))
       (sym (open_lift (opened_by origin pair) past s.ends lost.gone))
       (request_case (first_open (opened_by origin pair) s.ends) s origin d pair window now (λ h. open_above (opened_by origin pair) base base s.number s.ends h (omega arith) r) r)
 
   abbrev arrive_by : Option Holder → SetState → List ℕ → Transport → ℕ → SetDone
-  arrive_by o s d t now = elim o as (λ x. SetDone) [ Some h ↦ handed s h d t now | None ↦ untold s ]
+  arrive_by o s d t now = elim o as (λ x. SetDone) [ Some h ↦ hands_to s h d t now | None ↦ does_nothing s ]
 
   arrive_case : (o : Option Holder) (s : SetState) (d : List ℕ) (t : Transport) (now : ℕ) → ((h : Holder) → o ≡ Some h → base ≤ h.id) → Rising base s.ends s.number
       → Lifting s (arrive_by o (lift past s) d t now) (arrive_by o s d t now)
@@ -266,7 +266,7 @@ module _ (base : ℕ) (past : List Holder) (lost : Past base past) where
       (arrive_case (first_open (named_by origin to) s.ends) s d t now (λ h. open_above (named_by origin to) base base s.number s.ends h (omega arith) r) r)
 
   receive_lift : (s : SetState) (origin : Callsign) (d : List ℕ) (t : Transport) (now : ℕ) → Rising base s.ends s.number
-      → Lifting s (received (lift past s) origin d t now) (received s origin d t now)
+      → Lifting s (after_transport (lift past s) origin d t now) (after_transport s origin d t now)
   receive_lift s origin d (Request pair window user node) now r = request_lift s origin d pair window now r
   receive_lift s origin d (Accept to own window) now r = arrive_lift s origin d to (Accept to own window) now r
   receive_lift s origin d (Refuse to) now r = arrive_lift s origin d to (Refuse to) now r
@@ -281,32 +281,32 @@ module _ (base : ℕ) (past : List Holder) (lost : Past base past) where
   read_lift s origin d (Ok t) now r = receive_lift s origin d t now r
 
   hand_lift : (s : SetState) (d : List ℕ) (head : Result DatagramHead DatagramRefusal) (now : ℕ) → Rising base s.ends s.number
-      → Lifting s (handed_up (lift past s) d head now) (handed_up s d head now)
+      → Lifting s (after_datagram (lift past s) d head now) (after_datagram s d head now)
   hand_lift s d (Err e) now r = stays s r
   hand_lift s d (Ok head) now r =
       choose s (same_call head.origin s.own || not (same_call head.dest s.own)) _ _ _ _ (stays s r) (read_lift s head.origin d (transport_at (drop HEAD_SIZE d)) now r)
 
   -- ---- an end that is called
 
-  call_lost : (s : SetState) (call : Call) (now : ℕ) (o : Option Holder) → IsLost o → called (lift past s) o call now ≡ untold (lift past s)
+  call_lost : (s : SetState) (call : Call) (now : ℕ) (o : Option Holder) → IsLost o → after_call (lift past s) o call now ≡ does_nothing (lift past s)
   call_lost s call now None nothing = refl
-  call_lost s call now (Some h) (gone _ g) = ap (λ b. cond b (untold (lift past s)) (goes_to (lift past s) h [] (step h.end (input_of call) now))) g
+  call_lost s call now (Some h) (gone _ g) = ap (λ b. cond b (does_nothing (lift past s)) (goes_to (lift past s) h [] (step h.end (input_of call) now))) g
 
   call_case : (s : SetState) (id : ℕ) (call : Call) (now : ℕ) (o : Option Holder) → end_of id s.ends ≡ o → Rising base s.ends s.number
-      → Lifting s (called (lift past s) (end_of id (past ++ s.ends)) call now) (called s o call now)
+      → Lifting s (after_call (lift past s) (end_of id (past ++ s.ends)) call now) (after_call s o call now)
   call_case s id call now None e r =
-      subst (λ d. Lifting s d (untold s)) (sym (call_lost s call now (end_of id (past ++ s.ends)) (end_lost id past s.ends lost.gone e))) (stays s r)
+      subst (λ d. Lifting s d (does_nothing s)) (sym (call_lost s call now (end_of id (past ++ s.ends)) (end_lost id past s.ends lost.gone e))) (stays s r)
   call_case s id call now (Some h) e r =
       let is : h.id ≡ id = end_id id s.ends h e in
       let above : base ≤ h.id = end_above id base base s.number s.ends h (omega arith) r e in
       let same : end_of id (past ++ s.ends) ≡ Some h = end_lift base id past s.ends lost.below (omega (arith, is, above)) ∙ e in
-      subst (λ o. Lifting s (called (lift past s) o call now) (called s (Some h) call now)) (sym same)
+      subst (λ o. Lifting s (after_call (lift past s) o call now) (after_call s (Some h) call now)) (sym same)
       (choose s h.gone _ _ _ _ (stays s r) (goes_lift s h [] (step h.end (input_of call) now) above r))
 
-  discard_lost : (s : SetState) (o : Option Holder) → IsLost o → discarded (lift past s) o ≡ untold (lift past s)
+  discard_lost : (s : SetState) (o : Option Holder) → IsLost o → after_discarding (lift past s) o ≡ does_nothing (lift past s)
   discard_lost s None nothing = refl
   discard_lost s (Some h) (gone _ g) =
-      ap (λ b. cond (not b && has_ended h.end.phase) (record { set = record (lift past s) { ends = with_end (record h { gone = true }) (past ++ s.ends) }; told = Gone h.id (facts_of h.end) ∷ [] }) (untold (lift past s))) g
+      ap (λ b. cond (not b && has_ended h.end.phase) (record { set = record (lift past s) { ends = with_end (record h { gone = true }) (past ++ s.ends) }; told = Gone h.id (facts_of h.end) ∷ [] }) (does_nothing (lift past s))) g
 
   drop_lift : (s : SetState) (h : Holder) → base ≤ h.id → Rising base s.ends s.number
       → Lifting s (record { set = record (lift past s) { ends = with_end (record h { gone = true }) (past ++ s.ends) }; told = Gone h.id (facts_of h.end) ∷ [] })
@@ -321,19 +321,19 @@ module _ (base : ℕ) (past : List Holder) (lost : Past base past) where
   }
 
   discard_case : (s : SetState) (id : ℕ) (o : Option Holder) → end_of id s.ends ≡ o → Rising base s.ends s.number
-      → Lifting s (discarded (lift past s) (end_of id (past ++ s.ends))) (discarded s o)
+      → Lifting s (after_discarding (lift past s) (end_of id (past ++ s.ends))) (after_discarding s o)
   discard_case s id None e r =
-      subst (λ d. Lifting s d (untold s)) (sym (discard_lost s (end_of id (past ++ s.ends)) (end_lost id past s.ends lost.gone e))) (stays s r)
+      subst (λ d. Lifting s d (does_nothing s)) (sym (discard_lost s (end_of id (past ++ s.ends)) (end_lost id past s.ends lost.gone e))) (stays s r)
   discard_case s id (Some h) e r =
       let is : h.id ≡ id = end_id id s.ends h e in
       let above : base ≤ h.id = end_above id base base s.number s.ends h (omega arith) r e in
       let same : end_of id (past ++ s.ends) ≡ Some h = end_lift base id past s.ends lost.below (omega (arith, is, above)) ∙ e in
-      subst (λ o. Lifting s (discarded (lift past s) o) (discarded s (Some h))) (sym same)
+      subst (λ o. Lifting s (after_discarding (lift past s) o) (after_discarding s (Some h))) (sym same)
       (choose s (not h.gone && has_ended h.end.phase) _ _ _ _ (drop_lift s h above r) (stays s r))
 
   -- ---- the node starts again
 
-  again_lift : (s : SetState) (pair : Pair) (more : ℕ) → Rising base s.ends s.number → Lifting s (restarted (lift past s) pair more) (restarted s pair more)
+  again_lift : (s : SetState) (pair : Pair) (more : ℕ) → Rising base s.ends s.number → Lifting s (after_restart (lift past s) pair more) (after_restart s pair more)
   again_lift s pair more r = record {
     is =
         ap (λ es. record { set = record s { next = pair; number = s.number + more; ends = es }; told = Restarted pair ∷ losses (past ++ s.ends) })

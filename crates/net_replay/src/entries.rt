@@ -2,7 +2,7 @@
 ghost use Rattle.std.specs.Prelude.{◌≡◌, ◌++◌, OnOk, IfOk, string_bytes};
 ghost use Rattle.net_replay.specs.ToldEntries as texts;
 ghost use Rattle.net_replay.specs.ToldLines as lines;
-ghost use Rattle.circuit_set.specs.Standing.{seen};
+ghost use Rattle.circuit_set.specs.Standing.{event_told};
 ghost use Rattle.node_core.specs.Standing.{entry_of};
 
 use crate::ends::{EndRecord, Outcome};
@@ -61,7 +61,7 @@ fn write_set_event(
     event: &SetEvent,
     text: &mut TextOut,
 ) -> Result<(), NoMemory>
-    ensures { OnOk result (text.new ≡ text.old ++ texts.set_event_text node ends.now (seen event.now)) }
+    ensures { OnOk result (text.new ≡ text.old ++ texts.set_event_text node ends.now (event_told event.now)) }
 {
     match event {
         SetEvent::Notice { id, notice } => write_notice(alloc, node, ends, *id, notice, text),

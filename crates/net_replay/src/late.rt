@@ -2,7 +2,7 @@
 ghost use Rattle.std.specs.Prelude.{◌≡◌, List, map, ℕ, OnOk, IfOk, nat_le, if◌then◌else◌};
 ghost use Rattle.std.specs.Option.{option_copied, option_map};
 ghost use Rattle.circuit_set.specs.Sets as sets;
-ghost use Rattle.circuit_set.specs.Standing.{seen};
+ghost use Rattle.circuit_set.specs.Standing.{event_told};
 ghost use Rattle.circuit_verdict.specs.Events.{told_of};
 ghost use Rattle.network_file.specs.Plan.{Plan};
 ghost use Rattle.node_core.specs.Standing.{entry_of};
@@ -160,7 +160,7 @@ fn entry_told<'a>(entry: &'a NodeEntry) -> Option<Told<'a>>
 }
 
 fn set_told<'a>(event: &'a SetEvent) -> Option<Told<'a>>
-    ensures { option_map told_of result ≡ set_told (seen event.now) }
+    ensures { option_map told_of result ≡ set_told (event_told event.now) }
 {
     match event {
         SetEvent::Made {

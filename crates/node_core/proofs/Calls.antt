@@ -5,7 +5,7 @@ use Rattle.std.proofs.lemmas.Bool.Decides.{nat_tests}
 use Rattle.ax_address.specs.Callsign.{Callsign}
 use Rattle.circuit_set.specs.Inputs.{TellsLess}
 use Rattle.circuit_set.specs.Pumps as pumps
-use Rattle.circuit_set.specs.Pumps.{Of, Dropped, Offers, Pumped, Says, SetTold, Turn, Turned, Waiting, at_rest, ends_with, is_drained, is_empty, offer_of, outcome, turned, weight, weights}
+use Rattle.circuit_set.specs.Pumps.{Of, Dropped, Offers, Pumped, Says, SetTold, Turn, Turned, Waiting, at_rest, ends_with, is_drained, is_empty, offer_of, outcome, turn_step, weight, weights}
 use Rattle.circuit_set.specs.Sets as sets
 use Rattle.circuit_set.specs.Sets.{SetState}
 use Rattle.l3_datagram.specs.CarrierCall.{CarrierCall, Collect, Fail, Parcel}
@@ -59,7 +59,7 @@ lost_same : (t : Table) → t.pending.lost ≡ [] → tell_lost t ≡ t
 lost_same t e = ap (λ (xs : List Callsign). record t { pending = record t.pending { lost = xs } }) (ap (drop 1) e ∙ sym e)
 
 -- a turn over the links
-turn_over : (now : ℕ) (t : Turn) (answer : Offered) (n : State) → AllAnswer n.links (offer_of t now answer) → after_call (turned now t answer) n ≡ take_turn now t n
+turn_over : (now : ℕ) (t : Turn) (answer : Offered) (n : State) → AllAnswer n.links (offer_of t now answer) → after_call (turn_step now t answer) n ≡ take_turn now t n
 unfolding offer offer_answer
 turn_over now (Says u) answer n a = refl
 turn_over now (Offers to d by) answer n a = ap (λ (x : Offered). with_turned (by x) (at_links (offer to d now) n)) a.0
@@ -197,7 +197,7 @@ module _ (offers : OffersLeave) (takes : TakesLower) (less : TellsLess) where
       let links : after_calls (offer_of t now answer) (collect n.links) ≡ after_calls (first_calls now parcel t answer) n.links =
       ap (λ (l : Table). after_calls (offer_of t now answer) (collect l)) (sym (lost_same n.links e)) in
       let log : n.log ++ (outcome t answer).items ≡ n.log = ap (λ (is : List Item). n.log ++ is) (hears_items (next_hop n) now parcel (at_rest s) answer) ∙ append-nil n.log in
-      asked ∙ (sym over ∙ (ap (λ (l : Table). record (after_call (turned now t answer) (at_links collect m)) { links = l }) links
+      asked ∙ (sym over ∙ (ap (λ (l : Table). record (after_call (turn_step now t answer) (at_links collect m)) { links = l }) links
       ∙ ap (λ (is : List Item). record (taken_to now parcel t answer n (outcome t answer).after (outcome t answer).told) { log = is }) log))
 
   -- where it is told what became of it, or nothing is untold after it, or something is untold
@@ -231,7 +231,7 @@ module _ (offers : OffersLeave) (takes : TakesLower) (less : TellsLess) where
   -- nothing is told of it, and the first that it brought is
   brought_leads : (now : ℕ) (n : State) (s : SetState) (parcel : Parcel) (more : List (Parcel × Offered)) (answer : Offered)
       → (let t = pumps.hears (next_hop n) now parcel (at_rest s) in (outcome t answer).told ≡ None → is_drained (outcome t answer).after ≡ false
-      → LeadsOn now n s parcel more (pumps.after_calls (first_calls now parcel t answer) (turned now (pumps.tells (next_hop n) (outcome t answer).after) answer)))
+      → LeadsOn now n s parcel more (pumps.after_calls (first_calls now parcel t answer) (turn_step now (pumps.tells (next_hop n) (outcome t answer).after) answer)))
   unfolding circuits.tells IsTold
   brought_leads now n s parcel more answer told some e f a =
       let t = pumps.hears (next_hop n) now parcel (at_rest s) in
@@ -244,9 +244,9 @@ module _ (offers : OffersLeave) (takes : TakesLower) (less : TellsLess) where
       let asked : ask now (rested n s) ≡ m =
       asked_is now n s parcel (map (λ (y : Parcel × Offered). y.0) more) answer e f a1
       ∙ (ap (taken_to now parcel t answer n u.after) told ∙ ap (λ (es : List Entry). record m { entries = es }) (append-nil n.entries)) in
-      let over : after_call (turned now t2 answer) m ≡ tell_one now m = turn_over now t2 answer m a2 in
-      let q = pumps.after_calls calls (turned now t2 answer) in
-      let same : after_call (turned now t2 answer) m ≡ after_call q (rested n s) =
+      let over : after_call (turn_step now t2 answer) m ≡ tell_one now m = turn_over now t2 answer m a2 in
+      let q = pumps.after_calls calls (turn_step now t2 answer) in
+      let same : after_call (turn_step now t2 answer) m ≡ after_call q (rested n s) =
       ap (λ (l : Table). record (after_call q (rested n s)) { links = l }) (sym (after_more n.links calls (offer_of t2 now answer))) in
       let x = some_told (next_hop n) u.after some answer in
       asked_on now n s parcel (map (λ (y : Parcel × Offered). y.0) more) e f
@@ -287,7 +287,7 @@ module _ (offers : OffersLeave) (takes : TakesLower) (less : TellsLess) where
   abbrev tells_by : (Callsign → Option Callsign) → ℕ → Turned → Offered → Option SetTold → Pumped
   tells_by hop now u answer o = elim o as (λ x. Pumped) [
     | Some told ↦ ends_with [] u
-    | None ↦ (if is_drained u.after then ends_with [] u else turned now (pumps.tells hop u.after) answer)
+    | None ↦ (if is_drained u.after then ends_with [] u else turn_step now (pumps.tells hop u.after) answer)
   ]
 
   abbrev Rests : ℕ → State → Waiting → List (Parcel × Offered) → Type 0
@@ -297,7 +297,7 @@ module _ (offers : OffersLeave) (takes : TakesLower) (less : TellsLess) where
 
   none_leads : (now : ℕ) (n : State) (s : SetState) (parcel : Parcel) (more : List (Parcel × Offered)) (answer : Offered)
       → (let t = pumps.hears (next_hop n) now parcel (at_rest s) in (outcome t answer).told ≡ None → Rests now n (outcome t answer).after more → (b : Bool) → is_drained (outcome t answer).after ≡ b
-      → (let first = pumps.after_calls (first_calls now parcel t answer) (if b then ends_with [] (outcome t answer) else turned now (pumps.tells (next_hop n) (outcome t answer).after) answer) in
+      → (let first = pumps.after_calls (first_calls now parcel t answer) (if b then ends_with [] (outcome t answer) else turn_step now (pumps.tells (next_hop n) (outcome t answer).after) answer) in
       LeadsOn now n s parcel more (then_all (next_hop n) now more first first.told)))
   unfolding IsTold
   none_leads now n s parcel more answer told rest true drained e f =
@@ -311,7 +311,7 @@ module _ (offers : OffersLeave) (takes : TakesLower) (less : TellsLess) where
   none_leads now n s parcel more answer told rest false drained e f =
       let t = pumps.hears (next_hop n) now parcel (at_rest s) in
       let t2 = pumps.tells (next_hop n) (outcome t answer).after in
-      let first = pumps.after_calls (first_calls now parcel t answer) (turned now t2 answer) in
+      let first = pumps.after_calls (first_calls now parcel t answer) (turn_step now t2 answer) in
       let x = some_told (next_hop n) (outcome t answer).after drained answer in
       let same : then_all (next_hop n) now more first first.told ≡ first = ap (then_all (next_hop n) now more first) x.1 in
       subst (Leads now (rested n s)) (sym same) (brought_leads now n s parcel more answer told drained e f)
@@ -333,7 +333,7 @@ module _ (offers : OffersLeave) (takes : TakesLower) (less : TellsLess) where
       → Leads now (rested n s) (pumps.takes_all (next_hop n) now s ps)
   all_leads now [] n s e f a =
       let m : State = rested n s in
-      let q = ends_with [] (pumps.silent (at_rest s)) in
+      let q = ends_with [] (pumps.says_nothing (at_rest s)) in
       let none : at_router m ≡ 0 = ap (λ (xs : List Callsign). length xs + length n.links.pending.waiting) e ∙ ap (λ (ps : List Parcel). 0 + length ps) (sym f) in
       let same : after_call q m ≡ m =
       ap (λ (is : List Item). record m { log = is; entries = m.entries ++ [] }) (append-nil n.log) ∙ ap (λ (es : List Entry). record m { entries = es }) (append-nil n.entries) in
@@ -349,16 +349,16 @@ module _ (offers : OffersLeave) (takes : TakesLower) (less : TellsLess) where
   asks_lead now ps n s [] e f = all_leads now ps n s e f
   asks_lead now ps n s (neighbour ∷ more) e f = lost_leads now n s neighbour more e
 
-  turn_leads : (now : ℕ) (n : State) (answer : Offered) → is_drained n.set ≡ false → Leads now n (turned now (pumps.tells (next_hop n) n.set) answer)
+  turn_leads : (now : ℕ) (n : State) (answer : Offered) → is_drained n.set ≡ false → Leads now n (turn_step now (pumps.tells (next_hop n) n.set) answer)
   unfolding circuits.tells IsTold
   turn_leads now n answer some a =
       let t = pumps.tells (next_hop n) n.set in
-      let q = turned now t answer in
+      let q = turn_step now t answer in
       let x = some_told (next_hop n) n.set some answer in
       tells_on offers takes less now n (some_pending n.set some) ∙ (ap (pump now) (sym (turn_over now t answer n a)) ∙ ap (λ (o : Option SetTold). pumped_on now o (after_call q n)) (sym x.1))
 
   lead_by : (now : ℕ) (n : State) (ps : List (Parcel × Offered)) (answer : Offered) → map (λ (y : Parcel × Offered). y.0) ps ≡ n.links.pending.waiting → (b : Bool) → is_drained n.set ≡ b
-      → Leads now n (if b then pumps.asks (next_hop n) now n.set.set n.links.pending.lost ps else turned now (pumps.tells (next_hop n) n.set) answer)
+      → Leads now n (if b then pumps.asks (next_hop n) now n.set.set n.links.pending.lost ps else turn_step now (pumps.tells (next_hop n) n.set) answer)
   lead_by now n ps answer f true drained =
       subst (λ (w : Waiting). Leads now (record n { set = w }) (pumps.asks (next_hop n) now n.set.set n.links.pending.lost ps)) (sym (rest_of n.set drained))
       (asks_lead now ps n n.set.set n.links.pending.lost refl f)
@@ -366,5 +366,5 @@ module _ (offers : OffersLeave) (takes : TakesLower) (less : TellsLess) where
 
   -- a call of `pump` leads to a node that is pumped to the same, or that is pumped
   pub call_leads : (now : ℕ) (n : State) (ps : List (Parcel × Offered)) (answer : Offered) → map (λ (y : Parcel × Offered). y.0) ps ≡ n.links.pending.waiting
-      → Leads now n (pumps.pumped (next_hop n) now n.set n.links.pending.lost ps answer)
+      → Leads now n (pumps.pump_step (next_hop n) now n.set n.links.pending.lost ps answer)
   call_leads now n ps answer f = lead_by now n ps answer f (is_drained n.set) refl

@@ -132,11 +132,11 @@ takes_fine now id n none f = call_fine sets.Takes now id n (takes_keep n.set.set
 pub writes_fine : (now id : ℕ) (text : List ℕ) (n : State) → Every (NotIts id) n.sessions → Fine n → Fine (at_set (circuits.acts (sets.Calls id (sets.Writes text) now)) n)
 writes_fine now id text n none f = call_fine (sets.Writes text) now id n (writes_keep n.set.set text now id) none f
 
-same_number : (set : SetState) (now : ℕ) (o : Option Holder) → (sets.called set o sets.Closes now).set.number ≡ set.number
+same_number : (set : SetState) (now : ℕ) (o : Option Holder) → (sets.after_call set o sets.Closes now).set.number ≡ set.number
 same_number set now None = refl
 same_number set now (Some h) = by h.gone
   where
-    by : (b : Bool) → (if b then sets.untold set else sets.goes_to set h [] (ends.step h.end ends.Close now)).set.number ≡ set.number
+    by : (b : Bool) → (if b then sets.does_nothing set else sets.goes_to set h [] (ends.step h.end ends.Close now)).set.number ≡ set.number
     by true = refl
     by false = refl
 

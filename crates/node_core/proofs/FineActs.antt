@@ -109,11 +109,11 @@ writes now id message n f true e = f
 writes now id message n f false e = written_by now id message n (is_some (facts id n)) (is_served id n.sessions) refl refl e f
 
 -- an end that isn't held is left as it is
-not_held : (set : SetState) (call : sets.Call) (o : Option Holder) (now : ℕ) → is_some (facts_at o) ≡ false → sets.called set o call now ≡ sets.untold set
+not_held : (set : SetState) (call : sets.Call) (o : Option Holder) (now : ℕ) → is_some (facts_at o) ≡ false → sets.after_call set o call now ≡ sets.does_nothing set
 not_held set call None now e = refl
 not_held set call (Some h) now e = by h.gone e
   where
-    by : (b : Bool) → is_some (if b then None else Some (facts_of h.end)) ≡ false → (if b then sets.untold set else sets.goes_to set h [] (step h.end (sets.input_of call) now)) ≡ sets.untold set
+    by : (b : Bool) → is_some (if b then None else Some (facts_of h.end)) ≡ false → (if b then sets.does_nothing set else sets.goes_to set h [] (step h.end (sets.input_of call) now)) ≡ sets.does_nothing set
     by true g = refl
     by false g = absurd (cc g)
 

@@ -94,12 +94,12 @@ open_alive test (x ∷ xs) h g e = by x.gone (s.has_ended x.end.phase) (test x) 
 module _ (P : SetDone → Type 0) (C : Callsign → Type 0) (set : SetState) (stays : (told : List Told) → P (record { set = set; told = told }))
     (L : State → State → Type 0) (same : (u : State) → L u u) (arrives : (u : State) (t : Transport) (now : ℕ) → L u (end.step u (end.Arrive t) now).end)
     (steps : (h : Holder) (first : List Told) (g : Effect) → In h set.ends → Alive h g → L h.end g.end → P (s.goes_to set h first g))
-    (makes : (at : Callsign) (asked : Option Pair) (request : Option (List ℕ)) (g : Effect) → C at → g.end.closing ≡ false → g.end.receiving.received ≡ [] → P (s.made set at asked request g)) where
+    (makes : (at : Callsign) (asked : Option Pair) (request : Option (List ℕ)) (g : Effect) → C at → g.end.closing ≡ false → g.end.receiving.received ≡ [] → P (s.makes_end set at asked request g)) where
   either : (x y : SetDone) (b : Bool) → P x → P y → P (if b then x else y)
   either x y true p q = p
   either x y false p q = q
 
-  at_by : (d : List ℕ) (t : Transport) (now : ℕ) (o : Option Holder) → ((h : Holder) → o ≡ Some h → In h set.ends) → ((h : Holder) (g : Effect) → o ≡ Some h → Alive h g) → P (elim o as (λ x. SetDone) [ Some h ↦ s.handed set h d t now | None ↦ s.untold set ])
+  at_by : (d : List ℕ) (t : Transport) (now : ℕ) (o : Option Holder) → ((h : Holder) → o ≡ Some h → In h set.ends) → ((h : Holder) (g : Effect) → o ≡ Some h → Alive h g) → P (elim o as (λ x. SetDone) [ Some h ↦ s.hands_to set h d t now | None ↦ s.does_nothing set ])
   at_by d t now None i a = stays []
   at_by d t now (Some h) i a =
       let g : Effect = end.step h.end (end.Arrive t) now in
@@ -108,17 +108,17 @@ module _ (P : SetDone → Type 0) (C : Callsign → Type 0) (set : SetState) (st
   at_end : (origin : Callsign) (d : List ℕ) (to : Pair) (t : Transport) (now : ℕ) → P (s.arrives_at set origin d to t now)
   at_end origin d to t now = at_by d t now (s.first_open (s.named_by origin to) set.ends) (λ h e. open_in (s.named_by origin to) set.ends h e) (λ h g e. open_alive (s.named_by origin to) set.ends h g e)
 
-  anew : (origin : Callsign) (d : List ℕ) (pair : Pair) (window now : ℕ) → C origin → P (s.requested_anew set origin d pair window now)
+  anew : (origin : Callsign) (d : List ℕ) (pair : Pair) (window now : ℕ) → C origin → P (s.after_new_request set origin d pair window now)
   anew origin d pair window now c =
       either (record { set = set; told = s.Sent 0 None (s.datagram_to set origin (Refuse pair)) ∷ [] }) (s.responds set origin d pair window now) (s.is_full set) (stays _)
       (makes origin (Some pair) (Some d) (responding (s.new_pair set) pair window set.config (min now COUNT_MAX)) c refl refl)
 
   requested_by : (origin : Callsign) (d : List ℕ) (pair : Pair) (window now : ℕ) (o : Option Holder) → ((h : Holder) → o ≡ Some h → In h set.ends) → ((h : Holder) (g : Effect) → o ≡ Some h → Alive h g) → C origin
-      → P (elim o as (λ x. SetDone) [ Some h ↦ s.goes_to set h [] (s.accept_again h.end) | None ↦ s.requested_anew set origin d pair window now ])
+      → P (elim o as (λ x. SetDone) [ Some h ↦ s.goes_to set h [] (s.accept_again h.end) | None ↦ s.after_new_request set origin d pair window now ])
   requested_by origin d pair window now None i a c = anew origin d pair window now c
   requested_by origin d pair window now (Some h) i a c = steps h [] (s.accept_again h.end) (i h refl) (a h (s.accept_again h.end) refl) (same h.end)
 
-  received : (origin : Callsign) (d : List ℕ) (t : Transport) (now : ℕ) → C origin → P (s.received set origin d t now)
+  received : (origin : Callsign) (d : List ℕ) (t : Transport) (now : ℕ) → C origin → P (s.after_transport set origin d t now)
   received origin d (Request pair window user node) now c =
       requested_by origin d pair window now (s.first_open (s.opened_by origin pair) set.ends) (λ h e. open_in (s.opened_by origin pair) set.ends h e)
       (λ h g e. open_alive (s.opened_by origin pair) set.ends h g e) c
@@ -133,10 +133,10 @@ module _ (P : SetDone → Type 0) (C : Callsign → Type 0) (set : SetState) (st
   read origin d (Err e) now c = stays []
   read origin d (Ok t) now c = received origin d t now c
 
-  handed_up : (d : List ℕ) (r : Result DatagramHead DatagramRefusal) (now : ℕ) → ((head : DatagramHead) → r ≡ Ok head → C head.origin) → P (s.handed_up set d r now)
+  handed_up : (d : List ℕ) (r : Result DatagramHead DatagramRefusal) (now : ℕ) → ((head : DatagramHead) → r ≡ Ok head → C head.origin) → P (s.after_datagram set d r now)
   handed_up d (Err e) now c = stays []
   handed_up d (Ok head) now c =
-      either (s.untold set) (s.read_as set head.origin d (transport_at (drop HEAD_SIZE d)) now) (same_call head.origin set.own || not (same_call head.dest set.own)) (stays [])
+      either (s.does_nothing set) (s.read_as set head.origin d (transport_at (drop HEAD_SIZE d)) now) (same_call head.origin set.own || not (same_call head.dest set.own)) (stays [])
       (read head.origin d (transport_at (drop HEAD_SIZE d)) now (c head refl))
 
   pub comes : (d : List ℕ) (now : ℕ) → ((head : DatagramHead) → head_at d ≡ Ok head → C head.origin) → P (s.set_step set (Comes d now))
@@ -144,20 +144,20 @@ module _ (P : SetDone → Type 0) (C : Callsign → Type 0) (set : SetState) (st
 
   pub connects : (dest : Callsign) (now : ℕ) → C dest → P (s.set_step set (Connect dest now))
   connects dest now c =
-      either (s.untold set) (s.requests set dest now) (same_call dest set.own || s.is_full set) (stays [])
+      either (s.does_nothing set) (s.requests set dest now) (same_call dest set.own || s.is_full set) (stays [])
       (makes dest None None (requesting (s.new_pair set) set.user set.own set.config (min now COUNT_MAX)) c refl refl)
 
-  called_by : (h : Holder) (call : Call) (now : ℕ) → In h set.ends → L h.end (end.step h.end (s.input_of call) now).end → P (s.called set (Some h) call now)
+  called_by : (h : Holder) (call : Call) (now : ℕ) → In h set.ends → L h.end (end.step h.end (s.input_of call) now).end → P (s.after_call set (Some h) call now)
   called_by h call now i l = by h.gone refl
     where
       g : Effect
       g = end.step h.end (s.input_of call) now
 
-      by : (b : Bool) → h.gone ≡ b → P (if b then s.untold set else s.goes_to set h [] g)
+      by : (b : Bool) → h.gone ≡ b → P (if b then s.does_nothing set else s.goes_to set h [] g)
       by true e = stays []
       by false e = steps h [] g i (record { held = e; ended = one.ended_stays h.end (s.input_of call) now }) l
 
-  called : (call : Call) (now : ℕ) (o : Option Holder) → ((h : Holder) → o ≡ Some h → In h set.ends) → ((h : Holder) → L h.end (end.step h.end (s.input_of call) now).end) → P (s.called set o call now)
+  called : (call : Call) (now : ℕ) (o : Option Holder) → ((h : Holder) → o ≡ Some h → In h set.ends) → ((h : Holder) → L h.end (end.step h.end (s.input_of call) now).end) → P (s.after_call set o call now)
   called call now None i l = stays []
   called call now (Some h) i l = called_by h call now (i h refl) (l h)
 
@@ -199,7 +199,7 @@ ended_at : (set : SetState) (h : Holder) (first : List Told) (g : Effect) (id : 
 ended_at set h first g id i a o e = by (nat_eq h.id id) refl
   where
     k : Holder
-    k = s.settled h g
+    k = s.after_effect h g
 
     by : (b : Bool) → nat_eq h.id id ≡ b → ended_by (facts_at (s.end_of id (s.with_end k set.ends))) ≡ true
     by true f =
@@ -217,13 +217,13 @@ not_away (Some x) h e held f =
 away_at : (set : SetState) (h : Holder) (first : List Told) (g : Effect) (id : ℕ) → In h set.ends → Alive h g → Once set.ends → is_away id set ≡ true → is_away id (s.goes_to set h first g).set ≡ true
 away_at set h first g id i a o e = by (nat_eq h.id id) refl
   where
-    by : (b : Bool) → nat_eq h.id id ≡ b → is_none (facts_at (s.end_of id (s.with_end (s.settled h g) set.ends))) ≡ true
+    by : (b : Bool) → nat_eq h.id id ≡ b → is_none (facts_at (s.end_of id (s.with_end (s.after_effect h g) set.ends))) ≡ true
     by true f = absurd (not_away (s.end_of id set.ends) h (is_end id h set.ends o i f) a.held e)
-    by false f = ap (λ (x : Option Holder). is_none (facts_at x)) (other_end id (s.settled h g) set.ends f) ∙ e
+    by false f = ap (λ (x : Option Holder). is_none (facts_at x)) (other_end id (s.after_effect h g) set.ends f) ∙ e
 
 kept_at : (set : SetState) (h : Holder) (first : List Told) (g : Effect) → In h set.ends → Alive h g → LeavesOne h.end g.end → Keeps Any set (s.goes_to set h first g).set
 kept_at set h first g i v l =
-    let k : Holder = s.settled h g in
+    let k : Holder = s.after_effect h g in
     record {
       number = omega arith;
       once = λ b o. put_once k set.ends o;
@@ -235,7 +235,7 @@ kept_at set h first g i v l =
       unshut = λ id a p. put_in (λ x. x.id ≡ id → x.end.closing ≡ false) k set.ends (λ e. l.closing ∙ every_in (λ x. x.id ≡ id → x.end.closing ≡ false) h set.ends p i e) p;
     }
 
-kept_made : (set : SetState) (at : Callsign) (asked : Option Pair) (request : Option (List ℕ)) (g : Effect) → IsCall at → g.end.closing ≡ false → g.end.receiving.received ≡ [] → Keeps Any set (s.made set at asked request g).set
+kept_made : (set : SetState) (at : Callsign) (asked : Option Pair) (request : Option (List ℕ)) (g : Effect) → IsCall at → g.end.closing ≡ false → g.end.receiving.received ≡ [] → Keeps Any set (s.makes_end set at asked request g).set
 kept_made set at asked request g call shut none =
     let k : Holder = s.holder_of set at asked g in
     record {
@@ -271,7 +271,7 @@ takes_keep set now id = calls_keep set id Takes now (λ h. grown.takes AreMessag
 abbrev pub Differs : ℕ → ℕ → Type 0
 Differs id k = nat_eq id k ≡ false
 
-shut_by : (set : SetState) (now id : ℕ) (o : Option Holder) → s.end_of id set.ends ≡ o → Keeps (Differs id) set (s.called set o Closes now).set
+shut_by : (set : SetState) (now id : ℕ) (o : Option Holder) → s.end_of id set.ends ≡ o → Keeps (Differs id) set (s.after_call set o Closes now).set
 shut_by set now id None e = record { number = omega arith; below = λ p. p; once = λ b o. o; ended = λ k o low f. f; away = λ k o low f. f; messages = λ p. p; named = λ p. p; unshut = λ k a p. p }
 shut_by set now id (Some h) e = by h.gone refl
   where
@@ -281,10 +281,10 @@ shut_by set now id (Some h) e = by h.gone refl
     i : In h set.ends
     i = end_in id set.ends h e
 
-    by : (b : Bool) → h.gone ≡ b → Keeps (Differs id) set (if b then s.untold set else s.goes_to set h [] g).set
+    by : (b : Bool) → h.gone ≡ b → Keeps (Differs id) set (if b then s.does_nothing set else s.goes_to set h [] g).set
     by true held = record { number = omega arith; below = λ p. p; once = λ b o. o; ended = λ k o low f. f; away = λ k o low f. f; messages = λ p. p; named = λ p. p; unshut = λ k a p. p }
     by false held =
-        let k : Holder = s.settled h g in
+        let k : Holder = s.after_effect h g in
         let mine = number_of id set.ends h e in
         let half = one.closes h.end now in
         record {
@@ -304,16 +304,16 @@ closes_keep set now id = shut_by set now id (s.end_of id set.ends) refl
 -- ---- a call of another end leaves this one
 
 called_other : (set : SetState) (id at : ℕ) (call : Call) (now : ℕ) (o : Option Holder) → s.end_of at set.ends ≡ o → nat_eq at id ≡ false
-    → s.end_of id (s.called set o call now).set.ends ≡ s.end_of id set.ends
+    → s.end_of id (s.after_call set o call now).set.ends ≡ s.end_of id set.ends
 called_other set id at call now None e f = refl
 called_other set id at call now (Some h) e f = by h.gone
   where
-    by : (b : Bool) → s.end_of id (if b then s.untold set else s.goes_to set h [] (end.step h.end (s.input_of call) now)).set.ends ≡ s.end_of id set.ends
+    by : (b : Bool) → s.end_of id (if b then s.does_nothing set else s.goes_to set h [] (end.step h.end (s.input_of call) now)).set.ends ≡ s.end_of id set.ends
     by true = refl
     by false =
         let mine = number_of at set.ends h e in
         let other : nat_eq h.id id ≡ false = rw mine f in
-        other_end id (s.settled h (end.step h.end (s.input_of call) now)) set.ends other
+        other_end id (s.after_effect h (end.step h.end (s.input_of call) now)) set.ends other
 
 pub others_stay : (set : SetState) (id at : ℕ) (call : Call) (now : ℕ) → nat_eq at id ≡ false → s.end_of id (s.set_step set (Calls at call now)).set.ends ≡ s.end_of id set.ends
 others_stay set id at call now f = called_other set id at call now (s.end_of at set.ends) refl f

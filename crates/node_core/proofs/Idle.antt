@@ -146,14 +146,14 @@ Itself set d = (d.set ≡ set) × (d.told ≡ [])
 comes_to_itself : (set : SetState) (h : s.Holder) → h.gone ≡ false → s.is_over h.end ≡ false → s.with_end h set.ends ≡ set.ends → Itself set (s.goes_to set h [] (begin h.end))
 unfolding Itself
 comes_to_itself set h gone over same =
-    let itself : s.settled h (begin h.end) ≡ h = ap (λ (b : Bool). (let k : s.Holder = record { id = h.id; at = h.at; asked = h.asked; end = h.end; gone = b } in k)) (over ∙ sym gone) in (
+    let itself : s.after_effect h (begin h.end) ≡ h = ap (λ (b : Bool). (let k : s.Holder = record { id = h.id; at = h.at; asked = h.asked; end = h.end; gone = b } in k)) (over ∙ sym gone) in (
       ap (λ (xs : List s.Holder). (let k : SetState = record set { ends = xs } in k)) (ap (λ (k : s.Holder). s.with_end k set.ends) itself ∙ same),
       ap (λ (b : Bool). if b then s.Gone h.id (facts_of h.end) ∷ [] else []) over,
     )
 
 takes_itself : (now id : ℕ) (set : SetState) (es : List (ℕ × Holder)) (h : s.Holder) → Held set.own set.ttl set.number 0 es set.ends [] → s.end_of id set.ends ≡ Some h
     → (b : Bool) → h.gone ≡ b → took (if b then Err (record {}) else Ok (nat_lt 0 (length (inbox h.end.receiving)))) ≡ false
-    → Itself set (if b then s.untold set else s.goes_to set h [] (take_first (begin h.end)))
+    → Itself set (if b then s.does_nothing set else s.goes_to set h [] (take_first (begin h.end)))
 unfolding Itself
 takes_itself now id set es h p e true gone f = (refl, refl)
 takes_itself now id set es h p e false gone f =
@@ -161,7 +161,7 @@ takes_itself now id set es h p e false gone f =
     rw none (comes_to_itself set h gone (not_over set.own set.ttl set.number 0 id es set.ends [] h p e gone) (with_found id 0 set.ends h (rising set.own set.ttl set.number 0 es set.ends [] p) e))
 
 called_itself : (now id : ℕ) (set : SetState) (es : List (ℕ × Holder)) → Held set.own set.ttl set.number 0 es set.ends [] → (o : Option s.Holder) → s.end_of id set.ends ≡ o
-    → took (take_answer o) ≡ false → Itself set (s.called set o s.Takes now)
+    → took (take_answer o) ≡ false → Itself set (s.after_call set o s.Takes now)
 unfolding Itself
 called_itself now id set es p None e f = (refl, refl)
 called_itself now id set es p (Some h) e f = takes_itself now id set es h p e h.gone refl f
@@ -170,5 +170,5 @@ pub take_nothing : (c : Circuits Kept) (set : SetState) (id now : ℕ) → SetSt
     → circuits.acts (s.Calls id s.Takes now) (at_rest set) ≡ at_rest set
 unfolding circuits.acts Itself
 take_nothing c set id now p f =
-    let x : Itself set (s.called set (s.end_of id set.ends) s.Takes now) = called_itself now id set c.held.ends.entries p.ends.ends (s.end_of id set.ends) refl f in
+    let x : Itself set (s.after_call set (s.end_of id set.ends) s.Takes now) = called_itself now id set c.held.ends.entries p.ends.ends (s.end_of id set.ends) refl f in
     rw (x.0, x.1) refl

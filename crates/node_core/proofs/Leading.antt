@@ -6,7 +6,7 @@ use Rattle.circuit_set.specs.CircuitSets.{Circuits, DoesPump, Pumps}
 use Rattle.circuit_set.specs.Inputs.{TellsLess}
 use Rattle.circuit_set.specs.Pumps as pumps
 use Rattle.circuit_set.specs.Pumps.{Pumped, SetTold}
-use Rattle.circuit_set.specs.Standing.{seen}
+use Rattle.circuit_set.specs.Standing.{event_told}
 use Rattle.circuit_set.specs.declared.event.SetEvent.{SetEvent}
 use Rattle.l3_datagram.specs.CarrierCall.{Parcel}
 use Rattle.l3_datagram.specs.Routers.{SameRouter}
@@ -28,7 +28,7 @@ called q n = record n { links = after_calls q.calls n.links; set = q.after; log 
 
 pub record Called (now : ℕ) (s : Station) (new : Circuits Kept) (n : State) (result : Option SetEvent) : Type 0 where
   pub q : Pumped
-  pub told : option_map seen result ≡ q.told
+  pub told : option_map event_told result ≡ q.told
   pub leads : pump now n ≡ pumped_on now q.told (after_call q n)
   pub holds : Holds (record s { set = new }) (called q n)
 
@@ -63,10 +63,10 @@ module _ (offers : OffersLeave) (takes : TakesLower) (less : TellsLess) where
       let ps = p.0 in
       let answer = p.1 in
       let fits : map (λ (y : Parcel × Offered). y.0) ps ≡ n.links.pending.waiting = p.2 ∙ h.parts.links.waiting in
-      let q = pumps.pumped (next_hop n) now n.set n.links.pending.lost ps answer in
+      let q = pumps.pump_step (next_hop n) now n.set n.links.pending.lost ps answer in
       let d : DoesPump Made s.set new n.log result q =
-      subst (λ r. DoesPump Made s.set new n.log result (pumps.pumped (routes.next_hop r n.log) now n.set n.links.pending.lost ps answer)) h.parts.rules
-      (subst (λ lost. DoesPump Made s.set new n.log result (pumps.pumped (routes.next_hop s.set.router.table.rules n.log) now n.set lost ps answer)) h.parts.links.lost (p.3 n.log n.set h.parts.log h.parts.set)) in
+      subst (λ r. DoesPump Made s.set new n.log result (pumps.pump_step (routes.next_hop r n.log) now n.set n.links.pending.lost ps answer)) h.parts.rules
+      (subst (λ lost. DoesPump Made s.set new n.log result (pumps.pump_step (routes.next_hop s.set.router.table.rules n.log) now n.set lost ps answer)) h.parts.links.lost (p.3 n.log n.set h.parts.log h.parts.set)) in
       does now s new n result q h same d (call_leads offers takes less now n ps answer fits)
 
 -- what was told is entered

@@ -50,7 +50,7 @@ stays set told id o e = inl e
 told_gone : (set : SetState) (h : Holder) (g : Effect) → s.is_over g.end ≡ true → 0 < gones h.id (s.told_by set h g)
 told_gone set h g over =
     let self : nat_eq h.id h.id ≡ true = eq-eqb h.id h.id refl in
-    let outs : List Told = s.sents set h.id h.at g.outs in
+    let outs : List Told = s.sendings set h.id h.at g.outs in
     let notes : List Told = s.notices h.id g.notes in
     let end : List Told = if s.is_over g.end then Gone h.id (facts_of g.end) ∷ [] else [] in
     let last : gones h.id end ≡ 1 = rw (over, self) refl in
@@ -76,8 +76,8 @@ goes_on set h first g i v l id o e = by (nat_eq h.id id) refl
         let same : h.id ≡ id = grind (arith, nat_tests, f) in
         let self : nat_eq h.id h.id ≡ true = eq-eqb h.id h.id refl in
         subst (λ k. IsHeld k d.set d.told) same
-        (held_or_told set d.set first h (s.settled h g) g (end_here h.id (s.settled h g) h set.ends (is_end h.id h set.ends o i self) self) refl)
-    by false f = inl (ap (λ (x : Option Holder). is_none (facts_at x)) (other_end id (s.settled h g) set.ends f) ∙ e)
+        (held_or_told set d.set first h (s.after_effect h g) g (end_here h.id (s.after_effect h g) h set.ends (is_end h.id h set.ends o i self) self) refl)
+    by false f = inl (ap (λ (x : Option Holder). is_none (facts_at x)) (other_end id (s.after_effect h g) set.ends f) ∙ e)
 
 held_before : (id : ℕ) (k : Holder) (hs : List Holder) → is_none (facts_at (s.end_of id hs)) ≡ false → is_none (facts_at (s.end_of id (hs ++ k ∷ []))) ≡ false
 held_before id k [] e = absurd (cc e)
@@ -88,7 +88,7 @@ held_before id k (x ∷ xs) e = by (nat_eq x.id id) e (λ f. held_before id k xs
     by true f rest = f
     by false f rest = rest f
 
-makes : (set : SetState) (at : Callsign) (asked : Option Pair) (request : Option (List ℕ)) (g : Effect) → Unit {0} → g.end.closing ≡ false → g.end.receiving.received ≡ [] → LeavesHeld set (s.made set at asked request g)
+makes : (set : SetState) (at : Callsign) (asked : Option Pair) (request : Option (List ℕ)) (g : Effect) → Unit {0} → g.end.closing ≡ false → g.end.receiving.received ≡ [] → LeavesHeld set (s.makes_end set at asked request g)
 makes set at asked request g c shut none id o e = inl (held_before id (s.holder_of set at asked g) set.ends e)
 
 pub comes_leaves : (set : SetState) (d : List ℕ) (now : ℕ) → LeavesHeld set (s.set_step set (Comes d now))
@@ -104,6 +104,6 @@ calls_leaves set id call now =
     calls (LeavesHeld set) (λ c. Unit {0}) set (stays set) (λ u v. Unit {0}) (λ u. tt) (λ u t now. tt) (goes_on set) (makes set) id call now (λ h. tt)
 
 -- so is the end that a request makes
-pub requested_held : (set : SetState) (dest : Callsign) (g : Effect) → s.end_of set.number (s.made set dest None None g).set.ends ≡ Some (s.holder_of set dest None g)
-    → IsHeld set.number (s.made set dest None None g).set (s.made set dest None None g).told
-requested_held set dest g is = held_or_told set (s.made set dest None None g).set (Made set.number (s.new_pair set) dest None ∷ []) (s.holder_of set dest None g) (s.holder_of set dest None g) g is refl
+pub requested_held : (set : SetState) (dest : Callsign) (g : Effect) → s.end_of set.number (s.makes_end set dest None None g).set.ends ≡ Some (s.holder_of set dest None g)
+    → IsHeld set.number (s.makes_end set dest None None g).set (s.makes_end set dest None None g).told
+requested_held set dest g is = held_or_told set (s.makes_end set dest None None g).set (Made set.number (s.new_pair set) dest None ∷ []) (s.holder_of set dest None g) (s.holder_of set dest None g) g is refl

@@ -28,7 +28,7 @@ pub record StepOk (old : SetState) (d : SetDone) : Type 0 where
   pub made : MadeFrom old.number d.told d.set.number
   pub own : d.set.own ≡ old.own
 
-same_ok : (t : SetState) → StepOk t (s.untold t)
+same_ok : (t : SetState) → StepOk t (s.does_nothing t)
 same_ok t = record { made = refl; own = refl }
 
 -- ---- lists in which nothing is made
@@ -43,7 +43,7 @@ made_both first (Gone id facts ∷ ts) us mid next e m = made_both first ts us m
 made_both first (Restarted pair ∷ ts) us mid next e m = made_both first ts us mid next e m
 made_both first (Lost id facts ∷ ts) us mid next e m = made_both first ts us mid next e m
 
-none_sent : (k : ℕ) (t : SetState) (id : ℕ) (at : Callsign) (os : List Out) → MadeFrom k (s.sents t id at os) k
+none_sent : (k : ℕ) (t : SetState) (id : ℕ) (at : Callsign) (os : List Out) → MadeFrom k (s.sendings t id at os) k
 none_sent k t id at [] = refl
 none_sent k t id at (o ∷ os) = none_sent k t id at os
 
@@ -61,7 +61,7 @@ none_heeded k id d false = refl
 
 none_told : (k : ℕ) (t : SetState) (h : Holder) (g : Effect) → MadeFrom k (s.told_by t h g) k
 none_told k t h g =
-    let sent : List Told = s.sents t h.id h.at g.outs in
+    let sent : List Told = s.sendings t h.id h.at g.outs in
     let first = made_both k sent (s.notices h.id g.notes) k k (none_sent k t h.id h.at g.outs) (none_noticed k h.id g.notes) in
     made_both k (sent ++ s.notices h.id g.notes) _ k k first (none_gone k h.id (facts_of g.end) (s.is_over g.end))
 
@@ -70,7 +70,7 @@ none_told k t h g =
 goes_ok : (t : SetState) (h : Holder) (first : List Told) (g : Effect) → MadeFrom t.number first t.number → StepOk t (s.goes_to t h first g)
 goes_ok t h first g m = record { made = made_both t.number first (s.told_by t h g) t.number t.number m (none_told t.number t h g); own = refl }
 
-made_ok : (t : SetState) (at : Callsign) (asked : Option Pair) (request : Option (List ℕ)) (g : Effect) → StepOk t (s.made t at asked request g)
+made_ok : (t : SetState) (at : Callsign) (asked : Option Pair) (request : Option (List ℕ)) (g : Effect) → StepOk t (s.makes_end t at asked request g)
 made_ok t at asked request g = record { made = (refl, none_told (t.number + 1) t (s.holder_of t at asked g) g); own = refl }
 
 if_ok : (t : SetState) (b : Bool) (x y : SetDone) → StepOk t x → StepOk t y → StepOk t (if b then x else y)
@@ -82,11 +82,11 @@ found_ok : (t : SetState) (o : Option Holder) (f : Holder → SetDone) (x : SetD
 found_ok t (Some h) f x p q = p h
 found_ok t None f x p q = q
 
-anew_ok : (t : SetState) (origin : Callsign) (d : List ℕ) (pair : Pair) (window now : ℕ) → StepOk t (s.requested_anew t origin d pair window now)
+anew_ok : (t : SetState) (origin : Callsign) (d : List ℕ) (pair : Pair) (window now : ℕ) → StepOk t (s.after_new_request t origin d pair window now)
 anew_ok t origin d pair window now =
     if_ok t (s.is_full t) _ _ (record { made = refl; own = refl }) (made_ok t origin (Some pair) (Some d) (responding (s.new_pair t) pair window t.config (min now COUNT_MAX)))
 
-requested_ok : (t : SetState) (origin : Callsign) (d : List ℕ) (pair : Pair) (window now : ℕ) → StepOk t (s.requested t origin d pair window now)
+requested_ok : (t : SetState) (origin : Callsign) (d : List ℕ) (pair : Pair) (window now : ℕ) → StepOk t (s.after_request t origin d pair window now)
 requested_ok t origin d pair window now =
     found_ok t (first_open (s.opened_by origin pair) t.ends) _ _ (λ h. goes_ok t h [] (s.accept_again h.end) refl) (anew_ok t origin d pair window now)
 
@@ -95,7 +95,7 @@ arrives_ok t origin d to x now =
     found_ok t (first_open (s.named_by origin to) t.ends) _ _
     (λ h. goes_ok t h _ (step h.end (Arrive x) now) (none_heeded t.number h.id d (heeds h.end.phase x))) (same_ok t)
 
-received_ok : (t : SetState) (origin : Callsign) (d : List ℕ) (x : Transport) (now : ℕ) → StepOk t (s.received t origin d x now)
+received_ok : (t : SetState) (origin : Callsign) (d : List ℕ) (x : Transport) (now : ℕ) → StepOk t (s.after_transport t origin d x now)
 received_ok t origin d (Request pair window user node) now = requested_ok t origin d pair window now
 received_ok t origin d (Accept to own window) now = arrives_ok t origin d to (Accept to own window) now
 received_ok t origin d (Refuse to) now = arrives_ok t origin d to (Refuse to) now
@@ -108,19 +108,19 @@ read_ok : (t : SetState) (origin : Callsign) (d : List ℕ) (r : Result Transpor
 read_ok t origin d (Err e) now = same_ok t
 read_ok t origin d (Ok x) now = received_ok t origin d x now
 
-handed_ok : (t : SetState) (d : List ℕ) (r : Result DatagramHead DatagramRefusal) (now : ℕ) → StepOk t (s.handed_up t d r now)
+handed_ok : (t : SetState) (d : List ℕ) (r : Result DatagramHead DatagramRefusal) (now : ℕ) → StepOk t (s.after_datagram t d r now)
 handed_ok t d (Err e) now = same_ok t
 handed_ok t d (Ok head) now =
     if_ok t (same_call head.origin t.own || not (same_call head.dest t.own)) _ _ (same_ok t) (read_ok t head.origin d _ now)
 
-pub connected_ok : (t : SetState) (dest : Callsign) (now : ℕ) → StepOk t (s.connected t dest now)
+pub connected_ok : (t : SetState) (dest : Callsign) (now : ℕ) → StepOk t (s.after_connecting t dest now)
 connected_ok t dest now = if_ok t (same_call dest t.own || s.is_full t) _ _ (same_ok t) (made_ok t dest None None (requesting (s.new_pair t) t.user t.own t.config (min now COUNT_MAX)))
 
-called_ok : (t : SetState) (o : Option Holder) (call : Call) (now : ℕ) → StepOk t (s.called t o call now)
+called_ok : (t : SetState) (o : Option Holder) (call : Call) (now : ℕ) → StepOk t (s.after_call t o call now)
 called_ok t None call now = same_ok t
 called_ok t (Some h) call now = if_ok t h.gone _ _ (same_ok t) (goes_ok t h [] (step h.end (s.input_of call) now) refl)
 
-discarded_ok : (t : SetState) (o : Option Holder) → StepOk t (s.discarded t o)
+discarded_ok : (t : SetState) (o : Option Holder) → StepOk t (s.after_discarding t o)
 discarded_ok t None = same_ok t
 discarded_ok t (Some h) = if_ok t (not h.gone && s.has_ended h.end.phase) _ _ (record { made = refl; own = refl }) (same_ok t)
 

@@ -177,11 +177,11 @@ module _ (hop : Callsign → Option Callsign) (peer : Callsign) (set : SetState)
       ap (goes_by hop peer) read.0
 
   outs_load : (h : Holder) (outs : List Out) (ns : List EndNotice) (b : Bool) → IsCallsign set.own.letters set.own.ssid → IsCallsign h.at.letters h.at.ssid → (outs ≡ []) ⊎ ((u : End) × (outs ≡ (info_ack u false, None) ∷ []))
-      → (e : End) → loads hop peer (sets.sents set h.id h.at outs ++ sets.notices h.id ns ++ (if b then sets.Gone h.id (facts_of e) ∷ [] else [])) ≤ one (users.goes_over peer (hop h.at))
+      → (e : End) → loads hop peer (sets.sendings set h.id h.at outs ++ sets.notices h.id ns ++ (if b then sets.Gone h.id (facts_of e) ∷ [] else [])) ≤ one (users.goes_over peer (hop h.at))
   outs_load h outs ns b own at few e = by few
     where
       by : (outs ≡ []) ⊎ ((u : End) × (outs ≡ (info_ack u false, None) ∷ []))
-          → loads hop peer (sets.sents set h.id h.at outs ++ sets.notices h.id ns ++ (if b then sets.Gone h.id (facts_of e) ∷ [] else [])) ≤ one (users.goes_over peer (hop h.at))
+          → loads hop peer (sets.sendings set h.id h.at outs ++ sets.notices h.id ns ++ (if b then sets.Gone h.id (facts_of e) ∷ [] else [])) ≤ one (users.goes_over peer (hop h.at))
       by (inl f) = let rest = tail_none h.id ns b e in rw f (omega (arith, rest))
       by (inr (u, f)) = let rest = tail_none h.id ns b e in let here = ap one (ack_load h u own at) in rw f (omega (arith, rest, here))
 
@@ -195,7 +195,7 @@ module _ (now id : ℕ) (n : State) (peer : Callsign) (named : AreNamed n.set.se
   set = n.set.set
 
   abbrev Loads : Option Holder → Type 0
-  Loads o = loads (next_hop n) peer (sets.called set o sets.Takes now).told ≤ one (users.goes_over peer (users.hop_to (partner_at o) n))
+  Loads o = loads (next_hop n) peer (sets.after_call set o sets.Takes now).told ≤ one (users.goes_over peer (users.hop_to (partner_at o) n))
 
   take_load : (o : Option Holder) → users.end_at id n ≡ o → users.took (answers.take_answer o) ≡ true → Loads o
   take_load None e t = absurd (cc t)
@@ -208,7 +208,7 @@ module _ (now id : ℕ) (n : State) (peer : Callsign) (named : AreNamed n.set.se
       at = every_in (λ x. IsCallsign x.at.letters x.at.ssid) h set.ends named.1 (end_in id set.ends h e)
 
       held : (b : Bool) → users.took (if b then Err (record {}) else Ok (nat_lt 0 (length (inbox h.end.receiving)))) ≡ true
-          → loads (next_hop n) peer (if b then sets.untold set else sets.goes_to set h [] g).told ≤ one (users.goes_over peer (users.hop_to (if b then None else Some h.at) n))
+          → loads (next_hop n) peer (if b then sets.does_nothing set else sets.goes_to set h [] g).told ≤ one (users.goes_over peer (users.hop_to (if b then None else Some h.at) n))
       held true f = absurd (cc f)
       held false f = outs_load (next_hop n) peer set h g.outs g.notes (sets.is_over g.end) named.0 at (takes_few h.end now) g.end
 
@@ -217,7 +217,7 @@ module _ (now id : ℕ) (n : State) (peer : Callsign) (named : AreNamed n.set.se
   unfolding circuits.acts
   took_room none t room =
       let o = users.end_at id n in
-      let told : List Told = (sets.called set o sets.Takes now).told in
+      let told : List Told = (sets.after_call set o sets.Takes now).told in
       let few = take_load o refl t in
       let fits = beside (users.goes_over peer (users.hop_to (partner_at o) n)) (links.room peer n.links) room in
       subst (λ (ts : List Told). 33 + loads (next_hop n) peer (ts ++ told) ≤ links.room peer n.links) (sym none) (omega (arith, few, fits))

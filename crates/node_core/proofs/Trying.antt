@@ -41,7 +41,7 @@ record Accepted (dest : Callsign) (now id : ℕ) (set : SetState) : Type 0 where
   is : set_step set (sets.Connect dest now) ≡ sets.requests set dest now
 
 accepted_by : (set : SetState) (d : SetDone) (id : ℕ) (a b c : Bool) → (if a then Err connecting.Own else (if b then Err connecting.NoRoute else (if c then Err connecting.Full else Ok set.number))) ≡ Ok id
-    → (id ≡ set.number) × ((if a || c then sets.untold set else d) ≡ d)
+    → (id ≡ set.number) × ((if a || c then sets.does_nothing set else d) ≡ d)
 accepted_by set d id true b c e = absurd (cc e)
 accepted_by set d id false true c e = absurd (cc e)
 accepted_by set d id false false true e = absurd (cc e)

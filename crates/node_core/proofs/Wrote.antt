@@ -85,7 +85,7 @@ wrote_at : (set : SetState) (h : Holder) (first : List Told) (g : Effect) → In
 wrote_at set h first g i v stays id ms gs o w = by (nat_eq h.id id) refl
   where
     k : Holder
-    k = s.settled h g
+    k = s.after_effect h g
 
     by : (b : Bool) → nat_eq h.id id ≡ b → WroteAt (s.goes_to set h first g).set id ms gs
     by true f =
@@ -101,7 +101,7 @@ some_before id k h (x ∷ xs) e = by (nat_eq x.id id) e (some_before id k h xs)
     by true f rest = f
     by false f rest = rest f
 
-wrote_made : (set : SetState) (at : Callsign) (asked : Option Pair) (request : Option (List ℕ)) (g : Effect) → Unit {0} → g.end.closing ≡ false → g.end.receiving.received ≡ [] → KeepsWrote set (s.made set at asked request g).set
+wrote_made : (set : SetState) (at : Callsign) (asked : Option Pair) (request : Option (List ℕ)) (g : Effect) → Unit {0} → g.end.closing ≡ false → g.end.receiving.received ≡ [] → KeepsWrote set (s.makes_end set at asked request g).set
 wrote_made set at asked request g is shut none id ms gs o w = record { holder = w.holder; is = some_before id (s.holder_of set at asked g) w.holder set.ends w.is; wrote = w.wrote; taken = w.taken }
 
 wrote_stays : (set : SetState) → KeepsWrote set set
@@ -240,7 +240,7 @@ its_write : (set : SetState) (text : List ℕ) (now id : ℕ) (ms gs : List (Lis
 its_write set text now id ms gs ok w = by (s.end_of id set.ends) refl ok
   where
     taken : (h : Holder) (b : Bool) → h.gone ≡ b → s.end_of id set.ends ≡ Some h → (if b then Err set_refusal.NoEnd else answers.by_write (end.write_answer h.end text)) ≡ Ok tt
-        → WroteAt (if b then s.untold set else s.goes_to set h [] (end.step h.end (end.Write text) now)).set id (ms ++ text ∷ []) gs
+        → WroteAt (if b then s.does_nothing set else s.goes_to set h [] (end.step h.end (end.Write text) now)).set id (ms ++ text ∷ []) gs
     taken h true k e f = absurd (cc f)
     taken h false k e f =
         let g : Effect = end.step h.end (end.Write text) now in
@@ -249,8 +249,8 @@ its_write set text now id ms gs ok w = by (s.end_of id set.ends) refl ok
         let same : h ≡ w.holder = cc found in
         let before : h.end.sending.wrote ≡ ms = subst (λ (y : Holder). y.end.sending.wrote ≡ ms) (sym same) w.wrote in
         record {
-          holder = s.settled h g;
-          is = end_here id (s.settled h g) h set.ends e mine;
+          holder = s.after_effect h g;
+          is = end_here id (s.after_effect h g) h set.ends e mine;
           wrote = one_end.writes_wrote h.end text now (answered (end.write_answer h.end text) f) ∙ ap (λ (xs : List (List ℕ)). xs ++ text ∷ []) before;
           taken = (grown.writes (AreTaken gs) (one_more gs) h.end text now).received (subst (λ (y : Holder). AreTaken gs y.end.receiving.received y.end.receiving.taken) (sym same) w.taken);
         }
@@ -259,7 +259,7 @@ its_write set text now id ms gs ok w = by (s.end_of id set.ends) refl ok
         answered (Ok _) f = refl
         answered (Err why) f = absurd (cc f)
 
-    by : (o : Option Holder) → s.end_of id set.ends ≡ o → answers.write_answer o text ≡ Ok tt → WroteAt (s.called set o (Writes text) now).set id (ms ++ text ∷ []) gs
+    by : (o : Option Holder) → s.end_of id set.ends ≡ o → answers.write_answer o text ≡ Ok tt → WroteAt (s.after_call set o (Writes text) now).set id (ms ++ text ∷ []) gs
     by None e f = absurd (cc f)
     by (Some h) e f = taken h h.gone refl e f
 
@@ -283,7 +283,7 @@ its_take : (set : SetState) (now id : ℕ) (ms gs : List (List ℕ)) → users.t
 its_take set now id ms gs ok w = by (s.end_of id set.ends) refl ok
   where
     taken : (h : Holder) (b : Bool) → h.gone ≡ b → s.end_of id set.ends ≡ Some h → users.took (if b then Err (record {}) else Ok (nat_lt 0 (length (inbox h.end.receiving)))) ≡ true
-        → WroteAt (if b then s.untold set else s.goes_to set h [] (end.step h.end end.Take now)).set id ms (gs ++ (if b then [] else first_or [] (inbox h.end.receiving)) ∷ [])
+        → WroteAt (if b then s.does_nothing set else s.goes_to set h [] (end.step h.end end.Take now)).set id ms (gs ++ (if b then [] else first_or [] (inbox h.end.receiving)) ∷ [])
     taken h true k e f = absurd (cc f)
     taken h false k e f =
         let g : Effect = end.step h.end end.Take now in
@@ -294,13 +294,13 @@ its_take set now id ms gs ok w = by (s.end_of id set.ends) refl ok
         let before = subst (λ (y : Holder). AreTaken gs y.end.receiving.received y.end.receiving.taken) (sym same) w.taken in
         let one = first_of h.end.receiving.taken gs h.end.receiving.received before (grind (arith, nat_tests, f)) in
         record {
-          holder = s.settled h g;
-          is = end_here id (s.settled h g) h set.ends e mine;
+          holder = s.after_effect h g;
+          is = end_here id (s.after_effect h g) h set.ends e mine;
           wrote = one_end.takes_wrote h.end now ∙ subst (λ (y : Holder). y.end.sending.wrote ≡ ms) (sym same) w.wrote;
           taken = grown.takes_one (AreTaken (gs ++ m ∷ [])) (one_more (gs ++ m ∷ [])) h.end now f one;
         }
 
-    by : (o : Option Holder) → s.end_of id set.ends ≡ o → users.took (answers.take_answer o) ≡ true → WroteAt (s.called set o Takes now).set id ms (gs ++ answers.message_at [] o ∷ [])
+    by : (o : Option Holder) → s.end_of id set.ends ≡ o → users.took (answers.take_answer o) ≡ true → WroteAt (s.after_call set o Takes now).set id ms (gs ++ answers.message_at [] o ∷ [])
     by None e f = absurd (cc f)
     by (Some h) e f = taken h h.gone refl e f
 

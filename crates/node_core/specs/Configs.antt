@@ -31,7 +31,7 @@ new_station c =
       settings = record { call = c.call; alias = c.alias; rules = c.routes; path_quality = c.quality; prompt = c.prompt; interval = c.interval };
       log = [];
       links = no_links c.call c.links (width c.modulo128) c.link;
-      set = at_rest (sets.started c.call c.ttl c.call c.ends c.pair c.first);
+      set = at_rest (sets.new_set c.call c.ttl c.call c.ends c.pair c.first);
       next_round = None;
       own = [];
       entries = [];

@@ -4,7 +4,7 @@ use Rattle.ax_link.specs.State.{count_end}
 use Rattle.circuit_set.specs.CircuitSets as sets
 use Rattle.circuit_set.specs.CircuitSets.{Circuits, SetStands}
 use Rattle.circuit_set.specs.Pumps.{at_rest}
-use Rattle.circuit_set.specs.Standing.{seen}
+use Rattle.circuit_set.specs.Standing.{event_told}
 use Rattle.link_table.specs.Standing.{TableView as Kept, TableStands}
 use Rattle.route_table.specs.Held.{StandsFor}
 use Rattle.node_core.specs.declared.acts.ActDone.{ActDone}
@@ -17,7 +17,7 @@ use Rattle.node_turns.specs.Sessions.{bare}
 use Rattle.node_turns.specs.States.{Entry, Of_link, Of_set, Overflow, State}
 
 abbrev pub entry_of : NodeEntry → Entry
-entry_of (entry.Set event) = Of_set (seen event)
+entry_of (entry.Set event) = Of_set (event_told event)
 entry_of (entry.Link peer notice) = Of_link peer notice
 entry_of (entry.Overflow live would_be) = Overflow live would_be
 

@@ -157,7 +157,7 @@ fewer h hs k same f few =
     omega (arith, e, few, m2)
 
 -- what an end holds that isn't gone, and that has come to an effect
-settled_most : (h : Holder) (g : Effect) → end_messages (s.settled h g) ≤ count g.end.receiving
+settled_most : (h : Holder) (g : Effect) → end_messages (s.after_effect h g) ≤ count g.end.receiving
 settled_most h g = by (s.is_over g.end)
   where
     by : (b : Bool) → (if b then 0 else count g.end.receiving) ≤ count g.end.receiving
@@ -194,11 +194,11 @@ none_more set d e = rw e (omega arith)
 handed_most : (set : SetState) (h : Holder) (first : List Told) (t : Transport) (now : ℕ) → IsFound h set.ends → h.gone ≡ false → Most set (s.goes_to set h first (end.step h.end (end.Arrive t) now))
 handed_most set h first t now f gone =
     let g : Effect = end.step h.end (end.Arrive t) now in
-    one_more h set.ends (s.settled h g) refl f (omega (arith, settled_most h g, m.arrives h.end t now, held_all h gone))
+    one_more h set.ends (s.after_effect h g) refl f (omega (arith, settled_most h g, m.arrives h.end t now, held_all h gone))
 
 at_most : (set : SetState) (origin : Callsign) (d : List ℕ) (to : Pair) (t : Transport) (now : ℕ) (o : Option Holder) → s.first_open (s.named_by origin to) set.ends ≡ o
-    → Most set (elim o as (λ x. SetDone) [ Some h ↦ s.handed set h d t now | None ↦ s.untold set ])
-at_most set origin d to t now None e = none_more set (s.untold set) refl
+    → Most set (elim o as (λ x. SetDone) [ Some h ↦ s.hands_to set h d t now | None ↦ s.does_nothing set ])
+at_most set origin d to t now None e = none_more set (s.does_nothing set) refl
 at_most set origin d to t now (Some h) e = handed_most set h (if heeds h.end.phase t then s.Heeded h.id d ∷ [] else []) t now (open_found (s.named_by origin to) set.ends h e) (opened (s.named_by origin to) set.ends h e)
 
 most_more : (id : ℕ) (k : Holder) (hs : List Holder) → end_messages k ≡ 0 → most_at id (hs ++ k ∷ []) ≡ most_at id hs
@@ -225,7 +225,7 @@ new_empty set at asked g e = by (s.is_over g.end)
     by false = e
 
 pub made_same : (set : SetState) (at : Callsign) (asked : Option Pair) (request : Option (List ℕ)) (g : Effect) → count g.end.receiving ≡ 0
-    → messages_but [] (s.made set at asked request g).set.ends ≡ messages_but [] set.ends
+    → messages_but [] (s.makes_end set at asked request g).set.ends ≡ messages_but [] set.ends
 made_same set at asked request g e = empty_more [] (s.holder_of set at asked g) set.ends (new_empty set at asked g e)
 
 anew_most : (set : SetState) (origin : Callsign) (d : List ℕ) (pair : Pair) (window now : ℕ) (b : Bool)
@@ -237,15 +237,15 @@ anew_most set origin d pair window now false =
     omega (arith, same)
 
 requested_most : (set : SetState) (origin : Callsign) (d : List ℕ) (pair : Pair) (window now : ℕ) (o : Option Holder) → s.first_open (s.opened_by origin pair) set.ends ≡ o
-    → Most set (elim o as (λ x. SetDone) [ Some h ↦ s.goes_to set h [] (s.accept_again h.end) | None ↦ s.requested_anew set origin d pair window now ])
+    → Most set (elim o as (λ x. SetDone) [ Some h ↦ s.goes_to set h [] (s.accept_again h.end) | None ↦ s.after_new_request set origin d pair window now ])
 requested_most set origin d pair window now None e = anew_most set origin d pair window now (s.is_full set)
 requested_most set origin d pair window now (Some h) e =
     let g : Effect = s.accept_again h.end in
-    let few = still h set.ends (s.settled h g) refl (open_found (s.opened_by origin pair) set.ends h e)
+    let few = still h set.ends (s.after_effect h g) refl (open_found (s.opened_by origin pair) set.ends h e)
     (omega (arith, settled_most h g, held_all h (opened (s.opened_by origin pair) set.ends h e))) in
     omega (arith, few)
 
-received_most : (set : SetState) (origin : Callsign) (d : List ℕ) (t : Transport) (now : ℕ) → Most set (s.received set origin d t now)
+received_most : (set : SetState) (origin : Callsign) (d : List ℕ) (t : Transport) (now : ℕ) → Most set (s.after_transport set origin d t now)
 received_most set origin d (Request pair window user node) now = requested_most set origin d pair window now _ refl
 received_most set origin d (Accept to own window) now = at_most set origin d to _ now _ refl
 received_most set origin d (Refuse to) now = at_most set origin d to _ now _ refl
@@ -255,18 +255,18 @@ received_most set origin d (Info to tx rx flags text) now = at_most set origin d
 received_most set origin d (InfoAck to rx flags) now = at_most set origin d to _ now _ refl
 
 read_most : (set : SetState) (origin : Callsign) (d : List ℕ) (r : Result Transport TransportRefusal) (now : ℕ) → Most set (s.read_as set origin d r now)
-read_most set origin d (Err e) now = none_more set (s.untold set) refl
+read_most set origin d (Err e) now = none_more set (s.does_nothing set) refl
 read_most set origin d (Ok t) now = received_most set origin d t now
 
 either_most : (set : SetState) (x y : SetDone) (b : Bool) → Most set x → Most set y → Most set (if b then x else y)
 either_most set x y true p q = p
 either_most set x y false p q = q
 
-up_most : (set : SetState) (d : List ℕ) (r : Result DatagramHead DatagramRefusal) (now : ℕ) → Most set (s.handed_up set d r now)
-up_most set d (Err e) now = none_more set (s.untold set) refl
+up_most : (set : SetState) (d : List ℕ) (r : Result DatagramHead DatagramRefusal) (now : ℕ) → Most set (s.after_datagram set d r now)
+up_most set d (Err e) now = none_more set (s.does_nothing set) refl
 up_most set d (Ok head) now =
-    either_most set (s.untold set) (s.read_as set head.origin d (transport_at (drop HEAD_SIZE d)) now) (same_call head.origin set.own || not (same_call head.dest set.own))
-    (none_more set (s.untold set) refl) (read_most set head.origin d (transport_at (drop HEAD_SIZE d)) now)
+    either_most set (s.does_nothing set) (s.read_as set head.origin d (transport_at (drop HEAD_SIZE d)) now) (same_call head.origin set.own || not (same_call head.dest set.own))
+    (none_more set (s.does_nothing set) refl) (read_most set head.origin d (transport_at (drop HEAD_SIZE d)) now)
 
 -- a datagram that comes brings one message or fragment at most
 pub comes_most : (set : SetState) (d : List ℕ) (now : ℕ) → Most set (s.set_step set (s.Comes d now))
@@ -275,15 +275,15 @@ comes_most set d now = up_most set d (head_at d) now
 -- ---- calls
 
 called_by : (set : SetState) (h : Holder) (call : s.Call) (now : ℕ) (b : Bool) → h.gone ≡ b → IsFound h set.ends → count (end.step h.end (s.input_of call) now).end.receiving ≤ count h.end.receiving
-    → messages_but [] (if b then s.untold set else s.goes_to set h [] (end.step h.end (s.input_of call) now)).set.ends ≤ messages_but [] set.ends
+    → messages_but [] (if b then s.does_nothing set else s.goes_to set h [] (end.step h.end (s.input_of call) now)).set.ends ≤ messages_but [] set.ends
 called_by set h call now true gone f few = omega arith
 called_by set h call now false gone f few =
     let g : Effect = end.step h.end (s.input_of call) now in
-    still h set.ends (s.settled h g) refl f (omega (arith, settled_most h g, held_all h gone, few))
+    still h set.ends (s.after_effect h g) refl f (omega (arith, settled_most h g, held_all h gone, few))
 
 call_most : (set : SetState) (call : s.Call) (now id : ℕ) (o : Option Holder) → s.end_of id set.ends ≡ o
     → ((h : Holder) → count (end.step h.end (s.input_of call) now).end.receiving ≤ count h.end.receiving)
-    → messages_but [] (s.called set o call now).set.ends ≤ messages_but [] set.ends
+    → messages_but [] (s.after_call set o call now).set.ends ≤ messages_but [] set.ends
 call_most set call now id None e few = omega arith
 call_most set call now id (Some h) e few = called_by set h call now h.gone refl (end_found id set.ends h e) (few h)
 
@@ -296,21 +296,21 @@ closes_most set now id = call_most set s.Closes now id (s.end_of id set.ends) re
 pub connects_most : (set : SetState) (dest : Callsign) (now : ℕ) → messages_but [] (s.set_step set (s.Connect dest now)).set.ends ≤ messages_but [] set.ends
 connects_most set dest now = by (same_call dest set.own || s.is_full set)
   where
-    by : (b : Bool) → messages_but [] (if b then s.untold set else s.requests set dest now).set.ends ≤ messages_but [] set.ends
+    by : (b : Bool) → messages_but [] (if b then s.does_nothing set else s.requests set dest now).set.ends ≤ messages_but [] set.ends
     by true = omega arith
     by false =
         let same = made_same set dest None None (requesting (s.new_pair set) set.user set.own set.config (min now COUNT_MAX)) (let none = m.none_filled set.config.window in omega (arith, none)) in
         omega (arith, same)
 
 takes_by : (set : SetState) (h : Holder) (now : ℕ) (b : Bool) → h.gone ≡ b → IsFound h set.ends → took (if b then Err (record {}) else Ok (nat_lt 0 (length (inbox h.end.receiving)))) ≡ true
-    → messages_but [] (if b then s.untold set else s.goes_to set h [] (end.step h.end end.Take now)).set.ends < messages_but [] set.ends
+    → messages_but [] (if b then s.does_nothing set else s.goes_to set h [] (end.step h.end end.Take now)).set.ends < messages_but [] set.ends
 takes_by set h now true gone f t = absurd (cc t)
 takes_by set h now false gone f t =
     let g : Effect = end.step h.end end.Take now in
     let some : 0 < length (inbox h.end.receiving) = grind (arith, nat_tests, t) in
-    fewer h set.ends (s.settled h g) refl f (omega (arith, settled_most h g, held_all h gone, m.takes h.end now some))
+    fewer h set.ends (s.after_effect h g) refl f (omega (arith, settled_most h g, held_all h gone, m.takes h.end now some))
 
-takes_of : (set : SetState) (now id : ℕ) (o : Option Holder) → s.end_of id set.ends ≡ o → took (take_answer o) ≡ true → messages_but [] (s.called set o s.Takes now).set.ends < messages_but [] set.ends
+takes_of : (set : SetState) (now id : ℕ) (o : Option Holder) → s.end_of id set.ends ≡ o → took (take_answer o) ≡ true → messages_but [] (s.after_call set o s.Takes now).set.ends < messages_but [] set.ends
 takes_of set now id None e t = absurd (cc t)
 takes_of set now id (Some h) e t = takes_by set h now h.gone refl (end_found id set.ends h e) t
 

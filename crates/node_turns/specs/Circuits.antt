@@ -9,7 +9,7 @@ use Rattle.l3_datagram.specs.CarrierCall.{Parcel}
 
 -- how much is untold
 unfoldable pub pending : Waiting → ℕ
-pending w = pumps.pending w
+pending w = pumps.untold_weight w
 
 -- the first that is untold is told
 unfoldable pub tells : (Callsign → Option Callsign) → Waiting → Turn

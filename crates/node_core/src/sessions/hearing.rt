@@ -1,6 +1,6 @@
 //! What has happened, as the sessions hear it.
 ghost use Rattle.std.specs.Prelude.{◌≡◌, OnOk, map};
-ghost use Rattle.circuit_set.specs.Standing.{seen};
+ghost use Rattle.circuit_set.specs.Standing.{event_told};
 ghost use Rattle.node_turns.specs.Serving as serving;
 ghost use Rattle.node_turns.specs.Sessions as sessions;
 ghost use Rattle.node_turns.specs.States as states;
@@ -23,7 +23,7 @@ impl Station {
     /// The sessions hear what has happened at the circuits. Where a request of another node has opened an end, a session is
     /// made for the user there, if users are served.
     pub(crate) fn hear_circuits(&mut self, event: &SetEvent) -> Result<(), NoMemory>
-        ensures goes { OnOk result (Goes (λ n. states.at_sessions (sessions.hear_circuits n.settings.prompt (seen event.now)) n) self.old self.new) }
+        ensures goes { OnOk result (Goes (λ n. states.at_sessions (sessions.hear_circuits n.settings.prompt (event_told event.now)) n) self.old self.new) }
         ensures same { self.new ≡ record self.old { sessions = self.new.sessions } }
     {
         match event {

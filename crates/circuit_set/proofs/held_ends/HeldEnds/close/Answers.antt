@@ -2,7 +2,7 @@ use Rattle.std.proofs.Common.{sym, ap, refl, ◌∙◌}
 use Rattle.circuit_l4.specs.Table.{Close}
 use Rattle.circuit_set.specs.Sets as sets
 use Rattle.circuit_set.proofs.Moving.{call_goes, call_of_none, no_close, rests_at, some_close}
-use Rattle.circuit_set.specs.Standing.{counted}
+use Rattle.circuit_set.specs.Standing.{capped_count}
 use Rattle.circuit_set.proofs.Taken.{taken_same}
 use Rattle.circuit_set.proofs.Stillness.{set_beside}
 use Rattle.circuit_set.proofs.held_ends.HeldEnds.close.Goals as goal
@@ -15,7 +15,7 @@ returns-in-Some-clause-goes c =
     let k = c.in-Some.holder.now in
     call_goes c.args.self.now _ c.args.id k c.close.new.self k.taken sets.Closes c.args.now.0 (record { own = refl; user = refl; config = refl; next = refl; number = refl })
     (sym c.in-Some.ensures.value) (c.get_mut.follows.holds (record k { end = c.close.new.self })).0 c.close.ensures.does
-    (λ x s e. e ∙ ap counted (sym (taken_same x Close c.args.now.0 tt)))
+    (λ x s e. e ∙ ap capped_count (sym (taken_same x Close c.args.now.0 tt)))
 
 pub returns-in-None-clause-goes : goal.returns-in-None-clause-goes
 returns-in-None-clause-goes c =

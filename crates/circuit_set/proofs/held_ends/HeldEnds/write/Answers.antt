@@ -6,7 +6,7 @@ use Rattle.circuit_set.specs.declared.holder.Holder.{Holder}
 use Rattle.circuit_set.specs.Sets as sets
 use Rattle.circuit_set.specs.Still.{OthersAreStill}
 use Rattle.circuit_set.proofs.Moving.{call_goes, no_write, rests_at, set_back, some_write}
-use Rattle.circuit_set.specs.Standing.{counted}
+use Rattle.circuit_set.specs.Standing.{capped_count}
 use Rattle.circuit_set.proofs.Taken.{taken_same}
 use Rattle.circuit_set.proofs.Stillness.{set_beside}
 use Rattle.circuit_set.proofs.held_ends.HeldEnds.write.Goals as goal
@@ -30,7 +30,7 @@ returns-in-Ok-clause-goes c =
     let k = c.in-Some.holder.now in
     call_goes c.args.self.now _ c.args.id k c.write.new.self k.taken (sets.Writes c.args.message.now) c.args.now.0 (record { own = refl; user = refl; config = refl; next = refl; number = refl })
     (sym c.in-Some.ensures.value) (c.get_mut.follows.holds (record k { end = c.write.new.self })).0 c.in-Ok.ensures.does
-    (λ x s e. e ∙ ap counted (sym (taken_same x (Write c.args.message.now) c.args.now.0 tt)))
+    (λ x s e. e ∙ ap capped_count (sym (taken_same x (Write c.args.message.now) c.args.now.0 tt)))
 
 pub returns-in-Err-clause-err : goal.returns-in-Err-clause-err
 returns-in-Err-clause-err c =

@@ -2,7 +2,7 @@ use Rattle.std.proofs.Common.{◌∙◌, ap, drop, List, ℕ, Ok, Option, is_som
 use Rattle.l3_datagram.specs.declared.carrier.Offered.TheVariants.{Taken}
 use Rattle.circuit_l4.specs.Reading.{transport_at}
 use Rattle.circuit_set.specs.declared.holder.Untold.{Untold}
-use Rattle.circuit_set.specs.Sets.{received}
+use Rattle.circuit_set.specs.Sets.{after_transport}
 use Rattle.circuit_set.specs.Standing.{Gives}
 use Rattle.circuit_set.proofs.Owning.{comes}
 use Rattle.circuit_set.proofs.Pumping.{on_ok}
@@ -17,7 +17,7 @@ returns-in-None-clause-takes g c =
     rw (← c.self.view_is, c.requires.none) (
       Taken,
       λ log s stands st.
-          let r = received s c.args.origin d.items t c.args.now.0 in
+          let r = after_transport s c.args.origin d.items t c.args.now.0 in
           takes_silent g.C.Carrier.made g.met.C.Carrier.none_made _ log c.args.now.0 s stands st r _ c.receive.new.self
           (reads s c.self.inside.router.own c.args.origin d c.args.now.0 (Ok t) st.own mine (c.in-Ok.ensures.exact ∙ ap transport_at (take_rest 15 c.as_slice.result.now) ∙ ap (λ (b : List ℕ). transport_at (drop 15 b)) c.as_slice.ensures.value))
           (comes s c.args.origin d.items t c.args.now.0) (subst (λ (o : Option Untold). Gives r o c.receive.new.self) c.in-None.is (c.in_ok-receive.ensures.gives s st.ends)),
@@ -31,7 +31,7 @@ returns-in-Some-clause-takes g c =
     rw (← c.self.view_is) (on_ok c.tell.result c.tell.ensures.tells (λ w. (
       w.0,
       λ log s stands st.
-          let r = received s c.args.origin d.items t c.args.now.0 in
+          let r = after_transport s c.args.origin d.items t c.args.now.0 in
           let gives = subst (λ (o : Option Untold). Gives r o c.receive.new.self) c.in-Some.is (c.in_ok-receive.ensures.gives s st.ends) in
           let same = comes s c.args.origin d.items t c.args.now.0 in
           takes_loud g.C.Carrier.made g.met.C.Carrier.none_made _ log c.args.now.0 s stands st r _ c.tell.new.self c.receive.new.self gives.0 gives.1 w.0 c.tell.new.told

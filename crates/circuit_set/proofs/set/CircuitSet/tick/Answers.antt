@@ -1,6 +1,6 @@
 use Rattle.circuit_set.specs.CircuitSets.{Circuits}
 use Rattle.circuit_set.proofs.Looking.{ticks_goes}
-use Rattle.circuit_set.specs.Inputs.{ticked}
+use Rattle.circuit_set.specs.Inputs.{after_ticks}
 use Rattle.circuit_set.proofs.Kept.{held_keeps}
 use Rattle.circuit_set.proofs.set.CircuitSet.tick.Goals as goal
 
@@ -12,4 +12,4 @@ returns-clause-goes g c =
 pub returns-clause-kept : goal.returns-clause-kept
 returns-clause-kept g c =
     let old : Circuits g.row.C.Denot = record { router = c.self.inside.router; held = c.self.inside.held; lost = c.self.inside.lost; spent = c.self.inside.spent } in
-    rw (← c.self.view_is) (held_keeps old c.tick.new.self (ticked c.args.now.0) c.tick.ensures.goes)
+    rw (← c.self.view_is) (held_keeps old c.tick.new.self (after_ticks c.args.now.0) c.tick.ensures.goes)

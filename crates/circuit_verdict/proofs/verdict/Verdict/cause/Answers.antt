@@ -1,6 +1,6 @@
 use Rattle.std.proofs.Common.{[], ◌∷◌, ◌++◌}
 use Rattle.std.proofs.lemmas.Result.{IfOk-weaker}
-use Rattle.circuit_set.specs.Books.{empty, noted_all}
+use Rattle.circuit_set.specs.Books.{empty, with_events}
 use Rattle.circuit_verdict.specs.Events.{event_of, events_of}
 use Rattle.circuit_verdict.specs.ByBook.{lost_in}
 use Rattle.circuit_verdict.proofs.AsTold.{as_noted, as_told}
@@ -13,7 +13,7 @@ returns-clause-exact c =
     let law = c.book_tells_what_is_late.ensures in
     IfOk-weaker c.cause.result _ _
     (λ cause told events stands timely.
-    told (noted_all empty (events_of events)) (lost_in [] (events_of events))
+    told (with_events empty (events_of events)) (lost_in [] (events_of events))
     (book_in_time c.args.self.now.allowance c.args.self.now.late c.args.self.now.book events stands (as_noted law.fresh law.timely law.fixed c.args.self.now.allowance (events_of events) timely)))
     c.cause.ensures
 
@@ -26,6 +26,6 @@ returns-clause-none c =
     let noted = as_noted law.fresh law.timely law.fixed a (events_of events) timely in
     let after = none_after a (events_of events) (event_of c.args.event.now) noted in
     let all = events_of events ++ event_of c.args.event.now ∷ [] in
-    rw (told (noted_all empty (events_of events)) (lost_in [] (events_of events)) (book_in_time a c.args.self.now.late c.args.self.now.book events stands noted))
+    rw (told (with_events empty (events_of events)) (lost_in [] (events_of events)) (book_in_time a c.args.self.now.late c.args.self.now.book events stands noted))
     ((λ none. as_told law.fresh law.timely law.fixed a all (after.0 none)), (λ t. after.1 (as_noted law.fresh law.timely law.fixed a all t)))))
     c.cause.ensures

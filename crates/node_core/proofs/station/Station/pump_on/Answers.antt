@@ -1,5 +1,5 @@
 use Rattle.std.proofs.Common.{◌++◌, ◌∙◌, [], ◌∷◌, refl, subst, sym}
-use Rattle.circuit_set.specs.Standing.{seen}
+use Rattle.circuit_set.specs.Standing.{event_told}
 use Rattle.node_core.specs.declared.entry.NodeEntry.TheVariants.{Set}
 use Rattle.node_turns.specs.Pumping.{pump}
 use Rattle.node_core.specs.Standing.{Holds}
@@ -22,12 +22,12 @@ loop-now-preserved c = λ n h.
     let s1 = record s { set = c.pump.new.self } in
     let s2 = c.hear_circuits.new.self in
     let m : State = called x.q i.0 in
-    let ss = hear_circuits m.settings.prompt (seen event) m.sessions in
+    let ss = hear_circuits m.settings.prompt (event_told event) m.sessions in
     let hears = c.in_ok-hear_circuits-in-Ok-Some.ensures.goes m x.holds in
-    let next : State = record m { sessions = ss; entries = i.0.entries ++ Of_set (seen event) ∷ [] } in (
+    let next : State = record m { sessions = ss; entries = i.0.entries ++ Of_set (event_told event) ∷ [] } in (
       next,
       entered s2 (record s2 { entries = c.push_back.new.self }) (Set event) c.in_ok-push_back-in-Ok-Some.ensures.items refl (record m { sessions = ss }) hears,
-      ◌∙◌ {c = pump now next} i.2 (told_on now i.0 x.q (seen event) x.told x.leads),
+      ◌∙◌ {c = pump now next} i.2 (told_on now i.0 x.q (event_told event) x.told x.leads),
     )
 
 pub returns-in-Ok-None-clause-did : goal.returns-in-Ok-None-clause-did
