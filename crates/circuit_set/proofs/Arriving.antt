@@ -16,7 +16,7 @@ use Rattle.circuit_set.specs.declared.holder.Untold.TheVariants as untold
 use Rattle.circuit_set.specs.declared.held_ends.HeldEnds.{HeldEnds}
 use Rattle.circuit_set.specs.Heeds.{heeds}
 use Rattle.circuit_set.specs.Sets as sets
-use Rattle.circuit_set.specs.Sets.{SetDone, SetState, Told, arrives_at, end_of, first_open, goes_to, hands_to, named_by}
+use Rattle.circuit_set.specs.Sets.{SetDone, SetState, CircuitTold, arrives_at, end_of, first_open, goes_to, hands_to, named_by}
 use Rattle.circuit_set.specs.Standing.{FirstFit, Gives, Hands, HeldStands, SameNode, capped_count, of_holder}
 use Rattle.circuit_set.proofs.Unheeded.{arrival_same}
 use Rattle.circuit_set.proofs.Taken.{taken_same}
@@ -69,7 +69,7 @@ module _ (c c2 : HeldEnds) (id : ℕ) (t : Transport) (now : ℕ) (b : Bool) (sa
     unheard_case true e r c3 g = absurd (cc e)
     unheard_case false e r c3 g = g
 
-    pub gives_unheard : b ≡ false → (r : Option Untold) (c3 : HeldEnds) → ((s2 : SetState) (told : List Told) → HeldStands c2 s2 told → Gives (record { set = s2; told = told }) r c3) → Gives (hands_to s h d.items t now) r c3
+    pub gives_unheard : b ≡ false → (r : Option Untold) (c3 : HeldEnds) → ((s2 : SetState) (told : List CircuitTold) → HeldStands c2 s2 told → Gives (record { set = s2; told = told }) r c3) → Gives (hands_to s h d.items t now) r c3
     gives_unheard e r c3 next = unheard_case (heeds h.end.phase t) (sym (hand_goes hands).hears ∙ e) r c3 (next moved.set moved.told (hand_goes hands).stands)
 
 -- what no open end is named by gives nothing

@@ -6,7 +6,7 @@ use Rattle.circuit_set.specs.Books.{Book, Fresh, FreshTold, HasRequester, MadeNo
 use Rattle.circuit_set.specs.Events.{Event, Name}
 use Rattle.circuit_set.specs.NotedRuns.{allowance, allowance_at, opened_window, partner_allowance, told_to}
 use Rattle.circuit_set.specs.ByBook.{FreshByBook, PartnersByBook, TimelyBy128, TimelyByBook}
-use Rattle.circuit_set.specs.Sets.{Told, Made, Sent, Heeded, Notice, Gone, Restarted, Lost}
+use Rattle.circuit_set.specs.Sets.{CircuitTold, Made, Sent, Heeded, Notice, Gone, Restarted, Lost}
 use Rattle.circuit_set.specs.TooLate.{Allowing, AllowsByWindow, Gives, InTime, IsFresh, IsNew, IsOpen, IsTimely, OpenedWith, Tells, allows_fixed}
 use Rattle.circuit_set.proofs.Among.{by_snoc, none_split, snoc_split}
 use Rattle.circuit_set.proofs.Joined.{asked_marks, asks, has_none, is_free, partner_looks, requested, requests, unknown_none}
@@ -76,7 +76,7 @@ module _ (es : List Event) (fresh : Fresh empty es) (node : ℕ) (pair : Pair) w
 fresh_case : (es : List Event) (e : Event) → Fresh empty es → IsFresh (es ++ e ∷ []) → FreshTold (book es) (lost_by [] es) e.node e.told
 fresh_case es e fresh f = by e.told f
   where
-    by : (t : Told) → IsFresh (es ++ record { node = e.node; own = e.own; told = t } ∷ []) → FreshTold (book es) (lost_by [] es) e.node t
+    by : (t : CircuitTold) → IsFresh (es ++ record { node = e.node; own = e.own; told = t } ∷ []) → FreshTold (book es) (lost_by [] es) e.node t
     by (Made id pair at request) g =
         let n : IsNew es e.node pair request = g es [] (record { node = e.node; own = e.own; told = Made id pair at request }) (record { node = e.node; id = id }) pair at request refl (refl, refl) in
         (has_requester es fresh e.node pair request n, no_other es fresh e.node pair request n)
@@ -167,7 +167,7 @@ module _ (allow : Book → Name → ℕ) (allows : Allowing) (agrees : Agrees al
   timely_case : (es : List Event) (e : Event) → Fresh empty es → IsTimely allows (es ++ e ∷ []) → TimelyTold allow (book es) e.node e.told
   timely_case es e fresh f = by e.told f
     where
-      by : (t : Told) → IsTimely allows (es ++ record { node = e.node; own = e.own; told = t } ∷ []) → TimelyTold allow (book es) e.node t
+      by : (t : CircuitTold) → IsTimely allows (es ++ record { node = e.node; own = e.own; told = t } ∷ []) → TimelyTold allow (book es) e.node t
       by (Heeded id d) g =
           timely_to allow allows agrees es fresh (record { node = e.node; id = id }) d (g es [] (record { node = e.node; own = e.own; told = Heeded id d }) (record { node = e.node; id = id }) d refl (refl, refl))
       by (Made id pair at request) g = tt

@@ -9,9 +9,9 @@ use Rattle.circuit_l4.specs.declared.notice.EndNotice.{EndNotice}
 use Rattle.circuit_l4.specs.State.{Effect, Out}
 use Rattle.circuit_l4.specs.Opening.{facts_of}
 use Rattle.circuit_l4.specs.Receiving.{inbox}
-use Rattle.circuit_set.specs.Pairs.{Change, Gives, Giving, Goes, pair_after, after_giving, pair_given, pairs_given, without}
+use Rattle.circuit_set.specs.Pairs.{Change, EndMade, Giving, EndGone, pair_after, after_giving, pair_given, pairs_given, without}
 use Rattle.circuit_set.specs.Pairs as pairs
-use Rattle.circuit_set.specs.Sets.{Act, Calls, Comes, Connect, Discard, Restart, Made, Sent, Heeded, Notice, Gone, Restarted, Lost, Holder, SetDone, SetState, Told, all_gone, end_of, held_pairs, holder_of, is_over, makes_end, new_pair, notices, after_restart, sendings, set_step, after_effect, told_by, with_end}
+use Rattle.circuit_set.specs.Sets.{Act, Calls, Comes, Connect, Discard, Restart, Made, Sent, Heeded, Notice, Gone, Restarted, Lost, Holder, SetDone, SetState, CircuitTold, all_gone, end_of, held_pairs, holder_of, is_over, makes_end, new_pair, notices, after_restart, sendings, set_step, after_effect, told_by, with_end}
 use Rattle.circuit_set.specs.Inputs.{runs}
 use Rattle.circuit_set.specs.Runs.{IsStart}
 use Rattle.circuit_set.specs.Givings.{GivenBy, MadeAreGiven, MadeDiffer, StaysUp, after_changes, giving, pairs_made}
@@ -131,7 +131,7 @@ held_push h [] e = ap (λ g. if g then [] else h.end.pair ∷ []) e
 held_push h (x ∷ xs) e = push_case x.gone x.end.pair (held_pairs (xs ++ h ∷ [])) (held_pairs xs) (h.end.pair ∷ []) (held_push h xs e)
 
 -- ---- what is told of pairs ----
-pub made_append : (xs ys : List Told) → pairs_made (xs ++ ys) ≡ pairs_made xs ++ pairs_made ys
+pub made_append : (xs ys : List CircuitTold) → pairs_made (xs ++ ys) ≡ pairs_made xs ++ pairs_made ys
 made_append [] ys = refl
 made_append (Made id pair at request ∷ xs) ys = ap (λ ps. pair ∷ ps) (made_append xs ys)
 made_append (Sent id number d ∷ xs) ys = made_append xs ys
@@ -141,7 +141,7 @@ made_append (Gone id facts ∷ xs) ys = made_append xs ys
 made_append (Restarted pair ∷ xs) ys = made_append xs ys
 made_append (Lost id facts ∷ xs) ys = made_append xs ys
 
-pub none_append : (xs ys : List Told) → pairs_made xs ≡ [] → pairs_made ys ≡ [] → pairs_made (xs ++ ys) ≡ []
+pub none_append : (xs ys : List CircuitTold) → pairs_made xs ≡ [] → pairs_made ys ≡ [] → pairs_made (xs ++ ys) ≡ []
 none_append xs ys p q = made_append xs ys ∙ ap (λ ps. ps ++ pairs_made ys) p ∙ q
 
 sents_none : (s : SetState) (id : ℕ) (at : Callsign) (os : List Out) → pairs_made (sendings s id at os) ≡ []
@@ -152,7 +152,7 @@ notices_none : (id : ℕ) (ns : List EndNotice) → pairs_made (notices id ns) �
 notices_none id [] = refl
 notices_none id (n ∷ ns) = notices_none id ns
 
-gone_none : (b : Bool) (t : Told) → pairs_made (t ∷ []) ≡ [] → pairs_made (if b then t ∷ [] else []) ≡ []
+gone_none : (b : Bool) (t : CircuitTold) → pairs_made (t ∷ []) ≡ [] → pairs_made (if b then t ∷ [] else []) ≡ []
 gone_none true t e = e
 gone_none false t e = refl
 
@@ -171,8 +171,8 @@ given_case false cs ds g h p e f = ap (λ ps. p ∷ ps) f
 
 given_append : (cs ds : List Change) (g : Giving) → pairs_given (cs ++ ds) g ≡ pairs_given cs g ++ pairs_given ds (after_changes cs g)
 given_append [] ds g = refl
-given_append (Gives ∷ cs) ds g = given_case (pairs.is_full g) cs ds g (after_giving g) (pair_given g) (given_append cs ds g) (given_append cs ds (after_giving g))
-given_append (Goes nth ∷ cs) ds g = given_append cs ds (record { next = g.next; held = without nth g.held })
+given_append (EndMade ∷ cs) ds g = given_case (pairs.is_full g) cs ds g (after_giving g) (pair_given g) (given_append cs ds g) (given_append cs ds (after_giving g))
+given_append (EndGone nth ∷ cs) ds g = given_append cs ds (record { next = g.next; held = without nth g.held })
 
 after_case : (b : Bool) (cs ds : List Change) (g h : Giving) → after_changes (cs ++ ds) g ≡ after_changes ds (after_changes cs g) → after_changes (cs ++ ds) h ≡ after_changes ds (after_changes cs h)
     → (if b then after_changes (cs ++ ds) g else after_changes (cs ++ ds) h) ≡ after_changes ds (if b then after_changes cs g else after_changes cs h)
@@ -181,8 +181,8 @@ after_case false cs ds g h e f = f
 
 after_append : (cs ds : List Change) (g : Giving) → after_changes (cs ++ ds) g ≡ after_changes ds (after_changes cs g)
 after_append [] ds g = refl
-after_append (Gives ∷ cs) ds g = after_case (pairs.is_full g) cs ds g (after_giving g) (after_append cs ds g) (after_append cs ds (after_giving g))
-after_append (Goes nth ∷ cs) ds g = after_append cs ds (record { next = g.next; held = without nth g.held })
+after_append (EndMade ∷ cs) ds g = after_case (pairs.is_full g) cs ds g (after_giving g) (after_append cs ds g) (after_append cs ds (after_giving g))
+after_append (EndGone nth ∷ cs) ds g = after_append cs ds (record { next = g.next; held = without nth g.held })
 
 held_is : (p : Pair) (xs ys : List Pair) → xs ≡ ys → (let g : Giving = record { next = p; held = xs } in g) ≡ record { next = p; held = ys }
 held_is p xs ys e = ap (λ ps. (let g : Giving = record { next = p; held = ps } in g)) e
@@ -211,12 +211,12 @@ module _ (s : SetState) (nums : Numbers s) where
   put_numbers h = record { below = below_put s.number h s.ends nums.below; once = once_put h s.ends nums.once }
 
   -- an end is held as before, or no longer
-  leaves : (b : Bool) (n : ℕ) (to : List Holder) (told : List Told) → held_pairs to ≡ (if b then without n (held_pairs s.ends) else held_pairs s.ends) → pairs_made told ≡ []
+  leaves : (b : Bool) (n : ℕ) (to : List Holder) (told : List CircuitTold) → held_pairs to ≡ (if b then without n (held_pairs s.ends) else held_pairs s.ends) → pairs_made told ≡ []
       → GivenBy s (record { set = record s { ends = to }; told = told })
-  leaves true n to told e none = record { changes = Goes n ∷ []; pairs = none; stands = held_is s.next (held_pairs to) (without n (held_pairs s.ends)) e }
+  leaves true n to told e none = record { changes = EndGone n ∷ []; pairs = none; stands = held_is s.next (held_pairs to) (without n (held_pairs s.ends)) e }
   leaves false n to told e none = record { changes = []; pairs = none; stands = held_is s.next (held_pairs to) (held_pairs s.ends) e }
 
-  changed : (h to : Holder) (told : List Told) → to.id ≡ h.id → end_of h.id s.ends ≡ Some h → h.gone ≡ false → to.end.pair ≡ h.end.pair → pairs_made told ≡ []
+  changed : (h to : Holder) (told : List CircuitTold) → to.id ≡ h.id → end_of h.id s.ends ≡ Some h → h.gone ≡ false → to.end.pair ≡ h.end.pair → pairs_made told ≡ []
       → Fine s (record { set = record s { ends = with_end to s.ends }; told = told })
   changed h to told number there lasts same none =
       let r : Leaves to (held_pairs (with_end to s.ends)) (held_pairs s.ends) = held_put to h s.ends nums.once (ap (λ i. end_of i s.ends) number ∙ there) lasts same in
@@ -229,7 +229,7 @@ module _ (s : SetState) (nums : Numbers s) where
       let fits : pairs.is_full (giving s) ≡ false = room_is (length (held_pairs s.ends)) (or_false (nat_le 64 (length (held_pairs s.ends))) (nat_lt COUNT_MAX s.number) new.room) in
       let up : Below (s.number + 1) s.ends = below_up s.number (s.number + 1) s.ends (omega arith) nums.below in (
         record {
-          changes = Gives ∷ [];
+          changes = EndMade ∷ [];
           pairs = ap (λ ps. new_pair s ∷ ps) (told_none s h g) ∙ sym (ap (λ b. if b then [] else pair_given (giving s) ∷ []) fits);
           stands =
               held_is (pair_after (new_pair s)) (held_pairs (s.ends ++ h ∷ [])) (held_pairs s.ends ++ new_pair s ∷ []) (held_push h s.ends lasts ∙ ap (λ p. held_pairs s.ends ++ p ∷ []) new.pair)

@@ -15,7 +15,7 @@ use Rattle.circuit_set.specs.declared.event.SetEvent.{SetEvent}
 use Rattle.circuit_set.specs.declared.event.SetEvent.TheVariants as event
 use Rattle.circuit_set.specs.declared.held_ends.HeldEnds.{HeldEnds}
 use Rattle.circuit_set.specs.declared.holder.Untold.{Untold}
-use Rattle.circuit_set.specs.Sets.{SetState, Told}
+use Rattle.circuit_set.specs.Sets.{SetState, CircuitTold}
 use Rattle.circuit_set.specs.Pumps.{Dropped, Pumped, asks, at_rest, ends_with, is_empty, pump_step, says_nothing, tells_first, turn_step}
 use Rattle.circuit_set.specs.Standing.{Gives, HeldStands}
 use Rattle.circuit_set.specs.CircuitSets.{Circuits, DoesPump, Pumps, SetStands}
@@ -28,7 +28,7 @@ is_none_by (Some r) e = absurd (cc e)
 
 module _ {C : Type 0} (made : C → List CarrierCall → C → Type 0) (none_made : (c : C) → made c [] c) (old : Circuits C) (lost : List Callsign) (waiting : List Parcel) (now : ℕ) where
   -- what a sending came to
-  lost_case : (nh : Callsign → Option Callsign) (s : SetState) (ts : List Told) (o : Option Routed) (r : Routed) (ps : List (Parcel × Offered)) (a : Offered) → o ≡ Some r
+  lost_case : (nh : Callsign → Option Callsign) (s : SetState) (ts : List CircuitTold) (o : Option Routed) (r : Routed) (ps : List (Parcel × Offered)) (a : Offered) → o ≡ Some r
       → ends_with [] (record { told = Some (Dropped r); after = record { set = s; untold = ts; lost = None }; items = [] }) ≡ pump_step nh now (record { set = s; untold = ts; lost = o }) lost ps a
   lost_case nh s ts None r ps a e = absurd (cc e)
   lost_case nh s ts (Some x) r ps a e =
@@ -52,7 +52,7 @@ module _ {C : Type 0} (made : C → List CarrierCall → C → Type 0) (none_mad
   )
 
   -- what an end tells
-  told_case : (nh : Callsign → Option Callsign) (s : SetState) (ts : List Told) (o : Option Routed) (t : Told) (rest : List Told) (ps : List (Parcel × Offered)) (a : Offered) → ts ≡ t ∷ rest → o ≡ None
+  told_case : (nh : Callsign → Option Callsign) (s : SetState) (ts : List CircuitTold) (o : Option Routed) (t : CircuitTold) (rest : List CircuitTold) (ps : List (Parcel × Offered)) (a : Offered) → ts ≡ t ∷ rest → o ≡ None
       → turn_step now (tells_first nh s t rest) a ≡ pump_step nh now (record { set = s; untold = ts; lost = o }) lost ps a
   told_case nh s ts (Some r) t rest ps a e f = absurd (cc f)
   told_case nh s [] None t rest ps a e f = absurd (cc e)
@@ -65,7 +65,7 @@ module _ {C : Type 0} (made : C → List CarrierCall → C → Type 0) (none_mad
   mid h left = record { router = old.router; held = h; lost = left; spent = old.spent }
 
   tells_one : (new : Circuits C) (h : HeldEnds) (left : Option Routed) (u : Untold) (r : Option Untold) (told : Option SetEvent) → old.lost ≡ None → left ≡ None → r ≡ Some u
-      → ((s : SetState) (ts : List Told) → HeldStands old.held s ts → Gives (record { set = s; told = ts }) r h) → Tells made (mid h left) new u now told
+      → ((s : SetState) (ts : List CircuitTold) → HeldStands old.held s ts → Gives (record { set = s; told = ts }) r h) → Tells made (mid h left) new u now told
       → Pumps made old new lost waiting now told
   tells_one new h left u r told e n is gives tells = (
     all_taken waiting,
@@ -81,20 +81,20 @@ module _ {C : Type 0} (made : C → List CarrierCall → C → Type 0) (none_mad
   )
 
   pub tells_on : (new : Circuits C) (h : HeldEnds) (u : Untold) (r : Option Untold) (told : Option SetEvent) (result : Result (Unit {0}) NoMemory) → old.lost ≡ None → r ≡ Some u
-      → ((s : SetState) (ts : List Told) → HeldStands old.held s ts → Gives (record { set = s; told = ts }) r h) → OnOk result (Tells made (record old { held = h }) new u now told)
+      → ((s : SetState) (ts : List CircuitTold) → HeldStands old.held s ts → Gives (record { set = s; told = ts }) r h) → OnOk result (Tells made (record old { held = h }) new u now told)
       → OnOk result (Pumps made old new lost waiting now told)
   tells_on new h u r told (Ok x) e is gives tells = tells_one new h old.lost u r told e e is gives tells
   tells_on new h u r told (Err x) e is gives tells = tells
 
   -- what comes of the router
-  asks_case : (nh : Callsign → Option Callsign) (s : SetState) (ts : List Told) (o : Option Routed) (ps : List (Parcel × Offered)) → ts ≡ [] → o ≡ None
+  asks_case : (nh : Callsign → Option Callsign) (s : SetState) (ts : List CircuitTold) (o : Option Routed) (ps : List (Parcel × Offered)) → ts ≡ [] → o ≡ None
       → asks nh now s lost ps ≡ pump_step nh now (record { set = s; untold = ts; lost = o }) lost ps offered.Taken
   asks_case nh s ts (Some r) ps e f = absurd (cc f)
   asks_case nh s (t ∷ ts) None ps e f = absurd (cc e)
   asks_case nh s [] None ps e f = refl
 
   asks_one : (new : Circuits C) (h : HeldEnds) (left : Option Routed) (r : Option Untold) (told : Option SetEvent) → old.lost ≡ None → left ≡ None → r ≡ None
-      → ((s : SetState) (ts : List Told) → HeldStands old.held s ts → Gives (record { set = s; told = ts }) r h) → Asks made (mid h left) new lost waiting now told
+      → ((s : SetState) (ts : List CircuitTold) → HeldStands old.held s ts → Gives (record { set = s; told = ts }) r h) → Asks made (mid h left) new lost waiting now told
       → Pumps made old new lost waiting now told
   asks_one new h left r told e n is gives asked = (
     asked.0,
@@ -110,17 +110,17 @@ module _ {C : Type 0} (made : C → List CarrierCall → C → Type 0) (none_mad
   )
 
   pub asks_on : (new : Circuits C) (h : HeldEnds) (r : Option Untold) (told : Option SetEvent) (result : Result (Unit {0}) NoMemory) → old.lost ≡ None → r ≡ None
-      → ((s : SetState) (ts : List Told) → HeldStands old.held s ts → Gives (record { set = s; told = ts }) r h) → OnOk result (Asks made (record old { held = h }) new lost waiting now told)
+      → ((s : SetState) (ts : List CircuitTold) → HeldStands old.held s ts → Gives (record { set = s; told = ts }) r h) → OnOk result (Asks made (record old { held = h }) new lost waiting now told)
       → OnOk result (Pumps made old new lost waiting now told)
   asks_on new h r told (Ok x) e is gives asked = asks_one new h old.lost r told e e is gives asked
   asks_on new h r told (Err x) e is gives asked = asked
 
   -- nothing lies anywhere
-  empty_is : (ts : List Told) → is_empty ts ≡ true → ts ≡ []
+  empty_is : (ts : List CircuitTold) → is_empty ts ≡ true → ts ≡ []
   empty_is [] e = refl
   empty_is (t ∷ ts) e = absurd (cc e)
 
-  idle_case : (nh : Callsign → Option Callsign) (s : SetState) (ts : List Told) (o : Option Routed) (ls : List Callsign) → ts ≡ [] → o ≡ None → ls ≡ []
+  idle_case : (nh : Callsign → Option Callsign) (s : SetState) (ts : List CircuitTold) (o : Option Routed) (ls : List Callsign) → ts ≡ [] → o ≡ None → ls ≡ []
       → ends_with [] (says_nothing (at_rest s)) ≡ pump_step nh now (record { set = s; untold = ts; lost = o }) ls [] offered.Taken
   idle_case nh s (t ∷ ts) o ls e f g = absurd (cc e)
   idle_case nh s [] (Some r) ls e f g = absurd (cc f)
@@ -128,7 +128,7 @@ module _ {C : Type 0} (made : C → List CarrierCall → C → Type 0) (none_mad
   idle_case nh s [] None [] e f g = refl
 
   pub tells_nothing : lost ≡ [] → waiting ≡ [] → old.lost ≡ None
-      → ((s : SetState) (ts : List Told) → HeldStands old.held s ts → is_empty ts ≡ true) → Pumps made old old lost waiting now None
+      → ((s : SetState) (ts : List CircuitTold) → HeldStands old.held s ts → is_empty ts ≡ true) → Pumps made old old lost waiting now None
   tells_nothing l w n quiet = (
     [],
     offered.Taken,
@@ -146,11 +146,11 @@ module _ {C : Type 0} (made : C → List CarrierCall → C → Type 0) (none_mad
   )
 
   -- the ends have nothing to tell
-  quiet_gives : (s : SetState) (ts : List Told) → is_empty ts ≡ true → HeldStands old.held s ts → Gives (record { set = s; told = ts }) None old.held
+  quiet_gives : (s : SetState) (ts : List CircuitTold) → is_empty ts ≡ true → HeldStands old.held s ts → Gives (record { set = s; told = ts }) None old.held
   quiet_gives s [] e st = (refl, st)
   quiet_gives s (t ∷ ts) e st = absurd (cc e)
 
   pub asks_quiet : (new : Circuits C) (quiet : Bool) (told : Option SetEvent) (result : Result (Unit {0}) NoMemory) → old.lost ≡ None → quiet ≡ true
-      → ((s : SetState) (ts : List Told) → HeldStands old.held s ts → quiet ≡ is_empty ts) → OnOk result (Asks made old new lost waiting now told)
+      → ((s : SetState) (ts : List CircuitTold) → HeldStands old.held s ts → quiet ≡ is_empty ts) → OnOk result (Asks made old new lost waiting now told)
       → OnOk result (Pumps made old new lost waiting now told)
   asks_quiet new quiet told result e is empty asked = asks_on new old.held None told result e refl (λ s ts st. quiet_gives s ts (sym (empty s ts st) ∙ is) st) asked

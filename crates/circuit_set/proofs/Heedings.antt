@@ -18,7 +18,7 @@ use Rattle.circuit_l4.specs.Opening.{facts_of, requesting, responding}
 use Rattle.circuit_l4.specs.Table.{Arrive, step}
 use Rattle.circuit_set.specs.Heeds.{heeds}
 use Rattle.circuit_set.specs.Heedings.{HeedsFor, SetsHeedPartners, pair_named}
-use Rattle.circuit_set.specs.Sets.{Act, Call, Calls, Comes, Connect, Discard, Restart, Gone, Heeded, Holder, Lost, Made, Notice, Restarted, Sent, SetDone, SetState, Told, accept_again, after_call, datagram_to, after_discarding, end_of, first_open, goes_to, hands_to, after_datagram, has_ended, holder_of, is_open, input_of, is_full, is_over, losses, makes_end, named_by, new_pair, notices, opened_by, read_as, after_transport, after_new_request, requests, responds, sendings, told_by, does_nothing, with_end}
+use Rattle.circuit_set.specs.Sets.{Act, Call, Calls, Comes, Connect, Discard, Restart, Gone, Heeded, Holder, Lost, Made, Notice, Restarted, Sent, SetDone, SetState, CircuitTold, accept_again, after_call, datagram_to, after_discarding, end_of, first_open, goes_to, hands_to, after_datagram, has_ended, holder_of, is_open, input_of, is_full, is_over, losses, makes_end, named_by, new_pair, notices, opened_by, read_as, after_transport, after_new_request, requests, responds, sendings, told_by, does_nothing, with_end}
 
 and_both : (a b : Bool) → (a && b) ≡ true → (a ≡ true) × (b ≡ true)
 and_both true b e = (refl, e)
@@ -39,10 +39,10 @@ open_is test (x ∷ hs) h e = by (is_open x && test x) refl e (open_is test hs h
         ((suc r.0.0, omega (arith, low), r.0.2), r.1)
 
 module _ (s : SetState) (a : Act) where
-  abbrev For : List Told → Type 0
+  abbrev For : List CircuitTold → Type 0
   For ts = HeedsFor s a ts
 
-  both : (xs ys : List Told) → For xs → For ys → For (xs ++ ys)
+  both : (xs ys : List CircuitTold) → For xs → For ys → For (xs ++ ys)
   both [] ys p q = q
   both (Heeded id d ∷ xs) ys p q = (p.0, both xs ys p.1 q)
   both (Made id pair partner request ∷ xs) ys p q = both xs ys p q
@@ -68,7 +68,7 @@ module _ (s : SetState) (a : Act) where
       by true = tt
       by false = tt
 
-  goes_for : (h : Holder) (first : List Told) (g : Effect) → For first → For (goes_to s h first g).told
+  goes_for : (h : Holder) (first : List CircuitTold) (g : Effect) → For first → For (goes_to s h first g).told
   goes_for h first g p = both first (told_by s h g) p (told_for h g)
 
   made_for : (at : Callsign) (asked : Option Pair) (request : Option (List ℕ)) (g : Effect) → For (makes_end s at asked request g).told
@@ -100,7 +100,7 @@ module _ (s : SetState) (a : Act) where
 
 -- a datagram that comes
 module _ (s : SetState) (d : List ℕ) (now : ℕ) where
-  abbrev Came : List Told → Type 0
+  abbrev Came : List CircuitTold → Type 0
   Came ts = HeedsFor s (Comes d now) ts
 
   anew_for : (origin : Callsign) (pair : Pair) (window : ℕ) (b : Bool)

@@ -9,55 +9,55 @@ use Rattle.circuit_l4.specs.State.{Effect}
 use Rattle.circuit_l4.specs.Standing.{EndView, Stands, StandsFor}
 use Rattle.circuit_set.specs.declared.holder.Holder.{Holder}
 use Rattle.circuit_set.specs.Sets as sets
-use Rattle.circuit_set.specs.Sets.{Told, end_of, with_end}
+use Rattle.circuit_set.specs.Sets.{CircuitTold, end_of, with_end}
 use Rattle.circuit_set.specs.Pumps.{is_empty}
-use Rattle.circuit_set.specs.Standing.{FirstLoud, Held, Here, IsSilent, Keeps, Past}
+use Rattle.circuit_set.specs.Standing.{FirstLoud, EachStands, Here, IsSilent, Keeps, Past}
 
 pub stood : (m : EndView) (g : Effect) → Stands m g → StandsFor m g.end
 stood m g s = record { written = s.written; came = s.came; sending = s.sending; receiving = s.receiving; within = s.within; is = ap (λ (g : Effect). g.end) s.is }
 
 module _ (own : Callsign) (ttl : ℕ) where
   -- the end with a number, where it is held, and what stands on both sides of it
-  pub record At (hi lo id : ℕ) (es : List (ℕ × Holder)) (hs : List sets.Holder) (told : List Told) : Type 0 where
+  pub record At (hi lo id : ℕ) (es : List (ℕ × Holder)) (hs : List sets.Holder) (told : List CircuitTold) : Type 0 where
     pub k : Holder
     pub h : sets.Holder
-    pub before : List Told
-    pub mine : List Told
-    pub theirs : List Told
+    pub before : List CircuitTold
+    pub mine : List CircuitTold
+    pub theirs : List CircuitTold
     pub low : lo ≤ id
     pub number : h.id ≡ id
     pub found : lookup (nat_eq id) es ≡ Some k
     pub end : end_of id hs ≡ Some h
     pub keeps : Keeps own ttl id k h mine
     pub all : told ≡ before ++ mine ++ theirs
-    pub put : (k2 : Holder) (h2 : sets.Holder) (mine2 : List Told) → h2.id ≡ id → Keeps own ttl id k2 h2 mine2 →
-        Held own ttl hi lo (set_value (nat_eq id) es k2) (with_end h2 hs) (before ++ mine2 ++ theirs)
-    pub keep : (k2 : Holder) (mine2 : List Told) → Keeps own ttl id k2 h mine2 → Held own ttl hi lo (set_value (nat_eq id) es k2) hs (before ++ mine2 ++ theirs)
-    pub leave : (w : Holder) → h.gone ≡ true → Held own ttl hi lo (remove_entry (nat_eq id) (set_value (nat_eq id) es w)) hs (before ++ theirs)
+    pub put : (k2 : Holder) (h2 : sets.Holder) (mine2 : List CircuitTold) → h2.id ≡ id → Keeps own ttl id k2 h2 mine2 →
+        EachStands own ttl hi lo (set_value (nat_eq id) es k2) (with_end h2 hs) (before ++ mine2 ++ theirs)
+    pub keep : (k2 : Holder) (mine2 : List CircuitTold) → Keeps own ttl id k2 h mine2 → EachStands own ttl hi lo (set_value (nat_eq id) es k2) hs (before ++ mine2 ++ theirs)
+    pub leave : (w : Holder) → h.gone ≡ true → EachStands own ttl hi lo (remove_entry (nat_eq id) (set_value (nat_eq id) es w)) hs (before ++ theirs)
 
-  with_case : (hi lo : ℕ) (h2 h : sets.Holder) (es : List (ℕ × Holder)) (hs : List sets.Holder) (told : List Told) → h2.id < lo → lo ≤ h.id
-      → (Past (λ rest theirs. Held own ttl hi (suc h.id) rest hs theirs) h es told ⊎ Here own ttl (λ rest theirs. Held own ttl hi (suc h.id) rest hs theirs) h es told)
-      → ((rest : List (ℕ × Holder)) (theirs : List Told) → h2.id < suc h.id → Held own ttl hi (suc h.id) rest hs theirs → with_end h2 hs ≡ hs)
+  with_case : (hi lo : ℕ) (h2 h : sets.Holder) (es : List (ℕ × Holder)) (hs : List sets.Holder) (told : List CircuitTold) → h2.id < lo → lo ≤ h.id
+      → (Past (λ rest theirs. EachStands own ttl hi (suc h.id) rest hs theirs) h es told ⊎ Here own ttl (λ rest theirs. EachStands own ttl hi (suc h.id) rest hs theirs) h es told)
+      → ((rest : List (ℕ × Holder)) (theirs : List CircuitTold) → h2.id < suc h.id → EachStands own ttl hi (suc h.id) rest hs theirs → with_end h2 hs ≡ hs)
       → with_end h2 (h ∷ hs) ≡ h ∷ hs
   with_case hi lo h2 h es hs told l low (inl p) later =
       let other : nat_eq h.id h2.id ≡ false = grind (arith, nat_tests) in simp other (ap (λ ys. h ∷ ys) (later es told (omega arith) p.others))
   with_case hi lo h2 h es hs told l low (inr p) later =
       let other : nat_eq h.id h2.id ≡ false = grind (arith, nat_tests) in simp other (ap (λ ys. h ∷ ys) (later p.rest p.theirs (omega arith) p.others))
 
-  with_later : (hi lo : ℕ) (h2 : sets.Holder) (es : List (ℕ × Holder)) (hs : List sets.Holder) (told : List Told) → h2.id < lo → Held own ttl hi lo es hs told → with_end h2 hs ≡ hs
+  with_later : (hi lo : ℕ) (h2 : sets.Holder) (es : List (ℕ × Holder)) (hs : List sets.Holder) (told : List CircuitTold) → h2.id < lo → EachStands own ttl hi lo es hs told → with_end h2 hs ≡ hs
   with_later hi lo h2 es [] told l s = refl
   with_later hi lo h2 es (h ∷ hs) told l s = with_case hi lo h2 h es hs told l s.0 s.1 (λ rest theirs after x. with_later hi (suc h.id) h2 rest hs theirs after x)
 
-  abbrev Tail : ℕ → ℕ → List sets.Holder → List (ℕ × Holder) → List Told → Type 0
-  Tail hi lo hs es told = Held own ttl hi lo es hs told
+  abbrev Tail : ℕ → ℕ → List sets.Holder → List (ℕ × Holder) → List CircuitTold → Type 0
+  Tail hi lo hs es told = EachStands own ttl hi lo es hs told
 
   none_in : {A : Type 0} {a : A} → None ≡ Some a → ⊥
   none_in e = cc
 
-  absent : (hi lo id : ℕ) (es : List (ℕ × Holder)) (told : List Told) (k : Holder) → es ≡ [] → lookup (nat_eq id) es ≡ Some k → At hi lo id es [] told
+  absent : (hi lo id : ℕ) (es : List (ℕ × Holder)) (told : List CircuitTold) (k : Holder) → es ≡ [] → lookup (nat_eq id) es ≡ Some k → At hi lo id es [] told
   absent hi lo id es told k e f = absurd (none_in (subst (λ (xs : List (ℕ × Holder)). lookup (nat_eq id) xs ≡ Some k) e f))
 
-  past : (hi lo id : ℕ) (h : sets.Holder) (es : List (ℕ × Holder)) (hs : List sets.Holder) (told : List Told) → lo ≤ h.id → h.gone ≡ true
+  past : (hi lo id : ℕ) (h : sets.Holder) (es : List (ℕ × Holder)) (hs : List sets.Holder) (told : List CircuitTold) → lo ≤ h.id → h.gone ≡ true
       → At hi (suc h.id) id es hs told → At hi lo id es (h ∷ hs) told
   past hi lo id h es hs told low gone a =
       let after : suc h.id ≤ id = a.low in
@@ -83,7 +83,7 @@ module _ (own : Callsign) (ttl : ℕ) where
         leave = λ w g. (low, inl (record { gone = gone; others = a.leave w g }));
       }
 
-  here : (hi lo id : ℕ) (h : sets.Holder) (hs : List sets.Holder) (k : Holder) (rest : List (ℕ × Holder)) (mine theirs : List Told) → lo ≤ h.id → nat_eq id h.id ≡ true
+  here : (hi lo id : ℕ) (h : sets.Holder) (hs : List sets.Holder) (k : Holder) (rest : List (ℕ × Holder)) (mine theirs : List CircuitTold) → lo ≤ h.id → nat_eq id h.id ≡ true
       → Keeps own ttl h.id k h mine → Tail hi (suc h.id) hs rest theirs → At hi lo id ((h.id, k) ∷ rest) (h ∷ hs) (mine ++ theirs)
   here hi lo id h hs k rest mine theirs low same keep others =
       let number : h.id ≡ id = grind (arith, nat_tests) in
@@ -118,10 +118,10 @@ module _ (own : Callsign) (ttl : ℕ) where
             simp same both;
       }
 
-  regroup : (x b m t : List Told) → x ++ ((b ++ m) ++ t) ≡ ((x ++ b) ++ m) ++ t
+  regroup : (x b m t : List CircuitTold) → x ++ ((b ++ m) ++ t) ≡ ((x ++ b) ++ m) ++ t
   regroup x b m t = ap (λ ys. x ++ ys) (append_assoc b m t) ∙ sym (append_assoc x b (m ++ t)) ∙ sym (append_assoc (x ++ b) m t)
 
-  there : (hi lo id : ℕ) (h : sets.Holder) (hs : List sets.Holder) (k : Holder) (rest : List (ℕ × Holder)) (mine theirs : List Told) → lo ≤ h.id → nat_eq id h.id ≡ false
+  there : (hi lo id : ℕ) (h : sets.Holder) (hs : List sets.Holder) (k : Holder) (rest : List (ℕ × Holder)) (mine theirs : List CircuitTold) → lo ≤ h.id → nat_eq id h.id ≡ false
       → Keeps own ttl h.id k h mine → At hi (suc h.id) id rest hs theirs → At hi lo id ((h.id, k) ∷ rest) (h ∷ hs) (mine ++ theirs)
   there hi lo id h hs k rest mine theirs low other keep a =
       let after : suc h.id ≤ id = a.low in
@@ -156,45 +156,45 @@ module _ (own : Callsign) (ttl : ℕ) where
       }
 
   abbrev Finds : ℕ → ℕ → ℕ → Holder → List sets.Holder → Type 0
-  Finds hi lo id k hs = (es : List (ℕ × Holder)) (told : List Told) → Held own ttl hi lo es hs told → lookup (nat_eq id) es ≡ Some k → At hi lo id es hs told
+  Finds hi lo id k hs = (es : List (ℕ × Holder)) (told : List CircuitTold) → EachStands own ttl hi lo es hs told → lookup (nat_eq id) es ≡ Some k → At hi lo id es hs told
 
-  at_key : (hi lo id : ℕ) (h : sets.Holder) (es : List (ℕ × Holder)) (hs : List sets.Holder) (told : List Told) (k : Holder) → lo ≤ h.id
-      → (p : Here own ttl (λ rest theirs. Held own ttl hi (suc h.id) rest hs theirs) h es told) (b : Bool) → nat_eq id h.id ≡ b → cond b (Some p.k) (lookup (nat_eq id) p.rest) ≡ Some k
+  at_key : (hi lo id : ℕ) (h : sets.Holder) (es : List (ℕ × Holder)) (hs : List sets.Holder) (told : List CircuitTold) (k : Holder) → lo ≤ h.id
+      → (p : Here own ttl (λ rest theirs. EachStands own ttl hi (suc h.id) rest hs theirs) h es told) (b : Bool) → nat_eq id h.id ≡ b → cond b (Some p.k) (lookup (nat_eq id) p.rest) ≡ Some k
       → Finds hi (suc h.id) id k hs → At hi lo id ((h.id, p.k) ∷ p.rest) (h ∷ hs) (p.mine ++ p.theirs)
   at_key hi lo id h es hs told k low p true e f later = here hi lo id h hs p.k p.rest p.mine p.theirs low e p.keeps p.others
   at_key hi lo id h es hs told k low p false e f later = there hi lo id h hs p.k p.rest p.mine p.theirs low e p.keeps (later p.rest p.theirs p.others f)
 
-  at_case : (hi lo id : ℕ) (h : sets.Holder) (es : List (ℕ × Holder)) (hs : List sets.Holder) (told : List Told) (k : Holder) → lo ≤ h.id
-      → (Past (λ rest theirs. Held own ttl hi (suc h.id) rest hs theirs) h es told ⊎ Here own ttl (λ rest theirs. Held own ttl hi (suc h.id) rest hs theirs) h es told)
+  at_case : (hi lo id : ℕ) (h : sets.Holder) (es : List (ℕ × Holder)) (hs : List sets.Holder) (told : List CircuitTold) (k : Holder) → lo ≤ h.id
+      → (Past (λ rest theirs. EachStands own ttl hi (suc h.id) rest hs theirs) h es told ⊎ Here own ttl (λ rest theirs. EachStands own ttl hi (suc h.id) rest hs theirs) h es told)
       → lookup (nat_eq id) es ≡ Some k → Finds hi (suc h.id) id k hs → At hi lo id es (h ∷ hs) told
   at_case hi lo id h es hs told k low (inl p) found later = past hi lo id h es hs told low p.gone (later es told p.others found)
   at_case hi lo id h es hs told k low (inr p) found later =
       let f : lookup (nat_eq id) ((h.id, p.k) ∷ p.rest) ≡ Some k = subst (λ xs. lookup (nat_eq id) xs ≡ Some k) p.is found in
       subst (λ xs. At hi lo id xs (h ∷ hs) told) (sym p.is) (subst (λ ts. At hi lo id ((h.id, p.k) ∷ p.rest) (h ∷ hs) ts) (sym p.both) (at_key hi lo id h es hs told k low p (nat_eq id h.id) refl f later))
 
-  pub at : (hi lo id : ℕ) (es : List (ℕ × Holder)) (hs : List sets.Holder) (told : List Told) (k : Holder) → Held own ttl hi lo es hs told → lookup (nat_eq id) es ≡ Some k → At hi lo id es hs told
+  pub at : (hi lo id : ℕ) (es : List (ℕ × Holder)) (hs : List sets.Holder) (told : List CircuitTold) (k : Holder) → EachStands own ttl hi lo es hs told → lookup (nat_eq id) es ≡ Some k → At hi lo id es hs told
   at hi lo id es [] told k s found = absent hi lo id es told k s.0 found
   at hi lo id es (h ∷ hs) told k s found = at_case hi lo id h es hs told k s.0 s.1 found (λ es2 told2 x f. at hi (suc h.id) id es2 hs told2 k x f)
 
   -- the first end that has something to tell: nothing stands before what it tells
-  pub record Loudest (hi lo id : ℕ) (es : List (ℕ × Holder)) (hs : List sets.Holder) (told : List Told) : Type 0 where
+  pub record Loudest (hi lo id : ℕ) (es : List (ℕ × Holder)) (hs : List sets.Holder) (told : List CircuitTold) : Type 0 where
     pub place : At hi lo id es hs told
     pub first : place.before ≡ []
     pub some : is_empty place.mine ≡ false
 
   abbrev Rings : ℕ → ℕ → ℕ → List sets.Holder → Type 0
-  Rings hi lo id hs = (es : List (ℕ × Holder)) (told : List Told) → Held own ttl hi lo es hs told → FirstLoud (Some id) es → Loudest hi lo id es hs told
+  Rings hi lo id hs = (es : List (ℕ × Holder)) (told : List CircuitTold) → EachStands own ttl hi lo es hs told → FirstLoud (Some id) es → Loudest hi lo id es hs told
 
-  loud_past : (hi lo id : ℕ) (h : sets.Holder) (es : List (ℕ × Holder)) (hs : List sets.Holder) (told : List Told) → lo ≤ h.id → h.gone ≡ true
+  loud_past : (hi lo id : ℕ) (h : sets.Holder) (es : List (ℕ × Holder)) (hs : List sets.Holder) (told : List CircuitTold) → lo ≤ h.id → h.gone ≡ true
       → Loudest hi (suc h.id) id es hs told → Loudest hi lo id es (h ∷ hs) told
   unfolding past
   loud_past hi lo id h es hs told low gone l = record { place = past hi lo id h es hs told low gone l.place; first = l.first; some = l.some }
 
-  empty_list : (ts : List Told) → true ≡ is_empty ts → ts ≡ []
+  empty_list : (ts : List CircuitTold) → true ≡ is_empty ts → ts ≡ []
   empty_list [] e = refl
   empty_list (t ∷ ts) e = absurd (cc e)
 
-  loud_here : (hi lo id : ℕ) (h : sets.Holder) (hs : List sets.Holder) (k : Holder) (rest : List (ℕ × Holder)) (mine theirs : List Told) → lo ≤ h.id
+  loud_here : (hi lo id : ℕ) (h : sets.Holder) (hs : List sets.Holder) (k : Holder) (rest : List (ℕ × Holder)) (mine theirs : List CircuitTold) → lo ≤ h.id
       → Keeps own ttl h.id k h mine → Tail hi (suc h.id) hs rest theirs → ((Some id ≡ Some h.id) × IsSilent k false) ⊎ (IsSilent k true × FirstLoud (Some id) rest)
       → Rings hi (suc h.id) id hs → Loudest hi lo id ((h.id, k) ∷ rest) (h ∷ hs) (mine ++ theirs)
   unfolding here there
@@ -209,8 +209,8 @@ module _ (own : Callsign) (ttl : ℕ) where
       let none : mine ≡ [] = empty_list mine (l.0 own ttl h.id h mine keep) in
       record { place = there hi lo id h hs k rest mine theirs low other keep next.place; first = ap (λ ms. ms ++ next.place.before) none ∙ next.first; some = next.some }
 
-  loud_case : (hi lo id : ℕ) (h : sets.Holder) (es : List (ℕ × Holder)) (hs : List sets.Holder) (told : List Told) → lo ≤ h.id
-      → (Past (λ rest theirs. Held own ttl hi (suc h.id) rest hs theirs) h es told ⊎ Here own ttl (λ rest theirs. Held own ttl hi (suc h.id) rest hs theirs) h es told)
+  loud_case : (hi lo id : ℕ) (h : sets.Holder) (es : List (ℕ × Holder)) (hs : List sets.Holder) (told : List CircuitTold) → lo ≤ h.id
+      → (Past (λ rest theirs. EachStands own ttl hi (suc h.id) rest hs theirs) h es told ⊎ Here own ttl (λ rest theirs. EachStands own ttl hi (suc h.id) rest hs theirs) h es told)
       → FirstLoud (Some id) es → Rings hi (suc h.id) id hs → Loudest hi lo id es (h ∷ hs) told
   loud_case hi lo id h es hs told low (inl p) f later = loud_past hi lo id h es hs told low p.gone (later es told p.others f)
   loud_case hi lo id h es hs told low (inr p) f later =
@@ -218,30 +218,30 @@ module _ (own : Callsign) (ttl : ℕ) where
       subst (λ xs. Loudest hi lo id xs (h ∷ hs) told) (sym p.is) (subst (λ ts. Loudest hi lo id ((h.id, p.k) ∷ p.rest) (h ∷ hs) ts) (sym p.both)
       (loud_here hi lo id h hs p.k p.rest p.mine p.theirs low p.keeps p.others g later))
 
-  pub loudest : (hi lo id : ℕ) (es : List (ℕ × Holder)) (hs : List sets.Holder) (told : List Told) → Held own ttl hi lo es hs told → FirstLoud (Some id) es → Loudest hi lo id es hs told
+  pub loudest : (hi lo id : ℕ) (es : List (ℕ × Holder)) (hs : List sets.Holder) (told : List CircuitTold) → EachStands own ttl hi lo es hs told → FirstLoud (Some id) es → Loudest hi lo id es hs told
   loudest hi lo id es [] told s f = absurd (none_in (sym (subst (FirstLoud (Some id)) s.0 f)))
   loudest hi lo id es (h ∷ hs) told s f = loud_case hi lo id h es hs told s.0 s.1 f (λ es2 told2 x g. loudest hi (suc h.id) id es2 hs told2 x g)
 
   abbrev Hushes : ℕ → ℕ → List sets.Holder → Type 0
-  Hushes hi lo hs = (es : List (ℕ × Holder)) (told : List Told) → Held own ttl hi lo es hs told → FirstLoud None es → told ≡ []
+  Hushes hi lo hs = (es : List (ℕ × Holder)) (told : List CircuitTold) → EachStands own ttl hi lo es hs told → FirstLoud None es → told ≡ []
 
-  hush_here : (hi : ℕ) (h : sets.Holder) (hs : List sets.Holder) (k : Holder) (rest : List (ℕ × Holder)) (mine theirs : List Told) → Keeps own ttl h.id k h mine → Tail hi (suc h.id) hs rest theirs
+  hush_here : (hi : ℕ) (h : sets.Holder) (hs : List sets.Holder) (k : Holder) (rest : List (ℕ × Holder)) (mine theirs : List CircuitTold) → Keeps own ttl h.id k h mine → Tail hi (suc h.id) hs rest theirs
       → ((None ≡ Some h.id) × IsSilent k false) ⊎ (IsSilent k true × FirstLoud None rest) → Hushes hi (suc h.id) hs → mine ++ theirs ≡ []
   hush_here hi h hs k rest mine theirs keep others (inl l) later = absurd (none_in l.0)
   hush_here hi h hs k rest mine theirs keep others (inr l) later = rw (empty_list mine (l.0 own ttl h.id h mine keep), later rest theirs others l.1) refl
 
-  hush_case : (hi : ℕ) (h : sets.Holder) (es : List (ℕ × Holder)) (hs : List sets.Holder) (told : List Told)
-      → (Past (λ rest theirs. Held own ttl hi (suc h.id) rest hs theirs) h es told ⊎ Here own ttl (λ rest theirs. Held own ttl hi (suc h.id) rest hs theirs) h es told)
+  hush_case : (hi : ℕ) (h : sets.Holder) (es : List (ℕ × Holder)) (hs : List sets.Holder) (told : List CircuitTold)
+      → (Past (λ rest theirs. EachStands own ttl hi (suc h.id) rest hs theirs) h es told ⊎ Here own ttl (λ rest theirs. EachStands own ttl hi (suc h.id) rest hs theirs) h es told)
       → FirstLoud None es → Hushes hi (suc h.id) hs → told ≡ []
   hush_case hi h es hs told (inl p) f later = later es told p.others f
   hush_case hi h es hs told (inr p) f later = p.both ∙ hush_here hi h hs p.k p.rest p.mine p.theirs p.keeps p.others (subst (FirstLoud None) p.is f) later
 
-  pub hushed : (hi lo : ℕ) (es : List (ℕ × Holder)) (hs : List sets.Holder) (told : List Told) → Held own ttl hi lo es hs told → FirstLoud None es → told ≡ []
+  pub hushed : (hi lo : ℕ) (es : List (ℕ × Holder)) (hs : List sets.Holder) (told : List CircuitTold) → EachStands own ttl hi lo es hs told → FirstLoud None es → told ≡ []
   hushed hi lo es [] told s f = s.1
   hushed hi lo es (h ∷ hs) told s f = hush_case hi h es hs told s.1 f (λ es2 told2 x g. hushed hi (suc h.id) es2 hs told2 x g)
 
   abbrev Misses : ℕ → ℕ → ℕ → List sets.Holder → Type 0
-  Misses hi lo id hs = (es : List (ℕ × Holder)) (told : List Told) → Held own ttl hi lo es hs told → lookup (nat_eq id) es ≡ None → (x : sets.Holder) → end_of id hs ≡ Some x → x.gone ≡ true
+  Misses hi lo id hs = (es : List (ℕ × Holder)) (told : List CircuitTold) → EachStands own ttl hi lo es hs told → lookup (nat_eq id) es ≡ None → (x : sets.Holder) → end_of id hs ≡ Some x → x.gone ≡ true
 
   miss_key : (id : ℕ) (h : sets.Holder) (k : Holder) (rest : List (ℕ × Holder)) (hs : List sets.Holder) (b : Bool) → nat_eq id h.id ≡ b → cond b (Some k) (lookup (nat_eq id) rest) ≡ None
       → (x : sets.Holder) → end_of id (h ∷ hs) ≡ Some x → (lookup (nat_eq id) rest ≡ None → end_of id hs ≡ Some x → x.gone ≡ true) → x.gone ≡ true
@@ -252,8 +252,8 @@ module _ (own : Callsign) (ttl : ℕ) where
   miss_past id h hs true gone x is later = let same : h ≡ x = cc is in subst (λ (y : sets.Holder). y.gone ≡ true) same gone
   miss_past id h hs false gone x is later = later is
 
-  miss_case : (hi lo id : ℕ) (h : sets.Holder) (es : List (ℕ × Holder)) (hs : List sets.Holder) (told : List Told)
-      → (Past (λ rest theirs. Held own ttl hi (suc h.id) rest hs theirs) h es told ⊎ Here own ttl (λ rest theirs. Held own ttl hi (suc h.id) rest hs theirs) h es told)
+  miss_case : (hi lo id : ℕ) (h : sets.Holder) (es : List (ℕ × Holder)) (hs : List sets.Holder) (told : List CircuitTold)
+      → (Past (λ rest theirs. EachStands own ttl hi (suc h.id) rest hs theirs) h es told ⊎ Here own ttl (λ rest theirs. EachStands own ttl hi (suc h.id) rest hs theirs) h es told)
       → lookup (nat_eq id) es ≡ None → (x : sets.Holder) → end_of id (h ∷ hs) ≡ Some x → Misses hi (suc h.id) id hs → x.gone ≡ true
   miss_case hi lo id h es hs told (inl p) none x is later = miss_past id h hs (nat_eq h.id id) p.gone x is (λ f. later es told p.others none x f)
   miss_case hi lo id h es hs told (inr p) none x is later =
@@ -261,7 +261,7 @@ module _ (own : Callsign) (ttl : ℕ) where
       miss_key id h p.k p.rest hs (nat_eq id h.id) refl f x is (λ n e. later p.rest p.theirs p.others n x e)
 
   -- an end whose number is held by none is gone, if there ever was one
-  pub missing : (hi lo id : ℕ) (es : List (ℕ × Holder)) (hs : List sets.Holder) (told : List Told) → Held own ttl hi lo es hs told → lookup (nat_eq id) es ≡ None
+  pub missing : (hi lo id : ℕ) (es : List (ℕ × Holder)) (hs : List sets.Holder) (told : List CircuitTold) → EachStands own ttl hi lo es hs told → lookup (nat_eq id) es ≡ None
       → (x : sets.Holder) → end_of id hs ≡ Some x → x.gone ≡ true
   missing hi lo id es [] told s none x is = absurd (none_in is)
   missing hi lo id es (h ∷ hs) told s none x is = miss_case hi lo id h es hs told s.1 none x is (λ es2 told2 y n z e. missing hi (suc h.id) id es2 hs told2 y n z e)

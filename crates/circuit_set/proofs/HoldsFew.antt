@@ -6,7 +6,7 @@ use Rattle.circuit_l4.specs.declared.transport.Pair.{Pair}
 use Rattle.circuit_set.specs.Givings.{GivenBy, IsUp, after_changes, giving}
 use Rattle.circuit_set.specs.Inputs.{runs}
 use Rattle.circuit_set.specs.Kept.{HoldsFew}
-use Rattle.circuit_set.specs.Pairs.{Change, Gives, Giving, Goes, after_giving, pair_given, is_full, without}
+use Rattle.circuit_set.specs.Pairs.{Change, EndMade, Giving, EndGone, after_giving, pair_given, is_full, without}
 use Rattle.circuit_set.specs.Sets.{Act, Calls, Comes, Connect, Discard, Restart, Holder, SetState, all_gone, held_pairs, set_step}
 use Rattle.circuit_set.proofs.Given.{Numbers, runs_given, start_numbers, step_numbers}
 
@@ -26,8 +26,8 @@ gives_few false cs g e few later =
 
 after_few : (cs : List Change) → Later cs
 after_few [] g few = few
-after_few (Gives ∷ cs) g few = gives_few (is_full g) cs g refl few (after_few cs)
-after_few (Goes nth ∷ cs) g few = after_few cs (record { next = g.next; held = without nth g.held }) (omega (arith, without_few nth g.held, few))
+after_few (EndMade ∷ cs) g few = gives_few (is_full g) cs g refl few (after_few cs)
+after_few (EndGone nth ∷ cs) g few = after_few cs (record { next = g.next; held = without nth g.held }) (omega (arith, without_few nth g.held, few))
 
 none_held : (hs : List Holder) → held_pairs (all_gone hs) ≡ []
 none_held [] = refl

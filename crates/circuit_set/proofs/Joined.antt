@@ -9,7 +9,7 @@ use Rattle.circuit_l4.specs.declared.transport.Pair.{Pair}
 use Rattle.circuit_l4.specs.Transports.{pair_at}
 use Rattle.circuit_set.specs.Books.{Book, Fresh, FreshTold, HasRequester, MadeNote, asked_by, empty, first_name, has_sent, if_asked, is_unknown, made_last, with_event, partner_in, requester, was_asked}
 use Rattle.circuit_set.specs.Events.{Event, Name, same_name}
-use Rattle.circuit_set.specs.Sets.{Told, Made, Sent, Heeded, Notice, Gone, Restarted, Lost}
+use Rattle.circuit_set.specs.Sets.{CircuitTold, Made, Sent, Heeded, Notice, Gone, Restarted, Lost}
 use Rattle.circuit_set.specs.TooLate.{Asks, HasPartner, Joins, Makes, Opens}
 use Rattle.circuit_set.proofs.Bridge.{name_itself, same_names}
 use Rattle.circuit_set.proofs.Lookups.{same_asked, same_partner}
@@ -157,7 +157,7 @@ module _ (es : List Event) (fresh : Fresh empty es) (x : Name) where
   pub joined : (e : Event) → FreshTold (book es) (lost_by [] es) e.node e.told → Joined e
   joined e told = by e.told told
     where
-      by : (t : Told) → FreshTold (book es) (lost_by [] es) e.node t → Joined (record { node = e.node; own = e.own; told = t })
+      by : (t : CircuitTold) → FreshTold (book es) (lost_by [] es) e.node t → Joined (record { node = e.node; own = e.own; told = t })
       by (Made id pair at request) f = made_case e.node e.own id pair at request f.0
       by (Sent id number sent) f = inr ((λ y j. elim j [ inl p ↦ absurd (cc (p.1.2.1)) | inr p ↦ absurd (cc (p.1.2.1)) ]), refl)
       by (Heeded id k) f = inr ((λ y j. elim j [ inl p ↦ absurd (cc (p.1.2.1)) | inr p ↦ absurd (cc (p.1.2.1)) ]), refl)
@@ -225,7 +225,7 @@ module _ (es : List Event) (fresh : Fresh empty es) (x : Name) where
   pub asked : (e : Event) → FreshTold (book es) (lost_by [] es) e.node e.told → Asked e
   asked e told = by e.told told
     where
-      by : (t : Told) → FreshTold (book es) (lost_by [] es) e.node t → Asked (record { node = e.node; own = e.own; told = t })
+      by : (t : CircuitTold) → FreshTold (book es) (lost_by [] es) e.node t → Asked (record { node = e.node; own = e.own; told = t })
       by (Made id pair at request) f = was_made e.node e.own id pair at request f.0
       by (Sent id number sent) f = inr ((λ p. absurd (cc (p.1.1.2.1))), refl)
       by (Heeded id k) f = inr ((λ p. absurd (cc (p.1.1.2.1))), refl)

@@ -10,8 +10,8 @@ use Rattle.circuit_set.specs.Pumps.{at_rest}
 use Rattle.circuit_set.specs.declared.event.SetEvent.{SetEvent}
 use Rattle.circuit_set.specs.declared.held_ends.HeldEnds.{HeldEnds}
 use Rattle.circuit_set.specs.Sets as sets
-use Rattle.circuit_set.specs.Sets.{SetState, Told}
-use Rattle.circuit_set.specs.Standing.{Held, HeldStands}
+use Rattle.circuit_set.specs.Sets.{SetState, CircuitTold}
+use Rattle.circuit_set.specs.Standing.{EachStands, HeldStands}
 use Rattle.circuit_set.specs.declared.holder.Holder.{Holder}
 use Rattle.circuit_set.proofs.Holding.{stood}
 
@@ -21,7 +21,7 @@ InShare es = ends_kept es ≤ 90347 * length es + 236 * windows es
 abbrev AreSmall : List (ℕ × Holder) → Type 0
 AreSmall es = windows es ≤ 127 * length es
 
-all : (own : Callsign) (ttl hi lo : ℕ) (es : List (ℕ × Holder)) (hs : List sets.Holder) (told : List Told) → Held own ttl hi lo es hs told → InShare es × AreSmall es
+all : (own : Callsign) (ttl hi lo : ℕ) (es : List (ℕ × Holder)) (hs : List sets.Holder) (told : List CircuitTold) → EachStands own ttl hi lo es hs told → InShare es × AreSmall es
 all own ttl hi lo es [] told p = subst (λ (xs : List (ℕ × Holder)). InShare xs × AreSmall xs) (sym p.0) (omega arith, omega arith)
 all own ttl hi lo es (h ∷ hs) told (low, inl past) = all own ttl hi (suc h.id) es hs told past.others
 all own ttl hi lo es (h ∷ hs) told (low, inr here) =

@@ -12,11 +12,11 @@ use Rattle.circuit_l4.specs.Standing.{StandsFor}
 use Rattle.circuit_set.specs.declared.holder.Holder.{Holder}
 use Rattle.circuit_set.specs.declared.held_ends.HeldEnds.{HeldEnds}
 use Rattle.circuit_set.specs.Sets as sets
-use Rattle.circuit_set.specs.Sets.{SetState, Told, end_of}
+use Rattle.circuit_set.specs.Sets.{SetState, CircuitTold, end_of}
 use Rattle.circuit_set.specs.Pumps.{Waiting, at_rest}
 use Rattle.circuit_set.specs.Inputs.{after_ticks, ticks, ticks_of}
-use Rattle.circuit_set.specs.Standing.{Held, HeldStands, Rests, SameNode}
-use Rattle.circuit_set.specs.CircuitSets.{Circuits, Goes, IsDrained, IsUnchanged, LentStands, SetStands, facts_at, held_by, held_ids, partner_at, requested_at}
+use Rattle.circuit_set.specs.Standing.{EachStands, HeldStands, Rests, SameNode}
+use Rattle.circuit_set.specs.CircuitSets.{Circuits, SetGoes, IsDrained, IsUnchanged, LentStands, SetStands, facts_at, held_by, held_ids, partner_at, requested_at}
 use Rattle.circuit_set.proofs.Shown.{FoundAt, Shown, find, ids, keys, miss, shown}
 use Rattle.circuit_set.proofs.Owning.{SameOwn, runs_own}
 
@@ -128,7 +128,7 @@ unchanged old h same e = record {
       config = st.ends.config ∙ sym same.config;
       next = st.ends.next ∙ sym same.next;
       number = st.ends.number ∙ sym same.number;
-      ends = subst (λ es. Held w.set.own w.set.ttl w.set.number 0 es w.set.ends w.untold) (sym e) st.ends.ends;
+      ends = subst (λ es. EachStands w.set.own w.set.ttl w.set.number 0 es w.set.ends w.untold) (sym e) st.ends.ends;
     };
     own = st.own;
     ttl = st.ttl;
@@ -144,7 +144,7 @@ unchanged_on old h (Err x) same e = unchanged old h same e
 
 -- ---- a tick ----
 pub ticks_goes : {C : Type 0} (old : Circuits C) (h : HeldEnds) (now : ℕ) → ((s : SetState) → HeldStands old.held s [] → HeldStands h (after_ticks now s).set (after_ticks now s).told)
-    → Goes old (record old { held = h }) (λ s. ticks now (at_rest s))
+    → SetGoes old (record old { held = h }) (λ s. ticks now (at_rest s))
 ticks_goes old h now goes = record {
   stands = λ s st.
       let same : SameOwn s (after_ticks now s).set = runs_own (ticks_of now s.ends) s in

@@ -18,7 +18,7 @@ use Rattle.l3_datagram.specs.Datagrams.{head_at}
 use Rattle.l3_datagram.specs.Hops.{Way, Ends, ToNeighbour, forwarded_by, way}
 use Rattle.l3_datagram.specs.Routers.{SameRouter, waiting_left}
 use Rattle.circuit_set.specs.declared.event.SetEvent.{SetEvent}
-use Rattle.circuit_set.specs.Sets.{SetState, Told, Made, Sent, Heeded, Notice, Gone, Restarted, Lost}
+use Rattle.circuit_set.specs.Sets.{SetState, CircuitTold, Made, Sent, Heeded, Notice, Gone, Restarted, Lost}
 use Rattle.circuit_set.specs.Pumps.{Pumped, Turn, Turned, Waiting, after_calls, asks, at_rest, ends_with, heard_as, hears, hears_by, is_drained, outcome, sent_by_head, sent_to, takes, takes_all, tells, tells_first, turn_step}
 use Rattle.circuit_set.specs.Standing.{Rests}
 use Rattle.circuit_set.specs.CircuitSets.{Circuits, DoesPump, SetStands, untold_by}
@@ -29,15 +29,15 @@ module _ (nh : Callsign → Option Callsign) where
   abbrev Speaks : Turn → Offered → Type 0
   Speaks t answer = (outcome t answer).told ≡ None → ⊥
 
-  sent_speaks : (s : SetState) (t : Told) (d : List ℕ) (rest : List Told) (o : Option Callsign) (answer : Offered) → Speaks (sent_to nh s t d rest o) answer
+  sent_speaks : (s : SetState) (t : CircuitTold) (d : List ℕ) (rest : List CircuitTold) (o : Option Callsign) (answer : Offered) → Speaks (sent_to nh s t d rest o) answer
   sent_speaks s t d rest None answer = λ e. cc e
   sent_speaks s t d rest (Some hop) answer = λ e. cc e
 
-  head_speaks : (s : SetState) (t : Told) (d : List ℕ) (rest : List Told) (r : Result DatagramHead DatagramRefusal) (answer : Offered) → Speaks (sent_by_head nh s t d rest r) answer
+  head_speaks : (s : SetState) (t : CircuitTold) (d : List ℕ) (rest : List CircuitTold) (r : Result DatagramHead DatagramRefusal) (answer : Offered) → Speaks (sent_by_head nh s t d rest r) answer
   head_speaks s t d rest (Err e) answer = sent_speaks s t d rest None answer
   head_speaks s t d rest (Ok head) answer = sent_speaks s t d rest (nh head.dest) answer
 
-  first_speaks : (s : SetState) (t : Told) (rest : List Told) (answer : Offered) → Speaks (tells_first nh s t rest) answer
+  first_speaks : (s : SetState) (t : CircuitTold) (rest : List CircuitTold) (answer : Offered) → Speaks (tells_first nh s t rest) answer
   first_speaks s (Sent id number d) rest answer = head_speaks s (Sent id number d) d rest (head_at d) answer
   first_speaks s (Made id pair partner request) rest answer = λ e. cc e
   first_speaks s (Heeded id d) rest answer = λ e. cc e
@@ -46,7 +46,7 @@ module _ (nh : Callsign → Option Callsign) where
   first_speaks s (Restarted pair) rest answer = λ e. cc e
   first_speaks s (Lost id facts) rest answer = λ e. cc e
 
-  turn_speaks : (s : SetState) (ts : List Told) (o : Option Routed) (answer : Offered) → is_drained (record { set = s; untold = ts; lost = o }) ≡ false → Speaks (tells nh (record { set = s; untold = ts; lost = o })) answer
+  turn_speaks : (s : SetState) (ts : List CircuitTold) (o : Option Routed) (answer : Offered) → is_drained (record { set = s; untold = ts; lost = o }) ≡ false → Speaks (tells nh (record { set = s; untold = ts; lost = o })) answer
   turn_speaks s ts (Some r) answer e = λ f. cc f
   turn_speaks s [] None answer e = absurd (cc e)
   turn_speaks s (t ∷ ts) None answer e = first_speaks s t ts answer
@@ -56,7 +56,7 @@ module _ (nh : Callsign → Option Callsign) where
     pub after : q.after ≡ at_rest q.after.set
     pub items : q.items ≡ []
 
-  drained_is : (s : SetState) (ts : List Told) (o : Option Routed) → is_drained (record { set = s; untold = ts; lost = o }) ≡ true → record { set = s; untold = ts; lost = o } ≡ at_rest s
+  drained_is : (s : SetState) (ts : List CircuitTold) (o : Option Routed) → is_drained (record { set = s; untold = ts; lost = o }) ≡ true → record { set = s; untold = ts; lost = o } ≡ at_rest s
   drained_is s ts (Some r) e = absurd (cc e)
   drained_is s [] None e = refl
   drained_is s (t ∷ ts) None e = absurd (cc e)

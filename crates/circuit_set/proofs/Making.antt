@@ -15,12 +15,12 @@ use Rattle.circuit_set.specs.Pairs.{pair_after, next_free}
 use Rattle.circuit_set.specs.Sets as sets
 use Rattle.circuit_set.specs.declared.event.SetEvent.TheVariants as event
 use Rattle.circuit_set.specs.declared.holder.Untold.TheVariants as untold
-use Rattle.circuit_set.specs.Sets.{SetState, Told, end_of, with_end, held_pairs, is_over, notices, told_by}
+use Rattle.circuit_set.specs.Sets.{SetState, CircuitTold, end_of, with_end, held_pairs, is_over, notices, told_by}
 use Rattle.arrayvec.specs.ArrayVec.{ArrayVec}
 use Rattle.circuit_l4.specs.Opening.{facts_of, requesting, responding}
 use Rattle.circuit_l4.specs.declared.config.EndConfig.{EndConfig}
 use Rattle.indexmap.proofs.CallerLemmas.{insert_entry-new}
-use Rattle.circuit_set.specs.Standing.{FirstFit, Gives, Held, HeldStands, Here, Holds, Keeps, MetBy, capped_count, Past, if_so, of_holder, pairs_of, sents_by}
+use Rattle.circuit_set.specs.Standing.{FirstFit, Gives, EachStands, HeldStands, Here, Holds, Keeps, MetBy, capped_count, Past, if_so, of_holder, pairs_of, sendings_by}
 use Rattle.circuit_l4.specs.declared.transport.Transport.TheVariants.{Accept, Refuse}
 use Rattle.circuit_set.proofs.Holding.{At, at, some_is, stood}
 use Rattle.circuit_set.proofs.Searching.{Fitting, fitting, unfitting}
@@ -41,19 +41,19 @@ module _ (own : Callsign) (ttl : ℕ) where
   pairs_past h hs ps g e = simp (g, e) refl
 
   abbrev Pairs : ℕ → ℕ → List sets.Holder → Type 0
-  Pairs hi lo hs = (es : List (ℕ × Holder)) → Held own ttl hi lo es hs [] → held_pairs hs ≡ pairs_of es
+  Pairs hi lo hs = (es : List (ℕ × Holder)) → EachStands own ttl hi lo es hs [] → held_pairs hs ≡ pairs_of es
 
   pairs_case : (hi : ℕ) (h : sets.Holder) (es : List (ℕ × Holder)) (hs : List sets.Holder)
-      → (Past (λ rest theirs. Held own ttl hi (suc h.id) rest hs theirs) h es [] ⊎ Here own ttl (λ rest theirs. Held own ttl hi (suc h.id) rest hs theirs) h es [])
+      → (Past (λ rest theirs. EachStands own ttl hi (suc h.id) rest hs theirs) h es [] ⊎ Here own ttl (λ rest theirs. EachStands own ttl hi (suc h.id) rest hs theirs) h es [])
       → Pairs hi (suc h.id) hs → held_pairs (h ∷ hs) ≡ pairs_of es
   pairs_case hi h es hs (inl p) later = pairs_past h hs (pairs_of es) p.gone (later es p.others)
   pairs_case hi h es hs (inr p) later =
       let two = nothing p.mine p.theirs p.both in
       let keep : Keeps own ttl h.id p.k h [] = subst (λ ts. Keeps own ttl h.id p.k h ts) two.0 p.keeps in
-      let rest : held_pairs hs ≡ pairs_of p.rest = later p.rest (subst (λ ts. Held own ttl hi (suc h.id) p.rest hs ts) two.1 p.others) in
+      let rest : held_pairs hs ≡ pairs_of p.rest = later p.rest (subst (λ ts. EachStands own ttl hi (suc h.id) p.rest hs ts) two.1 p.others) in
       pairs_here h.id p.k h hs (pairs_of p.rest) keep rest ∙ ap pairs_of (sym p.is)
 
-  pub pairs_same : (hi lo : ℕ) (es : List (ℕ × Holder)) (hs : List sets.Holder) → Held own ttl hi lo es hs [] → held_pairs hs ≡ pairs_of es
+  pub pairs_same : (hi lo : ℕ) (es : List (ℕ × Holder)) (hs : List sets.Holder) → EachStands own ttl hi lo es hs [] → held_pairs hs ≡ pairs_of es
   pairs_same hi lo es [] s = ap pairs_of (sym s.0)
   pairs_same hi lo es (h ∷ hs) s = pairs_case hi h es hs s.1 (λ es2 x. pairs_same hi (suc h.id) es2 hs x)
 
@@ -96,10 +96,10 @@ module _ (own : Callsign) (ttl : ℕ) where
     pub fresh : lookup (nat_eq hi) es ≡ None
 
   abbrev Lows : ℕ → ℕ → List sets.Holder → Type 0
-  Lows hi lo hs = (es : List (ℕ × Holder)) (told : List Told) → Held own ttl hi lo es hs told → Below hi lo es
+  Lows hi lo hs = (es : List (ℕ × Holder)) (told : List CircuitTold) → EachStands own ttl hi lo es hs told → Below hi lo es
 
-  below_case : (hi lo : ℕ) (h : sets.Holder) (es : List (ℕ × Holder)) (hs : List sets.Holder) (told : List Told) → lo ≤ h.id
-      → (Past (λ rest theirs. Held own ttl hi (suc h.id) rest hs theirs) h es told ⊎ Here own ttl (λ rest theirs. Held own ttl hi (suc h.id) rest hs theirs) h es told)
+  below_case : (hi lo : ℕ) (h : sets.Holder) (es : List (ℕ × Holder)) (hs : List sets.Holder) (told : List CircuitTold) → lo ≤ h.id
+      → (Past (λ rest theirs. EachStands own ttl hi (suc h.id) rest hs theirs) h es told ⊎ Here own ttl (λ rest theirs. EachStands own ttl hi (suc h.id) rest hs theirs) h es told)
       → Lows hi (suc h.id) hs → Below hi lo es
   below_case hi lo h es hs told low (inl p) later =
       let b : Below hi (suc h.id) es = later es told p.others in
@@ -110,13 +110,13 @@ module _ (own : Callsign) (ttl : ℕ) where
       let most : suc h.id ≤ hi = b.most in
       record { most = omega arith; fresh = subst (λ (xs : List (ℕ × Holder)). lookup (nat_eq hi) xs ≡ None) (sym p.is) (fresh_here hi h p.k p.rest most b.fresh) }
 
-  pub below : (hi lo : ℕ) (es : List (ℕ × Holder)) (hs : List sets.Holder) (told : List Told) → Held own ttl hi lo es hs told → Below hi lo es
+  pub below : (hi lo : ℕ) (es : List (ℕ × Holder)) (hs : List sets.Holder) (told : List CircuitTold) → EachStands own ttl hi lo es hs told → Below hi lo es
   below hi lo es [] told s = record { most = s.2; fresh = ap (lookup (nat_eq hi)) s.0 }
   below hi lo es (h ∷ hs) told s = below_case hi lo h es hs told s.0 s.1 (λ es2 told2 x. below hi (suc h.id) es2 hs told2 x)
 
-  module _ (k : Holder) (n : sets.Holder) (mine : List Told) where
-    abbrev More : ℕ → ℕ → List (ℕ × Holder) → List sets.Holder → List Told → Type 0
-    More hi lo es hs told = Held own ttl (suc hi) lo (es ++ (hi, k) ∷ []) (hs ++ n ∷ []) (told ++ mine)
+  module _ (k : Holder) (n : sets.Holder) (mine : List CircuitTold) where
+    abbrev More : ℕ → ℕ → List (ℕ × Holder) → List sets.Holder → List CircuitTold → Type 0
+    More hi lo es hs told = EachStands own ttl (suc hi) lo (es ++ (hi, k) ∷ []) (hs ++ n ∷ []) (told ++ mine)
 
     more_end : (hi lo : ℕ) → n.id ≡ hi → Keeps own ttl hi k n mine → lo ≤ hi → More hi lo [] [] []
     more_end hi lo e keep low = (
@@ -124,9 +124,9 @@ module _ (own : Callsign) (ttl : ℕ) where
       inr (record { k = k; rest = []; mine = mine; theirs = []; is = ap (λ x. (x, k) ∷ []) (sym e); both = sym (append-nil mine); keeps = subst (λ x. Keeps own ttl x k n mine) (sym e) keep; others = (refl, refl, omega (arith, e)) }),
     )
 
-    more_case : (hi lo : ℕ) (h : sets.Holder) (es : List (ℕ × Holder)) (hs : List sets.Holder) (told : List Told) → lo ≤ h.id
-        → (Past (λ rest theirs. Held own ttl hi (suc h.id) rest hs theirs) h es told ⊎ Here own ttl (λ rest theirs. Held own ttl hi (suc h.id) rest hs theirs) h es told)
-        → ((rest : List (ℕ × Holder)) (theirs : List Told) → Held own ttl hi (suc h.id) rest hs theirs → More hi (suc h.id) rest hs theirs) → More hi lo es (h ∷ hs) told
+    more_case : (hi lo : ℕ) (h : sets.Holder) (es : List (ℕ × Holder)) (hs : List sets.Holder) (told : List CircuitTold) → lo ≤ h.id
+        → (Past (λ rest theirs. EachStands own ttl hi (suc h.id) rest hs theirs) h es told ⊎ Here own ttl (λ rest theirs. EachStands own ttl hi (suc h.id) rest hs theirs) h es told)
+        → ((rest : List (ℕ × Holder)) (theirs : List CircuitTold) → EachStands own ttl hi (suc h.id) rest hs theirs → More hi (suc h.id) rest hs theirs) → More hi lo es (h ∷ hs) told
     more_case hi lo h es hs told low (inl p) later = (low, inl (record { gone = p.gone; others = later es told p.others }))
     more_case hi lo h es hs told low (inr p) later = (
       low,
@@ -136,15 +136,15 @@ module _ (own : Callsign) (ttl : ℕ) where
         mine = p.mine;
         theirs = p.theirs ++ mine;
         is = ap (λ (xs : List (ℕ × Holder)). xs ++ (hi, k) ∷ []) p.is;
-        both = ap (λ (ts : List Told). ts ++ mine) p.both ∙ append_assoc p.mine p.theirs mine;
+        both = ap (λ (ts : List CircuitTold). ts ++ mine) p.both ∙ append_assoc p.mine p.theirs mine;
         keeps = p.keeps;
         others = later p.rest p.theirs p.others;
       }),
     )
 
-    pub more : (hi lo : ℕ) (es : List (ℕ × Holder)) (hs : List sets.Holder) (told : List Told) → n.id ≡ hi → Keeps own ttl hi k n mine → Held own ttl hi lo es hs told → More hi lo es hs told
+    pub more : (hi lo : ℕ) (es : List (ℕ × Holder)) (hs : List sets.Holder) (told : List CircuitTold) → n.id ≡ hi → Keeps own ttl hi k n mine → EachStands own ttl hi lo es hs told → More hi lo es hs told
     more hi lo es [] told e keep s =
-        subst (λ (xs : List (ℕ × Holder)). More hi lo xs [] told) (sym s.0) (subst (λ (ts : List Told). More hi lo [] [] ts) (sym s.1) (more_end hi lo e keep s.2))
+        subst (λ (xs : List (ℕ × Holder)). More hi lo xs [] told) (sym s.0) (subst (λ (ts : List CircuitTold). More hi lo [] [] ts) (sym s.1) (more_end hi lo e keep s.2))
     more hi lo es (h ∷ hs) told e keep s = more_case hi lo h es hs told s.0 s.1 (λ es2 told2 x. more hi (suc h.id) es2 hs told2 e keep x)
 
 plus_one : (n : ℕ) → suc n ≡ n + 1
@@ -156,10 +156,10 @@ module _ (c c2 : HeldEnds) (k : Holder) (x : Holds k c c2) (s : SetState) (st : 
   abbrev h : sets.Holder
   h = sets.holder_of s k.at k.asked g
 
-  abbrev pub untold_first : Bool → List Told
+  abbrev pub untold_first : Bool → List CircuitTold
   untold_first b = if_so b (sets.Made s.number k.pair k.at None) ++ told_by s h g
 
-  told_case : (b : Bool) → untold_first b ≡ if_so b (sets.Made s.number k.pair k.at None) ++ sents_by s.own s.ttl s.number k.at g.outs ++ notices s.number g.notes ++ if_so (is_over g.end) (sets.Gone s.number (facts_of g.end))
+  told_case : (b : Bool) → untold_first b ≡ if_so b (sets.Made s.number k.pair k.at None) ++ sendings_by s.own s.ttl s.number k.at g.outs ++ notices s.number g.notes ++ if_so (is_over g.end) (sets.Gone s.number (facts_of g.end))
   told_case true = simp (sents_is s s.number k.at g.outs, so_is (is_over g.end) (sets.Gone s.number (facts_of g.end))) refl
   told_case false = simp (sents_is s s.number k.at g.outs, so_is (is_over g.end) (sets.Gone s.number (facts_of g.end))) refl
 
@@ -171,7 +171,7 @@ module _ (c c2 : HeldEnds) (k : Holder) (x : Holds k c c2) (s : SetState) (st : 
     pair = named;
     taken = rw (untaken, nothing_taken) refl;
     met = met;
-    untold = told_case k.unannounced ∙ ap (λ b. if_so k.unannounced (sets.Made s.number k.pair k.at None) ++ sents_by s.own s.ttl s.number k.at g.outs ++ notices s.number g.notes ++ if_so b (sets.Gone s.number (facts_of g.end))) (sym (ap (λ d. d || is_over g.end) kept));
+    untold = told_case k.unannounced ∙ ap (λ b. if_so k.unannounced (sets.Made s.number k.pair k.at None) ++ sendings_by s.own s.ttl s.number k.at g.outs ++ notices s.number g.notes ++ if_so b (sets.Gone s.number (facts_of g.end))) (sym (ap (λ d. d || is_over g.end) kept));
   }
 
   entries : c2.ends.entries ≡ c.ends.entries ++ (s.number, k) ∷ []
@@ -188,10 +188,10 @@ module _ (c c2 : HeldEnds) (k : Holder) (x : Holds k c c2) (s : SetState) (st : 
     next = ap pair_after (sym pair) ∙ sym x.next;
     number = ap (λ n. n + 1) st.number ∙ sym x.number;
     ends =
-        let held : Held s.own s.ttl (suc s.number) 0 (c.ends.entries ++ (s.number, k) ∷ []) (s.ends ++ h ∷ []) (untold_first k.unannounced) =
+        let held : EachStands s.own s.ttl (suc s.number) 0 (c.ends.entries ++ (s.number, k) ∷ []) (s.ends ++ h ∷ []) (untold_first k.unannounced) =
         more s.own s.ttl k h (untold_first k.unannounced) s.number 0 c.ends.entries s.ends [] refl keeps st.ends in
-        subst (λ n. Held s.own s.ttl n 0 c2.ends.entries (s.ends ++ h ∷ []) (untold_first k.unannounced)) (plus_one s.number)
-        (subst (λ es. Held s.own s.ttl (suc s.number) 0 es (s.ends ++ h ∷ []) (untold_first k.unannounced)) (sym entries) held);
+        subst (λ n. EachStands s.own s.ttl n 0 c2.ends.entries (s.ends ++ h ∷ []) (untold_first k.unannounced)) (plus_one s.number)
+        (subst (λ es. EachStands s.own s.ttl (suc s.number) 0 es (s.ends ++ h ∷ []) (untold_first k.unannounced)) (sym entries) held);
   }
 
   -- its making is untold, too
@@ -276,9 +276,9 @@ again_case c id k found q w s g stands pair taken met quiet_k window h is st a s
     let keep2 : Keeps s.own s.ttl id k h2 [] = record { going = g; stands = stands; is = simp quiet_k.kept refl; pair = pair; taken = taken; met = met; untold = simp (quiet_k.announced, quiet_k.kept, quiet_k.stays, quiet_k.outs, quiet_k.notes) refl } in
     let put = a.put k h2 [] refl keep2 in
     let empty : a.before ++ [] ++ a.theirs ≡ [] = rw (none_before, none_after) refl in
-    let held : Held s.own s.ttl s.number 0 c.ends.entries (with_end h2 s.ends) [] =
-    subst (λ es. Held s.own s.ttl s.number 0 es (with_end h2 s.ends) []) (set_back id c.ends.entries k found)
-    (subst (λ ts. Held s.own s.ttl s.number 0 (set_value (nat_eq id) c.ends.entries k) (with_end h2 s.ends) ts) empty put) in
+    let held : EachStands s.own s.ttl s.number 0 c.ends.entries (with_end h2 s.ends) [] =
+    subst (λ es. EachStands s.own s.ttl s.number 0 es (with_end h2 s.ends) []) (set_back id c.ends.entries k found)
+    (subst (λ ts. EachStands s.own s.ttl s.number 0 (set_value (nat_eq id) c.ends.entries k) (with_end h2 s.ends) ts) empty put) in
     let to : g.end.to ≡ q = (subst (λ o. MetBy o g.end) (asked_is k.asked q (ap (λ (z : sets.Holder). sets.asked_with z.asked q) (sym is) ∙ asked)) met).1 in
     let told : told_by s y (sets.accept_again g.end) ≡ sets.Sent id None (sets.datagram_to s k.at (Accept g.end.to g.end.pair g.end.window)) ∷ [] = again_told s y quiet_k.stays in
     let same : Some (sets.Sent id None (sets.datagram_to s k.at (Accept q k.pair w))) ≡ Some (sets.Sent id None (sets.datagram_to s k.at (Accept g.end.to g.end.pair g.end.window))) =

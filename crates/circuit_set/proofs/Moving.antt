@@ -18,26 +18,26 @@ use Rattle.circuit_set.specs.declared.event.DiscardRefusal.TheVariants as discar
 use Rattle.circuit_set.specs.declared.holder.Holder.{Holder}
 use Rattle.circuit_set.specs.declared.held_ends.HeldEnds.{HeldEnds}
 use Rattle.circuit_set.specs.Sets as sets
-use Rattle.circuit_set.specs.Sets.{Call, Writes, Ticks, Closes, Takes, does_nothing, SetDone, SetState, Told, after_call, datagram_to, end_of, goes_to, input_of, is_over, notices, sendings, after_effect, told_by, with_end}
-use Rattle.circuit_set.specs.Standing.{Goes, SameNode, Held, HeldStands, Keeps, Rests, MetBy, capped_count, by_write, close_answer, discard_answer, message_at, take_answer, write_answer, if_so, of_holder, sents_by, untold_of}
+use Rattle.circuit_set.specs.Sets.{Call, Writes, Ticks, Closes, Takes, does_nothing, SetDone, SetState, CircuitTold, after_call, datagram_to, end_of, goes_to, input_of, is_over, notices, sendings, after_effect, told_by, with_end}
+use Rattle.circuit_set.specs.Standing.{HeldGoes, SameNode, EachStands, HeldStands, Keeps, Rests, MetBy, capped_count, by_write, close_answer, discard_answer, message_at, take_answer, write_answer, if_so, of_holder, sendings_by, untold_of}
 use Rattle.circuit_set.proofs.Sends.{Named}
 use Rattle.circuit_set.proofs.Acts.{call_names}
 use Rattle.circuit_set.proofs.Meeting.{asked_step}
 use Rattle.circuit_set.proofs.Holding.{At, at, missing, some_is, stood}
 
-pub sents_is : (s : SetState) (id : ℕ) (to : Callsign) (os : List Out) → sendings s id to os ≡ sents_by s.own s.ttl id to os
+pub sents_is : (s : SetState) (id : ℕ) (to : Callsign) (os : List Out) → sendings s id to os ≡ sendings_by s.own s.ttl id to os
 sents_is s id to [] = refl
 sents_is s id to (o ∷ os) = ap (λ ts. sets.Sent id o.1 (datagram_to s to o.0) ∷ ts) (sents_is s id to os)
 
-pub so_is : (b : Bool) (t : Told) → if_so b t ≡ (if b then t ∷ [] else [])
+pub so_is : (b : Bool) (t : CircuitTold) → if_so b t ≡ (if b then t ∷ [] else [])
 so_is true t = refl
 so_is false t = refl
 
-pub nothing : (x y : List Told) → [] ≡ x ++ y → (x ≡ []) × (y ≡ [])
+pub nothing : (x y : List CircuitTold) → [] ≡ x ++ y → (x ≡ []) × (y ≡ [])
 nothing [] y e = (refl, sym e)
 nothing (t ∷ x) y e = absurd (cc e)
 
-no_told : (b : Bool) (t : Told) → if_so b t ≡ [] → b ≡ false
+no_told : (b : Bool) (t : CircuitTold) → if_so b t ≡ [] → b ≡ false
 no_told true t e = absurd (cc e)
 no_told false t e = refl
 
@@ -53,7 +53,7 @@ pub record IsQuiet (k : Holder) (g : Effect) : Type 0 where
   pub outs : g.outs ≡ []
   pub notes : g.notes ≡ []
 
-no_outs : (own : Callsign) (ttl id : ℕ) (to : Callsign) (os : List Out) → sents_by own ttl id to os ≡ [] → os ≡ []
+no_outs : (own : Callsign) (ttl id : ℕ) (to : Callsign) (os : List Out) → sendings_by own ttl id to os ≡ [] → os ≡ []
 no_outs own ttl id to [] e = refl
 no_outs own ttl id to (o ∷ os) e = absurd (cc e)
 
@@ -63,8 +63,8 @@ no_notes id (n ∷ ns) e = absurd (cc e)
 
 pub quiet : (own : Callsign) (ttl id : ℕ) (k : Holder) (g : Effect) → [] ≡ untold_of own ttl id k g → IsQuiet k g
 quiet own ttl id k g e =
-    let all = nothing (if_so k.unannounced (sets.Made id k.pair k.at None) ++ sents_by own ttl id k.at g.outs ++ notices id g.notes) _ e in
-    let two = nothing (if_so k.unannounced (sets.Made id k.pair k.at None) ++ sents_by own ttl id k.at g.outs) _ (sym all.0) in
+    let all = nothing (if_so k.unannounced (sets.Made id k.pair k.at None) ++ sendings_by own ttl id k.at g.outs ++ notices id g.notes) _ e in
+    let two = nothing (if_so k.unannounced (sets.Made id k.pair k.at None) ++ sendings_by own ttl id k.at g.outs) _ (sym all.0) in
     let one = nothing (if_so k.unannounced (sets.Made id k.pair k.at None)) _ (sym two.0) in
     let last = either_false k.discarded (is_over g.end) (no_told (k.discarded || is_over g.end) _ all.1) in
     record { announced = no_told k.unannounced _ one.0; kept = last.0; stays = last.1; outs = no_outs own ttl id k.at g.outs one.1; notes = no_notes id g.notes two.1 }
@@ -157,8 +157,8 @@ module _ (c c2 : HeldEnds) (id : ℕ) (k : Holder) (e2 : EndView) (n : ℕ) (sam
               config = st.config ∙ sym same.config;
               next = st.next ∙ sym same.next;
               number = st.number ∙ sym same.number;
-              ends = subst (λ es. Held s.own s.ttl s.number 0 es (with_end h2 s.ends) (told_by s h g2)) (sym left)
-                  (subst (λ ts. Held s.own s.ttl s.number 0 (set_value (nat_eq id) c.ends.entries (record k { end = e2; taken = n })) (with_end h2 s.ends) ts) told put);
+              ends = subst (λ es. EachStands s.own s.ttl s.number 0 es (with_end h2 s.ends) (told_by s h g2)) (sym left)
+                  (subst (λ ts. EachStands s.own s.ttl s.number 0 (set_value (nat_eq id) c.ends.entries (record k { end = e2; taken = n })) (with_end h2 s.ends) ts) told put);
             };
       }
 
@@ -177,7 +177,7 @@ pub call_goes : (c c2 : HeldEnds) (id : ℕ) (k : Holder) (e2 : EndView) (n : �
     → c2.ends.entries ≡ set_value (nat_eq id) c.ends.entries (record k { end = e2; taken = n })
     → ((x : State) → StandsFor k.end x → Stands e2 (step x (input_of call) now))
     → ((x : State) → StandsFor k.end x → k.taken ≡ capped_count x.receiving.taken → n ≡ capped_count (step x (input_of call) now).end.receiving.taken)
-    → Goes (sets.Calls id call now) c c2
+    → HeldGoes (sets.Calls id call now) c c2
 call_goes c c2 id k e2 n call now same found left does taken = λ s st.
     let f : Found c c2 id k e2 n same found left s st = find c c2 id k e2 n same found left s st in
     let x : State = f.g.end in
@@ -192,7 +192,7 @@ call_goes c c2 id k e2 n call now same found left does taken = λ s st.
 
 -- a call of an end that isn't
 pub call_of_none : (c c2 : HeldEnds) (id : ℕ) (call : Call) (now : ℕ) → SameNode c c2 → lookup (nat_eq id) c.ends.entries ≡ None → c2.ends.entries ≡ c.ends.entries
-    → Goes (sets.Calls id call now) c c2
+    → HeldGoes (sets.Calls id call now) c c2
 call_of_none c c2 id call now same none left = λ s st.
     let is : after_call s (end_of id s.ends) call now ≡ does_nothing s = called_gone s (end_of id s.ends) call now (missing s.own s.ttl s.number 0 id c.ends.entries s.ends [] st.ends none) in
     subst (λ (d : SetDone). HeldStands c2 d.set d.told) (sym is)
@@ -202,7 +202,7 @@ call_of_none c c2 id call now same none left = λ s st.
       config = st.config ∙ sym same.config;
       next = st.next ∙ sym same.next;
       number = st.number ∙ sym same.number;
-      ends = subst (λ es. Held s.own s.ttl s.number 0 es s.ends []) (sym left) st.ends;
+      ends = subst (λ es. EachStands s.own s.ttl s.number 0 es s.ends []) (sym left) st.ends;
     })
 
 -- ---- answers ----
@@ -310,7 +310,7 @@ discarded_ended s h e f = simp (e, f) refl
 
 pub discard_goes : (c c2 : HeldEnds) (id : ℕ) (k : Holder) → SameNode c c2 → lookup (nat_eq id) c.ends.entries ≡ Some k
     → c2.ends.entries ≡ set_value (nat_eq id) c.ends.entries (record k { discarded = true }) → ((x : State) → StandsFor k.end x → true ≡ sets.has_ended x.phase)
-    → Goes (sets.Discard id) c c2
+    → HeldGoes (sets.Discard id) c c2
 discard_goes c c2 id k same found left ended = λ s st.
     let a : At s.own s.ttl s.number 0 id c.ends.entries s.ends [] = at s.own s.ttl s.number 0 id c.ends.entries s.ends [] k st.ends found in
     let same_k : a.k ≡ k = some_is (lookup (nat_eq id) c.ends.entries) a.k k a.found found in
@@ -322,7 +322,7 @@ discard_goes c c2 id k same found left ended = λ s st.
     let h : sets.Holder = of_holder id k g in
     let k2 : Holder = record k { discarded = true } in
     let h2 : sets.Holder = record h { gone = true } in
-    let told : List Told = sets.Gone id (facts_of g.end) ∷ [] in
+    let told : List CircuitTold = sets.Gone id (facts_of g.end) ∷ [] in
     let keeps2 : Keeps s.own s.ttl id k2 h2 told = record { going = g; stands = keeps.stands; is = refl; pair = keeps.pair; taken = keeps.taken; met = keeps.met; untold = simp (q.announced, q.outs, q.notes) refl } in
     let put = a.put k2 h2 told refl keeps2 in
     let both : a.before ++ told ++ a.theirs ≡ told = rw (two.0, all.1) refl in
@@ -332,8 +332,8 @@ discard_goes c c2 id k same found left ended = λ s st.
       config = st.config ∙ sym same.config;
       next = st.next ∙ sym same.next;
       number = st.number ∙ sym same.number;
-      ends = subst (λ es. Held s.own s.ttl s.number 0 es (with_end h2 s.ends) told) (sym left)
-          (subst (λ ts. Held s.own s.ttl s.number 0 (set_value (nat_eq id) c.ends.entries k2) (with_end h2 s.ends) ts) both put);
+      ends = subst (λ es. EachStands s.own s.ttl s.number 0 es (with_end h2 s.ends) told) (sym left)
+          (subst (λ ts. EachStands s.own s.ttl s.number 0 (set_value (nat_eq id) c.ends.entries k2) (with_end h2 s.ends) ts) both put);
     } in
     let is : record { set = record s { ends = with_end h2 s.ends }; told = told } ≡ sets.after_discarding s (end_of id s.ends) =
     discarded_ended s h (not_gone id k g q) (sym (ended g.end (stood k.end g keeps.stands))) ∙ ap (λ (o : Option sets.Holder). sets.after_discarding s o) (sym (a.end ∙ ap Some keeps.is)) in

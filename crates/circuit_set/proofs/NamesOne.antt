@@ -9,7 +9,7 @@ use Rattle.circuit_l4.specs.declared.notice.EndNotice.{EndNotice}
 use Rattle.circuit_l4.specs.State.{Effect, Out, State}
 use Rattle.circuit_l4.specs.Opening.{facts_of}
 use Rattle.circuit_set.specs.Pairs.{IsPair, is_used}
-use Rattle.circuit_set.specs.Sets.{Act, Calls, Comes, Connect, Discard, Restart, Made, Sent, Heeded, Notice, Gone, Restarted, Lost, Holder, SetDone, SetState, Told, all_gone, end_of, goes_to, has_ended, held_pairs, holder_of, is_over, losses, makes_end, new_pair, notices, after_restart, sendings, set_step, told_by, with_end}
+use Rattle.circuit_set.specs.Sets.{Act, Calls, Comes, Connect, Discard, Restart, Made, Sent, Heeded, Notice, Gone, Restarted, Lost, Holder, SetDone, SetState, CircuitTold, all_gone, end_of, goes_to, has_ended, held_pairs, holder_of, is_over, losses, makes_end, new_pair, notices, after_restart, sendings, set_step, told_by, with_end}
 use Rattle.circuit_set.specs.Books.{Book, FreshFrom, any_ends, is_lost, lost_with, with_event, with_events, partner_in, requester}
 use Rattle.circuit_set.specs.Events.{Event, Name, same_name}
 use Rattle.circuit_set.specs.NotedRuns.{Net, begins, end_at, net_run, net_step, told_to}
@@ -37,12 +37,12 @@ abbrev pub lost_all : List Name → List Event → List Name
 lost_all lost [] = lost
 lost_all lost (e ∷ es) = lost_all (lost_with lost e.node e.told) es
 
-abbrev NoLoss : List Told → Type 0
+abbrev NoLoss : List CircuitTold → Type 0
 NoLoss [] = Unit {0}
 NoLoss (Lost id facts ∷ ts) = ⊥
 NoLoss (t ∷ ts) = NoLoss ts
 
-none_lost : (n : ℕ) (own : Callsign) (ts : List Told) (lost : List Name) → NoLoss ts → lost_all lost (events_at n own ts) ≡ lost
+none_lost : (n : ℕ) (own : Callsign) (ts : List CircuitTold) (lost : List Name) → NoLoss ts → lost_all lost (events_at n own ts) ≡ lost
 none_lost n own [] lost h = refl
 none_lost n own (Made id pair at request ∷ ts) lost h = none_lost n own ts lost h
 none_lost n own (Sent id number d ∷ ts) lost h = none_lost n own ts lost h
@@ -52,7 +52,7 @@ none_lost n own (Gone id facts ∷ ts) lost h = none_lost n own ts lost h
 none_lost n own (Restarted pair ∷ ts) lost h = none_lost n own ts lost h
 none_lost n own (Lost id facts ∷ ts) lost h = absurd h
 
-no_append : (xs ys : List Told) → NoLoss xs → NoLoss ys → NoLoss (xs ++ ys)
+no_append : (xs ys : List CircuitTold) → NoLoss xs → NoLoss ys → NoLoss (xs ++ ys)
 no_append [] ys p q = q
 no_append (Made id pair at request ∷ xs) ys p q = no_append xs ys p q
 no_append (Sent id number d ∷ xs) ys p q = no_append xs ys p q
@@ -188,14 +188,14 @@ module _ (net : Net) (lost : List Name) (f : Fair net lost) (n : ℕ) (s : SetSt
   heeded_made h true d g = (told_noted s n s.own h g (with_event net.book (record { node = n; own = s.own; told = Heeded h.id d }))).made
   heeded_made h false d g = (told_noted s n s.own h g net.book).made
 
-  settles : (told : List Told) (to : SetState) → NoLoss told → Fair (record { sets = slice_set net.sets n to; book = with_events net.book (events_at n s.own told) }) lost
+  settles : (told : List CircuitTold) (to : SetState) → NoLoss told → Fair (record { sets = slice_set net.sets n to; book = with_events net.book (events_at n s.own told) }) lost
       → Fair (record { sets = slice_set net.sets n to; book = with_events net.book (events_at n s.own told) }) (lost_all lost (events_at n s.own told))
   settles told to none fair = subst (λ l. Fair (record { sets = slice_set net.sets n to; book = with_events net.book (events_at n s.own told) }) l) (sym (none_lost n s.own told lost none)) fair
 
   moves_so : (h : Holder) (heeded : Bool) (d : List ℕ) (g : Effect) → end_of h.id s.ends ≡ Some h → h.gone ≡ false → SameEnd h.end g.end → Ends h.end g → Says h heeded d g → Lives h.end g
       → P (goes_to s h (if heeded then Heeded h.id d ∷ [] else []) g)
   moves_so h heeded d g there held same ends says lives numbers ok fr =
-      let told : List Told = (if heeded then Heeded h.id d ∷ [] else []) ++ told_by s h g in
+      let told : List CircuitTold = (if heeded then Heeded h.id d ∷ [] else []) ++ told_by s h g in
       let o : Onto h (record { id = h.id; at = h.at; asked = h.asked; end = g.end; gone = is_over g.end }) = record { pair = same.pair; gone = λ e. let bad : true ≡ false = sym e ∙ held in cc; ended = ends.stays } in
       settles told (record s { ends = with_end (record { id = h.id; at = h.at; asked = h.asked; end = g.end; gone = is_over g.end }) s.ends })
       (no_append (if heeded then Heeded h.id d ∷ [] else []) (told_by s h g) (no_heeded heeded h.id d) (told_none s h g))
@@ -204,7 +204,7 @@ module _ (net : Net) (lost : List Name) (f : Fair net lost) (n : ℕ) (s : SetSt
   leaves_so : (h : Holder) → end_of h.id s.ends ≡ Some h → h.gone ≡ false
       → P (record { set = record s { ends = with_end (record h { gone = true }) s.ends }; told = Gone h.id (facts_of h.end) ∷ [] })
   leaves_so h there held numbers ok fr =
-      let told : List Told = Gone h.id (facts_of h.end) ∷ [] in
+      let told : List CircuitTold = Gone h.id (facts_of h.end) ∷ [] in
       let o : Onto h (record { id = h.id; at = h.at; asked = h.asked; end = h.end; gone = true }) = record { pair = refl; gone = λ e. refl; ended = λ e. e } in
       changed h h.end true (with_events net.book (events_at n s.own told)) [] there o refl (λ e. cc) numbers
 
@@ -239,7 +239,7 @@ module _ (net : Net) (lost : List Name) (f : Fair net lost) (n : ℕ) (s : SetSt
     abbrev again : SetState
     again = (after_restart s pair more).set
 
-    abbrev told_again : List Told
+    abbrev told_again : List CircuitTold
     told_again = Restarted pair ∷ losses s.ends
 
     abbrev started : Net

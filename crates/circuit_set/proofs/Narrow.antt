@@ -21,7 +21,7 @@ use Rattle.circuit_l4.specs.Reading.{transport_at}
 use Rattle.circuit_set.specs.Heeds.{heeds}
 use Rattle.circuit_set.specs.Events.{Event, Name}
 use Rattle.circuit_set.specs.NotedRuns.{NarrowIsTimely, Net, allowance_at, begins, net_step}
-use Rattle.circuit_set.specs.Sets.{Act, Call, Calls, Comes, Connect, Discard, Restart, Holder, SetDone, SetState, Told, Made, Sent, Heeded, Notice, Gone, Restarted, Lost, accept_again, all_gone, after_call, datagram_to, after_discarding, end_of, first_open, goes_to, hands_to, after_datagram, has_ended, holder_of, input_of, is_full, is_over, losses, makes_end, named_by, new_pair, notices, opened_by, read_as, after_transport, after_new_request, requests, responds, sendings, set_step, after_effect, told_by, does_nothing, with_end}
+use Rattle.circuit_set.specs.Sets.{Act, Call, Calls, Comes, Connect, Discard, Restart, Holder, SetDone, SetState, CircuitTold, Made, Sent, Heeded, Notice, Gone, Restarted, Lost, accept_again, all_gone, after_call, datagram_to, after_discarding, end_of, first_open, goes_to, hands_to, after_datagram, has_ended, holder_of, input_of, is_full, is_over, losses, makes_end, named_by, new_pair, notices, opened_by, read_as, after_transport, after_new_request, requests, responds, sendings, set_step, after_effect, told_by, does_nothing, with_end}
 use Rattle.circuit_set.specs.Books.{Book, Timely, TimelyTo, TimelyTold, with_event, with_events}
 use Rattle.circuit_set.specs.Runs.{AreNarrow, AreStarts, AreSteps, Step, end_in, events_at, events_of, sets_at, told_at}
 use Rattle.circuit_set.proofs.Sends.{Named}
@@ -33,16 +33,16 @@ use Rattle.circuit_set.proofs.Opens.{step_kept, timely_parts}
 use Rattle.circuit_set.proofs.Safe.{start_kept}
 
 -- ---- no event but the first is a heeded datagram ----
-abbrev Unheeding : List Told → Type 0
+abbrev Unheeding : List CircuitTold → Type 0
 Unheeding [] = Unit {0}
 Unheeding (Heeded id d ∷ ts) = ⊥
 Unheeding (t ∷ ts) = Unheeding ts
 
-abbrev FirstAlone : List Told → Type 0
+abbrev FirstAlone : List CircuitTold → Type 0
 FirstAlone [] = Unit {0}
 FirstAlone (t ∷ ts) = Unheeding ts
 
-both_unheeding : (xs ys : List Told) → Unheeding xs → Unheeding ys → Unheeding (xs ++ ys)
+both_unheeding : (xs ys : List CircuitTold) → Unheeding xs → Unheeding ys → Unheeding (xs ++ ys)
 both_unheeding [] ys a b = b
 both_unheeding (Heeded id d ∷ xs) ys a b = absurd a
 both_unheeding (Made id pair at request ∷ xs) ys a b = both_unheeding xs ys a b
@@ -64,7 +64,7 @@ notices_unheeding : (id : ℕ) (ns : List EndNotice) → Unheeding (notices id n
 notices_unheeding id [] = tt
 notices_unheeding id (n ∷ ns) = notices_unheeding id ns
 
-gone_unheeding : (b : Bool) (t : Told) → Unheeding (t ∷ []) → Unheeding (if b then t ∷ [] else [])
+gone_unheeding : (b : Bool) (t : CircuitTold) → Unheeding (t ∷ []) → Unheeding (if b then t ∷ [] else [])
 gone_unheeding true t u = u
 gone_unheeding false t u = tt
 
@@ -81,7 +81,7 @@ losses_unheeding (h ∷ hs) = by h.gone (losses_unheeding hs)
     by true u = u
     by false u = u
 
-alone_of : (ts : List Told) → Unheeding ts → FirstAlone ts
+alone_of : (ts : List CircuitTold) → Unheeding ts → FirstAlone ts
 alone_of [] u = tt
 alone_of (Heeded id d ∷ ts) u = absurd u
 alone_of (Made id pair at request ∷ ts) u = u
@@ -169,7 +169,7 @@ abbrev Narrow : SetDone → Type 0
 Narrow d = NarrowSet d.set
 
 module _ (s : SetState) (n : NarrowSet s) where
-  goes_narrow : (h : Holder) (first : List Told) (g : Effect) → InEnds h s.ends → g.end.config ≡ h.end.config → Narrow (goes_to s h first g)
+  goes_narrow : (h : Holder) (first : List CircuitTold) (g : Effect) → InEnds h s.ends → g.end.config ≡ h.end.config → Narrow (goes_to s h first g)
   goes_narrow h first g i e = record {
     own = n.own;
     ends = λ x j. elim (in_changed x (after_effect h g) s.ends j) [
@@ -293,7 +293,7 @@ heeds_narrow net k n x d t =
     let less : c.window ≤ 64 = within h.end.config.window c.window fits low in
     (t.0, t.1, t.2, t.3, omega (arith, is, few, less))
 
-told_narrow : (net : Net) (k : Kept net) → NarrowNet net.sets → (i : ℕ) (t : Told) → TimelyTold (λ b x. 128) net.book i t → TimelyTold allowance_at net.book i t
+told_narrow : (net : Net) (k : Kept net) → NarrowNet net.sets → (i : ℕ) (t : CircuitTold) → TimelyTold (λ b x. 128) net.book i t → TimelyTold allowance_at net.book i t
 told_narrow net k n i (Heeded id d) t = heeds_narrow net k n (record { node = i; id = id }) d t
 told_narrow net k n i (Made id pair at request) t = tt
 told_narrow net k n i (Sent id number d) t = tt
@@ -302,7 +302,7 @@ told_narrow net k n i (Gone id facts) t = tt
 told_narrow net k n i (Restarted pair) t = tt
 told_narrow net k n i (Lost id facts) t = tt
 
-rest_timely : (allow : Book → Name → ℕ) (i : ℕ) (own : Callsign) (ts : List Told) (b : Book) → Unheeding ts → Timely allow b (events_at i own ts)
+rest_timely : (allow : Book → Name → ℕ) (i : ℕ) (own : Callsign) (ts : List CircuitTold) (b : Book) → Unheeding ts → Timely allow b (events_at i own ts)
 rest_timely allow i own [] b u = tt
 rest_timely allow i own (Heeded id d ∷ ts) b u = absurd u
 rest_timely allow i own (Made id pair at request ∷ ts) b u = (tt, rest_timely allow i own ts (with_event b (record { node = i; own = own; told = Made id pair at request })) u)
@@ -312,7 +312,7 @@ rest_timely allow i own (Gone id facts ∷ ts) b u = (tt, rest_timely allow i ow
 rest_timely allow i own (Restarted pair ∷ ts) b u = (tt, rest_timely allow i own ts (with_event b (record { node = i; own = own; told = Restarted pair })) u)
 rest_timely allow i own (Lost id facts ∷ ts) b u = (tt, rest_timely allow i own ts (with_event b (record { node = i; own = own; told = Lost id facts })) u)
 
-all_narrow : (net : Net) (k : Kept net) → NarrowNet net.sets → (i : ℕ) (own : Callsign) (ts : List Told) → FirstAlone ts → Timely (λ b x. 128) net.book (events_at i own ts) → Timely allowance_at net.book (events_at i own ts)
+all_narrow : (net : Net) (k : Kept net) → NarrowNet net.sets → (i : ℕ) (own : Callsign) (ts : List CircuitTold) → FirstAlone ts → Timely (λ b x. 128) net.book (events_at i own ts) → Timely allowance_at net.book (events_at i own ts)
 all_narrow net k n i own [] f t = tt
 all_narrow net k n i own (x ∷ ts) f t = (told_narrow net k n i x t.0, rest_timely allowance_at i own ts (with_event net.book (record { node = i; own = own; told = x })) f)
 

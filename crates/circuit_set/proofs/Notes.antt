@@ -7,7 +7,7 @@ use Rattle.circuit_l4.specs.declared.transport.Pair.{Pair}
 use Rattle.circuit_l4.specs.declared.notice.EndNotice.{EndNotice}
 use Rattle.circuit_set.specs.Books.{Book, MadeNote, empty, with_event, with_events, requester, with_notice}
 use Rattle.circuit_set.specs.Events.{Event, Name, same_name}
-use Rattle.circuit_set.specs.Sets.{Told, Made, Sent, Heeded, Notice, Gone, Restarted, Lost}
+use Rattle.circuit_set.specs.Sets.{CircuitTold, Made, Sent, Heeded, Notice, Gone, Restarted, Lost}
 use Rattle.circuit_set.specs.TooLate.{Gives, Makes}
 use Rattle.circuit_set.proofs.Among.{by_snoc}
 use Rattle.circuit_set.proofs.Noted.{book, book_more, name_so}
@@ -75,7 +75,7 @@ pub record Kept (m : MadeNote) (es : List Event) (ms : List MadeNote) : Type 0 w
 kept_one : (m : MadeNote) (b : Book) (e : Event) → InNotes m b.made → (k : MadeNote) × InNotes k (with_event b e).made × Same m k (notice_in m.who e.node e.told)
 kept_one m b e i = by e.told
   where
-    by : (t : Told) → (k : MadeNote) × InNotes k (with_event b (record { node = e.node; own = e.own; told = t })).made × Same m k (notice_in m.who e.node t)
+    by : (t : CircuitTold) → (k : MadeNote) × InNotes k (with_event b (record { node = e.node; own = e.own; told = t })).made × Same m k (notice_in m.who e.node t)
     by (Made id p at r) = (m, inr i, same_itself m)
     by (Sent id number d) = (m, i, same_itself m)
     by (Heeded id d) = (m, i, same_itself m)
@@ -114,7 +114,7 @@ pub record NewNote (own : Callsign) (pair : Pair) (z : Name) (ms : List MadeNote
 new_note : (own : Callsign) (pair : Pair) (z : Name) (e : Event) → Gives own pair z e → (b : Book) → NewNote own pair z (with_event b e).made
 new_note own pair z e g b = by e.told g
   where
-    by : (t : Told) → Gives own pair z (record { node = e.node; own = e.own; told = t }) → NewNote own pair z (with_event b (record { node = e.node; own = e.own; told = t })).made
+    by : (t : CircuitTold) → Gives own pair z (record { node = e.node; own = e.own; told = t }) → NewNote own pair z (with_event b (record { node = e.node; own = e.own; told = t })).made
     by (Made id p at r) k = record {
       note = record { who = record { node = e.node; id = id }; own = e.own; pair = p; partner = requester b r; told = [] };
       inside = inl refl;
@@ -176,7 +176,7 @@ later_at es e m k a s = record {
 made_one : (es : List Event) (e : Event) → ((m : MadeNote) → InNotes m (book es).made → MadeAt es m) → (m : MadeNote) → InNotes m (with_event (book es) e).made → MadeAt (es ++ e ∷ []) m
 made_one es e old m i = by e.told i
   where
-    by : (t : Told) → InNotes m (with_event (book es) (record { node = e.node; own = e.own; told = t })).made → MadeAt (es ++ record { node = e.node; own = e.own; told = t } ∷ []) m
+    by : (t : CircuitTold) → InNotes m (with_event (book es) (record { node = e.node; own = e.own; told = t })).made → MadeAt (es ++ record { node = e.node; own = e.own; told = t } ∷ []) m
     by (Made id p at r) (inl q) =
         let k : Event = record { node = e.node; own = e.own; told = Made id p at r } in
         let n : MadeNote = record { who = record { node = e.node; id = id }; own = e.own; pair = p; partner = requester (book es) r; told = [] } in

@@ -7,7 +7,7 @@ use Rattle.circuit_set.specs.Among.{First, Has}
 use Rattle.circuit_set.specs.Books.{Fresh, MadeNote, any_ends, empty}
 use Rattle.circuit_set.specs.Events.{Event, Name, ends_it, same_name}
 use Rattle.circuit_set.specs.NotedRuns.{opened_window, told_to}
-use Rattle.circuit_set.specs.Sets.{Told, Made, Sent, Heeded, Notice, Gone, Restarted, Lost}
+use Rattle.circuit_set.specs.Sets.{CircuitTold, Made, Sent, Heeded, Notice, Gone, Restarted, Lost}
 use Rattle.circuit_set.specs.TooLate.{Ends, OpenedWith, Tells}
 use Rattle.circuit_set.proofs.Bridge.{same_names}
 use Rattle.circuit_set.proofs.Lookups.{has_note}
@@ -126,7 +126,7 @@ module _ (z : Name) where
   window_turn : (e : Event) → WindowTurn e
   window_turn e = by e.told
     where
-      by : (t : Told) → WindowTurn (record { node = e.node; own = e.own; told = t })
+      by : (t : CircuitTold) → WindowTurn (record { node = e.node; own = e.own; told = t })
       by (Made id p at r) = inr ((λ w t. absurd (cc (t.1))), λ es. refl)
       by (Sent id number sent) = inr ((λ w t. absurd (cc (t.1))), λ es. refl)
       by (Heeded id d) = inr ((λ w t. absurd (cc (t.1))), λ es. refl)
@@ -138,7 +138,7 @@ module _ (z : Name) where
   end_turn : (e : Event) → EndTurn e
   end_turn e = by e.told
     where
-      by : (t : Told) → EndTurn (record { node = e.node; own = e.own; told = t })
+      by : (t : CircuitTold) → EndTurn (record { node = e.node; own = e.own; told = t })
       by (Made id p at r) = inr ((λ t. absurd (cc (t.1.1))), λ es. refl)
       by (Sent id number sent) = inr ((λ t. absurd (cc (t.1.1))), λ es. refl)
       by (Heeded id d) = inr ((λ t. absurd (cc (t.1.1))), λ es. refl)

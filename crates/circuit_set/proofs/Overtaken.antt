@@ -6,7 +6,7 @@ use Rattle.ax_address.specs.Callsign.{Callsign}
 use Rattle.circuit_set.specs.Among.{Has}
 use Rattle.circuit_set.specs.Books.{Book, Fresh, HeardNote, SentNote, empty, first_place, has, heard_number, heard_sending, is_heard, latest_by, latest_in, with_event, with_events, partner_in, sends}
 use Rattle.circuit_set.specs.Events.{Event, Name, same_name}
-use Rattle.circuit_set.specs.Sets.{Told, Made, Sent, Heeded, Notice, Gone, Restarted, Lost}
+use Rattle.circuit_set.specs.Sets.{CircuitTold, Made, Sent, Heeded, Notice, Gone, Restarted, Lost}
 use Rattle.circuit_set.specs.TooLate.{FirstSent, HeedsFragment, LatestSending, SendsFragment}
 use Rattle.circuit_set.proofs.Among.{by_snoc}
 use Rattle.circuit_set.proofs.Bridge.{name_itself, same_names}
@@ -116,7 +116,7 @@ module _ (x : Name) (n : ℕ) where
       → (HeedsFragment x n es e × (is_heard x n (with_event (book es) e).heard ≡ true)) ⊎ ((HeedsFragment x n es e → ⊥) × (is_heard x n (with_event (book es) e).heard ≡ is_heard x n (book es).heard))
   turn es fresh e = by e.told
     where
-      by : (t : Told) → (let k : Event = record { node = e.node; own = e.own; told = t } in
+      by : (t : CircuitTold) → (let k : Event = record { node = e.node; own = e.own; told = t } in
           (HeedsFragment x n es k × (is_heard x n (with_event (book es) k).heard ≡ true)) ⊎ ((HeedsFragment x n es k → ⊥) × (is_heard x n (with_event (book es) k).heard ≡ is_heard x n (book es).heard)))
       by (Made id p at r) = inr ((λ h. absurd (cc (h.1.1))), refl)
       by (Sent id number sent) = inr ((λ h. absurd (cc (h.1.1))), refl)
@@ -164,7 +164,7 @@ module _ (x : Name) (n : ℕ) where
   later : (b : Book) (e : Event) → Later b (with_event b e)
   later b e = by e.told
     where
-      by : (t : Told) → Later b (with_event b (record { node = e.node; own = e.own; told = t }))
+      by : (t : CircuitTold) → Later b (with_event b (record { node = e.node; own = e.own; told = t }))
       by (Made id p at r) = same_later b _ refl refl
       by (Sent id number sent) =
           let s : SentNote = record { who = record { node = e.node; id = id }; place = b.places; number = number; datagram = sent } in

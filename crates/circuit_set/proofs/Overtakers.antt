@@ -6,7 +6,7 @@ use Rattle.std.proofs.Common.{sym, ◌∙◌, ap, subst, inl, inr, arith}
 use Rattle.std.proofs.lemmas.Map.Made.{length-le_from_is_member}
 use Rattle.circuit_set.specs.Books.{Book, Fresh, HeardNote, SentNote, empty, first_place, heard_number, heard_sending, is_heard, latest_to, with_event, overtakers, overtakes}
 use Rattle.circuit_set.specs.Events.{Event, Name, same_name}
-use Rattle.circuit_set.specs.Sets.{Told, Made, Sent, Heeded, Notice, Gone, Restarted, Lost}
+use Rattle.circuit_set.specs.Sets.{CircuitTold, Made, Sent, Heeded, Notice, Gone, Restarted, Lost}
 use Rattle.circuit_set.specs.TooLate.{Overtaker, Overtakes, same_overtaker}
 use Rattle.circuit_set.proofs.Among.{by_snoc}
 use Rattle.circuit_set.proofs.Bridge.{name_itself, same_names}
@@ -79,7 +79,7 @@ once_sending x (Some s) hs o = once_number x s.number hs o
 once_more : (b : Book) (e : Event) → Once b.heard → Once (with_event b e).heard
 once_more b e o = by e.told
   where
-    by : (t : Told) → Once (with_event b (record { node = e.node; own = e.own; told = t })).heard
+    by : (t : CircuitTold) → Once (with_event b (record { node = e.node; own = e.own; told = t })).heard
     by (Made id p at r) = o
     by (Sent id number d) = o
     by (Heeded id d) = once_sending (record { node = e.node; id = id }) (latest_to b (record { node = e.node; id = id }) d) b.heard o

@@ -3,7 +3,7 @@ use Rattle.std.specs.Prelude.{◌≡◌, ◌≢◌, ℕ, ◌+◌, ◌*◌, ◌-�
 use Rattle.std.proofs.Common.{sym, ◌∙◌, ap, arith}
 use Rattle.std.proofs.lemmas.Bool.Decides.{nat_tests}
 use Rattle.circuit_l4.specs.declared.transport.Pair.{Pair}
-use Rattle.circuit_set.specs.Pairs.{Change, Gives, Giving, Goes, IsPair, PairsDiffer, pair_after, after_giving, pair_given, is_full, is_used, next_free, pairs_given, without}
+use Rattle.circuit_set.specs.Pairs.{Change, EndMade, Giving, EndGone, IsPair, PairsDiffer, pair_after, after_giving, pair_given, is_full, is_used, next_free, pairs_given, without}
 use Rattle.circuit_set.proofs.Walks.{Walk, full, give_next, gone, next_place, give, places, skip, started, used}
 use Rattle.circuit_set.proofs.Places.{PlacesOk, Rising, all_places, started_ok}
 
@@ -147,9 +147,9 @@ gives_case s w more false h k =
 -- the pairs given are those of the places of the walk
 places_at : (s : ℕ) (changes : List Change) (w : Walk) → pairs_given changes (stands s w) ≡ map (at s) (places changes w)
 places_at s [] w = refl
-places_at s (Gives ∷ more) w =
+places_at s (EndMade ∷ more) w =
     rw (full_at s w) (gives_case s w more (full w) (places_at s more w) (places_at s more (give_next 255 w)))
-places_at s (Goes k ∷ more) w = ap (λ g. pairs_given more g) (gone_at s k w) ∙ places_at s more (gone w k)
+places_at s (EndGone k ∷ more) w = ap (λ g. pairs_given more g) (gone_at s k w) ∙ places_at s more (gone w k)
 
 get_map : (s i : ℕ) (qs : List ℕ) (p : Pair) → slice_get (map (at s) qs) i ≡ Some p → (i < length qs) × (p ≡ at s (get_or qs i 0))
 get_map s i [] p h = cc

@@ -20,7 +20,7 @@ use Rattle.circuit_l4.specs.declared.transport.Transport.{Transport}
 use Rattle.circuit_l4.specs.Transports.{transport_octets}
 use Rattle.circuit_set.specs.declared.event.SetEvent.TheVariants as event
 use Rattle.circuit_set.specs.Sets as sets
-use Rattle.circuit_set.specs.Sets.{SetState, Told}
+use Rattle.circuit_set.specs.Sets.{SetState, CircuitTold}
 use Rattle.circuit_set.specs.Pumps.{dropped_by, sent_by_head, sent_to, tells_first, turn_step}
 use Rattle.circuit_set.specs.Standing.{datagram_by}
 use Rattle.circuit_set.specs.CircuitSets.{Circuits, DoesPump, SetStands}
@@ -32,7 +32,7 @@ on_ok (Ok x) p f = f p
 on_ok (Err e) p f = p
 
 -- a set whose router is another one with the same call and hops
-pub with_router : {C : Type 0} (old : Circuits C) (r : Routing C) (s : SetState) (rest : List Told) → SameRouter old.router r → SetStands old (record { set = s; untold = rest; lost = None })
+pub with_router : {C : Type 0} (old : Circuits C) (r : Routing C) (s : SetState) (rest : List CircuitTold) → SameRouter old.router r → SetStands old (record { set = s; untold = rest; lost = None })
     → (lost : Option Routed) → SetStands (record old { router = r; lost = lost }) (record { set = s; untold = rest; lost = lost })
 with_router old r s rest same st lost = record { ends = st.ends; own = st.own ∙ sym same.own; ttl = st.ttl ∙ sym same.ttl; lost = refl; unspent = st.unspent }
 
@@ -42,7 +42,7 @@ module _ {C : Type 0} (made : C → List CarrierCall → C → Type 0) (next_hop
   lost_as offered.Taken result e = ap came_to_nothing e
   lost_as offered.Dropped result e = ap came_to_nothing e
 
-  pub sent_case : (old : Circuits C) (r : Routing C) (result : Sending) (answer : Offered) (log : List Item) (s : SetState) (id : ℕ) (number : Option ℕ) (d : Datagram) (rest : List Told) (now : ℕ) (o : Option Callsign)
+  pub sent_case : (old : Circuits C) (r : Routing C) (result : Sending) (answer : Offered) (log : List Item) (s : SetState) (id : ℕ) (number : Option ℕ) (d : Datagram) (rest : List CircuitTold) (now : ℕ) (o : Option Callsign)
       → SetStands old (record { set = s; untold = rest; lost = None }) → SameRouter old.router r → r.table ≡ old.router.table → StandsFor old.router.table log
       → DoesSend made old.router r result (sending_to d o now answer)
       → DoesPump made old (record old { router = r; lost = came_to_nothing result }) log (Some (event.Sent id number d)) (turn_step now (sent_to next_hop s (sets.Sent id number d.items) d.items rest o) answer)
@@ -63,7 +63,7 @@ module _ {C : Type 0} (made : C → List CarrierCall → C → Type 0) (next_hop
         stands = subst (λ l. SetStands (record old { router = r; lost = came_to_nothing result }) (record { set = s; untold = rest; lost = l })) e (with_router old r s rest same st (came_to_nothing result));
       }
 
-  head_case : (old : Circuits C) (r : Routing C) (result : Sending) (answer : Offered) (log : List Item) (s : SetState) (id : ℕ) (number : Option ℕ) (d : Datagram) (rest : List Told) (now : ℕ) (head : DatagramHead) (h : Result DatagramHead DatagramRefusal)
+  head_case : (old : Circuits C) (r : Routing C) (result : Sending) (answer : Offered) (log : List Item) (s : SetState) (id : ℕ) (number : Option ℕ) (d : Datagram) (rest : List CircuitTold) (now : ℕ) (head : DatagramHead) (h : Result DatagramHead DatagramRefusal)
       → h ≡ Ok head → SetStands old (record { set = s; untold = rest; lost = None }) → SameRouter old.router r → r.table ≡ old.router.table → StandsFor old.router.table log
       → DoesSend made old.router r result (sending_to d (next_hop head.dest) now answer)
       → DoesPump made old (record old { router = r; lost = came_to_nothing result }) log (Some (event.Sent id number d)) (turn_step now (sent_by_head next_hop s (sets.Sent id number d.items) d.items rest h) answer)
@@ -74,7 +74,7 @@ module _ {C : Type 0} (made : C → List CarrierCall → C → Type 0) (next_hop
       (sent_case old r result answer log s id number d rest now (next_hop head.dest) st same table stands does)
 
   -- what is untold is this sending, and it is told
-  pub sends : (old : Circuits C) (r : Routing C) (result : Sending) (answer : Offered) (log : List Item) (s : SetState) (id : ℕ) (number : Option ℕ) (d : Datagram) (t : Told) (rest : List Told) (now : ℕ) (to : Callsign) (transport : Transport)
+  pub sends : (old : Circuits C) (r : Routing C) (result : Sending) (answer : Offered) (log : List Item) (s : SetState) (id : ℕ) (number : Option ℕ) (d : Datagram) (t : CircuitTold) (rest : List CircuitTold) (now : ℕ) (to : Callsign) (transport : Transport)
       → SetStands old (record { set = s; untold = rest; lost = None }) → SameRouter old.router r → r.table ≡ old.router.table → StandsFor old.router.table log
       → d ≡ datagram_with (record { origin = old.router.own; dest = to; ttl = old.router.ttl }) (transport_octets transport)
       → head_at d.items ≡ Ok (record { origin = old.router.own; dest = to; ttl = old.router.ttl })
@@ -86,11 +86,11 @@ module _ {C : Type 0} (made : C → List CarrierCall → C → Type 0) (next_hop
       let octets : d.items ≡ datagram_by s.own s.ttl to transport =
       ap (λ (x : Datagram). x.items) is ∙ ap (λ (o : Callsign). datagram_by o old.router.ttl to transport) (sym st.own) ∙ ap (λ n. datagram_by s.own n to transport) (sym st.ttl) in
       let all : sets.Sent id number d.items ≡ t = ap (λ ys. sets.Sent id number ys) octets ∙ first in
-      subst (λ (y : Told). DoesPump made old (record old { router = r; lost = came_to_nothing result }) log (Some (event.Sent id number d)) (turn_step now (tells_first next_hop s y rest) answer)) all
+      subst (λ (y : CircuitTold). DoesPump made old (record old { router = r; lost = came_to_nothing result }) log (Some (event.Sent id number d)) (turn_step now (tells_first next_hop s y rest) answer)) all
       (head_case old r result answer log s id number d rest now (record { origin = old.router.own; dest = to; ttl = old.router.ttl }) (head_at d.items) head st same table stands does)
 
   -- the same of the datagram that was written after it
-  pub sends_it : (old : Circuits C) (r : Routing C) (result : Sending) (answer : Offered) (log : List Item) (s : SetState) (id : ℕ) (number : Option ℕ) (d : Datagram) (t : Told) (rest : List Told) (now : ℕ) (to : Callsign) (transport : Transport) (x y : List ℕ)
+  pub sends_it : (old : Circuits C) (r : Routing C) (result : Sending) (answer : Offered) (log : List Item) (s : SetState) (id : ℕ) (number : Option ℕ) (d : Datagram) (t : CircuitTold) (rest : List CircuitTold) (now : ℕ) (to : Callsign) (transport : Transport) (x y : List ℕ)
       → SetStands old (record { set = s; untold = rest; lost = None }) → SameRouter old.router r → r.table ≡ old.router.table → StandsFor old.router.table log
       → x ≡ transport_octets transport → y ≡ transport_octets transport
       → d ≡ datagram_with (record { origin = r.own; dest = to; ttl = r.ttl }) y → head_at d.items ≡ Ok (record { origin = r.own; dest = to; ttl = r.ttl })

@@ -24,7 +24,7 @@ use Rattle.circuit_l4.specs.Table.{Arrive, step}
 use Rattle.circuit_l4.proofs.Spelling as transports
 use Rattle.circuit_set.specs.Heeds.{heeds}
 use Rattle.circuit_set.specs.Refusals.{FromOne, IsNumbered, RefusalsAreUnheeded, RefusesUnder0, SetsRefuseUnder0, StartsAreNumbered}
-use Rattle.circuit_set.specs.Sets.{Call, Calls, Comes, Connect, Discard, Restart, Gone, Heeded, Holder, Lost, Made, Notice, Restarted, Sent, SetDone, SetState, Told, accept_again, all_gone, after_call, datagram_to, after_discarding, end_of, first_open, goes_to, hands_to, after_datagram, has_ended, holder_of, input_of, is_open, is_full, is_over, losses, makes_end, named_by, new_pair, notices, opened_by, read_as, after_transport, requests, responds, sendings, after_effect, told_by, does_nothing, with_end}
+use Rattle.circuit_set.specs.Sets.{Call, Calls, Comes, Connect, Discard, Restart, Gone, Heeded, Holder, Lost, Made, Notice, Restarted, Sent, SetDone, SetState, CircuitTold, accept_again, all_gone, after_call, datagram_to, after_discarding, end_of, first_open, goes_to, hands_to, after_datagram, has_ended, holder_of, input_of, is_open, is_full, is_over, losses, makes_end, named_by, new_pair, notices, opened_by, read_as, after_transport, requests, responds, sendings, after_effect, told_by, does_nothing, with_end}
 use Rattle.circuit_set.proofs.Unheeded.{origin_read}
 
 -- ---- the numbers of ends ----
@@ -61,7 +61,7 @@ one_gone [] f = tt
 one_gone (h ∷ hs) f = (f.0, one_gone hs f.1)
 
 -- ---- what is sent ----
-both : (xs ys : List Told) → RefusesUnder0 xs → RefusesUnder0 ys → RefusesUnder0 (xs ++ ys)
+both : (xs ys : List CircuitTold) → RefusesUnder0 xs → RefusesUnder0 ys → RefusesUnder0 (xs ++ ys)
 both [] ys p q = q
 both (Sent id number d ∷ xs) ys p q = (p.0, both xs ys p.1 q)
 both (Made id pair partner request ∷ xs) ys p q = both xs ys p q
@@ -122,7 +122,7 @@ module _ (s : SetState) (n : IsNumbered s) where
   put : (h : Holder) → 1 ≤ h.id → IsNumbered (record s { ends = with_end h s.ends })
   put h one = record { own = n.own; next = n.next; ends = one_with h s.ends one n.ends }
 
-  goes_so : (h : Holder) (first : List Told) (g : Effect) → 1 ≤ h.id → RefusesUnder0 first → Fine (goes_to s h first g)
+  goes_so : (h : Holder) (first : List CircuitTold) (g : Effect) → 1 ≤ h.id → RefusesUnder0 first → Fine (goes_to s h first g)
   goes_so h first g one p = (put (after_effect h g) one, both first (told_by s h g) p (told_so h g one))
 
   made_so : (at : Callsign) (asked : Option Pair) (request : Option (List ℕ)) (g : Effect) → Fine (makes_end s at asked request g)

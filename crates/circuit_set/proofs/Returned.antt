@@ -9,9 +9,9 @@ use Rattle.circuit_set.specs.Books.{Fresh, empty}
 use Rattle.circuit_set.specs.Events.{Event}
 use Rattle.circuit_set.specs.Examples.{CopyReturns, ask, asked_again, n0aaa, node, n0bbb}
 use Rattle.circuit_set.specs.Givings.{pairs_made}
-use Rattle.circuit_set.specs.Returning.{CallsDiffer, WasSent, given_by, told_of}
+use Rattle.circuit_set.specs.Returning.{CallsDiffer, WasSent, given_by, told_at_node}
 use Rattle.circuit_set.specs.Runs.{Step, events_of}
-use Rattle.circuit_set.specs.Sets.{Act, Comes, Made, Sent, Heeded, Notice, Gone, Restarted, Lost, SetState, Told}
+use Rattle.circuit_set.specs.Sets.{Act, Comes, Made, Sent, Heeded, Notice, Gone, Restarted, Lost, SetState, CircuitTold}
 
 abbrev both : List SetState
 both = node n0aaa ∷ node n0bbb ∷ []
@@ -21,7 +21,7 @@ unfolding head_at transport_at reading.request_at
 stale f = let met = f.1.1.1.1.1.1.1.0.0.1 in cc met
 
 -- ---- few pairs ----
-one_more : (t : Told) (ts : List Told) → length (pairs_made (t ∷ ts)) ≤ suc (length (pairs_made ts))
+one_more : (t : CircuitTold) (ts : List CircuitTold) → length (pairs_made (t ∷ ts)) ≤ suc (length (pairs_made ts))
 one_more (Made id pair at request) ts = omega arith
 one_more (Sent id number d) ts = omega arith
 one_more (Heeded id d) ts = omega arith
@@ -30,8 +30,8 @@ one_more (Gone id facts) ts = omega arith
 one_more (Restarted pair) ts = omega arith
 one_more (Lost id facts) ts = omega arith
 
-few_case : (n : ℕ) (e : Event) (es : List Event) (b : Bool) → given_by n es ≤ length es → length (pairs_made (if b then e.told ∷ told_of n es else told_of n es)) ≤ suc (length es)
-few_case n e es true l = let m : length (pairs_made (e.told ∷ told_of n es)) ≤ suc (length (pairs_made (told_of n es))) = one_more e.told (told_of n es) in omega arith
+few_case : (n : ℕ) (e : Event) (es : List Event) (b : Bool) → given_by n es ≤ length es → length (pairs_made (if b then e.told ∷ told_at_node n es else told_at_node n es)) ≤ suc (length es)
+few_case n e es true l = let m : length (pairs_made (e.told ∷ told_at_node n es)) ≤ suc (length (pairs_made (told_at_node n es))) = one_more e.told (told_at_node n es) in omega arith
 few_case n e es false l = omega arith
 
 few_given : (n : ℕ) (es : List Event) → given_by n es ≤ length es

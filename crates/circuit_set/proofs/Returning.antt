@@ -12,7 +12,7 @@ use Rattle.circuit_set.specs.NotedRuns.{Net, begins, net_step}
 use Rattle.circuit_set.specs.Givings.{IsUp, pairs_made}
 use Rattle.circuit_set.specs.Returning.{CopiesAloneReturn, FreshButFrom, IsUnbroken, WasSent}
 use Rattle.circuit_set.specs.Runs.{AreSteps, IsAct, Step, events_at, events_of, sets_at, told_at}
-use Rattle.circuit_set.specs.Sets.{Act, Comes, Made, Sent, Heeded, Notice, Gone, Restarted, Lost, Holder, SetDone, SetState, Told, holder_of, makes_end, new_pair, set_step, told_by}
+use Rattle.circuit_set.specs.Sets.{Act, Comes, Made, Sent, Heeded, Notice, Gone, Restarted, Lost, Holder, SetDone, SetState, CircuitTold, holder_of, makes_end, new_pair, set_step, told_by}
 use Rattle.circuit_set.proofs.Askers.{asked_or_returned, no_other}
 use Rattle.circuit_set.proofs.Bridge.{name_itself}
 use Rattle.circuit_set.proofs.Cases.{Every, MadeBy, Opener, step_every}
@@ -32,7 +32,7 @@ fresh_append b lost [] ys p q = q
 fresh_append b lost (x ∷ xs) ys p q = (p.0, fresh_append (with_event b x) (lost_with lost x.node x.told) xs ys p.1 q)
 
 -- where no end is made all is fresh
-none_made : (ts : List Told) (b : Book) (lost : List Name) (n : ℕ) (own : Callsign) → pairs_made ts ≡ [] → FreshButFrom b lost (events_at n own ts)
+none_made : (ts : List CircuitTold) (b : Book) (lost : List Name) (n : ℕ) (own : Callsign) → pairs_made ts ≡ [] → FreshButFrom b lost (events_at n own ts)
 none_made [] b lost n own e = tt
 none_made (Made id pair at request ∷ ts) b lost n own e = cc
 none_made (Sent id number d ∷ ts) b lost n own e = (inl tt, none_made ts _ _ n own e)
@@ -51,7 +51,7 @@ or_true false = refl
 still_sent : (b : Book) (e : Event) (x : Name) (d : List ℕ) → has_sent b.sent x d ≡ true → has_sent (with_event b e).sent x d ≡ true
 still_sent b e x d h = by e.told
   where
-    by : (t : Told) → has_sent (with_event b (record { node = e.node; own = e.own; told = t })).sent x d ≡ true
+    by : (t : CircuitTold) → has_sent (with_event b (record { node = e.node; own = e.own; told = t })).sent x d ≡ true
     by (Made id pair at request) = h
     by (Sent id number s) = ap (λ v. (same_name (record { node = e.node; id = id }) x && is_copy d s) || v) h ∙ or_true (same_name (record { node = e.node; id = id }) x && is_copy d s)
     by (Heeded id s) = h

@@ -11,7 +11,7 @@ use Rattle.circuit_set.specs.NotedRuns.{Net, allowance_at, begins, end_at, net_r
 use Rattle.circuit_set.specs.Retries.{RetriesAreTold}
 use Rattle.circuit_set.specs.Runs.{AreStarts, AreSteps, Step, end_named, events_of, sets_at, sets_run, told_at}
 use Rattle.circuit_set.specs.Safe.{CircuitsSafe, IsSafe, PartnersLast, Safe, SafeBetween}
-use Rattle.circuit_set.specs.Sets.{Holder, SetState, Told, Made, Sent, Heeded, Notice, Gone, Restarted, Lost}
+use Rattle.circuit_set.specs.Sets.{Holder, SetState, CircuitTold, Made, Sent, Heeded, Notice, Gone, Restarted, Lost}
 use Rattle.circuit_set.specs.TooLate.{AllowsByWindow, HasPartner, IsFresh, IsTimely, Partners, Tells, WasTold}
 use Rattle.circuit_set.proofs.Among.{has_nothing}
 use Rattle.circuit_set.proofs.Bridge.{same_names}
@@ -62,7 +62,7 @@ module _ (z : Name) (n : EndNotice) where
   said_in [] k = absurd (of_none n k)
   said_in (e ∷ es) k = by e.told k (said_in es)
     where
-      by : (t : Told) → Contains (notice_in z e.node t ++ notices_in z es) n → (Contains (notices_in z es) n → Has (λ p f. IsSaid f) es) → Has (λ p f. IsSaid f) (record { node = e.node; own = e.own; told = t } ∷ es)
+      by : (t : CircuitTold) → Contains (notice_in z e.node t ++ notices_in z es) n → (Contains (notices_in z es) n → Has (λ p f. IsSaid f) es) → Has (λ p f. IsSaid f) (record { node = e.node; own = e.own; told = t } ∷ es)
       by (Notice id m) k later = notice_said e.node e.own id m es (same_name (record { node = e.node; id = id }) z) refl k later
       by (Made id p at r) k later = tail_has (record { node = e.node; own = e.own; told = Made id p at r }) es (later k)
       by (Sent id number sent) k later = tail_has (record { node = e.node; own = e.own; told = Sent id number sent }) es (later k)
@@ -72,7 +72,7 @@ module _ (z : Name) (n : EndNotice) where
       by (Lost id facts) k later = tail_has (record { node = e.node; own = e.own; told = Lost id facts }) es (later k)
 
   -- more behind what contains it
-  more_said : (node : ℕ) (t : Told) (ns : List EndNotice) → Contains ns n → Contains (notice_in z node t ++ ns) n
+  more_said : (node : ℕ) (t : CircuitTold) (ns : List EndNotice) → Contains ns n → Contains (notice_in z node t ++ ns) n
   more_said node (Notice id m) ns k = by (same_name (record { node = node; id = id }) z)
     where
       by : (c : Bool) → Contains ((if c then m ∷ [] else []) ++ ns) n
@@ -85,10 +85,10 @@ module _ (z : Name) (n : EndNotice) where
   more_said node (Restarted p) ns k = k
   more_said node (Lost id facts) ns k = k
 
-  is_said : (node : ℕ) (t : Told) (ns : List EndNotice) → node ≡ z.node → t ≡ Notice z.id n → Contains (notice_in z node t ++ ns) n
+  is_said : (node : ℕ) (t : CircuitTold) (ns : List EndNotice) → node ≡ z.node → t ≡ Notice z.id n → Contains (notice_in z node t ++ ns) n
   is_said node t ns there told =
       let mine : same_name (record { node = node; id = z.id }) z ≡ true = name_true node z.id z there refl in
-      subst (λ (u : Told). Contains (notice_in z node u ++ ns) n) (sym told) (subst (λ (c : Bool). Contains ((if c then n ∷ [] else []) ++ ns) n) (sym mine) (first_is n ns))
+      subst (λ (u : CircuitTold). Contains (notice_in z node u ++ ns) n) (sym told) (subst (λ (c : Bool). Contains ((if c then n ∷ [] else []) ++ ns) n) (sym mine) (first_is n ns))
 
   in_said : (es : List Event) → Has (λ p e. IsSaid e) es → Contains (notices_in z es) n
   in_said [] h = absurd (has_nothing h)

@@ -18,13 +18,13 @@ use Rattle.circuit_l4.specs.Opening.{facts_of, requesting, responding}
 use Rattle.circuit_l4.specs.Table.{Arrive, step}
 use Rattle.circuit_set.specs.Heeds.{heeds}
 use Rattle.circuit_set.specs.Sendings.{SendsFrom, SetsSendTheirOwn}
-use Rattle.circuit_set.specs.Sets.{Call, Calls, Comes, Connect, Discard, Restart, Gone, Heeded, Holder, Lost, Made, Notice, Restarted, Sent, SetDone, SetState, Told, accept_again, after_call, datagram_to, after_discarding, end_of, first_open, goes_to, hands_to, after_datagram, has_ended, holder_of, input_of, is_full, is_over, losses, makes_end, named_by, new_pair, notices, opened_by, read_as, after_transport, after_new_request, requests, responds, sendings, told_by, does_nothing, with_end}
+use Rattle.circuit_set.specs.Sets.{Call, Calls, Comes, Connect, Discard, Restart, Gone, Heeded, Holder, Lost, Made, Notice, Restarted, Sent, SetDone, SetState, CircuitTold, accept_again, after_call, datagram_to, after_discarding, end_of, first_open, goes_to, hands_to, after_datagram, has_ended, holder_of, input_of, is_full, is_over, losses, makes_end, named_by, new_pair, notices, opened_by, read_as, after_transport, after_new_request, requests, responds, sendings, told_by, does_nothing, with_end}
 
 module _ (s : SetState) where
-  abbrev Own : List Told → Type 0
+  abbrev Own : List CircuitTold → Type 0
   Own ts = SendsFrom s.own s.ttl ts
 
-  both : (xs ys : List Told) → Own xs → Own ys → Own (xs ++ ys)
+  both : (xs ys : List CircuitTold) → Own xs → Own ys → Own (xs ++ ys)
   both [] ys a b = b
   both (Sent id number d ∷ xs) ys a b = (a.0, both xs ys a.1 b)
   both (Made id pair partner request ∷ xs) ys a b = both xs ys a b
@@ -49,7 +49,7 @@ module _ (s : SetState) where
       by true = tt
       by false = tt
 
-  goes_own : (h : Holder) (first : List Told) (g : Effect) → Own first → Own (goes_to s h first g).told
+  goes_own : (h : Holder) (first : List CircuitTold) (g : Effect) → Own first → Own (goes_to s h first g).told
   goes_own h first g a = both first (told_by s h g) a (told_own h g)
 
   made_own : (at : Callsign) (asked : Option Pair) (request : Option (List ℕ)) (g : Effect) → Own (makes_end s at asked request g).told

@@ -11,8 +11,8 @@ use Rattle.circuit_l4.specs.Opening.{facts_of}
 use Rattle.circuit_l4.specs.Standing.{StandsFor}
 use Rattle.circuit_set.specs.declared.holder.Holder.{Holder}
 use Rattle.circuit_set.specs.Sets as sets
-use Rattle.circuit_set.specs.Sets.{Told, Made, Sent, Heeded, Notice, Gone, Restarted, Lost, end_of, is_over, notices}
-use Rattle.circuit_set.specs.Standing.{Held, Here, Keeps, Past, if_so, sents_by, untold_of}
+use Rattle.circuit_set.specs.Sets.{CircuitTold, Made, Sent, Heeded, Notice, Gone, Restarted, Lost, end_of, is_over, notices}
+use Rattle.circuit_set.specs.Standing.{EachStands, Here, Keeps, Past, if_so, sendings_by, untold_of}
 use Rattle.circuit_set.specs.CircuitSets.{held_by, held_ids, with_held}
 use Rattle.circuit_set.proofs.Holding.{stood}
 
@@ -25,7 +25,7 @@ keys [] = []
 keys (e ∷ es) = e.0 ∷ keys es
 
 -- ---- what is untold of one end ----
-held_append : (xs ys : List Told) (hs : List sets.Holder) → held_by (xs ++ ys) hs ≡ held_by ys (held_by xs hs)
+held_append : (xs ys : List CircuitTold) (hs : List sets.Holder) → held_by (xs ++ ys) hs ≡ held_by ys (held_by xs hs)
 held_append [] ys hs = refl
 held_append (Made id pair partner request ∷ xs) ys hs = held_append xs ys hs
 held_append (Sent id number datagram ∷ xs) ys hs = held_append xs ys hs
@@ -39,7 +39,7 @@ held_made : (b : Bool) (k : Holder) (id : ℕ) (hs : List sets.Holder) → held_
 held_made true k id hs = refl
 held_made false k id hs = refl
 
-held_sents : (own : Callsign) (ttl id : ℕ) (to : Callsign) (os : List Out) (hs : List sets.Holder) → held_by (sents_by own ttl id to os) hs ≡ hs
+held_sents : (own : Callsign) (ttl id : ℕ) (to : Callsign) (os : List Out) (hs : List sets.Holder) → held_by (sendings_by own ttl id to os) hs ≡ hs
 held_sents own ttl id to [] hs = refl
 held_sents own ttl id to (o ∷ os) hs = held_sents own ttl id to os hs
 
@@ -58,17 +58,17 @@ module _ (own : Callsign) (ttl : ℕ) where
 
   held_mine : (id : ℕ) (k : Holder) (g : Effect) (hs : List sets.Holder) → held_by (untold_of own ttl id k g) hs ≡ (if leaves k g then with_held id hs else hs)
   held_mine id k g hs =
-      let a : List Told = if_so k.unannounced (Made id k.pair k.at None) in
-      let b : List Told = sents_by own ttl id k.at g.outs in
-      let c : List Told = notices id g.notes in
-      let d : List Told = if_so (leaves k g) (Gone id (facts_of g.end)) in
+      let a : List CircuitTold = if_so k.unannounced (Made id k.pair k.at None) in
+      let b : List CircuitTold = sendings_by own ttl id k.at g.outs in
+      let c : List CircuitTold = notices id g.notes in
+      let d : List CircuitTold = if_so (leaves k g) (Gone id (facts_of g.end)) in
       let ab : held_by (a ++ b) hs ≡ hs = held_append a b hs ∙ held_sents own ttl id k.at g.outs (held_by a hs) ∙ held_made k.unannounced k id hs in
       let abc : held_by (a ++ b ++ c) hs ≡ hs = held_append (a ++ b) c hs ∙ held_notices id g.notes (held_by (a ++ b) hs) ∙ ab in
       held_append (a ++ b ++ c) d hs ∙ ap (held_by d) abc ∙ held_gone (leaves k g) id (facts_of g.end) hs
 
   -- ---- all ends ----
-  abbrev Tail : ℕ → ℕ → List sets.Holder → List (ℕ × Holder) → List Told → Type 0
-  Tail hi lo hs es told = Held own ttl hi lo es hs told
+  abbrev Tail : ℕ → ℕ → List sets.Holder → List (ℕ × Holder) → List CircuitTold → Type 0
+  Tail hi lo hs es told = EachStands own ttl hi lo es hs told
 
   -- an end of a lower number is passed over
   over_first : (b : Bool) (n : ℕ) (h : sets.Holder) (xs : List sets.Holder) → nat_eq h.id n ≡ false → (if b then with_held n (h ∷ xs) else h ∷ xs) ≡ h ∷ (if b then with_held n xs else xs)
@@ -76,9 +76,9 @@ module _ (own : Callsign) (ttl : ℕ) where
   over_first false n h xs e = refl
 
   abbrev Skips : ℕ → ℕ → List sets.Holder → Type 0
-  Skips hi lo hs = (h : sets.Holder) (xs : List sets.Holder) (es : List (ℕ × Holder)) (told : List Told) → Held own ttl hi lo es hs told → h.id < lo → held_by told (h ∷ xs) ≡ h ∷ held_by told xs
+  Skips hi lo hs = (h : sets.Holder) (xs : List sets.Holder) (es : List (ℕ × Holder)) (told : List CircuitTold) → EachStands own ttl hi lo es hs told → h.id < lo → held_by told (h ∷ xs) ≡ h ∷ held_by told xs
 
-  skip_here : (hi lo : ℕ) (y : sets.Holder) (ys : List sets.Holder) (h : sets.Holder) (xs : List sets.Holder) (k : Holder) (rest : List (ℕ × Holder)) (mine theirs : List Told)
+  skip_here : (hi lo : ℕ) (y : sets.Holder) (ys : List sets.Holder) (h : sets.Holder) (xs : List sets.Holder) (k : Holder) (rest : List (ℕ × Holder)) (mine theirs : List CircuitTold)
       → h.id < lo → lo ≤ y.id → Keeps own ttl y.id k y mine → Tail hi (suc y.id) ys rest theirs → Skips hi (suc y.id) ys → held_by (mine ++ theirs) (h ∷ xs) ≡ h ∷ held_by (mine ++ theirs) xs
   skip_here hi lo y ys h xs k rest mine theirs under low keep others later =
       let g : Effect = keep.going in
@@ -87,8 +87,8 @@ module _ (own : Callsign) (ttl : ℕ) where
       let first : held_by mine (h ∷ xs) ≡ h ∷ held_by mine xs = m (h ∷ xs) ∙ over_first (leaves k g) y.id h xs apart ∙ ap (λ zs. h ∷ zs) (sym (m xs)) in
       held_append mine theirs (h ∷ xs) ∙ ap (held_by theirs) first ∙ later h (held_by mine xs) rest theirs others (omega arith) ∙ ap (λ zs. h ∷ zs) (sym (held_append mine theirs xs))
 
-  skip_case : (hi lo : ℕ) (y : sets.Holder) (ys : List sets.Holder) (h : sets.Holder) (xs : List sets.Holder) (es : List (ℕ × Holder)) (told : List Told) → h.id < lo → lo ≤ y.id
-      → (Past (λ rest theirs. Held own ttl hi (suc y.id) rest ys theirs) y es told ⊎ Here own ttl (λ rest theirs. Held own ttl hi (suc y.id) rest ys theirs) y es told)
+  skip_case : (hi lo : ℕ) (y : sets.Holder) (ys : List sets.Holder) (h : sets.Holder) (xs : List sets.Holder) (es : List (ℕ × Holder)) (told : List CircuitTold) → h.id < lo → lo ≤ y.id
+      → (Past (λ rest theirs. EachStands own ttl hi (suc y.id) rest ys theirs) y es told ⊎ Here own ttl (λ rest theirs. EachStands own ttl hi (suc y.id) rest ys theirs) y es told)
       → Skips hi (suc y.id) ys → held_by told (h ∷ xs) ≡ h ∷ held_by told xs
   skip_case hi lo y ys h xs es told under low (inl p) later = later h xs es told p.others (omega arith)
   skip_case hi lo y ys h xs es told under low (inr p) later =
@@ -100,10 +100,10 @@ module _ (own : Callsign) (ttl : ℕ) where
 
   -- those of higher numbers stay
   abbrev Stays : ℕ → ℕ → List sets.Holder → Type 0
-  Stays hi lo hs = (n : ℕ) (es : List (ℕ × Holder)) (told : List Told) → Held own ttl hi lo es hs told → n < lo → with_held n hs ≡ hs
+  Stays hi lo hs = (n : ℕ) (es : List (ℕ × Holder)) (told : List CircuitTold) → EachStands own ttl hi lo es hs told → n < lo → with_held n hs ≡ hs
 
-  stay_case : (hi lo : ℕ) (y : sets.Holder) (ys : List sets.Holder) (n : ℕ) (es : List (ℕ × Holder)) (told : List Told) → n < lo → lo ≤ y.id
-      → (Past (λ rest theirs. Held own ttl hi (suc y.id) rest ys theirs) y es told ⊎ Here own ttl (λ rest theirs. Held own ttl hi (suc y.id) rest ys theirs) y es told)
+  stay_case : (hi lo : ℕ) (y : sets.Holder) (ys : List sets.Holder) (n : ℕ) (es : List (ℕ × Holder)) (told : List CircuitTold) → n < lo → lo ≤ y.id
+      → (Past (λ rest theirs. EachStands own ttl hi (suc y.id) rest ys theirs) y es told ⊎ Here own ttl (λ rest theirs. EachStands own ttl hi (suc y.id) rest ys theirs) y es told)
       → Stays hi (suc y.id) ys → with_held n ys ≡ ys
   stay_case hi lo y ys n es told under low (inl p) later = later n es told p.others (omega arith)
   stay_case hi lo y ys n es told under low (inr p) later = later n p.rest p.theirs p.others (omega arith)
@@ -141,9 +141,9 @@ module _ (own : Callsign) (ttl : ℕ) where
   first_held false h hs e same rest = ap (λ (x : sets.Holder). x ∷ hs) (sym (itself h e))
 
   abbrev IsShown : ℕ → ℕ → List sets.Holder → Type 0
-  IsShown hi lo hs = (es : List (ℕ × Holder)) (told : List Told) → Held own ttl hi lo es hs told → Shown lo es (held_by told hs)
+  IsShown hi lo hs = (es : List (ℕ × Holder)) (told : List CircuitTold) → EachStands own ttl hi lo es hs told → Shown lo es (held_by told hs)
 
-  show_here : (hi lo : ℕ) (h : sets.Holder) (hs : List sets.Holder) (k : Holder) (rest : List (ℕ × Holder)) (mine theirs : List Told) → lo ≤ h.id
+  show_here : (hi lo : ℕ) (h : sets.Holder) (hs : List sets.Holder) (k : Holder) (rest : List (ℕ × Holder)) (mine theirs : List CircuitTold) → lo ≤ h.id
       → Keeps own ttl h.id k h mine → Tail hi (suc h.id) hs rest theirs → IsShown hi (suc h.id) hs → Shown lo ((h.id, k) ∷ rest) (held_by (mine ++ theirs) (h ∷ hs))
   show_here hi lo h hs k rest mine theirs low keep others later =
       let g : Effect = keep.going in
@@ -159,8 +159,8 @@ module _ (own : Callsign) (ttl : ℕ) where
       let stands : StandsFor k.end h.end = subst (λ x. StandsFor k.end x) end (stood k.end g keep.stands) in
       subst (Shown lo ((h.id, k) ∷ rest)) (sym all) (low, inr (k, rest, refl, record { held = refl; at = at; asked = asked; stands = stands }, later rest theirs others))
 
-  show_case : (hi lo : ℕ) (h : sets.Holder) (hs : List sets.Holder) (es : List (ℕ × Holder)) (told : List Told) → lo ≤ h.id
-      → (tail : Past (λ rest theirs. Held own ttl hi (suc h.id) rest hs theirs) h es told ⊎ Here own ttl (λ rest theirs. Held own ttl hi (suc h.id) rest hs theirs) h es told)
+  show_case : (hi lo : ℕ) (h : sets.Holder) (hs : List sets.Holder) (es : List (ℕ × Holder)) (told : List CircuitTold) → lo ≤ h.id
+      → (tail : Past (λ rest theirs. EachStands own ttl hi (suc h.id) rest hs theirs) h es told ⊎ Here own ttl (λ rest theirs. EachStands own ttl hi (suc h.id) rest hs theirs) h es told)
       → IsShown hi (suc h.id) hs → Shown lo es (held_by told (h ∷ hs))
   show_case hi lo h hs es told low (inl p) later =
       let all : held_by told (h ∷ hs) ≡ h ∷ held_by told hs = skips hi (suc h.id) hs h hs es told p.others (omega arith) in

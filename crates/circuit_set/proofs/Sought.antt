@@ -8,7 +8,7 @@ use Rattle.circuit_l4.specs.declared.notice.EndNotice.{EndNotice}
 use Rattle.circuit_set.specs.Among.{Last}
 use Rattle.circuit_set.specs.Books.{Book, MadeNote, SentNote, has, has_sent, is_lost, is_number, latest_in, lost_with, made_last, with_event, with_notice}
 use Rattle.circuit_set.specs.Events.{Event, Name, is_copy, same_name}
-use Rattle.circuit_set.specs.Sets.{Told, Made, Sent, Heeded, Notice, Gone, Restarted, Lost, same_pair}
+use Rattle.circuit_set.specs.Sets.{CircuitTold, Made, Sent, Heeded, Notice, Gone, Restarted, Lost, same_pair}
 use Rattle.circuit_set.specs.TooLate.{Gives, LatestSending, Loses, SendsCopy, SendsFragment, Tells}
 use Rattle.circuit_set.proofs.Among.{by_snoc, last_so}
 use Rattle.circuit_set.proofs.Bridge.{same_names}
@@ -19,7 +19,7 @@ use Rattle.circuit_set.proofs.Noted.{LooksUp, Marks, book, book_more, both_so, b
 one_place : (b : Book) (e : Event) → (with_event b e).places ≡ suc b.places
 one_place b e = by e.told
   where
-    by : (t : Told) → (with_event b (record { node = e.node; own = e.own; told = t })).places ≡ suc b.places
+    by : (t : CircuitTold) → (with_event b (record { node = e.node; own = e.own; told = t })).places ≡ suc b.places
     by (Made id pair at request) = refl
     by (Sent id number d) = refl
     by (Heeded id d) = refl
@@ -50,7 +50,7 @@ module _ (own : Callsign) (pair : Pair) where
   made_case : (b : Book) (node : ℕ) (call : Callsign) (id : ℕ) (p : Pair) (at : Callsign) (r : Option (List ℕ)) (c : Bool) → (same_call call own && same_pair p pair) ≡ c → Given b (record { node = node; own = call; told = Made id p at r })
   made_case b node call id p at r true h =
       let two = both_true (same_call call own) (same_pair p pair) h in
-      let to : (let t : Told = Made id p at r in t) ≡ Made id pair at r = ap (λ q. Made id q at r) (pairs_same p pair two.1) in
+      let to : (let t : CircuitTold = Made id p at r in t) ≡ Made id pair at r = ap (λ q. Made id q at r) (pairs_same p pair two.1) in
       inl (named node id, (same_calls call own two.0, at, r, (refl, to)), ap (λ k. if k then Some (named node id) else made_last b.made own pair) h)
   made_case b node call id p at r false h =
       inr (
@@ -63,7 +63,7 @@ module _ (own : Callsign) (pair : Pair) where
   given_step : (b : Book) (e : Event) → Given b e
   given_step b e = by e.told
     where
-      by : (t : Told) → Given b (record { node = e.node; own = e.own; told = t })
+      by : (t : CircuitTold) → Given b (record { node = e.node; own = e.own; told = t })
       by (Made id p at r) = made_case b e.node e.own id p at r (same_call e.own own && same_pair p pair) refl
       by (Sent id number d) = inr ((λ x g. absurd (cc (g.3.1))), refl)
       by (Heeded id d) = inr ((λ x g. absurd (cc (g.3.1))), refl)
@@ -120,7 +120,7 @@ module _ (y : Name) (d : List ℕ) where
   latest_step : (b : Book) (es : List Event) → b.places ≡ length es → (e : Event) → Latest b es e
   latest_step b es places e = by e.told
     where
-      by : (t : Told) → Latest b es (record { node = e.node; own = e.own; told = t })
+      by : (t : CircuitTold) → Latest b es (record { node = e.node; own = e.own; told = t })
       by (Made id p at r) = inr ((λ x n. absurd (cc (n.told.1))), refl)
       by (Sent id number sent) = sent_case b es places e.node e.own id number sent (same_name (record { node = e.node; id = id }) y && is_copy d sent) refl
       by (Heeded id k) = inr ((λ x n. absurd (cc (n.told.1))), refl)
@@ -178,7 +178,7 @@ module _ (x : Name) (d : List ℕ) where
   has_turn : (b : Book) (e : Event) → SentTurn b e
   has_turn b e = by e.told
     where
-      by : (t : Told) → SentTurn b (record { node = e.node; own = e.own; told = t })
+      by : (t : CircuitTold) → SentTurn b (record { node = e.node; own = e.own; told = t })
       by (Made id p at r) = inr ((λ c. absurd (cc (c.1.1.1))), refl)
       by (Sent id number sent) = has_case b e.node e.own id number sent (same_name (record { node = e.node; id = id }) x && is_copy d sent) refl
       by (Heeded id k) = inr ((λ c. absurd (cc (c.1.1.1))), refl)
@@ -210,7 +210,7 @@ module _ (x : Name) (n : ℕ) where
   fragment_case b node own id number sent true h =
       let two = both_true (same_name (record { node = node; id = id }) x) (is_number number n) h in
       let is : (let z : Name = record { node = node; id = id } in z) ≡ x = same_names (record { node = node; id = id }) x two.0 in
-      let told : (let t : Told = Sent id number sent in t) ≡ Sent x.id (Some n) sent = ap (λ (z : Name). Sent z.id number sent) is ∙ ap (λ o. Sent x.id o sent) (number_is number n two.1) in
+      let told : (let t : CircuitTold = Sent id number sent in t) ≡ Sent x.id (Some n) sent = ap (λ (z : Name). Sent z.id number sent) is ∙ ap (λ o. Sent x.id o sent) (number_is number n two.1) in
       inl ((sent, (ap (λ (z : Name). z.node) is, told)), or_so _ (has x n b.sent) h)
   fragment_case b node own id number sent false h =
       inr (
@@ -223,7 +223,7 @@ module _ (x : Name) (n : ℕ) where
   pub fragment_turn : (b : Book) (e : Event) → FragmentTurn b e
   fragment_turn b e = by e.told
     where
-      by : (t : Told) → FragmentTurn b (record { node = e.node; own = e.own; told = t })
+      by : (t : CircuitTold) → FragmentTurn b (record { node = e.node; own = e.own; told = t })
       by (Made id p at r) = inr ((λ c. absurd (cc (c.1.1))), refl)
       by (Sent id number sent) = fragment_case b e.node e.own id number sent (same_name (record { node = e.node; id = id }) x && is_number number n) refl
       by (Heeded id k) = inr ((λ c. absurd (cc (c.1.1))), refl)
@@ -249,7 +249,7 @@ module _ (x : Name) where
   loss_turn : (lost : List Name) (e : Event) → LossTurn lost e
   loss_turn lost e = by e.told
     where
-      by : (t : Told) → LossTurn lost (record { node = e.node; own = e.own; told = t })
+      by : (t : CircuitTold) → LossTurn lost (record { node = e.node; own = e.own; told = t })
       by (Made id p at r) = inr ((λ c. absurd (cc (c.1.1))), refl)
       by (Sent id number sent) = inr ((λ c. absurd (cc (c.1.1))), refl)
       by (Heeded id k) = inr ((λ c. absurd (cc (c.1.1))), refl)

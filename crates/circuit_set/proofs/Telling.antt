@@ -12,7 +12,7 @@ use Rattle.circuit_l4.specs.State.{Effect, Out, State}
 use Rattle.circuit_l4.specs.Standing.{IsDrained, EndView, Stands, StandsFor}
 use Rattle.circuit_set.specs.declared.holder.Holder.{Holder}
 use Rattle.circuit_set.specs.Sets as sets
-use Rattle.circuit_set.specs.Sets.{Told, is_over}
+use Rattle.circuit_set.specs.Sets.{CircuitTold, is_over}
 use Rattle.circuit_set.specs.Pumps.{is_empty}
 use Rattle.circuit_set.specs.Standing.{Keeps, datagram_by, if_so, untold_of}
 
@@ -22,11 +22,11 @@ outs_of_end m g s = ap (λ (x : Effect). x.outs) s.is
 notes_of_end : (m : EndView) (g : Effect) → Stands m g → g.notes ≡ option_to_list m.notice
 notes_of_end m g s = ap (λ (x : Effect). x.notes) s.is
 
-not_empty : (b : Bool) (t : Told) → not b ≡ is_empty (if_so b t)
+not_empty : (b : Bool) (t : CircuitTold) → not b ≡ is_empty (if_so b t)
 not_empty true t = refl
 not_empty false t = refl
 
-module _ (own : Callsign) (ttl id : ℕ) (k : Holder) (h : sets.Holder) (told : List Told) (s : Keeps own ttl id k h told) (u : k.unannounced ≡ false) where
+module _ (own : Callsign) (ttl id : ℕ) (k : Holder) (h : sets.Holder) (told : List CircuitTold) (s : Keeps own ttl id k h told) (u : k.unannounced ≡ false) where
   pub silent : (b : Bool) → IsDrained k.end → b ≡ (k.discarded || is_over s.going.end) → not b ≡ is_empty told
   silent b d e =
       let outs : s.going.outs ≡ [] = outs_of_end k.end s.going s.stands ∙ d.outs in
@@ -58,7 +58,7 @@ module _ (own : Callsign) (ttl id : ℕ) (k : Holder) (h : sets.Holder) (told : 
   no_out (p ∷ os) e = absurd (cc e)
 
   pub out : (o : Out) (m2 : EndView) → Some o ≡ slice_get k.end.outs 0 → m2 ≡ record k.end { outs = drop 1 k.end.outs }
-      → (x : Told) × (xs : List Told) × (told ≡ x ∷ xs) × (Some (sets.Sent id o.1 (datagram_by own ttl k.at o.0)) ≡ Some x) × Keeps own ttl id (record k { end = m2 }) h xs
+      → (x : CircuitTold) × (xs : List CircuitTold) × (told ≡ x ∷ xs) × (Some (sets.Sent id o.1 (datagram_by own ttl k.at o.0)) ≡ Some x) × Keeps own ttl id (record k { end = m2 }) h xs
   out o m2 first rest =
       let g : Effect = s.going in
       let m3 : EndView = record k.end { outs = drop 1 k.end.outs } in
@@ -78,7 +78,7 @@ module _ (own : Callsign) (ttl id : ℕ) (k : Holder) (h : sets.Holder) (told : 
       (sets.Sent id o.1 (datagram_by own ttl k.at o.0), untold_of own ttl id k3 g2, s.untold ∙ all, refl, subst (λ (m : EndView). Keeps own ttl id (record k { end = m }) h (untold_of own ttl id k3 g2)) (sym rest) keeps)
 
   pub told_notice : (n : EndNotice) (m1 m2 : EndView) → None ≡ slice_get k.end.outs 0 → m1 ≡ record k.end { outs = drop 1 k.end.outs } → Some n ≡ m1.notice → m2 ≡ record m1 { notice = None }
-      → (x : Told) × (xs : List Told) × (told ≡ x ∷ xs) × (Some (sets.Notice id n) ≡ Some x) × Keeps own ttl id (record k { end = m2 }) h xs
+      → (x : CircuitTold) × (xs : List CircuitTold) × (told ≡ x ∷ xs) × (Some (sets.Notice id n) ≡ Some x) × Keeps own ttl id (record k { end = m2 }) h xs
   told_notice n m1 m2 none first some rest =
       let g : Effect = s.going in
       let empty : k.end.outs ≡ [] = no_out k.end.outs none in
@@ -107,7 +107,7 @@ module _ (own : Callsign) (ttl id : ℕ) (k : Holder) (h : sets.Holder) (told : 
   gone_case false e some = let none : is_empty told ≡ true = ap is_empty e in absurd (cc (sym none ∙ some))
 
   pub told_gone : (facts : EndFacts) (m1 m2 : EndView) → is_empty told ≡ false → None ≡ slice_get k.end.outs 0 → m1 ≡ record k.end { outs = drop 1 k.end.outs } → None ≡ m1.notice → m2 ≡ record m1 { notice = None }
-      → ((x : State) → StandsFor m2 x → facts ≡ facts_of x) → (x : Told) × (xs : List Told) × (told ≡ x ∷ xs) × (Some (sets.Gone id facts) ≡ Some x) × ((xs ≡ []) × (h.gone ≡ true))
+      → ((x : State) → StandsFor m2 x → facts ≡ facts_of x) → (x : CircuitTold) × (xs : List CircuitTold) × (told ≡ x ∷ xs) × (Some (sets.Gone id facts) ≡ Some x) × ((xs ≡ []) × (h.gone ≡ true))
   told_gone facts m1 m2 some none first empty rest f =
       let g : Effect = s.going in
       let quiet : k.end.outs ≡ [] = no_out k.end.outs none in

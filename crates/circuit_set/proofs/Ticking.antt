@@ -13,9 +13,9 @@ use Rattle.circuit_l4.specs.Opening.{facts_of}
 use Rattle.circuit_set.specs.declared.holder.Holder.{Holder}
 use Rattle.circuit_set.specs.declared.held_ends.HeldEnds.{HeldEnds}
 use Rattle.circuit_set.specs.Sets as sets
-use Rattle.circuit_set.specs.Sets.{Calls, SetDone, SetState, Told, after_call, end_of, goes_to, after_effect, told_by, with_end, does_nothing}
+use Rattle.circuit_set.specs.Sets.{Calls, SetDone, SetState, CircuitTold, after_call, end_of, goes_to, after_effect, told_by, with_end, does_nothing}
 use Rattle.circuit_set.specs.Inputs.{runs, after_ticks, ticks_of}
-use Rattle.circuit_set.specs.Standing.{Held, HeldStands, Here, Keeps, Past, MetBy, Rests, SameNode, Ticks, TicksAt, TicksNth, TicksTo, capped_count, of_holder}
+use Rattle.circuit_set.specs.Standing.{EachStands, HeldStands, Here, Keeps, Past, MetBy, Rests, SameNode, Ticks, TicksAt, TicksNth, TicksTo, capped_count, of_holder}
 use Rattle.circuit_set.proofs.Taken.{taken_same}
 use Rattle.circuit_set.proofs.Meeting.{asked_step}
 use Rattle.circuit_set.proofs.Holding.{stood}
@@ -78,20 +78,20 @@ ticks_more now (suc n) (e ∷ es) (f ∷ fs) new t x = more_at now n e f es fs n
 abbrev tick_end : ℕ → sets.Holder → sets.Holder
 tick_end now h = if h.gone then h else after_effect h (step h.end Tick now)
 
-abbrev tick_told : SetState → ℕ → sets.Holder → List Told
+abbrev tick_told : SetState → ℕ → sets.Holder → List CircuitTold
 tick_told s now h = if h.gone then [] else told_by s h (step h.end Tick now)
 
 abbrev ticked_ends : ℕ → List sets.Holder → List sets.Holder
 ticked_ends now [] = []
 ticked_ends now (h ∷ hs) = tick_end now h ∷ ticked_ends now hs
 
-abbrev ticked_told : SetState → ℕ → List sets.Holder → List Told
+abbrev ticked_told : SetState → ℕ → List sets.Holder → List CircuitTold
 ticked_told s now [] = []
 ticked_told s now (h ∷ hs) = tick_told s now h ++ ticked_told s now hs
 
 module _ (s : SetState) (now : ℕ) where
-  abbrev Stay : ℕ → ℕ → List (ℕ × Holder) → List sets.Holder → List Told → Type 0
-  Stay hi lo es hs told = Held s.own s.ttl hi lo es hs told
+  abbrev Stay : ℕ → ℕ → List (ℕ × Holder) → List sets.Holder → List CircuitTold → Type 0
+  Stay hi lo es hs told = EachStands s.own s.ttl hi lo es hs told
 
   tick_past : (hi lo : ℕ) (h : sets.Holder) (hs : List sets.Holder) (fs : List (ℕ × Holder)) → lo ≤ h.id → h.gone ≡ true → Stay hi (suc h.id) fs (ticked_ends now hs) (ticked_told s now hs)
       → Stay hi lo fs (ticked_ends now (h ∷ hs)) (ticked_told s now (h ∷ hs))
@@ -152,13 +152,13 @@ Lower n [] = Unit {0}
 Lower n (h ∷ hs) = (h.id < n) × Lower n hs
 
 module _ (own : Callsign) (ttl : ℕ) where
-  rise_case : (hi : ℕ) (h : sets.Holder) (es : List (ℕ × Holder)) (hs : List sets.Holder) (told : List Told)
-      → (Past (λ rest theirs. Held own ttl hi (suc h.id) rest hs theirs) h es told ⊎ Here own ttl (λ rest theirs. Held own ttl hi (suc h.id) rest hs theirs) h es told)
-      → ((rest : List (ℕ × Holder)) (theirs : List Told) → Held own ttl hi (suc h.id) rest hs theirs → Rising (suc h.id) hs) → Rising (suc h.id) hs
+  rise_case : (hi : ℕ) (h : sets.Holder) (es : List (ℕ × Holder)) (hs : List sets.Holder) (told : List CircuitTold)
+      → (Past (λ rest theirs. EachStands own ttl hi (suc h.id) rest hs theirs) h es told ⊎ Here own ttl (λ rest theirs. EachStands own ttl hi (suc h.id) rest hs theirs) h es told)
+      → ((rest : List (ℕ × Holder)) (theirs : List CircuitTold) → EachStands own ttl hi (suc h.id) rest hs theirs → Rising (suc h.id) hs) → Rising (suc h.id) hs
   rise_case hi h es hs told (inl p) later = later es told p.others
   rise_case hi h es hs told (inr p) later = later p.rest p.theirs p.others
 
-  rising : (hi lo : ℕ) (es : List (ℕ × Holder)) (hs : List sets.Holder) (told : List Told) → Held own ttl hi lo es hs told → Rising lo hs
+  rising : (hi lo : ℕ) (es : List (ℕ × Holder)) (hs : List sets.Holder) (told : List CircuitTold) → EachStands own ttl hi lo es hs told → Rising lo hs
   rising hi lo es [] told x = tt
   rising hi lo es (h ∷ hs) told x = (x.0, rise_case hi h es hs told x.1 (λ rest theirs y. rising hi (suc h.id) rest hs theirs y))
 
@@ -194,12 +194,12 @@ module _ (s : SetState) (now : ℕ) where
   abbrev with_ends : List sets.Holder → SetState
   with_ends hs = record { own = s.own; ttl = s.ttl; user = s.user; config = s.config; next = s.next; number = s.number; ends = hs }
 
-  abbrev done_by : List sets.Holder → List Told → SetDone
+  abbrev done_by : List sets.Holder → List CircuitTold → SetDone
   done_by hs told = record { set = with_ends hs; told = told }
 
   same_told : (hs : List sets.Holder) (h : sets.Holder) (g : Effect) → told_by (with_ends hs) h g ≡ told_by s h g
   same_told hs h g =
-      ap (λ (ts : List Told). ts ++ sets.notices h.id g.notes ++ (if sets.is_over g.end then sets.Gone h.id (facts_of g.end) ∷ [] else []))
+      ap (λ (ts : List CircuitTold). ts ++ sets.notices h.id g.notes ++ (if sets.is_over g.end then sets.Gone h.id (facts_of g.end) ∷ [] else []))
       (sents_is (with_ends hs) h.id h.at g.outs ∙ sym (sents_is s h.id h.at g.outs))
 
   one_tick : (h : sets.Holder) (done hs : List sets.Holder) → h.gone ≡ false → Lower h.id done → Rising (suc h.id) hs
@@ -250,7 +250,7 @@ module _ (s : SetState) (now : ℕ) where
 pub tick_goes : (c c2 : HeldEnds) (now : ℕ) (s : SetState) → SameNode c c2 → HeldStands c s [] → TicksTo now (length c.ends.entries) c.ends.entries c2.ends.entries
     → HeldStands c2 (after_ticks now s).set (after_ticks now s).told
 tick_goes c c2 now s same st t =
-    let held : Held s.own s.ttl s.number 0 c2.ends.entries (ticked_ends now s.ends) (ticked_told s now s.ends) = ticked_held s now s.number 0 s.ends c.ends.entries c2.ends.entries st.ends t in
+    let held : EachStands s.own s.ttl s.number 0 c2.ends.entries (ticked_ends now s.ends) (ticked_told s now s.ends) = ticked_held s now s.number 0 s.ends c.ends.entries c2.ends.entries st.ends t in
     let all : HeldStands c2 (with_ends s now (ticked_ends now s.ends)) (ticked_told s now s.ends) = record {
       own = st.own ∙ sym same.own;
       user = st.user ∙ sym same.user;

@@ -22,7 +22,7 @@ use Rattle.circuit_set.specs.declared.event.SetEvent.{SetEvent}
 use Rattle.circuit_set.specs.declared.event.SetEvent.TheVariants as event
 use Rattle.circuit_set.specs.declared.held_ends.HeldEnds.{HeldEnds}
 use Rattle.circuit_set.specs.Sets as sets
-use Rattle.circuit_set.specs.Sets.{Comes, SetDone, SetState, Told, after_datagram, read_as, after_transport, set_step, does_nothing}
+use Rattle.circuit_set.specs.Sets.{Comes, SetDone, SetState, CircuitTold, after_datagram, read_as, after_transport, set_step, does_nothing}
 use Rattle.circuit_set.specs.Pumps.{Of, Turned, at_rest, ends_with, says_nothing, tells_first, tells_on, turn_step, with_done}
 use Rattle.circuit_set.specs.Standing.{Gives, HeldStands, event_told, told_by_end}
 use Rattle.circuit_set.specs.CircuitSets.{Circuits, DoesPump, SetStands}
@@ -35,11 +35,11 @@ module _ {C : Type 0} (made : C → List CarrierCall → C → Type 0) (none_mad
   says old log e t stands told items st = record { told = told; calls = none_made old.router.carrier; table = rw (items, append-nil log) stands; stands = st }
 
   module _ (next_hop : Callsign → Option Callsign) (now : ℕ) where
-    abbrev First : Circuits C → List Item → SetState → List Told → SetEvent → Told → Type 0
+    abbrev First : Circuits C → List Item → SetState → List CircuitTold → SetEvent → CircuitTold → Type 0
     First old log s rest e t = DoesPump made old old log (Some e) (turn_step now (tells_first next_hop s t rest) offered.Taken)
 
     -- what an end tells is told
-    pub tells_event : (old : Circuits C) (log : List Item) (s : SetState) (t : Told) (rest : List Told) (e : SetEvent) → StandsFor old.router.table log → SetStands old (record { set = s; untold = rest; lost = None })
+    pub tells_event : (old : Circuits C) (log : List Item) (s : SetState) (t : CircuitTold) (rest : List CircuitTold) (e : SetEvent) → StandsFor old.router.table log → SetStands old (record { set = s; untold = rest; lost = None })
         → told_by_end e ≡ Some t → First old log s rest e t
     tells_event old log s t rest (event.Made id pair partner request) stands st e =
         let same : sets.Made id pair partner (option_map (λ d. d.items) request) ≡ t = cc e in
@@ -104,10 +104,10 @@ module _ {C : Type 0} (made : C → List CarrierCall → C → Type 0) (none_mad
   abbrev with_held : HeldEnds → Circuits C
   with_held h = record old { held = h }
 
-  pub held_stands : (h : HeldEnds) (d : SetState) (rest : List Told) → SameOwn s d → HeldStands h d rest → SetStands (with_held h) (record { set = d; untold = rest; lost = None })
+  pub held_stands : (h : HeldEnds) (d : SetState) (rest : List CircuitTold) → SameOwn s d → HeldStands h d rest → SetStands (with_held h) (record { set = d; untold = rest; lost = None })
   held_stands h d rest same x = record { ends = x; own = same.own ∙ st.own; ttl = same.ttl ∙ st.ttl; lost = st.lost; unspent = st.unspent }
 
-  silent_list : (d : SetState) (ts : List Told) (h : HeldEnds) → ts ≡ [] → SetStands (with_held h) (at_rest d) → DoesPump made old (with_held h) log None (tells_on nh now (says_nothing (record { set = d; untold = ts; lost = None })) offered.Taken)
+  silent_list : (d : SetState) (ts : List CircuitTold) (h : HeldEnds) → ts ≡ [] → SetStands (with_held h) (at_rest d) → DoesPump made old (with_held h) log None (tells_on nh now (says_nothing (record { set = d; untold = ts; lost = None })) offered.Taken)
   silent_list d [] h e x = record { told = refl; calls = none_made old.router.carrier; table = rw (append-nil log) stands; stands = x }
   silent_list d (t ∷ ts) h e x = absurd (cc e)
 
@@ -116,11 +116,11 @@ module _ {C : Type 0} (made : C → List CarrierCall → C → Type 0) (none_mad
   takes_silent d e h is same g =
       subst (λ x. Up None (with_held h) x offered.Taken) (sym is) (silent_list d.set d.told h g.0 (held_stands h d.set [] same g.1))
 
-  loud_list : (d : SetState) (ts : List Told) (t : Told) (rest : List Told) (answer : Offered) → ts ≡ t ∷ rest
+  loud_list : (d : SetState) (ts : List CircuitTold) (t : CircuitTold) (rest : List CircuitTold) (answer : Offered) → ts ≡ t ∷ rest
       → turn_step now (tells_first nh d t rest) answer ≡ tells_on nh now (says_nothing (record { set = d; untold = ts; lost = None })) answer
   loud_list d ts t rest answer e = ap (λ xs. tells_on nh now (says_nothing (record { set = d; untold = xs; lost = None })) answer) (sym e)
 
-  pub takes_loud : (d e : SetDone) (new : Circuits C) (h : HeldEnds) (t : Told) (rest : List Told) (answer : Offered) (told : Option SetEvent) → e ≡ d → d.told ≡ t ∷ rest
+  pub takes_loud : (d e : SetDone) (new : Circuits C) (h : HeldEnds) (t : CircuitTold) (rest : List CircuitTold) (answer : Offered) (told : Option SetEvent) → e ≡ d → d.told ≡ t ∷ rest
       → DoesPump made (with_held h) new log told (turn_step now (tells_first nh d.set t rest) answer) → Up told new e answer
   takes_loud d e new h t rest answer told is first x =
       subst (λ y. Up told new y answer) (sym is)

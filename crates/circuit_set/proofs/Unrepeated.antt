@@ -9,8 +9,8 @@ use Rattle.circuit_l4.specs.declared.notice.EndNotice.{EndNotice}
 use Rattle.circuit_set.specs.Books.{Book, MadeNote, with_event, with_events, with_notice}
 use Rattle.circuit_set.specs.Events.{Event, Name, same_name}
 use Rattle.circuit_set.specs.Givings.{pairs_made}
-use Rattle.circuit_set.specs.Returning.{told_of}
-use Rattle.circuit_set.specs.Sets.{Made, Sent, Heeded, Notice, Gone, Restarted, Lost, Told}
+use Rattle.circuit_set.specs.Returning.{told_at_node}
+use Rattle.circuit_set.specs.Sets.{Made, Sent, Heeded, Notice, Gone, Restarted, Lost, CircuitTold}
 use Rattle.circuit_set.proofs.Differing.{Distinct, In, apart_of, given, given_append, in_first, in_here}
 
 -- ---- what holds of each note ----
@@ -53,7 +53,7 @@ AllDiffer es = (n : ℕ) → Distinct (given n es)
 given_one : (n : ℕ) (own : Callsign) (id : ℕ) (pair : Pair) (at : Callsign) (request : Option (List ℕ)) (es : List Event) → given n (record { node = n; own = own; told = Made id pair at request } ∷ es) ≡ pair ∷ given n es
 given_one n own id pair at request es =
     let same : nat_eq n n ≡ true = grind (arith, nat_tests) in
-    ap (λ b. pairs_made (if b then Made id pair at request ∷ told_of n es else told_of n es)) same
+    ap (λ b. pairs_made (if b then Made id pair at request ∷ told_at_node n es else told_at_node n es)) same
 
 more_given : (es more : List Event) (ms : List MadeNote) → AreGiven es ms → AreGiven (es ++ more) ms
 more_given es more ms a =
@@ -74,7 +74,7 @@ abbrev pub Differ : List Event → Book → Type 0
 Differ es b = AreGiven es b.made × Unrepeated b.made
 
 -- ---- one more event ----
-told_differ : (es post : List Event) (n : ℕ) (own : Callsign) (t : Told) (b : Book) → AllDiffer (es ++ record { node = n; own = own; told = t } ∷ post) → Differ es b
+told_differ : (es post : List Event) (n : ℕ) (own : Callsign) (t : CircuitTold) (b : Book) → AllDiffer (es ++ record { node = n; own = own; told = t } ∷ post) → Differ es b
     → (let e : Event = record { node = n; own = own; told = t } in Differ (es ++ e ∷ []) (with_event b e))
 told_differ es post n own (Made id pair at request) b all d =
     let e : Event = record { node = n; own = own; told = Made id pair at request } in

@@ -9,7 +9,7 @@ use Rattle.circuit_set.specs.Among.{Has, Last}
 use Rattle.circuit_set.specs.Books.{Book, with_event, with_notice}
 use Rattle.circuit_set.specs.Events.{Event, Name, same_name}
 use Rattle.circuit_set.specs.NotedRuns.{told_to}
-use Rattle.circuit_set.specs.Sets.{Told, Made, Sent, Heeded, Notice, Gone, Restarted, Lost}
+use Rattle.circuit_set.specs.Sets.{CircuitTold, Made, Sent, Heeded, Notice, Gone, Restarted, Lost}
 use Rattle.circuit_set.specs.TooLate.{Makes, Tells}
 use Rattle.circuit_set.proofs.Among.{by_snoc, has_cases, has_last, has_new, has_nothing, has_old, last_cases, last_new, last_old}
 use Rattle.circuit_set.proofs.Bridge.{name_itself, same_names}
@@ -24,7 +24,7 @@ module _ (z : Name) where
   pub makes_or_not : (e : Event) → IsMade e ⊎ ((r : Option (List ℕ)) → Makes z r e → ⊥)
   makes_or_not e = by e.told
     where
-      by : (t : Told) → (let k : Event = record { node = e.node; own = e.own; told = t } in IsMade k ⊎ ((r : Option (List ℕ)) → Makes z r k → ⊥))
+      by : (t : CircuitTold) → (let k : Event = record { node = e.node; own = e.own; told = t } in IsMade k ⊎ ((r : Option (List ℕ)) → Makes z r k → ⊥))
       by (Made id p at r) = of_name (same_name (record { node = e.node; id = id }) z) refl
         where
           of_name : (c : Bool) → same_name (record { node = e.node; id = id }) z ≡ c
@@ -53,7 +53,7 @@ module _ (z : Name) where
       (λ h. absurd (has_nothing h))
 
   -- ---- what it was told since ----
-  abbrev pub notice_in : ℕ → Told → List EndNotice
+  abbrev pub notice_in : ℕ → CircuitTold → List EndNotice
   notice_in node (Notice id n) = if same_name (record { node = node; id = id }) z then n ∷ [] else []
   notice_in node _ = []
 
@@ -103,7 +103,7 @@ module _ (z : Name) where
   note_turn : (b : Book) (e : Event) → NoteTurn b e
   note_turn b e = by e.told
     where
-      by : (t : Told) → NoteTurn b (record { node = e.node; own = e.own; told = t })
+      by : (t : CircuitTold) → NoteTurn b (record { node = e.node; own = e.own; told = t })
       by (Made id p at r) = made_turn b e.node e.own id p at r (same_name (record { node = e.node; id = id }) z) refl
       by (Sent id number sent) = inr ((λ q m. absurd (cc (m.2.1))), refl, (λ k. sym (append-nil (told_to b.made z))))
       by (Heeded id d) = inr ((λ q m. absurd (cc (m.2.1))), refl, (λ k. sym (append-nil (told_to b.made z))))

@@ -10,7 +10,7 @@ use Rattle.circuit_l4.specs.declared.transport.Pair.{Pair}
 use Rattle.circuit_l4.specs.declared.notice.EndNotice.{EndNotice}
 use Rattle.circuit_l4.specs.Transports.{pair_at}
 use Rattle.circuit_set.specs.Events.{Event, Name, ends_it, is_copy, same_name}
-use Rattle.circuit_set.specs.Sets.{Told, Made, Sent, Heeded, Notice, Gone, Lost, Restarted, same_pair}
+use Rattle.circuit_set.specs.Sets.{CircuitTold, Made, Sent, Heeded, Notice, Gone, Lost, Restarted, same_pair}
 
 pub record MadeNote : Type 0 where
   pub who : Name
@@ -147,7 +147,7 @@ abbrev pub heard_sending : Name → Option SentNote → List HeardNote → List 
 heard_sending x None hs = hs
 heard_sending x (Some s) hs = heard_number x s.number hs
 
-abbrev pub note_told : Book → ℕ → Callsign → Told → Book
+abbrev pub note_told : Book → ℕ → Callsign → CircuitTold → Book
 note_told b node own (Made id pair at request) =
     let who : Name = record { node = node; id = id } in
     record b {
@@ -183,7 +183,7 @@ TimelyTo allow b x d =
     × (latest_in b.sent y d ≡ Some s)
     × (overtakers y x s.place b.sent b.heard < allow b x)
 
-abbrev pub TimelyTold : (Book → Name → ℕ) → Book → ℕ → Told → Type 0
+abbrev pub TimelyTold : (Book → Name → ℕ) → Book → ℕ → CircuitTold → Type 0
 TimelyTold allow b node (Heeded id d) = TimelyTo allow b (record { node = node; id = id }) d
 TimelyTold allow b node _ = Unit {0}
 
@@ -211,11 +211,11 @@ abbrev pub HasRequester : Book → Option (List ℕ) → Type 0
 HasRequester b None = Unit {0}
 HasRequester b (Some d) = (x : Name) × (requester b (Some d) ≡ Some x)
 
-abbrev pub FreshTold : Book → List Name → ℕ → Told → Type 0
+abbrev pub FreshTold : Book → List Name → ℕ → CircuitTold → Type 0
 FreshTold b lost node (Made id pair at request) = HasRequester b request × NoOther b lost node pair
 FreshTold b lost node _ = Unit {0}
 
-abbrev pub lost_with : List Name → ℕ → Told → List Name
+abbrev pub lost_with : List Name → ℕ → CircuitTold → List Name
 lost_with lost node (Lost id facts) = record { node = node; id = id } ∷ lost
 lost_with lost node _ = lost
 

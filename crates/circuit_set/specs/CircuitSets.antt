@@ -14,7 +14,7 @@ use Rattle.circuit_l4.specs.Opening.{facts_of}
 use Rattle.circuit_l4.specs.Standing as end
 use Rattle.circuit_set.specs.declared.event.SetEvent.{SetEvent}
 use Rattle.circuit_set.specs.declared.held_ends.HeldEnds.{HeldEnds}
-use Rattle.circuit_set.specs.Sets.{Act, Holder, SetState, Told, Gone}
+use Rattle.circuit_set.specs.Sets.{Act, Holder, SetState, CircuitTold, Gone}
 use Rattle.circuit_set.specs.Pumps.{Pumped, Waiting, at_rest, pump_step}
 use Rattle.circuit_set.specs.Inputs.{acts}
 use Rattle.circuit_set.specs.Standing.{HeldStands, Rests, SameNode, event_told, untold_in}
@@ -40,12 +40,12 @@ IsDrained c = (c.spent ≡ true) ⊎ (Rests c.held.ends.entries × (c.lost ≡ N
 
 -- From each state in which nothing is untold, and for which the set stood, it goes to the one to which the input leads. Its
 -- router stays, so that no call of its carrier is made.
-pub record Goes {C : Type 0} (old new : Circuits C) (to : SetState → Waiting) : Type 0 where
+pub record SetGoes {C : Type 0} (old new : Circuits C) (to : SetState → Waiting) : Type 0 where
   pub stands : (s : SetState) → SetStands old (at_rest s) → SetStands new (to s)
   pub router : new.router ≡ old.router
 
 abbrev pub GoesBy : {C : Type 0} → Act → Circuits C → Circuits C → Type 0
-GoesBy a old new = Goes old new (λ s. acts a (at_rest s))
+GoesBy a old new = SetGoes old new (λ s. acts a (at_rest s))
 
 -- All that a refusal leaves: the set stands for what it stood for. (How much room its map has isn't said.)
 pub record IsUnchanged {C : Type 0} (old new : Circuits C) : Type 0 where
@@ -93,7 +93,7 @@ with_held id [] = []
 with_held id (h ∷ hs) = (if nat_eq h.id id then record h { gone = false } else h) ∷ with_held id hs
 
 -- The ends as they are held while this is untold: one that is gone is held until that is told.
-abbrev pub held_by : List Told → List Holder → List Holder
+abbrev pub held_by : List CircuitTold → List Holder → List Holder
 held_by [] hs = hs
 held_by (Gone id facts ∷ ts) hs = held_by ts (with_held id hs)
 held_by (t ∷ ts) hs = held_by ts hs

@@ -5,7 +5,7 @@ use Rattle.std.specs.Cmp.Lexicographic.{pointwise}
 use Rattle.l3_datagram.specs.declared.datagram.TheConstants.{HEAD_SIZE, TTL_AT}
 use Rattle.circuit_l4.specs.declared.notice.EndNotice.{EndNotice}
 use Rattle.circuit_l4.specs.declared.notice.EndNotice.TheVariants.{Opened}
-use Rattle.circuit_set.specs.Sets.{Told}
+use Rattle.circuit_set.specs.Sets.{CircuitTold}
 
 -- an end: its node, by its place among the nodes, and its number there
 pub record Name : Type 0 where
@@ -19,7 +19,7 @@ same_name a b = nat_eq a.node b.node && nat_eq a.id b.id
 pub record Event : Type 0 where
   pub node : ℕ
   pub own : Callsign
-  pub told : Told
+  pub told : CircuitTold
 
 -- two datagrams are the same but for the time to live
 abbrev pub is_copy : List ℕ → List ℕ → Bool

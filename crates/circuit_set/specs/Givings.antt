@@ -1,8 +1,8 @@
 -- The pairs that a set gives its ends, as it tells them.
 use Rattle.std.specs.Prelude.{◌≡◌, ◌≢◌, ℕ, ◌<◌, if◌then◌else◌, List, [], ◌∷◌, slice_get, Some}
 use Rattle.circuit_l4.specs.declared.transport.Pair.{Pair}
-use Rattle.circuit_set.specs.Pairs.{Change, Gives, Giving, Goes, IsPair, after_giving, is_full, pairs_given, without}
-use Rattle.circuit_set.specs.Sets.{Act, Made, Restart, SetDone, SetState, Told, held_pairs}
+use Rattle.circuit_set.specs.Pairs.{Change, EndMade, Giving, EndGone, IsPair, after_giving, is_full, pairs_given, without}
+use Rattle.circuit_set.specs.Sets.{Act, Made, Restart, SetDone, SetState, CircuitTold, held_pairs}
 use Rattle.circuit_set.specs.Inputs.{runs}
 use Rattle.circuit_set.specs.Runs.{IsStart}
 
@@ -13,11 +13,11 @@ giving s = record { next = s.next; held = held_pairs s.ends }
 -- where a node stands after these changes
 abbrev pub after_changes : List Change → Giving → Giving
 after_changes [] g = g
-after_changes (Gives ∷ more) g = if is_full g then after_changes more g else after_changes more (after_giving g)
-after_changes (Goes nth ∷ more) g = after_changes more (record { next = g.next; held = without nth g.held })
+after_changes (EndMade ∷ more) g = if is_full g then after_changes more g else after_changes more (after_giving g)
+after_changes (EndGone nth ∷ more) g = after_changes more (record { next = g.next; held = without nth g.held })
 
 -- the pairs of the ends that are made, in order
-abbrev pub pairs_made : List Told → List Pair
+abbrev pub pairs_made : List CircuitTold → List Pair
 pairs_made [] = []
 pairs_made (Made id pair at request ∷ ts) = pair ∷ pairs_made ts
 pairs_made (t ∷ ts) = pairs_made ts

@@ -8,7 +8,7 @@ use Rattle.l3_datagram.specs.Datagrams.{head_at}
 use Rattle.l3_datagram.specs.declared.datagram.DatagramHead.{DatagramHead}
 use Rattle.l3_datagram.specs.declared.datagram.TheConstants.{HEAD_SIZE}
 use Rattle.circuit_set.specs.Heeds.{heeds}
-use Rattle.circuit_set.specs.Sets.{Act, Comes, Heeded, Holder, SetState, Told, named_by, set_step}
+use Rattle.circuit_set.specs.Sets.{Act, Comes, Heeded, Holder, SetState, CircuitTold, named_by, set_step}
 
 -- the pair of the end to which a transport goes: a request goes to none yet
 abbrev pub pair_named : Transport → Option Pair
@@ -38,7 +38,7 @@ pub record IsFor (s : SetState) (a : Act) (id : ℕ) (datagram : List ℕ) : Typ
   pub taken_in : heeds end.end.phase transport ≡ true
 
 -- so it is of all that is heeded
-abbrev pub HeedsFor : SetState → Act → List Told → Type 0
+abbrev pub HeedsFor : SetState → Act → List CircuitTold → Type 0
 HeedsFor s a [] = Unit {0}
 HeedsFor s a (Heeded id datagram ∷ ts) = IsFor s a id datagram × HeedsFor s a ts
 HeedsFor s a (t ∷ ts) = HeedsFor s a ts

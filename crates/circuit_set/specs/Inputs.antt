@@ -7,7 +7,7 @@ use Rattle.l3_datagram.specs.CarrierCall.{Parcel}
 use Rattle.l3_datagram.specs.declared.carrier.Offered.{Offered}
 use Rattle.circuit_set.specs.declared.event.ConnectRefusal.{ConnectRefusal}
 use Rattle.circuit_set.specs.declared.event.ConnectRefusal.TheVariants as refusal
-use Rattle.circuit_set.specs.Sets.{Act, Calls, Holder, SetDone, SetState, Ticks, Told, is_full, set_step, does_nothing}
+use Rattle.circuit_set.specs.Sets.{Act, Calls, Holder, SetDone, SetState, Ticks, CircuitTold, is_full, set_step, does_nothing}
 use Rattle.circuit_set.specs.Pumps.{SetTold, Of, Dropped, Lost, Says, Offers, Turn, Turned, Waiting, untold_weight, hears, hears_lost, tells, with_done}
 
 -- one input after another
@@ -39,20 +39,20 @@ connect_answer next_hop node s =
 
 -- ---- what each comes to ----
 -- what is told of circuits: that a datagram came to nothing, or that a neighbour was lost, is none of it
-abbrev pub of_circuits : Option SetTold → List Told
+abbrev pub of_circuits : Option SetTold → List CircuitTold
 of_circuits None = []
 of_circuits (Some (Of t)) = t ∷ []
 of_circuits (Some (Dropped r)) = []
 of_circuits (Some (Lost call)) = []
 
 -- by some inputs the machine went on; what was told and what is untold are what was untold and what they tell
-pub record GoesBy (old new : Waiting) (told : List Told) : Type 0 where
+pub record GoesByInputs (old new : Waiting) (told : List CircuitTold) : Type 0 where
   pub inputs : List Act
   pub set : new.set ≡ (runs inputs old.set).set
   pub given : told ++ new.untold ≡ old.untold ++ (runs inputs old.set).told
 
 abbrev pub TurnGoes : Waiting → Turned → Type 0
-TurnGoes w t = GoesBy w t.after (of_circuits t.told)
+TurnGoes w t = GoesByInputs w t.after (of_circuits t.told)
 
 -- to whatever a turn comes
 abbrev pub OfEach : (Turned → Type 0) → Turn → Type 0
@@ -60,10 +60,10 @@ OfEach P (Says t) = P t
 OfEach P (Offers to d by) = (answer : Offered) → P (by answer)
 
 abbrev pub ActsGo : Type 0
-ActsGo = (a : Act) (w : Waiting) → GoesBy w (acts a w) []
+ActsGo = (a : Act) (w : Waiting) → GoesByInputs w (acts a w) []
 
 abbrev pub TicksGo : Type 0
-TicksGo = (now : ℕ) (w : Waiting) → GoesBy w (ticks now w) []
+TicksGo = (now : ℕ) (w : Waiting) → GoesByInputs w (ticks now w) []
 
 abbrev pub TellsGo : Type 0
 TellsGo = (next_hop : Callsign → Option Callsign) (w : Waiting) → OfEach (TurnGoes w) (tells next_hop w)

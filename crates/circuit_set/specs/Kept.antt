@@ -10,7 +10,7 @@ use Rattle.circuit_set.specs.CircuitSets.{Circuits, SetStands}
 use Rattle.circuit_set.specs.Inputs.{runs}
 use Rattle.circuit_set.specs.Pumps.{Waiting, at_rest}
 use Rattle.circuit_set.specs.Runs.{IsStart}
-use Rattle.circuit_set.specs.Sets.{Act, SetState, Told, held_pairs}
+use Rattle.circuit_set.specs.Sets.{Act, SetState, CircuitTold, held_pairs}
 use Rattle.circuit_set.specs.Standing.{HeldStands}
 
 -- whatever a set is given from its start on, it holds at most 64
@@ -36,10 +36,10 @@ share c = 90347 * length c.ends.entries + 236 * windows c.ends.entries
 
 -- ends that stand for those of the machine keep no more than their share, and each window is at most 127
 abbrev pub KeepsItsShare : Type 0
-KeepsItsShare = (c : HeldEnds) (s : SetState) (told : List Told) → HeldStands c s told → kept c ≤ share c
+KeepsItsShare = (c : HeldEnds) (s : SetState) (told : List CircuitTold) → HeldStands c s told → kept c ≤ share c
 
 abbrev pub WindowsAreSmall : Type 0
-WindowsAreSmall = (c : HeldEnds) (s : SetState) (told : List Told) → HeldStands c s told → windows c.ends.entries ≤ 127 * length c.ends.entries
+WindowsAreSmall = (c : HeldEnds) (s : SetState) (told : List CircuitTold) → HeldStands c s told → windows c.ends.entries ≤ 127 * length c.ends.entries
 
 -- so an input leaves them that is done
 abbrev pub KeepsOn : {C : Type 0} → Circuits C → Circuits C → Type 0

@@ -40,13 +40,13 @@ without (suc k) (x ∷ xs) = x ∷ without k xs
 
 -- an end is made, where fewer than 64 are held; an end is held no longer
 pub data Change : Type 0 where
-  Gives : Change
-  Goes : (nth : ℕ) → Change
+  EndMade : Change
+  EndGone : (nth : ℕ) → Change
 
 abbrev pub pairs_given : List Change → Giving → List Pair
 pairs_given [] g = []
-pairs_given (Gives ∷ more) g = if is_full g then pairs_given more g else pair_given g ∷ pairs_given more (after_giving g)
-pairs_given (Goes nth ∷ more) g = pairs_given more (record { next = g.next; held = without nth g.held })
+pairs_given (EndMade ∷ more) g = if is_full g then pairs_given more g else pair_given g ∷ pairs_given more (after_giving g)
+pairs_given (EndGone nth ∷ more) g = pairs_given more (record { next = g.next; held = without nth g.held })
 
 pub record IsPair (p : Pair) : Type 0 where
   pub index_some : 1 ≤ p.index

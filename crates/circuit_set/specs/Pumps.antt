@@ -13,12 +13,12 @@ use Rattle.l3_datagram.specs.declared.routed.Routed.TheVariants as routed
 use Rattle.l3_datagram.specs.CarrierCall.{CarrierCall, Datagram, Parcel, Collect, Fail, Offer}
 use Rattle.l3_datagram.specs.Datagrams.{head_at}
 use Rattle.l3_datagram.specs.Hops.{Way, Ends, ToNeighbour, forwarded_by, way}
-use Rattle.circuit_set.specs.Sets.{SetDone, SetState, Told, Sent, Comes, set_step}
+use Rattle.circuit_set.specs.Sets.{SetDone, SetState, CircuitTold, Sent, Comes, set_step}
 
 -- a set between its calls: what is untold, and what a sending that was told came to, where it came to nothing
 pub record Waiting : Type 0 where
   pub set : SetState
-  pub untold : List Told
+  pub untold : List CircuitTold
   pub lost : Option Routed
 
 -- nothing waits to be told but what lies at the router
@@ -29,7 +29,7 @@ at_rest s = record { set = s; untold = []; lost = None }
 abbrev pub with_done : Waiting → SetDone → Waiting
 with_done w d = record { set = d.set; untold = w.untold ++ d.told; lost = w.lost }
 
-abbrev pub is_empty : List Told → Bool
+abbrev pub is_empty : List CircuitTold → Bool
 is_empty [] = true
 is_empty (t ∷ ts) = false
 
@@ -37,11 +37,11 @@ abbrev pub is_drained : Waiting → Bool
 is_drained w = is_none w.lost && is_empty w.untold
 
 -- how much is untold: a sending may come to nothing, which is told next
-abbrev pub weight : Told → ℕ
+abbrev pub weight : CircuitTold → ℕ
 weight (Sent id number d) = 2
 weight _ = 1
 
-abbrev pub weights : List Told → ℕ
+abbrev pub weights : List CircuitTold → ℕ
 weights [] = 0
 weights (t ∷ ts) = weight t + weights ts
 
@@ -51,7 +51,7 @@ untold_weight w = (if is_none w.lost then 0 else 1) + weights w.untold
 -- ---- turns ----
 -- what a turn tells
 pub data SetTold : Type 0 where
-  Of : Told → SetTold
+  Of : CircuitTold → SetTold
   Dropped : Routed → SetTold
   Lost : Callsign → SetTold
 
@@ -122,21 +122,21 @@ turn_step now t answer = ends_with (offer_of t now answer) (outcome t answer)
 
 module _ (next_hop : Callsign → Option Callsign) where
   -- a datagram of this node goes to the next hop towards its destination
-  abbrev pub sent_to : SetState → Told → List ℕ → List Told → Option Callsign → Turn
+  abbrev pub sent_to : SetState → CircuitTold → List ℕ → List CircuitTold → Option Callsign → Turn
   sent_to s t d rest None = Says (record { told = Some (Of t); after = record { set = s; untold = rest; lost = Some routed.NoRoute }; items = [] })
   sent_to s t d rest (Some hop) =
       Offers hop (record { items = d }) (λ answer. record { told = Some (Of t); after = record { set = s; untold = rest; lost = dropped_by answer }; items = [] })
 
-  abbrev pub sent_by_head : SetState → Told → List ℕ → List Told → Result DatagramHead DatagramRefusal → Turn
+  abbrev pub sent_by_head : SetState → CircuitTold → List ℕ → List CircuitTold → Result DatagramHead DatagramRefusal → Turn
   sent_by_head s t d rest (Err e) = sent_to s t d rest None
   sent_by_head s t d rest (Ok head) = sent_to s t d rest (next_hop head.dest)
 
   -- the first thing that is untold is told
-  abbrev pub tells_first : SetState → Told → List Told → Turn
+  abbrev pub tells_first : SetState → CircuitTold → List CircuitTold → Turn
   tells_first s (Sent id number d) rest = sent_by_head s (Sent id number d) d rest (head_at d)
   tells_first s t rest = Says (record { told = Some (Of t); after = record { set = s; untold = rest; lost = None }; items = [] })
 
-  abbrev pub tells_of : SetState → List Told → Turn
+  abbrev pub tells_of : SetState → List CircuitTold → Turn
   tells_of s [] = Says (says_nothing (at_rest s))
   tells_of s (t ∷ rest) = tells_first s t rest
 

@@ -7,7 +7,7 @@ use Rattle.circuit_l4.specs.declared.transport.Transport.TheVariants.{Refuse}
 use Rattle.l3_datagram.specs.declared.datagram.TheConstants.{HEAD_SIZE}
 use Rattle.circuit_set.specs.Heedings.{IsFor}
 use Rattle.circuit_set.specs.Runs.{IsStart}
-use Rattle.circuit_set.specs.Sets.{Act, Holder, Sent, SetState, Told, set_step}
+use Rattle.circuit_set.specs.Sets.{Act, Holder, Sent, SetState, CircuitTold, set_step}
 
 -- a datagram that carries a refusal, and so does each copy of it
 pub record IsRefusal (datagram : List ℕ) : Type 0 where
@@ -15,7 +15,7 @@ pub record IsRefusal (datagram : List ℕ) : Type 0 where
   pub carried : transport_at (drop HEAD_SIZE datagram) ≡ Ok (Refuse pair)
 
 -- all that was sent under number 0 is
-abbrev pub RefusesUnder0 : List Told → Type 0
+abbrev pub RefusesUnder0 : List CircuitTold → Type 0
 RefusesUnder0 [] = Unit {0}
 RefusesUnder0 (Sent id number datagram ∷ ts) = (id ≡ 0 → IsRefusal datagram) × RefusesUnder0 ts
 RefusesUnder0 (t ∷ ts) = RefusesUnder0 ts

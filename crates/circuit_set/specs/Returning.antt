@@ -12,18 +12,18 @@ use Rattle.circuit_set.specs.Books.{Book, FreshTold, MadeNote, any_ends, empty, 
 use Rattle.circuit_set.specs.Events.{Event, Name, is_copy}
 use Rattle.circuit_set.specs.Givings.{IsUp, pairs_made}
 use Rattle.circuit_set.specs.Runs.{AreStarts, AreSteps, Step, events_of}
-use Rattle.circuit_set.specs.Sets.{Comes, Made, Sent, SetState, Told}
+use Rattle.circuit_set.specs.Sets.{Comes, Made, Sent, SetState, CircuitTold}
 
 -- ---- the runs of which it is said
 
 -- what was told at a node
-abbrev pub told_of : ℕ → List Event → List Told
-told_of node [] = []
-told_of node (e ∷ es) = if nat_eq e.node node then e.told ∷ told_of node es else told_of node es
+abbrev pub told_at_node : ℕ → List Event → List CircuitTold
+told_at_node node [] = []
+told_at_node node (e ∷ es) = if nat_eq e.node node then e.told ∷ told_at_node node es else told_at_node node es
 
 -- so many pairs a node has given its ends, as it tells them
 abbrev pub given_by : ℕ → List Event → ℕ
-given_by node events = length (pairs_made (told_of node events))
+given_by node events = length (pairs_made (told_at_node node events))
 
 -- no two nodes have one call
 abbrev pub CallsDiffer : List SetState → Type 0
@@ -68,7 +68,7 @@ pub record IsReturn (b : Book) (node : ℕ) (datagram : List ℕ) : Type 0 where
   pub opened : earlier.partner ≡ Some asker
   pub ended : any_ends earlier.told ≡ true
 
-abbrev pub ReturnTold : Book → ℕ → Told → Type 0
+abbrev pub ReturnTold : Book → ℕ → CircuitTold → Type 0
 ReturnTold b node (Made id pair at (Some datagram)) = IsReturn b node datagram
 ReturnTold b node _ = ⊥
 

@@ -4,7 +4,7 @@ use Rattle.ax_address.specs.Callsign.{Callsign, IsCallsign}
 use Rattle.circuit_l4.specs.Opening.{IsConfig}
 use Rattle.circuit_set.specs.Pairs.{IsPair}
 use Rattle.circuit_l4.specs.Expiries.{Moment, expiries}
-use Rattle.circuit_set.specs.Sets.{Act, Call, Calls, Closes, Comes, Connect, Discard, Restart, Takes, Ticks, Writes, Holder, SetState, Told, end_of, set_step}
+use Rattle.circuit_set.specs.Sets.{Act, Call, Calls, Closes, Comes, Connect, Discard, Restart, Takes, Ticks, Writes, Holder, SetState, CircuitTold, end_of, set_step}
 use Rattle.circuit_set.specs.Events.{Event, Name}
 
 -- a step of the set at a node
@@ -12,7 +12,7 @@ pub record Step : Type 0 where
   pub node : ℕ
   pub act : Act
 
-abbrev pub events_at : ℕ → Callsign → List Told → List Event
+abbrev pub events_at : ℕ → Callsign → List CircuitTold → List Event
 events_at node own [] = []
 events_at node own (t ∷ ts) = record { node = node; own = own; told = t } ∷ events_at node own ts
 

@@ -2,7 +2,7 @@
 use Rattle.std.specs.Prelude.{ℕ, ◌≡◌, List, [], ◌∷◌}
 use Rattle.ax_address.specs.Callsign.{Callsign}
 use Rattle.l3_datagram.specs.Datagrams.{octets_with}
-use Rattle.circuit_set.specs.Sets.{Act, Sent, SetState, Told, set_step}
+use Rattle.circuit_set.specs.Sets.{Act, Sent, SetState, CircuitTold, set_step}
 
 -- a datagram of this node
 pub record IsFrom (own : Callsign) (ttl : ℕ) (datagram : List ℕ) : Type 0 where
@@ -11,7 +11,7 @@ pub record IsFrom (own : Callsign) (ttl : ℕ) (datagram : List ℕ) : Type 0 wh
   pub are : datagram ≡ octets_with (record { origin = own; dest = dest; ttl = ttl }) transport
 
 -- all that was sent is
-abbrev pub SendsFrom : Callsign → ℕ → List Told → Type 0
+abbrev pub SendsFrom : Callsign → ℕ → List CircuitTold → Type 0
 SendsFrom own ttl [] = Unit {0}
 SendsFrom own ttl (Sent id number datagram ∷ ts) = IsFrom own ttl datagram × SendsFrom own ttl ts
 SendsFrom own ttl (t ∷ ts) = SendsFrom own ttl ts

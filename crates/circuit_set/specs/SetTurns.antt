@@ -13,9 +13,9 @@ use Rattle.l3_datagram.specs.CarrierCall.{CarrierCall, Fail, Parcel}
 use Rattle.l3_datagram.specs.Routers.{SameRouter}
 use Rattle.circuit_set.specs.declared.event.SetEvent.{SetEvent}
 use Rattle.circuit_set.specs.declared.holder.Untold.{Untold}
-use Rattle.circuit_set.specs.Sets.{SetState, Told}
+use Rattle.circuit_set.specs.Sets.{SetState, CircuitTold}
 use Rattle.circuit_set.specs.Pumps.{Pumped, after_calls, asks, at_rest, ends_with, heard_as, hears_lost, says_nothing, takes, tells_first, tells_on, turn_step}
-use Rattle.circuit_set.specs.Standing.{Rests, told_of}
+use Rattle.circuit_set.specs.Standing.{Rests, told_for}
 use Rattle.circuit_set.specs.CircuitSets.{Circuits, DoesPump, SetStands, untold_by}
 
 -- what is told after a sending that came to nothing
@@ -53,8 +53,8 @@ module _ {C : Type 0} (made : C → List CarrierCall → C → Type 0) where
   abbrev pub Tells : Circuits C → Circuits C → Untold → ℕ → Option SetEvent → Type 0
   Tells old new u now result =
       (answer : Offered)
-      × ((log : List Item) (s : SetState) (t : Told) (rest : List Told) → StandsFor old.router.table log
-      → SetStands old (record { set = s; untold = rest; lost = None }) → told_of s.own s.ttl u ≡ Some t
+      × ((log : List Item) (s : SetState) (t : CircuitTold) (rest : List CircuitTold) → StandsFor old.router.table log
+      → SetStands old (record { set = s; untold = rest; lost = None }) → told_for s.own s.ttl u ≡ Some t
       → DoesPump made old new log result (turn_step now (tells_first (next_hop old.router.table.rules log) s t rest) answer))
 
   -- what the router has answered is taken in, and what it brings is told, the first of it

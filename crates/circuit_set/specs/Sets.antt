@@ -43,18 +43,18 @@ pub record SetState : Type 0 where
   pub ends : List Holder  -- all that were ever made, by number
 
 -- what is told, in order. Number 0 is that of the set itself, which sends refusals
-pub data Told : Type 0 where
-  Made : (id : ℕ) (pair : Pair) (partner : Callsign) (request : Option (List ℕ)) → Told
-  Sent : (id : ℕ) (number : Option ℕ) (datagram : List ℕ) → Told
-  Heeded : (id : ℕ) (datagram : List ℕ) → Told
-  Notice : (id : ℕ) (notice : EndNotice) → Told
-  Gone : (id : ℕ) (facts : EndFacts) → Told
-  Restarted : (pair : Pair) → Told
-  Lost : (id : ℕ) (facts : EndFacts) → Told
+pub data CircuitTold : Type 0 where
+  Made : (id : ℕ) (pair : Pair) (partner : Callsign) (request : Option (List ℕ)) → CircuitTold
+  Sent : (id : ℕ) (number : Option ℕ) (datagram : List ℕ) → CircuitTold
+  Heeded : (id : ℕ) (datagram : List ℕ) → CircuitTold
+  Notice : (id : ℕ) (notice : EndNotice) → CircuitTold
+  Gone : (id : ℕ) (facts : EndFacts) → CircuitTold
+  Restarted : (pair : Pair) → CircuitTold
+  Lost : (id : ℕ) (facts : EndFacts) → CircuitTold
 
 pub record SetDone : Type 0 where
   pub set : SetState
-  pub told : List Told
+  pub told : List CircuitTold
 
 abbrev pub does_nothing : SetState → SetDone
 does_nothing s = record { set = s; told = [] }
@@ -85,11 +85,11 @@ is_open h = not h.gone && not (has_ended h.end.phase)
 abbrev pub datagram_to : SetState → Callsign → Transport → List ℕ
 datagram_to s at t = octets_with (record { origin = s.own; dest = at; ttl = s.ttl }) (transport_octets t)
 
-abbrev pub sendings : SetState → ℕ → Callsign → List Out → List Told
+abbrev pub sendings : SetState → ℕ → Callsign → List Out → List CircuitTold
 sendings s id at [] = []
 sendings s id at (o ∷ os) = Sent id o.1 (datagram_to s at o.0) ∷ sendings s id at os
 
-abbrev pub notices : ℕ → List EndNotice → List Told
+abbrev pub notices : ℕ → List EndNotice → List CircuitTold
 notices id [] = []
 notices id (n ∷ ns) = Notice id n ∷ notices id ns
 
@@ -98,13 +98,13 @@ abbrev pub is_over : State → Bool
 is_over e = has_ended e.phase && nat_eq (length (inbox e.receiving)) 0
 
 -- what an end tells that has come to g
-abbrev pub told_by : SetState → Holder → Effect → List Told
+abbrev pub told_by : SetState → Holder → Effect → List CircuitTold
 told_by s h g = sendings s h.id h.at g.outs ++ notices h.id g.notes ++ (if is_over g.end then Gone h.id (facts_of g.end) ∷ [] else [])
 
 abbrev pub after_effect : Holder → Effect → Holder
 after_effect h g = record h { end = g.end; gone = is_over g.end }
 
-abbrev pub goes_to : SetState → Holder → List Told → Effect → SetDone
+abbrev pub goes_to : SetState → Holder → List CircuitTold → Effect → SetDone
 goes_to s h first g = record { set = record s { ends = with_end (after_effect h g) s.ends }; told = first ++ told_by s h g }
 
 -- ---- a new end ----
@@ -245,7 +245,7 @@ abbrev pub all_gone : List Holder → List Holder
 all_gone [] = []
 all_gone (h ∷ hs) = record h { gone = true } ∷ all_gone hs
 
-abbrev pub losses : List Holder → List Told
+abbrev pub losses : List Holder → List CircuitTold
 losses [] = []
 losses (h ∷ hs) = if h.gone then losses hs else Lost h.id (facts_of h.end) ∷ losses hs
 

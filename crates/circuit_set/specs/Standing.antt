@@ -32,7 +32,7 @@ use Rattle.indexmap.specs.IndexMap.{insert_entry}
 use Rattle.indexmap.specs.IndexMap.{set_value_at}
 use Rattle.circuit_set.specs.Pairs.{pair_after}
 use Rattle.circuit_set.specs.Sets as sets
-use Rattle.circuit_set.specs.Sets.{SetState, Told, is_over, notices}
+use Rattle.circuit_set.specs.Sets.{SetState, CircuitTold, is_over, notices}
 use Rattle.circuit_set.specs.Heeds.{heeds}
 use Rattle.circuit_set.specs.Pumps.{SetTold, Of, Dropped, Lost, is_empty}
 
@@ -50,12 +50,12 @@ event_told (event.Gone id facts) = Of (sets.Gone id facts)
 abbrev pub datagram_by : Callsign → ℕ → Callsign → Transport → List ℕ
 datagram_by own ttl to t = octets_with (record { origin = own; dest = to; ttl = ttl }) (transport_octets t)
 
-abbrev pub sents_by : Callsign → ℕ → ℕ → Callsign → List Out → List Told
-sents_by own ttl id to [] = []
-sents_by own ttl id to (o ∷ os) = sets.Sent id o.1 (datagram_by own ttl to o.0) ∷ sents_by own ttl id to os
+abbrev pub sendings_by : Callsign → ℕ → ℕ → Callsign → List Out → List CircuitTold
+sendings_by own ttl id to [] = []
+sendings_by own ttl id to (o ∷ os) = sets.Sent id o.1 (datagram_by own ttl to o.0) ∷ sendings_by own ttl id to os
 
 -- what stands for this in the machine: a sending is one that was put out, and isn't told before
-abbrev pub told_by_end : SetEvent → Option Told
+abbrev pub told_by_end : SetEvent → Option CircuitTold
 told_by_end (event.Made id pair partner request) = Some (sets.Made id pair partner (option_map (λ d. d.items) request))
 told_by_end (event.Heeded id datagram) = Some (sets.Heeded id datagram.items)
 told_by_end (event.Notice id notice) = Some (sets.Notice id notice)
@@ -64,12 +64,12 @@ told_by_end (event.Sent id number datagram) = None
 told_by_end (event.Dropped routed) = None
 told_by_end (event.Lost call) = None
 
-abbrev pub told_of : Callsign → ℕ → Untold → Option Told
-told_of own ttl (untold.Event e) = told_by_end e
-told_of own ttl (untold.Out id number to t) = Some (sets.Sent id number (datagram_by own ttl to t))
+abbrev pub told_for : Callsign → ℕ → Untold → Option CircuitTold
+told_for own ttl (untold.Event e) = told_by_end e
+told_for own ttl (untold.Out id number to t) = Some (sets.Sent id number (datagram_by own ttl to t))
 
 -- ---- one end ----
-abbrev pub if_so : Bool → Told → List Told
+abbrev pub if_so : Bool → CircuitTold → List CircuitTold
 if_so true t = t ∷ []
 if_so false t = []
 
@@ -77,10 +77,10 @@ if_so false t = []
 abbrev pub of_holder : ℕ → Holder → Effect → sets.Holder
 of_holder id k g = record { id = id; at = k.at; asked = k.asked; end = g.end; gone = k.discarded || is_over g.end }
 
-abbrev pub untold_of : Callsign → ℕ → ℕ → Holder → Effect → List Told
+abbrev pub untold_of : Callsign → ℕ → ℕ → Holder → Effect → List CircuitTold
 untold_of own ttl id k g =
     if_so k.unannounced (sets.Made id k.pair k.at None)
-    ++ sents_by own ttl id k.at g.outs
+    ++ sendings_by own ttl id k.at g.outs
     ++ notices id g.notes
     ++ if_so (k.discarded || is_over g.end) (sets.Gone id (facts_of g.end))
 
@@ -104,7 +104,7 @@ MetBy None s = Unit {0}
 MetBy (Some p) s = Met p s
 
 -- the code's end stands for this one of the machine, of which this is untold
-pub record Keeps (own : Callsign) (ttl id : ℕ) (k : Holder) (h : sets.Holder) (told : List Told) : Type 0 where
+pub record Keeps (own : Callsign) (ttl id : ℕ) (k : Holder) (h : sets.Holder) (told : List CircuitTold) : Type 0 where
   pub going : Effect
   pub stands : Stands k.end going
   pub is : h ≡ of_holder id k going
@@ -124,48 +124,48 @@ is_last_of None = false
 is_last_of (Some u) = is_last u
 
 -- what is left untold of an end once this was told
-abbrev pub Leaves : Callsign → ℕ → ℕ → sets.Holder → Holder → List Told → Bool → Type 0
+abbrev pub Leaves : Callsign → ℕ → ℕ → sets.Holder → Holder → List CircuitTold → Bool → Type 0
 Leaves own ttl id h k rest true = (rest ≡ []) × (h.gone ≡ true)
 Leaves own ttl id h k rest false = Keeps own ttl id k h rest
 
 -- the first thing that is untold of an end is told
-abbrev pub Tells : Callsign → ℕ → ℕ → sets.Holder → Untold → Holder → List Told → Type 0
+abbrev pub Tells : Callsign → ℕ → ℕ → sets.Holder → Untold → Holder → List CircuitTold → Type 0
 Tells own ttl id h u k told =
-    (t : Told) × (rest : List Told) × (told ≡ t ∷ rest) × (told_of own ttl u ≡ Some t) × Leaves own ttl id h k rest (is_last u)
+    (t : CircuitTold) × (rest : List CircuitTold) × (told ≡ t ∷ rest) × (told_for own ttl u ≡ Some t) × Leaves own ttl id h k rest (is_last u)
 
 -- ---- all ends ----
 -- an end that is gone, and of which all is told
-pub record Past (Rest : List (ℕ × Holder) → List Told → Type 0) (h : sets.Holder) (es : List (ℕ × Holder)) (told : List Told) : Type 0 where
+pub record Past (Rest : List (ℕ × Holder) → List CircuitTold → Type 0) (h : sets.Holder) (es : List (ℕ × Holder)) (told : List CircuitTold) : Type 0 where
   pub gone : h.gone ≡ true
   pub others : Rest es told
 
 -- an end that is held
-pub record Here (own : Callsign) (ttl : ℕ) (Rest : List (ℕ × Holder) → List Told → Type 0) (h : sets.Holder) (es : List (ℕ × Holder)) (told : List Told) : Type 0 where
+pub record Here (own : Callsign) (ttl : ℕ) (Rest : List (ℕ × Holder) → List CircuitTold → Type 0) (h : sets.Holder) (es : List (ℕ × Holder)) (told : List CircuitTold) : Type 0 where
   pub k : Holder
   pub rest : List (ℕ × Holder)
-  pub mine : List Told
-  pub theirs : List Told
+  pub mine : List CircuitTold
+  pub theirs : List CircuitTold
   pub is : es ≡ (h.id, k) ∷ rest
   pub both : told ≡ mine ++ theirs
   pub keeps : Keeps own ttl h.id k h mine
   pub others : Rest rest theirs
 
 -- end by end, with numbers from lo on that rise and stay below hi
-abbrev pub Held : Callsign → ℕ → ℕ → ℕ → List (ℕ × Holder) → List sets.Holder → List Told → Type 0
-Held own ttl hi lo es [] told = (es ≡ []) × (told ≡ []) × (lo ≤ hi)
-Held own ttl hi lo es (h ∷ hs) told =
+abbrev pub EachStands : Callsign → ℕ → ℕ → ℕ → List (ℕ × Holder) → List sets.Holder → List CircuitTold → Type 0
+EachStands own ttl hi lo es [] told = (es ≡ []) × (told ≡ []) × (lo ≤ hi)
+EachStands own ttl hi lo es (h ∷ hs) told =
     (lo ≤ h.id)
-    × (Past (λ rest theirs. Held own ttl hi (suc h.id) rest hs theirs) h es told
-    ⊎ Here own ttl (λ rest theirs. Held own ttl hi (suc h.id) rest hs theirs) h es told)
+    × (Past (λ rest theirs. EachStands own ttl hi (suc h.id) rest hs theirs) h es told
+    ⊎ Here own ttl (λ rest theirs. EachStands own ttl hi (suc h.id) rest hs theirs) h es told)
 
 -- the ends that are held stand for those of the machine, of which this is untold
-pub record HeldStands (c : HeldEnds) (s : SetState) (told : List Told) : Type 0 where
+pub record HeldStands (c : HeldEnds) (s : SetState) (told : List CircuitTold) : Type 0 where
   pub own : s.own ≡ c.own
   pub user : s.user ≡ c.user
   pub config : s.config ≡ c.config
   pub next : s.next ≡ c.next
   pub number : s.number ≡ c.number
-  pub ends : Held s.own s.ttl s.number 0 c.ends.entries s.ends told
+  pub ends : EachStands s.own s.ttl s.number 0 c.ends.entries s.ends told
 
 -- the node, its user, its settings, its next pair and number stay
 pub record SameNode (c c2 : HeldEnds) : Type 0 where
@@ -176,8 +176,8 @@ pub record SameNode (c c2 : HeldEnds) : Type 0 where
   pub number : c2.number ≡ c.number
 
 -- from a state of which nothing is untold, to the one that the act leads to, of which that is untold which it tells
-abbrev pub Goes : sets.Act → HeldEnds → HeldEnds → Type 0
-Goes act old new = (s : SetState) → HeldStands old s [] → HeldStands new (sets.set_step s act).set (sets.set_step s act).told
+abbrev pub HeldGoes : sets.Act → HeldEnds → HeldEnds → Type 0
+HeldGoes act old new = (s : SetState) → HeldStands old s [] → HeldStands new (sets.set_step s act).set (sets.set_step s act).told
 
 -- no output and no notice waits at an end
 abbrev pub Rests : List (ℕ × Holder) → Type 0
@@ -218,7 +218,7 @@ HasEnded (Some k) = (x : State) → StandsFor k.end x → true ≡ sets.has_ende
 -- ---- looking for an end ----
 -- whether an end has nothing to tell
 abbrev pub IsSilent : Holder → Bool → Type 0
-IsSilent k b = (own : Callsign) (ttl id : ℕ) (h : sets.Holder) (told : List Told) → Keeps own ttl id k h told → b ≡ is_empty told
+IsSilent k b = (own : Callsign) (ttl id : ℕ) (h : sets.Holder) (told : List CircuitTold) → Keeps own ttl id k h told → b ≡ is_empty told
 
 -- the number of the first one that has something to tell
 abbrev pub FirstLoud : Option ℕ → List (ℕ × Holder) → Type 0
@@ -227,7 +227,7 @@ FirstLoud r (e ∷ es) = ((r ≡ Some e.0) × IsSilent e.1 false) ⊎ (IsSilent 
 
 -- whether an end is open and passes the test
 abbrev pub Fits : (sets.Holder → Bool) → Holder → Bool → Type 0
-Fits test k b = (own : Callsign) (ttl id : ℕ) (h : sets.Holder) (told : List Told) → Keeps own ttl id k h told → b ≡ (sets.is_open h && test h)
+Fits test k b = (own : Callsign) (ttl id : ℕ) (h : sets.Holder) (told : List CircuitTold) → Keeps own ttl id k h told → b ≡ (sets.is_open h && test h)
 
 -- the number of the first one that is and does
 abbrev pub FirstFit : (sets.Holder → Bool) → Option ℕ → List (ℕ × Holder) → Type 0
@@ -266,7 +266,7 @@ left_at u k = if is_last u then 0 else untold_at k
 abbrev pub Gives : sets.SetDone → Option Untold → HeldEnds → Type 0
 Gives d None c = (d.told ≡ []) × HeldStands c d.set []
 Gives d (Some u) c =
-    (t : Told) × (rest : List Told) × (d.told ≡ t ∷ rest) × (told_of d.set.own d.set.ttl u ≡ Some t) × HeldStands c d.set rest
+    (t : CircuitTold) × (rest : List CircuitTold) × (d.told ≡ t ∷ rest) × (told_for d.set.own d.set.ttl u ≡ Some t) × HeldStands c d.set rest
 
 -- the ends once this was told of the one with a number, which has come to k
 abbrev pub left_of : ℕ → Bool → List (ℕ × Holder) → Holder → List (ℕ × Holder)
@@ -275,7 +275,7 @@ left_of id false es k = set_value (nat_eq id) es k
 
 -- an end that has something to tell tells this, and comes to another one
 pub record TellsFirst (id : ℕ) (k : Holder) (u : Untold) (k2 : Holder) : Type 0 where
-  pub tells : (own : Callsign) (ttl : ℕ) (h : sets.Holder) (told : List Told) → Keeps own ttl id k h told → is_empty told ≡ false → Tells own ttl id h u k2 told
+  pub tells : (own : Callsign) (ttl : ℕ) (h : sets.Holder) (told : List CircuitTold) → Keeps own ttl id k h told → is_empty told ≡ false → Tells own ttl id h u k2 told
   pub falls : cost u + left_at u k2 ≤ untold_at k
 
 -- so does the end with a number, where it is held

@@ -12,10 +12,10 @@ use Rattle.circuit_l4.specs.declared.notice.EndNotice.TheVariants.{Opened}
 use Rattle.circuit_l4.specs.Transports.{pair_at}
 use Rattle.circuit_set.specs.Among.{First, Has, Last}
 use Rattle.circuit_set.specs.Events.{Event, Name, ends_it, is_copy, same_name}
-use Rattle.circuit_set.specs.Sets.{Told, Made, Sent, Heeded, Notice, Lost}
+use Rattle.circuit_set.specs.Sets.{CircuitTold, Made, Sent, Heeded, Notice, Lost}
 
 -- ---- what an event tells of an end x
-abbrev pub Tells : Event → Name → Told → Type 0
+abbrev pub Tells : Event → Name → CircuitTold → Type 0
 Tells e x told = (e.node ≡ x.node) × (e.told ≡ told)
 
 -- x was made, for this request, or for none

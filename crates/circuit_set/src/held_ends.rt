@@ -42,8 +42,8 @@ impl HeldEnds {
     ghost use Rattle.circuit_set.specs.Pumps.{is_empty};
     ghost use Rattle.circuit_set.specs.Inputs.{after_ticks};
     ghost use Rattle.circuit_set.specs.declared.event.SetRefusal.TheVariants as refusals;
-    ghost use Rattle.circuit_set.specs.Sets.{SetState, Told};
-    ghost use Rattle.circuit_set.specs.Standing.{Gives, Goes, HasEnded, Holds, RestsAt, TicksNth, HeldStands, NextOf, ToldBy, Rests, FallsBy, untold_in, SameNode, close_answer, discard_answer, message_at, take_answer, write_answer};
+    ghost use Rattle.circuit_set.specs.Sets.{SetState, CircuitTold};
+    ghost use Rattle.circuit_set.specs.Standing.{Gives, HeldGoes, HasEnded, Holds, RestsAt, TicksNth, HeldStands, NextOf, ToldBy, Rests, FallsBy, untold_in, SameNode, close_answer, discard_answer, message_at, take_answer, write_answer};
 
     pub(crate) fn new_pair(&self) -> Pair
         ensures { (s : SetState) → HeldStands self.now s [] → result ≡ sets.new_pair s }
@@ -96,7 +96,7 @@ impl HeldEnds {
         ensures memory { IsErrOf result refusals.NoMemory → ⊥ }
         ensures same { SameNode self.old self.new }
         ensures err { OnErr result (self.new.ends.entries ≡ self.old.ends.entries) }
-        ensures goes { OnOk result (Goes (sets.Calls id (sets.Writes message.now) now.0) self.old self.new) }
+        ensures goes { OnOk result (HeldGoes (sets.Calls id (sets.Writes message.now) now.0) self.old self.new) }
     {
         let loud = self.loud_at(id);
         match self.ends.get_mut(&id) {
@@ -116,7 +116,7 @@ impl HeldEnds {
         ensures answer { (s : SetState) → HeldStands self.old s [] → result ≡ take_answer (sets.end_of id s.ends) }
         ensures message { (s : SetState) → HeldStands self.old s [] → out.new.items ≡ message_at out.old.items (sets.end_of id s.ends) }
         ensures same { SameNode self.old self.new }
-        ensures goes { Goes (sets.Calls id sets.Takes now.0) self.old self.new }
+        ensures goes { HeldGoes (sets.Calls id sets.Takes now.0) self.old self.new }
         ensures err { OnErr result ((self.new ≡ self.old) × (out.new ≡ out.old)) }
     {
         let loud = self.loud_at(id);
@@ -142,7 +142,7 @@ impl HeldEnds {
         requires { Rests self.old.ends.entries }
         ensures answer { (s : SetState) → HeldStands self.old s [] → result ≡ close_answer (sets.end_of id s.ends) }
         ensures same { SameNode self.old self.new }
-        ensures goes { Goes (sets.Calls id sets.Closes now.0) self.old self.new }
+        ensures goes { HeldGoes (sets.Calls id sets.Closes now.0) self.old self.new }
         ensures err { OnErr result (self.new ≡ self.old) }
     {
         let loud = self.loud_at(id);
@@ -176,7 +176,7 @@ impl HeldEnds {
     pub(crate) fn discard(&mut self, id: u64)
         requires { HasEnded (lookup (nat_eq id) self.old.ends.entries) }
         ensures same { SameNode self.old self.new }
-        ensures goes { Goes (sets.Discard id) self.old self.new }
+        ensures goes { HeldGoes (sets.Discard id) self.old self.new }
     {
         let loud = self.loud_at(id);
         if let Some(holder) = self.ends.get_mut(&id) {
@@ -211,7 +211,7 @@ impl HeldEnds {
 
     /// Whether no end has anything to tell.
     pub(crate) fn is_quiet(&self) -> bool
-        ensures exact { (s : SetState) (told : List Told) → HeldStands self.now s told → result ≡ is_empty told }
+        ensures exact { (s : SetState) (told : List CircuitTold) → HeldStands self.now s told → result ≡ is_empty told }
         ensures rests { result ≡ true → Rests self.now.ends.entries }
     {
         self.first_loud().is_none()
@@ -261,7 +261,7 @@ impl HeldEnds {
     /// What is told next, of the first end that has something to tell.
     pub(crate) fn next(&mut self, untold: &mut Option<Untold>)
         requires { untold.old ≡ None }
-        ensures gives { (s : SetState) (told : List Told) → HeldStands self.old s told → Gives (record { set = s; told = told }) untold.new self.new }
+        ensures gives { (s : SetState) (told : List CircuitTold) → HeldStands self.old s told → Gives (record { set = s; told = told }) untold.new self.new }
         ensures rests { untold.new ≡ None → Rests self.new.ends.entries }
         ensures falls { FallsBy untold.new (untold_in self.old.ends.entries) (untold_in self.new.ends.entries) }
         ensures same { SameNode self.old self.new }

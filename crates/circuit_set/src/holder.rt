@@ -8,7 +8,7 @@ ghost use Rattle.circuit_l4.specs.Standing.{IsDrained, Stands, StandsFor};
 ghost use Rattle.circuit_l4.specs.Halves.{first_or};
 ghost use Rattle.circuit_l4.specs.Receiving.{inbox};
 ghost use Rattle.circuit_set.specs.Sets as sets;
-ghost use Rattle.circuit_set.specs.Sets.{Told};
+ghost use Rattle.circuit_set.specs.Sets.{CircuitTold};
 ghost use Rattle.circuit_set.specs.Pumps.{is_empty};
 ghost use Rattle.circuit_set.specs.Standing as last;
 ghost use Rattle.circuit_set.specs.Standing.{Fits, IsSilent, Keeps, Tells, cost, capped_count, left_at, untold_at};
@@ -168,7 +168,7 @@ impl Holder {
     /// What it tells next, where it has something to tell: that it was made, what it puts out, its notice, that it is gone, in this
     /// order.
     pub(crate) fn next(&mut self, id: u64, untold: &mut Option<Untold>)
-        ensures tells { IfSome untold.new (λ u. (own : Callsign) (ttl : ℕ) (h : sets.Holder) (told : List Told) → Keeps own ttl id self.old h told →
+        ensures tells { IfSome untold.new (λ u. (own : Callsign) (ttl : ℕ) (h : sets.Holder) (told : List CircuitTold) → Keeps own ttl id self.old h told →
             is_empty told ≡ false → Tells own ttl id h u self.new told) }
         ensures falls { IfSome untold.new (λ u. cost u + left_at u self.new ≤ untold_at self.old) }
         ensures some { is_some untold.new ≡ true }

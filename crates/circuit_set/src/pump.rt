@@ -16,7 +16,7 @@ impl<C: Carrier> CircuitSet<C> {
     ghost use Rattle.l3_datagram.specs.Datagrams.{SpellsDatagram, datagram_with};
     ghost use Rattle.l3_datagram.specs.Routers.{IsFor, MineIsFor, SameRouter, waiting_left};
     ghost use Rattle.circuit_set.specs.declared.holder.Untold.TheVariants as untold;
-    ghost use Rattle.circuit_set.specs.Sets.{Told};
+    ghost use Rattle.circuit_set.specs.Sets.{CircuitTold};
     ghost use Rattle.circuit_set.specs.Standing.{Brings, Rests, cost, untold_in};
     ghost use Rattle.circuit_set.specs.CircuitSets.{Falls, IsDrained, Pumps};
     ghost use Rattle.circuit_set.specs.Kept.{PumpKeepsOn};

@@ -131,7 +131,7 @@ impl<C: Carrier> CircuitSet<C> {
     ghost use Rattle.circuit_set.specs.Pumps.{Waiting, at_rest, is_drained};
     ghost use Rattle.circuit_set.specs.Inputs.{connect_answer, ticks};
     ghost use Rattle.circuit_set.specs.Standing.{close_answer, discard_answer, message_at, take_answer, write_answer};
-    ghost use Rattle.circuit_set.specs.CircuitSets.{Circuits, Goes, GoesBy, IsDrained, IsUnchanged, LentStands, Pumps, SetStands, facts_at, held_by, held_ids, partner_at, requested_at};
+    ghost use Rattle.circuit_set.specs.CircuitSets.{Circuits, SetGoes, GoesBy, IsDrained, IsUnchanged, LentStands, Pumps, SetStands, facts_at, held_by, held_ids, partner_at, requested_at};
     ghost use Rattle.circuit_set.specs.Kept.{KeepsOn};
     ghost use Rattle.circuit_set.specs.SetTurns.{Asks};
 
@@ -186,7 +186,7 @@ impl<C: Carrier> CircuitSet<C> {
     /// Time has passed for all ends.
     pub fn tick(&mut self, now: Moment) -> Result<(), NoMemory>
         requires { IsDrained self.old }
-        ensures goes { OnOk result (Goes self.old self.new (λ s. ticks now.0 (at_rest s))) }
+        ensures goes { OnOk result (SetGoes self.old self.new (λ s. ticks now.0 (at_rest s))) }
         ensures memory { IsErr result ↔ IsTrue self.old.spent }
         ensures err { OnErr result (self.new ≡ self.old) }
         ensures unspent { self.new.spent ≡ self.old.spent }

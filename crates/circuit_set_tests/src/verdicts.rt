@@ -1,7 +1,7 @@
 //! Verdicts on made-up lists of events at two nodes, N0AAA and N0BBB. The first ends of both are partners, and N0AAA's asks.
 use ax_address::Call;
 use circuit_l4::{EndFacts, EndNotice, EndPhase, Pair};
-use circuit_verdict::{Allowance, Event, Late, LateWhy, Numbered, Told, Verdict, too_late};
+use circuit_verdict::{Allowance, CircuitTold, Event, Late, LateWhy, Numbered, Verdict, too_late};
 use l3_datagram::{Datagram, DatagramHead, write_datagram};
 use std::alloc::Global;
 use std::process::Abort;
@@ -68,7 +68,7 @@ impl Trial {
     }
 
     fn made(&mut self, rt: &impl Abort, node: u64, id: u64, pair: Pair, request: Option<&[u8]>) {
-        let told = Told::Made {
+        let told = CircuitTold::Made {
             id,
             pair,
             partner: partner_of(node),
@@ -79,7 +79,7 @@ impl Trial {
     }
 
     fn sent(&mut self, rt: &impl Abort, node: u64, number: Option<u64>, datagram: &[u8]) {
-        let told = Told::Sent {
+        let told = CircuitTold::Sent {
             id: 1,
             number,
             datagram,
@@ -89,26 +89,26 @@ impl Trial {
     }
 
     fn heeded(&mut self, rt: &impl Abort, node: u64, datagram: &[u8]) {
-        let told = Told::Heeded { id: 1, datagram };
+        let told = CircuitTold::Heeded { id: 1, datagram };
         let own = call_of(node);
         self.tell(rt, &Event { node, own, told });
     }
 
     fn notice(&mut self, rt: &impl Abort, node: u64, notice: EndNotice) {
-        let told = Told::Notice { id: 1, notice };
+        let told = CircuitTold::Notice { id: 1, notice };
         let own = call_of(node);
         self.tell(rt, &Event { node, own, told });
     }
 
     /// A node loses its first end and starts again, at this pair.
     fn restarted(&mut self, rt: &impl Abort, node: u64, pair: Pair) {
-        let told = Told::Lost {
+        let told = CircuitTold::Lost {
             id: 1,
             facts: FACTS,
         };
         let own = call_of(node);
         self.tell(rt, &Event { node, own, told });
-        let told = Told::Restarted { pair };
+        let told = CircuitTold::Restarted { pair };
         self.tell(rt, &Event { node, own, told });
     }
 
@@ -257,18 +257,18 @@ fn a_list_is_judged_at_once(rt: HostRuntime) {
     let request = request(1);
     let datagram = request.as_slice();
     let (node, own) = (1, call_of(1));
-    let asks = Told::Made {
+    let asks = CircuitTold::Made {
         id: 1,
         pair: FIRST,
         partner: call_of(2),
         request: None,
     };
-    let sends = Told::Sent {
+    let sends = CircuitTold::Sent {
         id: 1,
         number: None,
         datagram,
     };
-    let heeds = Told::Heeded { id: 1, datagram };
+    let heeds = CircuitTold::Heeded { id: 1, datagram };
     let events = [
         Numbered {
             line: 3,

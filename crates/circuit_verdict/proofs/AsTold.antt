@@ -4,7 +4,7 @@ use Rattle.std.specs.Prelude.{Option, Some, None}
 use Rattle.circuit_set.specs.Books.{Fresh, FreshTold, Timely, TimelyTold, empty, with_events}
 use Rattle.circuit_set.specs.Events.{Event}
 use Rattle.circuit_set.specs.ByBook.{FreshByBook, TimelyBy128, TimelyByBook}
-use Rattle.circuit_set.specs.Sets.{Told, Made, Sent, Heeded, Notice, Gone, Restarted, Lost}
+use Rattle.circuit_set.specs.Sets.{CircuitTold, Made, Sent, Heeded, Notice, Gone, Restarted, Lost}
 use Rattle.circuit_set.specs.TooLate.{IsFresh, IsTimely}
 use Rattle.circuit_verdict.specs.declared.book.Book.{Book}
 use Rattle.circuit_verdict.specs.declared.event.Numbered.{Numbered}
@@ -34,7 +34,7 @@ module _ (pairs : FreshByBook) (by_window : TimelyByBook) (by_128 : TimelyBy128)
   overtaken : (a : Allowance) (es : List Event) (e : Event) → Fresh empty es → (TimelyTold (allowance_of a) (with_events empty es) e.node e.told → ⊥) → Fresh empty (es ++ e ∷ [])
   overtaken a es e fresh late = by e.told late
     where
-      by : (t : Told) → (TimelyTold (allowance_of a) (with_events empty es) e.node t → ⊥) → Fresh empty (es ++ record { node = e.node; own = e.own; told = t } ∷ [])
+      by : (t : CircuitTold) → (TimelyTold (allowance_of a) (with_events empty es) e.node t → ⊥) → Fresh empty (es ++ record { node = e.node; own = e.own; told = t } ∷ [])
       by (Heeded id d) f = fresh_more empty [] es (record { node = e.node; own = e.own; told = Heeded id d }) fresh tt
       by (Made id pair at request) f = absurd (f tt)
       by (Sent id number d) f = absurd (f tt)

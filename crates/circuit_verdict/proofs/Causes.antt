@@ -6,7 +6,7 @@ use Rattle.std.proofs.lemmas.Bool.Decides.{nat_tests}
 use Rattle.circuit_l4.specs.declared.transport.Pair.{Pair}
 use Rattle.circuit_set.specs.Books.{Book, FreshTold, HasRequester, MadeNote, NoOther, SentNote, TimelyTo, TimelyTold, empty, first_name, is_unknown, latest_in, with_events, overtakers, partner, requester}
 use Rattle.circuit_set.specs.Events.{Event, Name}
-use Rattle.circuit_set.specs.Sets.{Told, Made, Sent, Heeded, Notice, Gone, Restarted, Lost}
+use Rattle.circuit_set.specs.Sets.{CircuitTold, Made, Sent, Heeded, Notice, Gone, Restarted, Lost}
 use Rattle.circuit_verdict.specs.declared.cause.Cause.{Cause}
 use Rattle.circuit_verdict.specs.declared.cause.Cause.TheVariants.{Unsent, Overtaken, Unasked}
 use Rattle.circuit_verdict.specs.declared.ends.Ends.{Ends}
@@ -185,7 +185,7 @@ in_time a b x y (Some s) v count allowed e f g h =
     None (few (allowance_of a b x) (overtakers y x s.place b.sent b.heard) allowed count g counted h) refl
 
 -- ---- any event
-none_told : (a : Allowance) (b : Book) (lost : List Name) (node : ℕ) (t : Told) → cause_told a b lost node t ≡ None → TimelyTold (allowance_of a) b node t × FreshTold b lost node t
+none_told : (a : Allowance) (b : Book) (lost : List Name) (node : ℕ) (t : CircuitTold) → cause_told a b lost node t ≡ None → TimelyTold (allowance_of a) b node t × FreshTold b lost node t
 none_told a b lost node (Made id pair at request) e = (tt, fresh_by (is_some request && is_unknown (requester b request)) b lost node pair request refl e)
 none_told a b lost node (Sent id number d) e = (tt, tt)
 none_told a b lost node (Heeded id d) e = let x : Name = record { node = node; id = id } in (timely_from (partner b x) a b x d refl e, tt)
@@ -194,7 +194,7 @@ none_told a b lost node (Gone id facts) e = (tt, tt)
 none_told a b lost node (Restarted pair) e = (tt, tt)
 none_told a b lost node (Lost id facts) e = (tt, tt)
 
-told_none : (a : Allowance) (b : Book) (lost : List Name) (node : ℕ) (t : Told) → TimelyTold (allowance_of a) b node t → FreshTold b lost node t → cause_told a b lost node t ≡ None
+told_none : (a : Allowance) (b : Book) (lost : List Name) (node : ℕ) (t : CircuitTold) → TimelyTold (allowance_of a) b node t → FreshTold b lost node t → cause_told a b lost node t ≡ None
 told_none a b lost node (Made id pair at request) e f = made_by (is_some request && is_unknown (requester b request)) b lost node pair request refl f.0 f.1
 told_none a b lost node (Sent id number d) e f = refl
 told_none a b lost node (Heeded id d) e f = heeded_none a b (record { node = node; id = id }) d e

@@ -2,7 +2,7 @@
 use Rattle.std.proofs.Common.{◌≡◌, ◌+◌, ◌∙◌, ℕ, suc, refl, ap, arith, append_assoc, List, [], ◌∷◌, ◌++◌}
 use Rattle.std.specs.Prelude.{true, false, Option, Some, None, is_some}
 use Rattle.ax_address.specs.Callsign.{Callsign}
-use Rattle.circuit_set.specs.Sets.{Told, Made, Sent, Heeded, Notice, Gone, Restarted, Lost}
+use Rattle.circuit_set.specs.Sets.{CircuitTold, Made, Sent, Heeded, Notice, Gone, Restarted, Lost}
 use Rattle.circuit_set.specs.Books as books
 use Rattle.circuit_set.specs.Events.{Event, Name}
 use Rattle.circuit_set.specs.Books.{Fresh, FreshFrom, FreshTold, Timely, TimelyTold, empty, lost_with, with_event, with_events}
@@ -40,7 +40,7 @@ events_more : (ns : List Numbered) (n : Numbered) → events_of (ns ++ n ∷ [])
 events_more [] n = refl
 events_more (k ∷ ns) n = ap (λ (es : List Event). event_of k.event ∷ es) (events_more ns n)
 
-one_place : (b : books.Book) (node : ℕ) (own : Callsign) (t : Told) → (books.note_told b node own t).places ≡ suc b.places
+one_place : (b : books.Book) (node : ℕ) (own : Callsign) (t : CircuitTold) → (books.note_told b node own t).places ≡ suc b.places
 one_place b node own (Made id pair at request) = refl
 one_place b node own (Sent id number d) = refl
 one_place b node own (Heeded id d) = refl

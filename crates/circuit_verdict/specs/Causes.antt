@@ -3,7 +3,7 @@ use Rattle.std.specs.Prelude.{ℕ, ◌&&◌, nat_le, is_some, if◌then◌else�
 use Rattle.circuit_l4.specs.declared.transport.Pair.{Pair}
 use Rattle.circuit_set.specs.Books.{Book, MadeNote, SentNote, empty, is_unknown, latest_in, with_events, overtakers, partner, requester}
 use Rattle.circuit_set.specs.Events.{Event, Name, same_name}
-use Rattle.circuit_set.specs.Sets.{Made, Heeded, Told}
+use Rattle.circuit_set.specs.Sets.{Made, Heeded, CircuitTold}
 use Rattle.indexmap.specs.IndexMap.{get}
 use Rattle.circuit_verdict.specs.declared.cause.Cause.{Cause}
 use Rattle.circuit_verdict.specs.declared.cause.Cause.TheVariants.{Unsent, Overtaken, Unasked, Held}
@@ -39,7 +39,7 @@ made_cause b lost node pair request =
     if is_some request && is_unknown (requester b request) then Some Unasked else held_cause (slice_get (holders b.made lost node pair) 0)
 
 -- ---- any event
-abbrev pub cause_told : Allowance → Book → List Name → ℕ → Told → Option Cause
+abbrev pub cause_told : Allowance → Book → List Name → ℕ → CircuitTold → Option Cause
 cause_told a b lost node (Made id pair at request) = made_cause b lost node pair request
 cause_told a b lost node (Heeded id d) = let x : Name = record { node = node; id = id } in heeded_cause a b x d (partner b x)
 cause_told a b lost node told = None

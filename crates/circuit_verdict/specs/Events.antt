@@ -3,22 +3,22 @@ use Rattle.std.specs.Prelude.{List, [], ◌∷◌}
 use Rattle.std.specs.Option.{option_copied}
 use Rattle.circuit_set.specs.Sets as sets
 use Rattle.circuit_set.specs.Events as events
-use Rattle.circuit_verdict.specs.declared.event.Told.{Told}
-use Rattle.circuit_verdict.specs.declared.event.Told.TheVariants.{Made, Sent, Heeded, Notice, Gone, Restarted, Lost}
+use Rattle.circuit_verdict.specs.declared.event.CircuitTold.{CircuitTold}
+use Rattle.circuit_verdict.specs.declared.event.CircuitTold.TheVariants.{Made, Sent, Heeded, Notice, Gone, Restarted, Lost}
 use Rattle.circuit_verdict.specs.declared.event.Event.{Event}
 use Rattle.circuit_verdict.specs.declared.event.Numbered.{Numbered}
 
-abbrev pub told_of : Told → sets.Told
-told_of (Made id pair partner request) = sets.Made id pair partner (option_copied request)
-told_of (Sent id number datagram) = sets.Sent id number datagram.now
-told_of (Heeded id datagram) = sets.Heeded id datagram.now
-told_of (Notice id notice) = sets.Notice id notice
-told_of (Gone id facts) = sets.Gone id facts
-told_of (Restarted pair) = sets.Restarted pair
-told_of (Lost id facts) = sets.Lost id facts
+abbrev pub told_in_run : CircuitTold → sets.CircuitTold
+told_in_run (Made id pair partner request) = sets.Made id pair partner (option_copied request)
+told_in_run (Sent id number datagram) = sets.Sent id number datagram.now
+told_in_run (Heeded id datagram) = sets.Heeded id datagram.now
+told_in_run (Notice id notice) = sets.Notice id notice
+told_in_run (Gone id facts) = sets.Gone id facts
+told_in_run (Restarted pair) = sets.Restarted pair
+told_in_run (Lost id facts) = sets.Lost id facts
 
 abbrev pub event_of : Event → events.Event
-event_of e = record { node = e.node; own = e.own; told = told_of e.told }
+event_of e = record { node = e.node; own = e.own; told = told_in_run e.told }
 
 abbrev pub events_of : List Numbered → List events.Event
 events_of [] = []

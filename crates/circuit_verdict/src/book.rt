@@ -13,7 +13,7 @@ ghost use Rattle.circuit_verdict.specs.Judging as judged;
 ghost use Rattle.circuit_verdict.specs.ByBook.{allowance_of};
 
 use crate::ends::Ends;
-use crate::event::{Event, Told};
+use crate::event::{CircuitTold, Event};
 use crate::names::Name;
 use crate::sendings::{Sending, Sendings};
 use crate::verdict::{Allowance, LateWhy};
@@ -68,13 +68,13 @@ impl Book {
     {
         let node = event.node;
         match event.told {
-            Told::Made {
+            CircuitTold::Made {
                 id,
                 pair,
                 request,
                 ..
             } => self.made(&Name { node, id }, &event.own, &pair, request),
-            Told::Sent {
+            CircuitTold::Sent {
                 id,
                 number,
                 datagram,
@@ -84,17 +84,21 @@ impl Book {
                 self.sendings.send(&Name { node, id }, datagram, sending)?;
                 Ok(None)
             }
-            Told::Heeded { id, datagram } => self.heeded(&Name { node, id }, datagram, allowance),
-            Told::Notice { id, notice } => {
+            CircuitTold::Heeded { id, datagram } => self.heeded(
+                &Name { node, id },
+                datagram,
+                allowance,
+            ),
+            CircuitTold::Notice { id, notice } => {
                 self.ends.notice(&Name { node, id }, &notice);
                 Ok(None)
             }
-            Told::Lost { id, .. } => {
+            CircuitTold::Lost { id, .. } => {
                 self.ends.lose(Name { node, id })?;
                 Ok(None)
             }
-            Told::Gone { .. } => Ok(None),
-            Told::Restarted { .. } => Ok(None),
+            CircuitTold::Gone { .. } => Ok(None),
+            CircuitTold::Restarted { .. } => Ok(None),
         }
     }
 

@@ -4,11 +4,11 @@ ghost use Rattle.std.specs.Option.{option_copied};
 ghost use Rattle.circuit_set.specs.Books as books;
 ghost use Rattle.circuit_set.specs.Events as events;
 ghost use Rattle.circuit_verdict.specs.Causes as causes;
-ghost use Rattle.circuit_verdict.specs.Events.{told_of};
+ghost use Rattle.circuit_verdict.specs.Events.{told_in_run};
 ghost use Rattle.circuit_verdict.specs.Judging as judged;
 
 use crate::book::{Book, lacks_requester};
-use crate::event::{Event, Told};
+use crate::event::{CircuitTold, Event};
 use crate::names::Name;
 use crate::verdict::Allowance;
 use circuit_l4::Pair;
@@ -44,19 +44,19 @@ impl Book {
         allowance: Allowance,
     ) -> Result<Option<Cause>, NoMemory>
         ensures { IfOk result (λ cause. (b : books.Book) (lost : List events.Name) → judged.BookStands self.now b lost
-            → cause ≡ causes.cause_told allowance b lost event.now.node (told_of event.now.told)) }
+            → cause ≡ causes.cause_told allowance b lost event.now.node (told_in_run event.now.told)) }
     {
         let node = event.node;
         match event.told {
-            Told::Made { pair, request, .. } => self.cause_at_making(node, &pair, request),
-            Told::Heeded { id, datagram } => {
+            CircuitTold::Made { pair, request, .. } => self.cause_at_making(node, &pair, request),
+            CircuitTold::Heeded { id, datagram } => {
                 self.cause_at_heeding(&Name { node, id }, datagram, allowance)
             }
-            Told::Sent { .. }
-            | Told::Notice { .. }
-            | Told::Gone { .. }
-            | Told::Restarted { .. }
-            | Told::Lost { .. } => Ok(None),
+            CircuitTold::Sent { .. }
+            | CircuitTold::Notice { .. }
+            | CircuitTold::Gone { .. }
+            | CircuitTold::Restarted { .. }
+            | CircuitTold::Lost { .. } => Ok(None),
         }
     }
 

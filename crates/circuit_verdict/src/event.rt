@@ -4,7 +4,7 @@ use circuit_l4::{EndFacts, EndNotice, Pair};
 
 /// What has happened at a node's circuits. An end is named by its number at its node.
 #[derive(Clone, Copy, Debug)]
-pub enum Told<'a> {
+pub enum CircuitTold<'a> {
     /// An end was made, for a circuit with a node. A responder's end has the datagram of the request that opened it.
     Made {
         id: u64,
@@ -50,7 +50,7 @@ pub enum Told<'a> {
 pub struct Event<'a> {
     pub node: u64,
     pub own: Call,
-    pub told: Told<'a>,
+    pub told: CircuitTold<'a>,
 }
 
 /// An event, and the line of the network file that brought it.

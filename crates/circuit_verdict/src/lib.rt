@@ -12,5 +12,5 @@ mod sendings;
 mod verdict;
 
 pub use cause::Cause;
-pub use event::{Event, Numbered, Told};
+pub use event::{CircuitTold, Event, Numbered};
 pub use verdict::{Allowance, Late, LateWhy, Verdict, too_late};

@@ -11,13 +11,13 @@ use Rattle.circuit_set.specs.Refusals.{IsNumbered, IsRefusal, RefusalsAreUnheede
 use Rattle.circuit_set.specs.Runs as net
 use Rattle.circuit_set.specs.Runs.{AreStarts, Step, events_of}
 use Rattle.circuit_set.specs.Sets as sets
-use Rattle.circuit_set.specs.Sets.{Act, SetState, Told, set_step}
+use Rattle.circuit_set.specs.Sets.{Act, SetState, CircuitTold, set_step}
 use Rattle.net_replay.proofs.Hopping.{all_parts, same_list}
 use Rattle.net_replay.proofs.Lists.{both, one_of}
 
 -- ---- what is told
 
-abbrev RefusesTold : Told → Type 0
+abbrev RefusesTold : CircuitTold → Type 0
 RefusesTold (sets.Sent id number d) = id ≡ 0 → IsRefusal d
 RefusesTold t = Unit {0}
 
@@ -25,7 +25,7 @@ RefusesTold t = Unit {0}
 abbrev pub RefusesAt0 : events.Event → Type 0
 RefusesAt0 e = RefusesTold e.told
 
-at_refuse : (node : ℕ) (own : Callsign) (ts : List Told) → RefusesUnder0 ts → AllByRecursion RefusesAt0 (net.events_at node own ts)
+at_refuse : (node : ℕ) (own : Callsign) (ts : List CircuitTold) → RefusesUnder0 ts → AllByRecursion RefusesAt0 (net.events_at node own ts)
 at_refuse node own [] a = tt
 at_refuse node own (sets.Sent id number d ∷ ts) a = (a.0, at_refuse node own ts a.1)
 at_refuse node own (sets.Made id pair partner request ∷ ts) a = (tt, at_refuse node own ts a)

@@ -7,11 +7,11 @@ use Rattle.std.proofs.lemmas.Bool.Decides.{nat_tests}
 use Rattle.ax_address.specs.Callsign.{Callsign}
 use Rattle.ax_address.specs.CallOrder.{same_call}
 use Rattle.circuit_set.specs.Events as events
-use Rattle.circuit_set.specs.Returning.{told_of}
+use Rattle.circuit_set.specs.Returning.{told_at_node}
 use Rattle.circuit_set.specs.Runs as net
 use Rattle.circuit_set.specs.Runs.{Step, events_of, sets_run}
 use Rattle.circuit_set.specs.Sets as sets
-use Rattle.circuit_set.specs.Sets.{Act, SetState, Told}
+use Rattle.circuit_set.specs.Sets.{Act, SetState, CircuitTold}
 use Rattle.network_file.specs.declared.plan.declarations.Declaration.{Declaration}
 use Rattle.network_file.specs.Plan.{Plan}
 use Rattle.node_core.specs.Carried.{Borne, Offered, Place, WasBorne, borne_in, is_borne, is_hop, is_of_node, is_passed, is_sent, offers_traced, sends_in}
@@ -52,7 +52,7 @@ sent_here node place own call id number s d es same mine (inl h) rest =
       long = and_right (pointwise nat_eq s d) (nat_le 15 (length d)) h;
     }
 
-sent_by_told : (node place : ℕ) (own call : Callsign) (t : Told) (es : List events.Event) (d : List ℕ) → node ≡ place → own ≡ call → is_sent (sends_in (t ∷ told_of place es)) d ≡ true
+sent_by_told : (node place : ℕ) (own call : Callsign) (t : CircuitTold) (es : List events.Event) (d : List ℕ) → node ≡ place → own ≡ call → is_sent (sends_in (t ∷ told_at_node place es)) d ≡ true
     → (is_sent (sent_at place es) d ≡ true → FoundSent es place call d) → FoundSent (record { node = node; own = own; told = t } ∷ es) place call d
 sent_by_told node place own call (sets.Sent id number s) es d same mine e rest =
     sent_here node place own call id number s d es same mine (or_cases (pointwise nat_eq s d && nat_le 15 (length d)) (is_sent (sent_at place es) d) e) rest
@@ -68,7 +68,7 @@ found_sent : (es : List events.Event) (place : ℕ) (call : Callsign) (d : List 
 found_sent [] place call d a e = absurd (cc e)
 found_sent (x ∷ es) place call d a e = by (nat_eq x.node place) refl e (found_sent es place call d a.1)
   where
-    by : (b : Bool) → nat_eq x.node place ≡ b → is_sent (sends_in (if b then x.told ∷ told_of place es else told_of place es)) d ≡ true → (is_sent (sent_at place es) d ≡ true → FoundSent es place call d)
+    by : (b : Bool) → nat_eq x.node place ≡ b → is_sent (sends_in (if b then x.told ∷ told_at_node place es else told_at_node place es)) d ≡ true → (is_sent (sent_at place es) d ≡ true → FoundSent es place call d)
         → FoundSent (x ∷ es) place call d
     by true m f rest =
         let same : x.node ≡ place = grind (arith, nat_tests, m) in

@@ -11,7 +11,7 @@ use Rattle.circuit_set.specs.Pumps.{at_rest}
 use Rattle.circuit_set.specs.Runs as net
 use Rattle.circuit_set.specs.Runs.{AreSteps, IsAct, Step, sets_at, sets_run}
 use Rattle.circuit_set.specs.Sets as sets
-use Rattle.circuit_set.specs.Sets.{Act, Holder, SetState, Told, all_gone, end_of, losses, set_step}
+use Rattle.circuit_set.specs.Sets.{Act, Holder, SetState, CircuitTold, all_gone, end_of, losses, set_step}
 use Rattle.network_file.specs.declared.plan.declarations.Declaration.{Declaration}
 use Rattle.network_file.specs.declared.plan.keys.Key.TheVariants.{TimeToLive}
 use Rattle.network_file.specs.Plan.{Plan}
@@ -96,11 +96,11 @@ place_named number [] = refl
 place_named number (p ∷ nodes) = ap (λ n. cond (not (is_node number p)) (1 + n) 0) (place_named number nodes)
 
 -- what is told of circuits, by the names of the nodes alone
-abbrev pub at_name : ℕ → ℕ → Option Declaration → Told → List CircuitEvent
+abbrev pub at_name : ℕ → ℕ → Option Declaration → CircuitTold → List CircuitEvent
 at_name line at None told = []
 at_name line at (Some d) told = record { line = line; event = record { node = at; own = d.call; told = told } } ∷ []
 
-abbrev pub told_by : List Declaration → ℕ → ℕ → Told → List CircuitEvent
+abbrev pub told_by : List Declaration → ℕ → ℕ → CircuitTold → List CircuitEvent
 told_by ds line number told = at_name line (position_or_len (is_named number) ds) (slice_get ds (position_or_len (is_named number) ds)) told
 
 abbrev pub event_by : List Declaration → ℕ → Event → List CircuitEvent
@@ -113,12 +113,12 @@ abbrev pub events_by : List Declaration → List NumberedEvent → List CircuitE
 events_by ds [] = []
 events_by ds (e ∷ es) = event_by ds e.line e.event ++ events_by ds es
 
-pub at_named : (nodes : List Placed) (line at k : ℕ) (told : Told) → circuits.at_node line at (slice_get nodes k) told ≡ at_name line at (slice_get (names nodes) k) told
+pub at_named : (nodes : List Placed) (line at k : ℕ) (told : CircuitTold) → circuits.at_node line at (slice_get nodes k) told ≡ at_name line at (slice_get (names nodes) k) told
 at_named [] line at k told = refl
 at_named (p ∷ nodes) line at zero told = refl
 at_named (p ∷ nodes) line at (suc k) told = at_named nodes line at k told
 
-pub told_named : (nodes : List Placed) (line number : ℕ) (told : Told) → circuits.told_at nodes line number told ≡ told_by (names nodes) line number told
+pub told_named : (nodes : List Placed) (line number : ℕ) (told : CircuitTold) → circuits.told_at nodes line number told ≡ told_by (names nodes) line number told
 told_named nodes line number told =
     ap (λ k. circuits.at_node line k (slice_get nodes k) told) (place_named number nodes)
     ∙ at_named nodes line (position_or_len (is_named number) (names nodes)) (position_or_len (is_named number) (names nodes)) told

@@ -7,7 +7,7 @@ use Rattle.circuit_set.specs.Heedings.{HeedsFor, IsFor, SetsHeedPartners}
 use Rattle.circuit_set.specs.Runs as net
 use Rattle.circuit_set.specs.Runs.{Step, events_of}
 use Rattle.circuit_set.specs.Sets as sets
-use Rattle.circuit_set.specs.Sets.{Act, SetState, Told, set_step}
+use Rattle.circuit_set.specs.Sets.{Act, SetState, CircuitTold, set_step}
 
 -- ---- lists
 
@@ -37,7 +37,7 @@ contains_map {A} {B} f (y ∷ xs) x c = by c.0 c.1 c.2 (contains_map f xs x)
 abbrev Heeds : SetState → Act → ℕ → List ℕ → ℕ → set_events.Event → Type 0
 Heeds s a id d node e = (now : ℕ) × (a ≡ sets.Comes d now) × (node ≡ e.node) × IsFor s a id d
 
-one_heeds : (s : SetState) (a : Act) (node : ℕ) (own : Callsign) (t : Told) (ts : List Told) (e : set_events.Event) (id : ℕ) (d : List ℕ) → HeedsFor s a (t ∷ ts) → record { node = node; own = own; told = t } ≡ e
+one_heeds : (s : SetState) (a : Act) (node : ℕ) (own : Callsign) (t : CircuitTold) (ts : List CircuitTold) (e : set_events.Event) (id : ℕ) (d : List ℕ) → HeedsFor s a (t ∷ ts) → record { node = node; own = own; told = t } ≡ e
     → e.told ≡ sets.Heeded id d → Heeds s a id d node e
 one_heeds s a node own (sets.Heeded id2 d2) ts e id d h is told =
     let both : sets.Heeded id2 d2 ≡ sets.Heeded id d = ap (λ (x : set_events.Event). x.told) is ∙ told in
@@ -51,7 +51,7 @@ one_heeds s a node own (sets.Gone id2 facts) ts e id d h is told = absurd (cc (a
 one_heeds s a node own (sets.Restarted pair) ts e id d h is told = absurd (cc (ap (λ (x : set_events.Event). x.told) is ∙ told))
 one_heeds s a node own (sets.Lost id2 facts) ts e id d h is told = absurd (cc (ap (λ (x : set_events.Event). x.told) is ∙ told))
 
-heeds_rest : (s : SetState) (a : Act) (t : Told) (ts : List Told) → HeedsFor s a (t ∷ ts) → HeedsFor s a ts
+heeds_rest : (s : SetState) (a : Act) (t : CircuitTold) (ts : List CircuitTold) → HeedsFor s a (t ∷ ts) → HeedsFor s a ts
 heeds_rest s a (sets.Heeded id2 d2) ts h = h.1
 heeds_rest s a (sets.Sent id2 number d2) ts h = h
 heeds_rest s a (sets.Made id2 pair partner request) ts h = h
@@ -60,7 +60,7 @@ heeds_rest s a (sets.Gone id2 facts) ts h = h
 heeds_rest s a (sets.Restarted pair) ts h = h
 heeds_rest s a (sets.Lost id2 facts) ts h = h
 
-step_heeds : (s : SetState) (a : Act) (node : ℕ) (own : Callsign) (ts : List Told) (e : set_events.Event) (id : ℕ) (d : List ℕ) → HeedsFor s a ts → Contains (net.events_at node own ts) e → e.told ≡ sets.Heeded id d
+step_heeds : (s : SetState) (a : Act) (node : ℕ) (own : Callsign) (ts : List CircuitTold) (e : set_events.Event) (id : ℕ) (d : List ℕ) → HeedsFor s a ts → Contains (net.events_at node own ts) e → e.told ≡ sets.Heeded id d
     → Heeds s a id d node e
 step_heeds s a node own [] e id d h c told = let low = c.1 in absurd (omega (arith, low))
 step_heeds s a node own (t ∷ ts) e id d h c told = by c.0 c.1 c.2 (λ f. step_heeds s a node own ts e id d (heeds_rest s a t ts h) f told)

@@ -72,7 +72,7 @@ heeds_all es i nodes v h = subst (λ (ys : List NumberedEvent). Heeds v v (event
 
 -- ---- what an event tells of circuits
 
-abbrev pub at_told : List Placed → ℕ → Option (ℕ × sets.Told) → List CircuitEvent
+abbrev pub at_told : List Placed → ℕ → Option (ℕ × sets.CircuitTold) → List CircuitEvent
 at_told nodes line None = []
 at_told nodes line (Some p) = told_at nodes line p.0 p.1
 
@@ -106,12 +106,12 @@ there : (number : ℕ) (declared : List Declaration) (nodes : List Placed) → A
     → position_or_len (has_number number) declared ≡ place_of number nodes
 there number declared nodes e = ap (position_or_len (has_number number)) e ∙ at_same number nodes
 
-one_at : (line at : ℕ) (o : Option Placed) (told : sets.Told) (own : Callsign) → option_map (λ p. p.declared.call) o ≡ Some own
+one_at : (line at : ℕ) (o : Option Placed) (told : sets.CircuitTold) (own : Callsign) → option_map (λ p. p.declared.call) o ≡ Some own
     → at_node line at o told ≡ record { line = line; event = record { node = at; own = own; told = told } } ∷ []
 one_at line at None told own e = cc
 one_at line at (Some p) told own e = let same : p.declared.call ≡ own = cc in rw same refl
 
-none_at : (line at : ℕ) (o : Option Placed) (told : sets.Told) → option_map (λ p. p.declared.call) o ≡ None → at_node line at o told ≡ []
+none_at : (line at : ℕ) (o : Option Placed) (told : sets.CircuitTold) → option_map (λ p. p.declared.call) o ≡ None → at_node line at o told ≡ []
 none_at line at None told e = refl
 none_at line at (Some p) told e = cc
 
@@ -124,13 +124,13 @@ call_there : (declared : List Declaration) (nodes : List Placed) (k : ℕ) → A
 call_there declared nodes k e =
     sym (calls_of (slice_get nodes k)) ∙ ap (option_map (λ (d : Declaration). d.call)) (sym (slice_get-map (λ (p : Placed). p.declared) nodes k) ∙ ap (λ (ds : List Declaration). slice_get ds k) (sym e))
 
-pub told_one : (declared : List Declaration) (nodes : List Placed) (line number k : ℕ) (told : sets.Told) (own : Callsign) → AreDeclared declared nodes
+pub told_one : (declared : List Declaration) (nodes : List Placed) (line number k : ℕ) (told : sets.CircuitTold) (own : Callsign) → AreDeclared declared nodes
     → k ≡ position_or_len (has_number number) declared → option_map (λ (d : Declaration). d.call) (slice_get declared k) ≡ Some own
     → told_at nodes line number told ≡ record { line = line; event = record { node = k; own = own; told = told } } ∷ []
 told_one declared nodes line number k told own e place h =
     ap (λ at. at_node line at (slice_get nodes at) told) (sym (place ∙ there number declared nodes e)) ∙ one_at line k (slice_get nodes k) told own (call_there declared nodes k e ∙ h)
 
-pub told_none : (declared : List Declaration) (nodes : List Placed) (line number k : ℕ) (told : sets.Told) → AreDeclared declared nodes
+pub told_none : (declared : List Declaration) (nodes : List Placed) (line number k : ℕ) (told : sets.CircuitTold) → AreDeclared declared nodes
     → k ≡ position_or_len (has_number number) declared → option_map (λ (d : Declaration). d.call) (slice_get declared k) ≡ None → told_at nodes line number told ≡ []
 told_none declared nodes line number k told e place h =
     ap (λ at. at_node line at (slice_get nodes at) told) (sym (place ∙ there number declared nodes e)) ∙ none_at line k (slice_get nodes k) told (call_there declared nodes k e ∙ h)

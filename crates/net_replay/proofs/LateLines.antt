@@ -4,7 +4,7 @@ use Rattle.std.specs.Prelude.{slice_get, Option, Some, None}
 use Rattle.std.proofs.lemmas.List.{map-append}
 use Rattle.circuit_set.specs.Events as set_events
 use Rattle.circuit_set.specs.Pumps.{Of}
-use Rattle.circuit_set.specs.Sets.{Restarted, Lost, Told}
+use Rattle.circuit_set.specs.Sets.{Restarted, Lost, CircuitTold}
 use Rattle.circuit_set.specs.TooLate.{Allowing, IsFresh, IsTimely}
 use Rattle.circuit_verdict.specs.Events as told
 use Rattle.circuit_verdict.specs.Events.{events_of}
@@ -76,7 +76,7 @@ told_both nodes (x ∷ xs) ys =
     ap (λ (ts : List CircuitEvent). event_at nodes x.line x.event ++ ts) (told_both nodes xs ys) ∙ sym (append_assoc (event_at nodes x.line x.event) (events_at nodes xs) (events_at nodes ys))
 
 -- with the number of their line
-line_there : (line at : ℕ) (o : Option Placed) (t : Told) (x : CircuitEvent) → at_node line at o t ≡ x ∷ [] → x.line ≡ line
+line_there : (line at : ℕ) (o : Option Placed) (t : CircuitTold) (x : CircuitEvent) → at_node line at o t ≡ x ∷ [] → x.line ≡ line
 line_there line at None t x e = absurd (cc e)
 line_there line at (Some p) t x e =
     let same : record { line = line; event = record { node = at; own = p.declared.call; told = t } } ≡ x = cc e in ap (λ (y : CircuitEvent). y.line) (sym same)

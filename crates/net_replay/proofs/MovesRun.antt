@@ -9,7 +9,7 @@ use Rattle.circuit_set.specs.Pumps.{at_rest}
 use Rattle.circuit_set.specs.Runs as net
 use Rattle.circuit_set.specs.Runs.{IsAct, Step, sets_run}
 use Rattle.circuit_set.specs.Sets as sets
-use Rattle.circuit_set.specs.Sets.{Holder, SetState, Told, all_gone, end_of, losses}
+use Rattle.circuit_set.specs.Sets.{Holder, SetState, CircuitTold, all_gone, end_of, losses}
 use Rattle.network_file.specs.Plan.{Plan}
 use Rattle.node_core.specs.Runs.{ActsRun, BytesRun, InputsAreSteps, IsUserAct, RunsOn, TicksRun, steps_at}
 use Rattle.node_turns.specs.States.{NodeState}

@@ -13,7 +13,7 @@ use Rattle.circuit_set.specs.Pumps.{at_rest}
 use Rattle.circuit_set.specs.Runs as net
 use Rattle.circuit_set.specs.Runs.{IsAct, Step}
 use Rattle.circuit_set.specs.Sets as sets
-use Rattle.circuit_set.specs.Sets.{Holder, SetState, Told, all_gone, end_of, losses}
+use Rattle.circuit_set.specs.Sets.{Holder, SetState, CircuitTold, all_gone, end_of, losses}
 use Rattle.link_table.specs.Calls as links
 use Rattle.link_table.specs.declared.path_refusal.PathRefusal.{PathRefusal}
 use Rattle.network_file.specs.declared.plan.declarations.Declaration.{Declaration}
@@ -53,12 +53,12 @@ outcome_length o zero (e ∷ ends) = refl
 outcome_length o (suc at) (e ∷ ends) = ap suc (outcome_length o at ends)
 
 -- one more that is told: numbers go on where an end is made
-record Next (first : ℕ) (ts : List Told) (next : ℕ) (t : Told) (ends : List EndRecord) : Type 0 where
+record Next (first : ℕ) (ts : List CircuitTold) (next : ℕ) (t : CircuitTold) (ends : List EndRecord) : Type 0 where
   then : ℕ
   made : MadeFrom then ts next
   long : length (note_told t ends) + first ≡ length ends + then
 
-next_made : (first next : ℕ) (t : Told) (ts : List Told) (ends : List EndRecord) → MadeFrom first (t ∷ ts) next → Next first ts next t ends
+next_made : (first next : ℕ) (t : CircuitTold) (ts : List CircuitTold) (ends : List EndRecord) → MadeFrom first (t ∷ ts) next → Next first ts next t ends
 next_made first next (sets.Made id pair partner request) ts ends m =
     record { then = first + 1; made = m.1; long = simp length-append (omega arith) }
 next_made first next (sets.Sent id number d) ts ends m = record { then = first; made = m; long = refl }
@@ -101,7 +101,7 @@ entries_other line number n (e ∷ es) ends d =
 
 -- what is told of circuits, where the node stands at this place
 abbrev pub TellsAt : List Declaration → ℕ → ℕ → Callsign → Type 0
-TellsAt ds number at call = (line : ℕ) (told : Told) → told_by ds line number told ≡ record { line = line; event = record { node = at; own = call; told = told } } ∷ []
+TellsAt ds number at call = (line : ℕ) (told : CircuitTold) → told_by ds line number told ≡ record { line = line; event = record { node = at; own = call; told = told } } ∷ []
 
 pub tells_at : (ds : List Declaration) (number at : ℕ) (d : Declaration) → position_or_len (is_named number) ds ≡ at → slice_get ds at ≡ Some d → TellsAt ds number at d.call
 tells_at ds number at d p e line told =

@@ -13,7 +13,7 @@ use Rattle.circuit_set.specs.Events as set_events
 use Rattle.circuit_set.specs.Pumps as pumps
 use Rattle.circuit_set.specs.Sendings.{IsFrom}
 use Rattle.circuit_set.specs.Sets as sets
-use Rattle.circuit_set.specs.Sets.{Told}
+use Rattle.circuit_set.specs.Sets.{CircuitTold}
 use Rattle.l3_datagram.specs.Datagrams.{call_from, fault_from, head_at, octets_with}
 use Rattle.l3_datagram.specs.declared.datagram.DatagramHead.{DatagramHead}
 use Rattle.l3_datagram.specs.declared.datagram.DatagramRefusal.{DatagramRefusal}
@@ -80,12 +80,12 @@ origin_is written read own ttl sent d head c f e h =
 -- ---- who tells of circuits
 
 -- what holds of all that the nodes tell
-module _ (P : CircuitEvent → Type 0) (ds : List Declaration) (each : (line k : ℕ) (d : Declaration) (told : Told) → slice_get ds k ≡ Some d → P (record { line = line; event = record { node = k; own = d.call; told = told } })) where
-  name_all : (line k : ℕ) (told : Told) (o : Option Declaration) → slice_get ds k ≡ o → AllByRecursion P (at_name line k o told)
+module _ (P : CircuitEvent → Type 0) (ds : List Declaration) (each : (line k : ℕ) (d : Declaration) (told : CircuitTold) → slice_get ds k ≡ Some d → P (record { line = line; event = record { node = k; own = d.call; told = told } })) where
+  name_all : (line k : ℕ) (told : CircuitTold) (o : Option Declaration) → slice_get ds k ≡ o → AllByRecursion P (at_name line k o told)
   name_all line k told None e = tt
   name_all line k told (Some d) e = (each line k d told e, tt)
 
-  told_all : (line number : ℕ) (told : Told) → AllByRecursion P (told_by ds line number told)
+  told_all : (line number : ℕ) (told : CircuitTold) → AllByRecursion P (told_by ds line number told)
   told_all line number told = let k : ℕ = position_or_len (is_named number) ds in name_all line k told (slice_get ds k) refl
 
   event_all : (line : ℕ) (e : Event) → AllByRecursion P (event_by ds line e)

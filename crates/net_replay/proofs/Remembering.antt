@@ -20,7 +20,7 @@ use Rattle.circuit_l4.specs.Reading.{transport_at}
 use Rattle.circuit_set.specs.Heeds.{heeds}
 use Rattle.circuit_set.specs.Inputs.{runs}
 use Rattle.circuit_set.specs.Pairs.{pair_after, next_free}
-use Rattle.circuit_set.specs.Sets.{Act, Connect, Comes, Calls, Discard, Restart, Call, Holder, SetDone, SetState, Told, Heeded, Made, Lost, Gone, Restarted, Sent, accept_again, all_gone, arrives_at, after_call, after_connecting, datagram_to, after_discarding, end_of, first_open, goes_to, hands_to, after_datagram, has_ended, held_pairs, holder_of, input_of, is_open, losses, named_by, opened_by, read_as, after_transport, after_request, after_new_request, after_restart, set_step, after_effect, told_by, does_nothing, with_end}
+use Rattle.circuit_set.specs.Sets.{Act, Connect, Comes, Calls, Discard, Restart, Call, Holder, SetDone, SetState, CircuitTold, Heeded, Made, Lost, Gone, Restarted, Sent, accept_again, all_gone, arrives_at, after_call, after_connecting, datagram_to, after_discarding, end_of, first_open, goes_to, hands_to, after_datagram, has_ended, held_pairs, holder_of, input_of, is_open, losses, named_by, opened_by, read_as, after_transport, after_request, after_new_request, after_restart, set_step, after_effect, told_by, does_nothing, with_end}
 
 -- the ends that were lost: each is gone, and its number is below that of each end since
 pub record Past (base : ℕ) (past : List Holder) : Type 0 where
@@ -174,7 +174,7 @@ module _ (base : ℕ) (past : List Holder) (lost : Past base past) where
   choose s true d d2 e e2 l l2 = l
   choose s false d d2 e e2 l l2 = l2
 
-  goes_lift : (s : SetState) (h : Holder) (first : List Told) (g : Effect) → base ≤ h.id → Rising base s.ends s.number → Lifting s (goes_to (lift past s) h first g) (goes_to s h first g)
+  goes_lift : (s : SetState) (h : Holder) (first : List CircuitTold) (g : Effect) → base ≤ h.id → Rising base s.ends s.number → Lifting s (goes_to (lift past s) h first g) (goes_to s h first g)
   goes_lift s h first g k r = record {
     is = ap (λ es. record { set = record s { ends = es }; told = first ++ told_by s h g }) (with_lift base (after_effect h g) past s.ends lost.below k);
     rises = with_rises base s.number (after_effect h g) s.ends r;
@@ -223,7 +223,7 @@ module _ (base : ℕ) (past : List Holder) (lost : Past base past) where
       cond (full pairs s) (record { set = s; told = Sent 0 None (datagram_to s origin (Refuse pair)) ∷ [] })
       (make (next_free 255 pairs s.next) s origin (Some pair) (Some d) (responding (next_free 255 pairs s.next) pair window s.config (min now COUNT_MAX)))
 
-  refuse_lift : (s : SetState) (told : List Told) → Rising base s.ends s.number → Lifting s (record { set = lift past s; told = told }) (record { set = s; told = told })
+  refuse_lift : (s : SetState) (told : List CircuitTold) → Rising base s.ends s.number → Lifting s (record { set = lift past s; told = told }) (record { set = s; told = told })
   refuse_lift s told r = record { is = refl; rises = r; own = refl; ttl = refl; user = refl; config = refl }
 
   anew_lift : (s : SetState) (origin : Callsign) (d : List ℕ) (pair : Pair) (window now : ℕ) → Rising base s.ends s.number

@@ -14,7 +14,7 @@ use Rattle.circuit_set.specs.Heedings.{SetsHeedPartners}
 use Rattle.circuit_set.specs.Refusals.{RefusalsAreUnheeded, SetsRefuseUnder0, StartsAreNumbered}
 use Rattle.circuit_set.specs.Sendings.{IsFrom, SendsFrom, SetsSendTheirOwn}
 use Rattle.circuit_set.specs.Sets as sets
-use Rattle.circuit_set.specs.Sets.{SetState, Told}
+use Rattle.circuit_set.specs.Sets.{SetState, CircuitTold}
 use Rattle.link_table.specs.Reaching.{IsCall}
 use Rattle.link_table.specs.Standing.{width}
 use Rattle.kiss_framing.specs.Laws.{FendParts, FramesReadBack, LongFramesAreTooLong}
@@ -49,14 +49,14 @@ use Rattle.net_replay.proofs.Hopping.{Known, came_copy, came_ttl}
 
 -- ---- what is sent is from its node
 
-abbrev FromTold : Callsign → Told → Type 0
+abbrev FromTold : Callsign → CircuitTold → Type 0
 FromTold own (sets.Sent id number d) = (ttl : ℕ) × IsFrom own ttl d
 FromTold own t = Unit {0}
 
 abbrev FromNode : events.Event → Type 0
 FromNode e = FromTold e.own e.told
 
-at_from : (node : ℕ) (own : Callsign) (ttl : ℕ) (ts : List Told) → SendsFrom own ttl ts → AllByRecursion FromNode (net.events_at node own ts)
+at_from : (node : ℕ) (own : Callsign) (ttl : ℕ) (ts : List CircuitTold) → SendsFrom own ttl ts → AllByRecursion FromNode (net.events_at node own ts)
 at_from node own ttl [] a = tt
 at_from node own ttl (sets.Sent id number d ∷ ts) a = ((ttl, a.0), at_from node own ttl ts a.1)
 at_from node own ttl (sets.Made id pair partner request ∷ ts) a = (tt, at_from node own ttl ts a)

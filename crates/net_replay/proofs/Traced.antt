@@ -6,11 +6,11 @@ use Rattle.std.proofs.lemmas.Bool.Decides.{nat_tests}
 use Rattle.ax_address.specs.Callsign.{Callsign}
 use Rattle.circuit_set.specs.Events as set_events
 use Rattle.circuit_set.specs.Inputs.{runs}
-use Rattle.circuit_set.specs.Returning.{told_of}
+use Rattle.circuit_set.specs.Returning.{told_at_node}
 use Rattle.circuit_set.specs.Runs as net
 use Rattle.circuit_set.specs.Runs.{events_of}
 use Rattle.circuit_set.specs.Sets as sets
-use Rattle.circuit_set.specs.Sets.{Act, Holder, SetDone, SetState, Told}
+use Rattle.circuit_set.specs.Sets.{Act, Holder, SetDone, SetState, CircuitTold}
 use Rattle.kiss_framing.specs.Enframing.{escape_of, framed}
 use Rattle.kiss_framing.specs.Laws.{FendParts, FramesReadBack, LongFramesAreTooLong}
 use Rattle.kiss_framing.specs.Stream as kiss
@@ -22,7 +22,7 @@ use Rattle.net_replay.proofs.Remembering.{Lifts, Past, Rising, lift, runs_lift}
 
 -- ---- what was sent, in what happened at several nodes' circuits
 
-sends_both : (xs ys : List Told) → sends_in (xs ++ ys) ≡ sends_in xs ++ sends_in ys
+sends_both : (xs ys : List CircuitTold) → sends_in (xs ++ ys) ≡ sends_in xs ++ sends_in ys
 sends_both [] ys = refl
 sends_both (sets.Sent id number d ∷ xs) ys = ap (λ ds. d ∷ ds) (sends_both xs ys)
 sends_both (sets.Made id pair partner request ∷ xs) ys = sends_both xs ys
@@ -35,30 +35,30 @@ sends_both (sets.Lost id facts ∷ xs) ys = sends_both xs ys
 -- ---- by whom: what the node at a place has sent
 
 abbrev pub sent_at : ℕ → List set_events.Event → List (List ℕ)
-sent_at place es = sends_in (told_of place es)
+sent_at place es = sends_in (told_at_node place es)
 
-told_both : (place : ℕ) (xs ys : List set_events.Event) → told_of place (xs ++ ys) ≡ told_of place xs ++ told_of place ys
+told_both : (place : ℕ) (xs ys : List set_events.Event) → told_at_node place (xs ++ ys) ≡ told_at_node place xs ++ told_at_node place ys
 told_both place [] ys = refl
 told_both place (e ∷ xs) ys = by (nat_eq e.node place) (told_both place xs ys)
   where
-    by : (b : Bool) → told_of place (xs ++ ys) ≡ told_of place xs ++ told_of place ys
-        → (if b then e.told ∷ told_of place (xs ++ ys) else told_of place (xs ++ ys)) ≡ (if b then e.told ∷ told_of place xs else told_of place xs) ++ told_of place ys
+    by : (b : Bool) → told_at_node place (xs ++ ys) ≡ told_at_node place xs ++ told_at_node place ys
+        → (if b then e.told ∷ told_at_node place (xs ++ ys) else told_at_node place (xs ++ ys)) ≡ (if b then e.told ∷ told_at_node place xs else told_at_node place xs) ++ told_at_node place ys
     by true r = ap (λ ts. e.told ∷ ts) r
     by false r = r
 
 pub sent_at_both : (place : ℕ) (xs ys : List set_events.Event) → sent_at place (xs ++ ys) ≡ sent_at place xs ++ sent_at place ys
-sent_at_both place xs ys = ap sends_in (told_both place xs ys) ∙ sends_both (told_of place xs) (told_of place ys)
+sent_at_both place xs ys = ap sends_in (told_both place xs ys) ∙ sends_both (told_at_node place xs) (told_at_node place ys)
 
-told_here : (place : ℕ) (own : Callsign) (ts : List Told) → told_of place (net.events_at place own ts) ≡ ts
+told_here : (place : ℕ) (own : Callsign) (ts : List CircuitTold) → told_at_node place (net.events_at place own ts) ≡ ts
 told_here place own [] = refl
 told_here place own (t ∷ ts) =
     let same : nat_eq place place ≡ true = grind (arith, nat_tests) in
-    ap (λ b. if b then t ∷ told_of place (net.events_at place own ts) else told_of place (net.events_at place own ts)) same ∙ ap (λ us. t ∷ us) (told_here place own ts)
+    ap (λ b. if b then t ∷ told_at_node place (net.events_at place own ts) else told_at_node place (net.events_at place own ts)) same ∙ ap (λ us. t ∷ us) (told_here place own ts)
 
-pub told_there : (place at : ℕ) (own : Callsign) (ts : List Told) → nat_eq at place ≡ false → told_of place (net.events_at at own ts) ≡ []
+pub told_there : (place at : ℕ) (own : Callsign) (ts : List CircuitTold) → nat_eq at place ≡ false → told_at_node place (net.events_at at own ts) ≡ []
 told_there place at own [] n = refl
 told_there place at own (t ∷ ts) n =
-    ap (λ b. if b then t ∷ told_of place (net.events_at at own ts) else told_of place (net.events_at at own ts)) n ∙ told_there place at own ts n
+    ap (λ b. if b then t ∷ told_at_node place (net.events_at at own ts) else told_at_node place (net.events_at at own ts)) n ∙ told_there place at own ts n
 
 -- ---- the inputs of one node
 

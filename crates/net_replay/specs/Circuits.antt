@@ -21,11 +21,11 @@ pub record CircuitEvent : Type 0 where
   pub event : set_events.Event
 
 -- a node is named by its place among the nodes
-abbrev pub at_node : ℕ → ℕ → Option Placed → sets.Told → List CircuitEvent
+abbrev pub at_node : ℕ → ℕ → Option Placed → sets.CircuitTold → List CircuitEvent
 at_node line at None told = []
 at_node line at (Some p) told = record { line = line; event = record { node = at; own = p.declared.call; told = told } } ∷ []
 
-abbrev pub told_at : List Placed → ℕ → ℕ → sets.Told → List CircuitEvent
+abbrev pub told_at : List Placed → ℕ → ℕ → sets.CircuitTold → List CircuitEvent
 told_at nodes line number told = at_node line (place_of number nodes) (slice_get nodes (place_of number nodes)) told
 
 -- that a datagram came to nothing, that a neighbour was lost, and what isn't told of circuits at all, is none of it

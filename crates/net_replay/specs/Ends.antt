@@ -22,7 +22,7 @@ with_offered number zero (end ∷ ends) = record end { offered = number } ∷ en
 with_offered number (suc at) (end ∷ ends) = end ∷ with_offered number at ends
 
 -- an end is made, behind those before, or is gone. Ends are numbered from 1
-abbrev pub note_told : sets.Told → List EndRecord → List EndRecord
+abbrev pub note_told : sets.CircuitTold → List EndRecord → List EndRecord
 note_told (sets.Made id pair partner request) ends = ends ++ record { partner = partner; outcome = outcomes.Held; offered = 0 } ∷ []
 note_told (sets.Gone id facts) ends = with_outcome (outcomes.Gone facts) (id - 1) ends
 note_told told ends = ends

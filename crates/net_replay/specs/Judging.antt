@@ -3,7 +3,7 @@ use Rattle.std.specs.Prelude.{◌≡◌, ℕ, List, [], ◌∷◌, ◌++◌, map
 use Rattle.ax_address.specs.Callsign.{Callsign}
 use Rattle.circuit_set.specs.Pumps.{SetTold, Of}
 use Rattle.circuit_set.specs.Sets as sets
-use Rattle.circuit_set.specs.Sets.{Told}
+use Rattle.circuit_set.specs.Sets.{CircuitTold}
 use Rattle.circuit_verdict.specs.declared.event.Event.{Event as Coming}
 use Rattle.circuit_verdict.specs.declared.event.Numbered.{Numbered}
 use Rattle.circuit_verdict.specs.declared.verdict.Verdict.{Verdict}
@@ -25,20 +25,20 @@ pub record Heeds (old new : Verdict) (told : List CircuitEvent) : Type 0 where
 
 -- ---- what an event tells of circuits
 
-abbrev pub set_told : SetTold → Option Told
+abbrev pub set_told : SetTold → Option CircuitTold
 set_told (Of told) = Some told
 set_told other = None
 
-abbrev pub entry_told : states.Entry → Option Told
+abbrev pub entry_told : states.Entry → Option CircuitTold
 entry_told (states.Of_set told) = set_told told
 entry_told other = None
 
-abbrev pub of_node : ℕ → Option Told → Option (ℕ × Told)
+abbrev pub of_node : ℕ → Option CircuitTold → Option (ℕ × CircuitTold)
 of_node node None = None
 of_node node (Some told) = Some (node, told)
 
 -- and the number of the node
-abbrev pub circuit_told : Event → Option (ℕ × Told)
+abbrev pub circuit_told : Event → Option (ℕ × CircuitTold)
 circuit_told (Entry node entry) = of_node node (entry_told entry)
 circuit_told (Restarted node pair) = Some (node, sets.Restarted pair)
 circuit_told (Lost node end facts) = Some (node, sets.Lost end facts)
@@ -49,6 +49,6 @@ abbrev pub told_here : ℕ → Option Coming → List CircuitEvent
 told_here line None = []
 told_here line (Some event) = judged (record { line = line; event = event }) ∷ []
 
-abbrev pub told_there : ℕ → Option (ℕ × Callsign) → Told → List CircuitEvent
+abbrev pub told_there : ℕ → Option (ℕ × Callsign) → CircuitTold → List CircuitEvent
 told_there line None told = []
 told_there line (Some spot) told = record { line = line; event = record { node = spot.0; own = spot.1; told = told } } ∷ []

@@ -3,7 +3,7 @@ ghost use Rattle.std.specs.Prelude.{◌≡◌, List, map, ℕ, OnOk, IfOk, nat_l
 ghost use Rattle.std.specs.Option.{option_copied, option_map};
 ghost use Rattle.circuit_set.specs.Sets as sets;
 ghost use Rattle.circuit_set.specs.Standing.{event_told};
-ghost use Rattle.circuit_verdict.specs.Events.{told_of};
+ghost use Rattle.circuit_verdict.specs.Events.{told_in_run};
 ghost use Rattle.network_file.specs.Plan.{Plan};
 ghost use Rattle.node_core.specs.Standing.{entry_of};
 ghost use Rattle.net_replay.specs.Circuits as circuits;
@@ -20,7 +20,7 @@ use crate::places::place_of;
 use crate::trace::Trace;
 use ax_address::Call;
 use circuit_set::SetEvent;
-use circuit_verdict::{Allowance, Event as CircuitEvent, Late, Told, Verdict};
+use circuit_verdict::{Allowance, CircuitTold, Event as CircuitEvent, Late, Verdict};
 use l3_datagram::Datagram;
 use network_file::Declaration;
 use node_core::NodeEntry;
@@ -97,7 +97,7 @@ pub(crate) fn circuit_event<'a>(
 
 /// The place of the node of that number among the nodes, by which it is named, and its call.
 fn spot_of(declared: &[Declaration], number: u8) -> Option<(u64, Call)>
-    ensures { (nodes : List Placed) (line : ℕ) (told : sets.Told) → AreDeclared declared.now nodes → told_at nodes line number told ≡ told_there line result told }
+    ensures { (nodes : List Placed) (line : ℕ) (told : sets.CircuitTold) → AreDeclared declared.now nodes → told_at nodes line number told ≡ told_there line result told }
 {
     let place = place_of(declared, number);
     match declared.get(place) {
@@ -107,8 +107,8 @@ fn spot_of(declared: &[Declaration], number: u8) -> Option<(u64, Call)>
 }
 
 /// What an event tells of circuits, and the number of the node.
-fn told_in<'a>(event: &'a Event) -> Option<(u8, Told<'a>)>
-    ensures { option_map (λ p. (p.0, told_of p.1)) result ≡ circuit_told (event_of event.now) }
+fn told_in<'a>(event: &'a Event) -> Option<(u8, CircuitTold<'a>)>
+    ensures { option_map (λ p. (p.0, told_in_run p.1)) result ≡ circuit_told (event_of event.now) }
 {
     match event {
         Event::Entry { node, entry } => match entry_told(entry) {
@@ -117,7 +117,7 @@ fn told_in<'a>(event: &'a Event) -> Option<(u8, Told<'a>)>
         },
         Event::Sent { node, sent } => Some((
             *node,
-            Told::Sent {
+            CircuitTold::Sent {
                 id: sent.datagram.id,
                 number: sent.number,
                 datagram: &sent.datagram.octets,
@@ -125,15 +125,15 @@ fn told_in<'a>(event: &'a Event) -> Option<(u8, Told<'a>)>
         )),
         Event::Heeded { node, heeded } => Some((
             *node,
-            Told::Heeded {
+            CircuitTold::Heeded {
                 id: heeded.id,
                 datagram: &heeded.octets,
             },
         )),
-        Event::Restarted { node, pair } => Some((*node, Told::Restarted { pair: *pair })),
+        Event::Restarted { node, pair } => Some((*node, CircuitTold::Restarted { pair: *pair })),
         Event::Lost { node, end } => {
             let LostEnd { id, facts } = **end;
-            Some((*node, Told::Lost { id, facts }))
+            Some((*node, CircuitTold::Lost { id, facts }))
         }
         Event::InAir { .. }
         | Event::Delivered { .. }
@@ -150,8 +150,8 @@ fn told_in<'a>(event: &'a Event) -> Option<(u8, Told<'a>)>
 }
 
 /// What an entry of a node tells of circuits.
-fn entry_told<'a>(entry: &'a NodeEntry) -> Option<Told<'a>>
-    ensures { option_map told_of result ≡ entry_told (entry_of entry.now) }
+fn entry_told<'a>(entry: &'a NodeEntry) -> Option<CircuitTold<'a>>
+    ensures { option_map told_in_run result ≡ entry_told (entry_of entry.now) }
 {
     match entry {
         NodeEntry::Set(event) => set_told(event),
@@ -159,8 +159,8 @@ fn entry_told<'a>(entry: &'a NodeEntry) -> Option<Told<'a>>
     }
 }
 
-fn set_told<'a>(event: &'a SetEvent) -> Option<Told<'a>>
-    ensures { option_map told_of result ≡ set_told (event_told event.now) }
+fn set_told<'a>(event: &'a SetEvent) -> Option<CircuitTold<'a>>
+    ensures { option_map told_in_run result ≡ set_told (event_told event.now) }
 {
     match event {
         SetEvent::Made {
@@ -168,7 +168,7 @@ fn set_told<'a>(event: &'a SetEvent) -> Option<Told<'a>>
             pair,
             partner,
             request,
-        } => Some(Told::Made {
+        } => Some(CircuitTold::Made {
             id: *id,
             pair: *pair,
             partner: *partner,
@@ -178,20 +178,20 @@ fn set_told<'a>(event: &'a SetEvent) -> Option<Told<'a>>
             id,
             number,
             datagram,
-        } => Some(Told::Sent {
+        } => Some(CircuitTold::Sent {
             id: *id,
             number: *number,
             datagram: datagram.as_slice(),
         }),
-        SetEvent::Heeded { id, datagram } => Some(Told::Heeded {
+        SetEvent::Heeded { id, datagram } => Some(CircuitTold::Heeded {
             id: *id,
             datagram: datagram.as_slice(),
         }),
-        SetEvent::Notice { id, notice } => Some(Told::Notice {
+        SetEvent::Notice { id, notice } => Some(CircuitTold::Notice {
             id: *id,
             notice: *notice,
         }),
-        SetEvent::Gone { id, facts } => Some(Told::Gone {
+        SetEvent::Gone { id, facts } => Some(CircuitTold::Gone {
             id: *id,
             facts: *facts,
         }),

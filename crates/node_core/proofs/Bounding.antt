@@ -5,8 +5,8 @@ use Rattle.ax_address.specs.Callsign.{Callsign}
 use Rattle.circuit_set.specs.CircuitSets.{held_ids}
 use Rattle.circuit_set.specs.Kept as ends
 use Rattle.circuit_set.specs.Sets as sets
-use Rattle.circuit_set.specs.Sets.{Told}
-use Rattle.circuit_set.specs.Standing.{Held, Here, Past}
+use Rattle.circuit_set.specs.Sets.{CircuitTold}
+use Rattle.circuit_set.specs.Standing.{EachStands, Here, Past}
 use Rattle.circuit_set.specs.declared.holder.Holder.{Holder}
 use Rattle.link_table.specs.Kept as links
 use Rattle.link_table.specs.Standing.{LinksStand}
@@ -37,12 +37,12 @@ one_more : (b : Bool) (id : ℕ) (ids : List ℕ) → length (if b then ids else
 one_more true id ids = omega arith
 one_more false id ids = omega arith
 
-ends_many : (own : Callsign) (ttl hi lo : ℕ) (es : List (ℕ × Holder)) (hs : List sets.Holder) (told : List Told) → Held own ttl hi lo es hs told → length (held_ids hs) ≤ length es
+ends_many : (own : Callsign) (ttl hi lo : ℕ) (es : List (ℕ × Holder)) (hs : List sets.Holder) (told : List CircuitTold) → EachStands own ttl hi lo es hs told → length (held_ids hs) ≤ length es
 ends_many own ttl hi lo es [] told s = omega arith
 ends_many own ttl hi lo es (h ∷ hs) told s = by s.1 (λ fs us t. ends_many own ttl hi (suc h.id) fs hs us t)
   where
-    by : Past (λ rest theirs. Held own ttl hi (suc h.id) rest hs theirs) h es told ⊎ Here own ttl (λ rest theirs. Held own ttl hi (suc h.id) rest hs theirs) h es told
-        → ((fs : List (ℕ × Holder)) (us : List Told) → Held own ttl hi (suc h.id) fs hs us → length (held_ids hs) ≤ length fs)
+    by : Past (λ rest theirs. EachStands own ttl hi (suc h.id) rest hs theirs) h es told ⊎ Here own ttl (λ rest theirs. EachStands own ttl hi (suc h.id) rest hs theirs) h es told
+        → ((fs : List (ℕ × Holder)) (us : List CircuitTold) → EachStands own ttl hi (suc h.id) fs hs us → length (held_ids hs) ≤ length fs)
         → length (if h.gone then held_ids hs else h.id ∷ held_ids hs) ≤ length es
     by (inl past) more =
         let rest = more es told past.others in

@@ -66,7 +66,7 @@ turn_over now (Offers to d by) answer n a = ap (λ (x : Offered). with_turned (b
 
 -- ---- what is untold
 
-rest_by : (s : SetState) (ts : List sets.Told) (o : Option Routed) → (is_none o && is_empty ts) ≡ true → record { set = s; untold = ts; lost = o } ≡ at_rest s
+rest_by : (s : SetState) (ts : List sets.CircuitTold) (o : Option Routed) → (is_none o && is_empty ts) ≡ true → record { set = s; untold = ts; lost = o } ≡ at_rest s
 rest_by s [] None e = refl
 rest_by s (t ∷ ts) None e = absurd (cc e)
 rest_by s ts (Some r) e = absurd (cc e)
@@ -78,7 +78,7 @@ pub none_pending : (s : SetState) → nat_lt 0 (circuits.pending (at_rest s)) �
 unfolding circuits.pending
 none_pending s = refl
 
-weight_some : (t : sets.Told) → 0 < weight t
+weight_some : (t : sets.CircuitTold) → 0 < weight t
 weight_some (sets.Made id pair partner request) = omega arith
 weight_some (sets.Sent id number d) = omega arith
 weight_some (sets.Heeded id d) = omega arith
@@ -87,7 +87,7 @@ weight_some (sets.Gone id facts) = omega arith
 weight_some (sets.Restarted pair) = omega arith
 weight_some (sets.Lost id facts) = omega arith
 
-some_by : (ts : List sets.Told) (o : Option Routed) → (is_none o && is_empty ts) ≡ false → 0 < (if is_none o then 0 else 1) + weights ts
+some_by : (ts : List sets.CircuitTold) (o : Option Routed) → (is_none o && is_empty ts) ≡ false → 0 < (if is_none o then 0 else 1) + weights ts
 some_by [] None e = absurd (cc e)
 some_by (t ∷ ts) None e = omega (arith, weight_some t)
 some_by ts (Some r) e = omega arith
@@ -101,17 +101,17 @@ some_pending w e =
 IsTold : Turn → Offered → Type 0
 IsTold t answer = (x : SetTold) × ((outcome t answer).told ≡ Some x)
 
-to_told : (hop : Callsign → Option Callsign) (s : SetState) (t : sets.Told) (d : List ℕ) (rest : List sets.Told) (o : Option Callsign) (answer : Offered) → IsTold (pumps.sent_to hop s t d rest o) answer
+to_told : (hop : Callsign → Option Callsign) (s : SetState) (t : sets.CircuitTold) (d : List ℕ) (rest : List sets.CircuitTold) (o : Option Callsign) (answer : Offered) → IsTold (pumps.sent_to hop s t d rest o) answer
 unfolding IsTold
 to_told hop s t d rest None answer = (Of t, refl)
 to_told hop s t d rest (Some next) answer = (Of t, refl)
 
-head_told : (hop : Callsign → Option Callsign) (s : SetState) (t : sets.Told) (d : List ℕ) (rest : List sets.Told) (h : Result DatagramHead DatagramRefusal) (answer : Offered)
+head_told : (hop : Callsign → Option Callsign) (s : SetState) (t : sets.CircuitTold) (d : List ℕ) (rest : List sets.CircuitTold) (h : Result DatagramHead DatagramRefusal) (answer : Offered)
     → IsTold (pumps.sent_by_head hop s t d rest h) answer
 head_told hop s t d rest (Err e) answer = to_told hop s t d rest None answer
 head_told hop s t d rest (Ok head) answer = to_told hop s t d rest (hop head.dest) answer
 
-first_told : (hop : Callsign → Option Callsign) (s : SetState) (t : sets.Told) (rest : List sets.Told) (answer : Offered) → IsTold (pumps.tells_first hop s t rest) answer
+first_told : (hop : Callsign → Option Callsign) (s : SetState) (t : sets.CircuitTold) (rest : List sets.CircuitTold) (answer : Offered) → IsTold (pumps.tells_first hop s t rest) answer
 unfolding IsTold
 first_told hop s (sets.Sent id number d) rest answer = head_told hop s (sets.Sent id number d) d rest (head_at d) answer
 first_told hop s (sets.Made id pair partner request) rest answer = (Of (sets.Made id pair partner request), refl)
@@ -121,7 +121,7 @@ first_told hop s (sets.Gone id facts) rest answer = (Of (sets.Gone id facts), re
 first_told hop s (sets.Restarted pair) rest answer = (Of (sets.Restarted pair), refl)
 first_told hop s (sets.Lost id facts) rest answer = (Of (sets.Lost id facts), refl)
 
-told_by : (hop : Callsign → Option Callsign) (s : SetState) (ts : List sets.Told) (o : Option Routed) → (is_none o && is_empty ts) ≡ false → (answer : Offered)
+told_by : (hop : Callsign → Option Callsign) (s : SetState) (ts : List sets.CircuitTold) (o : Option Routed) → (is_none o && is_empty ts) ≡ false → (answer : Offered)
     → IsTold (pumps.tells hop (record { set = s; untold = ts; lost = o })) answer
 unfolding IsTold
 told_by hop s [] None e answer = absurd (cc e)

@@ -15,7 +15,7 @@ use Rattle.ax_address.specs.declared.alias.Alias.{Alias}
 use Rattle.ax_address.specs.declared.Entry.{Entry as Said}
 use Rattle.circuit_set.specs.Inputs.{runs}
 use Rattle.circuit_set.specs.Pumps.{Waiting, at_rest}
-use Rattle.circuit_set.specs.Sets.{SetState, Told}
+use Rattle.circuit_set.specs.Sets.{SetState, CircuitTold}
 use Rattle.digi_path.specs.Paths.{Action, For_me, Repeat, Not_yet, Heard, action, behind, repeated}
 use Rattle.kiss_framing.specs.Stream as kiss
 use Rattle.l3_datagram.specs.Onward.{GoesOneHopOn}
@@ -283,7 +283,7 @@ module _ (here : Place) (law : CarriesWhatWasOffered) (weaker : CarriesByWeaker)
             entries = t.grew;
             set = f ∙ ap at_rest t.set;
             told = told;
-            made = subst (λ (ts : List Told). MadeFrom old.set.set.number ts new.set.set.number) (sym told)
+            made = subst (λ (ts : List CircuitTold). MadeFrom old.set.set.number ts new.set.set.number) (sym told)
                 (subst (λ (y : SetState). MadeFrom old.set.set.number (runs t.inputs old.set.set).told y.number) (sym t.set) ok.made);
             own = ap (λ (y : SetState). y.own) t.set ∙ ok.own;
             settings = t.settings;

@@ -4,7 +4,7 @@ use Rattle.std.specs.Prelude.{Bool, true, false, if◌then◌else◌, nat_lt, Op
 use Rattle.ax_address.specs.Callsign.{Callsign}
 use Rattle.circuit_set.specs.Inputs.{OfEach, of_circuits}
 use Rattle.circuit_set.specs.Pumps.{SetTold, Turn, Turned, Says, Offers, Waiting}
-use Rattle.circuit_set.specs.Sets.{Act, Told}
+use Rattle.circuit_set.specs.Sets.{Act, CircuitTold}
 use Rattle.l3_datagram.specs.CarrierCall.{Parcel}
 use Rattle.link_table.specs.Calls.{collect, tell_lost}
 use Rattle.node_turns.specs.Circuits as circuits
@@ -25,7 +25,7 @@ pub record Came (written : List Act) (old new : State) : Type 0 where
 pub told_of_both : (xs ys : List Entry) → circuits_told (xs ++ ys) ≡ circuits_told xs ++ circuits_told ys
 told_of_both [] ys = refl
 told_of_both (Of_set t ∷ xs) ys =
-    ap (λ (ts : List Told). of_circuits (Some t) ++ ts) (told_of_both xs ys) ∙ sym (append_assoc (of_circuits (Some t)) (circuits_told xs) (circuits_told ys))
+    ap (λ (ts : List CircuitTold). of_circuits (Some t) ++ ts) (told_of_both xs ys) ∙ sym (append_assoc (of_circuits (Some t)) (circuits_told xs) (circuits_told ys))
 told_of_both (Of_link peer notice ∷ xs) ys = told_of_both xs ys
 told_of_both (Overflow live would_be ∷ xs) ys = told_of_both xs ys
 

@@ -14,7 +14,7 @@ use Rattle.circuit_reassembly.specs.Fragments.{fragments_of}
 use Rattle.circuit_set.specs.CircuitSets.{facts_at}
 use Rattle.circuit_set.specs.Pumps.{Of}
 use Rattle.circuit_set.specs.Sets as sets
-use Rattle.circuit_set.specs.Sets.{Holder, SetDone, SetState, Told, end_of, set_step}
+use Rattle.circuit_set.specs.Sets.{Holder, SetDone, SetState, CircuitTold, end_of, set_step}
 use Rattle.circuit_set.specs.Standing as answers
 use Rattle.circuit_set.specs.declared.event.SetRefusal.{SetRefusal}
 use Rattle.circuit_set.specs.declared.event.SetRefusal.TheVariants as set_refusal
@@ -40,7 +40,7 @@ use Rattle.node_core.proofs.Others.{NotIts, alone}
 use Rattle.node_core.proofs.Wrote.{KeepsWrote, Written, closes_wrote, comes_wrote, written_hears, written_later, written_new, written_others}
 use Rattle.node_core.proofs.Leaving.{LeavesHeld, calls_leaves, comes_leaves}
 
-abbrev pub All : SetState → List Told → List Session → Type 0
+abbrev pub All : SetState → List CircuitTold → List Session → Type 0
 All set ts ss = Owns set ts ss × (Every Sound ss × (Every (Given set) ss × Every (Written set) ss))
 
 abbrev pub Fine : State → Type 0
@@ -48,14 +48,14 @@ Fine n = All n.set.set n.set.untold n.sessions
 
 -- ---- the pumping
 
-tell_all : (prompt : Bool) (set : SetState) (t : Told) (ts : List Told) (ss : List Session) → All set (t ∷ ts) ss → All set ts (hear_circuits prompt (Of t) ss)
+tell_all : (prompt : Bool) (set : SetState) (t : CircuitTold) (ts : List CircuitTold) (ss : List Session) → All set (t ∷ ts) ss → All set ts (hear_circuits prompt (Of t) ss)
 tell_all prompt set t ts ss a = (owns_told prompt set t ts ss a.0, (heard_every Sound sound_hears sound_new prompt t ss a.1.0, (given_heard set prompt t ts ss a.0 a.1.1.0, heard_every (Written set) (written_hears set) (written_new set) prompt t ss a.1.1.1)))
 
 -- what the sessions keep as the set goes on
-pub goes_on : (admits : ℕ → Type 0) (set new : SetState) (ts : List Told) (ss : List Session) → Keeps admits set new → KeepsWrote set new → All set ts ss → Every Sound ss × (Every (Given new) ss × Every (Written new) ss)
+pub goes_on : (admits : ℕ → Type 0) (set new : SetState) (ts : List CircuitTold) (ss : List Session) → Keeps admits set new → KeepsWrote set new → All set ts ss → Every Sound ss × (Every (Given new) ss × Every (Written new) ss)
 goes_on admits set new ts ss k kw a = (a.1.0, (given_later set new k.number (λ id low e. k.ended id a.0.once low e) (λ id low e. k.away id a.0.once low e) ss a.1.1.0, written_later set new kw a.0.once ss a.1.1.1))
 
-come_all : (set : SetState) (ts : List Told) (ss : List Session) (d : List ℕ) (now : ℕ) → All set ts ss → All (set_step set (sets.Comes d now)).set (ts ++ (set_step set (sets.Comes d now)).told) ss
+come_all : (set : SetState) (ts : List CircuitTold) (ss : List Session) (d : List ℕ) (now : ℕ) → All set ts ss → All (set_step set (sets.Comes d now)).set (ts ++ (set_step set (sets.Comes d now)).told) ss
 come_all set ts ss d now a =
     let k = comes_keeps set d now in
     (owns_input Any set (set_step set (sets.Comes d now)) ts ss a.0 k (step_ok set (sets.Comes d now) tt).made (λ id some. tt) (λ id some. tt) (comes_leaves set d now), goes_on Any set _ ts ss k (comes_wrote set d now) a)
@@ -64,7 +64,7 @@ pub pumped : (now : ℕ) (n : State) → Fine n → Fine (pump now n)
 pumped now n f = pump_keeps All tell_all come_all now n f
 
 -- where nothing waits at the router the ends stay, and a session keeps what it keeps as it hears
-abbrev Stays : SetState → (Session → Type 0) → ℕ → SetState → List Told → List Session → Type 0
+abbrev Stays : SetState → (Session → Type 0) → ℕ → SetState → List CircuitTold → List Session → Type 0
 Stays old P nth set ts ss = (set ≡ old) × Placed P nth ss
 
 pub record Dry (P : Session → Type 0) (nth : ℕ) (old new : State) : Type 0 where

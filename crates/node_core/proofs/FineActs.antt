@@ -8,7 +8,7 @@ use Rattle.circuit_l4.specs.Table.{step}
 use Rattle.circuit_set.specs.CircuitSets.{facts_at}
 use Rattle.circuit_set.specs.Inputs.{connect_answer}
 use Rattle.circuit_set.specs.Sets as sets
-use Rattle.circuit_set.specs.Sets.{Act, Holder, SetDone, SetState, Told, set_step}
+use Rattle.circuit_set.specs.Sets.{Act, Holder, SetDone, SetState, CircuitTold, set_step}
 use Rattle.circuit_set.specs.Standing.{by_write, write_answer}
 use Rattle.circuit_l4.specs.Table as ends
 use Rattle.circuit_set.specs.declared.event.SetRefusal.TheVariants as set_refusal
@@ -121,7 +121,7 @@ called_none : (call : sets.Call) (now id : ℕ) (n : State) → is_some (facts i
 unfolding circuits.acts
 called_none call now id n e f =
     let same = not_held n.set.set call (sets.end_of id n.set.set.ends) now e in
-    subst (λ (d : SetDone). All d.set (n.set.untold ++ d.told) n.sessions) (sym same) (subst (λ (ts : List Told). All n.set.set ts n.sessions) (sym (append-nil n.set.untold)) f)
+    subst (λ (d : SetDone). All d.set (n.set.untold ++ d.told) n.sessions) (sym same) (subst (λ (ts : List CircuitTold). All n.set.set ts n.sessions) (sym (append-nil n.set.untold)) f)
 
 closed_by : (now id : ℕ) (n : State) (a b : Bool) → is_some (facts id n) ≡ a → is_served id n.sessions ≡ b → (a && b) ≡ false → IsTold n → Fine n
     → Fine (at_set (circuits.acts (sets.Calls id sets.Closes now)) n)

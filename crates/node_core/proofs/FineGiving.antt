@@ -6,7 +6,7 @@ use Rattle.ax_address.specs.Callsign.{Callsign}
 use Rattle.circuit_set.specs.CircuitSets.{facts_at}
 use Rattle.circuit_set.specs.Sets as sets
 use Rattle.circuit_set.specs.Pumps.{Of}
-use Rattle.circuit_set.specs.Sets.{Holder, SetState, Told, end_of, set_step}
+use Rattle.circuit_set.specs.Sets.{Holder, SetState, CircuitTold, end_of, set_step}
 use Rattle.circuit_set.specs.Standing as answers
 use Rattle.link_table.specs.declared.text_refusal.TextRefusal.{TextRefusal}
 use Rattle.node_turns.specs.declared.session.Circuit.{Circuit}
@@ -182,7 +182,7 @@ module _ (now nth id : ℕ) (n m : State) (x z : Session) (message : List ℕ) (
       by false d = subst (λ (y : User). IsFine (users.outcome_at y message m)) (sym user) (goes_to x.user refl d)
 
 -- a message was taken from the circuit of the session in a place, and isn't noted there: all else is fine, and so will that be once it is
-record IsTaking (old : SetState) (message : List ℕ) (nth : ℕ) (set : SetState) (ts : List Told) (ss : List Session) : Type 0 where
+record IsTaking (old : SetState) (message : List ℕ) (nth : ℕ) (set : SetState) (ts : List CircuitTold) (ss : List Session) : Type 0 where
   same : set ≡ old
   owns : Owns set ts ss
   sound : Every Sound ss
@@ -190,7 +190,7 @@ record IsTaking (old : SetState) (message : List ℕ) (nth : ℕ) (set : SetStat
   others : But (Written set) nth ss
   its : Placed (WillBe set message) nth ss
 
-taking_told : (old : SetState) (message : List ℕ) (nth : ℕ) (prompt : Bool) (set : SetState) (t : Told) (ts : List Told) (ss : List Session) → IsTaking old message nth set (t ∷ ts) ss
+taking_told : (old : SetState) (message : List ℕ) (nth : ℕ) (prompt : Bool) (set : SetState) (t : CircuitTold) (ts : List CircuitTold) (ss : List Session) → IsTaking old message nth set (t ∷ ts) ss
     → IsTaking old message nth set ts (hear_circuits prompt (Of t) ss)
 taking_told old message nth prompt set t ts ss a = record {
   same = a.same;

@@ -6,7 +6,7 @@ use Rattle.ax_address.specs.Callsign.{Callsign}
 use Rattle.circuit_l4.specs.declared.notice.EndNotice.{EndNotice}
 use Rattle.circuit_l4.specs.declared.notice.EndNotice.TheVariants as end
 use Rattle.circuit_set.specs.Pumps.{Of}
-use Rattle.circuit_set.specs.Sets.{SetState, Told, Made, Sent, Heeded, Notice, Gone, Restarted, Lost}
+use Rattle.circuit_set.specs.Sets.{SetState, CircuitTold, Made, Sent, Heeded, Notice, Gone, Restarted, Lost}
 use Rattle.node_turns.specs.declared.session.Circuit.{Circuit}
 use Rattle.node_turns.specs.declared.session.Stage.{Stage}
 use Rattle.node_turns.specs.declared.session.Stage.TheVariants.{AtPrompt, Trying, Failed, Connected}
@@ -224,7 +224,7 @@ module _ (set : SetState) where
   given_hears = record { notice = λ id notice x g. noticed_at id notice x x.stage refl g; gone = λ id x g. gone_at id x x.stage g }
 
   -- an end that a request has made has a number that was given
-  made_known : (ts : List Told) (ss : List Session) (id : ℕ) (t : Told) → Owns set (t ∷ ts) ss → 0 < made_by id t → id < set.number
+  made_known : (ts : List CircuitTold) (ss : List Session) (id : ℕ) (t : CircuitTold) → Owns set (t ∷ ts) ss → 0 < made_by id t → id < set.number
   made_known ts ss id t o some = by (below_or id set.number)
     where
       by : (id < set.number) ⊎ (set.number ≤ id) → id < set.number
@@ -235,7 +235,7 @@ module _ (set : SetState) where
   greeted true user ss new e = push_every (Given set) ss (s.new_session user) e new
   greeted false user ss new e = e
 
-  pub given_heard : (prompt : Bool) (t : Told) (ts : List Told) (ss : List Session) → Owns set (t ∷ ts) ss → Every (Given set) ss → Every (Given set) (s.hear_circuits prompt (Of t) ss)
+  pub given_heard : (prompt : Bool) (t : CircuitTold) (ts : List CircuitTold) (ss : List Session) → Owns set (t ∷ ts) ss → Every (Given set) ss → Every (Given set) (s.hear_circuits prompt (Of t) ss)
   given_heard prompt (Made id pair partner None) ts ss o e = e
   given_heard prompt (Made id pair partner (Some d)) ts ss o e =
       let self : nat_eq id id ≡ true = grind (arith, nat_tests) in

@@ -17,7 +17,7 @@ use Rattle.circuit_l4.specs.declared.transport.TransportRefusal.{TransportRefusa
 use Rattle.circuit_set.specs.CircuitSets.{facts_at}
 use Rattle.circuit_set.specs.Heeds.{heeds}
 use Rattle.circuit_set.specs.Sets as s
-use Rattle.circuit_set.specs.Sets.{Call, Calls, Comes, Connect, Holder, SetDone, SetState, Told, Closes, Takes, Ticks, Writes}
+use Rattle.circuit_set.specs.Sets.{Call, Calls, Comes, Connect, Holder, SetDone, SetState, CircuitTold, Closes, Takes, Ticks, Writes}
 use Rattle.circuit_set.proofs.Unheeded.{origin_read}
 use Rattle.l3_datagram.specs.declared.datagram.DatagramHead.{DatagramHead}
 use Rattle.l3_datagram.specs.declared.datagram.DatagramRefusal.{DatagramRefusal}
@@ -91,9 +91,9 @@ open_alive test (x ∷ xs) h g e = by x.gone (s.has_ended x.end.phase) (test x) 
         record { held = subst (λ (k : Holder). k.gone ≡ false) same p; ended = λ t. absurd (cc (t, subst (λ (k : Holder). s.has_ended k.end.phase ≡ false) same q)) }
 
 -- whatever it is of, it is left by each thing that an input may do
-module _ (P : SetDone → Type 0) (C : Callsign → Type 0) (set : SetState) (stays : (told : List Told) → P (record { set = set; told = told }))
+module _ (P : SetDone → Type 0) (C : Callsign → Type 0) (set : SetState) (stays : (told : List CircuitTold) → P (record { set = set; told = told }))
     (L : State → State → Type 0) (same : (u : State) → L u u) (arrives : (u : State) (t : Transport) (now : ℕ) → L u (end.step u (end.Arrive t) now).end)
-    (steps : (h : Holder) (first : List Told) (g : Effect) → In h set.ends → Alive h g → L h.end g.end → P (s.goes_to set h first g))
+    (steps : (h : Holder) (first : List CircuitTold) (g : Effect) → In h set.ends → Alive h g → L h.end g.end → P (s.goes_to set h first g))
     (makes : (at : Callsign) (asked : Option Pair) (request : Option (List ℕ)) (g : Effect) → C at → g.end.closing ≡ false → g.end.receiving.received ≡ [] → P (s.makes_end set at asked request g)) where
   either : (x y : SetDone) (b : Bool) → P x → P y → P (if b then x else y)
   either x y true p q = p
@@ -195,7 +195,7 @@ over_settled o k e f = ap (λ (x : Option Holder). ended_by (facts_at x)) e ∙ 
     by true = refl
     by false = f
 
-ended_at : (set : SetState) (h : Holder) (first : List Told) (g : Effect) (id : ℕ) → In h set.ends → Alive h g → Once set.ends → is_ended id set ≡ true → is_ended id (s.goes_to set h first g).set ≡ true
+ended_at : (set : SetState) (h : Holder) (first : List CircuitTold) (g : Effect) (id : ℕ) → In h set.ends → Alive h g → Once set.ends → is_ended id set ≡ true → is_ended id (s.goes_to set h first g).set ≡ true
 ended_at set h first g id i a o e = by (nat_eq h.id id) refl
   where
     k : Holder
@@ -214,14 +214,14 @@ not_away (Some x) h e held f =
     let gone : x.gone ≡ false = subst (λ (k : Holder). k.gone ≡ false) (sym same) held in
     absurd (cc (sym (ap (λ b. is_none (if b then None else Some (facts_of x.end))) gone) ∙ f))
 
-away_at : (set : SetState) (h : Holder) (first : List Told) (g : Effect) (id : ℕ) → In h set.ends → Alive h g → Once set.ends → is_away id set ≡ true → is_away id (s.goes_to set h first g).set ≡ true
+away_at : (set : SetState) (h : Holder) (first : List CircuitTold) (g : Effect) (id : ℕ) → In h set.ends → Alive h g → Once set.ends → is_away id set ≡ true → is_away id (s.goes_to set h first g).set ≡ true
 away_at set h first g id i a o e = by (nat_eq h.id id) refl
   where
     by : (b : Bool) → nat_eq h.id id ≡ b → is_none (facts_at (s.end_of id (s.with_end (s.after_effect h g) set.ends))) ≡ true
     by true f = absurd (not_away (s.end_of id set.ends) h (is_end id h set.ends o i f) a.held e)
     by false f = ap (λ (x : Option Holder). is_none (facts_at x)) (other_end id (s.after_effect h g) set.ends f) ∙ e
 
-kept_at : (set : SetState) (h : Holder) (first : List Told) (g : Effect) → In h set.ends → Alive h g → LeavesOne h.end g.end → Keeps Any set (s.goes_to set h first g).set
+kept_at : (set : SetState) (h : Holder) (first : List CircuitTold) (g : Effect) → In h set.ends → Alive h g → LeavesOne h.end g.end → Keeps Any set (s.goes_to set h first g).set
 kept_at set h first g i v l =
     let k : Holder = s.after_effect h g in
     record {

@@ -93,7 +93,7 @@ table_stays s r old new e f g n h = record {
 
 -- ---- the circuits
 
-pub set_goes : (to : SetState → Waiting) (s : Station) (new : Circuits Kept) → sets.Goes s.set new to → (n : State) → Holds s n → IsTold n
+pub set_goes : (to : SetState → Waiting) (s : Station) (new : Circuits Kept) → sets.SetGoes s.set new to → (n : State) → Holds s n → IsTold n
     → Holds (record s { set = new }) (record n { set = to n.set.set })
 set_goes to s new goes n h told =
     let e = goes.router in
@@ -235,7 +235,7 @@ put_none f m p =
 
 -- ---- calls of the circuits
 
-pub set_steps : (step : Waiting → Waiting) (s : Station) (new : Circuits Kept) → sets.Goes s.set new (λ x. step (at_rest x)) → (n : State) → Holds s n → IsTold n
+pub set_steps : (step : Waiting → Waiting) (s : Station) (new : Circuits Kept) → sets.SetGoes s.set new (λ x. step (at_rest x)) → (n : State) → Holds s n → IsTold n
     → Holds (record s { set = new }) (at_set step n)
 set_steps step s new goes n h told =
     subst (λ (w : Waiting). Holds (record s { set = new }) (record n { set = w })) (sym (ap step told)) (set_goes (λ x. step (at_rest x)) s new goes n h told)

@@ -14,8 +14,8 @@ use Rattle.circuit_set.specs.CircuitSets as sets
 use Rattle.circuit_set.specs.CircuitSets.{Circuits, SetStands}
 use Rattle.circuit_set.specs.Pumps.{at_rest}
 use Rattle.circuit_set.specs.Sets as s
-use Rattle.circuit_set.specs.Sets.{SetDone, SetState, Told}
-use Rattle.circuit_set.specs.Standing.{Held, Keeps, Rests, if_so, sents_by, take_answer, untold_of}
+use Rattle.circuit_set.specs.Sets.{SetDone, SetState, CircuitTold}
+use Rattle.circuit_set.specs.Standing.{EachStands, Keeps, Rests, if_so, sendings_by, take_answer, untold_of}
 use Rattle.circuit_set.specs.declared.holder.Holder.{Holder}
 use Rattle.link_table.specs.Standing.{TableView as Kept}
 use Rattle.node_turns.specs.Circuits as circuits
@@ -33,7 +33,7 @@ pub right_none : {A : Type 0} (xs ys : List A) → xs ++ ys ≡ [] → ys ≡ []
 right_none [] ys e = e
 right_none (x ∷ xs) ys e = absurd (cc e)
 
-no_outs : (own : Callsign) (ttl id : ℕ) (to : Callsign) (os : List Out) → sents_by own ttl id to os ≡ [] → os ≡ []
+no_outs : (own : Callsign) (ttl id : ℕ) (to : Callsign) (os : List Out) → sendings_by own ttl id to os ≡ [] → os ≡ []
 no_outs own ttl id to [] e = refl
 no_outs own ttl id to (o ∷ os) e = absurd (cc e)
 
@@ -45,12 +45,12 @@ no_notice : (o : Option EndNotice) → option_to_list o ≡ [] → o ≡ None
 no_notice None e = refl
 no_notice (Some n) e = absurd (cc e)
 
-end_drained : (own : Callsign) (ttl id : ℕ) (k : Holder) (h : s.Holder) (told : List Told) → told ≡ [] → Keeps own ttl id k h told → ends.IsDrained k.end
+end_drained : (own : Callsign) (ttl id : ℕ) (k : Holder) (h : s.Holder) (told : List CircuitTold) → told ≡ [] → Keeps own ttl id k h told → ends.IsDrained k.end
 end_drained own ttl id k h told e p =
     let g = p.going in
     let all : untold_of own ttl id k g ≡ [] = sym p.untold ∙ e in
     let made = if_so k.unannounced (s.Made id k.pair k.at None) in
-    let sents = sents_by own ttl id k.at g.outs in
+    let sents = sendings_by own ttl id k.at g.outs in
     let front = left_none (made ++ sents ++ s.notices id g.notes) (if_so (k.discarded || s.is_over g.end) (s.Gone id (facts_of g.end))) all in
     let outs : g.outs ≡ [] = no_outs own ttl id k.at g.outs (right_none made sents (left_none (made ++ sents) (s.notices id g.notes) front)) in
     let notes : g.notes ≡ [] = no_notes id g.notes (right_none (made ++ sents) (s.notices id g.notes) front) in
@@ -59,7 +59,7 @@ end_drained own ttl id k h told e p =
       notice = no_notice k.end.notice (sym (ap (λ (x : Effect). x.notes) p.stands.is) ∙ notes);
     }
 
-rests_by : (own : Callsign) (ttl hi lo : ℕ) (es : List (ℕ × Holder)) (hs : List s.Holder) (told : List Told) → told ≡ [] → Held own ttl hi lo es hs told → Rests es
+rests_by : (own : Callsign) (ttl hi lo : ℕ) (es : List (ℕ × Holder)) (hs : List s.Holder) (told : List CircuitTold) → told ≡ [] → EachStands own ttl hi lo es hs told → Rests es
 rests_by own ttl hi lo es [] told e p = subst Rests (sym p.0) tt
 rests_by own ttl hi lo es (h ∷ hs) told e (low, inl past) = rests_by own ttl hi (suc h.id) es hs told e past.others
 rests_by own ttl hi lo es (h ∷ hs) told e (low, inr here) =
@@ -80,7 +80,7 @@ abbrev pub Rising : ℕ → List s.Holder → Type 0
 Rising lo [] = Unit {0}
 Rising lo (h ∷ hs) = (lo ≤ h.id) × Rising (suc h.id) hs
 
-pub rising : (own : Callsign) (ttl hi lo : ℕ) (es : List (ℕ × Holder)) (hs : List s.Holder) (told : List Told) → Held own ttl hi lo es hs told → Rising lo hs
+pub rising : (own : Callsign) (ttl hi lo : ℕ) (es : List (ℕ × Holder)) (hs : List s.Holder) (told : List CircuitTold) → EachStands own ttl hi lo es hs told → Rising lo hs
 rising own ttl hi lo es [] told p = tt
 rising own ttl hi lo es (h ∷ hs) told (low, inl past) = (low, rising own ttl hi (suc h.id) es hs told past.others)
 rising own ttl hi lo es (h ∷ hs) told (low, inr here) = (low, rising own ttl hi (suc h.id) here.rest hs here.theirs here.others)
@@ -121,7 +121,7 @@ or_false : (a b : Bool) → (a || b) ≡ false → b ≡ false
 or_false true b e = absurd (cc e)
 or_false false b e = e
 
-not_over : (own : Callsign) (ttl hi lo id : ℕ) (es : List (ℕ × Holder)) (hs : List s.Holder) (told : List Told) (h : s.Holder) → Held own ttl hi lo es hs told
+not_over : (own : Callsign) (ttl hi lo id : ℕ) (es : List (ℕ × Holder)) (hs : List s.Holder) (told : List CircuitTold) (h : s.Holder) → EachStands own ttl hi lo es hs told
     → s.end_of id hs ≡ Some h → h.gone ≡ false → s.is_over h.end ≡ false
 not_over own ttl hi lo id es [] told h p e f = absurd (cc e)
 not_over own ttl hi lo id es (x ∷ xs) told h (low, inl past) e f = by (nat_eq x.id id) e (λ g. not_over own ttl hi (suc x.id) id es xs told h past.others g f)
@@ -151,7 +151,7 @@ comes_to_itself set h gone over same =
       ap (λ (b : Bool). if b then s.Gone h.id (facts_of h.end) ∷ [] else []) over,
     )
 
-takes_itself : (now id : ℕ) (set : SetState) (es : List (ℕ × Holder)) (h : s.Holder) → Held set.own set.ttl set.number 0 es set.ends [] → s.end_of id set.ends ≡ Some h
+takes_itself : (now id : ℕ) (set : SetState) (es : List (ℕ × Holder)) (h : s.Holder) → EachStands set.own set.ttl set.number 0 es set.ends [] → s.end_of id set.ends ≡ Some h
     → (b : Bool) → h.gone ≡ b → took (if b then Err (record {}) else Ok (nat_lt 0 (length (inbox h.end.receiving)))) ≡ false
     → Itself set (if b then s.does_nothing set else s.goes_to set h [] (take_first (begin h.end)))
 unfolding Itself
@@ -160,7 +160,7 @@ takes_itself now id set es h p e false gone f =
     let none : take_first (begin h.end) ≡ begin h.end = rw f refl in
     rw none (comes_to_itself set h gone (not_over set.own set.ttl set.number 0 id es set.ends [] h p e gone) (with_found id 0 set.ends h (rising set.own set.ttl set.number 0 es set.ends [] p) e))
 
-called_itself : (now id : ℕ) (set : SetState) (es : List (ℕ × Holder)) → Held set.own set.ttl set.number 0 es set.ends [] → (o : Option s.Holder) → s.end_of id set.ends ≡ o
+called_itself : (now id : ℕ) (set : SetState) (es : List (ℕ × Holder)) → EachStands set.own set.ttl set.number 0 es set.ends [] → (o : Option s.Holder) → s.end_of id set.ends ≡ o
     → took (take_answer o) ≡ false → Itself set (s.after_call set o s.Takes now)
 unfolding Itself
 called_itself now id set es p None e f = (refl, refl)

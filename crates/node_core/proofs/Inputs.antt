@@ -7,7 +7,7 @@ use Rattle.circuit_set.specs.Givings.{IsUp}
 use Rattle.circuit_set.specs.Inputs.{OfEach, of_circuits, runs, ticks_of}
 use Rattle.circuit_set.specs.Pumps.{Dropped, Offers, Says, Turn, Turned, Waiting, heard_as, hears_by, sent_by_head, sent_to, tells_first, tells_of, with_done}
 use Rattle.circuit_set.specs.Runs.{IsAct}
-use Rattle.circuit_set.specs.Sets.{Act, Connect, Comes, Calls, Discard, Restart, Ticks, Holder, SetState, Told, Made, Sent, Heeded, Notice, Gone, Restarted, Lost, set_step}
+use Rattle.circuit_set.specs.Sets.{Act, Connect, Comes, Calls, Discard, Restart, Ticks, Holder, SetState, CircuitTold, Made, Sent, Heeded, Notice, Gone, Restarted, Lost, set_step}
 use Rattle.l3_datagram.specs.CarrierCall.{Parcel}
 use Rattle.l3_datagram.specs.Datagrams.{head_at}
 use Rattle.l3_datagram.specs.Hops.{Way, Ends, ToNeighbour, forwarded_by, way}
@@ -27,7 +27,7 @@ set_of_both (x ∷ xs) ys s = set_of_both xs ys (set_step s x).set
 pub told_of_both : (xs ys : List Act) (s : SetState) → (runs (xs ++ ys) s).told ≡ (runs xs s).told ++ (runs ys (runs xs s).set).told
 told_of_both [] ys s = refl
 told_of_both (x ∷ xs) ys s =
-    ap (λ (ts : List Told). (set_step s x).told ++ ts) (told_of_both xs ys (set_step s x).set)
+    ap (λ (ts : List CircuitTold). (set_step s x).told ++ ts) (told_of_both xs ys (set_step s x).set)
     ∙ sym (append_assoc (set_step s x).told (runs xs (set_step s x).set).told (runs ys (runs xs (set_step s x).set).set).told)
 
 -- an input of a node that runs: one that a run of sets may have, and that doesn't start the node again
@@ -63,7 +63,7 @@ are_both [] ys p q = q
 are_both (x ∷ xs) ys p q = (p.0, are_both xs ys p.1 q)
 
 -- by some inputs the circuits went on; what was told and what is untold are what was untold and what they tell
-pub record Went (written : List Act) (old new : Waiting) (told : List Told) : Type 0 where
+pub record Went (written : List Act) (old new : Waiting) (told : List CircuitTold) : Type 0 where
   pub inputs : List Act
   pub are : AllByRecursion IsInput inputs
   pub writes : writes_in inputs ≡ written
@@ -75,13 +75,13 @@ writes_both [] ys = refl
 writes_both (x ∷ xs) ys = ap (λ (us : List Act). write_in x ++ us) (writes_both xs ys) ∙ sym (append_assoc (write_in x) (writes_in xs) (writes_in ys))
 
 -- it is told otherwise
-pub retold : (written : List Act) (w v : Waiting) (told ts : List Told) → told ≡ ts → Went written w v told → Went written w v ts
-retold written w v told ts e g = record { inputs = g.inputs; are = g.are; writes = g.writes; set = g.set; given = ap (λ (us : List Told). us ++ v.untold) (sym e) ∙ g.given }
+pub retold : (written : List Act) (w v : Waiting) (told ts : List CircuitTold) → told ≡ ts → Went written w v told → Went written w v ts
+retold written w v told ts e g = record { inputs = g.inputs; are = g.are; writes = g.writes; set = g.set; given = ap (λ (us : List CircuitTold). us ++ v.untold) (sym e) ∙ g.given }
 
 pub stays : (w : Waiting) → Went [] w w []
 stays w = record { inputs = []; are = tt; writes = refl; set = refl; given = sym (append-nil w.untold) }
 
-pub goes_on : (ws vs : List Act) (a b c : Waiting) (first next : List Told) → Went ws a b first → Went vs b c next → Went (ws ++ vs) a c (first ++ next)
+pub goes_on : (ws vs : List Act) (a b c : Waiting) (first next : List CircuitTold) → Went ws a b first → Went vs b c next → Went (ws ++ vs) a c (first ++ next)
 goes_on ws vs a b c first next g h = record {
   inputs = g.inputs ++ h.inputs;
   are = are_both g.inputs h.inputs g.are h.are;
@@ -89,18 +89,18 @@ goes_on ws vs a b c first next g h = record {
   set = h.set ∙ (ap (λ (s : SetState). (runs h.inputs s).set) g.set ∙ sym (set_of_both g.inputs h.inputs a.set));
   given =
       append_assoc first next c.untold
-      ∙ (ap (λ (ts : List Told). first ++ ts) h.given
+      ∙ (ap (λ (ts : List CircuitTold). first ++ ts) h.given
       ∙ (sym (append_assoc first b.untold (runs h.inputs b.set).told)
-      ∙ (ap (λ (ts : List Told). ts ++ (runs h.inputs b.set).told) g.given
+      ∙ (ap (λ (ts : List CircuitTold). ts ++ (runs h.inputs b.set).told) g.given
       ∙ (append_assoc a.untold (runs g.inputs a.set).told (runs h.inputs b.set).told
       ∙ (ap (λ (s : SetState). a.untold ++ ((runs g.inputs a.set).told ++ (runs h.inputs s).told)) g.set
-      ∙ ap (λ (ts : List Told). a.untold ++ ts) (sym (told_of_both g.inputs h.inputs a.set)))))));
+      ∙ ap (λ (ts : List CircuitTold). a.untold ++ ts) (sym (told_of_both g.inputs h.inputs a.set)))))));
 }
 
 -- ---- the calls
 
 by_one : (a : Act) (w : Waiting) → IsInput a → Went (write_in a) w (with_done w (set_step w.set a)) []
-by_one a w i = record { inputs = a ∷ []; are = (i, tt); writes = append-nil (write_in a); set = refl; given = ap (λ (ts : List Told). w.untold ++ ts) (sym (append-nil (set_step w.set a).told)) }
+by_one a w i = record { inputs = a ∷ []; are = (i, tt); writes = append-nil (write_in a); set = refl; given = ap (λ (ts : List CircuitTold). w.untold ++ ts) (sym (append-nil (set_step w.set a).told)) }
 
 pub act_went : (a : Act) (w : Waiting) → IsInput a → Went (write_in a) w (circuits.acts a w) []
 unfolding circuits.acts
@@ -128,7 +128,7 @@ unfolding circuits.ticks
 ticks_went now w = record { inputs = ticks_of now w.set.ends; are = ticks_are now w.set.ends; writes = ticks_write now w.set.ends; set = refl; given = refl }
 
 -- no input: what was told was untold before
-by_none : (w v : Waiting) (told : List Told) → v.set ≡ w.set → told ++ v.untold ≡ w.untold → Went [] w v told
+by_none : (w v : Waiting) (told : List CircuitTold) → v.set ≡ w.set → told ++ v.untold ≡ w.untold → Went [] w v told
 by_none w v told s e = record { inputs = []; are = tt; writes = refl; set = s; given = e ∙ sym (append-nil w.untold) }
 
 abbrev pub TurnWent : Waiting → Turned → Type 0
@@ -158,19 +158,19 @@ hears_went next_hop now parcel w = by_way now w (way w.set.own next_hop parcel.1
 
 -- ---- what is untold is told
 
-abbrev First : SetState → Told → List Told → Turned → Type 0
+abbrev First : SetState → CircuitTold → List CircuitTold → Turned → Type 0
 First s t rest u = (u.after.set ≡ s) × (u.after.untold ≡ rest) × (of_circuits u.told ≡ t ∷ [])
 
 module _ (next_hop : Callsign → Option Callsign) where
-  to_first : (s : SetState) (t : Told) (d : List ℕ) (rest : List Told) (o : Option Callsign) → OfEach (First s t rest) (sent_to next_hop s t d rest o)
+  to_first : (s : SetState) (t : CircuitTold) (d : List ℕ) (rest : List CircuitTold) (o : Option Callsign) → OfEach (First s t rest) (sent_to next_hop s t d rest o)
   to_first s t d rest None = (refl, refl, refl)
   to_first s t d rest (Some hop) = λ answer. (refl, refl, refl)
 
-  head_first : (s : SetState) (t : Told) (d : List ℕ) (rest : List Told) (r : Result DatagramHead DatagramRefusal) → OfEach (First s t rest) (sent_by_head next_hop s t d rest r)
+  head_first : (s : SetState) (t : CircuitTold) (d : List ℕ) (rest : List CircuitTold) (r : Result DatagramHead DatagramRefusal) → OfEach (First s t rest) (sent_by_head next_hop s t d rest r)
   head_first s t d rest (Err e) = to_first s t d rest None
   head_first s t d rest (Ok head) = to_first s t d rest (next_hop head.dest)
 
-  tells_it : (s : SetState) (t : Told) (rest : List Told) → OfEach (First s t rest) (tells_first next_hop s t rest)
+  tells_it : (s : SetState) (t : CircuitTold) (rest : List CircuitTold) → OfEach (First s t rest) (tells_first next_hop s t rest)
   tells_it s (Sent id number d) rest = head_first s (Sent id number d) d rest (head_at d)
   tells_it s (Made id pair partner request) rest = (refl, refl, refl)
   tells_it s (Heeded id d) rest = (refl, refl, refl)
@@ -179,14 +179,14 @@ module _ (next_hop : Callsign → Option Callsign) where
   tells_it s (Restarted pair) rest = (refl, refl, refl)
   tells_it s (Lost id facts) rest = (refl, refl, refl)
 
-first_went : (w : Waiting) (t : Told) (rest : List Told) (u : Turned) → w.untold ≡ t ∷ rest → First w.set t rest u → TurnWent w u
+first_went : (w : Waiting) (t : CircuitTold) (rest : List CircuitTold) (u : Turned) → w.untold ≡ t ∷ rest → First w.set t rest u → TurnWent w u
 first_went w t rest u e f = by_none w u.after (of_circuits u.told) f.0 (ap (λ ts. ts ++ u.after.untold) f.2 ∙ ap (λ ts. t ∷ ts) f.1 ∙ sym e)
 
 each_went : (P Q : Turned → Type 0) → ((u : Turned) → P u → Q u) → (t : Turn) → OfEach P t → OfEach Q t
 each_went P Q f (Says u) p = f u p
 each_went P Q f (Offers to d by) p = λ answer. f (by answer) (p answer)
 
-tells_untold : (next_hop : Callsign → Option Callsign) (w : Waiting) (ts : List Told) → w.untold ≡ ts → OfEach (TurnWent w) (tells_of next_hop w.set ts)
+tells_untold : (next_hop : Callsign → Option Callsign) (w : Waiting) (ts : List CircuitTold) → w.untold ≡ ts → OfEach (TurnWent w) (tells_of next_hop w.set ts)
 tells_untold next_hop w [] e = by_none w _ [] refl (sym e)
 tells_untold next_hop w (t ∷ rest) e = each_went (First w.set t rest) (TurnWent w) (λ u f. first_went w t rest u e f) (tells_first next_hop w.set t rest) (tells_it next_hop w.set t rest)
 

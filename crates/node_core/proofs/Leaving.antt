@@ -9,7 +9,7 @@ use Rattle.circuit_l4.specs.State.{Effect}
 use Rattle.circuit_l4.specs.declared.transport.Pair.{Pair}
 use Rattle.circuit_set.specs.CircuitSets.{facts_at}
 use Rattle.circuit_set.specs.Sets as s
-use Rattle.circuit_set.specs.Sets.{Call, Calls, Comes, Connect, Holder, SetDone, SetState, Told, Made, Sent, Heeded, Notice, Gone, Restarted, Lost}
+use Rattle.circuit_set.specs.Sets.{Call, Calls, Comes, Connect, Holder, SetDone, SetState, CircuitTold, Made, Sent, Heeded, Notice, Gone, Restarted, Lost}
 use Rattle.node_core.proofs.Ends.{In, Once, end_here, is_end, other_end}
 use Rattle.node_core.proofs.Holders.{Alive, calls, comes, connects, is_away}
 
@@ -18,7 +18,7 @@ one true = 1
 one false = 0
 
 -- how often it is told that the end of a number is gone
-abbrev pub gone_by : ℕ → Told → ℕ
+abbrev pub gone_by : ℕ → CircuitTold → ℕ
 gone_by id (Gone at facts) = one (nat_eq at id)
 gone_by id (Made at pair partner request) = 0
 gone_by id (Sent at number d) = 0
@@ -27,45 +27,45 @@ gone_by id (Notice at notice) = 0
 gone_by id (Restarted pair) = 0
 gone_by id (Lost at facts) = 0
 
-abbrev pub gones : ℕ → List Told → ℕ
+abbrev pub gones : ℕ → List CircuitTold → ℕ
 gones id [] = 0
 gones id (t ∷ ts) = gone_by id t + gones id ts
 
-pub gones_both : (id : ℕ) (ts us : List Told) → gones id (ts ++ us) ≡ gones id ts + gones id us
+pub gones_both : (id : ℕ) (ts us : List CircuitTold) → gones id (ts ++ us) ≡ gones id ts + gones id us
 gones_both id [] us = omega arith
 gones_both id (t ∷ ts) us = omega (arith, gones_both id ts us)
 
 -- the end of a number is held, or it is untold that it is gone
-abbrev pub IsHeld : ℕ → SetState → List Told → Type 0
+abbrev pub IsHeld : ℕ → SetState → List CircuitTold → Type 0
 IsHeld id set ts = (is_away id set ≡ false) ⊎ (0 < gones id ts)
 
 -- each end that is held is held still, or it is told that it is gone
 abbrev pub LeavesHeld : SetState → SetDone → Type 0
 LeavesHeld set d = (id : ℕ) → Once set.ends → is_away id set ≡ false → IsHeld id d.set d.told
 
-stays : (set : SetState) (told : List Told) → LeavesHeld set (record { set = set; told = told })
+stays : (set : SetState) (told : List CircuitTold) → LeavesHeld set (record { set = set; told = told })
 stays set told id o e = inl e
 
 -- what an end tells that has come to this
 told_gone : (set : SetState) (h : Holder) (g : Effect) → s.is_over g.end ≡ true → 0 < gones h.id (s.told_by set h g)
 told_gone set h g over =
     let self : nat_eq h.id h.id ≡ true = eq-eqb h.id h.id refl in
-    let outs : List Told = s.sendings set h.id h.at g.outs in
-    let notes : List Told = s.notices h.id g.notes in
-    let end : List Told = if s.is_over g.end then Gone h.id (facts_of g.end) ∷ [] else [] in
+    let outs : List CircuitTold = s.sendings set h.id h.at g.outs in
+    let notes : List CircuitTold = s.notices h.id g.notes in
+    let end : List CircuitTold = if s.is_over g.end then Gone h.id (facts_of g.end) ∷ [] else [] in
     let last : gones h.id end ≡ 1 = rw (over, self) refl in
     let all : gones h.id (s.told_by set h g) ≡ gones h.id (outs ++ notes) + gones h.id end = gones_both h.id (outs ++ notes) end in
     omega (arith, last, all)
 
 -- an end that has come to this is held, or it is told that it is gone
-held_or_told : (set new : SetState) (first : List Told) (h k : Holder) (g : Effect) → s.end_of h.id new.ends ≡ Some k → k.gone ≡ s.is_over g.end → IsHeld h.id new (first ++ s.told_by set h g)
+held_or_told : (set new : SetState) (first : List CircuitTold) (h k : Holder) (g : Effect) → s.end_of h.id new.ends ≡ Some k → k.gone ≡ s.is_over g.end → IsHeld h.id new (first ++ s.told_by set h g)
 held_or_told set new first h k g is gone = by (s.is_over g.end) refl
   where
     by : (b : Bool) → s.is_over g.end ≡ b → IsHeld h.id new (first ++ s.told_by set h g)
     by true over = inr (let some = told_gone set h g over in omega (arith, some, gones_both h.id first (s.told_by set h g)))
     by false over = inl (ap (λ (o : Option Holder). is_none (facts_at o)) is ∙ ap (λ b. is_none (if b then None else Some (facts_of k.end))) (gone ∙ over))
 
-goes_on : (set : SetState) (h : Holder) (first : List Told) (g : Effect) → In h set.ends → Alive h g → Unit {0} → LeavesHeld set (s.goes_to set h first g)
+goes_on : (set : SetState) (h : Holder) (first : List CircuitTold) (g : Effect) → In h set.ends → Alive h g → Unit {0} → LeavesHeld set (s.goes_to set h first g)
 goes_on set h first g i v l id o e = by (nat_eq h.id id) refl
   where
     d : SetDone

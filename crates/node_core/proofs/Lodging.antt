@@ -8,7 +8,7 @@ use Rattle.ax_link.specs.declared.notice.LinkNotice.{LinkNotice}
 use Rattle.ax_link.specs.declared.notice.LinkNotice.TheVariants as link
 use Rattle.circuit_l4.specs.declared.notice.EndNotice.{EndNotice}
 use Rattle.circuit_set.specs.Pumps.{Of}
-use Rattle.circuit_set.specs.Sets.{Told, Made, Sent, Heeded, Notice, Gone, Restarted, Lost}
+use Rattle.circuit_set.specs.Sets.{CircuitTold, Made, Sent, Heeded, Notice, Gone, Restarted, Lost}
 use Rattle.l3_datagram.specs.CarrierCall.{Datagram}
 use Rattle.link_table.specs.Ending.{EndsAreTold, IsInOrder, Leaves, LeavesTold, TextsAreOfLinks, has_link, is_end, stands_or_told, tells_end}
 use Rattle.link_table.specs.Table.{Table}
@@ -71,7 +71,7 @@ greeted_end : (prompt : Bool) (id : ℕ) (ss : List Session) → NoMore ss (s.gr
 greeted_end true id ss peer = omega (arith, push_one (at_link peer) ss (s.new_session (AtEnd id)))
 greeted_end false id ss peer = omega arith
 
-pub heard : (prompt : Bool) (t : Told) (ss : List Session) → NoMore ss (s.hear_circuits prompt (Of t) ss)
+pub heard : (prompt : Bool) (t : CircuitTold) (ss : List Session) → NoMore ss (s.hear_circuits prompt (Of t) ss)
 heard prompt (Made id pair partner None) ss peer = omega arith
 heard prompt (Made id pair partner (Some d)) ss peer = greeted_end prompt id ss peer
 heard prompt (Notice id notice) ss peer = map_less (at_link peer) (s.hear_notice id notice) (noticed peer id notice) ss

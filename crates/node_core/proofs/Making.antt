@@ -16,7 +16,7 @@ use Rattle.circuit_l4.specs.declared.transport.TransportRefusal.{TransportRefusa
 use Rattle.circuit_set.specs.Heeds.{heeds}
 use Rattle.circuit_set.specs.Inputs.{runs}
 use Rattle.circuit_set.specs.Sets as s
-use Rattle.circuit_set.specs.Sets.{Act, Connect, Comes, Calls, Discard, Restart, Call, Holder, SetDone, SetState, Told, Made, Sent, Heeded, Notice, Gone, Restarted, Lost, end_of, first_open, set_step}
+use Rattle.circuit_set.specs.Sets.{Act, Connect, Comes, Calls, Discard, Restart, Call, Holder, SetDone, SetState, CircuitTold, Made, Sent, Heeded, Notice, Gone, Restarted, Lost, end_of, first_open, set_step}
 use Rattle.l3_datagram.specs.Datagrams.{head_at}
 use Rattle.l3_datagram.specs.declared.datagram.DatagramHead.{DatagramHead}
 use Rattle.l3_datagram.specs.declared.datagram.DatagramRefusal.{DatagramRefusal}
@@ -33,7 +33,7 @@ same_ok t = record { made = refl; own = refl }
 
 -- ---- lists in which nothing is made
 
-made_both : (first : ℕ) (ts us : List Told) (mid next : ℕ) → MadeFrom first ts mid → MadeFrom mid us next → MadeFrom first (ts ++ us) next
+made_both : (first : ℕ) (ts us : List CircuitTold) (mid next : ℕ) → MadeFrom first ts mid → MadeFrom mid us next → MadeFrom first (ts ++ us) next
 made_both first [] us mid next e m = subst (λ (k : ℕ). MadeFrom k us next) e m
 made_both first (Made id pair partner request ∷ ts) us mid next e m = (e.0, made_both (first + 1) ts us mid next e.1 m)
 made_both first (Sent id number d ∷ ts) us mid next e m = made_both first ts us mid next e m
@@ -61,13 +61,13 @@ none_heeded k id d false = refl
 
 none_told : (k : ℕ) (t : SetState) (h : Holder) (g : Effect) → MadeFrom k (s.told_by t h g) k
 none_told k t h g =
-    let sent : List Told = s.sendings t h.id h.at g.outs in
+    let sent : List CircuitTold = s.sendings t h.id h.at g.outs in
     let first = made_both k sent (s.notices h.id g.notes) k k (none_sent k t h.id h.at g.outs) (none_noticed k h.id g.notes) in
     made_both k (sent ++ s.notices h.id g.notes) _ k k first (none_gone k h.id (facts_of g.end) (s.is_over g.end))
 
 -- ---- the steps
 
-goes_ok : (t : SetState) (h : Holder) (first : List Told) (g : Effect) → MadeFrom t.number first t.number → StepOk t (s.goes_to t h first g)
+goes_ok : (t : SetState) (h : Holder) (first : List CircuitTold) (g : Effect) → MadeFrom t.number first t.number → StepOk t (s.goes_to t h first g)
 goes_ok t h first g m = record { made = made_both t.number first (s.told_by t h g) t.number t.number m (none_told t.number t h g); own = refl }
 
 made_ok : (t : SetState) (at : Callsign) (asked : Option Pair) (request : Option (List ℕ)) (g : Effect) → StepOk t (s.makes_end t at asked request g)

@@ -5,7 +5,7 @@ use Rattle.std.proofs.lemmas.Bool.Decides.{nat_tests}
 use Rattle.circuit_l4.specs.declared.notice.EndNotice.{EndNotice}
 use Rattle.circuit_set.specs.Pumps.{Of}
 use Rattle.circuit_set.specs.Sets as s
-use Rattle.circuit_set.specs.Sets.{SetState, Told}
+use Rattle.circuit_set.specs.Sets.{SetState, CircuitTold}
 use Rattle.node_turns.specs.declared.session.Circuit.{Circuit}
 use Rattle.node_turns.specs.declared.session.Stage.{Stage}
 use Rattle.node_turns.specs.declared.session.Stage.TheVariants.{AtPrompt, Trying, Failed, Connected}
@@ -41,7 +41,7 @@ but_greet P new true nth user ss e = but_push P nth (sessions.new_session user) 
 but_greet P new false nth user ss e = e
 
 -- it is kept as the sessions hear
-pub but_hear : (P : Session → Type 0) → Hears P → ((user : User) → P (sessions.new_session user)) → (nth : ℕ) (prompt : Bool) (t : Told) (ss : List Session) → But P nth ss
+pub but_hear : (P : Session → Type 0) → Hears P → ((user : User) → P (sessions.new_session user)) → (nth : ℕ) (prompt : Bool) (t : CircuitTold) (ss : List Session) → But P nth ss
     → But P nth (sessions.hear_circuits prompt (Of t) ss)
 but_hear P h new nth prompt (s.Made at pair partner None) ss e = e
 but_hear P h new nth prompt (s.Made at pair partner (Some d)) ss e = but_greet P new prompt nth (AtEnd at) ss e
@@ -99,7 +99,7 @@ none_its : (id : ℕ) (ss : List Session) → total (circuits_of id) ss ≡ 0 �
 none_its id [] e = tt
 none_its id (x ∷ ss) e = (none_one (is_circuit id (circuit_of x.stage)) (omega (arith, e)), none_its id ss (omega (arith, e)))
 
-pub alone : (set : SetState) (ts : List Told) (ss : List Session) (nth id : ℕ) (x : Session) → Owns set ts ss → slice_get ss nth ≡ Some x → x.user ≡ AtEnd id → Every (NotIts id) ss
+pub alone : (set : SetState) (ts : List CircuitTold) (ss : List Session) (nth id : ℕ) (x : Session) → Owns set ts ss → slice_get ss nth ≡ Some x → x.user ≡ AtEnd id → Every (NotIts id) ss
 alone set ts ss nth id x o e g =
     let self : nat_eq id id ≡ true = grind (arith, nat_tests) in
     let mine : users_of id x ≡ 1 = rw (g, self) refl in
@@ -134,7 +134,7 @@ gone_not id at x (Connected c) w = either_not id x (sessions.hear_end c x) (nat_
 not_hears : (id : ℕ) → Hears (NotIts id)
 not_hears id = record { notice = λ at n x w. noticed_not id at n x x.stage refl w; gone = λ at x w. gone_not id at x x.stage w }
 
-pub others_hear : (id nth : ℕ) (prompt : Bool) (t : Told) (ss : List Session) → OthersNot id nth ss → OthersNot id nth (sessions.hear_circuits prompt (Of t) ss)
+pub others_hear : (id nth : ℕ) (prompt : Bool) (t : CircuitTold) (ss : List Session) → OthersNot id nth ss → OthersNot id nth (sessions.hear_circuits prompt (Of t) ss)
 others_hear id nth prompt t ss e = but_hear (NotIts id) (not_hears id) (λ user. refl) nth prompt t ss e
 
 pub others_changed : (id nth : ℕ) (f : Session → Session) (ss : List Session) (o : Option Session) → OthersNot id nth ss → OthersNot id nth (users.changed o nth f ss)
@@ -153,7 +153,7 @@ only_has id (suc nth) x (z ∷ ss) e g few =
     let least = at_least (circuits_of id) ss nth x e in
     (none_one (is_circuit id (circuit_of z.stage)) (omega (arith, mine, least, few)), only_has id nth x ss e g (omega (arith, few)))
 
-pub only : (set : SetState) (ts : List Told) (ss : List Session) (nth : ℕ) (c : Circuit) (x : Session) → Owns set ts ss → slice_get ss nth ≡ Some x → circuit_of x.stage ≡ Some c → OthersNot c.id nth ss
+pub only : (set : SetState) (ts : List CircuitTold) (ss : List Session) (nth : ℕ) (c : Circuit) (x : Session) → Owns set ts ss → slice_get ss nth ≡ Some x → circuit_of x.stage ≡ Some c → OthersNot c.id nth ss
 only set ts ss nth c x o e g =
     let self : nat_eq c.id c.id ≡ true = grind (arith, nat_tests) in
     let mine : is_circuit c.id (circuit_of x.stage) ≡ true = rw (g, self) refl in

@@ -8,7 +8,7 @@ use Rattle.circuit_l4.specs.declared.notice.EndNotice.{EndNotice}
 use Rattle.circuit_l4.specs.declared.notice.EndNotice.TheVariants as end
 use Rattle.circuit_l4.specs.declared.transport.Pair.{Pair}
 use Rattle.circuit_set.specs.Pumps.{Of}
-use Rattle.circuit_set.specs.Sets.{SetDone, SetState, Told, Made, Sent, Heeded, Notice, Gone, Restarted, Lost}
+use Rattle.circuit_set.specs.Sets.{SetDone, SetState, CircuitTold, Made, Sent, Heeded, Notice, Gone, Restarted, Lost}
 use Rattle.node_turns.specs.declared.session.Circuit.{Circuit}
 use Rattle.node_turns.specs.declared.session.Stage.{Stage}
 use Rattle.node_turns.specs.declared.session.Stage.TheVariants.{AtPrompt, Trying, Failed, Connected}
@@ -50,15 +50,15 @@ abbrev pub asked_by : ℕ → Session → ℕ
 asked_by id x = one (is_circuit id (circuit_of x.stage))
 
 -- an end that a request has made is to have a session
-abbrev pub made_by : ℕ → Told → ℕ
+abbrev pub made_by : ℕ → CircuitTold → ℕ
 made_by id (Made at pair partner (Some d)) = one (nat_eq at id)
 made_by id _ = 0
 
-abbrev pub mades : ℕ → List Told → ℕ
+abbrev pub mades : ℕ → List CircuitTold → ℕ
 mades id [] = 0
 mades id (t ∷ ts) = made_by id t + mades id ts
 
-pub record Owns (set : SetState) (untold : List Told) (ss : List Session) : Type 0 where
+pub record Owns (set : SetState) (untold : List CircuitTold) (ss : List Session) : Type 0 where
   pub below : Below set
   pub once : Once set.ends
   pub messages : HaveMessages set.ends
@@ -224,12 +224,12 @@ greets true id user ss =
 greets false id user ss = record { owned = omega arith; opens = omega arith; asked = omega arith }
 
 -- what is told of the circuits is heard
-pub record Hears (id : ℕ) (t : Told) (old new : List Session) : Type 0 where
+pub record Hears (id : ℕ) (t : CircuitTold) (old new : List Session) : Type 0 where
   pub owned : total (owned_by id) new ≤ total (owned_by id) old + made_by id t
   pub opens : total (opens_by id) new ≤ total (opens_by id) old + made_by id t
   pub asked : total (asked_by id) new ≤ total (asked_by id) old
 
-by_fewer : (id : ℕ) (t : Told) (old new : List Session) → Fewer old new → Hears id t old new
+by_fewer : (id : ℕ) (t : CircuitTold) (old new : List Session) → Fewer old new → Hears id t old new
 by_fewer id t old new f = record { owned = omega (arith, f.owned id); opens = omega (arith, f.opens id); asked = f.asked id }
 
 made_hears : (prompt : Bool) (id at : ℕ) (pair : Pair) (partner : Callsign) (request : Option (List ℕ)) (ss : List Session)
@@ -237,7 +237,7 @@ made_hears : (prompt : Bool) (id at : ℕ) (pair : Pair) (partner : Callsign) (r
 made_hears prompt id at pair partner None ss = by_fewer id (Made at pair partner None) ss ss (few_itself ss)
 made_hears prompt id at pair partner (Some d) ss = let g = greets prompt id (AtEnd at) ss in record { owned = g.owned; opens = g.opens; asked = g.asked }
 
-pub hears : (prompt : Bool) (id : ℕ) (t : Told) (ss : List Session) → Hears id t ss (s.hear_circuits prompt (Of t) ss)
+pub hears : (prompt : Bool) (id : ℕ) (t : CircuitTold) (ss : List Session) → Hears id t ss (s.hear_circuits prompt (Of t) ss)
 hears prompt id (Made at pair partner request) ss = made_hears prompt id at pair partner request ss
 hears prompt id (Notice at notice) ss = by_fewer id (Notice at notice) ss _ (all_less (s.hear_notice at notice) (λ x. noticed_at at notice x x.stage refl) ss)
 hears prompt id (Gone at facts) ss = by_fewer id (Gone at facts) ss _ (all_less (s.hear_gone at) (λ x. gone_at at x x.stage) ss)
@@ -249,7 +249,7 @@ hears prompt id (Lost at facts) ss = by_fewer id (Lost at facts) ss ss (few_itse
 -- ---- what the sessions own, from then on
 
 -- where the set stays, and no more is owned
-pub owns_less : (set : SetState) (ts us : List Told) (ss xs : List Session) → Owns set ts ss
+pub owns_less : (set : SetState) (ts us : List CircuitTold) (ss xs : List Session) → Owns set ts ss
     → ((id : ℕ) → total (owned_by id) xs + mades id us ≤ total (owned_by id) ss + mades id ts)
     → ((id : ℕ) → total (opens_by id) xs + mades id us ≤ total (opens_by id) ss + mades id ts) → ((id : ℕ) → 0 < total (asked_by id) xs → IsHeld id set us) → Owns set us xs
 owns_less set ts us ss xs o owned opens held = record {
@@ -263,7 +263,7 @@ owns_less set ts us ss xs o owned opens held = record {
   held = held;
 }
 
-pub owns_fewer : (set : SetState) (ts : List Told) (ss xs : List Session) → Owns set ts ss → Fewer ss xs → Owns set ts xs
+pub owns_fewer : (set : SetState) (ts : List CircuitTold) (ss xs : List Session) → Owns set ts ss → Fewer ss xs → Owns set ts xs
 owns_fewer set ts ss xs o f = owns_less set ts ts ss xs o (λ id. omega (arith, f.owned id)) (λ id. omega (arith, f.opens id)) (λ id some. o.held id (omega (arith, some, f.asked id)))
 
 -- a session that hears that an end is gone has asked for it no longer
@@ -289,7 +289,7 @@ none_left : (id : ℕ) (ss : List Session) → total (asked_by id) (map (s.hear_
 none_left id [] = refl
 none_left id (x ∷ ss) = let here = none_asked id x x.stage refl in let rest = none_left id ss in omega (arith, here, rest)
 
-gone_heard : (prompt : Bool) (id : ℕ) (t : Told) (ss : List Session) → 0 < gone_by id t → total (asked_by id) (s.hear_circuits prompt (Of t) ss) ≡ 0
+gone_heard : (prompt : Bool) (id : ℕ) (t : CircuitTold) (ss : List Session) → 0 < gone_by id t → total (asked_by id) (s.hear_circuits prompt (Of t) ss) ≡ 0
 gone_heard prompt id (Gone at facts) ss some = by (nat_eq at id) refl some
   where
     by : (b : Bool) → nat_eq at id ≡ b → 0 < one b → total (asked_by id) (map (s.hear_gone at) ss) ≡ 0
@@ -303,7 +303,7 @@ gone_heard prompt id (Restarted pair) ss some = absurd (omega (arith, some))
 gone_heard prompt id (Lost at facts) ss some = absurd (omega (arith, some))
 
 -- what is untold is told
-pub owns_told : (prompt : Bool) (set : SetState) (t : Told) (ts : List Told) (ss : List Session) → Owns set (t ∷ ts) ss → Owns set ts (s.hear_circuits prompt (Of t) ss)
+pub owns_told : (prompt : Bool) (set : SetState) (t : CircuitTold) (ts : List CircuitTold) (ss : List Session) → Owns set (t ∷ ts) ss → Owns set ts (s.hear_circuits prompt (Of t) ss)
 owns_told prompt set t ts ss o =
     owns_less set (t ∷ ts) ts ss (s.hear_circuits prompt (Of t) ss) o
     (λ id. let h = hears prompt id t ss in omega (arith, h.owned))
@@ -318,12 +318,12 @@ owns_told prompt set t ts ss o =
         by zero e = inr (omega (arith, gone, e))
         by (suc k) e = let none = gone_heard prompt id t ss (omega (arith, e)) in absurd (omega (arith, some, none))
 
-pub mades_both : (id : ℕ) (ts us : List Told) → mades id (ts ++ us) ≡ mades id ts + mades id us
+pub mades_both : (id : ℕ) (ts us : List CircuitTold) → mades id (ts ++ us) ≡ mades id ts + mades id us
 mades_both id [] us = omega arith
 mades_both id (t ∷ ts) us = omega (arith, mades_both id ts us)
 
 -- each end that is made has a number of its own
-record Numbered (first next : ℕ) (ts : List Told) : Type 0 where
+record Numbered (first next : ℕ) (ts : List CircuitTold) : Type 0 where
   up : first ≤ next
   few : (id : ℕ) → mades id ts ≤ 1
   none : (id : ℕ) → id < first → mades id ts ≡ 0
@@ -358,7 +358,7 @@ not_here id at mine other m = by (test_one at id)
     by (inl same) = absurd (other same)
     by (inr f) = let gone : mine ≤ 0 = rw f at m in omega (arith, gone)
 
-passes : (first next : ℕ) (t : Told) (ts : List Told) → ((id : ℕ) → made_by id t ≡ 0) → Numbered first next ts → Numbered first next (t ∷ ts)
+passes : (first next : ℕ) (t : CircuitTold) (ts : List CircuitTold) → ((id : ℕ) → made_by id t ≡ 0) → Numbered first next ts → Numbered first next (t ∷ ts)
 passes first next t ts none n = record {
   up = n.up;
   few = λ id. omega (arith, none id, n.few id);
@@ -366,11 +366,11 @@ passes first next t ts none n = record {
   over = λ id high. let a = n.over id high in omega (arith, none id, a);
 }
 
-numbered : (first next : ℕ) (ts : List Told) → MadeFrom first ts next → Numbered first next ts
+numbered : (first next : ℕ) (ts : List CircuitTold) → MadeFrom first ts next → Numbered first next ts
 numbered first next [] e = record { up = omega (arith, e); few = λ id. omega arith; none = λ id low. refl; over = λ id high. refl }
 numbered first next (Made at pair partner request ∷ ts) e =
     let rest = numbered (first + 1) next ts e.1 in
-    let t : Told = Made at pair partner request in
+    let t : CircuitTold = Made at pair partner request in
     record {
       up = omega (arith, rest.up);
       few = λ id. made_few first id at (made_by id t) (mades id ts) e.0 (one_here id at pair partner request) (rest.few id) (rest.none id);
@@ -398,7 +398,7 @@ below_or a b = by (nat_lt a b) refl
     by false e = inr (grind (arith, nat_tests, e))
 
 -- where the next number stays none is made
-pub none_made : (number : ℕ) (ts : List Told) → MadeFrom number ts number → (id : ℕ) → mades id ts ≡ 0
+pub none_made : (number : ℕ) (ts : List CircuitTold) → MadeFrom number ts number → (id : ℕ) → mades id ts ≡ 0
 none_made number ts e id = by (below_or id number)
   where
     by : (id < number) ⊎ (number ≤ id) → mades id ts ≡ 0
@@ -410,7 +410,7 @@ either_some zero b some = inr (omega (arith, some))
 either_some (suc a) b some = inl (omega arith)
 
 -- an end is held still, or it is untold that it is gone
-pub held_on : (set : SetState) (d : SetDone) (ts : List Told) (id : ℕ) → Once set.ends → LeavesHeld set d → IsHeld id set ts → IsHeld id d.set (ts ++ d.told)
+pub held_on : (set : SetState) (d : SetDone) (ts : List CircuitTold) (id : ℕ) → Once set.ends → LeavesHeld set d → IsHeld id set ts → IsHeld id d.set (ts ++ d.told)
 held_on set d ts id once leaves (inr some) = inr (omega (arith, some, gones_both id ts d.told))
 held_on set d ts id once leaves (inl held) = by (leaves id once held)
   where
@@ -419,7 +419,7 @@ held_on set d ts id once leaves (inl held) = by (leaves id once held)
     by (inr some) = inr (omega (arith, some, gones_both id ts d.told))
 
 -- an input of the set, which leaves the ends of the numbers that are admitted
-pub owns_input : (admits : ℕ → Type 0) (set : SetState) (d : SetDone) (ts : List Told) (ss : List Session) → Owns set ts ss → Keeps admits set d.set → MadeFrom set.number d.told d.set.number
+pub owns_input : (admits : ℕ → Type 0) (set : SetState) (d : SetDone) (ts : List CircuitTold) (ss : List Session) → Owns set ts ss → Keeps admits set d.set → MadeFrom set.number d.told d.set.number
     → ((id : ℕ) → 0 < total (opens_by id) ss + mades id ts → admits id) → ((id : ℕ) → 0 < mades id d.told → admits id) → LeavesHeld set d → Owns d.set (ts ++ d.told) ss
 owns_input admits set d ts ss o k made known later leaves =
     let n = numbered set.number d.set.number d.told made in

@@ -6,7 +6,7 @@ use Rattle.circuit_set.specs.Inputs.{OfEach}
 use Rattle.circuit_set.specs.Pumps as pumps
 use Rattle.circuit_set.specs.Pumps.{Of, Offers, Says, Turn, Turned, Waiting}
 use Rattle.circuit_set.specs.Sets as sets
-use Rattle.circuit_set.specs.Sets.{SetState, Told, set_step}
+use Rattle.circuit_set.specs.Sets.{SetState, CircuitTold, set_step}
 use Rattle.l3_datagram.specs.CarrierCall.{Datagram, Parcel}
 use Rattle.l3_datagram.specs.Datagrams.{head_at}
 use Rattle.l3_datagram.specs.Hops.{Way, Ends, ToNeighbour, forwarded_by, way}
@@ -25,23 +25,23 @@ use Rattle.node_turns.specs.Sessions.{Session, hear_circuits, hear_if}
 use Rattle.node_turns.specs.States.{State, at_links, next_hop}
 use Rattle.node_turns.proofs.Turns.{kept}
 
-module _ (R : SetState → List Told → List Session → Type 0)
-    (tell : (prompt : Bool) (set : SetState) (t : Told) (ts : List Told) (ss : List Session) → R set (t ∷ ts) ss → R set ts (hear_circuits prompt (Of t) ss)) where
+module _ (R : SetState → List CircuitTold → List Session → Type 0)
+    (tell : (prompt : Bool) (set : SetState) (t : CircuitTold) (ts : List CircuitTold) (ss : List Session) → R set (t ∷ ts) ss → R set ts (hear_circuits prompt (Of t) ss)) where
   -- it holds once a turn's telling was heard
   abbrev On : Bool → List Session → Turned → Type 0
   On prompt ss u = R u.after.set u.after.untold (hear_if prompt u.told ss)
 
-  to_on : (prompt : Bool) (hop : Callsign → Option Callsign) (set : SetState) (t : Told) (d : List ℕ) (ts : List Told) (ss : List Session) (o : Option Callsign)
+  to_on : (prompt : Bool) (hop : Callsign → Option Callsign) (set : SetState) (t : CircuitTold) (d : List ℕ) (ts : List CircuitTold) (ss : List Session) (o : Option Callsign)
       → R set ts (hear_circuits prompt (Of t) ss) → OfEach (On prompt ss) (pumps.sent_to hop set t d ts o)
   to_on prompt hop set t d ts ss None r = r
   to_on prompt hop set t d ts ss (Some next) r = λ answer. r
 
-  head_on : (prompt : Bool) (hop : Callsign → Option Callsign) (set : SetState) (t : Told) (d : List ℕ) (ts : List Told) (ss : List Session) (h : Result DatagramHead DatagramRefusal)
+  head_on : (prompt : Bool) (hop : Callsign → Option Callsign) (set : SetState) (t : CircuitTold) (d : List ℕ) (ts : List CircuitTold) (ss : List Session) (h : Result DatagramHead DatagramRefusal)
       → R set ts (hear_circuits prompt (Of t) ss) → OfEach (On prompt ss) (pumps.sent_by_head hop set t d ts h)
   head_on prompt hop set t d ts ss (Err e) r = to_on prompt hop set t d ts ss None r
   head_on prompt hop set t d ts ss (Ok head) r = to_on prompt hop set t d ts ss (hop head.dest) r
 
-  first_on : (prompt : Bool) (hop : Callsign → Option Callsign) (set : SetState) (t : Told) (ts : List Told) (ss : List Session)
+  first_on : (prompt : Bool) (hop : Callsign → Option Callsign) (set : SetState) (t : CircuitTold) (ts : List CircuitTold) (ss : List Session)
       → R set ts (hear_circuits prompt (Of t) ss) → OfEach (On prompt ss) (pumps.tells_first hop set t ts)
   first_on prompt hop set (sets.Sent id number d) ts ss r = head_on prompt hop set (sets.Sent id number d) d ts ss (head_at d) r
   first_on prompt hop set (sets.Made id pair partner request) ts ss r = r
@@ -51,7 +51,7 @@ module _ (R : SetState → List Told → List Session → Type 0)
   first_on prompt hop set (sets.Restarted pair) ts ss r = r
   first_on prompt hop set (sets.Lost id facts) ts ss r = r
 
-  told_on : (prompt : Bool) (hop : Callsign → Option Callsign) (set : SetState) (ts : List Told) (ss : List Session) (o : Option Routed) → R set ts ss
+  told_on : (prompt : Bool) (hop : Callsign → Option Callsign) (set : SetState) (ts : List CircuitTold) (ss : List Session) (o : Option Routed) → R set ts ss
       → OfEach (On prompt ss) (pumps.tells hop (record { set = set; untold = ts; lost = o }))
   told_on prompt hop set ts ss (Some x) r = r
   told_on prompt hop set [] ss None r = r
@@ -82,7 +82,7 @@ module _ (R : SetState → List Told → List Session → Type 0)
   unfolding p.pump
   dry_keeps now n e r = rw e (all_on now n r)
 
-  module _ (come : (set : SetState) (ts : List Told) (ss : List Session) (d : List ℕ) (now : ℕ) → R set ts ss → R (set_step set (sets.Comes d now)).set (ts ++ (set_step set (sets.Comes d now)).told) ss) where
+  module _ (come : (set : SetState) (ts : List CircuitTold) (ss : List Session) (d : List ℕ) (now : ℕ) → R set ts ss → R (set_step set (sets.Comes d now)).set (ts ++ (set_step set (sets.Comes d now)).told) ss) where
     heard_on : (prompt : Bool) (now : ℕ) (w : Waiting) (ss : List Session) (r : Routed) → R w.set w.untold ss → On prompt ss (pumps.heard_as now w r)
     heard_on prompt now w ss (routed.Mine origin d) x = come w.set w.untold ss d.items now x
     heard_on prompt now w ss routed.Forwarded x = x

@@ -8,7 +8,7 @@ use Rattle.circuit_set.specs.Inputs.{of_circuits}
 use Rattle.circuit_set.specs.Pumps as pumps
 use Rattle.circuit_set.specs.Pumps.{Offers, Says, Turn, Turned}
 use Rattle.circuit_set.specs.Sets as sets
-use Rattle.circuit_set.specs.Sets.{SetDone, Told, set_step}
+use Rattle.circuit_set.specs.Sets.{SetDone, CircuitTold, set_step}
 use Rattle.l3_datagram.specs.CarrierCall.{Datagram, Parcel}
 use Rattle.l3_datagram.specs.Datagrams.{head_at}
 use Rattle.l3_datagram.specs.Hops.{Way, Ends, ToNeighbour, forwarded_by, onward, way, way_of}
@@ -149,21 +149,21 @@ module _ (here : Place) (law : CarriesWhatWasOffered) (weaker : CarriesByWeaker)
   own_hops n sent dest to x e = hop_is_call n.settings.rules n.log dest to x.names e
 
   module _ (hop : Callsign → Option Callsign) (n : State) (hops : HopsAreCalls n hop) where
-    first_traced : (id : ℕ) (number : Option ℕ) (d : List ℕ) (rest : List Told) (head : DatagramHead) → n.set.untold ≡ sets.Sent id number d ∷ rest → head_at d ≡ Ok head → Traced n d
+    first_traced : (id : ℕ) (number : Option ℕ) (d : List ℕ) (rest : List CircuitTold) (head : DatagramHead) → n.set.untold ≡ sets.Sent id number d ∷ rest → head_at d ≡ Ok head → Traced n d
     first_traced id number d rest head e h sent x =
         or_first (is_sent sent d) (is_passed here.borne here.own d)
         ((subst (λ ts. AllByRecursion (λ (c : List ℕ). 15 ≤ length c → is_sent sent c ≡ true) (sends_in ts)) e x.untold).0 (read_long d head h))
 
-    to_ok : (t : Told) (d : List ℕ) (rest : List Told) (dest : Callsign) (o : Option Callsign) → hop dest ≡ o → n.set.untold ≡ t ∷ rest → Traced n d → EachOk n (pumps.sent_to hop n.set.set t d rest o)
+    to_ok : (t : CircuitTold) (d : List ℕ) (rest : List CircuitTold) (dest : Callsign) (o : Option Callsign) → hop dest ≡ o → n.set.untold ≡ t ∷ rest → Traced n d → EachOk n (pumps.sent_to hop n.set.set t d rest o)
     to_ok t d rest dest None h e traced = Tells tt refl (sym e)
     to_ok t d rest dest (Some next) h e traced = (traced, λ sent x. hops sent dest next x h, λ answer. Tells tt refl (sym e))
 
-    head_ok : (id : ℕ) (number : Option ℕ) (d : List ℕ) (rest : List Told) (r : Result DatagramHead DatagramRefusal) → n.set.untold ≡ sets.Sent id number d ∷ rest → head_at d ≡ r
+    head_ok : (id : ℕ) (number : Option ℕ) (d : List ℕ) (rest : List CircuitTold) (r : Result DatagramHead DatagramRefusal) → n.set.untold ≡ sets.Sent id number d ∷ rest → head_at d ≡ r
         → EachOk n (pumps.sent_by_head hop n.set.set (sets.Sent id number d) d rest r)
     head_ok id number d rest (Err why) e h = Tells tt refl (sym e)
     head_ok id number d rest (Ok head) e h = to_ok (sets.Sent id number d) d rest head.dest (hop head.dest) refl e (first_traced id number d rest head e h)
 
-    first_ok : (t : Told) (rest : List Told) → n.set.untold ≡ t ∷ rest → EachOk n (pumps.tells_first hop n.set.set t rest)
+    first_ok : (t : CircuitTold) (rest : List CircuitTold) → n.set.untold ≡ t ∷ rest → EachOk n (pumps.tells_first hop n.set.set t rest)
     first_ok (sets.Sent id number d) rest e = head_ok id number d rest (head_at d) e refl
     first_ok (sets.Made id pair partner request) rest e = Tells tt refl (sym e)
     first_ok (sets.Heeded id d) rest e = Tells tt refl (sym e)
@@ -172,7 +172,7 @@ module _ (here : Place) (law : CarriesWhatWasOffered) (weaker : CarriesByWeaker)
     first_ok (sets.Restarted pair) rest e = Tells tt refl (sym e)
     first_ok (sets.Lost id facts) rest e = Tells tt refl (sym e)
 
-    told_ok : (o : Option Routed) (ts : List Told) → n.set.untold ≡ ts → EachOk n (pumps.tells hop (record { set = n.set.set; untold = ts; lost = o }))
+    told_ok : (o : Option Routed) (ts : List CircuitTold) → n.set.untold ≡ ts → EachOk n (pumps.tells hop (record { set = n.set.set; untold = ts; lost = o }))
     told_ok (Some r) ts e = Tells tt refl (sym e)
     told_ok None [] e = Tells tt refl (sym e)
     told_ok None (t ∷ rest) e = first_ok t rest e

@@ -15,7 +15,7 @@ use Rattle.node_turns.specs.declared.session.User.TheVariants.{AtEnd, AtLink}
 use Rattle.circuit_set.specs.CircuitSets.{facts_at}
 use Rattle.circuit_set.specs.Inputs.{TellsLess, runs, ticks_of}
 use Rattle.circuit_set.specs.Sets as sets
-use Rattle.circuit_set.specs.Sets.{Act, Holder, SetDone, SetState, Told, set_step}
+use Rattle.circuit_set.specs.Sets.{Act, Holder, SetDone, SetState, CircuitTold, set_step}
 use Rattle.circuit_set.specs.Standing.{take_answer}
 use Rattle.digi_path.specs.Paths.{Action, For_me, Repeat, Not_yet, Heard}
 use Rattle.kiss_framing.specs.Stream as kiss
@@ -149,12 +149,12 @@ module _ (offers : OffersLeave) (takes : TakesLower) (less : TellsLess) (law : C
   due_fine now None n f = f
   due_fine now (Some due) n f = either _ n (nat_le due now) (round_fine n f) f
 
-  abbrev Ticked : SetState → List Told → List Session → List Act → Type 0
+  abbrev Ticked : SetState → List CircuitTold → List Session → List Act → Type 0
   Ticked set ts ss inputs = All (runs inputs set).set (ts ++ (runs inputs set).told) ss
 
-  ticks_all : (now : ℕ) (hs : List Holder) (set : SetState) (ts : List Told) (ss : List Session) → All set ts ss
+  ticks_all : (now : ℕ) (hs : List Holder) (set : SetState) (ts : List CircuitTold) (ss : List Session) → All set ts ss
       → All (runs (ticks_of now hs) set).set (ts ++ (runs (ticks_of now hs) set).told) ss
-  ticks_all now [] set ts ss o = subst (λ (us : List Told). All set us ss) (sym (append-nil ts)) o
+  ticks_all now [] set ts ss o = subst (λ (us : List CircuitTold). All set us ss) (sym (append-nil ts)) o
   ticks_all now (h ∷ hs) set ts ss o = by h.gone (λ set2 ts2 o2. ticks_all now hs set2 ts2 ss o2)
     where
       d : SetDone
@@ -165,12 +165,12 @@ module _ (offers : OffersLeave) (takes : TakesLower) (less : TellsLess) (law : C
           let k = ticks_keep set now h.id in
           (owns_input Any set d ts ss o.0 k (step_ok set (sets.Calls h.id sets.Ticks now) tt).made (λ id some. tt) (λ id some. tt) (calls_leaves set h.id sets.Ticks now), goes_on Any set d.set ts ss k (ticks_wrote set now h.id) o)
 
-      by : (b : Bool) → ((set2 : SetState) (ts2 : List Told) → All set2 ts2 ss → Ticked set2 ts2 ss (ticks_of now hs))
+      by : (b : Bool) → ((set2 : SetState) (ts2 : List CircuitTold) → All set2 ts2 ss → Ticked set2 ts2 ss (ticks_of now hs))
           → Ticked set ts ss (if b then ticks_of now hs else sets.Calls h.id sets.Ticks now ∷ ticks_of now hs)
       by true more = more set ts o
       by false more =
           let rest : SetDone = runs (ticks_of now hs) d.set in
-          subst (λ (us : List Told). All rest.set us ss) (append_assoc ts d.told rest.told) (more d.set (ts ++ d.told) one_tick)
+          subst (λ (us : List CircuitTold). All rest.set us ss) (append_assoc ts d.told rest.told) (more d.set (ts ++ d.told) one_tick)
 
   set_ticked : (now : ℕ) (n : State) → Fine n → Fine (at_set (circuits.ticks now) n)
   unfolding circuits.ticks

@@ -19,7 +19,7 @@ use Rattle.circuit_set.specs.CircuitSets.{partner_at}
 use Rattle.circuit_set.specs.Pumps as pumps
 use Rattle.circuit_set.specs.Pumps.{Offers, Says, Turn, Waiting}
 use Rattle.circuit_set.specs.Sets as sets
-use Rattle.circuit_set.specs.Sets.{Holder, SetState, Told}
+use Rattle.circuit_set.specs.Sets.{Holder, SetState, CircuitTold}
 use Rattle.circuit_set.specs.Standing as answers
 use Rattle.l3_datagram.specs.CarrierCall.{Datagram}
 use Rattle.l3_datagram.specs.Datagrams.{head_at, octets_with}
@@ -48,15 +48,15 @@ abbrev goes_by : (Callsign → Option Callsign) → Callsign → Result Datagram
 goes_by hop peer (Err e) = false
 goes_by hop peer (Ok head) = users.goes_over peer (hop head.dest)
 
-abbrev load : (Callsign → Option Callsign) → Callsign → Told → ℕ
+abbrev load : (Callsign → Option Callsign) → Callsign → CircuitTold → ℕ
 load hop peer (sets.Sent id number d) = one (goes_by hop peer (head_at d))
 load hop peer _ = 0
 
-abbrev loads : (Callsign → Option Callsign) → Callsign → List Told → ℕ
+abbrev loads : (Callsign → Option Callsign) → Callsign → List CircuitTold → ℕ
 loads hop peer [] = 0
 loads hop peer (t ∷ ts) = load hop peer t + loads hop peer ts
 
-loads_both : (hop : Callsign → Option Callsign) (peer : Callsign) (ts us : List Told) → loads hop peer (ts ++ us) ≡ loads hop peer ts + loads hop peer us
+loads_both : (hop : Callsign → Option Callsign) (peer : Callsign) (ts us : List CircuitTold) → loads hop peer (ts ++ us) ≡ loads hop peer ts + loads hop peer us
 loads_both hop peer [] us = omega arith
 loads_both hop peer (t ∷ ts) us = omega (arith, loads_both hop peer ts us)
 
@@ -83,16 +83,16 @@ Fits hop peer k (Says u) = (u.items ≡ []) × (loads hop peer u.after.untold �
 Fits hop peer k (Offers to d by) = (answer : Offered) → ((by answer).items ≡ []) × (loads hop peer (by answer).after.untold + one (same_call peer to) ≤ k)
 
 module _ (hop : Callsign → Option Callsign) (peer : Callsign) where
-  to_fits : (set : SetState) (t : Told) (d : List ℕ) (ts : List Told) (o : Option Callsign) → Fits hop peer (one (users.goes_over peer o) + loads hop peer ts) (pumps.sent_to hop set t d ts o)
+  to_fits : (set : SetState) (t : CircuitTold) (d : List ℕ) (ts : List CircuitTold) (o : Option Callsign) → Fits hop peer (one (users.goes_over peer o) + loads hop peer ts) (pumps.sent_to hop set t d ts o)
   to_fits set t d ts None = (refl, omega arith)
   to_fits set t d ts (Some next) = λ answer. (refl, omega arith)
 
-  head_fits : (set : SetState) (t : Told) (d : List ℕ) (ts : List Told) (h : Result DatagramHead DatagramRefusal)
+  head_fits : (set : SetState) (t : CircuitTold) (d : List ℕ) (ts : List CircuitTold) (h : Result DatagramHead DatagramRefusal)
       → Fits hop peer (one (goes_by hop peer h) + loads hop peer ts) (pumps.sent_by_head hop set t d ts h)
   head_fits set t d ts (Err e) = (refl, omega arith)
   head_fits set t d ts (Ok head) = to_fits set t d ts (hop head.dest)
 
-  first_fits : (set : SetState) (t : Told) (ts : List Told) → Fits hop peer (load hop peer t + loads hop peer ts) (pumps.tells_first hop set t ts)
+  first_fits : (set : SetState) (t : CircuitTold) (ts : List CircuitTold) → Fits hop peer (load hop peer t + loads hop peer ts) (pumps.tells_first hop set t ts)
   first_fits set (sets.Sent id number d) ts = head_fits set (sets.Sent id number d) d ts (head_at d)
   first_fits set (sets.Made id pair partner request) ts = (refl, omega arith)
   first_fits set (sets.Heeded id d) ts = (refl, omega arith)
@@ -101,7 +101,7 @@ module _ (hop : Callsign → Option Callsign) (peer : Callsign) where
   first_fits set (sets.Restarted pair) ts = (refl, omega arith)
   first_fits set (sets.Lost id facts) ts = (refl, omega arith)
 
-  told_fits : (set : SetState) (ts : List Told) (o : Option Routed) → Fits hop peer (loads hop peer ts) (pumps.tells hop (record { set = set; untold = ts; lost = o }))
+  told_fits : (set : SetState) (ts : List CircuitTold) (o : Option Routed) → Fits hop peer (loads hop peer ts) (pumps.tells hop (record { set = set; untold = ts; lost = o }))
   told_fits set ts (Some x) = (refl, omega arith)
   told_fits set [] None = (refl, omega arith)
   told_fits set (t ∷ ts) None = first_fits set t ts
@@ -217,10 +217,10 @@ module _ (now id : ℕ) (n : State) (peer : Callsign) (named : AreNamed n.set.se
   unfolding circuits.acts
   took_room none t room =
       let o = users.end_at id n in
-      let told : List Told = (sets.after_call set o sets.Takes now).told in
+      let told : List CircuitTold = (sets.after_call set o sets.Takes now).told in
       let few = take_load o refl t in
       let fits = beside (users.goes_over peer (users.hop_to (partner_at o) n)) (links.room peer n.links) room in
-      subst (λ (ts : List Told). 33 + loads (next_hop n) peer (ts ++ told) ≤ links.room peer n.links) (sym none) (omega (arith, few, fits))
+      subst (λ (ts : List CircuitTold). 33 + loads (next_hop n) peer (ts ++ told) ≤ links.room peer n.links) (sym none) (omega (arith, few, fits))
 
   pub room_after : p.at_router n ≡ 0 → n.set.untold ≡ [] → users.took (answers.take_answer (users.end_at id n)) ≡ true → users.link_has_room_beside peer id n ≡ true
       → 33 ≤ links.room peer (p.pump now (at_set (circuits.acts (sets.Calls id sets.Takes now)) n)).links
@@ -233,7 +233,7 @@ unfolding links.text_answer links.room
 text_goes peer text t few room = room_takes_texts peer text t few room
 
 -- where nothing is pending nothing is untold
-weighs : (t : Told) → 1 ≤ pumps.weight t
+weighs : (t : CircuitTold) → 1 ≤ pumps.weight t
 weighs (sets.Sent id number d) = omega arith
 weighs (sets.Made id pair partner request) = omega arith
 weighs (sets.Heeded id d) = omega arith
@@ -246,6 +246,6 @@ pub none_untold : (w : Waiting) → circuits.pending w ≡ 0 → w.untold ≡ []
 unfolding circuits.pending
 none_untold w e = by w.untold (omega (arith, e))
   where
-    by : (ts : List Told) → pumps.weights ts ≤ 0 → ts ≡ []
+    by : (ts : List CircuitTold) → pumps.weights ts ≤ 0 → ts ≡ []
     by [] f = refl
     by (t ∷ ts) f = let some = weighs t in absurd (omega (arith, f, some))

@@ -11,7 +11,7 @@ use Rattle.ax_link.specs.declared.notice.LinkNotice.{LinkNotice}
 use Rattle.circuit_set.specs.Inputs.{runs}
 use Rattle.circuit_set.specs.Pumps.{Waiting, at_rest}
 use Rattle.circuit_set.specs.Sets as sets
-use Rattle.circuit_set.specs.Sets.{Act, SetState, Told}
+use Rattle.circuit_set.specs.Sets.{Act, SetState, CircuitTold}
 use Rattle.circuit_set.specs.Standing.{write_answer}
 use Rattle.circuit_set.specs.declared.event.SetRefusal.{SetRefusal}
 use Rattle.digi_path.specs.Paths.{Action, For_me, Repeat, Not_yet, Heard}
@@ -227,7 +227,7 @@ exact written old new by e f =
         entries = c.grew;
         set = f ∙ ap at_rest c.went.set;
         told = told;
-        made = subst (λ (ts : List Told). MadeFrom old.set.set.number ts new.set.set.number) (sym told)
+        made = subst (λ (ts : List CircuitTold). MadeFrom old.set.set.number ts new.set.set.number) (sym told)
             (subst (λ (t : SetState). MadeFrom old.set.set.number (runs inputs old.set.set).told t.number) (sym c.went.set) ok.made);
         own = ap (λ (t : SetState). t.own) c.went.set ∙ ok.own;
         settings = c.settings;

@@ -6,7 +6,7 @@ use Rattle.ax_link.specs.declared.notice.LinkNotice.{LinkNotice}
 use Rattle.circuit_l4.specs.declared.notice.EndNotice.{EndNotice}
 use Rattle.circuit_l4.specs.declared.notice.EndNotice.TheVariants as end
 use Rattle.circuit_set.specs.Pumps.{Of}
-use Rattle.circuit_set.specs.Sets.{Told, Made, Sent, Heeded, Notice, Gone, Restarted, Lost}
+use Rattle.circuit_set.specs.Sets.{CircuitTold, Made, Sent, Heeded, Notice, Gone, Restarted, Lost}
 use Rattle.node_turns.specs.declared.session.Circuit.{Circuit}
 use Rattle.node_turns.specs.declared.session.Reply.TheVariants as reply
 use Rattle.node_turns.specs.declared.session.Stage.{Stage}
@@ -146,7 +146,7 @@ pub greeted_every : (P : Session → Type 0) → ((user : User) → P (s.new_ses
 greeted_every P new true user ss e = push_every P ss (s.new_session user) e (new user)
 greeted_every P new false user ss e = e
 
-pub heard_every : (P : Session → Type 0) → Hears P → ((user : User) → P (s.new_session user)) → (prompt : Bool) (t : Told) (ss : List Session) → Every P ss → Every P (s.hear_circuits prompt (Of t) ss)
+pub heard_every : (P : Session → Type 0) → Hears P → ((user : User) → P (s.new_session user)) → (prompt : Bool) (t : CircuitTold) (ss : List Session) → Every P ss → Every P (s.hear_circuits prompt (Of t) ss)
 heard_every P h new prompt (Made id pair partner None) ss e = e
 heard_every P h new prompt (Made id pair partner (Some d)) ss e = greeted_every P new prompt (AtEnd id) ss e
 heard_every P h new prompt (Notice id notice) ss e = map_every P (s.hear_notice id notice) (h.notice id notice) ss e
@@ -186,7 +186,7 @@ greet_place : (P : Session → Type 0) (b : Bool) (user : User) (nth : ℕ) (ss 
 greet_place P true user nth ss p = record { x = p.x; is = push_place nth ss p.x (s.new_session user) p.is; holds = p.holds }
 greet_place P false user nth ss p = p
 
-pub heard_place : (P : Session → Type 0) → Hears P → (prompt : Bool) (t : Told) (nth : ℕ) (ss : List Session) → Placed P nth ss → Placed P nth (s.hear_circuits prompt (Of t) ss)
+pub heard_place : (P : Session → Type 0) → Hears P → (prompt : Bool) (t : CircuitTold) (nth : ℕ) (ss : List Session) → Placed P nth ss → Placed P nth (s.hear_circuits prompt (Of t) ss)
 heard_place P h prompt (Made id pair partner None) nth ss p = p
 heard_place P h prompt (Made id pair partner (Some d)) nth ss p = greet_place P prompt (AtEnd id) nth ss p
 heard_place P h prompt (Notice id notice) nth ss p = map_placed P (s.hear_notice id notice) (h.notice id notice) nth ss p.x p.is p.holds

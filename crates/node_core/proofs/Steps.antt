@@ -5,7 +5,7 @@ use Rattle.ax_address.specs.Callsign.{Callsign}
 use Rattle.circuit_set.specs.Events.{Event}
 use Rattle.circuit_set.specs.Inputs.{runs}
 use Rattle.circuit_set.specs.Runs.{events_at, events_of, sets_at, sets_run, told_at}
-use Rattle.circuit_set.specs.Sets.{SetState, Told, set_step}
+use Rattle.circuit_set.specs.Sets.{SetState, CircuitTold, set_step}
 use Rattle.node_core.specs.Runs.{InputsAreSteps, StepsOf, steps_at}
 use Rattle.node_core.proofs.Making.{own_stays}
 
@@ -26,7 +26,7 @@ put_same [] n s h = refl
 put_same (x ∷ ss) zero s h = let same : x ≡ s = cc h in ap (λ (y : SetState). y ∷ ss) (sym same)
 put_same (x ∷ ss) (suc n) s h = ap (λ (ys : List SetState). x ∷ ys) (put_same ss n s h)
 
-events_both : (node : ℕ) (own : Callsign) (xs ys : List Told) → events_at node own (xs ++ ys) ≡ events_at node own xs ++ events_at node own ys
+events_both : (node : ℕ) (own : Callsign) (xs ys : List CircuitTold) → events_at node own (xs ++ ys) ≡ events_at node own xs ++ events_at node own ys
 events_both node own [] ys = refl
 events_both node own (x ∷ xs) ys = ap (λ (es : List Event). record { node = node; own = own; told = x } ∷ es) (events_both node own xs ys)
 

@@ -11,7 +11,7 @@ use Rattle.ax_address.specs.CallOrder.{same_call}
 use Rattle.ax_address.specs.Results.{◌>>=◌}
 use Rattle.circuit_set.specs.Events.{is_copy}
 use Rattle.circuit_set.specs.Sets as sets
-use Rattle.circuit_set.specs.Sets.{Told}
+use Rattle.circuit_set.specs.Sets.{CircuitTold}
 use Rattle.l3_datagram.specs.Datagrams.{head_at}
 use Rattle.l3_datagram.specs.Onward.{IsOneHopOn}
 use Rattle.l3_datagram.specs.declared.datagram.DatagramHead.{DatagramHead}
@@ -107,7 +107,7 @@ all_behind sent more = more_traced more (sent ++ more) more (sent_behind sent mo
 
 -- ---- what is told
 
-pub sends_append : (xs ys : List Told) → sends_in (xs ++ ys) ≡ sends_in xs ++ sends_in ys
+pub sends_append : (xs ys : List CircuitTold) → sends_in (xs ++ ys) ≡ sends_in xs ++ sends_in ys
 sends_append [] ys = refl
 sends_append (sets.Sent id number d ∷ xs) ys = ap (λ ds. d ∷ ds) (sends_append xs ys)
 sends_append (sets.Made id pair partner request ∷ xs) ys = sends_append xs ys

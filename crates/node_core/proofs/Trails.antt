@@ -6,7 +6,7 @@ use Rattle.radio_base.specs.declared.payload.Payload.{Payload}
 use Rattle.ax_address.specs.Callsign.{Callsign}
 use Rattle.ax_link.specs.Outputs.{Has}
 use Rattle.circuit_set.specs.Inputs.{runs}
-use Rattle.circuit_set.specs.Sets.{Act, SetState, Told}
+use Rattle.circuit_set.specs.Sets.{Act, SetState, CircuitTold}
 use Rattle.link_table.specs.Frames.{netrom}
 use Rattle.link_table.specs.Laws.{Carries, CarriesByWeaker, FrameHolds, goes_to}
 use Rattle.link_table.specs.Reaching.{IsCall, Reaches}
@@ -82,7 +82,7 @@ all_own_more here sent more fs a = own_weaker here here sent (sent ++ more) fs r
 
 -- ---- what is handed up, by inputs one behind the other
 
-pub step_sends : (sent : List (List ℕ)) (xs ys : List Told) → (sent ++ sends_in xs) ++ sends_in ys ≡ sent ++ sends_in (xs ++ ys)
+pub step_sends : (sent : List (List ℕ)) (xs ys : List CircuitTold) → (sent ++ sends_in xs) ++ sends_in ys ≡ sent ++ sends_in (xs ++ ys)
 step_sends sent xs ys = append_assoc sent (sends_in xs) (sends_in ys) ∙ ap (λ ds. sent ++ ds) (sym (sends_append xs ys))
 
 -- ---- from one state to another
@@ -132,12 +132,12 @@ module _ (here : Place) where
         given =
             ap (λ ts. ts ++ c.set.untold) (coming.told_of_both t.more u.more)
             ∙ (append_assoc (circuits_told t.more) (circuits_told u.more) c.set.untold
-            ∙ (ap (λ (ts : List Told). circuits_told t.more ++ ts) u.given
+            ∙ (ap (λ (ts : List CircuitTold). circuits_told t.more ++ ts) u.given
             ∙ (sym (append_assoc (circuits_told t.more) b.set.untold (runs u.inputs b.set.set).told)
-            ∙ (ap (λ (ts : List Told). ts ++ (runs u.inputs b.set.set).told) t.given
+            ∙ (ap (λ (ts : List CircuitTold). ts ++ (runs u.inputs b.set.set).told) t.given
             ∙ (append_assoc a.set.untold first.told (runs u.inputs b.set.set).told
             ∙ (ap (λ (s : SetState). a.set.untold ++ (first.told ++ (runs u.inputs s).told)) t.set
-            ∙ ap (λ (ts : List Told). a.set.untold ++ ts) (sym (told_of_both t.inputs u.inputs a.set.set))))))));
+            ∙ ap (λ (ts : List CircuitTold). a.set.untold ++ ts) (sym (told_of_both t.inputs u.inputs a.set.set))))))));
         settings = u.settings ∙ t.settings;
         come = all_both (WasBorne here) t.inputs u.inputs t.come u.come;
         carries = subst (λ ss. CarriesTraced here ss c)

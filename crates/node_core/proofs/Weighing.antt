@@ -4,8 +4,8 @@ use Rattle.std.specs.Prelude.{false, not, ◌&&◌, ◌||◌, nat_eq, nat_lt, ma
 use Rattle.std.proofs.lemmas.Bool.Decides.{nat_tests}
 use Rattle.ax_address.specs.Callsign.{Callsign}
 use Rattle.circuit_set.specs.Sets as sets
-use Rattle.circuit_set.specs.Sets.{Told, has_ended}
-use Rattle.circuit_set.specs.Standing.{Held, Here, Keeps, Past}
+use Rattle.circuit_set.specs.Sets.{CircuitTold, has_ended}
+use Rattle.circuit_set.specs.Standing.{EachStands, Here, Keeps, Past}
 use Rattle.circuit_set.specs.declared.holder.Holder.{Holder}
 use Rattle.link_table.specs.Payloads.{CountsPayloads, kept_payloads}
 use Rattle.node_core.specs.declared.station.Station.{Station}
@@ -28,7 +28,7 @@ abbrev pub all_kept : List (ℕ × Holder) → ℕ
 all_kept [] = 0
 all_kept (e ∷ es) = kept_messages e.1 + all_kept es
 
-same_messages : (own : Callsign) (ttl id : ℕ) (k : Holder) (h : sets.Holder) (told : List Told) → Keeps own ttl id k h told → kept_messages k ≡ end_messages h
+same_messages : (own : Callsign) (ttl id : ℕ) (k : Holder) (h : sets.Holder) (told : List CircuitTold) → Keeps own ttl id k h told → kept_messages k ≡ end_messages h
 same_messages own ttl id k h told x = rw (x.is, x.stands.is, x.stands.receiving.messages, x.stands.receiving.early) refl
 
 -- ---- each number stands once
@@ -49,30 +49,30 @@ unseen id lo (x ∷ xs) le h =
     rw (other, unseen id lo xs le h.1) refl
 
 module _ (own : Callsign) (ttl hi : ℕ) where
-  abbrev Rest : ℕ → List sets.Holder → List (ℕ × Holder) → List Told → Type 0
-  Rest id hs rest theirs = Held own ttl hi (suc id) rest hs theirs
+  abbrev Rest : ℕ → List sets.Holder → List (ℕ × Holder) → List CircuitTold → Type 0
+  Rest id hs rest theirs = EachStands own ttl hi (suc id) rest hs theirs
 
-  later_case : (id lo : ℕ) (h : sets.Holder) (es : List (ℕ × Holder)) (hs : List sets.Holder) (told : List Told) → id < lo → lo ≤ h.id → (Past (Rest h.id hs) h es told ⊎ Here own ttl (Rest h.id hs) h es told)
-      → ((rest : List (ℕ × Holder)) (theirs : List Told) → id < suc h.id → Rest h.id hs rest theirs → most_at id hs ≡ 0) → most_at id (h ∷ hs) ≡ 0
+  later_case : (id lo : ℕ) (h : sets.Holder) (es : List (ℕ × Holder)) (hs : List sets.Holder) (told : List CircuitTold) → id < lo → lo ≤ h.id → (Past (Rest h.id hs) h es told ⊎ Here own ttl (Rest h.id hs) h es told)
+      → ((rest : List (ℕ × Holder)) (theirs : List CircuitTold) → id < suc h.id → Rest h.id hs rest theirs → most_at id hs ≡ 0) → most_at id (h ∷ hs) ≡ 0
   later_case id lo h es hs told l low (inl p) later =
       let other : nat_eq h.id id ≡ false = grind (arith, nat_tests) in rw (other, later es told (omega arith) p.others) refl
   later_case id lo h es hs told l low (inr p) later =
       let other : nat_eq h.id id ≡ false = grind (arith, nat_tests) in rw (other, later p.rest p.theirs (omega arith) p.others) refl
 
-  none_later : (id lo : ℕ) (es : List (ℕ × Holder)) (hs : List sets.Holder) (told : List Told) → id < lo → Held own ttl hi lo es hs told → most_at id hs ≡ 0
+  none_later : (id lo : ℕ) (es : List (ℕ × Holder)) (hs : List sets.Holder) (told : List CircuitTold) → id < lo → EachStands own ttl hi lo es hs told → most_at id hs ≡ 0
   none_later id lo es [] told l s = refl
   none_later id lo es (h ∷ hs) told l s = later_case id lo h es hs told l s.0 s.1 (λ rest theirs after x. none_later id (suc h.id) rest hs theirs after x)
 
   one_more : (id n : ℕ) (seen : List ℕ) (hs : List sets.Holder) → is_among id seen ≡ false → most_at id hs ≡ 0 → (if is_among id seen then 0 else max n (most_at id hs)) ≡ n
   one_more id n seen hs e f = rw (e, f) (omega arith)
 
-  counted_once : (lo : ℕ) (seen : List ℕ) (h : sets.Holder) (es : List (ℕ × Holder)) (hs : List sets.Holder) (told : List Told) → lo ≤ h.id → AllBelow lo seen → Rest h.id hs es told
+  counted_once : (lo : ℕ) (seen : List ℕ) (h : sets.Holder) (es : List (ℕ × Holder)) (hs : List sets.Holder) (told : List CircuitTold) → lo ≤ h.id → AllBelow lo seen → Rest h.id hs es told
       → (if is_among h.id seen then 0 else max (end_messages h) (most_at h.id hs)) ≡ end_messages h
   counted_once lo seen h es hs told low below s = one_more h.id (end_messages h) seen hs (unseen h.id lo seen low below) (none_later h.id (suc h.id) es hs told (omega arith) s)
 
-  message_case : (lo : ℕ) (seen : List ℕ) (h : sets.Holder) (es : List (ℕ × Holder)) (hs : List sets.Holder) (told : List Told) → lo ≤ h.id → AllBelow lo seen
+  message_case : (lo : ℕ) (seen : List ℕ) (h : sets.Holder) (es : List (ℕ × Holder)) (hs : List sets.Holder) (told : List CircuitTold) → lo ≤ h.id → AllBelow lo seen
       → (Past (Rest h.id hs) h es told ⊎ Here own ttl (Rest h.id hs) h es told)
-      → ((rest : List (ℕ × Holder)) (theirs : List Told) → Rest h.id hs rest theirs → all_kept rest ≡ messages_but (h.id ∷ seen) hs) → all_kept es ≡ messages_but seen (h ∷ hs)
+      → ((rest : List (ℕ × Holder)) (theirs : List CircuitTold) → Rest h.id hs rest theirs → all_kept rest ≡ messages_but (h.id ∷ seen) hs) → all_kept es ≡ messages_but seen (h ∷ hs)
   message_case lo seen h es hs told low below (inl p) later =
       let none : end_messages h ≡ 0 = rw p.gone refl in
       omega (arith, none, later es told p.others, counted_once lo seen h es hs told low below p.others)
@@ -81,7 +81,7 @@ module _ (own : Callsign) (ttl hi : ℕ) where
       rw p.is (omega (arith, same, later p.rest p.theirs p.others, counted_once lo seen h p.rest hs p.theirs low below p.others))
 
   -- by number, and end by end
-  all_messages : (lo : ℕ) (seen : List ℕ) (es : List (ℕ × Holder)) (hs : List sets.Holder) (told : List Told) → AllBelow lo seen → Held own ttl hi lo es hs told → all_kept es ≡ messages_but seen hs
+  all_messages : (lo : ℕ) (seen : List ℕ) (es : List (ℕ × Holder)) (hs : List sets.Holder) (told : List CircuitTold) → AllBelow lo seen → EachStands own ttl hi lo es hs told → all_kept es ≡ messages_but seen hs
   all_messages lo seen es [] told below s = rw s.0 refl
   all_messages lo seen es (h ∷ hs) told below s =
       message_case lo seen h es hs told s.0 below s.1 (λ rest theirs x. all_messages (suc h.id) (h.id ∷ seen) rest hs theirs (omega arith, below_more lo (suc h.id) seen (omega (arith, s.0)) below) x)

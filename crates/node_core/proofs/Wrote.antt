@@ -14,7 +14,7 @@ use Rattle.circuit_l4.specs.declared.notice.EndNotice.TheVariants as notice
 use Rattle.circuit_l4.specs.declared.transport.Pair.{Pair}
 use Rattle.circuit_l4.specs.declared.transport.Transport.{Transport}
 use Rattle.circuit_set.specs.Sets as s
-use Rattle.circuit_set.specs.Sets.{Call, Calls, Comes, Connect, Holder, SetState, Told, Closes, Takes, Ticks, Writes}
+use Rattle.circuit_set.specs.Sets.{Call, Calls, Comes, Connect, Holder, SetState, CircuitTold, Closes, Takes, Ticks, Writes}
 use Rattle.circuit_set.specs.Standing as answers
 use Rattle.circuit_set.specs.declared.event.SetRefusal.TheVariants as set_refusal
 use Rattle.circuit_l4.specs.Opening.{requesting}
@@ -81,7 +81,7 @@ wrote_here id k h x set new ms gs e f g stays w t =
       taken = stays.taken gs (subst (λ (y : Holder). AreTaken gs y.end.receiving.received y.end.receiving.taken) (sym same) t);
     }
 
-wrote_at : (set : SetState) (h : Holder) (first : List Told) (g : Effect) → In h set.ends → Alive h g → SameWrote h.end g.end → KeepsWrote set (s.goes_to set h first g).set
+wrote_at : (set : SetState) (h : Holder) (first : List CircuitTold) (g : Effect) → In h set.ends → Alive h g → SameWrote h.end g.end → KeepsWrote set (s.goes_to set h first g).set
 wrote_at set h first g i v stays id ms gs o w = by (nat_eq h.id id) refl
   where
     k : Holder

@@ -11,7 +11,7 @@ use Rattle.ax_frame.specs.Read.{read_at}
 use Rattle.ax_link.specs.Outputs.{Has}
 use Rattle.circuit_set.specs.Events.{is_copy}
 use Rattle.circuit_set.specs.Inputs.{runs}
-use Rattle.circuit_set.specs.Sets.{Act, Comes, Sent, Told}
+use Rattle.circuit_set.specs.Sets.{Act, Comes, Sent, CircuitTold}
 use Rattle.kiss_framing.specs.Stream as kiss
 use Rattle.link_table.specs.Frames as frames
 use Rattle.link_table.specs.Frames.{netrom, octets_of}
@@ -88,7 +88,7 @@ is_passed [] own datagram = false
 is_passed (b ∷ bs) own datagram = (same_call b.to own && is_hop b.datagram datagram) || is_passed bs own datagram
 
 -- the datagrams that were sent, in what a set tells
-abbrev pub sends_in : List Told → List (List ℕ)
+abbrev pub sends_in : List CircuitTold → List (List ℕ)
 sends_in [] = []
 sends_in (Sent id number datagram ∷ ts) = datagram ∷ sends_in ts
 sends_in (t ∷ ts) = sends_in ts

@@ -6,7 +6,7 @@ use Rattle.circuit_set.specs.Givings.{IsUp}
 use Rattle.circuit_set.specs.Inputs.{of_circuits, runs}
 use Rattle.circuit_set.specs.Pumps.{at_rest}
 use Rattle.circuit_set.specs.Runs.{IsAct, Step, events_at, events_of, sets_run}
-use Rattle.circuit_set.specs.Sets.{Act, Calls, Writes, SetState, Told, Made}
+use Rattle.circuit_set.specs.Sets.{Act, Calls, Writes, SetState, CircuitTold, Made}
 use Rattle.node_core.specs.declared.acts.ActDone.{ActDone}
 use Rattle.node_core.specs.declared.acts.ActRefusal.{ActRefusal}
 use Rattle.node_core.specs.Inputs.{act_answer, after_act, after_bytes, after_tick, moment}
@@ -15,14 +15,14 @@ use Rattle.node_turns.specs.States.{Entry, NodeState, Of_link, Of_set, Overflow,
 use Rattle.node_core.specs.UserActs.{UserAct, Connect, Write}
 
 -- what is told of circuits in these entries, in order
-abbrev pub circuits_told : List Entry → List Told
+abbrev pub circuits_told : List Entry → List CircuitTold
 circuits_told [] = []
 circuits_told (Of_set told ∷ entries) = of_circuits (Some told) ++ circuits_told entries
 circuits_told (Of_link peer notice ∷ entries) = circuits_told entries
 circuits_told (Overflow live would_be ∷ entries) = circuits_told entries
 
 -- ends are made with one number after another from this one on, and the next one will have that
-abbrev pub MadeFrom : ℕ → List Told → ℕ → Type 0
+abbrev pub MadeFrom : ℕ → List CircuitTold → ℕ → Type 0
 MadeFrom first [] next = next ≡ first
 MadeFrom first (Made id pair partner request ∷ ts) next = (id ≡ first) × MadeFrom (first + 1) ts next
 MadeFrom first (t ∷ ts) next = MadeFrom first ts next

@@ -16,7 +16,7 @@ use Rattle.circuit_l4.specs.declared.transport.Transport.TheVariants.{Request, A
 use Rattle.circuit_l4.specs.declared.transport.TransportRefusal.{TransportRefusal}
 use Rattle.circuit_set.specs.Heeds.{heeds}
 use Rattle.circuit_set.specs.Sets as s
-use Rattle.circuit_set.specs.Sets.{Holder, SetDone, SetState, Told}
+use Rattle.circuit_set.specs.Sets.{Holder, SetDone, SetState, CircuitTold}
 use Rattle.circuit_set.specs.Standing.{take_answer}
 use Rattle.l3_datagram.specs.declared.datagram.DatagramHead.{DatagramHead}
 use Rattle.l3_datagram.specs.declared.datagram.DatagramRefusal.{DatagramRefusal}
@@ -191,7 +191,7 @@ Most set d = messages_but [] d.set.ends ≤ suc (messages_but [] set.ends)
 none_more : (set : SetState) (d : SetDone) → d.set ≡ set → Most set d
 none_more set d e = rw e (omega arith)
 
-handed_most : (set : SetState) (h : Holder) (first : List Told) (t : Transport) (now : ℕ) → IsFound h set.ends → h.gone ≡ false → Most set (s.goes_to set h first (end.step h.end (end.Arrive t) now))
+handed_most : (set : SetState) (h : Holder) (first : List CircuitTold) (t : Transport) (now : ℕ) → IsFound h set.ends → h.gone ≡ false → Most set (s.goes_to set h first (end.step h.end (end.Arrive t) now))
 handed_most set h first t now f gone =
     let g : Effect = end.step h.end (end.Arrive t) now in
     one_more h set.ends (s.after_effect h g) refl f (omega (arith, settled_most h g, m.arrives h.end t now, held_all h gone))

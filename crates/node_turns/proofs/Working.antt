@@ -125,16 +125,16 @@ heap w = messages_but [] w.set.ends
 Same : Waiting → Turned → Type 0
 Same w t = t.after.set ≡ w.set
 
-to_same : (hop : Callsign → Option Callsign) (set : SetState) (t : sets.Told) (d : List ℕ) (rest : List sets.Told) (o : Option Callsign) → OfEach (λ u. u.after.set ≡ set) (pumps.sent_to hop set t d rest o)
+to_same : (hop : Callsign → Option Callsign) (set : SetState) (t : sets.CircuitTold) (d : List ℕ) (rest : List sets.CircuitTold) (o : Option Callsign) → OfEach (λ u. u.after.set ≡ set) (pumps.sent_to hop set t d rest o)
 to_same hop set t d rest None = refl
 to_same hop set t d rest (Some next) = λ answer. refl
 
-head_same : (hop : Callsign → Option Callsign) (set : SetState) (t : sets.Told) (d : List ℕ) (rest : List sets.Told) (h : Result DatagramHead DatagramRefusal)
+head_same : (hop : Callsign → Option Callsign) (set : SetState) (t : sets.CircuitTold) (d : List ℕ) (rest : List sets.CircuitTold) (h : Result DatagramHead DatagramRefusal)
     → OfEach (λ u. u.after.set ≡ set) (pumps.sent_by_head hop set t d rest h)
 head_same hop set t d rest (Err e) = to_same hop set t d rest None
 head_same hop set t d rest (Ok head) = to_same hop set t d rest (hop head.dest)
 
-first_same : (hop : Callsign → Option Callsign) (set : SetState) (t : sets.Told) (rest : List sets.Told) → OfEach (λ u. u.after.set ≡ set) (pumps.tells_first hop set t rest)
+first_same : (hop : Callsign → Option Callsign) (set : SetState) (t : sets.CircuitTold) (rest : List sets.CircuitTold) → OfEach (λ u. u.after.set ≡ set) (pumps.tells_first hop set t rest)
 first_same hop set (sets.Sent id number d) rest = head_same hop set (sets.Sent id number d) d rest (head_at d)
 first_same hop set (sets.Made id pair partner request) rest = refl
 first_same hop set (sets.Heeded id d) rest = refl
@@ -143,7 +143,7 @@ first_same hop set (sets.Gone id facts) rest = refl
 first_same hop set (sets.Restarted pair) rest = refl
 first_same hop set (sets.Lost id facts) rest = refl
 
-told_same : (hop : Callsign → Option Callsign) (set : SetState) (ts : List sets.Told) (o : Option Routed) → OfEach (λ u. u.after.set ≡ set) (pumps.tells hop (record { set = set; untold = ts; lost = o }))
+told_same : (hop : Callsign → Option Callsign) (set : SetState) (ts : List sets.CircuitTold) (o : Option Routed) → OfEach (λ u. u.after.set ≡ set) (pumps.tells hop (record { set = set; untold = ts; lost = o }))
 told_same hop set ts (Some r) = refl
 told_same hop set [] None = refl
 told_same hop set (t ∷ ts) None = first_same hop set t ts

@@ -64,7 +64,7 @@ gone_line s node end facts = event "gone" s (Number "node" node ∷ Number "end"
 -- ---- all that a node tells
 
 -- what circuits tell; that a node starts again, and that this takes an end away, is no entry of a node
-abbrev pub told_text : Stand → ℕ → sets.Told → List ℕ
+abbrev pub told_text : Stand → ℕ → sets.CircuitTold → List ℕ
 told_text s node (sets.Made id pair partner request) = made_line s node id pair partner request
 told_text s node (sets.Sent id number datagram) = sent_line s node id number datagram
 told_text s node (sets.Heeded id datagram) = heeded_line s node id datagram
