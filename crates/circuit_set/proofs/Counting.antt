@@ -76,6 +76,10 @@ never_case id r old new (Some k) f x first e = cc (sym e ∙ x.2)
 pub never_none : (id : ℕ) (r : Option Untold) (old new : List (ℕ × Holder)) → NextOf id (lookup (nat_eq id) old) r old new → FirstLoud (Some id) old → r ≡ None → ⊥
 never_none id r old new x first e = never_case id r old new (lookup (nat_eq id) old) refl x first e
 
+pub told_some : (r : Option Untold) → (r ≡ None → ⊥) → is_some r ≡ true
+told_some None f = absurd (f refl)
+told_some (Some u) f = refl
+
 -- ---- what a datagram brings ----
 notice_most : (n : Option EndNotice) → (if is_some n then 1 else 0) ≤ 1
 notice_most None = omega arith

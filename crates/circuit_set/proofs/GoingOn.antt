@@ -17,10 +17,11 @@ use Rattle.circuit_set.specs.declared.held_ends.HeldEnds.{HeldEnds}
 use Rattle.circuit_set.specs.declared.holder.Untold.{Untold}
 use Rattle.circuit_set.specs.Sets.{SetState, CircuitTold}
 use Rattle.circuit_set.specs.Pumps.{Dropped, Pumped, asks, at_rest, ends_with, is_empty, pump_step, says_nothing, tells_first, turn_step}
-use Rattle.circuit_set.specs.Standing.{Gives, HeldStands}
+use Rattle.circuit_set.specs.Standing.{FirstLoud, Gives, HeldStands}
 use Rattle.circuit_set.specs.CircuitSets.{Circuits, DoesPump, Pumps, SetStands}
 use Rattle.circuit_set.specs.SetTurns.{Asks, Tells}
 use Rattle.circuit_set.proofs.Looping.{all_taken, firsts-taken}
+use Rattle.circuit_set.proofs.Searching.{gives_none}
 
 pub is_none_by : {A : Type 0} (o : Option A) → false ≡ is_some o → o ≡ None
 is_none_by None e = refl
@@ -109,7 +110,7 @@ module _ {C : Type 0} (made : C → List CarrierCall → C → Type 0) (none_mad
         subst (λ (p : Pumped). DoesPump made old new log told p) (asks_case nh w.set w.untold w.lost asked.0 x.0 (st.lost ∙ e)) z,
   )
 
-  pub asks_on : (new : Circuits C) (h : HeldEnds) (r : Option Untold) (told : Option SetEvent) (result : Result (Unit {0}) NoMemory) → old.lost ≡ None → r ≡ None
+  asks_on : (new : Circuits C) (h : HeldEnds) (r : Option Untold) (told : Option SetEvent) (result : Result (Unit {0}) NoMemory) → old.lost ≡ None → r ≡ None
       → ((s : SetState) (ts : List CircuitTold) → HeldStands old.held s ts → Gives (record { set = s; told = ts }) r h) → OnOk result (Asks made (record old { held = h }) new lost waiting now told)
       → OnOk result (Pumps made old new lost waiting now told)
   asks_on new h r told (Ok x) e is gives asked = asks_one new h old.lost r told e e is gives asked
@@ -146,11 +147,6 @@ module _ {C : Type 0} (made : C → List CarrierCall → C → Type 0) (none_mad
   )
 
   -- the ends have nothing to tell
-  quiet_gives : (s : SetState) (ts : List CircuitTold) → is_empty ts ≡ true → HeldStands old.held s ts → Gives (record { set = s; told = ts }) None old.held
-  quiet_gives s [] e st = (refl, st)
-  quiet_gives s (t ∷ ts) e st = absurd (cc e)
-
-  pub asks_quiet : (new : Circuits C) (quiet : Bool) (told : Option SetEvent) (result : Result (Unit {0}) NoMemory) → old.lost ≡ None → quiet ≡ true
-      → ((s : SetState) (ts : List CircuitTold) → HeldStands old.held s ts → quiet ≡ is_empty ts) → OnOk result (Asks made old new lost waiting now told)
-      → OnOk result (Pumps made old new lost waiting now told)
-  asks_quiet new quiet told result e is empty asked = asks_on new old.held None told result e refl (λ s ts st. quiet_gives s ts (sym (empty s ts st) ∙ is) st) asked
+  pub asks_quiet : (new : Circuits C) (told : Option SetEvent) (result : Result (Unit {0}) NoMemory) → old.lost ≡ None → FirstLoud None old.held.ends.entries
+      → OnOk result (Asks made old new lost waiting now told) → OnOk result (Pumps made old new lost waiting now told)
+  asks_quiet new told result e first asked = asks_on new old.held None told result e refl (λ s ts st. gives_none old.held s ts st first) asked

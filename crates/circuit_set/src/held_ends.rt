@@ -1,5 +1,5 @@
 //! The ends that a node holds, by number.
-ghost use Rattle.std.specs.Prelude.{◌≡◌, ◌≤◌, ◌<◌, true, false, List, [], Some, None, length, nat_eq, if◌then◌else◌, OnOk, IfOk, OnErr, IsErrOf};
+ghost use Rattle.std.specs.Prelude.{◌≡◌, ◌≤◌, ◌<◌, true, false, List, [], Some, None, length, nat_eq, is_some, if◌then◌else◌, OnOk, IfOk, OnErr, IsErrOf};
 ghost use Rattle.std.specs.Map.{lookup, remove_entry};
 ghost use Rattle.radio_base.specs.declared.modulus.TheConstants.{COUNT_MAX};
 ghost use Rattle.circuit_l4.specs.Opening.{IsConfig};
@@ -43,7 +43,7 @@ impl HeldEnds {
     ghost use Rattle.circuit_set.specs.Inputs.{after_ticks};
     ghost use Rattle.circuit_set.specs.declared.event.SetRefusal.TheVariants as refusals;
     ghost use Rattle.circuit_set.specs.Sets.{SetState, CircuitTold};
-    ghost use Rattle.circuit_set.specs.Standing.{Gives, HeldGoes, HasEnded, Holds, RestsAt, TicksNth, HeldStands, NextOf, ToldBy, Rests, FallsBy, untold_in, SameNode, close_answer, discard_answer, message_at, take_answer, write_answer};
+    ghost use Rattle.circuit_set.specs.Standing.{FirstLoud, Gives, HeldGoes, HasEnded, Holds, RestsAt, TicksNth, HeldStands, NextOf, ToldBy, Rests, FallsBy, untold_in, SameNode, close_answer, discard_answer, message_at, take_answer, write_answer};
 
     pub(crate) fn new_pair(&self) -> Pair
         ensures { (s : SetState) → HeldStands self.now s [] → result ≡ sets.new_pair s }
@@ -258,6 +258,18 @@ impl HeldEnds {
         }
     }
 
+    /// What the first end that has something to tell tells next, which has this number.
+    pub(crate) fn next_from(&mut self, id: u64, untold: &mut Option<Untold>)
+        requires first { FirstLoud (Some id) self.old.ends.entries }
+        requires none { untold.old ≡ None }
+        ensures gives { (s : SetState) (told : List CircuitTold) → HeldStands self.old s told → Gives (record { set = s; told = told }) untold.new self.new }
+        ensures some { is_some untold.new ≡ true }
+        ensures falls { FallsBy untold.new (untold_in self.old.ends.entries) (untold_in self.new.ends.entries) }
+        ensures same { SameNode self.old self.new }
+    {
+        self.next_of(id, untold)
+    }
+
     /// What is told next, of the first end that has something to tell.
     pub(crate) fn next(&mut self, untold: &mut Option<Untold>)
         requires { untold.old ≡ None }
@@ -267,7 +279,7 @@ impl HeldEnds {
         ensures same { SameNode self.old self.new }
     {
         match self.first_loud() {
-            Some(id) => self.next_of(id, untold),
+            Some(id) => self.next_from(id, untold),
             None => {}
         }
     }

@@ -31,7 +31,8 @@ impl Loud {
 }
 
 impl HeldEnds {
-    /// The number of the first end that has something to tell.
+    /// The number of the first end that has something to tell. Mostly none has, which is seen without a look at any.
+    #[inline(always)]
     pub(crate) fn first_loud(&self) -> Option<u64>
         ensures first { FirstLoud result self.now.ends.entries }
         ensures rests { result ≡ None → Rests self.now.ends.entries }
@@ -45,6 +46,7 @@ impl HeldEnds {
     }
 
     /// The number of the one end that may have something to tell, where it has.
+    #[inline(never)]
     fn if_loud(&self, id: u64) -> Option<u64>
         requires { self.now.loud ≡ loud.One id }
         ensures first { FirstLoud result self.now.ends.entries }

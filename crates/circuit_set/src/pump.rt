@@ -1,5 +1,5 @@
 //! What the circuits of a node tell, one thing after another: what they put out, and what comes to them by the router.
-ghost use Rattle.std.specs.Prelude.{◌≡◌, ◌≤◌, ◌<◌, ◌↔◌, ℕ, None, true, false, if◌then◌else◌, is_some, OnOk, IfOk, IsErr, IsTrue, drop, length};
+ghost use Rattle.std.specs.Prelude.{◌≡◌, ◌≤◌, ◌<◌, ◌↔◌, ℕ, None, Some, true, false, if◌then◌else◌, is_some, OnOk, IfOk, IsErr, IsTrue, drop, length};
 ghost use Rattle.circuit_set.specs.SetTurns as turns;
 
 use crate::event::SetEvent;
@@ -17,7 +17,7 @@ impl<C: Carrier> CircuitSet<C> {
     ghost use Rattle.l3_datagram.specs.Routers.{IsFor, MineIsFor, SameRouter, waiting_left};
     ghost use Rattle.circuit_set.specs.declared.holder.Untold.TheVariants as untold;
     ghost use Rattle.circuit_set.specs.Sets.{CircuitTold};
-    ghost use Rattle.circuit_set.specs.Standing.{Brings, Rests, cost, untold_in};
+    ghost use Rattle.circuit_set.specs.Standing.{Brings, FirstLoud, Rests, cost, untold_in};
     ghost use Rattle.circuit_set.specs.CircuitSets.{Falls, IsDrained, Pumps};
     ghost use Rattle.circuit_set.specs.Kept.{PumpKeepsOn};
     ghost use Rattle.circuit_set.specs.SetTurns.{Asks, AsksOnce, IsAsked, SameLists, TakesIn, Tells, TellsLost};
@@ -57,10 +57,9 @@ impl<C: Carrier> CircuitSet<C> {
             self.tell_lost(told);
             return Ok(());
         }
-        if self.held.is_quiet() {
-            self.ask_router(now, told)
-        } else {
-            self.tell_next(now, told)
+        match self.held.first_loud() {
+            Some(id) => self.tell_next(id, now, told),
+            None => self.ask_router(now, told),
         }
     }
 
@@ -79,11 +78,16 @@ impl<C: Carrier> CircuitSet<C> {
         }
     }
 
-    /// Tells what the ends tell next, or else what comes of what lies at the router.
+    /// Tells what the first end that has something to tell tells next, which has this number.
     #[inline(never)]
-    fn tell_next(&mut self, now: Moment, told: &mut Option<SetEvent>) -> Result<(), NoMemory>
+    fn tell_next(
+        &mut self,
+        id: u64,
+        now: Moment,
+        told: &mut Option<SetEvent>,
+    ) -> Result<(), NoMemory>
+        requires first { FirstLoud (Some id) self.old.held.ends.entries }
         requires lost { self.old.lost ≡ None }
-        requires none { told.old ≡ None }
         ensures pumps { OnOk result (Pumps C.made self.old self.new (C.lost self.old.router.carrier) (C.waiting self.old.router.carrier) now.0 told.new) }
         ensures drained { OnOk result (told.new ≡ None → Rests self.new.held.ends.entries × (self.new.lost ≡ None)) }
         ensures falls { OnOk result (is_some told.new ≡ true → Falls C.lost C.waiting self.old self.new) }
@@ -91,10 +95,10 @@ impl<C: Carrier> CircuitSet<C> {
         ensures spent { OnOk result (self.new.spent ≡ self.old.spent) }
     {
         let mut untold = None;
-        self.held.next(&mut untold);
+        self.held.next_from(id, &mut untold);
         match untold {
             Some(untold) => self.tell(untold, now, told),
-            None => self.ask_router(now, told),
+            None => unreachable!(),
         }
     }
 
