@@ -82,7 +82,8 @@ impl HeldEnds {
         requires number { self.old.number ≤ COUNT_MAX }
         requires few { length self.old.ends.entries < 64 }
         ensures number { IfOk result (λ id. id ≡ self.old.number) }
-        ensures made { OnOk result ((s : SetState) → HeldStands self.old s [] → HeldStands self.new (sets.requests s node.now now.0).set (sets.requests s node.now now.0).told) }
+        ensures made { OnOk result ((s : SetState) → HeldStands self.old s [] →
+            HeldStands self.new (sets.requests s node.now now.0).set (sets.requests s node.now now.0).told) }
     {
         let pair = self.new_pair();
         let end = End::requester(self.alloc, pair, self.user, self.own, self.config, now)?;
@@ -92,7 +93,8 @@ impl HeldEnds {
 
     pub(crate) fn write(&mut self, id: u64, message: &[u8], now: Moment) -> Result<(), SetRefusal>
         requires { Rests self.old.ends.entries }
-        ensures answer { (s : SetState) → HeldStands self.old s [] → result ≡ write_answer (sets.end_of id s.ends) message.now }
+        ensures answer { (s : SetState) → HeldStands self.old s [] →
+            result ≡ write_answer (sets.end_of id s.ends) message.now }
         ensures memory { IsErrOf result refusals.NoMemory → ⊥ }
         ensures same { SameNode self.old self.new }
         ensures err { OnErr result (self.new.ends.entries ≡ self.old.ends.entries) }
@@ -114,7 +116,8 @@ impl HeldEnds {
     pub(crate) fn take(&mut self, id: u64, out: &mut Message, now: Moment) -> Result<bool, NoEnd>
         requires { Rests self.old.ends.entries }
         ensures answer { (s : SetState) → HeldStands self.old s [] → result ≡ take_answer (sets.end_of id s.ends) }
-        ensures message { (s : SetState) → HeldStands self.old s [] → out.new.items ≡ message_at out.old.items (sets.end_of id s.ends) }
+        ensures message { (s : SetState) → HeldStands self.old s [] →
+            out.new.items ≡ message_at out.old.items (sets.end_of id s.ends) }
         ensures same { SameNode self.old self.new }
         ensures goes { HeldGoes (sets.Calls id sets.Takes now.0) self.old self.new }
         ensures err { OnErr result ((self.new ≡ self.old) × (out.new ≡ out.old)) }
@@ -201,7 +204,8 @@ impl HeldEnds {
     pub(crate) fn tick(&mut self, now: Moment)
         requires { Rests self.old.ends.entries }
         ensures same { SameNode self.old self.new }
-        ensures goes { (s : SetState) → HeldStands self.old s [] → HeldStands self.new (after_ticks now.0 s).set (after_ticks now.0 s).told }
+        ensures goes { (s : SetState) → HeldStands self.old s [] →
+            HeldStands self.new (after_ticks now.0 s).set (after_ticks now.0 s).told }
     {
         for nth in 0..self.ends.len() {
             self.tick_nth(nth, now);
@@ -221,7 +225,8 @@ impl HeldEnds {
     /// transport is long to move.
     fn told_by(&mut self, id: u64, untold: &mut Option<Untold>)
         requires { untold.old ≡ None }
-        ensures told { ToldBy id (lookup (nat_eq id) self.old.ends.entries) untold.new self.old.ends.entries self.new.ends.entries }
+        ensures told { ToldBy id (lookup (nat_eq id) self.old.ends.entries) untold.new
+            self.old.ends.entries self.new.ends.entries }
         ensures same { SameNode self.old self.new }
     {
         let loud = self.loud_at(id);
@@ -236,7 +241,8 @@ impl HeldEnds {
 
     /// An end that is gone is held no longer.
     fn leave(&mut self, id: u64, gone: bool)
-        ensures left { self.new.ends.entries ≡ (if gone then remove_entry (nat_eq id) self.old.ends.entries else self.old.ends.entries) }
+        ensures left { self.new.ends.entries
+            ≡ (if gone then remove_entry (nat_eq id) self.old.ends.entries else self.old.ends.entries) }
         ensures same { SameNode self.old self.new }
     {
         if gone {
@@ -247,7 +253,8 @@ impl HeldEnds {
     /// What an end tells next. Once it has told that it is gone it is held no longer.
     fn next_of(&mut self, id: u64, untold: &mut Option<Untold>)
         requires { untold.old ≡ None }
-        ensures next { NextOf id (lookup (nat_eq id) self.old.ends.entries) untold.new self.old.ends.entries self.new.ends.entries }
+        ensures next { NextOf id (lookup (nat_eq id) self.old.ends.entries) untold.new
+            self.old.ends.entries self.new.ends.entries }
         ensures same { SameNode self.old self.new }
     {
         self.told_by(id, untold);
@@ -262,7 +269,8 @@ impl HeldEnds {
     pub(crate) fn next_from(&mut self, id: u64, untold: &mut Option<Untold>)
         requires first { FirstLoud (Some id) self.old.ends.entries }
         requires none { untold.old ≡ None }
-        ensures gives { (s : SetState) (told : List CircuitTold) → HeldStands self.old s told → Gives (record { set = s; told = told }) untold.new self.new }
+        ensures gives { (s : SetState) (told : List CircuitTold) → HeldStands self.old s told →
+            Gives (record { set = s; told = told }) untold.new self.new }
         ensures some { is_some untold.new ≡ true }
         ensures falls { FallsBy untold.new (untold_in self.old.ends.entries) (untold_in self.new.ends.entries) }
         ensures same { SameNode self.old self.new }
@@ -273,7 +281,8 @@ impl HeldEnds {
     /// What is told next, of the first end that has something to tell.
     pub(crate) fn next(&mut self, untold: &mut Option<Untold>)
         requires { untold.old ≡ None }
-        ensures gives { (s : SetState) (told : List CircuitTold) → HeldStands self.old s told → Gives (record { set = s; told = told }) untold.new self.new }
+        ensures gives { (s : SetState) (told : List CircuitTold) → HeldStands self.old s told →
+            Gives (record { set = s; told = told }) untold.new self.new }
         ensures rests { untold.new ≡ None → Rests self.new.ends.entries }
         ensures falls { FallsBy untold.new (untold_in self.old.ends.entries) (untold_in self.new.ends.entries) }
         ensures same { SameNode self.old self.new }

@@ -62,7 +62,15 @@ pub(crate) struct Holder {
 impl Holder {
     /// A requester's end that was just made.
     pub(crate) fn requester(end: End, pair: Pair, at: Call) -> Holder
-        ensures { result ≡ record { pair = pair; at = at; asked = None; end = end; taken = 0; unannounced = true; discarded = false } }
+        ensures { result ≡ record {
+          pair = pair;
+          at = at;
+          asked = None;
+          end = end;
+          taken = 0;
+          unannounced = true;
+          discarded = false;
+        } }
     {
         Holder {
             pair,
@@ -77,7 +85,15 @@ impl Holder {
 
     /// A responder's end that was just made, which is told at once.
     pub(crate) fn responder(end: End, pair: Pair, at: Call, asked: Pair) -> Holder
-        ensures { result ≡ record { pair = pair; at = at; asked = Some asked; end = end; taken = 0; unannounced = false; discarded = false } }
+        ensures { result ≡ record {
+          pair = pair;
+          at = at;
+          asked = Some asked;
+          end = end;
+          taken = 0;
+          unannounced = false;
+          discarded = false;
+        } }
     {
         Holder {
             pair,
@@ -98,7 +114,8 @@ impl Holder {
 
     /// Whether the circuit has ended and no message waits.
     fn is_over(&self) -> bool
-        ensures { (x : State) → StandsFor self.now.end x → self.now.taken ≡ capped_count x.receiving.taken → result ≡ sets.is_over x }
+        ensures { (x : State) → StandsFor self.now.end x → self.now.taken ≡ capped_count x.receiving.taken →
+            result ≡ sets.is_over x }
     {
         let facts = self.end.facts();
         facts.phase == EndPhase::Ended && facts.received == self.taken
@@ -114,7 +131,8 @@ impl Holder {
 
     /// Whether datagrams may still come to it.
     fn is_open(&self) -> bool
-        ensures { (x : State) → StandsFor self.now.end x → result ≡ (not self.now.discarded && not (sets.has_ended x.phase)) }
+        ensures { (x : State) → StandsFor self.now.end x →
+            result ≡ (not self.now.discarded && not (sets.has_ended x.phase)) }
     {
         !self.discarded && !self.has_ended()
     }
@@ -142,7 +160,8 @@ impl Holder {
         ensures does { (x : State) → StandsFor self.old.end x → Stands self.new.end (table.step x table.Take now.0) }
         ensures taken { (x : State) → StandsFor self.old.end x → self.old.taken ≡ capped_count x.receiving.taken →
             self.new.taken ≡ capped_count (table.step x table.Take now.0).end.receiving.taken }
-        ensures message { (x : State) → StandsFor self.old.end x → out.new.items ≡ first_or out.old.items (inbox x.receiving) }
+        ensures message { (x : State) → StandsFor self.old.end x →
+            out.new.items ≡ first_or out.old.items (inbox x.receiving) }
         ensures answer { (x : State) → StandsFor self.old.end x → result ≡ nat_lt 0 (length (inbox x.receiving)) }
         ensures rest { self.new ≡ record self.old { end = self.new.end; taken = self.new.taken } }
     {
@@ -168,8 +187,8 @@ impl Holder {
     /// What it tells next, where it has something to tell: that it was made, what it puts out, its notice, that it is gone, in this
     /// order.
     pub(crate) fn next(&mut self, id: u64, untold: &mut Option<Untold>)
-        ensures tells { IfSome untold.new (λ u. (own : Callsign) (ttl : ℕ) (h : sets.Holder) (told : List CircuitTold) → Keeps own ttl id self.old h told →
-            is_empty told ≡ false → Tells own ttl id h u self.new told) }
+        ensures tells { IfSome untold.new (λ u. (own : Callsign) (ttl : ℕ) (h : sets.Holder) (told : List CircuitTold) →
+            Keeps own ttl id self.old h told → is_empty told ≡ false → Tells own ttl id h u self.new told) }
         ensures falls { IfSome untold.new (λ u. cost u + left_at u self.new ≤ untold_at self.old) }
         ensures some { is_some untold.new ≡ true }
     {

@@ -24,7 +24,8 @@ impl<C: Carrier> CircuitSet<C> {
 
     /// Tells what happened next: None where nothing is untold, and nothing that lies at the router gives anything to tell.
     pub fn pump(&mut self, now: Moment) -> Result<Option<SetEvent>, NoMemory>
-        ensures pumps { IfOk result (Pumps C.made self.old self.new (C.lost self.old.router.carrier) (C.waiting self.old.router.carrier) now.0) }
+        ensures pumps { IfOk result (Pumps C.made self.old self.new
+            (C.lost self.old.router.carrier) (C.waiting self.old.router.carrier) now.0) }
         ensures drained { IfOk result (λ told. told ≡ None → IsDrained self.new) }
         ensures falls { IfOk result (λ told. is_some told ≡ true → Falls C.lost C.waiting self.old self.new) }
         ensures router { OnOk result (SameRouter self.old.router self.new.router) }
@@ -47,7 +48,8 @@ impl<C: Carrier> CircuitSet<C> {
     /// since an event is long to move. Most calls find nothing untold, so that is looked at first, and no room is made for it.
     fn go_on(&mut self, now: Moment, told: &mut Option<SetEvent>) -> Result<(), NoMemory>
         requires { told.old ≡ None }
-        ensures pumps { OnOk result (Pumps C.made self.old self.new (C.lost self.old.router.carrier) (C.waiting self.old.router.carrier) now.0 told.new) }
+        ensures pumps { OnOk result (Pumps C.made self.old self.new
+            (C.lost self.old.router.carrier) (C.waiting self.old.router.carrier) now.0 told.new) }
         ensures drained { OnOk result (told.new ≡ None → Rests self.new.held.ends.entries × (self.new.lost ≡ None)) }
         ensures falls { OnOk result (is_some told.new ≡ true → Falls C.lost C.waiting self.old self.new) }
         ensures router { OnOk result (SameRouter self.old.router self.new.router) }
@@ -67,7 +69,8 @@ impl<C: Carrier> CircuitSet<C> {
     #[inline(never)]
     fn tell_lost(&mut self, told: &mut Option<SetEvent>)
         requires { is_some self.old.lost ≡ true }
-        ensures pumps { (now : ℕ) → Pumps C.made self.old self.new (C.lost self.old.router.carrier) (C.waiting self.old.router.carrier) now told.new }
+        ensures pumps { (now : ℕ) → Pumps C.made self.old self.new
+            (C.lost self.old.router.carrier) (C.waiting self.old.router.carrier) now told.new }
         ensures told { is_some told.new ≡ true }
         ensures falls { Falls C.lost C.waiting self.old self.new }
         ensures router { self.new.router ≡ self.old.router }
@@ -88,7 +91,8 @@ impl<C: Carrier> CircuitSet<C> {
     ) -> Result<(), NoMemory>
         requires first { FirstLoud (Some id) self.old.held.ends.entries }
         requires lost { self.old.lost ≡ None }
-        ensures pumps { OnOk result (Pumps C.made self.old self.new (C.lost self.old.router.carrier) (C.waiting self.old.router.carrier) now.0 told.new) }
+        ensures pumps { OnOk result (Pumps C.made self.old self.new
+            (C.lost self.old.router.carrier) (C.waiting self.old.router.carrier) now.0 told.new) }
         ensures drained { OnOk result (told.new ≡ None → Rests self.new.held.ends.entries × (self.new.lost ≡ None)) }
         ensures falls { OnOk result (is_some told.new ≡ true → Falls C.lost C.waiting self.old self.new) }
         ensures router { OnOk result (SameRouter self.old.router self.new.router) }
@@ -140,7 +144,8 @@ impl<C: Carrier> CircuitSet<C> {
         now: Moment,
         told: &mut Option<SetEvent>,
     ) -> Result<(), NoMemory>
-        ensures tells { OnOk result (Tells C.made self.old self.new (untold.Out id number to.now transport.now) now.0 told.new) }
+        ensures tells { OnOk result (Tells C.made self.old self.new
+            (untold.Out id number to.now transport.now) now.0 told.new) }
         ensures told { OnOk result (is_some told.new ≡ true) }
         ensures lists { OnOk result (SameLists C.lost C.waiting self.old self.new) }
         ensures held { self.new.held ≡ self.old.held }
@@ -162,8 +167,11 @@ impl<C: Carrier> CircuitSet<C> {
     /// The datagram in which a transport goes to a node.
     fn datagram(&self, to: &Call, transport: &[u8]) -> Datagram
         requires { length transport.now ≤ 241 }
-        ensures exact { result ≡ datagram_with (record { origin = self.now.router.own; dest = to.now; ttl = self.now.router.ttl }) transport.now }
-        ensures spelled { SpellsDatagram (record { origin = self.now.router.own; dest = to.now; ttl = self.now.router.ttl }) transport.now result.items }
+        ensures exact { result ≡ datagram_with
+            (record { origin = self.now.router.own; dest = to.now; ttl = self.now.router.ttl }) transport.now }
+        ensures spelled { SpellsDatagram
+            (record { origin = self.now.router.own; dest = to.now; ttl = self.now.router.ttl })
+            transport.now result.items }
     {
         let head = DatagramHead {
             origin: self.router.own(),
@@ -179,7 +187,8 @@ impl<C: Carrier> CircuitSet<C> {
         requires rests { Rests self.old.held.ends.entries }
         requires lost { self.old.lost ≡ None }
         requires none { told.old ≡ None }
-        ensures asks { OnOk result (Asks C.made self.old self.new (C.lost self.old.router.carrier) (C.waiting self.old.router.carrier) now.0 told.new) }
+        ensures asks { OnOk result (Asks C.made self.old self.new
+            (C.lost self.old.router.carrier) (C.waiting self.old.router.carrier) now.0 told.new) }
         ensures drained { OnOk result (told.new ≡ None → Rests self.new.held.ends.entries × (self.new.lost ≡ None)) }
         ensures falls { OnOk result (is_some told.new ≡ true → Falls C.lost C.waiting self.old self.new) }
         ensures router { OnOk result (SameRouter self.old.router self.new.router) }
@@ -198,13 +207,16 @@ impl<C: Carrier> CircuitSet<C> {
         requires rests { Rests self.old.held.ends.entries }
         requires lost { self.old.lost ≡ None }
         requires none { told.old ≡ None }
-        ensures asks { OnOk result (AsksOnce C.made self.old self.new (C.lost self.old.router.carrier) (C.waiting self.old.router.carrier) now.0 told.new) }
-        ensures asked { IfOk result (λ asked. IsAsked (C.lost self.old.router.carrier) (C.waiting self.old.router.carrier) told.new asked) }
+        ensures asks { OnOk result (AsksOnce C.made self.old self.new
+            (C.lost self.old.router.carrier) (C.waiting self.old.router.carrier) now.0 told.new) }
+        ensures asked { IfOk result (λ asked. IsAsked (C.lost self.old.router.carrier)
+            (C.waiting self.old.router.carrier) told.new asked) }
         ensures rests { OnOk result (told.new ≡ None → Rests self.new.held.ends.entries × (self.new.lost ≡ None)) }
         ensures falls { IfOk result (λ asked. asked ≡ true → Falls C.lost C.waiting self.old self.new) }
         ensures idle { IfOk result (λ asked. asked ≡ false → told.new ≡ None) }
         ensures lost { OnOk result (C.lost self.new.router.carrier ≡ drop 1 (C.lost self.old.router.carrier)) }
-        ensures waiting { OnOk result (C.waiting self.new.router.carrier ≡ waiting_left (C.lost self.old.router.carrier) (C.waiting self.old.router.carrier)) }
+        ensures waiting { OnOk result (C.waiting self.new.router.carrier
+            ≡ waiting_left (C.lost self.old.router.carrier) (C.waiting self.old.router.carrier)) }
         ensures router { OnOk result (SameRouter self.old.router self.new.router) }
         ensures spent { OnOk result (self.new.spent ≡ self.old.spent) }
     {
@@ -235,7 +247,8 @@ impl<C: Carrier> CircuitSet<C> {
         ensures takes { OnOk result (TakesIn C.made self.old self.new routed now.0 told.new) }
         ensures loud { OnOk result (TellsLost routed told.new) }
         ensures rests { OnOk result (told.new ≡ None → Rests self.new.held.ends.entries × (self.new.lost ≡ None)) }
-        ensures few { OnOk result (Brings (untold_in self.old.held.ends.entries) (untold_in self.new.held.ends.entries)) }
+        ensures few { OnOk result (Brings (untold_in self.old.held.ends.entries)
+            (untold_in self.new.held.ends.entries)) }
         ensures lists { OnOk result (SameLists C.lost C.waiting self.old self.new) }
     {
         match routed {
@@ -267,7 +280,8 @@ impl<C: Carrier> CircuitSet<C> {
         requires none { told.old ≡ None }
         ensures takes { OnOk result (TakesIn C.made self.old self.new (Routed.Mine origin datagram) now.0 told.new) }
         ensures rests { OnOk result (told.new ≡ None → Rests self.new.held.ends.entries × (self.new.lost ≡ None)) }
-        ensures few { OnOk result (Brings (untold_in self.old.held.ends.entries) (untold_in self.new.held.ends.entries)) }
+        ensures few { OnOk result (Brings (untold_in self.old.held.ends.entries)
+            (untold_in self.new.held.ends.entries)) }
         ensures lists { OnOk result (SameLists C.lost C.waiting self.old self.new) }
     {
         let transport = match read_transport(&datagram.as_slice()[HEAD_SIZE..]) {

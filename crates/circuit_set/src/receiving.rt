@@ -29,7 +29,8 @@ impl HeldEnds {
     ) -> Result<Untold, NoMemory>
         requires number { self.old.number ≤ COUNT_MAX }
         requires few { length self.old.ends.entries < 64 }
-        ensures gives { IfOk result (λ told. (s : SetState) → HeldStands self.old s [] → Gives (sets.responds s origin datagram.items asked window now.0) (Some told) self.new) }
+        ensures gives { IfOk result (λ told. (s : SetState) → HeldStands self.old s [] →
+            Gives (sets.responds s origin datagram.items asked window now.0) (Some told) self.new) }
         ensures few { IfOk result (λ told. Brings (untold_in self.old.ends.entries) (untold_in self.new.ends.entries)) }
     {
         let pair = self.new_pair();
@@ -45,8 +46,9 @@ impl HeldEnds {
 
     /// The Accept of an end once more, to the pair that has asked.
     fn accept_again(&self, id: u64, asked: Pair) -> Option<Untold>
-        ensures gives { (s : SetState) (h : sets.Holder) → HeldStands self.now s [] → sets.end_of id s.ends ≡ Some h → h.gone ≡ false →
-            sets.asked_with h.asked asked ≡ true → Gives (sets.goes_to s h [] (sets.accept_again h.end)) result self.now }
+        ensures gives { (s : SetState) (h : sets.Holder) → HeldStands self.now s [] → sets.end_of id s.ends ≡ Some h →
+            h.gone ≡ false → sets.asked_with h.asked asked ≡ true →
+            Gives (sets.goes_to s h [] (sets.accept_again h.end)) result self.now }
     {
         match self.ends.get(&id) {
             Some(holder) => Some(Untold::Out {
@@ -117,7 +119,8 @@ impl HeldEnds {
     fn hand(&mut self, id: u64, transport: &Transport, now: Moment) -> bool
         requires { Rests self.old.ends.entries }
         ensures same { SameNode self.old self.new }
-        ensures hands { Hands id (lookup (nat_eq id) self.old.ends.entries) transport.now now.0 result self.old.ends.entries self.new.ends.entries }
+        ensures hands { Hands id (lookup (nat_eq id) self.old.ends.entries) transport.now now.0 result
+            self.old.ends.entries self.new.ends.entries }
     {
         let loud = self.loud_at(id);
         match self.ends.get_mut(&id) {
@@ -143,7 +146,8 @@ impl HeldEnds {
         requires rests { Rests self.old.ends.entries }
         requires none { untold.old ≡ None }
         ensures same { SameNode self.old self.new }
-        ensures gives { (s : SetState) (h : sets.Holder) → HeldStands self.old s [] → sets.end_of id s.ends ≡ Some h → h.gone ≡ false → h.id ≡ id →
+        ensures gives { (s : SetState) (h : sets.Holder) → HeldStands self.old s [] → sets.end_of id s.ends ≡ Some h →
+            h.gone ≡ false → h.id ≡ id →
             Gives (sets.hands_to s h datagram.items transport.now now.0) untold.new self.new }
         ensures rests { untold.new ≡ None → Rests self.new.ends.entries }
         ensures few { Brings (untold_in self.old.ends.entries) (untold_in self.new.ends.entries) }
@@ -168,7 +172,8 @@ impl HeldEnds {
         requires rests { Rests self.old.ends.entries }
         requires none { untold.old ≡ None }
         ensures same { SameNode self.old self.new }
-        ensures gives { (s : SetState) → HeldStands self.old s [] → Gives (sets.arrives_at s origin.now datagram.items to transport.now now.0) untold.new self.new }
+        ensures gives { (s : SetState) → HeldStands self.old s [] →
+            Gives (sets.arrives_at s origin.now datagram.items to transport.now now.0) untold.new self.new }
         ensures rests { untold.new ≡ None → Rests self.new.ends.entries }
         ensures few { Brings (untold_in self.old.ends.entries) (untold_in self.new.ends.entries) }
     {

@@ -93,7 +93,8 @@ impl<C: Carrier + Drop> CircuitSet<C> {
         requires pair { IsPair pair }
         requires first { 1 ≤ first }
         requires last { first ≤ COUNT_MAX + 1 }
-        ensures stands { IfOk result (λ set. SetStands set (at_rest (new_set router.own router.ttl user config pair first))) }
+        ensures stands { IfOk result (λ set. SetStands set
+            (at_rest (new_set router.own router.ttl user config pair first))) }
         ensures router { IfOk result (λ set. set.router ≡ router) }
         ensures drained { IfOk result IsDrained }
     {
@@ -138,7 +139,8 @@ impl<C: Carrier> CircuitSet<C> {
     /// Asks for a circuit with a node, and gives the number of the end that is made for it.
     pub fn connect(&mut self, node: &Call, now: Moment) -> Result<u64, ConnectRefusal>
         requires { IsDrained self.old }
-        ensures answer { self.new.spent ≡ false → (s : SetState) (log : List Item) → SetStands self.old (at_rest s) → StandsFor self.old.router.table log →
+        ensures answer { self.new.spent ≡ false → (s : SetState) (log : List Item) → SetStands self.old (at_rest s) →
+            StandsFor self.old.router.table log →
             result ≡ connect_answer (next_hop self.old.router.table.rules log) node.now s }
         ensures goes { OnOk result (GoesBy (sets.Connect node.now now.0) self.old self.new) }
         ensures err { OnErr result (self.new.spent ≡ false → self.new ≡ self.old) }
@@ -170,8 +172,10 @@ impl<C: Carrier> CircuitSet<C> {
 
     /// Whether nothing is untold and nothing lies at the router: `pump` would answer None, and change nothing.
     pub fn is_idle(&self) -> bool
-        ensures idle { (w : Waiting) → SetStands self.now w → is_drained w ≡ true → C.lost self.now.router.carrier ≡ [] → C.waiting self.now.router.carrier ≡ [] → result ≡ true }
-        ensures pumps { result ≡ true → (now : ℕ) → Pumps C.made self.now self.now (C.lost self.now.router.carrier) (C.waiting self.now.router.carrier) now None }
+        ensures idle { (w : Waiting) → SetStands self.now w → is_drained w ≡ true →
+            C.lost self.now.router.carrier ≡ [] → C.waiting self.now.router.carrier ≡ [] → result ≡ true }
+        ensures pumps { result ≡ true → (now : ℕ) → Pumps C.made self.now self.now
+            (C.lost self.now.router.carrier) (C.waiting self.now.router.carrier) now None }
         ensures drained { result ≡ true → IsDrained self.now }
     {
         if self.spent || self.lost.is_some() {
@@ -204,7 +208,8 @@ impl<C: Carrier> CircuitSet<C> {
     /// changes nothing.
     pub fn write(&mut self, id: u64, message: &[u8], now: Moment) -> Result<(), SetRefusal>
         requires { IsDrained self.old }
-        ensures answer { (s : SetState) → SetStands self.old (at_rest s) → result ≡ write_answer (sets.end_of id s.ends) message.now }
+        ensures answer { (s : SetState) → SetStands self.old (at_rest s) →
+            result ≡ write_answer (sets.end_of id s.ends) message.now }
         ensures goes { OnOk result (GoesBy (sets.Calls id (sets.Writes message.now) now.0) self.old self.new) }
         ensures err { OnErr result (IsUnchanged self.old self.new) }
         ensures memory { IsErrOf result refusals.NoMemory ↔ IsTrue self.old.spent }
@@ -223,12 +228,15 @@ impl<C: Carrier> CircuitSet<C> {
     /// refusal changes nothing, and nor does a call of a set that is spent.
     pub fn take(&mut self, id: u64, out: &mut Message, now: Moment) -> Result<bool, NoEnd>
         requires { IsDrained self.old }
-        ensures answer { (s : SetState) → SetStands self.old (at_rest s) → result ≡ take_answer (sets.end_of id s.ends) }
-        ensures message { (s : SetState) → SetStands self.old (at_rest s) → out.new.items ≡ message_at out.old.items (sets.end_of id s.ends) }
+        ensures answer { (s : SetState) → SetStands self.old (at_rest s) →
+            result ≡ take_answer (sets.end_of id s.ends) }
+        ensures message { (s : SetState) → SetStands self.old (at_rest s) →
+            out.new.items ≡ message_at out.old.items (sets.end_of id s.ends) }
         ensures goes { GoesBy (sets.Calls id sets.Takes now.0) self.old self.new }
         ensures err { OnErr result ((self.new ≡ self.old) × (out.new ≡ out.old)) }
         ensures unspent { self.new.spent ≡ self.old.spent }
-        ensures spent { IsTrue self.old.spent → (self.new ≡ self.old) × (out.new ≡ out.old) × IfOk result (λ took. took ≡ false) }
+        ensures spent { IsTrue self.old.spent →
+            (self.new ≡ self.old) × (out.new ≡ out.old) × IfOk result (λ took. took ≡ false) }
         ensures few { length self.new.held.ends.entries ≤ 64 }
         ensures kept { KeepsOn self.old self.new }
     {
@@ -243,7 +251,8 @@ impl<C: Carrier> CircuitSet<C> {
     /// spent.
     pub fn close(&mut self, id: u64, now: Moment) -> Result<(), NoEnd>
         requires { IsDrained self.old }
-        ensures answer { (s : SetState) → SetStands self.old (at_rest s) → result ≡ close_answer (sets.end_of id s.ends) }
+        ensures answer { (s : SetState) → SetStands self.old (at_rest s) →
+            result ≡ close_answer (sets.end_of id s.ends) }
         ensures goes { GoesBy (sets.Calls id sets.Closes now.0) self.old self.new }
         ensures err { OnErr result (self.new ≡ self.old) }
         ensures unspent { self.new.spent ≡ self.old.spent }
@@ -261,7 +270,8 @@ impl<C: Carrier> CircuitSet<C> {
     /// spent.
     pub fn discard(&mut self, id: u64) -> Result<(), DiscardRefusal>
         requires { IsDrained self.old }
-        ensures answer { (s : SetState) → SetStands self.old (at_rest s) → result ≡ discard_answer (sets.end_of id s.ends) }
+        ensures answer { (s : SetState) → SetStands self.old (at_rest s) →
+            result ≡ discard_answer (sets.end_of id s.ends) }
         ensures goes { OnOk result (GoesBy (sets.Discard id) self.old self.new) }
         ensures err { OnErr result (self.new ≡ self.old) }
         ensures unspent { self.new.spent ≡ self.old.spent }
@@ -278,7 +288,8 @@ impl<C: Carrier> CircuitSet<C> {
 
     /// What an end tells of itself: None where no end of that number is held.
     pub fn facts(&self, id: u64) -> Option<EndFacts>
-        ensures { (w : Waiting) → SetStands self.now w → result ≡ facts_at (sets.end_of id (held_by w.untold w.set.ends)) }
+        ensures { (w : Waiting) → SetStands self.now w →
+            result ≡ facts_at (sets.end_of id (held_by w.untold w.set.ends)) }
     {
         match self.held.ends.get(&id) {
             Some(holder) => Some(holder.end.facts()),
@@ -288,7 +299,8 @@ impl<C: Carrier> CircuitSet<C> {
 
     /// The node of an end's partner.
     pub fn partner(&self, id: u64) -> Option<Call>
-        ensures { (w : Waiting) → SetStands self.now w → result ≡ partner_at (sets.end_of id (held_by w.untold w.set.ends)) }
+        ensures { (w : Waiting) → SetStands self.now w →
+            result ≡ partner_at (sets.end_of id (held_by w.untold w.set.ends)) }
     {
         match self.held.ends.get(&id) {
             Some(holder) => Some(holder.at),
@@ -298,7 +310,8 @@ impl<C: Carrier> CircuitSet<C> {
 
     /// Whether the node has asked for an end's circuit; it was asked for it else. None where no end of that number is held.
     pub fn requested(&self, id: u64) -> Option<bool>
-        ensures { (w : Waiting) → SetStands self.now w → result ≡ requested_at (sets.end_of id (held_by w.untold w.set.ends)) }
+        ensures { (w : Waiting) → SetStands self.now w →
+            result ≡ requested_at (sets.end_of id (held_by w.untold w.set.ends)) }
     {
         match self.held.ends.get(&id) {
             Some(holder) => Some(holder.asked.is_none()),
@@ -308,7 +321,8 @@ impl<C: Carrier> CircuitSet<C> {
 
     /// The end of a number.
     pub fn end(&self, id: u64) -> Option<&End>
-        ensures { (w : Waiting) → SetStands self.now w → LentStands (option_copied result) (sets.end_of id (held_by w.untold w.set.ends)) }
+        ensures { (w : Waiting) → SetStands self.now w →
+            LentStands (option_copied result) (sets.end_of id (held_by w.untold w.set.ends)) }
     {
         match self.held.ends.get(&id) {
             Some(holder) => Some(&holder.end),
@@ -318,7 +332,8 @@ impl<C: Carrier> CircuitSet<C> {
 
     /// The number of the nth end that is held.
     pub fn held(&self, nth: usize) -> Option<u64>
-        ensures { (w : Waiting) → SetStands self.now w → result ≡ slice_get (held_ids (held_by w.untold w.set.ends)) nth }
+        ensures { (w : Waiting) → SetStands self.now w →
+            result ≡ slice_get (held_ids (held_by w.untold w.set.ends)) nth }
     {
         match self.held.ends.get_index(nth) {
             Some((id, _)) => Some(*id),
@@ -345,7 +360,8 @@ impl<C: Carrier> CircuitSet<C> {
     /// The same, to be changed: what is left of it is the set's router then.
     pub fn router_mut(&mut self) -> &mut Router<C>
         ensures value { result.now ≡ self.old.router }
-        ensures* writes_back { sem 𝓛 (Lends (the_row C.row) (router_row C.row) self.entry result (λ w. record self.old { router = w })) }
+        ensures* writes_back { sem 𝓛 (Lends (the_row C.row) (router_row C.row) self.entry result
+            (λ w. record self.old { router = w })) }
     {
         &mut self.router
     }

@@ -109,8 +109,14 @@ impl Book {
         pair: &Pair,
         request: Option<&[u8]>,
     ) -> Result<Option<LateWhy>, NoMemory>
-        ensures { IfOk result (λ why. (b : books.Book) (lost : List set_events.Name) → judged.PartsStand self.old b lost → (partner : Callsign)
-            → judged.JudgesMade b lost (record { node = end.now.node; own = own.now; told = sets.Made end.now.id pair.now partner (option_copied request.entry) }) why self.new) }
+        ensures { IfOk result (λ why. (b : books.Book) (lost : List set_events.Name) → judged.PartsStand self.old b lost
+            → (partner : Callsign)
+            → judged.JudgesMade b lost
+            (record {
+              node = end.now.node;
+              own = own.now;
+              told = sets.Made end.now.id pair.now partner (option_copied request.entry);
+            }) why self.new) }
     {
         let asked = request.is_some();
         let requester = self.requester(request)?;
@@ -126,7 +132,8 @@ impl Book {
 
     /// The end whose request this datagram is, where it has no partner yet.
     pub(crate) fn requester(&self, request: Option<&[u8]>) -> Result<Option<Name>, NoMemory>
-        ensures { IfOk result (λ found. (b : books.Book) (lost : List set_events.Name) → judged.PartsStand self.now b lost
+        ensures { IfOk result (λ found. (b : books.Book) (lost : List set_events.Name)
+            → judged.PartsStand self.now b lost
             → found ≡ books.requester b (option_copied request.entry)) }
     {
         match request {
@@ -136,7 +143,8 @@ impl Book {
     }
 
     fn asked_by(&self, datagram: &[u8]) -> Result<Option<Name>, NoMemory>
-        ensures { IfOk result (λ found. (b : books.Book) (lost : List set_events.Name) → judged.PartsStand self.now b lost
+        ensures { IfOk result (λ found. (b : books.Book) (lost : List set_events.Name)
+            → judged.PartsStand self.now b lost
             → found ≡ books.asked_by b datagram.now (head_at datagram.now)) }
     {
         let Ok(head) = read_datagram(datagram) else {
@@ -151,7 +159,8 @@ impl Book {
 
     /// The end, where it has sent a copy of this and has no partner yet.
     fn unless_joined(&self, end: Name, datagram: &[u8]) -> Result<Option<Name>, NoMemory>
-        ensures { IfOk result (λ found. (b : books.Book) (lost : List set_events.Name) → judged.PartsStand self.now b lost
+        ensures { IfOk result (λ found. (b : books.Book) (lost : List set_events.Name)
+            → judged.PartsStand self.now b lost
             → found ≡ books.if_asked b datagram.now (Some end)) }
     {
         if self.ends.partner(&end).is_some() {
@@ -169,8 +178,10 @@ impl Book {
         datagram: &[u8],
         allowance: Allowance,
     ) -> Result<Option<LateWhy>, NoMemory>
-        ensures { IfOk result (λ why. (b : books.Book) (lost : List set_events.Name) → judged.PartsStand self.old b lost → (own : Callsign)
-            → judged.JudgesHeeded allowance b lost (record { node = end.now.node; own = own; told = sets.Heeded end.now.id datagram.now }) why self.new) }
+        ensures { IfOk result (λ why. (b : books.Book) (lost : List set_events.Name) → judged.PartsStand self.old b lost
+            → (own : Callsign)
+            → judged.JudgesHeeded allowance b lost
+            (record { node = end.now.node; own = own; told = sets.Heeded end.now.id datagram.now }) why self.new) }
     {
         match self.ends.partner(end) {
             Some(partner) => self.heeded_from(end, &partner, datagram, allowance),
@@ -186,8 +197,10 @@ impl Book {
         datagram: &[u8],
         allowance: Allowance,
     ) -> Result<Option<LateWhy>, NoMemory>
-        ensures { IfOk result (λ why. (b : books.Book) (lost : List set_events.Name) → judged.PartsStand self.old b lost → books.partner b end.now ≡ Some partner.now → (own : Callsign)
-            → judged.JudgesHeeded allowance b lost (record { node = end.now.node; own = own; told = sets.Heeded end.now.id datagram.now }) why self.new) }
+        ensures { IfOk result (λ why. (b : books.Book) (lost : List set_events.Name) → judged.PartsStand self.old b lost
+            → books.partner b end.now ≡ Some partner.now → (own : Callsign)
+            → judged.JudgesHeeded allowance b lost
+            (record { node = end.now.node; own = own; told = sets.Heeded end.now.id datagram.now }) why self.new) }
     {
         let Some(latest) = self.sendings.latest(partner, datagram)? else {
             return Ok(Some(LateWhy::Overtaken));
@@ -212,7 +225,8 @@ impl Book {
 
     /// How many overtakers are too many at an end with this partner.
     pub(crate) fn allowed(&self, end: &Name, partner: &Name, allowance: Allowance) -> u64
-        ensures { (b : books.Book) (lost : List set_events.Name) → judged.PartsStand self.now b lost → books.partner b end.now ≡ Some partner.now
+        ensures { (b : books.Book) (lost : List set_events.Name) → judged.PartsStand self.now b lost
+            → books.partner b end.now ≡ Some partner.now
             → result ≡ allowance_of allowance b end.now }
     {
         match allowance {
@@ -223,7 +237,8 @@ impl Book {
 
     /// The allowance by the window of the end of the two that a request has opened.
     fn by_window(&self, end: &Name, partner: &Name) -> u64
-        ensures { (b : books.Book) (lost : List set_events.Name) → judged.PartsStand self.now b lost → books.partner b end.now ≡ Some partner.now
+        ensures { (b : books.Book) (lost : List set_events.Name) → judged.PartsStand self.now b lost
+            → books.partner b end.now ≡ Some partner.now
             → result ≡ allowance_of Allowance.OfWindow b end.now }
     {
         if self.ends.was_asked(end) {

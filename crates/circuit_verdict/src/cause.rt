@@ -105,7 +105,8 @@ impl Book {
     ) -> Result<Option<Cause>, NoMemory>
         ensures { IfOk result (λ cause. (b : books.Book) (lost : List events.Name) → judged.PartsStand self.now b lost
             → books.partner b end.now ≡ Some partner.now
-            → cause ≡ causes.overtaken_cause allowance b end.now partner.now (books.latest_in b.sent partner.now datagram.now)) }
+            → cause ≡ causes.overtaken_cause allowance b end.now partner.now
+            (books.latest_in b.sent partner.now datagram.now)) }
     {
         let Some(latest) = self.sendings.latest(partner, datagram)? else {
             return Ok(Some(Cause::Unsent));

@@ -74,7 +74,8 @@ impl Ends {
 
     /// The window that was told at the opening of an end, if it was.
     pub(crate) fn window(&self, end: &Name) -> Option<u8>
-        ensures { (ms : List books.MadeNote) (lost : List set_events.Name) → made.EndsStand self.now ms lost → result ≡ opened_window (told_to ms end.now) }
+        ensures { (ms : List books.MadeNote) (lost : List set_events.Name) → made.EndsStand self.now ms lost
+            → result ≡ opened_window (told_to ms end.now) }
     {
         match self.notes.get(end) {
             Some(note) => note.window,
@@ -85,21 +86,24 @@ impl Ends {
     /// The partner of an end, if it has one.
     pub(crate) fn partner(&self, end: &Name) -> Option<Name>
         ensures kept { result ≡ get set_events.same_name self.now.partners end.now }
-        ensures exact { (ms : List books.MadeNote) (lost : List set_events.Name) → made.EndsStand self.now ms lost → result ≡ books.partner_in ms end.now }
+        ensures exact { (ms : List books.MadeNote) (lost : List set_events.Name) → made.EndsStand self.now ms lost
+            → result ≡ books.partner_in ms end.now }
     {
         self.partners.get(end).copied()
     }
 
     /// The end to which the node of this call gave this pair last.
     pub(crate) fn made_last(&self, own: &Call, pair: &Pair) -> Option<Name>
-        ensures { (ms : List books.MadeNote) (lost : List set_events.Name) → made.EndsStand self.now ms lost → result ≡ books.made_last ms own.now pair.now }
+        ensures { (ms : List books.MadeNote) (lost : List set_events.Name) → made.EndsStand self.now ms lost
+            → result ≡ books.made_last ms own.now pair.now }
     {
         self.last_made.get(&CallPair::of(own, pair)).copied()
     }
 
     /// Whether a pair of this node names the partner of an end of another node that has neither ended nor been lost.
     pub(crate) fn is_faced(&self, node: u64, pair: &Pair) -> bool
-        ensures { (ms : List books.MadeNote) (lost : List set_events.Name) → made.EndsStand self.now ms lost → result ≡ made.is_faced ms lost node pair.now }
+        ensures { (ms : List books.MadeNote) (lost : List set_events.Name) → made.EndsStand self.now ms lost
+            → result ≡ made.is_faced ms lost node pair.now }
     {
         self.keeps_faced(node, pair)
     }
@@ -173,7 +177,8 @@ impl Ends {
         pair: &Pair,
         requester: Option<Name>,
     ) -> Result<(), NoMemory>
-        ensures { OnOk result ((ms : List books.MadeNote) (lost : List set_events.Name) → made.EndsStand self.old ms lost
+        ensures { OnOk result ((ms : List books.MadeNote) (lost : List set_events.Name)
+            → made.EndsStand self.old ms lost
             → made.EndsStand self.new (made.made_note end own.now pair.now requester ∷ ms) lost) }
     {
         self.give(&end, own, pair)?;
@@ -184,10 +189,15 @@ impl Ends {
 
     fn give(&mut self, end: &Name, own: &Call, pair: &Pair) -> Result<(), NoMemory>
         ensures rest { self.new ≡ record self.old { last_made = self.new.last_made; given = self.new.given } }
-        ensures last { OnOk result ((call : Callsign) (p : SeenPair) → get made.same_call_pair self.new.last_made (record { own = call; pair = made.key_of p })
-            ≡ cond (same_call own.now call && same_pair pair.now p) (Some end.now) (get made.same_call_pair self.old.last_made (record { own = call; pair = made.key_of p }))) }
-        ensures given { OnOk result ((node : ℕ) (p : SeenPair) → list_in (get made.same_node_pair self.new.given.lists (record { node = node; pair = made.key_of p }))
-            ≡ cond (nat_eq end.now.node node && same_pair pair.now p) (list_in (get made.same_node_pair self.old.given.lists (record { node = end.now.node; pair = made.key_of pair.now })) ++ end.now ∷ [])
+        ensures last { OnOk result ((call : Callsign) (p : SeenPair)
+            → get made.same_call_pair self.new.last_made (record { own = call; pair = made.key_of p })
+            ≡ cond (same_call own.now call && same_pair pair.now p) (Some end.now)
+            (get made.same_call_pair self.old.last_made (record { own = call; pair = made.key_of p }))) }
+        ensures given { OnOk result ((node : ℕ) (p : SeenPair)
+            → list_in (get made.same_node_pair self.new.given.lists (record { node = node; pair = made.key_of p }))
+            ≡ cond (nat_eq end.now.node node && same_pair pair.now p)
+            (list_in (get made.same_node_pair self.old.given.lists
+            (record { node = end.now.node; pair = made.key_of pair.now })) ++ end.now ∷ [])
             (list_in (get made.same_node_pair self.old.given.lists (record { node = node; pair = made.key_of p })))) }
     {
         self.last_made.insert(CallPair::of(own, pair), *end)?;
@@ -198,8 +208,11 @@ impl Ends {
     /// An end that was made before stays one that a request has opened.
     fn note_made(&mut self, end: &Name, by_request: bool) -> Result<(), NoMemory>
         ensures rest { self.new ≡ record self.old { notes = self.new.notes } }
-        ensures notes { OnOk result ((ms : List books.MadeNote) → ((x : set_events.Name) → get set_events.same_name self.old.notes x ≡ made.note_in ms x)
-            → (x : set_events.Name) → get set_events.same_name self.new.notes x ≡ cond (set_events.same_name end.now x) (Some (made.fresh_note by_request ms end.now)) (made.note_in ms x)) }
+        ensures notes { OnOk result ((ms : List books.MadeNote)
+            → ((x : set_events.Name) → get set_events.same_name self.old.notes x ≡ made.note_in ms x)
+            → (x : set_events.Name) → get set_events.same_name self.new.notes x
+            ≡ cond (set_events.same_name end.now x)
+            (Some (made.fresh_note by_request ms end.now)) (made.note_in ms x)) }
     {
         let asked = by_request || self.was_asked(end);
         let note = EndNote {
@@ -213,7 +226,8 @@ impl Ends {
 
     /// Whether a request has opened an end.
     pub(crate) fn was_asked(&self, end: &Name) -> bool
-        ensures { (ms : List books.MadeNote) → ((x : set_events.Name) → get set_events.same_name self.now.notes x ≡ made.note_in ms x)
+        ensures { (ms : List books.MadeNote)
+            → ((x : set_events.Name) → get set_events.same_name self.now.notes x ≡ made.note_in ms x)
             → result ≡ books.was_asked ms end.now }
     {
         match self.notes.get(end) {
@@ -239,9 +253,11 @@ impl Ends {
     fn join_both(&mut self, end: &Name, requester: &Name) -> Result<(), NoMemory>
         ensures rest { self.new ≡ record self.old { partners = self.new.partners; facing = self.new.facing } }
         ensures partners { OnOk result ((x : set_events.Name) → get set_events.same_name self.new.partners x
-            ≡ made.partner_after_joining end.now (Some requester.now) x (get set_events.same_name self.old.partners x)) }
+            ≡ made.partner_after_joining end.now (Some requester.now) x
+            (get set_events.same_name self.old.partners x)) }
         ensures facing { OnOk result ((x : set_events.Name) → list_in (get set_events.same_name self.new.facing.lists x)
-            ≡ made.with_facing end.now (Some requester.now) x (list_in (get set_events.same_name self.old.facing.lists x))) }
+            ≡ made.with_facing end.now (Some requester.now) x
+            (list_in (get set_events.same_name self.old.facing.lists x))) }
     {
         self.partners.insert(*end, *requester)?;
         self.partners.insert(*requester, *end)?;
@@ -261,7 +277,9 @@ impl Ends {
     fn note_notice(&mut self, end: &Name, notice: &EndNotice)
         ensures rest { self.new ≡ record self.old { notes = self.new.notes } }
         ensures notes { (x : set_events.Name) → get set_events.same_name self.new.notes x
-            ≡ cond (set_events.same_name end.now x) (made.after_notice_in notice.now (get set_events.same_name self.old.notes x)) (get set_events.same_name self.old.notes x) }
+            ≡ cond (set_events.same_name end.now x)
+            (made.after_notice_in notice.now (get set_events.same_name self.old.notes x))
+            (get set_events.same_name self.old.notes x) }
     {
         if let Some(note) = self.notes.get_mut(end) {
             note.hear(notice);
@@ -270,7 +288,8 @@ impl Ends {
 
     /// A restart took an end away.
     pub(crate) fn lose(&mut self, end: Name) -> Result<(), NoMemory>
-        ensures { OnOk result ((ms : List books.MadeNote) (lost : List set_events.Name) → made.EndsStand self.old ms lost → made.EndsStand self.new ms (end ∷ lost)) }
+        ensures { OnOk result ((ms : List books.MadeNote) (lost : List set_events.Name)
+            → made.EndsStand self.old ms lost → made.EndsStand self.new ms (end ∷ lost)) }
     {
         self.lost.insert(end)?;
         Ok(())

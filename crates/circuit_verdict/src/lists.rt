@@ -38,7 +38,8 @@ impl<K: Copy + Eq + Hash, V: Copy> Lists<K, V> {
     /// Puts an item at the end of the list of a key.
     pub(crate) fn push(&mut self, key: K, item: V) -> Result<(), NoMemory>
         ensures { OnOk result ((k : K) → list_in (get K.eq self.new.lists k)
-            ≡ cond (K.eq key k) (list_in (get K.eq self.old.lists key) ++ item ∷ []) (list_in (get K.eq self.old.lists k))) }
+            ≡ cond (K.eq key k) (list_in (get K.eq self.old.lists key) ++ item ∷ [])
+            (list_in (get K.eq self.old.lists k))) }
     {
         match self.lists.get_mut(&key) {
             Some(list) => {

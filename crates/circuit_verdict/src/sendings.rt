@@ -69,7 +69,8 @@ impl Sendings {
 
     /// The latest sending by an end of which this is a copy.
     pub(crate) fn latest(&self, who: &Name, datagram: &[u8]) -> Result<Option<Sending>, NoMemory>
-        ensures { IfOk result (λ found. (place : ℕ) (ss : List books.SentNote) (hs : List books.HeardNote) → sends.SendingsStand self.now place ss hs
+        ensures { IfOk result (λ found. (place : ℕ) (ss : List books.SentNote) (hs : List books.HeardNote)
+            → sends.SendingsStand self.now place ss hs
             → found ≡ sends.sending_in (books.latest_in ss who.now datagram.now)) }
     {
         if datagram.len() < HEAD_SIZE {
@@ -86,8 +87,11 @@ impl Sendings {
         datagram: &[u8],
         sending: Sending,
     ) -> Result<(), NoMemory>
-        ensures { OnOk result ((ss : List books.SentNote) (hs : List books.HeardNote) → sends.SendingsStand self.old sending.place ss hs
-            → sends.SendingsStand self.new (suc sending.place) (record { who = who.now; place = sending.place; number = sending.number; datagram = datagram.now } ∷ ss) hs) }
+        ensures { OnOk result ((ss : List books.SentNote) (hs : List books.HeardNote)
+            → sends.SendingsStand self.old sending.place ss hs
+            → sends.SendingsStand self.new (suc sending.place)
+            (record { who = who.now; place = sending.place; number = sending.number; datagram = datagram.now } ∷ ss)
+            hs) }
     {
         self.note_latest(who, datagram, sending)?;
         self.note_number(who, sending)?;
@@ -96,9 +100,13 @@ impl Sendings {
 
     fn note_latest(&mut self, who: &Name, datagram: &[u8], sending: Sending) -> Result<(), NoMemory>
         ensures rest { self.new ≡ record self.old { latest = self.new.latest } }
-        ensures latest { OnOk result ((ss : List books.SentNote) → ((k : SeenLikeness) → ordered.get sends.likeness_cmp self.old.latest k ≡ sends.latest_like ss k.who k.octets.items)
+        ensures latest { OnOk result ((ss : List books.SentNote)
+            → ((k : SeenLikeness) → ordered.get sends.likeness_cmp self.old.latest k
+            ≡ sends.latest_like ss k.who k.octets.items)
             → (k : SeenLikeness) → ordered.get sends.likeness_cmp self.new.latest k
-            ≡ sends.latest_like (record { who = who.now; place = sending.place; number = sending.number; datagram = datagram.now } ∷ ss) k.who k.octets.items) }
+            ≡ sends.latest_like
+            (record { who = who.now; place = sending.place; number = sending.number; datagram = datagram.now } ∷ ss)
+            k.who k.octets.items) }
     {
         if datagram.len() < HEAD_SIZE {
             return Ok(());
@@ -111,11 +119,16 @@ impl Sendings {
     /// Notes an information message at its first sending.
     fn note_number(&mut self, who: &Name, sending: Sending) -> Result<(), NoMemory>
         ensures rest { self.new ≡ record self.old { messages = self.new.messages; sent = self.new.sent } }
-        ensures messages { OnOk result ((ss : List books.SentNote) → ((x : set_events.Name) (n : ℕ) → contains sends.same_message self.old.sent (sends.message_name x n) ≡ books.has x n ss)
+        ensures messages { OnOk result ((ss : List books.SentNote)
+            → ((x : set_events.Name) (n : ℕ)
+            → contains sends.same_message self.old.sent (sends.message_name x n) ≡ books.has x n ss)
             → (x : set_events.Name) → list_in (get set_events.same_name self.new.messages.lists x)
-            ≡ sends.with_message who.now sending.number sending.place ss x (list_in (get set_events.same_name self.old.messages.lists x))) }
-        ensures sent { OnOk result ((x : set_events.Name) (n : ℕ) → contains sends.same_message self.new.sent (sends.message_name x n)
-            ≡ set_events.same_name who.now x && books.is_number sending.number n || contains sends.same_message self.old.sent (sends.message_name x n)) }
+            ≡ sends.with_message who.now sending.number sending.place ss x
+            (list_in (get set_events.same_name self.old.messages.lists x))) }
+        ensures sent { OnOk result ((x : set_events.Name) (n : ℕ)
+            → contains sends.same_message self.new.sent (sends.message_name x n)
+            ≡ set_events.same_name who.now x && books.is_number sending.number n
+            || contains sends.same_message self.old.sent (sends.message_name x n)) }
     {
         match sending.number {
             Some(number) => self.note_message(who, number, sending.place),
@@ -125,11 +138,16 @@ impl Sendings {
 
     fn note_message(&mut self, who: &Name, number: u64, place: u64) -> Result<(), NoMemory>
         ensures rest { self.new ≡ record self.old { messages = self.new.messages; sent = self.new.sent } }
-        ensures messages { OnOk result ((ss : List books.SentNote) → ((x : set_events.Name) (n : ℕ) → contains sends.same_message self.old.sent (sends.message_name x n) ≡ books.has x n ss)
+        ensures messages { OnOk result ((ss : List books.SentNote)
+            → ((x : set_events.Name) (n : ℕ)
+            → contains sends.same_message self.old.sent (sends.message_name x n) ≡ books.has x n ss)
             → (x : set_events.Name) → list_in (get set_events.same_name self.new.messages.lists x)
-            ≡ sends.with_message who.now (Some number) place ss x (list_in (get set_events.same_name self.old.messages.lists x))) }
-        ensures sent { OnOk result ((x : set_events.Name) (n : ℕ) → contains sends.same_message self.new.sent (sends.message_name x n)
-            ≡ set_events.same_name who.now x && nat_eq number n || contains sends.same_message self.old.sent (sends.message_name x n)) }
+            ≡ sends.with_message who.now (Some number) place ss x
+            (list_in (get set_events.same_name self.old.messages.lists x))) }
+        ensures sent { OnOk result ((x : set_events.Name) (n : ℕ)
+            → contains sends.same_message self.new.sent (sends.message_name x n)
+            ≡ set_events.same_name who.now x && nat_eq number n
+            || contains sends.same_message self.old.sent (sends.message_name x n)) }
     {
         if !self.sent.insert(MessageName::of(who, number))? {
             return Ok(());
@@ -144,7 +162,8 @@ impl Sendings {
 
     /// An end has heeded an information message.
     pub(crate) fn hear(&mut self, who: &Name, number: u64) -> Result<(), NoMemory>
-        ensures { OnOk result ((place : ℕ) (ss : List books.SentNote) (hs : List books.HeardNote) → sends.SendingsStand self.old place ss hs
+        ensures { OnOk result ((place : ℕ) (ss : List books.SentNote) (hs : List books.HeardNote)
+            → sends.SendingsStand self.old place ss hs
             → sends.SendingsStand self.new place ss (books.heard_number who.now (Some number) hs)) }
     {
         self.heard.insert(MessageName::of(who, number))?;
@@ -154,7 +173,8 @@ impl Sendings {
     /// How many information messages of the circuit of these two ends, of either direction, were first sent after this
     /// place, and were heeded.
     pub(crate) fn overtakers(&self, one: &Name, other: &Name, place: u64) -> usize
-        ensures { (last : ℕ) (ss : List books.SentNote) (hs : List books.HeardNote) → sends.SendingsStand self.now last ss hs
+        ensures { (last : ℕ) (ss : List books.SentNote) (hs : List books.HeardNote)
+            → sends.SendingsStand self.now last ss hs
             → result ≡ books.overtakers one.now other.now place ss hs }
     {
         let by_other = self.heard_after(one, other, place);
@@ -167,7 +187,8 @@ impl Sendings {
 
     /// How many information messages of an end were first sent after this place, and were heeded by another one.
     fn heard_after(&self, sender: &Name, heard_by: &Name, place: u64) -> usize
-        ensures exact { (last : ℕ) (ss : List books.SentNote) (hs : List books.HeardNote) → sends.SendingsStand self.now last ss hs
+        ensures exact { (last : ℕ) (ss : List books.SentNote) (hs : List books.HeardNote)
+            → sends.SendingsStand self.now last ss hs
             → result ≡ sends.heard_after ss hs sender.now heard_by.now place }
         ensures small { result < 2 ^ 63 }
     {
@@ -178,7 +199,8 @@ impl Sendings {
     }
 
     fn heard_among(&self, who: &Name, messages: &[Message]) -> usize
-        ensures exact { result ≡ length (filter (λ (m : SeenMessage). contains sends.same_message self.now.heard (sends.message_name who.now m.number)) messages.now) }
+        ensures exact { result ≡ length (filter (λ (m : SeenMessage). contains sends.same_message self.now.heard
+            (sends.message_name who.now m.number)) messages.now) }
         ensures small { result < 2 ^ 63 }
     {
         messages
@@ -204,8 +226,10 @@ fn make_likeness(alloc: Global, who: &Name, datagram: &[u8]) -> Result<Likeness,
 /// The place of the first message that was first sent after that place.
 fn first_later(messages: &[Message], place: u64) -> usize
     ensures bound { result ≤ length messages.now }
-    ensures before { sends.Rises messages.now → (i : ℕ) (d : SeenMessage) → i < result → nat_lt place (slice_index_or messages.now i d).first ≡ false }
-    ensures after { sends.Rises messages.now → (i : ℕ) (d : SeenMessage) → result ≤ i → i < length messages.now → nat_lt place (slice_index_or messages.now i d).first ≡ true }
+    ensures before { sends.Rises messages.now → (i : ℕ) (d : SeenMessage) → i < result
+        → nat_lt place (slice_index_or messages.now i d).first ≡ false }
+    ensures after { sends.Rises messages.now → (i : ℕ) (d : SeenMessage) → result ≤ i → i < length messages.now
+        → nat_lt place (slice_index_or messages.now i d).first ≡ true }
 {
     messages.partition_point(|message| message.first <= place)
 }

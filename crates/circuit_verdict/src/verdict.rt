@@ -107,9 +107,11 @@ impl Verdict {
 
     /// By what an event would come too late behind those so far, none of which did: none exactly where it wouldn't. It isn't taken in.
     pub fn cause(&self, event: &Event<'_>) -> Result<Option<Cause>, NoMemory>
-        ensures exact { IfOk result (λ cause. (events : List SeenNumbered) → StandsFor self.now events → AreInTime (allowance_in self.now) (events_of events)
+        ensures exact { IfOk result (λ cause. (events : List SeenNumbered) → StandsFor self.now events
+            → AreInTime (allowance_in self.now) (events_of events)
             → cause ≡ cause_after (allowance_in self.now) (events_of events) (event_of event.now)) }
-        ensures none { IfOk result (λ cause. (events : List SeenNumbered) → StandsFor self.now events → AreInTime (allowance_in self.now) (events_of events)
+        ensures none { IfOk result (λ cause. (events : List SeenNumbered) → StandsFor self.now events
+            → AreInTime (allowance_in self.now) (events_of events)
             → cause ≡ None ↔ AreInTime (allowance_in self.now) (events_of events ++ event_of event.now ∷ [])) }
     {
         laws::book_tells_what_is_late();
@@ -118,7 +120,8 @@ impl Verdict {
 
     /// The first event that came too late, if there is one: none exactly where all events so far are timely and fresh.
     pub fn late(&self) -> Option<Late>
-        ensures { (events : List SeenNumbered) → StandsFor self.now events → IsVerdict (allowance_in self.now) events result }
+        ensures { (events : List SeenNumbered) → StandsFor self.now events
+            → IsVerdict (allowance_in self.now) events result }
     {
         laws::book_tells_what_is_late();
         self.late
