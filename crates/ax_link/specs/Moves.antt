@@ -179,9 +179,8 @@ text_plain pf ns p g =
 
 -- whether this place is there and empty
 abbrev pub is_free : Option (Option Payload) → Bool
-is_free None = false
 is_free (Some None) = true
-is_free (Some (Some p)) = false
+is_free _ = false
 
 -- a payload is kept early, where none is kept in its place
 abbrev pub store_early : ℕ → Payload → State → State

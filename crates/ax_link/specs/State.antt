@@ -3,7 +3,7 @@ use Rattle.std.specs.Prelude.{ℕ, ◌+◌, ◌-◌, ◌%◌, max, Bool, true, f
 use Rattle.radio_base.specs.declared.payload.Payload.{Payload}
 use Rattle.radio_base.specs.Modulus.{place_of}
 use Rattle.ax_link.specs.declared.phase.LinkPhase.{LinkPhase}
-use Rattle.ax_link.specs.declared.phase.LinkPhase.TheVariants.{Down, SettingUp, Up, Releasing}
+use Rattle.ax_link.specs.declared.phase.LinkPhase.TheVariants.{Down, Up}
 use Rattle.ax_link.specs.declared.notice.LinkNotice.{LinkNotice}
 use Rattle.ax_link.specs.declared.kind.Kind.{Kind}
 
@@ -80,17 +80,14 @@ abbrev pub ack_place : State → ℕ → Option ℕ
 ack_place s nr = place_of s.rules.size nr s.acked (suc (s.sent - s.acked))
 
 abbrev pub is_up : LinkPhase → Bool
-is_up Down = false
-is_up SettingUp = false
 is_up Up = true
-is_up Releasing = false
+is_up _ = false
 
 -- T1 runs while an answer is awaited
 abbrev pub runs_in : LinkPhase → State → Bool
 runs_in Down s = false
-runs_in SettingUp s = true
 runs_in Up s = nat_lt s.acked s.sent || (s.polling || s.peer_busy)
-runs_in Releasing s = true
+runs_in _ s = true
 
 abbrev pub t1_runs : State → Bool
 t1_runs s = runs_in s.phase s

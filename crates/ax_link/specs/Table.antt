@@ -62,9 +62,7 @@ arrive_in Releasing now f g = arrive_releasing now f.kind g
 
 abbrev pub fail_in : LinkPhase → Effect → Effect
 fail_in Up g = emit false (Dm false) g
-fail_in Down g = g
-fail_in SettingUp g = g
-fail_in Releasing g = g
+fail_in _ g = g
 
 abbrev pub retry_in : LinkPhase → ℕ → Effect → Effect
 retry_in Down now g = g
@@ -97,19 +95,16 @@ pub data Input : Type 0 where
   Take : Input
 
 abbrev pub may_close : LinkPhase → Bool
-may_close Down = false
 may_close SettingUp = true
 may_close Up = true
-may_close Releasing = false
+may_close _ = false
 
 abbrev pub takes : State → Bool
 takes s = may_close s.phase && (not s.closing && (nat_lt (length s.given) (s.acked + 128) && nat_lt (length s.given) count_end))
 
 abbrev pub set_up_in : LinkPhase → ℕ → Effect → Effect
 set_up_in Down now g = emit_timed now true (SetUp true) (to_phase now SettingUp (reset now g))
-set_up_in SettingUp now g = g
-set_up_in Up now g = g
-set_up_in Releasing now g = g
+set_up_in _ now g = g
 
 abbrev pub accept : ℕ → Payload → Effect → Effect
 accept now p g = fill now (record g { link = record g.link { given = g.link.given ++ p ∷ [] } })

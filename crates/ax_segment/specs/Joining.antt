@@ -52,9 +52,7 @@ held_of (Part pid bytes to_come) = Some (pid, length bytes, to_come)
 -- the PID and the number of bytes of a message that is whole
 abbrev pub whole_of : Answer → Option (ℕ × ℕ)
 whole_of (Whole pid message) = Some (pid, length message)
-whole_of More = None
-whole_of Short = None
-whole_of (Broken expected found) = None
+whole_of _ = None
 
 -- what is held after these segments, and what they come to, in order
 abbrev pub held_after : HeldMessage → List (List ℕ) → HeldMessage

@@ -2,7 +2,7 @@
 -- project's profile).
 use Rattle.std.specs.Prelude.{ℕ, ◌+◌, ◌^◌, min, Bool, true, false, not, ◌&&◌, ◌||◌, nat_lt, nat_le, if◌then◌else◌, List, [], ◌∷◌, Option, Some, None}
 use Rattle.circuit_l4.specs.declared.phase.EndPhase.{EndPhase}
-use Rattle.circuit_l4.specs.declared.phase.EndPhase.TheVariants.{Connecting, Up, Closing, Ended}
+use Rattle.circuit_l4.specs.declared.phase.EndPhase.TheVariants.{Up, Closing, Ended}
 use Rattle.circuit_l4.specs.State.{State, is_up}
 use Rattle.circuit_l4.specs.Table.{Input, Write, Arrive, Tick, Close, Take, is_due, step}
 
@@ -15,10 +15,9 @@ pub record Moment : Type 0 where
 -- ---- an expiry ----
 -- an answer is awaited: the end is connecting, up and not choked, or closing
 abbrev pub awaits : EndPhase → Bool → Bool
-awaits Connecting choked = true
 awaits Up choked = not choked
-awaits Closing choked = true
 awaits Ended choked = false
+awaits _ choked = true
 
 -- nothing was written and nothing came for too long, so that a tick ends the circuit for that
 abbrev pub is_inactive : State → ℕ → Bool
@@ -36,10 +35,8 @@ expires m = expires_at m.was m.tick
 
 -- ---- since when they count ----
 abbrev pub is_closing : EndPhase → Bool
-is_closing Connecting = false
-is_closing Up = false
 is_closing Closing = true
-is_closing Ended = false
+is_closing _ = false
 
 -- more is acknowledged than before, or the end has begun to close
 abbrev pub is_anew : State → State → Bool

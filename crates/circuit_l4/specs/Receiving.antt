@@ -84,9 +84,8 @@ abbrev pub ignored : Receiving → Receipt
 ignored r = record { half = r; nak = false; fits = true }
 
 abbrev pub is_free : Option (Option Piece) → Bool
-is_free None = false
 is_free (Some None) = true
-is_free (Some (Some p)) = false
+is_free _ = false
 
 -- a fragment is kept early, where none is kept in its place
 abbrev pub keep : ℕ → Piece → List (Option Piece) → List (Option Piece)

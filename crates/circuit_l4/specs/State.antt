@@ -6,7 +6,7 @@ use Rattle.circuit_l4.specs.declared.transport.Transport.{Transport}
 use Rattle.circuit_l4.specs.declared.transport.Transport.TheVariants.{Info, InfoAck}
 use Rattle.circuit_l4.specs.declared.config.EndConfig.{EndConfig}
 use Rattle.circuit_l4.specs.declared.phase.EndPhase.{EndPhase}
-use Rattle.circuit_l4.specs.declared.phase.EndPhase.TheVariants.{Connecting, Up, Closing, Ended}
+use Rattle.circuit_l4.specs.declared.phase.EndPhase.TheVariants.{Up}
 use Rattle.circuit_l4.specs.declared.notice.EndNotice.{EndNotice}
 use Rattle.circuit_l4.specs.declared.role.Role.{Role}
 use Rattle.circuit_l4.specs.Sending.{Sending, fragments}
@@ -41,10 +41,8 @@ abbrev pub begin : State → Effect
 begin s = record { end = s; outs = []; notes = [] }
 
 abbrev pub is_up : EndPhase → Bool
-is_up Connecting = false
 is_up Up = true
-is_up Closing = false
-is_up Ended = false
+is_up _ = false
 
 -- fragment number n, if there is one, in an information message
 abbrev pub info : State → ℕ → Option Fragment → List Out

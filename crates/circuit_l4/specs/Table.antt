@@ -102,10 +102,9 @@ abbrev pub fall_due_up : ℕ → Effect → Effect
 fall_due_up now g = if g.end.choked then unchoke now g else expire now g
 
 abbrev pub due_in : EndPhase → ℕ → Effect → Effect
-due_in Connecting now g = expire now g
 due_in Up now g = fall_due_up now g
-due_in Closing now g = expire now g
 due_in Ended now g = g
+due_in _ now g = expire now g
 
 -- no answer came in time
 abbrev pub fall_due : ℕ → Effect → Effect
@@ -124,8 +123,7 @@ tick now g =
 abbrev pub may_close : EndPhase → Bool
 may_close Connecting = true
 may_close Up = true
-may_close Closing = false
-may_close Ended = false
+may_close _ = false
 
 abbrev pub close_in_turn : ℕ → Effect → Effect
 close_in_turn now g = finish now (on_state (λ s. record s { closing = true }) g)

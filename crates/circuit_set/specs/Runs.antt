@@ -4,7 +4,7 @@ use Rattle.ax_address.specs.Callsign.{Callsign, IsCallsign}
 use Rattle.circuit_l4.specs.Opening.{IsConfig}
 use Rattle.circuit_set.specs.Pairs.{IsPair}
 use Rattle.circuit_l4.specs.Expiries.{Moment, expiries}
-use Rattle.circuit_set.specs.Sets.{Act, Call, Calls, Closes, Comes, Connect, Discard, Restart, Takes, Ticks, Writes, Holder, SetState, CircuitTold, end_of, set_step}
+use Rattle.circuit_set.specs.Sets.{Act, Call, Calls, Connect, Restart, Ticks, Holder, SetState, CircuitTold, end_of, set_step}
 use Rattle.circuit_set.specs.Events.{Event, Name}
 
 -- a step of the set at a node
@@ -70,27 +70,21 @@ end_named sets x = end_in (slice_get sets x.node) x.id
 -- ---- expiries ----
 -- when a call of an end was a tick
 abbrev pub tick_by : Call → ℕ → Option ℕ
-tick_by (Writes message) now = None
 tick_by Ticks now = Some now
-tick_by Closes now = None
-tick_by Takes now = None
+tick_by _ now = None
 
 -- when an input of a set was a tick of the end of this number
 abbrev pub tick_of : Act → ℕ → Option ℕ
-tick_of (Connect dest now) id = None
-tick_of (Comes datagram now) id = None
 tick_of (Calls called call now) id = if nat_eq called id then tick_by call now else None
-tick_of (Discard called) id = None
-tick_of (Restart pair more) id = None
+tick_of _ id = None
 
 abbrev pub tick_at : Step → Name → Option ℕ
 tick_at st x = if nat_eq st.node x.node then tick_of st.act x.id else None
 
 -- an end before and after a step; nothing comes to one that is held no longer
 abbrev pub moment_between : Option Holder → Option ℕ → Option Holder → List Moment
-moment_between None tick after = []
-moment_between (Some h) tick None = []
 moment_between (Some h) tick (Some k) = if h.gone then [] else record { was = h.end; tick = tick; is = k.end } ∷ []
+moment_between _ tick _ = []
 
 -- what has become of an end, step by step from its making
 abbrev pub moments : List SetState → List Step → Name → List Moment

@@ -14,7 +14,7 @@ use Rattle.circuit_l4.specs.declared.transport.TransportRefusal.{TransportRefusa
 use Rattle.circuit_l4.specs.declared.config.EndConfig.{EndConfig}
 use Rattle.circuit_l4.specs.declared.facts.EndFacts.{EndFacts}
 use Rattle.circuit_l4.specs.declared.phase.EndPhase.{EndPhase}
-use Rattle.circuit_l4.specs.declared.phase.EndPhase.TheVariants.{Connecting, Up, Closing, Ended}
+use Rattle.circuit_l4.specs.declared.phase.EndPhase.TheVariants.{Ended}
 use Rattle.circuit_l4.specs.declared.notice.EndNotice.{EndNotice}
 use Rattle.circuit_l4.specs.Reading.{transport_at}
 use Rattle.circuit_l4.specs.Transports.{transport_octets}
@@ -73,10 +73,8 @@ held_pairs [] = []
 held_pairs (h ∷ hs) = if h.gone then held_pairs hs else h.end.pair ∷ held_pairs hs
 
 abbrev pub has_ended : EndPhase → Bool
-has_ended Connecting = false
-has_ended Up = false
-has_ended Closing = false
 has_ended Ended = true
+has_ended _ = false
 
 abbrev pub is_open : Holder → Bool
 is_open h = not h.gone && not (has_ended h.end.phase)

@@ -6,7 +6,7 @@ use Rattle.std.specs.Map.{remove_entry, set_value}
 use Rattle.ax_address.specs.Callsign.{Callsign}
 use Rattle.l3_datagram.specs.Datagrams.{octets_with}
 use Rattle.circuit_l4.specs.declared.phase.EndPhase.{EndPhase}
-use Rattle.circuit_l4.specs.declared.phase.EndPhase.TheVariants.{Connecting, Up, Closing, Ended}
+use Rattle.circuit_l4.specs.declared.phase.EndPhase.TheVariants.{Connecting}
 use Rattle.circuit_l4.specs.declared.transport.Pair.{Pair}
 use Rattle.circuit_l4.specs.declared.transport.Transport.{Transport}
 use Rattle.circuit_l4.specs.State.{Effect, Out, State}
@@ -90,9 +90,7 @@ capped_count n = min n (2 ^ 64 - 1)
 
 abbrev pub is_connecting : EndPhase → Bool
 is_connecting Connecting = true
-is_connecting Up = false
-is_connecting Closing = false
-is_connecting Ended = false
+is_connecting _ = false
 
 -- it has met its partner, which has this pair
 abbrev pub Met : Pair → State → Type 0

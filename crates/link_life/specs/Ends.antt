@@ -6,7 +6,7 @@ use Rattle.ax_link.specs.declared.kind.Kind.TheVariants.{I, Rr, Rnr, Rej, Srej}
 use Rattle.ax_link.specs.declared.notice.LinkNotice.{LinkNotice}
 use Rattle.ax_link.specs.declared.notice.LinkNotice.TheVariants.{Opened, Reset}
 use Rattle.ax_link.specs.declared.phase.LinkPhase.{LinkPhase}
-use Rattle.ax_link.specs.declared.phase.LinkPhase.TheVariants.{Down, SettingUp, Up, Releasing}
+use Rattle.ax_link.specs.declared.phase.LinkPhase.TheVariants.{Down}
 use Rattle.ax_link.specs.Opening.{opening}
 use Rattle.ax_link.specs.State.{Effect, Frame, Rules, State, is_up}
 
@@ -64,9 +64,7 @@ is_of_account _ = false
 
 abbrev pub is_down : LinkPhase → Bool
 is_down Down = true
-is_down SettingUp = false
-is_down Up = false
-is_down Releasing = false
+is_down _ = false
 
 -- an epoch begins with these notices, and the one before it is over
 abbrev pub begins : LinkNotice → Bool

@@ -114,8 +114,7 @@ pub record LinkStands (node key : Callsign) (e : Entry) (l : Linked) : Type 0 wh
 abbrev pub LinksStand : Callsign → List (Callsign × Entry) → List Linked → Type 0
 LinksStand own [] [] = Unit {0}
 LinksStand own (e ∷ es) (l ∷ ls) = LinkStands own e.0 e.1 l × LinksStand own es ls
-LinksStand own [] (l ∷ ls) = ⊥
-LinksStand own (e ∷ es) [] = ⊥
+LinksStand own _ _ = ⊥
 
 -- nothing waits at a link
 abbrev pub AllDrained : List (Callsign × Entry) → Type 0

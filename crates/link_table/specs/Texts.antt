@@ -4,7 +4,7 @@ use Rattle.radio_base.specs.declared.payload.Payload.{Payload}
 use Rattle.ax_address.specs.Callsign.{Callsign}
 use Rattle.ax_link.specs.State.{State, count_end}
 use Rattle.ax_link.specs.Table.{may_close}
-use Rattle.ax_segment.specs.Joining.{Answer, HeldMessage, More, Whole, Short, Broken, join_step}
+use Rattle.ax_segment.specs.Joining.{Answer, HeldMessage, Whole, join_step}
 use Rattle.link_table.specs.Calls.{at_link}
 use Rattle.link_table.specs.Frames.{plain_text}
 use Rattle.link_table.specs.Table.{Linked, Table, link_with}
@@ -13,9 +13,7 @@ use Rattle.link_table.specs.Works.{Work, is_text, most_taken, settle, take_paylo
 -- the bytes of a message that is whole
 abbrev pub message_of : Answer → List ℕ
 message_of (Whole pid message) = message
-message_of More = []
-message_of Short = []
-message_of (Broken expected found) = []
+message_of _ = []
 
 -- the text that a payload is, or that the message has which it makes whole
 abbrev pub text_of : HeldMessage → Payload → List ℕ

@@ -5,7 +5,7 @@ use Rattle.ax_address.specs.Callsign.{Callsign}
 use Rattle.ax_link.specs.declared.notice.LinkNotice.{LinkNotice}
 use Rattle.ax_link.specs.declared.notice.LinkNotice.TheVariants.{Reset, Refused, Failed}
 use Rattle.ax_link.specs.declared.phase.LinkPhase.{LinkPhase}
-use Rattle.ax_link.specs.declared.phase.LinkPhase.TheVariants.{Down, SettingUp, Up, Releasing}
+use Rattle.ax_link.specs.declared.phase.LinkPhase.TheVariants.{Down}
 use Rattle.ax_link.specs.State.{Frame, Effect}
 use Rattle.ax_link.specs.Table.{Input, Arrive, Take, step}
 use Rattle.ax_segment.specs.Joining.{HeldMessage, Nothing, join_step, whole_of}
@@ -90,9 +90,7 @@ most_taken = 192
 
 abbrev pub is_down : LinkPhase → Bool
 is_down Down = true
-is_down SettingUp = false
-is_down Up = false
-is_down Releasing = false
+is_down _ = false
 
 -- a frame has come: what it brought is taken at once, unless the link has ended
 abbrev pub arrive_at_link : Callsign → Frame → ℕ → Work → Work

@@ -16,7 +16,7 @@ use Rattle.net_replay.specs.declared.air.Aired.{Aired}
 use Rattle.net_replay.specs.declared.ends.EndRecord.{EndRecord}
 use Rattle.net_replay.specs.Air.{frame_of}
 use Rattle.net_replay.specs.Ends.{ends_of}
-use Rattle.net_replay.specs.Events.{Event, Entry, InAir, Delivered, Settled, Shown, Took, Wrote, Restarted, Lost, Refused, Posted, Offered, MailStored, MailSettled, NumberedEvent}
+use Rattle.net_replay.specs.Events.{Event, Entry, InAir, Shown, Took, Wrote, Restarted, Refused, Posted, MailStored, MailSettled, NumberedEvent}
 use Rattle.net_replay.specs.Lines.{table_of}
 use Rattle.net_replay.specs.Reasons.{word_for_why}
 use Rattle.net_replay.specs.Starting.{Placed}
@@ -69,18 +69,15 @@ refused_line line why = codes "refused " ++ (decimal line ++ (codes " " ++ (why 
 abbrev pub event_text : List Aired → (ℕ → List EndRecord) → ℕ → Event → List ℕ
 event_text air ends line (Entry node entry) = entry_text node (ends node) entry
 event_text air ends line (InAir number) = air_line number (frame_of air number)
-event_text air ends line (Delivered frame node) = []
-event_text air ends line (Settled frame) = []
 event_text air ends line (Shown table) = table_text table
 event_text air ends line (Took node end message) = took_line node end message
 event_text air ends line (Wrote node end count) = wrote_line node end count
 event_text air ends line (Restarted node pair) = restarted_line node
-event_text air ends line (Lost node end facts) = []
 event_text air ends line (Refused why) = refused_line line (word_for_why why)
 event_text air ends line (Posted node number) = posted_line node number
-event_text air ends line (Offered node end number) = []
 event_text air ends line (MailStored node origin number to len) = stored_line node origin number to len
 event_text air ends line (MailSettled node number) = done_line node number
+event_text air ends line _ = []
 
 abbrev pub told_text : List Aired → (ℕ → List EndRecord) → NumberedEvent → List ℕ
 told_text air ends e = event_text air ends e.line e.event
@@ -100,9 +97,8 @@ kept_text ends p mail = node_text ends p ++ mail_text p.declared.node mail
 
 -- what is told of the nodes and their mail, place by place
 abbrev pub by_place : {A : Type 0} → (Placed → Option Lists → List A) → List Placed → List (Option Lists) → List A
-by_place of [] mails = []
-by_place of (p ∷ nodes) [] = []
 by_place of (p ∷ nodes) (mail ∷ mails) = of p mail ++ by_place of nodes mails
+by_place of _ _ = []
 
 abbrev pub nodes_text : (ℕ → List EndRecord) → List Placed → List (Option Lists) → List ℕ
 nodes_text ends nodes mails = by_place (kept_text ends) nodes mails

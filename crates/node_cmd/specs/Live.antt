@@ -11,7 +11,7 @@ use Rattle.node_core.specs.Inputs.{after_bytes, after_tick}
 use Rattle.node_core.specs.Kept.{Kept, NodeStands}
 use Rattle.node_turns.specs.States.{NodeState, frames}
 use Rattle.node_cmd.specs.declared.ran.Ran.{Ran}
-use Rattle.node_cmd.specs.declared.ran.Ran.TheVariants.{Nothing, Replayed, Served}
+use Rattle.node_cmd.specs.declared.ran.Ran.TheVariants.{Served}
 use Rattle.cmd_streams.specs.Streams.{Read}
 
 -- a read brings its bytes and then a tick, both at the moment behind it
@@ -76,9 +76,8 @@ IsAnswerOf declared reads text =
 
 -- the node that is left stands for the machine after these reads, and keeps no more than its bound
 abbrev pub LeavesNode : Ran → NodeState → Type 0
-LeavesNode Nothing n = ⊥
-LeavesNode (Replayed trace) n = ⊥
 LeavesNode (Served node) n = NodeStands node n × IsWithin node
+LeavesNode _ n = ⊥
 
 abbrev pub ServesReads : LiveNode → Ran → List Read → List ℕ → Type 0
 ServesReads declared ran reads text =

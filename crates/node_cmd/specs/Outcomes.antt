@@ -24,7 +24,7 @@ use Rattle.node_cmd.specs.declared.outcomes.Printed.TheVariants.{Report, SoakLin
 use Rattle.node_cmd.specs.declared.outcomes.ReportRefusal.{ReportRefusal}
 use Rattle.node_cmd.specs.declared.outcomes.ReportRefusal.TheVariants.{BadLine, TooManyFrames, NoMemory}
 use Rattle.node_cmd.specs.declared.ran.Ran.{Ran}
-use Rattle.node_cmd.specs.declared.ran.Ran.TheVariants.{Nothing, Replayed, Served}
+use Rattle.node_cmd.specs.declared.ran.Ran.TheVariants.{Replayed}
 use Rattle.cmd_streams.specs.declared.status.Status.{Status}
 use Rattle.cmd_streams.specs.declared.status.Status.TheVariants as statuses
 use Rattle.cmd_streams.specs.Notes.{bad_line_note}
@@ -61,9 +61,8 @@ IfReplayed trace network P =
 
 -- the trace of a world is left
 abbrev pub Leaves : Ran → World → Type 0
-Leaves Nothing w = ⊥
-Leaves (Served node) w = ⊥
 Leaves (Replayed trace) w = IsTraceOf (left_of trace) w
+Leaves _ w = ⊥
 
 -- the text of a network was written, with the verdict on it, what ran is left, and at each line every end past its retries was told so
 pub record Reports (what : Printed) (old new : Option (List ℕ)) (ran : Ran) (network : Plan) (late : Option Late) : Type 0 where

@@ -113,15 +113,11 @@ kept_after s from text heard =
 abbrev pub answer_to : Heard → Option Wire
 answer_to (Stored number to) = Some (Receipt number)
 answer_to (Again number) = Some (Receipt number)
-answer_to (Settled number) = None
-answer_to (Stray number) = None
-answer_to (Full number) = None
-answer_to Bad = None
+answer_to _ = None
 
 abbrev pub text_of : Option Wire → List ℕ
 text_of (Some (Carries number to text)) = text
-text_of (Some (Receipt number)) = []
-text_of None = []
+text_of _ = []
 
 -- what is heard of octets that another node has written, and what is kept after them
 abbrev pub hear_at : Lists → Callsign → List ℕ → Heard

@@ -23,9 +23,7 @@ entry_at dest nick best quality = do
 abbrev pub entries_at : List (List ℕ) → Result (List Entry) What
 entries_at [] = Ok []
 entries_at (d ∷ a ∷ b ∷ q ∷ more) = (entry_at d a b q) >>= (λ e. (entries_at more) >>= (λ es. Ok (e ∷ es)))
-entries_at (d ∷ []) = Err whats.Count
-entries_at (d ∷ a ∷ []) = Err whats.Count
-entries_at (d ∷ a ∷ b ∷ []) = Err whats.Count
+entries_at _ = Err whats.Count
 
 -- four words to an entry, and at most eleven entries
 abbrev pub are_entries : List (List ℕ) → Bool
