@@ -1,5 +1,5 @@
 -- The ends that a node ever made, as the events tell of them. Own profile.
-use Rattle.std.specs.Prelude.{ℕ, zero, suc, ◌-◌, ◌==◌, List, [], ◌∷◌, ◌++◌, slice_get, Option, Some, None, if◌then◌else◌}
+use Rattle.std.specs.Prelude.{ℕ, zero, suc, ◌-◌, ◌==◌, List, [], ◌∷◌, ◌++◌, slice_get, option_map, unwrap_or, if◌then◌else◌}
 use Rattle.std.specs.declared.vec.Vec.{Vec}
 use Rattle.circuit_set.specs.Pumps.{Of}
 use Rattle.circuit_set.specs.Sets as sets
@@ -47,12 +47,8 @@ abbrev pub ends_of : ℕ → List NumberedEvent → List EndRecord
 ends_of number told = note_events number told []
 
 -- the number of the last mail that was offered at an end; 0 where none was
-abbrev pub offered_of : Option EndRecord → ℕ
-offered_of None = 0
-offered_of (Some end) = end.offered
-
 abbrev pub offered_at : ℕ → List EndRecord → ℕ
-offered_at id ends = offered_of (slice_get ends (id - 1))
+offered_at id ends = unwrap_or (option_map (λ (end : EndRecord). end.offered) (slice_get ends (id - 1))) 0
 
 -- lists of ends by the numbers of their nodes
 abbrev pub ends_at : ℕ → List (List EndRecord) → List EndRecord

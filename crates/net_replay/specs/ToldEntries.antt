@@ -1,5 +1,5 @@
 -- What a report says of the entries of nodes, and of their ends as they were left. Own profile.
-use Rattle.std.specs.Prelude.{ℕ, suc, ◌-◌, List, [], ◌∷◌, ◌++◌, slice_get, codes, Option, Some, None, true, false}
+use Rattle.std.specs.Prelude.{ℕ, suc, ◌-◌, List, [], ◌∷◌, ◌++◌, slice_get, codes, Option, Some, None, option_map, unwrap_or, true, false}
 use Rattle.std.specs.Fmt.{decimal}
 use Rattle.ax_address.specs.Callsign.{Callsign}
 use Rattle.circuit_l4.specs.declared.facts.EndFacts.{EndFacts}
@@ -16,19 +16,12 @@ use Rattle.net_replay.specs.ToldLines.{notice_line, dropped_line, end_line, link
 use Rattle.net_replay.specs.ToldWords.{drop_word}
 
 -- ends are numbered from 1, in the order in which the node made them
-abbrev pub notice_of : ℕ → ℕ → EndNotice → Option EndRecord → List ℕ
-notice_of node id notice None = []
-notice_of node id notice (Some end) = notice_line node id end.partner notice
-
 abbrev pub notice_text : ℕ → List EndRecord → ℕ → EndNotice → List ℕ
-notice_text node ends id notice = notice_of node id notice (slice_get ends (id - 1))
-
-abbrev pub drop_of : ℕ → Option (List ℕ) → List ℕ
-drop_of node None = []
-drop_of node (Some why) = dropped_line node why
+notice_text node ends id notice =
+    unwrap_or (option_map (λ (end : EndRecord). notice_line node id end.partner notice) (slice_get ends (id - 1))) []
 
 abbrev pub drop_text : ℕ → Routed → List ℕ
-drop_text node routed = drop_of node (drop_word routed)
+drop_text node routed = unwrap_or (option_map (dropped_line node) (drop_word routed)) []
 
 -- of all that a node's circuits tell, notices and drops alone are written
 abbrev pub set_event_text : ℕ → List EndRecord → SetTold → List ℕ
