@@ -5,10 +5,9 @@ ghost use Rattle.ax_frame.specs.Frames.{view as frame_of};
 ghost use Rattle.nodes_broadcast.specs.Nodes.{view};
 ghost use Rattle.node_core.specs.Broadcasts as broadcasts;
 
-use arrayvec::ArrayVec;
-use ax_address::{Address, Call, Entry, MAX_ENTRIES, Path};
+use ax_address::{Address, Alias, Call, Entry, MAX_ENTRIES, Path};
 use ax_frame::{Control, FrameBytes, FrameView, Head, write_frame};
-use nodes_broadcast::{Nodes, write_nodes};
+use nodes_broadcast::{Nodes, push_nodes};
 use radio_base::{M8, NETROM_PID};
 
 /// The call to which broadcasts go.
@@ -52,27 +51,34 @@ pub fn broadcast_frame(call: &Call, broadcast: &Nodes) -> FrameBytes
     ensures { result.items ≡ broadcasts.broadcast_octets call.now (view broadcast.now) }
 {
     let mut octets = FrameBytes::new();
-    write_broadcast(call, broadcast, &mut octets);
+    write_broadcast(
+        call,
+        &broadcast.alias,
+        broadcast.entries.as_slice(),
+        &mut octets,
+    );
     octets
 }
 
-/// Replaces `out` by the same octets.
-pub(crate) fn write_broadcast(call: &Call, broadcast: &Nodes, out: &mut FrameBytes)
-    ensures { out.new.items ≡ broadcasts.broadcast_octets call.now (view broadcast.now) }
+/// Replaces `out` by the same octets, of the broadcast with this alias and these entries.
+pub(crate) fn write_broadcast(call: &Call, alias: &Alias, entries: &[Entry], out: &mut FrameBytes)
+    requires { length entries.now ≤ 11 }
+    ensures { out.new.items ≡ broadcasts.broadcast_octets call.now (record { alias = alias.now; entries = entries.now }) }
 {
     let head = Head {
         dest: address_of(nodes_call(), true),
         source: address_of(*call, false),
         path: Path::new(),
     };
-    let info = write_nodes(broadcast);
+    // Its information goes straight behind what stands before it.
     let _ = write_frame::<M8>(
         &head,
         &Control::Ui { pf: false },
         Some(NETROM_PID),
-        info.as_slice(),
+        &[],
         out,
     );
+    push_nodes(alias, entries, out);
 }
 
 /// How many frames these entries need: eleven entries a frame, and at least one frame.
@@ -86,14 +92,12 @@ pub(crate) fn frame_count(entries: &[Entry]) -> usize
 }
 
 /// The entries of a frame, by its number from 0.
-#[inline(always)]
-pub(crate) fn entries_of_frame(entries: &[Entry], nth: usize) -> ArrayVec<Entry, MAX_ENTRIES>
+pub(crate) fn entries_of_frame(entries: &[Entry], nth: usize) -> &[Entry]
     requires { 11 * nth ≤ length entries.now }
-    ensures { result.items ≡ broadcasts.entries_of_frame entries.now nth }
+    ensures value { result.now ≡ broadcasts.entries_of_frame entries.now nth }
+    ensures few { length result.now ≤ 11 }
 {
     let start = MAX_ENTRIES * nth;
     let count = (entries.len() - start).min(MAX_ENTRIES);
-    let mut page = ArrayVec::new();
-    let _ = page.try_extend_from_slice(&entries[start..start + count]);
-    page
+    &entries[start..start + count]
 }

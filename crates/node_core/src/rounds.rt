@@ -12,7 +12,6 @@ use crate::station::Station;
 use ax_address::Entry;
 use ax_frame::FrameBytes;
 use link_table::{Octets, Written, WrittenAs};
-use nodes_broadcast::Nodes;
 use radio_base::{Moment, NoMemory};
 
 impl Station {
@@ -107,11 +106,8 @@ impl Station {
         requires { 11 * nth ≤ length entries.now }
         ensures { OnOk result (Goes (λ n. states.put (round_frame n.settings.call n.settings.alias entries.now nth) n) self.old self.new) }
     {
-        let nodes = Nodes {
-            alias: self.alias,
-            entries: entries_of_frame(entries, nth),
-        };
-        write_broadcast(&self.call(), &nodes, octets);
+        let page = entries_of_frame(entries, nth);
+        write_broadcast(&self.call(), &self.alias, page, octets);
         self.put(Written {
             octets: Octets::new(self.alloc, octets)?,
             how: WrittenAs::Modulo8,

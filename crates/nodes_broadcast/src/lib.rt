@@ -11,4 +11,4 @@ mod write;
 
 pub use nodes::{Nodes, NodesRefusal};
 pub use read::{read_nodes, read_nodes_into};
-pub use write::write_nodes;
+pub use write::{push_nodes, write_nodes};
