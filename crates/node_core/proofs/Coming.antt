@@ -13,7 +13,7 @@ use Rattle.node_turns.specs.Pumping as p
 use Rattle.node_core.specs.Runs.{circuits_told, write_in}
 use Rattle.node_turns.specs.States.{Entry, Of_set, Of_link, Overflow, State, at_links, at_set, next_hop}
 use Rattle.node_core.proofs.Inputs.{IsInput, Went, TurnWent, act_went, goes_on, hears_went, lost_went, retold, stays, tells_went}
-use Rattle.node_turns.proofs.Turns.{kept}
+use Rattle.node_turns.proofs.Telling.{told_kept}
 
 -- From one state to another: the entries became more, and the circuits went on by inputs, of which the new entries tell, and which write this.
 pub record Came (written : List Act) (old new : State) : Type 0 where
@@ -65,7 +65,7 @@ tell_came now o n true w = then_came [] [] o n (p.tell_one now n) w (take_came n
 tell_came now o n false w = w
 
 pub all_told_came : (now : ℕ) (n : State) → Came [] n (p.tell_all now n)
-all_told_came now n = kept (p.tell_turn now) p.pending (Came [] n) (λ m w. tell_came now n m (nat_lt 0 (p.pending m)) w) n (still n)
+all_told_came now n = told_kept now (Came [] n) (λ m w. tell_came now n m (nat_lt 0 (p.pending m)) w) n (still n)
 
 asked_came : (now : ℕ) (n : State) (lost : List Callsign) (waiting : List Parcel) → Came [] n (p.ask_for now lost waiting n)
 asked_came now n (c ∷ cs) waiting = turned_came n (at_links tell_lost n) (circuits.hears_lost c n.set) refl refl refl (lost_went c n.set)

@@ -43,7 +43,7 @@ use Rattle.node_turns.specs.States.{State, at_links, fetch_own, next_hop, put, w
 use Rattle.node_turns.specs.Users.{at_session, changed}
 use Rattle.node_core.proofs.Lodging.{Housed, breaks, closes, dropped, greeted, moved, noticed_all, pumped, sends, stepped, takes, ticks, fewer}
 use Rattle.node_core.proofs.Served.{Serves}
-use Rattle.node_turns.proofs.Turns.{kept}
+use Rattle.node_turns.proofs.Telling.{told_kept}
 use Rattle.node_core.proofs.Walking.{Walks}
 
 -- ---- no session where no users are served
@@ -79,7 +79,7 @@ quiet_tells now n true q = quiet_taken now (circuits.tells (next_hop n) n.set) n
 quiet_tells now n false q = q
 
 quiet_told : (now : ℕ) (n : State) → IsQuiet n → IsQuiet (p.tell_all now n)
-quiet_told now n q = kept (p.tell_turn now) p.pending IsQuiet (λ m x. quiet_tells now m (nat_lt 0 (p.pending m)) x) n q
+quiet_told now n q = told_kept now IsQuiet (λ m x. quiet_tells now m (nat_lt 0 (p.pending m)) x) n q
 
 quiet_asked : (now : ℕ) (n : State) (lost : List Callsign) (waiting : List Parcel) → IsQuiet n → IsQuiet (p.ask_for now lost waiting n)
 quiet_asked now n (c ∷ cs) waiting q = quiet_turned (circuits.hears_lost c n.set) (at_links tell_lost n) q

@@ -23,7 +23,7 @@ use Rattle.node_turns.specs.Links as links
 use Rattle.node_turns.specs.Pumping as p
 use Rattle.node_turns.specs.Sessions.{Session, hear_circuits, hear_if}
 use Rattle.node_turns.specs.States.{State, at_links, next_hop}
-use Rattle.node_turns.proofs.Turns.{kept}
+use Rattle.node_turns.proofs.Telling.{told_kept}
 
 module _ (R : SetState → List CircuitTold → List Session → Type 0)
     (tell : (prompt : Bool) (set : SetState) (t : CircuitTold) (ts : List CircuitTold) (ss : List Session) → R set (t ∷ ts) ss → R set ts (hear_circuits prompt (Of t) ss)) where
@@ -75,7 +75,7 @@ module _ (R : SetState → List CircuitTold → List Session → Type 0)
   tell_by now m false r = r
 
   all_on : (now : ℕ) (n : State) → At n → At (p.tell_all now n)
-  all_on now n r = kept (p.tell_turn now) p.pending At (λ m x. tell_by now m (nat_lt 0 (p.pending m)) x) n r
+  all_on now n r = told_kept now At (λ m x. tell_by now m (nat_lt 0 (p.pending m)) x) n r
 
   -- where nothing waits at the router all is told, and no more
   pub dry_keeps : (now : ℕ) (n : State) → p.at_router n ≡ 0 → At n → At (p.pump now n)
@@ -137,7 +137,7 @@ module _ (L : Table → Type 0) (offer : (to : Callsign) (d : Datagram) (now : �
   links_by now m false x = x
 
   all_links : (now : ℕ) (n : State) → L n.links → L (p.tell_all now n).links
-  all_links now n x = kept (p.tell_turn now) p.pending (λ m. L m.links) (λ m y. links_by now m (nat_lt 0 (p.pending m)) y) n x
+  all_links now n x = told_kept now (λ m. L m.links) (λ m y. links_by now m (nat_lt 0 (p.pending m)) y) n x
 
   module _ (collects : (t : Table) → L t → L (collect t)) (tells : (t : Table) → L t → L (tell_lost t)) where
     asked_links : (now : ℕ) (n : State) (lost : List Callsign) (waiting : List Parcel) → L n.links → L (p.ask_for now lost waiting n).links

@@ -32,7 +32,7 @@ use Rattle.node_core.proofs.Coming.{told_entry}
 use Rattle.node_core.proofs.Naming.{hop_is_call}
 use Rattle.node_core.proofs.Tracing.{all_back, all_both, hop_is, or_first, or_second, passed_on, read_long, sends_append}
 use Rattle.node_core.proofs.Trails.{Goes, LinksHold, OwnCarried, input, quiet, still, follows}
-use Rattle.node_turns.proofs.Turns.{kept}
+use Rattle.node_turns.proofs.Telling.{told_kept}
 
 -- a datagram that is handed up is the one that came
 mine_by : (own : Callsign) (d : Datagram) (origin : Callsign) (e : Datagram) (head : DatagramHead) (hop : Option Callsign) (returned mine expired : Bool)
@@ -186,7 +186,7 @@ module _ (here : Place) (law : CarriesWhatWasOffered) (weaker : CarriesByWeaker)
   told_by now o n false g = g
 
   all_told : (now : ℕ) (n : State) → Goes here n (p.tell_all now n)
-  all_told now n = kept (p.tell_turn now) p.pending (Goes here n) (λ m g. told_by now n m (nat_lt 0 (p.pending m)) g) n (still here n)
+  all_told now n = told_kept now (Goes here n) (λ m g. told_by now n m (nat_lt 0 (p.pending m)) g) n (still here n)
 
   -- ---- the router is asked
 

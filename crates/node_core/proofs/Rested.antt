@@ -16,8 +16,9 @@ use Rattle.node_turns.specs.States.{State}
 use Rattle.node_turns.specs.Turns.{SettlesTo, Turn, idle}
 use Rattle.node_core.specs.Waits.{WaitsForRoom}
 use Rattle.node_turns.proofs.Falling.{sessions_served}
-use Rattle.node_turns.proofs.Resting.{drop_falls, dropped_none, pumped_dry, tell_falls}
+use Rattle.node_turns.proofs.Resting.{drop_falls, dropped_none, pumped_dry}
 use Rattle.node_turns.proofs.Settled.{users_served}
+use Rattle.node_turns.proofs.Telling.{tells_to}
 use Rattle.node_turns.proofs.Turns.{once, settle_to, settled_rests}
 use Rattle.node_core.proofs.Waiting.{sessions_rest}
 
@@ -100,6 +101,6 @@ module _ (offers : OffersLeave) (takes : TakesLower) (less : TellsLess) where
   pub inputs_settle : InputsSettle
   inputs_settle = record {
     inputs = inputs_at;
-    tells = λ now. settles_as (p.tell_turn now) (p.tell_all now) (settle_to (p.tell_turn now) p.pending (tell_falls offers takes less now));
+    tells = λ now. settles_as (p.tell_turn now) (p.tell_all now) (tells_to now);
     drops = λ now. settles_as (s.drop_text now) (s.drop_texts now) (settle_to (s.drop_text now) s.payloads (drop_falls offers takes less now));
   }

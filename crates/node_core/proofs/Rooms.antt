@@ -40,7 +40,7 @@ use Rattle.node_turns.specs.Users as users
 use Rattle.node_core.proofs.Ends.{end_in, every_in}
 use Rattle.node_core.proofs.Holders.{AreNamed}
 use Rattle.node_core.proofs.Owning.{one}
-use Rattle.node_turns.proofs.Turns.{kept}
+use Rattle.node_turns.proofs.Telling.{told_kept}
 
 -- ---- what goes over a link
 
@@ -131,7 +131,7 @@ module _ (peer : Callsign) (now : ℕ) where
   -- where nothing waits at the router
   dry_room : (n : State) → p.at_router n ≡ 0 → HasRoom peer n → HasRoom peer (p.pump now n)
   unfolding p.pump
-  dry_room n e room = rw e (kept (p.tell_turn now) p.pending (HasRoom peer) (λ x y. tell_by x (nat_lt 0 (p.pending x)) y) n room)
+  dry_room n e room = rw e (told_kept now (HasRoom peer) (λ x y. tell_by x (nat_lt 0 (p.pending x)) y) n room)
 
 -- ---- a take
 

@@ -1,6 +1,7 @@
 pub mod Turns
 pub mod Parts
 pub mod Weights
+pub mod Telling
 pub mod Resting
 pub mod Messages
 pub mod Texting

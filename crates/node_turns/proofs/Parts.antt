@@ -1,14 +1,12 @@
 -- What a node's settling rests on, of its links and its circuits: by the laws of their crates.
 use Rattle.std.proofs.Common.{◌≡◌, ◌<◌, ℕ, refl}
-use Rattle.std.specs.Prelude.{true, false, Option}
+use Rattle.std.specs.Prelude.{true, false}
 use Rattle.ax_address.specs.Callsign.{Callsign}
-use Rattle.circuit_set.specs.Inputs.{OfEach, TellsLess}
-use Rattle.circuit_set.specs.Pumps.{Waiting}
+use Rattle.circuit_set.specs.Inputs.{TellsLess}
 use Rattle.l3_datagram.specs.CarrierCall.{Datagram}
 use Rattle.link_table.specs.Calls.{collect, tell_lost}
 use Rattle.link_table.specs.Payloads.{OffersLeave, TakesLower}
 use Rattle.link_table.specs.Table.{Table}
-use Rattle.node_turns.specs.Circuits as circuits
 use Rattle.node_turns.specs.Links as links
 
 -- nothing that waits for the node is changed but frames, and no payload that came
@@ -44,7 +42,3 @@ module _ (offers : OffersLeave) (takes : TakesLower) (less : TellsLess) where
   pub taken : (peer : Callsign) (now : ℕ) (t : Table) → links.has_text peer t ≡ true → links.payloads (links.take_text peer now t) < links.payloads t
   unfolding links.payloads links.has_text links.take_text
   taken peer now t e = takes peer now t e
-
-  pub tells_less : (next_hop : Callsign → Option Callsign) (w : Waiting) → 0 < circuits.pending w → OfEach (λ t. circuits.pending t.after < circuits.pending w) (circuits.tells next_hop w)
-  unfolding circuits.pending circuits.tells
-  tells_less next_hop w some = less next_hop w some

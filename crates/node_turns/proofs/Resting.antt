@@ -3,8 +3,8 @@ use Rattle.std.proofs.Common.{◌≡◌, ◌≤◌, ◌<◌, ◌-◌, ◌∙◌,
 use Rattle.std.specs.Prelude.{Bool, true, false, nat_lt, not, ◌&&◌, ◌||◌, if◌then◌else◌}
 use Rattle.std.proofs.lemmas.Bool.Decides.{nat_tests}
 use Rattle.ax_address.specs.Callsign.{Callsign}
-use Rattle.circuit_set.specs.Inputs.{OfEach, TellsLess}
-use Rattle.circuit_set.specs.Pumps.{Offers, Says, Turn, Turned}
+use Rattle.circuit_set.specs.Inputs.{TellsLess}
+use Rattle.circuit_set.specs.Pumps.{Offers, Says, Turn}
 use Rattle.l3_datagram.specs.CarrierCall.{Parcel}
 use Rattle.link_table.specs.Calls.{collect, tell_lost}
 use Rattle.link_table.specs.Payloads.{OffersLeave, TakesLower}
@@ -14,8 +14,9 @@ use Rattle.node_turns.specs.Links as links
 use Rattle.node_turns.specs.Pumping as p
 use Rattle.node_turns.specs.Settling as s
 use Rattle.node_turns.specs.States.{State, next_hop}
-use Rattle.node_turns.proofs.Parts.{Leaves, collect_payloads, lost_payloads, offer_leaves, taken, tells_less, untaken}
-use Rattle.node_turns.proofs.Turns.{Falls, ends, goes_on, kept, rests}
+use Rattle.node_turns.proofs.Parts.{Leaves, collect_payloads, lost_payloads, offer_leaves, taken, untaken}
+use Rattle.node_turns.proofs.Telling.{told_kept, told_nothing, told_on, told_rests}
+use Rattle.node_turns.proofs.Turns.{Falls, ends, goes_on, kept}
 use Rattle.node_turns.proofs.Weights.{is_quiet}
 
 module _ (offers : OffersLeave) (takes : TakesLower) (less : TellsLess) where
@@ -23,19 +24,6 @@ module _ (offers : OffersLeave) (takes : TakesLower) (less : TellsLess) where
   pub talked_leaves : (now : ℕ) (t : Turn) (n : State) → Leaves n.links (p.take_turn now t n).links
   talked_leaves now (Says t) n = record { waiting = refl; lost = refl; notices = refl; payloads = refl }
   talked_leaves now (Offers to d told) n = offer_leaves offers takes less to d now n.links
-
-  pub talked_falls : (now bound : ℕ) (t : Turn) (n : State) → OfEach (λ (x : Turned). circuits.pending x.after < bound) t → circuits.pending (p.take_turn now t n).set < bound
-  talked_falls now bound (Says t) n each = each
-  talked_falls now bound (Offers to d told) n each = each (links.offer_answer to d now n.links)
-
-  tell_by : (now : ℕ) (n : State) (b : Bool) → nat_lt 0 (circuits.pending n.set) ≡ b → b ≡ true → circuits.pending (p.tell_turn now n).after.set < circuits.pending n.set
-  tell_by now n true e t =
-      let some : 0 < circuits.pending n.set = grind (arith, nat_tests, e) in
-      rw e (talked_falls now (circuits.pending n.set) (circuits.tells (next_hop n) n.set) n (tells_less offers takes less (next_hop n) n.set some))
-  tell_by now n false e t = absurd (grind (arith, t))
-
-  pub tell_falls : (now : ℕ) → Falls (p.tell_turn now) (p.pending)
-  tell_falls now n did = tell_by now n (nat_lt 0 (circuits.pending n.set)) refl did
 
   -- two nodes of which the links hold the same for the node
   abbrev pub Same : State → State → Type 0
@@ -49,7 +37,7 @@ module _ (offers : OffersLeave) (takes : TakesLower) (less : TellsLess) where
 
   pub told_same : (now : ℕ) (n : State) → Same n (p.tell_all now n)
   told_same now n =
-      kept (p.tell_turn now) (p.pending) (Same n) (λ m same. same_by now n m (nat_lt 0 (circuits.pending m.set)) refl same) n
+      told_kept now (Same n) (λ m same. same_by now n m (nat_lt 0 (circuits.pending m.set)) refl same) n
       (record { waiting = refl; lost = refl; notices = refl; payloads = refl })
 
   last_by : (now : ℕ) (n : State) → nat_lt 0 (circuits.pending n.set) ≡ false → circuits.pending (p.tell_turn now n).after.set ≡ 0
@@ -58,7 +46,7 @@ module _ (offers : OffersLeave) (takes : TakesLower) (less : TellsLess) where
   -- once all is told, nothing waits to be told
   pub told_none : (now : ℕ) (n : State) → circuits.pending (p.tell_all now n).set ≡ 0
   told_none now n =
-      let r = rests (p.tell_turn now) (p.pending) (tell_falls now) n in
+      let r = told_rests now n in
       rw r.is (last_by now r.last r.nothing)
 
   -- one thing less waits at the router, and nothing else is changed
@@ -153,10 +141,6 @@ module _ (offers : OffersLeave) (takes : TakesLower) (less : TellsLess) where
 
   -- ---- a turn
 
-  told_nothing : (now : ℕ) (n : State) → nat_lt 0 (circuits.pending n.set) ≡ false → p.tell_all now n ≡ n
-  told_nothing now n e =
-      ends (p.tell_turn now) (p.pending) (tell_falls now) n e ∙ ap (λ b. if b then p.tell_one now n else n) e
-
   -- where nothing waits to be told or routed, pumping does nothing
   pub pumped_nothing : (now : ℕ) (n : State) → nat_lt 0 (circuits.pending n.set) ≡ false → p.at_router n ≡ 0 → p.pump now n ≡ n
   unfolding p.pump
@@ -199,9 +183,7 @@ module _ (offers : OffersLeave) (takes : TakesLower) (less : TellsLess) where
   tells_on now n e =
       let leaves = talked_leaves now (circuits.tells (next_hop n) n.set) n in
       let same : p.at_router (p.tell_one now n) ≡ p.at_router n = rw (leaves.lost, leaves.waiting) refl in
-      let on : p.tell_all now n ≡ p.tell_all now (p.tell_one now n) =
-      goes_on (p.tell_turn now) (p.pending) (tell_falls now) n e ∙ ap (λ b. p.tell_all now (if b then p.tell_one now n else n)) e in
-      rw (same, on) refl
+      rw (same, told_on now n e) refl
 
   asks_by : (now k : ℕ) (n : State) → nat_lt 0 (circuits.pending n.set) ≡ false → p.at_router n ≡ suc k → p.at_router (p.ask now n) ≡ k
       → p.pump now n ≡ p.pump now (p.ask now n)

@@ -52,27 +52,6 @@ unfolds turn left falls s =
     ∙ goes turn s (turns turn (left s) (turn s).after) (settle turn left (turn s).after) (turn s).did refl
     (λ e. let fell : left (turn s).after < left s = falls s e in same turn left falls (left s) (left (turn s).after) (turn s).after (omega (arith, fell)) (omega arith))
 
-rests_if : {S : Type 0} (turn : S → Turn S) (s x : S) → (b : Bool) → (turn s).did ≡ b → ((turn s).did ≡ true → IsAtRest turn x)
-    → IsAtRest turn (if (turn s).did then x else (turn s).after)
-rests_if turn s x true e more = rw e (more e)
-rests_if turn s x false e more = rw e (record { last = s; nothing = e; is = refl })
-
-none_did : {S : Type 0} (turn : S → Turn S) (left : S → ℕ) → Falls turn left → (s : S) → left s ≤ 0 → (b : Bool) → (turn s).did ≡ b → (turn s).did ≡ false
-none_did turn left falls s none true e =
-    let fell : left (turn s).after < left s = falls s e in
-    absurd (omega arith)
-none_did turn left falls s none false e = e
-
-rests_by : {S : Type 0} (turn : S → Turn S) (left : S → ℕ) → Falls turn left → (k : ℕ) (s : S) → left s ≤ k → IsAtRest turn (turns turn k s)
-rests_by turn left falls zero s p = record { last = s; nothing = none_did turn left falls s p (turn s).did refl; is = refl }
-rests_by turn left falls (suc k) s p =
-    rests_if turn s (turns turn k (turn s).after) (turn s).did refl
-    (λ e. let fell : left (turn s).after < left s = falls s e in rests_by turn left falls k (turn s).after (omega (arith, p, fell)))
-
-pub rests : {S : Type 0} (turn : S → Turn S) (left : S → ℕ) → Falls turn left → (s : S) → IsAtRest turn (settle turn left s)
-unfolding settle
-rests turn left falls s = rests_by turn left falls (left s) s (omega arith)
-
 -- a settling goes on behind a turn that did something, and ends behind one that didn't
 pub goes_on : {S : Type 0} (turn : S → Turn S) (left : S → ℕ) → Falls turn left → (s : S) → (turn s).did ≡ true → settle turn left s ≡ settle turn left (turn s).after
 goes_on turn left falls s e = unfolds turn left falls s ∙ ap (λ b. if b then settle turn left (turn s).after else (turn s).after) e
@@ -126,14 +105,14 @@ settled_on turn settles s e = once (settles s).settles (Goes_on s (settles (turn
 pub settled_end : {S : Type 0} (turn : S → Turn S) (settles : Settles turn) (s : S) → (turn s).did ≡ false → (settles s).state ≡ (turn s).after
 settled_end turn settles s e = after_none (settles s).settles e
 
-rests_at : {S : Type 0} {turn : S → Turn S} {s t : S} → SettlesTo turn s t → IsAtRest turn t
+pub rests_at : {S : Type 0} {turn : S → Turn S} {s t : S} → SettlesTo turn s t → IsAtRest turn t
 rests_at (Rests s e) = record { last = s; nothing = e; is = refl }
 rests_at (Goes_on s t e more) = rests_at more
 
 pub settled_rests : {S : Type 0} (turn : S → Turn S) (settles : Settles turn) (s : S) → IsAtRest turn (settles s).state
 settled_rests turn settles s = rests_at (settles s).settles
 
-kept_to : {S : Type 0} {turn : S → Turn S} (P : S → Type 0) → Keeps turn P → {s t : S} → SettlesTo turn s t → P s → P t
+pub kept_to : {S : Type 0} {turn : S → Turn S} (P : S → Type 0) → Keeps turn P → {s t : S} → SettlesTo turn s t → P s → P t
 kept_to P keeps (Rests s e) p = keeps s p
 kept_to P keeps (Goes_on s t e more) p = kept_to P keeps more (keeps s p)
 

@@ -36,7 +36,7 @@ use Rattle.node_turns.specs.Settling.{payloads}
 use Rattle.node_turns.specs.States.{State, at_links, next_hop}
 use Rattle.node_turns.proofs.Heaping.{comes_most}
 use Rattle.node_turns.proofs.Parts.{collect_payloads, lost_payloads, offer_leaves}
-use Rattle.node_turns.proofs.Turns.{kept}
+use Rattle.node_turns.proofs.Telling.{told_kept}
 use Rattle.node_turns.proofs.Weights.{is_unclosed, messages, messages_but, session_work, sessions_work, stage_replies}
 
 -- ---- what the sessions hear
@@ -217,7 +217,7 @@ module _ (offers : OffersLeave) (takes : TakesLower) (less : TellsLess) where
   tell_below now o n false x = x
 
   all_below : (now : ℕ) (n : State) → Below n (p.tell_all now n)
-  all_below now n = kept (p.tell_turn now) p.pending (Below n) (λ m x. tell_below now n m (nat_lt 0 (p.pending m)) x) n (same_below n)
+  all_below now n = told_kept now (Below n) (λ m x. tell_below now n m (nat_lt 0 (p.pending m)) x) n (same_below n)
 
   asked_below : (now : ℕ) (n : State) (lost : List Callsign) (waiting : List Parcel) → n.links.pending.lost ≡ lost → n.links.pending.waiting ≡ waiting → Below n (p.ask_for now lost waiting n)
   unfolding circuits.hears_lost

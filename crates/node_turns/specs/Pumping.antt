@@ -1,7 +1,8 @@
 -- The circuits are pumped until they have nothing to tell and nothing waits at the router. Own profile.
-use Rattle.std.specs.Prelude.{ℕ, zero, suc, ◌+◌, nat_lt, if◌then◌else◌, List, [], ◌∷◌, ◌++◌, length, Option, Some, None}
+use Rattle.std.specs.Prelude.{ℕ, zero, suc, ◌+◌, nat_lt, if◌then◌else◌, List, [], ◌∷◌, ◌++◌, length, Option, Some, None, is_some}
 use Rattle.ax_address.specs.Callsign.{Callsign}
 use Rattle.circuit_set.specs.Pumps.{SetTold, Turn, Turned, Says, Offers}
+use Rattle.circuit_set.specs.Sets.{CircuitTold}
 use Rattle.l3_datagram.specs.CarrierCall.{Parcel}
 use Rattle.link_table.specs.Calls.{collect, tell_lost}
 use Rattle.node_turns.specs.Circuits as circuits
@@ -9,7 +10,6 @@ use Rattle.node_turns.specs.Links.{offer, offer_answer}
 use Rattle.node_turns.specs.Sessions.{hear_if}
 use Rattle.node_turns.specs.States.{Entry, Of_set, State, at_links, next_hop}
 use Rattle.node_turns.specs.Turns as turns
-use Rattle.node_turns.specs.Turns.{settle}
 
 abbrev pub told_entries : Option SetTold → List Entry
 told_entries None = []
@@ -40,9 +40,18 @@ pending n = circuits.pending n.set
 abbrev pub tell_turn : ℕ → State → turns.Turn State
 tell_turn now n = record { did = nat_lt 0 (pending n); after = if nat_lt 0 (pending n) then tell_one now n else n }
 
+-- what the last sending came to is told, where it came to nothing
+abbrev pub tell_outcome : ℕ → State → State
+tell_outcome now n = if is_some n.set.lost then tell_one now n else n
+
+-- each of these is told, and behind it what its sending came to
+abbrev pub tell_each : ℕ → List CircuitTold → State → State
+tell_each now [] n = n
+tell_each now (_ ∷ more) n = tell_each now more (tell_outcome now (tell_one now n))
+
 -- all that is untold is told
-abbrev pub tell_all : ℕ → State → State
-tell_all now n = settle (tell_turn now) pending n
+unfoldable pub tell_all : ℕ → State → State
+tell_all now n = tell_each now n.set.untold (tell_outcome now n)
 
 -- the router is asked once: for the first lost neighbour, or else the first datagram that waits
 abbrev pub ask_for : ℕ → List Callsign → List Parcel → State → State
