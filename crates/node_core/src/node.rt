@@ -139,12 +139,11 @@ impl Node {
         if self.spent {
             return Err(NoMemory);
         }
-        self.spent = true;
         laws::settles();
-        take_bytes(&mut self.deframer, &mut self.station, bytes, moment(now))?;
-        self.spent = false;
+        let taken = take_bytes(&mut self.deframer, &mut self.station, bytes, moment(now));
+        self.spent = taken.is_err();
         self.keeps_within();
-        Ok(())
+        taken
     }
 
     /// Takes in a frame by its octets, as if it had come as KISS bytes: data on port 0. More than 1,023 octets are no frame. After
@@ -158,12 +157,11 @@ impl Node {
         if self.spent {
             return Err(NoMemory);
         }
-        self.spent = true;
         laws::settles();
-        take_kiss_frame(&mut self.deframer, &mut self.station, octets, moment(now))?;
-        self.spent = false;
+        let taken = take_kiss_frame(&mut self.deframer, &mut self.station, octets, moment(now));
+        self.spent = taken.is_err();
         self.keeps_within();
-        Ok(())
+        taken
     }
 
     /// Time has passed. After it the node keeps no more than its bound.
@@ -176,14 +174,11 @@ impl Node {
         if self.spent {
             return Err(NoMemory);
         }
-        self.spent = true;
         laws::settles();
-        let now = moment(now);
-        self.station.tick(now)?;
-        self.station.settle(now)?;
-        self.spent = false;
+        let ticked = self.station.tick(moment(now));
+        self.spent = ticked.is_err();
         self.keeps_within();
-        Ok(())
+        ticked
     }
 
     /// Does what the user wants, or tells why not. After it the node keeps no more than its bound.

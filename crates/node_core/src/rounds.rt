@@ -2,6 +2,7 @@
 ghost use Rattle.std.specs.Prelude.{◌≤◌, ◌*◌, OnOk, length};
 ghost use Rattle.ax_link.specs.State.{count_end};
 ghost use Rattle.node_core.specs.Broadcasts.{round_frame};
+ghost use Rattle.node_core.specs.Inputs as inputs;
 ghost use Rattle.node_turns.specs.Circuits as circuits;
 ghost use Rattle.node_turns.specs.Links as links;
 ghost use Rattle.node_core.specs.Rounds as rounds;
@@ -15,11 +16,24 @@ use link_table::{Octets, Written, WrittenAs};
 use radio_base::{Moment, NoMemory};
 
 impl Station {
-    ghost use Rattle.node_core.specs.Going.{Goes, GoesWhereTold};
+    ghost use Rattle.node_core.specs.Going.{Goes, GoesWhereTold, StandsTold};
     ghost use Rattle.node_core.specs.Standing.{IsDrained};
 
-    /// Time has passed: for the links, for the ends of circuits, and for the round of the interval.
+    /// Time has passed, and all that follows an input.
     pub(crate) fn tick(&mut self, now: Moment) -> Result<(), NoMemory>
+        requires drained { IsDrained self.old }
+        requires stands { StandsTold self.old }
+        requires moment { now.0 ≤ count_end }
+        ensures goes { OnOk result (GoesWhereTold (λ n. inputs.after_input now.0 (rounds.tick now.0 n)) self.old self.new) }
+        ensures drained { OnOk result (IsDrained self.new) }
+    {
+        self.do_tick(now)?;
+        self.settle(now)?;
+        Ok(())
+    }
+
+    /// Time has passed: for the links, for the ends of circuits, and for the round of the interval.
+    fn do_tick(&mut self, now: Moment) -> Result<(), NoMemory>
         requires drained { IsDrained self.old }
         requires moment { now.0 ≤ count_end }
         ensures { OnOk result (GoesWhereTold (rounds.tick now.0) self.old self.new) }
