@@ -64,6 +64,10 @@ pub record Changes (nth : ℕ) (change : Session → Session) (old new : Station
   pub sessions : new.sessions.items ≡ changed (slice_get old.sessions.items nth) nth change old.sessions.items
   pub same : new ≡ record old { sessions = new.sessions }
 
+-- it is changed by each step that says what a change does
+abbrev pub ChangesBy : ℕ → (Session → Session → Type 0) → Station → Station → Type 0
+ChangesBy nth does old new = (step : Session → Session) → ((x y : Session) → does x y → y ≡ step x) → Changes nth step old new
+
 abbrev pub is_no_memory : ActRefusal → Bool
 is_no_memory refusal.NoMemory = true
 is_no_memory _ = false

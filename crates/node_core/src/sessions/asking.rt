@@ -2,7 +2,6 @@
 ghost use Rattle.std.specs.Prelude.{◌≡◌, IfOk, OnOk, ◌≢◌};
 ghost use Rattle.circuit_set.specs.declared.event.ConnectRefusal.TheVariants as connecting;
 ghost use Rattle.node_turns.specs.Asking as asking;
-ghost use Rattle.node_turns.specs.Bridging as bridging;
 ghost use Rattle.node_turns.specs.States.{State};
 ghost use Rattle.node_turns.specs.Users as users;
 
@@ -14,7 +13,7 @@ use node_prompt::{Action, Sight, Trouble};
 use radio_base::{Moment, NoMemory};
 
 impl Station {
-    ghost use Rattle.node_core.specs.Going.{Changes, StandsTold, Steps, Told, Turns};
+    ghost use Rattle.node_core.specs.Going.{StandsTold, Steps, Told, Turns};
 
     /// Does the next line of a user at the prompt, where its side has room for the reply; the texts of one that is told nothing more
     /// are dropped. Whether there was any.
@@ -53,16 +52,8 @@ impl Station {
         if !self.next_text(nth, now)? {
             return Ok(false);
         }
-        self.drop_rest(nth);
+        self.with_session(nth, |session| session.drop_rest());
         Ok(true)
-    }
-
-    pub(crate) fn drop_rest(&mut self, nth: usize)
-        ensures { Changes nth bridging.drop_rest self.old self.new }
-    {
-        if let Some(session) = self.sessions.get_mut(nth) {
-            session.drop_rest();
-        }
     }
 
     /// Does the next line of a user.
@@ -83,7 +74,7 @@ impl Station {
         ensures { OnOk result (Steps (asking.do_line now.0 nth) self.old self.new) }
     {
         let action = self.action(nth);
-        self.cut_line(nth);
+        self.with_session(nth, |session| session.cut_line());
         self.do_action(nth, &action, now)?;
         Ok(())
     }
@@ -95,14 +86,6 @@ impl Station {
         match self.session(nth) {
             Some(session) => self.prompt().line(session.line()),
             None => Action::Nothing,
-        }
-    }
-
-    fn cut_line(&mut self, nth: usize)
-        ensures { Changes nth asking.cut_line self.old self.new }
-    {
-        if let Some(session) = self.sessions.get_mut(nth) {
-            session.cut_line();
         }
     }
 
@@ -137,17 +120,9 @@ impl Station {
         ensures { OnOk result (Steps (asking.say_bye now.0 nth text.now.items) self.old self.new) }
     {
         self.say(nth, text, now)?;
-        self.note_bye(nth);
+        self.with_session(nth, |session| session.say_bye());
         self.close_user(nth, now)?;
         Ok(())
-    }
-
-    fn note_bye(&mut self, nth: usize)
-        ensures { Changes nth asking.leaves self.old self.new }
-    {
-        if let Some(session) = self.sessions.get_mut(nth) {
-            session.say_bye();
-        }
     }
 
     /// Asks for a circuit, and tells the user that it is tried, or why it isn't.
@@ -157,7 +132,7 @@ impl Station {
     {
         match self.set.connect(dest, now) {
             Ok(id) => {
-                self.note_tried(nth, id, dest);
+                self.with_session(nth, |session| session.tries(id, dest));
                 self.pump(now)?;
                 let text = self.prompt().trying(dest);
                 self.say(nth, &text, now)?;
@@ -169,14 +144,6 @@ impl Station {
                 self.say(nth, &text, now)?;
                 Ok(())
             }
-        }
-    }
-
-    fn note_tried(&mut self, nth: usize, id: u64, dest: &Call)
-        ensures { Changes nth (asking.tries id dest.now) self.old self.new }
-    {
-        if let Some(session) = self.sessions.get_mut(nth) {
-            session.tries(id, dest);
         }
     }
 }

@@ -12,7 +12,7 @@ use node_turns::{Circuit, Reply};
 use radio_base::{Moment, NoMemory};
 
 impl Station {
-    ghost use Rattle.node_core.specs.Going.{Changes, StandsTold, Steps, Told, Turns};
+    ghost use Rattle.node_core.specs.Going.{StandsTold, Steps, Told, Turns};
     ghost use Rattle.node_core.specs.Standing.{Holds};
 
     /// The prompt of this node.
@@ -30,7 +30,7 @@ impl Station {
         match self.next_reply(nth) {
             Some(reply) => {
                 let text = reply_text(&self.prompt(), &reply);
-                self.drop_reply(nth);
+                self.with_session(nth, |session| session.drop_reply());
                 self.say(nth, &text, now)?;
                 Ok(true)
             }
@@ -47,14 +47,6 @@ impl Station {
             session.first_reply()
         } else {
             None
-        }
-    }
-
-    fn drop_reply(&mut self, nth: usize)
-        ensures { Changes nth bridging.drop_reply self.old self.new }
-    {
-        if let Some(session) = self.sessions.get_mut(nth) {
-            session.drop_reply();
         }
     }
 
@@ -139,7 +131,7 @@ impl Station {
         ensures { OnOk result (Steps (bridging.write_rest now.0 nth id) self.old self.new) }
     {
         let text = self.rest_of(nth);
-        self.drop_rest(nth);
+        self.with_session(nth, |session| session.drop_rest());
         self.write_to(id, text.as_slice(), now)?;
         Ok(())
     }
@@ -161,7 +153,7 @@ impl Station {
     {
         match self.circuit_to_close(nth) {
             Some(circuit) => {
-                self.note_closed(nth);
+                self.with_session(nth, |session| session.note_closed());
                 self.close_end(circuit.id, now)?;
                 Ok(true)
             }
@@ -178,14 +170,6 @@ impl Station {
             Some(circuit)
         } else {
             None
-        }
-    }
-
-    fn note_closed(&mut self, nth: usize)
-        ensures { Changes nth bridging.note_closed self.old self.new }
-    {
-        if let Some(session) = self.sessions.get_mut(nth) {
-            session.note_closed();
         }
     }
 }

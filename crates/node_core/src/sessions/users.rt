@@ -1,5 +1,6 @@
 //! The user's side of a session: the end of a circuit that came here, or a link.
 ghost use Rattle.std.specs.Prelude.{◌≡◌, IfOk, OnOk, slice_get};
+ghost use Rattle.std.specs.Fn.{FnOnceReturnsAtMut};
 ghost use Rattle.std.specs.Option.{option_copied};
 ghost use Rattle.circuit_set.specs.CircuitSets.{partner_at};
 ghost use Rattle.node_turns.specs.Users as users;
@@ -27,7 +28,7 @@ const LEAST_ROOM: usize = 33;
 const LEAST_ROOM_BESIDE: usize = 34;
 
 impl Station {
-    ghost use Rattle.node_core.specs.Going.{Changes, StandsTold, Steps, Told, Turns};
+    ghost use Rattle.node_core.specs.Going.{ChangesBy, StandsTold, Steps, Told, Turns};
 
     /// Whether nothing is said to the user any more.
     pub(crate) fn is_deaf(&self, session: &Session) -> bool
@@ -147,6 +148,16 @@ impl Station {
         self.sessions.get(nth)
     }
 
+    /// Changes the session in a place, if there is one.
+    pub(crate) fn with_session<F: FnOnce(&mut Session)>(&mut self, nth: usize, change: F)
+        requires { F.IsAlwaysCallable change }
+        ensures { ChangesBy nth (λ x y. FnOnceReturnsAtMut F.FnOnce change x tt y) self.old self.new }
+    {
+        if let Some(session) = self.sessions.get_mut(nth) {
+            change(session);
+        }
+    }
+
     /// The user of a session, unless it has left.
     fn present(&self, nth: usize) -> Option<User>
         ensures { (n : State) → Told self.now n → result ≡ users.present (users.session_at nth n) }
@@ -222,7 +233,7 @@ impl Station {
         let mut text = Message::new();
         let taken = took(self.set.take(id, &mut text, now));
         if taken {
-            self.begin(nth, text);
+            self.with_session(nth, |session| session.begin(text));
             self.pump(now)?;
         }
         Ok(taken)
@@ -236,18 +247,9 @@ impl Station {
         let links = self.set.router_mut().carrier_mut();
         let taken = links.take_text(peer, &mut text, now)?;
         if taken {
-            self.begin(nth, text);
+            self.with_session(nth, |session| session.begin(text));
         }
         Ok(taken)
-    }
-
-    /// This text was taken from the user of a session.
-    fn begin(&mut self, nth: usize, text: Message)
-        ensures { Changes nth (users.with_rest text.items) self.old self.new }
-    {
-        if let Some(session) = self.sessions.get_mut(nth) {
-            session.begin(text);
-        }
     }
 
     /// Closes the user's side of a session.

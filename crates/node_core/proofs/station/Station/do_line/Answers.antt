@@ -1,4 +1,4 @@
-use Rattle.std.proofs.Common.{refl, subst}
+use Rattle.std.proofs.Common.{refl, rules, subst}
 use Rattle.node_turns.specs.Asking as asking
 use Rattle.node_core.specs.Going.{Told}
 use Rattle.node_turns.specs.States.{State}
@@ -9,10 +9,10 @@ use Rattle.node_core.proofs.station.Station.do_line.Goals as goal
 pub do_action-requires : goal.do_action-requires
 do_action-requires c =
     let n = c.requires.0 in
-    (at_session c.args.nth asking.cut_line n, session_told asking.cut_line (λ x. refl) c.args.self.now c.cut_line.new.self c.args.nth c.cut_line.ensures n c.requires.1)
+    (at_session c.args.nth asking.cut_line n, session_told asking.cut_line (λ x. refl) c.args.self.now c.with_session.new.self c.args.nth (c.with_session.ensures asking.cut_line (λ x y r. search rules)) n c.requires.1)
 
 pub returns : goal.returns
 returns c = λ n t.
     let m : State = at_session c.args.nth asking.cut_line n in
-    let h = session_told asking.cut_line (λ x. refl) c.args.self.now c.cut_line.new.self c.args.nth c.cut_line.ensures n t in
+    let h = session_told asking.cut_line (λ x. refl) c.args.self.now c.with_session.new.self c.args.nth (c.with_session.ensures asking.cut_line (λ x y r. search rules)) n t in
     subst (λ a. Told c.do_action.new.self (asking.do_action c.args.now.0 c.args.nth a m)) (c.action-action.ensures n t) (c.in_ok-do_action.ensures m h)

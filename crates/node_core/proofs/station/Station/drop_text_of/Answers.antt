@@ -1,4 +1,4 @@
-use Rattle.std.proofs.Common.{◌∙◌, refl, sym}
+use Rattle.std.proofs.Common.{◌∙◌, refl, sym, rules}
 use Rattle.node_turns.specs.Bridging as bridging
 use Rattle.node_turns.specs.States.{State}
 use Rattle.node_core.proofs.Placing.{session_told}
@@ -8,5 +8,5 @@ pub returns : goal.returns
 returns c = λ n t.
     let x = c.in_ok-next_text.ensures n t in
     let m : State = (bridging.next_text c.args.now.0 c.args.nth n).after in
-    let told = session_told bridging.drop_rest (λ s. refl) c.next_text.new.self c.drop_rest.new.self c.args.nth c.drop_rest.ensures m x.stands in
+    let told = session_told bridging.drop_rest (λ s. refl) c.next_text.new.self c.with_session.new.self c.args.nth (c.with_session.ensures bridging.drop_rest (λ x y r. search rules)) m x.stands in
     rw (sym x.did_is ∙ c.if-not-branch.false) (record { did_is = refl; stands = told })

@@ -1,4 +1,4 @@
-use Rattle.std.proofs.Common.{◌≡◌, ◌∙◌, [], refl, sym, ap, subst}
+use Rattle.std.proofs.Common.{◌≡◌, ◌∙◌, [], refl, sym, ap, subst, rules}
 use Rattle.std.specs.Prelude.{true, false}
 use Rattle.circuit_set.specs.Sets as sets
 use Rattle.circuit_set.specs.Standing as answers
@@ -24,11 +24,11 @@ returns-in_ok-pump c = λ n t.
     let s1 = record s { set = c.take.new.self } in
     let m : State = at_set (circuits.acts act) n in
     let h1 = set_acts act s c.take.new.self c.take.ensures.goes n t in
-    let rested = session_goes (users.with_rest c.take.new.out.items) (λ x. refl) s1 c.begin.new.self c.args.nth c.begin.ensures.sessions c.begin.ensures.same m h1 in
-    let h2 = logged (users.with_rest c.take.new.out.items) (users.with_text c.take.new.out.items) (λ x. refl) c.begin.new.self m c.args.nth rested in
+    let rested = session_goes (users.with_rest c.take.new.out.items) (λ x. refl) s1 c.with_session.new.self c.args.nth (c.with_session.ensures (users.with_rest c.take.new.out.items) (λ x y r. search rules)).sessions (c.with_session.ensures (users.with_rest c.take.new.out.items) (λ x y r. search rules)).same m h1 in
+    let h2 = logged (users.with_rest c.take.new.out.items) (users.with_text c.take.new.out.items) (λ x. refl) c.with_session.new.self m c.args.nth rested in
     let text : c.take.new.out.items ≡ answers.message_at [] (users.end_at id n) = rw c.new-text.ensures at (c.take.ensures.message n.set.set rest) in
     let b : State = users.at_session c.args.nth (users.with_text (answers.message_at [] (users.end_at id n))) m in
-    let h3 : Holds c.begin.new.self b = subst (λ x. Holds c.begin.new.self (users.at_session c.args.nth (users.with_text x) m)) text h2 in
+    let h3 : Holds c.with_session.new.self b = subst (λ x. Holds c.with_session.new.self (users.at_session c.args.nth (users.with_text x) m)) text h2 in
     rw some (record { did_is = c.if-taken.true; stands = (c.in_ok-pump.ensures.goes b h3, c.in_ok-pump.ensures.told b) })
 
 pub returns-else-taken : goal.returns-else-taken

@@ -1,4 +1,4 @@
-use Rattle.std.proofs.Common.{◌≡◌, ◌∙◌, refl, subst}
+use Rattle.std.proofs.Common.{◌≡◌, ◌∙◌, refl, subst, rules}
 use Rattle.std.specs.Prelude.{true, false}
 use Rattle.link_table.specs.Standing.{TableStands}
 use Rattle.link_table.specs.Table.{Table}
@@ -24,10 +24,10 @@ returns-then-taken c = λ n t.
     let m : State = at_links (links.take_text peer now) n in
     let h1 = text_taken peer now s c.router_mut.result.now c.carrier_mut-links.result.now c.take_text.new.self
     c.router_mut.ensures.value c.carrier_mut-links.ensures.value c.in_ok-taken.ensures.goes n t.0 in
-    let rested = session_goes (users.with_rest c.take_text.new.out.items) (λ x. refl) s1 c.begin.new.self c.args.nth c.begin.ensures.sessions c.begin.ensures.same m h1 in
-    let h2 = logged (users.with_rest c.take_text.new.out.items) (users.with_text c.take_text.new.out.items) (λ x. refl) c.begin.new.self m c.args.nth rested in
+    let rested = session_goes (users.with_rest c.take_text.new.out.items) (λ x. refl) s1 c.with_session.new.self c.args.nth (c.with_session.ensures (users.with_rest c.take_text.new.out.items) (λ x y r. search rules)).sessions (c.with_session.ensures (users.with_rest c.take_text.new.out.items) (λ x y r. search rules)).same m h1 in
+    let h2 = logged (users.with_rest c.take_text.new.out.items) (users.with_text c.take_text.new.out.items) (λ x. refl) c.with_session.new.self m c.args.nth rested in
     let text : c.take_text.new.out.items ≡ links.text_with peer n.links = given_text c.in_ok-taken.taken c.take_text.new.out.items peer n.links c.if-taken.true answer in
-    rw some (record { did_is = c.if-taken.true; stands = (subst (λ x. Holds c.begin.new.self (users.at_session c.args.nth (users.with_text x) m)) text h2, t.1) })
+    rw some (record { did_is = c.if-taken.true; stands = (subst (λ x. Holds c.with_session.new.self (users.at_session c.args.nth (users.with_text x) m)) text h2, t.1) })
 
 pub returns-else-taken : goal.returns-else-taken
 returns-else-taken c = λ n t.

@@ -1,4 +1,4 @@
-use Rattle.std.proofs.Common.{◌∙◌, ap, refl, subst}
+use Rattle.std.proofs.Common.{◌∙◌, ap, refl, subst, rules}
 use Rattle.circuit_set.specs.Sets as sets
 use Rattle.node_prompt.specs.Replies as texts
 use Rattle.node_turns.specs.Asking as asking
@@ -26,7 +26,7 @@ say-requires c =
     let m : State = at_set (circuits.acts act) n in
     let b : State = at_session c.args.nth step m in
     let h1 = set_acts act c.args.self.now c.connect.new.self c.in-Ok.ensures.goes n c.requires.1 in
-    let h2 = session_goes step (λ x. refl) s1 c.note_tried.new.self c.args.nth c.note_tried.ensures.sessions c.note_tried.ensures.same m h1 in
+    let h2 = session_goes step (λ x. refl) s1 c.with_session.new.self c.args.nth (c.with_session.ensures step (λ x y r. search rules)).sessions (c.with_session.ensures step (λ x y r. search rules)).same m h1 in
     (pump c.args.now.0 b, (c.in_ok-pump-in-Ok.ensures.goes b h2, c.in_ok-pump-in-Ok.ensures.told b))
 
 pub returns-in_ok-say-in-Ok : goal.returns-in_ok-say-in-Ok
@@ -41,7 +41,7 @@ returns-in_ok-say-in-Ok c = λ n t.
     let m : State = at_set (circuits.acts act) n in
     let b : State = at_session nth step m in
     let h1 = set_acts act s c.connect.new.self c.in-Ok.ensures.goes n t in
-    let h2 = session_goes step (λ x. refl) s1 c.note_tried.new.self nth c.note_tried.ensures.sessions c.note_tried.ensures.same m h1 in
+    let h2 = session_goes step (λ x. refl) s1 c.with_session.new.self nth (c.with_session.ensures step (λ x y r. search rules)).sessions (c.with_session.ensures step (λ x y r. search rules)).same m h1 in
     let p : State = pump now b in
     let h3 = c.in_ok-pump-in-Ok.ensures.goes b h2 in
     let told = c.in_ok-say-in-Ok.ensures p (h3, c.in_ok-pump-in-Ok.ensures.told b) in
