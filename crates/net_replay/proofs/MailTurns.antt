@@ -23,7 +23,7 @@ use Rattle.network_file.specs.declared.plan.declarations.Declaration.{Declaratio
 use Rattle.network_file.specs.declared.plan.keys.Key.TheVariants.{Mail, Prompt}
 use Rattle.network_file.specs.Plan.{Plan}
 use Rattle.network_file.specs.Settings.{value_of}
-use Rattle.node_core.specs.Acts.{refuse, take, took}
+use Rattle.node_core.specs.Acts.{answer_to_take, refuse, take}
 use Rattle.node_core.specs.declared.acts.ActDone.{ActDone}
 use Rattle.node_core.specs.declared.acts.ActDone.TheVariants.{Done, Made, Took}
 use Rattle.node_core.specs.declared.acts.ActRefusal.{ActRefusal}
@@ -72,7 +72,7 @@ pub record Taken (o : Option Holder) (message : List ℕ) : Type 0 where
   pub rest : List (List ℕ)
   pub waits : inbox end.end.receiving ≡ message ∷ rest
 
-first_case : (h : Holder) (message : List ℕ) (ms : List (List ℕ)) (b : Bool) → nat_lt 0 (length ms) ≡ b → inbox h.end.receiving ≡ ms → h.gone ≡ false → took (Ok b) (first_or [] ms) ≡ Ok (Took message) → Taken (Some h) message
+first_case : (h : Holder) (message : List ℕ) (ms : List (List ℕ)) (b : Bool) → nat_lt 0 (length ms) ≡ b → inbox h.end.receiving ≡ ms → h.gone ≡ false → answer_to_take (Ok b) (first_or [] ms) ≡ Ok (Took message) → Taken (Some h) message
 first_case h message ms false k e g t = absurd (cc t)
 first_case h message [] true k e g t = (let bad : false ≡ true = k in absurd (cc bad))
 first_case h message (m ∷ ms) true k e g t =
@@ -80,11 +80,11 @@ first_case h message (m ∷ ms) true k e g t =
     record { end = h; there = refl; held = g; rest = ms; waits = e ∙ ap (λ x. x ∷ ms) same }
 
 held_case : (h : Holder) (message : List ℕ) (b : Bool) → h.gone ≡ b
-    → took (cond b (Err (record {})) (Ok (nat_lt 0 (length (inbox h.end.receiving))))) (cond b [] (first_or [] (inbox h.end.receiving))) ≡ Ok (Took message) → Taken (Some h) message
+    → answer_to_take (cond b (Err (record {})) (Ok (nat_lt 0 (length (inbox h.end.receiving))))) (cond b [] (first_or [] (inbox h.end.receiving))) ≡ Ok (Took message) → Taken (Some h) message
 held_case h message true g t = absurd (cc t)
 held_case h message false g t = first_case h message (inbox h.end.receiving) (nat_lt 0 (length (inbox h.end.receiving))) refl refl g t
 
-end_case : (o : Option Holder) (message : List ℕ) → took (take_answer o) (message_at [] o) ≡ Ok (Took message) → Taken o message
+end_case : (o : Option Holder) (message : List ℕ) → answer_to_take (take_answer o) (message_at [] o) ≡ Ok (Took message) → Taken o message
 end_case None message t = absurd (cc t)
 end_case (Some h) message t = held_case h message h.gone refl t
 

@@ -2,7 +2,7 @@
 use Rattle.std.proofs.Common.{◌≡◌, ◌∙◌, ◌++◌, ℕ, List, [], ◌∷◌, refl, sym, ap, subst, drop, length, append_assoc, append-nil}
 use Rattle.std.specs.Prelude.{Some, None, slice_get}
 use Rattle.link_table.specs.declared.written.Written.{Written}
-use Rattle.node_core.specs.Fetching.{FetchesAllFrames, FramesInOrder, fetch_frames, heard, sent}
+use Rattle.node_core.specs.Fetching.{FetchesAllFrames, FramesInOrder, fetch_frames, without_entries, without_frames}
 use Rattle.node_turns.specs.States.{Entry, NodeState, State, fetch_entry, fetch_frame, fetch_own, frames}
 use Rattle.node_core.specs.Inputs.{after_bytes}
 use Rattle.node_cmd.specs.Live.{IsKept, StaysWithin, after_read, after_reads, answer_to, answer_to_reads, fetched, kiss_of, kiss_of_frame}
@@ -10,12 +10,12 @@ use Rattle.cmd_streams.specs.Streams.{Read}
 
 -- ---- frames
 
-rest_by : (n : State) (own : List Written) → sent (fetch_own own n) ≡ sent n
+rest_by : (n : State) (own : List Written) → without_frames (fetch_own own n) ≡ without_frames n
 rest_by n [] = refl
 rest_by n (f ∷ fs) = refl
 
 -- one that was fetched leaves the others to be fetched
-pub rest : (n : State) → sent (fetch_frame n) ≡ sent n
+pub rest : (n : State) → without_frames (fetch_frame n) ≡ without_frames n
 rest n = rest_by n n.own
 
 first_by : (fs gs : List Written) (f : Written) → Some f ≡ slice_get fs 0 → gs ≡ drop 1 fs → kiss_of fs ≡ kiss_of_frame f ++ kiss_of gs
@@ -34,11 +34,11 @@ pub no_frames : (n : State) → None ≡ slice_get (frames n) 0 → frames n ≡
 no_frames n is = none_by (frames n) is
 
 -- where none waits, all were fetched
-pub all_sent : (n : State) → FramesInOrder → FetchesAllFrames → frames n ≡ [] → fetch_frame n ≡ sent n
+pub all_sent : (n : State) → FramesInOrder → FetchesAllFrames → frames n ≡ [] → fetch_frame n ≡ without_frames n
 all_sent n order all none =
     let x : State = fetch_frame n in
     let empty : frames x ≡ [] = order n ∙ ap (λ (fs : List Written). drop 1 fs) none in
-    let P : ℕ → Type 0 = λ k. fetch_frames k x ≡ sent x in
+    let P : ℕ → Type 0 = λ k. fetch_frames k x ≡ without_frames x in
     subst P (ap (λ (fs : List Written). length fs) empty) (all x) ∙ rest n
 
 -- ---- entries
@@ -47,7 +47,7 @@ no_entries : (es : List Entry) → None ≡ slice_get es 0 → drop 1 es ≡ []
 no_entries [] is = refl
 no_entries (e ∷ es) is = absurd (cc is)
 
-pub all_heard : (n : State) → None ≡ slice_get n.entries 0 → fetch_entry n ≡ heard n
+pub all_heard : (n : State) → None ≡ slice_get n.entries 0 → fetch_entry n ≡ without_entries n
 all_heard n is = ap (λ (es : List Entry). record n { entries = es }) (no_entries n.entries is)
 
 -- ---- reads

@@ -6,7 +6,7 @@ use Rattle.link_table.specs.declared.written.Written.{Written}
 use Rattle.network_file.specs.declared.plan.live.LiveNode.{LiveNode}
 use Rattle.net_replay.specs.Starting.{live_started}
 use Rattle.node_core.specs.Bounds.{IsWithin}
-use Rattle.node_core.specs.Fetching.{heard, sent}
+use Rattle.node_core.specs.Fetching.{without_entries, without_frames}
 use Rattle.node_core.specs.Inputs.{after_bytes, after_tick}
 use Rattle.node_core.specs.Kept.{Kept, NodeStands}
 use Rattle.node_turns.specs.States.{NodeState, frames}
@@ -31,7 +31,7 @@ AddsFrames node old new = (n : NodeState) → NodeStands node n → new ≡ old 
 
 -- all that it has to send and to tell was fetched
 abbrev pub fetched : NodeState → NodeState
-fetched n = record n { station = heard (sent n.station) }
+fetched n = record n { station = without_entries (without_frames n.station) }
 
 -- the node after these reads, behind each of which all was fetched
 abbrev pub after_reads : List Read → NodeState → NodeState

@@ -1,7 +1,7 @@
 //! The command `node`: a live node, which reads KISS bytes and writes its frames.
 ghost use Rattle.std.specs.Prelude.{◌≡◌, ◌≢◌, ◌++◌, ◌≤◌, List, ℕ, false, length, OnOk};
 ghost use Rattle.node_core.specs.Bounds.{IsWithin};
-ghost use Rattle.node_core.specs.Fetching.{heard, sent};
+ghost use Rattle.node_core.specs.Fetching.{without_entries, without_frames};
 ghost use Rattle.node_core.specs.Kept.{NodeGoes};
 ghost use Rattle.node_cmd.specs.Live as live;
 ghost use Rattle.node_cmd.specs.Run.{NodeEnds};
@@ -47,7 +47,7 @@ impl Taker for Living {
 
 /// Fetches all frames of the node, and adds them as KISS bytes.
 fn add_frames(node: &mut Node, text: &mut TextOut) -> Result<(), NoMemory>
-    ensures goes { OnOk result (NodeGoes (λ n. record n { station = sent n.station }) node.old node.new) }
+    ensures goes { OnOk result (NodeGoes (λ n. record n { station = without_frames n.station }) node.old node.new) }
     ensures added { OnOk result (live.AddsFrames node.old text.old text.new) }
     ensures grows { OnOk result ((more : List ℕ) × (text.new ≡ text.old ++ more)) }
 {
@@ -70,7 +70,7 @@ fn add_frame(frame: &Written, bytes: &mut KissBytes, text: &mut TextOut) -> Resu
 
 /// Fetches all that the node has to tell. Nobody reads it.
 fn drop_entries(node: &mut Node)
-    ensures goes { NodeGoes (λ n. record n { station = heard n.station }) node.old node.new }
+    ensures goes { NodeGoes (λ n. record n { station = without_entries n.station }) node.old node.new }
     ensures kept { node.new.spent ≡ false → IsWithin node.new }
 {
     node_core::laws::fetching_empties();

@@ -15,14 +15,14 @@ use Rattle.route_table.specs.Table as routes
 use Rattle.node_core.specs.declared.station.Station.{Station}
 use Rattle.node_turns.specs.Bridging.{prompt_of}
 use Rattle.node_turns.specs.Pumping.{pump}
-use Rattle.node_core.specs.Going.{Told}
+use Rattle.node_core.specs.Going.{HoldsTold}
 use Rattle.node_core.specs.Standing.{Holds}
 use Rattle.node_turns.specs.States.{Settings, State, next_hop}
 use Rattle.node_core.proofs.Coming.{pumped_came}
 use Rattle.node_core.proofs.Using.{resting}
 
 -- the answer is that of the state
-pub answered : (s : Station) (dest : Callsign) (n : State) → Told s n → (r : Result ℕ ConnectRefusal)
+pub answered : (s : Station) (dest : Callsign) (n : State) → HoldsTold s n → (r : Result ℕ ConnectRefusal)
     → ((set : SetState) (log : List Item) → SetStands s.set (at_rest set) → StandsFor s.set.router.table log → r ≡ connect_answer (routes.next_hop s.set.router.table.rules log) dest set)
     → r ≡ connect_answer (next_hop n) dest n.set.set
 answered s dest n t r all = rw t.0.parts.rules at (all n.set.set n.log (resting s n t) t.0.parts.log)
@@ -35,5 +35,5 @@ unspent why true differ h = absurd (differ (cc (h refl)))
 unspent why false differ h = refl
 
 -- a refusal for another reason leaves it
-pub refused_told : (s : Station) (new : Circuits Kept) (n : State) → Told s n → new ≡ s.set → Told (record s { set = new }) n
+pub refused_told : (s : Station) (new : Circuits Kept) (n : State) → HoldsTold s n → new ≡ s.set → HoldsTold (record s { set = new }) n
 refused_told s new n t same = (subst (λ (k : Circuits Kept). Holds (record s { set = k }) n) (sym same) t.0, t.1)

@@ -176,8 +176,8 @@ module _ (offers : OffersLeave) (takes : TakesLower) (less : TellsLess) where
   first_calls now parcel t answer = Fail None ∷ Collect (Some parcel) ∷ offer_of t now answer
 
   -- the node then, but for what is told
-  abbrev rested : State → SetState → State
-  rested n s = record n { set = at_rest s }
+  abbrev resting_with : State → SetState → State
+  resting_with n s = record n { set = at_rest s }
 
   abbrev taken_to : ℕ → Parcel → Turn → Offered → State → Waiting → Option SetTold → State
   taken_to now parcel t answer n w told =
@@ -185,11 +185,11 @@ module _ (offers : OffersLeave) (takes : TakesLower) (less : TellsLess) where
 
   asked_is : (now : ℕ) (n : State) (s : SetState) (parcel : Parcel) (more : List Parcel) (answer : Offered) → n.links.pending.lost ≡ [] → parcel ∷ more ≡ n.links.pending.waiting
       → (let t = pumps.hears (next_hop n) now parcel (at_rest s) in AllAnswer n.links (first_calls now parcel t answer)
-      → ask now (rested n s) ≡ taken_to now parcel t answer n (outcome t answer).after (outcome t answer).told)
+      → ask now (resting_with n s) ≡ taken_to now parcel t answer n (outcome t answer).after (outcome t answer).told)
   unfolding circuits.hears
   asked_is now n s parcel more answer e f a =
       let t = pumps.hears (next_hop n) now parcel (at_rest s) in
-      let m : State = rested n s in
+      let m : State = resting_with n s in
       let asked : ask now m ≡ take_turn now t (at_links collect m) =
       ap (λ (xs : List Callsign). ask_for now xs m.links.pending.waiting m) e ∙ ap (λ (ps : List Parcel). ask_for now [] ps m) (sym f) in
       let a2 : AllAnswer (collect n.links) (offer_of t now answer) = subst (λ (l : Table). AllAnswer (collect l) (offer_of t now answer)) (lost_same n.links e) a.1.1 in
@@ -202,14 +202,14 @@ module _ (offers : OffersLeave) (takes : TakesLower) (less : TellsLess) where
 
   -- where it is told what became of it, or nothing is untold after it, or something is untold
   abbrev LeadsOn : ℕ → State → SetState → Parcel → List (Parcel × Offered) → Pumped → Type 0
-  LeadsOn now n s parcel more q = n.links.pending.lost ≡ [] → parcel ∷ map (λ (x : Parcel × Offered). x.0) more ≡ n.links.pending.waiting → Leads now (rested n s) q
+  LeadsOn now n s parcel more q = n.links.pending.lost ≡ [] → parcel ∷ map (λ (x : Parcel × Offered). x.0) more ≡ n.links.pending.waiting → Leads now (resting_with n s) q
 
-  some_at : (n : State) (s : SetState) (parcel : Parcel) (more : List Parcel) → n.links.pending.lost ≡ [] → parcel ∷ more ≡ n.links.pending.waiting → at_router (rested n s) ≡ suc (length more)
+  some_at : (n : State) (s : SetState) (parcel : Parcel) (more : List Parcel) → n.links.pending.lost ≡ [] → parcel ∷ more ≡ n.links.pending.waiting → at_router (resting_with n s) ≡ suc (length more)
   some_at n s parcel more e f = ap (λ (xs : List Callsign). length xs + length n.links.pending.waiting) e ∙ (ap (λ (ps : List Parcel). 0 + length ps) (sym f) ∙ omega arith)
 
   asked_on : (now : ℕ) (n : State) (s : SetState) (parcel : Parcel) (more : List Parcel) → n.links.pending.lost ≡ [] → parcel ∷ more ≡ n.links.pending.waiting
-      → pump now (rested n s) ≡ pump now (ask now (rested n s))
-  asked_on now n s parcel more e f = asks_on offers takes less now (length more) (rested n s) (none_pending s) (some_at n s parcel more e f)
+      → pump now (resting_with n s) ≡ pump now (ask now (resting_with n s))
+  asked_on now n s parcel more e f = asks_on offers takes less now (length more) (resting_with n s) (none_pending s) (some_at n s parcel more e f)
 
   -- it is told what became of it
   told_leads : (now : ℕ) (n : State) (s : SetState) (parcel : Parcel) (more : List (Parcel × Offered)) (answer : Offered) (x : SetTold)
@@ -221,12 +221,12 @@ module _ (offers : OffersLeave) (takes : TakesLower) (less : TellsLess) where
       let calls = first_calls now parcel t answer in
       let a2 : AllAnswer n.links calls = subst (λ (cs : List CarrierCall). AllAnswer n.links cs) (append-nil calls) a in
       let q = pumps.after_calls calls (ends_with [] u) in
-      let same : taken_to now parcel t answer n u.after u.told ≡ after_call q (rested n s) =
+      let same : taken_to now parcel t answer n u.after u.told ≡ after_call q (resting_with n s) =
       ap (λ (cs : List CarrierCall). record (taken_to now parcel t answer n u.after u.told) { links = after_calls cs n.links }) (sym (append-nil calls))
-      ∙ ap (λ (is : List Item). record (after_call q (rested n s)) { log = is }) (sym (ap (λ (is : List Item). n.log ++ is) (hears_items (next_hop n) now parcel (at_rest s) answer) ∙ append-nil n.log)) in
+      ∙ ap (λ (is : List Item). record (after_call q (resting_with n s)) { log = is }) (sym (ap (λ (is : List Item). n.log ++ is) (hears_items (next_hop n) now parcel (at_rest s) answer) ∙ append-nil n.log)) in
       asked_on now n s parcel (map (λ (y : Parcel × Offered). y.0) more) e f
       ∙ (ap (pump now) (asked_is now n s parcel (map (λ (y : Parcel × Offered). y.0) more) answer e f a2 ∙ same)
-      ∙ ap (λ (o : Option SetTold). pumped_on now o (after_call q (rested n s))) (sym told))
+      ∙ ap (λ (o : Option SetTold). pumped_on now o (after_call q (resting_with n s))) (sym told))
 
   -- nothing is told of it, and the first that it brought is
   brought_leads : (now : ℕ) (n : State) (s : SetState) (parcel : Parcel) (more : List (Parcel × Offered)) (answer : Offered)
@@ -241,23 +241,23 @@ module _ (offers : OffersLeave) (takes : TakesLower) (less : TellsLess) where
       let a1 = front n.links calls (offer_of t2 now answer) a in
       let a2 = back n.links calls (offer_of t2 now answer) a in
       let m : State = record n { links = after_calls calls n.links; set = u.after } in
-      let asked : ask now (rested n s) ≡ m =
+      let asked : ask now (resting_with n s) ≡ m =
       asked_is now n s parcel (map (λ (y : Parcel × Offered). y.0) more) answer e f a1
       ∙ (ap (taken_to now parcel t answer n u.after) told ∙ ap (λ (es : List Entry). record m { entries = es }) (append-nil n.entries)) in
       let over : after_call (turn_step now t2 answer) m ≡ tell_one now m = turn_over now t2 answer m a2 in
       let q = pumps.after_calls calls (turn_step now t2 answer) in
-      let same : after_call (turn_step now t2 answer) m ≡ after_call q (rested n s) =
-      ap (λ (l : Table). record (after_call q (rested n s)) { links = l }) (sym (after_more n.links calls (offer_of t2 now answer))) in
+      let same : after_call (turn_step now t2 answer) m ≡ after_call q (resting_with n s) =
+      ap (λ (l : Table). record (after_call q (resting_with n s)) { links = l }) (sym (after_more n.links calls (offer_of t2 now answer))) in
       let x = some_told (next_hop n) u.after some answer in
       asked_on now n s parcel (map (λ (y : Parcel × Offered). y.0) more) e f
       ∙ (ap (pump now) asked ∙ (tells_on offers takes less now m (some_pending u.after some) ∙ (ap (pump now) (sym over ∙ same)
-      ∙ ap (λ (o : Option SetTold). pumped_on now o (after_call q (rested n s))) (sym x.1))))
+      ∙ ap (λ (o : Option SetTold). pumped_on now o (after_call q (resting_with n s))) (sym x.1))))
 
   -- nothing is told of it and it brought nothing: the next one is taken
   silent_leads : (now : ℕ) (n : State) (s : SetState) (parcel : Parcel) (more : List (Parcel × Offered)) (answer : Offered)
       → (let t = pumps.hears (next_hop n) now parcel (at_rest s) in (outcome t answer).told ≡ None → is_drained (outcome t answer).after ≡ true
       → ((l : Table) → l.pending.lost ≡ [] → map (λ (y : Parcel × Offered). y.0) more ≡ l.pending.waiting
-      → Leads now (rested (record n { links = l }) (outcome t answer).after.set) (pumps.takes_all (next_hop n) now (outcome t answer).after.set more))
+      → Leads now (resting_with (record n { links = l }) (outcome t answer).after.set) (pumps.takes_all (next_hop n) now (outcome t answer).after.set more))
       → LeadsOn now n s parcel more (pumps.after_calls (first_calls now parcel t answer) (pumps.takes_all (next_hop n) now (outcome t answer).after.set more)))
   silent_leads now n s parcel more answer told none rest e f a =
       let t = pumps.hears (next_hop n) now parcel (at_rest s) in
@@ -267,7 +267,7 @@ module _ (offers : OffersLeave) (takes : TakesLower) (less : TellsLess) where
       let a1 = front n.links calls r.calls a in
       let a2 = back n.links calls r.calls a in
       let m : State = record n { links = after_calls calls n.links } in
-      let asked : ask now (rested n s) ≡ rested m u.after.set =
+      let asked : ask now (resting_with n s) ≡ resting_with m u.after.set =
       asked_is now n s parcel (map (λ (y : Parcel × Offered). y.0) more) answer e f a1
       ∙ (ap (taken_to now parcel t answer n u.after) told
       ∙ (ap (λ (es : List Entry). record m { set = u.after; entries = es }) (append-nil n.entries) ∙ ap (λ (w : Waiting). record m { set = w }) (rest_of u.after none))) in
@@ -275,8 +275,8 @@ module _ (offers : OffersLeave) (takes : TakesLower) (less : TellsLess) where
       let waits : map (λ (y : Parcel × Offered). y.0) more ≡ m.links.pending.waiting =
       ap (drop 1) f ∙ sym (offered_waiting now t answer (collect (tell_lost n.links))) in
       let q = pumps.after_calls calls r in
-      let same : after_call r (rested m u.after.set) ≡ after_call q (rested n s) =
-      ap (λ (l : Table). record (after_call q (rested n s)) { links = l }) (sym (after_more n.links calls r.calls)) in
+      let same : after_call r (resting_with m u.after.set) ≡ after_call q (resting_with n s) =
+      ap (λ (l : Table). record (after_call q (resting_with n s)) { links = l }) (sym (after_more n.links calls r.calls)) in
       asked_on now n s parcel (map (λ (y : Parcel × Offered). y.0) more) e f
       ∙ (ap (pump now) asked ∙ (rest m.links lost waits a2 ∙ ap (pumped_on now r.told) same))
 
@@ -293,7 +293,7 @@ module _ (offers : OffersLeave) (takes : TakesLower) (less : TellsLess) where
   abbrev Rests : ℕ → State → Waiting → List (Parcel × Offered) → Type 0
   Rests now n w more =
       (l : Table) → l.pending.lost ≡ [] → map (λ (y : Parcel × Offered). y.0) more ≡ l.pending.waiting
-      → Leads now (rested (record n { links = l }) w.set) (pumps.takes_all (next_hop n) now w.set more)
+      → Leads now (resting_with (record n { links = l }) w.set) (pumps.takes_all (next_hop n) now w.set more)
 
   none_leads : (now : ℕ) (n : State) (s : SetState) (parcel : Parcel) (more : List (Parcel × Offered)) (answer : Offered)
       → (let t = pumps.hears (next_hop n) now parcel (at_rest s) in (outcome t answer).told ≡ None → Rests now n (outcome t answer).after more → (b : Bool) → is_drained (outcome t answer).after ≡ b
@@ -307,14 +307,14 @@ module _ (offers : OffersLeave) (takes : TakesLower) (less : TellsLess) where
       let next = pumps.takes_all (next_hop n) now (outcome t answer).after.set more in
       let same : then_all (next_hop n) now more first first.told ≡ pumps.after_calls calls next =
       ap (then_all (next_hop n) now more first) told ∙ ap (λ (cs : List CarrierCall). pumps.after_calls cs next) (append-nil calls) in
-      subst (Leads now (rested n s)) (sym same) (silent_leads now n s parcel more answer told drained rest e f)
+      subst (Leads now (resting_with n s)) (sym same) (silent_leads now n s parcel more answer told drained rest e f)
   none_leads now n s parcel more answer told rest false drained e f =
       let t = pumps.hears (next_hop n) now parcel (at_rest s) in
       let t2 = pumps.tells (next_hop n) (outcome t answer).after in
       let first = pumps.after_calls (first_calls now parcel t answer) (turn_step now t2 answer) in
       let x = some_told (next_hop n) (outcome t answer).after drained answer in
       let same : then_all (next_hop n) now more first first.told ≡ first = ap (then_all (next_hop n) now more first) x.1 in
-      subst (Leads now (rested n s)) (sym same) (brought_leads now n s parcel more answer told drained e f)
+      subst (Leads now (resting_with n s)) (sym same) (brought_leads now n s parcel more answer told drained e f)
 
   one_leads : (now : ℕ) (n : State) (s : SetState) (parcel : Parcel) (more : List (Parcel × Offered)) (answer : Offered)
       → (let t = pumps.hears (next_hop n) now parcel (at_rest s) in Rests now n (outcome t answer).after more → (o : Option SetTold) → (outcome t answer).told ≡ o
@@ -327,12 +327,12 @@ module _ (offers : OffersLeave) (takes : TakesLower) (less : TellsLess) where
       let t = pumps.hears (next_hop n) now parcel (at_rest s) in
       let first = pumps.after_calls (first_calls now parcel t answer) (ends_with [] (outcome t answer)) in
       let same : then_all (next_hop n) now more first first.told ≡ first = ap (then_all (next_hop n) now more first) told in
-      subst (Leads now (rested n s)) (sym same) (told_leads now n s parcel more answer x told e f)
+      subst (Leads now (resting_with n s)) (sym same) (told_leads now n s parcel more answer x told e f)
 
   all_leads : (now : ℕ) (ps : List (Parcel × Offered)) (n : State) (s : SetState) → n.links.pending.lost ≡ [] → map (λ (y : Parcel × Offered). y.0) ps ≡ n.links.pending.waiting
-      → Leads now (rested n s) (pumps.takes_all (next_hop n) now s ps)
+      → Leads now (resting_with n s) (pumps.takes_all (next_hop n) now s ps)
   all_leads now [] n s e f a =
-      let m : State = rested n s in
+      let m : State = resting_with n s in
       let q = ends_with [] (pumps.says_nothing (at_rest s)) in
       let none : at_router m ≡ 0 = ap (λ (xs : List Callsign). length xs + length n.links.pending.waiting) e ∙ ap (λ (ps : List Parcel). 0 + length ps) (sym f) in
       let same : after_call q m ≡ m =
@@ -345,7 +345,7 @@ module _ (offers : OffersLeave) (takes : TakesLower) (less : TellsLess) where
       one_leads now n s p.0 ps p.1 rest u.told refl e f a
 
   asks_lead : (now : ℕ) (ps : List (Parcel × Offered)) (n : State) (s : SetState) (lost : List Callsign) → n.links.pending.lost ≡ lost → map (λ (y : Parcel × Offered). y.0) ps ≡ n.links.pending.waiting
-      → Leads now (rested n s) (pumps.asks (next_hop n) now s lost ps)
+      → Leads now (resting_with n s) (pumps.asks (next_hop n) now s lost ps)
   asks_lead now ps n s [] e f = all_leads now ps n s e f
   asks_lead now ps n s (neighbour ∷ more) e f = lost_leads now n s neighbour more e
 

@@ -65,10 +65,10 @@ closed_less x = record { owned = λ id. by x.stage refl id; opens = λ id. opene
     opened (Failed c) e id = let none = and_no (nat_eq c.id id) in rw (e, none) (omega arith)
     opened (Connected c) e id = let none = and_no (nat_eq c.id id) in rw (e, none) (omega arith)
 
-its_circuit : (x : Session) (c : Circuit) → circuit_of x.stage ≡ Some c → circuit_of (bridging.note_closed x).stage ≡ Some (bridging.closed c)
+its_circuit : (x : Session) (c : Circuit) → circuit_of x.stage ≡ Some c → circuit_of (bridging.note_closed x).stage ≡ Some (bridging.closed_circuit c)
 its_circuit x c e = by x.stage refl e
   where
-    by : (stage : Stage) → x.stage ≡ stage → circuit_of stage ≡ Some c → circuit_of (bridging.stage_closed x.stage) ≡ Some (bridging.closed c)
+    by : (stage : Stage) → x.stage ≡ stage → circuit_of stage ≡ Some c → circuit_of (bridging.stage_closed x.stage) ≡ Some (bridging.closed_circuit c)
     by AtPrompt g h = absurd (cc h)
     by (Trying d) g h = let same : d ≡ c = cc h in rw (g, same) refl
     by (Failed d) g h = let same : d ≡ c = cc h in rw (g, same) refl

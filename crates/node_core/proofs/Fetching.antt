@@ -4,7 +4,7 @@ use Rattle.link_table.specs.Calls.{fetch}
 use Rattle.link_table.specs.Fetching.{written}
 use Rattle.link_table.specs.Frames.{Sent}
 use Rattle.link_table.specs.declared.written.Written.{Written}
-use Rattle.node_core.specs.Fetching.{FetchesAllEntries, FetchesAllFrames, FramesInOrder, fetch_entries, fetch_frames, heard, sent}
+use Rattle.node_core.specs.Fetching.{FetchesAllEntries, FetchesAllFrames, FramesInOrder, fetch_entries, fetch_frames, without_entries, without_frames}
 use Rattle.node_turns.specs.Links.{sent_frames}
 use Rattle.node_turns.specs.States.{Entry, State, at_links, fetch_entry, fetch_own, frames}
 use Rattle.node_core.proofs.Holding.{fetched_of_links}
@@ -21,14 +21,14 @@ pub frames_in_order : FramesInOrder
 frames_in_order n = in_order n.own n refl
 
 -- the frames of the links, where the node has no others
-of_links : (fs : List Sent) (n : State) → n.own ≡ [] → n.links.pending.frames ≡ fs → fetch_frames (length (map written fs)) n ≡ sent n
+of_links : (fs : List Sent) (n : State) → n.own ≡ [] → n.links.pending.frames ≡ fs → fetch_frames (length (map written fs)) n ≡ without_frames n
 of_links [] n e f =
     ap (λ (xs : List Written). record n { own = xs }) e
     ∙ ap (λ (fs : List Sent). record n { own = []; links = record n.links { pending = record n.links.pending { frames = fs } } }) f
 of_links (x ∷ fs) n e f =
     ap (fetch_frames (length (map written fs))) (fetched_of_links n e) ∙ of_links fs (at_links fetch n) e (ap (drop 1) f)
 
-of_all : (own : List Written) (n : State) → n.own ≡ own → fetch_frames (length (own ++ sent_frames n.links)) n ≡ sent n
+of_all : (own : List Written) (n : State) → n.own ≡ own → fetch_frames (length (own ++ sent_frames n.links)) n ≡ without_frames n
 of_all [] n e = of_links n.links.pending.frames n e refl
 of_all (f ∷ fs) n e =
     ap (λ (own : List Written). fetch_frames (length (fs ++ sent_frames n.links)) (fetch_own own n)) e ∙ of_all fs (record n { own = fs }) refl
@@ -36,7 +36,7 @@ of_all (f ∷ fs) n e =
 pub all_frames : FetchesAllFrames
 all_frames n = of_all n.own n refl
 
-of_entries : (es : List Entry) (n : State) → n.entries ≡ es → fetch_entries (length es) n ≡ heard n
+of_entries : (es : List Entry) (n : State) → n.entries ≡ es → fetch_entries (length es) n ≡ without_entries n
 of_entries [] n e = ap (λ (es : List Entry). record n { entries = es }) e
 of_entries (x ∷ es) n e = of_entries es (fetch_entry n) (ap (drop 1) e)
 

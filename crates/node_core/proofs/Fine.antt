@@ -28,7 +28,7 @@ use Rattle.node_core.specs.Runs.{MadeFrom}
 use Rattle.node_turns.specs.Sessions.{Session, hear_circuits}
 use Rattle.node_turns.specs.States.{State, at_set}
 use Rattle.node_turns.specs.Users as users
-use Rattle.node_turns.specs.Users.{Outcome, Taken, Exhausts, at_session, changed, session_at}
+use Rattle.node_turns.specs.Users.{Outcome, Taken, Exhausts, at_session, change_if, session_at}
 use Rattle.node_core.proofs.Given.{Given, given_heard, given_later}
 use Rattle.node_core.proofs.Holders.{Any, Keeps, Differs, closes_keep, comes_keeps, takes_keep, writes_keep}
 use Rattle.node_core.proofs.Soundness.{Every, Hears, Placed, Sound, changed_every, every_at, heard_every, heard_place, sound_hears, sound_new}
@@ -82,7 +82,7 @@ pumped_placed P h now nth n p =
 
 -- ---- sessions
 
-pub fewer_at : (nth : ℕ) (f : Session → Session) (ss : List Session) (o : Option Session) → slice_get ss nth ≡ o → ((x : Session) → Less x (f x)) → Fewer ss (changed o nth f ss)
+pub fewer_at : (nth : ℕ) (f : Session → Session) (ss : List Session) (o : Option Session) → slice_get ss nth ≡ o → ((x : Session) → Less x (f x)) → Fewer ss (change_if o nth f ss)
 fewer_at nth f ss o e less = record {
   owned = λ id. changed_less (owned_by id) f ss nth o e (λ x. (less x).owned id);
   opens = λ id. changed_less (opens_by id) f ss nth o e (λ x. (less x).opens id);
@@ -162,16 +162,16 @@ closes_fine now id n none f =
 pub close_fine : (now id : ℕ) (n : State) → total (opens_by id) n.sessions + mades id n.set.untold ≡ 0 → Fine n → Fine (users.close now id n)
 close_fine now id n none f = pumped now (at_set (circuits.acts (sets.Calls id sets.Closes now)) n) (closes_fine now id n none f)
 
-written_fine : (now id : ℕ) (text : List ℕ) (r : Result (Unit {0}) SetRefusal) (n : State) → Every (NotIts id) n.sessions → Fine n → Fine (users.written r (sets.Calls id (sets.Writes text) now) n)
+written_fine : (now id : ℕ) (text : List ℕ) (r : Result (Unit {0}) SetRefusal) (n : State) → Every (NotIts id) n.sessions → Fine n → Fine (users.write_if_ok r (sets.Calls id (sets.Writes text) now) n)
 written_fine now id text (Ok _) n none f = writes_fine now id text n none f
 written_fine now id text (Err why) n none f = f
 
 wrote_fine : (now id : ℕ) (text : List ℕ) (n : State) → Every (NotIts id) n.sessions → Fine n → Fine (users.write_to now id text n)
 wrote_fine now id text n none f =
-    let m : State = users.written (users.write_answer id text n) (sets.Calls id (sets.Writes text) now) n in
+    let m : State = users.write_if_ok (users.write_answer id text n) (sets.Calls id (sets.Writes text) now) n in
     pumped now m (written_fine now id text (users.write_answer id text n) n none f)
 
-sent_fine : (now : ℕ) (peer : Callsign) (text : List ℕ) (r : Result (Unit {0}) TextRefusal) (n : State) → Fine n → Fine (users.sent r peer text now n)
+sent_fine : (now : ℕ) (peer : Callsign) (text : List ℕ) (r : Result (Unit {0}) TextRefusal) (n : State) → Fine n → Fine (users.send_if_ok r peer text now n)
 sent_fine now peer text (Ok _) n f = f
 sent_fine now peer text (Err why) n f = f
 
@@ -193,11 +193,11 @@ pub said : (now nth : ℕ) (text : List ℕ) (n : State) → Fine n → Fine (us
 said now nth text n f = said_to (users.listener (session_at nth n) n) now text n (λ id e. speaks n f nth (session_at nth n) refl id e) f
 
 -- what a session keeps as it hears, it keeps while something is said
-written_sessions : (now id : ℕ) (text : List ℕ) (r : Result (Unit {0}) SetRefusal) (n : State) → (users.written r (sets.Calls id (sets.Writes text) now) n).sessions ≡ n.sessions
+written_sessions : (now id : ℕ) (text : List ℕ) (r : Result (Unit {0}) SetRefusal) (n : State) → (users.write_if_ok r (sets.Calls id (sets.Writes text) now) n).sessions ≡ n.sessions
 written_sessions now id text (Ok _) n = refl
 written_sessions now id text (Err why) n = refl
 
-sent_sessions : (now : ℕ) (peer : Callsign) (text : List ℕ) (r : Result (Unit {0}) TextRefusal) (n : State) → (users.sent r peer text now n).sessions ≡ n.sessions
+sent_sessions : (now : ℕ) (peer : Callsign) (text : List ℕ) (r : Result (Unit {0}) TextRefusal) (n : State) → (users.send_if_ok r peer text now n).sessions ≡ n.sessions
 sent_sessions now peer text (Ok _) n = refl
 sent_sessions now peer text (Err why) n = refl
 
@@ -205,7 +205,7 @@ placed_to : (P : Session → Type 0) → Hears P → (o : Option User) (now nth 
 placed_to P h None now nth text n p = p
 placed_to P h (Some (AtEnd id)) now nth text n p =
     let r = users.write_answer id text n in
-    let m : State = users.written r (sets.Calls id (sets.Writes text) now) n in
+    let m : State = users.write_if_ok r (sets.Calls id (sets.Writes text) now) n in
     pumped_placed P h now nth m (subst (Placed P nth) (sym (written_sessions now id text r n)) p)
 placed_to P h (Some (AtLink peer)) now nth text n p = subst (Placed P nth) (sym (sent_sessions now peer text (links.text_answer peer text n.links) n)) p
 
@@ -220,11 +220,11 @@ first_message (suc k) [] a some = absurd (omega (arith, some))
 first_message zero (m ∷ ms) a some = a.0
 first_message (suc k) (m ∷ ms) a some = first_message k ms a.1 some
 
-pub took_message : (o : Option Holder) → users.took (answers.take_answer o) ≡ true → ((h : Holder) → o ≡ Some h → Messages h.end.receiving.received) → IsMessage (answers.message_at [] o)
+pub took_message : (o : Option Holder) → users.has_taken (answers.take_answer o) ≡ true → ((h : Holder) → o ≡ Some h → Messages h.end.receiving.received) → IsMessage (answers.message_at [] o)
 took_message None e a = absurd (cc e)
 took_message (Some h) e a = by h.gone e
   where
-    by : (b : Bool) → users.took (if b then Err (record {}) else Ok (nat_lt 0 (length (inbox h.end.receiving)))) ≡ true → IsMessage (if b then [] else first_or [] (inbox h.end.receiving))
+    by : (b : Bool) → users.has_taken (if b then Err (record {}) else Ok (nat_lt 0 (length (inbox h.end.receiving)))) ≡ true → IsMessage (if b then [] else first_or [] (inbox h.end.receiving))
     by true f = absurd (cc f)
     by false f = first_message h.end.receiving.taken h.end.receiving.received (a h refl) (grind (arith, nat_tests, f))
 

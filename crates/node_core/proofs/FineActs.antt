@@ -59,7 +59,7 @@ answered x y false f g = g
 locked : (dest : Callsign) (item : Item) (quality : ℕ) (n : State) → Fine n → Fine (acts.lock dest item quality n).node
 locked dest item quality n f =
     answered _ _ (same_call dest n.settings.call) f
-    (answered _ _ (nat_lt quality n.settings.rules.minq) f (answered (acts.done (with_items (item ∷ []) n)) _ (receiving.has_room (item ∷ []) n) f f))
+    (answered _ _ (nat_lt quality n.settings.rules.minq) f (answered (acts.answer_done (with_items (item ∷ []) n)) _ (receiving.has_room (item ∷ []) n) f f))
 
 connected : (now : ℕ) (dest : Callsign) (r : Result ℕ ConnectRefusal) (n : State) → IsCall dest → Fine n → Fine (acts.connect_by r (sets.Connect dest now) n).node
 connected now dest (Ok id) n call f = acted (sets.Connect dest now) n (connects_keeps n.set.set dest now call) (connects_wrote n.set.set dest now) (connected_ok n.set.set dest now).made (connects_leaves n.set.set dest now) f

@@ -22,7 +22,7 @@ use Rattle.node_turns.specs.Sessions.{Session, circuit_of, hear_circuits}
 use Rattle.node_turns.specs.States.{State, at_set}
 use Rattle.node_turns.specs.Turns.{done, idle}
 use Rattle.node_turns.specs.Users as users
-use Rattle.node_turns.specs.Users.{Outcome, at_session, changed, session_at}
+use Rattle.node_turns.specs.Users.{Outcome, at_session, change_if, session_at}
 use Rattle.node_core.proofs.Fine.{Dry, Fine, Goes, fewer_at, pumped_dry, said, session_fine, took_message, write_goes}
 use Rattle.node_core.proofs.Ends.{end_in, every_in, number_of}
 use Rattle.node_core.proofs.Holders.{Any, AreOpen, others_stay, takes_keep}
@@ -57,15 +57,15 @@ put_is (z ∷ ss) zero x y e = refl
 put_is (z ∷ ss) (suc nth) x y e = put_is ss nth x y e
 
 changed_twice : (f g : Session → Session) (ss : List Session) (nth : ℕ) (x : Session) → slice_get ss nth ≡ Some x
-    → changed (slice_get (changed (Some x) nth f ss) nth) nth g (changed (Some x) nth f ss) ≡ slice_set ss nth (g (f x))
+    → change_if (slice_get (change_if (Some x) nth f ss) nth) nth g (change_if (Some x) nth f ss) ≡ slice_set ss nth (g (f x))
 changed_twice f g ss nth x e = rw (put_is ss nth x (f x) e) (twice ss nth (f x) (g (f x)))
 
 -- two changes of one session are one
 both_changed : (f g : Session → Session) (n : State) (nth : ℕ) (x : Session) → session_at nth n ≡ Some x
     → at_session nth g (at_session nth f n) ≡ at_session nth (λ y. g (f y)) n
 both_changed f g n nth x e =
-    ap (λ (ss : List Session). record n { sessions = ss }) (ap (λ (o : Option Session). changed (slice_get (changed o nth f n.sessions) nth) nth g (changed o nth f n.sessions)) e
-    ∙ (changed_twice f g n.sessions nth x e ∙ sym (ap (λ (o : Option Session). changed o nth (λ y. g (f y)) n.sessions) e)))
+    ap (λ (ss : List Session). record n { sessions = ss }) (ap (λ (o : Option Session). change_if (slice_get (change_if o nth f n.sessions) nth) nth g (change_if o nth f n.sessions)) e
+    ∙ (changed_twice f g n.sessions nth x e ∙ sym (ap (λ (o : Option Session). change_if o nth (λ y. g (f y)) n.sessions) e)))
 
 -- ---- what is owned
 
@@ -201,7 +201,7 @@ taking_told old message nth prompt set t ts ss a = record {
   its = heard_place (WillBe set message) (will_hear set message) prompt t nth ss a.its;
 }
 
-taking : (now nth : ℕ) (n : State) (x : Session) (c : Circuit) → Fine n → session_at nth n ≡ Some x → circuit_of x.stage ≡ Some c → users.took (answers.take_answer (users.end_at c.id n)) ≡ true
+taking : (now nth : ℕ) (n : State) (x : Session) (c : Circuit) → Fine n → session_at nth n ≡ Some x → circuit_of x.stage ≡ Some c → users.has_taken (answers.take_answer (users.end_at c.id n)) ≡ true
     → (let d = set_step n.set.set (sets.Calls c.id sets.Takes now) in IsTaking d.set (answers.message_at [] (users.end_at c.id n)) nth d.set (n.set.untold ++ d.told) n.sessions)
 taking now nth n x c f e h t =
     let set : SetState = n.set.set in
@@ -228,7 +228,7 @@ taken_fine old message nth n outcome a given = (
     changed_every Sound both ss nth (slice_get ss nth) (λ y k. sound_gave outcome message y (every_at Sound ss nth y a.sound k)) a.sound,
     (
       changed_every (Given set) both ss nth (slice_get ss nth) (λ y k. given y k (every_at (Given set) ss nth y a.given k)) a.given,
-      subst (λ (o : Option Session). Every (Written set) (changed o nth both ss)) (sym a.its.is)
+      subst (λ (o : Option Session). Every (Written set) (change_if o nth both ss)) (sym a.its.is)
           (but_whole (Written set) nth (both a.its.x) ss (written_gave set outcome message (bridging.log_got message a.its.x) a.its.holds) a.others),
     ),
   ),
@@ -247,7 +247,7 @@ taken_fine old message nth n outcome a given = (
 given_from : (now nth : ℕ) (n : State) (x : Session) (c : Circuit) → Fine n → at_router n ≡ 0 → n.set.untold ≡ [] → session_at nth n ≡ Some x → circuit_of x.stage ≡ Some c → users.can_pass_on x c.id n ≡ true
     → Fine (bridging.give_from now nth c.id n).after
 unfolding circuits.acts
-given_from now nth n x c f router none e h gives = by (users.took (answers.take_answer (users.end_at c.id n))) refl
+given_from now nth n x c f router none e h gives = by (users.has_taken (answers.take_answer (users.end_at c.id n))) refl
   where
     message : List ℕ
     message = answers.message_at [] (users.end_at c.id n)
@@ -275,13 +275,13 @@ given_from now nth n x c f router none e h gives = by (users.took (answers.take_
         ap (λ (set : SetState). end_of u set.ends) dry.set
         ∙ others_stay n.set.set u c.id sets.Takes now (other_number c.id u (ends_differ u n nth x f e g c h))
 
-    room : users.took (answers.take_answer (users.end_at c.id n)) ≡ true → (peer : Callsign) → users.link_has_room_beside peer c.id n ≡ true → 33 ≤ links.room peer got.links
+    room : users.has_taken (answers.take_answer (users.end_at c.id n)) ≡ true → (peer : Callsign) → users.link_has_room_beside peer c.id n ≡ true → 33 ≤ links.room peer got.links
     room t peer has = room_after now c.id n peer f.0.named router none t has
 
     outcome : Outcome
-    outcome = users.said nth message got
+    outcome = users.outcome_for nth message got
 
-    good : users.took (answers.take_answer (users.end_at c.id n)) ≡ true → IsMessage message → IsGood told.set.set (users.is_deaf z got) outcome
+    good : users.has_taken (answers.take_answer (users.end_at c.id n)) ≡ true → IsMessage message → IsGood told.set.set (users.is_deaf z got) outcome
     good t is =
         subst (λ (o : Option Session). IsGood told.set.set (users.is_deaf z got) (users.outcome_if (users.listener o got) message got)) (sym at_got)
         (good_said now nth c.id n got x z message f e is dry.placed.holds.user dry.placed.holds.left dry.placed.holds.bye ends (room t) gives)
@@ -292,14 +292,14 @@ given_from now nth n x c f router none e h gives = by (users.took (answers.take_
     both : Session → Session
     both y = bridging.log_gave outcome message (bridging.log_got message y)
 
-    given_both : users.took (answers.take_answer (users.end_at c.id n)) ≡ true → IsMessage message → (y : Session) → session_at nth told ≡ Some y → Given told.set.set y → Given told.set.set (both y)
+    given_both : users.has_taken (answers.take_answer (users.end_at c.id n)) ≡ true → IsMessage message → (y : Session) → session_at nth told ≡ Some y → Given told.set.set y → Given told.set.set (both y)
     given_both t is y k g =
         let found : Some dry.placed.x ≡ Some y = sym dry.placed.is ∙ k in
         let same : dry.placed.x ≡ y = cc found in
         let heard : IsGood told.set.set (deaf told.set.set z) outcome = subst (λ (d : Bool). IsGood told.set.set d outcome) (deaf_is z got) (good t is) in
         given_gave told.set.set outcome message y (subst (λ (w : Session). IsGood told.set.set (deaf told.set.set w) outcome) same heard) g
 
-    by : (b : Bool) → users.took (answers.take_answer (users.end_at c.id n)) ≡ b → Fine (if b then done (users.say now nth message gave) else idle n).after
+    by : (b : Bool) → users.has_taken (answers.take_answer (users.end_at c.id n)) ≡ b → Fine (if b then done (users.say now nth message gave) else idle n).after
     by false t = f
     by true t =
         let is = took_message (users.end_at c.id n) t (messages_of c.id n f) in

@@ -63,11 +63,11 @@ abbrev pub TextsFit : Table → Type 0
 TextsFit t = (peer : Callsign) → links.has_text peer t ≡ true → length (links.text_with peer t) ≤ 8192
 
 -- one whose user's text is taken hasn't closed its circuit
-took_held : (o : Option Holder) → users.took (answers.take_answer o) ≡ true → is_none (facts_at o) ≡ true → ⊥
+took_held : (o : Option Holder) → users.has_taken (answers.take_answer o) ≡ true → is_none (facts_at o) ≡ true → ⊥
 took_held None e f = absurd (cc e)
 took_held (Some h) e f = by h.gone e f
   where
-    by : (b : Bool) → users.took (if b then Err (record {}) else Ok (nat_lt 0 (length (inbox h.end.receiving)))) ≡ true → is_none (if b then None else Some (facts_of h.end)) ≡ true → ⊥
+    by : (b : Bool) → users.has_taken (if b then Err (record {}) else Ok (nat_lt 0 (length (inbox h.end.receiving)))) ≡ true → is_none (if b then None else Some (facts_of h.end)) ≡ true → ⊥
     by true g k = absurd (cc g)
     by false g k = absurd (cc k)
 
@@ -84,7 +84,7 @@ module _ (P : Session → Type 0) (hears : Hears P) (texts_leave : (text : List 
   end_next : (now nth u : ℕ) (n : State) (x : Session) → Fine n → at_router n ≡ 0 → session_at nth n ≡ Some x → x.user ≡ AtEnd u → length x.rest ≤ 0 → P x
       → Next nth P n x (users.take_from_end now nth u n)
   unfolding circuits.acts
-  end_next now nth u n x f router e at none p = by (users.took (answers.take_answer (users.end_at u n))) refl
+  end_next now nth u n x f router e at none p = by (users.has_taken (answers.take_answer (users.end_at u n))) refl
     where
       text : List ℕ
       text = answers.message_at [] (users.end_at u n)
@@ -107,7 +107,7 @@ module _ (P : Session → Type 0) (hears : Hears P) (texts_leave : (text : List 
       held : Dry P nth begun (pump now begun)
       held = pumped_dry P hears now nth begun router (record { x = z; is = at_begun; holds = texts_leave text x p })
 
-      by : (b : Bool) → users.took (answers.take_answer (users.end_at u n)) ≡ b → Next nth P n x (users.take_if b (pump now begun) n)
+      by : (b : Bool) → users.has_taken (answers.take_answer (users.end_at u n)) ≡ b → Next nth P n x (users.take_if b (pump now begun) n)
       by false t = no_next nth P n x f
       by true t =
           let is = took_message (users.end_at u n) t (messages_of u n f) in
@@ -202,13 +202,13 @@ module _ (now nth : ℕ) (c : Circuit) (m : State) (y : Session) (f : Fine m) (e
       session_fine nth (step outcome) m (sounds outcome goes) (λ z k g. given_wrote m.set.set outcome y.rest z g) (λ z w. written_same m.set.set z (step outcome z) refl (same outcome none z.bridge) (got outcome z.bridge) w)
       (λ z. less_same z (step outcome z) refl refl refl) f
     where
-      same : (o : Outcome) → (o ≡ Taken → ⊥) → (b : Bridge) → (bridging.wrote o y.rest b).wrote ≡ b.wrote
+      same : (o : Outcome) → (o ≡ Taken → ⊥) → (b : Bridge) → (bridging.after_writing o y.rest b).wrote ≡ b.wrote
       same Taken n b = absurd (n refl)
       same Exhausts n b = refl
       same Unheard n b = refl
       same Refused n b = refl
 
-      got : (o : Outcome) (b : Bridge) → (bridging.wrote o y.rest b).got ≡ b.got
+      got : (o : Outcome) (b : Bridge) → (bridging.after_writing o y.rest b).got ≡ b.got
       got Taken b = refl
       got Exhausts b = refl
       got Unheard b = refl
@@ -232,7 +232,7 @@ module _ (now nth : ℕ) (c : Circuit) (m : State) (y : Session) (f : Fine m) (e
           sound,
           (
             given_later set d.set k.number (λ i low g. k.ended i f.0.once low g) (λ i low g. k.away i f.0.once low g) ss given,
-            subst (λ (p : Option Session). Every (Written d.set) (users.changed p nth (step Taken) m.sessions)) (sym e) wrote,
+            subst (λ (p : Option Session). Every (Written d.set) (users.change_if p nth (step Taken) m.sessions)) (sym e) wrote,
           ),
         ),
       )
@@ -248,7 +248,7 @@ module _ (now nth : ℕ) (c : Circuit) (m : State) (y : Session) (f : Fine m) (e
   not_taken set_refusal.NoMemory g = absurd (cc g)
 
   by_answer : (r : Result (Unit {0}) SetRefusal) → users.write_answer c.id y.rest m ≡ r → (users.wrote_by r ≡ Taken) ⊎ (users.wrote_by r ≡ Exhausts)
-      → Fine (users.written r (sets.Calls c.id (sets.Writes y.rest) now) (at_session nth (step (users.wrote_by r)) m))
+      → Fine (users.write_if_ok r (sets.Calls c.id (sets.Writes y.rest) now) (at_session nth (step (users.wrote_by r)) m))
   by_answer (Ok _) ok goes = accepted ok
   by_answer (Err why) g goes2 = refused (users.wrote_by (Err why)) (not_taken why) goes2
 
@@ -258,7 +258,7 @@ module _ (now nth : ℕ) (c : Circuit) (m : State) (y : Session) (f : Fine m) (e
       let r = users.write_answer c.id y.rest m in
       let goes = write_goes (users.end_at c.id m) y.rest room (λ h k. closing_of c.id m.set.set.ends h unshut k) (some, s.rest) in
       subst (λ (o : Option Session). (let t = bridging.rest_of o in Fine (users.write_to now c.id t (at_session nth (bridging.log_wrote (users.wrote_by (users.write_answer c.id t m)) t) m)))) (sym e)
-      (pumped now (users.written r (sets.Calls c.id (sets.Writes y.rest) now) (at_session nth (step (users.wrote_by r)) m)) (by_answer r refl goes))
+      (pumped now (users.write_if_ok r (sets.Calls c.id (sets.Writes y.rest) now) (at_session nth (step (users.wrote_by r)) m)) (by_answer r refl goes))
 
 unclosed : (c : Circuit) (x : Session) → circuit_of x.stage ≡ Some c → c.closed ≡ false → 0 < opens_by c.id x
 unclosed c x h g =

@@ -165,9 +165,9 @@ module _ (set : SetState) where
 
   -- a text was written to its circuit
   pub given_wrote : (outcome : Outcome) (text : List ℕ) (x : Session) → Given set x → Given set (bridging.log_wrote outcome text x)
-  given_wrote outcome text x g = record { known = g.known; closed = λ c h k. (refl, (g.closed c h k).1); gives = on_gives x.stage x.bridge (bridging.wrote outcome text x.bridge) (deaf set x) (deaf set x) (by outcome) g.gives }
+  given_wrote outcome text x g = record { known = g.known; closed = λ c h k. (refl, (g.closed c h k).1); gives = on_gives x.stage x.bridge (bridging.after_writing outcome text x.bridge) (deaf set x) (deaf set x) (by outcome) g.gives }
     where
-      by : (o : Outcome) → Gives x.bridge (deaf set x) → Gives (bridging.wrote o text x.bridge) (deaf set x)
+      by : (o : Outcome) → Gives x.bridge (deaf set x) → Gives (bridging.after_writing o text x.bridge) (deaf set x)
       by Taken f = f
       by Exhausts f = λ a. absurd (cc a)
       by Unheard f = f
@@ -197,7 +197,7 @@ module _ (set : SetState) where
   either x y true p q = q
   either x y false p q = p
 
-  opened : (c : Circuit) (notice : EndNotice) (rest : List ℕ) (b : Bridge) (d : Bool) → Gives b d → GivesAt (s.stage_by c notice) (s.opened rest b) d
+  opened : (c : Circuit) (notice : EndNotice) (rest : List ℕ) (b : Bridge) (d : Bool) → Gives b d → GivesAt (s.stage_by c notice) (s.after_opening rest b) d
   opened c (end.Opened window) rest b d f = f
   opened c end.Refused rest b d f = tt
   opened c end.Closed rest b d f = tt

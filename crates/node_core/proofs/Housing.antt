@@ -40,7 +40,7 @@ use Rattle.node_turns.specs.Sessions as s
 use Rattle.node_turns.specs.Sessions.{Session}
 use Rattle.node_turns.specs.Settling as settling
 use Rattle.node_turns.specs.States.{State, at_links, fetch_own, next_hop, put, with_items}
-use Rattle.node_turns.specs.Users.{at_session, changed}
+use Rattle.node_turns.specs.Users.{at_session, change_if}
 use Rattle.node_core.proofs.Lodging.{Housed, breaks, closes, dropped, greeted, moved, noticed_all, pumped, sends, stepped, takes, ticks, fewer}
 use Rattle.node_core.proofs.Served.{Serves}
 use Rattle.node_turns.proofs.Telling.{told_kept}
@@ -96,7 +96,7 @@ unfolding p.pump
 quiet_pumped now n q = quiet_times now (p.at_router n) (p.tell_all now n) (quiet_told now n q)
 
 quiet_changed : (nth : ℕ) (step : Session → Session) (n : State) → IsQuiet n → IsQuiet (at_session nth step n)
-quiet_changed nth step n q e = ap (λ (ss : List Session). changed (slice_get ss nth) nth step ss) (q e)
+quiet_changed nth step n q e = ap (λ (ss : List Session). change_if (slice_get ss nth) nth step ss) (q e)
 
 each_none : (b : Bool) (peers : List Callsign) → b ≡ false → serving.greet_each b peers [] ≡ []
 each_none b [] e = refl

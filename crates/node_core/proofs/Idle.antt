@@ -19,9 +19,9 @@ use Rattle.circuit_set.specs.Standing.{EachStands, Keeps, Rests, if_so, sendings
 use Rattle.circuit_set.specs.declared.holder.Holder.{Holder}
 use Rattle.link_table.specs.Standing.{TableView as Kept}
 use Rattle.node_turns.specs.Circuits as circuits
-use Rattle.node_core.specs.Going.{SetTold}
+use Rattle.node_core.specs.Going.{SetHoldsTold}
 use Rattle.node_turns.specs.States.{State}
-use Rattle.node_turns.specs.Users.{took}
+use Rattle.node_turns.specs.Users.{has_taken}
 
 -- ---- nothing waits at an end
 
@@ -68,7 +68,7 @@ rests_by own ttl hi lo es (h ∷ hs) told e (low, inr here) =
     let others = rests_by own ttl hi (suc h.id) here.rest hs here.theirs (right_none here.mine here.theirs both) here.others in
     subst Rests (sym here.is) (first, others)
 
-pub told_is_drained : (c : Circuits Kept) (n : State) → SetTold c n → sets.IsDrained c
+pub told_is_drained : (c : Circuits Kept) (n : State) → SetHoldsTold c n → sets.IsDrained c
 told_is_drained c n t =
     let p : SetStands c (at_rest n.set.set) = subst (SetStands c) t.1 t.0 in
     inr (rests_by n.set.set.own n.set.set.ttl n.set.set.number 0 c.held.ends.entries n.set.set.ends [] refl p.ends.ends, sym p.lost)
@@ -152,7 +152,7 @@ comes_to_itself set h gone over same =
     )
 
 takes_itself : (now id : ℕ) (set : SetState) (es : List (ℕ × Holder)) (h : s.Holder) → EachStands set.own set.ttl set.number 0 es set.ends [] → s.end_of id set.ends ≡ Some h
-    → (b : Bool) → h.gone ≡ b → took (if b then Err (record {}) else Ok (nat_lt 0 (length (inbox h.end.receiving)))) ≡ false
+    → (b : Bool) → h.gone ≡ b → has_taken (if b then Err (record {}) else Ok (nat_lt 0 (length (inbox h.end.receiving)))) ≡ false
     → Itself set (if b then s.does_nothing set else s.goes_to set h [] (take_first (begin h.end)))
 unfolding Itself
 takes_itself now id set es h p e true gone f = (refl, refl)
@@ -161,12 +161,12 @@ takes_itself now id set es h p e false gone f =
     rw none (comes_to_itself set h gone (not_over set.own set.ttl set.number 0 id es set.ends [] h p e gone) (with_found id 0 set.ends h (rising set.own set.ttl set.number 0 es set.ends [] p) e))
 
 called_itself : (now id : ℕ) (set : SetState) (es : List (ℕ × Holder)) → EachStands set.own set.ttl set.number 0 es set.ends [] → (o : Option s.Holder) → s.end_of id set.ends ≡ o
-    → took (take_answer o) ≡ false → Itself set (s.after_call set o s.Takes now)
+    → has_taken (take_answer o) ≡ false → Itself set (s.after_call set o s.Takes now)
 unfolding Itself
 called_itself now id set es p None e f = (refl, refl)
 called_itself now id set es p (Some h) e f = takes_itself now id set es h p e h.gone refl f
 
-pub take_nothing : (c : Circuits Kept) (set : SetState) (id now : ℕ) → SetStands c (at_rest set) → took (take_answer (s.end_of id set.ends)) ≡ false
+pub take_nothing : (c : Circuits Kept) (set : SetState) (id now : ℕ) → SetStands c (at_rest set) → has_taken (take_answer (s.end_of id set.ends)) ≡ false
     → circuits.acts (s.Calls id s.Takes now) (at_rest set) ≡ at_rest set
 unfolding circuits.acts Itself
 take_nothing c set id now p f =

@@ -23,14 +23,14 @@ use Rattle.node_turns.specs.States.{Entry, Of_set, State, next_hop}
 use Rattle.node_core.proofs.Calls.{after_call, call_leads, pumped_on}
 
 -- the node after a call, before what was told is entered
-abbrev pub called : Pumped → State → State
-called q n = record n { links = after_calls q.calls n.links; set = q.after; log = n.log ++ q.items }
+abbrev pub before_entering : Pumped → State → State
+before_entering q n = record n { links = after_calls q.calls n.links; set = q.after; log = n.log ++ q.items }
 
 pub record Called (now : ℕ) (s : Station) (new : Circuits Kept) (n : State) (result : Option SetEvent) : Type 0 where
   pub q : Pumped
   pub told : option_map event_told result ≡ q.told
   pub leads : pump now n ≡ pumped_on now q.told (after_call q n)
-  pub holds : Holds (record s { set = new }) (called q n)
+  pub holds : Holds (record s { set = new }) (before_entering q n)
 
 does : (now : ℕ) (s : Station) (new : Circuits Kept) (n : State) (result : Option SetEvent) (q : Pumped) → Holds s n → SameRouter s.set.router new.router
     → DoesPump Made s.set new n.log result q → (AllAnswer n.links q.calls → pump now n ≡ pumped_on now q.told (after_call q n)) → Called now s new n result
@@ -71,17 +71,17 @@ module _ (offers : OffersLeave) (takes : TakesLower) (less : TellsLess) where
 
 -- what was told is entered
 pub told_on : (now : ℕ) (n : State) (q : Pumped) (e : SetTold) → Some e ≡ q.told → pump now n ≡ pumped_on now q.told (after_call q n)
-    → pump now n ≡ pump now (record (called q n) { entries = n.entries ++ Of_set e ∷ []; sessions = hear_circuits n.settings.prompt e n.sessions })
+    → pump now n ≡ pump now (record (before_entering q n) { entries = n.entries ++ Of_set e ∷ []; sessions = hear_circuits n.settings.prompt e n.sessions })
 told_on now n q e told leads =
     leads ∙ (ap (λ (o : Option SetTold). pumped_on now o (after_call q n)) (sym told)
-    ∙ ap (λ (o : Option SetTold). pump now (record (called q n) { entries = n.entries ++ told_entries o; sessions = hear_if n.settings.prompt o n.sessions })) (sym told))
+    ∙ ap (λ (o : Option SetTold). pump now (record (before_entering q n) { entries = n.entries ++ told_entries o; sessions = hear_if n.settings.prompt o n.sessions })) (sym told))
 
 -- nothing was told
-pub pumped_is : (now : ℕ) (n : State) (q : Pumped) → None ≡ q.told → pump now n ≡ pumped_on now q.told (after_call q n) → pump now n ≡ called q n
+pub pumped_is : (now : ℕ) (n : State) (q : Pumped) → None ≡ q.told → pump now n ≡ pumped_on now q.told (after_call q n) → pump now n ≡ before_entering q n
 pumped_is now n q told leads =
     leads ∙ (ap (λ (o : Option SetTold). pumped_on now o (after_call q n)) (sym told)
-    ∙ (ap (λ (o : Option SetTold). record (called q n) { entries = n.entries ++ told_entries o; sessions = hear_if n.settings.prompt o n.sessions }) (sym told)
-    ∙ ap (λ (es : List Entry). record (called q n) { entries = es }) (append-nil n.entries)))
+    ∙ (ap (λ (o : Option SetTold). record (before_entering q n) { entries = n.entries ++ told_entries o; sessions = hear_if n.settings.prompt o n.sessions }) (sym told)
+    ∙ ap (λ (es : List Entry). record (before_entering q n) { entries = es }) (append-nil n.entries)))
 
 -- nothing lies anywhere, so that nothing is told and all stays
 pub nothing_lies : OffersLeave → TakesLower → TellsLess → (now : ℕ) (s : Station) (n : State) → Holds s n

@@ -19,7 +19,7 @@ use Rattle.node_turns.specs.Serving as serving
 use Rattle.node_turns.specs.Sessions as s
 use Rattle.node_turns.specs.Sessions.{Session}
 use Rattle.node_turns.specs.States.{State}
-use Rattle.node_turns.specs.Users.{changed}
+use Rattle.node_turns.specs.Users.{change_if}
 use Rattle.node_core.proofs.Bearing.{same_is}
 use Rattle.node_core.proofs.Owning.{changed_less, filter_less, map_less, one, push_one, total}
 use Rattle.node_core.proofs.Pumped.{pump_keeps, pump_links}
@@ -58,7 +58,7 @@ moved t u ss leaves l =
 same_at : (peer : Callsign) (x y : Session) → y.user ≡ x.user → y.left ≡ x.left → at_link peer y ≤ at_link peer x
 same_at peer x y e f = let same : at_link peer y ≡ at_link peer x = rw (e, f) refl in omega (arith, same)
 
-pub stepped : (nth : ℕ) (step : Session → Session) (ss : List Session) → KeepsUser step → NoMore ss (changed (slice_get ss nth) nth step ss)
+pub stepped : (nth : ℕ) (step : Session → Session) (ss : List Session) → KeepsUser step → NoMore ss (change_if (slice_get ss nth) nth step ss)
 stepped nth step ss keeps peer = changed_less (at_link peer) step ss nth (slice_get ss nth) refl (λ x. same_at peer x (step x) (keeps x).0 (keeps x).1)
 
 noticed : (peer : Callsign) (id : ℕ) (notice : EndNotice) (x : Session) → at_link peer (s.hear_notice id notice x) ≤ at_link peer x

@@ -18,7 +18,7 @@ use Rattle.link_table.specs.declared.path_refusal.PathRefusal.TheVariants as pat
 use Rattle.node_core.specs.declared.station.Station.{Station}
 use Rattle.node_turns.specs.Circuits as circuits
 use Rattle.node_core.specs.Inputs.{after_bytes, after_input, after_item, after_items, moment, new_items}
-use Rattle.node_core.specs.Kept.{Kept, NodeStands, kept}
+use Rattle.node_core.specs.Kept.{Kept, NodeStands, view_of}
 use Rattle.node_core.specs.Sound.{IsReached, IsSound}
 use Rattle.node_core.specs.Taking.{Takes}
 use Rattle.node_core.specs.Bridged.{AsksForCall, Bytes, Input, after, after_all}
@@ -31,7 +31,7 @@ use Rattle.circuit_set.specs.Inputs.{TellsLess}
 use Rattle.link_table.specs.Payloads.{OffersLeave, TakesLower}
 use Rattle.node_turns.specs.Pumping.{pump}
 use Rattle.node_turns.proofs.Resting.{pumped_dry}
-use Rattle.node_core.specs.Going.{Goes, item_of}
+use Rattle.node_core.specs.Going.{StationGoes, item_of}
 use Rattle.node_core.specs.Standing.{Holds, IsDrained, IsTold, entry_of}
 use Rattle.node_turns.specs.States.{NodeState, State, at_links, fetch_entry, fetch_frame, fetch_own}
 use Rattle.node_core.proofs.Calls.{rest_of, some_pending}
@@ -80,7 +80,7 @@ led i asks n r = record {
 -- what an input leaves of what a node stands for, at a moment that is cut off
 pub stands_on : NothingLeftAfterInputs → (step : ℕ → State → State) (now m : ℕ) (k : Kept) (s : Station) → m ≡ moment now
     → ((n : State) → Holds k.station n → IsTold n → Holds s (after_input m (step m n)))
-    → (n : NodeState) → NodeStands k n → NodeStands (kept k.deframer s false) (record n { station = after_input (moment now) (step (moment now) n.station) })
+    → (n : NodeState) → NodeStands k n → NodeStands (view_of k.deframer s false) (record n { station = after_input (moment now) (step (moment now) n.station) })
 stands_on nothing step now m k s e goes n h = record {
   unspent = refl;
   stream = h.stream;
@@ -90,7 +90,7 @@ stands_on nothing step now m k s e goes n h = record {
 
 pub sound_on : NothingLeftAfterInputs → (step : ℕ → State → State) (now m : ℕ) (k : Kept) (s : Station) → m ≡ moment now
     → ((n : State) → Holds k.station n → IsTold n → Holds s (after_input m (step m n)))
-    → IsDrained s → Leads (λ n. record n { station = after_input (moment now) (step (moment now) n.station) }) → IsSound k → IsSound (kept k.deframer s false)
+    → IsDrained s → Leads (λ n. record n { station = after_input (moment now) (step (moment now) n.station) }) → IsSound k → IsSound (view_of k.deframer s false)
 sound_on nothing step now m k s e goes drained leads sound =
     record {
       state = _;
@@ -103,8 +103,8 @@ sound_on nothing step now m k s e goes drained leads sound =
 -- ---- outputs
 
 -- what the fetching of an output leaves
-pub fetched_on : (step : State → State) → ((n : State) → IsTold n → IsTold (step n)) → (k : Kept) (s : Station) → Goes step k.station s
-    → (n : NodeState) → NodeStands k n → NodeStands (kept k.deframer s k.spent) (record n { station = step n.station })
+pub fetched_on : (step : State → State) → ((n : State) → IsTold n → IsTold (step n)) → (k : Kept) (s : Station) → StationGoes step k.station s
+    → (n : NodeState) → NodeStands k n → NodeStands (view_of k.deframer s k.spent) (record n { station = step n.station })
 fetched_on step told k s goes n h = record {
   unspent = h.unspent;
   stream = h.stream;
@@ -113,8 +113,8 @@ fetched_on step told k s goes n h = record {
 }
 
 pub sound_fetched : (step : State → State) → ((n : State) → IsTold n → IsTold (step n)) → ((n : State) → (step n).links.pending.waiting ≡ n.links.pending.waiting)
-    → Leads (λ n. record n { station = step n.station }) → (k : Kept) (s : Station) → Goes step k.station s → (IsDrained k.station → IsDrained s) → IsSound k
-    → IsSound (kept k.deframer s k.spent)
+    → Leads (λ n. record n { station = step n.station }) → (k : Kept) (s : Station) → StationGoes step k.station s → (IsDrained k.station → IsDrained s) → IsSound k
+    → IsSound (view_of k.deframer s k.spent)
 sound_fetched step told waits leads k s goes drained sound =
     record {
       state = _;
@@ -142,7 +142,7 @@ dropped_first : (xs : List NodeEntry) → map entry_of (drop 1 xs) ≡ drop 1 (m
 dropped_first [] = refl
 dropped_first (x ∷ xs) = refl
 
-pub entry_fetched : (s s2 : Station) → s2.entries.items ≡ drop 1 s.entries.items → s2 ≡ record s { entries = s2.entries } → Goes fetch_entry s s2
+pub entry_fetched : (s s2 : Station) → s2.entries.items ≡ drop 1 s.entries.items → s2 ≡ record s { entries = s2.entries } → StationGoes fetch_entry s s2
 entry_fetched s s2 e same n h =
     let entries : map entry_of s2.entries.items ≡ drop 1 n.entries =
     ap (map entry_of) e ∙ (dropped_first s.entries.items ∙ ap (drop 1) h.queues.entries) in
@@ -193,7 +193,7 @@ items_collected nothing now (i ∷ is) n e = items_collected nothing now is (aft
 pub bytes_on : NothingLeftAfterInputs → (now m : ℕ) (bytes : List ℕ) (k : Kept) (d : kiss.HeldPiece) (s : Station) → m ≡ moment now
     → ((stream : List ℕ) → kiss.StandsFor k.deframer stream → kiss.StandsFor d (stream ++ bytes))
     → ((stream : List ℕ) → kiss.StandsFor k.deframer stream → Takes m k.station s stream bytes)
-    → (n : NodeState) → NodeStands k n → NodeStands (kept d s false) (after_bytes now bytes n)
+    → (n : NodeState) → NodeStands k n → NodeStands (view_of d s false) (after_bytes now bytes n)
 bytes_on nothing now m bytes k d s e fed taken n h =
     let t = taken n.stream h.stream in
     let new : new_items n.stream bytes ≡ t.given = given_is_new n.stream bytes t.given t.adds in
@@ -207,7 +207,7 @@ bytes_on nothing now m bytes k d s e fed taken n h =
 pub sound_bytes : NothingLeftAfterInputs → (now m : ℕ) (bytes : List ℕ) (k : Kept) (d : kiss.HeldPiece) (s : Station) → m ≡ moment now
     → ((stream : List ℕ) → kiss.StandsFor k.deframer stream → kiss.StandsFor d (stream ++ bytes))
     → ((stream : List ℕ) → kiss.StandsFor k.deframer stream → Takes m k.station s stream bytes)
-    → (IsDrained k.station → IsDrained s) → IsSound k → IsSound (kept d s false)
+    → (IsDrained k.station → IsDrained s) → IsSound k → IsSound (view_of d s false)
 sound_bytes nothing now m bytes k d s e fed taken drained sound =
     record {
       state = _;
@@ -249,7 +249,7 @@ path_goes (Err e) step old new a goes err = λ t h. subst (λ (k : LinkTable). T
 
 pub sound_path : (r : Result (Unit {0}) PathRefusal) (step : Table → Table) (k : Kept) (router : Routing LinkTable) (old new : LinkTable) → router ≡ k.station.set.router → old ≡ router.carrier
     → NotNoMemory r → OnOk r (TableGoes step old new) → OnErr r (NotNoMemory r → new ≡ old) → ((t : Table) → (step t).pending.waiting ≡ t.pending.waiting)
-    → Leads (λ n. record n { station = at_links step n.station }) → IsSound k → IsSound (kept k.deframer (with_carrier k.station router new) k.spent)
+    → Leads (λ n. record n { station = at_links step n.station }) → IsSound k → IsSound (view_of k.deframer (with_carrier k.station router new) k.spent)
 sound_path r step k router old new e f a goes err waits leads sound =
     sound_fetched (at_links (path_step r step)) (λ n told. told) (λ n. path_waits r step waits n.links) (path_leads r step leads) k (with_carrier k.station router new)
     (links_go (path_step r step) k.station router old new e f (path_goes r step old new a goes err)) (λ drained. drained) sound

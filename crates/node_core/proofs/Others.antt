@@ -137,7 +137,7 @@ not_hears id = record { notice = λ at n x w. noticed_not id at n x x.stage refl
 pub others_hear : (id nth : ℕ) (prompt : Bool) (t : CircuitTold) (ss : List Session) → OthersNot id nth ss → OthersNot id nth (sessions.hear_circuits prompt (Of t) ss)
 others_hear id nth prompt t ss e = but_hear (NotIts id) (not_hears id) (λ user. refl) nth prompt t ss e
 
-pub others_changed : (id nth : ℕ) (f : Session → Session) (ss : List Session) (o : Option Session) → OthersNot id nth ss → OthersNot id nth (users.changed o nth f ss)
+pub others_changed : (id nth : ℕ) (f : Session → Session) (ss : List Session) (o : Option Session) → OthersNot id nth ss → OthersNot id nth (users.change_if o nth f ss)
 others_changed id nth f ss None e = e
 others_changed id nth f ss (Some x) e = but_set (NotIts id) nth (f x) ss e
 

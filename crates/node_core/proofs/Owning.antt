@@ -18,7 +18,7 @@ use Rattle.node_core.specs.Runs.{MadeFrom}
 use Rattle.node_turns.specs.Serving.{is_at_end, is_circuit}
 use Rattle.node_turns.specs.Sessions as s
 use Rattle.node_turns.specs.Sessions.{Session, circuit_of}
-use Rattle.node_turns.specs.Users.{changed}
+use Rattle.node_turns.specs.Users.{change_if}
 use Rattle.node_core.proofs.Ends.{Once}
 use Rattle.node_core.proofs.Holders.{AreNamed, AreOpen, Below, HaveMessages, Keeps, none_closing}
 use Rattle.node_core.proofs.Leaving.{IsHeld, LeavesHeld, gone_by, gones_both}
@@ -75,7 +75,7 @@ placed of [] nth x y e = absurd (cc e)
 placed of (z ∷ ss) zero x y e = let same : z ≡ x = cc e in rw same (omega arith)
 placed of (z ∷ ss) (suc nth) x y e = omega (arith, placed of ss nth x y e)
 
-pub changed_less : (of : Session → ℕ) (f : Session → Session) (ss : List Session) (nth : ℕ) (o : Option Session) → slice_get ss nth ≡ o → ((x : Session) → of (f x) ≤ of x) → total of (changed o nth f ss) ≤ total of ss
+pub changed_less : (of : Session → ℕ) (f : Session → Session) (ss : List Session) (nth : ℕ) (o : Option Session) → slice_get ss nth ≡ o → ((x : Session) → of (f x) ≤ of x) → total of (change_if o nth f ss) ≤ total of ss
 changed_less of f ss nth None e less = omega arith
 changed_less of f ss nth (Some x) e less = omega (arith, placed of ss nth x (f x) e, less x)
 

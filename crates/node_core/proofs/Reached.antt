@@ -48,7 +48,7 @@ use Rattle.node_turns.specs.Sessions.{Session, leaves}
 use Rattle.node_turns.specs.Settling as s
 use Rattle.node_core.specs.Standing.{IsTold}
 use Rattle.node_turns.specs.States.{NodeState, State, at_links, at_set, fetch_own, with_items}
-use Rattle.node_turns.specs.Users.{took}
+use Rattle.node_turns.specs.Users.{has_taken}
 use Rattle.node_core.specs.Waits.{has_text_at}
 use Rattle.node_core.proofs.Faithful.{sessions_fine}
 use Rattle.node_core.proofs.FineActs.{act_fine, round_fine}
@@ -258,11 +258,11 @@ module _ (offers : OffersLeave) (takes : TakesLower) (less : TellsLess) (law : C
       let d = g.closed c h k in
       ap (λ (bs : List ℕ). nat_lt 0 (length bs) || (not x.left && has_text_at x.user n)) d.0 ∙ by x.user x.left d.1
     where
-      none : (o : Option Holder) → is_none (facts_at o) ≡ true → took (take_answer o) ≡ false
+      none : (o : Option Holder) → is_none (facts_at o) ≡ true → has_taken (take_answer o) ≡ false
       none None e = refl
       none (Some w) e = held w.gone e
         where
-          held : (b : Bool) → is_none (if b then None else Some (facts_of w.end)) ≡ true → took (if b then Err (record {}) else Ok (nat_lt 0 (length (inbox w.end.receiving)))) ≡ false
+          held : (b : Bool) → is_none (if b then None else Some (facts_of w.end)) ≡ true → has_taken (if b then Err (record {}) else Ok (nat_lt 0 (length (inbox w.end.receiving)))) ≡ false
           held true f = refl
           held false f = absurd (cc f)
 

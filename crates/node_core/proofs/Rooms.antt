@@ -197,7 +197,7 @@ module _ (now id : ℕ) (n : State) (peer : Callsign) (named : AreNamed n.set.se
   abbrev Loads : Option Holder → Type 0
   Loads o = loads (next_hop n) peer (sets.after_call set o sets.Takes now).told ≤ one (users.goes_over peer (users.hop_to (partner_at o) n))
 
-  take_load : (o : Option Holder) → users.end_at id n ≡ o → users.took (answers.take_answer o) ≡ true → Loads o
+  take_load : (o : Option Holder) → users.end_at id n ≡ o → users.has_taken (answers.take_answer o) ≡ true → Loads o
   take_load None e t = absurd (cc t)
   take_load (Some h) e t = held h.gone t
     where
@@ -207,12 +207,12 @@ module _ (now id : ℕ) (n : State) (peer : Callsign) (named : AreNamed n.set.se
       at : IsCallsign h.at.letters h.at.ssid
       at = every_in (λ x. IsCallsign x.at.letters x.at.ssid) h set.ends named.1 (end_in id set.ends h e)
 
-      held : (b : Bool) → users.took (if b then Err (record {}) else Ok (nat_lt 0 (length (inbox h.end.receiving)))) ≡ true
+      held : (b : Bool) → users.has_taken (if b then Err (record {}) else Ok (nat_lt 0 (length (inbox h.end.receiving)))) ≡ true
           → loads (next_hop n) peer (if b then sets.does_nothing set else sets.goes_to set h [] g).told ≤ one (users.goes_over peer (users.hop_to (if b then None else Some h.at) n))
       held true f = absurd (cc f)
       held false f = outs_load (next_hop n) peer set h g.outs g.notes (sets.is_over g.end) named.0 at (takes_few h.end now) g.end
 
-  took_room : n.set.untold ≡ [] → users.took (answers.take_answer (users.end_at id n)) ≡ true → users.link_has_room_beside peer id n ≡ true
+  took_room : n.set.untold ≡ [] → users.has_taken (answers.take_answer (users.end_at id n)) ≡ true → users.link_has_room_beside peer id n ≡ true
       → HasRoom peer (at_set (circuits.acts (sets.Calls id sets.Takes now)) n)
   unfolding circuits.acts
   took_room none t room =
@@ -222,7 +222,7 @@ module _ (now id : ℕ) (n : State) (peer : Callsign) (named : AreNamed n.set.se
       let fits = beside (users.goes_over peer (users.hop_to (partner_at o) n)) (links.room peer n.links) room in
       subst (λ (ts : List CircuitTold). 33 + loads (next_hop n) peer (ts ++ told) ≤ links.room peer n.links) (sym none) (omega (arith, few, fits))
 
-  pub room_after : p.at_router n ≡ 0 → n.set.untold ≡ [] → users.took (answers.take_answer (users.end_at id n)) ≡ true → users.link_has_room_beside peer id n ≡ true
+  pub room_after : p.at_router n ≡ 0 → n.set.untold ≡ [] → users.has_taken (answers.take_answer (users.end_at id n)) ≡ true → users.link_has_room_beside peer id n ≡ true
       → 33 ≤ links.room peer (p.pump now (at_set (circuits.acts (sets.Calls id sets.Takes now)) n)).links
   room_after router none t room = let has = dry_room peer now (at_set (circuits.acts (sets.Calls id sets.Takes now)) n) router (took_room none t room) in omega (arith, has)
 

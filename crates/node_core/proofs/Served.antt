@@ -155,13 +155,13 @@ module _ (P : State → State → Type 0) (w : Serves P) (reads : ReadsCallTexts
   behind : (nth : ℕ) (step : Session → Session) (n m : State) → KeepsUser step → P (at_session nth step n) m → P n m
   behind nth step n m keeps c = w.follows n (at_session nth step n) m (w.changes nth step n keeps) c
 
-  written_on : (id : ℕ) (text : List ℕ) (now : ℕ) (r : Result (Unit {0}) SetRefusal) (n : State) → P n (users.written r (sets.Calls id (sets.Writes text) now) n)
+  written_on : (id : ℕ) (text : List ℕ) (now : ℕ) (r : Result (Unit {0}) SetRefusal) (n : State) → P n (users.write_if_ok r (sets.Calls id (sets.Writes text) now) n)
   written_on id text now (Ok _) n = w.acts (sets.Calls id (sets.Writes text) now) n tt
   written_on id text now (Err why) n = w.still n
 
   write_on : (now id : ℕ) (text : List ℕ) (n : State) → P n (users.write_to now id text n)
   write_on now id text n =
-      let m : State = users.written (users.write_answer id text n) (sets.Calls id (sets.Writes text) now) n in
+      let m : State = users.write_if_ok (users.write_answer id text n) (sets.Calls id (sets.Writes text) now) n in
       w.follows n m _ (written_on id text now (users.write_answer id text n) n) (w.pumps now m)
 
   close_on : (now id : ℕ) (n : State) → P n (users.close now id n)
@@ -169,7 +169,7 @@ module _ (P : State → State → Type 0) (w : Serves P) (reads : ReadsCallTexts
 
   -- ---- the user's side
 
-  sent_on : (now : ℕ) (peer : Callsign) (text : List ℕ) (r : Result (Unit {0}) TextRefusal) (n : State) → P n (users.sent r peer text now n)
+  sent_on : (now : ℕ) (peer : Callsign) (text : List ℕ) (r : Result (Unit {0}) TextRefusal) (n : State) → P n (users.send_if_ok r peer text now n)
   sent_on now peer text (Ok _) n = w.sends_text peer text now n
   sent_on now peer text (Err why) n = w.still n
 
@@ -197,7 +197,7 @@ module _ (P : State → State → Type 0) (w : Serves P) (reads : ReadsCallTexts
       let m : State = at_set (circuits.acts (sets.Calls id sets.Takes now)) n in
       let step = users.with_text (answers.message_at [] (users.end_at id n)) in
       let b : State = at_session nth step m in
-      take_if_on (users.took (answers.take_answer (users.end_at id n))) (pump now b) n
+      take_if_on (users.has_taken (answers.take_answer (users.end_at id n))) (pump now b) n
       (w.follows n m (pump now b) (w.acts (sets.Calls id sets.Takes now) n tt) (behind nth step m (pump now b) (λ x. (refl, refl)) (w.pumps now b)))
 
   from_link_on : (now nth : ℕ) (peer : Callsign) (n : State) → TurnOn n (users.take_from_link now nth peer n)
@@ -223,14 +223,14 @@ module _ (P : State → State → Type 0) (w : Serves P) (reads : ReadsCallTexts
   reply_on (Some r) now nth n = behind nth bridging.drop_reply n _ (λ x. (refl, refl)) (say_on now nth _ (at_session nth bridging.drop_reply n))
 
   pass_on : (now nth : ℕ) (message : List ℕ) (n : State) → P n (bridging.pass_on now nth message n)
-  pass_on now nth message n = behind nth (bridging.log_gave (users.said nth message n) message) n _ (λ x. (refl, refl)) (say_on now nth message _)
+  pass_on now nth message n = behind nth (bridging.log_gave (users.outcome_for nth message n) message) n _ (λ x. (refl, refl)) (say_on now nth message _)
 
   given_on : (o : Option Circuit) (now nth : ℕ) (n : State) → TurnOn n (bridging.give_of o now nth n)
   given_on None now nth n = w.still n
   given_on (Some c) now nth n =
       let end = users.end_at c.id n in
       let m : State = users.acts now (sets.Calls c.id sets.Takes now) n in
-      either_turn (users.took (answers.take_answer end)) _ _ n
+      either_turn (users.has_taken (answers.take_answer end)) _ _ n
       (w.follows n m _ (acts_on now (sets.Calls c.id sets.Takes now) n tt) (behind nth (bridging.log_got (answers.message_at [] end)) m _ (λ x. (refl, refl)) (pass_on now nth (answers.message_at [] end) _))) (w.still n)
 
   next_on : (now nth : ℕ) (n : State) → TurnOn n (bridging.next_text now nth n)
@@ -252,7 +252,7 @@ module _ (P : State → State → Type 0) (w : Serves P) (reads : ReadsCallTexts
   closed_on None now nth n = w.still n
   closed_on (Some c) now nth n = behind nth bridging.note_closed n _ (λ x. (refl, refl)) (close_on now c.id _)
 
-  tried_on : (now nth : ℕ) (dest : Callsign) (r : Result ℕ ConnectRefusal) (n : State) → IsCallsign dest.letters dest.ssid → P n (asking.tried now nth dest r n)
+  tried_on : (now nth : ℕ) (dest : Callsign) (r : Result ℕ ConnectRefusal) (n : State) → IsCallsign dest.letters dest.ssid → P n (asking.try_by now nth dest r n)
   tried_on now nth dest (Ok id) n i =
       let a : State = at_session nth (asking.tries id dest) n in
       let b : State = users.acts now (sets.Connect dest now) a in

@@ -281,7 +281,7 @@ module _ (law : CarriesWhatWasOffered) where
   act_short now (user.Lock dest alias neighbour quality) n c =
       either_node _ _ (same_call dest n.settings.call) c
       (either_node _ _ (nat_lt quality n.settings.rules.minq) c
-      (either_node (acts.done (with_items (logs.Lock dest alias neighbour quality ∷ []) n)) _ (receiving.has_room (logs.Lock dest alias neighbour quality ∷ []) n) c c))
+      (either_node (acts.answer_done (with_items (logs.Lock dest alias neighbour quality ∷ []) n)) _ (receiving.has_room (logs.Lock dest alias neighbour quality ∷ []) n) c c))
   act_short now (user.Connect dest) n c = connects (connect_answer (next_hop n) dest n.set.set) (sets.Connect dest now) n c
   act_short now (user.Write id message) n c =
       either_node _ _ (acts.is_kept id n) c (writes (write_answer (sets.end_of id n.set.set.ends) message) (sets.Calls id (sets.Writes message) now) n c)

@@ -16,9 +16,9 @@ use Rattle.node_turns.specs.declared.session.User.TheVariants.{AtEnd}
 use Rattle.node_core.specs.Bridged.{WritesTaken, most_replies}
 use Rattle.node_turns.specs.Bridging as bridging
 use Rattle.node_turns.specs.Sessions as s
-use Rattle.node_turns.specs.Sessions.{Bridge, Session, circuit_of, opened, waits}
+use Rattle.node_turns.specs.Sessions.{Bridge, Session, after_opening, circuit_of, waits}
 use Rattle.node_turns.specs.Users as users
-use Rattle.node_turns.specs.Users.{Outcome, Taken, Exhausts, Unheard, Refused, changed}
+use Rattle.node_turns.specs.Users.{Outcome, Taken, Exhausts, Unheard, Refused, change_if}
 
 abbrev pub WritesAt : Stage → Session → Type 0
 WritesAt AtPrompt x = Unit {0}
@@ -42,7 +42,7 @@ pub record Hears (P : Session → Type 0) : Type 0 where
   pub notice : (id : ℕ) (notice : EndNotice) (x : Session) → P x → P (s.hear_notice id notice x)
   pub gone : (id : ℕ) (x : Session) → P x → P (s.hear_gone id x)
 
-opened_bridge : (c : Circuit) (notice : EndNotice) (x : Session) → WritesAt (s.stage_by c notice) (record x { stage = s.stage_by c notice; bridge = opened x.rest x.bridge })
+opened_bridge : (c : Circuit) (notice : EndNotice) (x : Session) → WritesAt (s.stage_by c notice) (record x { stage = s.stage_by c notice; bridge = after_opening x.rest x.bridge })
 opened_bridge c (end.Opened window) x = λ e. refl
 opened_bridge c end.Refused x = tt
 opened_bridge c end.Closed x = tt
@@ -71,7 +71,7 @@ heard_tried : (c : Circuit) (notice : EndNotice) (x : Session) → x.stage ≡ T
 heard_tried c notice x e p =
     let few = ap most_replies e in
     record {
-      writes = same_bridge (s.stage_by c notice) (record x { stage = s.stage_by c notice; bridge = opened x.rest x.bridge }) (s.hear_tried c notice x) refl refl (opened_bridge c notice x);
+      writes = same_bridge (s.stage_by c notice) (record x { stage = s.stage_by c notice; bridge = after_opening x.rest x.bridge }) (s.hear_tried c notice x) refl refl (opened_bridge c notice x);
       rest = p.rest;
       replies = omega (arith, p.replies, few, one_reply c notice, length-append x.replies (s.told_by c.dest notice ∷ []));
     }
@@ -130,7 +130,7 @@ set_every P [] nth x e p = tt
 set_every P (y ∷ ss) zero x e p = (p, e.1)
 set_every P (y ∷ ss) (suc nth) x e p = (e.0, set_every P ss nth x e.1 p)
 
-pub changed_every : (P : Session → Type 0) (f : Session → Session) (ss : List Session) (nth : ℕ) (o : Option Session) → ((x : Session) → o ≡ Some x → P (f x)) → Every P ss → Every P (changed o nth f ss)
+pub changed_every : (P : Session → Type 0) (f : Session → Session) (ss : List Session) (nth : ℕ) (o : Option Session) → ((x : Session) → o ≡ Some x → P (f x)) → Every P ss → Every P (change_if o nth f ss)
 changed_every P f ss nth None on e = e
 changed_every P f ss nth (Some x) on e = set_every P ss nth (f x) e (on x refl)
 
@@ -201,7 +201,7 @@ set_here [] nth x y e = absurd (cc e)
 set_here (z ∷ ss) zero x y e = refl
 set_here (z ∷ ss) (suc nth) x y e = set_here ss nth x y e
 
-pub changed_here : (f : Session → Session) (ss : List Session) (nth : ℕ) (x : Session) → slice_get ss nth ≡ Some x → slice_get (changed (slice_get ss nth) nth f ss) nth ≡ Some (f x)
+pub changed_here : (f : Session → Session) (ss : List Session) (nth : ℕ) (x : Session) → slice_get ss nth ≡ Some x → slice_get (change_if (slice_get ss nth) nth f ss) nth ≡ Some (f x)
 changed_here f ss nth x e = rw e (set_here ss nth x (f x) e)
 
 -- what a session that hears keeps: its user, whether that has left or said BYE, and the rest of its text
@@ -294,7 +294,7 @@ sound_wrote outcome text x e some good p = record { writes = by x.stage p.writes
     taken : WritesTaken x.bridge x.rest → x.bridge.exhausted ≡ false → x.bridge.taken ≡ (x.bridge.wrote ++ text ∷ []) ++ []
     taken w f = w f ∙ (ap (λ (r : List ℕ). x.bridge.wrote ++ waits r) e ∙ (ap (λ (r : List (List ℕ)). x.bridge.wrote ++ r) (waits_some text some) ∙ sym (append-nil (x.bridge.wrote ++ text ∷ []))))
 
-    goes : (outcome ≡ Taken) ⊎ (outcome ≡ Exhausts) → WritesTaken x.bridge x.rest → WritesTaken (bridging.wrote outcome text x.bridge) []
+    goes : (outcome ≡ Taken) ⊎ (outcome ≡ Exhausts) → WritesTaken x.bridge x.rest → WritesTaken (bridging.after_writing outcome text x.bridge) []
     goes (inl f) b = rw f (λ g. taken b g)
     goes (inr f) b = rw f (λ g. absurd (cc g))
 

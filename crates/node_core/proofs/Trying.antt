@@ -24,7 +24,7 @@ use Rattle.node_core.specs.Runs.{MadeFrom}
 use Rattle.node_turns.specs.Sessions.{Session}
 use Rattle.node_turns.specs.States.{State, at_set, next_hop}
 use Rattle.node_turns.specs.Users as users
-use Rattle.node_turns.specs.Users.{at_session, changed, session_at}
+use Rattle.node_turns.specs.Users.{at_session, change_if, session_at}
 use Rattle.node_core.proofs.Fine.{Fine, goes_on, pumped, said}
 use Rattle.node_core.proofs.Given.{Given, given_tries}
 use Rattle.node_core.proofs.Holders.{Any, AreOpen, Keeps, connects_keeps, none_closing}
@@ -82,7 +82,7 @@ asks_open : (id k : ℕ) (dest : Callsign) (x : Session) → x.stage ≡ AtPromp
 asks_open id k dest x e = let same = and_yes (nat_eq id k) in rw (e, same) (omega arith)
 
 more_by : (of : Session → ℕ) (f : Session → Session) (k : ℕ) (ss : List Session) (nth : ℕ) (o : Option Session) (x : Session) → slice_get ss nth ≡ o → o ≡ Some x → of (f x) ≡ of x + k
-    → total of (changed o nth f ss) ≡ total of ss + k
+    → total of (change_if o nth f ss) ≡ total of ss + k
 more_by of f k ss nth None x e g more = absurd (cc g)
 more_by of f k ss nth (Some y) x e g more =
     let same : y ≡ x = cc g in
@@ -207,7 +207,7 @@ asked_fine dest now id nth n x call f e i ok =
     )
 
 pub tried : (now nth : ℕ) (dest : Callsign) (r : Result ℕ ConnectRefusal) (n : State) (x : Session) → IsCall dest → connect_answer (next_hop n) dest n.set.set ≡ r → Fine n → session_at nth n ≡ Some x → Idle x
-    → Fine (asking.tried now nth dest r n)
+    → Fine (asking.try_by now nth dest r n)
 tried now nth dest (Ok id) n x call q f e i =
     let a : State = at_session nth (asking.tries id dest) n in
     let b : State = users.acts now (sets.Connect dest now) a in

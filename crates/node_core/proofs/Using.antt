@@ -18,7 +18,7 @@ use Rattle.l3_datagram.specs.Routers.{Routing}
 use Rattle.node_core.specs.declared.station.Station.{Station}
 use Rattle.node_turns.specs.Circuits as circuits
 use Rattle.node_turns.specs.Links as links
-use Rattle.node_core.specs.Going.{StandsTold, Told}
+use Rattle.node_core.specs.Going.{HoldsTold, StandsTold}
 use Rattle.node_core.specs.Standing.{Holds, IsTold}
 use Rattle.node_turns.specs.States.{State, at_links, at_set}
 use Rattle.node_turns.specs.Users as users
@@ -30,20 +30,20 @@ use Rattle.node_core.proofs.Idle.{take_nothing, told_is_drained}
 pub drained : (s : Station) → StandsTold s → sets.IsDrained s.set
 drained s t = told_is_drained s.set t.0 (t.1.0.parts.set, t.1.1)
 
-pub resting : (s : Station) (n : State) → Told s n → SetStands s.set (at_rest n.set.set)
+pub resting : (s : Station) (n : State) → HoldsTold s n → SetStands s.set (at_rest n.set.set)
 resting s n t = subst (SetStands s.set) t.1 t.0.parts.set
 
-pub set_acts : (a : s.Act) (st : Station) (new : Circuits Kept) → sets.GoesBy a st.set new → (n : State) → Told st n → Holds (record st { set = new }) (at_set (circuits.acts a) n)
+pub set_acts : (a : s.Act) (st : Station) (new : Circuits Kept) → sets.GoesBy a st.set new → (n : State) → HoldsTold st n → Holds (record st { set = new }) (at_set (circuits.acts a) n)
 unfolding circuits.acts
 set_acts a st new goes n t = set_steps (inputs.acts a) st new goes n t.0 t.1
 
 pub written_holds : (r : Result (Unit {0}) SetRefusal) (a : s.Act) (st : Station) (new : Circuits Kept) → OnOk r (sets.GoesBy a st.set new) → OnErr r (sets.IsUnchanged st.set new)
-    → (n : State) → Told st n → Holds (record st { set = new }) (users.written r a n)
+    → (n : State) → HoldsTold st n → Holds (record st { set = new }) (users.write_if_ok r a n)
 written_holds (Ok u) a st new goes same n t = set_acts a st new goes n t
 written_holds (Err why) a st new goes same n t = set_unchanged st new same n t.0
 
 -- nothing was taken: the circuits are as they were
-pub not_taken : (st : Station) (new : Circuits Kept) (id now : ℕ) (n : State) → Told st n → sets.GoesBy (s.Calls id s.Takes now) st.set new → users.took (answers.take_answer (users.end_at id n)) ≡ false
+pub not_taken : (st : Station) (new : Circuits Kept) (id now : ℕ) (n : State) → HoldsTold st n → sets.GoesBy (s.Calls id s.Takes now) st.set new → users.has_taken (answers.take_answer (users.end_at id n)) ≡ false
     → Holds (record st { set = new }) n
 not_taken st new id now n t goes none =
     let same : at_set (circuits.acts (s.Calls id s.Takes now)) n ≡ n =
@@ -53,13 +53,13 @@ not_taken st new id now n t goes none =
 -- a text was sent over a link, or refused
 pub sent_holds : (r : Result (Unit {0}) TextRefusal) (st : Station) (rt : Routing Kept) (old new : Kept) (peer : Callsign) (text : List ℕ) (now : ℕ) → rt ≡ st.set.router → old ≡ rt.carrier
     → TextNotNoMemory r → OnOk r (TableGoes (sending.send_text peer text now) old new) → OnErr r (TextNotNoMemory r → new ≡ old)
-    → (n : State) → Holds st n → Holds (with_carrier st rt new) (users.sent r peer text now n)
+    → (n : State) → Holds st n → Holds (with_carrier st rt new) (users.send_if_ok r peer text now n)
 unfolding links.send_text
 sent_holds (Ok u) st rt old new peer text now e f known goes same n h = links_go (sending.send_text peer text now) st rt old new e f goes n h
 sent_holds (Err why) st rt old new peer text now e f known goes same n h =
     links_go (λ (t : Table). t) st rt old new e f (λ t s. subst (λ (k : Kept). TableStands k t) (sym (same known)) s) n h
 
-pub sent_told : (r : Result (Unit {0}) TextRefusal) (peer : Callsign) (text : List ℕ) (now : ℕ) (n : State) → IsTold n → IsTold (users.sent r peer text now n)
+pub sent_told : (r : Result (Unit {0}) TextRefusal) (peer : Callsign) (text : List ℕ) (now : ℕ) (n : State) → IsTold n → IsTold (users.send_if_ok r peer text now n)
 sent_told (Ok u) peer text now n t = t
 sent_told (Err why) peer text now n t = t
 

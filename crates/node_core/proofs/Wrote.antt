@@ -175,13 +175,13 @@ written_others set call now at (x ∷ ss) n e = (written_other set call now at x
 pub written_same : (set : SetState) (x y : Session) → y.stage ≡ x.stage → y.bridge.wrote ≡ x.bridge.wrote → y.bridge.got ≡ x.bridge.got → Written set x → Written set y
 written_same set x y e f g w = record { all = subst (λ (stage : Stage). WrittenAt set stage y.bridge) (sym e) (at_stage set set x.bridge y.bridge x.stage f g (λ c ms gs h v. v) w.all) }
 
-gave_wrote : (o : Outcome) (message : List ℕ) (b : Bridge) → (bridging.gave o message b).wrote ≡ b.wrote
+gave_wrote : (o : Outcome) (message : List ℕ) (b : Bridge) → (bridging.after_giving o message b).wrote ≡ b.wrote
 gave_wrote Taken message b = refl
 gave_wrote Exhausts message b = refl
 gave_wrote Unheard message b = refl
 gave_wrote Refused message b = refl
 
-gave_got : (o : Outcome) (message : List ℕ) (b : Bridge) → (bridging.gave o message b).got ≡ b.got
+gave_got : (o : Outcome) (message : List ℕ) (b : Bridge) → (bridging.after_giving o message b).got ≡ b.got
 gave_got Taken message b = refl
 gave_got Exhausts message b = refl
 gave_got Unheard message b = refl
@@ -204,7 +204,7 @@ either : (set : SetState) (x y : Session) (b : Bool) → Written set x → Writt
 either set x y true p q = q
 either set x y false p q = p
 
-opened : (set : SetState) (c : Circuit) (n : EndNotice) (rest : List ℕ) (b : Bridge) → WroteAt set c.id [] b.got → WrittenAt set (sessions.stage_by c n) (sessions.opened rest b)
+opened : (set : SetState) (c : Circuit) (n : EndNotice) (rest : List ℕ) (b : Bridge) → WroteAt set c.id [] b.got → WrittenAt set (sessions.stage_by c n) (sessions.after_opening rest b)
 opened set c (notice.Opened window) rest b w = w
 opened set c notice.Refused rest b w = tt
 opened set c notice.Closed rest b w = tt
@@ -278,11 +278,11 @@ first_of k gs received (many, (more, e)) some = by more (rest_is k gs received m
     by [] f g = let none = ap (λ (ys : List (List ℕ)). length ys) f in absurd (omega (arith, none, some))
     by (x ∷ xs) f g = rw f (omega (arith, many, length-append gs (x ∷ [])), (xs, g ∙ sym (append_assoc gs (x ∷ []) xs)))
 
-its_take : (set : SetState) (now id : ℕ) (ms gs : List (List ℕ)) → users.took (answers.take_answer (s.end_of id set.ends)) ≡ true → WroteAt set id ms gs
+its_take : (set : SetState) (now id : ℕ) (ms gs : List (List ℕ)) → users.has_taken (answers.take_answer (s.end_of id set.ends)) ≡ true → WroteAt set id ms gs
     → WroteAt (s.set_step set (Calls id Takes now)).set id ms (gs ++ answers.message_at [] (s.end_of id set.ends) ∷ [])
 its_take set now id ms gs ok w = by (s.end_of id set.ends) refl ok
   where
-    taken : (h : Holder) (b : Bool) → h.gone ≡ b → s.end_of id set.ends ≡ Some h → users.took (if b then Err (record {}) else Ok (nat_lt 0 (length (inbox h.end.receiving)))) ≡ true
+    taken : (h : Holder) (b : Bool) → h.gone ≡ b → s.end_of id set.ends ≡ Some h → users.has_taken (if b then Err (record {}) else Ok (nat_lt 0 (length (inbox h.end.receiving)))) ≡ true
         → WroteAt (if b then s.does_nothing set else s.goes_to set h [] (end.step h.end end.Take now)).set id ms (gs ++ (if b then [] else first_or [] (inbox h.end.receiving)) ∷ [])
     taken h true k e f = absurd (cc f)
     taken h false k e f =
@@ -300,12 +300,12 @@ its_take set now id ms gs ok w = by (s.end_of id set.ends) refl ok
           taken = grown.takes_one (AreTaken (gs ++ m ∷ [])) (one_more (gs ++ m ∷ [])) h.end now f one;
         }
 
-    by : (o : Option Holder) → s.end_of id set.ends ≡ o → users.took (answers.take_answer o) ≡ true → WroteAt (s.after_call set o Takes now).set id ms (gs ++ answers.message_at [] o ∷ [])
+    by : (o : Option Holder) → s.end_of id set.ends ≡ o → users.has_taken (answers.take_answer o) ≡ true → WroteAt (s.after_call set o Takes now).set id ms (gs ++ answers.message_at [] o ∷ [])
     by None e f = absurd (cc f)
     by (Some h) e f = taken h h.gone refl e f
 
 -- so the session has, once the message is noted
-pub its_taken : (set : SetState) (now : ℕ) (c : Circuit) (x : Session) → users.took (answers.take_answer (s.end_of c.id set.ends)) ≡ true → circuit_of x.stage ≡ Some c → Written set x
+pub its_taken : (set : SetState) (now : ℕ) (c : Circuit) (x : Session) → users.has_taken (answers.take_answer (s.end_of c.id set.ends)) ≡ true → circuit_of x.stage ≡ Some c → Written set x
     → Written (s.set_step set (Calls c.id Takes now)).set (bridging.log_got (answers.message_at [] (s.end_of c.id set.ends)) x)
 its_taken set now c x ok e w = record { all = by x.stage e w.all }
   where

@@ -30,8 +30,8 @@ pub record Answered : Type 0 where
   pub answer : Result ActDone ActRefusal
   pub node : State
 
-abbrev pub done : State → Answered
-done n = record { answer = Ok Done; node = n }
+abbrev pub answer_done : State → Answered
+answer_done n = record { answer = Ok Done; node = n }
 
 -- a refused act changes nothing
 abbrev pub refuse : ActRefusal → State → Answered
@@ -46,7 +46,7 @@ abbrev pub lock : Callsign → Item → ℕ → State → Answered
 lock dest item quality n =
     if same_call dest n.settings.call then refuse refusal.Own n
     else if nat_lt quality n.settings.rules.minq then refuse refusal.TooLow n
-    else if has_room (item ∷ []) n then done (with_items (item ∷ []) n)
+    else if has_room (item ∷ []) n then answer_done (with_items (item ∷ []) n)
     else refuse (refusal.TableFull (length (usable n.settings.rules n.log)) (live_with (item ∷ []) n)) n
 
 -- ---- circuits: what each call answers, and the circuits after it
@@ -56,19 +56,19 @@ connect_by (Ok id) act n = record { answer = Ok (Made id); node = at_set (circui
 connect_by (Err why) act n = refuse (connect_refusal why) n
 
 abbrev pub write_by : Result (Unit {0}) SetRefusal → sets.Act → State → Answered
-write_by (Ok _) act n = done (at_set (circuits.acts act) n)
+write_by (Ok _) act n = answer_done (at_set (circuits.acts act) n)
 write_by (Err why) act n = refuse (write_refusal why) n
 
 -- the message that was taken. Where none waits, or no end of that number is held, the circuits stay as they are
-abbrev pub took : Result Bool NoEnd → List ℕ → Result ActDone ActRefusal
-took (Ok true) message = Ok (Took message)
-took (Ok false) message = Err refusal.Nothing
-took (Err why) message = Err refusal.NoEnd
+abbrev pub answer_to_take : Result Bool NoEnd → List ℕ → Result ActDone ActRefusal
+answer_to_take (Ok true) message = Ok (Took message)
+answer_to_take (Ok false) message = Err refusal.Nothing
+answer_to_take (Err why) message = Err refusal.NoEnd
 
 -- likewise where no end of that number is held
-abbrev pub closed : Result (Unit {0}) NoEnd → Result ActDone ActRefusal
-closed (Ok _) = Ok Done
-closed (Err why) = Err refusal.NoEnd
+abbrev pub answer_to_close : Result (Unit {0}) NoEnd → Result ActDone ActRefusal
+answer_to_close (Ok _) = Ok Done
+answer_to_close (Err why) = Err refusal.NoEnd
 
 abbrev pub write : ℕ → ℕ → List ℕ → State → Answered
 write now id message n = write_by (write_answer (sets.end_of id n.set.set.ends) message) (sets.Calls id (sets.Writes message) now) n
@@ -76,12 +76,12 @@ write now id message n = write_by (write_answer (sets.end_of id n.set.set.ends) 
 abbrev pub take : ℕ → ℕ → State → Answered
 take now id n =
     let end = sets.end_of id n.set.set.ends in
-    record { answer = took (take_answer end) (message_at [] end); node = at_set (circuits.acts (sets.Calls id sets.Takes now)) n }
+    record { answer = answer_to_take (take_answer end) (message_at [] end); node = at_set (circuits.acts (sets.Calls id sets.Takes now)) n }
 
 abbrev pub close : ℕ → ℕ → State → Answered
 close now id n =
     record {
-      answer = closed (close_answer (sets.end_of id n.set.set.ends));
+      answer = answer_to_close (close_answer (sets.end_of id n.set.set.ends));
       node = at_set (circuits.acts (sets.Calls id sets.Closes now)) n;
     }
 
@@ -93,8 +93,8 @@ abbrev pub unless_kept : ℕ → Answered → State → Answered
 unless_kept id a n = if is_kept id n then refuse refusal.Served n else a
 
 abbrev pub do_act : ℕ → UserAct → State → Answered
-do_act now Round n = done (do_round n)
-do_act now (LinkFail peer) n = done (fail_link peer n)
+do_act now Round n = answer_done (do_round n)
+do_act now (LinkFail peer) n = answer_done (fail_link peer n)
 do_act now (Lock dest alias neighbour quality) n = lock dest (logs.Lock dest alias neighbour quality) quality n
 do_act now (Connect dest) n = connect_by (connect_answer (next_hop n) dest n.set.set) (sets.Connect dest now) n
 do_act now (Write id message) n = unless_kept id (write now id message n) n

@@ -13,12 +13,12 @@ fetch_entries zero n = n
 fetch_entries (suc more) n = fetch_entries more (fetch_entry n)
 
 -- all frames were fetched, and nothing else is changed
-abbrev pub sent : State → State
-sent n = record n { own = []; links = all_fetched n.links }
+abbrev pub without_frames : State → State
+without_frames n = record n { own = []; links = all_fetched n.links }
 
 -- all entries were fetched, and nothing else is changed
-abbrev pub heard : State → State
-heard n = record n { entries = [] }
+abbrev pub without_entries : State → State
+without_entries n = record n { entries = [] }
 
 -- the frames are fetched in their order
 abbrev pub FramesInOrder : Type 0
@@ -26,7 +26,7 @@ FramesInOrder = (n : State) → frames (fetch_frame n) ≡ drop 1 (frames n)
 
 -- as many as there are: then none is left
 abbrev pub FetchesAllFrames : Type 0
-FetchesAllFrames = (n : State) → fetch_frames (length (frames n)) n ≡ sent n
+FetchesAllFrames = (n : State) → fetch_frames (length (frames n)) n ≡ without_frames n
 
 abbrev pub FetchesAllEntries : Type 0
-FetchesAllEntries = (n : State) → fetch_entries (length n.entries) n ≡ heard n
+FetchesAllEntries = (n : State) → fetch_entries (length n.entries) n ≡ without_entries n

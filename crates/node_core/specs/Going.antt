@@ -14,7 +14,7 @@ use Rattle.node_turns.specs.Sessions.{Session}
 use Rattle.node_core.specs.Standing.{Holds, IsAnswer, IsTold}
 use Rattle.node_turns.specs.States.{State}
 use Rattle.node_turns.specs.Turns.{Turn}
-use Rattle.node_turns.specs.Users.{changed}
+use Rattle.node_turns.specs.Users.{change_if}
 
 -- a KISS item, as plain data
 abbrev pub item_of : KissItem → Item
@@ -22,8 +22,8 @@ item_of (kiss.Frame port command payload) = Frame port command payload.now
 item_of kiss.TooLong = Too_long
 
 -- Whatever state it stood for, it stands for the one after the step now.
-abbrev pub Goes : (State → State) → Station → Station → Type 0
-Goes step old new = (n : State) → Holds old n → Holds new (step n)
+abbrev pub StationGoes : (State → State) → Station → Station → Type 0
+StationGoes step old new = (n : State) → Holds old n → Holds new (step n)
 
 -- whether a step does something, by whatever state it stands for
 abbrev pub Did : (State → Bool) → Station → Bool → Type 0
@@ -34,34 +34,34 @@ abbrev pub StandsForSome : Station → Type 0
 StandsForSome s = (n : State) × Holds s n
 
 -- it stands for a state of which nothing is untold
-abbrev pub Told : Station → State → Type 0
-Told s n = Holds s n × IsTold n
+abbrev pub HoldsTold : Station → State → Type 0
+HoldsTold s n = Holds s n × IsTold n
 
 -- the same of its circuits alone
-abbrev pub SetTold : Circuits Kept → State → Type 0
-SetTold c n = SetStands c n.set × IsTold n
+abbrev pub SetHoldsTold : Circuits Kept → State → Type 0
+SetHoldsTold c n = SetStands c n.set × IsTold n
 
 abbrev pub StandsTold : Station → Type 0
-StandsTold s = (n : State) × Told s n
+StandsTold s = (n : State) × HoldsTold s n
 
 abbrev pub GoesWhereTold : (State → State) → Station → Station → Type 0
 GoesWhereTold step old new = (n : State) → Holds old n → IsTold n → Holds new (step n)
 
 -- from each such state it goes over to the one after the step, which is such a one, too
 abbrev pub Steps : (State → State) → Station → Station → Type 0
-Steps step old new = (n : State) → Told old n → Told new (step n)
+Steps step old new = (n : State) → HoldsTold old n → HoldsTold new (step n)
 
 -- the same of a turn, and whether it did something
 pub record HasTurned (t : Turn State) (new : Station) (did : Bool) : Type 0 where
   pub did_is : did ≡ t.did
-  pub stands : Told new t.after
+  pub stands : HoldsTold new t.after
 
 abbrev pub Turns : (State → Turn State) → Station → Station → Bool → Type 0
-Turns turn old new did = (n : State) → Told old n → HasTurned (turn n) new did
+Turns turn old new did = (n : State) → HoldsTold old n → HasTurned (turn n) new did
 
 -- the session in a place is changed, if there is one
 pub record Changes (nth : ℕ) (change : Session → Session) (old new : Station) : Type 0 where
-  pub sessions : new.sessions.items ≡ changed (slice_get old.sessions.items nth) nth change old.sessions.items
+  pub sessions : new.sessions.items ≡ change_if (slice_get old.sessions.items nth) nth change old.sessions.items
   pub same : new ≡ record old { sessions = new.sessions }
 
 -- it is changed by each step that says what a change does

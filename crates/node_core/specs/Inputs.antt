@@ -44,11 +44,11 @@ abbrev pub after_tick : ℕ → NodeState → NodeState
 after_tick now n = record n { station = after_input (moment now) (tick (moment now) n.station) }
 
 -- a refused act is settled like one that is done
-abbrev pub settled : ℕ → Answered → Answered
-settled now a = record a { node = after_input now a.node }
+abbrev pub settle_answered : ℕ → Answered → Answered
+settle_answered now a = record a { node = after_input now a.node }
 
 abbrev pub settled_act : ℕ → UserAct → State → Answered
-settled_act now act n = settled now (do_act now act n)
+settled_act now act n = settle_answered now (do_act now act n)
 
 -- what an act answers
 abbrev pub act_answer : ℕ → UserAct → NodeState → Result ActDone ActRefusal

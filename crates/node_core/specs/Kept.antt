@@ -12,8 +12,8 @@ pub record Kept : Type 0 where
   pub station : Station
   pub spent : Bool  -- memory ran out in an earlier call
 
-abbrev pub kept : kiss.HeldPiece → Station → Bool → Kept
-kept deframer station spent = record { deframer = deframer; station = station; spent = spent }
+abbrev pub view_of : kiss.HeldPiece → Station → Bool → Kept
+view_of deframer station spent = record { deframer = deframer; station = station; spent = spent }
 
 -- the circuits that it lends, and with them its router, table and links
 abbrev pub circuits_of : Kept → Circuits LinkTable

@@ -10,11 +10,11 @@ use Rattle.node_turns.specs.Links as links
 use Rattle.node_turns.specs.Serving.{is_over}
 use Rattle.node_turns.specs.Sessions.{Session, circuit_of}
 use Rattle.node_turns.specs.States.{State}
-use Rattle.node_turns.specs.Users.{can_give, can_pass_on, end_at, end_has_room, took}
+use Rattle.node_turns.specs.Users.{can_give, can_pass_on, end_at, end_has_room, has_taken}
 
 -- a message that came waits at an end
 abbrev pub has_message : ℕ → State → Bool
-has_message id n = took (answers.take_answer (end_at id n))
+has_message id n = has_taken (answers.take_answer (end_at id n))
 
 abbrev pub has_text_at : User → State → Bool
 has_text_at (AtEnd id) n = has_message id n

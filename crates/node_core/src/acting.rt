@@ -13,7 +13,7 @@ use l3_datagram::Message;
 use radio_base::{Moment, NoMemory};
 
 impl Station {
-    ghost use Rattle.node_core.specs.Going.{Acts, Goes, StandsTold, Told};
+    ghost use Rattle.node_core.specs.Going.{Acts, HoldsTold, StandsTold, StationGoes};
     ghost use Rattle.node_core.specs.Standing.{IsAnswer, IsDrained};
     ghost use Rattle.node_core.specs.UserActs as user;
     ghost use Rattle.node_core.specs.UserActs.{act_of};
@@ -77,7 +77,7 @@ impl Station {
 
     /// Breaks the link with a neighbour, where one stands, and ends the routes over it.
     fn fail_link(&mut self, peer: &Call) -> Result<(), NoMemory>
-        ensures { OnOk result (Goes (acts.fail_link peer.now) self.old self.new) }
+        ensures { OnOk result (StationGoes (acts.fail_link peer.now) self.old self.new) }
     {
         self.set.router_mut().carrier_mut().break_link(peer)?;
         self.set.router_mut().table_mut().link_failed(peer);
@@ -143,7 +143,7 @@ impl Station {
 
     /// Whether an end is held, and a session serves it or has asked for its circuit.
     fn is_kept_from(&self, id: u64) -> bool
-        ensures { (n : State) → Told self.now n → result ≡ acts.is_kept id n }
+        ensures { (n : State) → HoldsTold self.now n → result ≡ acts.is_kept id n }
     {
         self.set.facts(id).is_some() && self.is_served(id)
     }

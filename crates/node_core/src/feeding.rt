@@ -6,7 +6,7 @@ ghost use Rattle.kiss_framing.specs.Feeding.{IsSmall, handed_out};
 ghost use Rattle.kiss_framing.specs.Stream.{items};
 ghost use Rattle.node_core.specs.Inputs as inputs;
 ghost use Rattle.node_core.specs.Taking.{Takes};
-ghost use Rattle.node_core.specs.Going.{Goes, StandsForSome};
+ghost use Rattle.node_core.specs.Going.{StandsForSome, StationGoes};
 ghost use Rattle.node_core.specs.Standing.{IsDrained};
 
 use crate::station::Station;
@@ -81,7 +81,7 @@ fn take_given(
 ) -> Result<(), NoMemory>
     requires some { StandsForSome station.old }
     requires small { IfSome item IsSmall }
-    ensures goes { OnOk result (Goes (inputs.after_items now.0 (handed_out item.entry)) station.old station.new) }
+    ensures goes { OnOk result (StationGoes (inputs.after_items now.0 (handed_out item.entry)) station.old station.new) }
     ensures drained { OnOk result (IsDrained station.old → IsDrained station.new) }
     ensures some { OnOk result (StandsForSome station.new) }
 {

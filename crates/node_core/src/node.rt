@@ -66,16 +66,16 @@ impl Model for Node {
     ghost use Rattle.std.specs.Coded.{codes};
     ghost use Rattle.indexmap.specs.Layout.{hash_map_code};
     ghost use Rattle.circuit_set.specs.contracts.held_ends.HeldEnds.{the_row as held_row};
-    ghost use Rattle.node_core.specs.Kept.{Kept, kept};
+    ghost use Rattle.node_core.specs.Kept.{Kept, view_of};
     ghost use Rattle.node_core.specs.Sound.{IsSound};
 
     ghost Value = { Kept };
 
     ghost coded = { Prim.hlevel (codes, hash_map_code, held_row.coded) };
 
-    ghost view = { λ n. kept n.deframer n.station n.spent };
+    ghost view = { λ n. view_of n.deframer n.station n.spent };
 
-    ghost invariant = { λ n. n.spent ≡ false → IsSound (kept n.deframer n.station n.spent) };
+    ghost invariant = { λ n. n.spent ≡ false → IsSound (view_of n.deframer n.station n.spent) };
 }
 
 impl Node {

@@ -36,13 +36,13 @@ const LAST_OCTET: usize = 6;
 const H_BIT: u8 = 0x80;
 
 impl Station {
-    ghost use Rattle.node_core.specs.Going.{Goes, item_of};
+    ghost use Rattle.node_core.specs.Going.{StationGoes, item_of};
     ghost use Rattle.node_core.specs.Standing.{Holds};
 
     /// Takes in a KISS item: a node takes data on port 0.
     pub(crate) fn take_item(&mut self, item: &KissItem<'_>, now: Moment) -> Result<(), NoMemory>
         requires { IsSmall item.now }
-        ensures { OnOk result (Goes (receiving.take_item now.0 (item_of item.now)) self.old self.new) }
+        ensures { OnOk result (StationGoes (receiving.take_item now.0 (item_of item.now)) self.old self.new) }
     {
         match item {
             KissItem::Frame {
@@ -57,7 +57,7 @@ impl Station {
     /// Takes in a frame, in octets. One that can't be read is dropped.
     fn take_octets(&mut self, octets: &[u8], now: Moment) -> Result<(), NoMemory>
         requires { length octets.now ≤ 1023 }
-        ensures { OnOk result (Goes (receiving.take_octets now.0 octets.now) self.old self.new) }
+        ensures { OnOk result (StationGoes (receiving.take_octets now.0 octets.now) self.old self.new) }
     {
         match read_head(octets) {
             Ok((head, at)) => {
@@ -80,7 +80,7 @@ impl Station {
         requires few { length octets.now ≤ 1023 }
         requires begins { BeginsWith octets.now head at }
         requires ends { head_end octets.now ≡ Ok at }
-        ensures { OnOk result (Goes (receiving.take_from now.0 octets.now head) self.old self.new) }
+        ensures { OnOk result (StationGoes (receiving.take_from now.0 octets.now head) self.old self.new) }
     {
         let own = self.call();
         if head.source.call == own {
@@ -102,7 +102,7 @@ impl Station {
         requires few { length octets.now ≤ 1023 }
         requires begins { BeginsWith octets.now head at }
         requires ends { head_end octets.now ≡ Ok at }
-        ensures { OnOk result (Goes (receiving.take_by_path now.0 octets.now head (action head.path.items head.dest.call own.now)) self.old self.new) }
+        ensures { OnOk result (StationGoes (receiving.take_by_path now.0 octets.now head (action head.path.items head.dest.call own.now)) self.old self.new) }
     {
         match step(&head.path, &head.dest.call, own) {
             DigiStep::Repeat(_) => self.repeat(head.path.as_slice(), octets)?,
@@ -123,7 +123,7 @@ impl Station {
     ) -> Result<(), NoMemory>
         requires begins { BeginsWith octets.now head at }
         requires ends { head_end octets.now ≡ Ok at }
-        ensures { OnOk result (Goes (λ n. receiving.take_frame now.0 false (read_at (receiving.modulus_with head.source.call n) octets.now) n) self.old self.new) }
+        ensures { OnOk result (StationGoes (λ n. receiving.take_frame now.0 false (read_at (receiving.modulus_with head.source.call n) octets.now) n) self.old self.new) }
     {
         // By the laws of the spelling the frame has this head, and so goes to no node.
         ax_frame::laws::head_spelling();
@@ -137,7 +137,7 @@ impl Station {
     /// Repeats a frame: the same octets, with the H bit of this node set.
     fn repeat(&mut self, path: &[Address], octets: &[u8]) -> Result<(), NoMemory>
         requires { length octets.now ≤ 1023 }
-        ensures { OnOk result (Goes (states.put (receiving.repeated_frame path.now octets.now)) self.old self.new) }
+        ensures { OnOk result (StationGoes (states.put (receiving.repeated_frame path.now octets.now)) self.old self.new) }
     {
         let mut repeated = octets.to_vec(self.alloc)?;
         set_h_bit(&mut repeated, h_octet(path));
@@ -159,7 +159,7 @@ impl Station {
     ) -> Result<(), NoMemory>
         requires begins { BeginsWith octets.now head at }
         requires ends { head_end octets.now ≡ Ok at }
-        ensures { OnOk result (Goes (λ n. receiving.take_frame now.0 mine (read_at (receiving.modulus_with head.source.call n) octets.now) n) self.old self.new) }
+        ensures { OnOk result (StationGoes (λ n. receiving.take_frame now.0 mine (read_at (receiving.modulus_with head.source.call n) octets.now) n) self.old self.new) }
     {
         let is_128 = self.is_128(&head.source.call);
         match read_by(is_128, at, octets) {
@@ -186,7 +186,7 @@ impl Station {
 
     /// A broadcast is heard, and another frame to this node goes to its links.
     fn take_frame(&mut self, frame: &FrameView<'_>, mine: bool, now: Moment) -> Result<(), NoMemory>
-        ensures { OnOk result (Goes (receiving.take_frame now.0 mine (Ok (view frame.now))) self.old self.new) }
+        ensures { OnOk result (StationGoes (receiving.take_frame now.0 mine (Ok (view frame.now))) self.old self.new) }
     {
         if is_broadcast(frame) {
             self.take_broadcast(frame)?;
@@ -198,7 +198,7 @@ impl Station {
 
     /// Hands a frame to this node to its links.
     fn arrive(&mut self, frame: &FrameView<'_>, now: Moment) -> Result<(), NoMemory>
-        ensures { OnOk result (Goes (states.at_links (links.arrive (view frame.now) now.0)) self.old self.new) }
+        ensures { OnOk result (StationGoes (states.at_links (links.arrive (view frame.now) now.0)) self.old self.new) }
     {
         self.set.router_mut().carrier_mut().arrive(frame, now)?;
         Ok(())
@@ -206,7 +206,7 @@ impl Station {
 
     /// Hears a broadcast; one that can't be read is dropped.
     fn take_broadcast(&mut self, frame: &FrameView<'_>) -> Result<(), NoMemory>
-        ensures { OnOk result (Goes (receiving.hear frame.now.head.source.call (nodes_at frame.now.info.now)) self.old self.new) }
+        ensures { OnOk result (StationGoes (receiving.hear frame.now.head.source.call (nodes_at frame.now.info.now)) self.old self.new) }
     {
         let mut nodes = Nodes::default();
         match read_nodes_into(&mut nodes, frame.info) {
@@ -222,7 +222,7 @@ impl Station {
     /// Takes in what a neighbour has broadcast, or tells that there is no room for it.
     fn hear(&mut self, source: &Call, alias: &Alias, reported: &[Entry]) -> Result<(), NoMemory>
         requires { length reported.now ≤ 11 }
-        ensures { OnOk result (Goes (λ n. receiving.take_in (broadcast n.settings.call source.now alias.now n.settings.path_quality reported.now) n) self.old self.new) }
+        ensures { OnOk result (StationGoes (λ n. receiving.take_in (broadcast n.settings.call source.now alias.now n.settings.path_quality reported.now) n) self.old self.new) }
     {
         let path_quality = self.path_quality;
         let table = self.set.router_mut().table_mut();
@@ -239,7 +239,7 @@ impl Station {
     /// Tells that a broadcast was not taken. It stands apart, so that one that is taken pays nothing for the entry.
     #[inline(never)]
     fn tell_overflow(&mut self, live: usize, would_be: usize) -> Result<(), NoMemory>
-        ensures { OnOk result (Goes (states.enter (Overflow live would_be ∷ [])) self.old self.new) }
+        ensures { OnOk result (StationGoes (states.enter (Overflow live would_be ∷ [])) self.old self.new) }
     {
         self.entries
             .push_back(NodeEntry::Overflow { live, would_be })?;

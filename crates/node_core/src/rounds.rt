@@ -16,7 +16,7 @@ use link_table::{Octets, Written, WrittenAs};
 use radio_base::{Moment, NoMemory};
 
 impl Station {
-    ghost use Rattle.node_core.specs.Going.{Goes, GoesWhereTold, StandsTold};
+    ghost use Rattle.node_core.specs.Going.{GoesWhereTold, StandsTold, StationGoes};
     ghost use Rattle.node_core.specs.Standing.{IsDrained};
 
     /// Time has passed, and all that follows an input.
@@ -45,7 +45,7 @@ impl Station {
     }
 
     fn tick_links(&mut self, now: Moment) -> Result<(), NoMemory>
-        ensures goes { OnOk result (Goes (states.at_links (links.tick_links now.0)) self.old self.new) }
+        ensures goes { OnOk result (StationGoes (states.at_links (links.tick_links now.0)) self.old self.new) }
         ensures drained { OnOk result (IsDrained self.old → IsDrained self.new) }
     {
         self.set.router_mut().carrier_mut().tick(now)?;
@@ -63,7 +63,7 @@ impl Station {
     /// Does the round of the interval where it is due. The first one is due an interval after the first tick.
     fn round_if_due(&mut self, now: Moment) -> Result<(), NoMemory>
         requires { now.0 ≤ count_end }
-        ensures { OnOk result (Goes (rounds.round_if_due now.0) self.old self.new) }
+        ensures { OnOk result (StationGoes (rounds.round_if_due now.0) self.old self.new) }
     {
         if self.interval == 0 {
             return Ok(());
@@ -83,14 +83,14 @@ impl Station {
     /// The next round is due an interval from now on.
     fn set_next_round(&mut self, now: Moment)
         requires { now.0 ≤ count_end }
-        ensures { Goes (rounds.next_round_at now.0) self.old self.new }
+        ensures { StationGoes (rounds.next_round_at now.0) self.old self.new }
     {
         self.next_round = Some(now.0.saturating_add(self.interval));
     }
 
     /// The counts of the routes go down, and the routes are broadcast.
     pub(crate) fn do_round(&mut self) -> Result<(), NoMemory>
-        ensures { OnOk result (Goes rounds.do_round self.old self.new) }
+        ensures { OnOk result (StationGoes rounds.do_round self.old self.new) }
     {
         self.set.router_mut().table_mut().round();
         self.broadcast_routes()?;
@@ -99,7 +99,7 @@ impl Station {
 
     /// Broadcasts the routes.
     fn broadcast_routes(&mut self) -> Result<(), NoMemory>
-        ensures { OnOk result (Goes rounds.broadcast_routes self.old self.new) }
+        ensures { OnOk result (StationGoes rounds.broadcast_routes self.old self.new) }
     {
         let entries = self.set.router().table().all_entries(self.alloc)?;
         // The same room serves one frame after another.
@@ -118,7 +118,7 @@ impl Station {
         octets: &mut FrameBytes,
     ) -> Result<(), NoMemory>
         requires { 11 * nth ≤ length entries.now }
-        ensures { OnOk result (Goes (λ n. states.put (round_frame n.settings.call n.settings.alias entries.now nth) n) self.old self.new) }
+        ensures { OnOk result (StationGoes (λ n. states.put (round_frame n.settings.call n.settings.alias entries.now nth) n) self.old self.new) }
     {
         let page = entries_of_frame(entries, nth);
         write_broadcast(&self.call(), &self.alias, page, octets);

@@ -17,13 +17,13 @@ use l3_datagram::Message;
 use radio_base::{Moment, NoMemory};
 
 impl Station {
-    ghost use Rattle.node_core.specs.Going.{Did, Goes, StandsForSome, StandsTold, Turns};
+    ghost use Rattle.node_core.specs.Going.{Did, StandsForSome, StandsTold, StationGoes, Turns};
     ghost use Rattle.node_core.specs.Standing.{Holds, IsDrained, IsTold};
 
     /// All that follows an input.
     pub(crate) fn settle(&mut self, now: Moment) -> Result<(), NoMemory>
         requires { StandsForSome self.old }
-        ensures goes { OnOk result (Goes (inputs.after_input now.0) self.old self.new) }
+        ensures goes { OnOk result (StationGoes (inputs.after_input now.0) self.old self.new) }
         ensures drained { OnOk result (IsDrained self.new) }
     {
         laws::parts();
@@ -40,7 +40,7 @@ impl Station {
     fn turn(&mut self, now: Moment) -> Result<bool, NoMemory>
         requires { StandsForSome self.old }
         ensures did { IfOk result (Did (λ n. (settling.turn now.0 n).did) self.old) }
-        ensures goes { OnOk result (Goes (λ n. (settling.turn now.0 n).after) self.old self.new) }
+        ensures goes { OnOk result (StationGoes (λ n. (settling.turn now.0 n).after) self.old self.new) }
         ensures drained { OnOk result (IsDrained self.new) }
     {
         let noticed = self.enter_notices()?;
@@ -53,7 +53,7 @@ impl Station {
     #[inline(always)]
     fn enter_notices(&mut self) -> Result<bool, NoMemory>
         ensures did { IfOk result (Did (λ n. settling.has_some n.links.pending.notices) self.old) }
-        ensures goes { OnOk result (Goes settling.enter_notices self.old self.new) }
+        ensures goes { OnOk result (StationGoes settling.enter_notices self.old self.new) }
     {
         if !self.set.router().carrier().has_notices() {
             return Ok(false);
@@ -65,7 +65,7 @@ impl Station {
     #[inline(never)]
     fn enter_each(&mut self) -> Result<bool, NoMemory>
         ensures did { IfOk result (Did (λ n. settling.has_some n.links.pending.notices) self.old) }
-        ensures goes { OnOk result (Goes settling.enter_notices self.old self.new) }
+        ensures goes { OnOk result (StationGoes settling.enter_notices self.old self.new) }
     {
         let before = self.entries.len();
         while let Some(told) = self.next_notice() {
@@ -78,7 +78,7 @@ impl Station {
     /// The next notice of its links.
     fn next_notice(&mut self) -> Option<(Call, LinkNotice)>
         ensures answer { (n : State) → Holds self.old n → result ≡ slice_get n.links.pending.notices 0 }
-        ensures goes { Goes (states.at_links calls.notice) self.old self.new }
+        ensures goes { StationGoes (states.at_links calls.notice) self.old self.new }
         ensures left { IfSome result (λ _. length self.new.set.router.carrier.notices < length self.old.set.router.carrier.notices) }
         ensures same { self.new ≡ record self.old { set = self.new.set } }
     {
@@ -88,7 +88,7 @@ impl Station {
     /// Pumps the circuits until they tell nothing more. Whether they told anything.
     pub(crate) fn pump(&mut self, now: Moment) -> Result<bool, NoMemory>
         ensures did { IfOk result (Did (λ n. settling.has_told n (pumping.pump now.0 n)) self.old) }
-        ensures goes { OnOk result (Goes (pumping.pump now.0) self.old self.new) }
+        ensures goes { OnOk result (StationGoes (pumping.pump now.0) self.old self.new) }
         ensures told { OnOk result ((n : State) → IsTold (pumping.pump now.0 n)) }
         ensures drained { OnOk result (IsDrained self.new) }
     {
@@ -104,7 +104,7 @@ impl Station {
     #[inline(never)]
     fn pump_on(&mut self, now: Moment) -> Result<bool, NoMemory>
         ensures did { IfOk result (Did (λ n. settling.has_told n (pumping.pump now.0 n)) self.old) }
-        ensures goes { OnOk result (Goes (pumping.pump now.0) self.old self.new) }
+        ensures goes { OnOk result (StationGoes (pumping.pump now.0) self.old self.new) }
         ensures told { OnOk result ((n : State) → IsTold (pumping.pump now.0 n)) }
         ensures drained { OnOk result (IsDrained self.new) }
     {
@@ -155,7 +155,7 @@ impl Station {
     fn drop_texts(&mut self, now: Moment) -> Result<bool, NoMemory>
         requires { StandsForSome self.old }
         ensures did { IfOk result (Did (λ n. (settling.drop_text now.0 n).did) self.old) }
-        ensures goes { OnOk result (Goes (settling.drop_texts now.0) self.old self.new) }
+        ensures goes { OnOk result (StationGoes (settling.drop_texts now.0) self.old self.new) }
         ensures drained { OnOk result (IsDrained self.old → IsDrained self.new) }
     {
         laws::parts();
@@ -169,7 +169,7 @@ impl Station {
     /// Takes the first text that waits at a link and drops it. Whether one waited.
     fn drop_text(&mut self, now: Moment) -> Result<bool, NoMemory>
         ensures did { IfOk result (Did (λ n. (settling.drop_text now.0 n).did) self.old) }
-        ensures goes { OnOk result (Goes (λ n. (settling.drop_text now.0 n).after) self.old self.new) }
+        ensures goes { OnOk result (StationGoes (λ n. (settling.drop_text now.0 n).after) self.old self.new) }
         ensures drained { OnOk result (IsDrained self.old → IsDrained self.new) }
     {
         match self.first_text() {

@@ -38,7 +38,7 @@ pub(crate) struct Station {
 
 impl Station {
     ghost use Rattle.node_core.specs.Kept.{station_frames};
-    ghost use Rattle.node_core.specs.Going.{Goes};
+    ghost use Rattle.node_core.specs.Going.{StationGoes};
     ghost use Rattle.node_core.specs.Standing.{Holds, IsDrained};
 
     /// The node as it starts.
@@ -87,7 +87,7 @@ impl Station {
 
     /// Puts out a frame of the node itself, behind all that its links have put out.
     pub(crate) fn put(&mut self, frame: Written) -> Result<(), NoMemory>
-        ensures { OnOk result (Goes (states.put frame) self.old self.new) }
+        ensures { OnOk result (StationGoes (states.put frame) self.old self.new) }
     {
         while let Some(earlier) = self.next_sent() {
             self.own.push_back(earlier)?;
@@ -99,7 +99,7 @@ impl Station {
     /// The next frame to be sent, the oldest one. None where none waits.
     pub(crate) fn next_frame(&mut self) -> Option<Written>
         ensures answer { (n : State) → Holds self.old n → result ≡ slice_get (states.frames n) 0 }
-        ensures goes { Goes states.fetch_frame self.old self.new }
+        ensures goes { StationGoes states.fetch_frame self.old self.new }
         ensures left { IfSome result (λ _. station_frames self.new < station_frames self.old) }
         ensures drained { IsDrained self.old → IsDrained self.new }
     {
@@ -113,7 +113,7 @@ impl Station {
     /// The next frame that its links have put out.
     fn next_sent(&mut self) -> Option<Written>
         ensures answer { (n : State) → Holds self.old n → result ≡ slice_get (sent_frames n.links) 0 }
-        ensures goes { Goes (states.at_links calls.fetch) self.old self.new }
+        ensures goes { StationGoes (states.at_links calls.fetch) self.old self.new }
         ensures left { IfSome result (λ _. length self.new.set.router.carrier.frames < length self.old.set.router.carrier.frames) }
         ensures same { self.new ≡ record self.old { set = self.new.set } }
         ensures drained { IsDrained self.old → IsDrained self.new }

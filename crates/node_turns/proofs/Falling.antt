@@ -57,7 +57,7 @@ module _ (offers : OffersLeave) (takes : TakesLower) (less : TellsLess) where
   tried_most : (id : ℕ) (dest : Callsign) (s : Session) → session_work (asking.tries id dest s) ≤ session_work s + 3
   tried_most id dest s = omega arith
 
-  tried : (now nth : ℕ) (dest : Callsign) (r : Result ℕ ConnectRefusal) (n : State) → Adds 3 n (asking.tried now nth dest r n)
+  tried : (now nth : ℕ) (dest : Callsign) (r : Result ℕ ConnectRefusal) (n : State) → Adds 3 n (asking.try_by now nth dest r n)
   tried now nth dest (Ok id) n =
       let a : State = at_session nth (asking.tries id dest) n in
       let b : State = users.acts now (sets.Connect dest now) a in

@@ -22,7 +22,7 @@ use Rattle.l3_datagram.specs.declared.datagram.DatagramHead.{DatagramHead}
 use Rattle.l3_datagram.specs.declared.datagram.DatagramRefusal.{DatagramRefusal}
 use Rattle.l3_datagram.specs.declared.datagram.TheConstants.{HEAD_SIZE}
 use Rattle.l3_datagram.specs.Datagrams.{head_at}
-use Rattle.node_turns.specs.Users.{took}
+use Rattle.node_turns.specs.Users.{has_taken}
 use Rattle.node_turns.proofs.Messages as m
 use Rattle.node_turns.proofs.Messages.{count}
 use Rattle.node_turns.proofs.Weights.{end_messages, is_among, messages_but, most_at}
@@ -302,7 +302,7 @@ connects_most set dest now = by (same_call dest set.own || s.is_full set)
         let same = made_same set dest None None (requesting (s.new_pair set) set.user set.own set.config (min now COUNT_MAX)) (let none = m.none_filled set.config.window in omega (arith, none)) in
         omega (arith, same)
 
-takes_by : (set : SetState) (h : Holder) (now : ℕ) (b : Bool) → h.gone ≡ b → IsFound h set.ends → took (if b then Err (record {}) else Ok (nat_lt 0 (length (inbox h.end.receiving)))) ≡ true
+takes_by : (set : SetState) (h : Holder) (now : ℕ) (b : Bool) → h.gone ≡ b → IsFound h set.ends → has_taken (if b then Err (record {}) else Ok (nat_lt 0 (length (inbox h.end.receiving)))) ≡ true
     → messages_but [] (if b then s.does_nothing set else s.goes_to set h [] (end.step h.end end.Take now)).set.ends < messages_but [] set.ends
 takes_by set h now true gone f t = absurd (cc t)
 takes_by set h now false gone f t =
@@ -310,10 +310,10 @@ takes_by set h now false gone f t =
     let some : 0 < length (inbox h.end.receiving) = grind (arith, nat_tests, t) in
     fewer h set.ends (s.after_effect h g) refl f (omega (arith, settled_most h g, held_all h gone, m.takes h.end now some))
 
-takes_of : (set : SetState) (now id : ℕ) (o : Option Holder) → s.end_of id set.ends ≡ o → took (take_answer o) ≡ true → messages_but [] (s.after_call set o s.Takes now).set.ends < messages_but [] set.ends
+takes_of : (set : SetState) (now id : ℕ) (o : Option Holder) → s.end_of id set.ends ≡ o → has_taken (take_answer o) ≡ true → messages_but [] (s.after_call set o s.Takes now).set.ends < messages_but [] set.ends
 takes_of set now id None e t = absurd (cc t)
 takes_of set now id (Some h) e t = takes_by set h now h.gone refl (end_found id set.ends h e) t
 
 -- a message that is taken leaves fewer
-pub takes_fewer : (set : SetState) (now id : ℕ) → took (take_answer (s.end_of id set.ends)) ≡ true → messages_but [] (s.set_step set (s.Calls id s.Takes now)).set.ends < messages_but [] set.ends
+pub takes_fewer : (set : SetState) (now id : ℕ) → has_taken (take_answer (s.end_of id set.ends)) ≡ true → messages_but [] (s.set_step set (s.Calls id s.Takes now)).set.ends < messages_but [] set.ends
 takes_fewer set now id t = takes_of set now id (s.end_of id set.ends) refl t

@@ -24,7 +24,7 @@ use Rattle.node_turns.specs.Sessions.{Session, circuit_of}
 use Rattle.node_turns.specs.States.{State, at_links, at_set}
 use Rattle.node_turns.specs.Turns.{Turn, done, idle}
 use Rattle.node_turns.specs.Users as users
-use Rattle.node_turns.specs.Users.{at_session, changed, session_at}
+use Rattle.node_turns.specs.Users.{at_session, change_if, session_at}
 use Rattle.node_turns.proofs.Heaping.{closes_most, connects_most, takes_fewer, writes_most}
 use Rattle.node_turns.proofs.Texting.{sent_most, text_leaves_less}
 use Rattle.node_turns.proofs.Working.{Below, pumped_below, units}
@@ -39,7 +39,7 @@ placed (y ∷ ss) (suc nth) s x e = omega (arith, placed ss nth s x e)
 
 -- a change of a session adds at most so much
 changed_most : (k : ℕ) (f : Session → Session) (ss : List Session) (nth : ℕ) (o : Option Session) → slice_get ss nth ≡ o → ((s : Session) → session_work (f s) ≤ session_work s + k)
-    → sessions_work (changed o nth f ss) ≤ sessions_work ss + k
+    → sessions_work (change_if o nth f ss) ≤ sessions_work ss + k
 changed_most k f ss nth None e few = omega arith
 changed_most k f ss nth (Some s) e few = omega (arith, placed ss nth s (f s) e, few s)
 
@@ -81,7 +81,7 @@ pub connects_less : (dest : Callsign) (now : ℕ) (n : State) → messages (at_s
 unfolding circuits.acts
 connects_less dest now n = connects_most n.set.set dest now
 
-takes_less : (now id : ℕ) (n : State) → users.took (answers.take_answer (users.end_at id n)) ≡ true → messages (at_set (circuits.acts (sets.Calls id sets.Takes now)) n) < messages n
+takes_less : (now id : ℕ) (n : State) → users.has_taken (answers.take_answer (users.end_at id n)) ≡ true → messages (at_set (circuits.acts (sets.Calls id sets.Takes now)) n) < messages n
 unfolding circuits.acts
 takes_less now id n e = takes_fewer n.set.set now id e
 
@@ -112,19 +112,19 @@ module _ (offers : OffersLeave) (takes : TakesLower) (less : TellsLess) where
   pub acted : (now : ℕ) (a : sets.Act) (n : State) → messages (at_set (circuits.acts a) n) ≤ messages n → Adds 0 n (users.acts now a n)
   acted now a n few = let m : State = at_set (circuits.acts a) n in then_adds 0 0 n m (users.acts now a n) (set_adds a n few) (pumped now m)
 
-  written : (text : List ℕ) (now id : ℕ) (r : Result (Unit {0}) SetRefusal) (n : State) → Adds 0 n (users.written r (sets.Calls id (sets.Writes text) now) n)
+  written : (text : List ℕ) (now id : ℕ) (r : Result (Unit {0}) SetRefusal) (n : State) → Adds 0 n (users.write_if_ok r (sets.Calls id (sets.Writes text) now) n)
   written text now id (Ok _) n = set_adds (sets.Calls id (sets.Writes text) now) n (writes_less text now id n)
   written text now id (Err why) n = itself n
 
   wrote : (now id : ℕ) (text : List ℕ) (n : State) → Adds 0 n (users.write_to now id text n)
   wrote now id text n =
-      let m : State = users.written (users.write_answer id text n) (sets.Calls id (sets.Writes text) now) n in
+      let m : State = users.write_if_ok (users.write_answer id text n) (sets.Calls id (sets.Writes text) now) n in
       then_adds 0 0 n m (users.write_to now id text n) (written text now id (users.write_answer id text n) n) (pumped now m)
 
   pub closed : (now id : ℕ) (n : State) → Adds 0 n (users.close now id n)
   closed now id n = acted now (sets.Calls id sets.Closes now) n (closes_less now id n)
 
-  sent : (now : ℕ) (peer : Callsign) (text : List ℕ) (r : Result (Unit {0}) TextRefusal) (n : State) → Adds 0 n (users.sent r peer text now n)
+  sent : (now : ℕ) (peer : Callsign) (text : List ℕ) (r : Result (Unit {0}) TextRefusal) (n : State) → Adds 0 n (users.send_if_ok r peer text now n)
   sent now peer text (Ok _) n =
       let x = sent_most peer text now n.links in
       let same = ap (λ xs. length xs) x.waiting in
@@ -164,12 +164,12 @@ module _ (offers : OffersLeave) (takes : TakesLower) (less : TellsLess) where
 
   passed : (now nth : ℕ) (message : List ℕ) (n : State) → Adds 0 n (bridging.pass_on now nth message n)
   passed now nth message n =
-      let step = bridging.log_gave (users.said nth message n) message in
+      let step = bridging.log_gave (users.outcome_for nth message n) message in
       let m : State = at_session nth step n in
       then_adds 0 0 n m (bridging.pass_on now nth message n) (session_adds 0 nth step n (λ s. omega arith)) (said now nth message m)
 
   gave : (now nth id : ℕ) (n : State) → Lowers n (bridging.give_from now nth id n)
-  gave now nth id n = by (users.took (answers.take_answer (users.end_at id n))) refl
+  gave now nth id n = by (users.has_taken (answers.take_answer (users.end_at id n))) refl
     where
       message : List ℕ
       message = answers.message_at [] (users.end_at id n)
@@ -183,7 +183,7 @@ module _ (offers : OffersLeave) (takes : TakesLower) (less : TellsLess) where
       logged : State
       logged = at_session nth (bridging.log_got message) told
 
-      by : (b : Bool) → users.took (answers.take_answer (users.end_at id n)) ≡ b → Lowers n (if b then done (bridging.pass_on now nth message logged) else idle n)
+      by : (b : Bool) → users.has_taken (answers.take_answer (users.end_at id n)) ≡ b → Lowers n (if b then done (bridging.pass_on now nth message logged) else idle n)
       by false f = idles n
       by true f =
           let a = takes_less now id n f in
@@ -205,7 +205,7 @@ module _ (offers : OffersLeave) (takes : TakesLower) (less : TellsLess) where
   with_text_most text s = omega (arith, few_bytes text)
 
   from_end : (now nth id : ℕ) (n : State) → Lowers n (users.take_from_end now nth id n)
-  from_end now nth id n = by (users.took (answers.take_answer (users.end_at id n))) refl
+  from_end now nth id n = by (users.has_taken (answers.take_answer (users.end_at id n))) refl
     where
       text : List ℕ
       text = answers.message_at [] (users.end_at id n)
@@ -216,7 +216,7 @@ module _ (offers : OffersLeave) (takes : TakesLower) (less : TellsLess) where
       begun : State
       begun = at_session nth (users.with_text text) took
 
-      by : (b : Bool) → users.took (answers.take_answer (users.end_at id n)) ≡ b → Lowers n (users.take_if b (pump now begun) n)
+      by : (b : Bool) → users.has_taken (answers.take_answer (users.end_at id n)) ≡ b → Lowers n (users.take_if b (pump now begun) n)
       by false f = idles n
       by true f =
           let a = takes_less now id n f in

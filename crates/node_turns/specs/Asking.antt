@@ -54,13 +54,13 @@ abbrev pub tries : ℕ → Callsign → Session → Session
 tries id dest s = record s { stage = Trying (circuit_to id dest); bridge = unused }
 
 -- the request leaves before the user is told that the circuit is tried
-abbrev pub tried : ℕ → ℕ → Callsign → Result ℕ ConnectRefusal → State → State
-tried now nth dest (Ok id) n =
+abbrev pub try_by : ℕ → ℕ → Callsign → Result ℕ ConnectRefusal → State → State
+try_by now nth dest (Ok id) n =
     say now nth (texts.trying (prompt_of n) dest).items (acts now (sets.Connect dest now) (at_session nth (tries id dest) n))
-tried now nth dest (Err why) n = say now nth (texts.refused (prompt_of n) dest (trouble_of why)).items n
+try_by now nth dest (Err why) n = say now nth (texts.refused (prompt_of n) dest (trouble_of why)).items n
 
 abbrev pub try_circuit : ℕ → ℕ → Callsign → State → State
-try_circuit now nth dest n = tried now nth dest (connect_answer (next_hop n) dest n.set.set) n
+try_circuit now nth dest n = try_by now nth dest (connect_answer (next_hop n) dest n.set.set) n
 
 abbrev pub leaves : Session → Session
 leaves s = record s { bye = true; rest = [] }

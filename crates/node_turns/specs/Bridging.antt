@@ -12,7 +12,7 @@ use Rattle.node_turns.specs.declared.session.Stage.TheVariants.{AtPrompt, Trying
 use Rattle.node_turns.specs.Sessions.{Bridge, Session, circuit_of}
 use Rattle.node_turns.specs.States.{State}
 use Rattle.node_turns.specs.Turns.{Turn, done, idle}
-use Rattle.node_turns.specs.Users.{Outcome, Taken, Exhausts, Unheard, Refused, acts, at_session, can_give, can_pass_on, close, end_at, end_has_room, is_gone, said, say, session_at, take_text, took, write_answer, write_to, wrote_by}
+use Rattle.node_turns.specs.Users.{Outcome, Taken, Exhausts, Unheard, Refused, acts, at_session, can_give, can_pass_on, close, end_at, end_has_room, is_gone, outcome_for, say, session_at, take_text, has_taken, write_answer, write_to, wrote_by}
 
 abbrev pub prompt_of : State → Prompt
 prompt_of n = record { alias = n.settings.alias; call = n.settings.call }
@@ -45,22 +45,22 @@ give_reply now nth n = reply_by (next_reply (session_at nth n) n) now nth n
 abbrev pub log_got : List ℕ → Session → Session
 log_got message s = record s { bridge = record s.bridge { got = s.bridge.got ++ message ∷ [] } }
 
-abbrev pub gave : Outcome → List ℕ → Bridge → Bridge
-gave Taken message b = record b { gave = b.gave ++ message ∷ [] }
-gave Exhausts message b = record b { exhausted = true }
-gave Unheard message b = b
-gave Refused message b = b
+abbrev pub after_giving : Outcome → List ℕ → Bridge → Bridge
+after_giving Taken message b = record b { gave = b.gave ++ message ∷ [] }
+after_giving Exhausts message b = record b { exhausted = true }
+after_giving Unheard message b = b
+after_giving Refused message b = b
 
 abbrev pub log_gave : Outcome → List ℕ → Session → Session
-log_gave outcome message s = record s { bridge = gave outcome message s.bridge }
+log_gave outcome message s = record s { bridge = after_giving outcome message s.bridge }
 
 abbrev pub pass_on : ℕ → ℕ → List ℕ → State → State
-pass_on now nth message n = say now nth message (at_session nth (log_gave (said nth message n) message) n)
+pass_on now nth message n = say now nth message (at_session nth (log_gave (outcome_for nth message n) message) n)
 
 abbrev pub give_end : Option sets.Holder → ℕ → ℕ → ℕ → State → Turn State
 give_end end now nth id n =
     let message : List ℕ = answers.message_at [] end in
-    if took (answers.take_answer end)
+    if has_taken (answers.take_answer end)
     then done (pass_on now nth message (at_session nth (log_got message) (acts now (sets.Calls id sets.Takes now) n)))
     else idle n
 
@@ -97,13 +97,13 @@ next_text now nth n = if has_rest (session_at nth n) then done n else take_text 
 abbrev pub drop_rest : Session → Session
 drop_rest s = record s { rest = [] }
 
-abbrev pub wrote : Outcome → List ℕ → Bridge → Bridge
-wrote Taken text b = record b { wrote = b.wrote ++ text ∷ [] }
-wrote Exhausts text b = record b { exhausted = true }
-wrote _ text b = b
+abbrev pub after_writing : Outcome → List ℕ → Bridge → Bridge
+after_writing Taken text b = record b { wrote = b.wrote ++ text ∷ [] }
+after_writing Exhausts text b = record b { exhausted = true }
+after_writing _ text b = b
 
 abbrev pub log_wrote : Outcome → List ℕ → Session → Session
-log_wrote outcome text s = record s { rest = []; bridge = wrote outcome text s.bridge }
+log_wrote outcome text s = record s { rest = []; bridge = after_writing outcome text s.bridge }
 
 abbrev pub rest_of : Option Session → List ℕ
 rest_of None = []
@@ -125,14 +125,14 @@ write_text now nth c n =
 
 -- ---- the end of it
 
-abbrev pub closed : Circuit → Circuit
-closed c = record c { closed = true }
+abbrev pub closed_circuit : Circuit → Circuit
+closed_circuit c = record c { closed = true }
 
 abbrev pub stage_closed : Stage → Stage
 stage_closed AtPrompt = AtPrompt
-stage_closed (Trying c) = Trying (closed c)
-stage_closed (Failed c) = Failed (closed c)
-stage_closed (Connected c) = Connected (closed c)
+stage_closed (Trying c) = Trying (closed_circuit c)
+stage_closed (Failed c) = Failed (closed_circuit c)
+stage_closed (Connected c) = Connected (closed_circuit c)
 
 abbrev pub note_closed : Session → Session
 note_closed s = record s { stage = stage_closed s.stage }

@@ -34,8 +34,8 @@ waits [] = []
 waits (b ∷ bs) = (b ∷ bs) ∷ []
 
 -- a circuit stands: what is left of the text that asked for it is the first that goes to it
-abbrev pub opened : List ℕ → Bridge → Bridge
-opened rest b = record b { taken = waits rest; wrote = [] }
+abbrev pub after_opening : List ℕ → Bridge → Bridge
+after_opening rest b = record b { taken = waits rest; wrote = [] }
 
 pub record Session : Type 0 where
   pub user : User
@@ -75,7 +75,7 @@ stage_by c (end.Opened window) = Connected c
 stage_by c _ = Failed c
 
 abbrev pub hear_tried : Circuit → EndNotice → Session → Session
-hear_tried c notice s = record s { stage = stage_by c notice; replies = s.replies ++ told_by c.dest notice ∷ []; bridge = opened s.rest s.bridge }
+hear_tried c notice s = record s { stage = stage_by c notice; replies = s.replies ++ told_by c.dest notice ∷ []; bridge = after_opening s.rest s.bridge }
 
 abbrev pub notice_at : Stage → ℕ → EndNotice → Session → Session
 notice_at (Trying c) id notice s = if nat_eq c.id id then hear_tried c notice s else s

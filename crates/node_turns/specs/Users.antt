@@ -27,13 +27,13 @@ use Rattle.node_turns.specs.Turns.{Turn, done, idle}
 abbrev pub session_at : ℕ → State → Option Session
 session_at nth n = slice_get n.sessions nth
 
-abbrev pub changed : Option Session → ℕ → (Session → Session) → List Session → List Session
-changed None nth change ss = ss
-changed (Some s) nth change ss = slice_set ss nth (change s)
+abbrev pub change_if : Option Session → ℕ → (Session → Session) → List Session → List Session
+change_if None nth change ss = ss
+change_if (Some s) nth change ss = slice_set ss nth (change s)
 
 -- the session in a place, if there is one, is changed
 abbrev pub at_session : ℕ → (Session → Session) → State → State
-at_session nth change n = record n { sessions = changed (slice_get n.sessions nth) nth change n.sessions }
+at_session nth change n = record n { sessions = change_if (slice_get n.sessions nth) nth change n.sessions }
 
 -- ---- ends
 
@@ -61,15 +61,15 @@ abbrev pub acts : ℕ → sets.Act → State → State
 acts now act n = pump now (at_set (circuits.acts act) n)
 
 -- a text is written where that isn't refused
-abbrev pub written : Result (Unit {0}) SetRefusal → sets.Act → State → State
-written (Ok _) act n = at_set (circuits.acts act) n
-written (Err why) act n = n
+abbrev pub write_if_ok : Result (Unit {0}) SetRefusal → sets.Act → State → State
+write_if_ok (Ok _) act n = at_set (circuits.acts act) n
+write_if_ok (Err why) act n = n
 
 abbrev pub write_answer : ℕ → List ℕ → State → Result (Unit {0}) SetRefusal
 write_answer id text n = answers.write_answer (end_at id n) text
 
 abbrev pub write_to : ℕ → ℕ → List ℕ → State → State
-write_to now id text n = pump now (written (write_answer id text n) (sets.Calls id (sets.Writes text) now) n)
+write_to now id text n = pump now (write_if_ok (write_answer id text n) (sets.Calls id (sets.Writes text) now) n)
 
 abbrev pub close : ℕ → ℕ → State → State
 close now id n = acts now (sets.Calls id sets.Closes now) n
@@ -159,12 +159,12 @@ sent_by (Ok _) = Taken
 sent_by (Err why) = Refused
 
 -- a text is sent where that isn't refused
-abbrev pub sent : Result (Unit {0}) TextRefusal → Callsign → List ℕ → ℕ → State → State
-sent (Ok _) peer text now n = at_links (links.send_text peer text now) n
-sent (Err why) peer text now n = n
+abbrev pub send_if_ok : Result (Unit {0}) TextRefusal → Callsign → List ℕ → ℕ → State → State
+send_if_ok (Ok _) peer text now n = at_links (links.send_text peer text now) n
+send_if_ok (Err why) peer text now n = n
 
 abbrev pub send : ℕ → Callsign → List ℕ → State → State
-send now peer text n = sent (links.text_answer peer text n.links) peer text now n
+send now peer text n = send_if_ok (links.text_answer peer text n.links) peer text now n
 
 abbrev pub say_to : User → ℕ → List ℕ → State → State
 say_to (AtEnd id) now text n = write_to now id text n
@@ -191,8 +191,8 @@ outcome_if None text n = Unheard
 outcome_if (Some user) text n = outcome_at user text n
 
 -- what comes of that
-abbrev pub said : ℕ → List ℕ → State → Outcome
-said nth text n = outcome_if (listener (session_at nth n) n) text n
+abbrev pub outcome_for : ℕ → List ℕ → State → Outcome
+outcome_for nth text n = outcome_if (listener (session_at nth n) n) text n
 
 -- ---- what comes from a user
 
@@ -204,9 +204,9 @@ with_rest text s = record s { rest = take 8192 text }
 abbrev pub with_text : List ℕ → Session → Session
 with_text text s = record s { rest = take 8192 text; bridge = record s.bridge { taken = s.bridge.taken ++ text ∷ [] } }
 
-abbrev pub took : Result Bool NoEnd → Bool
-took (Ok taken) = taken
-took (Err why) = false
+abbrev pub has_taken : Result Bool NoEnd → Bool
+has_taken (Ok taken) = taken
+has_taken (Err why) = false
 
 abbrev pub take_if : Bool → State → State → Turn State
 take_if true taken n = done taken
@@ -214,7 +214,7 @@ take_if false taken n = idle n
 
 abbrev pub take_from_end : ℕ → ℕ → ℕ → State → Turn State
 take_from_end now nth id n =
-    take_if (took (answers.take_answer (end_at id n)))
+    take_if (has_taken (answers.take_answer (end_at id n)))
     (pump now (at_session nth (with_text (answers.message_at [] (end_at id n))) (at_set (circuits.acts (sets.Calls id sets.Takes now)) n))) n
 
 abbrev pub take_from_link : ℕ → ℕ → Callsign → State → Turn State

@@ -13,7 +13,7 @@ use node_prompt::{Action, Sight, Trouble};
 use radio_base::{Moment, NoMemory};
 
 impl Station {
-    ghost use Rattle.node_core.specs.Going.{StandsTold, Steps, Told, Turns};
+    ghost use Rattle.node_core.specs.Going.{HoldsTold, StandsTold, Steps, Turns};
 
     /// Does the next line of a user at the prompt, where its side has room for the reply; the texts of one that is told nothing more
     /// are dropped. Whether there was any.
@@ -31,14 +31,14 @@ impl Station {
     }
 
     fn is_deaf_at(&self, nth: usize) -> bool
-        ensures { (n : State) → Told self.now n → result ≡ asking.is_deaf_at (users.session_at nth n) n }
+        ensures { (n : State) → HoldsTold self.now n → result ≡ asking.is_deaf_at (users.session_at nth n) n }
     {
         self.session(nth)
             .is_some_and(|session| self.is_deaf(session))
     }
 
     fn has_room_at(&self, nth: usize) -> bool
-        ensures { (n : State) → Told self.now n → result ≡ asking.has_room_at (users.session_at nth n) n }
+        ensures { (n : State) → HoldsTold self.now n → result ≡ asking.has_room_at (users.session_at nth n) n }
     {
         self.session(nth)
             .is_some_and(|session| self.has_room(session))
@@ -81,7 +81,7 @@ impl Station {
 
     /// What is to be done for that line.
     fn action(&self, nth: usize) -> Action
-        ensures { (n : State) → Told self.now n → result ≡ asking.action_at (users.session_at nth n) n }
+        ensures { (n : State) → HoldsTold self.now n → result ≡ asking.action_at (users.session_at nth n) n }
     {
         match self.session(nth) {
             Some(session) => self.prompt().line(session.line()),

@@ -4,7 +4,7 @@ ghost use Rattle.node_turns.specs.Bridging as bridging;
 ghost use Rattle.node_turns.specs.States.{State};
 ghost use Rattle.node_turns.specs.Users as users;
 
-use crate::sessions::users::{is_gone, took};
+use crate::sessions::users::{has_taken, is_gone};
 use crate::station::Station;
 use l3_datagram::Message;
 use node_prompt::Prompt;
@@ -12,7 +12,7 @@ use node_turns::{Circuit, Reply};
 use radio_base::{Moment, NoMemory};
 
 impl Station {
-    ghost use Rattle.node_core.specs.Going.{StandsTold, Steps, Told, Turns};
+    ghost use Rattle.node_core.specs.Going.{HoldsTold, StandsTold, Steps, Turns};
     ghost use Rattle.node_core.specs.Standing.{Holds};
 
     /// The prompt of this node.
@@ -40,7 +40,7 @@ impl Station {
 
     /// The first reply that waits, where it can be given.
     fn next_reply(&self, nth: usize) -> Option<Reply>
-        ensures { (n : State) → Told self.now n → result ≡ bridging.next_reply (users.session_at nth n) n }
+        ensures { (n : State) → HoldsTold self.now n → result ≡ bridging.next_reply (users.session_at nth n) n }
     {
         let session = self.session(nth)?;
         if self.can_give(session) {
@@ -63,7 +63,7 @@ impl Station {
 
     /// The circuit of a session, where a message of it can be given.
     fn giving_circuit(&self, nth: usize) -> Option<Circuit>
-        ensures { (n : State) → Told self.now n → result ≡ bridging.giving_circuit (users.session_at nth n) n }
+        ensures { (n : State) → HoldsTold self.now n → result ≡ bridging.giving_circuit (users.session_at nth n) n }
     {
         let session = self.session(nth)?;
         let circuit = session.circuit()?;
@@ -80,7 +80,7 @@ impl Station {
         ensures { IfOk result (Turns (bridging.give_from now.0 nth id) self.old self.new) }
     {
         let mut message = Message::new();
-        let taken = took(self.set.take(id, &mut message, now));
+        let taken = has_taken(self.set.take(id, &mut message, now));
         if taken {
             self.pump(now)?;
             self.say(nth, &message, now)?;
@@ -120,7 +120,7 @@ impl Station {
     }
 
     fn has_rest(&self, nth: usize) -> bool
-        ensures { (n : State) → Told self.now n → result ≡ bridging.has_rest (users.session_at nth n) }
+        ensures { (n : State) → HoldsTold self.now n → result ≡ bridging.has_rest (users.session_at nth n) }
     {
         self.session(nth).is_some_and(|session| session.has_rest())
     }
@@ -138,7 +138,7 @@ impl Station {
 
     /// What is left of the text that was taken last.
     fn rest_of(&self, nth: usize) -> Message
-        ensures { (n : State) → Told self.now n → result.items ≡ bridging.rest_of (users.session_at nth n) }
+        ensures { (n : State) → HoldsTold self.now n → result.items ≡ bridging.rest_of (users.session_at nth n) }
     {
         match self.session(nth) {
             Some(session) => session.rest_text(),
@@ -162,7 +162,7 @@ impl Station {
     }
 
     fn circuit_to_close(&self, nth: usize) -> Option<Circuit>
-        ensures { (n : State) → Told self.now n → result ≡ bridging.circuit_to_close (users.session_at nth n) n }
+        ensures { (n : State) → HoldsTold self.now n → result ≡ bridging.circuit_to_close (users.session_at nth n) n }
     {
         let session = self.session(nth)?;
         let circuit = session.circuit()?;

@@ -17,13 +17,13 @@ use node_turns::User;
 use radio_base::NoMemory;
 
 impl Station {
-    ghost use Rattle.node_core.specs.Going.{Goes, Steps};
+    ghost use Rattle.node_core.specs.Going.{StationGoes, Steps};
     ghost use Rattle.node_core.specs.Standing.{Holds};
 
     /// The sessions hear what has happened at the circuits. Where a request of another node has opened an end, a session is
     /// made for the user there, if users are served.
     pub(crate) fn hear_circuits(&mut self, event: &SetEvent) -> Result<(), NoMemory>
-        ensures goes { OnOk result (Goes (λ n. states.at_sessions (sessions.hear_circuits n.settings.prompt (event_told event.now)) n) self.old self.new) }
+        ensures goes { OnOk result (StationGoes (λ n. states.at_sessions (sessions.hear_circuits n.settings.prompt (event_told event.now)) n) self.old self.new) }
         ensures same { self.new ≡ record self.old { sessions = self.new.sessions } }
     {
         match event {

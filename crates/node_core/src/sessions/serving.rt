@@ -1,7 +1,7 @@
 //! The sessions are served in the order of their making, each with at most one thing.
 ghost use Rattle.std.specs.Prelude.{◌≡◌, IfOk, OnOk};
 ghost use Rattle.node_turns.specs.Serving as serving;
-ghost use Rattle.node_core.specs.Going.{SetTold};
+ghost use Rattle.node_core.specs.Going.{SetHoldsTold};
 ghost use Rattle.node_turns.specs.States.{State};
 ghost use Rattle.node_turns.specs.Users as users;
 
@@ -14,7 +14,7 @@ use node_turns::Stage;
 use radio_base::{Moment, NoMemory};
 
 impl Station {
-    ghost use Rattle.node_core.specs.Going.{StandsTold, Steps, Told, Turns};
+    ghost use Rattle.node_core.specs.Going.{HoldsTold, StandsTold, Steps, Turns};
 
     /// Serves each session, and drops those that are over. Whether any of them was served.
     pub(crate) fn serve_sessions(&mut self, now: Moment) -> Result<bool, NoMemory>
@@ -89,7 +89,7 @@ impl Station {
     }
 
     fn stage(&self, nth: usize) -> Option<Stage>
-        ensures { (n : State) → Told self.now n → result ≡ serving.stage_of (users.session_at nth n) }
+        ensures { (n : State) → HoldsTold self.now n → result ≡ serving.stage_of (users.session_at nth n) }
     {
         let session = self.session(nth)?;
         Some(session.stage())
@@ -106,7 +106,7 @@ impl Station {
 
 /// Whether a session is over: its user is gone, and so is its circuit, and nothing is left of its texts and replies.
 fn is_over(set: &CircuitSet<LinkTable>, session: &Session) -> bool
-    ensures { (n : State) → SetTold set.now n → result ≡ serving.is_over n session.now }
+    ensures { (n : State) → SetHoldsTold set.now n → result ≡ serving.is_over n session.now }
 {
     is_gone(set, session)
         && session.circuit().is_none()

@@ -289,8 +289,8 @@ fn stage_by(circuit: Circuit, notice: EndNotice) -> Stage
 }
 
 /// The circuit, once it was closed.
-fn closed(circuit: &Circuit) -> Circuit
-    ensures { result ≡ bridging.closed circuit.now }
+fn closed_circuit(circuit: &Circuit) -> Circuit
+    ensures { result ≡ bridging.closed_circuit circuit.now }
 {
     Circuit {
         id: circuit.id,
@@ -304,8 +304,8 @@ fn stage_closed(stage: &Stage) -> Stage
 {
     match stage {
         Stage::AtPrompt => Stage::AtPrompt,
-        Stage::Trying(circuit) => Stage::Trying(closed(circuit)),
-        Stage::Failed(circuit) => Stage::Failed(closed(circuit)),
-        Stage::Connected(circuit) => Stage::Connected(closed(circuit)),
+        Stage::Trying(circuit) => Stage::Trying(closed_circuit(circuit)),
+        Stage::Failed(circuit) => Stage::Failed(closed_circuit(circuit)),
+        Stage::Connected(circuit) => Stage::Connected(closed_circuit(circuit)),
     }
 }

@@ -5,7 +5,7 @@ ghost use Rattle.std.specs.Option.{option_copied};
 ghost use Rattle.circuit_set.specs.CircuitSets.{partner_at};
 ghost use Rattle.node_turns.specs.Users as users;
 ghost use Rattle.link_table.specs.Standing.{TextNotNoMemory};
-ghost use Rattle.node_core.specs.Going.{SetTold};
+ghost use Rattle.node_core.specs.Going.{SetHoldsTold};
 ghost use Rattle.node_turns.specs.States.{State};
 
 use crate::sessions::Session;
@@ -28,18 +28,18 @@ const LEAST_ROOM: usize = 33;
 const LEAST_ROOM_BESIDE: usize = 34;
 
 impl Station {
-    ghost use Rattle.node_core.specs.Going.{ChangesBy, StandsTold, Steps, Told, Turns};
+    ghost use Rattle.node_core.specs.Going.{ChangesBy, HoldsTold, StandsTold, Steps, Turns};
 
     /// Whether nothing is said to the user any more.
     pub(crate) fn is_deaf(&self, session: &Session) -> bool
-        ensures { (n : State) → Told self.now n → result ≡ users.is_deaf session.now n }
+        ensures { (n : State) → HoldsTold self.now n → result ≡ users.is_deaf session.now n }
     {
         session.has_said_bye() || has_ended(&self.set, session)
     }
 
     /// Whether an end has room for a text.
     pub(crate) fn end_has_room(&self, id: u64) -> bool
-        ensures { (n : State) → Told self.now n → result ≡ users.end_has_room id n }
+        ensures { (n : State) → HoldsTold self.now n → result ≡ users.end_has_room id n }
     {
         match self.set.facts(id) {
             Some(facts) => facts.phase == EndPhase::Up && facts.queued <= MOST_QUEUED,
@@ -49,21 +49,21 @@ impl Station {
 
     /// Whether the link with a peer has room for a text.
     fn link_has_room(&self, peer: &Call) -> bool
-        ensures { (n : State) → Told self.now n → result ≡ users.link_has_room peer.now n }
+        ensures { (n : State) → HoldsTold self.now n → result ≡ users.link_has_room peer.now n }
     {
         self.set.router().carrier().room(peer) >= LEAST_ROOM
     }
 
     /// Whether the link with a peer has room for a message of the circuit of an end.
     fn link_has_room_beside(&self, peer: &Call, id: u64) -> bool
-        ensures { (n : State) → Told self.now n → result ≡ users.link_has_room_beside peer.now id n }
+        ensures { (n : State) → HoldsTold self.now n → result ≡ users.link_has_room_beside peer.now id n }
     {
         self.set.router().carrier().room(peer) >= self.payloads_beside(peer, id)
     }
 
     /// For how many payloads that link then has room at least.
     fn payloads_beside(&self, peer: &Call, id: u64) -> usize
-        ensures { (n : State) → Told self.now n → result ≡ users.payloads_beside peer.now id n }
+        ensures { (n : State) → HoldsTold self.now n → result ≡ users.payloads_beside peer.now id n }
     {
         if self.goes_over(peer, id) {
             LEAST_ROOM_BESIDE
@@ -74,7 +74,7 @@ impl Station {
 
     /// Whether the datagrams of an end go over the link with a peer.
     fn goes_over(&self, peer: &Call, id: u64) -> bool
-        ensures { (n : State) → Told self.now n → result ≡ users.goes_over peer.now (users.hop_to (partner_at (users.end_at id n)) n) }
+        ensures { (n : State) → HoldsTold self.now n → result ≡ users.goes_over peer.now (users.hop_to (partner_at (users.end_at id n)) n) }
     {
         match self.set.partner(id) {
             Some(partner) => match self.set.router().table().next_hop(&partner) {
@@ -87,7 +87,7 @@ impl Station {
 
     /// Whether the user's side has room for a text.
     pub(crate) fn has_room(&self, session: &Session) -> bool
-        ensures { (n : State) → Told self.now n → result ≡ users.has_room session.now n }
+        ensures { (n : State) → HoldsTold self.now n → result ≡ users.has_room session.now n }
     {
         match session.user() {
             User::AtEnd(id) => self.end_has_room(id),
@@ -97,7 +97,7 @@ impl Station {
 
     /// Whether it has room for a message of the circuit of an end.
     fn has_room_beside(&self, session: &Session, id: u64) -> bool
-        ensures { (n : State) → Told self.now n → result ≡ users.has_room_beside session.now id n }
+        ensures { (n : State) → HoldsTold self.now n → result ≡ users.has_room_beside session.now id n }
     {
         match session.user() {
             User::AtEnd(user) => self.end_has_room(user),
@@ -107,14 +107,14 @@ impl Station {
 
     /// Whether a message of the circuit of an end can be given to the user, or is dropped.
     pub(crate) fn can_pass_on(&self, session: &Session, id: u64) -> bool
-        ensures { (n : State) → Told self.now n → result ≡ users.can_pass_on session.now id n }
+        ensures { (n : State) → HoldsTold self.now n → result ≡ users.can_pass_on session.now id n }
     {
         self.is_deaf(session) || self.has_room_beside(session, id)
     }
 
     /// Whether what is for the user can be given to it, or is dropped.
     pub(crate) fn can_give(&self, session: &Session) -> bool
-        ensures { (n : State) → Told self.now n → result ≡ users.can_give session.now n }
+        ensures { (n : State) → HoldsTold self.now n → result ≡ users.can_give session.now n }
     {
         self.is_deaf(session) || self.has_room(session)
     }
@@ -160,7 +160,7 @@ impl Station {
 
     /// The user of a session, unless it has left.
     fn present(&self, nth: usize) -> Option<User>
-        ensures { (n : State) → Told self.now n → result ≡ users.present (users.session_at nth n) }
+        ensures { (n : State) → HoldsTold self.now n → result ≡ users.present (users.session_at nth n) }
     {
         let session = self.session(nth)?;
         if session.has_left() {
@@ -172,7 +172,7 @@ impl Station {
 
     /// The user of a session, if anything is said to it.
     fn listener(&self, nth: usize) -> Option<User>
-        ensures { (n : State) → Told self.now n → result ≡ users.listener (users.session_at nth n) n }
+        ensures { (n : State) → HoldsTold self.now n → result ≡ users.listener (users.session_at nth n) n }
     {
         let session = self.session(nth)?;
         if self.is_deaf(session) {
@@ -231,7 +231,7 @@ impl Station {
         ensures { IfOk result (Turns (users.take_from_end now.0 nth id) self.old self.new) }
     {
         let mut text = Message::new();
-        let taken = took(self.set.take(id, &mut text, now));
+        let taken = has_taken(self.set.take(id, &mut text, now));
         if taken {
             self.with_session(nth, |session| session.begin(text));
             self.pump(now)?;
@@ -294,7 +294,7 @@ impl Station {
 
 /// Whether the user's side has ended.
 fn has_ended(set: &CircuitSet<LinkTable>, session: &Session) -> bool
-    ensures { (n : State) → SetTold set.now n → result ≡ users.has_ended session.now n }
+    ensures { (n : State) → SetHoldsTold set.now n → result ≡ users.has_ended session.now n }
 {
     match session.user() {
         User::AtEnd(id) => match set.facts(id) {
@@ -307,7 +307,7 @@ fn has_ended(set: &CircuitSet<LinkTable>, session: &Session) -> bool
 
 /// Whether the user's side has ended and no text of it waits.
 pub(crate) fn is_gone(set: &CircuitSet<LinkTable>, session: &Session) -> bool
-    ensures { (n : State) → SetTold set.now n → result ≡ users.is_gone session.now n }
+    ensures { (n : State) → SetHoldsTold set.now n → result ≡ users.is_gone session.now n }
 {
     match session.user() {
         User::AtEnd(id) => set.facts(id).is_none(),
@@ -316,8 +316,8 @@ pub(crate) fn is_gone(set: &CircuitSet<LinkTable>, session: &Session) -> bool
 }
 
 /// Whether a message was taken.
-pub(crate) fn took(taken: Result<bool, NoEnd>) -> bool
-    ensures { result ≡ users.took taken }
+pub(crate) fn has_taken(taken: Result<bool, NoEnd>) -> bool
+    ensures { result ≡ users.has_taken taken }
 {
     match taken {
         Ok(taken) => taken,

@@ -17,12 +17,12 @@ use route_table::Route;
 const MOST_NAMED: usize = 64;
 
 impl Station {
-    ghost use Rattle.node_core.specs.Going.{Told};
+    ghost use Rattle.node_core.specs.Going.{HoldsTold};
     ghost use Rattle.node_core.specs.Standing.{Holds};
 
     /// What there is to see of this node.
     pub(crate) fn view(&self, sight: &Sight) -> Result<View, NoMemory>
-        ensures { IfOk result (λ view. (n : State) → Told self.now n → view ≡ views.view sight.now n) }
+        ensures { IfOk result (λ view. (n : State) → HoldsTold self.now n → view ≡ views.view sight.now n) }
     {
         match sight {
             Sight::Nodes => self.nodes(),
@@ -34,7 +34,7 @@ impl Station {
 
     /// The destinations.
     fn nodes(&self) -> Result<View, NoMemory>
-        ensures { IfOk result (λ view. (n : State) → Told self.now n → view ≡ views.view sights.Nodes n) }
+        ensures { IfOk result (λ view. (n : State) → HoldsTold self.now n → view ≡ views.view sights.Nodes n) }
     {
         let destinations = self.set.router().table().destinations(self.alloc)?;
         Ok(View::Nodes {
@@ -45,7 +45,7 @@ impl Station {
 
     /// The routes to a destination.
     fn routes_to(&self, dest: &Call) -> View
-        ensures { (n : State) → Told self.now n → result ≡ views.view (sights.RoutesTo dest.now) n }
+        ensures { (n : State) → HoldsTold self.now n → result ≡ views.view (sights.RoutesTo dest.now) n }
     {
         View::RoutesTo {
             dest: *dest,
@@ -55,7 +55,7 @@ impl Station {
 
     /// The destinations that have a route over themselves.
     fn neighbours(&self) -> Result<View, NoMemory>
-        ensures { IfOk result (λ view. (n : State) → Told self.now n → view ≡ views.view sights.Routes n) }
+        ensures { IfOk result (λ view. (n : State) → HoldsTold self.now n → view ≡ views.view sights.Routes n) }
     {
         let routes = self.set.router().table().routes_of_all(self.alloc)?;
         Ok(View::Routes(direct_routes(&routes)))
@@ -84,7 +84,7 @@ impl Station {
 
     /// The partner of each end that is held.
     fn users(&self) -> ArrayVec<Call, 64>
-        ensures { (n : State) → Told self.now n → result.items ≡ views.partners n.set.set.ends }
+        ensures { (n : State) → HoldsTold self.now n → result.items ≡ views.partners n.set.set.ends }
     {
         let mut users = ArrayVec::new();
         for nth in 0..MOST_NAMED {
@@ -97,7 +97,7 @@ impl Station {
 
     /// The partner of the end of that place among those that are held.
     fn user(&self, nth: usize) -> Option<Call>
-        ensures { (n : State) → Told self.now n → option_to_list result ≡ flat_map (views.partner n.set.set.ends) (option_to_list (slice_get (held_ids n.set.set.ends) nth)) }
+        ensures { (n : State) → HoldsTold self.now n → option_to_list result ≡ flat_map (views.partner n.set.set.ends) (option_to_list (slice_get (held_ids n.set.set.ends) nth)) }
     {
         match self.set.held(nth) {
             Some(id) => self.set.partner(id),

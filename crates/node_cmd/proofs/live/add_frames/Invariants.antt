@@ -1,5 +1,5 @@
 use Rattle.std.proofs.Common.{◌≡◌, ◌++◌, ℕ, List}
-use Rattle.node_core.specs.Fetching.{sent}
+use Rattle.node_core.specs.Fetching.{without_frames}
 use Rattle.node_core.specs.Kept.{NodeStands, frames_left}
 use Rattle.node_turns.specs.States.{NodeState, frames}
 use Rattle.node_cmd.specs.Live.{kiss_of}
@@ -9,7 +9,7 @@ use Rattle.node_cmd.proofs.live.add_frames.Given as goal
 abbrev pub invariant-loop-frame : goal.invariant-loop-frame
 invariant-loop-frame l = record {
   told : (n : NodeState) → NodeStands l.fn.node n
-      → (m : NodeState) × NodeStands l.node m × (record m { station = sent m.station } ≡ record n { station = sent n.station })
+      → (m : NodeState) × NodeStands l.node m × (record m { station = without_frames m.station } ≡ record n { station = without_frames n.station })
       × (l.fn.text ++ kiss_of (frames n.station) ≡ l.text ++ kiss_of (frames m.station));
   grows : (more : List ℕ) × (l.text ≡ l.fn.text ++ more);
 }

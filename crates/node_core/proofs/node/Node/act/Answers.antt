@@ -2,7 +2,7 @@ use Rattle.std.proofs.Common.{◌≡◌, ◌∙◌, ℕ, false, subst, sym}
 use Rattle.std.specs.Prelude.{Bool}
 use Rattle.node_core.specs.Acts.{do_act}
 use Rattle.node_core.specs.Inputs.{after_act}
-use Rattle.node_core.specs.Kept.{NodeStands, kept}
+use Rattle.node_core.specs.Kept.{NodeStands, view_of}
 use Rattle.node_core.specs.Sound.{IsSound}
 use Rattle.node_core.specs.Standing.{IsAnswer}
 use Rattle.node_turns.specs.States.{State}
@@ -17,9 +17,9 @@ pub invariant_of-self : goal.invariant_of-self
 invariant_of-self c unspent =
     let answered : IsAnswer c.act-outcome.result = is_answer c.act-outcome.result (sym unspent ∙ c.wants_memory-self-inside.ensures) in
     let s : Station = c.act-outcome.new.self in
-    subst (λ (b : Bool). IsSound (kept c.self.inside.deframer s b)) (sym unspent)
+    subst (λ (b : Bool). IsSound (view_of c.self.inside.deframer s b)) (sym unspent)
     (sound_on c.settles.ensures.nothing (λ (m : ℕ) (n : State). (do_act m (act_of c.args.act.now) n).node) c.args.now.0 c.moment.result.0
-    (kept c.self.inside.deframer c.self.inside.station c.self.inside.spent) s c.moment.ensures.value
+    (view_of c.self.inside.deframer c.self.inside.station c.self.inside.spent) s c.moment.ensures.value
     (λ n h told. (c.act-outcome.ensures.acts answered n h told).stands) (c.act-outcome.ensures.drained answered) (led (Acts c.args.now.0 (act_of c.args.act.now)) c.asks_for_call.ensures) (c.self.invariant c.if-self.false))
 
 pub returns-clause-answer : goal.returns-clause-answer
@@ -32,9 +32,9 @@ pub returns-clause-goes : goal.returns-clause-goes
 returns-clause-goes c answered n h =
     let s : Station = c.act-outcome.new.self in
     let unspent : c.wants_memory-self-inside.result ≡ false = c.wants_memory-self-inside.ensures ∙ answer_is c.act-outcome.result answered in
-    subst (λ (b : Bool). NodeStands (kept c.self.inside.deframer s b) (after_act c.args.now.0 (act_of c.args.act.now) n)) (sym unspent)
+    subst (λ (b : Bool). NodeStands (view_of c.self.inside.deframer s b) (after_act c.args.now.0 (act_of c.args.act.now) n)) (sym unspent)
     (stands_on c.settles.ensures.nothing (λ (m : ℕ) (n : State). (do_act m (act_of c.args.act.now) n).node) c.args.now.0 c.moment.result.0
-    (kept c.self.inside.deframer c.self.inside.station c.self.inside.spent) s c.moment.ensures.value
+    (view_of c.self.inside.deframer c.self.inside.station c.self.inside.spent) s c.moment.ensures.value
     (λ n h told. (c.act-outcome.ensures.acts answered n h told).stands) n (subst (λ k. NodeStands k n) (sym c.self.view_is) h))
 
 pub returns-clause-kept : goal.returns-clause-kept

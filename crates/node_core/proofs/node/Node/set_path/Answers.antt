@@ -6,7 +6,7 @@ use Rattle.link_table.specs.Calls.{with_path}
 use Rattle.link_table.specs.contracts.path_refusal.PathRefusalPartialEq.TheImpl as refused
 use Rattle.link_table.specs.declared.path_refusal.PathRefusal.{PathRefusal}
 use Rattle.link_table.specs.declared.path_refusal.PathRefusal.TheVariants as paths
-use Rattle.node_core.specs.Kept.{kept}
+use Rattle.node_core.specs.Kept.{view_of}
 use Rattle.node_core.specs.Sound.{IsSound}
 use Rattle.node_core.proofs.Holding.{with_carrier}
 use Rattle.node_core.specs.Bridged.{Paths}
@@ -21,8 +21,8 @@ invariant_of-self c unspent =
     let e = c.set_path-outcome.ensures in
     let r = c.set_path-outcome.result in
     let some = not_no_memory is_no_memory refl r (sym unspent ∙ c.eq-self-inside.ensures) in
-    let k = kept c.self.inside.deframer c.self.inside.station c.self.inside.spent in
+    let k = view_of c.self.inside.deframer c.self.inside.station c.self.inside.spent in
     let s = with_carrier c.self.inside.station c.router_mut.result.now c.set_path-outcome.new.self in
-    subst (λ (b : Bool). IsSound (kept c.self.inside.deframer s b)) (c.if-self.false ∙ sym unspent)
+    subst (λ (b : Bool). IsSound (view_of c.self.inside.deframer s b)) (c.if-self.false ∙ sym unspent)
     (sound_path r (with_path c.args.peer.now c.args.path.now) k c.router_mut.result.now c.carrier_mut.result.now c.set_path-outcome.new.self
     c.router_mut.ensures.value c.carrier_mut.ensures.value some e.goes e.err (λ t. refl) (led (Paths c.args.peer.now c.args.path.now) tt) (c.self.invariant c.if-self.false))

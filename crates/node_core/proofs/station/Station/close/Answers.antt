@@ -3,7 +3,7 @@ use Rattle.std.proofs.lemmas.Result.{err_from_is_err_and}
 use Rattle.circuit_set.specs.CircuitSets.{SetStands}
 use Rattle.circuit_set.specs.Inputs as inputs
 use Rattle.circuit_set.specs.Sets as sets
-use Rattle.node_core.specs.Acts.{closed}
+use Rattle.node_core.specs.Acts.{answer_to_close}
 use Rattle.node_turns.specs.Circuits.{acts}
 use Rattle.node_core.proofs.Holding.{set_steps}
 use Rattle.node_core.proofs.station.Station.close.Goals as goal
@@ -16,7 +16,7 @@ returns-in_err-close c =
     let s = c.args.self.now in
     let act = sets.Calls c.args.id sets.Closes c.args.now.0 in
     let answer = c.in_err-close.ensures.answer n.set.set (subst (SetStands s.set) told h.parts.set) in
-    record { answer = ap closed answer; stands = set_steps (inputs.acts act) s c.close.new.self c.close.ensures.goes n h told })
+    record { answer = ap answer_to_close answer; stands = set_steps (inputs.acts act) s c.close.new.self c.close.ensures.goes n h told })
 
 pub returns : goal.returns
 unfolding acts
@@ -24,4 +24,4 @@ returns c = λ a n h told.
     let s = c.args.self.now in
     let act = sets.Calls c.args.id sets.Closes c.args.now.0 in
     let answer = c.in_ok-close.ensures.answer n.set.set (subst (SetStands s.set) told h.parts.set) in
-    record { answer = ap closed answer; stands = set_steps (inputs.acts act) s c.close.new.self c.close.ensures.goes n h told }
+    record { answer = ap answer_to_close answer; stands = set_steps (inputs.acts act) s c.close.new.self c.close.ensures.goes n h told }

@@ -5,7 +5,7 @@ use Rattle.circuit_set.specs.Standing as answers
 use Rattle.node_turns.specs.Bridging as bridging
 use Rattle.node_turns.specs.Circuits as circuits
 use Rattle.node_turns.specs.Pumping.{pump}
-use Rattle.node_core.specs.Going.{Told}
+use Rattle.node_core.specs.Going.{HoldsTold}
 use Rattle.node_turns.specs.States.{State, at_set}
 use Rattle.node_turns.specs.Users as users
 use Rattle.node_core.proofs.Placing.{noted}
@@ -30,8 +30,8 @@ returns-in_ok-say c = λ n t.
     let nth = c.args.nth in
     let act = sets.Calls id sets.Takes c.args.now.0 in
     let rest = resting s n t in
-    let some : users.took (answers.take_answer (users.end_at id n)) ≡ true =
-    sym (ap users.took (c.take.ensures.answer n.set.set rest)) ∙ (sym c.took-taken.ensures ∙ c.if-taken.true) in
+    let some : users.has_taken (answers.take_answer (users.end_at id n)) ≡ true =
+    sym (ap users.has_taken (c.take.ensures.answer n.set.set rest)) ∙ (sym c.has_taken-taken.ensures ∙ c.if-taken.true) in
     let m : State = at_set (circuits.acts act) n in
     let p : State = pump c.args.now.0 m in
     let h1 = c.in_ok-pump.ensures.goes m (set_acts act s c.take.new.self c.take.ensures.goes n t) in
@@ -39,16 +39,16 @@ returns-in_ok-say c = λ n t.
     let is : c.take.new.out.items ≡ message = rw c.new-message.ensures at (c.take.ensures.message n.set.set rest) in
     let q : State = users.at_session nth (bridging.log_got message) p in
     let h2 = noted (bridging.log_got message) (λ x. refl) c.pump.new.self p nth h1 in
-    let step = bridging.log_gave (users.said nth message q) message in
+    let step = bridging.log_gave (users.outcome_for nth message q) message in
     let r : State = users.at_session nth step q in
     let h3 = noted step (λ x. refl) c.pump.new.self q nth h2 in
-    let said = subst (λ x. Told c.say.new.self (users.say c.args.now.0 nth x r)) is (c.in_ok-say.ensures r (h3, c.in_ok-pump.ensures.told m)) in
+    let said = subst (λ x. HoldsTold c.say.new.self (users.say c.args.now.0 nth x r)) is (c.in_ok-say.ensures r (h3, c.in_ok-pump.ensures.told m)) in
     rw some (record { did_is = c.if-taken.true; stands = said })
 
 pub returns-else-taken : goal.returns-else-taken
 returns-else-taken c = λ n t.
     let s = c.args.self.now in
     let id = c.args.id in
-    let none : users.took (answers.take_answer (users.end_at id n)) ≡ false =
-    sym (ap users.took (c.take.ensures.answer n.set.set (resting s n t))) ∙ (sym c.took-taken.ensures ∙ c.if-taken.false) in
+    let none : users.has_taken (answers.take_answer (users.end_at id n)) ≡ false =
+    sym (ap users.has_taken (c.take.ensures.answer n.set.set (resting s n t))) ∙ (sym c.has_taken-taken.ensures ∙ c.if-taken.false) in
     rw none (record { did_is = c.if-taken.false; stands = (not_taken s c.take.new.self id c.args.now.0 n t c.take.ensures.goes none, t.1) })

@@ -1,6 +1,6 @@
 use Rattle.std.proofs.Common.{◌∙◌, arith, refl, subst, sym}
 use Rattle.node_turns.specs.Serving.{greet_link}
-use Rattle.node_core.specs.Going.{Told}
+use Rattle.node_core.specs.Going.{HoldsTold}
 use Rattle.node_turns.specs.States.{State}
 use Rattle.node_core.proofs.Hearing.{bare_greets, greets_next, greets_none}
 use Rattle.node_core.proofs.Holding.{with_sessions}
@@ -28,4 +28,4 @@ pub returns : goal.returns
 returns c = λ n t.
     let i = c.loop-peer.invariant n t in
     let all = greets_none n.settings.prompt c.args.peers.now c.loop-peer.peer-index i.0 (omega arith) in
-    subst (λ ss. Told c.loop-peer.self (record n { sessions = ss })) (sym (i.2 ∙ all)) i.1
+    subst (λ ss. HoldsTold c.loop-peer.self (record n { sessions = ss })) (sym (i.2 ∙ all)) i.1

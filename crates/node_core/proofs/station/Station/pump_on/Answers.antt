@@ -8,7 +8,7 @@ use Rattle.node_turns.specs.States.{Of_set, State}
 use Rattle.node_core.proofs.Entering.{told_by_length}
 use Rattle.node_core.proofs.Holding.{entered}
 use Rattle.node_core.proofs.Nodes.{pumped_told}
-use Rattle.node_core.proofs.Leading.{called, nothing_lies, pumped_is, told_on, was_called}
+use Rattle.node_core.proofs.Leading.{before_entering, nothing_lies, pumped_is, told_on, was_called}
 use Rattle.node_core.proofs.station.Station.pump_on.Goals as goal
 
 pub loop-now-preserved : goal.loop-now-preserved
@@ -21,7 +21,7 @@ loop-now-preserved c = λ n h.
     let x = was_called c.parts.ensures.offers c.parts.ensures.takes c.parts.ensures.less now s c.pump.new.self i.0 _ i.1 c.in-Ok-Some.ensures.router pumps in
     let s1 = record s { set = c.pump.new.self } in
     let s2 = c.hear_circuits.new.self in
-    let m : State = called x.q i.0 in
+    let m : State = before_entering x.q i.0 in
     let ss = hear_circuits m.settings.prompt (event_told event) m.sessions in
     let hears = c.in_ok-hear_circuits-in-Ok-Some.ensures.goes m x.holds in
     let next : State = record m { sessions = ss; entries = i.0.entries ++ Of_set (event_told event) ∷ [] } in (

@@ -2,7 +2,7 @@ use Rattle.std.proofs.Common.{subst}
 use Rattle.link_table.specs.Standing.{TableStands}
 use Rattle.node_turns.specs.Links.{text_answer}
 use Rattle.node_core.specs.Standing.{Holds}
-use Rattle.node_turns.specs.Users.{sent}
+use Rattle.node_turns.specs.Users.{send_if_ok}
 use Rattle.node_core.proofs.Holding.{with_carrier}
 use Rattle.node_core.proofs.Using.{sent_holds, sent_told}
 use Rattle.node_core.proofs.station.Station.send.Goals as goal
@@ -19,4 +19,4 @@ returns c = λ n t.
     let h = sent_holds c.send_text.result s c.router_mut.result.now c.carrier_mut-links.result.now c.send_text.new.self peer text c.args.now.0
     c.router_mut.ensures.value c.carrier_mut-links.ensures.value known c.send_text.ensures.goes c.send_text.ensures.err n t.0 in
     let s1 = with_carrier s c.router_mut.result.now c.send_text.new.self in
-    (subst (λ r. Holds s1 (sent r peer text c.args.now.0 n)) answer h, sent_told (text_answer peer text n.links) peer text c.args.now.0 n t.1)
+    (subst (λ r. Holds s1 (send_if_ok r peer text c.args.now.0 n)) answer h, sent_told (text_answer peer text n.links) peer text c.args.now.0 n t.1)

@@ -1,6 +1,6 @@
 use Rattle.std.proofs.Common.{◌<◌, ◌≤◌, arith, length, refl, subst, sym}
 use Rattle.node_turns.specs.Serving.{serve, serve_all}
-use Rattle.node_core.specs.Going.{Told}
+use Rattle.node_core.specs.Going.{HoldsTold}
 use Rattle.node_core.proofs.Serving.{none_more, one_more, same_number}
 use Rattle.node_core.proofs.station.Station.serve_each.Goals as goal
 
@@ -33,4 +33,4 @@ returns c = λ n t.
     let number = same_number c.args.self.now n t.0 in
     let over : length n.sessions ≤ c.loop-nth.nth = omega (arith, number, c.len-nth-end.ensures, c.args.self.now.sessions.ok.0, c.loop-nth-test.false) in
     let whole = none_more now (serve_all now n) c.loop-nth.nth i.1 (length n.sessions) c.loop-nth.served i.0 i.3 over i.4 in
-    record { did_is = sym whole.1; stands = subst (Told c.loop-nth.self) (sym whole.0) i.2 }
+    record { did_is = sym whole.1; stands = subst (HoldsTold c.loop-nth.self) (sym whole.0) i.2 }

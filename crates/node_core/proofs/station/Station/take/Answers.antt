@@ -4,7 +4,7 @@ use Rattle.circuit_set.specs.CircuitSets.{SetStands}
 use Rattle.circuit_set.specs.Inputs as inputs
 use Rattle.circuit_set.specs.Sets as sets
 use Rattle.circuit_set.specs.Standing.{message_at}
-use Rattle.node_core.specs.Acts.{took}
+use Rattle.node_core.specs.Acts.{answer_to_take}
 use Rattle.node_turns.specs.Circuits.{acts}
 use Rattle.node_core.proofs.Holding.{set_steps}
 use Rattle.node_core.proofs.station.Station.take.Goals as goal
@@ -18,7 +18,7 @@ returns-in_err-waited c =
     let act = sets.Calls c.args.id sets.Takes c.args.now.0 in
     let end = sets.end_of c.args.id n.set.set.ends in
     let answer = c.in_err-waited.ensures.answer n.set.set (subst (SetStands s.set) told h.parts.set) in
-    record { answer = ap (λ x. took x (message_at [] end)) answer; stands = set_steps (inputs.acts act) s c.take.new.self c.take.ensures.goes n h told })
+    record { answer = ap (λ x. answer_to_take x (message_at [] end)) answer; stands = set_steps (inputs.acts act) s c.take.new.self c.take.ensures.goes n h told })
 
 pub returns-in_ok-taken : goal.returns-in_ok-taken
 unfolding acts
@@ -39,4 +39,4 @@ returns-else-waited c = λ a n h told.
     let act = sets.Calls c.args.id sets.Takes c.args.now.0 in
     let end = sets.end_of c.args.id n.set.set.ends in
     let answer = rw c.if-waited.false at (c.in_ok-waited.ensures.answer n.set.set (subst (SetStands s.set) told h.parts.set)) in
-    record { answer = ap (λ x. took x (message_at [] end)) answer; stands = set_steps (inputs.acts act) s c.take.new.self c.take.ensures.goes n h told }
+    record { answer = ap (λ x. answer_to_take x (message_at [] end)) answer; stands = set_steps (inputs.acts act) s c.take.new.self c.take.ensures.goes n h told }

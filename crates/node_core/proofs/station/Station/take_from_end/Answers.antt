@@ -19,8 +19,8 @@ returns-in_ok-pump c = λ n t.
     let id = c.args.id in
     let act = sets.Calls id sets.Takes c.args.now.0 in
     let rest = resting s n t in
-    let some : users.took (answers.take_answer (users.end_at id n)) ≡ true =
-    sym (ap users.took (c.take.ensures.answer n.set.set rest)) ∙ (sym c.took-taken.ensures ∙ c.if-taken.true) in
+    let some : users.has_taken (answers.take_answer (users.end_at id n)) ≡ true =
+    sym (ap users.has_taken (c.take.ensures.answer n.set.set rest)) ∙ (sym c.has_taken-taken.ensures ∙ c.if-taken.true) in
     let s1 = record s { set = c.take.new.self } in
     let m : State = at_set (circuits.acts act) n in
     let h1 = set_acts act s c.take.new.self c.take.ensures.goes n t in
@@ -35,6 +35,6 @@ pub returns-else-taken : goal.returns-else-taken
 returns-else-taken c = λ n t.
     let s = c.args.self.now in
     let id = c.args.id in
-    let none : users.took (answers.take_answer (users.end_at id n)) ≡ false =
-    sym (ap users.took (c.take.ensures.answer n.set.set (resting s n t))) ∙ (sym c.took-taken.ensures ∙ c.if-taken.false) in
+    let none : users.has_taken (answers.take_answer (users.end_at id n)) ≡ false =
+    sym (ap users.has_taken (c.take.ensures.answer n.set.set (resting s n t))) ∙ (sym c.has_taken-taken.ensures ∙ c.if-taken.false) in
     rw none (record { did_is = c.if-taken.false; stands = (not_taken s c.take.new.self id c.args.now.0 n t c.take.ensures.goes none, t.1) })

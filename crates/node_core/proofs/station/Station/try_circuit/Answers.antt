@@ -5,7 +5,7 @@ use Rattle.node_turns.specs.Asking as asking
 use Rattle.node_turns.specs.Bridging as bridging
 use Rattle.node_turns.specs.Circuits as circuits
 use Rattle.node_turns.specs.Pumping.{pump}
-use Rattle.node_core.specs.Going.{Told}
+use Rattle.node_core.specs.Going.{HoldsTold}
 use Rattle.node_turns.specs.States.{State, at_set}
 use Rattle.node_turns.specs.Users.{at_session, say}
 use Rattle.node_core.proofs.Asked.{answered, prompt_stays, refused_told, unspent}
@@ -49,7 +49,7 @@ returns-in_ok-say-in-Ok c = λ n t.
     let text = ap (λ x. x.items) c.trying-text.ensures.text ∙ ap (λ q. (texts.trying q dest).items) prompt in
     let spent = not_spent c.connect.new.self.spent (λ x. absurd (cc (c.in-Ok.ensures.memory.1 x))) in
     let answer = answered s dest n t _ (c.in-Ok.ensures.answer spent) in
-    subst (λ r. Told c.say.new.self (asking.tried now nth dest r n)) answer (subst (λ x. Told c.say.new.self (say now nth x p)) text told)
+    subst (λ r. HoldsTold c.say.new.self (asking.try_by now nth dest r n)) answer (subst (λ x. HoldsTold c.say.new.self (say now nth x p)) text told)
 
 pub returns-in_ok-say-in-Err : goal.returns-in_ok-say-in-Err
 returns-in_ok-say-in-Err c = λ n t.
@@ -64,6 +64,6 @@ returns-in_ok-say-in-Err c = λ n t.
     let text =
     ap (λ x. x.items) c.refused-text.ensures.text
     ∙ (ap (λ q. (texts.refused q dest c.in_ok-trouble-in-Err.trouble).items) prompt ∙ ap (λ w. (texts.refused (bridging.prompt_of n) dest w).items) c.in_ok-trouble-in-Err.ensures.trouble) in
-    let told = subst (λ x. Told c.say-in-Err.new.self (say now nth x n)) text (c.in_ok-say-in-Err.ensures n h) in
+    let told = subst (λ x. HoldsTold c.say-in-Err.new.self (say now nth x n)) text (c.in_ok-say-in-Err.ensures n h) in
     let answer = answered s dest n t _ (c.in-Err.ensures.answer spent) in
-    subst (λ r. Told c.say-in-Err.new.self (asking.tried now nth dest r n)) answer told
+    subst (λ r. HoldsTold c.say-in-Err.new.self (asking.try_by now nth dest r n)) answer told

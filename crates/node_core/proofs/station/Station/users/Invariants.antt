@@ -1,6 +1,6 @@
 use Rattle.std.proofs.Common.{◌≡◌, ◌≤◌, flat_map, length, take}
 use Rattle.circuit_set.specs.CircuitSets.{held_ids}
-use Rattle.node_core.specs.Going.{Told}
+use Rattle.node_core.specs.Going.{HoldsTold}
 use Rattle.node_turns.specs.States.{State}
 use Rattle.node_turns.specs.Views as views
 use Rattle.node_core.proofs.station.Station.users.Given as goal
@@ -8,4 +8,4 @@ use Rattle.node_core.proofs.station.Station.users.Given as goal
 -- the partners of so many of the ends
 abbrev pub invariant-loop-nth : goal.invariant-loop-nth
 invariant-loop-nth l =
-    ((n : State) → Told l.self n → l.users.items ≡ flat_map (views.partner n.set.set.ends) (take l.nth (held_ids n.set.set.ends))) × (length l.users.items ≤ l.nth)
+    ((n : State) → HoldsTold l.self n → l.users.items ≡ flat_map (views.partner n.set.set.ends) (take l.nth (held_ids n.set.set.ends))) × (length l.users.items ≤ l.nth)

@@ -1,6 +1,6 @@
 use Rattle.std.proofs.Common.{refl, subst, rules}
 use Rattle.node_turns.specs.Bridging as bridging
-use Rattle.node_core.specs.Going.{Told}
+use Rattle.node_core.specs.Going.{HoldsTold}
 use Rattle.node_turns.specs.States.{State}
 use Rattle.node_turns.specs.Users as users
 use Rattle.node_core.proofs.Placing.{logged, session_told}
@@ -19,4 +19,4 @@ returns c = λ n t.
     let step = bridging.log_wrote (users.wrote_by (users.write_answer c.args.id text n)) text in
     let m : State = users.at_session nth step n in
     let h2 = logged bridging.drop_rest step (λ x. refl) c.with_session.new.self n nth h.0 in
-    subst (λ x. Told c.write_to.new.self (users.write_to c.args.now.0 c.args.id x m)) (c.rest_of-text.ensures n t) (rw c.as_slice.ensures.value at (c.in_ok-write_to.ensures m (h2, h.1)))
+    subst (λ x. HoldsTold c.write_to.new.self (users.write_to c.args.now.0 c.args.id x m)) (c.rest_of-text.ensures n t) (rw c.as_slice.ensures.value at (c.in_ok-write_to.ensures m (h2, h.1)))

@@ -16,6 +16,6 @@ returns c = λ n t.
     let s1 = record s { set = c.write.new.self } in
     let answer = c.write.ensures.answer n.set.set (resting s n t) in
     let h1 = written_holds c.write.result act s c.write.new.self c.write.ensures.goes c.write.ensures.err n t in
-    let m : State = users.written (users.write_answer c.args.id c.args.text.now n) act n in
-    let h2 : Holds s1 m = subst (λ r. Holds s1 (users.written r act n)) answer h1 in
+    let m : State = users.write_if_ok (users.write_answer c.args.id c.args.text.now n) act n in
+    let h2 : Holds s1 m = subst (λ r. Holds s1 (users.write_if_ok r act n)) answer h1 in
     (c.in_ok-pump.ensures.goes m h2, c.in_ok-pump.ensures.told m)
