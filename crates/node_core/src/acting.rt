@@ -92,7 +92,8 @@ impl Station {
         neighbour: &Call,
         quality: u8,
     ) -> Result<ActDone, ActRefusal>
-        ensures { Acts (acts.lock dest.now (logs.Lock dest.now alias.now neighbour.now quality) quality) self.old self.new result }
+        ensures { Acts (acts.lock dest.now (logs.Lock dest.now alias.now neighbour.now quality) quality)
+            self.old self.new result }
     {
         let table = self.set.router_mut().table_mut();
         table.lock(dest, alias, neighbour, quality)?;

@@ -63,7 +63,8 @@ pub fn broadcast_frame(call: &Call, broadcast: &Nodes) -> FrameBytes
 /// Replaces `out` by the same octets, of the broadcast with this alias and these entries.
 pub(crate) fn write_broadcast(call: &Call, alias: &Alias, entries: &[Entry], out: &mut FrameBytes)
     requires { length entries.now ≤ 11 }
-    ensures { out.new.items ≡ broadcasts.broadcast_octets call.now (record { alias = alias.now; entries = entries.now }) }
+    ensures { out.new.items
+        ≡ broadcasts.broadcast_octets call.now (record { alias = alias.now; entries = entries.now }) }
 {
     let head = Head {
         dest: address_of(nodes_call(), true),

@@ -21,8 +21,10 @@ pub(crate) fn take_bytes(
     now: Moment,
 ) -> Result<(), NoMemory>
     requires { StandsForSome station.old }
-    ensures fed { OnOk result ((stream : List ℕ) → kiss.StandsFor deframer.old stream → kiss.StandsFor deframer.new (stream ++ bytes.now)) }
-    ensures taken { OnOk result ((stream : List ℕ) → kiss.StandsFor deframer.old stream → Takes now.0 station.old station.new stream bytes.now) }
+    ensures fed { OnOk result ((stream : List ℕ) → kiss.StandsFor deframer.old stream
+        → kiss.StandsFor deframer.new (stream ++ bytes.now)) }
+    ensures taken { OnOk result ((stream : List ℕ) → kiss.StandsFor deframer.old stream
+        → Takes now.0 station.old station.new stream bytes.now) }
     ensures drained { OnOk result (IsDrained station.old → IsDrained station.new) }
 {
     let mut taken = 0;
@@ -41,8 +43,10 @@ fn take_some(
     now: Moment,
 ) -> Result<usize, NoMemory>
     requires { StandsForSome station.old }
-    ensures fed { IfOk result (λ count. (stream : List ℕ) → kiss.StandsFor deframer.old stream → kiss.StandsFor deframer.new (stream ++ take count bytes.now)) }
-    ensures taken { IfOk result (λ count. (stream : List ℕ) → kiss.StandsFor deframer.old stream → Takes now.0 station.old station.new stream (take count bytes.now)) }
+    ensures fed { IfOk result (λ count. (stream : List ℕ) → kiss.StandsFor deframer.old stream
+        → kiss.StandsFor deframer.new (stream ++ take count bytes.now)) }
+    ensures taken { IfOk result (λ count. (stream : List ℕ) → kiss.StandsFor deframer.old stream
+        → Takes now.0 station.old station.new stream (take count bytes.now)) }
     ensures drained { OnOk result (IsDrained station.old → IsDrained station.new) }
     ensures some { OnOk result (StandsForSome station.new) }
     ensures within { IfOk result (λ count. count ≤ length bytes.now) }
@@ -62,8 +66,10 @@ pub(crate) fn take_kiss_frame(
     now: Moment,
 ) -> Result<(), NoMemory>
     requires { StandsForSome station.old }
-    ensures fed { OnOk result ((stream : List ℕ) → kiss.StandsFor deframer.old stream → kiss.StandsFor deframer.new (stream ++ framed 0 0 octets.now)) }
-    ensures taken { OnOk result ((stream : List ℕ) → kiss.StandsFor deframer.old stream → Takes now.0 station.old station.new stream (framed 0 0 octets.now)) }
+    ensures fed { OnOk result ((stream : List ℕ) → kiss.StandsFor deframer.old stream
+        → kiss.StandsFor deframer.new (stream ++ framed 0 0 octets.now)) }
+    ensures taken { OnOk result ((stream : List ℕ) → kiss.StandsFor deframer.old stream
+        → Takes now.0 station.old station.new stream (framed 0 0 octets.now)) }
     ensures drained { OnOk result (IsDrained station.old → IsDrained station.new) }
 {
     kiss_framing::laws::fend_ends();
@@ -81,7 +87,8 @@ fn take_given(
 ) -> Result<(), NoMemory>
     requires some { StandsForSome station.old }
     requires small { IfSome item IsSmall }
-    ensures goes { OnOk result (StationGoes (inputs.after_items now.0 (handed_out item.entry)) station.old station.new) }
+    ensures goes { OnOk result (StationGoes (inputs.after_items now.0 (handed_out item.entry))
+        station.old station.new) }
     ensures drained { OnOk result (IsDrained station.old → IsDrained station.new) }
     ensures some { OnOk result (StandsForSome station.new) }
 {

@@ -108,8 +108,11 @@ impl Node {
     /// Sets the repeaters over which a peer is reached, in the place of those before. It is refused, in this order: `TooLong`
     /// where there are more than two, `Full` where 16 other peers have some. A refusal but `NoMemory` changes nothing.
     pub fn set_path(&mut self, peer: &Call, path: &Path) -> Result<(), PathRefusal>
-        ensures goes { OnOk result (NodeGoes (λ n. record n { station = states.at_links (calls.with_path peer.now path.now) n.station }) self.old self.new) }
-        ensures answer { NotNoMemory result → (n : NodeState) → NodeStands self.old n → result ≡ calls.path_answer peer.now path.now n.station.links }
+        ensures goes { OnOk result (NodeGoes
+            (λ n. record n { station = states.at_links (calls.with_path peer.now path.now) n.station })
+            self.old self.new) }
+        ensures answer { NotNoMemory result → (n : NodeState) → NodeStands self.old n
+            → result ≡ calls.path_answer peer.now path.now n.station.links }
         ensures err { OnErr result (NotNoMemory result → self.new ≡ self.old) }
         ensures kept { NotNoMemory result → IsWithin self.new }
         ensures memory { IsErrOf result path_refusals.NoMemory ↔ IsTrue self.new.spent }
@@ -183,7 +186,8 @@ impl Node {
 
     /// Does what the user wants, or tells why not. After it the node keeps no more than its bound.
     pub fn act(&mut self, act: &UserAct, now: Moment) -> Result<ActDone, ActRefusal>
-        ensures answer { IsAnswer result → (n : NodeState) → NodeStands self.old n → result ≡ inputs.act_answer now.0 (act_of act.now) n }
+        ensures answer { IsAnswer result → (n : NodeState) → NodeStands self.old n
+            → result ≡ inputs.act_answer now.0 (act_of act.now) n }
         ensures goes { IsAnswer result → NodeGoes (inputs.after_act now.0 (act_of act.now)) self.old self.new }
         ensures kept { IsAnswer result → IsWithin self.new }
         ensures memory { IsErrOf result refusals.NoMemory ↔ IsTrue self.new.spent }
@@ -222,14 +226,16 @@ impl Node {
 
     /// The next thing that it has to tell, as `trace_entry` would give it, lent. None where there is none.
     pub fn first_entry(&self) -> Option<&NodeEntry>
-        ensures { (n : NodeState) → NodeStands self.now n → option_map entry_of (option_copied result) ≡ slice_get n.station.entries 0 }
+        ensures { (n : NodeState) → NodeStands self.now n
+            → option_map entry_of (option_copied result) ≡ slice_get n.station.entries 0 }
     {
         self.station.entries.front()
     }
 
     /// The next thing that it has to tell, the oldest one. None where there is none.
     pub fn trace_entry(&mut self) -> Option<NodeEntry>
-        ensures answer { (n : NodeState) → NodeStands self.old n → option_map entry_of result ≡ slice_get n.station.entries 0 }
+        ensures answer { (n : NodeState) → NodeStands self.old n
+            → option_map entry_of result ≡ slice_get n.station.entries 0 }
         ensures goes { NodeGoes (λ n. record n { station = states.fetch_entry n.station }) self.old self.new }
         ensures left { IfSome result (λ _. entries_left self.new < entries_left self.old) }
         ensures kept { self.old.spent ≡ false → IsWithin self.new }

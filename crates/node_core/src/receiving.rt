@@ -102,7 +102,9 @@ impl Station {
         requires few { length octets.now ≤ 1023 }
         requires begins { BeginsWith octets.now head at }
         requires ends { head_end octets.now ≡ Ok at }
-        ensures { OnOk result (StationGoes (receiving.take_by_path now.0 octets.now head (action head.path.items head.dest.call own.now)) self.old self.new) }
+        ensures { OnOk result (StationGoes
+            (receiving.take_by_path now.0 octets.now head (action head.path.items head.dest.call own.now))
+            self.old self.new) }
     {
         match step(&head.path, &head.dest.call, own) {
             DigiStep::Repeat(_) => self.repeat(head.path.as_slice(), octets)?,
@@ -123,7 +125,9 @@ impl Station {
     ) -> Result<(), NoMemory>
         requires begins { BeginsWith octets.now head at }
         requires ends { head_end octets.now ≡ Ok at }
-        ensures { OnOk result (StationGoes (λ n. receiving.take_frame now.0 false (read_at (receiving.modulus_with head.source.call n) octets.now) n) self.old self.new) }
+        ensures { OnOk result (StationGoes
+            (λ n. receiving.take_frame now.0 false (read_at (receiving.modulus_with head.source.call n) octets.now) n)
+            self.old self.new) }
     {
         // By the laws of the spelling the frame has this head, and so goes to no node.
         ax_frame::laws::head_spelling();
@@ -137,7 +141,8 @@ impl Station {
     /// Repeats a frame: the same octets, with the H bit of this node set.
     fn repeat(&mut self, path: &[Address], octets: &[u8]) -> Result<(), NoMemory>
         requires { length octets.now ≤ 1023 }
-        ensures { OnOk result (StationGoes (states.put (receiving.repeated_frame path.now octets.now)) self.old self.new) }
+        ensures { OnOk result (StationGoes (states.put (receiving.repeated_frame path.now octets.now))
+            self.old self.new) }
     {
         let mut repeated = octets.to_vec(self.alloc)?;
         set_h_bit(&mut repeated, h_octet(path));
@@ -159,7 +164,9 @@ impl Station {
     ) -> Result<(), NoMemory>
         requires begins { BeginsWith octets.now head at }
         requires ends { head_end octets.now ≡ Ok at }
-        ensures { OnOk result (StationGoes (λ n. receiving.take_frame now.0 mine (read_at (receiving.modulus_with head.source.call n) octets.now) n) self.old self.new) }
+        ensures { OnOk result (StationGoes
+            (λ n. receiving.take_frame now.0 mine (read_at (receiving.modulus_with head.source.call n) octets.now) n)
+            self.old self.new) }
     {
         let is_128 = self.is_128(&head.source.call);
         match read_by(is_128, at, octets) {
@@ -206,7 +213,8 @@ impl Station {
 
     /// Hears a broadcast; one that can't be read is dropped.
     fn take_broadcast(&mut self, frame: &FrameView<'_>) -> Result<(), NoMemory>
-        ensures { OnOk result (StationGoes (receiving.hear frame.now.head.source.call (nodes_at frame.now.info.now)) self.old self.new) }
+        ensures { OnOk result (StationGoes (receiving.hear frame.now.head.source.call (nodes_at frame.now.info.now))
+            self.old self.new) }
     {
         let mut nodes = Nodes::default();
         match read_nodes_into(&mut nodes, frame.info) {
@@ -222,7 +230,9 @@ impl Station {
     /// Takes in what a neighbour has broadcast, or tells that there is no room for it.
     fn hear(&mut self, source: &Call, alias: &Alias, reported: &[Entry]) -> Result<(), NoMemory>
         requires { length reported.now ≤ 11 }
-        ensures { OnOk result (StationGoes (λ n. receiving.take_in (broadcast n.settings.call source.now alias.now n.settings.path_quality reported.now) n) self.old self.new) }
+        ensures { OnOk result (StationGoes (λ n. receiving.take_in
+            (broadcast n.settings.call source.now alias.now n.settings.path_quality reported.now) n)
+            self.old self.new) }
     {
         let path_quality = self.path_quality;
         let table = self.set.router_mut().table_mut();
@@ -277,7 +287,9 @@ fn set_h_bit(octets: &mut [u8], at: usize)
 fn read_by(is_128: bool, at: usize, octets: &[u8]) -> Result<Behind<'_>, FrameRefusal>
     requires { head_end octets.now ≡ Ok at }
     ensures { let size = (if is_128 then 128 else 8) in
-        (h : Head) → BeginsWith octets.now h at → MatchResult result (λ b. read_at size octets.now ≡ Ok (with_head h b)) (λ e. read_at size octets.now ≡ Err e) }
+        (h : Head) → BeginsWith octets.now h at
+        → MatchResult result (λ b. read_at size octets.now ≡ Ok (with_head h b))
+        (λ e. read_at size octets.now ≡ Err e) }
 {
     if is_128 {
         read_behind::<M128>(at, octets)

@@ -24,7 +24,8 @@ impl Station {
         requires drained { IsDrained self.old }
         requires stands { StandsTold self.old }
         requires moment { now.0 ≤ count_end }
-        ensures goes { OnOk result (GoesWhereTold (λ n. inputs.after_input now.0 (rounds.tick now.0 n)) self.old self.new) }
+        ensures goes { OnOk result (GoesWhereTold (λ n. inputs.after_input now.0 (rounds.tick now.0 n))
+            self.old self.new) }
         ensures drained { OnOk result (IsDrained self.new) }
     {
         self.do_tick(now)?;
@@ -118,7 +119,8 @@ impl Station {
         octets: &mut FrameBytes,
     ) -> Result<(), NoMemory>
         requires { 11 * nth ≤ length entries.now }
-        ensures { OnOk result (StationGoes (λ n. states.put (round_frame n.settings.call n.settings.alias entries.now nth) n) self.old self.new) }
+        ensures { OnOk result (StationGoes
+            (λ n. states.put (round_frame n.settings.call n.settings.alias entries.now nth) n) self.old self.new) }
     {
         let page = entries_of_frame(entries, nth);
         write_broadcast(&self.call(), &self.alias, page, octets);

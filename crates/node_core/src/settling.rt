@@ -79,7 +79,8 @@ impl Station {
     fn next_notice(&mut self) -> Option<(Call, LinkNotice)>
         ensures answer { (n : State) → Holds self.old n → result ≡ slice_get n.links.pending.notices 0 }
         ensures goes { StationGoes (states.at_links calls.notice) self.old self.new }
-        ensures left { IfSome result (λ _. length self.new.set.router.carrier.notices < length self.old.set.router.carrier.notices) }
+        ensures left { IfSome result (λ _.
+            length self.new.set.router.carrier.notices < length self.old.set.router.carrier.notices) }
         ensures same { self.new ≡ record self.old { set = self.new.set } }
     {
         self.set.router_mut().carrier_mut().notice()

@@ -114,7 +114,8 @@ impl Station {
     fn next_sent(&mut self) -> Option<Written>
         ensures answer { (n : State) → Holds self.old n → result ≡ slice_get (sent_frames n.links) 0 }
         ensures goes { StationGoes (states.at_links calls.fetch) self.old self.new }
-        ensures left { IfSome result (λ _. length self.new.set.router.carrier.frames < length self.old.set.router.carrier.frames) }
+        ensures left { IfSome result (λ _.
+            length self.new.set.router.carrier.frames < length self.old.set.router.carrier.frames) }
         ensures same { self.new ≡ record self.old { set = self.new.set } }
         ensures drained { IsDrained self.old → IsDrained self.new }
     {

@@ -23,7 +23,9 @@ impl Station {
     /// The sessions hear what has happened at the circuits. Where a request of another node has opened an end, a session is
     /// made for the user there, if users are served.
     pub(crate) fn hear_circuits(&mut self, event: &SetEvent) -> Result<(), NoMemory>
-        ensures goes { OnOk result (StationGoes (λ n. states.at_sessions (sessions.hear_circuits n.settings.prompt (event_told event.now)) n) self.old self.new) }
+        ensures goes { OnOk result (StationGoes
+            (λ n. states.at_sessions (sessions.hear_circuits n.settings.prompt (event_told event.now)) n)
+            self.old self.new) }
         ensures same { self.new ≡ record self.old { sessions = self.new.sessions } }
     {
         match event {
@@ -45,7 +47,8 @@ impl Station {
 
     /// Makes a session for a user, if users are served.
     fn greet(&mut self, user: User) -> Result<(), NoMemory>
-        ensures sessions { OnOk result (self.new.sessions.items ≡ sessions.greet self.old.prompt user self.old.sessions.items) }
+        ensures sessions { OnOk result (self.new.sessions.items
+            ≡ sessions.greet self.old.prompt user self.old.sessions.items) }
         ensures same { self.new ≡ record self.old { sessions = self.new.sessions } }
     {
         if self.prompt {
@@ -79,7 +82,8 @@ impl Station {
 
     /// Makes a session for the user at each of these links, unless one serves it.
     fn greet_each(&mut self, peers: &[Call]) -> Result<(), NoMemory>
-        ensures { OnOk result (Steps (λ n. states.at_sessions (serving.greet_each n.settings.prompt peers.now) n) self.old self.new) }
+        ensures { OnOk result (Steps (λ n. states.at_sessions (serving.greet_each n.settings.prompt peers.now) n)
+            self.old self.new) }
     {
         for peer in peers {
             self.greet_link(peer)?;
@@ -89,7 +93,8 @@ impl Station {
 
     /// Makes a session for the user at a link, unless one serves it.
     fn greet_link(&mut self, peer: &Call) -> Result<(), NoMemory>
-        ensures sessions { OnOk result (self.new.sessions.items ≡ serving.greet_link self.old.prompt peer.now self.old.sessions.items) }
+        ensures sessions { OnOk result (self.new.sessions.items
+            ≡ serving.greet_link self.old.prompt peer.now self.old.sessions.items) }
         ensures same { self.new ≡ record self.old { sessions = self.new.sessions } }
     {
         if is_served_link(&self.sessions, peer) {

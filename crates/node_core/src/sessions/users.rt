@@ -74,7 +74,8 @@ impl Station {
 
     /// Whether the datagrams of an end go over the link with a peer.
     fn goes_over(&self, peer: &Call, id: u64) -> bool
-        ensures { (n : State) → HoldsTold self.now n → result ≡ users.goes_over peer.now (users.hop_to (partner_at (users.end_at id n)) n) }
+        ensures { (n : State) → HoldsTold self.now n
+            → result ≡ users.goes_over peer.now (users.hop_to (partner_at (users.end_at id n)) n) }
     {
         match self.set.partner(id) {
             Some(partner) => match self.set.router().table().next_hop(&partner) {

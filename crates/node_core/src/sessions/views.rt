@@ -63,7 +63,8 @@ impl Station {
 
     /// The best route to each of the first 64 of these destinations.
     fn best_routes(&self, destinations: &[Call]) -> ArrayVec<Route, 64>
-        ensures { (n : State) → Holds self.now n → result.items ≡ flat_map (views.best_route n) (take 64 destinations.now) }
+        ensures { (n : State) → Holds self.now n
+            → result.items ≡ flat_map (views.best_route n) (take 64 destinations.now) }
     {
         let mut best = ArrayVec::new();
         let named = &destinations[..destinations.len().min(MOST_NAMED)];
@@ -97,7 +98,8 @@ impl Station {
 
     /// The partner of the end of that place among those that are held.
     fn user(&self, nth: usize) -> Option<Call>
-        ensures { (n : State) → HoldsTold self.now n → option_to_list result ≡ flat_map (views.partner n.set.set.ends) (option_to_list (slice_get (held_ids n.set.set.ends) nth)) }
+        ensures { (n : State) → HoldsTold self.now n → option_to_list result
+            ≡ flat_map (views.partner n.set.set.ends) (option_to_list (slice_get (held_ids n.set.set.ends) nth)) }
     {
         match self.set.held(nth) {
             Some(id) => self.set.partner(id),
