@@ -3,15 +3,15 @@ use Rattle.std.specs.Prelude.{ℕ, ◌≡◌, ◌≢◌, ◌⊎◌, List, Option
 use Rattle.radio_base.specs.Causes.{Rose}
 use Rattle.cmd_streams.specs.declared.status.Status.{Status}
 use Rattle.cmd_streams.specs.declared.status.Status.TheVariants.{Done, Usage, BadFile, ReadFault, WriteFault, TooLong, TooLate, NoMemory}
-use Rattle.cmd_streams.specs.Told.{Told}
+use Rattle.cmd_streams.specs.Told.{StreamsTold}
 use Rattle.cmd_streams.specs.Streams.{Read, Input, input_of, Answers, AnswersAll, AnswersEarlier, AnswersUntilTooLong, AnswersSome, TellsStream, TellsLongStream}
 
 -- where the stream comes in, with the moments that its clock tells
-abbrev pub input_at : Option (List ℕ) → Told → Input
+abbrev pub input_at : Option (List ℕ) → StreamsTold → Input
 input_at moments t = input_of t.left t.reads moments
 
 -- `most` is how many bytes are read at a time at most; `Answered reads text` says that the text is the answer to the reads.
-pub record StreamEnds (most : ℕ) (Answered : List Read → List ℕ → Type 0) (moments moments' : Option (List ℕ)) (before after : Told) (status : Status) : Type 0 where
+pub record StreamEnds (most : ℕ) (Answered : List Read → List ℕ → Type 0) (moments moments' : Option (List ℕ)) (before after : StreamsTold) (status : Status) : Type 0 where
   -- Where it is done, the whole stream was read, and the bytes written are the answer to it. A stream that isn't too long is
   -- done but for faults and want of memory.
   pub done : status ≡ Done → AnswersAll most Answered (input_at moments before) (input_at moments' after) before.written after.written

@@ -2,7 +2,7 @@
 use Rattle.std.proofs.Common.{ℕ, List}
 use Rattle.std.specs.Prelude.{Option}
 use Rattle.cmd_streams.specs.declared.status.Status.{Status}
-use Rattle.cmd_streams.specs.Told.{Told}
+use Rattle.cmd_streams.specs.Told.{StreamsTold}
 use Rattle.cmd_streams.specs.Streams.{Read, Input, Answers, AnswersEarlier, AnswersSome}
 use Rattle.cmd_streams.specs.StreamEnds.{StreamEnds}
 
@@ -22,7 +22,7 @@ pub some-map : (most : ℕ) (A B : List Read → List ℕ → Type 0) (before af
 some-map most A B before after out out' wider a =
     record { reads = a.reads; text = a.text; taken = a.taken; fits = a.fits; answered = wider a.reads a.text a.answered; front = a.front }
 
-pub ends-map : (most : ℕ) (A B : List Read → List ℕ → Type 0) (moments moments' : Option (List ℕ)) (before after : Told) (status : Status) → Wider A B → StreamEnds most A moments moments' before after status → StreamEnds most B moments moments' before after status
+pub ends-map : (most : ℕ) (A B : List Read → List ℕ → Type 0) (moments moments' : Option (List ℕ)) (before after : StreamsTold) (status : Status) → Wider A B → StreamEnds most A moments moments' before after status → StreamEnds most B moments moments' before after status
 unfolding earlier-map
 ends-map most A B moments moments' before after status wider e =
     record {

@@ -32,22 +32,22 @@ abbrev pub clock_end : ℕ
 clock_end = 2 ^ 64 - 1
 
 -- what is told of an act: notices, how long the payloads were that a user took, and the frames that were put out
-pub record Told : Type 0 where
+pub record LifeTold : Type 0 where
   pub notices : List (Side × LinkNotice)
   pub taken : List (Side × ℕ)
   pub frames : List (Side × Frame)
 
-abbrev pub nothing_told : Told
+abbrev pub nothing_told : LifeTold
 nothing_told = record { notices = []; taken = []; frames = [] }
 
 -- both, each part in this order
-abbrev pub joined : Told → Told → Told
+abbrev pub joined : LifeTold → LifeTold → LifeTold
 joined t u = record { notices = t.notices ++ u.notices; taken = t.taken ++ u.taken; frames = t.frames ++ u.frames }
 
 -- an act is refused and changes nothing, or it is done
 pub data Outcome (X : Type 0) : Type 0 where
   Refused : LifeRefusal → Outcome X
-  Done : Told → X → Outcome X
+  Done : LifeTold → X → Outcome X
 
 abbrev pub unless : {X : Type 0} → Option LifeRefusal → Outcome X → Outcome X
 unless None done = done
@@ -60,7 +60,7 @@ pub record Turn : Type 0 where
   pub side : Side
 
 -- what is told of a step of a link, and of payloads that were taken
-abbrev pub told_of : Side → List ℕ → Effect → Told
+abbrev pub told_of : Side → List ℕ → Effect → LifeTold
 told_of side taken g =
     record { notices = map (λ n. (side, n)) g.notes; taken = map (λ len. (side, len)) taken; frames = map (λ f. (side, f)) g.outs }
 
@@ -145,7 +145,7 @@ abbrev pub act_at : Side → EndAct → Life → Outcome Life
 act_at side act w = lifted side w (act_near (turn_at side w) act (ends_at side w))
 
 -- what is told before
-abbrev pub after_told : {X : Type 0} → Told → Outcome X → Outcome X
+abbrev pub after_told : {X : Type 0} → LifeTold → Outcome X → Outcome X
 after_told t (Refused refusal) = Refused refusal
 after_told t (Done u x) = Done (joined t u) x
 

@@ -17,7 +17,7 @@ use Rattle.link_life.specs.declared.reasons.LifeRefusal.{LifeRefusal}
 use Rattle.link_life.specs.declared.script.NumberedAct.{NumberedAct}
 use Rattle.link_life.specs.Reasons.{word_of_refusal}
 use Rattle.link_life.specs.Ends.{Epoch, epochs, partner_of}
-use Rattle.link_life.specs.Lives.{Life, Outcome, Told, Refused, Done, act_on, after_act}
+use Rattle.link_life.specs.Lives.{Life, Outcome, LifeTold, Refused, Done, act_on, after_act}
 
 abbrev pub letter : Side → List ℕ
 letter A = codes "a"
@@ -73,7 +73,7 @@ air_line size f =
 abbrev pub refused_line : ℕ → LifeRefusal → List ℕ
 refused_line line refusal = codes "refused " ++ (decimal line ++ (codes " " ++ (word_of_refusal refusal ++ codes "\n")))
 
-abbrev pub told_text : ℕ → Told → List ℕ
+abbrev pub told_text : ℕ → LifeTold → List ℕ
 told_text size told = flat_map notice_line told.notices ++ (flat_map took_line told.taken ++ flat_map (air_line size) told.frames)
 
 -- what is reported of a line

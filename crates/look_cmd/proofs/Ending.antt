@@ -5,17 +5,17 @@ use Rattle.network_file.specs.Plan.{Plan}
 use Rattle.net_replay.specs.Files.{IsNetwork}
 use Rattle.cmd_streams.specs.declared.status.Status.{Status}
 use Rattle.cmd_streams.specs.Reading.{ReadsAll}
-use Rattle.cmd_streams.specs.Told.{Told, told}
+use Rattle.cmd_streams.specs.Told.{StreamsTold, told}
 use Rattle.look_cmd.specs.Look.{TraceEnds}
 use Rattle.look_cmd.specs.Traced.{TellsNetwork, TracedEnds}
 use Rattle.look_cmd.proofs.Verdicts.{told_whole}
 
 -- without the source
-abbrev pub output : Told → Told
+abbrev pub output : StreamsTold → StreamsTold
 output t = told None None 0 t.written t.write_faults t.notes t.note_faults
 
 -- a file that was read to its end
-pub trace_ends : (before after : Told) (status : Status) (bytes : List ℕ) → ReadsAll before.left after.left bytes → after.read_faults ≡ before.read_faults
+pub trace_ends : (before after : StreamsTold) (status : Status) (bytes : List ℕ) → ReadsAll before.left after.left bytes → after.read_faults ≡ before.read_faults
     → TracedEnds bytes (output before) (output after) status → TraceEnds before after status
 trace_ends before after status bytes all same e =
     let whole : (P : Plan → Type 0) → TellsNetwork before.left P → IsNetwork bytes P = λ P tells. (told_whole before.left after.left bytes _ all.taken all.ended tells).1 in

@@ -6,7 +6,7 @@ use Rattle.cmd_streams.specs.declared.status.Status.TheVariants.{Done, Usage, Ba
 use Rattle.cmd_streams.specs.Reading.{ReadsFew, ReadsTooMuch, TellsTooMuch}
 use Rattle.cmd_streams.specs.StreamEnds.{StreamEnds}
 use Rattle.cmd_streams.specs.Streams.{Read, bytes_of}
-use Rattle.cmd_streams.specs.Told.{Told}
+use Rattle.cmd_streams.specs.Told.{StreamsTold}
 use Rattle.frame_lines.specs.declared.listener.Modulo.{Modulo}
 use Rattle.frame_lines.specs.Hearing.{Listening, by_items}
 use Rattle.kiss_framing.specs.Stream.{items}
@@ -24,11 +24,11 @@ abbrev pub HearsReads : Modulo → List Read → List ℕ → Type 0
 HearsReads m reads text = text ≡ (by_items (silent m) (items (bytes_of reads))).1
 
 -- `listen`: at most 16,384 bytes are read at a time, and no clock is asked
-abbrev pub ListenEnds : Modulo → Told → Told → Status → Type 0
+abbrev pub ListenEnds : Modulo → StreamsTold → StreamsTold → Status → Type 0
 ListenEnds m before after status = StreamEnds 16384 (HearsReads m) None None before after status
 
 -- `trace`
-pub record TraceEnds (before after : Told) (status : Status) : Type 0 where
+pub record TraceEnds (before after : StreamsTold) (status : Status) : Type 0 where
   -- Where it is done, the bytes read are a network's file, and the bytes written are the trace of that network. Where it is too late, the
   -- same: the verdict names the first line at which something came back too late, and the cause by what that shows.
   pub done : status ≡ Done → ReadsNetwork before after (λ file. TracesInTime file before.written after.written)

@@ -7,7 +7,7 @@ use Rattle.cmd_streams.specs.declared.status.Status.{Status}
 use Rattle.cmd_streams.specs.declared.status.Status.TheVariants as statuses
 use Rattle.cmd_streams.specs.Notes.{bad_line_note}
 use Rattle.cmd_streams.specs.Reading.{ReadsFile, TellsFile}
-use Rattle.cmd_streams.specs.Told.{Told}
+use Rattle.cmd_streams.specs.Told.{StreamsTold}
 use Rattle.cmd_streams.specs.Writing.{AppendsFront}
 use Rattle.network_file.specs.Networks.{Bad, network_of}
 use Rattle.network_file.specs.Plan.{Plan}
@@ -63,11 +63,11 @@ WritesFront file old new network =
     (late : Option Late) × (text : List ℕ) × IsTraced file text late network × AppendsFront old new text
 
 -- a file was read to its end, and it is one of a network of which P holds, which is told of the file too
-abbrev pub ReadsNetwork : Told → Told → (List ℕ → Plan → Type 0) → Type 0
+abbrev pub ReadsNetwork : StreamsTold → StreamsTold → (List ℕ → Plan → Type 0) → Type 0
 ReadsNetwork before after P = ReadsFile before.left after.left (λ bytes. IsNetwork bytes (P bytes))
 
 -- a file was read to its end, and it has a first bad line, of whose note P holds
-abbrev pub ReadsBadFile : Told → Told → (List ℕ → Type 0) → Type 0
+abbrev pub ReadsBadFile : StreamsTold → StreamsTold → (List ℕ → Type 0) → Type 0
 ReadsBadFile before after P = ReadsFile before.left after.left (λ bytes. IsBadFile bytes P)
 
 -- the source tells its bytes, and they are the file of a network of which P holds
@@ -90,7 +90,7 @@ abbrev pub TellsBadFile : Option (List ℕ) → Type 0
 TellsBadFile left = TellsFile left (λ bytes. (bad : Bad) × (network_of bytes ≡ Err bad))
 
 -- What is written and noted of the network of a file; how the command ends is said in `Look`.
-pub record TracedEnds (file : List ℕ) (before after : Told) (status : Status) : Type 0 where
+pub record TracedEnds (file : List ℕ) (before after : StreamsTold) (status : Status) : Type 0 where
   pub done : status ≡ statuses.Done → IsNetwork file (TracesInTime file before.written after.written)
   pub late : status ≡ statuses.TooLate → IsNetwork file (TracesLate file before.written after.written)
   pub done_comes : IsNetwork file IsInTime → WritesWell before after → Comes statuses.Done status

@@ -12,14 +12,14 @@ use Rattle.node_cmd.specs.Outcomes.{NetworkEnds}
 use Rattle.cmd_streams.specs.Reading.{ReadsAll}
 use Rattle.node_cmd.specs.Replays.{Tells}
 use Rattle.node_cmd.specs.Run.{ReplayEnds, SoakEnds}
-use Rattle.cmd_streams.specs.Told.{Told, told}
+use Rattle.cmd_streams.specs.Told.{StreamsTold, told}
 use Rattle.node_cmd.proofs.Verdicts.{told_whole}
 
 -- without the source
-abbrev pub output : Told → Told
+abbrev pub output : StreamsTold → StreamsTold
 output t = told None None 0 t.written t.write_faults t.notes t.note_faults
 
-module _ (before after : Told) (ran : Ran) (status : Status) where
+module _ (before after : StreamsTold) (ran : Ran) (status : Status) where
   -- a file that was read to its end
   pub replay_ends : (bytes : List ℕ) → ReadsAll before.left after.left bytes → after.read_faults ≡ before.read_faults
       → NetworkEnds Report bytes (output before) (output after) ran status → ReplayEnds before after ran status

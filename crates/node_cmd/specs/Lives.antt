@@ -9,7 +9,7 @@ use Rattle.node_cmd.specs.declared.lives.words.LifeSettings.{LifeSettings}
 use Rattle.node_cmd.specs.FrameModuli.{size_of}
 use Rattle.cmd_streams.specs.Notes.{bad_line_note}
 use Rattle.cmd_streams.specs.Reading.{ReadsFile, TellsFile}
-use Rattle.cmd_streams.specs.Told.{Told}
+use Rattle.cmd_streams.specs.Told.{StreamsTold}
 
 -- the report of the life of a script, by these settings
 abbrev pub report_of : LifeSettings → List NumberedAct → List ℕ
@@ -24,10 +24,10 @@ abbrev pub IsBadScript : List ℕ → (List ℕ → Type 0) → Type 0
 IsBadScript bytes P = (bad : Bad) × (script_of bytes ≡ Err bad) × P (bad_line_note bad.0 (word_for bad.1))
 
 -- a file was read to its end, and it is such
-abbrev pub ReadsScript : Told → Told → (List NumberedAct → Type 0) → Type 0
+abbrev pub ReadsScript : StreamsTold → StreamsTold → (List NumberedAct → Type 0) → Type 0
 ReadsScript before after P = ReadsFile before.left after.left (λ bytes. IsScript bytes P)
 
-abbrev pub ReadsBadScript : Told → Told → (List ℕ → Type 0) → Type 0
+abbrev pub ReadsBadScript : StreamsTold → StreamsTold → (List ℕ → Type 0) → Type 0
 ReadsBadScript before after P = ReadsFile before.left after.left (λ bytes. IsBadScript bytes P)
 
 -- the source tells its bytes, and they are a script, or a file with a bad line

@@ -28,7 +28,7 @@ use Rattle.node_cmd.specs.declared.ran.Ran.TheVariants.{Replayed}
 use Rattle.cmd_streams.specs.declared.status.Status.{Status}
 use Rattle.cmd_streams.specs.declared.status.Status.TheVariants as statuses
 use Rattle.cmd_streams.specs.Notes.{bad_line_note}
-use Rattle.cmd_streams.specs.Told.{Told}
+use Rattle.cmd_streams.specs.Told.{StreamsTold}
 use Rattle.cmd_streams.specs.Writing.{AppendsFront}
 
 -- what is written of a network, with the verdict on it: its report, or the line on the soak of a number
@@ -90,7 +90,7 @@ pub record WritesFront (what : Printed) (old new : Option (List ℕ)) (network :
   pub written : AppendsFront old new (text_of what (world network) late)
 
 -- What is written and noted of the network of a file, as the two commands that run one share it; how each of them ends is said in `Run`.
-pub record NetworkEnds (what : Printed) (bytes : List ℕ) (before after : Told) (ran : Ran) (status : Status) : Type 0 where
+pub record NetworkEnds (what : Printed) (bytes : List ℕ) (before after : StreamsTold) (ran : Ran) (status : Status) : Type 0 where
   pub done : status ≡ statuses.Done → IsNetwork bytes (ReportsInTime what before.written after.written ran)
   pub late : status ≡ statuses.TooLate → IsNetwork bytes (ReportsLate what before.written after.written ran)
   pub done_comes : IsNetwork bytes IsInTime → WritesWell before after → Comes statuses.Done status

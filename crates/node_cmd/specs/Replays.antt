@@ -5,14 +5,14 @@ use Rattle.network_file.specs.Plan.{Plan}
 use Rattle.net_replay.specs.Files.{AirsTooMany, IsInTime, IsLate, IsNetwork}
 use Rattle.node_cmd.specs.Outcomes.{IsBadFile}
 use Rattle.cmd_streams.specs.Reading.{ReadsFile, TellsFile}
-use Rattle.cmd_streams.specs.Told.{Told}
+use Rattle.cmd_streams.specs.Told.{StreamsTold}
 
 -- a file was read to its end, and it is one of a network of which P holds
-abbrev pub ReadsNetwork : Told → Told → (Plan → Type 0) → Type 0
+abbrev pub ReadsNetwork : StreamsTold → StreamsTold → (Plan → Type 0) → Type 0
 ReadsNetwork before after P = ReadsFile before.left after.left (λ bytes. IsNetwork bytes P)
 
 -- a file was read to its end, and it has a first bad line, of whose note P holds
-abbrev pub ReadsBadFile : Told → Told → (List ℕ → Type 0) → Type 0
+abbrev pub ReadsBadFile : StreamsTold → StreamsTold → (List ℕ → Type 0) → Type 0
 ReadsBadFile before after P = ReadsFile before.left after.left (λ bytes. IsBadFile bytes P)
 
 -- the source tells its bytes, and they are a file with a bad line
