@@ -31,23 +31,13 @@ route_rules settings node =
 
 abbrev pub end_config : List Assignment → ℕ → EndConfig
 end_config settings node =
-    record {
-      window = value_of settings node Window;
-      timeout = value_of settings node Timeout;
-      retries = value_of settings node Retries;
-      busy = value_of settings node Busy;
-      inactive = value_of settings node Inactive;
-    }
+    let v = value_of settings node in
+    record { window = v Window; timeout = v Timeout; retries = v Retries; busy = v Busy; inactive = v Inactive }
 
 abbrev pub link_config : List Assignment → ℕ → LinkConfig
 link_config settings node =
-    record {
-      window = value_of settings node LinkWindow;
-      srej = value_of settings node SelectiveReject == 1;
-      t1 = value_of settings node T1;
-      t3 = value_of settings node T3;
-      retries = value_of settings node LinkRetries;
-    }
+    let v = value_of settings node in
+    record { window = v LinkWindow; srej = v SelectiveReject == 1; t1 = v T1; t3 = v T3; retries = v LinkRetries }
 
 -- with the pair and the number of its first end
 abbrev pub config_of : List Assignment → Declaration → Pair → ℕ → NodeConfig
