@@ -1,5 +1,5 @@
 -- How the nodes of a network start. Own profile.
-use Rattle.std.specs.Prelude.{ℕ, zero, suc, Bool, false, ◌==◌, List, [], ◌∷◌, ◌++◌, map, filter, Option, Some, None, unwrap_or, Result, Ok, Err, if◌then◌else◌}
+use Rattle.std.specs.Prelude.{ℕ, zero, suc, Bool, false, ◌==◌, List, [], ◌∷◌, ◌++◌, map, filter, Option, Some, None, Result, Ok, Err, if◌then◌else◌}
 use Rattle.arrayvec.specs.ArrayVec.{ArrayVec}
 use Rattle.ax_address.specs.Callsign.{Callsign}
 use Rattle.ax_address.specs.declared.address.Address.{Address}
@@ -10,12 +10,10 @@ use Rattle.link_table.specs.Calls as links
 use Rattle.link_table.specs.declared.path_refusal.PathRefusal.{PathRefusal}
 use Rattle.network_file.specs.declared.plan.declarations.Declaration.{Declaration}
 use Rattle.network_file.specs.declared.plan.keys.Key.TheVariants.{Window, Timeout, Retries, Busy, Inactive, TimeToLive, Life, Least, MinimumQuality, PathQuality, Links, Modulo, LinkWindow, SelectiveReject, T1, T3, LinkRetries, Prompt, Interval, Mail}
-use Rattle.network_file.specs.declared.plan.live.LiveNode.{LiveNode}
 use Rattle.network_file.specs.declared.plan.vias.Via.{Via}
 use Rattle.network_file.specs.Keys.{Assignment}
 use Rattle.network_file.specs.Plan.{Plan}
-use Rattle.network_file.specs.Pairs.{PairNumbers}
-use Rattle.network_file.specs.Settings.{set_to, value_of}
+use Rattle.network_file.specs.Settings.{value_of}
 use Rattle.node_core.specs.declared.config.NodeConfig.{NodeConfig}
 use Rattle.node_core.specs.Broadcasts.{address_of}
 use Rattle.route_table.specs.declared.route.RouteRules.{RouteRules}
@@ -85,28 +83,6 @@ is_via_of node via = via.node == node
 -- a node as it starts
 abbrev pub started : Plan → Declaration → Pair → ℕ → NodeState
 started plan d pair first = with_vias (filter (is_via_of d.node) plan.vias) (new_node (config_of plan.settings d pair first))
-
--- ---- a node that runs alone
-
--- its settings as they were declared
-abbrev pub said_config : LiveNode → Pair → NodeConfig
-said_config live first = config_of live.settings.items live.declared first 1
-
--- the pair that it gives first: (1, 1) where none is named
-abbrev pub first_pair : Option PairNumbers → Pair
-first_pair None = record { index = 1; ident = 1 }
-first_pair (Some p) = record { index = p.index; ident = p.ident }
-
--- its settings: its users are served at a prompt, and it does a round each hour, unless it is declared otherwise
-abbrev pub live_config : LiveNode → NodeConfig
-live_config live =
-    record (said_config live (first_pair live.pair)) {
-      prompt = unwrap_or (set_to live.settings.items live.declared.node Prompt) 1 == 1;
-      interval = unwrap_or (set_to live.settings.items live.declared.node Interval) 3600000;
-    }
-
-abbrev pub live_started : LiveNode → NodeState
-live_started live = with_vias (filter (is_via_of live.declared.node) live.vias.items) (new_node (live_config live))
 
 -- ---- all nodes of a network
 

@@ -9,12 +9,9 @@ ghost use Rattle.net_replay.specs.Starting as starting;
 
 use ax_link::LinkConfig;
 use circuit_l4::{EndConfig, Pair};
-use network_file::{Declaration, FirstPair, Key, LiveNode, Setting, set_to, value_of};
+use network_file::{Declaration, Key, Setting, value_of};
 use node_core::NodeConfig;
 use route_table::RouteRules;
-
-/// How many milliseconds a node that runs alone waits between its rounds where nothing else is said: an hour.
-const LIVE_INTERVAL: u32 = 3_600_000;
 
 /// How a node starts: with its settings, this pair and this number for its first end.
 pub fn config_of(declared: &Declaration, settings: &[Setting], pair: Pair, first: u64) -> NodeConfig
@@ -40,34 +37,6 @@ pub fn config_of(declared: &Declaration, settings: &[Setting], pair: Pair, first
         pair,
         first,
     }
-}
-
-/// The pair that a node gives first: (1, 1) where none is named.
-fn first_pair(named: &Option<FirstPair>) -> Pair
-    ensures value { result ≡ starting.first_pair named.now }
-    ensures good { IsPair result }
-{
-    match named {
-        Some(pair) => Pair {
-            index: pair.index(),
-            ident: pair.ident(),
-        },
-        None => Pair { index: 1, ident: 1 },
-    }
-}
-
-/// How a node starts that runs alone: as it is declared, but that its users are served at a prompt and that it does a round each hour
-/// where it isn't said otherwise.
-pub fn live_config(live: &LiveNode) -> NodeConfig
-    ensures value { result ≡ starting.live_config live.now }
-    ensures good { IsConfig result }
-{
-    let settings = live.settings.as_slice();
-    let node = live.declared.node;
-    let mut config = config_of(&live.declared, settings, first_pair(&live.pair), 1);
-    config.prompt = set_to(settings, node, Key::Prompt).unwrap_or(1) == 1;
-    config.interval = set_to(settings, node, Key::Interval).unwrap_or(LIVE_INTERVAL) as u64;
-    config
 }
 
 fn route_rules(settings: &[Setting], node: u8) -> RouteRules

@@ -14,11 +14,11 @@ ghost use Rattle.net_replay.specs.Starting.{Placed};
 ghost use Rattle.net_replay.specs.Traces.{StandFor};
 
 use crate::events::Table;
-use crate::settings::{config_of, live_config};
+use crate::settings::config_of;
 use ax_address::{Address, Call, Path};
 use circuit_l4::Pair;
 use link_table::PathRefusal;
-use network_file::{Declaration, LiveNode, MAX_NODES, Network, Via};
+use network_file::{Declaration, MAX_NODES, Network, Via};
 use node_core::Node;
 use radio_base::NoMemory;
 use std::alloc::Global;
@@ -88,16 +88,6 @@ pub fn started(
     Ok(node)
 }
 
-/// A node that runs alone, as it starts.
-pub fn live_node(alloc: Global, live: &LiveNode) -> Result<Node, NoMemory>
-    ensures { IfOk result (λ node. NodeStands node (starting.live_started live.now)) }
-{
-    is_callsign(&live.declared.call);
-    let mut node = Node::new(alloc, live_config(live))?;
-    set_paths(&mut node, live.declared.node, live.vias.as_slice())?;
-    Ok(node)
-}
-
 /// What holds of every call.
 pub fn is_callsign(call: &Call)
     ensures { IsCallsign call.now.letters call.now.ssid }
@@ -106,7 +96,7 @@ pub fn is_callsign(call: &Call)
 }
 
 /// Sets the repeaters over which a node reaches its peers.
-fn set_paths(node: &mut Node, number: u8, vias: &[Via]) -> Result<(), NoMemory>
+pub fn set_paths(node: &mut Node, number: u8, vias: &[Via]) -> Result<(), NoMemory>
     ensures { OnOk result (NodeGoes (starting.with_vias (filter (starting.is_via_of number) vias.now)) node.old node.new) }
 {
     for via in vias {

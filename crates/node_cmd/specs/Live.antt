@@ -4,7 +4,7 @@ use Rattle.std.specs.List.{flat_map}
 use Rattle.kiss_framing.specs.Enframing.{framed}
 use Rattle.link_table.specs.declared.written.Written.{Written}
 use Rattle.network_file.specs.declared.plan.live.LiveNode.{LiveNode}
-use Rattle.net_replay.specs.Starting.{live_started}
+use Rattle.node_cmd.specs.Starting.{live_started}
 use Rattle.node_core.specs.Bounds.{IsWithin}
 use Rattle.node_core.specs.Fetching.{without_entries, without_frames}
 use Rattle.node_core.specs.Inputs.{after_bytes, after_tick}

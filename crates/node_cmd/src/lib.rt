@@ -11,6 +11,7 @@ mod outcomes;
 mod ran;
 mod replays;
 mod soaks;
+mod starting;
 mod top;
 mod usage;
 mod words;

@@ -10,11 +10,12 @@ ghost use Rattle.cmd_streams.specs.ToldBy.{SaysTo, told_by};
 ghost use Rattle.node_cmd.specs.declared.ran.Ran.TheVariants as rans;
 
 use crate::ran::Ran;
+use crate::starting::live_node;
 use arrayvec::ArrayVec;
 use cmd_streams::{Status, Taker, answer_stream};
 use kiss_framing::enframe;
 use link_table::Written;
-use net_replay::{LiveNode, live_node};
+use network_file::LiveNode;
 use node_core::Node;
 use radio_base::{Clock, Moment, NoMemory, Sink, Source, TextOut};
 use std::alloc::Global;

@@ -10,7 +10,7 @@ use crate::ip::gateway::Gateway;
 use crate::ip::words::gateway_of;
 use crate::lives::words::{LifeSettings, settings_of};
 use itoa::Buffer;
-use net_replay::{LiveNode, read_live_node};
+use network_file::{LiveNode, read_live_node};
 
 /// What the program can do.
 #[derive(Drop)]

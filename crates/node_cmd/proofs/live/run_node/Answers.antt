@@ -1,5 +1,5 @@
 use Rattle.std.proofs.Common.{◌∙◌, inr, refl}
-use Rattle.net_replay.specs.Starting.{live_started}
+use Rattle.node_cmd.specs.Starting.{live_started}
 use Rattle.cmd_streams.specs.Wider.{answers-map, ends-map}
 use Rattle.node_cmd.proofs.live.run_node.Goals as goal
 

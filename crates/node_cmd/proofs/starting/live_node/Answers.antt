@@ -1,8 +1,8 @@
 use Rattle.std.proofs.Common.{subst}
 use Rattle.node_core.specs.Configs.{new_node}
 use Rattle.node_core.specs.Kept.{NodeStands}
-use Rattle.net_replay.specs.Starting.{live_config}
-use Rattle.net_replay.proofs.stations.live_node.Goals as goal
+use Rattle.node_cmd.specs.Starting.{live_config}
+use Rattle.node_cmd.proofs.starting.live_node.Goals as goal
 
 pub returns : goal.returns
 returns c =
