@@ -1,6 +1,9 @@
 //! What each line does: something reaches a node, events are told, a node's frames are put in the air.
 ghost use Rattle.std.specs.Prelude.{◌≡◌, ◌∷◌, [], OnOk};
 ghost use Rattle.std.specs.List.{AllByRecursion};
+ghost use Rattle.circuit_set.specs.Pairs.{IsPair};
+ghost use Rattle.node_core.specs.UserActs as acts;
+ghost use Rattle.node_core.specs.UserActs.{act_of};
 ghost use Rattle.net_replay.specs.CircuitRuns.{IsInstruction, IsLine};
 ghost use Rattle.net_replay.specs.Lines as lines;
 ghost use Rattle.net_replay.specs.Running.{GoesOn, Runs, course};
@@ -10,8 +13,9 @@ ghost use Rattle.net_replay.specs.World as worlds;
 use crate::reasons::ReplayRefusal;
 use crate::stations::is_callsign;
 use crate::world::World;
+use ax_address::{Alias, Call};
 use circuit_l4::Pair;
-use network_file::{Instruction, Network, NumberedInstruction};
+use network_file::{FirstPair, Instruction, Network, NumberedInstruction};
 use node_core::UserAct;
 
 impl World<'_> {
@@ -50,29 +54,13 @@ impl World<'_> {
                 alias,
                 neighbour,
                 quality,
-            } => {
-                let act = UserAct::Lock {
-                    dest: *dest,
-                    alias: *alias,
-                    neighbour: *neighbour,
-                    quality: *quality,
-                };
-                self.act(line, *node, &act)
-            }
+            } => self.act(line, *node, &lock_act(*dest, *alias, *neighbour, *quality)),
             Instruction::Round { node } => self.act(line, *node, &UserAct::Round),
-            Instruction::LinkFail { node, call } => self.act(
-                line,
-                *node,
-                &UserAct::LinkFail(*call),
-            ),
+            Instruction::LinkFail { node, call } => self.fail_link(line, *node, *call),
             Instruction::Show { node } => Ok(self.show(line, *node)?),
             Instruction::Tick { milliseconds } => self.tick(line, *milliseconds),
             Instruction::Restart { node, pair } => {
-                let pair = Pair {
-                    index: pair.index(),
-                    ident: pair.ident(),
-                };
-                Ok(self.restart(network, line, *node, pair)?)
+                Ok(self.restart(network, line, *node, pair_of(pair))?)
             }
             Instruction::Open { node, dest } => self.act(line, *node, &UserAct::Connect(*dest)),
             Instruction::Post {
@@ -85,17 +73,36 @@ impl World<'_> {
             Instruction::Say { node, end, text } => self.say(line, *node, *end, text.as_slice()),
             Instruction::Burst { node, end, count } => self.burst(line, *node, *end, *count),
             Instruction::Take { node, end } => self.take(line, *node, *end),
-            Instruction::Close { node, end } => self.act(
-                line,
-                *node,
-                &UserAct::Close { id: *end as u64 },
-            ),
+            Instruction::Close { node, end } => self.close(line, *node, *end),
             Instruction::Deliver { frame, node } => self.deliver(line, *frame, *node),
             Instruction::Again { frame, node } => self.repeat(line, *frame, *node),
             Instruction::Lose { frame } => Ok(self.lose(line, *frame)?),
             Instruction::Flow { count } => self.flow(line, *count),
             Instruction::Cut { count } => Ok(self.cut(line, *count)?),
         }
+    }
+}
+
+/// An operator locks a route in.
+fn lock_act(dest: Call, alias: Alias, neighbour: Call, quality: u8) -> UserAct<'static>
+    ensures { act_of result ≡ acts.Lock dest alias neighbour quality }
+{
+    UserAct::Lock {
+        dest,
+        alias,
+        neighbour,
+        quality,
+    }
+}
+
+/// The pair that a node gives first when it starts again.
+fn pair_of(named: &FirstPair) -> Pair
+    ensures value { result ≡ record { index = named.now.index; ident = named.now.ident } }
+    ensures good { IsPair result }
+{
+    Pair {
+        index: named.index(),
+        ident: named.ident(),
     }
 }
 

@@ -135,17 +135,7 @@ fn told_in<'a>(event: &'a Event) -> Option<(u8, CircuitTold<'a>)>
             let LostEnd { id, facts } = **end;
             Some((*node, CircuitTold::Lost { id, facts }))
         }
-        Event::InAir { .. }
-        | Event::Delivered { .. }
-        | Event::Settled { .. }
-        | Event::Shown { .. }
-        | Event::Took { .. }
-        | Event::Wrote { .. }
-        | Event::Refused { .. }
-        | Event::Posted { .. }
-        | Event::Offered { .. }
-        | Event::MailStored { .. }
-        | Event::MailSettled { .. } => None,
+        _ => None,
     }
 }
 
