@@ -129,19 +129,9 @@ event_named nodes line (events.Entry node (states.Of_set (pumps.Dropped routed))
 event_named nodes line (events.Entry node (states.Of_set (pumps.Lost call))) = refl
 event_named nodes line (events.Entry node (states.Of_link peer notice)) = refl
 event_named nodes line (events.Entry node (states.Overflow live would_be)) = refl
-event_named nodes line (events.InAir frame) = refl
-event_named nodes line (events.Delivered frame node) = refl
-event_named nodes line (events.Settled frame) = refl
-event_named nodes line (events.Shown table) = refl
-event_named nodes line (events.Took node end message) = refl
-event_named nodes line (events.Wrote node end count) = refl
 event_named nodes line (events.Restarted node pair) = told_named nodes line node (sets.Restarted pair)
 event_named nodes line (events.Lost node end facts) = told_named nodes line node (sets.Lost end facts)
-event_named nodes line (events.Refused why) = refl
-event_named nodes line (events.Posted node number) = refl
-event_named nodes line (events.Offered node end number) = refl
-event_named nodes line (events.MailStored node origin number to len) = refl
-event_named nodes line (events.MailSettled node number) = refl
+event_named nodes line other = refl
 
 pub events_named : (nodes : List Placed) (es : List NumberedEvent) → circuits.events_at nodes es ≡ events_by (names nodes) es
 events_named nodes [] = refl
@@ -169,17 +159,7 @@ pub quiet_event : (ds : List Declaration) (line : ℕ) (e : Event) → IsQuiet e
 quiet_event ds line (events.Entry node entry) q = absurd q
 quiet_event ds line (events.Restarted node pair) q = absurd q
 quiet_event ds line (events.Lost node end facts) q = absurd q
-quiet_event ds line (events.InAir frame) q = refl
-quiet_event ds line (events.Delivered frame node) q = refl
-quiet_event ds line (events.Settled frame) q = refl
-quiet_event ds line (events.Shown table) q = refl
-quiet_event ds line (events.Took node end message) q = refl
-quiet_event ds line (events.Wrote node end count) q = refl
-quiet_event ds line (events.Refused why) q = refl
-quiet_event ds line (events.Posted node number) q = refl
-quiet_event ds line (events.Offered node end number) q = refl
-quiet_event ds line (events.MailStored node origin number to len) q = refl
-quiet_event ds line (events.MailSettled node number) q = refl
+quiet_event ds line other q = refl
 
 offered_length : (mail at : ℕ) (ends : List EndRecord) → length (with_offered mail at ends) ≡ length ends
 offered_length mail at [] = refl
@@ -195,17 +175,8 @@ pub quiet_note : (number : ℕ) (e : Event) (ends : List EndRecord) → IsQuiet 
 quiet_note number (events.Entry node entry) ends q = absurd q
 quiet_note number (events.Restarted node pair) ends q = absurd q
 quiet_note number (events.Lost node end facts) ends q = absurd q
-quiet_note number (events.InAir frame) ends q = refl
-quiet_note number (events.Delivered frame node) ends q = refl
-quiet_note number (events.Settled frame) ends q = refl
-quiet_note number (events.Shown table) ends q = refl
-quiet_note number (events.Took node end message) ends q = refl
-quiet_note number (events.Wrote node end count) ends q = refl
-quiet_note number (events.Refused why) ends q = refl
-quiet_note number (events.Posted node mail) ends q = refl
-quiet_note number (events.MailStored node origin mail to len) ends q = refl
-quiet_note number (events.MailSettled node mail) ends q = refl
 quiet_note number (events.Offered node end mail) ends q = either_length (node == number) (with_offered mail (end - 1) ends) ends (offered_length mail (end - 1) ends)
+quiet_note number other ends q = refl
 
 pub quiet_events : (ds : List Declaration) (line : ℕ) (es : List Event) → AllByRecursion IsQuiet es → events_by ds (map (numbered line) es) ≡ []
 quiet_events ds line [] q = refl

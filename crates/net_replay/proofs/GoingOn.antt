@@ -29,20 +29,10 @@ Stays w v = AreOn w.told → AreOn v.told
 
 quiet_on : (line : ℕ) (es : List Event) → AllByRecursion IsQuiet es → AreOn (map (numbered line) es)
 quiet_on line [] q = tt
-quiet_on line (events.InAir frame ∷ es) q = (tt, quiet_on line es q.1)
-quiet_on line (events.Delivered frame node ∷ es) q = (tt, quiet_on line es q.1)
-quiet_on line (events.Settled frame ∷ es) q = (tt, quiet_on line es q.1)
-quiet_on line (events.Shown table ∷ es) q = (tt, quiet_on line es q.1)
-quiet_on line (events.Took node end message ∷ es) q = (tt, quiet_on line es q.1)
-quiet_on line (events.Wrote node end count ∷ es) q = (tt, quiet_on line es q.1)
-quiet_on line (events.Refused why ∷ es) q = (tt, quiet_on line es q.1)
-quiet_on line (events.Posted node number ∷ es) q = (tt, quiet_on line es q.1)
-quiet_on line (events.Offered node end number ∷ es) q = (tt, quiet_on line es q.1)
-quiet_on line (events.MailStored node origin number to len ∷ es) q = (tt, quiet_on line es q.1)
-quiet_on line (events.MailSettled node number ∷ es) q = (tt, quiet_on line es q.1)
 quiet_on line (events.Entry node entry ∷ es) q = absurd q.0
 quiet_on line (events.Restarted node pair ∷ es) q = absurd q.0
 quiet_on line (events.Lost node end facts ∷ es) q = absurd q.0
+quiet_on line (other ∷ es) q = (tt, quiet_on line es q.1)
 
 entries_on : (line number : ℕ) (entries : List states.Entry) → AreOn (told_entries line number entries)
 entries_on line number [] = tt
@@ -101,25 +91,9 @@ moves plan = record {
 }
 
 line_is : (i : Instruction) → IsInstruction i → RestartsNone i → LineIs Any Any Never i
-line_is (instructions.Heard node call nodes) i o = tt
-line_is (instructions.Lock node dest alias neighbour quality) i o = tt
-line_is (instructions.Round node) i o = tt
-line_is (instructions.LinkFail node call) i o = tt
-line_is (instructions.Show node) i o = tt
-line_is (instructions.Tick milliseconds) i o = tt
 line_is (instructions.Restart node pair) i o = absurd o
 line_is (instructions.Open node dest) i o = i
-line_is (instructions.Say node end text) i o = tt
-line_is (instructions.Burst node end count) i o = tt
-line_is (instructions.Take node end) i o = tt
-line_is (instructions.Close node end) i o = tt
-line_is (instructions.Post node to dest text) i o = tt
-line_is (instructions.Mail node) i o = tt
-line_is (instructions.Deliver frame node) i o = tt
-line_is (instructions.Again frame node) i o = tt
-line_is (instructions.Lose frame) i o = tt
-line_is (instructions.Flow count) i o = tt
-line_is (instructions.Cut count) i o = tt
+line_is other i o = tt
 
 lines_are : (ls : List NumberedInstruction) → AllByRecursion (λ (l : NumberedInstruction). IsInstruction l.instruction) ls → AllByRecursion LineRestartsNone ls → AllByRecursion (λ (l : NumberedInstruction). LineIs Any Any Never l.instruction) ls
 lines_are [] a b = tt

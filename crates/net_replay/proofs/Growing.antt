@@ -4,31 +4,27 @@ use Rattle.std.specs.Prelude.{Option, Some, None, Result, Ok, Err, slice_get}
 use Rattle.std.specs.Fmt.{decimal}
 use Rattle.std.specs.List.{AllByRecursion, range_with_len}
 use Rattle.std.proofs.lemmas.List.{length-append}
-use Rattle.nodes_broadcast.specs.Nodes.{view}
 use Rattle.circuit_l4.specs.declared.transport.Pair.{Pair}
 use Rattle.network_file.specs.Channels.{hearers}
 use Rattle.network_file.specs.Plan.{Plan}
 use Rattle.network_file.specs.declared.network.NumberedInstruction.{NumberedInstruction}
 use Rattle.network_file.specs.declared.plan.instructions.Instruction.{Instruction}
 use Rattle.network_file.specs.declared.plan.instructions.Instruction.TheVariants as instructions
-use Rattle.node_core.specs.Broadcasts.{broadcast_octets}
 use Rattle.node_core.specs.declared.acts.ActDone.{ActDone}
 use Rattle.node_core.specs.declared.acts.ActRefusal.{ActRefusal}
 use Rattle.node_core.specs.UserActs.{UserAct}
 use Rattle.node_core.specs.UserActs as acts
 use Rattle.net_replay.specs.declared.air.Aired.{Aired}
-use Rattle.net_replay.specs.declared.reasons.LineRefusal.{LineRefusal}
-use Rattle.net_replay.specs.Air.{delivery_fault, frame_of, lost_fault, oldest, settled_at}
+use Rattle.net_replay.specs.Air.{oldest, settled_at}
 use Rattle.net_replay.specs.CircuitRuns.{IsLine}
-use Rattle.net_replay.specs.Events.{Delivered, Event, Refused, Wrote}
-use Rattle.net_replay.specs.Lines.{all_wrote, burst, burst_from, cut, deliver_all, deliver_at, do_act, do_line, do_lines, flow, hear, kiss_bytes, lose_at, refusal_events, settle, spread, tick_from, tick_node, told_of, took_of, unless_refused}
+use Rattle.net_replay.specs.Events.{Delivered, Event, Wrote}
+use Rattle.net_replay.specs.Lines.{all_wrote, burst_from, cut, deliver_all, deliver_at, do_act, do_line, do_lines, flow, hear, kiss_bytes, lose_at, refusal_events, settle, spread, tick_from, tick_node, told_of}
 use Rattle.net_replay.specs.Refused.{of_act}
 use Rattle.net_replay.specs.Starting.{Placed}
 use Rattle.net_replay.specs.World.{Act, Bytes, Input, Time, World, aired, answer, place_of, put, reach, tell}
-use Rattle.net_replay.specs.declared.reasons.LineRefusal.TheVariants.{Served}
-use Rattle.net_replay.specs.Mailing.{is_agents, unless_agents}
-use Rattle.net_replay.proofs.Looks.{burst_by, deliver_of, put_of, reaches, restart_of, shown_of, spread_of}
-use Rattle.net_replay.proofs.MailWalks.{AgentMoves, mail_leads, post_leads}
+use Rattle.net_replay.proofs.Looks.{burst_by, deliver_of, put_of, reaches, restart_of, spread_of}
+use Rattle.net_replay.proofs.LineWalks.{LineMoves, line_leads}
+use Rattle.net_replay.proofs.MailWalks.{AgentMoves, AnyUser, turns_of}
 use Rattle.net_replay.proofs.Oldest.{length-settled_at}
 
 -- ---- the moves
@@ -99,10 +95,6 @@ burst_grows line at node end nth (suc more) w =
     burst_by_grows line at node end nth more (answer at act w) w (reach line at (Act act) w)
     (burst_grows line at node end (nth + 1) more) (reach_stays line at (Act act) w)
 
-show_grows : (line : ℕ) (o : Option Placed) (w : World) → length w.air ≤ length (shown_of line o w).air
-show_grows line None w = omega arith
-show_grows line (Some p) w = omega arith
-
 restart_grows : (plan : Plan) (line at : ℕ) (pair : Pair) (o : Option Placed) (w : World) → length w.air ≤ length (restart_of plan line at pair o w).air
 restart_grows plan line at pair None w = omega arith
 restart_grows plan line at pair (Some p) w = omega arith
@@ -153,25 +145,13 @@ flow_grows line (suc count) w = flow_from_grows line count w (oldest w.air) (flo
 abbrev cut_from : ℕ → ℕ → World → Option ℕ → World
 cut_from line count w o = elim o [ None ↦ w | Some at ↦ cut line count (lose_at line at (at + 1) w) ]
 
-cut_from_grows : (line count : ℕ) (w : World) (o : Option ℕ) → ((v : World) → length v.air ≤ length (cut line count v).air) → length w.air ≤ length (cut_from line count w o).air
-cut_from_grows line count w None rest = omega arith
-cut_from_grows line count w (Some at) rest = let more = rest (lose_at line at (at + 1) w) in omega (arith, more, length-settled_at w.air at)
-
-cut_grows : (line count : ℕ) (w : World) → length w.air ≤ length (cut line count w).air
-unfolding cut
-cut_grows line zero w = omega arith
-cut_grows line (suc count) w = cut_from_grows line count w (oldest w.air) (cut_grows line count)
-
-unless_grows : (line : ℕ) (why : Option LineRefusal) (done w : World) → length w.air ≤ length done.air → length w.air ≤ length (unless_refused line why done w).air
-unless_grows line None done w h = h
-unless_grows line (Some why) done w h = omega arith
-
-settle_deliver : (line at node : ℕ) (w : World) → length w.air ≤ length (deliver_at line at node (settle at w)).air
-settle_deliver line at node w = let more = deliver_grows line at node (settle at w) in omega (arith, more, length-settled_at w.air at)
-
 -- ---- mail
 
-pub grown : AgentMoves (λ (u v : World). length u.air ≤ length v.air)
+-- the second world has at least as many frames in the air
+abbrev pub Grows : World → World → Type 0
+Grows w v = length w.air ≤ length v.air
+
+pub grown : AgentMoves Grows
 grown = record {
   still = λ w. omega arith;
   follows = λ u v w f g. omega (arith, f, g);
@@ -182,42 +162,33 @@ grown = record {
   mails = λ at s w. omega arith;
 }
 
-others_grow : (line node end : ℕ) (first : List Event) (done : World → World) (w : World) → length w.air ≤ length (done w).air → length w.air ≤ length (unless_agents line node end first done w).air
-others_grow line node end first done w h = agents_case (is_agents node end w)
-  where
-    agents_case : (b : Bool) → length w.air ≤ length (cond b (tell line (first ++ Refused Served ∷ []) w) (done w)).air
-    agents_case true = omega arith
-    agents_case false = h
+-- ---- each kind of line, as each move lets them grow
 
--- ---- each kind of line
+reach_grows : (line at : ℕ) (input : Input) (w : World) → Grows w (reach line at input w)
+reach_grows line at input w = let count = ap (λ (air : List Aired). length air) (reach_stays line at input w) in omega (arith, count)
 
-pub line_grows : (plan : Plan) (line : ℕ) (instruction : Instruction) (w : World) → length w.air ≤ length (do_line plan line instruction w).air
-line_grows plan line (instructions.Heard node call nodes) w = hear_grows line node (kiss_bytes (broadcast_octets call (view nodes))) false w
-line_grows plan line (instructions.Lock node dest alias neighbour quality) w = act_grows line node (acts.Lock dest alias neighbour quality) told_of w
-line_grows plan line (instructions.Round node) w = act_grows line node acts.Round told_of w
-line_grows plan line (instructions.LinkFail node call) w = act_grows line node (acts.LinkFail call) told_of w
-line_grows plan line (instructions.Show node) w = show_grows line (slice_get w.nodes (place_of node w.nodes)) w
-line_grows plan line (instructions.Tick milliseconds) w = ticks_grow line 0 (length w.nodes) (record w { now = w.now + milliseconds })
-line_grows plan line (instructions.Restart node pair) w =
-    restart_grows plan line (place_of node w.nodes) (record { index = pair.index; ident = pair.ident }) (slice_get w.nodes (place_of node w.nodes)) w
+abbrev AnyPair : Pair → Type 0
+AnyPair pair = Unit {0}
+
+growing : (plan : Plan) → LineMoves plan AnyUser AnyUser AnyUser AnyPair Grows
+growing plan = record {
+  turns = turns_of AnyUser Grows grown;
+  does = λ line at act w i. reach_grows line at (Act act) w;
+  writes = λ line at id message w free. reach_grows line at (Act (acts.Write id message)) w;
+  locks = λ line at dest alias neighbour quality w i. reach_grows line at (Act (acts.Lock dest alias neighbour quality)) w;
+  connects = λ line at dest w i. reach_grows line at (Act (acts.Connect dest)) w;
+  times = λ line at w. reach_grows line at Time w;
+  broadcasts = λ line at call b w i. reach_grows line at _ w;
+  frames = λ line at place f w e. reach_grows line at _ w;
+  puts = put_grows;
+  restarts = λ line number pair w i. restart_grows plan line (place_of number w.nodes) pair (slice_get w.nodes (place_of number w.nodes)) w;
+  settles = λ at w. omega (arith, length-settled_at w.air at);
+  later = λ milliseconds w. omega arith;
+}
+
+line_grows : (plan : Plan) (line : ℕ) (instruction : Instruction) (w : World) → Grows w (do_line plan line instruction w)
 line_grows plan line (instructions.Open node dest) w = act_grows line node (acts.Connect dest) told_of w
-line_grows plan line (instructions.Say node end text) w =
-    others_grow line node end [] (do_act line node (acts.Write end text) told_of) w (act_grows line node (acts.Write end text) told_of w)
-line_grows plan line (instructions.Burst node end count) w =
-    others_grow line node end (Wrote node end 0 ∷ []) (burst line node end count) w (burst_grows line (place_of node w.nodes) node end 1 count w)
-line_grows plan line (instructions.Take node end) w =
-    others_grow line node end [] (do_act line node (acts.Take end) (took_of node end)) w (act_grows line node (acts.Take end) (took_of node end) w)
-line_grows plan line (instructions.Close node end) w = act_grows line node (acts.Close end) told_of w
-line_grows plan line (instructions.Post node to dest text) w = post_leads _ (grown) line node to dest text w
-line_grows plan line (instructions.Mail node) w = mail_leads _ (grown) line node w
-line_grows plan line (instructions.Deliver frame node) w =
-    unless_grows line (delivery_fault w.channels node false (frame_of w.air frame)) _ w (settle_deliver line (frame - 1) node w)
-line_grows plan line (instructions.Again frame node) w =
-    unless_grows line (delivery_fault w.channels node true (frame_of w.air frame)) _ w (deliver_grows line (frame - 1) node w)
-line_grows plan line (instructions.Lose frame) w =
-    unless_grows line (lost_fault false (frame_of w.air frame)) (lose_at line (frame - 1) frame w) w (omega (arith, length-settled_at w.air (frame - 1)))
-line_grows plan line (instructions.Flow count) w = flow_grows line count w
-line_grows plan line (instructions.Cut count) w = cut_grows line count w
+line_grows plan line other w = line_leads plan AnyUser AnyUser AnyUser AnyPair Grows (growing plan) line other w tt
 
 pub lines_grow : (plan : Plan) (ls : List NumberedInstruction) (w : World) → length w.air ≤ length (do_lines plan ls w).air
 lines_grow plan [] w = omega arith

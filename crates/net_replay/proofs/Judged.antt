@@ -82,19 +82,9 @@ event_told nodes line (events.Entry node (states.Of_set (pumps.Dropped routed)))
 event_told nodes line (events.Entry node (states.Of_set (pumps.Lost call))) = refl
 event_told nodes line (events.Entry node (states.Of_link peer notice)) = refl
 event_told nodes line (events.Entry node (states.Overflow live would_be)) = refl
-event_told nodes line (events.InAir frame) = refl
-event_told nodes line (events.Delivered frame node) = refl
-event_told nodes line (events.Settled frame) = refl
-event_told nodes line (events.Shown table) = refl
-event_told nodes line (events.Took node end message) = refl
-event_told nodes line (events.Wrote node end count) = refl
 event_told nodes line (events.Restarted node pair) = refl
 event_told nodes line (events.Lost node end facts) = refl
-event_told nodes line (events.Refused why) = refl
-event_told nodes line (events.Posted node number) = refl
-event_told nodes line (events.Offered node end number) = refl
-event_told nodes line (events.MailStored node origin number to len) = refl
-event_told nodes line (events.MailSettled node number) = refl
+event_told nodes line other = refl
 
 -- ---- what is told at the node of a number
 

@@ -165,25 +165,9 @@ module _ (plan : Plan) (apart : AreApart (names (new_nodes plan))) (are_steps : 
   }
 
   line_is : (i : Instruction) → IsInstruction i → LineIs AnyCall AnyCall IsPair i
-  line_is (instructions.Heard node call nodes) i = tt
-  line_is (instructions.Lock node dest alias neighbour quality) i = tt
-  line_is (instructions.Round node) i = tt
-  line_is (instructions.LinkFail node call) i = tt
-  line_is (instructions.Show node) i = tt
-  line_is (instructions.Tick milliseconds) i = tt
   line_is (instructions.Restart node pair) i = i
   line_is (instructions.Open node dest) i = i
-  line_is (instructions.Say node end text) i = tt
-  line_is (instructions.Burst node end count) i = tt
-  line_is (instructions.Take node end) i = tt
-  line_is (instructions.Close node end) i = tt
-  line_is (instructions.Post node to dest text) i = tt
-  line_is (instructions.Mail node) i = tt
-  line_is (instructions.Deliver frame node) i = tt
-  line_is (instructions.Again frame node) i = tt
-  line_is (instructions.Lose frame) i = tt
-  line_is (instructions.Flow count) i = tt
-  line_is (instructions.Cut count) i = tt
+  line_is other i = tt
 
   lines_are : (ls : List NumberedInstruction) → AllByRecursion (λ (l : NumberedInstruction). IsInstruction l.instruction) ls → AllByRecursion (λ (l : NumberedInstruction). LineIs AnyCall AnyCall IsPair l.instruction) ls
   lines_are [] all = tt

@@ -339,7 +339,7 @@ module _ (plan : Plan) (Heard_from Locks Users : Callsign → Type 0) (Again : P
   shows line None w = stays w
   shows line (Some p) w = tells line (events.Shown (table_of p) ∷ []) w (tt, tt)
 
-  line_leads : (line : ℕ) (i : Instruction) (w : World) → LineMay Heard_from Locks Users Again i → P w (do_line plan line i w)
+  pub line_leads : (line : ℕ) (i : Instruction) (w : World) → LineMay Heard_from Locks Users Again i → P w (do_line plan line i w)
   line_leads line (instructions.Heard node call nodes) w i = hear_leads line node (kiss_bytes (broadcast_octets call (view nodes))) false w (k.broadcasts line (place_of node w.nodes) call (view nodes) w i)
   line_leads line (instructions.Lock node dest alias neighbour quality) w i = act_leads line node (acts.Lock dest alias neighbour quality) told_of w (k.locks line (place_of node w.nodes) dest alias neighbour quality w i) quiet_told
   line_leads line (instructions.Round node) w i = act_leads line node acts.Round told_of w (k.does line (place_of node w.nodes) acts.Round w tt) quiet_told

@@ -51,25 +51,10 @@ abbrev AnyCall : Callsign → Type 0
 AnyCall call = Unit {0}
 
 line_may : (i : Instruction) → IsInstruction i → NamesCalls i → LineMay AnyCall AnyCall IsCall IsPair i
-line_may (instructions.Heard node call nodes) i n = tt
-line_may (instructions.Lock node dest alias neighbour quality) i n = tt
-line_may (instructions.Round node) i n = tt
-line_may (instructions.LinkFail node call) i n = tt
-line_may (instructions.Show node) i n = tt
-line_may (instructions.Tick milliseconds) i n = tt
 line_may (instructions.Restart node pair) i n = i
 line_may (instructions.Open node dest) i n = i
-line_may (instructions.Say node end text) i n = tt
-line_may (instructions.Burst node end count) i n = tt
-line_may (instructions.Take node end) i n = tt
-line_may (instructions.Close node end) i n = tt
 line_may (instructions.Post node to dest text) i n = n.0
-line_may (instructions.Mail node) i n = tt
-line_may (instructions.Deliver frame node) i n = tt
-line_may (instructions.Again frame node) i n = tt
-line_may (instructions.Lose frame) i n = tt
-line_may (instructions.Flow count) i n = tt
-line_may (instructions.Cut count) i n = tt
+line_may other i n = tt
 
 lines_may : (ls : List NumberedInstruction) → AllByRecursion (λ (l : NumberedInstruction). IsInstruction l.instruction) ls → AllByRecursion (λ (l : NumberedInstruction). NamesCalls l.instruction) ls
     → AllByRecursion (λ (l : NumberedInstruction). LineMay AnyCall AnyCall IsCall IsPair l.instruction) ls

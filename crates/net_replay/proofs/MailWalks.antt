@@ -292,9 +292,3 @@ module _ (P : World → World → Type 0) (k : AgentMoves P) where
 
   pub offer_at_leads : (line node at : ℕ) (ids : List ℕ) (w : World) → P w (offer_at line node at ids w)
   offer_at_leads line node at ids w = offer_at_goes AnyUser P turns line node at ids w
-
-  pub mail_leads : (line node : ℕ) (w : World) → P w (mail line node w)
-  mail_leads line node w = mail_goes AnyUser P turns line node w
-
-  pub post_leads : (line node : ℕ) (to dest : Callsign) (text : List ℕ) (w : World) → P w (post line node to dest text w)
-  post_leads line node to dest text w = post_goes AnyUser P turns line node to dest text w tt

@@ -94,19 +94,9 @@ module _ (P : CircuitEvent → Type 0) (ds : List Declaration) (each : (line k :
   event_all line (events.Entry node (states.Of_set (pumps.Lost call))) = tt
   event_all line (events.Entry node (states.Of_link peer notice)) = tt
   event_all line (events.Entry node (states.Overflow live would_be)) = tt
-  event_all line (events.InAir frame) = tt
-  event_all line (events.Delivered frame node) = tt
-  event_all line (events.Settled frame) = tt
-  event_all line (events.Shown table) = tt
-  event_all line (events.Took node end message) = tt
-  event_all line (events.Wrote node end count) = tt
   event_all line (events.Restarted node pair) = told_all line node (sets.Restarted pair)
   event_all line (events.Lost node end facts) = told_all line node (sets.Lost end facts)
-  event_all line (events.Refused why) = tt
-  event_all line (events.Posted node number) = tt
-  event_all line (events.Offered node end number) = tt
-  event_all line (events.MailStored node origin number to len) = tt
-  event_all line (events.MailSettled node number) = tt
+  event_all line other = tt
 
   events_all : (es : List NumberedEvent) → AllByRecursion P (events_by ds es)
   events_all [] = tt

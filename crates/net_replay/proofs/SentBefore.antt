@@ -114,23 +114,9 @@ module _ (sounds : NetworksAreSound) (are_steps : InputsAreSteps) (bytes : Bytes
   line_is : (i : Instruction) → IsInstruction i → NamesCalls i → LineIs IsCall IsCall IsPair i
   line_is (instructions.Heard node call nodes) i n = n
   line_is (instructions.Lock node dest alias neighbour quality) i n = n
-  line_is (instructions.Round node) i n = tt
-  line_is (instructions.LinkFail node call) i n = tt
-  line_is (instructions.Show node) i n = tt
-  line_is (instructions.Tick milliseconds) i n = tt
   line_is (instructions.Restart node pair) i n = i
   line_is (instructions.Open node dest) i n = i
-  line_is (instructions.Say node end text) i n = tt
-  line_is (instructions.Burst node end count) i n = tt
-  line_is (instructions.Take node end) i n = tt
-  line_is (instructions.Close node end) i n = tt
-  line_is (instructions.Post node to dest text) i n = tt
-  line_is (instructions.Mail node) i n = tt
-  line_is (instructions.Deliver frame node) i n = tt
-  line_is (instructions.Again frame node) i n = tt
-  line_is (instructions.Lose frame) i n = tt
-  line_is (instructions.Flow count) i n = tt
-  line_is (instructions.Cut count) i n = tt
+  line_is other i n = tt
 
   lines_are : (ls : List NumberedInstruction) → AllByRecursion (λ (l : NumberedInstruction). IsInstruction l.instruction) ls → AllByRecursion (λ (l : NumberedInstruction). NamesCalls l.instruction) ls
       → AllByRecursion (λ (l : NumberedInstruction). LineIs IsCall IsCall IsPair l.instruction) ls

@@ -103,23 +103,7 @@ all_start plan (d ∷ ds) a c = (one_starts plan d a c.0, all_start plan ds a c.
 is_line : (i : Instruction) → NamesCalls i → NamesPair i → IsInstruction i
 is_line (instructions.Restart node pair) c p = record { index_some = p.index_some; index_most = p.index_most; ident_some = p.ident_some; ident_most = p.ident_most }
 is_line (instructions.Open node dest) c p = c
-is_line (instructions.Heard node call nodes) c p = tt
-is_line (instructions.Lock node dest alias neighbour quality) c p = tt
-is_line (instructions.Round node) c p = tt
-is_line (instructions.LinkFail node call) c p = tt
-is_line (instructions.Show node) c p = tt
-is_line (instructions.Tick milliseconds) c p = tt
-is_line (instructions.Say node end text) c p = tt
-is_line (instructions.Burst node end count) c p = tt
-is_line (instructions.Take node end) c p = tt
-is_line (instructions.Close node end) c p = tt
-is_line (instructions.Post node to dest text) c p = tt
-is_line (instructions.Mail node) c p = tt
-is_line (instructions.Deliver frame node) c p = tt
-is_line (instructions.Again frame node) c p = tt
-is_line (instructions.Lose frame) c p = tt
-is_line (instructions.Flow count) c p = tt
-is_line (instructions.Cut count) c p = tt
+is_line other c p = tt
 
 are_lines : (ls : List NumberedInstruction) → AllByRecursion (λ (l : NumberedInstruction). NamesCalls l.instruction) ls → AllByRecursion (λ (l : NumberedInstruction). NamesPair l.instruction) ls
     → AllByRecursion IsLine ls
