@@ -15,18 +15,20 @@ use Rattle.network_file.specs.declared.lines.Line.TheVariants as said
 use Rattle.network_file.specs.declared.plan.channels.Channel.{Channel}
 use Rattle.network_file.specs.declared.plan.declarations.Declaration.{Declaration}
 use Rattle.network_file.specs.declared.plan.instructions.Instruction.{Instruction}
+use Rattle.network_file.specs.declared.plan.instructions.Instruction.TheVariants as instructions
 use Rattle.network_file.specs.declared.plan.vias.Via.{Via}
 use Rattle.network_file.specs.declared.reasons.What.{What}
 use Rattle.network_file.specs.declared.reasons.What.TheVariants as whats
 use Rattle.network_file.specs.Keys.{Assignment, key_at, least_of, most_of, takes}
 use Rattle.network_file.specs.Laws.{AreDifferent, ArePairNumbers, CallsAreCalls, CallsDeclaredOnce, DeclaredOnce, HasCalls, HaveOwnCalls, IsAllowed, IsCall, IsInRange, NamesCalls, NamesPair, NoMailAtPrompts, PairsArePairs, SettingsFit, SettingsInRange}
-use Rattle.network_file.specs.Lines.{Kind, all_kinds, in_time, line_at, line_by, line_of}
-use Rattle.network_file.specs.Lines.Circuits.{burst_at, end_alone, end_at, burst_line, close_line, open_line, say_at, say_line, take_line}
+use Rattle.network_file.specs.Lines.{all_kinds, line_at, line_of}
+use Rattle.network_file.specs.Lines.Circuits.{burst_at, end_alone, end_at, burst_line, say_at, say_line}
 use Rattle.network_file.specs.Lines.Declaring.{are_members, are_repeaters, calls_at, channel_line, members_at, declaration_at, node_line, set_line, setting_at, version_at, version_line, via_at, via_line}
-use Rattle.network_file.specs.Lines.Frames.{again_line, count_alone, frame_alone, frame_and_node, cut_line, deliver_line, flow_line, lose_line}
+use Rattle.network_file.specs.Lines.Frames.{count_alone, frame_alone, frame_and_node}
 use Rattle.network_file.specs.Lines.Heard.{are_entries, broadcast_at, entries_at, heard_line}
-use Rattle.network_file.specs.Lines.Mails.{mail_line, node_and_calls_at, post_at, post_line, posted_text}
-use Rattle.network_file.specs.Lines.Nodes.{linkfail_line, node_alone, node_and_call, node_and_call_at, lock_at, lock_line, restart_at, restart_line, round_line, show_line, tick_at, tick_line}
+use Rattle.network_file.specs.Lines.Kinds.{Kind, as_line, in_time, line_by}
+use Rattle.network_file.specs.Lines.Mails.{node_and_calls_at, post_at, post_line, posted_text}
+use Rattle.network_file.specs.Lines.Nodes.{node_alone, node_and_call, node_and_call_at, lock_at, lock_line, restart_at, restart_line, tick_at, tick_line}
 use Rattle.network_file.proofs.Declared.{more_calls, more_different}
 use Rattle.network_file.proofs.Prompts.{AreApart, known_key, more_apart}
 use Rattle.network_file.proofs.Ranges.{ranged}
@@ -68,6 +70,10 @@ last P x p y e = let same : x ≡ y = cc e in subst P same p
 
 done : (plan : Plan) (i : Instruction) (y : Line) → ◌≡◌ {A = Result Line What} (Ok (said.Instruction i)) (Ok y) → NamesCalls i → NamesPair i → Fits plan y
 done plan i y e n p = last (Fits plan) (said.Instruction i) (n, p) y e
+
+-- an instruction that names no call and no pair
+plain : (plan : Plan) {A : Type 0} (parts : Result A What) (makes : A → Instruction) → ((x : A) → NamesCalls (makes x) × NamesPair (makes x)) → (y : Line) → as_line parts makes ≡ Ok y → Fits plan y
+plain plan parts makes none = bound (Fits plan) parts _ (λ x _ y z. done plan (makes x) y z (none x).0 (none x).1)
 
 declares : (plan : Plan) (d : Declaration) → (has_node plan.declared d.node ≡ false) × (has_call plan.declared d.call ≡ false) × IsCall d.call → (y : Line) → ◌≡◌ {A = Result Line What} (Ok (said.Node d)) (Ok y) → Fits plan y
 declares plan d new = last (Fits plan) (said.Node d) new
@@ -170,18 +176,6 @@ module _ (reads : ReadsCallTexts) where
       bound (Fits plan) (node_at plan.declared number) _ (λ n _. bound (Fits plan) (call_at dest) _ (λ d _. bound (Fits plan) (alias_at nick) _ (λ a _. bound (Fits plan) (call_at neighbour) _ (λ b is. bound (Fits plan) (number_at 0 255 quality) _ (λ q _ y z. done plan _ y z (is_call neighbour b is) tt))))) l e
   lock_fits plan other l e = absurd (cc e)
 
-  round_fits : (plan : Plan) (words : List (List ℕ)) (l : Line) → round_line plan words ≡ Ok l → Fits plan l
-  unfolding round_line
-  round_fits plan words l e = bound (Fits plan) (node_alone plan words) _ (λ n _ y z. done plan _ y z tt tt) l e
-
-  linkfail_fits : (plan : Plan) (words : List (List ℕ)) (l : Line) → linkfail_line plan words ≡ Ok l → Fits plan l
-  unfolding linkfail_line
-  linkfail_fits plan words l e = bound (Fits plan) (node_and_call plan words) _ (λ n _ y z. done plan _ y z tt tt) l e
-
-  show_fits : (plan : Plan) (words : List (List ℕ)) (l : Line) → show_line plan words ≡ Ok l → Fits plan l
-  unfolding show_line
-  show_fits plan words l e = bound (Fits plan) (node_alone plan words) _ (λ n _ y z. done plan _ y z tt tt) l e
-
   tick_fits : (plan : Plan) (words : List (List ℕ)) (l : Line) → tick_line words ≡ Ok l → Fits plan l
   unfolding tick_at
   tick_fits plan (word ∷ []) l e = bound (Fits plan) (number_at 1 86400000 word) _ (λ n _ y z. done plan _ y z tt tt) l e
@@ -205,46 +199,13 @@ module _ (reads : ReadsCallTexts) where
   called plan (number ∷ name ∷ []) way e = called_at plan number name way e
   called plan other way e = absurd (cc e)
 
-  open_fits : (plan : Plan) (words : List (List ℕ)) (l : Line) → open_line plan words ≡ Ok l → Fits plan l
-  unfolding open_line
-  open_fits plan words l e = bound (Fits plan) (node_and_call plan words) _ (λ way q y z. done plan _ y z (called plan words way q) tt) l e
+  open_fits : (plan : Plan) (words : List (List ℕ)) (l : Line) → as_line (node_and_call plan words) (λ way. instructions.Open way.0 way.1) ≡ Ok l → Fits plan l
+  open_fits plan words = bound (Fits plan) (node_and_call plan words) _ (λ way q y z. done plan _ y z (called plan words way q) tt)
 
   burst_fits : (plan : Plan) (words : List (List ℕ)) (l : Line) → burst_line plan words ≡ Ok l → Fits plan l
   unfolding burst_at
   burst_fits plan (number ∷ nth ∷ count ∷ []) l e = bound (Fits plan) (end_at plan number nth) _ (λ n _. bound (Fits plan) (number_at 1 10000 count) _ (λ c _ y z. done plan _ y z tt tt)) l e
   burst_fits plan other l e = absurd (cc e)
-
-  take_fits : (plan : Plan) (words : List (List ℕ)) (l : Line) → take_line plan words ≡ Ok l → Fits plan l
-  unfolding take_line
-  take_fits plan words l e = bound (Fits plan) (end_alone plan words) _ (λ n _ y z. done plan _ y z tt tt) l e
-
-  close_fits : (plan : Plan) (words : List (List ℕ)) (l : Line) → close_line plan words ≡ Ok l → Fits plan l
-  unfolding close_line
-  close_fits plan words l e = bound (Fits plan) (end_alone plan words) _ (λ n _ y z. done plan _ y z tt tt) l e
-
-  mail_fits : (plan : Plan) (words : List (List ℕ)) (l : Line) → mail_line plan words ≡ Ok l → Fits plan l
-  unfolding mail_line
-  mail_fits plan words l e = bound (Fits plan) (node_alone plan words) _ (λ n _ y z. done plan _ y z tt tt) l e
-
-  deliver_fits : (plan : Plan) (words : List (List ℕ)) (l : Line) → deliver_line plan words ≡ Ok l → Fits plan l
-  unfolding deliver_line
-  deliver_fits plan words l e = bound (Fits plan) (frame_and_node plan words) _ (λ n _ y z. done plan _ y z tt tt) l e
-
-  again_fits : (plan : Plan) (words : List (List ℕ)) (l : Line) → again_line plan words ≡ Ok l → Fits plan l
-  unfolding again_line
-  again_fits plan words l e = bound (Fits plan) (frame_and_node plan words) _ (λ n _ y z. done plan _ y z tt tt) l e
-
-  lose_fits : (plan : Plan) (words : List (List ℕ)) (l : Line) → lose_line words ≡ Ok l → Fits plan l
-  unfolding lose_line
-  lose_fits plan words l e = bound (Fits plan) (frame_alone words) _ (λ n _ y z. done plan _ y z tt tt) l e
-
-  flow_fits : (plan : Plan) (words : List (List ℕ)) (l : Line) → flow_line words ≡ Ok l → Fits plan l
-  unfolding flow_line
-  flow_fits plan words l e = bound (Fits plan) (count_alone words) _ (λ n _ y z. done plan _ y z tt tt) l e
-
-  cut_fits : (plan : Plan) (words : List (List ℕ)) (l : Line) → cut_line words ≡ Ok l → Fits plan l
-  unfolding cut_line
-  cut_fits plan words l e = bound (Fits plan) (count_alone words) _ (λ n _ y z. done plan _ y z tt tt) l e
 
   say_fits : (plan : Plan) (line : List ℕ) (words : List (List ℕ)) (l : Line) → say_line plan line words ≡ Ok l → Fits plan l
   unfolding say_at
@@ -276,39 +237,75 @@ module _ (reads : ReadsCallTexts) where
   either plan false r s l h k e = k e
 
   abbrev KindFits : Kind → Type 0
-  KindFits k = (plan : Plan) (words : List (List ℕ)) (l : Line) → k.says plan words ≡ Ok l → Fits plan l
+  KindFits k = (plan : Plan) (line : List ℕ) (words : List (List ℕ)) (l : Line) → k.says plan line words ≡ Ok l → Fits plan l
 
-  by_fits : (ks : List Kind) → AllByRecursion KindFits ks → (plan : Plan) (first : List ℕ) (words : List (List ℕ)) (l : Line) → line_by ks plan first words ≡ Ok l → Fits plan l
-  by_fits [] all plan first words l e = absurd (cc e)
-  by_fits (k ∷ ks) all plan first words l e =
-      either plan (k.is_known plan && pointwise nat_eq first k.word) (k.says plan words) (line_by ks plan first words) l (all.0 plan words l) (by_fits ks all.1 plan first words l) e
+  by_fits : (ks : List Kind) → AllByRecursion KindFits ks → (plan : Plan) (line first : List ℕ) (words : List (List ℕ)) (l : Line) → line_by ks plan line first words ≡ Ok l → Fits plan l
+  by_fits [] all plan line first words l e = absurd (cc e)
+  by_fits (k ∷ ks) all plan line first words l e =
+      either plan (k.is_known plan && pointwise nat_eq first k.word) (k.says plan line words) (line_by ks plan line first words) l (all.0 plan line words l) (by_fits ks all.1 plan line first words l) e
 
   all_fit : AllByRecursion KindFits all_kinds
   all_fit = (
-    λ plan words l. timely plan (is_untouched plan) (version_line words) l (λ h. version_fits plan h words l),
+    λ plan line words l. timely plan (is_untouched plan) (version_line words) l (λ h. version_fits plan h words l),
     (
-      λ plan words l. timely plan (may_declare plan) (node_line plan words) l (λ _. node_fits plan words l),
+      λ plan line words l. timely plan (may_declare plan) (node_line plan words) l (λ _. node_fits plan words l),
       (
-        λ plan words l. timely plan (may_declare plan) (channel_line plan words) l (λ _. channel_fits plan words l),
+        λ plan line words l. timely plan (may_declare plan) (channel_line plan words) l (λ _. channel_fits plan words l),
         (
-          λ plan words l. timely plan (may_declare plan) (set_line plan words) l (λ _. set_fits plan words l),
+          λ plan line words l. timely plan (may_declare plan) (set_line plan words) l (λ _. set_fits plan words l),
           (
-            λ plan words l. timely plan (may_declare plan) (via_line plan words) l (λ _. via_fits plan words l),
+            λ plan line words l. timely plan (may_declare plan) (via_line plan words) l (λ _. via_fits plan words l),
             (
-              heard_fits,
+              λ plan line. heard_fits plan,
               (
-                lock_fits,
+                λ plan line. lock_fits plan,
                 (
-                  round_fits,
+                  λ plan line words. plain plan (node_alone plan words) instructions.Round (λ x. (tt, tt)),
                   (
-                    linkfail_fits,
+                    λ plan line words. plain plan (node_and_call plan words) (λ x. instructions.LinkFail x.0 x.1) (λ x. (tt, tt)),
                     (
-                      show_fits,
+                      λ plan line words. plain plan (node_alone plan words) instructions.Show (λ x. (tt, tt)),
                       (
-                        tick_fits,
+                        λ plan line. tick_fits plan,
                         (
-                          restart_fits,
-                          (open_fits, (burst_fits, (take_fits, (close_fits, (mail_fits, (deliver_fits, (again_fits, (lose_fits, (flow_fits, (cut_fits, tt)))))))))),
+                          λ plan line. restart_fits plan,
+                          (
+                            λ plan line. open_fits plan,
+                            (
+                              say_fits,
+                              (
+                                λ plan line. burst_fits plan,
+                                (
+                                  λ plan line words. plain plan (end_alone plan words) (λ x. instructions.Take x.0 x.1) (λ x. (tt, tt)),
+                                  (
+                                    λ plan line words. plain plan (end_alone plan words) (λ x. instructions.Close x.0 x.1) (λ x. (tt, tt)),
+                                    (
+                                      post_fits,
+                                      (
+                                        λ plan line words. plain plan (node_alone plan words) instructions.Mail (λ x. (tt, tt)),
+                                        (
+                                          λ plan line words. plain plan (frame_and_node plan words) (λ x. instructions.Deliver x.0 x.1) (λ x. (tt, tt)),
+                                          (
+                                            λ plan line words. plain plan (frame_and_node plan words) (λ x. instructions.Again x.0 x.1) (λ x. (tt, tt)),
+                                            (
+                                              λ plan line words. plain plan (frame_alone words) instructions.Lose (λ x. (tt, tt)),
+                                              (
+                                                λ plan line words. plain plan (count_alone words) instructions.Flow (λ x. (tt, tt)),
+                                                (
+                                                  λ plan line words. plain plan (count_alone words) instructions.Cut (λ x. (tt, tt)),
+                                                  tt,
+                                                ),
+                                              ),
+                                            ),
+                                          ),
+                                        ),
+                                      ),
+                                    ),
+                                  ),
+                                ),
+                              ),
+                            ),
+                          ),
                         ),
                       ),
                     ),
@@ -324,8 +321,7 @@ module _ (reads : ReadsCallTexts) where
 
   of_fits : (plan : Plan) (line : List ℕ) (words : List (List ℕ)) (l : Line) → line_of plan line words ≡ Ok l → Fits plan l
   of_fits plan line [] l e = absurd (cc e)
-  of_fits plan line (first ∷ words) l e =
-      either plan _ _ _ l (say_fits plan line words l) (either plan _ _ _ l (post_fits plan line words l) (by_fits all_kinds all_fit plan first words l)) e
+  of_fits plan line (first ∷ words) l e = by_fits all_kinds all_fit plan line first words l e
 
   line_fits : (plan : Plan) (line : List ℕ) (l : Line) → line_at plan line ≡ Ok l → Fits plan l
   unfolding line_at

@@ -18,10 +18,9 @@ use Rattle.network_file.specs.Plan.{Plan}
 use Rattle.network_file.specs.declared.reasons.What.TheVariants as whats
 use Rattle.network_file.specs.Places.{needs, node_at, new_node_at, new_call_at, value_at}
 use Rattle.network_file.specs.Lines.{line_at, line_of}
-use Rattle.network_file.specs.Lines.Circuits.{open_line, end_at, say_at, close_line}
+use Rattle.network_file.specs.Lines.Circuits.{end_at, say_at}
 use Rattle.network_file.specs.Lines.Declaring.{declaration_at, channel_line, setting_at}
-use Rattle.network_file.specs.Lines.Frames.{flow_line, cut_line}
-use Rattle.network_file.specs.Lines.Nodes.{node_and_call_at, round_line, tick_at}
+use Rattle.network_file.specs.Lines.Nodes.{node_and_call_at, tick_at}
 use Rattle.text_lines.specs.Lines.{is_skipped, is_text}
 use Rattle.text_lines.specs.Words.{past_word, words_of}
 use Rattle.network_file.specs.Lines.Circuits.{said_text}
@@ -39,7 +38,7 @@ abbrev begun : Plan
 begun = plan_in (after_lines 0 nothing (lines start_text))
 
 started : (y : List ℕ) (more : List (List ℕ)) → after_lines 0 nothing (lines_of_parts (pushed is_feed start_text (y ∷ more))) ≡ after_lines 61 begun (lines_of_parts (y ∷ more))
-unfolding start_text lines_of line_at open_line declaration_at channel_line setting_at flow_line node_and_call_at round_line node_at new_node_at new_call_at value_at digits call_at key_at
+unfolding start_text lines_of line_at declaration_at channel_line setting_at node_and_call_at node_at new_node_at new_call_at value_at digits call_at key_at
 started y more = refl
 
 starts : (rest : List ℕ) → after_lines 0 nothing (lines (start_text ++ rest)) ≡ after_lines 61 begun (lines rest)
@@ -62,11 +61,11 @@ record IsLine (told : List NumberedInstruction) (text : List ℕ) : Type 0 where
   said : Says (with_told told) l (line.Instruction what)
 
 cut_line_is : (told : List NumberedInstruction) → IsLine told (codes "cut 1\n")
-unfolding start_text lines_of line_at open_line declaration_at channel_line setting_at flow_line node_and_call_at round_line node_at new_node_at new_call_at value_at digits call_at key_at cut_line
+unfolding start_text lines_of line_at declaration_at channel_line setting_at node_and_call_at node_at new_node_at new_call_at value_at digits call_at key_at
 cut_line_is told = record { l = codes "cut 1"; what = Cut 1; spelled = refl; said = record { text = refl; some = refl; says = refl } }
 
 tick_line_is : (told : List NumberedInstruction) → IsLine told (codes "tick 60000\n")
-unfolding start_text lines_of line_at open_line declaration_at channel_line setting_at flow_line node_and_call_at round_line node_at new_node_at new_call_at value_at digits call_at key_at tick_at
+unfolding start_text lines_of line_at declaration_at channel_line setting_at node_and_call_at node_at new_node_at new_call_at value_at digits call_at key_at tick_at
 tick_line_is told = record { l = codes "tick 60000"; what = Tick 60000; spelled = refl; said = record { text = refl; some = refl; says = refl } }
 
 -- P of so many numbers, from one on
@@ -85,7 +84,7 @@ module _ (told : List NumberedInstruction) where
   flow_at k text some says = record { l = codes "flow " ++ decimal k; what = Flow k; spelled = sym (append_assoc (codes "flow ") (decimal k) (10 ∷ [])); said = record { text = text; some = some; says = says } }
 
   flows : AllFrom (λ k. IsLine told (flow_text k)) 1 20
-  unfolding start_text lines_of line_at open_line declaration_at channel_line setting_at flow_line node_and_call_at round_line node_at new_node_at new_call_at value_at digits call_at key_at
+  unfolding start_text lines_of line_at declaration_at channel_line setting_at node_and_call_at node_at new_node_at new_call_at value_at digits call_at key_at
   flows = (flow_at 1 refl refl refl, (flow_at 2 refl refl refl, (flow_at 3 refl refl refl, (flow_at 4 refl refl refl, (flow_at 5 refl refl refl, (flow_at 6 refl refl refl, (flow_at 7 refl refl refl, (flow_at 8 refl refl refl, (flow_at 9 refl refl refl, (flow_at 10 refl refl refl, (flow_at 11 refl refl refl, (flow_at 12 refl refl refl, (flow_at 13 refl refl refl, (flow_at 14 refl refl refl, (flow_at 15 refl refl refl, (flow_at 16 refl refl refl, (flow_at 17 refl refl refl, (flow_at 18 refl refl refl, (flow_at 19 refl refl refl, (flow_at 20 refl refl refl, tt))))))))))))))))))))
 
 flow_line_is : (told : List NumberedInstruction) (x : ℕ) → IsLine told (flow_text (draw 20 x + 1))
@@ -116,7 +115,7 @@ module _ (told : List NumberedInstruction) (t : List ℕ) (text : is_text t ≡ 
       }
 
   says : AllFrom (λ node. Says (with_told told) (front node ++ t) (line.Instruction (Say node 1 (109 ∷ t)))) 1 6
-  unfolding start_text lines_of line_at open_line declaration_at channel_line setting_at flow_line node_and_call_at round_line node_at new_node_at new_call_at value_at digits call_at key_at say_at end_at said_text past_word
+  unfolding start_text lines_of line_at declaration_at channel_line setting_at node_and_call_at node_at new_node_at new_call_at value_at digits call_at key_at say_at end_at said_text past_word
   says = (say_at_node 1 refl refl refl refl, (say_at_node 2 refl refl refl refl, (say_at_node 3 refl refl refl refl, (say_at_node 4 refl refl refl refl, (say_at_node 5 refl refl refl refl, (say_at_node 6 refl refl refl refl, tt))))))
 
 say_line_is : (told : List NumberedInstruction) (x nth : ℕ) → nth < 301 → IsLine told (say_line (draw 6 x + 1) nth)
@@ -177,7 +176,7 @@ abbrev ended : List NumberedInstruction → Plan
 ended told = plan_in (after_lines 361 (with_told told) (lines end_text))
 
 ends : (told : List NumberedInstruction) → after_lines 361 (with_told told) (lines end_text) ≡ Ok (ended told)
-unfolding start_text lines_of line_at open_line declaration_at channel_line setting_at flow_line node_and_call_at round_line node_at new_node_at new_call_at value_at digits call_at key_at end_text close_line end_at
+unfolding start_text lines_of line_at declaration_at channel_line setting_at node_and_call_at node_at new_node_at new_call_at value_at digits call_at key_at end_text end_at
 ends told = refl
 
 pub file_is_good : (seed : ℕ) → (plan : Plan) × (network_of (soak_file seed) ≡ Ok plan)

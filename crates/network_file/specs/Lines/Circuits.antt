@@ -1,5 +1,5 @@
 -- Lines that speak of circuits and their ends. Own profile.
-use Rattle.std.specs.Prelude.{ℕ, List, [], ◌∷◌, Option, Result, Ok, Err}
+use Rattle.std.specs.Prelude.{ℕ, List, [], ◌∷◌, Option, Result, Ok, Err, codes}
 use Rattle.network_file.specs.declared.reasons.What.{What}
 use Rattle.network_file.specs.declared.reasons.What.TheVariants as whats
 use Rattle.network_file.specs.declared.lines.Line.{Line}
@@ -7,15 +7,10 @@ use Rattle.network_file.specs.declared.lines.Line.TheVariants as lines
 use Rattle.network_file.specs.declared.plan.instructions.Instruction.TheVariants.{Open, Say, Burst, Take, Close}
 use Rattle.network_file.specs.Plan.{Plan}
 use Rattle.network_file.specs.Places.{known, number_at, nth_at, node_at}
+use Rattle.network_file.specs.Lines.Kinds.{Kind, instruction, reads}
 use Rattle.network_file.specs.Lines.Nodes.{node_and_call}
 use Rattle.text_lines.specs.Words.{after_space, past_word}
 use Rattle.ax_address.specs.Results.{◌>>=◌}
-
--- open N DEST
-unfoldable pub open_line : Plan → List (List ℕ) → Result Line What
-open_line plan words = do
-  way ← node_and_call plan words
-  Ok (lines.Instruction (Open way.0 way.1))
 
 -- N X: an end of a node
 unfoldable pub end_at : Plan → List ℕ → List ℕ → Result (ℕ × ℕ) What
@@ -54,14 +49,12 @@ abbrev pub end_alone : Plan → List (List ℕ) → Result (ℕ × ℕ) What
 end_alone plan (number ∷ nth ∷ []) = end_at plan number nth
 end_alone plan other = Err whats.Count
 
--- take N X
-unfoldable pub take_line : Plan → List (List ℕ) → Result Line What
-take_line plan words = do
-  e ← end_alone plan words
-  Ok (lines.Instruction (Take e.0 e.1))
-
--- close N X
-unfoldable pub close_line : Plan → List (List ℕ) → Result Line What
-close_line plan words = do
-  e ← end_alone plan words
-  Ok (lines.Instruction (Close e.0 e.1))
+-- open N DEST; say; burst; take N X; close N X
+abbrev pub circuit_kinds : List Kind
+circuit_kinds =
+    instruction (codes "open") (reads node_and_call (λ way. Open way.0 way.1))
+    ∷ instruction (codes "say") say_line
+    ∷ instruction (codes "burst") (λ plan line. burst_line plan)
+    ∷ instruction (codes "take") (reads end_alone (λ e. Take e.0 e.1))
+    ∷ instruction (codes "close") (reads end_alone (λ e. Close e.0 e.1))
+    ∷ []

@@ -1,5 +1,5 @@
 -- Lines that declare: what each says, one word after another. Own profile.
-use Rattle.std.specs.Prelude.{ℕ, List, [], ◌∷◌, ◌++◌, length, Result, Ok, Err, Bool, ◌&&◌, not, nat_le, is_none}
+use Rattle.std.specs.Prelude.{ℕ, List, [], ◌∷◌, ◌++◌, length, Result, Ok, Err, Bool, ◌&&◌, not, nat_le, is_none, codes}
 use Rattle.ax_address.specs.Callsign.{Callsign}
 use Rattle.ax_address.specs.Results.{◌>>=◌}
 use Rattle.network_file.specs.declared.reasons.What.{What}
@@ -11,6 +11,7 @@ use Rattle.network_file.specs.Channels.{has_member}
 use Rattle.network_file.specs.Plan.{Plan, version_of}
 use Rattle.network_file.specs.Keys.{key_at, least_of, most_of, takes}
 use Rattle.network_file.specs.Settings.{clashes, set_to}
+use Rattle.network_file.specs.Lines.Kinds.{Kind, declaring, opening}
 use Rattle.network_file.specs.Places.{needs, value_at, node_at, new_node_at, call_at, new_call_at, new_peer_at, alias_at}
 
 -- version V
@@ -86,3 +87,12 @@ via_at plan number name words = do
 abbrev pub via_line : Plan → List (List ℕ) → Result Line What
 via_line plan (number ∷ name ∷ words) = via_at plan number name words
 via_line plan other = Err whats.Count
+
+abbrev pub declaring_kinds : List Kind
+declaring_kinds =
+    opening (codes "version") (λ plan line. version_line)
+    ∷ declaring (codes "node") (λ plan line. node_line plan)
+    ∷ declaring (codes "channel") (λ plan line. channel_line plan)
+    ∷ declaring (codes "set") (λ plan line. set_line plan)
+    ∷ declaring (codes "via") (λ plan line. via_line plan)
+    ∷ []

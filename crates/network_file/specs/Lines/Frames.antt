@@ -1,12 +1,11 @@
 -- Lines that move frames. Own profile.
-use Rattle.std.specs.Prelude.{ℕ, List, [], ◌∷◌, Result, Ok, Err}
+use Rattle.std.specs.Prelude.{ℕ, List, [], ◌∷◌, Result, Ok, Err, codes}
 use Rattle.ax_address.specs.Results.{◌>>=◌}
 use Rattle.network_file.specs.declared.reasons.What.{What}
 use Rattle.network_file.specs.declared.reasons.What.TheVariants as whats
-use Rattle.network_file.specs.declared.lines.Line.{Line}
-use Rattle.network_file.specs.declared.lines.Line.TheVariants as lines
 use Rattle.network_file.specs.declared.plan.instructions.Instruction.TheVariants.{Deliver, Again, Lose, Flow, Cut}
 use Rattle.network_file.specs.Plan.{Plan}
+use Rattle.network_file.specs.Lines.Kinds.{Kind, instruction, reads}
 use Rattle.network_file.specs.Places.{number_at, nth_at, node_at}
 
 abbrev pub frame_alone : List (List ℕ) → Result ℕ What
@@ -29,32 +28,12 @@ abbrev pub frame_and_node : Plan → List (List ℕ) → Result (ℕ × ℕ) Wha
 frame_and_node plan (frame ∷ number ∷ []) = frame_and_node_at plan frame number
 frame_and_node plan other = Err whats.Count
 
--- deliver K N
-unfoldable pub deliver_line : Plan → List (List ℕ) → Result Line What
-deliver_line plan words = do
-  way ← frame_and_node plan words
-  Ok (lines.Instruction (Deliver way.0 way.1))
-
--- again K N
-unfoldable pub again_line : Plan → List (List ℕ) → Result Line What
-again_line plan words = do
-  way ← frame_and_node plan words
-  Ok (lines.Instruction (Again way.0 way.1))
-
--- lose K
-unfoldable pub lose_line : List (List ℕ) → Result Line What
-lose_line words = do
-  k ← frame_alone words
-  Ok (lines.Instruction (Lose k))
-
--- flow COUNT
-unfoldable pub flow_line : List (List ℕ) → Result Line What
-flow_line words = do
-  count ← count_alone words
-  Ok (lines.Instruction (Flow count))
-
--- cut COUNT
-unfoldable pub cut_line : List (List ℕ) → Result Line What
-cut_line words = do
-  count ← count_alone words
-  Ok (lines.Instruction (Cut count))
+-- deliver K N; again K N; lose K; flow COUNT; cut COUNT
+abbrev pub frame_kinds : List Kind
+frame_kinds =
+    instruction (codes "deliver") (reads frame_and_node (λ way. Deliver way.0 way.1))
+    ∷ instruction (codes "again") (reads frame_and_node (λ way. Again way.0 way.1))
+    ∷ instruction (codes "lose") (reads (λ plan. frame_alone) Lose)
+    ∷ instruction (codes "flow") (reads (λ plan. count_alone) Flow)
+    ∷ instruction (codes "cut") (reads (λ plan. count_alone) Cut)
+    ∷ []

@@ -1,5 +1,5 @@
 -- Lines that speak of mail. Own profile.
-use Rattle.std.specs.Prelude.{ℕ, List, ◌∷◌, Option, Result, Ok, Err}
+use Rattle.std.specs.Prelude.{ℕ, List, [], ◌∷◌, Option, Result, Ok, Err, codes}
 use Rattle.ax_address.specs.Results.{◌>>=◌}
 use Rattle.ax_address.specs.Callsign.{Callsign}
 use Rattle.network_file.specs.declared.reasons.What.{What}
@@ -9,6 +9,7 @@ use Rattle.network_file.specs.declared.lines.Line.TheVariants as lines
 use Rattle.network_file.specs.declared.plan.instructions.Instruction.TheVariants.{Post, Mail}
 use Rattle.network_file.specs.Plan.{Plan}
 use Rattle.network_file.specs.Places.{call_at, known, node_at}
+use Rattle.network_file.specs.Lines.Kinds.{Kind, instruction_since, reads}
 use Rattle.network_file.specs.Lines.Nodes.{node_alone}
 use Rattle.text_lines.specs.Words.{after_space, past_word}
 
@@ -36,7 +37,5 @@ post_line plan line (number ∷ to ∷ dest ∷ more) = post_at plan line number
 post_line plan line other = Err whats.Count
 
 -- mail N
-unfoldable pub mail_line : Plan → List (List ℕ) → Result Line What
-mail_line plan words = do
-  n ← node_alone plan words
-  Ok (lines.Instruction (Mail n))
+abbrev pub mail_kinds : List Kind
+mail_kinds = instruction_since 4 (codes "post") post_line ∷ instruction_since 4 (codes "mail") (reads node_alone Mail) ∷ []

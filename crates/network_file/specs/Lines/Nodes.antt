@@ -1,5 +1,5 @@
 -- Lines that speak of a node, or of time. Own profile.
-use Rattle.std.specs.Prelude.{ℕ, List, [], ◌∷◌, Result, Ok, Err}
+use Rattle.std.specs.Prelude.{ℕ, List, [], ◌∷◌, Result, Ok, Err, codes}
 use Rattle.ax_address.specs.Callsign.{Callsign}
 use Rattle.ax_address.specs.Results.{◌>>=◌}
 use Rattle.network_file.specs.declared.reasons.What.{What}
@@ -8,6 +8,8 @@ use Rattle.network_file.specs.declared.lines.Line.{Line}
 use Rattle.network_file.specs.declared.lines.Line.TheVariants as lines
 use Rattle.network_file.specs.declared.plan.instructions.Instruction.TheVariants.{Lock, Round, LinkFail, Show, Tick, Restart}
 use Rattle.network_file.specs.Plan.{Plan}
+use Rattle.network_file.specs.Lines.Heard.{heard_line}
+use Rattle.network_file.specs.Lines.Kinds.{Kind, instruction, instruction_since, reads}
 use Rattle.network_file.specs.Places.{number_at, node_at, call_at, alias_at}
 
 -- lock N DEST ALIAS NEIGHBOUR QUALITY
@@ -28,18 +30,6 @@ abbrev pub node_alone : Plan → List (List ℕ) → Result ℕ What
 node_alone plan (number ∷ []) = node_at plan.declared number
 node_alone plan other = Err whats.Count
 
--- round N
-unfoldable pub round_line : Plan → List (List ℕ) → Result Line What
-round_line plan words = do
-  n ← node_alone plan words
-  Ok (lines.Instruction (Round n))
-
--- show N
-unfoldable pub show_line : Plan → List (List ℕ) → Result Line What
-show_line plan words = do
-  n ← node_alone plan words
-  Ok (lines.Instruction (Show n))
-
 unfoldable pub node_and_call_at : Plan → List ℕ → List ℕ → Result (ℕ × Callsign) What
 node_and_call_at plan number name = do
   n ← node_at plan.declared number
@@ -49,12 +39,6 @@ node_and_call_at plan number name = do
 abbrev pub node_and_call : Plan → List (List ℕ) → Result (ℕ × Callsign) What
 node_and_call plan (number ∷ name ∷ []) = node_and_call_at plan number name
 node_and_call plan other = Err whats.Count
-
--- linkfail N CALL
-unfoldable pub linkfail_line : Plan → List (List ℕ) → Result Line What
-linkfail_line plan words = do
-  link ← node_and_call plan words
-  Ok (lines.Instruction (LinkFail link.0 link.1))
 
 -- tick MS: at most a day
 unfoldable pub tick_at : List ℕ → Result Line What
@@ -77,3 +61,15 @@ restart_at plan number index ident = do
 abbrev pub restart_line : Plan → List (List ℕ) → Result Line What
 restart_line plan (number ∷ index ∷ ident ∷ []) = restart_at plan number index ident
 restart_line plan other = Err whats.Count
+
+-- heard; lock; round N; linkfail N CALL; show N; tick; restart
+abbrev pub node_kinds : List Kind
+node_kinds =
+    instruction (codes "heard") (λ plan line. heard_line plan)
+    ∷ instruction (codes "lock") (λ plan line. lock_line plan)
+    ∷ instruction (codes "round") (reads node_alone Round)
+    ∷ instruction (codes "linkfail") (reads node_and_call (λ link. LinkFail link.0 link.1))
+    ∷ instruction (codes "show") (reads node_alone Show)
+    ∷ instruction (codes "tick") (λ plan line. tick_line)
+    ∷ instruction_since 2 (codes "restart") (λ plan line. restart_line plan)
+    ∷ []

@@ -1,9 +1,14 @@
 //! Lines that speak of circuits and their ends: `open`, `say`, `burst`, `take`, `close`.
 ghost use Rattle.std.specs.Prelude.{◌≡◌, IfOk, MatchOption, None, Some};
+ghost use Rattle.network_file.specs.declared.plan.instructions.Instruction.TheVariants as instructions;
+ghost use Rattle.network_file.specs.Lines.{from_circuits};
 ghost use Rattle.network_file.specs.Lines.Circuits as lines;
+ghost use Rattle.network_file.specs.Lines.Kinds.{as_line, line_by};
+ghost use Rattle.network_file.specs.Lines.Nodes.{node_and_call};
 ghost use Rattle.text_lines.specs.Words.{texts};
 
 use crate::lines::Line;
+use crate::lines::mails::mail_kind;
 use crate::lines::nodes::node_and_call;
 use crate::network::Network;
 use crate::places::{node, nth, text_count};
@@ -13,10 +18,34 @@ use crate::reasons::What;
 use std::alloc::{AllocError, Global};
 use text_lines::{after_space, past_word};
 
+/// The line of a kind that speaks of circuits, or else of mail.
+pub fn circuit_kind(
+    alloc: Global,
+    before: &Network,
+    line: &[u8],
+    word: &[u8],
+    words: &[&[u8]],
+) -> Result<Result<Line, What>, AllocError>
+    ensures { IfOk result (λ said. said ≡ line_by from_circuits before.now line.now word.now (texts words.now)) }
+{
+    if word == b"open".as_slice() {
+        Ok(open_line(before, words))
+    } else if word == b"say".as_slice() {
+        say_line(alloc, before, line, words)
+    } else if word == b"burst".as_slice() {
+        Ok(burst_line(before, words))
+    } else if word == b"take".as_slice() {
+        Ok(take_line(before, words))
+    } else if word == b"close".as_slice() {
+        Ok(close_line(before, words))
+    } else {
+        mail_kind(alloc, before, line, word, words)
+    }
+}
+
 /// `open N DEST`
-#[tactic(auto, unfolding(crate::specs::Lines::Circuits::open_line))]
-pub fn open_line(before: &Network, words: &[&[u8]]) -> Result<Line, What>
-    ensures { result ≡ lines.open_line before.now (texts words.now) }
+fn open_line(before: &Network, words: &[&[u8]]) -> Result<Line, What>
+    ensures { result ≡ as_line (node_and_call before.now (texts words.now)) (λ way. instructions.Open way.0 way.1) }
 {
     let (node, dest) = node_and_call(before, words)?;
     Ok(Line::Instruction(Instruction::Open { node, dest }))
@@ -33,7 +62,7 @@ fn end_of(before: &Network, number: &[u8], end: &[u8]) -> Result<(u8, u32), What
 }
 
 /// `say N X TEXT`: TEXT may be empty, and hold spaces
-pub fn say_line(
+fn say_line(
     alloc: Global,
     before: &Network,
     line: &[u8],
@@ -78,7 +107,7 @@ fn said_text(line: &[u8]) -> Option<&[u8]>
 }
 
 /// `burst N X COUNT`
-pub fn burst_line(before: &Network, words: &[&[u8]]) -> Result<Line, What>
+fn burst_line(before: &Network, words: &[&[u8]]) -> Result<Line, What>
     ensures { result ≡ lines.burst_line before.now (texts words.now) }
 {
     match words {
@@ -107,18 +136,16 @@ fn end_alone(before: &Network, words: &[&[u8]]) -> Result<(u8, u32), What>
 }
 
 /// `take N X`
-#[tactic(auto, unfolding(crate::specs::Lines::Circuits::take_line))]
-pub fn take_line(before: &Network, words: &[&[u8]]) -> Result<Line, What>
-    ensures { result ≡ lines.take_line before.now (texts words.now) }
+fn take_line(before: &Network, words: &[&[u8]]) -> Result<Line, What>
+    ensures { result ≡ as_line (lines.end_alone before.now (texts words.now)) (λ e. instructions.Take e.0 e.1) }
 {
     let (node, end) = end_alone(before, words)?;
     Ok(Line::Instruction(Instruction::Take { node, end }))
 }
 
 /// `close N X`
-#[tactic(auto, unfolding(crate::specs::Lines::Circuits::close_line))]
-pub fn close_line(before: &Network, words: &[&[u8]]) -> Result<Line, What>
-    ensures { result ≡ lines.close_line before.now (texts words.now) }
+fn close_line(before: &Network, words: &[&[u8]]) -> Result<Line, What>
+    ensures { result ≡ as_line (lines.end_alone before.now (texts words.now)) (λ e. instructions.Close e.0 e.1) }
 {
     let (node, end) = end_alone(before, words)?;
     Ok(Line::Instruction(Instruction::Close { node, end }))

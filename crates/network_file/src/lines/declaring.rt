@@ -1,11 +1,14 @@
 //! Lines that declare: `version`, `node`, `set`, `channel`, `via`.
-ghost use Rattle.std.specs.Prelude.{◌≡◌, ◌≤◌, ◌+◌, ◌++◌, List, [], length, Ok, Err, IsTrue, MatchResult};
+ghost use Rattle.std.specs.Prelude.{◌≡◌, ◌≤◌, ◌+◌, ◌++◌, List, [], length, Ok, Err, IfOk, IsTrue, MatchResult};
 ghost use Rattle.ax_address.specs.Callsign.{Callsign};
 ghost use Rattle.text_lines.specs.Words.{texts};
+ghost use Rattle.network_file.specs.Lines.{all_kinds};
 ghost use Rattle.network_file.specs.Lines.Declaring as lines;
+ghost use Rattle.network_file.specs.Lines.Kinds as kinds;
 
 use crate::limits::{MAX_NODES, MAX_VIA_REPEATERS};
 use crate::lines::Line;
+use crate::lines::nodes::node_kind;
 use crate::network::Network;
 use crate::places::{alias, call, needs, new_call, new_node, new_peer, node, value};
 use crate::plan::channels::{Channel, has_member};
@@ -16,9 +19,42 @@ use crate::plan::vias::Via;
 use crate::reasons::What;
 use arrayvec::ArrayVec;
 use ax_address::Call;
+use std::alloc::{AllocError, Global};
+
+/// The line of a kind that declares, or else of one that doesn't.
+pub fn declaring_kind(
+    alloc: Global,
+    before: &Network,
+    line: &[u8],
+    word: &[u8],
+    words: &[&[u8]],
+) -> Result<Result<Line, What>, AllocError>
+    ensures { IfOk result (λ said. said ≡ kinds.line_by all_kinds before.now line.now word.now (texts words.now)) }
+{
+    if word == b"version".as_slice() {
+        Ok(in_time(before.is_untouched(), version_line(words)))
+    } else if word == b"node".as_slice() {
+        Ok(in_time(before.may_declare(), node_line(before, words)))
+    } else if word == b"channel".as_slice() {
+        Ok(in_time(before.may_declare(), channel_line(before, words)))
+    } else if word == b"set".as_slice() {
+        Ok(in_time(before.may_declare(), set_line(before, words)))
+    } else if word == b"via".as_slice() {
+        Ok(in_time(before.may_declare(), via_line(before, words)))
+    } else {
+        node_kind(alloc, before, line, word, words)
+    }
+}
+
+/// What a declaring line says, unless it comes too late.
+fn in_time(is_in_time: bool, said: Result<Line, What>) -> Result<Line, What>
+    ensures { result ≡ kinds.in_time is_in_time said }
+{
+    if is_in_time { said } else { Err(What::Late) }
+}
 
 /// `version V`
-pub fn version_line(words: &[&[u8]]) -> Result<Line, What>
+fn version_line(words: &[&[u8]]) -> Result<Line, What>
     ensures { result ≡ lines.version_line (texts words.now) }
 {
     match words {
@@ -36,7 +72,7 @@ fn version(word: &[u8]) -> Result<Line, What>
 }
 
 /// `node N CALL ALIAS`
-pub fn node_line(before: &Network, words: &[&[u8]]) -> Result<Line, What>
+fn node_line(before: &Network, words: &[&[u8]]) -> Result<Line, What>
     ensures { result ≡ lines.node_line before.now (texts words.now) }
 {
     match words {
@@ -56,7 +92,7 @@ fn declaration(before: &Network, number: &[u8], name: &[u8], nick: &[u8]) -> Res
 }
 
 /// `set N KEY VALUE`
-pub fn set_line(before: &Network, words: &[&[u8]]) -> Result<Line, What>
+fn set_line(before: &Network, words: &[&[u8]]) -> Result<Line, What>
     ensures { result ≡ lines.set_line before.now (texts words.now) }
 {
     match words {
@@ -81,7 +117,7 @@ fn setting(before: &Network, number: &[u8], key: &[u8], word: &[u8]) -> Result<L
 
 /// `channel N N`, and up to fourteen more
 #[tactic(auto, unfolding(crate::specs::Lines::Declaring::channel_line))]
-pub fn channel_line(before: &Network, words: &[&[u8]]) -> Result<Line, What>
+fn channel_line(before: &Network, words: &[&[u8]]) -> Result<Line, What>
     ensures { result ≡ lines.channel_line before.now (texts words.now) }
 {
     needs(are_members(words), What::Count)?;
@@ -129,7 +165,7 @@ fn add_members(
 }
 
 /// `via N CALL REPEATER`, or with a second REPEATER
-pub fn via_line(before: &Network, words: &[&[u8]]) -> Result<Line, What>
+fn via_line(before: &Network, words: &[&[u8]]) -> Result<Line, What>
     ensures { result ≡ lines.via_line before.now (texts words.now) }
 {
     match words {

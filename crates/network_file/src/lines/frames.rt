@@ -1,6 +1,8 @@
 //! Lines that move frames: `deliver`, `again`, `lose`, `flow`, `cut`.
-ghost use Rattle.std.specs.Prelude.{◌≡◌};
+ghost use Rattle.std.specs.Prelude.{◌≡◌, []};
+ghost use Rattle.network_file.specs.declared.plan.instructions.Instruction.TheVariants as instructions;
 ghost use Rattle.network_file.specs.Lines.Frames as lines;
+ghost use Rattle.network_file.specs.Lines.Kinds.{as_line, line_by};
 ghost use Rattle.text_lines.specs.Words.{texts};
 
 use crate::lines::Line;
@@ -8,6 +10,25 @@ use crate::network::Network;
 use crate::places::{frame_count, node, nth};
 use crate::plan::instructions::Instruction;
 use crate::reasons::What;
+
+/// The line of a kind that speaks of frames in the air. None is read from the line itself, so that an empty one stands for it.
+pub fn frame_kind(before: &Network, word: &[u8], words: &[&[u8]]) -> Result<Line, What>
+    ensures { result ≡ line_by lines.frame_kinds before.now [] word.now (texts words.now) }
+{
+    if word == b"deliver".as_slice() {
+        deliver_line(before, words)
+    } else if word == b"again".as_slice() {
+        again_line(before, words)
+    } else if word == b"lose".as_slice() {
+        lose_line(words)
+    } else if word == b"flow".as_slice() {
+        flow_line(words)
+    } else if word == b"cut".as_slice() {
+        cut_line(words)
+    } else {
+        Err(What::Word)
+    }
+}
 
 /// The number of a frame, and nothing else.
 fn frame_alone(words: &[&[u8]]) -> Result<u32, What>
@@ -49,45 +70,40 @@ fn frame_and_node_of(before: &Network, word: &[u8], number: &[u8]) -> Result<(u3
 }
 
 /// `deliver K N`
-#[tactic(auto, unfolding(crate::specs::Lines::Frames::deliver_line))]
-pub fn deliver_line(before: &Network, words: &[&[u8]]) -> Result<Line, What>
-    ensures { result ≡ lines.deliver_line before.now (texts words.now) }
+fn deliver_line(before: &Network, words: &[&[u8]]) -> Result<Line, What>
+    ensures { result ≡ as_line (lines.frame_and_node before.now (texts words.now)) (λ way. instructions.Deliver way.0 way.1) }
 {
     let (frame, node) = frame_and_node(before, words)?;
     Ok(Line::Instruction(Instruction::Deliver { frame, node }))
 }
 
 /// `again K N`
-#[tactic(auto, unfolding(crate::specs::Lines::Frames::again_line))]
-pub fn again_line(before: &Network, words: &[&[u8]]) -> Result<Line, What>
-    ensures { result ≡ lines.again_line before.now (texts words.now) }
+fn again_line(before: &Network, words: &[&[u8]]) -> Result<Line, What>
+    ensures { result ≡ as_line (lines.frame_and_node before.now (texts words.now)) (λ way. instructions.Again way.0 way.1) }
 {
     let (frame, node) = frame_and_node(before, words)?;
     Ok(Line::Instruction(Instruction::Again { frame, node }))
 }
 
 /// `lose K`
-#[tactic(auto, unfolding(crate::specs::Lines::Frames::lose_line))]
-pub fn lose_line(words: &[&[u8]]) -> Result<Line, What>
-    ensures { result ≡ lines.lose_line (texts words.now) }
+fn lose_line(words: &[&[u8]]) -> Result<Line, What>
+    ensures { result ≡ as_line (lines.frame_alone (texts words.now)) instructions.Lose }
 {
     let frame = frame_alone(words)?;
     Ok(Line::Instruction(Instruction::Lose { frame }))
 }
 
 /// `flow COUNT`
-#[tactic(auto, unfolding(crate::specs::Lines::Frames::flow_line))]
-pub fn flow_line(words: &[&[u8]]) -> Result<Line, What>
-    ensures { result ≡ lines.flow_line (texts words.now) }
+fn flow_line(words: &[&[u8]]) -> Result<Line, What>
+    ensures { result ≡ as_line (lines.count_alone (texts words.now)) instructions.Flow }
 {
     let count = count_alone(words)?;
     Ok(Line::Instruction(Instruction::Flow { count }))
 }
 
 /// `cut COUNT`
-#[tactic(auto, unfolding(crate::specs::Lines::Frames::cut_line))]
-pub fn cut_line(words: &[&[u8]]) -> Result<Line, What>
-    ensures { result ≡ lines.cut_line (texts words.now) }
+fn cut_line(words: &[&[u8]]) -> Result<Line, What>
+    ensures { result ≡ as_line (lines.count_alone (texts words.now)) instructions.Cut }
 {
     let count = count_alone(words)?;
     Ok(Line::Instruction(Instruction::Cut { count }))

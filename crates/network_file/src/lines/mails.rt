@@ -1,9 +1,14 @@
 //! Lines that speak of mail: `post`, `mail`.
 ghost use Rattle.std.specs.Prelude.{◌≡◌, IfOk, MatchOption, None, Some};
+ghost use Rattle.network_file.specs.declared.plan.instructions.Instruction.TheVariants as instructions;
+ghost use Rattle.network_file.specs.Lines.{from_mails};
+ghost use Rattle.network_file.specs.Lines.Kinds.{as_line, line_by};
 ghost use Rattle.network_file.specs.Lines.Mails as lines;
+ghost use Rattle.network_file.specs.Lines.Nodes.{node_alone};
 ghost use Rattle.text_lines.specs.Words.{texts};
 
 use crate::lines::Line;
+use crate::lines::frames::frame_kind;
 use crate::lines::nodes::node_alone;
 use crate::network::Network;
 use crate::places::{call, node};
@@ -14,8 +19,27 @@ use ax_address::Call;
 use std::alloc::{AllocError, Global};
 use text_lines::{after_space, past_word};
 
+/// The line of a kind that speaks of mail, or else of frames in the air.
+pub fn mail_kind(
+    alloc: Global,
+    before: &Network,
+    line: &[u8],
+    word: &[u8],
+    words: &[&[u8]],
+) -> Result<Result<Line, What>, AllocError>
+    ensures { IfOk result (λ said. said ≡ line_by from_mails before.now line.now word.now (texts words.now)) }
+{
+    if before.version() >= 4 && word == b"post".as_slice() {
+        post_line(alloc, before, line, words)
+    } else if before.version() >= 4 && word == b"mail".as_slice() {
+        Ok(mail_line(before, words))
+    } else {
+        Ok(frame_kind(before, word, words))
+    }
+}
+
 /// `post N TO DEST TEXT`
-pub fn post_line(
+fn post_line(
     alloc: Global,
     before: &Network,
     line: &[u8],
@@ -82,9 +106,8 @@ fn node_and_calls(
 }
 
 /// `mail N`
-#[tactic(auto, unfolding(crate::specs::Lines::Mails::mail_line))]
-pub fn mail_line(before: &Network, words: &[&[u8]]) -> Result<Line, What>
-    ensures { result ≡ lines.mail_line before.now (texts words.now) }
+fn mail_line(before: &Network, words: &[&[u8]]) -> Result<Line, What>
+    ensures { result ≡ as_line (node_alone before.now (texts words.now)) instructions.Mail }
 {
     let node = node_alone(before, words)?;
     Ok(Line::Instruction(Instruction::Mail { node }))

@@ -1,18 +1,53 @@
-//! Lines that speak of a node, or of time: `lock`, `round`, `linkfail`, `show`, `tick`, `restart`.
-ghost use Rattle.std.specs.Prelude.{◌≡◌};
+//! Lines that speak of a node, or of time: `heard`, `lock`, `round`, `linkfail`, `show`, `tick`, `restart`.
+ghost use Rattle.std.specs.Prelude.{◌≡◌, IfOk};
+ghost use Rattle.network_file.specs.declared.plan.instructions.Instruction.TheVariants as instructions;
+ghost use Rattle.network_file.specs.Lines.{from_nodes};
+ghost use Rattle.network_file.specs.Lines.Kinds.{as_line, line_by};
 ghost use Rattle.network_file.specs.Lines.Nodes as lines;
 ghost use Rattle.text_lines.specs.Words.{texts};
 
 use crate::lines::Line;
+use crate::lines::circuits::circuit_kind;
+use crate::lines::heard::heard_line;
 use crate::network::Network;
 use crate::places::{alias, call, node, octet, pair_part, time};
 use crate::plan::instructions::Instruction;
 use crate::plan::pairs::FirstPair;
 use crate::reasons::What;
 use ax_address::Call;
+use std::alloc::{AllocError, Global};
+
+/// The line of a kind that speaks of nodes or of time, or else of circuits.
+pub fn node_kind(
+    alloc: Global,
+    before: &Network,
+    line: &[u8],
+    word: &[u8],
+    words: &[&[u8]],
+) -> Result<Result<Line, What>, AllocError>
+    ensures { IfOk result (λ said. said ≡ line_by from_nodes before.now line.now word.now (texts words.now)) }
+{
+    if word == b"heard".as_slice() {
+        heard_line(alloc, before, words)
+    } else if word == b"lock".as_slice() {
+        Ok(lock_line(before, words))
+    } else if word == b"round".as_slice() {
+        Ok(round_line(before, words))
+    } else if word == b"linkfail".as_slice() {
+        Ok(linkfail_line(before, words))
+    } else if word == b"show".as_slice() {
+        Ok(show_line(before, words))
+    } else if word == b"tick".as_slice() {
+        Ok(tick_line(words))
+    } else if before.version() >= 2 && word == b"restart".as_slice() {
+        Ok(restart_line(before, words))
+    } else {
+        circuit_kind(alloc, before, line, word, words)
+    }
+}
 
 /// `lock N DEST ALIAS NEIGHBOUR QUALITY`
-pub fn lock_line(before: &Network, words: &[&[u8]]) -> Result<Line, What>
+fn lock_line(before: &Network, words: &[&[u8]]) -> Result<Line, What>
     ensures { result ≡ lines.lock_line before.now (texts words.now) }
 {
     match words {
@@ -59,18 +94,16 @@ pub fn node_alone(before: &Network, words: &[&[u8]]) -> Result<u8, What>
 }
 
 /// `round N`
-#[tactic(auto, unfolding(crate::specs::Lines::Nodes::round_line))]
-pub fn round_line(before: &Network, words: &[&[u8]]) -> Result<Line, What>
-    ensures { result ≡ lines.round_line before.now (texts words.now) }
+fn round_line(before: &Network, words: &[&[u8]]) -> Result<Line, What>
+    ensures { result ≡ as_line (lines.node_alone before.now (texts words.now)) instructions.Round }
 {
     let node = node_alone(before, words)?;
     Ok(Line::Instruction(Instruction::Round { node }))
 }
 
 /// `show N`
-#[tactic(auto, unfolding(crate::specs::Lines::Nodes::show_line))]
-pub fn show_line(before: &Network, words: &[&[u8]]) -> Result<Line, What>
-    ensures { result ≡ lines.show_line before.now (texts words.now) }
+fn show_line(before: &Network, words: &[&[u8]]) -> Result<Line, What>
+    ensures { result ≡ as_line (lines.node_alone before.now (texts words.now)) instructions.Show }
 {
     let node = node_alone(before, words)?;
     Ok(Line::Instruction(Instruction::Show { node }))
@@ -96,16 +129,15 @@ fn node_and_call_of(before: &Network, number: &[u8], name: &[u8]) -> Result<(u8,
 }
 
 /// `linkfail N CALL`
-#[tactic(auto, unfolding(crate::specs::Lines::Nodes::linkfail_line))]
-pub fn linkfail_line(before: &Network, words: &[&[u8]]) -> Result<Line, What>
-    ensures { result ≡ lines.linkfail_line before.now (texts words.now) }
+fn linkfail_line(before: &Network, words: &[&[u8]]) -> Result<Line, What>
+    ensures { result ≡ as_line (lines.node_and_call before.now (texts words.now)) (λ link. instructions.LinkFail link.0 link.1) }
 {
     let (node, call) = node_and_call(before, words)?;
     Ok(Line::Instruction(Instruction::LinkFail { node, call }))
 }
 
 /// `tick MS`
-pub fn tick_line(words: &[&[u8]]) -> Result<Line, What>
+fn tick_line(words: &[&[u8]]) -> Result<Line, What>
     ensures { result ≡ lines.tick_line (texts words.now) }
 {
     match words {
@@ -123,7 +155,7 @@ fn tick(word: &[u8]) -> Result<Line, What>
 }
 
 /// `restart N INDEX IDENT`
-pub fn restart_line(before: &Network, words: &[&[u8]]) -> Result<Line, What>
+fn restart_line(before: &Network, words: &[&[u8]]) -> Result<Line, What>
     ensures { result ≡ lines.restart_line before.now (texts words.now) }
 {
     match words {
