@@ -11,25 +11,25 @@ use Rattle.net_replay.specs.declared.answer.Answer.TheVariants as answers
 use Rattle.net_replay.specs.declared.reasons.LineRefusal.{LineRefusal}
 use Rattle.net_replay.specs.declared.reasons.ReplayRefusal.{ReplayRefusal}
 use Rattle.net_replay.specs.Events.{Event}
-use Rattle.net_replay.specs.Lines.{refusal_events, told_of, took_of}
+use Rattle.net_replay.specs.Lines.{refusal_events, events_of_act, took_of}
 use Rattle.net_replay.specs.Running.{Course, GoesOn, IsAnswerTo, IsRefusedFor, Runs, Stands, answer_events, message_events, message_in, refusal_in, taken_events}
 use Rattle.net_replay.specs.Starting.{has_number}
-use Rattle.net_replay.specs.World.{Act, World, answer, place_of, put, reach, tell}
+use Rattle.net_replay.specs.World.{Act, World, answer, place_of_node, put, reach, tell}
 use Rattle.net_replay.proofs.Placing.{place_is}
 use Rattle.net_replay.proofs.Runs.{goes_then, runs_as, runs_then}
 
 -- at the place of a number
 pub at_number : (old new : Course) (number at : ℕ) (f : ℕ → World → World) (r : Result (Unit {0}) ReplayRefusal)
-    → at ≡ position_or_len (has_number number) old.left.declared → Runs old new (f at) r → Runs old new (λ w. f (place_of number w.nodes) w) r
+    → at ≡ position_or_len (has_number number) old.left.declared → Runs old new (f at) r → Runs old new (λ w. f (place_of_node number w.nodes) w) r
 at_number old new number at f r e h =
-    runs_as old new (f at) (λ w. f (place_of number w.nodes) w) r (λ w t. ap (λ k. f k w) (place_is old w number at e t)) h
+    runs_as old new (f at) (λ w. f (place_of_node number w.nodes) w) r (λ w t. ap (λ k. f k w) (place_is old w number at e t)) h
 
 -- ---- what is told of an answer
 
-pub told_is : (a : Answer) (r : Result ActDone ActRefusal) → IsAnswerTo a r → told_of r ≡ answer_events a
-told_is answers.Done r h = ap told_of h.1
-told_is (answers.Took message) r h = ap told_of h.1
-told_is (answers.Refused why) r h = ap told_of h.1 ∙ ap refusal_events h.2
+pub told_is : (a : Answer) (r : Result ActDone ActRefusal) → IsAnswerTo a r → events_of_act r ≡ answer_events a
+told_is answers.Done r h = ap events_of_act h.1
+told_is (answers.Took message) r h = ap events_of_act h.1
+told_is (answers.Refused why) r h = ap events_of_act h.1 ∙ ap refusal_events h.2
 
 took_done : (node end : ℕ) (done : ActDone) → took_of node end (Ok done) ≡ message_events node end (message_in done)
 took_done node end actions.Done = refl

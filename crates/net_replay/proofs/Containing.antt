@@ -27,7 +27,7 @@ use Rattle.net_replay.specs.Ends.{ends_of, note_event, note_events, with_offered
 use Rattle.net_replay.specs.Events as events
 use Rattle.net_replay.specs.Events.{Event, NumberedEvent}
 use Rattle.net_replay.specs.Starting.{Placed, config_of, new_nodes}
-use Rattle.net_replay.specs.World.{is_node, numbered, place_of}
+use Rattle.net_replay.specs.World.{is_node, numbered, place_of_node}
 use Rattle.net_replay.proofs.Remembering.{Past, Rising, lift}
 
 -- ---- lists
@@ -91,7 +91,7 @@ names nodes = map (λ p. p.declared) nodes
 abbrev pub is_named : ℕ → Declaration → Bool
 is_named number d = d.node == number
 
-pub place_named : (number : ℕ) (nodes : List Placed) → place_of number nodes ≡ position_or_len (is_named number) (names nodes)
+pub place_named : (number : ℕ) (nodes : List Placed) → place_of_node number nodes ≡ position_or_len (is_named number) (names nodes)
 place_named number [] = refl
 place_named number (p ∷ nodes) = ap (λ n. cond (not (is_node number p)) (1 + n) 0) (place_named number nodes)
 

@@ -44,7 +44,7 @@ use Rattle.net_replay.specs.Hops.{all_borne, node_at}
 use Rattle.net_replay.specs.Lines.{kiss_bytes, restart, settle}
 use Rattle.net_replay.specs.Starting.{Placed, by_number, config_of, is_via_of, new_nodes, path_of, repeater, with_via, with_via_by, with_vias}
 use Rattle.net_replay.specs.World as worlds
-use Rattle.net_replay.specs.World.{Bytes, Input, Time, World, after, aired, aired_as, air_events, all_fetched_of, all_told, numbered, place_of, put, reach, tell}
+use Rattle.net_replay.specs.World.{Bytes, Input, Time, World, after, aired, aired_as, air_events, all_fetched_of, all_told, numbered, place_of_node, put, reach, tell}
 use Rattle.net_replay.proofs.Containing.{AreApart, Contains, IsQuiet, Tracks, TracksAt, comes_contains, events_append, name_at, names, quiet_contains}
 use Rattle.net_replay.proofs.LineWalks.{IsPlain, Moves}
 use Rattle.net_replay.proofs.Looks.{put_of, reaches, restart_of}
@@ -360,7 +360,7 @@ module _ (plan : Plan) (size : ℕ) (apart : AreApart (names (new_nodes plan))) 
       )
 
   restarts_go : (line number : ℕ) (pair : Pair) (w : World) → IsPair pair → Goes w (restart plan line number pair w)
-  restarts_go line number pair w i = restart_by line (place_of number w.nodes) pair w (slice_get w.nodes (place_of number w.nodes)) refl i
+  restarts_go line number pair w i = restart_by line (place_of_node number w.nodes) pair w (slice_get w.nodes (place_of_node number w.nodes)) refl i
 
   -- ---- all moves
 

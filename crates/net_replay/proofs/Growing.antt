@@ -18,10 +18,10 @@ use Rattle.net_replay.specs.declared.air.Aired.{Aired}
 use Rattle.net_replay.specs.Air.{oldest, settled_at}
 use Rattle.net_replay.specs.CircuitRuns.{IsLine}
 use Rattle.net_replay.specs.Events.{Delivered, Event, Wrote}
-use Rattle.net_replay.specs.Lines.{all_wrote, burst_from, cut, deliver_all, deliver_at, do_act, do_line, do_lines, flow, hear, kiss_bytes, lose_at, refusal_events, settle, spread, tick_from, tick_node, told_of}
+use Rattle.net_replay.specs.Lines.{all_wrote, burst_from, cut, deliver_all, deliver_at, do_act, do_line, do_lines, flow, hear, kiss_bytes, lose_at, refusal_events, settle, spread, tick_from, tick_node, events_of_act}
 use Rattle.net_replay.specs.Refused.{of_act}
 use Rattle.net_replay.specs.Starting.{Placed}
-use Rattle.net_replay.specs.World.{Act, Bytes, Input, Time, World, aired, answer, place_of, put, reach, tell}
+use Rattle.net_replay.specs.World.{Act, Bytes, Input, Time, World, aired, answer, place_of_node, put, reach, tell}
 use Rattle.net_replay.proofs.Looks.{burst_by, deliver_of, put_of, reaches, restart_of, spread_of}
 use Rattle.net_replay.proofs.LineWalks.{LineMoves, line_leads}
 use Rattle.net_replay.proofs.MailWalks.{AgentMoves, AnyUser, turns_of}
@@ -58,11 +58,11 @@ reach_put line at input came128 w v same =
 
 hear_grows : (line number : ℕ) (bytes : List ℕ) (modulo128 : Bool) (w : World) → length w.air ≤ length (hear line number bytes modulo128 w).air
 hear_grows line number bytes modulo128 w =
-    reach_put line (place_of number w.nodes) (Bytes bytes) modulo128 w (reach line (place_of number w.nodes) (Bytes bytes) w) refl
+    reach_put line (place_of_node number w.nodes) (Bytes bytes) modulo128 w (reach line (place_of_node number w.nodes) (Bytes bytes) w) refl
 
 act_grows : (line number : ℕ) (act : UserAct) (told : Result ActDone ActRefusal → List Event) (w : World)
     → length w.air ≤ length (do_act line number act told w).air
-act_grows line number act told w = reach_put line (place_of number w.nodes) (Act act) false w _ refl
+act_grows line number act told w = reach_put line (place_of_node number w.nodes) (Act act) false w _ refl
 
 pub tick_node_grows : (line at : ℕ) (w : World) → length w.air ≤ length (tick_node line at w).air
 tick_node_grows line at w = reach_put line at Time false w (reach line at Time w) refl
@@ -181,13 +181,13 @@ growing plan = record {
   broadcasts = λ line at call b w i. reach_grows line at _ w;
   frames = λ line at place f w e. reach_grows line at _ w;
   puts = put_grows;
-  restarts = λ line number pair w i. restart_grows plan line (place_of number w.nodes) pair (slice_get w.nodes (place_of number w.nodes)) w;
+  restarts = λ line number pair w i. restart_grows plan line (place_of_node number w.nodes) pair (slice_get w.nodes (place_of_node number w.nodes)) w;
   settles = λ at w. omega (arith, length-settled_at w.air at);
   later = λ milliseconds w. omega arith;
 }
 
 line_grows : (plan : Plan) (line : ℕ) (instruction : Instruction) (w : World) → Grows w (do_line plan line instruction w)
-line_grows plan line (instructions.Open node dest) w = act_grows line node (acts.Connect dest) told_of w
+line_grows plan line (instructions.Open node dest) w = act_grows line node (acts.Connect dest) events_of_act w
 line_grows plan line other w = line_leads plan AnyUser AnyUser AnyUser AnyPair Grows (growing plan) line other w tt
 
 pub lines_grow : (plan : Plan) (ls : List NumberedInstruction) (w : World) → length w.air ≤ length (do_lines plan ls w).air

@@ -24,7 +24,7 @@ use Rattle.net_replay.specs.Judging.{Heeds, circuit_told}
 use Rattle.net_replay.specs.Reporting.{AreDeclared}
 use Rattle.net_replay.specs.Starting.{Placed, has_number}
 use Rattle.net_replay.specs.Traces.{IsTraceOf, Left}
-use Rattle.net_replay.specs.World.{World, place_of}
+use Rattle.net_replay.specs.World.{World, place_of_node}
 
 -- ---- nothing, and one list behind another
 
@@ -88,12 +88,12 @@ event_told nodes line other = refl
 
 -- ---- what is told at the node of a number
 
-at_same : (number : ℕ) (ps : List Placed) → position_or_len (has_number number) (map (λ p. p.declared) ps) ≡ place_of number ps
+at_same : (number : ℕ) (ps : List Placed) → position_or_len (has_number number) (map (λ p. p.declared) ps) ≡ place_of_node number ps
 at_same number [] = refl
 at_same number (p ∷ ps) = ap (λ k. cond (not (p.declared.node == number)) (1 + k) 0) (at_same number ps)
 
 there : (number : ℕ) (declared : List Declaration) (nodes : List Placed) → AreDeclared declared nodes
-    → position_or_len (has_number number) declared ≡ place_of number nodes
+    → position_or_len (has_number number) declared ≡ place_of_node number nodes
 there number declared nodes e = ap (position_or_len (has_number number)) e ∙ at_same number nodes
 
 one_at : (line at : ℕ) (o : Option Placed) (told : sets.CircuitTold) (own : Callsign) → option_map (λ p. p.declared.call) o ≡ Some own

@@ -22,7 +22,7 @@ use Rattle.net_replay.specs.Circuits.{CircuitEvent, IsVerdictOn, allowance_of, a
 use Rattle.net_replay.specs.Events as events
 use Rattle.net_replay.specs.Events.{Event, NumberedEvent}
 use Rattle.net_replay.specs.Starting.{Placed}
-use Rattle.net_replay.specs.World.{World, place_of}
+use Rattle.net_replay.specs.World.{World, place_of_node}
 use Rattle.net_replay.proofs.Blames.{told_are}
 
 -- ---- lists: what is so of each front, up to the first item with which it isn't
@@ -82,9 +82,9 @@ line_there line at (Some p) t x e =
     let same : record { line = line; event = record { node = at; own = p.declared.call; told = t } } ≡ x = cc e in ap (λ (y : CircuitEvent). y.line) (sym same)
 
 line_of : (nodes : List Placed) (line : ℕ) (e : Event) (x : CircuitEvent) → event_at nodes line e ≡ x ∷ [] → x.line ≡ line
-line_of nodes line (events.Entry node (states.Of_set (Of t))) x e = line_there line (place_of node nodes) (slice_get nodes (place_of node nodes)) t x e
-line_of nodes line (events.Restarted node pair) x e = line_there line (place_of node nodes) (slice_get nodes (place_of node nodes)) (Restarted pair) x e
-line_of nodes line (events.Lost node end facts) x e = line_there line (place_of node nodes) (slice_get nodes (place_of node nodes)) (Lost end facts) x e
+line_of nodes line (events.Entry node (states.Of_set (Of t))) x e = line_there line (place_of_node node nodes) (slice_get nodes (place_of_node node nodes)) t x e
+line_of nodes line (events.Restarted node pair) x e = line_there line (place_of_node node nodes) (slice_get nodes (place_of_node node nodes)) (Restarted pair) x e
+line_of nodes line (events.Lost node end facts) x e = line_there line (place_of_node node nodes) (slice_get nodes (place_of_node node nodes)) (Lost end facts) x e
 line_of nodes line other x e = absurd (cc e)
 
 module _ (plan : Plan) (w : World) (number : ℕ) (cause : Cause) (c : ComesLateBy (allowance_of plan) w.nodes w.told number cause) where

@@ -37,11 +37,11 @@ use Rattle.net_replay.specs.declared.reasons.LineRefusal.{LineRefusal}
 use Rattle.net_replay.specs.Air.{delivery_fault, frame_of, lost_fault, oldest}
 use Rattle.net_replay.specs.Events as events
 use Rattle.net_replay.specs.Events.{Event}
-use Rattle.net_replay.specs.Lines.{all_wrote, burst, burst_from, cut, deliver_all, deliver_at, do_act, do_line, do_lines, flow, hear, kiss_bytes, lose_at, refusal_events, restart, settle, spread, table_of, tick_from, tick_node, told_of, took_of, unless_refused}
+use Rattle.net_replay.specs.Lines.{all_wrote, burst, burst_from, cut, deliver_all, deliver_at, do_act, do_line, do_lines, flow, hear, kiss_bytes, lose_at, refusal_events, restart, settle, spread, table_of, tick_from, tick_node, events_of_act, took_of, unless_refused}
 use Rattle.net_replay.specs.Refused.{of_act}
 use Rattle.net_replay.specs.Starting.{Placed}
 use Rattle.net_replay.specs.World as worlds
-use Rattle.net_replay.specs.World.{Bytes, Input, Time, World, answer, place_of, put, reach, tell}
+use Rattle.net_replay.specs.World.{Bytes, Input, Time, World, answer, place_of_node, put, reach, tell}
 use Rattle.net_replay.specs.Mailing.{ends_here, mail_at, mail_in, unless_agents, with_mail}
 use Rattle.node_mail.specs.Lists.{Lists}
 use Rattle.net_replay.proofs.Containing.{IsQuiet}
@@ -50,7 +50,7 @@ use Rattle.net_replay.proofs.MailWalks.{AnyUser, TurnMoves, mail_goes, post_goes
 
 -- ---- what is told of a line itself tells nothing of circuits
 
-quiet_told : (r : Result ActDone ActRefusal) → AllByRecursion IsQuiet (told_of r)
+quiet_told : (r : Result ActDone ActRefusal) → AllByRecursion IsQuiet (events_of_act r)
 quiet_told (Ok d) = tt
 quiet_told (Err why) = quiet_refusal (of_act why)
 
@@ -225,23 +225,23 @@ module _ (plan : Plan) (Heard_from Locks Users : Callsign → Type 0) (Again : P
   puts = k.puts
 
   -- at an end of an agent that alone is told
-  others_lead : (line node end : ℕ) (first : List Event) (done : World → World) (w : World) → AllByRecursion IsQuiet first → (IsFree (place_of node w.nodes) end w → P w (done w)) → P w (unless_agents line node end first done w)
+  others_lead : (line node end : ℕ) (first : List Event) (done : World → World) (w : World) → AllByRecursion IsQuiet first → (IsFree (place_of_node node w.nodes) end w → P w (done w)) → P w (unless_agents line node end first done w)
   others_lead line node end first done w quiet f =
-      let at : ℕ = place_of node w.nodes in
+      let at : ℕ = place_of_node node w.nodes in
       unless_agents_goes Users P k.turns line node end first done w quiet (λ e. f (free_of (mail_at at w) (facts_at (end_of end (ends_here at w))) e))
 
-  act_leads : (line number : ℕ) (act : UserAct) (told : Result ActDone ActRefusal → List Event) (w : World) → P w (reach line (place_of number w.nodes) (worlds.Act act) w)
+  act_leads : (line number : ℕ) (act : UserAct) (told : Result ActDone ActRefusal → List Event) (w : World) → P w (reach line (place_of_node number w.nodes) (worlds.Act act) w)
       → ((r : Result ActDone ActRefusal) → AllByRecursion IsQuiet (told r)) → P w (do_act line number act told w)
   act_leads line number act told w reached quiet =
-      let at : ℕ = place_of number w.nodes in
+      let at : ℕ = place_of_node number w.nodes in
       let v : World = reach line at (worlds.Act act) w in
       let u : World = tell line (told (answer at act w)) v in
       next w v (put line at false u) reached
       (next v u (put line at false u) (tells line (told (answer at act w)) v (quiet (answer at act w))) (puts line at false u))
 
-  hear_leads : (line number : ℕ) (octets : List ℕ) (came128 : Bool) (w : World) → P w (reach line (place_of number w.nodes) (Bytes octets) w) → P w (hear line number octets came128 w)
+  hear_leads : (line number : ℕ) (octets : List ℕ) (came128 : Bool) (w : World) → P w (reach line (place_of_node number w.nodes) (Bytes octets) w) → P w (hear line number octets came128 w)
   hear_leads line number octets came128 w reached =
-      let at : ℕ = place_of number w.nodes in
+      let at : ℕ = place_of_node number w.nodes in
       let v : World = reach line at (Bytes octets) w in
       next w v (put line at came128 v) reached (puts line at came128 v)
 
@@ -284,7 +284,7 @@ module _ (plan : Plan) (Heard_from Locks Users : Callsign → Type 0) (Again : P
   delivered line at node (Some f) w e =
       let v : World = tell line (events.Delivered (at + 1) node ∷ []) w in
       next w v (hear line node (kiss_bytes f.octets.items) f.modulo128 v) (tells line (events.Delivered (at + 1) node ∷ []) w (tt, tt))
-      (hear_leads line node (kiss_bytes f.octets.items) f.modulo128 v (k.frames line (place_of node v.nodes) at f v e))
+      (hear_leads line node (kiss_bytes f.octets.items) f.modulo128 v (k.frames line (place_of_node node v.nodes) at f v e))
 
   deliver_leads : (line at node : ℕ) (w : World) → P w (deliver_at line at node w)
   unfolding deliver_at
@@ -340,24 +340,24 @@ module _ (plan : Plan) (Heard_from Locks Users : Callsign → Type 0) (Again : P
   shows line (Some p) w = tells line (events.Shown (table_of p) ∷ []) w (tt, tt)
 
   pub line_leads : (line : ℕ) (i : Instruction) (w : World) → LineMay Heard_from Locks Users Again i → P w (do_line plan line i w)
-  line_leads line (instructions.Heard node call nodes) w i = hear_leads line node (kiss_bytes (broadcast_octets call (view nodes))) false w (k.broadcasts line (place_of node w.nodes) call (view nodes) w i)
-  line_leads line (instructions.Lock node dest alias neighbour quality) w i = act_leads line node (acts.Lock dest alias neighbour quality) told_of w (k.locks line (place_of node w.nodes) dest alias neighbour quality w i) quiet_told
-  line_leads line (instructions.Round node) w i = act_leads line node acts.Round told_of w (k.does line (place_of node w.nodes) acts.Round w tt) quiet_told
-  line_leads line (instructions.LinkFail node call) w i = act_leads line node (acts.LinkFail call) told_of w (k.does line (place_of node w.nodes) (acts.LinkFail call) w tt) quiet_told
+  line_leads line (instructions.Heard node call nodes) w i = hear_leads line node (kiss_bytes (broadcast_octets call (view nodes))) false w (k.broadcasts line (place_of_node node w.nodes) call (view nodes) w i)
+  line_leads line (instructions.Lock node dest alias neighbour quality) w i = act_leads line node (acts.Lock dest alias neighbour quality) events_of_act w (k.locks line (place_of_node node w.nodes) dest alias neighbour quality w i) quiet_told
+  line_leads line (instructions.Round node) w i = act_leads line node acts.Round events_of_act w (k.does line (place_of_node node w.nodes) acts.Round w tt) quiet_told
+  line_leads line (instructions.LinkFail node call) w i = act_leads line node (acts.LinkFail call) events_of_act w (k.does line (place_of_node node w.nodes) (acts.LinkFail call) w tt) quiet_told
   line_leads line (instructions.Show node) w i =
-      shows line (slice_get w.nodes (place_of node w.nodes)) w
+      shows line (slice_get w.nodes (place_of_node node w.nodes)) w
   line_leads line (instructions.Tick milliseconds) w i = (let v : World = record w { now = w.now + milliseconds } in next w v _ (k.later milliseconds w) (ticks_lead line (length w.nodes) 0 v))
   line_leads line (instructions.Restart node pair) w i = k.restarts line node (record { index = pair.index; ident = pair.ident }) w i
-  line_leads line (instructions.Open node dest) w i = act_leads line node (acts.Connect dest) told_of w (k.connects line (place_of node w.nodes) dest w i) quiet_told
+  line_leads line (instructions.Open node dest) w i = act_leads line node (acts.Connect dest) events_of_act w (k.connects line (place_of_node node w.nodes) dest w i) quiet_told
   line_leads line (instructions.Say node end text) w i =
-      others_lead line node end [] (do_act line node (acts.Write end text) told_of) w tt
-      (λ free. act_leads line node (acts.Write end text) told_of w (k.writes line (place_of node w.nodes) end text w free) quiet_told)
+      others_lead line node end [] (do_act line node (acts.Write end text) events_of_act) w tt
+      (λ free. act_leads line node (acts.Write end text) events_of_act w (k.writes line (place_of_node node w.nodes) end text w free) quiet_told)
   line_leads line (instructions.Burst node end count) w i =
-      others_lead line node end (events.Wrote node end 0 ∷ []) (burst line node end count) w (tt, tt) (burst_leads line count (place_of node w.nodes) node end 1 w)
+      others_lead line node end (events.Wrote node end 0 ∷ []) (burst line node end count) w (tt, tt) (burst_leads line count (place_of_node node w.nodes) node end 1 w)
   line_leads line (instructions.Take node end) w i =
       others_lead line node end [] (do_act line node (acts.Take end) (took_of node end)) w tt
-      (λ free. act_leads line node (acts.Take end) (took_of node end) w (k.does line (place_of node w.nodes) (acts.Take end) w tt) (quiet_took node end))
-  line_leads line (instructions.Close node end) w i = act_leads line node (acts.Close end) told_of w (k.does line (place_of node w.nodes) (acts.Close end) w tt) quiet_told
+      (λ free. act_leads line node (acts.Take end) (took_of node end) w (k.does line (place_of_node node w.nodes) (acts.Take end) w tt) (quiet_took node end))
+  line_leads line (instructions.Close node end) w i = act_leads line node (acts.Close end) events_of_act w (k.does line (place_of_node node w.nodes) (acts.Close end) w tt) quiet_told
   line_leads line (instructions.Post node to dest text) w i = post_goes Users P k.turns line node to dest text w i
   line_leads line (instructions.Mail node) w i = mail_goes Users P k.turns line node w
   line_leads line (instructions.Deliver frame node) w i =

@@ -39,7 +39,7 @@ use Rattle.net_replay.specs.Lines.{restart}
 use Rattle.net_replay.specs.Mailing.{mail_at, mail_in, with_mail}
 use Rattle.net_replay.specs.Starting.{Placed, by_number, config_of, is_via_of, new_nodes, new_placed, path_of, started, with_via, with_via_by, with_vias}
 use Rattle.net_replay.specs.World as worlds
-use Rattle.net_replay.specs.World.{Bytes, Input, Time, World, after, all_fetched_of, all_told, place_of, put, reach, tell, tells_entries}
+use Rattle.net_replay.specs.World.{Bytes, Input, Time, World, after, all_fetched_of, all_told, place_of_node, put, reach, tell, tells_entries}
 use Rattle.net_replay.proofs.Containing.{AreApart, Contains, IsQuiet, name_at, names, quiet_contains}
 use Rattle.net_replay.proofs.Hopping.{same_is}
 use Rattle.net_replay.proofs.LineWalks.{IsFree, IsMute, write_refused}
@@ -379,4 +379,4 @@ module _ (plan : Plan) (apart : AreApart (names (new_nodes plan))) (are_steps : 
       )
 
   pub restarts : (line number : ℕ) (pair : Pair) (w : World) → IsPair pair → Mails w (restart plan line number pair w)
-  restarts line number pair w i = restart_case line (place_of number w.nodes) pair w (slice_get w.nodes (place_of number w.nodes)) refl i
+  restarts line number pair w i = restart_case line (place_of_node number w.nodes) pair w (slice_get w.nodes (place_of_node number w.nodes)) refl i

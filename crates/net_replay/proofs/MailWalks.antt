@@ -24,7 +24,7 @@ use Rattle.net_replay.specs.Mailing.{Agent, dest_of, ends_here, heard_by, heard_
 use Rattle.net_replay.specs.Refused.{of_post, refusal_events}
 use Rattle.net_replay.specs.Starting.{Placed}
 use Rattle.net_replay.specs.World as worlds
-use Rattle.net_replay.specs.World.{Input, World, answer, place_of, put, reach, tell}
+use Rattle.net_replay.specs.World.{Input, World, answer, place_of_node, put, reach, tell}
 use Rattle.net_replay.proofs.Containing.{IsQuiet}
 use Rattle.net_replay.proofs.Looks.{offer_where, put_of, reaches}
 
@@ -255,7 +255,7 @@ module _ (Users : Callsign → Type 0) (P : World → World → Type 0) (k : Tur
   -- ---- the lines
 
   pub mail_goes : (line node : ℕ) (w : World) → P w (mail line node w)
-  mail_goes line node w = let at : ℕ = place_of node w.nodes in turn_goes line node at (is_some (mail_at at w)) w
+  mail_goes line node w = let at : ℕ = place_of_node node w.nodes in turn_goes line node at (is_some (mail_at at w)) w
 
   posted : (line node at : ℕ) (to dest : Callsign) (text : List ℕ) (m : Option Lists) (w : World) → mail_at at w ≡ m → Users to → P w (post_by line node at to dest text m w)
   posted line node at to dest text None w e u = k.tells line (events.Refused NoMail ∷ []) w (tt, tt)
@@ -265,7 +265,7 @@ module _ (Users : Callsign → Type 0) (P : World → World → Type 0) (k : Tur
       k.follows w v (tell line told v) (k.posts at to dest text s w e u) (k.tells line told v (quiet_posted node (post_at s dest text)))
 
   pub post_goes : (line node : ℕ) (to dest : Callsign) (text : List ℕ) (w : World) → Users to → P w (post line node to dest text w)
-  post_goes line node to dest text w u = let at : ℕ = place_of node w.nodes in posted line node at to dest text (mail_at at w) w refl u
+  post_goes line node to dest text w u = let at : ℕ = place_of_node node w.nodes in posted line node at to dest text (mail_at at w) w refl u
 
   -- at an end of an agent that alone is told
   kept : (b : Bool) (line : ℕ) (first : List Event) (done w : World) → AllByRecursion IsQuiet first → (b ≡ false → P w done) → P w (cond b (tell line (first ++ events.Refused Served ∷ []) w) done)

@@ -20,7 +20,7 @@ use Rattle.net_replay.specs.Events.{Event, NumberedEvent}
 use Rattle.net_replay.specs.Lines.{losses_of, restart}
 use Rattle.net_replay.specs.Starting.{Placed, new_nodes}
 use Rattle.net_replay.specs.World as worlds
-use Rattle.net_replay.specs.World.{Bytes, Input, Time, World, after, aired, air_events, all_fetched_of, all_told, numbered, place_of, put, puts, reach, tell, tells_entries}
+use Rattle.net_replay.specs.World.{Bytes, Input, Time, World, after, aired, air_events, all_fetched_of, all_told, numbered, place_of_node, put, puts, reach, tell, tells_entries}
 use Rattle.net_replay.proofs.Containing.{AreApart, Comes, Contains, IsQuiet, Tracks, TracksAt, comes_contains, events_by, name_at, names, note_append, place_is, quiet_contains, quiet_events, quiet_notes}
 use Rattle.net_replay.proofs.Looks.{put_of, reaches, restart_of}
 use Rattle.net_replay.proofs.Remembering.{Lifts, Rising, lift, losses_lift, rising_le, runs_lift}
@@ -192,4 +192,4 @@ module _ (plan : Plan) (apart : AreApart (names (new_nodes plan))) (are_steps : 
   restart_case line at pair w (Some p) e i steps c = (steps_at at (sets.Restart pair 0 ∷ []), restart_contains line at pair w p e i steps c)
 
   pub restart_leads : (line number : ℕ) (pair : Pair) (w : World) → IsPair pair → Leads w (restart plan line number pair w)
-  restart_leads line number pair w i = restart_case line (place_of number w.nodes) pair w (slice_get w.nodes (place_of number w.nodes)) refl i
+  restart_leads line number pair w i = restart_case line (place_of_node number w.nodes) pair w (slice_get w.nodes (place_of_node number w.nodes)) refl i

@@ -27,7 +27,7 @@ use Rattle.net_replay.specs.Ends.{ends_of}
 use Rattle.net_replay.specs.Lines.{do_lines}
 use Rattle.net_replay.specs.Starting.{Placed, by_number, config_of, is_via_of, new_nodes, new_placed, path_of, started, with_via, with_via_by, with_vias}
 use Rattle.net_replay.specs.World as worlds
-use Rattle.net_replay.specs.World.{Input, Time, World, after, all_fetched_of, all_told, place_of, put, reach, start}
+use Rattle.net_replay.specs.World.{Input, Time, World, after, all_fetched_of, all_told, place_of_node, put, reach, start}
 use Rattle.net_replay.proofs.LineWalks.{IsPlain, LineIs, Moves, lines_lead}
 use Rattle.net_replay.proofs.Lists.{both, every, front, one_of, put_each}
 use Rattle.net_replay.proofs.Looks.{put_of, reaches, restart_of}
@@ -200,7 +200,7 @@ module _ (entries : FetchesAllEntries) (sent : FetchesAllFrames) where
     frames = λ line at place f w e. reach_led line at _ w tt;
     puts = sent_led;
     mails = λ at s w l. l;
-    restarts = λ line number pair w i. restart_case plan line (place_of number w.nodes) pair w (slice_get w.nodes (place_of number w.nodes)) refl;
+    restarts = λ line number pair w i. restart_case plan line (place_of_node number w.nodes) pair w (slice_get w.nodes (place_of_node number w.nodes)) refl;
     settles = λ at w l. l;
     later = λ milliseconds w l. l;
   }

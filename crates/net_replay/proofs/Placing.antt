@@ -12,7 +12,7 @@ use Rattle.node_turns.specs.States.{NodeState}
 use Rattle.net_replay.specs.Running.{Course, Stands, change, entries_at, frames_at}
 use Rattle.net_replay.specs.Starting.{Placed, has_number}
 use Rattle.net_replay.specs.Traces.{StandFor}
-use Rattle.net_replay.specs.World.{World, place_of}
+use Rattle.net_replay.specs.World.{World, place_of_node}
 use Rattle.net_replay.proofs.Looks.{change_of}
 
 abbrev pub declared_of : Placed → Declaration
@@ -20,11 +20,11 @@ declared_of p = p.declared
 
 -- ---- the place of a number
 
-place_in : (number : ℕ) (ps : List Placed) → position_or_len (has_number number) (map declared_of ps) ≡ place_of number ps
+place_in : (number : ℕ) (ps : List Placed) → position_or_len (has_number number) (map declared_of ps) ≡ place_of_node number ps
 place_in number [] = refl
 place_in number (p ∷ ps) = ap (λ k. cond (not (p.declared.node == number)) (1 + k) 0) (place_in number ps)
 
-pub place_is : (c : Course) (w : World) (number at : ℕ) → at ≡ position_or_len (has_number number) c.left.declared → Stands c w → at ≡ place_of number w.nodes
+pub place_is : (c : Course) (w : World) (number at : ℕ) → at ≡ position_or_len (has_number number) c.left.declared → Stands c w → at ≡ place_of_node number w.nodes
 place_is c w number at e t = e ∙ (ap (position_or_len (has_number number)) t.trace.declared ∙ place_in number w.nodes)
 
 -- ---- the node at a place

@@ -13,7 +13,7 @@ use Rattle.network_file.specs.Plan.{Plan, version_of}
 use Rattle.node_turns.specs.States as states
 use Rattle.net_replay.specs.Events.{Event, Entry, Lost, NumberedEvent, Restarted}
 use Rattle.net_replay.specs.Starting.{Placed}
-use Rattle.net_replay.specs.World.{World, place_of}
+use Rattle.net_replay.specs.World.{World, place_of_node}
 
 -- what was told at a node's circuits, with the number of the line
 pub record CircuitEvent : Type 0 where
@@ -26,7 +26,7 @@ at_node line at None told = []
 at_node line at (Some p) told = record { line = line; event = record { node = at; own = p.declared.call; told = told } } ∷ []
 
 abbrev pub told_at : List Placed → ℕ → ℕ → sets.CircuitTold → List CircuitEvent
-told_at nodes line number told = at_node line (place_of number nodes) (slice_get nodes (place_of number nodes)) told
+told_at nodes line number told = at_node line (place_of_node number nodes) (slice_get nodes (place_of_node number nodes)) told
 
 -- that a datagram came to nothing, that a neighbour was lost, and what isn't told of circuits at all, is none of it
 abbrev pub event_at : List Placed → ℕ → Event → List CircuitEvent

@@ -24,7 +24,7 @@ use Rattle.net_replay.specs.Events as events
 use Rattle.net_replay.specs.Events.{Event}
 use Rattle.net_replay.specs.Refused.{of_post, refusal_events}
 use Rattle.net_replay.specs.Starting.{Placed}
-use Rattle.net_replay.specs.World.{Act, World, answer, place_of, put, reach, tell, with_found}
+use Rattle.net_replay.specs.World.{Act, World, answer, place_of_node, put, reach, tell, with_found}
 
 -- ---- what a node keeps
 
@@ -45,7 +45,7 @@ ends_here at w = unwrap_or (option_map (λ (p : Placed). p.state.station.set.set
 -- ---- all ends of a node that keeps mail are its agent's: others don't write or take there
 
 abbrev pub is_agents : ℕ → ℕ → World → Bool
-is_agents node end w = let at : ℕ = place_of node w.nodes in is_some (mail_at at w) && is_some (facts_at (end_of end (ends_here at w)))
+is_agents node end w = let at : ℕ = place_of_node node w.nodes in is_some (mail_at at w) && is_some (facts_at (end_of end (ends_here at w)))
 
 -- these are told first
 abbrev pub unless_agents : ℕ → ℕ → ℕ → List Event → (World → World) → World → World
@@ -63,7 +63,7 @@ post_by line node at to dest text (Some s) w = tell line (posted_events node (po
 
 -- post N TO DEST TEXT: no node hears of it
 abbrev pub post : ℕ → ℕ → Callsign → Callsign → List ℕ → World → World
-post line node to dest text w = let at : ℕ = place_of node w.nodes in post_by line node at to dest text (mail_at at w) w
+post line node to dest text w = let at : ℕ = place_of_node node w.nodes in post_by line node at to dest text (mail_at at w) w
 
 -- ---- a turn of the agent: the network, and what the line answers behind its last input
 
@@ -194,4 +194,4 @@ module _ (line node at : ℕ) where
 
 -- mail N
 abbrev pub mail : ℕ → ℕ → World → World
-mail line node w = let at : ℕ = place_of node w.nodes in turn_by line node at (is_some (mail_at at w)) w
+mail line node w = let at : ℕ = place_of_node node w.nodes in turn_by line node at (is_some (mail_at at w)) w

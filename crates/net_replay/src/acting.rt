@@ -39,7 +39,7 @@ impl World<'_> {
 
     /// A node's user acts, or it is told why that isn't done.
     pub fn act(&mut self, line: u32, number: u8, act: &UserAct) -> Result<(), ReplayRefusal>
-        ensures { Runs (course self.old) (course self.new) (lines.do_act line number (act_of act.now) lines.told_of) result }
+        ensures { Runs (course self.old) (course self.new) (lines.do_act line number (act_of act.now) lines.events_of_act) result }
     {
         let at = self.place_of(number);
         let answer = self.act_reaches(line, at, act)?;
@@ -62,21 +62,21 @@ impl World<'_> {
 
     /// The link of a node with a neighbour fails.
     pub fn fail_link(&mut self, line: u32, number: u8, peer: Call) -> Result<(), ReplayRefusal>
-        ensures { Runs (course self.old) (course self.new) (lines.do_act line number (acts.LinkFail peer) lines.told_of) result }
+        ensures { Runs (course self.old) (course self.new) (lines.do_act line number (acts.LinkFail peer) lines.events_of_act) result }
     {
         self.act(line, number, &UserAct::LinkFail(peer))
     }
 
     /// An end is closed.
     pub fn close(&mut self, line: u32, number: u8, end: u32) -> Result<(), ReplayRefusal>
-        ensures { Runs (course self.old) (course self.new) (lines.do_act line number (acts.Close end) lines.told_of) result }
+        ensures { Runs (course self.old) (course self.new) (lines.do_act line number (acts.Close end) lines.events_of_act) result }
     {
         self.act(line, number, &UserAct::Close { id: end as u64 })
     }
 
     /// A text is written at an end, as a message, unless the end is an agent's.
     pub fn say(&mut self, line: u32, number: u8, end: u32, text: &[u8]) -> Result<(), ReplayRefusal>
-        ensures { Runs (course self.old) (course self.new) (mailing.unless_agents line number end [] (lines.do_act line number (acts.Write end text.now) lines.told_of)) result }
+        ensures { Runs (course self.old) (course self.new) (mailing.unless_agents line number end [] (lines.do_act line number (acts.Write end text.now) lines.events_of_act)) result }
     {
         if self.is_agents(number, end) {
             self.refuse(line, LineRefusal::Served)?;

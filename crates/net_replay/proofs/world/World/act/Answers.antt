@@ -1,6 +1,6 @@
 use Rattle.std.proofs.Common.{false}
 use Rattle.node_core.specs.UserActs.{act_of}
-use Rattle.net_replay.specs.Lines.{told_of}
+use Rattle.net_replay.specs.Lines.{events_of_act}
 use Rattle.net_replay.specs.Running.{answer_events, course}
 use Rattle.net_replay.specs.World.{Act, World, answer, put, reach, tell}
 use Rattle.net_replay.proofs.Answered.{acted, at_number, told_is}
@@ -14,6 +14,6 @@ returns c =
     let line = c.args.line in
     let act = act_of c.args.act.now in
     let a = c.in_ok-answer.answer in
-    at_number old new c.args.number at (λ k (w : World). put line k false (tell line (told_of (answer k act w)) (reach line k (Act act) w))) c.put_in_air.result c.place_of-at.ensures
-    (acted old (course c.act_reaches.new.self) (course c.tell_answer.new.self) new line at act c.put_in_air.result told_of (answer_events a)
+    at_number old new c.args.number at (λ k (w : World). put line k false (tell line (events_of_act (answer k act w)) (reach line k (Act act) w))) c.put_in_air.result c.place_of-at.ensures
+    (acted old (course c.act_reaches.new.self) (course c.tell_answer.new.self) new line at act c.put_in_air.result events_of_act (answer_events a)
     c.in_ok-answer.ensures.goes (λ w t. told_is a (answer at act w) (c.in_ok-answer.ensures.answer w t)) c.in_ok-tell_answer.ensures c.put_in_air.ensures)

@@ -1,7 +1,7 @@
 use Rattle.std.proofs.Common.{◌≡◌, ◌≤◌, ◌∙◌, ap, sym, subst, arith, length}
 use Rattle.std.specs.Prelude.{None, slice_get}
 use Rattle.net_replay.specs.Running.{Stands, course}
-use Rattle.net_replay.specs.World.{World, place_of}
+use Rattle.net_replay.specs.World.{World, place_of_node}
 use Rattle.net_replay.proofs.Looks.{restart_of}
 use Rattle.net_replay.proofs.Placing.{past_declared, past_place, place_is}
 use Rattle.net_replay.proofs.Runs.{ok_as}
@@ -15,7 +15,7 @@ returns-then-at-len-2 c =
     let pair = c.args.pair in
     let at = c.place_of-at.result in
     ok_as old (course c.restart_at.new.self) (λ (w : World). restart_of plan line at pair (slice_get w.nodes at) w)
-    (λ (w : World). restart_of plan line (place_of c.args.number w.nodes) pair (slice_get w.nodes (place_of c.args.number w.nodes)) w) c.restart_at.result
+    (λ (w : World). restart_of plan line (place_of_node c.args.number w.nodes) pair (slice_get w.nodes (place_of_node c.args.number w.nodes)) w) c.restart_at.result
     (λ w t. ap (λ k. restart_of plan line k pair (slice_get w.nodes k) w) (place_is old w c.args.number at c.place_of-at.ensures t)) c.restart_at.ensures
 
 pub returns-else-at-len : goal.returns-else-at-len
