@@ -30,7 +30,8 @@ impl World<'_> {
         call: &Call,
         nodes: &Nodes,
     ) -> Result<(), ReplayRefusal>
-        ensures { Runs (course self.old) (course self.new) (lines.hear line number (lines.kiss_bytes (broadcast_octets call.now (view nodes.now))) false) result }
+        ensures { Runs (course self.old) (course self.new)
+            (lines.hear line number (lines.kiss_bytes (broadcast_octets call.now (view nodes.now))) false) result }
     {
         let at = self.place_of(number);
         self.broadcast_reaches(line, at, call, nodes)?;
@@ -39,7 +40,8 @@ impl World<'_> {
 
     /// A node's user acts, or it is told why that isn't done.
     pub fn act(&mut self, line: u32, number: u8, act: &UserAct) -> Result<(), ReplayRefusal>
-        ensures { Runs (course self.old) (course self.new) (lines.do_act line number (act_of act.now) lines.events_of_act) result }
+        ensures { Runs (course self.old) (course self.new)
+            (lines.do_act line number (act_of act.now) lines.events_of_act) result }
     {
         let at = self.place_of(number);
         let answer = self.act_reaches(line, at, act)?;
@@ -49,7 +51,8 @@ impl World<'_> {
 
     /// Tells why an act isn't done.
     fn tell_answer(&mut self, line: u32, answer: &Answer) -> Result<(), NoMemory>
-        ensures { OnOk result (GoesOn (course self.old) (course self.new) (worlds.tell line (running.answer_events answer.now))) }
+        ensures { OnOk result (GoesOn (course self.old) (course self.new)
+            (worlds.tell line (running.answer_events answer.now))) }
     {
         match answer.refusal() {
             None => Ok(()),
@@ -62,21 +65,25 @@ impl World<'_> {
 
     /// The link of a node with a neighbour fails.
     pub fn fail_link(&mut self, line: u32, number: u8, peer: Call) -> Result<(), ReplayRefusal>
-        ensures { Runs (course self.old) (course self.new) (lines.do_act line number (acts.LinkFail peer) lines.events_of_act) result }
+        ensures { Runs (course self.old) (course self.new)
+            (lines.do_act line number (acts.LinkFail peer) lines.events_of_act) result }
     {
         self.act(line, number, &UserAct::LinkFail(peer))
     }
 
     /// An end is closed.
     pub fn close(&mut self, line: u32, number: u8, end: u32) -> Result<(), ReplayRefusal>
-        ensures { Runs (course self.old) (course self.new) (lines.do_act line number (acts.Close end) lines.events_of_act) result }
+        ensures { Runs (course self.old) (course self.new)
+            (lines.do_act line number (acts.Close end) lines.events_of_act) result }
     {
         self.act(line, number, &UserAct::Close { id: end as u64 })
     }
 
     /// A text is written at an end, as a message, unless the end is an agent's.
     pub fn say(&mut self, line: u32, number: u8, end: u32, text: &[u8]) -> Result<(), ReplayRefusal>
-        ensures { Runs (course self.old) (course self.new) (mailing.unless_agents line number end [] (lines.do_act line number (acts.Write end text.now) lines.events_of_act)) result }
+        ensures { Runs (course self.old) (course self.new)
+            (mailing.unless_agents line number end []
+            (lines.do_act line number (acts.Write end text.now) lines.events_of_act)) result }
     {
         if self.is_agents(number, end) {
             self.refuse(line, LineRefusal::Served)?;
@@ -91,7 +98,9 @@ impl World<'_> {
 
     /// A message is taken from an end, unless the end is an agent's.
     pub fn take(&mut self, line: u32, number: u8, end: u32) -> Result<(), ReplayRefusal>
-        ensures { Runs (course self.old) (course self.new) (mailing.unless_agents line number end [] (lines.do_act line number (acts.Take end) (lines.took_of number end))) result }
+        ensures { Runs (course self.old) (course self.new)
+            (mailing.unless_agents line number end []
+            (lines.do_act line number (acts.Take end) (lines.took_of number end))) result }
     {
         if self.is_agents(number, end) {
             self.refuse(line, LineRefusal::Served)?;
@@ -102,7 +111,8 @@ impl World<'_> {
 
     /// The same at an end that isn't an agent's.
     fn take_there(&mut self, line: u32, number: u8, end: u32) -> Result<(), ReplayRefusal>
-        ensures { Runs (course self.old) (course self.new) (lines.do_act line number (acts.Take end) (lines.took_of number end)) result }
+        ensures { Runs (course self.old) (course self.new)
+            (lines.do_act line number (acts.Take end) (lines.took_of number end)) result }
     {
         let at = self.place_of(number);
         let answer = self.act_reaches(line, at, &UserAct::Take { id: end as u64 })?;
@@ -112,7 +122,8 @@ impl World<'_> {
 
     /// Tells the message that was taken, or why none was.
     fn tell_taken(&mut self, line: u32, node: u8, end: u32, answer: Answer) -> Result<(), NoMemory>
-        ensures { OnOk result (GoesOn (course self.old) (course self.new) (worlds.tell line (running.taken_events node end answer))) }
+        ensures { OnOk result (GoesOn (course self.old) (course self.new)
+            (worlds.tell line (running.taken_events node end answer))) }
     {
         match answer {
             Answer::Took(message) => {
@@ -145,7 +156,8 @@ impl World<'_> {
 
     /// The table of the node at a place, as it is shown.
     fn table_at(&self, at: usize) -> Result<Option<Table>, NoMemory>
-        ensures { IfOk result (λ table. (w : worlds.World) → Stands (course self.now) w → table ≡ option_map lines.table_of (slice_get w.nodes at)) }
+        ensures { IfOk result (λ table. (w : worlds.World) → Stands (course self.now) w
+            → table ≡ option_map lines.table_of (slice_get w.nodes at)) }
     {
         if at < self.nodes.len() {
             if at < self.declared.len() {

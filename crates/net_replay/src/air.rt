@@ -40,7 +40,8 @@ impl Model for Air {
 
     ghost view = { λ a. a.frames.items };
 
-    ghost invariant = { λ a. AllSettled (take a.first_open a.frames.items) × (a.first_open ≤ length a.frames.items) × (length a.frames.items ≤ 100000) };
+    ghost invariant = { λ a. AllSettled (take a.first_open a.frames.items) × (a.first_open ≤ length a.frames.items)
+        × (length a.frames.items ≤ 100000) };
 }
 
 impl Air {

@@ -26,7 +26,9 @@ impl World<'_> {
         end: u32,
         count: u32,
     ) -> Result<(), ReplayRefusal>
-        ensures { Runs (course self.old) (course self.new) (mailing.unless_agents line number end (Wrote number end 0 ∷ []) (lines.burst line number end count)) result }
+        ensures { Runs (course self.old) (course self.new)
+            (mailing.unless_agents line number end (Wrote number end 0 ∷ []) (lines.burst line number end count))
+            result }
     {
         if self.is_agents(number, end) {
             let none = Event::Wrote {
@@ -61,7 +63,8 @@ impl World<'_> {
     }
 
     fn burst_at(&mut self, here: LineAt, end: u32, count: u32) -> Result<(), ReplayRefusal>
-        ensures { Runs (course self.old) (course self.new) (lines.burst_from here.line here.at here.node end 1 count) result }
+        ensures { Runs (course self.old) (course self.new)
+            (lines.burst_from here.line here.at here.node end 1 count) result }
     {
         for before in 0..count {
             let nth = before + 1;
@@ -82,8 +85,11 @@ impl World<'_> {
         more: u32,
     ) -> Result<bool, ReplayRefusal>
         requires { 1 ≤ nth }
-        ensures ok { IfOk result (running.BurstGoes (course self.old) (course self.new) (lines.burst_from here.line here.at here.node end nth (suc more)) (lines.burst_from here.line here.at here.node end (nth + 1) more)) }
-        ensures err { IfErr result (λ e. Stops (course self.old) e (lines.burst_from here.line here.at here.node end nth (suc more))) }
+        ensures ok { IfOk result (running.BurstGoes (course self.old) (course self.new)
+            (lines.burst_from here.line here.at here.node end nth (suc more))
+            (lines.burst_from here.line here.at here.node end (nth + 1) more)) }
+        ensures err { IfErr result (λ e. Stops (course self.old) e
+            (lines.burst_from here.line here.at here.node end nth (suc more))) }
     {
         let answer = self.write_nth(here, end, nth)?;
         match answer.refusal() {
@@ -105,8 +111,10 @@ impl World<'_> {
 
     /// Writes the decimal text of a number at an end.
     fn write_nth(&mut self, here: LineAt, end: u32, nth: u32) -> Result<Answer, NoMemory>
-        ensures goes { OnOk result (GoesOn (course self.old) (course self.new) (worlds.reach here.line here.at (worlds.Act (acts.Write end (decimal nth))))) }
-        ensures answer { IfOk result (λ answer. (w : worlds.World) → Stands (course self.old) w → IsAnswerTo answer (worlds.answer here.at (acts.Write end (decimal nth)) w)) }
+        ensures goes { OnOk result (GoesOn (course self.old) (course self.new)
+            (worlds.reach here.line here.at (worlds.Act (acts.Write end (decimal nth))))) }
+        ensures answer { IfOk result (λ answer. (w : worlds.World) → Stands (course self.old) w
+            → IsAnswerTo answer (worlds.answer here.at (acts.Write end (decimal nth)) w)) }
     {
         let text = nth.to_string(self.alloc)?;
         let act = UserAct::Write {
@@ -119,7 +127,8 @@ impl World<'_> {
 
     /// Tells of the last text of a burst that all were written.
     fn tell_written(&mut self, here: LineAt, end: u32, nth: u32, more: u32) -> Result<(), NoMemory>
-        ensures { OnOk result (GoesOn (course self.old) (course self.new) (worlds.tell here.line (lines.all_wrote here.node end nth more))) }
+        ensures { OnOk result (GoesOn (course self.old) (course self.new)
+            (worlds.tell here.line (lines.all_wrote here.node end nth more))) }
     {
         if more == 0 {
             let all = Event::Wrote {

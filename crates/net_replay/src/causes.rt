@@ -49,7 +49,8 @@ pub struct LateCause {
 /// By what it shows that something in the trace came too late: an event at the line of the verdict, wherever the verdict is that something did, and
 /// None where nothing did.
 pub fn late_cause(alloc: Global, trace: &Trace) -> Result<Option<LateCause>, NoMemory>
-    ensures { IfOk result (λ cause. (plan : Plan) (w : World) (late : Option Late) → allowance_in trace.now ≡ allowance_of plan → IsTraceOf (left_of trace.now) w
+    ensures { IfOk result (λ cause. (plan : Plan) (w : World) (late : Option Late)
+        → allowance_in trace.now ≡ allowance_of plan → IsTraceOf (left_of trace.now) w
         → IsVerdictOn plan w late → causes.IsCauseOf plan w late cause) }
 {
     let mut verdict = Verdict::new(alloc, trace.allowance());
@@ -70,7 +71,8 @@ fn first_late(
     verdict: &mut Verdict,
     events: &[NumberedEvent],
 ) -> Result<Option<(u64, Cause)>, NoMemory>
-    ensures { IfOk result (λ found. (a : Allowance) (nodes : List Placed) → AreDeclared declared.now nodes → causes.HasTaken a verdict.old []
+    ensures { IfOk result (λ found. (a : Allowance) (nodes : List Placed) → AreDeclared declared.now nodes
+        → causes.HasTaken a verdict.old []
         → causes.Finds a nodes (map numbered_of events.now) found) }
 {
     for at in 0..events.len() {
@@ -88,7 +90,8 @@ fn judge(
     numbered: &NumberedEvent,
 ) -> Result<Option<Cause>, NoMemory>
     ensures { IfOk result (λ cause. (nodes : List Placed) → AreDeclared declared.now nodes
-        → causes.Judges verdict.old verdict.new (event_at nodes numbered.now.line (event_of numbered.now.event)) cause) }
+        → causes.Judges verdict.old verdict.new
+        (event_at nodes numbered.now.line (event_of numbered.now.event)) cause) }
 {
     match circuit_event(declared, &numbered.event) {
         Some(event) => judge_told(verdict, numbered.line, &event),
@@ -101,7 +104,8 @@ fn judge_told(
     line: u32,
     event: &CircuitEvent<'_>,
 ) -> Result<Option<Cause>, NoMemory>
-    ensures { IfOk result (λ cause. causes.Judges verdict.old verdict.new (judged (record { line = line; event = event.now }) ∷ []) cause) }
+    ensures { IfOk result (λ cause. causes.Judges verdict.old verdict.new
+        (judged (record { line = line; event = event.now }) ∷ []) cause) }
 {
     match verdict.cause(event)? {
         Some(cause) => Ok(Some(cause)),
@@ -114,7 +118,8 @@ fn judge_told(
 
 /// The cause, with nodes and events by their numbers.
 fn sign_of(declared: &[Declaration], events: &[NumberedEvent], cause: Cause) -> Sign
-    ensures { (nodes : List Placed) → AreDeclared declared.now nodes → result ≡ causes.sign_of nodes (map numbered_of events.now) cause }
+    ensures { (nodes : List Placed) → AreDeclared declared.now nodes
+        → result ≡ causes.sign_of nodes (map numbered_of events.now) cause }
 {
     match cause {
         Cause::Unsent => Sign::Unsent,
@@ -137,7 +142,8 @@ fn sign_of(declared: &[Declaration], events: &[NumberedEvent], cause: Cause) -> 
 
 /// Of what was told of circuits: the number of the event at a place among all events.
 fn number_at(declared: &[Declaration], events: &[NumberedEvent], place: u64) -> u64
-    ensures { (nodes : List Placed) → AreDeclared declared.now nodes → result ≡ causes.number_at nodes (map numbered_of events.now) place }
+    ensures { (nodes : List Placed) → AreDeclared declared.now nodes
+        → result ≡ causes.number_at nodes (map numbered_of events.now) place }
 {
     let mut left = place;
     for at in 0..events.len() {
@@ -154,7 +160,8 @@ fn number_at(declared: &[Declaration], events: &[NumberedEvent], place: u64) -> 
 
 /// The number of the node at a place.
 fn number_of_node(declared: &[Declaration], place: u64) -> u8
-    ensures { (nodes : List Placed) → AreDeclared declared.now nodes → result ≡ causes.number_in (slice_get nodes place) }
+    ensures { (nodes : List Placed) → AreDeclared declared.now nodes
+        → result ≡ causes.number_in (slice_get nodes place) }
 {
     match declared.get(place as usize) {
         Some(one) => one.node,

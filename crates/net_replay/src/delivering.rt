@@ -83,7 +83,9 @@ impl World<'_> {
         number: u8,
         modulo128: bool,
     ) -> Result<(), ReplayRefusal>
-        ensures { (f : Aired) → slice_get self.old.air frame_at ≡ Some f → Runs (course self.old) (course self.new) (lines.hear line number (lines.kiss_bytes f.octets.items) modulo128) result }
+        ensures { (f : Aired) → slice_get self.old.air frame_at ≡ Some f
+            → Runs (course self.old) (course self.new)
+            (lines.hear line number (lines.kiss_bytes f.octets.items) modulo128) result }
     {
         let at = self.place_of(number);
         self.frame_reaches(line, frame_at, at)?;
@@ -125,7 +127,8 @@ impl World<'_> {
     }
 
     fn spread_from(&mut self, line: u32, at: usize, sender: u8) -> Result<(), ReplayRefusal>
-        ensures { Runs (course self.old) (course self.new) (lines.deliver_all line at (hearers self.old.channels.now sender)) result }
+        ensures { Runs (course self.old) (course self.new)
+            (lines.deliver_all line at (hearers self.old.channels.now sender)) result }
     {
         let heard = heard_by(self.channels, sender);
         for number in 1..17u8 {
@@ -142,7 +145,8 @@ impl World<'_> {
         heard: &[bool],
         number: u8,
     ) -> Result<(), ReplayRefusal>
-        ensures { (test : ℕ → Bool) → slice_get heard.now number ≡ Some (test number) → Runs (course self.old) (course self.new) (lines.deliver_all line at (filter test (number ∷ []))) result }
+        ensures { (test : ℕ → Bool) → slice_get heard.now number ≡ Some (test number)
+            → Runs (course self.old) (course self.new) (lines.deliver_all line at (filter test (number ∷ []))) result }
     {
         match heard.get(number as usize) {
             Some(true) => self.deliver_at(line, at, number),

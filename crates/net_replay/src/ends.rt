@@ -84,7 +84,8 @@ impl Ends {
 
     /// Keeps what an event tells of ends.
     pub fn note(&mut self, event: &Event) -> Result<(), NoMemory>
-        ensures { OnOk result ((node : ℕ) → ends_at node self.new ≡ note_event node (event_of event.now) (ends_at node self.old)) }
+        ensures { OnOk result ((node : ℕ)
+            → ends_at node self.new ≡ note_event node (event_of event.now) (ends_at node self.old)) }
     {
         note_in(&mut self.lists, event)?;
         Ok(())
@@ -105,7 +106,9 @@ fn empty_lists(alloc: Global) -> Result<Vec<Vec<EndRecord>>, NoMemory>
 #[tactic(auto, using(crate::proofs::Noting::either_way))]
 fn note_in(lists: &mut [Vec<EndRecord>], event: &Event) -> Result<(), NoMemory>
     requires { length lists.old ≡ 256 }
-    ensures { OnOk result ((node : ℕ) → ends.ends_at node (ends.all_items lists.new) ≡ ends.note_event node (event_of event.now) (ends.ends_at node (ends.all_items lists.old))) }
+    ensures { OnOk result ((node : ℕ)
+        → ends.ends_at node (ends.all_items lists.new) ≡ ends.note_event node (event_of event.now)
+        (ends.ends_at node (ends.all_items lists.old))) }
 {
     match event {
         Event::Entry { node, entry } => {

@@ -29,7 +29,8 @@ use std::alloc::Global;
 
 /// The first line at which a datagram or a pair comes back too late, if there is one.
 pub fn too_late(alloc: Global, trace: &Trace) -> Result<Option<Late>, NoMemory>
-    ensures { IfOk result (λ late. (plan : Plan) (w : World) → allowance_in trace.now ≡ circuits.allowance_of plan → IsTraceOf (left_of trace.now) w → IsVerdictOn plan w late) }
+    ensures { IfOk result (λ late. (plan : Plan) (w : World) → allowance_in trace.now ≡ circuits.allowance_of plan
+        → IsTraceOf (left_of trace.now) w → IsVerdictOn plan w late) }
 {
     let mut verdict = Verdict::new(alloc, trace.allowance());
     heed_all(trace.declared(), &mut verdict, trace.events())?;
@@ -84,7 +85,8 @@ pub(crate) fn circuit_event<'a>(
     declared: &[Declaration],
     event: &'a Event,
 ) -> Option<CircuitEvent<'a>>
-    ensures { (nodes : List Placed) (line : ℕ) → AreDeclared declared.now nodes → event_at nodes line (event_of event.now) ≡ told_here line result }
+    ensures { (nodes : List Placed) (line : ℕ) → AreDeclared declared.now nodes
+        → event_at nodes line (event_of event.now) ≡ told_here line result }
 {
     let Some((number, told)) = told_in(event) else {
         return None;
@@ -97,7 +99,8 @@ pub(crate) fn circuit_event<'a>(
 
 /// The place of the node of that number among the nodes, by which it is named, and its call.
 fn spot_of(declared: &[Declaration], number: u8) -> Option<(u64, Call)>
-    ensures { (nodes : List Placed) (line : ℕ) (told : sets.CircuitTold) → AreDeclared declared.now nodes → told_at nodes line number told ≡ told_there line result told }
+    ensures { (nodes : List Placed) (line : ℕ) (told : sets.CircuitTold) → AreDeclared declared.now nodes
+        → told_at nodes line number told ≡ told_there line result told }
 {
     let place = place_of(declared, number);
     match declared.get(place) {

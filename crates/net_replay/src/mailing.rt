@@ -31,7 +31,8 @@ impl World<'_> {
         dest: &Call,
         text: &[u8],
     ) -> Result<(), NoMemory>
-        ensures { OnOk result (GoesOn (course self.old) (course self.new) (mailing.post line node to.now dest.now text.now)) }
+        ensures { OnOk result (GoesOn (course self.old) (course self.new)
+            (mailing.post line node to.now dest.now text.now)) }
     {
         let at = self.place_of(node);
         match post_at(&mut self.mails, at, to, dest, text) {
@@ -87,7 +88,8 @@ impl World<'_> {
     }
 
     fn tell_each(&mut self, line: u32, events: Vec<Event>) -> Result<(), NoMemory>
-        ensures { OnOk result (GoesOn (course self.old) (course self.new) (worlds.tell line (map event_of events.items))) }
+        ensures { OnOk result (GoesOn (course self.old) (course self.new)
+            (worlds.tell line (map event_of events.items))) }
     {
         for event in events {
             self.tell(line, event)?;
@@ -97,8 +99,10 @@ impl World<'_> {
 
     /// An act of the agent is an input of its node: what the inputs before it have put out is put in the air first.
     fn input(&mut self, here: LineAt, act: &UserAct) -> Result<Answer, ReplayRefusal>
-        ensures goes { OnOk result (GoesOn (course self.old) (course self.new) (mailing.input here.line here.at (act_of act.now))) }
-        ensures answer { IfOk result (λ answer. (w : worlds.World) → Stands (course self.old) w → IsAnswerTo answer (worlds.answer here.at (act_of act.now) (mailing.aired_before here.line here.at w))) }
+        ensures goes { OnOk result (GoesOn (course self.old) (course self.new)
+            (mailing.input here.line here.at (act_of act.now))) }
+        ensures answer { IfOk result (λ answer. (w : worlds.World) → Stands (course self.old) w
+            → IsAnswerTo answer (worlds.answer here.at (act_of act.now) (mailing.aired_before here.line here.at w))) }
         ensures err { IfErr result (λ e. Stops (course self.old) e (mailing.input here.line here.at (act_of act.now))) }
     {
         self.put_in_air(here.line, here.at, false)?;
@@ -113,9 +117,12 @@ impl World<'_> {
         id: u64,
         message: &[u8],
     ) -> Result<bool, ReplayRefusal>
-        ensures goes { OnOk result (GoesOn (course self.old) (course self.new) (mailing.write_if_taken here.line here.at id message.now)) }
-        ensures answer { IfOk result (λ written. (w : worlds.World) → Stands (course self.old) w → written ≡ mailing.may_write here.at id message.now w) }
-        ensures err { IfErr result (λ e. Stops (course self.old) e (mailing.write_if_taken here.line here.at id message.now)) }
+        ensures goes { OnOk result (GoesOn (course self.old) (course self.new)
+            (mailing.write_if_taken here.line here.at id message.now)) }
+        ensures answer { IfOk result (λ written. (w : worlds.World) → Stands (course self.old) w
+            → written ≡ mailing.may_write here.at id message.now w) }
+        ensures err { IfErr result (λ e. Stops (course self.old) e
+            (mailing.write_if_taken here.line here.at id message.now)) }
     {
         if !self.may_write(here.at, id, message) {
             return Ok(false);

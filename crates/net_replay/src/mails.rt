@@ -31,7 +31,8 @@ pub fn new_mails(
     network: &Network,
     declared: &[Declaration],
 ) -> Result<Vec<Option<Store>>, NoMemory>
-    ensures { IfOk result (λ mails. MailsStand mails.items (map (starting.new_mail network.now.settings) declared.now)) }
+    ensures { IfOk result (λ mails. MailsStand mails.items
+        (map (starting.new_mail network.now.settings) declared.now)) }
 {
     let mut mails = Vec::new(alloc);
     for one in declared {
@@ -75,8 +76,10 @@ pub fn post_at(
     dest: &Call,
     text: &[u8],
 ) -> Posting
-    ensures answer { (ls : List (Option Lists)) → MailsStand mails.old ls → agents.PostsAt result (mail_in at ls) dest.now text.now }
-    ensures goes { (ls : List (Option Lists)) → MailsStand mails.old ls → MailsStand mails.new (agents.posted_at result at to.now dest.now text.now ls) }
+    ensures answer { (ls : List (Option Lists)) → MailsStand mails.old ls
+        → agents.PostsAt result (mail_in at ls) dest.now text.now }
+    ensures goes { (ls : List (Option Lists)) → MailsStand mails.old ls
+        → MailsStand mails.new (agents.posted_at result at to.now dest.now text.now ls) }
 {
     if at >= mails.len() {
         return Posting::NoMail;
@@ -98,9 +101,11 @@ pub fn hear_at(
     bytes: &[u8],
     out: &mut Message,
 ) -> Result<Option<Heard>, NoMemory>
-    ensures answer { IfOk result (λ heard. (ls : List (Option Lists)) → MailsStand mails.old ls → agents.HearsAt heard (mail_in at ls) from.now bytes.now) }
+    ensures answer { IfOk result (λ heard. (ls : List (Option Lists)) → MailsStand mails.old ls
+        → agents.HearsAt heard (mail_in at ls) from.now bytes.now) }
     ensures message { IfOk result (λ heard. out.new.items ≡ agents.answer_octets heard out.old.items) }
-    ensures goes { OnOk result ((ls : List (Option Lists)) → MailsStand mails.old ls → MailsStand mails.new (agents.heard_at at from.now bytes.now ls)) }
+    ensures goes { OnOk result ((ls : List (Option Lists)) → MailsStand mails.old ls
+        → MailsStand mails.new (agents.heard_at at from.now bytes.now ls)) }
     ensures err { OnErr result (mails.new ≡ mails.old) }
     ensures err_out { OnErr result (out.new ≡ out.old) }
 {
@@ -128,7 +133,8 @@ pub fn queued_count(mails: &[Option<Store>], at: usize) -> usize
 
 /// The number and the destination of the nth mail that is queued at the node at a place.
 pub fn queued_at(mails: &[Option<Store>], at: usize, nth: usize) -> Option<(u64, Call)>
-    ensures { (ls : List (Option Lists)) → MailsStand mails.now ls → result ≡ option_map number_and_dest (slice_get (queued_of (mail_in at ls)) nth) }
+    ensures { (ls : List (Option Lists)) → MailsStand mails.now ls
+        → result ≡ option_map number_and_dest (slice_get (queued_of (mail_in at ls)) nth) }
 {
     match store_at(mails, at) {
         Some(store) => store.queued(nth),
@@ -138,7 +144,8 @@ pub fn queued_at(mails: &[Option<Store>], at: usize, nth: usize) -> Option<(u64,
 
 /// The message that offers the queued mail of a number.
 pub fn wire_at(mails: &[Option<Store>], at: usize, number: u64) -> Message
-    ensures { (ls : List (Option Lists)) → MailsStand mails.now ls → result.items ≡ octets_or [] (letter_of number (queued_of (mail_in at ls))) }
+    ensures { (ls : List (Option Lists)) → MailsStand mails.now ls
+        → result.items ≡ octets_or [] (letter_of number (queued_of (mail_in at ls))) }
 {
     let mut out = Message::new();
     match store_at(mails, at) {

@@ -36,7 +36,9 @@ impl World<'_> {
 
     /// The frame at a place in the air reaches the node at a place, and its entries are told. Its frames stay with it.
     pub fn frame_reaches(&mut self, line: u32, frame_at: usize, at: usize) -> Result<(), NoMemory>
-        ensures { (f : Aired) → slice_get self.old.air frame_at ≡ Some f → OnOk result (GoesOn (course self.old) (course self.new) (worlds.reach line at (worlds.Bytes (kiss_bytes f.octets.items)))) }
+        ensures { (f : Aired) → slice_get self.old.air frame_at ≡ Some f
+            → OnOk result (GoesOn (course self.old) (course self.new)
+            (worlds.reach line at (worlds.Bytes (kiss_bytes f.octets.items)))) }
     {
         match self.air.frames().get(frame_at) {
             Some(frame) => {
@@ -62,7 +64,8 @@ impl World<'_> {
         call: &Call,
         nodes: &Nodes,
     ) -> Result<(), NoMemory>
-        ensures { OnOk result (GoesOn (course self.old) (course self.new) (worlds.reach line at (worlds.Bytes (kiss_bytes (broadcast_octets call.now (view nodes.now)))))) }
+        ensures { OnOk result (GoesOn (course self.old) (course self.new)
+            (worlds.reach line at (worlds.Bytes (kiss_bytes (broadcast_octets call.now (view nodes.now)))))) }
     {
         if at < self.nodes.len() {
             let octets = broadcast_frame(call, nodes);
@@ -90,8 +93,10 @@ impl World<'_> {
     /// A user's act reaches the node at a place, and its entries are told: what was done, or why it wasn't. Its frames stay
     /// with it.
     pub fn act_reaches(&mut self, line: u32, at: usize, act: &UserAct) -> Result<Answer, NoMemory>
-        ensures goes { OnOk result (GoesOn (course self.old) (course self.new) (worlds.reach line at (worlds.Act (act_of act.now)))) }
-        ensures answer { IfOk result (λ answer. (w : worlds.World) → Stands (course self.old) w → IsAnswerTo answer (worlds.answer at (act_of act.now) w)) }
+        ensures goes { OnOk result (GoesOn (course self.old) (course self.new)
+            (worlds.reach line at (worlds.Act (act_of act.now)))) }
+        ensures answer { IfOk result (λ answer. (w : worlds.World) → Stands (course self.old) w
+            → IsAnswerTo answer (worlds.answer at (act_of act.now) w)) }
     {
         if at < self.nodes.len() {
             let answer = self.act_at(at, act)?;
@@ -105,8 +110,10 @@ impl World<'_> {
     /// A user's act reaches the node at a place.
     fn act_at(&mut self, at: usize, act: &UserAct) -> Result<Answer, NoMemory>
         requires { at < length self.old.nodes.items }
-        ensures goes { OnOk result ((w : worlds.World) → Stands (course self.old) w → Stands (course self.new) (running.change at (worlds.after w.now (worlds.Act (act_of act.now))) w)) }
-        ensures answer { IfOk result (λ answer. (w : worlds.World) → Stands (course self.old) w → IsAnswerTo answer (worlds.answer at (act_of act.now) w)) }
+        ensures goes { OnOk result ((w : worlds.World) → Stands (course self.old) w
+            → Stands (course self.new) (running.change at (worlds.after w.now (worlds.Act (act_of act.now))) w)) }
+        ensures answer { IfOk result (λ answer. (w : worlds.World) → Stands (course self.old) w
+            → IsAnswerTo answer (worlds.answer at (act_of act.now) w)) }
     {
         let outcome = self.nodes[at].act(act, self.time);
         let answer = answer_of(outcome)?;
@@ -127,7 +134,8 @@ impl World<'_> {
 
     /// Whether the node at a place has something to tell.
     fn has_entries(&self, at: usize) -> bool
-        ensures { (w : worlds.World) → Stands (course self.now) w → result ≡ is_some (running.first_entry (slice_get w.nodes at)) }
+        ensures { (w : worlds.World) → Stands (course self.now) w
+            → result ≡ is_some (running.first_entry (slice_get w.nodes at)) }
     {
         if at < self.nodes.len() {
             self.nodes[at].has_entries()
@@ -160,7 +168,8 @@ impl World<'_> {
 
     /// The first thing that the node at a place has to tell, as an event, where it is a datagram that an end has sent or taken in.
     fn first_event(&self, at: usize) -> Result<Option<Event>, NoMemory>
-        ensures { IfOk result (λ event. (w : worlds.World) → Stands (course self.now) w → running.IsFirst (option_map event_of event) (slice_get w.nodes at)) }
+        ensures { IfOk result (λ event. (w : worlds.World) → Stands (course self.now) w
+            → running.IsFirst (option_map event_of event) (slice_get w.nodes at)) }
     {
         if at >= self.nodes.len() || at >= self.declared.len() {
             return Ok(None);
@@ -177,9 +186,12 @@ impl World<'_> {
     #[inline(never)]
     fn tell_one(&mut self, line: u32, at: usize) -> Result<bool, NoMemory>
         ensures told { IfOk result (λ told. told ≡ true → (w : worlds.World) → Stands (course self.old) w
-            → (v : worlds.World) × Stands (course self.new) v × (running.all_entries line at v ≡ running.all_entries line at w)) }
-        ensures none { IfOk result (λ told. told ≡ false → GoesOn (course self.old) (course self.new) (running.all_entries line at)) }
-        ensures left { IfOk result (λ told. told ≡ true → running.entries_at at self.new.nodes.items < running.entries_at at self.old.nodes.items) }
+            → (v : worlds.World) × Stands (course self.new) v
+            × (running.all_entries line at v ≡ running.all_entries line at w)) }
+        ensures none { IfOk result (λ told. told ≡ false
+            → GoesOn (course self.old) (course self.new) (running.all_entries line at)) }
+        ensures left { IfOk result (λ told. told ≡ true
+            → running.entries_at at self.new.nodes.items < running.entries_at at self.old.nodes.items) }
     {
         match self.next_entry(at) {
             Some(entry) => {
@@ -192,9 +204,11 @@ impl World<'_> {
 
     /// Fetches the first thing that the node at a place has to tell.
     fn next_entry(&mut self, at: usize) -> Option<NodeEntry>
-        ensures answer { (w : worlds.World) → Stands (course self.old) w → option_map entry_of result ≡ running.first_entry (slice_get w.nodes at) }
+        ensures answer { (w : worlds.World) → Stands (course self.old) w
+            → option_map entry_of result ≡ running.first_entry (slice_get w.nodes at) }
         ensures goes { GoesOn (course self.old) (course self.new) (running.change at running.fetched_entry) }
-        ensures left { IfSome result (λ _. running.entries_at at self.new.nodes.items < running.entries_at at self.old.nodes.items) }
+        ensures left { IfSome result (λ _. running.entries_at at self.new.nodes.items
+            < running.entries_at at self.old.nodes.items) }
     {
         if at < self.nodes.len() {
             self.nodes[at].trace_entry()
@@ -205,7 +219,9 @@ impl World<'_> {
 
     /// Tells an entry of the node at a place.
     fn tell_entry(&mut self, line: u32, at: usize, entry: NodeEntry) -> Result<(), NoMemory>
-        ensures goes { OnOk result ((w : worlds.World) → Stands (course self.old) w → Stands (course self.new) (worlds.tell line (running.entry_events (entry_of entry) (slice_get w.nodes at)) w)) }
+        ensures goes { OnOk result ((w : worlds.World) → Stands (course self.old) w
+            → Stands (course self.new) (worlds.tell line
+            (running.entry_events (entry_of entry) (slice_get w.nodes at)) w)) }
         ensures nodes { self.new.nodes.items ≡ self.old.nodes.items }
     {
         match self.declared.get(at) {
@@ -221,7 +237,8 @@ impl World<'_> {
     /// Tells an event. There are three for a frame, so that callers take this in, and `put_in_air` too.
     #[inline(always)]
     pub fn tell(&mut self, line: u32, event: Event) -> Result<(), NoMemory>
-        ensures goes { OnOk result (GoesOn (course self.old) (course self.new) (worlds.tell line (event_of event ∷ []))) }
+        ensures goes { OnOk result (GoesOn (course self.old) (course self.new)
+            (worlds.tell line (event_of event ∷ []))) }
         ensures nodes { self.new.nodes.items ≡ self.old.nodes.items }
         ensures air { self.new.air ≡ self.old.air }
     {
@@ -263,9 +280,11 @@ impl World<'_> {
 
     /// Fetches the first frame that waits at the node at a place.
     fn next_frame(&mut self, at: usize) -> Option<Written>
-        ensures answer { (w : worlds.World) → Stands (course self.old) w → result ≡ running.first_frame (slice_get w.nodes at) }
+        ensures answer { (w : worlds.World) → Stands (course self.old) w
+            → result ≡ running.first_frame (slice_get w.nodes at) }
         ensures goes { GoesOn (course self.old) (course self.new) (running.change at running.fetched_frame) }
-        ensures left { IfSome result (λ _. running.frames_at at self.new.nodes.items < running.frames_at at self.old.nodes.items) }
+        ensures left { IfSome result (λ _. running.frames_at at self.new.nodes.items
+            < running.frames_at at self.old.nodes.items) }
     {
         if at < self.nodes.len() {
             self.nodes[at].next_frame()
@@ -283,7 +302,8 @@ impl World<'_> {
         came128: bool,
         written: Written,
     ) -> Result<(), ReplayRefusal>
-        ensures runs { Runs (course self.old) (course self.new) (running.airs line (running.aired_one on_air node came128 written)) result }
+        ensures runs { Runs (course self.old) (course self.new)
+            (running.airs line (running.aired_one on_air node came128 written)) result }
         ensures nodes { self.new.nodes.items ≡ self.old.nodes.items }
     {
         if on_air {

@@ -23,7 +23,8 @@ impl World<'_> {
         pair: Pair,
     ) -> Result<(), NoMemory>
         requires { IsPair pair }
-        ensures { OnOk result (GoesOn (course self.old) (course self.new) (lines.restart network.now line number pair)) }
+        ensures { OnOk result (GoesOn (course self.old) (course self.new)
+            (lines.restart network.now line number pair)) }
     {
         let at = self.place_of(number);
         if at < self.nodes.len() {
@@ -49,7 +50,8 @@ impl World<'_> {
         requires pair { IsPair pair }
         requires within { at < length self.old.nodes.items }
         requires number { declared.now ≡ slice_index_or self.old.declared.items at declared.now }
-        ensures { OnOk result (GoesOn (course self.old) (course self.new) (worlds.at_node at (lines.restarts network.now line at pair))) }
+        ensures { OnOk result (GoesOn (course self.old) (course self.new)
+            (worlds.at_node at (lines.restarts network.now line at pair))) }
     {
         let node = declared.node;
         let made = self.ends.of_node(node).len() as u64;
@@ -66,7 +68,8 @@ impl World<'_> {
     /// Tells which of so many ends the node at a place holds: they are lost.
     fn tell_losses(&mut self, line: u32, at: usize, node: u8, made: u64) -> Result<(), NoMemory>
         requires { made ≤ 4611686018427387904 }
-        ensures goes { OnOk result (GoesOn (course self.old) (course self.new) (λ w. worlds.tell line (running.losses_at node made (slice_get w.nodes at)) w)) }
+        ensures goes { OnOk result (GoesOn (course self.old) (course self.new)
+            (λ w. worlds.tell line (running.losses_at node made (slice_get w.nodes at)) w)) }
         ensures nodes { self.new.nodes.items ≡ self.old.nodes.items }
     {
         for id in 1..made + 1 {
@@ -77,7 +80,8 @@ impl World<'_> {
 
     /// Tells that an end of the node at a place is lost, where it is held.
     fn tell_loss(&mut self, line: u32, at: usize, node: u8, end: u64) -> Result<(), NoMemory>
-        ensures goes { OnOk result (GoesOn (course self.old) (course self.new) (λ w. worlds.tell line (running.loss_at node end (slice_get w.nodes at)) w)) }
+        ensures goes { OnOk result (GoesOn (course self.old) (course self.new)
+            (λ w. worlds.tell line (running.loss_at node end (slice_get w.nodes at)) w)) }
         ensures nodes { self.new.nodes.items ≡ self.old.nodes.items }
     {
         match self.facts_at(at, end) {
@@ -91,7 +95,8 @@ impl World<'_> {
     }
 
     fn facts_at(&self, at: usize, end: u64) -> Option<EndFacts>
-        ensures { (w : worlds.World) → Stands (course self.now) w → result ≡ running.facts_of end (slice_get w.nodes at) }
+        ensures { (w : worlds.World) → Stands (course self.now) w
+            → result ≡ running.facts_of end (slice_get w.nodes at) }
     {
         if at < self.nodes.len() {
             self.nodes[at].facts(end)

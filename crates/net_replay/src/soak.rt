@@ -38,7 +38,8 @@ pub fn soak_line(
     late: Option<Late>,
     out: &mut TextOut,
 ) -> Result<(), NoMemory>
-    ensures ok { OnOk result ((w : World) → IsTraceOf (left_of trace.now) w → out.new ≡ out.old ++ texts.soak_text seed w late) }
+    ensures ok { OnOk result ((w : World) → IsTraceOf (left_of trace.now) w
+        → out.new ≡ out.old ++ texts.soak_text seed w late) }
     ensures err { OnErr result (out.new ≡ out.old) }
 {
     let text = text_of(alloc, seed, trace, late)?;
@@ -64,7 +65,8 @@ fn start_of(
     trace: &Trace,
     ends: &[EndFacts],
 ) -> Result<String, AllocError>
-    ensures { IfOk result (λ s. string_bytes s ≡ texts.counts_text seed (length (left_of trace.now).air) ends.now (texts.failures (map numbered_of (left_of trace.now).events))) }
+    ensures { IfOk result (λ s. string_bytes s ≡ texts.counts_text seed (length (left_of trace.now).air) ends.now
+        (texts.failures (map numbered_of (left_of trace.now).events))) }
 {
     let frames = trace.frames().len();
     let messages = messages_of(ends);

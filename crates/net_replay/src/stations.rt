@@ -97,7 +97,8 @@ pub fn is_callsign(call: &Call)
 
 /// Sets the repeaters over which a node reaches its peers.
 pub fn set_paths(node: &mut Node, number: u8, vias: &[Via]) -> Result<(), NoMemory>
-    ensures { OnOk result (NodeGoes (starting.with_vias (filter (starting.is_via_of number) vias.now)) node.old node.new) }
+    ensures { OnOk result (NodeGoes
+        (starting.with_vias (filter (starting.is_via_of number) vias.now)) node.old node.new) }
 {
     for via in vias {
         set_own_path(node, number, via)?;
@@ -107,7 +108,8 @@ pub fn set_paths(node: &mut Node, number: u8, vias: &[Via]) -> Result<(), NoMemo
 
 /// Sets the repeaters over which a node reaches a peer, if they are those of the node of that number.
 fn set_own_path(node: &mut Node, number: u8, via: &Via) -> Result<(), NoMemory>
-    ensures { OnOk result (NodeGoes (starting.with_vias (filter (starting.is_via_of number) (via.now ∷ []))) node.old node.new) }
+    ensures { OnOk result (NodeGoes
+        (starting.with_vias (filter (starting.is_via_of number) (via.now ∷ []))) node.old node.new) }
 {
     if via.node == number {
         set_path(node, via)
@@ -159,7 +161,8 @@ fn repeater(call: Call) -> Address
 
 /// A node's table, as it is shown.
 pub fn shown(alloc: Global, declared: &Declaration, node: &Node) -> Result<Table, NoMemory>
-    ensures { IfOk result (λ table. (n : NodeState) → NodeStands node.now n → table ≡ lines.table_of (record { declared = declared.now; state = n })) }
+    ensures { IfOk result (λ table. (n : NodeState) → NodeStands node.now n
+        → table ≡ lines.table_of (record { declared = declared.now; state = n })) }
 {
     let routes = node.routes().routes_of_all(alloc)?;
     Ok(Table::new(declared.node, declared.call, declared.alias, routes))

@@ -24,7 +24,8 @@ impl World<'_> {
     /// The ends that the node at a place holds, by number. They are named first, since taking its last message takes an ended end
     /// away.
     pub fn held_ids(&self, at: usize) -> Result<Vec<u64>, NoMemory>
-        ensures { IfOk result (λ ids. (w : worlds.World) → Stands (course self.now) w → ids.items ≡ sets.held_ids (ends_here at w)) }
+        ensures { IfOk result (λ ids. (w : worlds.World) → Stands (course self.now) w
+            → ids.items ≡ sets.held_ids (ends_here at w)) }
     {
         let mut ids = Vec::new(self.alloc);
         for nth in 0..MAX_ENDS + 1 {
@@ -37,7 +38,8 @@ impl World<'_> {
     }
 
     fn held_id(&self, at: usize, nth: usize) -> Option<u64>
-        ensures { (w : worlds.World) → Stands (course self.now) w → result ≡ slice_get (sets.held_ids (ends_here at w)) nth }
+        ensures { (w : worlds.World) → Stands (course self.now) w
+            → result ≡ slice_get (sets.held_ids (ends_here at w)) nth }
     {
         if at < self.nodes.len() {
             self.nodes[at].circuits().held(nth)
@@ -48,7 +50,8 @@ impl World<'_> {
 
     /// The end of that number at the node at a place.
     pub fn end_at(&self, at: usize, id: u64) -> Option<&End>
-        ensures { (w : worlds.World) → Stands (course self.now) w → LentStands (option_copied result) (end_of id (ends_here at w)) }
+        ensures { (w : worlds.World) → Stands (course self.now) w
+            → LentStands (option_copied result) (end_of id (ends_here at w)) }
     {
         if at < self.nodes.len() {
             self.nodes[at].circuits().end(id)
@@ -59,7 +62,8 @@ impl World<'_> {
 
     /// The node of the partner of that end.
     pub fn partner_at(&self, at: usize, id: u64) -> Option<Call>
-        ensures { (w : worlds.World) → Stands (course self.now) w → result ≡ sets.partner_at (end_of id (ends_here at w)) }
+        ensures { (w : worlds.World) → Stands (course self.now) w
+            → result ≡ sets.partner_at (end_of id (ends_here at w)) }
     {
         if at < self.nodes.len() {
             self.nodes[at].circuits().partner(id)
@@ -70,7 +74,8 @@ impl World<'_> {
 
     /// Whether a message waits at an end.
     pub fn has_message(&self, at: usize, id: u64) -> bool
-        ensures { (w : worlds.World) → Stands (course self.now) w → result ≡ mailing.waits (take_answer (end_of id (ends_here at w))) }
+        ensures { (w : worlds.World) → Stands (course self.now) w
+            → result ≡ mailing.waits (take_answer (end_of id (ends_here at w))) }
     {
         match self.end_at(at, id) {
             Some(end) => end.has_message(),
@@ -90,7 +95,8 @@ impl World<'_> {
 
     /// The node of the partner of an end, where the node asked for the circuit and it is up.
     pub fn dest_of(&self, at: usize, id: u64) -> Option<Call>
-        ensures { (w : worlds.World) → Stands (course self.now) w → result ≡ mailing.dest_of (end_of id (ends_here at w)) }
+        ensures { (w : worlds.World) → Stands (course self.now) w
+            → result ≡ mailing.dest_of (end_of id (ends_here at w)) }
     {
         if !self.is_requested(at, id) {
             return None;
@@ -102,7 +108,8 @@ impl World<'_> {
     }
 
     fn is_requested(&self, at: usize, id: u64) -> bool
-        ensures { (w : worlds.World) → Stands (course self.now) w → result ≡ agents.is_requested (end_of id (ends_here at w)) }
+        ensures { (w : worlds.World) → Stands (course self.now) w
+            → result ≡ agents.is_requested (end_of id (ends_here at w)) }
     {
         if at < self.nodes.len() {
             self.nodes[at].circuits().requested(id).unwrap_or(false)
@@ -112,7 +119,8 @@ impl World<'_> {
     }
 
     fn is_up(&self, at: usize, id: u64) -> bool
-        ensures { (w : worlds.World) → Stands (course self.now) w → result ≡ agents.is_up_end (end_of id (ends_here at w)) }
+        ensures { (w : worlds.World) → Stands (course self.now) w
+            → result ≡ agents.is_up_end (end_of id (ends_here at w)) }
     {
         match self.end_at(at, id) {
             Some(end) => is_up(end.facts().phase),

@@ -46,7 +46,8 @@ impl World<'_> {
         dest: &Call,
         last: u64,
     ) -> Result<(), ReplayRefusal>
-        ensures { Runs (course self.old) (course self.new) (agents.offer_from here.line here.node here.at id dest.now last 0) result }
+        ensures { Runs (course self.old) (course self.new)
+            (agents.offer_from here.line here.node here.at id dest.now last 0) result }
     {
         let count = queued_count(&self.mails, here.at);
         for nth in 0..count {
@@ -68,8 +69,11 @@ impl World<'_> {
         last: u64,
         nth: usize,
     ) -> Result<bool, ReplayRefusal>
-        ensures ok { IfOk result (λ refused. agents.Offers (course self.old) (course self.new) (agents.offer_from here.line here.node here.at id dest.now last nth) (agents.offer_from here.line here.node here.at id dest.now last (nth + 1)) refused) }
-        ensures err { IfErr result (λ e. Stops (course self.old) e (agents.offer_from here.line here.node here.at id dest.now last nth)) }
+        ensures ok { IfOk result (λ refused. agents.Offers (course self.old) (course self.new)
+            (agents.offer_from here.line here.node here.at id dest.now last nth)
+            (agents.offer_from here.line here.node here.at id dest.now last (nth + 1)) refused) }
+        ensures err { IfErr result (λ e. Stops (course self.old) e
+            (agents.offer_from here.line here.node here.at id dest.now last nth)) }
     {
         match queued_at(&self.mails, here.at, nth) {
             Some((number, to)) => {
@@ -85,8 +89,12 @@ impl World<'_> {
 
     /// Offers the queued mail of that number at an end. It answers whether the write was refused.
     fn offer(&mut self, here: LineAt, id: u64, number: u64) -> Result<bool, ReplayRefusal>
-        ensures ok { IfOk result (λ refused. (numbers : List ℕ) → agents.Offers (course self.old) (course self.new) (mailing.offer here.line here.node here.at id (number ∷ numbers)) (mailing.offer here.line here.node here.at id numbers) refused) }
-        ensures err { IfErr result (λ e. (numbers : List ℕ) → Stops (course self.old) e (mailing.offer here.line here.node here.at id (number ∷ numbers))) }
+        ensures ok { IfOk result (λ refused. (numbers : List ℕ)
+            → agents.Offers (course self.old) (course self.new)
+            (mailing.offer here.line here.node here.at id (number ∷ numbers))
+            (mailing.offer here.line here.node here.at id numbers) refused) }
+        ensures err { IfErr result (λ e. (numbers : List ℕ)
+            → Stops (course self.old) e (mailing.offer here.line here.node here.at id (number ∷ numbers))) }
     {
         let message = wire_at(&self.mails, here.at, number);
         let is_written = self.write_if_taken(here, id, message.as_slice())?;

@@ -34,7 +34,8 @@ impl World<'_> {
         here: LineAt,
         answers: &mut Vec<Event>,
     ) -> Result<(), ReplayRefusal>
-        ensures { AgentRuns (course self.old) answers.old.items (course self.new) answers.new.items (λ a. mailing.take_at here.line here.node here.at (held_ids (ends_here here.at a.world)) a) result }
+        ensures { AgentRuns (course self.old) answers.old.items (course self.new) answers.new.items
+            (λ a. mailing.take_at here.line here.node here.at (held_ids (ends_here here.at a.world)) a) result }
     {
         let ids = self.held_ids(here.at)?;
         for id in ids.as_slice() {
@@ -50,7 +51,8 @@ impl World<'_> {
         id: u64,
         answers: &mut Vec<Event>,
     ) -> Result<(), ReplayRefusal>
-        ensures { AgentRuns (course self.old) answers.old.items (course self.new) answers.new.items (mailing.take_all here.line here.node here.at id) result }
+        ensures { AgentRuns (course self.old) answers.old.items (course self.new) answers.new.items
+            (mailing.take_all here.line here.node here.at id) result }
     {
         for _ in 0..MAX_TAKES {
             let has_taken = self.take_one(here, id, answers)?;
@@ -68,8 +70,13 @@ impl World<'_> {
         id: u64,
         answers: &mut Vec<Event>,
     ) -> Result<bool, ReplayRefusal>
-        ensures ok { IfOk result (λ took. (more : ℕ) → agents.Takes (course self.old) answers.old.items (course self.new) answers.new.items (mailing.take_from here.line here.node here.at id (suc more)) (mailing.take_from here.line here.node here.at id more) took) }
-        ensures err { IfErr result (λ e. (more : ℕ) → AgentRuns (course self.old) answers.old.items (course self.new) answers.new.items (mailing.take_from here.line here.node here.at id (suc more)) (Err e)) }
+        ensures ok { IfOk result (λ took. (more : ℕ)
+            → agents.Takes (course self.old) answers.old.items (course self.new) answers.new.items
+            (mailing.take_from here.line here.node here.at id (suc more))
+            (mailing.take_from here.line here.node here.at id more) took) }
+        ensures err { IfErr result (λ e. (more : ℕ)
+            → AgentRuns (course self.old) answers.old.items (course self.new) answers.new.items
+            (mailing.take_from here.line here.node here.at id (suc more)) (Err e)) }
     {
         if !self.has_message(here.at, id) {
             return Ok(false);
@@ -98,7 +105,9 @@ impl World<'_> {
         message: &[u8],
         answers: &mut Vec<Event>,
     ) -> Result<(), ReplayRefusal>
-        ensures { AgentRuns (course self.old) answers.old.items (course self.new) answers.new.items (λ a. mailing.heard_by here.line here.node here.at id message.now (Some from.now) (mailing.mail_at here.at a.world) a) result }
+        ensures { AgentRuns (course self.old) answers.old.items (course self.new) answers.new.items
+            (λ a. mailing.heard_by here.line here.node here.at id message.now (Some from.now)
+            (mailing.mail_at here.at a.world) a) result }
     {
         let mut out = Message::new();
         let outcome = hear_at(&mut self.mails, here.at, from, message, &mut out)?;
@@ -113,7 +122,8 @@ impl World<'_> {
 
     /// Writes an answer at an end, where there is one: it isn't empty.
     fn write_answer(&mut self, here: LineAt, id: u64, answer: &[u8]) -> Result<(), ReplayRefusal>
-        ensures { (wire : Option Wire) → answer.now ≡ octets_in wire → Runs (course self.old) (course self.new) (mailing.write_answer_to here.line here.at id wire) result }
+        ensures { (wire : Option Wire) → answer.now ≡ octets_in wire
+            → Runs (course self.old) (course self.new) (mailing.write_answer_to here.line here.at id wire) result }
     {
         if answer.is_empty() {
             return Ok(());
@@ -131,7 +141,8 @@ impl World<'_> {
         heard: &Heard,
         answers: &mut Vec<Event>,
     ) -> Result<(), NoMemory>
-        ensures { OnOk result (map event_of answers.new.items ≡ map event_of answers.old.items ++ mailing.heard_events node from.now (octets - 16) heard.now) }
+        ensures { OnOk result (map event_of answers.new.items
+            ≡ map event_of answers.old.items ++ mailing.heard_events node from.now (octets - 16) heard.now) }
     {
         match heard {
             Heard::Stored { number, to } => {

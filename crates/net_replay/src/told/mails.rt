@@ -14,7 +14,8 @@ pub fn posted_line(alloc: Global, node: u8, number: u64) -> Result<String, Alloc
 
 /// `stored N ORIGIN NUMBER TO LEN`
 pub fn stored_line(alloc: Global, node: u8, mail: &StoredMail) -> Result<String, AllocError>
-    ensures { IfOk result (λ s. string_bytes s ≡ mails.stored_line node mail.now.origin mail.now.number mail.now.to mail.now.len) }
+    ensures { IfOk result (λ s. string_bytes s
+        ≡ mails.stored_line node mail.now.origin mail.now.number mail.now.to mail.now.len) }
 {
     let origin = mail.origin.show();
     let origin = origin.as_str();

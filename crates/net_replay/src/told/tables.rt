@@ -69,7 +69,8 @@ fn push_dest(route: &Route, line: &mut Line)
 
 fn push_neighbour(route: &Route, line: &mut Line)
     requires { length line.old.bytes ≤ 16 }
-    ensures text { line.new.bytes ≡ line.old.bytes ++ (aliases.shown route.now.alias ++ (codes " " ++ (calls.shown route.now.neighbour ++ codes " "))) }
+    ensures text { line.new.bytes ≡ line.old.bytes
+        ++ (aliases.shown route.now.alias ++ (codes " " ++ (calls.shown route.now.neighbour ++ codes " "))) }
     ensures len { length line.new.bytes ≤ 33 }
 {
     line.push_str(route.alias.show().as_str());
@@ -80,7 +81,8 @@ fn push_neighbour(route: &Route, line: &mut Line)
 
 fn push_worth(route: &Route, line: &mut Line)
     requires { length line.old.bytes ≤ 33 }
-    ensures text { line.new.bytes ≡ line.old.bytes ++ (decimal route.now.quality ++ (codes " " ++ (texts.count_text route.now.count ++ codes "\n"))) }
+    ensures text { line.new.bytes ≡ line.old.bytes
+        ++ (decimal route.now.quality ++ (codes " " ++ (texts.count_text route.now.count ++ codes "\n"))) }
 {
     push_decimal(route.quality as usize, line);
     line.push(' ');

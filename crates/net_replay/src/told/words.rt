@@ -48,7 +48,8 @@ pub fn phase_word(phase: EndPhase) -> &'static str
 
 /// Why a router dropped a datagram, if it did.
 pub fn drop_word(routed: &Routed) -> Option<&'static str>
-    ensures { MatchOption result (words.drop_word routed.now ≡ None) (λ word. words.drop_word routed.now ≡ Some word.now) }
+    ensures { MatchOption result (words.drop_word routed.now ≡ None)
+        (λ word. words.drop_word routed.now ≡ Some word.now) }
 {
     match routed {
         Routed::Expired => Some("expired"),
