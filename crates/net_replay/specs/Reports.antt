@@ -16,14 +16,15 @@ use Rattle.net_replay.specs.declared.air.Aired.{Aired}
 use Rattle.net_replay.specs.declared.ends.EndRecord.{EndRecord}
 use Rattle.net_replay.specs.Air.{frame_of}
 use Rattle.net_replay.specs.Ends.{ends_of}
-use Rattle.net_replay.specs.Events.{Event, Entry, InAir, Shown, Took, Wrote, Restarted, Refused, Posted, MailStored, MailSettled, NumberedEvent}
+use Rattle.net_replay.specs.Events as events
+use Rattle.net_replay.specs.Events.{Event, NumberedEvent}
 use Rattle.net_replay.specs.Lines.{table_of}
 use Rattle.net_replay.specs.Reasons.{word_for_why}
 use Rattle.net_replay.specs.Starting.{Placed}
 use Rattle.net_replay.specs.Tables.{Table}
 use Rattle.net_replay.specs.ToldEntries.{entry_text, last_texts}
 use Rattle.net_replay.specs.ToldMails.{done_line, mail_line, posted_line, stored_line}
-use Rattle.net_replay.specs.ToldLines.{restarted_line, took_line, wrote_line}
+use Rattle.net_replay.specs.ToldLines as lines
 use Rattle.net_replay.specs.World.{World}
 
 -- a frame that no octets are at fault of, as in the air none are
@@ -67,16 +68,16 @@ refused_line line why = codes "refused " ++ (decimal line ++ (codes " " ++ (why 
 
 -- what is written of an event of a line; these are the frames in the air, and the ends that each node ever made
 abbrev pub event_text : List Aired → (ℕ → List EndRecord) → ℕ → Event → List ℕ
-event_text air ends line (Entry node entry) = entry_text node (ends node) entry
-event_text air ends line (InAir number) = air_line number (frame_of air number)
-event_text air ends line (Shown table) = table_text table
-event_text air ends line (Took node end message) = took_line node end message
-event_text air ends line (Wrote node end count) = wrote_line node end count
-event_text air ends line (Restarted node pair) = restarted_line node
-event_text air ends line (Refused why) = refused_line line (word_for_why why)
-event_text air ends line (Posted node number) = posted_line node number
-event_text air ends line (MailStored node origin number to len) = stored_line node origin number to len
-event_text air ends line (MailSettled node number) = done_line node number
+event_text air ends line (events.Entry node entry) = entry_text node (ends node) entry
+event_text air ends line (events.InAir number) = air_line number (frame_of air number)
+event_text air ends line (events.Shown table) = table_text table
+event_text air ends line (events.Took node end message) = lines.took_line node end message
+event_text air ends line (events.Wrote node end count) = lines.wrote_line node end count
+event_text air ends line (events.Restarted node pair) = lines.restarted_line node
+event_text air ends line (events.Refused why) = refused_line line (word_for_why why)
+event_text air ends line (events.Posted node number) = posted_line node number
+event_text air ends line (events.MailStored node origin number to len) = stored_line node origin number to len
+event_text air ends line (events.MailSettled node number) = done_line node number
 event_text air ends line _ = []
 
 abbrev pub told_text : List Aired → (ℕ → List EndRecord) → NumberedEvent → List ℕ

@@ -4,7 +4,7 @@ use Rattle.network_file.specs.declared.reasons.What.{What}
 use Rattle.network_file.specs.declared.reasons.What.TheVariants as whats
 use Rattle.network_file.specs.declared.lines.Line.{Line}
 use Rattle.network_file.specs.declared.lines.Line.TheVariants as lines
-use Rattle.network_file.specs.declared.plan.instructions.Instruction.TheVariants.{Open, Say, Burst, Take, Close}
+use Rattle.network_file.specs.declared.plan.instructions.Instruction.TheVariants as instructions
 use Rattle.network_file.specs.Plan.{Plan}
 use Rattle.network_file.specs.Places.{known, number_at, nth_at, node_at}
 use Rattle.network_file.specs.Lines.Kinds.{Kind, instruction, reads}
@@ -28,7 +28,7 @@ unfoldable pub say_at : Plan → List ℕ → List ℕ → List ℕ → Result L
 say_at plan line number nth = do
   text ← known whats.Count (said_text line)
   e ← end_at plan number nth
-  Ok (lines.Instruction (Say e.0 e.1 text))
+  Ok (lines.Instruction (instructions.Say e.0 e.1 text))
 
 abbrev pub say_line : Plan → List ℕ → List (List ℕ) → Result Line What
 say_line plan line (number ∷ nth ∷ more) = say_at plan line number nth
@@ -39,7 +39,7 @@ unfoldable pub burst_at : Plan → List ℕ → List ℕ → List ℕ → Result
 burst_at plan number nth count = do
   e ← end_at plan number nth
   c ← number_at 1 10000 count
-  Ok (lines.Instruction (Burst e.0 e.1 c))
+  Ok (lines.Instruction (instructions.Burst e.0 e.1 c))
 
 abbrev pub burst_line : Plan → List (List ℕ) → Result Line What
 burst_line plan (number ∷ nth ∷ count ∷ []) = burst_at plan number nth count
@@ -52,9 +52,9 @@ end_alone plan other = Err whats.Count
 -- open N DEST; say; burst; take N X; close N X
 abbrev pub circuit_kinds : List Kind
 circuit_kinds =
-    instruction (codes "open") (reads node_and_call (λ way. Open way.0 way.1))
+    instruction (codes "open") (reads node_and_call (λ way. instructions.Open way.0 way.1))
     ∷ instruction (codes "say") say_line
     ∷ instruction (codes "burst") (λ plan line. burst_line plan)
-    ∷ instruction (codes "take") (reads end_alone (λ e. Take e.0 e.1))
-    ∷ instruction (codes "close") (reads end_alone (λ e. Close e.0 e.1))
+    ∷ instruction (codes "take") (reads end_alone (λ e. instructions.Take e.0 e.1))
+    ∷ instruction (codes "close") (reads end_alone (λ e. instructions.Close e.0 e.1))
     ∷ []

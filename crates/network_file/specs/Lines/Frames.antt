@@ -3,7 +3,7 @@ use Rattle.std.specs.Prelude.{ℕ, List, [], ◌∷◌, Result, Ok, Err, codes}
 use Rattle.ax_address.specs.Results.{◌>>=◌}
 use Rattle.network_file.specs.declared.reasons.What.{What}
 use Rattle.network_file.specs.declared.reasons.What.TheVariants as whats
-use Rattle.network_file.specs.declared.plan.instructions.Instruction.TheVariants.{Deliver, Again, Lose, Flow, Cut}
+use Rattle.network_file.specs.declared.plan.instructions.Instruction.TheVariants as instructions
 use Rattle.network_file.specs.Plan.{Plan}
 use Rattle.network_file.specs.Lines.Kinds.{Kind, instruction, reads}
 use Rattle.network_file.specs.Places.{number_at, nth_at, node_at}
@@ -31,9 +31,9 @@ frame_and_node plan other = Err whats.Count
 -- deliver K N; again K N; lose K; flow COUNT; cut COUNT
 abbrev pub frame_kinds : List Kind
 frame_kinds =
-    instruction (codes "deliver") (reads frame_and_node (λ way. Deliver way.0 way.1))
-    ∷ instruction (codes "again") (reads frame_and_node (λ way. Again way.0 way.1))
-    ∷ instruction (codes "lose") (reads (λ plan. frame_alone) Lose)
-    ∷ instruction (codes "flow") (reads (λ plan. count_alone) Flow)
-    ∷ instruction (codes "cut") (reads (λ plan. count_alone) Cut)
+    instruction (codes "deliver") (reads frame_and_node (λ way. instructions.Deliver way.0 way.1))
+    ∷ instruction (codes "again") (reads frame_and_node (λ way. instructions.Again way.0 way.1))
+    ∷ instruction (codes "lose") (reads (λ plan. frame_alone) instructions.Lose)
+    ∷ instruction (codes "flow") (reads (λ plan. count_alone) instructions.Flow)
+    ∷ instruction (codes "cut") (reads (λ plan. count_alone) instructions.Cut)
     ∷ []

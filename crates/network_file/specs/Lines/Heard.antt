@@ -6,7 +6,7 @@ use Rattle.network_file.specs.declared.reasons.What.{What}
 use Rattle.network_file.specs.declared.reasons.What.TheVariants as whats
 use Rattle.network_file.specs.declared.lines.Line.{Line}
 use Rattle.network_file.specs.declared.lines.Line.TheVariants as lines
-use Rattle.network_file.specs.declared.plan.instructions.Instruction.TheVariants.{Heard}
+use Rattle.network_file.specs.declared.plan.instructions.Instruction.TheVariants as instructions
 use Rattle.network_file.specs.Plan.{Plan}
 use Rattle.network_file.specs.Places.{needs, number_at, node_at, call_at, alias_at}
 
@@ -37,7 +37,7 @@ broadcast_at plan number name nick rest = do
   c ← call_at name
   a ← alias_at nick
   es ← entries_at rest
-  Ok (lines.Instruction (Heard n c (record { alias = a; entries = record { items = es } })))
+  Ok (lines.Instruction (instructions.Heard n c (record { alias = a; entries = record { items = es } })))
 
 abbrev pub heard_line : Plan → List (List ℕ) → Result Line What
 heard_line plan (number ∷ name ∷ nick ∷ rest) = broadcast_at plan number name nick rest

@@ -6,7 +6,7 @@ use Rattle.network_file.specs.declared.reasons.What.{What}
 use Rattle.network_file.specs.declared.reasons.What.TheVariants as whats
 use Rattle.network_file.specs.declared.lines.Line.{Line}
 use Rattle.network_file.specs.declared.lines.Line.TheVariants as lines
-use Rattle.network_file.specs.declared.plan.instructions.Instruction.TheVariants.{Post, Mail}
+use Rattle.network_file.specs.declared.plan.instructions.Instruction.TheVariants as instructions
 use Rattle.network_file.specs.Plan.{Plan}
 use Rattle.network_file.specs.Places.{call_at, known, node_at}
 use Rattle.network_file.specs.Lines.Kinds.{Kind, instruction_since, reads}
@@ -30,7 +30,7 @@ unfoldable pub post_at : Plan → List ℕ → List ℕ → List ℕ → List �
 post_at plan line number to dest = do
   text ← known whats.Count (posted_text line)
   p ← node_and_calls_at plan number to dest
-  Ok (lines.Instruction (Post p.0 p.1 p.2 text))
+  Ok (lines.Instruction (instructions.Post p.0 p.1 p.2 text))
 
 abbrev pub post_line : Plan → List ℕ → List (List ℕ) → Result Line What
 post_line plan line (number ∷ to ∷ dest ∷ more) = post_at plan line number to dest
@@ -38,4 +38,4 @@ post_line plan line other = Err whats.Count
 
 -- mail N
 abbrev pub mail_kinds : List Kind
-mail_kinds = instruction_since 4 (codes "post") post_line ∷ instruction_since 4 (codes "mail") (reads node_alone Mail) ∷ []
+mail_kinds = instruction_since 4 (codes "post") post_line ∷ instruction_since 4 (codes "mail") (reads node_alone instructions.Mail) ∷ []

@@ -6,7 +6,7 @@ use Rattle.network_file.specs.declared.reasons.What.{What}
 use Rattle.network_file.specs.declared.reasons.What.TheVariants as whats
 use Rattle.network_file.specs.declared.lines.Line.{Line}
 use Rattle.network_file.specs.declared.lines.Line.TheVariants as lines
-use Rattle.network_file.specs.declared.plan.instructions.Instruction.TheVariants.{Lock, Round, LinkFail, Show, Tick, Restart}
+use Rattle.network_file.specs.declared.plan.instructions.Instruction.TheVariants as instructions
 use Rattle.network_file.specs.Plan.{Plan}
 use Rattle.network_file.specs.Lines.Heard.{heard_line}
 use Rattle.network_file.specs.Lines.Kinds.{Kind, instruction, instruction_since, reads}
@@ -20,7 +20,7 @@ lock_at plan number dest nick neighbour quality = do
   a ← alias_at nick
   b ← call_at neighbour
   q ← number_at 0 255 quality
-  Ok (lines.Instruction (Lock n d a b q))
+  Ok (lines.Instruction (instructions.Lock n d a b q))
 
 abbrev pub lock_line : Plan → List (List ℕ) → Result Line What
 lock_line plan (number ∷ dest ∷ nick ∷ neighbour ∷ quality ∷ []) = lock_at plan number dest nick neighbour quality
@@ -44,7 +44,7 @@ node_and_call plan other = Err whats.Count
 unfoldable pub tick_at : List ℕ → Result Line What
 tick_at word = do
   ms ← number_at 1 86400000 word
-  Ok (lines.Instruction (Tick ms))
+  Ok (lines.Instruction (instructions.Tick ms))
 
 abbrev pub tick_line : List (List ℕ) → Result Line What
 tick_line (word ∷ []) = tick_at word
@@ -56,7 +56,7 @@ restart_at plan number index ident = do
   n ← node_at plan.declared number
   i ← number_at 1 255 index
   d ← number_at 1 255 ident
-  Ok (lines.Instruction (Restart n (record { index = i; ident = d })))
+  Ok (lines.Instruction (instructions.Restart n (record { index = i; ident = d })))
 
 abbrev pub restart_line : Plan → List (List ℕ) → Result Line What
 restart_line plan (number ∷ index ∷ ident ∷ []) = restart_at plan number index ident
@@ -67,9 +67,9 @@ abbrev pub node_kinds : List Kind
 node_kinds =
     instruction (codes "heard") (λ plan line. heard_line plan)
     ∷ instruction (codes "lock") (λ plan line. lock_line plan)
-    ∷ instruction (codes "round") (reads node_alone Round)
-    ∷ instruction (codes "linkfail") (reads node_and_call (λ link. LinkFail link.0 link.1))
-    ∷ instruction (codes "show") (reads node_alone Show)
+    ∷ instruction (codes "round") (reads node_alone instructions.Round)
+    ∷ instruction (codes "linkfail") (reads node_and_call (λ link. instructions.LinkFail link.0 link.1))
+    ∷ instruction (codes "show") (reads node_alone instructions.Show)
     ∷ instruction (codes "tick") (λ plan line. tick_line)
     ∷ instruction_since 2 (codes "restart") (λ plan line. restart_line plan)
     ∷ []
