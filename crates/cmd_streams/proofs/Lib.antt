@@ -1,3 +1,4 @@
+pub mod FramedSizes
 pub mod WritingLemmas
 pub mod StreamItems
 pub mod StreamReads

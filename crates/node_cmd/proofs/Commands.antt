@@ -1,31 +1,30 @@
 -- Words ask for one command at most: for one modulus, one seed, one life, one node, one gateway.
-use Rattle.std.proofs.Common.{◌≡◌, ◌∙◌, ◌⊎◌, ◌∷◌, [], ℕ, List, refl, sym, subst, ap, arith, inl, inr, String, Global}
+use Rattle.std.proofs.Common.{◌≡◌, ◌∙◌, ◌⊎◌, ◌∷◌, [], ℕ, List, refl, sym, subst, ap, arith, get_or, inl, inr, String, Global}
 use Rattle.std.specs.Prelude.{Ok, codes, nat_eq, false}
 use Rattle.std.proofs.lemmas.Bool.Decides.{nat_tests}
 use Rattle.std.specs.Fmt.{decimal}
 use Rattle.std.proofs.lemmas.Fmt.{decimal_injective}
-use Rattle.ax_ip.specs.Machine.{state}
 use Rattle.network_file.specs.declared.plan.live.LiveNode.{LiveNode}
-use Rattle.node_cmd.specs.declared.ip.gateway.Gateway.{Gateway}
-use Rattle.node_cmd.specs.declared.lives.words.LifeSettings.{LifeSettings}
+use Rattle.tool_cmd.specs.declared.ip.gateway.Gateway.{Gateway}
+use Rattle.tool_cmd.specs.declared.lives.words.LifeSettings.{LifeSettings}
 use Rattle.node_cmd.specs.declared.words.Command.{Command}
 use Rattle.node_cmd.specs.declared.words.Command.TheVariants.{Replay, Frames, Soak, Life, Node, Ip}
-use Rattle.node_cmd.specs.declared.words.FrameModulus.{FrameModulus}
-use Rattle.node_cmd.specs.declared.words.FrameModulus.TheVariants as modulo
-use Rattle.node_cmd.specs.IpWords.{IsGateway}
-use Rattle.node_cmd.specs.LifeWords.{AreSettings}
-use Rattle.node_cmd.specs.FrameModuli.{modulo_word, size_of}
+use Rattle.tool_cmd.specs.declared.words.FrameModulus.{FrameModulus}
+use Rattle.tool_cmd.specs.declared.words.FrameModulus.TheVariants as modulo
+use Rattle.tool_cmd.specs.IpWords.{IsGateway}
+use Rattle.tool_cmd.specs.LifeWords.{AreSettings}
+use Rattle.tool_cmd.specs.FrameModuli.{modulo_word, size_of}
+use Rattle.tool_cmd.specs.Laws.{AreOfOneGateway, AreOfOneLife}
+use Rattle.tool_cmd.specs.Standing.{state_of}
 use Rattle.node_cmd.specs.Words.{Ask, AskFor, AskForLife, AskForStream, Declare, seed_word}
-use Rattle.node_cmd.proofs.GatewayWords.{same_gateway}
-use Rattle.node_cmd.proofs.ThreeWords.{first_char, one_settings}
 
 pub one_seed : (words : List (String Global)) (m n : ℕ) → AskFor words (Soak m) → AskFor words (Soak n) → m ≡ n
 one_seed words m n a b = let same : decimal m ≡ decimal n = cc (sym a.0 ∙ b.0) in decimal_injective m n a.1 b.1 same
 
-pub one_gateway : (words : List (String Global)) (g h : Gateway) → AskFor words (Ip g) → AskFor words (Ip h) → state g.forwarder ≡ state h.forwarder
-one_gateway words g h a b =
+pub one_gateway : AreOfOneGateway → (words : List (String Global)) (g h : Gateway) → AskFor words (Ip g) → AskFor words (Ip h) → state_of g ≡ state_of h
+one_gateway law words g h a b =
     let same : a.0 ≡ b.0 = cc (sym a.1 ∙ b.1) in
-    same_gateway b.0 (state g.forwarder) (state h.forwarder) (subst (λ ws. IsGateway ws (state g.forwarder)) same a.2) b.2
+    law b.0 (state_of g) (state_of h) (subst (λ ws. IsGateway ws (state_of g)) same a.2) b.2
 
 same_declared : (words : List (List ℕ)) (d e : LiveNode) → Declare words d → Declare words e → d ≡ e
 unfolding Declare
@@ -36,10 +35,10 @@ one_declared words d e a b =
     let same : a.0 ≡ b.0 = cc (sym a.1 ∙ b.1) in
     same_declared b.0 d e (subst (λ ws. Declare ws d) same a.2) b.2
 
-pub one_life : (words : List (String Global)) (s t : LifeSettings) → AskFor words (Life s) → AskFor words (Life t) → s ≡ t
-one_life words s t a b =
+pub one_life : AreOfOneLife → (words : List (String Global)) (s t : LifeSettings) → AskFor words (Life s) → AskFor words (Life t) → s ≡ t
+one_life law words s t a b =
     let same : a.0 ≡ b.0 = cc (sym a.1 ∙ b.1) in
-    one_settings b.0 s t (subst (λ ws. AreSettings ws s) same a.2) b.2
+    law b.0 s t (subst (λ ws. AreSettings ws s) same a.2) b.2
 
 -- ---- the first word tells the commands apart
 
@@ -61,6 +60,9 @@ headed words (Ip gateway) a = (a.0, a.1)
 
 same_first : (words : List (String Global)) (c d : Command) → AskFor words c → AskFor words d → first_word c ≡ first_word d
 same_first words c d a b = let x = headed _ c a in let y = headed _ d b in cc (sym x.1 ∙ y.1)
+
+abbrev pub first_char : List ℕ → ℕ
+first_char word = get_or word 0 0
 
 -- the first character of that word
 abbrev pub mark : Command → ℕ

@@ -2,18 +2,18 @@
 use Rattle.std.specs.Prelude.{ℕ, ◌≡◌, ◌⊎◌, ◌<◌, ◌^◌, ◌++◌, List, [], ◌∷◌, Ok, codes, String}
 use Rattle.std.specs.Fmt.{decimal}
 use Rattle.std.specs.declared.alloc.Global.{Global}
-use Rattle.ax_ip.specs.Machine.{state}
 use Rattle.network_file.specs.declared.plan.live.LiveNode.{LiveNode}
 use Rattle.network_file.specs.Live.{live_node_at}
-use Rattle.node_cmd.specs.declared.ip.gateway.Gateway.{Gateway}
-use Rattle.node_cmd.specs.declared.lives.words.LifeSettings.{LifeSettings}
+use Rattle.tool_cmd.specs.declared.ip.gateway.Gateway.{Gateway}
+use Rattle.tool_cmd.specs.declared.lives.words.LifeSettings.{LifeSettings}
 use Rattle.node_cmd.specs.declared.words.Command.{Command}
 use Rattle.node_cmd.specs.declared.words.Command.TheVariants.{Replay, Frames, Soak, Life, Node, Ip}
-use Rattle.node_cmd.specs.declared.words.FrameModulus.{FrameModulus}
-use Rattle.node_cmd.specs.FrameModuli.{modulo_word}
-use Rattle.node_cmd.specs.IpWords.{IsGateway}
-use Rattle.node_cmd.specs.LifeWords.{AreSettings}
-use Rattle.node_cmd.specs.WordTexts.{texts_of}
+use Rattle.tool_cmd.specs.declared.words.FrameModulus.{FrameModulus}
+use Rattle.tool_cmd.specs.FrameModuli.{modulo_word}
+use Rattle.tool_cmd.specs.IpWords.{IsGateway}
+use Rattle.tool_cmd.specs.LifeWords.{AreSettings}
+use Rattle.tool_cmd.specs.Standing.{state_of}
+use Rattle.tool_cmd.specs.WordTexts.{texts_of}
 
 -- decimal, without a sign and without leading zeros
 abbrev pub seed_word : ℕ → List ℕ
@@ -31,7 +31,7 @@ Ask words (Soak seed) = (words ≡ codes "soak" ∷ seed_word seed ∷ []) × (s
 Ask words (Life s) = (later : List (List ℕ)) × (words ≡ codes "life" ∷ later) × AreSettings later s
 Ask words (Node declared) = (later : List (List ℕ)) × (words ≡ codes "node" ∷ later) × Declare later declared
 Ask words (Ip gateway) =
-    (later : List (List ℕ)) × (words ≡ codes "ip" ∷ later) × IsGateway later (state gateway.forwarder)
+    (later : List (List ℕ)) × (words ≡ codes "ip" ∷ later) × IsGateway later (state_of gateway)
 
 abbrev pub AskFor : List (String Global) → Command → Type 0
 AskFor words command = Ask (texts_of words) command

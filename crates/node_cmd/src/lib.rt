@@ -1,12 +1,9 @@
-//! The node's commands: the top call `run`, and the reason of each status.
+//! The commands that run nodes, and the top call `run`, which chooses among these and those of `tool_cmd`.
 //!
 //! The program itself is the crate `wursthatch`; the tests of `run` stand in `node_cmd_tests`.
 #![tactic(auto)]
 
-mod frames;
-mod ip;
 mod live;
-mod lives;
 mod outcomes;
 mod ran;
 mod replays;

@@ -12,8 +12,7 @@ ghost use Rattle.node_cmd.specs.declared.ran.Ran.TheVariants as rans;
 use crate::ran::Ran;
 use crate::starting::live_node;
 use arrayvec::ArrayVec;
-use cmd_streams::{Status, Taker, answer_stream};
-use kiss_framing::enframe;
+use cmd_streams::{Status, Taker, answer_stream, put_data};
 use link_table::Written;
 use network_file::LiveNode;
 use node_core::Node;
@@ -64,8 +63,7 @@ fn add_frames(node: &mut Node, text: &mut TextOut) -> Result<(), NoMemory>
 fn add_frame(frame: &Written, bytes: &mut KissBytes, text: &mut TextOut) -> Result<(), NoMemory>
     ensures { OnOk result (text.new ≡ text.old ++ live.kiss_of_frame frame.now) }
 {
-    bytes.clear();
-    let _ = enframe(0, 0, frame.octets.as_slice(), bytes);
+    put_data(frame.octets.as_slice(), bytes);
     text.octets(bytes.as_slice())
 }
 

@@ -1,24 +1,22 @@
 //! The top call.
 ghost use Rattle.std.specs.Prelude.{ℕ, ◌≡◌, ◌≢◌, ◌↔◌, ◌⊎◌};
-ghost use Rattle.ax_ip.specs.Machine.{state};
-ghost use Rattle.node_cmd.specs.declared.ip.gateway.Gateway.{Gateway};
-ghost use Rattle.node_cmd.specs.declared.lives.words.LifeSettings.{LifeSettings};
+ghost use Rattle.tool_cmd.specs.declared.ip.gateway.Gateway.{Gateway};
+ghost use Rattle.tool_cmd.specs.declared.lives.words.LifeSettings.{LifeSettings};
 ghost use Rattle.node_cmd.specs.declared.ran.Ran.TheVariants as rans;
 ghost use Rattle.node_cmd.specs.declared.words.Command.{Command};
-ghost use Rattle.node_cmd.specs.declared.words.FrameModulus.{FrameModulus};
+ghost use Rattle.tool_cmd.specs.declared.words.FrameModulus.{FrameModulus};
 ghost use Rattle.network_file.specs.declared.plan.live.LiveNode.{LiveNode};
 ghost use Rattle.node_cmd.specs.Words.{AskFor, AskForLife, AskForNode, AskForStream};
-ghost use Rattle.node_cmd.specs.FrameModuli.{size_of};
+ghost use Rattle.tool_cmd.specs.FrameModuli.{size_of};
+ghost use Rattle.tool_cmd.specs.Standing.{state_of};
 ghost use Rattle.cmd_streams.specs.ToldBy.{SaysTo, output_by, told_by};
 ghost use Rattle.cmd_streams.specs.Comings.{UnlessItWrote};
 ghost use Rattle.cmd_streams.specs.StatusNotes.{HasNote, IsSilent};
 ghost use Rattle.node_cmd.specs.Usage.{usage_note};
-ghost use Rattle.node_cmd.specs.Run.{FramesEnd, IpEnds, LifeEnds, NodeEnds, ReplayEnds, SoakEnds};
+ghost use Rattle.tool_cmd.specs.Run.{FramesEnd, IpEnds, LifeEnds};
+ghost use Rattle.node_cmd.specs.Run.{NodeEnds, ReplayEnds, SoakEnds};
 
-use crate::frames::frames_of_stream;
-use crate::ip::ip_over_stream;
 use crate::live::run_node;
-use crate::lives::life_of_file;
 use crate::ran::Ran;
 use crate::replays::replay_file;
 use crate::soaks::soak;
@@ -27,6 +25,7 @@ use crate::words::{Command, command_of};
 use cmd_streams::{Status, say};
 use radio_base::{Clock, Sink, Source};
 use std::alloc::Global;
+use tool_cmd::{frames_of_stream, ip_over_stream, life_of_file};
 
 /// Does what the words ask for: `replay` reads a network file from the source and writes the report of
 /// that network to the sink, and leaves what ran in `ran`, in which nothing is before; `node` runs a node on a KISS stream, and leaves it
@@ -69,7 +68,7 @@ pub fn run<S: Source, K: Sink, N: Sink, C: Clock>(
         (told_by S.Source K.Sink N.Sink source.old sink.old notes.old)
         (told_by S.Source K.Sink N.Sink source.new sink.new notes.new)
         ran.new result }
-    ensures ip { (g : Gateway) → AskFor words.now (Command.Ip g) → IpEnds (state g.forwarder)
+    ensures ip { (g : Gateway) → AskFor words.now (Command.Ip g) → IpEnds (state_of g)
         (told_by S.Source K.Sink N.Sink source.old sink.old notes.old)
         (told_by S.Source K.Sink N.Sink source.new sink.new notes.new) result }
 
@@ -91,6 +90,7 @@ pub fn run<S: Source, K: Sink, N: Sink, C: Clock>(
     // No command but `node` asks the clock.
     ensures timeless { ¬ AskForNode words.now → clock.new ≡ clock.old }
 {
+    tool_cmd::laws::words_ask_for_one();
     match command_of(words) {
         Some(Command::Replay) => replay_file(alloc, source, sink, notes, ran),
         Some(Command::Frames { modulo }) => frames_of_stream(alloc, modulo, source, sink, notes),

@@ -1,16 +1,12 @@
 //! The commands, and the words that ask for them.
-ghost use Rattle.std.specs.Prelude.{◌≡◌, ◌≢◌, ◌<◌, ◌^◌, ◌++◌, ℕ, IfSome, IfNone, IsTrue, ◌↔◌, codes};
-ghost use Rattle.std.specs.Fmt.{decimal};
+ghost use Rattle.std.specs.Prelude.{◌≡◌, ◌≢◌, ◌<◌, ◌^◌, ℕ, IfSome, IfNone, IsTrue, ◌↔◌, codes};
 ghost use Rattle.node_cmd.specs.declared.words.Command.{Command};
-ghost use Rattle.node_cmd.specs.declared.words.FrameModulus.{FrameModulus};
-ghost use Rattle.node_cmd.specs.FrameModuli.{modulo_word};
 ghost use Rattle.node_cmd.specs.Words.{AskFor, seed_word};
 
-use crate::ip::gateway::Gateway;
-use crate::ip::words::gateway_of;
-use crate::lives::words::{LifeSettings, settings_of};
-use itoa::Buffer;
 use network_file::{LiveNode, read_live_node};
+use tool_cmd::{
+    FrameModulus, Gateway, LifeSettings, gateway_of, modulo_of, number_behind, settings_of,
+};
 
 /// What the program can do.
 #[derive(Drop)]
@@ -27,15 +23,6 @@ pub enum Command {
     Node { declared: LiveNode },
     /// `ip call=CALL addr=IP`, and then `route=IP/N,IP` for each route
     Ip { gateway: Gateway },
-}
-
-/// The modulus of sequence numbers: in the frames of a stream, which no frame tells (AX.25 2.2, section 4.2.1), or of the links of a life.
-#[derive(Clone, Copy, Debug, PartialEq, Eq)]
-pub enum FrameModulus {
-    /// `modulo=8`
-    M8,
-    /// `modulo=128`
-    M128,
 }
 
 /// The command that the words ask for.
@@ -106,50 +93,10 @@ fn is_ip(word: &[u8]) -> bool
     word == b"ip".as_slice()
 }
 
-/// The modulus that the word gives.
-pub fn modulo_of(word: &str) -> Option<FrameModulus>
-    ensures found { IfSome result (λ m. word.now ≡ modulo_word m) }
-    ensures none { IfNone result ((m : FrameModulus) → word.now ≢ modulo_word m) }
-{
-    match word {
-        "modulo=8" => Some(FrameModulus::M8),
-        "modulo=128" => Some(FrameModulus::M128),
-        _ => None,
-    }
-}
-
 /// The seed that the word gives.
 fn seed_of(word: &str) -> Option<u64>
     ensures found { IfSome result (λ seed. word.now ≡ seed_word seed) }
     ensures none { IfNone result ((seed : ℕ) → seed < 2 ^ 64 → word.now ≢ seed_word seed) }
 {
     number_behind("seed=", word)
-}
-
-/// The number that stands behind the key of a word.
-pub fn number_behind(key: &str, word: &str) -> Option<u64>
-    ensures found { IfSome result (λ n. word.now ≡ key.now ++ decimal n) }
-    ensures none { IfNone result ((n : ℕ) → n < 2 ^ 64 → word.now ≢ key.now ++ decimal n) }
-{
-    match word.strip_prefix(key) {
-        Some(text) => number_of(text),
-        None => None,
-    }
-}
-
-/// The number of which the text is the one spelling: decimal, without a sign and without leading zeros.
-fn number_of(text: &str) -> Option<u64>
-    ensures found { IfSome result (λ n. text.now ≡ decimal n) }
-    ensures none { IfNone result ((n : ℕ) → n < 2 ^ 64 → text.now ≢ decimal n) }
-{
-    match text.parse::<u64>() {
-        Ok(n) if is_decimal(n, text) => Some(n),
-        _ => None,
-    }
-}
-
-fn is_decimal(n: u64, text: &str) -> bool
-    ensures { IsTrue result ↔ (text.now ≡ decimal n) }
-{
-    Buffer::new().format(n) == text
 }

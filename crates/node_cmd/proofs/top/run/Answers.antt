@@ -1,7 +1,7 @@
 use Rattle.std.proofs.Common.{◌≡◌, inl, inr, refl}
-use Rattle.ax_ip.specs.Machine.{state}
 use Rattle.node_cmd.specs.declared.words.Command.TheVariants.{Replay, Frames, Soak, Life, Node, Ip}
-use Rattle.node_cmd.specs.FrameModuli.{size_of}
+use Rattle.tool_cmd.specs.FrameModuli.{size_of}
+use Rattle.tool_cmd.specs.Standing.{state_of}
 use Rattle.node_cmd.proofs.Commands.{one_declared, one_gateway, one_life, one_modulus, one_seed, other, runs_one}
 use Rattle.node_cmd.proofs.NodeEnding.{never_usage}
 use Rattle.node_cmd.proofs.top.run.Goals as goal
@@ -26,7 +26,7 @@ returns-in-Some-Soak-clause-soak g c = λ seed asked.
 pub returns-in-Some-Life-clause-life : goal.returns-in-Some-Life-clause-life
 returns-in-Some-Life-clause-life g c = λ s asked.
     let found = rw c.in-Some-Life.field-0-is at c.in-Some-Life.ensures.found in
-    let same : c.in-Some-Life.settings ≡ s = one_life c.args.words.now c.in-Some-Life.settings s found asked in
+    let same : c.in-Some-Life.settings ≡ s = one_life c.words_ask_for_one.ensures.life c.args.words.now c.in-Some-Life.settings s found asked in
     rw (← same) c.life_of_file.ensures.ends
 
 -- words declare one node
@@ -40,7 +40,7 @@ returns-in-Some-Node-clause-node g c = λ declared asked.
 pub returns-in-Some-Ip-clause-ip : goal.returns-in-Some-Ip-clause-ip
 returns-in-Some-Ip-clause-ip g c = λ gateway asked.
     let found = rw c.in-Some-Ip.field-0-is at c.in-Some-Ip.ensures.found in
-    let same : state c.in-Some-Ip.gateway.forwarder ≡ state gateway.forwarder = one_gateway c.args.words.now c.in-Some-Ip.gateway gateway found asked in
+    let same : state_of c.in-Some-Ip.gateway ≡ state_of gateway = one_gateway c.words_ask_for_one.ensures.gateway c.args.words.now c.in-Some-Ip.gateway gateway found asked in
     rw (← same) c.ip_over_stream.ensures.ends
 
 -- ---- the clauses of the others

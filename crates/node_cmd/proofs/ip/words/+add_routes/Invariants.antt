@@ -1,5 +1,0 @@
-use Rattle.std.proofs.Common.{length}
-use Rattle.node_cmd.proofs.ip.words.+add_routes.Given as goal
-
-abbrev pub decreases-add_routes : goal.decreases-add_routes
-decreases-add_routes l = length l.words.now

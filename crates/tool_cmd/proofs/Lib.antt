@@ -1,0 +1,5 @@
+pub mod StreamItems
+pub mod ThreeWords
+pub mod SentFrames
+pub mod Gateways
+pub mod GatewayWords

@@ -1,0 +1,11 @@
+pub mod Frames
+pub mod FrameModuli
+pub mod Gateways
+pub mod IpTexts
+pub mod IpWords
+pub mod Laws
+pub mod LifeWords
+pub mod Lives
+pub mod Run
+pub mod Standing
+pub mod WordTexts

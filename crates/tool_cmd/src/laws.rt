@@ -1,0 +1,8 @@
+//! What holds of the words of commands.
+ghost use Rattle.tool_cmd.specs.Laws.{AreOfOneGateway, AreOfOneLife};
+
+/// Words ask for one gateway at most, and give the settings of one life at most.
+pub fn words_ask_for_one()
+    ensures gateway { AreOfOneGateway }
+    ensures life { AreOfOneLife }
+{}
