@@ -10,7 +10,7 @@ use Rattle.circuit_l4.specs.declared.role.Role.TheVariants.{Responder}
 use Rattle.circuit_l4.specs.Reading.{transport_at}
 use Rattle.circuit_l4.specs.State.{Effect, State, begin}
 use Rattle.circuit_l4.specs.Laws.{followed_by, after_inputs}
-use Rattle.circuit_l4.specs.Table.{Input, Arrive, Write, Tick, Close, Take, step}
+use Rattle.circuit_l4.specs.Table.{Input, Arrive, step}
 use Rattle.circuit_set.specs.Lines.{Elem, count_from}
 use Rattle.circuit_set.specs.Circuits.{ComesInTime, Flight, IsCall, PairOk, Side, comes, hear, heard_it, hear_text, now_at}
 use Rattle.circuit_set.specs.Heeds.{heeds}
@@ -25,13 +25,13 @@ use Rattle.circuit_set.proofs.Lookups.{partner_asked, hears, hears_not}
 use Rattle.circuit_set.proofs.Pasts.{Found, find_latest}
 use Rattle.circuit_set.proofs.Asks.{AskOf, Asks, step_asks}
 use Rattle.circuit_set.proofs.Grown.{step_grows}
-use Rattle.circuit_set.proofs.Names.{step_same}
-use Rattle.circuit_set.proofs.Sends.{Named, names}
+use Rattle.circuit_set.proofs.Names.{SameEnd, arrival_same, call_names}
+use Rattle.circuit_set.proofs.Choices.{Named, names}
 use Rattle.circuit_set.proofs.Lonely.{nobody}
 use Rattle.circuit_set.proofs.Noting.{told_noted}
 use Rattle.circuit_set.proofs.Whole.{accepts_ok, comes_ok, does_ok}
 use Rattle.circuit_set.proofs.Rows.{nothing_comes}
-use Rattle.circuit_set.proofs.Unheeded.{SameEnd, arrival_same, unheeded}
+use Rattle.circuit_set.proofs.Unheeded.{unheeded}
 use Rattle.circuit_set.proofs.Invariant.{AloneOk, CircuitOk, EndInv, Kept, Lived, Move, PairInv, Tops, side_of}
 use Rattle.circuit_set.proofs.Moved.{moved}
 
@@ -60,12 +60,6 @@ set_self (x ∷ ss) zero s h = let e : x ≡ s = cc in ap (λ y. y ∷ ss) (sym 
 set_self (x ∷ ss) (suc n) s h = ap (λ ys. x ∷ ys) (set_self ss n s h)
 
 -- ---- a call of an end ----
-pub call_names : (s : State) (call : Call) (now : ℕ) → names (step s (input_of call) now).end ≡ names s
-call_names s (Writes m) now = step_same s (Write m) now tt
-call_names s Ticks now = step_same s Tick now tt
-call_names s Closes now = step_same s Close now tt
-call_names s Takes now = step_same s Take now tt
-
 call_is : (call : Call) → IsCall (input_of call)
 call_is (Writes m) = tt
 call_is Ticks = tt

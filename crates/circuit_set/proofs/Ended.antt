@@ -26,7 +26,7 @@ use Rattle.circuit_set.specs.NotedRuns.{opened_window}
 use Rattle.circuit_set.specs.Sets.{has_ended}
 use Rattle.circuit_set.proofs.Lasting.{Core, acknowledges, fills as fill_keeps, if_out}
 use Rattle.circuit_set.proofs.Names.{AcceptsNone, is_accept, step_same}
-use Rattle.circuit_set.proofs.Sends.{Named, either_going}
+use Rattle.circuit_set.proofs.Choices.{Named, either_going}
 
 -- it tells how its circuit ended
 record IsLast (g : Effect) : Type 0 where

@@ -20,7 +20,7 @@ use Rattle.circuit_l4.specs.Table.{common_window, come_up, Input, Write, Arrive,
 use Rattle.circuit_reassembly.specs.Gathering.{Answer, More, Whole, Too_long, gather_step}
 use Rattle.circuit_l4.specs.Receiving.{Appended, Receipt, Receiving, append, appended, busy, receive, receive_at, receive_early, receive_next, without_first, ignored, inbox, follow_by, follow, next_early}
 use Rattle.circuit_l4.specs.Sending.{written}
-use Rattle.circuit_set.proofs.Sends.{Named, either, either_going, names, on_due}
+use Rattle.circuit_set.proofs.Choices.{Named, either, either_going, names, on_due}
 
 -- of an end: its phase, who it is, how many messages were taken at it, and how many fragments it has sent
 pub record Core : Type 0 where

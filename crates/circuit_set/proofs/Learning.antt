@@ -37,7 +37,8 @@ use Rattle.circuit_set.proofs.Restarts.{gone_of, noted_losses}
 use Rattle.circuit_set.proofs.Safe.{none_case, starts_at}
 use Rattle.circuit_set.proofs.Stepped as stepped
 use Rattle.circuit_set.proofs.Stepped.{same_holder}
-use Rattle.circuit_set.proofs.Unheeded.{SameEnd, origin_read}
+use Rattle.circuit_set.proofs.Names.{SameEnd}
+use Rattle.circuit_set.proofs.Origins.{origin_read}
 use Rattle.circuit_set.proofs.Unrepeated.{each, each_noticed}
 use Rattle.circuit_set.proofs.Written.{RoleSpeaks}
 

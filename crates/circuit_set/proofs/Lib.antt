@@ -3,6 +3,7 @@ pub mod Range
 pub mod Steps
 pub mod Gathers
 pub mod Receives
+pub mod Choices
 pub mod Sends
 pub mod Keeps
 pub mod Rows
@@ -28,6 +29,7 @@ pub mod Made
 pub mod Refused
 pub mod Restarts
 pub mod Grown
+pub mod Origins
 pub mod Unheeded
 pub mod Acts
 pub mod Opens

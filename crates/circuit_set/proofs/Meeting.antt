@@ -20,7 +20,7 @@ use Rattle.circuit_l4.specs.Sending.{written}
 use Rattle.std.proofs.Common.{sym, ap, ◌∙◌}
 use Rattle.circuit_l4.specs.declared.transport.Pair.{Pair}
 use Rattle.circuit_set.specs.Standing.{Met, MetBy, is_connecting}
-use Rattle.circuit_set.proofs.Sends.{either, either_going, on_due}
+use Rattle.circuit_set.proofs.Choices.{either, either_going, on_due}
 
 abbrev MetIn : Pair → Effect → Type 0
 MetIn p g = Met p g.end

@@ -20,8 +20,8 @@ use Rattle.circuit_set.specs.declared.held_ends.HeldEnds.{HeldEnds}
 use Rattle.circuit_set.specs.Sets as sets
 use Rattle.circuit_set.specs.Sets.{Call, Writes, Ticks, Closes, Takes, does_nothing, SetDone, SetState, CircuitTold, after_call, datagram_to, end_of, goes_to, input_of, is_over, notices, sendings, after_effect, told_by, with_end}
 use Rattle.circuit_set.specs.Standing.{HeldGoes, SameNode, EachStands, HeldStands, Keeps, Rests, MetBy, capped_count, by_write, close_answer, discard_answer, message_at, take_answer, write_answer, if_so, of_holder, sendings_by, untold_of}
-use Rattle.circuit_set.proofs.Sends.{Named}
-use Rattle.circuit_set.proofs.Acts.{call_names}
+use Rattle.circuit_set.proofs.Choices.{Named}
+use Rattle.circuit_set.proofs.Names.{call_names}
 use Rattle.circuit_set.proofs.Meeting.{asked_step}
 use Rattle.circuit_set.proofs.Holding.{At, at, missing, some_is, stood}
 

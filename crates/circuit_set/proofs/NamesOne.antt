@@ -29,7 +29,7 @@ use Rattle.circuit_set.proofs.Restarts.{gone_of, is_end, noted_losses}
 use Rattle.circuit_set.proofs.Safe.{none_case, starts_at}
 use Rattle.circuit_set.proofs.Stepped as stepped
 use Rattle.circuit_set.proofs.Stepped.{Onto, onto_itself}
-use Rattle.circuit_set.proofs.Unheeded.{SameEnd}
+use Rattle.circuit_set.proofs.Names.{SameEnd}
 use Rattle.circuit_set.proofs.Unused.{following_ok, next_ok, next_unused}
 
 -- ---- who is lost ----

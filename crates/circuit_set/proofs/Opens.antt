@@ -35,7 +35,7 @@ use Rattle.circuit_set.proofs.Asks.{AskOf}
 use Rattle.circuit_set.proofs.Noting.{same_partners, told_noted}
 use Rattle.circuit_set.proofs.Rows.{one_note}
 use Rattle.circuit_set.proofs.Sends.{no_notes}
-use Rattle.circuit_set.proofs.Unheeded.{origin_read}
+use Rattle.circuit_set.proofs.Origins.{origin_read}
 use Rattle.circuit_set.proofs.Invariant.{EndInv, Kept, SetInv}
 use Rattle.circuit_set.proofs.Moved.{moved}
 use Rattle.circuit_set.proofs.Made as making

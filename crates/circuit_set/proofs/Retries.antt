@@ -24,7 +24,7 @@ use Rattle.circuit_set.proofs.Restarts.{noted_losses}
 use Rattle.circuit_set.proofs.Safe.{none_case, starts_at}
 use Rattle.circuit_set.proofs.Stepped as stepped
 use Rattle.circuit_set.proofs.Stepped.{same_holder}
-use Rattle.circuit_set.proofs.Unheeded.{SameEnd}
+use Rattle.circuit_set.proofs.Names.{SameEnd}
 
 pub record LivesOn (net : Net) (x : Name) (h : Holder) : Type 0 where
   pub note : has_note net.book.made x ≡ true

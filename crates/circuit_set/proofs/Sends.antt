@@ -4,17 +4,14 @@ use Rattle.std.proofs.Common.{sym, ap, subst, inl, inr, arith}
 use Rattle.std.proofs.lemmas.Bool.Decides.{nat_tests}
 use Rattle.radio_base.specs.Modulus.{place_of}
 use Rattle.circuit_reassembly.specs.Fragments.{Fragment}
-use Rattle.circuit_l4.specs.declared.transport.Pair.{Pair}
 use Rattle.circuit_l4.specs.declared.transport.Flags.{Flags}
 use Rattle.circuit_l4.specs.declared.transport.Transport.{Transport}
 use Rattle.circuit_l4.specs.declared.transport.Transport.TheVariants.{Request, Accept, Refuse, Disconnect, Disconnected, Info, InfoAck}
-use Rattle.circuit_l4.specs.declared.config.EndConfig.{EndConfig}
 use Rattle.circuit_l4.specs.declared.phase.EndPhase.{EndPhase}
 use Rattle.circuit_l4.specs.declared.phase.EndPhase.TheVariants.{Up, Closing}
 use Rattle.circuit_l4.specs.declared.notice.EndNotice.{EndNotice}
 use Rattle.circuit_l4.specs.declared.notice.EndNotice.TheVariants.{Closed, ClosedByPartner}
 use Rattle.circuit_l4.specs.declared.owed.Owed.{Owed}
-use Rattle.circuit_l4.specs.declared.role.Role.{Role}
 use Rattle.circuit_l4.specs.State.{Effect, Out, State, info, info_ack, infos, is_up}
 use Rattle.circuit_l4.specs.Moves.{Acknowledgement, acknowledge, acknowledge_by, advance, again, wait, wait_if_out, hold, begin_to_close, fill, fill_count, finish, is_done, owed_by, emit_infos, put_out, supply, emit_ack}
 use Rattle.circuit_l4.specs.Sending.{Sending, fragments, total}
@@ -22,16 +19,9 @@ use Rattle.circuit_l4.specs.Receiving.{Receiving}
 use Rattle.circuit_set.specs.Lines.{at_place}
 use Rattle.circuit_set.specs.Outs.{AllOut, OutOk}
 use Rattle.circuit_set.proofs.Receives.{place_is}
+use Rattle.circuit_set.proofs.Choices.{Named, either, names, on_due}
 
 -- ---- choices ----
-pub either : (P : State → Type 0) (b : Bool) (s t : State) → P s → P t → P (if b then s else t)
-either P true s t h k = h
-either P false s t h k = k
-
-pub either_going : (P : Effect → Type 0) (b : Bool) (g h : Effect) → P g → P h → P (if b then g else h)
-either_going P true g h p q = p
-either_going P false g h p q = q
-
 -- what no law reads may change: when an answer is due
 waits : (P : State → Type 0) (s : State) (now : ℕ) (due : Option ℕ) → P (wait now s) → P s → P (elim due as (λ d. State) [ None ↦ wait now s | Some d ↦ s ])
 waits P s now None h k = h
@@ -99,17 +89,6 @@ Quiet notes = (Contains notes Closed → ⊥) × (Contains notes ClosedByPartner
 
 pub no_notes : Quiet []
 no_notes = (λ h. let below : h.0 < 0 = h.1 in omega arith, λ h. let below : h.0 < 0 = h.1 in omega arith)
-
--- what stays as it is
-pub record Named : Type 0 where
-  pub role : Role
-  pub pair : Pair
-  pub to : Pair
-  pub config : EndConfig
-  pub window : ℕ
-
-abbrev pub names : State → Named
-names s = record { role = s.role; pair = s.pair; to = s.to; config = s.config; window = s.window }
 
 -- From s a step has come to this sending half and these outputs, at an end that is Up with a window of w. What is
 -- acknowledged is what was, or the number h.
@@ -204,9 +183,6 @@ on_fill w s h wrote half now g o =
     either P (nat_lt 0 many) (elim filled.answer_due as (λ d. State) [ None ↦ wait now filled | Some d ↦ filled ]) filled (waits P filled now filled.answer_due done done) done
 
 -- ---- the acknowledgement ----
-pub on_due : (P : State → Type 0) (b : Bool) (now : ℕ) (t : State) → P (wait now t) → P (record t { answer_due = None }) → P (if b then wait now t else record t { answer_due = None })
-on_due P b now t h k = either P b (wait now t) (record t { answer_due = None }) h k
-
 -- what the acknowledgement part leaves: h is what came acknowledged, where it was taken
 pub record AckedTo (s : State) (h : ℕ) (named : Named) (phase : EndPhase) (k : Sending) (r : Receiving) : Type 0 where
   pub same : named ≡ names s

@@ -31,7 +31,7 @@ use Rattle.circuit_set.proofs.Restarts.{gone_of, noted_losses}
 use Rattle.circuit_set.proofs.Safe.{none_case, start_kept}
 use Rattle.circuit_set.proofs.Stepped as stepped
 use Rattle.circuit_set.proofs.Stepped.{Onto, onto_itself, same_holder}
-use Rattle.circuit_set.proofs.Unheeded.{SameEnd}
+use Rattle.circuit_set.proofs.Names.{SameEnd}
 
 -- each requester's end that was opened sends to its partner's pair
 abbrev Known : Net → Type 0

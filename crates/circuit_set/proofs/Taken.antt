@@ -8,7 +8,7 @@ use Rattle.circuit_l4.specs.Table.{Input, Take, resume_by, step, take_from}
 use Rattle.circuit_l4.specs.Receiving.{Appended, busy, without_first, inbox, follow}
 use Rattle.circuit_set.specs.Standing.{capped_count}
 use Rattle.circuit_set.proofs.Lasting.{lasts, move_on_taken}
-use Rattle.circuit_set.proofs.Sends.{either_going}
+use Rattle.circuit_set.proofs.Choices.{either_going}
 
 abbrev pub IsNoTake : Input → Type 0
 IsNoTake Take = ⊥
