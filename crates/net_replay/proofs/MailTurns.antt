@@ -44,10 +44,11 @@ use Rattle.net_replay.specs.CircuitRuns.{first_sets, set_of}
 use Rattle.net_replay.specs.Ends.{ends_of, offered_at}
 use Rattle.net_replay.specs.Events as events
 use Rattle.net_replay.specs.Mailing as mailing
-use Rattle.net_replay.specs.Mailing.{Agent, dest_of, ends_here, heard_by, input, mail_at, mail_in, may_write, numbers_for, offer_all, offer_by, offer_octets, queued_of, take_then, took_by, with_mail, write_answer_to}
+use Rattle.net_replay.specs.Mailing.{Agent, dest_of, ends_here, heard_by, input, mail_at, mail_in, may_write, numbers_for, offer_all, offer_octets, queued_of, with_mail, write_answer_to}
 use Rattle.net_replay.specs.Starting.{Placed, new_nodes}
 use Rattle.net_replay.specs.World as worlds
 use Rattle.net_replay.specs.World.{World, after, answer, put, reach, tell, tells_entries}
+use Rattle.net_replay.proofs.Continuing.{offer_by, take_then, took_by}
 use Rattle.net_replay.proofs.Containing.{AreApart, Contains, TracksAt, name_at, names, quiet_contains}
 use Rattle.net_replay.proofs.EndWrites as ends
 use Rattle.net_replay.proofs.EndWrites.{Leads_to, WritesOnly, are_silent, leads_walk, none_only, one_only, only_walk, same_end, silent_walk, wrote_more}

@@ -20,11 +20,12 @@ use Rattle.net_replay.specs.declared.reasons.LineRefusal.{LineRefusal}
 use Rattle.net_replay.specs.declared.reasons.LineRefusal.TheVariants.{NoMail, Served}
 use Rattle.net_replay.specs.Events as events
 use Rattle.net_replay.specs.Events.{Event}
-use Rattle.net_replay.specs.Mailing.{Agent, dest_of, ends_here, heard_by, heard_events, input, is_agents, mail, mail_at, may_write, offer, offer_all, offer_at, offer_by, offer_octets, post, post_by, posted_events, take_at, take_from, take_then, took_by, turn_by, unless_agents, waits, with_mail, write_answer_to, write_if_taken}
+use Rattle.net_replay.specs.Mailing.{Agent, dest_of, ends_here, heard_by, heard_events, input, is_agents, mail, mail_at, may_write, offer, offer_all, offer_at, offer_octets, post, post_by, posted_events, take_at, take_from, turn_by, unless_agents, waits, with_mail, write_answer_to, write_if_taken}
 use Rattle.net_replay.specs.Refused.{of_post, refusal_events}
 use Rattle.net_replay.specs.Starting.{Placed}
 use Rattle.net_replay.specs.World as worlds
 use Rattle.net_replay.specs.World.{Input, World, answer, place_of_node, put, reach, tell}
+use Rattle.net_replay.proofs.Continuing.{offer_by, take_then, took_by}
 use Rattle.net_replay.proofs.Containing.{IsQuiet}
 use Rattle.net_replay.proofs.Looks.{offer_where, put_of, reaches}
 

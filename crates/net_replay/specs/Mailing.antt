@@ -82,6 +82,11 @@ abbrev pub waits : Result Bool NoEnd → Bool
 waits (Ok b) = b
 waits (Err why) = false
 
+-- a message was taken
+abbrev pub is_taken : Result ActDone ActRefusal → Bool
+is_taken (Ok (Took message)) = true
+is_taken other = false
+
 abbrev pub queued_of : Option Lists → List Letter
 queued_of None = []
 queued_of (Some s) = s.queued
@@ -128,20 +133,24 @@ module _ (line node at : ℕ) where
   heard_by id octets (Some from) (Some s) a = heard_from id octets from s a
   heard_by id octets from mail a = a
 
-  abbrev pub took_by : ℕ → Option Callsign → Result ActDone ActRefusal → (Agent → Agent) → Agent → Agent
-  took_by id from (Ok (Took message)) later a = later (heard_by id message from (mail_at at a.world) a)
-  took_by id from other later a = a
+  -- so is the message that was taken, where one was
+  abbrev pub hear_taken : ℕ → Option Callsign → Result ActDone ActRefusal → Agent → Agent
+  hear_taken id from (Ok (Took message)) a = heard_by id message from (mail_at at a.world) a
+  hear_taken id from other a = a
 
-  abbrev pub take_then : ℕ → (Agent → Agent) → Agent → Agent
-  take_then id later a =
+  abbrev pub take_once : ℕ → Agent → Agent
+  take_once id a =
       let act : UserAct = acts.Take id in
       let w : World = aired_before line at a.world in
-      took_by id (partner_at (end_of id (ends_here at a.world))) (answer at act w) later (record a { world = reach line at (Act act) w })
+      hear_taken id (partner_at (end_of id (ends_here at a.world))) (answer at act w) (record a { world = reach line at (Act act) w })
 
-  -- one message after another, so many at most, while one waits
+  -- one message after another, so many at most, while one waits and is taken
   unfoldable pub take_from : ℕ → ℕ → Agent → Agent
   take_from id zero a = a
-  take_from id (suc more) a = if waits (take_answer (end_of id (ends_here at a.world))) then take_then id (take_from id more) a else a
+  take_from id (suc more) a =
+      let b : Agent = take_once id a in
+      let was_taken : Bool = is_taken (answer at (acts.Take id) (aired_before line at a.world)) in
+      if waits (take_answer (end_of id (ends_here at a.world))) then (if was_taken then take_from id more b else b) else a
 
   -- until none waits: fewer than 100,000 do, as an end holds back its partner where 16,384 octets wait, and a message has one at least
   abbrev pub take_all : ℕ → Agent → Agent
@@ -157,13 +166,13 @@ module _ (line node at : ℕ) where
   abbrev pub offer_octets : ℕ → World → List ℕ
   offer_octets number w = octets_or [] (letter_of number (queued_of (mail_at at w)))
 
-  abbrev pub offer_by : ℕ → ℕ → Bool → (World → World) → World → World
-  offer_by id number false later w = w
-  offer_by id number true later w = later (tell line (events.Offered node id number ∷ []) (input line at (acts.Write id (offer_octets number w)) w))
+  -- it is written at the end, and that is told
+  abbrev pub offer_one : ℕ → ℕ → World → World
+  offer_one id number w = tell line (events.Offered node id number ∷ []) (input line at (acts.Write id (offer_octets number w)) w)
 
   abbrev pub offer : ℕ → List ℕ → World → World
   offer id [] w = w
-  offer id (number ∷ numbers) w = offer_by id number (may_write at id (offer_octets number w) w) (offer id numbers) w
+  offer id (number ∷ numbers) w = if may_write at id (offer_octets number w) w then offer id numbers (offer_one id number w) else w
 
   -- those for the partner's node that weren't offered at this end
   abbrev pub offer_to : ℕ → Callsign → World → World
