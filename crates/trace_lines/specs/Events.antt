@@ -12,12 +12,13 @@ use Rattle.net_replay.specs.Events.{Event, Entry, InAir, Delivered, Settled, Sho
 use Rattle.net_replay.specs.Reasons.{word_for_why}
 use Rattle.net_replay.specs.Tables.{Table}
 use Rattle.route_table.specs.declared.route.Route.{Route}
-use Rattle.trace_lines.specs.declared.events.Stand.{Stand}
+use Rattle.trace_lines.specs.declared.stands.AtNode.{AtNode}
+use Rattle.trace_lines.specs.declared.stands.Stand.{Stand}
 use Rattle.trace_lines.specs.Circuits.{entry_text}
 use Rattle.trace_lines.specs.Json.{Bytes, Number, Octets, Truth, Word}
 use Rattle.trace_lines.specs.Left.{facts_fields, route_fields}
 use Rattle.trace_lines.specs.Mails.{offered_line, posted_line, settled_line, stored_line}
-use Rattle.trace_lines.specs.Stands.{event}
+use Rattle.trace_lines.specs.Stands.{at_node, event, node_event}
 
 -- ---- which lines bring a frame again
 
@@ -49,50 +50,50 @@ lost_frame_line s frame = event "lost_frame" s (Number "frame" frame ∷ [])
 
 -- ---- what users do, and what is shown to them
 
-abbrev pub took_line : Stand → ℕ → ℕ → List ℕ → List ℕ
-took_line s node end message =
-    event "took" s (Number "node" node ∷ Number "end" end ∷ Number "bytes" (length message) ∷ Bytes "text" message ∷ [])
+abbrev pub took_line : AtNode → ℕ → List ℕ → List ℕ
+took_line at end message =
+    node_event "took" at (Number "end" end ∷ Number "bytes" (length message) ∷ Bytes "text" message ∷ [])
 
-abbrev pub wrote_line : Stand → ℕ → ℕ → ℕ → List ℕ
-wrote_line s node end messages = event "wrote" s (Number "node" node ∷ Number "end" end ∷ Number "messages" messages ∷ [])
+abbrev pub wrote_line : AtNode → ℕ → ℕ → List ℕ
+wrote_line at end messages = node_event "wrote" at (Number "end" end ∷ Number "messages" messages ∷ [])
 
-abbrev pub shown_line : Stand → ℕ → ℕ → List ℕ
-shown_line s node routes = event "shown" s (Number "node" node ∷ Number "routes" routes ∷ [])
+abbrev pub shown_line : AtNode → ℕ → List ℕ
+shown_line at routes = node_event "shown" at (Number "routes" routes ∷ [])
 
-abbrev pub shown_route_line : Stand → ℕ → Route → List ℕ
-shown_route_line s node r = event "shown_route" s (Number "node" node ∷ route_fields r)
+abbrev pub shown_route_line : AtNode → Route → List ℕ
+shown_route_line at r = node_event "shown_route" at (route_fields r)
 
 abbrev pub shown_text : Stand → Table → List ℕ
-shown_text s t = shown_line s t.node (length t.routes) ++ flat_map (shown_route_line s t.node) t.routes
+shown_text s t = shown_line (at_node s t.node) (length t.routes) ++ flat_map (shown_route_line (at_node s t.node)) t.routes
 
 abbrev pub refused_line : Stand → List ℕ → List ℕ
 refused_line s why = event "refused" s (Word "why" why ∷ [])
 
 -- ---- restarts
 
-abbrev pub restarted_line : Stand → ℕ → Pair → List ℕ
-restarted_line s node pair = event "restarted" s (Number "node" node ∷ Number "index" pair.index ∷ Number "ident" pair.ident ∷ [])
+abbrev pub restarted_line : AtNode → Pair → List ℕ
+restarted_line at pair = node_event "restarted" at (Number "index" pair.index ∷ Number "ident" pair.ident ∷ [])
 
-abbrev pub lost_end_line : Stand → ℕ → ℕ → EndFacts → List ℕ
-lost_end_line s node end facts = event "lost_end" s (Number "node" node ∷ Number "end" end ∷ facts_fields facts)
+abbrev pub lost_end_line : AtNode → ℕ → EndFacts → List ℕ
+lost_end_line at end facts = node_event "lost_end" at (Number "end" end ∷ facts_fields facts)
 
 -- ---- any event; `again` says which lines bring a frame again, and these are the frames in the air
 
 abbrev pub event_text : (ℕ → Bool) → List Aired → Stand → Event → List ℕ
-event_text again air s (Entry node entry) = entry_text s node entry
+event_text again air s (Entry node entry) = entry_text (at_node s node) entry
 event_text again air s (InAir number) = aired_text s number (frame_of air number)
 event_text again air s (Delivered frame node) = delivered_line s frame node (again s.line)
 event_text again air s (Settled frame) = lost_frame_line s frame
 event_text again air s (Shown table) = shown_text s table
-event_text again air s (Took node end message) = took_line s node end message
-event_text again air s (Wrote node end count) = wrote_line s node end count
-event_text again air s (Restarted node pair) = restarted_line s node pair
-event_text again air s (Lost node end facts) = lost_end_line s node end facts
+event_text again air s (Took node end message) = took_line (at_node s node) end message
+event_text again air s (Wrote node end count) = wrote_line (at_node s node) end count
+event_text again air s (Restarted node pair) = restarted_line (at_node s node) pair
+event_text again air s (Lost node end facts) = lost_end_line (at_node s node) end facts
 event_text again air s (Refused why) = refused_line s (word_for_why why)
-event_text again air s (Posted node number) = posted_line s node number
-event_text again air s (Offered node end number) = offered_line s node end number
-event_text again air s (MailStored node origin number to len) = stored_line s node origin number to len
-event_text again air s (MailSettled node number) = settled_line s node number
+event_text again air s (Posted node number) = posted_line (at_node s node) number
+event_text again air s (Offered node end number) = offered_line (at_node s node) end number
+event_text again air s (MailStored node origin number to len) = stored_line (at_node s node) origin number to len
+event_text again air s (MailSettled node number) = settled_line (at_node s node) number
 
 -- all events, of which the first has this number
 abbrev pub events_from : (ℕ → Bool) → List Aired → ℕ → List NumberedEvent → List ℕ

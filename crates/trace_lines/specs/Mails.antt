@@ -3,26 +3,26 @@ use Rattle.std.specs.Prelude.{ℕ, List, [], ◌∷◌, length, Option, Some, No
 use Rattle.ax_address.specs.Callsign as calls
 use Rattle.ax_address.specs.Callsign.{Callsign}
 use Rattle.node_mail.specs.Lists.{Lists}
-use Rattle.trace_lines.specs.declared.events.Stand.{Stand}
+use Rattle.trace_lines.specs.declared.stands.AtNode.{AtNode}
 use Rattle.trace_lines.specs.Json.{object, Field, Number, Word}
-use Rattle.trace_lines.specs.Stands.{event}
+use Rattle.trace_lines.specs.Stands.{node_event}
 
-abbrev pub posted_line : Stand → ℕ → ℕ → List ℕ
-posted_line s node mail = event "posted" s (Number "node" node ∷ Number "mail" mail ∷ [])
+abbrev pub posted_line : AtNode → ℕ → List ℕ
+posted_line at mail = node_event "posted" at (Number "mail" mail ∷ [])
 
-abbrev pub offered_line : Stand → ℕ → ℕ → ℕ → List ℕ
-offered_line s node end mail = event "offered" s (Number "node" node ∷ Number "end" end ∷ Number "mail" mail ∷ [])
+abbrev pub offered_line : AtNode → ℕ → ℕ → List ℕ
+offered_line at end mail = node_event "offered" at (Number "end" end ∷ Number "mail" mail ∷ [])
 
 -- where it was posted, for whom it is, and how many octets its text has
 abbrev pub stored_fields : Callsign → ℕ → Callsign → ℕ → List Field
 stored_fields origin mail to bytes =
     Word "origin" (calls.shown origin) ∷ Number "mail" mail ∷ Word "to" (calls.shown to) ∷ Number "bytes" bytes ∷ []
 
-abbrev pub stored_line : Stand → ℕ → Callsign → ℕ → Callsign → ℕ → List ℕ
-stored_line s node origin mail to bytes = event "stored" s (Number "node" node ∷ stored_fields origin mail to bytes)
+abbrev pub stored_line : AtNode → Callsign → ℕ → Callsign → ℕ → List ℕ
+stored_line at origin mail to bytes = node_event "stored" at (stored_fields origin mail to bytes)
 
-abbrev pub settled_line : Stand → ℕ → ℕ → List ℕ
-settled_line s node mail = event "settled" s (Number "node" node ∷ Number "mail" mail ∷ [])
+abbrev pub settled_line : AtNode → ℕ → List ℕ
+settled_line at mail = node_event "settled" at (Number "mail" mail ∷ [])
 
 -- ---- how much a node has left, where it keeps any
 

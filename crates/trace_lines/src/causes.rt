@@ -5,32 +5,29 @@ ghost use Rattle.net_replay.specs.Reports.{late_word};
 ghost use Rattle.trace_lines.specs.Json.{fields_text};
 ghost use Rattle.trace_lines.specs.Verdicts as verdicts;
 
+use crate::lines::Lines;
 use net_replay::{Late, LateCause, LateWhy, Sign};
-use radio_base::{NoMemory, TextOut};
+use radio_base::NoMemory;
 use std::alloc::{AllocError, Global};
 
 /// Appends the verdict.
 #[tactic(auto, unfolding(crate::specs::Json::object))]
-pub(crate) fn write_verdict(
-    alloc: Global,
-    late: Option<Late>,
-    out: &mut TextOut,
-) -> Result<(), NoMemory>
+pub(crate) fn write_verdict(late: Option<Late>, out: &mut Lines) -> Result<(), NoMemory>
     ensures { OnOk result (out.new ≡ out.old ++ verdicts.verdict_line late) }
 {
     match late {
-        Some(late) => write_late(alloc, late, out),
+        Some(late) => write_late(late, out),
         None => out.text("{\"kind\":\"verdict\",\"late\":false}\n"),
     }
 }
 
 #[tactic(auto, unfolding(crate::specs::Json::object))]
-fn write_late(alloc: Global, late: Late, out: &mut TextOut) -> Result<(), NoMemory>
+fn write_late(late: Late, out: &mut Lines) -> Result<(), NoMemory>
     ensures { OnOk result (out.new ≡ out.old ++ verdicts.verdict_line (Some late)) }
 {
     let line = late.line;
     let why = late_word(late.why);
-    let object = format!(in alloc;
+    let object = format!(in out.alloc();
         "{{\"kind\":\"verdict\",\"late\":true,\"line\":{line},\"why\":\"{why}\"}}\n"
     )?;
     out.text(object.as_str())?;
@@ -47,27 +44,23 @@ fn late_word(why: LateWhy) -> &'static str
 }
 
 /// Appends the cause of a verdict, if there is one.
-pub(crate) fn write_cause(
-    alloc: Global,
-    cause: Option<LateCause>,
-    out: &mut TextOut,
-) -> Result<(), NoMemory>
+pub(crate) fn write_cause(cause: Option<LateCause>, out: &mut Lines) -> Result<(), NoMemory>
     ensures { OnOk result (out.new ≡ out.old ++ verdicts.cause_text cause) }
 {
     match cause {
-        Some(cause) => write_sign(alloc, cause, out),
+        Some(cause) => write_sign(cause, out),
         None => Ok(()),
     }
 }
 
 #[tactic(auto, unfolding(crate::specs::Json::object))]
-fn write_sign(alloc: Global, cause: LateCause, out: &mut TextOut) -> Result<(), NoMemory>
+fn write_sign(cause: LateCause, out: &mut Lines) -> Result<(), NoMemory>
     ensures { OnOk result (out.new ≡ out.old ++ verdicts.cause_line cause) }
 {
     let event = cause.event;
-    let sign = sign_fields(alloc, cause.sign)?;
+    let sign = sign_fields(out.alloc(), cause.sign)?;
     let sign = sign.as_str();
-    let object = format!(in alloc; "{{\"kind\":\"cause\",\"event\":{event}{sign}")?;
+    let object = format!(in out.alloc(); "{{\"kind\":\"cause\",\"event\":{event}{sign}")?;
     out.text(object.as_str())?;
     Ok(())
 }

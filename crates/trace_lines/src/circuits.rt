@@ -9,9 +9,10 @@ ghost use Rattle.net_replay.specs.ToldWords.{drop_word, notice_word};
 ghost use Rattle.trace_lines.specs.Circuits as circuits;
 ghost use Rattle.trace_lines.specs.Json.{Number, NumberOrNull, Octets, OctetsOrNull, Word, fields_text, hex_text, or_null, quoted};
 
-use crate::events::Stand;
 use crate::json::{hex_text, number_or_null};
 use crate::left::facts_fields;
+use crate::lines::Lines;
+use crate::stands::{AtNode, Stand};
 use ax_address::Call;
 use ax_link::LinkNotice;
 use circuit_l4::{EndFacts, EndNotice, Pair};
@@ -19,44 +20,30 @@ use circuit_set::SetEvent;
 use l3_datagram::{Datagram, Routed};
 use net_replay::{drop_word, link_word, notice_word};
 use node_core::NodeEntry;
-use radio_base::{NoMemory, TextOut};
+use radio_base::NoMemory;
 use std::alloc::{AllocError, Global};
 
 /// Appends the line of an entry of a node.
-pub(crate) fn write_entry(
-    alloc: Global,
-    stand: Stand,
-    node: u8,
-    entry: &NodeEntry,
-    out: &mut TextOut,
-) -> Result<(), NoMemory>
-    ensures { OnOk result (out.new ≡ out.old ++ circuits.entry_text stand node (entry_of entry.now)) }
+pub(crate) fn write_entry(at: AtNode, entry: &NodeEntry, out: &mut Lines) -> Result<(), NoMemory>
+    ensures { OnOk result (out.new ≡ out.old ++ circuits.entry_text at (entry_of entry.now)) }
 {
     match entry {
-        NodeEntry::Link(peer, notice) => write_link(alloc, stand, node, peer, notice, out),
-        NodeEntry::Overflow { live, would_be } => {
-            write_overflow(alloc, stand, node, *live, *would_be, out)
-        }
-        NodeEntry::Set(event) => write_set_event(alloc, stand, node, event, out),
+        NodeEntry::Link(peer, notice) => write_link(at, peer, notice, out),
+        NodeEntry::Overflow { live, would_be } => { write_overflow(at, *live, *would_be, out) }
+        NodeEntry::Set(event) => write_set_event(at, event, out),
     }
 }
 
 #[tactic(auto, unfolding(crate::specs::Json::object))]
-fn write_link(
-    alloc: Global,
-    stand: Stand,
-    node: u8,
-    peer: &Call,
-    notice: &LinkNotice,
-    out: &mut TextOut,
-) -> Result<(), NoMemory>
-    ensures { OnOk result (out.new ≡ out.old ++ circuits.link_line stand node peer.now notice.now) }
+fn write_link(at: AtNode, peer: &Call, notice: &LinkNotice, out: &mut Lines) -> Result<(), NoMemory>
+    ensures { OnOk result (out.new ≡ out.old ++ circuits.link_line at peer.now notice.now) }
 {
-    let Stand { event, line } = stand;
+    let Stand { event, line } = at.stand;
+    let node = at.node;
     let peer = peer.show();
     let peer = peer.as_str();
     let what = link_word(notice);
-    let object = format!(in alloc;
+    let object = format!(in out.alloc();
         "{{\"kind\":\"link\",\"event\":{event},\"line\":{line},\"node\":{node},\"peer\":\"{peer}\",\"what\":\"{what}\"}}\n"
     )?;
     out.text(object.as_str())?;
@@ -64,18 +51,12 @@ fn write_link(
 }
 
 #[tactic(auto, unfolding(crate::specs::Json::object))]
-fn write_overflow(
-    alloc: Global,
-    stand: Stand,
-    node: u8,
-    live: usize,
-    would_be: usize,
-    out: &mut TextOut,
-) -> Result<(), NoMemory>
-    ensures { OnOk result (out.new ≡ out.old ++ circuits.overflow_line stand node live would_be) }
+fn write_overflow(at: AtNode, live: usize, would_be: usize, out: &mut Lines) -> Result<(), NoMemory>
+    ensures { OnOk result (out.new ≡ out.old ++ circuits.overflow_line at live would_be) }
 {
-    let Stand { event, line } = stand;
-    let object = format!(in alloc;
+    let Stand { event, line } = at.stand;
+    let node = at.node;
+    let object = format!(in out.alloc();
         "{{\"kind\":\"overflow\",\"event\":{event},\"line\":{line},\"node\":{node},\"live\":{live},\"would_be\":{would_be}}}\n"
     )?;
     out.text(object.as_str())?;
@@ -83,14 +64,8 @@ fn write_overflow(
 }
 
 /// Appends the line of an event of a node's circuits.
-fn write_set_event(
-    alloc: Global,
-    stand: Stand,
-    node: u8,
-    event: &SetEvent,
-    out: &mut TextOut,
-) -> Result<(), NoMemory>
-    ensures { OnOk result (out.new ≡ out.old ++ circuits.set_text stand node (event_told event.now)) }
+fn write_set_event(at: AtNode, event: &SetEvent, out: &mut Lines) -> Result<(), NoMemory>
+    ensures { OnOk result (out.new ≡ out.old ++ circuits.set_text at (event_told event.now)) }
 {
     match event {
         SetEvent::Made {
@@ -98,40 +73,47 @@ fn write_set_event(
             pair,
             partner,
             request,
-        } => write_made(alloc, stand, node, *id, *pair, partner, request, out),
+        } => {
+            let opening = Opening {
+                pair: *pair,
+                partner,
+                request,
+            };
+            write_made(at, *id, &opening, out)
+        }
         SetEvent::Sent {
             id,
             number,
             datagram,
-        } => write_sent(alloc, stand, node, *id, *number, datagram.as_slice(), out),
-        SetEvent::Heeded { id, datagram } => {
-            write_heeded(alloc, stand, node, *id, datagram.as_slice(), out)
-        }
-        SetEvent::Notice { id, notice } => write_notice(alloc, stand, node, *id, notice, out),
-        SetEvent::Dropped(routed) => write_dropped(alloc, stand, node, routed, out),
-        SetEvent::Lost(neighbour) => write_lost_neighbour(alloc, stand, node, neighbour, out),
-        SetEvent::Gone { id, facts } => write_gone(alloc, stand, node, *id, facts, out),
+        } => write_sent(at, *id, *number, datagram.as_slice(), out),
+        SetEvent::Heeded { id, datagram } => { write_heeded(at, *id, datagram.as_slice(), out) }
+        SetEvent::Notice { id, notice } => write_notice(at, *id, notice, out),
+        SetEvent::Dropped(routed) => write_dropped(at, routed, out),
+        SetEvent::Lost(neighbour) => write_lost_neighbour(at, neighbour, out),
+        SetEvent::Gone { id, facts } => write_gone(at, *id, facts, out),
     }
+}
+
+/// With what an end was made: its pair, whom it is with, and the datagram of the request that has opened it.
+#[derive(Drop)]
+struct Opening<'a> {
+    pair: Pair,
+    partner: &'a Call,
+    request: &'a Option<Datagram>,
 }
 
 /// An end was made. One that a request has opened has that datagram.
 #[tactic(auto, unfolding(crate::specs::Json::object))]
-fn write_made(
-    alloc: Global,
-    stand: Stand,
-    node: u8,
-    end: u64,
-    pair: Pair,
-    partner: &Call,
-    request: &Option<Datagram>,
-    out: &mut TextOut,
-) -> Result<(), NoMemory>
-    ensures { OnOk result (out.new ≡ out.old ++ circuits.made_line stand node end pair partner.now (option_map (λ d. d.items) request.now)) }
+fn write_made(at: AtNode, end: u64, opening: &Opening<'_>, out: &mut Lines) -> Result<(), NoMemory>
+    ensures { OnOk result (out.new
+        ≡ out.old ++ circuits.made_line at end opening.now.pair opening.now.partner.now
+        (option_map (λ d. d.items) opening.now.request.now)) }
 {
-    let Stand { event, line } = stand;
-    let fields = made_fields(alloc, pair, partner, request)?;
+    let Stand { event, line } = at.stand;
+    let node = at.node;
+    let fields = made_fields(out.alloc(), opening)?;
     let fields = fields.as_str();
-    let object = format!(in alloc;
+    let object = format!(in out.alloc();
         "{{\"kind\":\"made\",\"event\":{event},\"line\":{line},\"node\":{node},\"end\":{end}{fields}"
     )?;
     out.text(object.as_str())?;
@@ -139,20 +121,16 @@ fn write_made(
 }
 
 /// The fields from the pair on, and the end of their object.
-fn made_fields(
-    alloc: Global,
-    pair: Pair,
-    partner: &Call,
-    request: &Option<Datagram>,
-) -> Result<String, AllocError>
-    ensures { IfOk result (λ s. string_bytes s ≡ fields_text (Number "index" pair.index ∷ Number "ident" pair.ident ∷ Word "partner" (calls.shown partner.now)
-        ∷ OctetsOrNull "request" (option_map (λ d. d.items) request.now) ∷ [])) }
+fn made_fields(alloc: Global, opening: &Opening<'_>) -> Result<String, AllocError>
+    ensures { IfOk result (λ s. string_bytes s ≡ fields_text (Number "index" opening.now.pair.index
+        ∷ Number "ident" opening.now.pair.ident ∷ Word "partner" (calls.shown opening.now.partner.now)
+        ∷ OctetsOrNull "request" (option_map (λ d. d.items) opening.now.request.now) ∷ [])) }
 {
-    let index = pair.index;
-    let ident = pair.ident;
-    let partner = partner.show();
+    let index = opening.pair.index;
+    let ident = opening.pair.ident;
+    let partner = opening.partner.show();
     let partner = partner.as_str();
-    let request = request_text(alloc, request)?;
+    let request = request_text(alloc, opening.request)?;
     let request = request.as_str();
     let fields = format!(in alloc;
         ",\"index\":{index},\"ident\":{ident},\"partner\":\"{partner}\",\"request\":{request}}}\n"
@@ -173,20 +151,19 @@ fn request_text(alloc: Global, request: &Option<Datagram>) -> Result<String, All
 /// An end has sent a datagram, that of an information message with the number of its fragment.
 #[tactic(auto, unfolding(crate::specs::Json::object))]
 pub(crate) fn write_sent(
-    alloc: Global,
-    stand: Stand,
-    node: u8,
+    at: AtNode,
     end: u64,
     number: Option<u64>,
     datagram: &[u8],
-    out: &mut TextOut,
+    out: &mut Lines,
 ) -> Result<(), NoMemory>
-    ensures { OnOk result (out.new ≡ out.old ++ circuits.sent_line stand node end number datagram.now) }
+    ensures { OnOk result (out.new ≡ out.old ++ circuits.sent_line at end number datagram.now) }
 {
-    let Stand { event, line } = stand;
-    let fields = sent_fields(alloc, number, datagram)?;
+    let Stand { event, line } = at.stand;
+    let node = at.node;
+    let fields = sent_fields(out.alloc(), number, datagram)?;
     let fields = fields.as_str();
-    let object = format!(in alloc;
+    let object = format!(in out.alloc();
         "{{\"kind\":\"sent\",\"event\":{event},\"line\":{line},\"node\":{node},\"end\":{end}{fields}"
     )?;
     out.text(object.as_str())?;
@@ -208,19 +185,18 @@ fn sent_fields(alloc: Global, number: Option<u64>, datagram: &[u8]) -> Result<St
 /// An end has taken in a datagram of its partner's node.
 #[tactic(auto, unfolding(crate::specs::Json::object))]
 pub(crate) fn write_heeded(
-    alloc: Global,
-    stand: Stand,
-    node: u8,
+    at: AtNode,
     end: u64,
     datagram: &[u8],
-    out: &mut TextOut,
+    out: &mut Lines,
 ) -> Result<(), NoMemory>
-    ensures { OnOk result (out.new ≡ out.old ++ circuits.heeded_line stand node end datagram.now) }
+    ensures { OnOk result (out.new ≡ out.old ++ circuits.heeded_line at end datagram.now) }
 {
-    let Stand { event, line } = stand;
-    let octets = hex_text(alloc, datagram)?;
+    let Stand { event, line } = at.stand;
+    let node = at.node;
+    let octets = hex_text(out.alloc(), datagram)?;
     let octets = octets.as_str();
-    let object = format!(in alloc;
+    let object = format!(in out.alloc();
         "{{\"kind\":\"heeded\",\"event\":{event},\"line\":{line},\"node\":{node},\"end\":{end},\"octets\":{octets}}}\n"
     )?;
     out.text(object.as_str())?;
@@ -229,20 +205,14 @@ pub(crate) fn write_heeded(
 
 /// What has become of a circuit, with its window where it opened.
 #[tactic(auto, unfolding(crate::specs::Json::object))]
-fn write_notice(
-    alloc: Global,
-    stand: Stand,
-    node: u8,
-    end: u64,
-    notice: &EndNotice,
-    out: &mut TextOut,
-) -> Result<(), NoMemory>
-    ensures { OnOk result (out.new ≡ out.old ++ circuits.notice_line stand node end notice.now) }
+fn write_notice(at: AtNode, end: u64, notice: &EndNotice, out: &mut Lines) -> Result<(), NoMemory>
+    ensures { OnOk result (out.new ≡ out.old ++ circuits.notice_line at end notice.now) }
 {
-    let Stand { event, line } = stand;
-    let fields = notice_fields(alloc, notice)?;
+    let Stand { event, line } = at.stand;
+    let node = at.node;
+    let fields = notice_fields(out.alloc(), notice)?;
     let fields = fields.as_str();
-    let object = format!(in alloc;
+    let object = format!(in out.alloc();
         "{{\"kind\":\"notice\",\"event\":{event},\"line\":{line},\"node\":{node},\"end\":{end}{fields}"
     )?;
     out.text(object.as_str())?;
@@ -272,19 +242,14 @@ fn window_text(alloc: Global, notice: &EndNotice) -> Result<String, AllocError>
 
 /// A datagram came to nothing.
 #[tactic(auto, unfolding(crate::specs::Json::object))]
-fn write_dropped(
-    alloc: Global,
-    stand: Stand,
-    node: u8,
-    routed: &Routed,
-    out: &mut TextOut,
-) -> Result<(), NoMemory>
-    ensures { OnOk result (out.new ≡ out.old ++ circuits.dropped_line stand node routed.now) }
+fn write_dropped(at: AtNode, routed: &Routed, out: &mut Lines) -> Result<(), NoMemory>
+    ensures { OnOk result (out.new ≡ out.old ++ circuits.dropped_line at routed.now) }
 {
-    let Stand { event, line } = stand;
-    let why = drop_text(alloc, routed)?;
+    let Stand { event, line } = at.stand;
+    let node = at.node;
+    let why = drop_text(out.alloc(), routed)?;
     let why = why.as_str();
-    let object = format!(in alloc;
+    let object = format!(in out.alloc();
         "{{\"kind\":\"dropped\",\"event\":{event},\"line\":{line},\"node\":{node},\"why\":{why}}}\n"
     )?;
     out.text(object.as_str())?;
@@ -303,19 +268,14 @@ fn drop_text(alloc: Global, routed: &Routed) -> Result<String, AllocError>
 
 /// The routes over a neighbour have ended.
 #[tactic(auto, unfolding(crate::specs::Json::object))]
-fn write_lost_neighbour(
-    alloc: Global,
-    stand: Stand,
-    node: u8,
-    neighbour: &Call,
-    out: &mut TextOut,
-) -> Result<(), NoMemory>
-    ensures { OnOk result (out.new ≡ out.old ++ circuits.lost_neighbour_line stand node neighbour.now) }
+fn write_lost_neighbour(at: AtNode, neighbour: &Call, out: &mut Lines) -> Result<(), NoMemory>
+    ensures { OnOk result (out.new ≡ out.old ++ circuits.lost_neighbour_line at neighbour.now) }
 {
-    let Stand { event, line } = stand;
+    let Stand { event, line } = at.stand;
+    let node = at.node;
     let neighbour = neighbour.show();
     let neighbour = neighbour.as_str();
-    let object = format!(in alloc;
+    let object = format!(in out.alloc();
         "{{\"kind\":\"lost_neighbour\",\"event\":{event},\"line\":{line},\"node\":{node},\"neighbour\":\"{neighbour}\"}}\n"
     )?;
     out.text(object.as_str())?;
@@ -324,20 +284,14 @@ fn write_lost_neighbour(
 
 /// An end is held no longer.
 #[tactic(auto, unfolding(crate::specs::Json::object))]
-fn write_gone(
-    alloc: Global,
-    stand: Stand,
-    node: u8,
-    end: u64,
-    facts: &EndFacts,
-    out: &mut TextOut,
-) -> Result<(), NoMemory>
-    ensures { OnOk result (out.new ≡ out.old ++ circuits.gone_line stand node end facts.now) }
+fn write_gone(at: AtNode, end: u64, facts: &EndFacts, out: &mut Lines) -> Result<(), NoMemory>
+    ensures { OnOk result (out.new ≡ out.old ++ circuits.gone_line at end facts.now) }
 {
-    let Stand { event, line } = stand;
-    let facts = facts_fields(alloc, facts)?;
+    let Stand { event, line } = at.stand;
+    let node = at.node;
+    let facts = facts_fields(out.alloc(), facts)?;
     let facts = facts.as_str();
-    let object = format!(in alloc;
+    let object = format!(in out.alloc();
         "{{\"kind\":\"gone\",\"event\":{event},\"line\":{line},\"node\":{node},\"end\":{end}{facts}"
     )?;
     out.text(object.as_str())?;

@@ -11,28 +11,22 @@ ghost use Rattle.trace_lines.specs.Marks.{mark_at};
 use crate::circuits::{write_entry, write_heeded, write_sent};
 use crate::json::{hex_text, string_text, truth};
 use crate::left::{facts_fields, route_fields};
+use crate::lines::Lines;
 use crate::mails::{write_offered, write_posted, write_settled, write_stored};
 use crate::marks::mark_of;
+use crate::stands::{AtNode, Stand};
 use circuit_l4::Pair;
 use net_replay::{Aired, Event, LineRefusal, LostEnd, NumberedEvent, Table};
-use radio_base::{NoMemory, TextOut};
+use radio_base::NoMemory;
 use route_table::Route;
 use std::alloc::{AllocError, Global};
 
-/// Where an event stands: its number in the trace, from 1, and the number of the line at which it came.
-#[derive(Clone, Copy, Debug, PartialEq, Eq)]
-pub(crate) struct Stand {
-    pub(crate) event: u64,
-    pub(crate) line: u32,
-}
-
 /// Appends the lines of all events. These are the marks of the lines that bring a frame again, and the frames in the air.
 pub(crate) fn write_events(
-    alloc: Global,
     marks: &[bool],
     frames: &[Aired],
     told: &[NumberedEvent],
-    out: &mut TextOut,
+    out: &mut Lines,
 ) -> Result<(), NoMemory>
     ensures { OnOk result (out.new ≡ out.old ++ events.events_from (mark_at marks.now) frames.now 1 (map numbered_of told.now)) }
 {
@@ -41,88 +35,67 @@ pub(crate) fn write_events(
             event: place as u64 + 1,
             line: numbered.line,
         };
-        write_event(alloc, marks, frames, stand, &numbered.event, out)?;
+        write_event(marks, frames, stand, &numbered.event, out)?;
     }
     Ok(())
 }
 
 fn write_event(
-    alloc: Global,
     marks: &[bool],
     frames: &[Aired],
     stand: Stand,
     event: &Event,
-    out: &mut TextOut,
+    out: &mut Lines,
 ) -> Result<(), NoMemory>
     ensures { OnOk result (out.new ≡ out.old ++ events.event_text (mark_at marks.now) frames.now stand (event_of event.now)) }
 {
     match event {
-        Event::Entry { node, entry } => write_entry(alloc, stand, *node, entry, out),
+        Event::Entry { node, entry } => write_entry(stand.at(*node), entry, out),
         Event::Sent { node, sent } => {
             let id = sent.datagram.id;
-            write_sent(
-                alloc,
-                stand,
-                *node,
-                id,
-                sent.number,
-                &sent.datagram.octets,
-                out,
-            )
+            write_sent(stand.at(*node), id, sent.number, &sent.datagram.octets, out)
         }
         Event::Heeded { node, heeded } => {
-            write_heeded(alloc, stand, *node, heeded.id, &heeded.octets, out)
+            write_heeded(stand.at(*node), heeded.id, &heeded.octets, out)
         }
-        Event::InAir { frame } => write_aired(alloc, stand, *frame, frames, out),
+        Event::InAir { frame } => write_aired(stand, *frame, frames, out),
         Event::Delivered { frame, node } => {
             let again = mark_of(marks, stand.line);
-            write_delivered(alloc, stand, *frame, *node, again, out)
+            write_delivered(stand, *frame, *node, again, out)
         }
-        Event::Settled { frame } => write_lost_frame(alloc, stand, *frame, out),
-        Event::Shown { table } => write_shown(alloc, stand, table, out),
-        Event::Took { node, end, message } => write_took(alloc, stand, *node, *end, message, out),
-        Event::Wrote { node, end, count } => write_wrote(alloc, stand, *node, *end, *count, out),
-        Event::Restarted { node, pair } => write_restarted(alloc, stand, *node, *pair, out),
-        Event::Lost { node, end } => write_lost_end(alloc, stand, *node, end, out),
-        Event::Refused { why } => write_refused(alloc, stand, why, out),
-        Event::Posted { node, number } => write_posted(alloc, stand, *node, *number, out),
-        Event::Offered { node, offer } => write_offered(alloc, stand, *node, offer, out),
-        Event::MailStored { node, mail } => write_stored(alloc, stand, *node, mail, out),
-        Event::MailSettled { node, number } => write_settled(alloc, stand, *node, *number, out),
+        Event::Settled { frame } => write_lost_frame(stand, *frame, out),
+        Event::Shown { table } => write_shown(stand, table, out),
+        Event::Took { node, end, message } => write_took(stand.at(*node), *end, message, out),
+        Event::Wrote { node, end, count } => write_wrote(stand.at(*node), *end, *count, out),
+        Event::Restarted { node, pair } => write_restarted(stand.at(*node), *pair, out),
+        Event::Lost { node, end } => write_lost_end(stand.at(*node), end, out),
+        Event::Refused { why } => write_refused(stand, why, out),
+        Event::Posted { node, number } => write_posted(stand.at(*node), *number, out),
+        Event::Offered { node, offer } => write_offered(stand.at(*node), offer, out),
+        Event::MailStored { node, mail } => write_stored(stand.at(*node), mail, out),
+        Event::MailSettled { node, number } => write_settled(stand.at(*node), *number, out),
     }
 }
 
 /// The node has put a frame in the air.
-fn write_aired(
-    alloc: Global,
-    stand: Stand,
-    number: u32,
-    frames: &[Aired],
-    out: &mut TextOut,
-) -> Result<(), NoMemory>
+fn write_aired(stand: Stand, number: u32, frames: &[Aired], out: &mut Lines) -> Result<(), NoMemory>
     ensures { OnOk result (out.new ≡ out.old ++ events.aired_text stand number (frame_of frames.now number)) }
 {
     match frames.get((number as usize).saturating_sub(1)) {
-        Some(frame) => write_frame(alloc, stand, number, frame, out),
+        Some(frame) => write_frame(stand, number, frame, out),
         None => Ok(()),
     }
 }
 
 #[tactic(auto, unfolding(crate::specs::Json::object))]
-fn write_frame(
-    alloc: Global,
-    stand: Stand,
-    number: u32,
-    frame: &Aired,
-    out: &mut TextOut,
-) -> Result<(), NoMemory>
+fn write_frame(stand: Stand, number: u32, frame: &Aired, out: &mut Lines) -> Result<(), NoMemory>
     ensures { OnOk result (out.new ≡ out.old ++ events.frame_line stand number frame.now) }
 {
     let Stand { event, line } = stand;
     let node = frame.sender;
-    let fields = frame_fields(alloc, frame)?;
+    let fields = frame_fields(out.alloc(), frame)?;
     let fields = fields.as_str();
-    let object = format!(in alloc;
+    let object = format!(in out.alloc();
         "{{\"kind\":\"frame\",\"event\":{event},\"line\":{line},\"frame\":{number},\"node\":{node}{fields}"
     )?;
     out.text(object.as_str())?;
@@ -155,18 +128,17 @@ fn modulus_of(modulo128: bool) -> u8
 /// The frame goes to the node.
 #[tactic(auto, unfolding(crate::specs::Json::object))]
 fn write_delivered(
-    alloc: Global,
     stand: Stand,
     frame: u32,
     node: u8,
     again: bool,
-    out: &mut TextOut,
+    out: &mut Lines,
 ) -> Result<(), NoMemory>
     ensures { OnOk result (out.new ≡ out.old ++ events.delivered_line stand frame node again) }
 {
     let Stand { event, line } = stand;
     let again = truth(again);
-    let object = format!(in alloc;
+    let object = format!(in out.alloc();
         "{{\"kind\":\"delivered\",\"event\":{event},\"line\":{line},\"frame\":{frame},\"node\":{node},\"again\":{again}}}\n"
     )?;
     out.text(object.as_str())?;
@@ -175,16 +147,11 @@ fn write_delivered(
 
 /// The frame went to nobody.
 #[tactic(auto, unfolding(crate::specs::Json::object))]
-fn write_lost_frame(
-    alloc: Global,
-    stand: Stand,
-    frame: u32,
-    out: &mut TextOut,
-) -> Result<(), NoMemory>
+fn write_lost_frame(stand: Stand, frame: u32, out: &mut Lines) -> Result<(), NoMemory>
     ensures { OnOk result (out.new ≡ out.old ++ events.lost_frame_line stand frame) }
 {
     let Stand { event, line } = stand;
-    let object = format!(in alloc;
+    let object = format!(in out.alloc();
         "{{\"kind\":\"lost_frame\",\"event\":{event},\"line\":{line},\"frame\":{frame}}}\n"
     )?;
     out.text(object.as_str())?;
@@ -193,20 +160,14 @@ fn write_lost_frame(
 
 /// A message was taken from an end, whole.
 #[tactic(auto, unfolding(crate::specs::Json::object))]
-fn write_took(
-    alloc: Global,
-    stand: Stand,
-    node: u8,
-    end: u32,
-    message: &[u8],
-    out: &mut TextOut,
-) -> Result<(), NoMemory>
-    ensures { OnOk result (out.new ≡ out.old ++ events.took_line stand node end message.now) }
+fn write_took(at: AtNode, end: u32, message: &[u8], out: &mut Lines) -> Result<(), NoMemory>
+    ensures { OnOk result (out.new ≡ out.old ++ events.took_line at end message.now) }
 {
-    let Stand { event, line } = stand;
-    let fields = message_fields(alloc, message)?;
+    let Stand { event, line } = at.stand;
+    let node = at.node;
+    let fields = message_fields(out.alloc(), message)?;
     let fields = fields.as_str();
-    let object = format!(in alloc;
+    let object = format!(in out.alloc();
         "{{\"kind\":\"took\",\"event\":{event},\"line\":{line},\"node\":{node},\"end\":{end}{fields}"
     )?;
     out.text(object.as_str())?;
@@ -226,18 +187,12 @@ fn message_fields(alloc: Global, message: &[u8]) -> Result<String, AllocError>
 
 /// So many messages of a burst were written.
 #[tactic(auto, unfolding(crate::specs::Json::object))]
-fn write_wrote(
-    alloc: Global,
-    stand: Stand,
-    node: u8,
-    end: u32,
-    messages: u32,
-    out: &mut TextOut,
-) -> Result<(), NoMemory>
-    ensures { OnOk result (out.new ≡ out.old ++ events.wrote_line stand node end messages) }
+fn write_wrote(at: AtNode, end: u32, messages: u32, out: &mut Lines) -> Result<(), NoMemory>
+    ensures { OnOk result (out.new ≡ out.old ++ events.wrote_line at end messages) }
 {
-    let Stand { event, line } = stand;
-    let object = format!(in alloc;
+    let Stand { event, line } = at.stand;
+    let node = at.node;
+    let object = format!(in out.alloc();
         "{{\"kind\":\"wrote\",\"event\":{event},\"line\":{line},\"node\":{node},\"end\":{end},\"messages\":{messages}}}\n"
     )?;
     out.text(object.as_str())?;
@@ -246,19 +201,14 @@ fn write_wrote(
 
 /// The node starts again, and gives this pair next.
 #[tactic(auto, unfolding(crate::specs::Json::object))]
-fn write_restarted(
-    alloc: Global,
-    stand: Stand,
-    node: u8,
-    pair: Pair,
-    out: &mut TextOut,
-) -> Result<(), NoMemory>
-    ensures { OnOk result (out.new ≡ out.old ++ events.restarted_line stand node pair) }
+fn write_restarted(at: AtNode, pair: Pair, out: &mut Lines) -> Result<(), NoMemory>
+    ensures { OnOk result (out.new ≡ out.old ++ events.restarted_line at pair) }
 {
-    let Stand { event, line } = stand;
+    let Stand { event, line } = at.stand;
+    let node = at.node;
     let index = pair.index;
     let ident = pair.ident;
-    let object = format!(in alloc;
+    let object = format!(in out.alloc();
         "{{\"kind\":\"restarted\",\"event\":{event},\"line\":{line},\"node\":{node},\"index\":{index},\"ident\":{ident}}}\n"
     )?;
     out.text(object.as_str())?;
@@ -267,20 +217,15 @@ fn write_restarted(
 
 /// A restart took an end away.
 #[tactic(auto, unfolding(crate::specs::Json::object))]
-fn write_lost_end(
-    alloc: Global,
-    stand: Stand,
-    node: u8,
-    lost: &LostEnd,
-    out: &mut TextOut,
-) -> Result<(), NoMemory>
-    ensures { OnOk result (out.new ≡ out.old ++ events.lost_end_line stand node lost.now.id lost.now.facts) }
+fn write_lost_end(at: AtNode, lost: &LostEnd, out: &mut Lines) -> Result<(), NoMemory>
+    ensures { OnOk result (out.new ≡ out.old ++ events.lost_end_line at lost.now.id lost.now.facts) }
 {
-    let Stand { event, line } = stand;
+    let Stand { event, line } = at.stand;
+    let node = at.node;
     let end = lost.id;
-    let facts = facts_fields(alloc, &lost.facts)?;
+    let facts = facts_fields(out.alloc(), &lost.facts)?;
     let facts = facts.as_str();
-    let object = format!(in alloc;
+    let object = format!(in out.alloc();
         "{{\"kind\":\"lost_end\",\"event\":{event},\"line\":{line},\"node\":{node},\"end\":{end}{facts}"
     )?;
     out.text(object.as_str())?;
@@ -289,16 +234,11 @@ fn write_lost_end(
 
 /// The line wasn't done.
 #[tactic(auto, unfolding(crate::specs::Json::object))]
-fn write_refused(
-    alloc: Global,
-    stand: Stand,
-    why: &LineRefusal,
-    out: &mut TextOut,
-) -> Result<(), NoMemory>
+fn write_refused(stand: Stand, why: &LineRefusal, out: &mut Lines) -> Result<(), NoMemory>
     ensures { OnOk result (out.new ≡ out.old ++ events.refused_line stand (word_for_why why.now)) }
 {
     let Stand { event, line } = stand;
-    let object = format!(in alloc;
+    let object = format!(in out.alloc();
         "{{\"kind\":\"refused\",\"event\":{event},\"line\":{line},\"why\":\"{why}\"}}\n"
     )?;
     out.text(object.as_str())?;
@@ -306,66 +246,46 @@ fn write_refused(
 }
 
 /// A table was shown; its routes follow.
-fn write_shown(
-    alloc: Global,
-    stand: Stand,
-    table: &Table,
-    out: &mut TextOut,
-) -> Result<(), NoMemory>
+fn write_shown(stand: Stand, table: &Table, out: &mut Lines) -> Result<(), NoMemory>
     ensures { OnOk result (out.new ≡ out.old ++ events.shown_text stand table.now) }
 {
-    write_shown_head(alloc, stand, table.node(), table.routes().len(), out)?;
-    write_shown_routes(alloc, stand, table.node(), table.routes(), out)?;
+    let at = stand.at(table.node());
+    write_shown_head(at, table.routes().len(), out)?;
+    write_shown_routes(at, table.routes(), out)?;
     Ok(())
 }
 
 #[tactic(auto, unfolding(crate::specs::Json::object))]
-fn write_shown_head(
-    alloc: Global,
-    stand: Stand,
-    node: u8,
-    routes: usize,
-    out: &mut TextOut,
-) -> Result<(), NoMemory>
-    ensures { OnOk result (out.new ≡ out.old ++ events.shown_line stand node routes) }
+fn write_shown_head(at: AtNode, routes: usize, out: &mut Lines) -> Result<(), NoMemory>
+    ensures { OnOk result (out.new ≡ out.old ++ events.shown_line at routes) }
 {
-    let Stand { event, line } = stand;
-    let object = format!(in alloc;
+    let Stand { event, line } = at.stand;
+    let node = at.node;
+    let object = format!(in out.alloc();
         "{{\"kind\":\"shown\",\"event\":{event},\"line\":{line},\"node\":{node},\"routes\":{routes}}}\n"
     )?;
     out.text(object.as_str())?;
     Ok(())
 }
 
-fn write_shown_routes(
-    alloc: Global,
-    stand: Stand,
-    node: u8,
-    routes: &[Route],
-    out: &mut TextOut,
-) -> Result<(), NoMemory>
-    ensures { OnOk result (out.new ≡ out.old ++ flat_map (events.shown_route_line stand node) routes.now) }
+fn write_shown_routes(at: AtNode, routes: &[Route], out: &mut Lines) -> Result<(), NoMemory>
+    ensures { OnOk result (out.new ≡ out.old ++ flat_map (events.shown_route_line at) routes.now) }
 {
     for route in routes {
-        write_shown_route(alloc, stand, node, route, out)?;
+        write_shown_route(at, route, out)?;
     }
     Ok(())
 }
 
 #[tactic(auto, unfolding(crate::specs::Json::object))]
-fn write_shown_route(
-    alloc: Global,
-    stand: Stand,
-    node: u8,
-    route: &Route,
-    out: &mut TextOut,
-) -> Result<(), NoMemory>
-    ensures { OnOk result (out.new ≡ out.old ++ events.shown_route_line stand node route.now) }
+fn write_shown_route(at: AtNode, route: &Route, out: &mut Lines) -> Result<(), NoMemory>
+    ensures { OnOk result (out.new ≡ out.old ++ events.shown_route_line at route.now) }
 {
-    let Stand { event, line } = stand;
-    let fields = route_fields(alloc, route)?;
+    let Stand { event, line } = at.stand;
+    let node = at.node;
+    let fields = route_fields(out.alloc(), route)?;
     let fields = fields.as_str();
-    let object = format!(in alloc;
+    let object = format!(in out.alloc();
         "{{\"kind\":\"shown_route\",\"event\":{event},\"line\":{line},\"node\":{node}{fields}"
     )?;
     out.text(object.as_str())?;

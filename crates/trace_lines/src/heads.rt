@@ -8,78 +8,75 @@ ghost use Rattle.trace_lines.specs.Json as json;
 ghost use Rattle.trace_lines.specs.Json.{listed, quoted};
 
 use crate::json::{alias_text, string_text};
+use crate::lines::Lines;
 use ax_address::Call;
 use network_file::{Channel, Declaration, Key, Network, Setting, Via};
-use radio_base::{NoMemory, TextOut};
+use radio_base::NoMemory;
 use std::alloc::{AllocError, Global};
 use text_lines::first_line;
 
 /// Appends the network, its nodes, its channels, its settings and its paths over repeaters, each in the order of the file.
-pub(crate) fn write_network(
-    alloc: Global,
-    network: &Network,
-    out: &mut TextOut,
-) -> Result<(), NoMemory>
+pub(crate) fn write_network(network: &Network, out: &mut Lines) -> Result<(), NoMemory>
     ensures { OnOk result (out.new ≡ out.old ++ heads.network_text network.now) }
 {
-    write_version(alloc, network.version(), out)?;
-    write_nodes(alloc, network.declared(), out)?;
-    write_channels(alloc, network.channels(), out)?;
-    write_settings(alloc, network.settings(), out)?;
-    write_paths(alloc, network.vias(), out)?;
+    write_version(network.version(), out)?;
+    write_nodes(network.declared(), out)?;
+    write_channels(network.channels(), out)?;
+    write_settings(network.settings(), out)?;
+    write_paths(network.vias(), out)?;
     Ok(())
 }
 
 #[tactic(auto, unfolding(crate::specs::Json::object))]
-fn write_version(alloc: Global, version: u8, out: &mut TextOut) -> Result<(), NoMemory>
+fn write_version(version: u8, out: &mut Lines) -> Result<(), NoMemory>
     ensures { OnOk result (out.new ≡ out.old ++ heads.version_line version) }
 {
-    let object = format!(in alloc; "{{\"kind\":\"network\",\"version\":{version}}}\n")?;
+    let object = format!(in out.alloc(); "{{\"kind\":\"network\",\"version\":{version}}}\n")?;
     out.text(object.as_str())?;
     Ok(())
 }
 
-fn write_nodes(alloc: Global, declared: &[Declaration], out: &mut TextOut) -> Result<(), NoMemory>
+fn write_nodes(declared: &[Declaration], out: &mut Lines) -> Result<(), NoMemory>
     ensures { OnOk result (out.new ≡ out.old ++ flat_map heads.node_line declared.now) }
 {
     for one in declared {
-        write_node(alloc, one, out)?;
+        write_node(one, out)?;
     }
     Ok(())
 }
 
 #[tactic(auto, unfolding(crate::specs::Json::object))]
-fn write_node(alloc: Global, declared: &Declaration, out: &mut TextOut) -> Result<(), NoMemory>
+fn write_node(declared: &Declaration, out: &mut Lines) -> Result<(), NoMemory>
     ensures { OnOk result (out.new ≡ out.old ++ heads.node_line declared.now) }
 {
     let node = declared.node;
     let call = declared.call.show();
     let call = call.as_str();
-    let alias = alias_text(alloc, declared.alias)?;
+    let alias = alias_text(out.alloc(), declared.alias)?;
     let alias = alias.as_str();
-    let object = format!(in alloc;
+    let object = format!(in out.alloc();
         "{{\"kind\":\"node\",\"node\":{node},\"call\":\"{call}\",\"alias\":{alias}}}\n"
     )?;
     out.text(object.as_str())?;
     Ok(())
 }
 
-fn write_channels(alloc: Global, channels: &[Channel], out: &mut TextOut) -> Result<(), NoMemory>
+fn write_channels(channels: &[Channel], out: &mut Lines) -> Result<(), NoMemory>
     ensures { OnOk result (out.new ≡ out.old ++ flat_map heads.channel_line channels.now) }
 {
     for channel in channels {
-        write_channel(alloc, channel, out)?;
+        write_channel(channel, out)?;
     }
     Ok(())
 }
 
 #[tactic(auto, unfolding(crate::specs::Json::object))]
-fn write_channel(alloc: Global, channel: &Channel, out: &mut TextOut) -> Result<(), NoMemory>
+fn write_channel(channel: &Channel, out: &mut Lines) -> Result<(), NoMemory>
     ensures { OnOk result (out.new ≡ out.old ++ heads.channel_line channel.now) }
 {
-    let nodes = nodes_text(alloc, channel)?;
+    let nodes = nodes_text(out.alloc(), channel)?;
     let nodes = nodes.as_str();
-    let object = format!(in alloc; "{{\"kind\":\"channel\",\"nodes\":[{nodes}]}}\n")?;
+    let object = format!(in out.alloc(); "{{\"kind\":\"channel\",\"nodes\":[{nodes}]}}\n")?;
     out.text(object.as_str())?;
     Ok(())
 }
@@ -115,24 +112,24 @@ fn push_numbers(alloc: Global, numbers: &[u8], text: &mut String) -> Result<(), 
     Ok(())
 }
 
-fn write_settings(alloc: Global, settings: &[Setting], out: &mut TextOut) -> Result<(), NoMemory>
+fn write_settings(settings: &[Setting], out: &mut Lines) -> Result<(), NoMemory>
     ensures { OnOk result (out.new ≡ out.old ++ flat_map heads.setting_line settings.now) }
 {
     for setting in settings {
-        write_setting(alloc, setting, out)?;
+        write_setting(setting, out)?;
     }
     Ok(())
 }
 
 #[tactic(auto, unfolding(crate::specs::Json::object))]
-fn write_setting(alloc: Global, setting: &Setting, out: &mut TextOut) -> Result<(), NoMemory>
+fn write_setting(setting: &Setting, out: &mut Lines) -> Result<(), NoMemory>
     ensures { OnOk result (out.new ≡ out.old ++ heads.setting_line setting.now) }
 {
     let node = setting.node();
-    let key = key_text(alloc, setting.key())?;
+    let key = key_text(out.alloc(), setting.key())?;
     let key = key.as_str();
     let value = setting.value();
-    let object = format!(in alloc;
+    let object = format!(in out.alloc();
         "{{\"kind\":\"setting\",\"node\":{node},\"key\":{key},\"value\":{value}}}\n"
     )?;
     out.text(object.as_str())?;
@@ -145,25 +142,25 @@ fn key_text(alloc: Global, key: Key) -> Result<String, AllocError>
     string_text(alloc, key.word())
 }
 
-fn write_paths(alloc: Global, vias: &[Via], out: &mut TextOut) -> Result<(), NoMemory>
+fn write_paths(vias: &[Via], out: &mut Lines) -> Result<(), NoMemory>
     ensures { OnOk result (out.new ≡ out.old ++ flat_map heads.path_line vias.now) }
 {
     for via in vias {
-        write_path(alloc, via, out)?;
+        write_path(via, out)?;
     }
     Ok(())
 }
 
 #[tactic(auto, unfolding(crate::specs::Json::object))]
-fn write_path(alloc: Global, via: &Via, out: &mut TextOut) -> Result<(), NoMemory>
+fn write_path(via: &Via, out: &mut Lines) -> Result<(), NoMemory>
     ensures { OnOk result (out.new ≡ out.old ++ heads.path_line via.now) }
 {
     let node = via.node;
     let peer = via.peer.show();
     let peer = peer.as_str();
-    let repeaters = repeaters_text(alloc, via)?;
+    let repeaters = repeaters_text(out.alloc(), via)?;
     let repeaters = repeaters.as_str();
-    let object = format!(in alloc;
+    let object = format!(in out.alloc();
         "{{\"kind\":\"path\",\"node\":{node},\"peer\":\"{peer}\",\"repeaters\":[{repeaters}]}}\n"
     )?;
     out.text(object.as_str())?;
@@ -206,7 +203,7 @@ fn push_calls(alloc: Global, names: &[Call], text: &mut String) -> Result<(), Al
 }
 
 /// Appends each line of a file with its number, from 1.
-pub(crate) fn write_lines(alloc: Global, bytes: &[u8], out: &mut TextOut) -> Result<(), NoMemory>
+pub(crate) fn write_lines(bytes: &[u8], out: &mut Lines) -> Result<(), NoMemory>
     ensures { OnOk result (out.new ≡ out.old ++ heads.file_text bytes.now) }
 {
     let mut number: u64 = 0;
@@ -214,19 +211,21 @@ pub(crate) fn write_lines(alloc: Global, bytes: &[u8], out: &mut TextOut) -> Res
     while !rest.is_empty() {
         let (line, more) = first_line(rest);
         number += 1;
-        write_line(alloc, number, line, out)?;
+        write_line(number, line, out)?;
         rest = more;
     }
     Ok(())
 }
 
 #[tactic(auto, unfolding(crate::specs::Json::object))]
-fn write_line(alloc: Global, number: u64, line: &[u8], out: &mut TextOut) -> Result<(), NoMemory>
+fn write_line(number: u64, line: &[u8], out: &mut Lines) -> Result<(), NoMemory>
     ensures { OnOk result (out.new ≡ out.old ++ heads.line_line number line.now) }
 {
-    let said = string_text(alloc, line)?;
+    let said = string_text(out.alloc(), line)?;
     let said = said.as_str();
-    let object = format!(in alloc; "{{\"kind\":\"line\",\"line\":{number},\"text\":{said}}}\n")?;
+    let object = format!(in out.alloc();
+        "{{\"kind\":\"line\",\"line\":{number},\"text\":{said}}}\n"
+    )?;
     out.text(object.as_str())?;
     Ok(())
 }

@@ -11,24 +11,32 @@ ghost use Rattle.trace_lines.specs.Json.{fields_text, or_null};
 ghost use Rattle.trace_lines.specs.Left as left;
 
 use crate::json::alias_text;
+use crate::lines::Lines;
 use crate::mails::write_left_mail;
 use ax_address::Call;
 use circuit_l4::EndFacts;
 use net_replay::{Declaration, EndRecord, Outcome, Table, Trace, phase_word, shown};
 use node_core::Node;
 use node_mail::Store;
-use radio_base::{NoMemory, TextOut};
+use radio_base::NoMemory;
 use route_table::Route;
 use std::alloc::{AllocError, Global};
 
+/// An end: its node, its number there, and whom it is with.
+#[derive(Drop)]
+struct EndName {
+    node: u8,
+    id: u64,
+    partner: Call,
+}
+
 /// Appends the tables and the ends of the nodes, by number.
 pub(crate) fn write_nodes(
-    alloc: Global,
     trace: &Trace,
     declared: &[Declaration],
     nodes: &[Node],
     mails: &[Option<Store>],
-    out: &mut TextOut,
+    out: &mut Lines,
 ) -> Result<(), NoMemory>
     ensures { OnOk result ((placed : List Placed) (kept : List (Option Lists)) → AreDeclared declared.now placed → StandFor nodes.now placed → MailsStand mails.now kept
         → out.new ≡ out.old ++ left.nodes_text (ends_left (left_of trace.now)) placed kept) }
@@ -40,8 +48,8 @@ pub(crate) fn write_nodes(
             [node, more @ ..] => match mails {
                 [] => Ok(()),
                 [mail, left @ ..] => {
-                    write_node(alloc, trace, first, node, mail, out)?;
-                    write_nodes(alloc, trace, others, more, left, out)?;
+                    write_node(trace, first, node, mail, out)?;
+                    write_nodes(trace, others, more, left, out)?;
                     Ok(())
                 }
             },
@@ -50,67 +58,57 @@ pub(crate) fn write_nodes(
 }
 
 fn write_node(
-    alloc: Global,
     trace: &Trace,
     declared: &Declaration,
     node: &Node,
     mail: &Option<Store>,
-    out: &mut TextOut,
+    out: &mut Lines,
 ) -> Result<(), NoMemory>
     ensures { OnOk result ((p : Placed) (kept : Option Lists) → declared.now ≡ p.declared → NodeStands node.now p.state → MailStands mail.now kept
         → out.new ≡ out.old ++ left.kept_text (ends_left (left_of trace.now)) p kept) }
 {
-    let table = shown(alloc, declared, node)?;
-    write_table(alloc, &table, out)?;
-    write_ends(
-        alloc,
-        declared.node,
-        trace.ends_of(declared.node),
-        node,
-        out,
-    )?;
-    write_left_mail(alloc, declared.node, mail, out)?;
+    let table = shown(out.alloc(), declared, node)?;
+    write_table(&table, out)?;
+    write_ends(declared.node, trace.ends_of(declared.node), node, out)?;
+    write_left_mail(declared.node, mail, out)?;
     Ok(())
 }
 
-fn write_table(alloc: Global, table: &Table, out: &mut TextOut) -> Result<(), NoMemory>
+fn write_table(table: &Table, out: &mut Lines) -> Result<(), NoMemory>
     ensures { OnOk result (out.new ≡ out.old ++ left.table_text table.now) }
 {
-    write_head(alloc, table.node(), table.routes().len(), out)?;
-    write_routes(alloc, table.node(), table.routes(), out)?;
+    write_head(table.node(), table.routes().len(), out)?;
+    write_routes(table.node(), table.routes(), out)?;
     Ok(())
 }
 
 #[tactic(auto, unfolding(crate::specs::Json::object))]
-fn write_head(alloc: Global, node: u8, routes: usize, out: &mut TextOut) -> Result<(), NoMemory>
+fn write_head(node: u8, routes: usize, out: &mut Lines) -> Result<(), NoMemory>
     ensures { OnOk result (out.new ≡ out.old ++ left.table_line node routes) }
 {
-    let object = format!(in alloc; "{{\"kind\":\"table\",\"node\":{node},\"routes\":{routes}}}\n")?;
+    let object = format!(in out.alloc();
+        "{{\"kind\":\"table\",\"node\":{node},\"routes\":{routes}}}\n"
+    )?;
     out.text(object.as_str())?;
     Ok(())
 }
 
-fn write_routes(
-    alloc: Global,
-    node: u8,
-    routes: &[Route],
-    out: &mut TextOut,
-) -> Result<(), NoMemory>
+fn write_routes(node: u8, routes: &[Route], out: &mut Lines) -> Result<(), NoMemory>
     ensures { OnOk result (out.new ≡ out.old ++ flat_map (left.route_line node) routes.now) }
 {
     for route in routes {
-        write_route(alloc, node, route, out)?;
+        write_route(node, route, out)?;
     }
     Ok(())
 }
 
 #[tactic(auto, unfolding(crate::specs::Json::object))]
-fn write_route(alloc: Global, node: u8, route: &Route, out: &mut TextOut) -> Result<(), NoMemory>
+fn write_route(node: u8, route: &Route, out: &mut Lines) -> Result<(), NoMemory>
     ensures { OnOk result (out.new ≡ out.old ++ left.route_line node route.now) }
 {
-    let fields = route_fields(alloc, route)?;
+    let fields = route_fields(out.alloc(), route)?;
     let fields = fields.as_str();
-    let object = format!(in alloc; "{{\"kind\":\"route\",\"node\":{node}{fields}")?;
+    let object = format!(in out.alloc(); "{{\"kind\":\"route\",\"node\":{node}{fields}")?;
     out.text(object.as_str())?;
     Ok(())
 }
@@ -146,74 +144,65 @@ fn count_text(alloc: Global, count: Option<u8>) -> Result<String, AllocError>
 }
 
 /// The ends that a node ever made, as they were left.
-fn write_ends(
-    alloc: Global,
-    number: u8,
-    ends: &[EndRecord],
-    node: &Node,
-    out: &mut TextOut,
-) -> Result<(), NoMemory>
+fn write_ends(number: u8, ends: &[EndRecord], node: &Node, out: &mut Lines) -> Result<(), NoMemory>
     ensures { OnOk result ((n : NodeState) → NodeStands node.now n
         → out.new ≡ out.old ++ left.ends_text number 1 ends.now n.station.set.set.ends) }
 {
     for (place, end) in ends.iter().enumerate() {
         let id = place as u64 + 1;
-        write_end(alloc, number, id, end, node.facts(id), out)?;
+        write_end(number, id, end, node.facts(id), out)?;
     }
     Ok(())
 }
 
 /// Appends the line of an end. One that is held has these facts.
 fn write_end(
-    alloc: Global,
     node: u8,
     id: u64,
     end: &EndRecord,
     held: Option<EndFacts>,
-    out: &mut TextOut,
+    out: &mut Lines,
 ) -> Result<(), NoMemory>
     ensures { OnOk result (out.new ≡ out.old ++ left.end_text node id end.now held) }
 {
+    let name = EndName {
+        node,
+        id,
+        partner: end.partner,
+    };
     match end.outcome {
-        Outcome::Lost(facts) => write_left(alloc, node, id, &end.partner, "lost", &facts, out),
-        Outcome::Gone(facts) => write_left(alloc, node, id, &end.partner, "gone", &facts, out),
-        Outcome::Held => write_held(alloc, node, id, &end.partner, held, out),
+        Outcome::Lost(facts) => write_left(&name, "lost", &facts, out),
+        Outcome::Gone(facts) => write_left(&name, "gone", &facts, out),
+        Outcome::Held => write_held(&name, held, out),
     }
 }
 
-fn write_held(
-    alloc: Global,
-    node: u8,
-    id: u64,
-    partner: &Call,
-    held: Option<EndFacts>,
-    out: &mut TextOut,
-) -> Result<(), NoMemory>
-    ensures { OnOk result (out.new ≡ out.old ++ left.held_text node id partner.now held) }
+fn write_held(name: &EndName, held: Option<EndFacts>, out: &mut Lines) -> Result<(), NoMemory>
+    ensures { OnOk result (out.new ≡ out.old ++ left.held_text name.now.node name.now.id name.now.partner held) }
 {
     match held {
-        Some(facts) => write_left(alloc, node, id, partner, "held", &facts, out),
+        Some(facts) => write_left(name, "held", &facts, out),
         None => Ok(()),
     }
 }
 
 #[tactic(auto, unfolding(crate::specs::Json::object))]
 fn write_left(
-    alloc: Global,
-    node: u8,
-    end: u64,
-    partner: &Call,
+    name: &EndName,
     outcome: &str,
     facts: &EndFacts,
-    out: &mut TextOut,
+    out: &mut Lines,
 ) -> Result<(), NoMemory>
-    ensures { OnOk result (out.new ≡ out.old ++ left.end_line node end partner.now outcome.now facts.now) }
+    ensures { OnOk result (out.new
+        ≡ out.old ++ left.end_line name.now.node name.now.id name.now.partner outcome.now facts.now) }
 {
-    let partner = partner.show();
+    let node = name.node;
+    let end = name.id;
+    let partner = name.partner.show();
     let partner = partner.as_str();
-    let facts = facts_fields(alloc, facts)?;
+    let facts = facts_fields(out.alloc(), facts)?;
     let facts = facts.as_str();
-    let object = format!(in alloc;
+    let object = format!(in out.alloc();
         "{{\"kind\":\"end\",\"node\":{node},\"end\":{end},\"partner\":\"{partner}\",\"outcome\":\"{outcome}\"{facts}"
     )?;
     out.text(object.as_str())?;

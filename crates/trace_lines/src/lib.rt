@@ -10,8 +10,10 @@ mod events;
 mod heads;
 mod json;
 mod left;
+mod lines;
 mod mails;
 mod marks;
+mod stands;
 mod texts;
 
-pub use texts::trace_text;
+pub use texts::{Verdict, trace_text};

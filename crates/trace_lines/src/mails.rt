@@ -5,25 +5,21 @@ ghost use Rattle.net_replay.specs.Traces.{MailStands};
 ghost use Rattle.node_mail.specs.Lists.{Lists};
 ghost use Rattle.trace_lines.specs.Mails as mails;
 
-use crate::events::Stand;
+use crate::lines::Lines;
+use crate::stands::{AtNode, Stand};
 use net_replay::{Offer, StoredMail};
 use node_mail::Store;
-use radio_base::{NoMemory, TextOut};
+use radio_base::NoMemory;
 use std::alloc::{AllocError, Global};
 
 /// A mail was posted at the node, and has this number there.
 #[tactic(auto, unfolding(crate::specs::Json::object))]
-pub(crate) fn write_posted(
-    alloc: Global,
-    stand: Stand,
-    node: u8,
-    mail: u64,
-    out: &mut TextOut,
-) -> Result<(), NoMemory>
-    ensures { OnOk result (out.new ≡ out.old ++ mails.posted_line stand node mail) }
+pub(crate) fn write_posted(at: AtNode, mail: u64, out: &mut Lines) -> Result<(), NoMemory>
+    ensures { OnOk result (out.new ≡ out.old ++ mails.posted_line at mail) }
 {
-    let Stand { event, line } = stand;
-    let object = format!(in alloc;
+    let Stand { event, line } = at.stand;
+    let node = at.node;
+    let object = format!(in out.alloc();
         "{{\"kind\":\"posted\",\"event\":{event},\"line\":{line},\"node\":{node},\"mail\":{mail}}}\n"
     )?;
     out.text(object.as_str())?;
@@ -32,19 +28,14 @@ pub(crate) fn write_posted(
 
 /// The agent of the node has written a queued mail at an end.
 #[tactic(auto, unfolding(crate::specs::Json::object))]
-pub(crate) fn write_offered(
-    alloc: Global,
-    stand: Stand,
-    node: u8,
-    offer: &Offer,
-    out: &mut TextOut,
-) -> Result<(), NoMemory>
-    ensures { OnOk result (out.new ≡ out.old ++ mails.offered_line stand node offer.now.id offer.now.number) }
+pub(crate) fn write_offered(at: AtNode, offer: &Offer, out: &mut Lines) -> Result<(), NoMemory>
+    ensures { OnOk result (out.new ≡ out.old ++ mails.offered_line at offer.now.id offer.now.number) }
 {
-    let Stand { event, line } = stand;
+    let Stand { event, line } = at.stand;
+    let node = at.node;
     let end = offer.id;
     let mail = offer.number;
-    let object = format!(in alloc;
+    let object = format!(in out.alloc();
         "{{\"kind\":\"offered\",\"event\":{event},\"line\":{line},\"node\":{node},\"end\":{end},\"mail\":{mail}}}\n"
     )?;
     out.text(object.as_str())?;
@@ -53,20 +44,15 @@ pub(crate) fn write_offered(
 
 /// A mail is stored at the node.
 #[tactic(auto, unfolding(crate::specs::Json::object))]
-pub(crate) fn write_stored(
-    alloc: Global,
-    stand: Stand,
-    node: u8,
-    stored: &StoredMail,
-    out: &mut TextOut,
-) -> Result<(), NoMemory>
+pub(crate) fn write_stored(at: AtNode, stored: &StoredMail, out: &mut Lines) -> Result<(), NoMemory>
     ensures { OnOk result (out.new
-        ≡ out.old ++ mails.stored_line stand node stored.now.origin stored.now.number stored.now.to stored.now.len) }
+        ≡ out.old ++ mails.stored_line at stored.now.origin stored.now.number stored.now.to stored.now.len) }
 {
-    let Stand { event, line } = stand;
-    let fields = stored_fields(alloc, stored)?;
+    let Stand { event, line } = at.stand;
+    let node = at.node;
+    let fields = stored_fields(out.alloc(), stored)?;
     let fields = fields.as_str();
-    let object = format!(in alloc;
+    let object = format!(in out.alloc();
         "{{\"kind\":\"stored\",\"event\":{event},\"line\":{line},\"node\":{node}{fields}"
     )?;
     out.text(object.as_str())?;
@@ -92,17 +78,12 @@ fn stored_fields(alloc: Global, stored: &StoredMail) -> Result<String, AllocErro
 
 /// The mail of that number, which was posted at the node, is stored where it was to go.
 #[tactic(auto, unfolding(crate::specs::Json::object))]
-pub(crate) fn write_settled(
-    alloc: Global,
-    stand: Stand,
-    node: u8,
-    mail: u64,
-    out: &mut TextOut,
-) -> Result<(), NoMemory>
-    ensures { OnOk result (out.new ≡ out.old ++ mails.settled_line stand node mail) }
+pub(crate) fn write_settled(at: AtNode, mail: u64, out: &mut Lines) -> Result<(), NoMemory>
+    ensures { OnOk result (out.new ≡ out.old ++ mails.settled_line at mail) }
 {
-    let Stand { event, line } = stand;
-    let object = format!(in alloc;
+    let Stand { event, line } = at.stand;
+    let node = at.node;
+    let object = format!(in out.alloc();
         "{{\"kind\":\"settled\",\"event\":{event},\"line\":{line},\"node\":{node},\"mail\":{mail}}}\n"
     )?;
     out.text(object.as_str())?;
@@ -111,17 +92,16 @@ pub(crate) fn write_settled(
 
 /// How much mail a node has left, where it keeps mail.
 pub(crate) fn write_left_mail(
-    alloc: Global,
     node: u8,
     mail: &Option<Store>,
-    out: &mut TextOut,
+    out: &mut Lines,
 ) -> Result<(), NoMemory>
     ensures { OnOk result ((kept : Option Lists) → MailStands mail.now kept → out.new ≡ out.old ++ mails.mail_text node kept) }
 {
     match mail {
         Some(store) => {
             let (queued, stored) = store.counts();
-            write_counts(alloc, node, queued, stored, out)?;
+            write_counts(node, queued, stored, out)?;
             Ok(())
         }
         None => Ok(()),
@@ -129,16 +109,10 @@ pub(crate) fn write_left_mail(
 }
 
 #[tactic(auto, unfolding(crate::specs::Json::object))]
-fn write_counts(
-    alloc: Global,
-    node: u8,
-    queued: usize,
-    stored: usize,
-    out: &mut TextOut,
-) -> Result<(), NoMemory>
+fn write_counts(node: u8, queued: usize, stored: usize, out: &mut Lines) -> Result<(), NoMemory>
     ensures { OnOk result (out.new ≡ out.old ++ mails.mail_line node queued stored) }
 {
-    let object = format!(in alloc;
+    let object = format!(in out.alloc();
         "{{\"kind\":\"mail\",\"node\":{node},\"queued\":{queued},\"stored\":{stored}}}\n"
     )?;
     out.text(object.as_str())?;

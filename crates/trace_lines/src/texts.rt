@@ -8,10 +8,18 @@ use crate::causes::{write_cause, write_verdict};
 use crate::events::write_events;
 use crate::heads::{write_lines, write_network};
 use crate::left::write_nodes;
+use crate::lines::Lines;
 use crate::marks::repeat_marks;
 use net_replay::{Late, LateCause, Network, Trace};
 use radio_base::{NoMemory, TextOut};
 use std::alloc::Global;
+
+/// The verdict on a trace, and where something came too late its cause.
+#[derive(Clone, Copy, Debug, PartialEq, Eq)]
+pub struct Verdict {
+    pub late: Option<Late>,
+    pub cause: Option<LateCause>,
+}
 
 /// The text of a trace: the network that was read, the lines of its file, all events, each node as it was left, and the verdict with its
 /// cause.
@@ -20,25 +28,24 @@ pub fn trace_text(
     file: &[u8],
     network: &Network,
     trace: &Trace,
-    late: Option<Late>,
-    cause: Option<LateCause>,
+    verdict: Verdict,
 ) -> Result<TextOut, NoMemory>
-    ensures { IfOk result (λ out. (w : World) → IsTraceOf (left_of trace.now) w → out ≡ texts.trace_text file.now network.now w late cause) }
+    ensures { IfOk result (λ out. (w : World) → IsTraceOf (left_of trace.now) w
+        → out ≡ texts.trace_text file.now network.now w verdict.late verdict.cause) }
 {
-    let mut out = TextOut::new(alloc);
-    write_network(alloc, network, &mut out)?;
-    write_lines(alloc, file, &mut out)?;
+    let mut out = Lines::new(alloc);
+    write_network(network, &mut out)?;
+    write_lines(file, &mut out)?;
     let marks = repeat_marks(alloc, network.instructions())?;
-    write_events(alloc, &marks, trace.frames(), trace.events(), &mut out)?;
+    write_events(&marks, trace.frames(), trace.events(), &mut out)?;
     write_nodes(
-        alloc,
         trace,
         trace.declared(),
         trace.nodes(),
         trace.mails(),
         &mut out,
     )?;
-    write_verdict(alloc, late, &mut out)?;
-    write_cause(alloc, cause, &mut out)?;
-    Ok(out)
+    write_verdict(verdict.late, &mut out)?;
+    write_cause(verdict.cause, &mut out)?;
+    Ok(out.into_text())
 }

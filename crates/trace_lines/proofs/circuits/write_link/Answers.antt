@@ -4,4 +4,4 @@ use Rattle.trace_lines.proofs.circuits.write_link.Goals as goal
 
 pub returns : goal.returns
 unfolding object
-returns c = rw (c.in_ok-text.ensures.ok, c.as_str.ensures.value, c.in_ok-object.ensures.ok, c.as_str-peer.ensures.value, c.show-peer.ensures, c.link_word-what.ensures) refl
+returns c = rw (c.in_ok-text.ensures, c.as_str.ensures.value, c.in_ok-object.ensures.ok, c.as_str-peer.ensures.value, c.show-peer.ensures, c.link_word-what.ensures) refl

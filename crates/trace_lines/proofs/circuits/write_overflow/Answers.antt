@@ -4,4 +4,4 @@ use Rattle.trace_lines.proofs.circuits.write_overflow.Goals as goal
 
 pub returns : goal.returns
 unfolding object
-returns c = rw (c.in_ok-text.ensures.ok, c.as_str.ensures.value, c.in_ok-object.ensures.ok) refl
+returns c = rw (c.in_ok-text.ensures, c.as_str.ensures.value, c.in_ok-object.ensures.ok) refl

@@ -4,4 +4,4 @@ use Rattle.trace_lines.proofs.heads.write_setting.Goals as goal
 
 pub returns : goal.returns
 unfolding object
-returns c = rw (c.in_ok-text.ensures.ok, c.as_str.ensures.value, c.in_ok-object.ensures.ok, c.node-node.ensures, c.as_str-key.ensures.value, c.in_ok-key.ensures, c.key.ensures, c.value-value.ensures.value) refl
+returns c = rw (c.in_ok-text.ensures, c.as_str.ensures.value, c.in_ok-object.ensures.ok, c.node-node.ensures, c.as_str-key.ensures.value, c.in_ok-key.ensures, c.key.ensures, c.value-value.ensures.value) refl

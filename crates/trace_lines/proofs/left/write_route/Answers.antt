@@ -4,4 +4,4 @@ use Rattle.trace_lines.proofs.left.write_route.Goals as goal
 
 pub returns : goal.returns
 unfolding object
-returns c = rw (c.in_ok-text.ensures.ok, c.as_str.ensures.value, c.in_ok-object.ensures.ok, c.as_str-fields.ensures.value, c.in_ok-fields.ensures) refl
+returns c = rw (c.in_ok-text.ensures, c.as_str.ensures.value, c.in_ok-object.ensures.ok, c.as_str-fields.ensures.value, c.in_ok-fields.ensures) refl

@@ -21,7 +21,7 @@ returns c = λ w trace.
     let nodes : StandFor c.nodes.result.now w.nodes = subst (λ (ns : List Kept). StandFor ns w.nodes) (sym c.nodes.ensures) trace.nodes in
     let mails : MailsStand c.mails.result.now w.mails =
     subst (λ (ms : List (Option StoreView)). MailsStand ms w.mails) (sym c.mails.ensures) trace.mails in
-    trace_joined left w c.args.file.now c.args.network.now marks c.args.late c.args.cause
+    c.into_text.ensures ∙ trace_joined left w c.args.file.now c.args.network.now marks c.args.verdict.late c.args.verdict.cause
     c.new-out.result c.write_network.new.out c.write_lines.new.out c.write_events.new.out c.write_nodes.new.out c.write_verdict.new.out c.write_cause.new.out
     trace marked c.new-out.ensures c.in_ok-write_network.ensures c.in_ok-write_lines.ensures events
     (c.in_ok-write_nodes.ensures w.nodes w.mails (c.declared.ensures ∙ trace.declared) nodes mails) c.in_ok-write_verdict.ensures c.in_ok-write_cause.ensures
