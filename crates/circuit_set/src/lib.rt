@@ -1,4 +1,4 @@
-//! The circuits of a node. What holds of circuits over every schedule stands in `circuit_laws`.
+//! The circuits of a node, and what holds of circuits over every schedule.
 #![tactic(auto)]
 
 mod event;

@@ -4,7 +4,7 @@ use Rattle.std.specs.Prelude.{Bool, true, false, ◌&&◌, ◌||◌, cond, if◌
 use Rattle.std.specs.List.{list_any}
 use Rattle.std.proofs.lemmas.Bool.Decides.{nat_tests}
 use Rattle.circuit_l4.specs.declared.transport.Pair.{Pair}
-use Rattle.circuit_laws.specs.Books.{Book, FreshTold, HasRequester, MadeNote, NoOther, SentNote, TimelyTo, TimelyTold, empty, first_name, is_unknown, latest_in, with_events, overtakers, partner, requester}
+use Rattle.circuit_set.specs.Books.{Book, FreshTold, HasRequester, MadeNote, NoOther, SentNote, TimelyTo, TimelyTold, empty, first_name, is_unknown, latest_in, with_events, overtakers, partner, requester}
 use Rattle.circuit_set.specs.Events.{Event, Name}
 use Rattle.circuit_set.specs.Sets.{CircuitTold, Made, Sent, Heeded, Notice, Gone, Restarted, Lost}
 use Rattle.circuit_verdict.specs.declared.cause.Cause.{Cause}

@@ -1,7 +1,7 @@
 -- A pair that is faced is one that no node may give again.
 use Rattle.std.proofs.Common.{◌≡◌, ℕ, refl, List}
 use Rattle.circuit_l4.specs.declared.transport.Pair.{Pair}
-use Rattle.circuit_laws.specs.Books.{MadeNote}
+use Rattle.circuit_set.specs.Books.{MadeNote}
 use Rattle.circuit_set.specs.Events.{Name}
 use Rattle.circuit_verdict.specs.declared.ends.Ends.{Ends}
 use Rattle.circuit_verdict.specs.Ends.{EndsStand, faces, facing_in, given_in, has_open_partner, is_faced, is_open, kept_faced, kept_faces, kept_open, keeps_open_partner}

@@ -6,7 +6,7 @@ use Rattle.ax_address.specs.Callsign.{Callsign}
 use Rattle.ax_address.specs.CallOrder.{same_call}
 use Rattle.circuit_l4.specs.declared.transport.Pair.{Pair}
 use Rattle.circuit_set.specs.Sets.{same_pair}
-use Rattle.circuit_laws.specs.Books.{MadeNote}
+use Rattle.circuit_set.specs.Books.{MadeNote}
 use Rattle.circuit_set.specs.Events.{Name, same_name}
 use Rattle.circuit_verdict.specs.declared.ends.Ends.{Ends}
 use Rattle.circuit_verdict.specs.Lists.{list_in}

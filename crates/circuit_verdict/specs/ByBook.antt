@@ -1,8 +1,8 @@
 -- The same by the notes that are kept of the events, as `circuit_set` says. Of the public calls `Verdict::cause` alone speaks by them.
 use Rattle.std.specs.Prelude.{◌≡◌, ℕ, List, [], ◌∷◌, ◌++◌}
-use Rattle.circuit_laws.specs.Books.{Book, Timely, TimelyTold, Fresh, FreshTold, empty, with_events, lost_with}
+use Rattle.circuit_set.specs.Books.{Book, Timely, TimelyTold, Fresh, FreshTold, empty, with_events, lost_with}
 use Rattle.circuit_set.specs.Events.{Event, Name}
-use Rattle.circuit_laws.specs.NotedRuns.{allowance_at}
+use Rattle.circuit_set.specs.NotedRuns.{allowance_at}
 use Rattle.circuit_verdict.specs.declared.event.Numbered.{Numbered}
 use Rattle.circuit_verdict.specs.declared.verdict.Allowance.{Allowance}
 use Rattle.circuit_verdict.specs.declared.verdict.Allowance.TheVariants.{Fixed, OfWindow}

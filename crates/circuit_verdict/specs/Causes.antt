@@ -1,7 +1,7 @@
 -- By what it shows that an event comes too late, as it is read off the notes of what was told before it (this project's profile).
 use Rattle.std.specs.Prelude.{ℕ, ◌&&◌, nat_le, is_some, if◌then◌else◌, List, [], filter, flat_map, slice_get, Option, Some, None}
 use Rattle.circuit_l4.specs.declared.transport.Pair.{Pair}
-use Rattle.circuit_laws.specs.Books.{Book, MadeNote, SentNote, empty, is_unknown, latest_in, with_events, overtakers, partner, requester}
+use Rattle.circuit_set.specs.Books.{Book, MadeNote, SentNote, empty, is_unknown, latest_in, with_events, overtakers, partner, requester}
 use Rattle.circuit_set.specs.Events.{Event, Name, same_name}
 use Rattle.circuit_set.specs.Sets.{Made, Heeded, CircuitTold}
 use Rattle.indexmap.specs.IndexMap.{get}

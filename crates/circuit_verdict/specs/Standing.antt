@@ -1,6 +1,6 @@
 -- What a verdict stands for: the events that it has taken in.
 use Rattle.std.specs.Prelude.{◌≡◌, List, [], Option, Some, None, true}
-use Rattle.circuit_laws.specs.Books.{Fresh, Timely, empty, with_events}
+use Rattle.circuit_set.specs.Books.{Fresh, Timely, empty, with_events}
 use Rattle.circuit_verdict.specs.declared.event.Numbered.{Numbered}
 use Rattle.circuit_verdict.specs.declared.verdict.Allowance.{Allowance}
 use Rattle.circuit_verdict.specs.declared.verdict.Late.{Late}

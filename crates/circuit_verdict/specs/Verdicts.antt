@@ -2,7 +2,7 @@
 -- profile). `IsTimely` and `IsFresh` are those of the law of circuits.
 use Rattle.std.specs.Prelude.{◌≡◌, ℕ, ◌↔◌, List, [], ◌∷◌, ◌++◌, Option, Some, None}
 use Rattle.circuit_set.specs.Events.{Event}
-use Rattle.circuit_laws.specs.TooLate.{Allowing, AllowsByWindow, IsFresh, IsTimely, allows_fixed}
+use Rattle.circuit_set.specs.TooLate.{Allowing, AllowsByWindow, IsFresh, IsTimely, allows_fixed}
 use Rattle.circuit_verdict.specs.declared.event.Numbered.{Numbered}
 use Rattle.circuit_verdict.specs.declared.verdict.Allowance.{Allowance}
 use Rattle.circuit_verdict.specs.declared.verdict.Allowance.TheVariants.{Fixed, OfWindow}

@@ -3,8 +3,8 @@ ghost use Rattle.std.specs.Prelude.{◌≡◌, ◌+◌, ◌&&◌, OnOk, IfOk, �
 ghost use Rattle.std.specs.Option.{option_copied};
 ghost use Rattle.l3_datagram.specs.Datagrams.{head_at};
 ghost use Rattle.circuit_l4.specs.Transports.{pair_at};
-ghost use Rattle.circuit_laws.specs.Books as books;
-ghost use Rattle.circuit_laws.specs.NotedRuns.{allowance};
+ghost use Rattle.circuit_set.specs.Books as books;
+ghost use Rattle.circuit_set.specs.NotedRuns.{allowance};
 ghost use Rattle.circuit_set.specs.Events as set_events;
 ghost use Rattle.circuit_set.specs.Sets as sets;
 ghost use Rattle.ax_address.specs.Callsign.{Callsign};

@@ -1,7 +1,7 @@
 //! By what it shows that an event comes too late.
 ghost use Rattle.std.specs.Prelude.{◌≡◌, IfOk, List, Some};
 ghost use Rattle.std.specs.Option.{option_copied};
-ghost use Rattle.circuit_laws.specs.Books as books;
+ghost use Rattle.circuit_set.specs.Books as books;
 ghost use Rattle.circuit_set.specs.Events as events;
 ghost use Rattle.circuit_verdict.specs.Causes as causes;
 ghost use Rattle.circuit_verdict.specs.Events.{told_in_run};

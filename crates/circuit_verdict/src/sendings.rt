@@ -4,7 +4,7 @@ ghost use Rattle.std.specs.BTreeMap as ordered;
 ghost use Rattle.indexmap.specs.IndexMap.{get};
 ghost use Rattle.indexmap.specs.IndexSet.{contains};
 ghost use Rattle.l3_datagram.specs.declared.datagram.TheConstants.{HEAD_SIZE as head_size};
-ghost use Rattle.circuit_laws.specs.Books as books;
+ghost use Rattle.circuit_set.specs.Books as books;
 ghost use Rattle.circuit_set.specs.Events as set_events;
 ghost use Rattle.circuit_verdict.specs.Lists.{list_in};
 ghost use Rattle.circuit_verdict.specs.Sendings as sends;

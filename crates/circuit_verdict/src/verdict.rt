@@ -7,6 +7,7 @@ ghost use Rattle.circuit_verdict.specs.Standing.{allowance_in};
 use crate::book::Book;
 use crate::cause::Cause;
 use crate::event::{Event, Numbered};
+use circuit_set::laws;
 use radio_base::NoMemory;
 use std::alloc::Global;
 
@@ -41,7 +42,7 @@ pub struct Late {
 /// - Looks, which change nothing: `late`, and `cause` of an event that isn't taken in.
 ///
 /// `too_late` does this for a whole list. Memory is taken as events come; once `heed` has answered NoMemory it is spent, and answers that
-/// ever after. What "too late" means stands in `circuit_laws`, in `specs/TooLate.antt`.
+/// ever after. What "too late" means stands in `circuit_set`, in `specs/TooLate.antt`.
 ///
 /// In use (`circuit_set_tests`, `a_verdict_in_use`):
 ///
@@ -113,7 +114,7 @@ impl Verdict {
             → AreInTime (allowance_in self.now) (events_of events)
             → cause ≡ None ↔ AreInTime (allowance_in self.now) (events_of events ++ event_of event.now ∷ [])) }
     {
-        circuit_laws::book_tells_what_is_late();
+        laws::book_tells_what_is_late();
         self.book.cause(event, self.allowance)
     }
 
@@ -122,7 +123,7 @@ impl Verdict {
         ensures { (events : List SeenNumbered) → StandsFor self.now events
             → IsVerdict (allowance_in self.now) events result }
     {
-        circuit_laws::book_tells_what_is_late();
+        laws::book_tells_what_is_late();
         self.late
     }
 }

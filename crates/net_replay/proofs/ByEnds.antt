@@ -6,8 +6,8 @@ use Rattle.ax_address.specs.Callsign.{Callsign}
 use Rattle.circuit_l4.specs.Reading.{transport_at}
 use Rattle.circuit_set.specs.Events.{is_copy}
 use Rattle.circuit_set.specs.Events as events
-use Rattle.circuit_laws.specs.Heedings.{IsFor}
-use Rattle.circuit_laws.specs.Refusals.{IsNumbered, IsRefusal, RefusalsAreUnheeded, RefusesUnder0, SetsRefuseUnder0, StartsAreNumbered}
+use Rattle.circuit_set.specs.Heedings.{IsFor}
+use Rattle.circuit_set.specs.Refusals.{IsNumbered, IsRefusal, RefusalsAreUnheeded, RefusesUnder0, SetsRefuseUnder0, StartsAreNumbered}
 use Rattle.circuit_set.specs.Runs as net
 use Rattle.circuit_set.specs.Runs.{AreStarts, Step, events_of}
 use Rattle.circuit_set.specs.Sets as sets

@@ -3,7 +3,7 @@ use Rattle.std.proofs.Common.{◌≡◌, ◌∙◌, ◌<◌, ℕ, zero, suc, ap,
 use Rattle.std.specs.Prelude.{◌⊎◌, slice_get, slice_index_or, Contains, Option, Some, None}
 use Rattle.ax_address.specs.Callsign.{Callsign}
 use Rattle.circuit_set.specs.Events as set_events
-use Rattle.circuit_laws.specs.Heedings.{HeedsFor, IsFor, SetsHeedPartners}
+use Rattle.circuit_set.specs.Heedings.{HeedsFor, IsFor, SetsHeedPartners}
 use Rattle.circuit_set.specs.Runs as net
 use Rattle.circuit_set.specs.Runs.{Step, events_of}
 use Rattle.circuit_set.specs.Sets as sets

@@ -5,7 +5,7 @@ use Rattle.std.proofs.lemmas.List.{map-append}
 use Rattle.circuit_set.specs.Events as set_events
 use Rattle.circuit_set.specs.Pumps.{Of}
 use Rattle.circuit_set.specs.Sets.{Restarted, Lost, CircuitTold}
-use Rattle.circuit_laws.specs.TooLate.{Allowing, IsFresh, IsTimely}
+use Rattle.circuit_set.specs.TooLate.{Allowing, IsFresh, IsTimely}
 use Rattle.circuit_verdict.specs.Events as told
 use Rattle.circuit_verdict.specs.Events.{events_of}
 use Rattle.circuit_verdict.specs.Verdicts.{AreInTime, Fails, IsFirstLate, allows_of}

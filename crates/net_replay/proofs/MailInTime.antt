@@ -4,15 +4,15 @@ use Rattle.std.specs.Prelude.{◌&&◌, ◌==◌, slice_get, Some, None, is_some
 use Rattle.std.specs.List.{AllByRecursion}
 use Rattle.ax_address.specs.Callsign.{Callsign}
 use Rattle.ax_address.specs.CallOrder.{same_call}
-use Rattle.circuit_laws.specs.ByBook.{FreshByBook, PartnersByBook, TimelyBy128, TimelyByBook}
-use Rattle.circuit_laws.specs.Facing.{EndsStay, PartnersFace}
-use Rattle.circuit_laws.specs.NotedRuns.{NarrowIsTimely}
+use Rattle.circuit_set.specs.ByBook.{FreshByBook, PartnersByBook, TimelyBy128, TimelyByBook}
+use Rattle.circuit_set.specs.Facing.{EndsStay, PartnersFace}
+use Rattle.circuit_set.specs.NotedRuns.{NarrowIsTimely}
 use Rattle.circuit_set.specs.Pairs.{IsPair}
-use Rattle.circuit_laws.specs.Returning.{CallsDiffer}
+use Rattle.circuit_set.specs.Returning.{CallsDiffer}
 use Rattle.circuit_set.specs.Runs.{AreStarts, Step, end_named}
-use Rattle.circuit_laws.specs.Safe.{CircuitsSafe, PartnersLast}
+use Rattle.circuit_set.specs.Safe.{CircuitsSafe, PartnersLast}
 use Rattle.circuit_set.specs.Sets.{Holder, SetState, end_of}
-use Rattle.circuit_laws.specs.Writings.{EndsWroteByWrites}
+use Rattle.circuit_set.specs.Writings.{EndsWroteByWrites}
 use Rattle.network_file.specs.declared.network.NumberedInstruction.{NumberedInstruction}
 use Rattle.network_file.specs.declared.plan.declarations.Declaration.{Declaration}
 use Rattle.network_file.specs.declared.plan.instructions.Instruction.{Instruction}

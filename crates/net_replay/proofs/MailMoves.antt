@@ -5,15 +5,15 @@ use Rattle.std.specs.List.{AllByRecursion}
 use Rattle.ax_address.specs.Callsign.{Callsign}
 use Rattle.ax_address.specs.CallOrder.{same_call}
 use Rattle.circuit_l4.specs.declared.transport.Pair.{Pair}
-use Rattle.circuit_laws.specs.Facing.{EndsStay}
+use Rattle.circuit_set.specs.Facing.{EndsStay}
 use Rattle.circuit_set.specs.Pairs.{IsPair}
-use Rattle.circuit_laws.specs.Returning.{CallsDiffer}
+use Rattle.circuit_set.specs.Returning.{CallsDiffer}
 use Rattle.circuit_set.specs.Runs.{AreStarts, AreSteps, Step, events_of}
 use Rattle.circuit_set.specs.Sets as sets
 use Rattle.circuit_set.specs.Sets.{Act, SetState, end_of}
 use Rattle.circuit_set.specs.CircuitSets.{facts_at}
-use Rattle.circuit_laws.specs.TooLate.{AllowsByWindow, IsFresh, IsTimely}
-use Rattle.circuit_laws.specs.Writings.{EndsWroteByWrites}
+use Rattle.circuit_set.specs.TooLate.{AllowsByWindow, IsFresh, IsTimely}
+use Rattle.circuit_set.specs.Writings.{EndsWroteByWrites}
 use Rattle.link_table.specs.Calls as links
 use Rattle.link_table.specs.declared.path_refusal.PathRefusal.{PathRefusal}
 use Rattle.network_file.specs.declared.plan.declarations.Declaration.{Declaration}

@@ -11,7 +11,7 @@ use Rattle.ax_address.specs.Results.{◌>>=◌}
 use Rattle.circuit_set.specs.Events.{is_copy}
 use Rattle.circuit_set.specs.Events as set_events
 use Rattle.circuit_set.specs.Pumps as pumps
-use Rattle.circuit_laws.specs.Sendings.{IsFrom}
+use Rattle.circuit_set.specs.Sendings.{IsFrom}
 use Rattle.circuit_set.specs.Sets as sets
 use Rattle.circuit_set.specs.Sets.{CircuitTold}
 use Rattle.l3_datagram.specs.Datagrams.{call_from, fault_from, head_at, octets_with}

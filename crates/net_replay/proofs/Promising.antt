@@ -3,13 +3,13 @@ use Rattle.std.proofs.Common.{◌≡◌, ◌∙◌, ◌≤◌, ℕ, refl, sym, a
 use Rattle.std.specs.Prelude.{◌&&◌, ◌||◌, ◌==◌, nat_le, find, slice_get, unwrap_or, Option, None, Ok, Some}
 use Rattle.std.specs.Option.{option_map}
 use Rattle.std.specs.List.{AllByRecursion}
-use Rattle.circuit_laws.specs.Books.{Fresh, empty}
+use Rattle.circuit_set.specs.Books.{Fresh, empty}
 use Rattle.circuit_set.specs.Events.{Name}
-use Rattle.circuit_laws.specs.NotedRuns.{NarrowIsTimely}
-use Rattle.circuit_laws.specs.ByBook.{FreshByBook, TimelyBy128, TimelyByBook}
-use Rattle.circuit_laws.specs.TooLate.{AllowsByWindow, IsFresh, IsTimely}
+use Rattle.circuit_set.specs.NotedRuns.{NarrowIsTimely}
+use Rattle.circuit_set.specs.ByBook.{FreshByBook, TimelyBy128, TimelyByBook}
+use Rattle.circuit_set.specs.TooLate.{AllowsByWindow, IsFresh, IsTimely}
 use Rattle.circuit_set.specs.Runs.{AreNarrow, AreStarts, AreSteps, Step, end_in, end_named, events_of, sets_run}
-use Rattle.circuit_laws.specs.Safe.{CircuitsSafe, IsSafe, Safe, SafeEnd}
+use Rattle.circuit_set.specs.Safe.{CircuitsSafe, IsSafe, Safe, SafeEnd}
 use Rattle.circuit_set.specs.Sets.{Holder}
 use Rattle.circuit_verdict.specs.declared.event.Numbered.{Numbered}
 use Rattle.circuit_verdict.specs.Events as verdicts

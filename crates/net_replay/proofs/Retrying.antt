@@ -1,6 +1,6 @@
 -- In each network an end is told that its retries are used up exactly where there was one expiry more than there are retries.
 use Rattle.std.proofs.Common.{subst, List, [], ◌∷◌, ◌++◌}
-use Rattle.circuit_laws.specs.Retries as sets
+use Rattle.circuit_set.specs.Retries as sets
 use Rattle.circuit_set.specs.Runs.{AreSteps, Step}
 use Rattle.net_replay.specs.CircuitRuns.{NetworksAreSound, RunsThrough, WorldsAreRuns, first_sets}
 use Rattle.net_replay.specs.Promises.{EachTellsRetries}

@@ -7,8 +7,8 @@ use Rattle.std.proofs.Common.{arith, inl, inr}
 use Rattle.std.proofs.lemmas.Bool.Decides.{nat_tests}
 use Rattle.ax_address.specs.Callsign.{Callsign}
 use Rattle.ax_address.specs.CallOrder.{same_call}
-use Rattle.circuit_laws.specs.Returning as returning
-use Rattle.circuit_laws.specs.Returning.{CallsDiffer, FreshBut, given_by}
+use Rattle.circuit_set.specs.Returning as returning
+use Rattle.circuit_set.specs.Returning.{CallsDiffer, FreshBut, given_by}
 use Rattle.circuit_set.specs.Runs.{events_of}
 use Rattle.circuit_set.specs.Sets.{SetState}
 use Rattle.network_file.specs.declared.plan.declarations.Declaration.{Declaration}

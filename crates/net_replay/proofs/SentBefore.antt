@@ -10,9 +10,9 @@ use Rattle.circuit_set.specs.Events as events
 use Rattle.circuit_set.specs.Pairs.{IsPair}
 use Rattle.circuit_set.specs.Runs as net
 use Rattle.circuit_set.specs.Runs.{AreStarts, Step, events_of, sets_run}
-use Rattle.circuit_laws.specs.Heedings.{SetsHeedPartners}
-use Rattle.circuit_laws.specs.Refusals.{RefusalsAreUnheeded, SetsRefuseUnder0, StartsAreNumbered}
-use Rattle.circuit_laws.specs.Sendings.{IsFrom, SendsFrom, SetsSendTheirOwn}
+use Rattle.circuit_set.specs.Heedings.{SetsHeedPartners}
+use Rattle.circuit_set.specs.Refusals.{RefusalsAreUnheeded, SetsRefuseUnder0, StartsAreNumbered}
+use Rattle.circuit_set.specs.Sendings.{IsFrom, SendsFrom, SetsSendTheirOwn}
 use Rattle.circuit_set.specs.Sets as sets
 use Rattle.circuit_set.specs.Sets.{SetState, CircuitTold}
 use Rattle.link_table.specs.Reaching.{IsCall}

@@ -6,7 +6,7 @@ use Rattle.std.proofs.lemmas.Bool.Decides.{nat_tests}
 use Rattle.ax_address.specs.Callsign.{Callsign}
 use Rattle.circuit_set.specs.Events as set_events
 use Rattle.circuit_set.specs.Inputs.{runs}
-use Rattle.circuit_laws.specs.Returning.{told_at_node}
+use Rattle.circuit_set.specs.Returning.{told_at_node}
 use Rattle.circuit_set.specs.Runs as net
 use Rattle.circuit_set.specs.Runs.{events_of}
 use Rattle.circuit_set.specs.Sets as sets

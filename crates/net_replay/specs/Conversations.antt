@@ -3,10 +3,10 @@ use Rattle.std.specs.Prelude.{ℕ, ◌≡◌, false, List, [], ◌++◌, slice_g
 use Rattle.std.specs.List.{AllByRecursion}
 use Rattle.circuit_l4.specs.State as ends
 use Rattle.circuit_set.specs.Events.{Event, Name}
-use Rattle.circuit_laws.specs.Beginnings.{IsBeginning}
+use Rattle.circuit_set.specs.Beginnings.{IsBeginning}
 use Rattle.circuit_set.specs.Runs.{Step, end_named, events_of, sets_run}
 use Rattle.circuit_set.specs.Sets.{Holder, SetState}
-use Rattle.circuit_laws.specs.TooLate.{HasPartner, Partners}
+use Rattle.circuit_set.specs.TooLate.{HasPartner, Partners}
 use Rattle.network_file.specs.declared.network.NumberedInstruction.{NumberedInstruction}
 use Rattle.network_file.specs.Networks.{network_of}
 use Rattle.network_file.specs.Plan.{Plan}

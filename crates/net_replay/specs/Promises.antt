@@ -1,9 +1,9 @@
 -- What is promised of the circuits of every network. Own profile.
 use Rattle.std.specs.Prelude.{ℕ, ◌≡◌, List, ◌++◌, map, slice_get, Option, Some, None, Ok}
 use Rattle.circuit_set.specs.Events.{Name}
-use Rattle.circuit_laws.specs.Retries.{TellsRetries}
+use Rattle.circuit_set.specs.Retries.{TellsRetries}
 use Rattle.circuit_set.specs.Runs.{Step}
-use Rattle.circuit_laws.specs.Safe.{Safe, SafeEnd}
+use Rattle.circuit_set.specs.Safe.{Safe, SafeEnd}
 use Rattle.circuit_set.specs.Sets.{Holder, end_of}
 use Rattle.network_file.specs.declared.network.NumberedInstruction.{NumberedInstruction}
 use Rattle.network_file.specs.Networks.{network_of}

@@ -32,9 +32,9 @@ pub fn in_time_is_safe()
 {
     networks_are_sound();
     worlds_are_circuit_runs();
-    circuit_laws::circuits_safe();
-    circuit_laws::book_tells_what_is_late();
-    circuit_laws::narrow_is_timely();
+    circuit_set::laws::circuits_safe();
+    circuit_set::laws::book_tells_what_is_late();
+    circuit_set::laws::narrow_is_timely();
     network_file::laws::networks_fit();
 }
 
@@ -46,13 +46,13 @@ pub fn mail_in_time()
     networks_are_sound();
     node_core::laws::inputs_are_circuit_runs();
     node_core::laws::inputs_are_steps();
-    circuit_laws::ends_wrote_by_writes();
-    circuit_laws::ends_stay();
-    circuit_laws::partners_face();
-    circuit_laws::circuits_safe();
-    circuit_laws::book_tells_what_is_late();
-    circuit_laws::partners_stay();
-    circuit_laws::narrow_is_timely();
+    circuit_set::laws::ends_wrote_by_writes();
+    circuit_set::laws::ends_stay();
+    circuit_set::laws::partners_face();
+    circuit_set::laws::circuits_safe();
+    circuit_set::laws::book_tells_what_is_late();
+    circuit_set::laws::partners_stay();
+    circuit_set::laws::narrow_is_timely();
     network_file::laws::networks_fit();
     node_mail::laws::mail_once();
 }
@@ -66,10 +66,10 @@ pub fn users_agree()
 {
     networks_are_sound();
     worlds_are_circuit_runs();
-    circuit_laws::circuits_safe();
-    circuit_laws::book_tells_what_is_late();
-    circuit_laws::partners_stay();
-    circuit_laws::narrow_is_timely();
+    circuit_set::laws::circuits_safe();
+    circuit_set::laws::book_tells_what_is_late();
+    circuit_set::laws::partners_stay();
+    circuit_set::laws::narrow_is_timely();
     network_file::laws::networks_fit();
     node_core::laws::sessions_are_bridged();
     node_core::laws::fetching_empties();
@@ -95,9 +95,9 @@ pub fn datagrams_sent()
     node_core::laws::inputs_are_steps();
     node_core::laws::datagrams_are_carried();
     node_core::laws::carried_further();
-    circuit_laws::sets_send_their_own();
-    circuit_laws::sets_heed_partners();
-    circuit_laws::sets_refuse_under_0();
+    circuit_set::laws::sets_send_their_own();
+    circuit_set::laws::sets_heed_partners();
+    circuit_set::laws::sets_refuse_under_0();
     ax_address::laws::net_call_spelling();
     network_file::laws::networks_fit();
     kiss_framing::laws::fend_parts();
@@ -112,7 +112,7 @@ pub fn retries_are_told()
 {
     networks_are_sound();
     worlds_are_circuit_runs();
-    circuit_laws::retries_are_told();
+    circuit_set::laws::retries_are_told();
 }
 
 /// In a network whose nodes all have one modulus, whatever is lost, repeated, delayed or reordered: up to its first line that starts a node again,
@@ -123,6 +123,6 @@ pub fn copies_alone_return()
 {
     networks_are_sound();
     datagrams_sent();
-    circuit_laws::copies_alone_return();
+    circuit_set::laws::copies_alone_return();
     network_file::laws::networks_fit();
 }

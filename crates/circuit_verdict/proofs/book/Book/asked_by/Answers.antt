@@ -1,6 +1,6 @@
 use Rattle.std.proofs.Common.{◌∙◌, ◌-◌, sym, ap, arith, drop, length, length-drop, take_all}
 use Rattle.std.proofs.lemmas.Result.{IfOk-weaker}
-use Rattle.circuit_laws.specs.Books.{asked_by, if_asked, made_last}
+use Rattle.circuit_set.specs.Books.{asked_by, if_asked, made_last}
 use Rattle.circuit_verdict.proofs.book.Book.asked_by.Goals as goal
 
 pub returns-in-Some : goal.returns-in-Some

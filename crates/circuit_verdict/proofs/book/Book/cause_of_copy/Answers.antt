@@ -1,5 +1,5 @@
 use Rattle.std.proofs.Common.{◌∙◌, sym, arith}
-use Rattle.circuit_laws.specs.Books.{latest_in}
+use Rattle.circuit_set.specs.Books.{latest_in}
 use Rattle.circuit_verdict.proofs.Causes.{in_time, overtaken, unsent}
 use Rattle.circuit_verdict.proofs.book.Book.cause_of_copy.Goals as goal
 

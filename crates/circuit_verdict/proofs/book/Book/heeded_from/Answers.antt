@@ -1,5 +1,5 @@
 use Rattle.std.proofs.Common.{◌≤◌, ◌<◌, ◌∙◌, sym, arith}
-use Rattle.circuit_laws.specs.Books.{overtakers}
+use Rattle.circuit_set.specs.Books.{overtakers}
 use Rattle.circuit_verdict.specs.ByBook.{allowance_of}
 use Rattle.circuit_verdict.proofs.Judged.{heard_is, in_time, none_sent, sendings_later, too_many}
 use Rattle.circuit_verdict.proofs.book.Book.heeded_from.Goals as goal

@@ -1,7 +1,7 @@
 use Rattle.std.proofs.Common.{◌≡◌, ◌∙◌, sym, rules}
 use Rattle.std.specs.Prelude.{◌&&◌, is_some, true, false}
 use Rattle.std.specs.Option.{option_copied}
-use Rattle.circuit_laws.specs.Books.{is_unknown}
+use Rattle.circuit_set.specs.Books.{is_unknown}
 use Rattle.circuit_verdict.proofs.Judged.{copied_some, having, lacking, sendings_later}
 use Rattle.circuit_verdict.proofs.Returns.{faced_fails, unfaced}
 use Rattle.circuit_verdict.proofs.book.Book.made.Goals as goal

@@ -1,5 +1,5 @@
 use Rattle.std.proofs.Common.{◌≡◌, ◌∙◌, ◌-◌, sym, ap, arith, length, drop, take_all, length-drop}
-use Rattle.circuit_laws.specs.Books.{is_heard}
+use Rattle.circuit_set.specs.Books.{is_heard}
 use Rattle.indexmap.specs.IndexSet.{contains}
 use Rattle.circuit_verdict.specs.Sendings.{Rises, message_name, messages_in, same_message}
 use Rattle.circuit_verdict.specs.declared.sendings.Message.{Message}

@@ -1,5 +1,0 @@
-use Rattle.circuit_laws.proofs.Sendings.{sets_send_their_own}
-use Rattle.circuit_laws.proofs.sets_send_their_own.Goals as goal
-
-pub returns : goal.returns
-returns c = sets_send_their_own
