@@ -71,7 +71,7 @@ pub fn users_agree()
     circuit_set::laws::partners_stay();
     circuit_set::laws::narrow_is_timely();
     network_file::laws::networks_fit();
-    node_core::laws::sessions_are_bridged();
+    node_core::laws::bridged();
     node_core::laws::fetching_empties();
 }
 

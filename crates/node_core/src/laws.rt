@@ -78,7 +78,7 @@ pub fn fetching_empties()
 /// ended and the user hasn't said BYE. What alone keeps a message from that is said in `Bridged`. To the end of its circuit just that
 /// was ever written, and of what that end received just that was ever taken. No text waits for a circuit that the session has closed.
 /// And a session keeps at most 8,192 bytes and two replies.
-pub fn sessions_are_bridged()
+pub fn bridged()
     ensures bridged { SessionsBridged }
     ensures ends { SessionsWriteTheirEnds }
     ensures read { SessionsReadTheirEnds }

@@ -1,5 +1,5 @@
 use Rattle.node_core.proofs.Reached.{bounded, bridged, closed_last, reads_ends, writes_ends}
-use Rattle.node_core.proofs.laws.sessions_are_bridged.Goals as goal
+use Rattle.node_core.proofs.laws.bridged.Goals as goal
 
 pub returns-clause-bridged : goal.returns-clause-bridged
 returns-clause-bridged c = bridged c.parts.ensures.offers c.parts.ensures.takes c.parts.ensures.less c.carried.ensures c.call_texts.ensures
