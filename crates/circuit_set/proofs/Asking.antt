@@ -12,7 +12,7 @@ use Rattle.l3_datagram.specs.declared.carrier.Offered.TheVariants as offered
 use Rattle.l3_datagram.specs.declared.routed.Routed.{Routed}
 use Rattle.l3_datagram.specs.declared.routed.Routed.TheVariants as routed
 use Rattle.l3_datagram.specs.CarrierCall.{CarrierCall, Collect, Fail, Parcel}
-use Rattle.l3_datagram.specs.Hops.{Way, Ends, ToNeighbour, forwarded_by, offers_of, pumping, told_of, way}
+use Rattle.l3_datagram.specs.Hops.{Way, Ends, ToNeighbour, forwarded_by, offers_of, pumping, routed_by, way}
 use Rattle.l3_datagram.specs.Routers as routers
 use Rattle.l3_datagram.specs.Routers.{NoneWhereEmpty, Routing, SameRouter, waiting_left}
 use Rattle.circuit_set.specs.declared.event.SetEvent.{SetEvent}
@@ -43,19 +43,19 @@ module _ (nh : Callsign → Option Callsign) (now : ℕ) (s : SetState) where
   forwards r offered.Taken b e = ap (λ x. pick x offered.Taken b) e
   forwards r offered.Dropped b e = ap (λ x. pick x offered.Dropped b) e
 
-  way_offers : (w : Way) (r : Routed) (a b : Offered) → r ≡ told_of w a → offer_of (hears_by now (at_rest s) w) now (pick r a b) ≡ offers_of w now a
+  way_offers : (w : Way) (r : Routed) (a b : Offered) → r ≡ routed_by w a → offer_of (hears_by now (at_rest s) w) now (pick r a b) ≡ offers_of w now a
   way_offers (Ends told) r a b e = refl
   way_offers (ToNeighbour neighbour d) r a b e = ap (λ x. routers_offer x) (forwards r a b e)
     where
       routers_offer : Offered → List CarrierCall
       routers_offer x = offers_of (ToNeighbour neighbour d) now x
 
-  way_outcome : (w : Way) (r : Routed) (a b : Offered) → r ≡ told_of w a → outcome (hears_by now (at_rest s) w) (pick r a b) ≡ heard_as now (at_rest s) r
+  way_outcome : (w : Way) (r : Routed) (a b : Offered) → r ≡ routed_by w a → outcome (hears_by now (at_rest s) w) (pick r a b) ≡ heard_as now (at_rest s) r
   way_outcome (Ends told) r a b e = ap (λ x. heard_as now (at_rest s) x) (sym e)
   way_outcome (ToNeighbour neighbour d) r a b e = ap (λ x. heard_as now (at_rest s) (forwarded_by x)) (forwards r a b e) ∙ ap (λ x. heard_as now (at_rest s) x) (sym e)
 
   -- a datagram is taken, and what it brings is told
-  takes_by : (p : Parcel) (r : Routed) (a b : Offered) → r ≡ told_of (way s.own nh p.1) a
+  takes_by : (p : Parcel) (r : Routed) (a b : Offered) → r ≡ routed_by (way s.own nh p.1) a
       → after_calls (Fail None ∷ Collect (Some p) ∷ offers_of (way s.own nh p.1) now a) (tells_on nh now (heard_as now (at_rest s) r) b) ≡ takes nh now s p (pick r a b)
   takes_by p r a b e =
       let w : Way = way s.own nh p.1 in
@@ -109,7 +109,7 @@ module _ {C : Type 0} (made : C → List CarrierCall → C → Type 0) (more_mad
       }
 
   -- a datagram was taken
-  asks_parcel : (p : Parcel) (r : Routed) (a b : Offered) (e : Option SetEvent) → r ≡ told_of (way s.own nh p.1) a
+  asks_parcel : (p : Parcel) (r : Routed) (a b : Offered) (e : Option SetEvent) → r ≡ routed_by (way s.own nh p.1) a
       → made old.router.carrier (Fail None ∷ Collect (Some p) ∷ offers_of (way s.own nh p.1) now a) r1.carrier
       → DoesPump made mid new log e (tells_on (nh_of r1.table.rules) now (heard_as now (at_rest s) r) b)
       → DoesPump made old new log e (takes nh now s p (pick r a b))
@@ -135,9 +135,9 @@ module _ {C : Type 0} (made : C → List CarrierCall → C → Type 0) (more_mad
   asks_some (n ∷ lost) waiting r a b e does x = let is : r ≡ routed.Lost n = cc does.told in asks_lost n r b e is does.calls (x (log ++ Failure n ∷ []) does.table)
   asks_some [] [] r a b e does x = absurd (cc does.told)
   asks_some [] (p ∷ ps) r a b e does x =
-      let z : Some r ≡ Some (told_of (way old.router.own nh p.1) a) = does.told in
-      let is : r ≡ told_of (way old.router.own nh p.1) a = cc z in
-      let is2 : r ≡ told_of (way s.own nh p.1) a = is ∙ ap (λ (o : Callsign). told_of (way o nh p.1) a) (sym st.own) in
+      let z : Some r ≡ Some (routed_by (way old.router.own nh p.1) a) = does.told in
+      let is : r ≡ routed_by (way old.router.own nh p.1) a = cc z in
+      let is2 : r ≡ routed_by (way s.own nh p.1) a = is ∙ ap (λ (o : Callsign). routed_by (way o nh p.1) a) (sym st.own) in
       let called : made old.router.carrier (Fail None ∷ Collect (Some p) ∷ offers_of (way s.own nh p.1) now a) r1.carrier =
       subst (λ (o : Callsign). made old.router.carrier (Fail None ∷ Collect (Some p) ∷ offers_of (way o nh p.1) now a) r1.carrier) (sym st.own) does.calls in
       asks_parcel p r a b e is2 called (x log (subst (λ (l : List Item). StandsFor r1.table l) (append-nil log) does.table))

@@ -4,7 +4,7 @@ use Rattle.std.proofs.Common.{sym, ◌∙◌, ap, subst}
 use Rattle.ax_address.specs.Callsign.{Callsign}
 use Rattle.ax_address.specs.CallOrder.{same_call}
 use Rattle.route_table.specs.Log.{Item}
-use Rattle.route_table.specs.Held.{Held, StandsFor}
+use Rattle.route_table.specs.Held.{TableRoutes, StandsFor}
 use Rattle.route_table.specs.Table.{next_hop}
 use Rattle.circuit_set.specs.declared.event.ConnectRefusal.{ConnectRefusal}
 use Rattle.circuit_set.specs.declared.event.ConnectRefusal.TheVariants as refusal
@@ -44,9 +44,9 @@ none_by None false h = cc h
 none_by (Some n) true h = cc h
 none_by (Some n) false h = refl
 
-pub none_read : (node : Callsign) (log : List Item) (table here : Held) (hop : Option Callsign) (b : Bool) →
+pub none_read : (node : Callsign) (log : List Item) (table here : TableRoutes) (hop : Option Callsign) (b : Bool) →
     here ≡ table → StandsFor table log → ((log : List Item) → StandsFor here log → hop ≡ next_hop here.rules log node) → is_some hop ≡ not b →
     is_none (next_hop table.rules log node) ≡ b
 none_read node log table here hop b same stands found is =
-    let at : hop ≡ next_hop here.rules log node = found log (subst (λ (t : Held). StandsFor t log) (sym same) stands) in
-    ap is_none (sym (at ∙ ap (λ (t : Held). next_hop t.rules log node) same)) ∙ none_by hop b is
+    let at : hop ≡ next_hop here.rules log node = found log (subst (λ (t : TableRoutes). StandsFor t log) (sym same) stands) in
+    ap is_none (sym (at ∙ ap (λ (t : TableRoutes). next_hop t.rules log node) same)) ∙ none_by hop b is

@@ -98,10 +98,9 @@ impl Verdict {
         if self.late.is_some() {
             return Ok(());
         }
-        self.spent = true;
-        let why = self.book.take_in(event, self.allowance)?;
-        self.late = late_at(line, why);
-        self.spent = false;
+        let why = self.book.take_in(event, self.allowance);
+        self.spent = why.is_err();
+        self.late = late_at(line, why?);
         Ok(())
     }
 

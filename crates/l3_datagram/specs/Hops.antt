@@ -48,9 +48,9 @@ abbrev pub forwarded_by : Offered → Routed
 forwarded_by offered.Taken = Forwarded
 forwarded_by offered.Dropped = Dropped
 
-abbrev pub told_of : Way → Offered → Routed
-told_of (Ends told) answer = told
-told_of (ToNeighbour neighbour d) answer = forwarded_by answer
+abbrev pub routed_by : Way → Offered → Routed
+routed_by (Ends told) answer = told
+routed_by (ToNeighbour neighbour d) answer = forwarded_by answer
 
 -- it is offered once where it goes on, and else not at all
 abbrev pub offers_of : Way → ℕ → Offered → List CarrierCall
@@ -66,7 +66,7 @@ pub record Pumping : Type 0 where
 -- a datagram came up
 abbrev pub hop : Parcel → Way → ℕ → Offered → Pumping
 hop parcel w now answer =
-    record { told = Some (told_of w answer); calls = Fail None ∷ Collect (Some parcel) ∷ offers_of w now answer; items = [] }
+    record { told = Some (routed_by w answer); calls = Fail None ∷ Collect (Some parcel) ∷ offers_of w now answer; items = [] }
 
 -- By the neighbours that were lost and the datagrams that wait: a lost neighbour is told first, and ends its reports;
 -- else a datagram is taken; else there is nothing.

@@ -4,7 +4,7 @@ use Rattle.ax_address.specs.Callsign.{Callsign}
 use Rattle.ax_address.specs.CallOrder.{same_call}
 use Rattle.route_table.specs.Log.{Item}
 use Rattle.route_table.specs.Table.{next_hop}
-use Rattle.route_table.specs.Held.{Held, StandsFor, SameNode}
+use Rattle.route_table.specs.Held.{TableRoutes, StandsFor, SameNode}
 use Rattle.l3_datagram.specs.declared.carrier.Offered.{Offered}
 use Rattle.l3_datagram.specs.declared.datagram.DatagramHead.{DatagramHead}
 use Rattle.l3_datagram.specs.Datagrams.{head_at}
@@ -12,14 +12,14 @@ use Rattle.l3_datagram.specs.declared.routed.Routed.{Routed}
 use Rattle.l3_datagram.specs.declared.routed.Routed.TheVariants.{Lost, Mine}
 use Rattle.l3_datagram.specs.declared.routed.Sending.{Sending}
 use Rattle.l3_datagram.specs.CarrierCall.{CarrierCall, Datagram, Parcel}
-use Rattle.l3_datagram.specs.Hops.{Way, way, told_of, offers_of, Pumping, pumping, Sent, sending_to}
+use Rattle.l3_datagram.specs.Hops.{Way, way, routed_by, offers_of, Pumping, pumping, Sent, sending_to}
 
 -- what contracts see of a router: this node's call, how many hops its datagrams go over, its table and its carrier, and
 -- whether it is spent
 pub record Routing (C : Type 0) : Type 0 where
   pub own : Callsign
   pub ttl : ℕ
-  pub table : Held
+  pub table : TableRoutes
   pub carrier : C
   pub spent : Bool
 
@@ -40,7 +40,7 @@ module _ {C : Type 0} (made : C → List CarrierCall → C → Type 0) where
 
   -- of a step that takes a datagram, what comes after it was collected
   pub record DoesRoute (old new : Routing C) (now : ℕ) (result : Routed) (answer : Offered) (w : Way) : Type 0 where
-    pub told : result ≡ told_of w answer
+    pub told : result ≡ routed_by w answer
     pub calls : made old.carrier (offers_of w now answer) new.carrier
 
   abbrev pub Routes : Routing C → Routing C → Datagram → ℕ → Routed → Type 0

@@ -12,7 +12,7 @@ use Rattle.link_life.specs.declared.reasons.LifeRefusal.TheVariants as why
 use Rattle.link_life.specs.declared.turn.Turn.{Turn as TurnKept}
 use Rattle.link_life.specs.declared.turn.End.{End as EndKept}
 use Rattle.link_life.specs.Ends.{End, Ends, after_step, step_near}
-use Rattle.link_life.specs.Lives.{Outcome, moved, send_refusal, settings, told_of, unless}
+use Rattle.link_life.specs.Lives.{Outcome, moved, send_refusal, settings, told_by_step, unless}
 use Rattle.link_life.specs.Reports.{told_text}
 use Rattle.link_life.specs.Standing.{BookStands, ComesTo, EndStands, EndsStand, FactsAre, Heeded, StepStands, Ticked, frames_text, notices_text, of_send, turn_of}
 use Rattle.link_life.proofs.Settling.{heeded_link}
@@ -24,7 +24,7 @@ SettlesTo size t f mid other two other2 =
     EndsStand size two other2 (step_near (rules_new size (settings t.srej)) t.moment g q)
 
 abbrev pub TellsOf : {M : Type 0} → ℕ → TurnKept → (mid : EndKept M) → List ℕ → List ℕ → Type 0
-TellsOf size t mid old new = (g : Effect) → Stands size mid.link g → new ≡ old ++ told_text size (told_of t.side [] g)
+TellsOf size t mid old new = (g : Effect) → Stands size mid.link g → new ≡ old ++ told_text size (told_by_step t.side [] g)
 
 -- its two halves, as `heed` and `put_out` say them
 abbrev pub HeedsTo : {M : Type 0} → ℕ → LinkFacts → (mid heeded : EndKept M) → Type 0

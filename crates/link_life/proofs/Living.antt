@@ -13,7 +13,7 @@ use Rattle.link_life.specs.declared.reasons.LifeRefusal.{LifeRefusal}
 use Rattle.link_life.specs.declared.reasons.LifeRefusal.TheVariants as why
 use Rattle.link_life.specs.declared.script.NumberedAct.{NumberedAct}
 use Rattle.link_life.specs.Ends.{Ends, Flight, step_near}
-use Rattle.link_life.specs.Lives.{Life, Outcome, Refused, Done, LifeTold, Turn, after_act, delay_refusal, ends_at, is_late, joined, lifted, act_on, settings, tick_both, told_of, tick_on, tick_to, turn_at, unless, with_ends}
+use Rattle.link_life.specs.Lives.{Life, Outcome, Refused, Done, LifeTold, Turn, after_act, delay_refusal, ends_at, is_late, joined, lifted, act_on, settings, tick_both, told_by_step, tick_on, tick_to, turn_at, unless, with_ends}
 use Rattle.link_life.specs.Reports.{air_line, life_text, line_text, notice_line, refused_line, told_text}
 use Rattle.link_life.specs.Standing.{ComesTo, EndsStand, LifeComesTo, LifeStands, LineWritten, Ticked, flight_of, frames_text, is_late_kept, notices_text}
 
@@ -24,10 +24,10 @@ one_more f xs ys old mid new e q =
 
 -- the notices of both sides, and then their frames
 both_told : (size : ℕ) (g h : Effect) (old mid new fs gs : List ℕ) → mid ≡ old ++ notices_text A g → new ≡ mid ++ notices_text B h → fs ≡ frames_text size A g → gs ≡ fs ++ frames_text size B h →
-    new ++ gs ≡ old ++ told_text size (joined (told_of A [] g) (told_of B [] h))
+    new ++ gs ≡ old ++ told_text size (joined (told_by_step A [] g) (told_by_step B [] h))
 both_told size g h old mid new fs gs n1 n2 f1 f2 =
-    let t : LifeTold = told_of A [] g in
-    let u : LifeTold = told_of B [] h in
+    let t : LifeTold = told_by_step A [] g in
+    let u : LifeTold = told_by_step B [] h in
     let ns : new ≡ old ++ flat_map notice_line (t.notices ++ u.notices) = one_more notice_line t.notices u.notices old mid new n1 n2 in
     let fr : gs ≡ flat_map (air_line size) (t.frames ++ u.frames) = one_more (air_line size) t.frames u.frames [] fs gs f1 f2 in
     ap (λ xs. xs ++ gs) ns ∙ ap (λ xs. (old ++ flat_map notice_line (t.notices ++ u.notices)) ++ xs) fr
@@ -109,7 +109,7 @@ ticks size k m l old mid new none fs gs last w y1 y2 s start first next e =
     stands : LifeStands size l (with_ends B (step_near v.rules v.now h (ends_at B v)) v)
     stands = record { rules = rw y2.srej between.rules; delay = between.delay ∙ sym y2.delay; now = between.now ∙ sym y2.moment; a = two.stands.far; b = two.stands.near }
 
-    told : last ≡ old ++ told_text size (joined (told_of A [] g) (told_of B [] h))
+    told : last ≡ old ++ told_text size (joined (told_by_step A [] g) (told_by_step B [] h))
     told = e ∙ both_told size g h old mid new fs gs one.notices two.notices (one.frames ∙ ap (λ xs. xs ++ frames_text size A g) start) two.frames
 
 -- a frame that is late is so for the code too

@@ -9,7 +9,7 @@ use Rattle.ax_link.specs.State.{Effect, Frame, State}
 use Rattle.link_life.specs.declared.act.Side.{Side}
 use Rattle.link_life.specs.declared.book.Book.{Book}
 use Rattle.link_life.specs.Ends.{End, after_step, flights, heed, number}
-use Rattle.link_life.specs.Lives.{told_of}
+use Rattle.link_life.specs.Lives.{told_by_step}
 use Rattle.link_life.specs.Reports.{air_line, notice_line, told_text}
 use Rattle.link_life.specs.Standing.{BookStands, FactsAre, flight_of, frames_text, lasting_after, notices_text, over_after}
 use Rattle.link_life.proofs.Books.{heeds}
@@ -80,5 +80,5 @@ pub frames_so : (size : ℕ) (side : Side) (h : LinkView) (g : Effect) (old new 
 frames_so size side h g old new s f = f ∙ ap (λ (fs : List Frame). old ++ flat_map (air_line size) (map (λ m. (side, m)) fs)) (sym (outs_of size h g s))
 
 -- the frames behind the notices
-pub told_so : (size : ℕ) (side : Side) (g : Effect) (old mid new : List ℕ) → mid ≡ old ++ notices_text side g → new ≡ mid ++ frames_text size side g → new ≡ old ++ told_text size (told_of side [] g)
+pub told_so : (size : ℕ) (side : Side) (g : Effect) (old mid new : List ℕ) → mid ≡ old ++ notices_text side g → new ≡ mid ++ frames_text size side g → new ≡ old ++ told_text size (told_by_step side [] g)
 told_so size side g old mid new n f = f ∙ ap (λ xs. xs ++ frames_text size side g) n ∙ append_assoc old (notices_text side g) (frames_text size side g)

@@ -60,15 +60,15 @@ pub record Turn : Type 0 where
   pub side : Side
 
 -- what is told of a step of a link, and of payloads that were taken
-abbrev pub told_of : Side → List ℕ → Effect → LifeTold
-told_of side taken g =
+abbrev pub told_by_step : Side → List ℕ → Effect → LifeTold
+told_by_step side taken g =
     record { notices = map (λ n. (side, n)) g.notes; taken = map (λ len. (side, len)) taken; frames = map (λ f. (side, f)) g.outs }
 
 -- the near end's link makes a step
 abbrev pub moved : Turn → Input → List ℕ → Ends → Outcome Ends
 moved t i taken p =
     let g : Effect = step p.near.link i t.now in
-    Done (told_of t.side taken g) (step_near t.rules t.now g p)
+    Done (told_by_step t.side taken g) (step_near t.rules t.now g p)
 
 abbrev pub is_early : Option ℕ → ℕ → Bool
 is_early None now = false

@@ -136,7 +136,7 @@ pub fn settle<M: Modulus>(
     ensures drained { OnOk result (IsDrained near.new.link) }
     ensures far { OnOk result (far.new.link ≡ far.old.link) }
     ensures stands { OnOk result ((p : ends.Ends) (g : Effect) → standing.FactsAre before.now p.near.link → standing.StepStands M.SIZE near.old far.old g p → standing.EndsStand M.SIZE near.new far.new (ends.step_near (rules_new M.SIZE (lives.settings turn.now.srej)) turn.now.moment g p)) }
-    ensures tells { OnOk result ((g : Effect) → Stands M.SIZE near.old.link g → text.new ≡ text.old ++ reports.told_text M.SIZE (lives.told_of turn.now.side [] g)) }
+    ensures tells { OnOk result ((g : Effect) → Stands M.SIZE near.old.link g → text.new ≡ text.old ++ reports.told_text M.SIZE (lives.told_by_step turn.now.side [] g)) }
 {
     heed(turn, before, near, text)?;
     put_out(turn, before.phase, near, far, text)?;

@@ -135,11 +135,10 @@ impl LinkTable {
             return Err(PathRefusal::Full);
         }
         laws::kept();
-        self.spent = true;
-        if self.core.set_path(peer, path).is_err() {
+        self.spent = self.core.set_path(peer, path).is_err();
+        if self.spent {
             return Err(PathRefusal::NoMemory);
         }
-        self.spent = false;
         Ok(())
     }
 
@@ -175,10 +174,9 @@ impl LinkTable {
             return Err(NoMemory);
         }
         laws::kept();
-        self.spent = true;
-        self.core.arrive(frame, now)?;
-        self.spent = false;
-        Ok(())
+        let done = self.core.arrive(frame, now);
+        self.spent = done.is_err();
+        done
     }
 
     /// Time has passed: each link looks at its timers, in the order in which the links were made.
@@ -193,10 +191,9 @@ impl LinkTable {
             return Err(NoMemory);
         }
         laws::kept();
-        self.spent = true;
-        self.core.tick(now)?;
-        self.spent = false;
-        Ok(())
+        let done = self.core.tick(now);
+        self.spent = done.is_err();
+        done
     }
 
     /// Releases the link with a peer once all is acknowledged. Nothing where no link stands.
@@ -211,10 +208,9 @@ impl LinkTable {
             return Err(NoMemory);
         }
         laws::kept();
-        self.spent = true;
-        self.core.close(peer, now)?;
-        self.spent = false;
-        Ok(())
+        let done = self.core.close(peer, now);
+        self.spent = done.is_err();
+        done
     }
 
     /// The link with a peer is lost, and nothing is sent: it ends with Failed. Nothing where no link stands.
@@ -229,10 +225,9 @@ impl LinkTable {
             return Err(NoMemory);
         }
         laws::kept();
-        self.spent = true;
-        self.core.end(peer, LinkNotice::Failed)?;
-        self.spent = false;
-        Ok(())
+        let done = self.core.end(peer, LinkNotice::Failed);
+        self.spent = done.is_err();
+        done
     }
 
     /// The peers at whose link a text waits, in the order of the links. A table that is spent tells of none.
@@ -284,9 +279,9 @@ impl LinkTable {
         if !self.core.text_waits(peer) {
             return Ok(false);
         }
-        self.spent = true;
-        self.core.take_text(peer, out, now)?;
-        self.spent = false;
+        let taken = self.core.take_text(peer, out, now);
+        self.spent = taken.is_err();
+        taken?;
         Ok(true)
     }
 
@@ -309,11 +304,10 @@ impl LinkTable {
             return Err(refusal);
         }
         laws::kept();
-        self.spent = true;
-        if self.core.send_text(peer, text, now).is_err() {
+        self.spent = self.core.send_text(peer, text, now).is_err();
+        if self.spent {
             return Err(TextRefusal::NoMemory);
         }
-        self.spent = false;
         Ok(())
     }
 
@@ -370,10 +364,9 @@ impl Carrier for LinkTable {
             return Err(NoMemory);
         }
         laws::kept();
-        self.spent = true;
-        let offered = self.core.offer(to, datagram, now)?;
-        self.spent = false;
-        Ok(offered)
+        let offered = self.core.offer(to, datagram, now);
+        self.spent = offered.is_err();
+        offered
     }
 
     fn collect(&mut self) -> Option<(Call, Datagram)> {

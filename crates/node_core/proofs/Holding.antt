@@ -17,7 +17,7 @@ use Rattle.link_table.specs.Frames.{Sent}
 use Rattle.link_table.specs.declared.written.Written.{Written}
 use Rattle.link_table.specs.Standing.{TableView as Kept, TableGoes}
 use Rattle.link_table.specs.Table.{Table}
-use Rattle.route_table.specs.Held.{GoesOn, HasRoom, Held, IsFull, SameNode, StandsFor}
+use Rattle.route_table.specs.Held.{TableGoesOn, HasRoom, TableRoutes, IsFull, SameNode, StandsFor}
 use Rattle.route_table.specs.Log.{Item, broadcast}
 use Rattle.route_table.specs.Table.{usable}
 use Rattle.node_core.specs.declared.entry.NodeEntry.{NodeEntry}
@@ -54,10 +54,10 @@ links_go step s r old new e f goes n h = record {
 
 -- ---- the routing table alone
 
-abbrev pub with_table : Station → Routing Kept → Held → Station
+abbrev pub with_table : Station → Routing Kept → TableRoutes → Station
 with_table s r t = record s { set = record s.set { router = record r { table = t } } }
 
-pub table_goes : (items : List Item) (s : Station) (r : Routing Kept) (old new : Held) → r ≡ s.set.router → old ≡ r.table → GoesOn old new items → SameNode old new
+pub table_goes : (items : List Item) (s : Station) (r : Routing Kept) (old new : TableRoutes) → r ≡ s.set.router → old ≡ r.table → TableGoesOn old new items → SameNode old new
     → (n : State) → Holds s n → Holds (with_table s r new) (with_items items n)
 table_goes items s r old new e f goes same n h = record {
   parts = record {
@@ -74,7 +74,7 @@ table_goes items s r old new e f goes same n h = record {
   next_round = h.next_round;
 }
 
-pub table_stays : (s : Station) (r : Routing Kept) (old new : Held) → r ≡ s.set.router → old ≡ r.table → new ≡ old
+pub table_stays : (s : Station) (r : Routing Kept) (old new : TableRoutes) → r ≡ s.set.router → old ≡ r.table → new ≡ old
     → (n : State) → Holds s n → Holds (with_table s r new) n
 table_stays s r old new e f g n h = record {
   parts = record {
@@ -161,7 +161,7 @@ with_sessions s s2 ss f same n h =
 
 -- ---- broadcasts and locks, by the room of the table
 
-pub room : (t : Held) (n : State) (items : List Item) → StandsFor t n.log → t.rules ≡ n.settings.rules → HasRoom t items → has_room items n ≡ true
+pub room : (t : TableRoutes) (n : State) (items : List Item) → StandsFor t n.log → t.rules ≡ n.settings.rules → HasRoom t items → has_room items n ≡ true
 room t n items stands rules has =
     let few : length (usable n.settings.rules (n.log ++ items)) ≤ 16384 = rw rules at (has n.log stands) in
     grind (arith, nat_tests)
@@ -171,7 +171,7 @@ pub record NoRoom (n : State) (items : List Item) (live would_be : ℕ) : Type 0
   pub live_is : live ≡ length (usable n.settings.rules n.log)
   pub would_be_is : would_be ≡ live_with items n
 
-pub no_room : (t : Held) (n : State) (items : List Item) (live would_be : ℕ) → StandsFor t n.log → t.rules ≡ n.settings.rules → IsFull t items live would_be → NoRoom n items live would_be
+pub no_room : (t : TableRoutes) (n : State) (items : List Item) (live would_be : ℕ) → StandsFor t n.log → t.rules ≡ n.settings.rules → IsFull t items live would_be → NoRoom n items live would_be
 no_room t n items live would_be stands rules full =
     let after : would_be ≡ length (usable n.settings.rules (n.log ++ items)) = rw rules at (full.after n.log stands) in
     let now : live ≡ length (usable n.settings.rules n.log) = rw rules at (full.held n.log stands) in
@@ -179,7 +179,7 @@ no_room t n items live would_be stands rules full =
     record { room = grind (arith, nat_tests); live_is = now; would_be_is = after }
 
 -- what a table has taken in that had room for it
-pub heard_in : (items : List Item) (s : Station) (r : Routing Kept) (old new : Held) → r ≡ s.set.router → old ≡ r.table → GoesOn old new items → HasRoom old items
+pub heard_in : (items : List Item) (s : Station) (r : Routing Kept) (old new : TableRoutes) → r ≡ s.set.router → old ≡ r.table → TableGoesOn old new items → HasRoom old items
     → SameNode old new → (n : State) → Holds s n → Holds (with_table s r new) (take_in items n)
 heard_in items s r old new e f goes has same n h =
     rw (room old n items (rw (f, e) h.parts.log) (rw (f, e) h.parts.rules) has) (table_goes items s r old new e f goes same n h)
@@ -189,7 +189,7 @@ full_in items n live would_be s full h =
     rw full.room (subst (λ k. Holds s (enter (Overflow (length (usable n.settings.rules n.log)) k ∷ []) n)) full.would_be_is (subst (λ k. Holds s (enter (Overflow k would_be ∷ []) n)) full.live_is h))
 
 -- what a neighbour has broadcast, by the node's own call and path quality
-pub same_items : (s : Station) (r : Routing Kept) (t : Held) → r ≡ s.set.router → t ≡ r.table → (n : State) → Holds s n → (source : Callsign) (alias : Alias) (es : List Reported)
+pub same_items : (s : Station) (r : Routing Kept) (t : TableRoutes) → r ≡ s.set.router → t ≡ r.table → (n : State) → Holds s n → (source : Callsign) (alias : Alias) (es : List Reported)
     → broadcast t.own source alias s.path_quality es ≡ broadcast n.settings.call source alias n.settings.path_quality es
 same_items s r t e f n h source alias es =
     let own : t.own ≡ n.settings.call = rw (f, e) h.parts.own in

@@ -6,7 +6,7 @@ use Rattle.ax_address.specs.Callsign.{Callsign}
 use Rattle.ax_address.specs.CallOrder.{same_call}
 use Rattle.circuit_set.specs.declared.event.ConnectRefusal.{ConnectRefusal}
 use Rattle.circuit_set.specs.declared.event.ConnectRefusal.TheVariants as connecting
-use Rattle.route_table.specs.Held.{CanLock, Held, LockFault, StandsFor}
+use Rattle.route_table.specs.Held.{CanLock, TableRoutes, LockFault, StandsFor}
 use Rattle.route_table.specs.Log.{Item}
 use Rattle.route_table.specs.declared.route.LockRefusal.{LockRefusal}
 use Rattle.route_table.specs.declared.route.LockRefusal.TheVariants as locking
@@ -22,7 +22,7 @@ use Rattle.node_core.proofs.Holding.{no_room}
 
 -- ---- locks
 
-pub lock_done : (s : Station) (t : Held) (n : State) (dest : Callsign) (item : Item) (quality : ℕ) → t.rules ≡ n.settings.rules → t.own ≡ n.settings.call
+pub lock_done : (s : Station) (t : TableRoutes) (n : State) (dest : Callsign) (item : Item) (quality : ℕ) → t.rules ≡ n.settings.rules → t.own ≡ n.settings.call
     → CanLock t dest quality → has_room (item ∷ []) n ≡ true → Holds s (with_items (item ∷ []) n) → Answers s (Ok Done) (lock dest item quality n)
 lock_done s t n dest item quality rules own can room h =
     let other : same_call dest n.settings.call ≡ false = rw own at can.other in
@@ -30,7 +30,7 @@ lock_done s t n dest item quality rules own can room h =
     let low : nat_lt quality n.settings.rules.minq ≡ false = grind (arith, nat_tests) in
     rw (other, low, room) (record { answer = refl; stands = h })
 
-pub lock_refused : (s : Station) (t : Held) (n : State) (dest : Callsign) (item : Item) (quality : ℕ) (why : LockRefusal) → StandsFor t n.log → t.rules ≡ n.settings.rules
+pub lock_refused : (s : Station) (t : TableRoutes) (n : State) (dest : Callsign) (item : Item) (quality : ℕ) (why : LockRefusal) → StandsFor t n.log → t.rules ≡ n.settings.rules
     → t.own ≡ n.settings.call → LockFault t dest quality (item ∷ []) why → Holds s n → IsAnswer (Err (lock_refusal why)) → Answers s (Err (lock_refusal why)) (lock dest item quality n)
 lock_refused s t n dest item quality locking.Own stands rules own fault h a =
     let other : same_call dest n.settings.call ≡ true = rw own at fault in

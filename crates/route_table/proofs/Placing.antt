@@ -14,7 +14,7 @@ use Rattle.route_table.specs.declared.route.Route.{Route}
 use Rattle.route_table.specs.Ranks.{is_before, stands_before, placed}
 use Rattle.route_table.specs.Rows.{is_same_pair}
 use Rattle.route_table.specs.Table.{is_to}
-use Rattle.route_table.specs.Places.{InRows, start_of, place_of}
+use Rattle.route_table.specs.Places.{InRows, start_of, place_among}
 use Rattle.route_table.proofs.Calls.{same_call-true, apart_sym, call_lt_trans, call_lt_equal, call_lt_total}
 use Rattle.route_table.proofs.Order.{stands_trans, stands_asym}
 use Rattle.route_table.proofs.Sorting.{Ahead, pairs_from_rows}
@@ -88,7 +88,7 @@ pub start_within : (c : Callsign) (rows : List Route) (n : ℕ) (d : Route) → 
 start_within c rows n d w h = prefix_part (λ r. call_lt r.dest c) n rows d w h
 
 -- a route that the last row stands before belongs behind all
-pub place_behind : (r : Route) (rows : List Route) → InRows rows → ((d : Route) → 0 < length rows → stands_before (get_or rows (length rows - 1) d) r ≡ true) → length rows ≡ place_of r rows
+pub place_behind : (r : Route) (rows : List Route) → InRows rows → ((d : Route) → 0 < length rows → stands_before (get_or rows (length rows - 1) d) r ≡ true) → length rows ≡ place_among r rows
 place_behind r [] h last = refl
 place_behind r (x ∷ xs) h last =
     let test = λ (y : Route). not (stands_before r y) in
@@ -111,9 +111,9 @@ put_case : (b : Bool) (r x : Route) (xs : List Route) (n : ℕ) → placed r xs 
 put_case true r x xs n h = refl
 put_case false r x xs n h = let z : 1 + n ≡ suc n = omega arith in rw z (ap (λ ys. x ∷ ys) h)
 
-pub placed-insert : (r : Route) (xs : List Route) → placed r xs ≡ insert xs (place_of r xs) r
+pub placed-insert : (r : Route) (xs : List Route) → placed r xs ≡ insert xs (place_among r xs) r
 placed-insert r [] = refl
-placed-insert r (x ∷ xs) = put_case (stands_before r x) r x xs (place_of r xs) (placed-insert r xs)
+placed-insert r (x ∷ xs) = put_case (stands_before r x) r x xs (place_among r xs) (placed-insert r xs)
 
 -- rows of lower and of higher destinations
 

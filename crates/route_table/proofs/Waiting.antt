@@ -10,7 +10,7 @@ use Rattle.route_table.specs.declared.route.Route.{Route}
 use Rattle.route_table.specs.Ranks.{stands_before, placed, all_placed}
 use Rattle.route_table.specs.Rows.{is_same_pair, is_lock_on, stays_beside, beside, route_over, reported_by, with_report, after_reports}
 use Rattle.route_table.specs.Table.{is_good}
-use Rattle.route_table.specs.Places.{InRows, NoneTwice, Stand, AreCounted, IsNew, AreWaiting, place_of}
+use Rattle.route_table.specs.Places.{InRows, NoneTwice, Stand, AreCounted, IsNew, AreWaiting, place_among}
 use Rattle.route_table.proofs.Order.{stands_trans, stands_asym, stands_total, same_pair_sym}
 use Rattle.route_table.proofs.Sorting.{Apart, placed_all, placed_rows, filter_all, filter_placed}
 use Rattle.route_table.proofs.Changing.{beside_apart, beside_none, no_lock, apart_none, ahead_at, report_stand, placed_once}
@@ -222,7 +222,7 @@ pub record Entering (routes rows all : List Route) (end gap : ℕ) : Type 0 wher
   pub order : InRows (take end rows)
   pub within : end + gap ≤ length rows
 
-pub enter_step : (routes rows now all : List Route) (end gap at : ℕ) (r : Route) → InRows routes → gap < length routes → r ≡ get_or routes gap r → Entering routes rows all end (gap + 1) → at ≡ place_of r (take end rows) → at ≤ end
+pub enter_step : (routes rows now all : List Route) (end gap at : ℕ) (r : Route) → InRows routes → gap < length routes → r ≡ get_or routes gap r → Entering routes rows all end (gap + 1) → at ≡ place_among r (take end rows) → at ≤ end
     → now ≡ take (at + gap) rows ++ r ∷ (drop at (take end rows) ++ drop (end + gap + 1) rows) → Entering routes now all at gap
 enter_step routes rows now all end gap at r h w e s p b n =
     let short : at + gap ≤ length rows = omega (arith, s.within, b) in

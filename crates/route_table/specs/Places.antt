@@ -42,8 +42,8 @@ abbrev pub start_of : Callsign → List Route → ℕ
 start_of dest rows = prefix_len (λ r. call_lt r.dest dest) rows
 
 -- how many rows don't have the route before them
-abbrev pub place_of : Route → List Route → ℕ
-place_of r rows = prefix_len (λ x. not (stands_before r x)) rows
+abbrev pub place_among : Route → List Route → ℕ
+place_among r rows = prefix_len (λ x. not (stands_before r x)) rows
 
 -- where a row of the route's pair is
 abbrev pub PairAt : Route → List Route → Option ℕ → Type 0

@@ -246,7 +246,7 @@ fn enter_all(rows: &mut Vec<Route>, routes: &[Route])
 fn enter_before(rows: &mut [Route], end: usize, gap: usize, route: &Route) -> usize
     requires within { end + gap < length rows.old }
     requires order { places.InRows (take end rows.old) }
-    ensures place { result ≡ places.place_of route.now (take end rows.old) }
+    ensures place { result ≡ places.place_among route.now (take end rows.old) }
     ensures bound { result ≤ end }
     ensures rows { rows.new ≡ take (result + gap) rows.old ++ route.now ∷ (drop result (take end rows.old) ++ drop (end + gap + 1) rows.old) }
 {

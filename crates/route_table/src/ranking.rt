@@ -77,7 +77,7 @@ fn start_soon(rows: &[Route], dest: &Call) -> usize
 /// Where a route belongs among rows: often behind all of them, as what a broadcast brings stands in order.
 pub(crate) fn place_of(rows: &[Route], route: &Route) -> usize
     requires { places.InRows rows.now }
-    ensures place { result ≡ places.place_of route.now rows.now }
+    ensures place { result ≡ places.place_among route.now rows.now }
     ensures within { result ≤ length rows.now }
 {
     if is_after(rows, rows.len(), route) {

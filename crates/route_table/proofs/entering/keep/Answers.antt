@@ -1,6 +1,6 @@
 use Rattle.std.proofs.Common.{◌≡◌, ◌∙◌, sym, ap, subst, true, false, cond}
 use Rattle.std.specs.Prelude.{insert}
-use Rattle.route_table.specs.Places.{InRows, place_of}
+use Rattle.route_table.specs.Places.{InRows, place_among}
 use Rattle.route_table.specs.Ranks.{placed}
 use Rattle.route_table.specs.Rows.{stays_beside, beside}
 use Rattle.route_table.specs.Table.{is_good}
@@ -17,7 +17,7 @@ pub returns-then-is_good-clause-items : goal.returns-then-is_good-clause-items
 returns-then-is_good-clause-items c =
     let good : is_good c.args.minq c.args.report.now ≡ true = sym c.is_good.ensures ∙ c.if-is_good.true in
     let left = c.drop_pair.ensures.items in
-    let at = c.place_of-at.ensures.place ∙ ap (place_of c.args.report.now) (c.deref.ensures.0 ∙ left) in
+    let at = c.place_of-at.ensures.place ∙ ap (place_among c.args.report.now) (c.deref.ensures.0 ∙ left) in
     c.insert.ensures.items
     ∙ (ap (λ xs. insert xs c.place_of-at.result c.args.report.now) left
     ∙ (ap (λ n. insert (beside c.args.report.now c.args.waiting.now.items) n c.args.report.now) at
