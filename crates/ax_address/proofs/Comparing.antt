@@ -9,8 +9,7 @@ use Rattle.std.specs.Cmp.{both_tied, unsigned_ties}
 use Rattle.std.specs.Cmp.Lexicographic.{slice_cmp, texts_ties}
 use Rattle.std.proofs.lemmas.List.{length-append, length-replicate, append_assoc}
 use Rattle.std.proofs.lemmas.Bool.Decides.{nat_tests}
-use Rattle.ax_address.specs.Callsign.{Callsign, IsCallsign, IsCallChar, name_in}
-use Rattle.ax_address.specs.CallOrder.{same_call, call_cmp, number_from, digits, AreDigits}
+use Rattle.ax_address.specs.Callsign.{Callsign, IsCallsign, IsCallChar, name_in, same_call, call_cmp, number_from, digits, AreDigits}
 
 then_assoc : (a b c : Ordering) → ordering_then (ordering_then a b) c ≡ ordering_then a (ordering_then b c)
 then_assoc Less b c = refl

@@ -3,8 +3,7 @@ use Rattle.std.proofs.Common.{nat_le, slice_index, ◌≡◌, ◌+◌, ◌-◌, 
 use Rattle.std.specs.Prelude.{None, Ok}
 use Rattle.std.proofs.lemmas.List.{take_at, drop_at, length-append, length-map, length-replicate}
 use Rattle.ax_address.specs.Callsign.{Callsign, IsCallsign, name_in, padded}
-use Rattle.ax_address.specs.Octets.{fault_in, address_fault, address_in, ssid_octet, SpelledIsHeld}
-use Rattle.ax_address.specs.NetCalls.{SpellsNetCall, SpelledNetCallIsRead, WrittenNetCallSpellsIt, NetCallWrittenAgainIsTheSame, net_call_in, net_call_octets, heeded_call}
+use Rattle.ax_address.specs.Octets.{fault_in, address_fault, address_in, ssid_octet, SpelledIsHeld, SpellsNetCall, SpelledNetCallIsRead, WrittenNetCallSpellsIt, NetCallWrittenAgainIsTheSame, net_call_in, net_call_octets, heeded_call}
 use Rattle.ax_address.proofs.AddressLaws.{call_has_none, halves-doubles, bits_are, same_call_is, same_address}
 use Rattle.ax_address.proofs.CallOctets.{doubles, halves, seven, good}
 

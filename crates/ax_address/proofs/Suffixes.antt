@@ -5,7 +5,7 @@ use Rattle.std.specs.Fmt.{decimal}
 use Rattle.std.proofs.lemmas.Fmt.{decimal_digit, decimal_step}
 use Rattle.std.proofs.lemmas.Grind.{common_steps}
 use Rattle.std.proofs.lemmas.Bool.Decides.{nat_tests}
-use Rattle.ax_address.specs.CallReading.{ssid_of}
+use Rattle.ax_address.specs.Callsign.{ssid_of}
 
 pub decimal_units : (n : ℕ) → n < 10 → decimal n ≡ (48 + n) ∷ []
 decimal_units n h = decimal_digit n h

@@ -9,8 +9,7 @@ use Rattle.std.proofs.lemmas.List.Elements.{recursion_from_All}
 use Rattle.std.proofs.lemmas.Bool.Decides.{nat_tests}
 use Rattle.ax_address.specs.declared.call.CallRefusal.{CallRefusal}
 use Rattle.ax_address.specs.declared.call.CallRefusal.TheVariants.{Empty, TooLong}
-use Rattle.ax_address.specs.Callsign.{Callsign, IsCallsign, IsCallChar, is_call_char, name_in, padded, suffix, shown}
-use Rattle.ax_address.specs.CallReading.{IsTextOf, ReadsCallTexts, name_end, fits_six, name_at, ssid_at, suffix_of, call_at}
+use Rattle.ax_address.specs.Callsign.{Callsign, IsCallsign, IsCallChar, is_call_char, name_in, padded, suffix, shown, IsTextOf, ReadsCallTexts, name_end, fits_six, name_at, ssid_at, suffix_of, call_at}
 use Rattle.ax_address.proofs.Names.{name_in-padded, padded_is_call, no_bad}
 use Rattle.ax_address.proofs.Suffixes.{decimal_units, ssid_of_takes, ssid_of-decimal}
 use Rattle.ax_address.specs.Results.{◌>>=◌}

@@ -1,10 +1,8 @@
 //! What the definitions promise by themselves.
 
 ghost use Rattle.std.specs.Prelude.{◌≡◌};
-ghost use Rattle.ax_address.specs.CallOrder.{call_cmp};
-ghost use Rattle.ax_address.specs.CallReading.{ReadsCallTexts};
-ghost use Rattle.ax_address.specs.NetCalls.{SpelledNetCallIsRead, WrittenNetCallSpellsIt, NetCallWrittenAgainIsTheSame};
-ghost use Rattle.ax_address.specs.Octets.{SpelledWithoutFault, SpelledOnce, SpelledIsHeld, FaultIsFirst, FrontGoesOn};
+ghost use Rattle.ax_address.specs.Callsign.{call_cmp, ReadsCallTexts};
+ghost use Rattle.ax_address.specs.Octets.{SpelledNetCallIsRead, WrittenNetCallSpellsIt, NetCallWrittenAgainIsTheSame, SpelledWithoutFault, SpelledOnce, SpelledIsHeld, FaultIsFirst, FrontGoesOn};
 
 use crate::{Call, MAX_ENTRIES, MAX_REPEATERS};
 use std::cmp::Ordering;

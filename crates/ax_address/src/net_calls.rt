@@ -1,7 +1,6 @@
 //! Calls as broadcasts and datagrams spell them (NET/ROM, Appendix B).
 ghost use Rattle.std.specs.Prelude.{◌≡◌, ◌<◌, IfOk, IfErr, Ok};
 ghost use Rattle.ax_address.specs.Callsign.{Callsign};
-ghost use Rattle.ax_address.specs.NetCalls as net;
 ghost use Rattle.ax_address.specs.Octets as octet;
 
 use crate::octets::address_fault;
@@ -11,13 +10,13 @@ use crate::{AddressRefusal, Call};
 /// can't stand there. Of the last octet bits 4 to 1 alone are looked at.
 #[inline(always)]
 pub fn read_net_call(octets: &[u8; 7]) -> Result<Call, AddressRefusal>
-    ensures exact { result ≡ net.net_call_at octets.now }
+    ensures exact { result ≡ octet.net_call_at octets.now }
 
     // What is read is spelled so.
-    ensures found { IfOk result (λ call. net.SpellsNetCall call octets.now) }
+    ensures found { IfOk result (λ call. octet.SpellsNetCall call octets.now) }
 
     // What is spelled so is read.
-    ensures only { (call : Callsign) → net.SpellsNetCall call octets.now → result ≡ Ok call }
+    ensures only { (call : Callsign) → octet.SpellsNetCall call octets.now → result ≡ Ok call }
     ensures place { IfErr result (λ refusal. octet.refused_octet refusal < 6) }
 {
     match address_fault(octets) {
@@ -28,8 +27,8 @@ pub fn read_net_call(octets: &[u8; 7]) -> Result<Call, AddressRefusal>
 
 fn call_in(octets: &[u8; 7]) -> Call
     requires { octet.address_fault octets.now ≡ None }
-    ensures value { result ≡ net.net_call_in octets.now }
-    ensures spelled { net.SpellsNetCall result octets.now }
+    ensures value { result ≡ octet.net_call_in octets.now }
+    ensures spelled { octet.SpellsNetCall result octets.now }
 {
     let [a, b, c, d, e, f, last] = *octets;
     let letters = [a >> 1, b >> 1, c >> 1, d >> 1, e >> 1, f >> 1];
@@ -39,8 +38,8 @@ fn call_in(octets: &[u8; 7]) -> Call
 /// The seven octets of a call in a broadcast or datagram (NET/ROM, Appendix B). Bits 6 and 5 of the last one are 1,
 /// and bits 7 and 0 are 0.
 pub fn write_net_call(call: &Call) -> [u8; 7]
-    ensures exact { result ≡ net.net_call_octets call.now }
-    ensures spelled { net.SpellsNetCall call.now result }
+    ensures exact { result ≡ octet.net_call_octets call.now }
+    ensures spelled { octet.SpellsNetCall call.now result }
 {
     let [a, b, c, d, e, f] = call.letters();
     [

@@ -12,8 +12,7 @@ use Rattle.ax_frame.specs.declared.frame.FrameRefusal.{FrameRefusal}
 use Rattle.ax_frame.specs.declared.frame.Behind.{Behind}
 use Rattle.ax_frame.specs.Controls.{IsLinkModulus, control_octets}
 use Rattle.ax_frame.specs.Reading.{head_end, frame_at, first_fault}
-use Rattle.ax_frame.specs.Frames.{frame, with_head, IsAddress, addresses, addresses_octets, pid_octets, BeginsWith, Spells, SpellsHead}
-use Rattle.ax_frame.specs.Read.{addresses_in, head_in, read_head_at, read_at, SpelledHeadIsRead, SpelledIsRead}
+use Rattle.ax_frame.specs.Frames.{frame, with_head, IsAddress, addresses, addresses_octets, pid_octets, BeginsWith, Spells, SpellsHead, addresses_in, head_in, read_head_at, read_at, SpelledHeadIsRead, SpelledIsRead}
 use Rattle.ax_frame.proofs.Spelled.{seven, front_of, spells, head_again, addresses_length, frame_again, same_head, apart, info_place}
 
 rest_of : (a : Address) (last : Bool) (rest : List ℕ) → IsAddress a → drop 7 (address_octets a last ++ rest) ≡ rest

@@ -1,16 +1,18 @@
 -- Frames, and the octets that spell them (AX.25 2.2, section 3).
-use Rattle.std.specs.Prelude.{◌≡◌, ℕ, ◌≤◌, List, [], ◌∷◌, ◌++◌, length, take, true, false, Option, Some, None, Ok, is_some}
+use Rattle.std.specs.Prelude.{◌≡◌, ℕ, ◌≤◌, List, [], ◌∷◌, ◌++◌, length, take, true, false, Option, Some, None, Ok, is_some, zero, suc, ◌-◌, ◌/◌, drop, Result}
 use Rattle.std.specs.List.{AllByRecursion}
 use Rattle.arrayvec.specs.ArrayVec.{ArrayVec}
 use Rattle.ax_address.specs.declared.address.Address.{Address}
 use Rattle.ax_address.specs.Callsign.{IsCallsign}
-use Rattle.ax_address.specs.Octets.{address_octets}
+use Rattle.ax_address.specs.Octets.{address_octets, address_in}
+use Rattle.ax_address.specs.Results.{◌>>=◌}
 use Rattle.ax_frame.specs.declared.head.Head.{Head}
 use Rattle.ax_frame.specs.declared.control.Control.{Control}
 use Rattle.ax_frame.specs.declared.frame.Behind.{Behind}
 use Rattle.ax_frame.specs.declared.frame.FrameView.{FrameView}
-use Rattle.ax_frame.specs.Reading.{head_end, first_fault}
+use Rattle.ax_frame.specs.Reading.{head_end, first_fault, frame_at}
 use Rattle.ax_frame.specs.Controls.{IsLinkModulus, control_octets, NumbersFit, has_pid, takes_info}
+use Rattle.ax_frame.specs.declared.frame.FrameRefusal.{FrameRefusal}
 
 -- a frame without where it lies in memory
 pub record Frame : Type 0 where
@@ -92,3 +94,40 @@ SpelledWithoutFault = (size : ℕ) (f : Frame) (octets : List ℕ) → IsLinkMod
 -- octets spell one frame at most
 abbrev pub SpelledOnce : Type 0
 SpelledOnce = (size : ℕ) (f g : Frame) (octets : List ℕ) → IsLinkModulus size → Spells size f octets → Spells size g octets → f ≡ g
+
+-- What octets are read as: the frame that they spell, or the first octet that no frame has at its place. By the law
+-- of `frame_spelling` octets are read as a frame exactly where they spell it. (AX.25 2.2, section 3.)
+
+-- so many addresses, of seven octets each
+abbrev pub addresses_in : ℕ → List ℕ → List Address
+addresses_in zero octets = []
+addresses_in (suc n) octets = address_in (take 7 octets) ∷ addresses_in n (drop 7 octets)
+
+-- the addresses of octets in which they end at a place
+unfoldable pub head_in : ℕ → List ℕ → Head
+head_in end octets = record {
+  dest = address_in (take 7 octets);
+  source = address_in (take 7 (drop 7 octets));
+  path = record { items = addresses_in ((end - 14) / 7) (drop 14 octets) };
+}
+
+-- the addresses, and where they end
+unfoldable pub read_head_at : List ℕ → Result (Head × ℕ) FrameRefusal
+read_head_at octets = do
+  end ← head_end octets
+  Ok (head_in end octets, end)
+
+-- the frame, with sequence numbers modulo 8 or 128
+unfoldable pub read_at : ℕ → List ℕ → Result Frame FrameRefusal
+read_at size octets = do
+  end ← head_end octets
+  parts ← frame_at size octets
+  Ok (frame (head_in end octets) parts.0 parts.1 (drop parts.2 octets))
+
+-- octets that begin with a head are read as it
+abbrev pub SpelledHeadIsRead : Type 0
+SpelledHeadIsRead = (h : Head) (octets rest : List ℕ) → SpellsHead h octets → read_head_at (octets ++ rest) ≡ Ok (h, length octets)
+
+-- octets that spell a frame are read as it
+abbrev pub SpelledIsRead : Type 0
+SpelledIsRead = (size : ℕ) (f : Frame) (octets : List ℕ) → IsLinkModulus size → Spells size f octets → read_at size octets ≡ Ok f

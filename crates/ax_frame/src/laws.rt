@@ -1,8 +1,7 @@
 //! What the definitions promise by themselves.
 
 ghost use Rattle.ax_frame.specs.Faults.{FaultIsFirst};
-ghost use Rattle.ax_frame.specs.Frames.{HeadWithoutFault, HeadSpelledOnce, SpelledWithoutFault, SpelledOnce};
-ghost use Rattle.ax_frame.specs.Read.{SpelledHeadIsRead, SpelledIsRead};
+ghost use Rattle.ax_frame.specs.Frames.{HeadWithoutFault, HeadSpelledOnce, SpelledWithoutFault, SpelledOnce, SpelledHeadIsRead, SpelledIsRead};
 
 /// Octets that begin with a head have no fault in it, are read as it, and spell no other head.
 pub fn head_spelling()

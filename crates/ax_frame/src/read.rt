@@ -1,11 +1,10 @@
 //! Octets become frames (AX.25 2.2, sections 3 and 4).
 ghost use Rattle.std.specs.Prelude.{◌≡◌, ◌≤◌, ◌<◌, ◌+◌, ◌*◌, ◌^◌, ◌++◌, [], List, ℕ, length, take, drop, IfOk, OnOk, Ok, Err, IsOkAnd, MatchResult};
 ghost use Rattle.ax_frame.specs.Reading as reading;
-ghost use Rattle.ax_frame.specs.Read.{read_at, read_head_at};
+ghost use Rattle.ax_frame.specs.Frames.{read_at, read_head_at, BeginsWith, Frame, Spells, SpellsHead, head, view, with_head};
 ghost use Rattle.ax_address.specs.Octets.{SpellsAddress};
 ghost use Rattle.std.specs.Result.{result_err};
 ghost use Rattle.ax_frame.specs.Controls.{IsLinkModulus};
-ghost use Rattle.ax_frame.specs.Frames.{BeginsWith, Frame, Spells, SpellsHead, head, view, with_head};
 ghost use Rattle.ax_frame.specs.Parts.{SpellsLast};
 ghost use Rattle.ax_frame.specs.declared.head.Head.{Head};
 

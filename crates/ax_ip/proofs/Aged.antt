@@ -4,11 +4,9 @@ use Rattle.std.specs.Prelude.{nat_lt, ◌&&◌, ◌==◌}
 use Rattle.std.proofs.lemmas.Bool.{eq-eqb}
 use Rattle.std.proofs.lemmas.Bool.Decides.{nat_tests}
 use Rattle.std.proofs.lemmas.List.{length-set, length-take, get_or-set_same, get_or-set_other, get_or-take}
-use Rattle.ax_ip.specs.Onward.{onward, header_sum}
+use Rattle.ax_ip.specs.Machine.{onward, header_sum}
 use Rattle.ax_ip.specs.Laws.{OnwardIsPacket, OnwardIsTheSame}
-use Rattle.ax_ip.specs.Numbers.{octet, long}
-use Rattle.ax_ip.specs.Packets.{PacketHead, SpellsPacket}
-use Rattle.ax_ip.specs.Sums.{is_right, lacking, word_sum}
+use Rattle.ax_ip.specs.Packets.{octet, long, PacketHead, SpellsPacket, is_right, lacking, word_sum}
 
 both_true : (p q : Bool) → p ≡ true → q ≡ true → (p && q) ≡ true
 both_true p q h g = rw (h, g) refl

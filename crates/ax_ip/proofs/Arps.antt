@@ -5,11 +5,11 @@ use Rattle.std.specs.Prelude.{Option, Some, None, Result, Ok, Err, is_some, nat_
 use Rattle.std.proofs.lemmas.Bool.{eq-eqb}
 use Rattle.std.proofs.lemmas.Bool.Decides.{nat_tests}
 use Rattle.ax_address.specs.Callsign.{Callsign, IsCallsign, name_in, padded}
-use Rattle.ax_address.specs.NetCalls.{SpelledNetCallIsRead, WrittenNetCallSpellsIt, SpellsNetCall, net_call_at, net_call_octets}
+use Rattle.ax_address.specs.Octets.{SpelledNetCallIsRead, WrittenNetCallSpellsIt, SpellsNetCall, net_call_at, net_call_octets}
 use Rattle.ax_address.specs.Results.{◌>>=◌}
 use Rattle.ax_ip.specs.declared.arp.ArpRefusal.{ArpRefusal}
 use Rattle.ax_ip.specs.declared.arp.ArpRefusal.TheVariants.{Short, NotAx25}
-use Rattle.ax_ip.specs.Numbers.{octet, word, long, long_octets}
+use Rattle.ax_ip.specs.Packets.{octet, word, long, long_octets}
 use Rattle.ax_ip.specs.Arps.{Arp, HasKind, IsTarget, SpellsArp, SpellsTarget, operation, is_ax25, reply_at, call_at, call_from, as_target, target_at, target_octets, message_at}
 use Rattle.ax_ip.specs.Laws.{SpelledArpIsRead, WrittenArpSpellsIt}
 

@@ -13,16 +13,10 @@ use Rattle.ax_ip.specs.declared.forwarder.IpWhy.TheVariants.{Ours, Expired}
 use Rattle.ax_ip.specs.declared.out.IpOut.{IpOut}
 use Rattle.ax_ip.specs.declared.packet.PacketRefusal.{PacketRefusal}
 use Rattle.ax_ip.specs.Arps.{Arp, arp_at}
-use Rattle.ax_ip.specs.Caches.{Neighbour, call_of}
-use Rattle.ax_ip.specs.Contents.{content_of}
-use Rattle.ax_ip.specs.Echoes.{is_request, reply}
-use Rattle.ax_ip.specs.Onward.{onward}
+use Rattle.ax_ip.specs.Machine.{Neighbour, call_of, content_of, is_request, reply, onward, State, Turn, turn, packet_to, sends, arp_turn, own_turn, to_call, by_route, onward_turn, packet_turn, content_turn, dropped}
 use Rattle.ax_ip.specs.Laws.{SendsOn, ForwardedIsSentOn, Forwards, AtMostItsTimeToLive}
-use Rattle.ax_ip.specs.Machine.{State, Turn, turn, packet_to, sends, arp_turn, own_turn, to_call, by_route, onward_turn, packet_turn, content_turn, dropped}
-use Rattle.ax_ip.specs.Numbers.{octet, word}
-use Rattle.ax_ip.specs.Packets.{PacketHead, SpellsPacket, packet_at, head_in, header_len, is_outside}
+use Rattle.ax_ip.specs.Packets.{octet, word, PacketHead, SpellsPacket, packet_at, head_in, header_len, is_outside, is_right}
 use Rattle.ax_ip.specs.Routes.{Route, longest, next_hop}
-use Rattle.ax_ip.specs.Sums.{is_right}
 use Rattle.ax_ip.proofs.Aged.{onward_ttl}
 
 -- what is read is laid out so

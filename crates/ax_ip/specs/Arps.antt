@@ -2,14 +2,13 @@
 -- the types and lengths of AX.25, and that a request has no target, are this project's profile.)
 use Rattle.std.specs.Prelude.{ℕ, ◌≡◌, ◌+◌, ◌<◌, ◌≤◌, ◌^◌, List, [], ◌∷◌, ◌++◌, length, take, drop, replicate, Bool, true, false, ◌&&◌, ◌==◌, nat_lt, not, Option, Some, None, is_some, Result, Ok, Err, if◌then◌else◌}
 use Rattle.ax_address.specs.Callsign.{Callsign, IsCallsign}
-use Rattle.ax_address.specs.NetCalls.{SpellsNetCall, net_call_at, net_call_octets}
-use Rattle.ax_address.specs.Octets.{refused_octet}
+use Rattle.ax_address.specs.Octets.{SpellsNetCall, net_call_at, net_call_octets, refused_octet}
 use Rattle.ax_address.specs.declared.octets.AddressRefusal.{AddressRefusal}
 use Rattle.ax_address.specs.Results.{◌>>=◌}
 pub use Rattle.ax_ip.specs.declared.arp.Arp.{Arp}
 use Rattle.ax_ip.specs.declared.arp.ArpRefusal.{ArpRefusal}
 use Rattle.ax_ip.specs.declared.arp.ArpRefusal.TheVariants.{Short, NotAx25, BadOp, BadCall}
-use Rattle.ax_ip.specs.Numbers.{octet, word, long, long_octets}
+use Rattle.ax_ip.specs.Packets.{octet, word, long, long_octets}
 
 abbrev pub operation : Bool → ℕ
 operation true = 2

@@ -3,10 +3,8 @@ use Rattle.std.specs.Prelude.{ℕ, ◌≡◌, ◌≢◌, ◌<◌, ◌≤◌, ◌
 use Rattle.ax_address.specs.Callsign.{Callsign}
 use Rattle.ax_frame.specs.Frames.{Frame}
 use Rattle.ax_ip.specs.declared.forwarder.IpDone.TheVariants.{Forwarded}
-use Rattle.ax_ip.specs.Numbers.{octet}
-use Rattle.ax_ip.specs.Onward.{onward}
-use Rattle.ax_ip.specs.Machine.{State, Turn, turn, packet_to}
-use Rattle.ax_ip.specs.Packets.{PacketHead, SpellsPacket}
+use Rattle.ax_ip.specs.Packets.{octet, PacketHead, SpellsPacket}
+use Rattle.ax_ip.specs.Machine.{onward, State, Turn, turn, packet_to}
 use Rattle.ax_ip.specs.Routes.{Route, matches, longest}
 use Rattle.ax_ip.specs.Arps.{Arp, IsArp, SpellsArp, arp_at, arp_octets}
 

@@ -1,11 +1,5 @@
-pub mod Numbers
-pub mod Sums
 pub mod Packets
 pub mod Arps
 pub mod Routes
-pub mod Caches
-pub mod Contents
-pub mod Echoes
-pub mod Onward
 pub mod Machine
 pub mod Laws

@@ -1,8 +1,13 @@
 -- What a forwarder does with a frame, case by case in the order in which the cases are tried. (RFC 791, section 2.4; RFC 792,
 -- "Echo or Echo Reply Message"; RFC 826, Packet Reception; that a packet is dropped whose next hop is asked for is this project's profile.)
-use Rattle.std.specs.Prelude.{ℕ, ◌≡◌, List, take, true, false, ◌==◌, nat_le, Option, Some, None, Result, Ok, Err, if◌then◌else◌}
-use Rattle.ax_address.specs.Callsign.{Callsign}
+use Rattle.std.specs.Prelude.{ℕ, ◌≡◌, List, take, true, false, ◌==◌, nat_le, Option, Some, None, Result, Ok, Err, if◌then◌else◌, ◌%◌, [], ◌∷◌, ◌++◌, length, drop, Bool, ◌&&◌, ◌+◌, ◌-◌, ◌/◌, slice_range, slice_set, ◌||◌, codes, position}
+use Rattle.std.specs.List.{list_all, find}
+use Rattle.std.specs.Option.{option_map}
+use Rattle.ax_address.specs.Callsign.{Callsign, padded, same_call}
+use Rattle.ax_address.specs.declared.address.Address.{Address}
 use Rattle.ax_frame.specs.Frames.{Frame}
+use Rattle.ax_frame.specs.declared.control.Control.{Control}
+use Rattle.ax_frame.specs.declared.control.Control.TheVariants.{Ui}
 use Rattle.ax_ip.specs.declared.arp.ArpRefusal.{ArpRefusal}
 use Rattle.ax_ip.specs.declared.packet.PacketRefusal.{PacketRefusal}
 use Rattle.ax_ip.specs.declared.content.Content.{Content}
@@ -14,12 +19,78 @@ use Rattle.ax_ip.specs.declared.forwarder.IpWhy.TheVariants.{NotMine, Bad, Ours,
 use Rattle.ax_ip.specs.declared.forwarder.Forwarder.{Forwarder}
 use Rattle.ax_ip.specs.declared.out.IpOut.{IpOut}
 use Rattle.ax_ip.specs.Arps.{Arp, arp_at, arp_octets}
-use Rattle.ax_ip.specs.Caches.{Neighbour, call_of, learned}
-use Rattle.ax_ip.specs.Contents.{everyone, content_of}
-use Rattle.ax_ip.specs.Echoes.{is_request, reply}
-use Rattle.ax_ip.specs.Onward.{onward}
-use Rattle.ax_ip.specs.Packets.{PacketHead, packet_at}
+use Rattle.ax_ip.specs.Packets.{PacketHead, packet_at, octet, word, is_right, summed, lacking, word_sum}
 use Rattle.ax_ip.specs.Routes.{Route, longest, next_hop}
+pub use Rattle.ax_ip.specs.declared.cache.Neighbour.{Neighbour}
+
+-- Echo requests and their replies. (RFC 792, "Echo or Echo Reply Message".)
+
+-- a packet of ICMP without options that is no fragment, with an echo request of type 8 and code 0
+abbrev pub is_request : PacketHead → List ℕ → Bool
+is_request h packet =
+    (h.header == 20) && (h.protocol == 1) && (word packet 6 % 0x4000 == 0) && nat_le 28 (length packet)
+    && (octet packet 20 == 8) && (octet packet 21 == 0) && is_right (drop 20 packet)
+
+-- type 0, and the addresses exchanged
+abbrev pub reply : List ℕ → List ℕ
+reply packet =
+    summed (69 ∷ octet packet 1 ∷ octet packet 2 ∷ octet packet 3 ∷ octet packet 4 ∷ octet packet 5 ∷ 0 ∷ 0 ∷ 64 ∷ 1 ∷ [])
+    (octet packet 16 ∷ octet packet 17 ∷ octet packet 18 ∷ octet packet 19 ∷ octet packet 12 ∷ octet packet 13 ∷ octet packet 14 ∷ octet packet 15 ∷ [])
+    ++ summed (0 ∷ 0 ∷ []) (drop 24 packet)
+
+-- Packets that go on. (RFC 791, section 3.2, "Time to Live".)
+
+-- the header's checksum, by its other octets
+abbrev pub header_sum : ℕ → List ℕ → ℕ
+header_sum header packet = lacking (word_sum (take 10 packet) + word_sum (slice_range packet 12 header))
+
+abbrev pub with_word : ℕ → ℕ → List ℕ → List ℕ
+with_word at n packet = slice_set (slice_set packet at (n / 256)) (at + 1) (n % 256)
+
+abbrev pub with_header_sum : ℕ → List ℕ → List ℕ
+with_header_sum header packet = with_word 10 (header_sum header packet) packet
+
+-- the packet with a time to live of one less, and its checksum anew
+abbrev pub onward : PacketHead → List ℕ → List ℕ
+onward h packet = with_header_sum h.header (slice_set packet 8 (h.ttl - 1))
+
+-- What a frame carries for a station. (AX.25 2.2, sections 3.4 and 3.12.)
+
+-- the call to which requests for an address go
+abbrev pub everyone : Callsign
+everyone = record { letters = padded (codes "QST"); ssid = 0 }
+
+abbrev pub is_ui : Control → Bool
+is_ui (Ui pf) = true
+is_ui _ = false
+
+abbrev pub all_repeated : List Address → Bool
+all_repeated path = list_all (λ (r : Address). r.bit7) path
+
+-- packets to the own call, and messages of ARP to the own call or to everyone
+abbrev pub by_pid : Option ℕ → Callsign → Callsign → Content
+by_pid None dest own = content.Nothing
+by_pid (Some pid) dest own =
+    if (pid == 0xCC) && same_call dest own then content.Packet
+    else if (pid == 0xCD) && (same_call dest own || same_call dest everyone) then content.Arp
+    else content.Nothing
+
+-- what a UI frame carries that every repeater has repeated
+abbrev pub content_of : Callsign → Frame → Content
+content_of own f = if is_ui f.control && all_repeated f.head.path.items then by_pid f.pid f.head.dest.call own else content.Nothing
+
+-- The neighbours that a forwarder knows. (RFC 826, Packet Reception; that there are at most 64 is this project's profile.)
+
+abbrev pub call_of : ℕ → List Neighbour → Option Callsign
+call_of address cache = option_map (λ (n : Neighbour). n.call) (find (λ (n : Neighbour). n.address == address) cache)
+
+-- a neighbour at the place of its address, or behind the last 63
+abbrev pub entered : Option ℕ → List Neighbour → Neighbour → List Neighbour
+entered (Some at) cache n = slice_set cache at n
+entered None cache n = drop (length cache - 63) cache ++ n ∷ []
+
+abbrev pub learned : List Neighbour → Neighbour → List Neighbour
+learned cache n = entered (position (λ m. m.address == n.address) cache) cache n
 
 -- its call, its address, its routes, and the neighbours that it knows, at most 64
 pub record State : Type 0 where

@@ -1,8 +1,8 @@
 //! Messages of ARP: who has an address (RFC 826; the types and lengths of AX.25 are this project's profile).
 ghost use Rattle.std.specs.Prelude.{◌≡◌, ◌+◌, ◌≤◌, ◌++◌, length, is_some, IfOk, Ok, true};
-ghost use Rattle.ax_address.specs.NetCalls.{SpellsNetCall};
+ghost use Rattle.ax_address.specs.Octets.{SpellsNetCall};
 ghost use Rattle.ax_ip.specs.Arps as arps;
-ghost use Rattle.ax_ip.specs.Numbers.{word};
+ghost use Rattle.ax_ip.specs.Packets.{word};
 
 use crate::laws;
 use crate::numbers::{long, long_octets, push_octets, word};

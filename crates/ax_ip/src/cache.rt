@@ -1,6 +1,6 @@
 //! The neighbours that a forwarder knows (RFC 826, "translation table").
 ghost use Rattle.std.specs.Prelude.{◌≡◌, ◌<◌, ◌==◌, length, position, IfSome};
-ghost use Rattle.ax_ip.specs.Caches as caches;
+ghost use Rattle.ax_ip.specs.Machine as caches;
 
 use arrayvec::ArrayVec;
 use ax_address::Call;

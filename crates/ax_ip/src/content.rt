@@ -1,7 +1,7 @@
 //! What a frame carries for a forwarder.
 ghost use Rattle.std.specs.Prelude.{◌≡◌};
 ghost use Rattle.ax_frame.specs.Frames.{view as frame_of};
-ghost use Rattle.ax_ip.specs.Contents as contents;
+ghost use Rattle.ax_ip.specs.Machine as contents;
 
 use crate::out::{ARP_PID, IP_PID};
 use ax_address::{Address, Call};

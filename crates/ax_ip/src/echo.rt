@@ -1,7 +1,7 @@
 //! Echo requests and their replies (RFC 792, "Echo or Echo Reply Message").
 ghost use Rattle.std.specs.Prelude.{◌≡◌, ◌≤◌, ◌++◌, length};
 ghost use Rattle.ax_ip.specs.Packets.{PacketHead};
-ghost use Rattle.ax_ip.specs.Echoes as echoes;
+ghost use Rattle.ax_ip.specs.Machine as echoes;
 
 use crate::numbers::word;
 use crate::onward::summed;

@@ -1,6 +1,6 @@
 //! Numbers in octets, the high octet first (RFC 791, appendix B).
 ghost use Rattle.std.specs.Prelude.{◌≡◌, ◌+◌, ◌^◌, ◌<◌, ◌≤◌, ◌++◌, length};
-ghost use Rattle.ax_ip.specs.Numbers as numbers;
+ghost use Rattle.ax_ip.specs.Packets as numbers;
 
 use arrayvec::ArrayVec;
 

@@ -1,8 +1,8 @@
 //! A packet on its way: its time to live is one less, and its checksum follows (RFC 791, section 3.2).
 ghost use Rattle.std.specs.Prelude.{◌≡◌, ◌+◌, ◌%◌, ◌<◌, ◌≤◌, ◌++◌, length};
 ghost use Rattle.ax_ip.specs.Packets.{PacketHead};
-ghost use Rattle.ax_ip.specs.Sums as sums;
-ghost use Rattle.ax_ip.specs.Onward as packets;
+ghost use Rattle.ax_ip.specs.Packets as sums;
+ghost use Rattle.ax_ip.specs.Machine as packets;
 
 use crate::numbers::{push_octets, word_octets};
 use crate::out::Info;

@@ -1,6 +1,6 @@
 //! The checksum of a header and of a message of ICMP (RFC 791, section 3.1; RFC 1071).
 ghost use Rattle.std.specs.Prelude.{◌≡◌, ◌+◌, ◌-◌, ◌*◌, ◌/◌, ◌%◌, ◌<◌, ◌≤◌, length};
-ghost use Rattle.ax_ip.specs.Sums as sums;
+ghost use Rattle.ax_ip.specs.Packets as sums;
 
 /// What the words of the octets add up to; a last odd octet is the high octet of its word.
 pub(crate) fn word_sum(octets: &[u8]) -> u32

@@ -20,8 +20,7 @@ use Rattle.ax_link.specs.Standing.{LinkView, Keeps, KeepsEffect, frame_of, state
 use Rattle.ax_link.specs.Calls.{view_of}
 use Rattle.ax_link.specs.declared.machine.Machine.{Machine}
 use Rattle.ax_link.specs.Table.{Input, Set_up, Send, Arrive, Tick, Close, Take, step, accept, set_up_in, takes}
-use Rattle.ax_link.specs.Bounds.{Bounded, stock}
-use Rattle.ax_link.specs.Outputs.{AllCanBeSent, CanBeSent, Brings, Has, HasIf, HavePayloads}
+use Rattle.ax_link.specs.Bounds.{Bounded, stock, AllCanBeSent, CanBeSent, Brings, Has, HasIf, HavePayloads}
 use Rattle.ax_link.specs.Laws.{BoundsStay}
 use Rattle.ax_link.proofs.PutOut.{IsPut, IsPutOut, every}
 use Rattle.ax_link.proofs.PutSteps.{good_step}

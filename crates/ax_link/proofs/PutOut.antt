@@ -6,8 +6,7 @@ use Rattle.ax_link.specs.declared.kind.Kind.{Kind}
 use Rattle.ax_link.specs.declared.kind.Kind.TheVariants as kind
 use Rattle.ax_link.specs.State.{Frame, Rules, count_end, high, places}
 use mathlib.Core.List.{IsSuffix}
-use Rattle.ax_link.specs.Bounds.{Bounded, Stock}
-use Rattle.ax_link.specs.Outputs.{Has}
+use Rattle.ax_link.specs.Bounds.{Bounded, Stock, Has}
 
 -- I frames alone carry a payload, each one of those with the property; the numbers are below the modulus; a set-up is a
 -- command

@@ -11,8 +11,7 @@ use Rattle.ax_link.specs.declared.phase.LinkPhase.TheVariants.{Down, SettingUp, 
 use Rattle.ax_link.specs.State.{Frame, State, Effect, ack_place, count_end, begin, busy, high, is_up, update_t1, places, restart_t1, t1_runs, t3_at, wire}
 use Rattle.ax_link.specs.Moves.{acknowledge, again, answer_poll, ask, ask_again, asks, asks_of, end_poll, fill, fill_count, finish, first_early, frames, frames_of, hold, is_free, follow_by, follow, next_early, on_i, on_srej, on_supervisory, emit, release, reset, resume, supply_again, resupply, rr, srej_at, start_poll, store_early, supervisory_at, supply, take_in, take_next, text, text_at, text_later, text_plain, text_srej, i_at}
 use Rattle.ax_link.specs.Table.{Input, Set_up, Send, Arrive, Tick, Close, Take, accept, arrive_down, arrive_in, arrive_releasing, arrive_setting_up, arrive_up, close_in_turn, expire, fail_in, fail, may_close, come_up, refuse_if, retry, retry_in, set_up_in, step_at, takes, tick}
-use Rattle.ax_link.specs.Bounds.{Bounded, Stock, stock}
-use Rattle.ax_link.specs.Outputs.{Brings, Has, HasIf, HavePayloads}
+use Rattle.ax_link.specs.Bounds.{Bounded, Stock, stock, Brings, Has, HasIf, HavePayloads}
 use Rattle.ax_link.proofs.Ways.{place_in}
 use Rattle.ax_link.proofs.PutOut.{IsPut, IsPutOut, some, with_sent, with_acked, neither, both_false, room_for, with_next, with_early, with_given, with_rest, emptied}
 

@@ -4,13 +4,10 @@ use Rattle.std.specs.List.{AllByRecursion}
 use Rattle.std.specs.Prelude.{◌⊎◌}
 use Rattle.std.proofs.lemmas.Bool.Decides.{nat_tests}
 use Rattle.radio_base.specs.declared.payload.Payload.{Payload}
-use Rattle.ax_link.specs.Bounds.{Bounded, stock}
-use Rattle.ax_link.specs.Kept.{KeepsItsShare, early_octets, kept, octets, share}
+use Rattle.ax_link.specs.Bounds.{Bounded, stock, Brings, Has, HasIf, Sized, is_small}
+use Rattle.ax_link.specs.Standing.{KeepsItsShare, early_octets, kept, octets, share, LinkView, Keeps, KeepsEffect, Stands, StandsFor, state_of}
 use Rattle.ax_link.specs.Kinds.{payload, payload_of}
 use Rattle.ax_link.specs.Opening.{opening, rules_new, window_most, window_used}
-use Rattle.ax_link.specs.Outputs.{Brings, Has, HasIf}
-use Rattle.ax_link.specs.Sizes.{Sized, is_small}
-use Rattle.ax_link.specs.Standing.{LinkView, Keeps, KeepsEffect, Stands, StandsFor, state_of}
 use Rattle.ax_link.specs.State.{Effect, Rules, State, count_end, places}
 use Rattle.ax_link.specs.Table.{Input, step}
 use Rattle.ax_link.specs.declared.config.LinkConfig.{LinkConfig}

@@ -9,9 +9,8 @@ use Rattle.ax_link.specs.declared.notice.LinkNotice.TheVariants.{Opened, Reset, 
 use Rattle.ax_link.specs.declared.phase.LinkPhase.{LinkPhase}
 use Rattle.ax_link.specs.declared.phase.LinkPhase.TheVariants.{Down, SettingUp, Up, Releasing}
 use Rattle.ax_frame.specs.Frames.{HasParts}
-use Rattle.ax_link.specs.Bounds.{Bounded, stock}
+use Rattle.ax_link.specs.Bounds.{Bounded, stock, Brings, HasIf, HavePayloads}
 use Rattle.ax_link.specs.Kinds.{control_of, info_of, pid_of}
-use Rattle.ax_link.specs.Outputs.{Brings, HasIf, HavePayloads}
 use Rattle.ax_link.specs.State.{Frame, State, count_end, t1_runs}
 use Rattle.ax_link.specs.Table.{Input, Set_up, Send, Arrive, Tick, Close, Take, step}
 use Rattle.radio_base.specs.declared.payload.Payload.{Payload}

@@ -1,14 +1,11 @@
 pub mod Bounds
 pub mod Carrying
-pub mod Kept
 pub mod Kinds
 pub mod Laws
 pub mod Moves
 pub mod Opening
 pub mod Pair
-pub mod Outputs
 pub mod Runs
-pub mod Sizes
 pub mod Standing
 pub mod State
 pub mod Calls

@@ -10,7 +10,7 @@ ghost use Rattle.ax_link.specs.Pair.{PairSound, Both, Core, Queue, InScope, IsNe
 ghost use Rattle.ax_link.specs.Runs.{CleanRun, Ends, EndsBounded, Event, Safe, Side, Starts, TakenSafe, carrying, losing, new_ends, run, two_new};
 ghost use Rattle.ax_link.specs.Opening.{rules_new};
 ghost use Rattle.ax_link.specs.Carrying.{OpensSo, UpStaysOn};
-ghost use Rattle.ax_link.specs.Kept.{KeepsItsShare};
+ghost use Rattle.ax_link.specs.Standing.{KeepsItsShare};
 ghost use Rattle.ax_link.specs.Laws.{BoundsStay, FramesCanBeWritten, KindsGoOut, NoticesAre, PayloadsStay, SettingsStay};
 ghost use Rattle.ax_link.specs.declared.config.LinkConfig.{LinkConfig};
 ghost use Rattle.radio_base.specs.declared.payload.Payload.{Payload};

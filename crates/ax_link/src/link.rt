@@ -4,9 +4,8 @@ ghost use Rattle.std.specs.Option.{option_copied};
 ghost use Rattle.ax_link.specs.Kinds.{frame_in};
 ghost use Rattle.ax_link.specs.State.{State, count_end};
 ghost use Rattle.ax_link.specs.Table as table;
-ghost use Rattle.ax_link.specs.Standing.{IsDrained, Stands, StandsFor};
-ghost use Rattle.ax_link.specs.Kept.{kept, share};
-ghost use Rattle.ax_link.specs.Outputs.{CanBeSent};
+ghost use Rattle.ax_link.specs.Standing.{IsDrained, Stands, StandsFor, kept, share};
+ghost use Rattle.ax_link.specs.Bounds.{CanBeSent};
 ghost use Rattle.ax_link.specs.Opening.{facts_of, opening, rules_new, send_answer};
 
 use crate::config::LinkConfig;
@@ -61,7 +60,7 @@ impl<M: Modulus> Model for Link<M> {
 
     ghost view = { λ l. view_of l.machine };
 
-    ghost use Rattle.ax_link.specs.Outputs.{AllCanBeSent};
+    ghost use Rattle.ax_link.specs.Bounds.{AllCanBeSent};
 
     // The window fits the modulus, and each frame that waits can be written.
     ghost invariant = { λ l. (l.machine.window < M.SIZE) × AllCanBeSent M.SIZE l.machine.outs.items };

@@ -2,8 +2,7 @@
 use Rattle.std.proofs.Common.{◌≡◌, ◌≤◌, ◌+◌, ◌*◌, ◌-◌, ◌%◌, ◌==◌, ℕ, zero, suc, Bool, true, false, List, [], ◌∷◌, ◌++◌, length, length-append, refl, arith, if◌then◌else◌}
 use Rattle.std.specs.Prelude.{nat_lt, None, Some}
 use Rattle.ax_segment.specs.declared.TheConstants.{FIRST_BIT}
-use Rattle.ax_segment.specs.Joining.{Answer, Broken, HeldMessage, Nothing, Part, More, Whole, begun_by, begun_with, continued_by, counted}
-use Rattle.ax_segment.specs.Kept.{IsWithin, KeepsFew, StaysWithin}
+use Rattle.ax_segment.specs.Joining.{Answer, Broken, HeldMessage, Nothing, Part, More, Whole, begun_by, begun_with, continued_by, counted, IsWithin, KeepsFew, StaysWithin}
 
 counted_within : (pid : ℕ) (bytes : List ℕ) (to_come : ℕ) → length bytes + 255 * to_come ≤ 32639 → IsWithin (counted pid bytes to_come).0
 counted_within pid bytes to_come few = by (to_come == 0)

@@ -1,7 +1,6 @@
 //! Segments are joined to messages.
 ghost use Rattle.std.specs.Prelude.{◌≡◌, ◌≤◌, length, IfOk, IfSome, OnOk, OnErr};
-ghost use Rattle.ax_segment.specs.Joining.{Nothing, join_step, held_of, whole_of};
-ghost use Rattle.ax_segment.specs.Kept.{IsWithin, kept};
+ghost use Rattle.ax_segment.specs.Joining.{Nothing, join_step, held_of, whole_of, IsWithin, kept};
 ghost use Rattle.ax_segment.specs.Pushing.{answer_of};
 
 use crate::Joined;
@@ -19,9 +18,8 @@ pub struct Joiner {
 
 impl Model for Joiner {
     ghost use Rattle.std.specs.Prelude.{◌≡◌, length};
-    ghost use Rattle.ax_segment.specs.Joining.{HeldMessage};
+    ghost use Rattle.ax_segment.specs.Joining.{HeldMessage, kept};
     ghost use Rattle.ax_segment.specs.Gathering.{held_at};
-    ghost use Rattle.ax_segment.specs.Kept.{kept};
 
     ghost Value = { HeldMessage };
 

@@ -1,6 +1,6 @@
 //! What holds of every message and its segments.
 ghost use Rattle.std.specs.Prelude.{◌≡◌};
-ghost use Rattle.ax_segment.specs.Kept.{KeepsFew, StaysWithin};
+ghost use Rattle.ax_segment.specs.Joining.{KeepsFew, StaysWithin};
 ghost use Rattle.ax_segment.specs.Laws.{PiecesAreFull, SegmentsJoin, JoinedPrefix};
 
 use crate::{FIRST_BIT, FULL_PIECE, LONGEST_MESSAGE};

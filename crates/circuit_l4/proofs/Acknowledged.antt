@@ -4,7 +4,7 @@ use Rattle.std.proofs.lemmas.Bool.Decides.{nat_tests}
 use Rattle.std.proofs.lemmas.Grind.{div_ceil_times}
 use Rattle.radio_base.specs.declared.modulus.TheConstants.{COUNT_MAX}
 use Rattle.circuit_reassembly.specs.Fragments.{fragments_in, fragments_of}
-use Rattle.circuit_l4.specs.Sending.{Sending, bytes_of, fragments_of_all, unacknowledged, unacknowledged_of, written}
+use Rattle.circuit_l4.specs.State.{Sending, bytes_of, fragments_of_all, unacknowledged, unacknowledged_of, written}
 use Rattle.circuit_l4.specs.Halves.{Outbox, IsSending}
 use Rattle.circuit_l4.specs.Forgetting.{Forgets, ForgetsFirst, IsUnder}
 use Rattle.circuit_l4.specs.Outboxes.{IsOutbox}

@@ -1,11 +1,10 @@
 -- What the answers to fragments tell.
 use Rattle.std.proofs.Common.{◌≡◌, ℕ, Bool, true, false, ◌||◌, if◌then◌else◌, Ok, Err, refl, sym, subst}
 use Rattle.circuit_reassembly.specs.declared.gather.Oversize.{Oversize}
-use Rattle.circuit_l4.specs.Receiving.{Appended, Receipt}
+use Rattle.circuit_l4.specs.State.{Appended, Receipt, Effect}
 use Rattle.circuit_l4.specs.Halves.{receipt_answer, moved_answer}
 use Rattle.circuit_l4.specs.declared.owed.Owed.{Owed}
 use Rattle.circuit_l4.specs.declared.notice.EndNotice.TheVariants.{FailedOversize}
-use Rattle.circuit_l4.specs.State.{Effect}
 use Rattle.circuit_l4.specs.Moves.{answer_all, end_with, with_receiving, answer_text}
 use Rattle.circuit_l4.specs.Standing.{EndView, KeepsEffect}
 

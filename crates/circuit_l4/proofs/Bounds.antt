@@ -5,10 +5,9 @@ use Rattle.circuit_l4.specs.declared.incoming.Incoming.TheInside.{Inside}
 use Rattle.circuit_l4.specs.declared.machine.Machine.{Machine}
 use Rattle.circuit_l4.specs.declared.piece.Piece.{Piece}
 use Rattle.circuit_l4.specs.State.{Effect}
-use Rattle.circuit_l4.specs.Standing.{EndView, KeepsEffect, Stands, view_of}
+use Rattle.circuit_l4.specs.Standing.{EndView, KeepsEffect, Stands, view_of, KeepsItsShare, kept, share}
 use Rattle.circuit_l4.specs.Inboxes.{AreSmall, IsInbox, inbox_of}
-use Rattle.circuit_l4.specs.Kept.{KeepsItsShare, kept, share}
-use Rattle.circuit_l4.specs.Within.{IsFew, IsWithin, early_octets}
+use Rattle.circuit_l4.specs.Halves.{IsFew, IsWithin, early_octets}
 
 -- ---- what came early is small ----
 pub small_set : (early : List (Option Piece)) (i : ℕ) (p : Piece) → length p.text.items ≤ 236 → AreSmall early → AreSmall (slice_set early i (Some p))

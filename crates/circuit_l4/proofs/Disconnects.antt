@@ -16,12 +16,10 @@ use Rattle.circuit_l4.specs.declared.notice.EndNotice.TheVariants.{Opened, Refus
 use Rattle.circuit_l4.specs.declared.role.Role.{Role}
 use Rattle.circuit_l4.specs.declared.role.Role.TheVariants.{Requester, Responder}
 use Rattle.circuit_l4.specs.declared.owed.Owed.{Owed}
-use Rattle.circuit_l4.specs.State.{Effect, Out, State, begin, info, info_ack, infos, is_up}
+use Rattle.circuit_l4.specs.State.{Effect, Out, State, begin, info, info_ack, infos, is_up, total, written, Appended, Receipt, busy, receive, without_first, inbox, follow}
 use Rattle.circuit_l4.specs.Moves.{acknowledge, again, answer, answer_all, wait, wait_if_out, on_state, begin_to_close, end_with, fill, fill_count, finish, with_receiving, is_done, note, on_info, on_info_ack, emit, emit_owed, supply, emit_ack}
 use Rattle.circuit_l4.specs.Table.{Input, Write, Arrive, Tick, Close, Take, on_accept, common_window, arrive_in, ask_by, close, close_in_turn, due_in, expire, note_activity, is_due, may_close, come_up, unchoke, resume_by, retry, retry_in, step, step_at, take_first, take_from, tick, write_answer, write}
 use Rattle.circuit_l4.specs.Laws.{Asks, Accepts, DisconnectsWhenAcknowledged, IsNew, followed_by, after_inputs}
-use Rattle.circuit_l4.specs.Sending.{total, written}
-use Rattle.circuit_l4.specs.Receiving.{Appended, Receipt, busy, receive, without_first, inbox, follow}
 use Rattle.circuit_l4.proofs.Parts.{either_going, itself, keeps-acknowledged, keeps-awaited_if_out, keeps-counted_out}
 
 abbrev AllAcknowledged : State → Type 0

@@ -1,7 +1,7 @@
 -- Fragments that came before their turn.
 use Rattle.std.proofs.Common.{◌≡◌, ℕ, zero, suc, true, List, [], ◌∷◌, slice_get, slice_set, Option, Some, None, is_some, refl, ap, sym}
 use Rattle.circuit_l4.specs.declared.piece.Piece.{Piece}
-use Rattle.circuit_l4.specs.Receiving.{keep}
+use Rattle.circuit_l4.specs.State.{keep}
 
 pub set_same : (e : List (Option Piece)) (i : ℕ) (x : Option Piece) → slice_get e i ≡ Some x → slice_set e i x ≡ e
 set_same [] i x h = refl

@@ -14,11 +14,10 @@ use Rattle.circuit_l4.specs.declared.notice.EndNotice.TheVariants.{Opened, Close
 use Rattle.circuit_l4.specs.declared.role.Role.{Role}
 use Rattle.circuit_l4.specs.declared.role.Role.TheVariants.{Requester, Responder}
 use Rattle.circuit_l4.specs.declared.owed.Owed.{Owed}
-use Rattle.circuit_l4.specs.State.{Effect, State, begin, is_up}
+use Rattle.circuit_l4.specs.State.{Effect, State, begin, is_up, Appended, Receipt, busy, receive, without_first, inbox, follow}
 use Rattle.circuit_l4.specs.Moves.{acknowledge, answer, answer_all, on_state, begin_to_close, end_with, fill, fill_count, finish, with_receiving, is_done, note, on_info, on_info_ack, emit_owed, emit_ack}
 use Rattle.circuit_l4.specs.Table.{Input, Write, Arrive, Tick, Close, Take, on_accept, common_window, arrive_in, ask_by, close, close_in_turn, due_in, expire, note_activity, is_due, may_close, come_up, unchoke, resume_by, retry, retry_in, step_at, take_first, take_from, tick, write_answer, write}
 use Rattle.circuit_l4.specs.Laws.{FailingPutsOutNothing}
-use Rattle.circuit_l4.specs.Receiving.{Appended, Receipt, busy, receive, without_first, inbox, follow}
 use Rattle.circuit_l4.proofs.Parts.{either_going}
 
 abbrev Fails : List EndNotice → Type 0

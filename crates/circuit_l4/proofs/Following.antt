@@ -3,7 +3,7 @@ use Rattle.std.proofs.Common.{◌≡◌, ℕ, zero, suc, ◌+◌, ◌-◌, ◌<�
 use Rattle.std.specs.Prelude.{IsErr}
 use Rattle.circuit_reassembly.specs.declared.gather.Oversize.{Oversize}
 use Rattle.circuit_l4.specs.declared.piece.Piece.{Piece}
-use Rattle.circuit_l4.specs.Receiving.{Appended, Receiving, append, follow_by, follow, next_early}
+use Rattle.circuit_l4.specs.State.{Appended, Receiving, append, follow_by, follow, next_early}
 use Rattle.circuit_l4.specs.Halves.{Inbox, IsReceiving, moved_answer}
 
 -- what is kept stands for a half that will be this one, once at most k early fragments have followed

@@ -1,7 +1,6 @@
 -- Fragments that go out one after the other.
 use Rattle.std.proofs.Common.{◌≡◌, ℕ, zero, suc, ◌+◌, ◌++◌, slice_get, refl, ap, sym, ◌∙◌, arith, append_assoc, append-nil, add-one}
-use Rattle.circuit_l4.specs.Sending.{fragments}
-use Rattle.circuit_l4.specs.State.{Effect, State, info, infos}
+use Rattle.circuit_l4.specs.State.{fragments, Effect, State, info, infos}
 use Rattle.circuit_l4.specs.Moves.{emit_infos}
 
 -- one more than many

@@ -3,7 +3,7 @@ use Rattle.std.proofs.Common.{◌≡◌, ℕ, ◌+◌, ◌-◌, ◌<◌, ◌≤�
 use Rattle.std.proofs.lemmas.List.{take_all, take-append-le, drop-append-le, length-take-le}
 use Rattle.std.specs.Option.{option_map}
 use Rattle.circular_buffer.specs.Buffer.{Buffer, buffer, keep_last}
-use Rattle.circuit_l4.specs.Sending.{bytes_of}
+use Rattle.circuit_l4.specs.State.{bytes_of}
 use Rattle.circuit_l4.specs.Queued.{IsQueue, Lengths, Queue, cut}
 
 pub bytes_of-cut : (lengths bytes : List ℕ) → Lengths lengths (length bytes) → bytes_of (cut lengths bytes) ≡ length bytes

@@ -4,17 +4,15 @@ use Rattle.std.proofs.lemmas.List.{drop-drop, drop-append-le}
 use Rattle.std.proofs.lemmas.Bool.Decides.{nat_tests}
 use mir.Val.{bool_byte}
 use Rattle.circular_buffer.specs.Buffer.{Buffer, buffer, keep_last}
-use Rattle.circuit_reassembly.specs.Gathering.{Answer, More, Whole, Too_long, gather_step}
+use Rattle.circuit_reassembly.specs.Fragments.{Answer, More, Whole, Too_long, gather_step}
 use Rattle.circuit_reassembly.specs.Kept.{Gathering, still}
 use Rattle.circuit_reassembly.specs.declared.gather.Oversize.{Oversize}
 use Rattle.circuit_l4.specs.declared.piece.Piece.{Piece}
-use Rattle.circuit_l4.specs.Sending.{bytes_of}
-use Rattle.circuit_l4.specs.Receiving.{Receiving, append, appended, without_first, inbox, with_message}
+use Rattle.circuit_l4.specs.State.{bytes_of, Receiving, append, appended, without_first, inbox, with_message}
 use Rattle.circuit_l4.specs.declared.incoming.Incoming.TheInside.{Inside}
-use Rattle.circuit_l4.specs.Halves.{Inbox, IsReceiving, Takes, whole_answer, with_answer}
+use Rattle.circuit_l4.specs.Halves.{Inbox, IsReceiving, Takes, whole_answer, with_answer, IsFew}
 use Rattle.circuit_l4.specs.Queued.{Queue}
 use Rattle.circuit_l4.specs.Inboxes.{IsInbox, inbox_of}
-use Rattle.circuit_l4.specs.Within.{IsFew}
 use Rattle.circuit_l4.proofs.Bounds.{early_most, small_nearer}
 
 -- ---- taking ----

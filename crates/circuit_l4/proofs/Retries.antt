@@ -15,13 +15,11 @@ use Rattle.circuit_l4.specs.declared.notice.EndNotice.{EndNotice}
 use Rattle.circuit_l4.specs.declared.notice.EndNotice.TheVariants.{Opened, Refused, Closed, ClosedByPartner, FailedRetries, FailedOversize, FailedInactive}
 use Rattle.circuit_l4.specs.declared.role.Role.{Role}
 use Rattle.circuit_l4.specs.declared.role.Role.TheVariants.{Requester, Responder}
-use Rattle.circuit_l4.specs.State.{Effect, Out, State, begin, is_up}
+use Rattle.circuit_l4.specs.State.{Effect, Out, State, begin, is_up, written, Appended, Receipt, Receiving, busy, receive, without_first, inbox, follow}
 use Rattle.circuit_l4.specs.Moves.{acknowledge, answer, answer_all, begin_to_close, wait, wait_if_out, on_state, end_with, fill, fill_count, finish, again, emit_ack, with_receiving, is_done, emit, note, on_info, on_info_ack, emit_owed, supply}
 use Rattle.circuit_l4.specs.Table.{Input, Write, Arrive, Tick, Close, Take, on_accept, common_window, arrive_in, ask_by, close, close_in_turn, due_in, expire, note_activity, is_due, may_close, come_up, unchoke, resume_by, retry, retry_in, step, step_at, take_first, write_answer, write}
 use Rattle.circuit_l4.specs.Laws.{Asks, Accepts, FailsAfterRetries, IsNew, followed_by, after_inputs}
 use Rattle.circuit_l4.specs.Expiries.{Moment, any_renews, awaits, count, expires, expires_at, expiries, is_anew, is_closing, is_inactive, moments, renews, since_last, tick_of}
-use Rattle.circuit_l4.specs.Sending.{written}
-use Rattle.circuit_l4.specs.Receiving.{Appended, Receipt, Receiving, busy, receive, without_first, inbox, follow}
 use Rattle.circuit_l4.proofs.Parts.{Counts, counts_on, either_going, itself, keeps-acknowledged, keeps-awaited_if_out, keeps-counted_out}
 
 abbrev Told : List EndNotice → Type 0

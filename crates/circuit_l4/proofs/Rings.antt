@@ -6,7 +6,7 @@ use Rattle.std.proofs.lemmas.List.{drop-drop, drop-take, length-take-le, take_mi
 use Rattle.std.proofs.lemmas.List.FromFn.{length-map-range_with_len, get_or-map-range_with_len}
 use Rattle.std.proofs.lemmas.Option.{slice_get-get_or}
 use Rattle.circuit_reassembly.specs.Fragments.{Fragment, fragment_at, fragments_in, fragments_of}
-use Rattle.circuit_l4.specs.Sending.{fragments_of_all}
+use Rattle.circuit_l4.specs.State.{fragments_of_all}
 use Rattle.circuit_l4.specs.Queued.{Lengths, cut}
 
 -- ---- a part of two lists ----

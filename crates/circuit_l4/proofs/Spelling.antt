@@ -4,15 +4,14 @@ use Rattle.std.specs.Prelude.{nat_lt, nat_le, ◌==◌}
 use Rattle.std.proofs.lemmas.Bool.Decides.{nat_tests}
 use Rattle.std.proofs.lemmas.List.{take_at, take_all, drop_at, length-append, length-map, length-replicate}
 use Rattle.ax_address.specs.Callsign.{Callsign, IsCallsign, name_in, padded}
-use Rattle.ax_address.specs.NetCalls.{SpellsNetCall, SpelledNetCallIsRead, WrittenNetCallSpellsIt, net_call_octets}
+use Rattle.ax_address.specs.Octets.{SpellsNetCall, SpelledNetCallIsRead, WrittenNetCallSpellsIt, net_call_octets}
 use Rattle.circuit_l4.specs.declared.transport.Pair.{Pair}
 use Rattle.circuit_l4.specs.declared.transport.Flags.{Flags}
 use Rattle.circuit_l4.specs.declared.transport.Transport.{Transport}
 use Rattle.circuit_l4.specs.declared.transport.Transport.TheVariants.{Request, Accept, Refuse, Disconnect, Disconnected, Info, InfoAck}
 use Rattle.circuit_l4.specs.declared.transport.TransportRefusal.{TransportRefusal}
 use Rattle.circuit_l4.specs.declared.transport.TransportRefusal.TheVariants.{Short, TooLong}
-use Rattle.circuit_l4.specs.Transports.{headed, pair_at, flags_in, flag_bits, Begins, transport_octets}
-use Rattle.circuit_l4.specs.Reading.{octet_at, call_from, fault_from, request_at, accept_at, of_opcode, transport_at}
+use Rattle.circuit_l4.specs.Transports.{headed, pair_at, flags_in, flag_bits, Begins, transport_octets, octet_at, call_from, fault_from, request_at, accept_at, of_opcode, transport_at}
 use Rattle.circuit_l4.specs.Spelling.{SpelledTransportIsRead, WrittenTransportSpellsIt, WrittenTransportIsRead}
 
 -- the tests of the length come out well

@@ -1,9 +1,7 @@
 -- What the code keeps of an end, a step further.
 use Rattle.std.proofs.Common.{◌≡◌, refl, sym, subst}
-use Rattle.circuit_l4.specs.Sending.{Sending}
-use Rattle.circuit_l4.specs.Receiving.{Receiving}
+use Rattle.circuit_l4.specs.State.{Sending, Receiving, Effect}
 use Rattle.circuit_l4.specs.Halves.{IsSending, IsReceiving}
-use Rattle.circuit_l4.specs.State.{Effect}
 use Rattle.circuit_l4.specs.Standing.{EndView, KeepsEffect, effect_of}
 
 -- what is kept stands for itself, with halves that agree

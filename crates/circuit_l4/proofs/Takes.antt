@@ -1,8 +1,6 @@
 -- A message is take_first out.
 use Rattle.std.proofs.Common.{◌≡◌, Bool, true, false, not, ◌&&◌, if◌then◌else◌, nat_lt, length}
-use Rattle.circuit_l4.specs.Sending.{Sending}
-use Rattle.circuit_l4.specs.Receiving.{Receiving, busy, without_first, inbox}
-use Rattle.circuit_l4.specs.State.{Effect, is_up}
+use Rattle.circuit_l4.specs.State.{Sending, Receiving, busy, without_first, inbox, Effect, is_up}
 use Rattle.circuit_l4.specs.Moves.{with_receiving}
 use Rattle.circuit_l4.specs.Table.{resume, take_first, take_from}
 use Rattle.circuit_l4.specs.Standing.{EndView, KeepsEffect, effect_of}

@@ -3,9 +3,8 @@ use Rattle.std.proofs.Common.{◌≡◌, ◌≤◌, ◌<◌, ◌+◌, ◌-◌, �
 use Rattle.std.specs.Prelude.{Some, None, Result, Ok, Err, nat_lt, ◌==◌}
 use Rattle.std.proofs.lemmas.Bool.{ltb-true, ltb-false}
 use Rattle.std.proofs.lemmas.List.{append_assoc, drop-append-le, drop-take, take-append-drop, take-append-le, get_or_append_left, get_or-take, get_or_at, length-append, length-drop, length-replicate, length-take}
-use Rattle.ax_address.specs.NetCalls.{net_call_in}
+use Rattle.ax_address.specs.Octets.{net_call_in, address_fault, fault_in, refused_octet}
 use Rattle.ax_address.specs.Octets as octets
-use Rattle.ax_address.specs.Octets.{address_fault, fault_in, refused_octet}
 use Rattle.ax_address.specs.declared.octets.AddressRefusal.{AddressRefusal}
 use Rattle.ax_address.proofs.CallFaults.{call_bad, not_both, still_none}
 use Rattle.l3_datagram.proofs.Spelling.{drop_at}
@@ -13,8 +12,7 @@ use Rattle.circuit_l4.specs.declared.transport.Transport.{Transport}
 use Rattle.circuit_l4.specs.declared.transport.Transport.TheVariants.{Request, Accept, Disconnect}
 use Rattle.circuit_l4.specs.declared.transport.TransportRefusal.{TransportRefusal}
 use Rattle.circuit_l4.specs.declared.transport.TransportRefusal.TheVariants.{Short, BadOpcode, TooLong}
-use Rattle.circuit_l4.specs.Transports.{pair_at, opcode, choke}
-use Rattle.circuit_l4.specs.Reading.{of_opcode, transport_at}
+use Rattle.circuit_l4.specs.Transports.{pair_at, opcode, choke, of_opcode, transport_at}
 use Rattle.circuit_l4.specs.Faults.{BeginsTransport, FirstBad, FirstFault, FaultIsFirst}
 use Rattle.circuit_l4.proofs.Spelling.{sized, octet_there, requested, on_accept}
 use Rattle.circuit_l4.proofs.TransportsRead.{CallFault, RequestFault, CodeFault, NoCode, ReadRequest, by_size, size_is, call_good, request_ok, request_err, accept_err, code_err, no_code, requesting, accepting, disconnecting, transport_ok}

@@ -5,8 +5,7 @@ use Rattle.std.proofs.lemmas.Bool.{ltb-true, ltb-false, leb-true, leb-false, eqb
 use Rattle.std.proofs.lemmas.Bool.Decides.{nat_tests}
 use Rattle.std.proofs.lemmas.List.{take-take}
 use Rattle.ax_address.specs.Callsign.{Callsign}
-use Rattle.ax_address.specs.NetCalls.{net_call_in, unless_at_fault}
-use Rattle.ax_address.specs.Octets.{address_fault, fault_in, refused_octet}
+use Rattle.ax_address.specs.Octets.{net_call_in, unless_at_fault, address_fault, fault_in, refused_octet}
 use Rattle.ax_address.specs.Results.{◌>>=◌}
 use Rattle.ax_address.specs.declared.octets.AddressRefusal.{AddressRefusal}
 use Rattle.circuit_l4.specs.declared.transport.Pair.{Pair}
@@ -14,8 +13,7 @@ use Rattle.circuit_l4.specs.declared.transport.Transport.{Transport}
 use Rattle.circuit_l4.specs.declared.transport.Transport.TheVariants.{Request, Accept, Refuse, Disconnect, Disconnected, InfoAck}
 use Rattle.circuit_l4.specs.declared.transport.TransportRefusal.{TransportRefusal}
 use Rattle.circuit_l4.specs.declared.transport.TransportRefusal.TheVariants.{Short, BadOpcode, BadCall, TooLong}
-use Rattle.circuit_l4.specs.Transports.{pair_at, opcode, choke, flags_in}
-use Rattle.circuit_l4.specs.Reading.{octet_at, fault_from, cut_off, call_from, request_at, accept_at, info_in, of_opcode, transport_at}
+use Rattle.circuit_l4.specs.Transports.{pair_at, opcode, choke, flags_in, octet_at, fault_from, cut_off, call_from, request_at, accept_at, info_in, of_opcode, transport_at}
 
 -- ---- a call
 

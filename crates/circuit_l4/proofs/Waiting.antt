@@ -9,10 +9,8 @@ use Rattle.circuit_reassembly.specs.Fragments.{Fragment}
 use Rattle.circuit_l4.specs.declared.piece.Piece.{Piece}
 use Rattle.circuit_l4.specs.declared.output.Output.{Output}
 use Rattle.circuit_l4.specs.declared.output.Output.TheVariants.{Info}
-use Rattle.circuit_l4.specs.Sending.{Sending, fragments, fragments_of_all}
-use Rattle.circuit_l4.specs.Receiving.{Receiving, busy}
+use Rattle.circuit_l4.specs.State.{Sending, fragments, fragments_of_all, Receiving, busy, Effect, State, info}
 use Rattle.circuit_l4.specs.Halves.{IsSending, Outbox, fragment_in}
-use Rattle.circuit_l4.specs.State.{Effect, State, info}
 use Rattle.circuit_l4.specs.Moves.{emit_infos}
 use Rattle.circuit_l4.specs.Standing.{EndView, KeepsEffect, effect_of}
 use Rattle.circuit_l4.specs.Calls.{emits}

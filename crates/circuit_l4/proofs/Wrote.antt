@@ -13,11 +13,9 @@ use Rattle.circuit_l4.specs.declared.phase.EndPhase.TheVariants.{Connecting, Up,
 use Rattle.circuit_l4.specs.declared.notice.EndNotice.TheVariants.{Opened, FailedRetries, FailedOversize, FailedInactive}
 use Rattle.circuit_l4.specs.declared.role.Role.{Role}
 use Rattle.circuit_l4.specs.declared.role.Role.TheVariants.{Requester, Responder}
-use Rattle.circuit_l4.specs.State.{State, Effect, begin, is_up}
+use Rattle.circuit_l4.specs.State.{State, Effect, begin, is_up, Appended, Receipt, Receiving, busy, inbox, follow, receive, without_first, total, written}
 use Rattle.circuit_l4.specs.Moves.{emit, emit_ack, emit_infos, note, end_with, on_state, with_receiving, wait, wait_if_out, wait_from, put_out, count_out, fill, fill_with, fill_count, finish, is_done, begin_to_close, supply, again, advance, hold, acknowledge, acknowledge_by, acknowledge_at, emit_owed, answer, is_silent, answer_all, answer_text, on_info, on_info_ack}
 use Rattle.circuit_l4.specs.Table.{Input, Write, Arrive, Tick, Close, Take, ask, ask_by, ask_once_more, common_window, arrive, arrive_in, arrive_up, arrive_closing, arrive_connecting, close, close_in_turn, come_up, due_in, expire, fall_due, fall_due_up, is_due, may_close, note_activity, unchoke, resume, resume_by, retry, retry_in, step, take_first, take_from, tick, write, write_answer}
-use Rattle.circuit_l4.specs.Receiving.{Appended, Receipt, Receiving, busy, inbox, follow, receive, without_first}
-use Rattle.circuit_l4.specs.Sending.{total, written}
 use Rattle.circuit_l4.specs.Laws.{WroteByWrites, written_by}
 
 -- what was written

@@ -1,7 +1,7 @@
 -- Messages of which all fragments are acknowledged are forgotten.
 use Rattle.std.specs.Prelude.{◌≡◌, ℕ, ◌+◌, ◌<◌, Bool, true, false, List, [], ◌∷◌, ◌++◌, length}
 use Rattle.circuit_reassembly.specs.Fragments.{fragments_of}
-use Rattle.circuit_l4.specs.Sending.{fragments_of_all}
+use Rattle.circuit_l4.specs.State.{fragments_of_all}
 
 -- so many fragments are acknowledged, and the first message has more
 abbrev pub IsUnder : ℕ → List (List ℕ) → Type 0

@@ -1,11 +1,9 @@
 -- What the code keeps of the two halves of an end, and what it has forgotten.
-use Rattle.std.specs.Prelude.{◌≡◌, ℕ, ◌+◌, ◌^◌, ◌<◌, ◌≤◌, Bool, true, false, if◌then◌else◌, List, [], ◌∷◌, ◌++◌, length, Option, Result, Ok, Err}
-use Rattle.circuit_reassembly.specs.Fragments.{Fragment}
-use Rattle.circuit_reassembly.specs.Gathering.{Answer, More, Whole, Too_long}
+use Rattle.std.specs.Prelude.{◌≡◌, ℕ, ◌+◌, ◌^◌, ◌<◌, ◌≤◌, Bool, true, false, if◌then◌else◌, List, [], ◌∷◌, ◌++◌, length, Option, Result, Ok, Err, ◌*◌, Some, None}
+use Rattle.circuit_reassembly.specs.Fragments.{Fragment, Answer, More, Whole, Too_long}
 use Rattle.circuit_reassembly.specs.declared.gather.Oversize.{Oversize}
 use Rattle.circuit_l4.specs.declared.piece.Piece.{Piece}
-use Rattle.circuit_l4.specs.Sending.{Sending, bytes_of, fragments_of_all, total}
-use Rattle.circuit_l4.specs.Receiving.{Receiving, Appended, Receipt, inbox, without_first, with_message}
+use Rattle.circuit_l4.specs.State.{Sending, bytes_of, fragments_of_all, total, Receiving, Appended, Receipt, inbox, without_first, with_message}
 
 -- of what was written: the messages that aren't wholly acknowledged
 pub record Outbox : Type 0 where
@@ -87,3 +85,23 @@ take_message false r = r
 abbrev pub first_or : List ℕ → List (List ℕ) → List ℕ
 first_or bytes [] = bytes
 first_or bytes (m ∷ ms) = m
+
+-- Bounds of what an end keeps (this project's profile).
+
+-- the octets of fragments that have a place early
+abbrev pub early_octets : List (Option Piece) → ℕ
+early_octets [] = 0
+early_octets (None ∷ early) = early_octets early
+early_octets (Some p ∷ early) = length p.text.items + early_octets early
+
+-- what came and wasn't taken, gathered bytes among it, and what came early
+pub record IsFew (i : Inbox) : Type 0 where
+  pub waits : waiting_in i < 16384 + 236
+  pub early : early_octets i.early ≤ 236 * length i.early
+
+-- both halves of an end with this window, which has so many places for what comes early
+pub record IsWithin (window : ℕ) (o : Outbox) (i : Inbox) : Type 0 where
+  pub queue : bytes_of o.queue ≤ 65536
+  pub few : IsFew i
+  pub places : length i.early ≡ window
+  pub most : window ≤ 127

@@ -5,11 +5,10 @@ use Rattle.circuit_l4.specs.declared.transport.Pair.{Pair}
 use Rattle.circuit_l4.specs.declared.transport.Transport.TheVariants.{Disconnect}
 use Rattle.circuit_l4.specs.declared.config.EndConfig.{EndConfig}
 use Rattle.circuit_l4.specs.declared.notice.EndNotice.TheVariants.{FailedRetries, FailedOversize, FailedInactive}
-use Rattle.circuit_l4.specs.State.{Effect, State}
+use Rattle.circuit_l4.specs.State.{Effect, State, total}
 use Rattle.circuit_l4.specs.Table.{Input, Write, step, write_answer}
 use Rattle.circuit_l4.specs.Opening.{requesting, responding}
 use Rattle.circuit_l4.specs.Expiries.{expiries, moments}
-use Rattle.circuit_l4.specs.Sending.{total}
 
 -- a step more: what it puts out and the notices that it gives stand behind the earlier ones
 abbrev pub followed_by : Effect → Effect → Effect

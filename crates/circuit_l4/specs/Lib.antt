@@ -1,12 +1,8 @@
 pub mod Transports
-pub mod Reading
 pub mod Spelling
 pub mod Faults
-pub mod Sending
-pub mod Receiving
 pub mod Queued
 pub mod Halves
-pub mod Within
 pub mod Inboxes
 pub mod State
 pub mod Outputs
@@ -14,7 +10,6 @@ pub mod Moves
 pub mod Table
 pub mod Opening
 pub mod Standing
-pub mod Kept
 pub mod Forgetting
 pub mod Outboxes
 pub mod Expiries

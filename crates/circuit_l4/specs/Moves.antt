@@ -9,9 +9,7 @@ use Rattle.circuit_l4.specs.declared.owed.Owed.{Owed}
 use Rattle.circuit_l4.specs.declared.phase.EndPhase.TheVariants.{Closing, Ended}
 use Rattle.circuit_l4.specs.declared.notice.EndNotice.{EndNotice}
 use Rattle.circuit_l4.specs.declared.notice.EndNotice.TheVariants.{FailedOversize}
-use Rattle.circuit_l4.specs.State.{State, Effect, infos, info_ack, is_up}
-use Rattle.circuit_l4.specs.Sending.{total}
-use Rattle.circuit_l4.specs.Receiving.{Receipt, Receiving, receive}
+use Rattle.circuit_l4.specs.State.{State, Effect, infos, info_ack, is_up, total, Receipt, Receiving, receive}
 
 -- a change of the state alone
 abbrev pub on_state : (State → State) → Effect → Effect

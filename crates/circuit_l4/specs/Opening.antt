@@ -9,9 +9,7 @@ use Rattle.circuit_l4.specs.declared.phase.EndPhase.TheVariants.{Connecting, Up}
 use Rattle.circuit_l4.specs.declared.notice.EndNotice.TheVariants.{Opened}
 use Rattle.circuit_l4.specs.declared.beginning.Beginning.{Beginning}
 use Rattle.circuit_l4.specs.declared.role.Role.TheVariants.{Requester, Responder}
-use Rattle.circuit_l4.specs.Sending.{Sending, unacknowledged}
-use Rattle.circuit_l4.specs.Receiving.{Receiving, waiting}
-use Rattle.circuit_l4.specs.State.{State, Effect, begin}
+use Rattle.circuit_l4.specs.State.{Sending, unacknowledged, Receiving, waiting, State, Effect, begin}
 use Rattle.circuit_l4.specs.Moves.{emit, note, wait}
 use Rattle.circuit_l4.specs.Table.{common_window, ask_by}
 

@@ -1,7 +1,7 @@
 -- What the code keeps of the messages that were written.
 use Rattle.std.specs.Prelude.{◌≡◌, ◌+◌, ◌^◌, ◌≤◌, length}
 use Rattle.circuit_l4.specs.declared.outgoing.Outgoing.TheInside.{Inside}
-use Rattle.circuit_l4.specs.Sending.{fragments_of_all, bytes_of}
+use Rattle.circuit_l4.specs.State.{fragments_of_all, bytes_of}
 use Rattle.circuit_l4.specs.Halves.{Outbox}
 use Rattle.circuit_l4.specs.Forgetting.{IsUnder}
 

@@ -5,8 +5,7 @@ use Rattle.circuit_l4.specs.declared.transport.Pair.{Pair}
 use Rattle.circuit_l4.specs.declared.transport.Transport.TheVariants as transport
 use Rattle.circuit_l4.specs.declared.output.Output.{Output}
 use Rattle.circuit_l4.specs.declared.output.Output.TheVariants.{Request, Accept, Disconnect, Disconnected, Info, InfoAck}
-use Rattle.circuit_l4.specs.Sending.{fragments_of_all}
-use Rattle.circuit_l4.specs.State.{Out}
+use Rattle.circuit_l4.specs.State.{fragments_of_all, Out}
 
 -- of messages whose first fragment has this number, the fragment of another number; an empty one where there is none
 abbrev pub fragment_from : List (List ℕ) → ℕ → ℕ → Fragment

@@ -3,8 +3,7 @@ use Rattle.std.specs.Prelude.{ℕ, ◌≡◌, ◌+◌, ◌*◌, ◌/◌, ◌%◌
 use Rattle.ax_address.specs.Callsign.{IsCallsign}
 use Rattle.circuit_l4.specs.declared.transport.Transport.{Transport}
 use Rattle.circuit_l4.specs.declared.transport.Transport.TheVariants.{Request, Accept, Refuse, Disconnect, Disconnected, Info, InfoAck}
-use Rattle.circuit_l4.specs.Transports.{SpellsTransport, transport_octets}
-use Rattle.circuit_l4.specs.Reading.{transport_at}
+use Rattle.circuit_l4.specs.Transports.{SpellsTransport, transport_octets, transport_at}
 
 -- the calls of a request are calls, and a text has at most 236 bytes
 abbrev pub IsTransport : Transport → Type 0

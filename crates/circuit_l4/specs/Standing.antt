@@ -1,6 +1,6 @@
 -- What the code keeps of an end of a circuit stands for every state that agrees with it: of the halves it has forgotten the
 -- messages that were wholly acknowledged and those that were taken.
-use Rattle.std.specs.Prelude.{◌≡◌, ℕ, ◌-◌, Bool, List, [], Option, None}
+use Rattle.std.specs.Prelude.{◌≡◌, ℕ, ◌-◌, Bool, List, [], Option, None, ◌+◌, ◌*◌, ◌≤◌, length}
 use Rattle.std.specs.Option.{option_to_list}
 use Rattle.circuit_l4.specs.declared.machine.Machine.{Machine}
 use Rattle.circuit_l4.specs.declared.role.Role.{Role}
@@ -8,12 +8,9 @@ use Rattle.circuit_l4.specs.declared.transport.Pair.{Pair}
 use Rattle.circuit_l4.specs.declared.config.EndConfig.{EndConfig}
 use Rattle.circuit_l4.specs.declared.phase.EndPhase.{EndPhase}
 use Rattle.circuit_l4.specs.declared.notice.EndNotice.{EndNotice}
-use Rattle.circuit_l4.specs.State.{Effect, Out, State}
-use Rattle.circuit_l4.specs.Sending.{Sending}
-use Rattle.circuit_l4.specs.Receiving.{Receiving}
+use Rattle.circuit_l4.specs.State.{Effect, Out, State, Sending, Receiving, bytes_of}
 use Rattle.circuit_l4.specs.Outputs.{outs_of}
-use Rattle.circuit_l4.specs.Halves.{Inbox, IsReceiving, IsSending, Outbox}
-use Rattle.circuit_l4.specs.Within.{IsWithin}
+use Rattle.circuit_l4.specs.Halves.{Inbox, IsReceiving, IsSending, Outbox, IsWithin, early_octets}
 
 -- what is kept; what waits to be put out is as it goes out
 pub record EndView : Type 0 where
@@ -107,3 +104,19 @@ pub record Stands (m : EndView) (g : Effect) : Type 0 where
 pub record IsDrained (m : EndView) : Type 0 where
   pub outs : m.outs ≡ []
   pub notice : m.notice ≡ None
+
+-- What an end of a circuit keeps, in octets, and the most that it may (this project's profile). Transports that wait to be fetched are left out:
+-- their texts are in the queue. So are the lengths of messages, which are beside the messages.
+
+-- what waits to be acknowledged, what came and wasn't taken, what is gathered of a message, and what came early: all the buffers of an end
+abbrev pub kept : EndView → ℕ
+kept e = bytes_of e.outgoing.queue + bytes_of e.incoming.messages + length e.incoming.gathered + early_octets e.incoming.early
+
+-- The most of it: 65,536 wait to be acknowledged, 16,619 came and weren't taken, 8,192 are gathered, and 236 for each fragment of the window came
+-- early
+abbrev pub share : ℕ → ℕ
+share window = 90347 + 236 * window
+
+-- an end keeps no more than its share
+abbrev pub KeepsItsShare : Type 0
+KeepsItsShare = (e : EndView) (s : State) → StandsFor e s → kept e ≤ share e.config.window

@@ -14,10 +14,8 @@ use Rattle.circuit_l4.specs.declared.refusal.WriteRefusal.{WriteRefusal}
 use Rattle.circuit_l4.specs.declared.refusal.WriteRefusal.TheVariants as refusal
 use Rattle.circuit_l4.specs.declared.role.Role.{Role}
 use Rattle.circuit_l4.specs.declared.role.Role.TheVariants.{Requester, Responder}
-use Rattle.circuit_l4.specs.State.{State, Effect, begin, is_up}
+use Rattle.circuit_l4.specs.State.{State, Effect, begin, is_up, total, unacknowledged, written, Appended, Receiving, busy, without_first, inbox, follow}
 use Rattle.circuit_l4.specs.Moves.{emit, emit_ack, note, end_with, on_state, with_receiving, wait, wait_if_out, fill, finish, again, on_info, on_info_ack}
-use Rattle.circuit_l4.specs.Sending.{total, unacknowledged, written}
-use Rattle.circuit_l4.specs.Receiving.{Appended, Receiving, busy, without_first, inbox, follow}
 
 -- the window that both ends take: that of the other end, at most the own one, and at least 1
 abbrev pub common_window : ℕ → ℕ → ℕ

@@ -17,14 +17,13 @@ use std::alloc::Global;
 
 impl Machine {
     ghost use Rattle.circuit_l4.specs.Table as table;
-    ghost use Rattle.circuit_l4.specs.State.{State, begin, is_up};
+    ghost use Rattle.circuit_l4.specs.State.{State, begin, is_up, Receiving, busy};
     ghost use Rattle.circuit_l4.specs.Opening as opening;
     ghost use Rattle.circuit_l4.specs.Opening.{IsConfig};
     ghost use Rattle.circuit_l4.specs.Calls.{Adds, Does, IsIdle, MayWrite};
     ghost use Rattle.circuit_l4.specs.Standing.{KeepsEffect, StandsFor, view_of};
     ghost use Rattle.circuit_l4.specs.Table.{resume};
     ghost use Rattle.circuit_l4.specs.Halves.{IsReceiving, first_or};
-    ghost use Rattle.circuit_l4.specs.Receiving.{Receiving, busy};
 
     /// An end that has known nothing yet. Takes all the memory that is ever needed.
     pub(crate) fn new(

@@ -1,13 +1,11 @@
 //! One end of a circuit: its public calls.
 ghost use Rattle.std.specs.Prelude.{◌≡◌, ◌↔◌, ◌≤◌, ◌+◌, ◌*◌, ◌^◌, min, drop, slice_get, nat_lt, length, None, IfOk, OnOk, OnErr, IsOk, IsTrue};
-ghost use Rattle.circuit_l4.specs.State.{State};
+ghost use Rattle.circuit_l4.specs.State.{State, inbox};
 ghost use Rattle.circuit_l4.specs.Table as table;
 ghost use Rattle.circuit_l4.specs.Opening as opening;
 ghost use Rattle.circuit_l4.specs.Opening.{IsConfig};
-ghost use Rattle.circuit_l4.specs.Standing.{IsDrained, Stands, StandsFor};
+ghost use Rattle.circuit_l4.specs.Standing.{IsDrained, Stands, StandsFor, kept, share};
 ghost use Rattle.circuit_l4.specs.Halves.{first_or};
-ghost use Rattle.circuit_l4.specs.Kept.{kept, share};
-ghost use Rattle.circuit_l4.specs.Receiving.{inbox};
 
 use crate::arrivals::common_window;
 use crate::beginning::Beginning;

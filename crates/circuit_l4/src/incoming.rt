@@ -1,14 +1,12 @@
 //! The receiving half of an end: what came and wasn't taken.
 ghost use Rattle.std.specs.Prelude.{◌≡◌, ◌+◌, ◌≤◌, ◌↔◌, [], length, nat_lt, replicate, IfOk, IfSome, IsTrue, None};
 ghost use Rattle.circular_buffer.specs.Buffer.{buffer};
-ghost use Rattle.circuit_reassembly.specs.Gathering.{gather_step};
+ghost use Rattle.circuit_reassembly.specs.Fragments.{gather_step};
 ghost use Rattle.circuit_reassembly.specs.Kept.{still};
-ghost use Rattle.circuit_l4.specs.Sending.{bytes_of};
-ghost use Rattle.circuit_l4.specs.Receiving as spec;
-ghost use Rattle.circuit_l4.specs.Receiving.{Receiving};
-ghost use Rattle.circuit_l4.specs.Halves.{IsReceiving, Takes, receipt_answer, first_or, moved_answer, take_message, whole_answer, with_answer};
+ghost use Rattle.circuit_l4.specs.State.{bytes_of, Receiving};
+ghost use Rattle.circuit_l4.specs.State as spec;
+ghost use Rattle.circuit_l4.specs.Halves.{IsReceiving, Takes, receipt_answer, first_or, moved_answer, take_message, whole_answer, with_answer, IsFew};
 ghost use Rattle.circuit_l4.specs.Inboxes.{AreSmall};
-ghost use Rattle.circuit_l4.specs.Within.{IsFew};
 
 use crate::messages::Messages;
 use crate::piece::{Piece, copy_of};

@@ -2,7 +2,7 @@
 ghost use Rattle.std.specs.Prelude.{◌≡◌};
 ghost use Rattle.circuit_l4.specs.Faults.{FaultIsFirst};
 ghost use Rattle.circuit_l4.specs.Laws as end_law;
-ghost use Rattle.circuit_l4.specs.Kept.{KeepsItsShare};
+ghost use Rattle.circuit_l4.specs.Standing.{KeepsItsShare};
 ghost use Rattle.circuit_l4.specs.Spelling as law;
 
 use crate::{BUSY_AT, MAX_TEXT, MAX_TRANSPORT, QUEUE_MAX};

@@ -1,8 +1,8 @@
 //! What an end keeps above its two halves.
 ghost use Rattle.std.specs.Prelude.{◌≡◌, ◌+◌, ◌-◌, ◌*◌, ◌≤◌, ◌<◌, length, drop, slice_get, None, Some};
 ghost use Rattle.radio_base.specs.declared.modulus.TheConstants.{COUNT_MAX};
-ghost use Rattle.circuit_l4.specs.Sending.{bytes_of};
-ghost use Rattle.circuit_l4.specs.Within.{IsFew};
+ghost use Rattle.circuit_l4.specs.State.{bytes_of};
+ghost use Rattle.circuit_l4.specs.Halves.{IsFew};
 
 use crate::config::EndConfig;
 use crate::incoming::Incoming;

@@ -4,7 +4,7 @@ ghost use Rattle.std.specs.Option.{option_map};
 ghost use Rattle.circuit_l4.specs.Queued.{IsQueue, cut};
 ghost use Rattle.circular_buffer.specs.Buffer.{buffer};
 ghost use Rattle.circuit_reassembly.specs.Fragments.{fragment_at, fragments_in};
-ghost use Rattle.circuit_l4.specs.Sending.{bytes_of, fragments_of_all};
+ghost use Rattle.circuit_l4.specs.State.{bytes_of, fragments_of_all};
 ghost use Rattle.circuit_l4.specs.Halves.{first_or, fragment_in};
 
 use crate::piece::Piece;

@@ -13,8 +13,7 @@ impl Machine {
     ghost use Rattle.circuit_l4.specs.Calls.{Adds, Does};
     ghost use Rattle.circuit_l4.specs.Standing.{view_of, state_of};
     ghost use Rattle.circuit_l4.specs.Halves.{IsSending};
-    ghost use Rattle.circuit_l4.specs.Sending.{Sending};
-    ghost use Rattle.circuit_l4.specs.Receiving.{Receiving};
+    ghost use Rattle.circuit_l4.specs.State.{Sending, Receiving};
 
     /// Puts out the fragment of this number, where it waits.
     fn emit_info(&mut self, number: u64)

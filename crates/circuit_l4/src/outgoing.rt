@@ -2,7 +2,7 @@
 ghost use Rattle.std.specs.Prelude.{◌≡◌, ◌+◌, ◌-◌, ◌≤◌, ◌<◌, ◌++◌, ◌∷◌, [], length, IfOk};
 ghost use Rattle.radio_base.specs.declared.modulus.TheConstants.{COUNT_MAX};
 ghost use Rattle.circuit_reassembly.specs.Fragments.{fragments_of};
-ghost use Rattle.circuit_l4.specs.Sending.{Sending, bytes_of, unacknowledged, written};
+ghost use Rattle.circuit_l4.specs.State.{Sending, bytes_of, unacknowledged, written};
 ghost use Rattle.circuit_l4.specs.Halves.{IsSending, fragment_in};
 ghost use Rattle.circuit_l4.specs.Forgetting.{Forgets, ForgetsFirst};
 ghost use Rattle.circuit_l4.specs.Outputs.{fragment_from};

@@ -1,8 +1,7 @@
 //! Octets become transports (NET/ROM, Appendix B, level 4).
 ghost use Rattle.std.specs.Prelude.{◌≡◌, ◌+◌, ◌<◌, ◌≤◌, Ok, length, take, drop, IfOk, IsOk, false};
-ghost use Rattle.ax_address.specs.NetCalls.{SpellsNetCall};
+ghost use Rattle.ax_address.specs.Octets.{SpellsNetCall};
 ghost use Rattle.circuit_l4.specs.Transports as octet;
-ghost use Rattle.circuit_l4.specs.Reading as reading;
 ghost use Rattle.circuit_l4.specs.declared.transport.Transport.{Transport};
 
 use crate::transport::HEAD_SIZE;
@@ -20,17 +19,17 @@ pub fn read_transport(bytes: &[u8]) -> Result<Transport, TransportRefusal>
     ensures only { (transport : Transport) → octet.SpellsTransport transport bytes.now → result ≡ Ok transport }
 
     // Which refusal it is.
-    ensures exact { result ≡ reading.transport_at bytes.now }
+    ensures exact { result ≡ octet.transport_at bytes.now }
 {
     // By the laws of the spelling none that is spelled is refused.
     laws::transport_spelling();
     transport_of(bytes)
 }
 
-#[tactic(auto, unfolding(crate::specs::Reading::transport_at))]
+#[tactic(auto, unfolding(crate::specs::Transports::transport_at))]
 fn transport_of(bytes: &[u8]) -> Result<Transport, TransportRefusal>
     ensures found { IfOk result (λ transport. octet.SpellsTransport transport bytes.now) }
-    ensures exact { result ≡ reading.transport_at bytes.now }
+    ensures exact { result ≡ octet.transport_at bytes.now }
 {
     if bytes.len() > MAX_TRANSPORT {
         return Err(TransportRefusal::TooLong);
@@ -46,7 +45,7 @@ fn of_opcode(bytes: &[u8]) -> Result<Transport, TransportRefusal>
     requires whole { 5 ≤ length bytes.now }
     requires fits { length bytes.now ≤ 241 }
     ensures found { IfOk result (λ transport. octet.SpellsTransport transport bytes.now) }
-    ensures exact { result ≡ reading.of_opcode bytes.now }
+    ensures exact { result ≡ octet.of_opcode bytes.now }
 {
     let to = pair_at(0, bytes);
     // Bits 3 to 0 are the opcode, and bit 4 must be 0.
@@ -66,13 +65,13 @@ fn of_opcode(bytes: &[u8]) -> Result<Transport, TransportRefusal>
     }
 }
 
-#[tactic(auto, unfolding(crate::specs::Reading::request_at))]
+#[tactic(auto, unfolding(crate::specs::Transports::request_at))]
 fn request_in(bytes: &[u8]) -> Result<Transport, TransportRefusal>
     requires whole { 5 ≤ length bytes.now }
     requires fits { length bytes.now ≤ 241 }
     requires opcode { octet.opcode bytes.now ≡ 1 }
     ensures found { IfOk result (λ transport. octet.SpellsTransport transport bytes.now) }
-    ensures exact { result ≡ reading.request_at bytes.now }
+    ensures exact { result ≡ octet.request_at bytes.now }
 {
     let window = octet_at(5, bytes)?;
     let user = call_from(6, bytes)?;
@@ -85,14 +84,14 @@ fn request_in(bytes: &[u8]) -> Result<Transport, TransportRefusal>
     })
 }
 
-#[tactic(auto, unfolding(crate::specs::Reading::accept_at))]
+#[tactic(auto, unfolding(crate::specs::Transports::accept_at))]
 fn accept_in(bytes: &[u8]) -> Result<Transport, TransportRefusal>
     requires whole { 5 ≤ length bytes.now }
     requires fits { length bytes.now ≤ 241 }
     requires opcode { octet.opcode bytes.now ≡ 2 }
     requires accepted { octet.choke bytes.now ≡ false }
     ensures found { IfOk result (λ transport. octet.SpellsTransport transport bytes.now) }
-    ensures exact { result ≡ reading.accept_at bytes.now }
+    ensures exact { result ≡ octet.accept_at bytes.now }
 {
     let window = octet_at(5, bytes)?;
     Ok(Transport::Accept {
@@ -107,7 +106,7 @@ fn info_in(bytes: &[u8]) -> Transport
     requires fits { length bytes.now ≤ 241 }
     requires opcode { octet.opcode bytes.now ≡ 5 }
     ensures found { octet.SpellsTransport result bytes.now }
-    ensures exact { result ≡ reading.info_in bytes.now }
+    ensures exact { result ≡ octet.info_in bytes.now }
 {
     let mut text = ArrayVec::new();
     let _ = text.try_extend_from_slice(&bytes[HEAD_SIZE..]);
@@ -145,7 +144,7 @@ fn pair_at(at: usize, bytes: &[u8]) -> Pair
 
 /// The octet at a place.
 fn octet_at(at: usize, bytes: &[u8]) -> Result<u8, TransportRefusal>
-    ensures exact { result ≡ reading.octet_at at bytes.now }
+    ensures exact { result ≡ octet.octet_at at bytes.now }
     ensures within { IsOk result → at < length bytes.now }
 {
     if bytes.len() <= at {
@@ -157,7 +156,7 @@ fn octet_at(at: usize, bytes: &[u8]) -> Result<u8, TransportRefusal>
 /// The call in the seven octets from a place on.
 fn call_from(at: usize, bytes: &[u8]) -> Result<Call, TransportRefusal>
     requires { at ≤ length bytes.now }
-    ensures exact { result ≡ reading.call_from at bytes.now }
+    ensures exact { result ≡ octet.call_from at bytes.now }
     ensures found { IfOk result (λ call. SpellsNetCall call (take 7 (drop at bytes.now))) }
     ensures within { IsOk result → at + 7 ≤ length bytes.now }
 {

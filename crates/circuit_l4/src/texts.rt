@@ -12,13 +12,11 @@ use radio_base::{M256, Millis, Modulus};
 
 impl Machine {
     ghost use Rattle.radio_base.specs.Modulus.{place_of};
-    ghost use Rattle.circuit_l4.specs.State.{Effect};
+    ghost use Rattle.circuit_l4.specs.State.{Effect, Sending, Receiving, receive};
     ghost use Rattle.circuit_l4.specs.Moves as moves;
     ghost use Rattle.circuit_l4.specs.Calls.{Adds, Does, IsIdle, IsOwed};
     ghost use Rattle.circuit_l4.specs.Standing.{KeepsEffect, view_of, state_of};
     ghost use Rattle.circuit_l4.specs.Halves.{IsSending, receipt_answer};
-    ghost use Rattle.circuit_l4.specs.Sending.{Sending};
-    ghost use Rattle.circuit_l4.specs.Receiving.{Receiving, receive};
 
     /// An acknowledgement for itself.
     pub(crate) fn on_info_ack(&mut self, rx: u8, flags: Flags, now: Millis)

@@ -2,8 +2,7 @@
 use Rattle.std.proofs.Common.{◌≡◌, ℕ, suc, ◌-◌, ◌<◌, ◌≤◌, List, [], ◌∷◌, ◌++◌, length, Bool, true, false, nat_lt, refl, ap, ◌∙◌, arith, append_assoc, length-append}
 use Rattle.std.specs.Prelude.{replicate}
 use Rattle.std.proofs.lemmas.Bool.Decides.{nat_tests}
-use Rattle.circuit_reassembly.specs.Fragments.{Fragment, fragments_of}
-use Rattle.circuit_reassembly.specs.Gathering.{More, Whole, gather_step}
+use Rattle.circuit_reassembly.specs.Fragments.{Fragment, fragments_of, More, Whole, gather_step}
 use Rattle.circuit_reassembly.specs.Laws.{Carry, GathersTheMessage, answers, held_after}
 use Rattle.circuit_reassembly.proofs.Pieces.{fragments_make_the_message}
 

@@ -6,7 +6,7 @@ use Rattle.circuit_reassembly.specs.declared.gather.Gathered.{Gathered}
 use Rattle.circuit_reassembly.specs.declared.gather.Gathered.TheVariants as gathered
 use Rattle.circuit_reassembly.specs.declared.gather.Oversize.{Oversize}
 use Rattle.circuit_reassembly.specs.contracts.gather.Gather.{the_row}
-use Rattle.circuit_reassembly.specs.Gathering.{Answer, More, Whole, Too_long, gather_step}
+use Rattle.circuit_reassembly.specs.Fragments.{Answer, More, Whole, Too_long, gather_step}
 use Rattle.circuit_reassembly.specs.Holding.{answered}
 use Rattle.circuit_reassembly.specs.Kept.{Gathering}
 

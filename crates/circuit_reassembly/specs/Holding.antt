@@ -2,7 +2,7 @@
 use Rattle.std.specs.Prelude.{ℕ, Bool, true, false, List, []}
 use Rattle.circuit_reassembly.specs.declared.held.Took.{Took}
 use Rattle.circuit_reassembly.specs.declared.held.Took.TheVariants as took
-use Rattle.circuit_reassembly.specs.Gathering.{Answer, More, Whole, Too_long}
+use Rattle.circuit_reassembly.specs.Fragments.{Answer, More, Whole, Too_long}
 use Rattle.circuit_reassembly.specs.Kept.{Gathering, still}
 
 -- nothing is held of what was handed up

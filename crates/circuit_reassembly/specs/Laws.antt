@@ -1,8 +1,7 @@
 -- What holds of every message.
 use Rattle.std.specs.Prelude.{◌≡◌, ℕ, ◌-◌, ◌<◌, ◌≤◌, true, false, List, [], ◌∷◌, ◌++◌, length, replicate}
 use Rattle.circuit_reassembly.specs.declared.TheConstants.{FRAGMENT, LONGEST}
-use Rattle.circuit_reassembly.specs.Fragments.{Fragment, fragments_of}
-use Rattle.circuit_reassembly.specs.Gathering.{Answer, More, Whole, gather_step}
+use Rattle.circuit_reassembly.specs.Fragments.{Fragment, fragments_of, Answer, More, Whole, gather_step}
 
 -- these fragments carry this message: pieces of 236 bytes with the flag that more follow, and a last one of 1 to 236 bytes
 -- without it. An empty message has none

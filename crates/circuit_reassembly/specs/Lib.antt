@@ -1,5 +1,4 @@
 pub mod Fragments
-pub mod Gathering
 pub mod Kept
 pub mod Answering
 pub mod Holding

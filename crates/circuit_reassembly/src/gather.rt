@@ -1,6 +1,6 @@
 //! Fragments are gathered to messages.
 ghost use Rattle.std.specs.Prelude.{◌≡◌, ◌≤◌, [], length, IfOk};
-ghost use Rattle.circuit_reassembly.specs.Gathering.{gather_step};
+ghost use Rattle.circuit_reassembly.specs.Fragments.{gather_step};
 ghost use Rattle.circuit_reassembly.specs.Answering.{StepsOn, answer_of};
 ghost use Rattle.circuit_reassembly.specs.Kept.{kept, share, still};
 

@@ -7,16 +7,15 @@ use Rattle.circuit_l4.specs.declared.transport.Transport.{Transport}
 use Rattle.circuit_l4.specs.declared.transport.Transport.TheVariants.{Request, Accept, Refuse, Disconnect, Disconnected, Info, InfoAck}
 use Rattle.circuit_l4.specs.declared.notice.EndNotice.{EndNotice}
 use Rattle.circuit_l4.specs.declared.role.Role.TheVariants.{Responder}
-use Rattle.circuit_l4.specs.Reading.{transport_at}
+use Rattle.circuit_l4.specs.Transports.{transport_at}
 use Rattle.circuit_l4.specs.State.{Effect, State, begin}
 use Rattle.circuit_l4.specs.Laws.{followed_by, after_inputs}
 use Rattle.circuit_l4.specs.Table.{Input, Arrive, step}
 use Rattle.circuit_set.specs.Lines.{Elem, count_from}
 use Rattle.circuit_set.specs.Circuits.{ComesInTime, Flight, IsCall, PairOk, Side, comes, hear, heard_it, hear_text, now_at}
-use Rattle.circuit_set.specs.Heeds.{heeds}
+use Rattle.circuit_set.specs.Sets.{heeds, Call, Closes, Holder, SetState, Takes, Ticks, Heeded, Writes, accept_again, end_of, goes_to, input_of, is_over, told_by}
 use Rattle.circuit_set.specs.Events.{Name, is_copy, same_name}
 use Rattle.circuit_set.specs.NotedRuns.{Net, allowance, allowance_at, opened_window, partner_allowance, told_to}
-use Rattle.circuit_set.specs.Sets.{Call, Closes, Holder, SetState, Takes, Ticks, Heeded, Writes, accept_again, end_of, goes_to, input_of, is_over, told_by}
 use Rattle.circuit_set.specs.Books.{was_asked, Book, HeardNote, SentNote, TimelyTo, has, heard_number, heard_sending, is_number, latest_by, latest_in, with_event, with_events, overtakers, partner}
 use Rattle.circuit_set.specs.Runs.{end_in, events_at}
 use Rattle.circuit_set.proofs.Bridge.{TopAt, WasSent, bridge, heard_of}

@@ -1,7 +1,7 @@
 -- One event more behind others.
 use Rattle.std.specs.Prelude.{◌≡◌, ◌⊎◌, List, [], ◌∷◌, ◌++◌, refl}
 use Rattle.std.proofs.Common.{sym, ◌∙◌, ap, subst, inl, inr, append_assoc, append-nil}
-use Rattle.circuit_set.specs.Among.{Has, Last}
+use Rattle.circuit_set.specs.TooLate.{Has, Last}
 use Rattle.circuit_set.specs.Events.{Event}
 
 -- ---- splits of a list with one more ----

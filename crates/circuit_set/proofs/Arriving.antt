@@ -14,9 +14,8 @@ use Rattle.circuit_set.specs.declared.holder.Holder.{Holder}
 use Rattle.circuit_set.specs.declared.holder.Untold.{Untold}
 use Rattle.circuit_set.specs.declared.holder.Untold.TheVariants as untold
 use Rattle.circuit_set.specs.declared.held_ends.HeldEnds.{HeldEnds}
-use Rattle.circuit_set.specs.Heeds.{heeds}
+use Rattle.circuit_set.specs.Sets.{heeds, SetDone, SetState, CircuitTold, arrives_at, end_of, first_open, goes_to, hands_to, named_by}
 use Rattle.circuit_set.specs.Sets as sets
-use Rattle.circuit_set.specs.Sets.{SetDone, SetState, CircuitTold, arrives_at, end_of, first_open, goes_to, hands_to, named_by}
 use Rattle.circuit_set.specs.Standing.{FirstFit, Gives, Hands, HeldStands, SameNode, capped_count, of_holder}
 use Rattle.circuit_set.proofs.Names.{arrival_same}
 use Rattle.circuit_set.proofs.Taken.{taken_same}

@@ -11,10 +11,9 @@ use Rattle.l3_datagram.specs.declared.carrier.Offered.{Offered}
 use Rattle.l3_datagram.specs.declared.carrier.Offered.TheVariants as offered
 use Rattle.l3_datagram.specs.declared.routed.Routed.{Routed}
 use Rattle.l3_datagram.specs.declared.routed.Routed.TheVariants as routed
-use Rattle.l3_datagram.specs.CarrierCall.{CarrierCall, Collect, Fail, Parcel}
-use Rattle.l3_datagram.specs.Hops.{Way, Ends, ToNeighbour, forwarded_by, offers_of, pumping, routed_by, way}
+use Rattle.l3_datagram.specs.Datagrams.{CarrierCall, Collect, Fail, Parcel}
+use Rattle.l3_datagram.specs.Routers.{Way, Ends, ToNeighbour, forwarded_by, offers_of, pumping, routed_by, way, NoneWhereEmpty, Routing, SameRouter, waiting_left}
 use Rattle.l3_datagram.specs.Routers as routers
-use Rattle.l3_datagram.specs.Routers.{NoneWhereEmpty, Routing, SameRouter, waiting_left}
 use Rattle.circuit_set.specs.declared.event.SetEvent.{SetEvent}
 use Rattle.circuit_set.specs.Sets.{SetState}
 use Rattle.circuit_set.specs.Pumps.{Pumped, Turn, Turned, after_calls, at_rest, ends_with, heard_as, hears_by, hears_lost, offer_of, outcome, speaks, takes, tells_on}

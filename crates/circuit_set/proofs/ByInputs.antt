@@ -10,10 +10,9 @@ use Rattle.l3_datagram.specs.declared.datagram.DatagramRefusal.{DatagramRefusal}
 use Rattle.l3_datagram.specs.declared.routed.Routed.{Routed}
 use Rattle.l3_datagram.specs.declared.routed.Routed.TheVariants as routed
 use Rattle.l3_datagram.specs.Datagrams.{head_at}
-use Rattle.l3_datagram.specs.Hops.{Way, Ends, ToNeighbour, forwarded_by, way}
+use Rattle.l3_datagram.specs.Routers.{Way, Ends, ToNeighbour, forwarded_by, way}
 use Rattle.circuit_set.specs.Sets.{Act, Comes, SetState, CircuitTold, Made, Sent, Heeded, Notice, Gone, Restarted, Lost, set_step}
-use Rattle.circuit_set.specs.Pumps.{Dropped, Turn, Turned, Says, Offers, Waiting, dropped_by, heard_as, hears_by, untold_weight, sent_by_head, sent_to, tells_first, tells_of, weight, weights, with_done}
-use Rattle.circuit_set.specs.Inputs.{ActsGo, GoesByInputs, HearsGo, HearsLostGoes, OfEach, TellsGo, TellsLess, TicksGo, TurnGoes, of_circuits, ticks_of}
+use Rattle.circuit_set.specs.Pumps.{Dropped, Turn, Turned, Says, Offers, Waiting, dropped_by, heard_as, hears_by, untold_weight, sent_by_head, sent_to, tells_first, tells_of, weight, weights, with_done, ActsGo, GoesByInputs, HearsGo, HearsLostGoes, OfEach, TellsGo, TellsLess, TicksGo, TurnGoes, of_circuits, ticks_of}
 
 -- one input
 by_one : (a : Act) (w : Waiting) → GoesByInputs w (with_done w (set_step w.set a)) []

@@ -3,8 +3,7 @@ use Rattle.std.specs.Prelude.{◌≡◌, ℕ, ◌⊎◌, Bool, true, false, not,
 use Rattle.std.proofs.Common.{sym, ◌∙◌, ap, subst, inl, inr, arith}
 use Rattle.std.proofs.lemmas.Bool.Decides.{nat_tests}
 use Rattle.radio_base.specs.declared.modulus.TheConstants.{COUNT_MAX}
-use Rattle.ax_address.specs.Callsign.{Callsign, IsCallsign}
-use Rattle.ax_address.specs.CallOrder.{same_call}
+use Rattle.ax_address.specs.Callsign.{Callsign, IsCallsign, same_call}
 use Rattle.l3_datagram.specs.declared.datagram.DatagramHead.{DatagramHead}
 use Rattle.l3_datagram.specs.declared.datagram.DatagramRefusal.{DatagramRefusal}
 use Rattle.l3_datagram.specs.Datagrams.{head_at}
@@ -12,7 +11,7 @@ use Rattle.circuit_l4.specs.declared.transport.Pair.{Pair}
 use Rattle.circuit_l4.specs.declared.transport.Transport.{Transport}
 use Rattle.circuit_l4.specs.declared.transport.Transport.TheVariants.{Request, Accept, Refuse, Disconnect, Disconnected, Info, InfoAck}
 use Rattle.circuit_l4.specs.declared.transport.TransportRefusal.{TransportRefusal}
-use Rattle.circuit_l4.specs.Reading.{transport_at}
+use Rattle.circuit_l4.specs.Transports.{transport_at}
 use Rattle.circuit_l4.specs.declared.notice.EndNotice.{EndNotice}
 use Rattle.circuit_l4.specs.declared.role.Role.{Role}
 use Rattle.circuit_l4.specs.declared.role.Role.TheVariants.{Requester, Responder}
@@ -21,9 +20,8 @@ use Rattle.circuit_l4.specs.Laws as laws
 use Rattle.circuit_l4.specs.Laws.{Accepts, Asks}
 use Rattle.circuit_l4.specs.Table.{Arrive, step}
 use Rattle.circuit_l4.specs.Opening.{facts_of, requesting, responding}
-use Rattle.circuit_set.specs.Heeds.{heeds}
+use Rattle.circuit_set.specs.Sets.{heeds, Act, Call, Writes, Ticks, Closes, Takes, Calls, Comes, Connect, Discard, Restart, Sent, Heeded, Gone, Holder, SetDone, SetState, accept_again, arrives_at, after_call, datagram_to, after_discarding, end_of, first_open, goes_to, hands_to, after_datagram, has_ended, input_of, is_full, is_open, makes_end, named_by, new_pair, opened_by, read_as, after_transport, after_new_request, requests, responds, set_step, does_nothing, with_end}
 use Rattle.circuit_set.specs.NotedRuns.{opened_window}
-use Rattle.circuit_set.specs.Sets.{Act, Call, Writes, Ticks, Closes, Takes, Calls, Comes, Connect, Discard, Restart, Sent, Heeded, Gone, Holder, SetDone, SetState, accept_again, arrives_at, after_call, datagram_to, after_discarding, end_of, first_open, goes_to, hands_to, after_datagram, has_ended, input_of, is_full, is_open, makes_end, named_by, new_pair, opened_by, read_as, after_transport, after_new_request, requests, responds, set_step, does_nothing, with_end}
 use Rattle.circuit_set.specs.Books.{any_ends}
 use Rattle.circuit_set.specs.Givings.{IsUp}
 use Rattle.circuit_set.proofs.Acts.{lives_on, lives_same}

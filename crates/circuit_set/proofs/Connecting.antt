@@ -1,8 +1,7 @@
 -- What is answered to a user that asks for a circuit, by what was tested.
 use Rattle.std.specs.Prelude.{◌≡◌, ℕ, Bool, true, false, not, if◌then◌else◌, List, Option, Some, None, is_some, is_none, Result, Ok, Err, refl}
 use Rattle.std.proofs.Common.{sym, ◌∙◌, ap, subst}
-use Rattle.ax_address.specs.Callsign.{Callsign}
-use Rattle.ax_address.specs.CallOrder.{same_call}
+use Rattle.ax_address.specs.Callsign.{Callsign, same_call}
 use Rattle.route_table.specs.Log.{Item}
 use Rattle.route_table.specs.Held.{TableRoutes, StandsFor}
 use Rattle.route_table.specs.Table.{next_hop}

@@ -7,7 +7,7 @@ use Rattle.ax_address.specs.Callsign.{Callsign}
 use Rattle.circuit_l4.specs.declared.transport.Pair.{Pair}
 use Rattle.circuit_set.specs.Events.{Event}
 use Rattle.circuit_set.specs.Givings.{IsUp, StaysUp, pairs_made}
-use Rattle.circuit_set.specs.Inputs.{runs}
+use Rattle.circuit_set.specs.Pumps.{runs}
 use Rattle.circuit_set.specs.Returning.{given_by, told_at_node}
 use Rattle.circuit_set.specs.Runs.{AreStarts, IsStart, Step, events_at, events_of, sets_at, told_at}
 use Rattle.circuit_set.specs.Sets.{Act, SetState, CircuitTold, held_pairs, set_step}

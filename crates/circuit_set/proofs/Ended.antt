@@ -14,12 +14,10 @@ use Rattle.circuit_l4.specs.declared.notice.EndNotice.TheVariants.{Opened, Refus
 use Rattle.circuit_l4.specs.declared.role.Role.{Role}
 use Rattle.circuit_l4.specs.declared.role.Role.TheVariants.{Requester, Responder}
 use Rattle.circuit_l4.specs.declared.owed.Owed.{Owed}
-use Rattle.circuit_l4.specs.State.{Effect, State, begin, is_up}
+use Rattle.circuit_l4.specs.State.{Effect, State, begin, is_up, Appended, Receipt, busy, receive, without_first, inbox, follow, total, written}
 use Rattle.circuit_l4.specs.Moves.{acknowledge, again, answer, answer_all, wait_if_out, on_state, begin_to_close, end_with, fill, finish, with_receiving, is_done, is_silent, note, on_info, on_info_ack, emit, emit_owed, supply, emit_ack}
 use Rattle.circuit_l4.specs.Laws.{Accepts, Asks, IsNew, after_inputs, followed_by}
 use Rattle.circuit_l4.specs.Table.{Input, Write, Arrive, Tick, Close, Take, arrive_in, ask_by, close_in_turn, due_in, expire, note_activity, is_due, may_close, unchoke, common_window, come_up, resume_by, retry, retry_in, step, step_at, take_from, write_answer, write}
-use Rattle.circuit_l4.specs.Receiving.{Appended, Receipt, busy, receive, without_first, inbox, follow}
-use Rattle.circuit_l4.specs.Sending.{total, written}
 use Rattle.circuit_set.specs.Books.{any_ends}
 use Rattle.circuit_set.specs.Events.{ends_it}
 use Rattle.circuit_set.specs.NotedRuns.{opened_window}

@@ -3,8 +3,8 @@ use Rattle.std.specs.Prelude.{◌≡◌, ℕ, ◌≤◌, true, List, [], ◌∷�
 use Rattle.std.proofs.Common.{sym, ◌∙◌, arith, lit<}
 use Rattle.l3_datagram.specs.Datagrams.{head_at}
 use Rattle.circuit_l4.specs.declared.notice.EndNotice.TheVariants.{Opened}
-use Rattle.circuit_l4.specs.Reading as reading
-use Rattle.circuit_l4.specs.Reading.{transport_at}
+use Rattle.circuit_l4.specs.Transports as reading
+use Rattle.circuit_l4.specs.Transports.{transport_at}
 use Rattle.circuit_set.specs.Sets.{Holder}
 use Rattle.circuit_set.specs.Books.{Fresh, MadeNote, Timely, empty, is_unknown, partner_in}
 use Rattle.circuit_set.specs.Events.{Event, Name}

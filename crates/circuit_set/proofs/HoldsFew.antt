@@ -4,7 +4,7 @@ use Rattle.std.proofs.Common.{sym, subst, arith, length-append}
 use Rattle.std.proofs.lemmas.Bool.Decides.{nat_tests}
 use Rattle.circuit_l4.specs.declared.transport.Pair.{Pair}
 use Rattle.circuit_set.specs.Givings.{GivenBy, IsUp, after_changes, giving}
-use Rattle.circuit_set.specs.Inputs.{runs}
+use Rattle.circuit_set.specs.Pumps.{runs}
 use Rattle.circuit_set.specs.Kept.{HoldsFew}
 use Rattle.circuit_set.specs.Pairs.{Change, EndMade, Giving, EndGone, after_giving, pair_given, is_full, without}
 use Rattle.circuit_set.specs.Sets.{Act, Calls, Comes, Connect, Discard, Restart, Holder, SetState, all_gone, held_pairs, set_step}

@@ -3,7 +3,7 @@ use Rattle.std.specs.Prelude.{◌≡◌, ℕ, suc, ◌+◌, ◌*◌, ◌≤◌, 
 use Rattle.std.proofs.Common.{sym, subst, inl, inr, arith, OnOk, Option, Result, Ok, Err}
 use Rattle.ax_address.specs.Callsign.{Callsign}
 use Rattle.circuit_l4.proofs.Bounds as ends
-use Rattle.l3_datagram.specs.CarrierCall.{CarrierCall, Parcel}
+use Rattle.l3_datagram.specs.Datagrams.{CarrierCall, Parcel}
 use Rattle.circuit_set.specs.CircuitSets.{Circuits, Pumps, SetStands}
 use Rattle.circuit_set.specs.Kept.{KeepsItsShare, KeepsOn, PumpKeepsOn, WindowsAreSmall, ends_kept, kept, share, windows}
 use Rattle.circuit_set.specs.Pumps.{at_rest}

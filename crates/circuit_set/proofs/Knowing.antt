@@ -11,8 +11,7 @@ use Rattle.circuit_l4.specs.declared.transport.Transport.TheVariants.{Request, A
 use Rattle.circuit_l4.specs.declared.role.Role.TheVariants.{Requester, Responder}
 use Rattle.circuit_l4.specs.State.{Out}
 use Rattle.circuit_l4.specs.Spelling.{IsTransport}
-use Rattle.circuit_l4.specs.Reading.{transport_at}
-use Rattle.circuit_l4.specs.Transports.{pair_at, transport_octets}
+use Rattle.circuit_l4.specs.Transports.{transport_at, pair_at, transport_octets}
 use Rattle.circuit_set.specs.Books.{MadeNote, SentNote, has_sent}
 use Rattle.circuit_set.specs.Events.{Name, is_copy, same_name}
 use Rattle.circuit_set.specs.NotedRuns.{Net, end_at}

@@ -14,12 +14,10 @@ use Rattle.circuit_l4.specs.declared.notice.EndNotice.TheVariants.{FailedRetries
 use Rattle.circuit_l4.specs.declared.role.Role.{Role}
 use Rattle.circuit_l4.specs.declared.role.Role.TheVariants.{Requester, Responder}
 use Rattle.circuit_l4.specs.declared.owed.Owed.{Owed}
-use Rattle.circuit_l4.specs.State.{Effect, State, begin, is_up}
+use Rattle.circuit_l4.specs.State.{Effect, State, begin, is_up, Appended, Receipt, Receiving, append, appended, busy, receive, receive_at, receive_early, receive_next, without_first, ignored, inbox, follow_by, follow, next_early, written}
 use Rattle.circuit_l4.specs.Moves.{acknowledge, acknowledge_by, advance, again, answer, answer_all, wait, wait_if_out, on_state, hold, begin_to_close, end_with, fill, fill_count, finish, with_receiving, note, is_done, is_silent, on_info, on_info_ack, put_out, emit_owed, supply, emit_ack}
 use Rattle.circuit_l4.specs.Table.{common_window, come_up, Input, Write, Arrive, Tick, Close, Take, arrive_in, ask_by, close_in_turn, due_in, expire, note_activity, is_due, may_close, unchoke, resume_by, retry, retry_in, step, step_at, take_from, write_answer, write}
-use Rattle.circuit_reassembly.specs.Gathering.{Answer, More, Whole, Too_long, gather_step}
-use Rattle.circuit_l4.specs.Receiving.{Appended, Receipt, Receiving, append, appended, busy, receive, receive_at, receive_early, receive_next, without_first, ignored, inbox, follow_by, follow, next_early}
-use Rattle.circuit_l4.specs.Sending.{written}
+use Rattle.circuit_reassembly.specs.Fragments.{Answer, More, Whole, Too_long, gather_step}
 use Rattle.circuit_set.proofs.Choices.{Named, either, either_going, names, on_due}
 
 -- of an end: its phase, who it is, how many messages were taken at it, and how many fragments it has sent

@@ -13,8 +13,7 @@ use Rattle.circuit_set.specs.declared.holder.Holder.{Holder}
 use Rattle.circuit_set.specs.declared.held_ends.HeldEnds.{HeldEnds}
 use Rattle.circuit_set.specs.Sets as sets
 use Rattle.circuit_set.specs.Sets.{SetState, CircuitTold, end_of}
-use Rattle.circuit_set.specs.Pumps.{Waiting, at_rest}
-use Rattle.circuit_set.specs.Inputs.{after_ticks, ticks, ticks_of}
+use Rattle.circuit_set.specs.Pumps.{Waiting, at_rest, after_ticks, ticks, ticks_of}
 use Rattle.circuit_set.specs.Standing.{EachStands, HeldStands, Rests, SameNode}
 use Rattle.circuit_set.specs.CircuitSets.{Circuits, SetGoes, IsDrained, IsUnchanged, LentStands, SetStands, facts_at, held_by, held_ids, partner_at, requested_at}
 use Rattle.circuit_set.proofs.Shown.{FoundAt, Shown, find, ids, keys, miss, shown}

@@ -13,10 +13,8 @@ use Rattle.l3_datagram.specs.declared.datagram.DatagramHead.{DatagramHead}
 use Rattle.l3_datagram.specs.declared.datagram.DatagramRefusal.{DatagramRefusal}
 use Rattle.l3_datagram.specs.declared.routed.Routed.{Routed}
 use Rattle.l3_datagram.specs.declared.routed.Routed.TheVariants as routed
-use Rattle.l3_datagram.specs.CarrierCall.{CarrierCall, Parcel}
-use Rattle.l3_datagram.specs.Datagrams.{head_at}
-use Rattle.l3_datagram.specs.Hops.{Way, Ends, ToNeighbour, forwarded_by, way}
-use Rattle.l3_datagram.specs.Routers.{SameRouter, waiting_left}
+use Rattle.l3_datagram.specs.Datagrams.{CarrierCall, Parcel, head_at}
+use Rattle.l3_datagram.specs.Routers.{Way, Ends, ToNeighbour, forwarded_by, way, SameRouter, waiting_left}
 use Rattle.circuit_set.specs.declared.event.SetEvent.{SetEvent}
 use Rattle.circuit_set.specs.Sets.{SetState, CircuitTold, Made, Sent, Heeded, Notice, Gone, Restarted, Lost}
 use Rattle.circuit_set.specs.Pumps.{Pumped, Turn, Turned, Waiting, after_calls, asks, at_rest, ends_with, heard_as, hears, hears_by, is_drained, outcome, sent_by_head, sent_to, takes, takes_all, tells, tells_first, turn_step}

@@ -5,7 +5,7 @@ use Rattle.std.proofs.lemmas.Bool.Decides.{nat_tests}
 use Rattle.std.proofs.lemmas.List.{append_assoc, append-nil}
 use Rattle.std.specs.Map.{lookup, set_value}
 use Rattle.radio_base.specs.declared.modulus.TheConstants.{COUNT_MAX}
-use Rattle.ax_address.specs.Callsign.{Callsign}
+use Rattle.ax_address.specs.Callsign.{Callsign, same_call}
 use Rattle.circuit_l4.specs.declared.transport.Pair.{Pair}
 use Rattle.circuit_l4.specs.State.{Effect, State}
 use Rattle.circuit_l4.specs.Standing.{EndView, Stands, StandsFor}
@@ -24,7 +24,6 @@ use Rattle.circuit_set.specs.Standing.{FirstFit, Gives, EachStands, HeldStands, 
 use Rattle.circuit_l4.specs.declared.transport.Transport.TheVariants.{Accept, Refuse}
 use Rattle.circuit_set.proofs.Holding.{At, at, some_is, stood}
 use Rattle.circuit_set.proofs.Searching.{Fitting, fitting, unfitting}
-use Rattle.ax_address.specs.CallOrder.{same_call}
 use Rattle.circuit_set.specs.declared.holder.Untold.{Untold}
 use Rattle.circuit_set.proofs.Moving.{IsQuiet, not_gone, nothing, quiet, sents_is, set_back, so_is}
 

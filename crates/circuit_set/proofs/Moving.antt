@@ -4,13 +4,12 @@ use Rattle.std.proofs.Common.{sym, ◌∙◌, ap, subst, cond}
 use Rattle.std.proofs.lemmas.List.{append-nil}
 use Rattle.std.specs.Map.{lookup, set_value}
 use Rattle.ax_address.specs.Callsign.{Callsign}
-use Rattle.circuit_l4.specs.State.{Effect, Out, State}
+use Rattle.circuit_l4.specs.State.{Effect, Out, State, inbox}
 use Rattle.circuit_l4.specs.Standing.{IsDrained, EndView, Stands, StandsFor}
 use Rattle.circuit_l4.specs.Table.{Input, Write, Tick, Close, Take, step}
 use Rattle.circuit_l4.specs.Opening.{facts_of}
 use Rattle.circuit_l4.specs.Table as end
 use Rattle.circuit_l4.specs.Halves.{first_or}
-use Rattle.circuit_l4.specs.Receiving.{inbox}
 use Rattle.circuit_l4.specs.declared.notice.EndNotice.{EndNotice}
 use Rattle.circuit_l4.specs.declared.refusal.WriteRefusal.{WriteRefusal}
 use Rattle.circuit_set.specs.declared.event.SetRefusal.TheVariants as set_refusal

@@ -3,8 +3,7 @@ use Rattle.std.specs.Prelude.{◌≡◌, ℕ, zero, suc, ◌-◌, ◌*◌, min, 
 use Rattle.std.proofs.lemmas.Bool.Decides.{nat_tests}
 use Rattle.std.proofs.Common.{sym, ◌∙◌, ap, subst, inl, inr, arith}
 use Rattle.radio_base.specs.declared.modulus.TheConstants.{COUNT_MAX}
-use Rattle.ax_address.specs.Callsign.{Callsign}
-use Rattle.ax_address.specs.CallOrder.{same_call}
+use Rattle.ax_address.specs.Callsign.{Callsign, same_call}
 use Rattle.l3_datagram.specs.declared.datagram.DatagramHead.{DatagramHead}
 use Rattle.l3_datagram.specs.declared.datagram.DatagramRefusal.{DatagramRefusal}
 use Rattle.l3_datagram.specs.Datagrams.{head_at}
@@ -17,11 +16,10 @@ use Rattle.circuit_l4.specs.declared.notice.EndNotice.{EndNotice}
 use Rattle.circuit_l4.specs.State.{Effect, Out}
 use Rattle.circuit_l4.specs.Table.{Arrive, common_window, step}
 use Rattle.circuit_l4.specs.Opening.{facts_of, requesting, responding}
-use Rattle.circuit_l4.specs.Reading.{transport_at}
-use Rattle.circuit_set.specs.Heeds.{heeds}
+use Rattle.circuit_l4.specs.Transports.{transport_at}
+use Rattle.circuit_set.specs.Sets.{heeds, Act, Call, Calls, Comes, Connect, Discard, Restart, Holder, SetDone, SetState, CircuitTold, Made, Sent, Heeded, Notice, Gone, Restarted, Lost, accept_again, all_gone, after_call, datagram_to, after_discarding, end_of, first_open, goes_to, hands_to, after_datagram, has_ended, holder_of, input_of, is_full, is_over, losses, makes_end, named_by, new_pair, notices, opened_by, read_as, after_transport, after_new_request, requests, responds, sendings, set_step, after_effect, told_by, does_nothing, with_end}
 use Rattle.circuit_set.specs.Events.{Event, Name}
 use Rattle.circuit_set.specs.NotedRuns.{NarrowIsTimely, Net, allowance_at, begins, net_step}
-use Rattle.circuit_set.specs.Sets.{Act, Call, Calls, Comes, Connect, Discard, Restart, Holder, SetDone, SetState, CircuitTold, Made, Sent, Heeded, Notice, Gone, Restarted, Lost, accept_again, all_gone, after_call, datagram_to, after_discarding, end_of, first_open, goes_to, hands_to, after_datagram, has_ended, holder_of, input_of, is_full, is_over, losses, makes_end, named_by, new_pair, notices, opened_by, read_as, after_transport, after_new_request, requests, responds, sendings, set_step, after_effect, told_by, does_nothing, with_end}
 use Rattle.circuit_set.specs.Books.{Book, Timely, TimelyTo, TimelyTold, with_event, with_events}
 use Rattle.circuit_set.specs.Runs.{AreNarrow, AreStarts, AreSteps, Step, end_in, events_at, events_of, sets_at, told_at}
 use Rattle.circuit_set.proofs.Choices.{Named}

@@ -3,8 +3,7 @@ use Rattle.std.specs.Prelude.{◌≡◌, ℕ, suc, ◌≤◌, min, Bool, true, f
 use Rattle.std.proofs.Common.{sym, ◌∙◌, ap, subst, inl, inr, arith}
 use Rattle.std.proofs.lemmas.Bool.Decides.{nat_tests}
 use Rattle.radio_base.specs.declared.modulus.TheConstants.{COUNT_MAX}
-use Rattle.ax_address.specs.Callsign.{Callsign, IsCallsign}
-use Rattle.ax_address.specs.CallOrder.{same_call}
+use Rattle.ax_address.specs.Callsign.{Callsign, IsCallsign, same_call}
 use Rattle.l3_datagram.specs.declared.datagram.DatagramHead.{DatagramHead}
 use Rattle.l3_datagram.specs.declared.datagram.DatagramRefusal.{DatagramRefusal}
 use Rattle.l3_datagram.specs.Datagrams.{head_at}
@@ -14,17 +13,15 @@ use Rattle.circuit_l4.specs.declared.transport.Transport.TheVariants.{Request, A
 use Rattle.circuit_l4.specs.declared.transport.TransportRefusal.{TransportRefusal}
 use Rattle.circuit_l4.specs.declared.notice.EndNotice.TheVariants.{Opened, Closed, ClosedByPartner}
 use Rattle.circuit_l4.specs.declared.role.Role.TheVariants.{Requester, Responder}
-use Rattle.circuit_l4.specs.Transports.{pair_at}
-use Rattle.circuit_l4.specs.Reading.{transport_at}
+use Rattle.circuit_l4.specs.Transports.{pair_at, transport_at}
 use Rattle.circuit_l4.specs.State.{Effect, begin}
 use Rattle.circuit_l4.specs.Laws.{Accepts, Asks as NewAsks}
 use Rattle.circuit_l4.specs.Table.{Arrive, common_window, step}
 use Rattle.circuit_l4.specs.Opening.{requesting, responding}
-use Rattle.circuit_set.specs.Heeds.{heeds}
+use Rattle.circuit_set.specs.Sets.{heeds, Act, Call, Calls, Comes, Connect, Discard, Restart, after_restart, Holder, SetDone, SetState, Heeded, Sent, accept_again, arrives_at, asked_with, after_call, after_connecting, datagram_to, after_discarding, end_of, first_open, goes_to, after_datagram, has_ended, input_of, is_full, is_open, is_over, makes_end, named_by, new_pair, opened_by, read_as, after_transport, same_pair, set_step, told_by, does_nothing}
 use Rattle.circuit_set.specs.Events.{Event, Name, is_copy, same_name}
 use Rattle.circuit_set.specs.NotedRuns.{Net, allowance_at, net_run, net_step}
 use Rattle.circuit_set.specs.Pairs.{pair_after}
-use Rattle.circuit_set.specs.Sets.{Act, Call, Calls, Comes, Connect, Discard, Restart, after_restart, Holder, SetDone, SetState, Heeded, Sent, accept_again, arrives_at, asked_with, after_call, after_connecting, datagram_to, after_discarding, end_of, first_open, goes_to, after_datagram, has_ended, input_of, is_full, is_open, is_over, makes_end, named_by, new_pair, opened_by, read_as, after_transport, same_pair, set_step, told_by, does_nothing}
 use Rattle.circuit_set.specs.Books.{Book, MadeNote, SentNote, Timely, asked_by, has_sent, if_asked, is_unknown, made_last, with_event, with_events, partner, partner_in, requester}
 use Rattle.circuit_set.specs.Runs.{AreSteps, IsAct, Step, events_at, events_of, sets_at, told_at}
 use Rattle.circuit_set.proofs.Bridge.{name_itself, same_names}

@@ -1,8 +1,7 @@
 -- The call of a node and its hops stay in each step of its ends.
 use Rattle.std.specs.Prelude.{◌≡◌, ℕ, Bool, true, false, not, ◌&&◌, ◌||◌, if◌then◌else◌, List, [], ◌∷◌, drop, Option, Some, None, Result, Ok, Err, refl}
 use Rattle.std.proofs.Common.{◌∙◌}
-use Rattle.ax_address.specs.Callsign.{Callsign}
-use Rattle.ax_address.specs.CallOrder.{same_call}
+use Rattle.ax_address.specs.Callsign.{Callsign, same_call}
 use Rattle.l3_datagram.specs.declared.datagram.DatagramHead.{DatagramHead}
 use Rattle.l3_datagram.specs.declared.datagram.DatagramRefusal.{DatagramRefusal}
 use Rattle.l3_datagram.specs.Datagrams.{head_at}
@@ -10,11 +9,11 @@ use Rattle.circuit_l4.specs.declared.transport.Pair.{Pair}
 use Rattle.circuit_l4.specs.declared.transport.Transport.{Transport}
 use Rattle.circuit_l4.specs.declared.transport.Transport.TheVariants.{Request, Accept, Refuse, Disconnect, Disconnected, Info, InfoAck}
 use Rattle.circuit_l4.specs.declared.transport.TransportRefusal.{TransportRefusal}
-use Rattle.circuit_l4.specs.Reading.{transport_at}
+use Rattle.circuit_l4.specs.Transports.{transport_at}
 use Rattle.circuit_l4.specs.Table.{step}
 use Rattle.circuit_l4.specs.Opening.{facts_of}
 use Rattle.circuit_set.specs.Sets.{Act, Call, Calls, Comes, Connect, Discard, Restart, Holder, SetDone, SetState, accept_again, after_call, after_discarding, end_of, first_open, goes_to, hands_to, after_datagram, has_ended, is_full, input_of, named_by, opened_by, with_end, Gone, Sent, datagram_to, read_as, after_transport, after_new_request, requests, responds, set_step, does_nothing}
-use Rattle.circuit_set.specs.Inputs.{runs}
+use Rattle.circuit_set.specs.Pumps.{runs}
 
 pub record SameOwn (s t : SetState) : Type 0 where
   pub own : t.own ≡ s.own

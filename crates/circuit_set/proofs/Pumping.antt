@@ -12,10 +12,8 @@ use Rattle.l3_datagram.specs.declared.datagram.DatagramHead.{DatagramHead}
 use Rattle.l3_datagram.specs.declared.datagram.DatagramRefusal.{DatagramRefusal}
 use Rattle.l3_datagram.specs.declared.routed.Routed.{Routed}
 use Rattle.l3_datagram.specs.declared.routed.Sending.{Sending}
-use Rattle.l3_datagram.specs.CarrierCall.{CarrierCall, Datagram}
-use Rattle.l3_datagram.specs.Datagrams.{datagram_with, head_at}
-use Rattle.l3_datagram.specs.Hops.{sending_to, sent_by}
-use Rattle.l3_datagram.specs.Routers.{DoesSend, Routing, SameRouter}
+use Rattle.l3_datagram.specs.Datagrams.{CarrierCall, Datagram, datagram_with, head_at}
+use Rattle.l3_datagram.specs.Routers.{sending_to, sent_by, DoesSend, Routing, SameRouter}
 use Rattle.circuit_l4.specs.declared.transport.Transport.{Transport}
 use Rattle.circuit_l4.specs.Transports.{transport_octets}
 use Rattle.circuit_set.specs.declared.event.SetEvent.TheVariants as event

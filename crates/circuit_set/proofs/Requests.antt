@@ -5,8 +5,7 @@ use Rattle.circuit_l4.specs.declared.transport.Pair.{Pair}
 use Rattle.circuit_l4.specs.declared.transport.Transport.{Transport}
 use Rattle.circuit_l4.specs.declared.transport.Transport.TheVariants.{Request, Accept, Refuse, Disconnect, Disconnected, Info, InfoAck}
 use Rattle.circuit_l4.specs.declared.transport.TransportRefusal.{TransportRefusal}
-use Rattle.circuit_l4.specs.Reading.{accept_at, of_opcode, transport_at}
-use Rattle.circuit_l4.specs.Transports.{headed, transport_octets}
+use Rattle.circuit_l4.specs.Transports.{accept_at, of_opcode, transport_at, headed, transport_octets}
 
 -- it is a request
 abbrev pub IsRequest : Transport → Type 0

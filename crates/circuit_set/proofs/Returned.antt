@@ -1,10 +1,10 @@
 -- A run in which a copy of a connect request returns after its circuit.
 use Rattle.std.specs.Prelude.{◌≡◌, ℕ, zero, suc, ◌≤◌, Bool, true, false, nat_eq, if◌then◌else◌, List, [], ◌∷◌, ◌++◌, length, take, Option, Some, None, refl}
 use Rattle.std.proofs.Common.{sym, ◌∙◌, ap, subst, arith, lit<}
-use Rattle.ax_address.specs.CallOrder.{same_call}
+use Rattle.ax_address.specs.Callsign.{same_call}
 use Rattle.l3_datagram.specs.Datagrams.{head_at}
-use Rattle.circuit_l4.specs.Reading as reading
-use Rattle.circuit_l4.specs.Reading.{transport_at}
+use Rattle.circuit_l4.specs.Transports as reading
+use Rattle.circuit_l4.specs.Transports.{transport_at}
 use Rattle.circuit_set.specs.Books.{Fresh, empty}
 use Rattle.circuit_set.specs.Events.{Event}
 use Rattle.circuit_set.specs.Examples.{CopyReturns, ask, asked_again, n0aaa, node, n0bbb}

@@ -7,8 +7,7 @@ use Rattle.circuit_set.specs.declared.holder.Holder.{Holder}
 use Rattle.circuit_set.specs.declared.holder.Untold.{Untold}
 use Rattle.circuit_set.specs.declared.held_ends.HeldEnds.{HeldEnds}
 use Rattle.circuit_set.specs.Sets as sets
-use Rattle.circuit_set.specs.Sets.{SetDone, SetState, CircuitTold, end_of, first_open, has_ended, is_open}
-use Rattle.circuit_set.specs.Heeds.{heeds}
+use Rattle.circuit_set.specs.Sets.{SetDone, SetState, CircuitTold, end_of, first_open, has_ended, is_open, heeds}
 use Rattle.circuit_l4.specs.declared.transport.Transport.{Transport}
 use Rattle.circuit_l4.specs.State.{State}
 use Rattle.circuit_l4.specs.Standing.{EndView, Stands, StandsFor}

@@ -12,10 +12,8 @@ use Rattle.circuit_l4.specs.declared.phase.EndPhase.TheVariants.{Up, Closing}
 use Rattle.circuit_l4.specs.declared.notice.EndNotice.{EndNotice}
 use Rattle.circuit_l4.specs.declared.notice.EndNotice.TheVariants.{Closed, ClosedByPartner}
 use Rattle.circuit_l4.specs.declared.owed.Owed.{Owed}
-use Rattle.circuit_l4.specs.State.{Effect, Out, State, info, info_ack, infos, is_up}
+use Rattle.circuit_l4.specs.State.{Effect, Out, State, info, info_ack, infos, is_up, Sending, fragments, total, Receiving}
 use Rattle.circuit_l4.specs.Moves.{Acknowledgement, acknowledge, acknowledge_by, advance, again, wait, wait_if_out, hold, begin_to_close, fill, fill_count, finish, is_done, owed_by, emit_infos, put_out, supply, emit_ack}
-use Rattle.circuit_l4.specs.Sending.{Sending, fragments, total}
-use Rattle.circuit_l4.specs.Receiving.{Receiving}
 use Rattle.circuit_set.specs.Lines.{at_place}
 use Rattle.circuit_set.specs.Outs.{AllOut, OutOk}
 use Rattle.circuit_set.proofs.Receives.{place_is}

@@ -6,7 +6,7 @@ use Rattle.circuit_l4.specs.declared.transport.Pair.{Pair}
 use Rattle.circuit_l4.specs.declared.transport.Transport.TheVariants.{Accept}
 use Rattle.circuit_l4.specs.declared.notice.EndNotice.{EndNotice}
 use Rattle.circuit_l4.specs.declared.notice.EndNotice.TheVariants.{Opened, Refused, Closed, ClosedByPartner, FailedRetries, FailedOversize, FailedInactive}
-use Rattle.circuit_l4.specs.Reading.{transport_at}
+use Rattle.circuit_l4.specs.Transports.{transport_at}
 use Rattle.circuit_l4.specs.State.{Effect, State}
 use Rattle.circuit_l4.specs.Opening.{facts_of}
 use Rattle.circuit_set.specs.Sets.{Act, Calls, Comes, Connect, Discard, Restart, Made, Sent, Heeded, Gone, Restarted, Holder, SetDone, SetState, end_of, goes_to, holder_of, is_over, losses, makes_end, new_pair, after_restart, set_step, told_by, with_end}

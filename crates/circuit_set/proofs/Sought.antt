@@ -1,15 +1,13 @@
 -- Which end a pair was given to, and which sending is the latest: by the book and by the events.
 use Rattle.std.specs.Prelude.{◌≡◌, ℕ, suc, ◌+◌, ◌⊎◌, Bool, true, false, ◌&&◌, if◌then◌else◌, List, [], ◌∷◌, ◌++◌, length, Option, Some, None, refl}
 use Rattle.std.proofs.Common.{sym, ◌∙◌, ap, subst, inl, inr, arith, length-append}
-use Rattle.ax_address.specs.Callsign.{Callsign}
-use Rattle.ax_address.specs.CallOrder.{same_call}
+use Rattle.ax_address.specs.Callsign.{Callsign, same_call}
 use Rattle.circuit_l4.specs.declared.transport.Pair.{Pair}
 use Rattle.circuit_l4.specs.declared.notice.EndNotice.{EndNotice}
-use Rattle.circuit_set.specs.Among.{Last}
+use Rattle.circuit_set.specs.TooLate.{Last, Gives, LatestSending, Loses, SendsCopy, SendsFragment, Tells}
 use Rattle.circuit_set.specs.Books.{Book, MadeNote, SentNote, has, has_sent, is_lost, is_number, latest_in, lost_with, made_last, with_event, with_notice}
 use Rattle.circuit_set.specs.Events.{Event, Name, is_copy, same_name}
 use Rattle.circuit_set.specs.Sets.{CircuitTold, Made, Sent, Heeded, Notice, Gone, Restarted, Lost, same_pair}
-use Rattle.circuit_set.specs.TooLate.{Gives, LatestSending, Loses, SendsCopy, SendsFragment, Tells}
 use Rattle.circuit_set.proofs.Among.{by_snoc, last_so}
 use Rattle.circuit_set.proofs.Bridge.{same_names}
 use Rattle.circuit_set.proofs.Copies.{same_calls}

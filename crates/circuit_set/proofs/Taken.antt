@@ -2,10 +2,9 @@
 use Rattle.std.specs.Prelude.{◌≡◌, ℕ, ◌+◌, Bool, true, false, not, ◌&&◌, nat_lt, if◌then◌else◌, length, refl}
 use Rattle.std.proofs.Common.{arith}
 use Rattle.circuit_l4.specs.declared.notice.EndNotice.TheVariants.{FailedOversize}
-use Rattle.circuit_l4.specs.State.{Effect, State, begin, is_up}
+use Rattle.circuit_l4.specs.State.{Effect, State, begin, is_up, Appended, busy, without_first, inbox, follow}
 use Rattle.circuit_l4.specs.Moves.{end_with, with_receiving, emit_ack}
 use Rattle.circuit_l4.specs.Table.{Input, Take, resume_by, step, take_from}
-use Rattle.circuit_l4.specs.Receiving.{Appended, busy, without_first, inbox, follow}
 use Rattle.circuit_set.specs.Standing.{capped_count}
 use Rattle.circuit_set.proofs.Lasting.{lasts, move_on_taken}
 use Rattle.circuit_set.proofs.Choices.{either_going}

@@ -14,7 +14,7 @@ use Rattle.circuit_set.specs.declared.holder.Holder.{Holder}
 use Rattle.circuit_set.specs.declared.held_ends.HeldEnds.{HeldEnds}
 use Rattle.circuit_set.specs.Sets as sets
 use Rattle.circuit_set.specs.Sets.{Calls, SetDone, SetState, CircuitTold, after_call, end_of, goes_to, after_effect, told_by, with_end, does_nothing}
-use Rattle.circuit_set.specs.Inputs.{runs, after_ticks, ticks_of}
+use Rattle.circuit_set.specs.Pumps.{runs, after_ticks, ticks_of}
 use Rattle.circuit_set.specs.Standing.{EachStands, HeldStands, Here, Keeps, Past, MetBy, Rests, SameNode, Ticks, TicksAt, TicksNth, TicksTo, capped_count, of_holder}
 use Rattle.circuit_set.proofs.Taken.{taken_same}
 use Rattle.circuit_set.proofs.Meeting.{asked_step}

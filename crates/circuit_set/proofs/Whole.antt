@@ -12,14 +12,12 @@ use Rattle.circuit_l4.specs.declared.phase.EndPhase.{EndPhase}
 use Rattle.circuit_l4.specs.declared.phase.EndPhase.TheVariants.{Connecting, Up, Closing, Ended}
 use Rattle.circuit_l4.specs.declared.notice.EndNotice.TheVariants.{Opened, Closed, ClosedByPartner}
 use Rattle.circuit_l4.specs.declared.role.Role.TheVariants.{Responder}
-use Rattle.circuit_l4.specs.State.{begin}
+use Rattle.circuit_l4.specs.State.{begin, Sending, fragments_of_all, total, Receiving}
 use Rattle.circuit_l4.specs.Table.{Input, Write, Arrive, Tick, Close, Take, common_window, arrive_in}
 use Rattle.circuit_l4.specs.Opening.{unheard, unwritten}
-use Rattle.circuit_l4.specs.Sending.{Sending, fragments_of_all, total}
-use Rattle.circuit_l4.specs.Receiving.{Receiving}
 use Rattle.circuit_set.specs.Lines.{Elem, Known}
 use Rattle.circuit_set.specs.Heaps.{Heap, AreMessages, gather, nothing}
-use Rattle.circuit_set.specs.Beginnings.{IsBeginning, wholes}
+use Rattle.circuit_set.specs.Safe.{IsBeginning, wholes}
 use Rattle.circuit_set.specs.Ways.{DirectionOk, EarlyIn, Holds, early_numbers, line}
 use Rattle.circuit_set.specs.Circuits.{AllAcked, Circuit, ComesInTime, Event, Left, Right, To_left, To_right, Accepts, EventInTime, Facts, Flight, InTimeAll, IsCall, OutFact, PairOk, SafeTo, Side, accepts_again, after_event, comes, does, new_circuit, run}
 use Rattle.circuit_set.proofs.Gathers.{gather_prefix, gathering_of, wholes_all, wholes_grow}

@@ -7,7 +7,7 @@ use Rattle.route_table.specs.Held.{StandsFor}
 use Rattle.route_table.specs.Table.{next_hop}
 use Rattle.l3_datagram.specs.declared.carrier.Offered.{Offered}
 use Rattle.l3_datagram.specs.declared.routed.Routed.{Routed}
-use Rattle.l3_datagram.specs.CarrierCall.{CarrierCall, Parcel}
+use Rattle.l3_datagram.specs.Datagrams.{CarrierCall, Parcel}
 use Rattle.l3_datagram.specs.Routers.{Routing}
 use Rattle.circuit_l4.specs.declared.facts.EndFacts.{EndFacts}
 use Rattle.circuit_l4.specs.Opening.{facts_of}
@@ -15,8 +15,7 @@ use Rattle.circuit_l4.specs.Standing as end
 use Rattle.circuit_set.specs.declared.event.SetEvent.{SetEvent}
 use Rattle.circuit_set.specs.declared.held_ends.HeldEnds.{HeldEnds}
 use Rattle.circuit_set.specs.Sets.{Act, Holder, SetState, CircuitTold, Gone}
-use Rattle.circuit_set.specs.Pumps.{Pumped, Waiting, at_rest, pump_step}
-use Rattle.circuit_set.specs.Inputs.{acts}
+use Rattle.circuit_set.specs.Pumps.{Pumped, Waiting, at_rest, pump_step, acts}
 use Rattle.circuit_set.specs.Standing.{HeldStands, Rests, SameNode, event_told, untold_in}
 
 -- what contracts see of a set

@@ -10,14 +10,13 @@ use Rattle.circuit_l4.specs.declared.phase.EndPhase.TheVariants.{Connecting, Up,
 use Rattle.circuit_l4.specs.declared.notice.EndNotice.{EndNotice}
 use Rattle.circuit_l4.specs.declared.notice.EndNotice.TheVariants.{Closed, ClosedByPartner}
 use Rattle.circuit_l4.specs.declared.role.Role.TheVariants.{Responder}
-use Rattle.circuit_l4.specs.State.{State, Effect, Out, is_up}
+use Rattle.circuit_l4.specs.State.{State, Effect, Out, is_up, fragments, total}
 use Rattle.circuit_l4.specs.Table.{Input, Arrive, common_window, step}
 use Rattle.circuit_l4.specs.Opening.{requesting, responding}
-use Rattle.circuit_l4.specs.Sending.{fragments, total}
 use Rattle.circuit_set.specs.Lines.{InfoMark, AckMark, count_from}
 use Rattle.circuit_set.specs.Heaps.{AreMessages}
-use Rattle.circuit_set.specs.Heeds.{heeds}
-use Rattle.circuit_set.specs.Beginnings.{IsBeginning, wholes}
+use Rattle.circuit_set.specs.Sets.{heeds}
+use Rattle.circuit_set.specs.Safe.{IsBeginning, wholes}
 use Rattle.circuit_set.specs.Ways.{DirectionOk}
 
 -- what was put out, with what its sender had got, and how many fragments it and its partner had sent, at the end of that step

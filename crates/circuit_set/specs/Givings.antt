@@ -3,7 +3,7 @@ use Rattle.std.specs.Prelude.{◌≡◌, ◌≢◌, ℕ, ◌<◌, if◌then◌el
 use Rattle.circuit_l4.specs.declared.transport.Pair.{Pair}
 use Rattle.circuit_set.specs.Pairs.{Change, EndMade, Giving, EndGone, IsPair, after_giving, is_full, pairs_given, without}
 use Rattle.circuit_set.specs.Sets.{Act, Made, Restart, SetDone, SetState, CircuitTold, held_pairs}
-use Rattle.circuit_set.specs.Inputs.{runs}
+use Rattle.circuit_set.specs.Pumps.{runs}
 use Rattle.circuit_set.specs.Runs.{IsStart}
 
 -- where a set stands with its pairs

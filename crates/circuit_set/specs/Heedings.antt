@@ -1,14 +1,13 @@
 -- For which end a set heeds a datagram.
 use Rattle.std.specs.Prelude.{ℕ, ◌≡◌, true, List, [], ◌∷◌, drop, Option, Some, None, Ok, Contains}
-use Rattle.circuit_l4.specs.Reading.{transport_at}
+use Rattle.circuit_l4.specs.Transports.{transport_at}
 use Rattle.circuit_l4.specs.declared.transport.Pair.{Pair}
 use Rattle.circuit_l4.specs.declared.transport.Transport.{Transport}
 use Rattle.circuit_l4.specs.declared.transport.Transport.TheVariants.{Request, Accept, Refuse, Disconnect, Disconnected, Info, InfoAck}
 use Rattle.l3_datagram.specs.Datagrams.{head_at}
 use Rattle.l3_datagram.specs.declared.datagram.DatagramHead.{DatagramHead}
 use Rattle.l3_datagram.specs.declared.datagram.TheConstants.{HEAD_SIZE}
-use Rattle.circuit_set.specs.Heeds.{heeds}
-use Rattle.circuit_set.specs.Sets.{Act, Comes, Heeded, Holder, SetState, CircuitTold, named_by, set_step}
+use Rattle.circuit_set.specs.Sets.{heeds, Act, Comes, Heeded, Holder, SetState, CircuitTold, named_by, set_step}
 
 -- the pair of the end to which a transport goes: a request goes to none yet
 abbrev pub pair_named : Transport → Option Pair

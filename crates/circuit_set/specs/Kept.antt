@@ -3,12 +3,11 @@
 use Rattle.std.specs.Prelude.{ℕ, ◌+◌, ◌*◌, ◌≤◌, List, [], ◌∷◌, length}
 use Rattle.route_table.specs.Held.{StandsFor}
 use Rattle.route_table.specs.Log.{Item}
-use Rattle.circuit_l4.specs.Kept as end
+use Rattle.circuit_l4.specs.Standing as end
 use Rattle.circuit_set.specs.declared.held_ends.HeldEnds.{HeldEnds}
 use Rattle.circuit_set.specs.declared.holder.Holder.{Holder}
 use Rattle.circuit_set.specs.CircuitSets.{Circuits, SetStands}
-use Rattle.circuit_set.specs.Inputs.{runs}
-use Rattle.circuit_set.specs.Pumps.{Waiting, at_rest}
+use Rattle.circuit_set.specs.Pumps.{runs, Waiting, at_rest}
 use Rattle.circuit_set.specs.Runs.{IsStart}
 use Rattle.circuit_set.specs.Sets.{Act, SetState, CircuitTold, held_pairs}
 use Rattle.circuit_set.specs.Standing.{HeldStands}

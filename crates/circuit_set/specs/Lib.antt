@@ -5,12 +5,9 @@ pub mod Ways
 pub mod Circuits
 pub mod Outs
 pub mod Laws
-pub mod Heeds
 pub mod Sets
 pub mod Events
-pub mod Beginnings
 pub mod Books
-pub mod Among
 pub mod TooLate
 pub mod ByBook
 pub mod Runs
@@ -18,7 +15,6 @@ pub mod Safe
 pub mod NotedRuns
 pub mod Examples
 pub mod Pumps
-pub mod Inputs
 pub mod Still
 pub mod Standing
 pub mod CircuitSets
@@ -26,7 +22,6 @@ pub mod SetTurns
 pub mod Givings
 pub mod Kept
 pub mod Naming
-pub mod Retries
 pub mod Sendings
 pub mod Heedings
 pub mod Refusals

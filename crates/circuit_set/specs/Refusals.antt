@@ -1,7 +1,7 @@
 -- What a set sends under number 0, which is that of no end: refusals, which no end heeds.
 use Rattle.std.specs.Prelude.{ℕ, ◌≡◌, ◌≤◌, List, [], ◌∷◌, drop, Ok}
 use Rattle.ax_address.specs.Callsign.{IsCallsign}
-use Rattle.circuit_l4.specs.Reading.{transport_at}
+use Rattle.circuit_l4.specs.Transports.{transport_at}
 use Rattle.circuit_l4.specs.declared.transport.Pair.{Pair}
 use Rattle.circuit_l4.specs.declared.transport.Transport.TheVariants.{Refuse}
 use Rattle.l3_datagram.specs.declared.datagram.TheConstants.{HEAD_SIZE}

@@ -1,12 +1,23 @@
 -- Safe: what the two ends of a circuit have, by the events that were told (this project's profile).
-use Rattle.std.specs.Prelude.{◌≡◌, ◌≢◌, ◌+◌, ◌⊎◌, ◌↔◌, List, [], ◌++◌, take, Option, Some}
+use Rattle.std.specs.Prelude.{◌≡◌, ◌≢◌, ◌+◌, ◌⊎◌, ◌↔◌, List, [], ◌++◌, take, Option, Some, ℕ, ◌-◌, suc, nat_lt, if◌then◌else◌, ◌∷◌, length}
 use Rattle.circuit_l4.specs.declared.notice.EndNotice.TheVariants.{Closed, ClosedByPartner, FailedRetries}
 use Rattle.circuit_l4.specs.State.{State}
-use Rattle.circuit_set.specs.Beginnings.{IsBeginning, wholes}
+use Rattle.circuit_reassembly.specs.Fragments.{fragments_of}
 use Rattle.circuit_set.specs.Events.{Event, Name}
 use Rattle.circuit_set.specs.Runs.{AreStarts, AreSteps, Step, end_named, events_of, expiries_in, sets_run}
 use Rattle.circuit_set.specs.Sets.{Holder, SetState}
 use Rattle.circuit_set.specs.TooLate.{AllowsByWindow, HasPartner, IsFresh, IsTimely, Partners, WasTold}
+
+-- The beginning of what was written, and how many of its messages are whole (this project's profile).
+
+-- the second list begins with the first
+abbrev pub IsBeginning : List (List ℕ) → List (List ℕ) → Type 0
+IsBeginning xs ys = (rest : List (List ℕ)) × (ys ≡ xs ++ rest)
+
+-- how many messages have their last fragment below number g
+abbrev pub wholes : List (List ℕ) → ℕ → ℕ
+wholes [] g = 0
+wholes (m ∷ ms) g = if nat_lt g (length (fragments_of m)) then 0 else suc (wholes ms (g - length (fragments_of m)))
 
 -- What x wrote and its partner y received: a beginning of it, with every message that is acknowledged in it; and all of it where x was told that
 -- its circuit is closed, or y that its partner has closed it.
@@ -49,3 +60,16 @@ PartnersLast =
     → IsTimely AllowsByWindow (events_of sets (steps ++ later)) → IsFresh (events_of sets (steps ++ later))
     → (x y : Name) → Partners (events_of sets steps) x y
     → Partners (events_of sets (steps ++ later)) x y × Partners (events_of sets steps) y x × (x ≢ y)
+
+-- What holds of every run, timely or not: when an end is told that its retries are used up. Own profile.
+
+-- By these steps each end was told that its retries are used up exactly where there was one expiry more than there are retries, since
+-- it was made, since more was acknowledged, or since it began to close.
+abbrev pub TellsRetries : List SetState → List Step → Type 0
+TellsRetries sets steps =
+    (x : Name) (h : Holder) → end_named (sets_run sets steps) x ≡ Some h
+    → WasTold (events_of sets steps) x FailedRetries ↔ (expiries_in sets steps x ≡ h.end.config.retries + 1)
+
+-- so it is at each moment of any run
+abbrev pub RetriesAreTold : Type 0
+RetriesAreTold = (sets : List SetState) → AreStarts sets → (steps : List Step) → AreSteps steps → TellsRetries sets steps

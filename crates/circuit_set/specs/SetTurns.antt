@@ -9,7 +9,7 @@ use Rattle.l3_datagram.specs.declared.routed.Routed.{Routed}
 use Rattle.l3_datagram.specs.declared.routed.Routed.TheVariants as routed
 use Rattle.l3_datagram.specs.declared.routed.Sending.{Sending}
 use Rattle.l3_datagram.specs.declared.routed.Sending.TheVariants as sending
-use Rattle.l3_datagram.specs.CarrierCall.{CarrierCall, Fail, Parcel}
+use Rattle.l3_datagram.specs.Datagrams.{CarrierCall, Fail, Parcel}
 use Rattle.l3_datagram.specs.Routers.{SameRouter}
 use Rattle.circuit_set.specs.declared.event.SetEvent.{SetEvent}
 use Rattle.circuit_set.specs.declared.holder.Untold.{Untold}

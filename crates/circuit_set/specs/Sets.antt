@@ -1,8 +1,7 @@
 -- The ends of a node's circuits: how they are made and found, and what the set of them tells.
 use Rattle.std.specs.Prelude.{ℕ, ◌+◌, min, Bool, true, false, not, ◌&&◌, ◌||◌, nat_eq, nat_lt, nat_le, if◌then◌else◌, List, [], ◌∷◌, ◌++◌, length, drop, Option, Some, None, Result, Ok, Err}
 use Rattle.radio_base.specs.declared.modulus.TheConstants.{COUNT_MAX}
-use Rattle.ax_address.specs.Callsign.{Callsign}
-use Rattle.ax_address.specs.CallOrder.{same_call}
+use Rattle.ax_address.specs.Callsign.{Callsign, same_call}
 use Rattle.l3_datagram.specs.declared.datagram.DatagramHead.{DatagramHead}
 use Rattle.l3_datagram.specs.declared.datagram.DatagramRefusal.{DatagramRefusal}
 use Rattle.l3_datagram.specs.declared.datagram.TheConstants.{HEAD_SIZE}
@@ -14,16 +13,28 @@ use Rattle.circuit_l4.specs.declared.transport.TransportRefusal.{TransportRefusa
 use Rattle.circuit_l4.specs.declared.config.EndConfig.{EndConfig}
 use Rattle.circuit_l4.specs.declared.facts.EndFacts.{EndFacts}
 use Rattle.circuit_l4.specs.declared.phase.EndPhase.{EndPhase}
-use Rattle.circuit_l4.specs.declared.phase.EndPhase.TheVariants.{Ended}
+use Rattle.circuit_l4.specs.declared.phase.EndPhase.TheVariants.{Ended, Connecting, Up, Closing}
 use Rattle.circuit_l4.specs.declared.notice.EndNotice.{EndNotice}
-use Rattle.circuit_l4.specs.Reading.{transport_at}
-use Rattle.circuit_l4.specs.Transports.{transport_octets}
-use Rattle.circuit_l4.specs.State.{Effect, Out, State}
+use Rattle.circuit_l4.specs.Transports.{transport_at, transport_octets}
+use Rattle.circuit_l4.specs.State.{Effect, Out, State, inbox}
 use Rattle.circuit_l4.specs.Table.{Input, Write, Arrive, Tick, Close, Take, step}
 use Rattle.circuit_l4.specs.Opening.{facts_of, requesting, responding}
-use Rattle.circuit_l4.specs.Receiving.{inbox}
 use Rattle.circuit_set.specs.Pairs.{pair_after, next_free}
-use Rattle.circuit_set.specs.Heeds.{heeds}
+
+-- What an end heeds of what comes from its partner's node (this project's profile).
+
+-- an end in this phase heeds this transport, where it comes from its partner node
+abbrev pub heeds : EndPhase → Transport → Bool
+heeds Connecting (Accept to own window) = true
+heeds Connecting _ = false
+heeds Up (Disconnect to) = true
+heeds Up (Info to tx rx flags text) = true
+heeds Up (InfoAck to rx flags) = true
+heeds Up _ = false
+heeds Closing (Disconnect to) = true
+heeds Closing (Disconnected to) = true
+heeds Closing _ = false
+heeds Ended _ = false
 
 -- an end of a set, also one that is held no longer
 pub record Holder : Type 0 where

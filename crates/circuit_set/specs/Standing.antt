@@ -9,11 +9,10 @@ use Rattle.circuit_l4.specs.declared.phase.EndPhase.{EndPhase}
 use Rattle.circuit_l4.specs.declared.phase.EndPhase.TheVariants.{Connecting}
 use Rattle.circuit_l4.specs.declared.transport.Pair.{Pair}
 use Rattle.circuit_l4.specs.declared.transport.Transport.{Transport}
-use Rattle.circuit_l4.specs.State.{Effect, Out, State}
+use Rattle.circuit_l4.specs.State.{Effect, Out, State, inbox}
 use Rattle.circuit_l4.specs.declared.refusal.WriteRefusal.{WriteRefusal}
 use Rattle.circuit_l4.specs.Table as end
 use Rattle.circuit_l4.specs.Halves.{first_or}
-use Rattle.circuit_l4.specs.Receiving.{inbox}
 use Rattle.circuit_l4.specs.Opening.{facts_of}
 use Rattle.circuit_set.specs.declared.event.SetRefusal.{SetRefusal}
 use Rattle.circuit_set.specs.declared.event.SetRefusal.TheVariants as set_refusal
@@ -32,8 +31,7 @@ use Rattle.indexmap.specs.IndexMap.{insert_entry}
 use Rattle.indexmap.specs.IndexMap.{set_value_at}
 use Rattle.circuit_set.specs.Pairs.{pair_after}
 use Rattle.circuit_set.specs.Sets as sets
-use Rattle.circuit_set.specs.Sets.{SetState, CircuitTold, is_over, notices}
-use Rattle.circuit_set.specs.Heeds.{heeds}
+use Rattle.circuit_set.specs.Sets.{SetState, CircuitTold, is_over, notices, heeds}
 use Rattle.circuit_set.specs.Pumps.{SetTold, Of, Dropped, Lost, is_empty}
 
 -- ---- what is told ----

@@ -10,9 +10,36 @@ use Rattle.circuit_l4.specs.declared.facts.EndFacts.{EndFacts}
 use Rattle.circuit_l4.specs.declared.notice.EndNotice.{EndNotice}
 use Rattle.circuit_l4.specs.declared.notice.EndNotice.TheVariants.{Opened}
 use Rattle.circuit_l4.specs.Transports.{pair_at}
-use Rattle.circuit_set.specs.Among.{First, Has, Last}
 use Rattle.circuit_set.specs.Events.{Event, Name, ends_it, is_copy, same_name}
 use Rattle.circuit_set.specs.Sets.{CircuitTold, Made, Sent, Heeded, Notice, Lost}
+
+-- Where an event stands among others, in the order in which they were told.
+
+-- One of these events is such a one, judged by those before it.
+pub record Has (P : List Event → Event → Type 0) (events : List Event) : Type 0 where
+  pub before : List Event
+  pub at : Event
+  pub after : List Event
+  pub parts : events ≡ before ++ at ∷ after
+  pub is : P before at
+
+-- The last of these events that is so of anything is so of a.
+pub record Last {A : Type 0} (P : A → List Event → Event → Type 0) (a : A) (events : List Event) : Type 0 where
+  pub before : List Event
+  pub at : Event
+  pub after : List Event
+  pub parts : events ≡ before ++ at ∷ after
+  pub is : P a before at
+  pub none : (b : A) (p q : List Event) (e : Event) → after ≡ p ++ e ∷ q → P b (before ++ at ∷ p) e → ⊥
+
+-- The first of these events that is so of anything is so of a.
+pub record First {A : Type 0} (P : A → Event → Type 0) (a : A) (events : List Event) : Type 0 where
+  pub before : List Event
+  pub at : Event
+  pub after : List Event
+  pub parts : events ≡ before ++ at ∷ after
+  pub is : P a at
+  pub none : (b : A) (p q : List Event) (e : Event) → before ≡ p ++ e ∷ q → P b e → ⊥
 
 -- ---- what an event tells of an end x
 abbrev pub Tells : Event → Name → CircuitTold → Type 0

@@ -1,6 +1,6 @@
 //! What an end takes in.
 ghost use Rattle.std.specs.Prelude.{◌≡◌};
-ghost use Rattle.circuit_set.specs.Heeds as spec;
+ghost use Rattle.circuit_set.specs.Sets as spec;
 
 use circuit_l4::{EndPhase, Transport};
 

@@ -39,8 +39,7 @@ pub(crate) struct HeldEnds {
 }
 
 impl HeldEnds {
-    ghost use Rattle.circuit_set.specs.Pumps.{is_empty};
-    ghost use Rattle.circuit_set.specs.Inputs.{after_ticks};
+    ghost use Rattle.circuit_set.specs.Pumps.{is_empty, after_ticks};
     ghost use Rattle.circuit_set.specs.declared.event.SetRefusal.TheVariants as refusals;
     ghost use Rattle.circuit_set.specs.Sets.{SetState, CircuitTold};
     ghost use Rattle.circuit_set.specs.Standing.{FirstLoud, Gives, HeldGoes, HasEnded, Holds, RestsAt, TicksNth, HeldStands, NextOf, ToldBy, Rests, FallsBy, untold_in, SameNode, close_answer, discard_answer, message_at, take_answer, write_answer};

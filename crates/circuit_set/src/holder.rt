@@ -1,12 +1,10 @@
 //! An end that a node holds.
 ghost use Rattle.std.specs.Prelude.{◌≡◌, ◌+◌, ◌≤◌, false, ◌||◌, ◌&&◌, not, true, Some, None, ℕ, List, nat_lt, length, is_some, IfSome};
-ghost use Rattle.ax_address.specs.Callsign.{Callsign};
-ghost use Rattle.ax_address.specs.CallOrder.{same_call};
-ghost use Rattle.circuit_l4.specs.State.{State};
+ghost use Rattle.ax_address.specs.Callsign.{Callsign, same_call};
+ghost use Rattle.circuit_l4.specs.State.{State, inbox};
 ghost use Rattle.circuit_l4.specs.Table as table;
 ghost use Rattle.circuit_l4.specs.Standing.{IsDrained, Stands, StandsFor};
 ghost use Rattle.circuit_l4.specs.Halves.{first_or};
-ghost use Rattle.circuit_l4.specs.Receiving.{inbox};
 ghost use Rattle.circuit_set.specs.Sets as sets;
 ghost use Rattle.circuit_set.specs.Sets.{CircuitTold};
 ghost use Rattle.circuit_set.specs.Pumps.{is_empty};

@@ -6,18 +6,17 @@ ghost use Rattle.circuit_set.specs.Pairs.{PairsDiffer};
 ghost use Rattle.circuit_set.specs.Givings.{MadeAreGiven, MadeDiffer};
 ghost use Rattle.circuit_set.specs.Kept.{HoldsFew, KeepsItsShare, WindowsAreSmall};
 ghost use Rattle.circuit_set.specs.Naming.{PairNamesOne, RequestersSend};
-ghost use Rattle.circuit_set.specs.Retries.{RetriesAreTold};
+ghost use Rattle.circuit_set.specs.Safe.{RetriesAreTold, CircuitsSafe, PartnersLast};
 ghost use Rattle.circuit_set.specs.Returning.{CopiesAloneReturn};
 ghost use Rattle.circuit_set.specs.Facing.{EndsStay, PartnersFace};
 ghost use Rattle.circuit_set.specs.Writings.{EndsWroteByWrites};
 ghost use Rattle.circuit_set.specs.Heedings.{SetsHeedPartners};
 ghost use Rattle.circuit_set.specs.Refusals.{RefusalsAreUnheeded, SetsRefuseUnder0, StartsAreNumbered};
 ghost use Rattle.circuit_set.specs.Sendings.{SetsSendTheirOwn};
-ghost use Rattle.circuit_set.specs.Inputs.{ActsGo, HearsGo, HearsLostGoes, TellsGo, TellsLess, TicksGo};
+ghost use Rattle.circuit_set.specs.Pumps.{ActsGo, HearsGo, HearsLostGoes, TellsGo, TellsLess, TicksGo};
 ghost use Rattle.circuit_set.specs.Examples.{CopyReturns, ForgedIsUnsafe, OneMoreIsTooMany, RestartIsStale};
 ghost use Rattle.circuit_set.specs.ByBook.{FreshByBook, PartnersByBook, TimelyBy128, TimelyByBook};
 ghost use Rattle.circuit_set.specs.NotedRuns.{NarrowIsTimely, PartnersStay, WindowsFit};
-ghost use Rattle.circuit_set.specs.Safe.{CircuitsSafe, PartnersLast};
 
 /// At each moment of every run of several nodes' ends, in which any datagram whatever may come to any node and any node may
 /// start again, and which is timely and fresh (`IsTimely` and `IsFresh` in `specs/TooLate.antt`): each end that has a partner has

@@ -129,8 +129,7 @@ impl<C: Carrier> CircuitSet<C> {
     ghost use Rattle.circuit_set.specs.declared.event.SetRefusal.TheVariants as refusals;
     ghost use Rattle.circuit_set.specs.Sets as sets;
     ghost use Rattle.circuit_set.specs.Sets.{SetState};
-    ghost use Rattle.circuit_set.specs.Pumps.{Waiting, at_rest, is_drained};
-    ghost use Rattle.circuit_set.specs.Inputs.{connect_answer, ticks};
+    ghost use Rattle.circuit_set.specs.Pumps.{Waiting, at_rest, is_drained, connect_answer, ticks};
     ghost use Rattle.circuit_set.specs.Standing.{close_answer, discard_answer, message_at, take_answer, write_answer};
     ghost use Rattle.circuit_set.specs.CircuitSets.{Circuits, SetGoes, GoesBy, IsDrained, IsUnchanged, LentStands, Pumps, SetStands, facts_at, held_by, held_ids, partner_at, requested_at};
     ghost use Rattle.circuit_set.specs.Kept.{KeepsOn};

@@ -14,9 +14,8 @@ use Rattle.circuit_verdict.specs.declared.verdict.Late.{Late}
 use Rattle.circuit_verdict.specs.declared.verdict.LateWhy.{LateWhy}
 use Rattle.circuit_verdict.specs.declared.verdict.LateWhy.TheVariants.{Overtaken, Returned}
 use Rattle.circuit_verdict.specs.ByBook.{FailsAt, FirstLateByBook, InTimeByBook, allowance_of, lost_in}
-use Rattle.circuit_verdict.specs.Events.{event_of, events_of}
+use Rattle.circuit_verdict.specs.Verdicts.{event_of, events_of, AreInTime, Fails, IsFirstLate, IsVerdict, allows_of}
 use Rattle.circuit_verdict.specs.Standing.{Follows}
-use Rattle.circuit_verdict.specs.Verdicts.{AreInTime, Fails, IsFirstLate, IsVerdict, allows_of}
 use Rattle.circuit_verdict.proofs.Runs.{fresh_at, fresh_more, late_fails, timely_at}
 
 module _ (pairs : FreshByBook) (by_window : TimelyByBook) (by_128 : TimelyBy128) where

@@ -9,7 +9,7 @@ use Rattle.circuit_verdict.specs.declared.verdict.Allowance.TheVariants.{Fixed, 
 use Rattle.circuit_verdict.specs.declared.verdict.Late.{Late}
 use Rattle.circuit_verdict.specs.declared.verdict.LateWhy.{LateWhy}
 use Rattle.circuit_verdict.specs.declared.verdict.LateWhy.TheVariants.{Overtaken, Returned}
-use Rattle.circuit_verdict.specs.Events.{event_of, events_of}
+use Rattle.circuit_verdict.specs.Verdicts.{event_of, events_of}
 
 -- how many overtakers are too many
 abbrev pub allowance_of : Allowance → Book → Name → ℕ

@@ -1,8 +1,7 @@
 -- What is kept of the ends that were made, and of those that restarts took away, as it is read off the notes of a book.
 use Rattle.std.specs.Prelude.{◌≡◌, ℕ, Bool, true, false, not, ◌&&◌, ◌||◌, nat_eq, if◌then◌else◌, List, [], ◌∷◌, ◌++◌, Option, Some, None}
 use Rattle.std.specs.List.{list_any}
-use Rattle.ax_address.specs.Callsign.{Callsign}
-use Rattle.ax_address.specs.CallOrder.{same_call}
+use Rattle.ax_address.specs.Callsign.{Callsign, same_call}
 use Rattle.circuit_l4.specs.declared.transport.Pair.{Pair}
 use Rattle.circuit_l4.specs.declared.notice.EndNotice.{EndNotice}
 use Rattle.circuit_l4.specs.declared.notice.EndNotice.TheVariants.{Opened}

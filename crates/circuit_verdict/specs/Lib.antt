@@ -1,5 +1,4 @@
 pub mod Lists
-pub mod Events
 pub mod Verdicts
 pub mod ByBook
 pub mod Ends

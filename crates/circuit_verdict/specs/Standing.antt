@@ -6,7 +6,7 @@ use Rattle.circuit_verdict.specs.declared.verdict.Allowance.{Allowance}
 use Rattle.circuit_verdict.specs.declared.verdict.Late.{Late}
 use Rattle.circuit_verdict.specs.declared.verdict.Verdict.{Verdict}
 use Rattle.circuit_verdict.specs.declared.book.Book.{Book}
-use Rattle.circuit_verdict.specs.Events.{events_of}
+use Rattle.circuit_verdict.specs.Verdicts.{events_of}
 use Rattle.circuit_verdict.specs.Judging.{BookStands}
 use Rattle.circuit_verdict.specs.ByBook.{FirstLateByBook, allowance_of, lost_in}
 

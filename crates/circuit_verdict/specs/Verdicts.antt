@@ -1,15 +1,38 @@
 -- The verdict on a list of events: none where it is timely and fresh, and else the first event at which it isn't (this project's
 -- profile). `IsTimely` and `IsFresh` are those of the law of circuits.
 use Rattle.std.specs.Prelude.{◌≡◌, ℕ, ◌↔◌, List, [], ◌∷◌, ◌++◌, Option, Some, None}
+use Rattle.std.specs.Option.{option_copied}
 use Rattle.circuit_set.specs.Events.{Event}
 use Rattle.circuit_set.specs.TooLate.{Allowing, AllowsByWindow, IsFresh, IsTimely, allows_fixed}
+use Rattle.circuit_set.specs.Sets as sets
+use Rattle.circuit_set.specs.Events as events
 use Rattle.circuit_verdict.specs.declared.event.Numbered.{Numbered}
 use Rattle.circuit_verdict.specs.declared.verdict.Allowance.{Allowance}
 use Rattle.circuit_verdict.specs.declared.verdict.Allowance.TheVariants.{Fixed, OfWindow}
 use Rattle.circuit_verdict.specs.declared.verdict.Late.{Late}
 use Rattle.circuit_verdict.specs.declared.verdict.LateWhy.{LateWhy}
 use Rattle.circuit_verdict.specs.declared.verdict.LateWhy.TheVariants.{Overtaken, Returned}
-use Rattle.circuit_verdict.specs.Events.{event_of, events_of}
+use Rattle.circuit_verdict.specs.declared.event.CircuitTold.{CircuitTold}
+use Rattle.circuit_verdict.specs.declared.event.CircuitTold.TheVariants.{Made, Sent, Heeded, Notice, Gone, Restarted, Lost}
+use Rattle.circuit_verdict.specs.declared.event.Event as code
+
+-- What is told here, as it stands in a run of sets.
+
+abbrev pub told_in_run : CircuitTold → sets.CircuitTold
+told_in_run (Made id pair partner request) = sets.Made id pair partner (option_copied request)
+told_in_run (Sent id number datagram) = sets.Sent id number datagram.now
+told_in_run (Heeded id datagram) = sets.Heeded id datagram.now
+told_in_run (Notice id notice) = sets.Notice id notice
+told_in_run (Gone id facts) = sets.Gone id facts
+told_in_run (Restarted pair) = sets.Restarted pair
+told_in_run (Lost id facts) = sets.Lost id facts
+
+abbrev pub event_of : code.Event → events.Event
+event_of e = record { node = e.node; own = e.own; told = told_in_run e.told }
+
+abbrev pub events_of : List Numbered → List events.Event
+events_of [] = []
+events_of (n ∷ ns) = event_of n.event ∷ events_of ns
 
 -- how many overtakers are too many
 abbrev pub allows_of : Allowance → Allowing

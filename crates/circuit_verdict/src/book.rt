@@ -8,7 +8,7 @@ ghost use Rattle.circuit_set.specs.NotedRuns.{allowance};
 ghost use Rattle.circuit_set.specs.Events as set_events;
 ghost use Rattle.circuit_set.specs.Sets as sets;
 ghost use Rattle.ax_address.specs.Callsign.{Callsign};
-ghost use Rattle.circuit_verdict.specs.Events.{event_of};
+ghost use Rattle.circuit_verdict.specs.Verdicts.{event_of};
 ghost use Rattle.circuit_verdict.specs.Judging as judged;
 ghost use Rattle.circuit_verdict.specs.ByBook.{allowance_of};
 

@@ -1,8 +1,7 @@
 //! What is kept of the ends that were made: their partners, and which of them are still open.
 ghost use Rattle.std.specs.Prelude.{◌≡◌, ◌∷◌, ◌++◌, ◌&&◌, [], OnOk, ℕ, List, Option, Some, None, cond, nat_eq, slice_get};
 ghost use Rattle.indexmap.specs.IndexMap.{get};
-ghost use Rattle.ax_address.specs.Callsign.{Callsign};
-ghost use Rattle.ax_address.specs.CallOrder.{same_call};
+ghost use Rattle.ax_address.specs.Callsign.{Callsign, same_call};
 ghost use Rattle.circuit_l4.specs.declared.transport.Pair.{Pair as SeenPair};
 ghost use Rattle.circuit_set.specs.Sets.{same_pair};
 ghost use Rattle.circuit_set.specs.Books as books;

@@ -67,8 +67,7 @@ pub struct Verdict {
 
 impl Verdict {
     ghost use Rattle.circuit_verdict.specs.Causes.{cause_after};
-    ghost use Rattle.circuit_verdict.specs.Verdicts.{AreInTime};
-    ghost use Rattle.circuit_verdict.specs.Events.{event_of, events_of};
+    ghost use Rattle.circuit_verdict.specs.Verdicts.{AreInTime, event_of, events_of};
     ghost use Rattle.circuit_verdict.specs.Standing.{IsSpent, StandsFor};
 
     /// No event was told yet.

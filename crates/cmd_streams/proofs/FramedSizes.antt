@@ -4,7 +4,7 @@ use Rattle.std.specs.Prelude.{◌==◌, Result, Ok, Err, OnOk, IsOk}
 use Rattle.std.specs.List.{flat_map}
 use Rattle.std.proofs.lemmas.List.{length-append}
 use Rattle.kiss_framing.specs.declared.TheConstants.{FEND, FESC, TFEND, TFESC}
-use Rattle.kiss_framing.specs.Enframing.{escape_of, framed}
+use Rattle.kiss_framing.specs.Stream.{escape_of, framed}
 
 two_at_most : (b c : Bool) (x y z w : ℕ) → length (cond b (x ∷ y ∷ []) (cond c (x ∷ z ∷ []) (w ∷ []))) ≤ 2
 two_at_most true c x y z w = omega arith

@@ -6,10 +6,10 @@ use Rattle.std.proofs.lemmas.List.{length-append, map-append}
 use Rattle.std.proofs.lemmas.List.Elements.{All-append, All-cons, All-nil}
 use Rattle.std.specs.Io.KnownBytes.{Appends, Consumes}
 use Rattle.std.proofs.KnownBytes.{Appends-trans, Consumes-trans}
-use Rattle.radio_base.specs.Clocks.{Gains}
+use Rattle.radio_base.specs.Causes.{Gains}
 use Rattle.radio_base.specs.Streams.{size_noted}
 use Rattle.cmd_streams.specs.Answering.{WhyNoAnswer}
-use Rattle.cmd_streams.specs.Writing.{AppendsFront}
+use Rattle.cmd_streams.specs.Told.{AppendsFront}
 use Rattle.cmd_streams.specs.declared.streams.StreamRefusal.{StreamRefusal}
 use Rattle.cmd_streams.specs.declared.streams.StreamRefusal.TheVariants.{ReadFault, WriteFault, TooLong, NoMemory}
 use Rattle.cmd_streams.specs.Streams.{Read, Input, Takes, IsRead, WhyUnanswered, bytes_of, sizes_of, moments_of, read_of, max_stream}

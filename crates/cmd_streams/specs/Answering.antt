@@ -3,7 +3,7 @@ use Rattle.std.specs.Prelude.{ℕ, ◌≡◌, List, Option}
 use Rattle.radio_base.specs.Causes.{Rose}
 use Rattle.cmd_streams.specs.declared.streams.StreamRefusal.{StreamRefusal}
 use Rattle.cmd_streams.specs.declared.streams.StreamRefusal.TheVariants.{ReadFault, WriteFault, TooLong, NoMemory}
-use Rattle.cmd_streams.specs.Writing.{AppendsFront}
+use Rattle.cmd_streams.specs.Told.{AppendsFront}
 
 abbrev pub WhyNoAnswer : (List ℕ → Type 0) → Option (List ℕ) → Option (List ℕ) → ℕ → ℕ → StreamRefusal → Type 0
 WhyNoAnswer IsAnswer written written' writes writes' WriteFault =

@@ -1,5 +1,4 @@
 pub mod Answering
-pub mod Notes
 pub mod Reading
 pub mod StatusNotes
 pub mod Statuses
@@ -7,6 +6,3 @@ pub mod StreamEnds
 pub mod Streams
 pub mod Told
 pub mod Wider
-pub mod Writing
-pub mod Comings
-pub mod ToldBy

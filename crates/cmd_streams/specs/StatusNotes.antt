@@ -2,7 +2,7 @@
 use Rattle.std.specs.Prelude.{ℕ, List}
 use Rattle.cmd_streams.specs.declared.status.Status.{Status}
 use Rattle.cmd_streams.specs.declared.status.Status.TheVariants.{Usage, BadFile, ReadFault, TooLong}
-use Rattle.cmd_streams.specs.Notes.{read_fault_note, too_long_note}
+use Rattle.cmd_streams.specs.Told.{read_fault_note, too_long_note}
 
 -- P holds of the status's note, where that is the same in each command and each time
 abbrev pub HasNote : Status → (List ℕ → Type 0) → Type 0

@@ -1,11 +1,10 @@
 -- How a stream is read to its end, and each read answered before the next. Own profile.
 use Rattle.std.specs.Prelude.{ℕ, ◌≡◌, ◌<◌, ◌≤◌, ◌++◌, List, [], ◌∷◌, length, map, All, Option, IsSomeAnd}
 use Rattle.std.specs.Io.KnownBytes.{Consumes, IsAtEnd, Appends}
-use Rattle.radio_base.specs.Causes.{Rose}
-use Rattle.radio_base.specs.Clocks.{Gains}
+use Rattle.radio_base.specs.Causes.{Rose, Gains}
 use Rattle.cmd_streams.specs.declared.streams.StreamRefusal.{StreamRefusal}
 use Rattle.cmd_streams.specs.declared.streams.StreamRefusal.TheVariants.{ReadFault, WriteFault, TooLong, NoMemory}
-use Rattle.cmd_streams.specs.Writing.{AppendsFront}
+use Rattle.cmd_streams.specs.Told.{AppendsFront}
 
 -- the most bytes that a stream may have: one less than 2^32
 abbrev pub max_stream : ℕ

@@ -1,13 +1,11 @@
 //! A KISS stream is taken in item by item, and each item is answered.
 ghost use Rattle.std.specs.Prelude.{◌≡◌, ◌++◌, ◌≤◌, ◌<◌, [], List, ℕ, length, take, None, Some, OnOk, IfOk};
-ghost use Rattle.kiss_framing.specs.Deframing.{StandsFor};
+ghost use Rattle.kiss_framing.specs.Stream.{StandsFor, Item, items};
 ghost use Rattle.kiss_framing.specs.Feeding.{handed_out};
-ghost use Rattle.kiss_framing.specs.Stream.{Item, items};
 ghost use Rattle.cmd_streams.specs.StatusNotes.{HasNote, IsSilent};
 ghost use Rattle.cmd_streams.specs.StreamEnds.{StreamEnds};
 ghost use Rattle.cmd_streams.specs.Streams.{bytes_of};
-ghost use Rattle.cmd_streams.specs.ToldBy.{told_by};
-ghost use Rattle.cmd_streams.specs.Writing.{Says};
+ghost use Rattle.cmd_streams.specs.Told.{told_by, Says};
 
 use crate::status::Status;
 use crate::streams::{Taker, answer_stream};
@@ -35,8 +33,7 @@ struct Deframed<T: ItemTaker + Drop> {
 
 impl<T: ItemTaker + Drop> Taker for Deframed<T> {
     ghost use Rattle.std.specs.Prelude.{◌≡◌};
-    ghost use Rattle.kiss_framing.specs.Deframing.{StandsFor};
-    ghost use Rattle.kiss_framing.specs.Stream.{items};
+    ghost use Rattle.kiss_framing.specs.Stream.{StandsFor, items};
     ghost use Rattle.cmd_streams.specs.Streams.{bytes_of};
 
     ghost took = { λ first last reads text. StandsFor last.deframer (bytes_of reads) × T.took first.taker last.taker (items (bytes_of reads)) text };

@@ -1,6 +1,6 @@
 //! Octets as KISS bytes.
 ghost use Rattle.std.specs.Prelude.{◌≡◌, ◌≤◌, ◌+◌, ◌*◌, length};
-ghost use Rattle.kiss_framing.specs.Enframing.{framed};
+ghost use Rattle.kiss_framing.specs.Stream.{framed};
 
 use arrayvec::ArrayVec;
 use kiss_framing::enframe;

@@ -1,7 +1,6 @@
 //! What is noted where input was refused.
 ghost use Rattle.std.specs.Prelude.{◌≡◌, ℕ, List, Some, IfOk, string_bytes};
-ghost use Rattle.cmd_streams.specs.Notes.{bad_line_note};
-ghost use Rattle.cmd_streams.specs.Writing.{Says};
+ghost use Rattle.cmd_streams.specs.Told.{bad_line_note, Says};
 
 use crate::writing::write_all;
 use radio_base::{NoMemory, Sink};

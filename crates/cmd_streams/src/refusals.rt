@@ -1,9 +1,8 @@
 //! Input that is refused: what is noted of it, and how the command ends.
 ghost use Rattle.std.specs.Prelude.{◌≡◌, ◌≢◌, ◌⊎◌, ℕ, List, Some};
-ghost use Rattle.cmd_streams.specs.Notes.{bad_line_note};
+ghost use Rattle.cmd_streams.specs.Told.{bad_line_note, Says};
 ghost use Rattle.cmd_streams.specs.Reading.{status_of};
 ghost use Rattle.cmd_streams.specs.StatusNotes.{HasNote, IsSilent};
-ghost use Rattle.cmd_streams.specs.Writing.{Says};
 
 use crate::notes::{READ_FAULT, TOO_LONG, bad_line_note, say};
 use crate::reading::ReadRefusal;

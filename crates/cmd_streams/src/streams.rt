@@ -6,8 +6,7 @@ ghost use Rattle.cmd_streams.specs.Answering.{WhyNoAnswer};
 ghost use Rattle.cmd_streams.specs.StatusNotes.{HasNote, IsSilent};
 ghost use Rattle.cmd_streams.specs.StreamEnds.{StreamEnds};
 ghost use Rattle.cmd_streams.specs.Streams.{Read, AnswersAll, WhyUnanswered, input_of, read_of};
-ghost use Rattle.cmd_streams.specs.ToldBy.{told_by};
-ghost use Rattle.cmd_streams.specs.Writing.{Says};
+ghost use Rattle.cmd_streams.specs.Told.{told_by, Says};
 
 use crate::notes::{READ_FAULT, TOO_LONG, say};
 use crate::status::Status;

@@ -2,7 +2,7 @@
 ghost use Rattle.std.specs.Prelude.{◌≡◌, OnOk, OnErr};
 ghost use Rattle.std.specs.Io.KnownBytes.{Appends};
 ghost use Rattle.radio_base.specs.Causes.{Rose};
-ghost use Rattle.cmd_streams.specs.Writing.{AppendsFront};
+ghost use Rattle.cmd_streams.specs.Told.{AppendsFront};
 
 use radio_base::{Failed, Sink};
 

@@ -1,8 +1,7 @@
 -- What a station does is what the rule says, and the other way round.
 use Rattle.std.proofs.Common.{◌≡◌, Bool, true, false, if◌then◌else◌, List, [], ◌∷◌, ◌++◌, refl, ap}
 use Rattle.ax_address.specs.declared.address.Address.{Address}
-use Rattle.ax_address.specs.Callsign.{Callsign}
-use Rattle.ax_address.specs.CallOrder.{same_call}
+use Rattle.ax_address.specs.Callsign.{Callsign, same_call}
 use Rattle.digi_path.specs.Paths.{Action, For_me, Repeat, Not_yet, Heard, action, behind, repeated}
 use Rattle.digi_path.specs.Laws.{ActsByTheNextRepeater, AllHaveRepeated, IsNext, Acts, For_this_station, For_another_station, By_this_repeater, By_another_repeater}
 use Rattle.digi_path.proofs.Calls.{same_call-true, same_call-equal, same_call-apart, apart}

@@ -2,8 +2,7 @@
 use Rattle.std.proofs.Common.{◌≡◌, ℕ, zero, suc, ◌<◌, ◌≤◌, Bool, true, false, if◌then◌else◌, List, [], ◌∷◌, refl, sym, ◌∙◌, ap, slice_set, get_or, length, arith}
 use Rattle.std.specs.List.{prefix_len}
 use Rattle.ax_address.specs.declared.address.Address.{Address}
-use Rattle.ax_address.specs.Callsign.{Callsign}
-use Rattle.ax_address.specs.CallOrder.{same_call}
+use Rattle.ax_address.specs.Callsign.{Callsign, same_call}
 use Rattle.digi_path.specs.Paths.{Action, For_me, Repeat, Not_yet, Heard, action, behind, repeated, has_repeated}
 use Rattle.digi_path.specs.Laws.{AllHaveRepeated}
 use Rattle.digi_path.proofs.Acting.{at_end}

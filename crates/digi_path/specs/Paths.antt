@@ -2,8 +2,7 @@
 -- (AX.25 2.2, section 3.12.)
 use Rattle.std.specs.Prelude.{Bool, true, false, List, [], ◌∷◌, map, reverse, if◌then◌else◌}
 use Rattle.ax_address.specs.declared.address.Address.{Address}
-use Rattle.ax_address.specs.Callsign.{Callsign}
-use Rattle.ax_address.specs.CallOrder.{same_call}
+use Rattle.ax_address.specs.Callsign.{Callsign, same_call}
 use Rattle.digi_path.specs.declared.digi_step.DigiStep.{DigiStep}
 use Rattle.digi_path.specs.declared.digi_step.DigiStep.TheVariants as digi
 

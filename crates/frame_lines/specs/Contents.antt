@@ -1,8 +1,7 @@
 -- The lines below a frame's: what its information is by its PID (AX.25 2.2, section 3.4). The text is own profile.
 use Rattle.std.specs.Prelude.{ℕ, List, [], ◌∷◌, ◌++◌, ◌%◌, length, Bool, true, false, ◌&&◌, ◌==◌, nat_le, codes, Option, Some, None, if◌then◌else◌}
 use Rattle.std.specs.Fmt.{decimal}
-use Rattle.ax_address.specs.Callsign.{Callsign, padded}
-use Rattle.ax_address.specs.CallOrder.{same_call}
+use Rattle.ax_address.specs.Callsign.{Callsign, padded, same_call}
 use Rattle.ax_frame.specs.declared.control.Control.{Control}
 use Rattle.ax_frame.specs.declared.control.Control.TheVariants.{Ui}
 use Rattle.ax_frame.specs.Frames.{Frame}

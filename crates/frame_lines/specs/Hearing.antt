@@ -2,8 +2,7 @@
 use Rattle.std.specs.Prelude.{ℕ, List, [], ◌∷◌, ◌++◌, length, ◌==◌, codes, Result, Ok, Err, if◌then◌else◌}
 use Rattle.ax_frame.specs.declared.frame.FrameRefusal.{FrameRefusal}
 use Rattle.ax_frame.specs.declared.head.Head.{Head}
-use Rattle.ax_frame.specs.Frames.{Frame}
-use Rattle.ax_frame.specs.Read.{read_at, read_head_at}
+use Rattle.ax_frame.specs.Frames.{Frame, read_at, read_head_at}
 use Rattle.kiss_framing.specs.declared.deframer.KissItem.{KissItem}
 use Rattle.kiss_framing.specs.declared.deframer.KissItem.TheVariants as kiss
 use Rattle.kiss_framing.specs.Stream.{Item, Frame as Piece, Too_long}

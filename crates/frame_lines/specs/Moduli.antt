@@ -1,8 +1,7 @@
 -- The modulus of sequence numbers between two stations, as the last set-up command between them says: SABME for 128, SABM for 8
 -- (AX.25 2.2, sections 4.3.3.1 and 4.3.3.2). That no more than 256 pairs of stations are kept in mind is own profile.
 use Rattle.std.specs.Prelude.{ℕ, List, [], ◌∷◌, ◌++◌, length, drop, filter, nat_le, Bool, false, ◌&&◌, ◌||◌, not, if◌then◌else◌}
-use Rattle.ax_address.specs.Callsign.{Callsign}
-use Rattle.ax_address.specs.CallOrder.{same_call}
+use Rattle.ax_address.specs.Callsign.{Callsign, same_call}
 use Rattle.ax_frame.specs.declared.control.Control.{Control}
 use Rattle.ax_frame.specs.declared.control.Control.TheVariants.{Sabm, Sabme}
 use Rattle.ax_frame.specs.declared.head.Head.{Head}

@@ -5,8 +5,7 @@ use Rattle.ax_address.specs.Alias as aliases
 use Rattle.ax_address.specs.Callsign as calls
 use Rattle.ax_address.specs.declared.Entry.{Entry}
 use Rattle.nodes_broadcast.specs.declared.nodes.NodesRefusal.{NodesRefusal}
-use Rattle.nodes_broadcast.specs.Nodes.{Broadcast}
-use Rattle.nodes_broadcast.specs.Reading.{nodes_at}
+use Rattle.nodes_broadcast.specs.Nodes.{Broadcast, nodes_at}
 use Rattle.frame_lines.specs.Words.{nodes_fault}
 
 -- DEST ALIAS best=NEIGHBOUR quality=Q

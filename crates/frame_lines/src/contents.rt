@@ -1,6 +1,6 @@
 //! What a frame carries, by its PID (AX.25 2.2, section 3.4).
 ghost use Rattle.std.specs.Prelude.{◌≡◌, ◌++◌, OnOk, IfOk, string_bytes};
-ghost use Rattle.ax_address.specs.CallOrder.{same_call};
+ghost use Rattle.ax_address.specs.Callsign.{same_call};
 ghost use Rattle.ax_frame.specs.Frames.{view};
 ghost use Rattle.frame_lines.specs.Contents as lines;
 

@@ -36,7 +36,7 @@ impl Model for Listener {
 impl Listener {
     ghost use Rattle.std.specs.Prelude.{◌≡◌, ◌++◌, [], OnOk, if◌then◌else◌};
     ghost use Rattle.ax_frame.specs.Controls.{IsLinkModulus};
-    ghost use Rattle.ax_frame.specs.Read.{read_at, read_head_at};
+    ghost use Rattle.ax_frame.specs.Frames.{read_at, read_head_at};
     ghost use Rattle.frame_lines.specs.Hearing as hearing;
 
     /// A listener that has heard nothing.

@@ -2,8 +2,7 @@
 use Rattle.std.proofs.Common.{◌≡◌, ℕ, Bool, true, false, ◌==◌, if◌then◌else◌, List, [], ◌∷◌, ◌++◌, refl, append_assoc}
 use Rattle.std.proofs.lemmas.List.{append-nil}
 use Rattle.kiss_framing.specs.declared.TheConstants.{FESC}
-use Rattle.kiss_framing.specs.Stream.{meaning, unescaped}
-use Rattle.kiss_framing.specs.Deframing.{ends_in_escape}
+use Rattle.kiss_framing.specs.Stream.{meaning, unescaped, ends_in_escape}
 
 -- what the byte b adds behind a piece
 abbrev pub added : Bool → ℕ → List ℕ

@@ -3,7 +3,7 @@ use Rattle.std.proofs.Common.{◌≡◌, ◌≤◌, ◌<◌, ◌+◌, ◌-◌, �
 use Rattle.std.specs.List.{flat_map, AllByRecursion}
 use Rattle.std.proofs.lemmas.List.{take-append-drop, take-append-le, length-take}
 use Rattle.std.proofs.lemmas.Grind.{flat_map-append}
-use Rattle.kiss_framing.specs.Enframing.{escape_of}
+use Rattle.kiss_framing.specs.Stream.{escape_of}
 use Rattle.kiss_framing.specs.Stepping.{IsPlain}
 
 plain_one : (b : ℕ) → IsPlain b → escape_of b ≡ b ∷ []

@@ -5,8 +5,7 @@ use Rattle.std.proofs.lemmas.Bool.Decides.{nat_tests}
 use Rattle.std.proofs.lemmas.List.{append-nil}
 use Rattle.std.specs.List.{flat_map}
 use Rattle.kiss_framing.specs.declared.TheConstants.{FEND, FESC}
-use Rattle.kiss_framing.specs.Stream.{unescaped, pieces, items, is_too_long, last_piece}
-use Rattle.kiss_framing.specs.Enframing.{escape_of}
+use Rattle.kiss_framing.specs.Stream.{unescaped, pieces, items, is_too_long, last_piece, escape_of}
 use Rattle.kiss_framing.specs.Laws.{FendEnds, FendParts, FramesReadBack, LongFramesAreTooLong}
 use Rattle.kiss_framing.proofs.Pieces.{cut_of, items_behind, last_of_front}
 

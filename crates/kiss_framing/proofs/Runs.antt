@@ -9,8 +9,7 @@ use Rattle.kiss_framing.specs.declared.TheConstants.{LONGEST}
 use Rattle.kiss_framing.specs.declared.deframer.KissItem.{KissItem}
 use Rattle.kiss_framing.specs.declared.piece.Ends.{Ends}
 use Rattle.kiss_framing.specs.declared.piece.Ends.TheVariants as ends
-use Rattle.kiss_framing.specs.Stream.{Item, is_too_long, items}
-use Rattle.kiss_framing.specs.Deframing.{HeldPiece, Piece, Skipped, StandsFor}
+use Rattle.kiss_framing.specs.Stream.{Item, is_too_long, items, HeldPiece, Piece, Skipped, StandsFor}
 use Rattle.kiss_framing.specs.Feeding.{IsQuietBefore, handed_out}
 use Rattle.kiss_framing.specs.Stepping.{step, items_at, IsPlain, Leads, LastGives, EndsNext, EndsAt}
 use Rattle.kiss_framing.proofs.Steps.{steps}

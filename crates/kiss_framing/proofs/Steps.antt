@@ -3,8 +3,7 @@ use Rattle.std.proofs.Common.{◌≡◌, ℕ, Bool, true, false, ◌==◌, if◌
 use Rattle.std.proofs.lemmas.List.{append-nil}
 use Rattle.std.proofs.lemmas.Grind.{common_steps, flat_map-append}
 use Rattle.kiss_framing.specs.declared.TheConstants.{FEND, FESC, TFEND, TFESC}
-use Rattle.kiss_framing.specs.Stream.{Item, Too_long, meaning, unescaped, is_too_long, ended_items, open_items, open_piece, given_by_byte, items}
-use Rattle.kiss_framing.specs.Deframing.{HeldPiece, Piece, Skipped, held_of, ends_in_escape, StandsFor}
+use Rattle.kiss_framing.specs.Stream.{Item, Too_long, meaning, unescaped, is_too_long, ended_items, open_items, open_piece, given_by_byte, items, HeldPiece, Piece, Skipped, held_of, ends_in_escape, StandsFor}
 use Rattle.kiss_framing.specs.Laws.{BytesAdd}
 use Rattle.kiss_framing.specs.Stepping.{grown, after_fend, within, step}
 use Rattle.kiss_framing.proofs.Escapes.{added, waits, longer}

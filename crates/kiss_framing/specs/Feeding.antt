@@ -5,8 +5,7 @@ use mathlib.Core.Option.{none}
 use Rattle.kiss_framing.specs.declared.deframer.KissItem.{KissItem}
 use Rattle.kiss_framing.specs.declared.deframer.KissItem.TheVariants as kiss
 use Rattle.kiss_framing.specs.contracts.deframer.Deframer.{the_row}
-use Rattle.kiss_framing.specs.Stream.{Item, Frame, Too_long, items}
-use Rattle.kiss_framing.specs.Deframing.{HeldPiece, StandsFor}
+use Rattle.kiss_framing.specs.Stream.{Item, Frame, Too_long, items, HeldPiece, StandsFor}
 
 -- the item that is handed out, if any
 abbrev pub handed_out : Option KissItem → List Item

@@ -1,8 +1,7 @@
 -- What holds of every KISS stream and every frame.
 use Rattle.std.specs.Prelude.{◌≡◌, ℕ, ◌≤◌, ◌<◌, List, [], ◌∷◌, ◌++◌, length}
 use Rattle.kiss_framing.specs.declared.TheConstants.{FEND}
-use Rattle.kiss_framing.specs.Stream.{Frame, Too_long, items, given_by_byte, open_piece}
-use Rattle.kiss_framing.specs.Enframing.{framed}
+use Rattle.kiss_framing.specs.Stream.{Frame, Too_long, items, given_by_byte, open_piece, framed}
 
 -- a stream that goes on keeps its items, and each byte adds what it gives
 abbrev pub BytesAdd : Type 0

@@ -1,5 +1,3 @@
-pub mod Deframing
-pub mod Enframing
 pub mod Feeding
 pub mod Laws
 pub mod Stepping

@@ -5,8 +5,7 @@ use Rattle.kiss_framing.specs.declared.piece.Place.{Place}
 use Rattle.kiss_framing.specs.declared.piece.Place.TheVariants.{Between, Within, Escaped, Skipping}
 use Rattle.kiss_framing.specs.declared.piece.Ends.{Ends}
 use Rattle.kiss_framing.specs.declared.piece.Ends.TheVariants as ends
-use Rattle.kiss_framing.specs.Stream.{Item, Too_long, is_too_long, frame_of}
-use Rattle.kiss_framing.specs.Deframing.{HeldPiece, Piece, Skipped}
+use Rattle.kiss_framing.specs.Stream.{Item, Too_long, is_too_long, frame_of, HeldPiece, Piece, Skipped}
 
 -- what is held, by the place and the buffer
 abbrev pub held_at : Place → List ℕ → HeldPiece

@@ -1,6 +1,6 @@
 -- What a KISS stream holds (Chepponis and Karn, "The KISS TNC"; the rules on faulty pieces are this project's profile).
-use Rattle.std.specs.Prelude.{ℕ, ◌/◌, ◌%◌, Bool, ◌==◌, nat_lt, not, ◌&&◌, if◌then◌else◌, List, [], ◌∷◌, ◌++◌, length}
-use Rattle.std.specs.List.{slice_split}
+use Rattle.std.specs.Prelude.{ℕ, ◌/◌, ◌%◌, Bool, ◌==◌, nat_lt, not, ◌&&◌, if◌then◌else◌, List, [], ◌∷◌, ◌++◌, length, ◌+◌, ◌*◌, ◌≡◌, false}
+use Rattle.std.specs.List.{slice_split, flat_map}
 use Rattle.kiss_framing.specs.declared.TheConstants.{FEND, FESC, TFEND, TFESC, LONGEST}
 
 -- what a stream gives: frames, and pieces that are too long for one
@@ -66,3 +66,48 @@ given_by_byte stream b =
     if b == FEND
     then (if is_too_long before then [] else frame_of before)
     else (if not (is_too_long before) && is_too_long (unescaped (open_piece (stream ++ b ∷ []))) then Too_long ∷ [] else [])
+
+-- A frame on a KISS stream (Chepponis and Karn, "The KISS TNC").
+
+-- how a byte of a frame is sent
+abbrev pub escape_of : ℕ → List ℕ
+escape_of b = if b == FEND then FESC ∷ TFEND ∷ [] else if b == FESC then FESC ∷ TFESC ∷ [] else b ∷ []
+
+-- a frame as it is sent, by its type byte
+abbrev pub octets_of : ℕ → List ℕ → List ℕ
+octets_of head payload = FEND ∷ (flat_map escape_of (head ∷ payload) ++ FEND ∷ [])
+
+-- a frame as it is sent: the type byte has the port in its high and the command in its low four bits
+abbrev pub framed : ℕ → ℕ → List ℕ → List ℕ
+framed port command payload = octets_of (port * 16 + command) payload
+
+-- What a deframer holds of the bytes that it was fed.
+
+-- what is held of the piece that no FEND has ended yet: its unescaped bytes, and whether it ends in the midst of an
+-- escape; or only that it was too long
+pub data HeldPiece : Type 0 where
+  Piece : (bytes : List ℕ) (in_escape : Bool) → HeldPiece
+  Skipped : HeldPiece
+
+-- whether a piece ends behind a FESC that waits for its second byte
+abbrev pub ends_in_escape : List ℕ → Bool
+ends_in_escape [] = false
+ends_in_escape (b ∷ []) = b == FESC
+ends_in_escape (b ∷ c ∷ rest) = if b == FESC then ends_in_escape rest else ends_in_escape (c ∷ rest)
+
+-- what is held of a piece
+abbrev pub held_of : List ℕ → HeldPiece
+held_of piece = if is_too_long (unescaped piece) then Skipped else Piece (unescaped piece) (ends_in_escape piece)
+
+-- what is held where this stream was fed since the deframer was new
+abbrev pub StandsFor : HeldPiece → List ℕ → Type 0
+StandsFor held stream = held ≡ held_of (open_piece stream)
+
+-- What a deframer keeps, in octets. Its buffer counts whole, since what was handed out stays in it until the next piece begins.
+abbrev pub kept : HeldPiece → ℕ
+kept held = 1024
+
+-- how many unescaped bytes are held
+abbrev pub pending_of : HeldPiece → ℕ
+pending_of (Piece bytes in_escape) = length bytes
+pending_of Skipped = 0

@@ -1,7 +1,6 @@
 //! A KISS stream becomes frames.
 ghost use Rattle.std.specs.Prelude.{◌≡◌, ℕ, ◌≤◌, List, [], ◌∷◌, ◌++◌, ◌<◌, length, take, IfSome, IfNone};
-ghost use Rattle.kiss_framing.specs.Stream.{items, given_by_byte, frame_of as frame_in};
-ghost use Rattle.kiss_framing.specs.Deframing.{StandsFor, kept, pending_of};
+ghost use Rattle.kiss_framing.specs.Stream.{items, given_by_byte, frame_of as frame_in, StandsFor, kept, pending_of};
 ghost use Rattle.kiss_framing.specs.Stepping.{items_at};
 ghost use Rattle.kiss_framing.specs.Feeding.{TakesIn, IsQuietBefore, IsSmall, handed_out};
 
@@ -30,7 +29,7 @@ pub struct Deframer {
 
 impl Model for Deframer {
     ghost use Rattle.std.specs.Prelude.{◌≡◌, ◌≤◌, length};
-    ghost use Rattle.kiss_framing.specs.Deframing.{HeldPiece, kept};
+    ghost use Rattle.kiss_framing.specs.Stream.{HeldPiece, kept};
     ghost use Rattle.kiss_framing.specs.Stepping.{held_at};
 
     ghost Value = { HeldPiece };

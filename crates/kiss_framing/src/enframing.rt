@@ -1,8 +1,7 @@
 //! A frame becomes KISS bytes.
 ghost use Rattle.std.specs.Prelude.{◌≡◌, ℕ, ◌≤◌, ◌+◌, ◌*◌, ◌<◌, List, ◌++◌, ◌∷◌, [], ◌↔◌, length, take, OnOk, OnErr, IfOk, IsOk};
 ghost use Rattle.std.specs.List.{flat_map};
-ghost use Rattle.kiss_framing.specs.Enframing.{escape_of, octets_of, framed};
-ghost use Rattle.kiss_framing.specs.Stream.{Frame, items};
+ghost use Rattle.kiss_framing.specs.Stream.{escape_of, octets_of, framed, Frame, items};
 
 use crate::piece::plain_run;
 use crate::{FEND, FESC, TFEND, TFESC};

@@ -1,7 +1,7 @@
 //! What is held of a stream between two items.
 ghost use Rattle.std.specs.Prelude.{◌≡◌, ◌≢◌, ◌≤◌, ◌<◌, ◌++◌, ◌∷◌, [], length, take};
 ghost use Rattle.std.specs.List.{AllByRecursion};
-ghost use Rattle.kiss_framing.specs.Deframing.{pending_of};
+ghost use Rattle.kiss_framing.specs.Stream.{pending_of};
 ghost use Rattle.kiss_framing.specs.Stepping.{held_at, items_at, step, after_fend, after_plain, after_escape, grown, IsPlain, Leads, EndsNext, EndsAt};
 
 use crate::{FEND, FESC, LONGEST, TFEND, TFESC};

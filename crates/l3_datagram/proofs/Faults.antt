@@ -4,9 +4,8 @@ use Rattle.std.specs.Prelude.{Option, Some, None, Result, Ok, Err, nat_lt}
 use Rattle.std.proofs.lemmas.Bool.{ltb-true, ltb-false}
 use Rattle.std.proofs.lemmas.List.{append_assoc, take-take, take-append-le, length-append, length-take}
 use Rattle.ax_address.specs.Callsign.{Callsign}
-use Rattle.ax_address.specs.NetCalls.{net_call_in, unless_at_fault}
+use Rattle.ax_address.specs.Octets.{net_call_in, unless_at_fault, address_fault, fault_in, refused_octet}
 use Rattle.ax_address.specs.Octets as octets
-use Rattle.ax_address.specs.Octets.{address_fault, fault_in, refused_octet}
 use Rattle.ax_address.specs.Results.{◌>>=◌}
 use Rattle.ax_address.specs.declared.octets.AddressRefusal.{AddressRefusal}
 use Rattle.l3_datagram.specs.declared.datagram.DatagramHead.{DatagramHead}

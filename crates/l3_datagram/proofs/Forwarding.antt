@@ -3,16 +3,14 @@ use Rattle.std.proofs.Common.{◌≡◌, ◌≢◌, ◌-◌, ◌<◌, ◌≤◌,
 use Rattle.std.specs.Prelude.{nat_le, nat_lt, if◌then◌else◌}
 use Rattle.std.proofs.lemmas.List.{length-set, get_or-set_same}
 use Rattle.std.proofs.lemmas.Bool.{leb-false, ltb-false}
-use Rattle.ax_address.specs.Callsign.{Callsign}
-use Rattle.ax_address.specs.CallOrder.{same_call}
+use Rattle.ax_address.specs.Callsign.{Callsign, same_call}
 use Rattle.ax_address.specs.Results.{◌>>=◌}
 use Rattle.l3_datagram.specs.declared.datagram.DatagramHead.{DatagramHead}
 use Rattle.l3_datagram.specs.declared.datagram.DatagramRefusal.{DatagramRefusal}
 use Rattle.l3_datagram.specs.declared.datagram.DatagramRefusal.TheVariants.{Short, TooLong}
 use Rattle.l3_datagram.specs.declared.routed.Routed.TheVariants.{Mine, Expired, Returned}
-use Rattle.l3_datagram.specs.CarrierCall.{Datagram}
-use Rattle.l3_datagram.specs.Datagrams.{head_at, call_from}
-use Rattle.l3_datagram.specs.Hops.{Ends, ToNeighbour, onward, way_of, with_ttl}
+use Rattle.l3_datagram.specs.Datagrams.{Datagram, head_at, call_from}
+use Rattle.l3_datagram.specs.Routers.{Ends, ToNeighbour, onward, way_of, with_ttl}
 use Rattle.l3_datagram.specs.Onward.{IsOneHopOn, GoesOneHopOn}
 
 -- what was read has as many octets as a head, and the time to live at its place

@@ -4,10 +4,9 @@ use Rattle.std.specs.Prelude.{Contains, ◌⊎◌, ◌&&◌, nat_eq, if◌then�
 use Rattle.std.specs.Cmp.Lexicographic.{pointwise}
 use Rattle.std.proofs.lemmas.Bool.{eqb-true}
 use Rattle.std.proofs.lemmas.List.Elements.{Contains-append_right, Contains-push_cases}
-use Rattle.ax_address.specs.Callsign.{Callsign}
-use Rattle.ax_address.specs.CallOrder.{same_call}
+use Rattle.ax_address.specs.Callsign.{Callsign, same_call}
 use Rattle.l3_datagram.specs.declared.carrier.Offered.TheVariants.{Taken, Dropped}
-use Rattle.l3_datagram.specs.CarrierCall.{Parcel, Offer, Collect, Fail}
+use Rattle.l3_datagram.specs.Datagrams.{Parcel, Offer, Collect, Fail}
 use Rattle.l3_datagram.specs.PlainCarriers.{Plain}
 use Rattle.l3_datagram.specs.Network.{Act, Called, Brought, Fetched, Event, after_act, carrier_of, Happens, History, WasOffered, WaitingWasOffered}
 

@@ -3,7 +3,7 @@ use Rattle.std.proofs.Common.{◌≡◌, ◌+◌, ◌-◌, ◌*◌, ◌≤◌, �
 use Rattle.std.proofs.lemmas.List.{take_at, length-append, length-map, length-replicate, get_or-append_right}
 use Rattle.std.proofs.Math.Seq.{drop-append-add}
 use Rattle.ax_address.specs.Callsign.{Callsign, name_in, padded}
-use Rattle.ax_address.specs.NetCalls.{SpellsNetCall, SpelledNetCallIsRead, WrittenNetCallSpellsIt, net_call_at, net_call_octets}
+use Rattle.ax_address.specs.Octets.{SpellsNetCall, SpelledNetCallIsRead, WrittenNetCallSpellsIt, net_call_at, net_call_octets}
 use Rattle.l3_datagram.specs.declared.datagram.DatagramHead.{DatagramHead}
 use Rattle.l3_datagram.specs.Datagrams.{SpelledDatagramIsRead, WrittenAgainIsTheSame, WrittenDatagramSpellsIt, plain_call, sized, call_from, fault_from, head_at}
 

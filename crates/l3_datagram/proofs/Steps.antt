@@ -6,9 +6,8 @@ use Rattle.route_table.specs.Held.{StandsFor}
 use Rattle.l3_datagram.specs.declared.carrier.Offered.{Offered}
 use Rattle.l3_datagram.specs.declared.routed.Routed.{Routed}
 use Rattle.l3_datagram.specs.declared.routed.Routed.TheVariants.{Lost}
-use Rattle.l3_datagram.specs.CarrierCall.{CarrierCall, Parcel, Collect, Fail}
-use Rattle.l3_datagram.specs.Hops.{way, pumping}
-use Rattle.l3_datagram.specs.Routers.{Routing, DoesRoute, DoesPump}
+use Rattle.l3_datagram.specs.Datagrams.{CarrierCall, Parcel, Collect, Fail}
+use Rattle.l3_datagram.specs.Routers.{way, pumping, Routing, DoesRoute, DoesPump}
 
 -- nothing was lost and nothing waits
 pub idle :

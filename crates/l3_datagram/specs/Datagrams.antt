@@ -1,15 +1,32 @@
 -- Datagrams in octets: the call of the origin, the call of the destination, the time to live, and then the transport.
 -- (NET/ROM, Appendix B.)
-use Rattle.std.specs.Prelude.{ℕ, ◌≡◌, ◌+◌, ◌*◌, ◌/◌, ◌%◌, ◌≤◌, List, [], ◌∷◌, ◌++◌, length, take, drop, slice_index, Result, Ok, Err, nat_lt, if◌then◌else◌}
+use Rattle.std.specs.Prelude.{ℕ, ◌≡◌, ◌+◌, ◌*◌, ◌/◌, ◌%◌, ◌≤◌, List, [], ◌∷◌, ◌++◌, length, take, drop, slice_index, Result, Ok, Err, nat_lt, if◌then◌else◌, Option}
 use Rattle.ax_address.specs.Callsign.{Callsign, IsCallsign}
-use Rattle.ax_address.specs.Octets.{refused_octet}
-use Rattle.ax_address.specs.NetCalls.{SpellsNetCall, net_call_at, net_call_octets}
+use Rattle.ax_address.specs.Octets.{refused_octet, SpellsNetCall, net_call_at, net_call_octets}
 use Rattle.ax_address.specs.declared.octets.AddressRefusal.{AddressRefusal}
 use Rattle.ax_address.specs.Results.{◌>>=◌}
+use Rattle.arrayvec.specs.ArrayVec.{ArrayVec}
 use Rattle.l3_datagram.specs.declared.datagram.DatagramHead.{DatagramHead}
 use Rattle.l3_datagram.specs.declared.datagram.DatagramRefusal.{DatagramRefusal}
 use Rattle.l3_datagram.specs.declared.datagram.DatagramRefusal.TheVariants.{Short, TooLong, BadCall}
-use Rattle.l3_datagram.specs.CarrierCall.{Datagram}
+use Rattle.l3_datagram.specs.declared.carrier.Offered.{Offered}
+
+-- The calls of a carrier, with their arguments and answers.
+
+-- a datagram's octets
+abbrev pub Datagram : Type 0
+Datagram = ArrayVec ℕ
+
+-- a neighbour, and a datagram that came from it or goes to it
+abbrev pub Parcel : Type 0
+Parcel = Callsign × Datagram
+
+-- a datagram was offered to a neighbour at a moment; a datagram was collected, or none waited; a lost neighbour was
+-- told, or none was lost
+pub data CarrierCall : Type 0 where
+  Offer : (to : Callsign) (datagram : Datagram) (now : ℕ) (answer : Offered) → CarrierCall
+  Collect : (answer : Option Parcel) → CarrierCall
+  Fail : (answer : Option Callsign) → CarrierCall
 
 -- at most 256 octets are the datagram with this head and this transport
 pub record SpellsDatagram (head : DatagramHead) (transport octets : List ℕ) : Type 0 where

@@ -1,9 +1,7 @@
-pub mod CarrierCall
 pub mod PlainCarriers
 pub mod PlainRuns
 pub mod Datagrams
 pub mod Faults
-pub mod Hops
 pub mod Routers
 pub mod Network
 pub mod Onward

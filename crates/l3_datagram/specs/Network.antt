@@ -1,9 +1,8 @@
 -- A network of nodes over carriers in memory: what happened at them, and what each carrier holds by then.
 use Rattle.std.specs.Prelude.{ℕ, ◌≡◌, List, [], ◌∷◌, Option, Some, Contains, slice_get, if◌then◌else◌}
-use Rattle.ax_address.specs.Callsign.{Callsign}
-use Rattle.ax_address.specs.CallOrder.{same_call}
+use Rattle.ax_address.specs.Callsign.{Callsign, same_call}
 use Rattle.l3_datagram.specs.declared.carrier.Offered.TheVariants.{Taken}
-use Rattle.l3_datagram.specs.CarrierCall.{CarrierCall, Datagram, Parcel, Offer}
+use Rattle.l3_datagram.specs.Datagrams.{CarrierCall, Datagram, Parcel, Offer}
 use Rattle.l3_datagram.specs.PlainCarriers.{Plain, Answers, after_call, brought, fetched}
 
 -- the router of a node called its carrier; a datagram was brought to the carrier from a neighbour; the first datagram

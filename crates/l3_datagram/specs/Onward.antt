@@ -1,8 +1,8 @@
 -- What a router changes of a datagram that it hands on.
 use Rattle.std.specs.Prelude.{ℕ, ◌≡◌, ◌≢◌, ◌+◌, List, length, slice_get, slice_index, Option}
 use Rattle.ax_address.specs.Callsign.{Callsign}
-use Rattle.l3_datagram.specs.CarrierCall.{Datagram}
-use Rattle.l3_datagram.specs.Hops.{ToNeighbour, way}
+use Rattle.l3_datagram.specs.Datagrams.{Datagram}
+use Rattle.l3_datagram.specs.Routers.{ToNeighbour, way}
 
 -- the octets are the same but for the time to live, which is one less
 pub record IsOneHopOn (old new : List ℕ) : Type 0 where

@@ -3,7 +3,7 @@ use Rattle.std.specs.Prelude.{◌≡◌, List, [], ◌∷◌, ◌++◌, length, 
 use Rattle.ax_address.specs.Callsign.{Callsign}
 use Rattle.l3_datagram.specs.declared.carrier.Offered.{Offered}
 use Rattle.l3_datagram.specs.declared.carrier.Offered.TheVariants.{Taken, Dropped}
-use Rattle.l3_datagram.specs.CarrierCall.{CarrierCall, Datagram, Parcel, Offer, Collect, Fail}
+use Rattle.l3_datagram.specs.Datagrams.{CarrierCall, Datagram, Parcel, Offer, Collect, Fail}
 
 -- what waits to be collected, and what was offered and not yet fetched
 pub record Plain : Type 0 where

@@ -1,6 +1,6 @@
 -- The calls of a carrier in memory, one list after another.
 use Rattle.std.proofs.Common.{List, [], ◌∷◌, ◌++◌, subst, sym}
-use Rattle.l3_datagram.specs.CarrierCall.{CarrierCall}
+use Rattle.l3_datagram.specs.Datagrams.{CarrierCall}
 use Rattle.l3_datagram.specs.PlainCarriers.{Plain, Made, after_call}
 
 pub more_made : (a b c : Plain) (calls more : List CarrierCall) → Made a calls b → Made b more c → Made a (calls ++ more) c

@@ -1,6 +1,6 @@
 //! What takes datagrams to neighbours, as a trait.
 ghost use Rattle.std.specs.Prelude.{◌≡◌, ◌↔◌, true, List, [], ◌∷◌, ◌++◌, drop, slice_get, IfOk};
-ghost use Rattle.l3_datagram.specs.CarrierCall.{CarrierCall, Parcel, Offer, Collect, Fail};
+ghost use Rattle.l3_datagram.specs.Datagrams.{CarrierCall, Parcel, Offer, Collect, Fail};
 ghost use Rattle.ax_address.specs.Callsign.{Callsign};
 
 use crate::Datagram;

@@ -1,8 +1,8 @@
 //! Datagrams in octets (NET/ROM, Appendix B, level 3).
 ghost use Rattle.std.specs.Prelude.{◌≡◌, ◌+◌, ◌<◌, ◌≤◌, ◌↔◌, List, ℕ, Ok, length, take, drop, IfOk, IsOk, IsErr};
-ghost use Rattle.ax_address.specs.NetCalls.{SpellsNetCall};
+ghost use Rattle.ax_address.specs.Octets.{SpellsNetCall};
 ghost use Rattle.l3_datagram.specs.Datagrams as octet;
-ghost use Rattle.l3_datagram.specs.Hops.{with_ttl};
+ghost use Rattle.l3_datagram.specs.Routers.{with_ttl};
 ghost use Rattle.l3_datagram.specs.declared.datagram.DatagramHead.{DatagramHead};
 
 use arrayvec::ArrayVec;

@@ -1,7 +1,7 @@
 //! A carrier in memory.
 ghost use Rattle.std.specs.Prelude.{◌≡◌, ◌<◌, [], ◌∷◌, slice_get, IfOk, OnOk, OnErr, refl};
 ghost use Rattle.l3_datagram.specs.PlainCarriers.{Plain, Made, brought, fetched, lost_of, offer_answer};
-ghost use Rattle.l3_datagram.specs.CarrierCall.{Offer};
+ghost use Rattle.l3_datagram.specs.Datagrams.{Offer};
 ghost use Rattle.l3_datagram.specs.PlainRuns.{more_made};
 
 use crate::datagram::copy_of;

@@ -20,7 +20,7 @@ use std::marker::Model;
 /// - Looks, which change nothing: `own`, `ttl`, `table`, `carrier`, `is_idle`.
 ///
 /// It takes no memory of its own; once its carrier has answered NoMemory it is spent, and answers that ever after. What becomes of a
-/// datagram stands case by case in `specs/Hops.antt`.
+/// datagram stands case by case in `specs/Routers.antt`.
 ///
 /// In use (`l3_datagram_tests`, `a_router_in_use`):
 ///
@@ -54,8 +54,7 @@ impl<C> Model for Router<C> {
 
 impl<C: Carrier> Router<C> {
     ghost use Rattle.l3_datagram.specs.Routers.{Routing, Routes, Pumps, Sends, SameRouter, HandsUp, MineIsFor, NoneWhereEmpty, TellsLost, waiting_left};
-    ghost use Rattle.l3_datagram.specs.CarrierCall.{Collect, Fail, Offer};
-    ghost use Rattle.l3_datagram.specs.Datagrams.{datagram_with};
+    ghost use Rattle.l3_datagram.specs.Datagrams.{Collect, Fail, Offer, datagram_with};
     ghost use Rattle.l3_datagram.specs.contracts.router.Router.{the_row};
     ghost use Rattle.route_table.specs.contracts.table.RouteTable.{the_row as table_row};
 

@@ -1,6 +1,4 @@
-pub mod Reasons
 pub mod Lines
-pub mod Scripts
 pub mod Ends
 pub mod Lives
 pub mod Reports

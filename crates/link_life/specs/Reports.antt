@@ -15,9 +15,33 @@ use Rattle.link_life.specs.declared.act.Side.{Side}
 use Rattle.link_life.specs.declared.act.Side.TheVariants.{A, B}
 use Rattle.link_life.specs.declared.reasons.LifeRefusal.{LifeRefusal}
 use Rattle.link_life.specs.declared.script.NumberedAct.{NumberedAct}
-use Rattle.link_life.specs.Reasons.{word_of_refusal}
 use Rattle.link_life.specs.Ends.{Epoch, epochs, partner_of}
 use Rattle.link_life.specs.Lives.{Life, Outcome, LifeTold, Refused, Done, act_on, after_act}
+use Rattle.link_life.specs.declared.reasons.LifeWhat.{LifeWhat}
+use Rattle.link_life.specs.declared.reasons.LifeWhat.TheVariants as whats
+use Rattle.link_life.specs.declared.reasons.LifeRefusal.TheVariants.{Phase, Early, Delay, Nothing, NotUp, QueueFull, Exhausted}
+
+-- The words by which reasons are shown. Own profile.
+
+-- what is wrong with a line
+abbrev pub word_for : LifeWhat → List ℕ
+word_for whats.Many = codes "many"
+word_for whats.Char = codes "char"
+word_for whats.Word = codes "word"
+word_for whats.Count = codes "count"
+word_for whats.Number = codes "number"
+word_for whats.Side = codes "side"
+word_for whats.Text = codes "text"
+
+-- why a line isn't done
+abbrev pub word_of_refusal : LifeRefusal → List ℕ
+word_of_refusal Phase = codes "phase"
+word_of_refusal Early = codes "early"
+word_of_refusal Delay = codes "delay"
+word_of_refusal Nothing = codes "nothing"
+word_of_refusal NotUp = codes "not up"
+word_of_refusal QueueFull = codes "queue full"
+word_of_refusal Exhausted = codes "exhausted"
 
 abbrev pub letter : Side → List ℕ
 letter A = codes "a"

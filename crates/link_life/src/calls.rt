@@ -34,7 +34,7 @@ impl Calls {
     }
 }
 
-#[tactic(auto, unfolding(ax_address::specs::CallReading::call_at))]
+#[tactic(auto, unfolding(ax_address::specs::Callsign::call_at))]
 fn call_of(side: Side) -> Call
     ensures { result ≡ reports.call_of side }
 {

@@ -1,7 +1,7 @@
 //! What a line of a script says: its kind is named by its first word.
 ghost use Rattle.std.specs.Prelude.{◌≡◌, ◌∷◌, MatchOption, None, Some};
 ghost use Rattle.link_life.specs.Lines as lines;
-ghost use Rattle.text_lines.specs.Words.{words_of};
+ghost use Rattle.text_lines.specs.Lines.{words_of};
 
 use crate::act::{EndAct, LifeAct, SentText, Side};
 use crate::reasons::LifeWhat;

@@ -24,7 +24,7 @@ pub enum LifeWhat {
 
 impl fmt::Display for LifeWhat {
     ghost use Rattle.std.specs.Prelude.{Some};
-    ghost use Rattle.link_life.specs.Reasons.{word_for};
+    ghost use Rattle.link_life.specs.Reports.{word_for};
 
     ghost output = { λ what. Some (word_for what) };
 
@@ -94,7 +94,7 @@ pub enum LifeRefusal {
 
 impl LifeRefusal {
     ghost use Rattle.std.specs.Prelude.{◌≡◌, ◌≤◌, length};
-    ghost use Rattle.link_life.specs.Reasons.{word_of_refusal};
+    ghost use Rattle.link_life.specs.Reports.{word_of_refusal};
 
     /// The word by which a report shows it.
     pub fn word(self) -> &'static str

@@ -1,7 +1,7 @@
 //! A script, read whole.
 ghost use Rattle.std.specs.Prelude.{◌≡◌, ◌≤◌, ◌++◌, ◌∷◌, ◌+◌, [], length, Ok, Err, OnOk, OnErr, IfErr, MatchResult};
 ghost use Rattle.std.specs.Str.Lines.{lines};
-ghost use Rattle.link_life.specs.Scripts as scripts;
+ghost use Rattle.link_life.specs.Lines as scripts;
 
 use crate::act::LifeAct;
 use crate::line::read_line;
@@ -58,7 +58,7 @@ impl<'a> LifeScript<'a> {
 }
 
 /// The script of a file of at most 1,048,576 bytes, or its first bad line.
-#[tactic(auto, unfolding(crate::specs::Scripts::script_of))]
+#[tactic(auto, unfolding(crate::specs::Lines::script_of))]
 pub fn read_life(alloc: Global, bytes: &[u8]) -> Result<LifeScript<'_>, LifeFileRefusal>
     requires { length bytes.now ≤ 1048576 }
     ensures { MatchResult result (λ s. scripts.script_of bytes.now ≡ Ok s) (λ e. scripts.ReadAs e (scripts.script_of bytes.now)) }

@@ -1,6 +1,6 @@
 //! What an act tells: the lines of a report.
 ghost use Rattle.std.specs.Prelude.{◌≡◌, ◌≤◌, ◌++◌, OnOk, length};
-ghost use Rattle.ax_link.specs.Outputs.{CanBeSent};
+ghost use Rattle.ax_link.specs.Bounds.{CanBeSent};
 ghost use Rattle.ax_link.specs.Standing.{frame_of};
 ghost use Rattle.link_life.specs.Reports as reports;
 ghost use Rattle.link_life.specs.Standing as standing;

@@ -6,8 +6,7 @@ use Rattle.std.proofs.lemmas.Bool.{eqb-true}
 use Rattle.std.specs.List.{AllByRecursion}
 use Rattle.arrayvec.specs.ArrayVec.{ArrayVec}
 use Rattle.radio_base.specs.declared.payload.Payload.{Payload}
-use Rattle.ax_address.specs.Callsign.{Callsign}
-use Rattle.ax_address.specs.CallOrder.{same_call}
+use Rattle.ax_address.specs.Callsign.{Callsign, same_call}
 use Rattle.ax_address.specs.declared.address.Address.{Address}
 use Rattle.ax_frame.specs.declared.control.Control.{Control}
 use Rattle.ax_frame.specs.declared.control.Control.TheVariants as control
@@ -15,16 +14,15 @@ use Rattle.ax_frame.specs.FrameText.{is_command}
 use Rattle.ax_frame.specs.Frames.{Frame as AirFrame, frame}
 use Rattle.ax_link.specs.Kinds.{info_of, payload_of, pid_of}
 use Rattle.ax_link.specs.Opening.{opening, rules_new}
-use Rattle.ax_link.specs.Bounds.{Bounded, stock}
+use Rattle.ax_link.specs.Bounds.{Bounded, stock, Has, HasIf, HavePayloads}
 use Rattle.ax_link.specs.Laws.{BoundsStay, PayloadsStay, SettingsStay}
-use Rattle.ax_link.specs.Outputs.{Has, HasIf, HavePayloads}
-use Rattle.ax_link.specs.Outputs as put
+use Rattle.ax_link.specs.Bounds as put
 use Rattle.ax_link.specs.State.{Frame, Rules}
 use Rattle.ax_link.specs.Table.{Arrive, Close, Input, Send, Set_up, Take, Tick, step, takes}
 use Rattle.ax_link.specs.declared.notice.LinkNotice.{LinkNotice}
 use Rattle.ax_link.specs.declared.notice.LinkNotice.TheVariants.{Closed, Failed}
 use Rattle.ax_segment.specs.Joining.{Nothing, join_step}
-use Rattle.l3_datagram.specs.CarrierCall.{Datagram}
+use Rattle.l3_datagram.specs.Datagrams.{Datagram}
 use Rattle.l3_datagram.specs.declared.carrier.Offered.TheVariants.{Taken, Dropped}
 use Rattle.ax_frame.specs.declared.head.Head.{Head}
 use Rattle.link_table.specs.Calls as calls
@@ -34,7 +32,6 @@ use Rattle.link_table.specs.Table.{Linked, Pending, Table, path_to, link_with, w
 use Rattle.link_table.proofs.Finding.{same_call-true}
 use Rattle.link_table.proofs.Lifting.{untexted}
 use Rattle.ax_segment.specs.Segments.{segments_of}
-use Rattle.link_table.specs.Sending as sending
 use Rattle.link_table.specs.Texts as texts
 use Rattle.link_table.specs.Works.{Work, arrive_at_link, first_to_take, is_down, hand_up, most_taken, emit, settle, step_link, take_payload, tell}
 
@@ -361,19 +358,19 @@ module _ (law : PayloadsStay) (bounds_stay : BoundsStay) (settings_stay : Settin
       by false = x
 
   each_carries : (own : Callsign) (pid : ℕ) (infos : List (List ℕ)) (now : ℕ) (w : Work) → (pid == netrom) ≡ false → WorkCarries w →
-      WorkCarries (sending.send_each own (sending.payloads pid infos) now w)
+      WorkCarries (texts.send_each own (texts.payloads pid infos) now w)
   each_carries own pid [] now w e x = x
   each_carries own pid (i ∷ is) now w e x =
-      each_carries own pid is now (step_link own (Send (sending.payload pid i)) now w) e (stepped_carries own (Send (sending.payload pid i)) now w (rw e refl) x)
+      each_carries own pid is now (step_link own (Send (texts.payload pid i)) now w) e (stepped_carries own (Send (texts.payload pid i)) now w (rw e refl) x)
 
-  text_sent_carries : (peer : Callsign) (text : List ℕ) (now : ℕ) (t : Table) → Carries offered came sizes t → Carries offered came sizes (sending.send_text peer text now t)
+  text_sent_carries : (peer : Callsign) (text : List ℕ) (now : ℕ) (t : Table) → Carries offered came sizes t → Carries offered came sizes (texts.send_text peer text now t)
   text_sent_carries peer text now t x =
-      at_link_carries peer (sending.send_text_of t.own text now) t (λ w e y. by (sending.in_segments w.linked.link.rules.size text) w y) x
+      at_link_carries peer (texts.send_text_of t.own text now) t (λ w e y. by (texts.in_segments w.linked.link.rules.size text) w y) x
     where
       by : (b : Bool) (w : Work) → WorkCarries w →
-          WorkCarries (sending.send_each t.own (if b then sending.payloads segmented (segments_of plain_text text) else sending.payloads plain_text (sending.cut text)) now w)
+          WorkCarries (texts.send_each t.own (if b then texts.payloads segmented (segments_of plain_text text) else texts.payloads plain_text (texts.cut text)) now w)
       by true w y = each_carries t.own segmented (segments_of plain_text text) now w refl y
-      by false w y = each_carries t.own plain_text (sending.cut text) now w refl y
+      by false w y = each_carries t.own plain_text (texts.cut text) now w refl y
 
   pub carries_on : CarriesOn offered came sizes
   carries_on =

@@ -3,8 +3,7 @@ use Rattle.std.proofs.Common.{◌≡◌, ◌≤◌, ◌+◌, ℕ, ◌==◌, ◌&
 use Rattle.std.proofs.lemmas.Bool.Decides.{nat_tests}
 use Rattle.std.specs.List.{AllByRecursion}
 use Rattle.arrayvec.specs.ArrayVec.{ArrayVec}
-use Rattle.ax_address.specs.Callsign.{Callsign}
-use Rattle.ax_address.specs.CallOrder.{same_call}
+use Rattle.ax_address.specs.Callsign.{Callsign, same_call}
 use Rattle.ax_address.specs.declared.address.Address.{Address}
 use Rattle.ax_frame.specs.declared.control.Control.{Control}
 use Rattle.ax_frame.specs.declared.control.Control.TheVariants as control
@@ -15,13 +14,12 @@ use Rattle.ax_link.specs.declared.notice.LinkNotice.{LinkNotice}
 use Rattle.ax_link.specs.declared.notice.LinkNotice.TheVariants.{Closed, Failed}
 use Rattle.ax_link.specs.Opening.{opening, rules_new}
 use Rattle.ax_segment.specs.Joining.{Nothing}
-use Rattle.l3_datagram.specs.CarrierCall.{Datagram}
+use Rattle.l3_datagram.specs.Datagrams.{Datagram}
 use Rattle.l3_datagram.specs.declared.carrier.Offered.TheVariants.{Taken, Dropped}
 use Rattle.link_table.specs.Calls as calls
 use Rattle.link_table.specs.Ending.{EndsAreTold, Leaves, LeavesTold, OneEach, TextsAreOfLinks, has_link, stands_or_told, tells_end}
 use Rattle.link_table.specs.Frames.{netrom}
 use Rattle.link_table.specs.Table.{Linked, Table, link_with, path_to, with_link, without}
-use Rattle.link_table.specs.Sending as sending
 use Rattle.link_table.specs.Texts as texts
 use Rattle.link_table.specs.Works.{Work, arrive_at_link, is_down, step_link, tell}
 use Rattle.link_table.proofs.Phases.{any_end}
@@ -272,7 +270,7 @@ ends_are_told = record {
   closes = λ t peer now. at_link peer (step_link t.own Close now) t (λ w. stepped t.own Close now w);
   breaks = λ t peer. ended peer (Failed ∷ []) t refl;
   takes = λ t peer now. take peer now t;
-  sends = λ t peer text now. at_link peer (sending.send_text_of t.own text now) t (λ w. sent_each t.own (sending.payloads_of w.linked.link.rules.size text) now w);
+  sends = λ t peer text now. at_link peer (texts.send_text_of t.own text now) t (λ w. sent_each t.own (texts.payloads_of w.linked.link.rules.size text) now w);
   offers = λ t to d now. offered to d now t;
 }
 

@@ -1,9 +1,9 @@
 -- What a node's links keep.
 use Rattle.std.proofs.Common.{◌*◌, ◌≤◌, List, [], ◌∷◌, length, arith}
 use Rattle.ax_address.specs.Callsign.{Callsign}
-use Rattle.ax_link.specs.Kept as link
-use Rattle.ax_link.specs.Kept.{share}
-use Rattle.ax_segment.specs.Kept as segment
+use Rattle.ax_link.specs.Standing as link
+use Rattle.ax_link.specs.Standing.{share}
+use Rattle.ax_segment.specs.Joining as segment
 use Rattle.link_table.specs.declared.entry.Entry.{Entry}
 use Rattle.link_table.specs.declared.link_of.LinkOf.{LinkOf}
 use Rattle.link_table.specs.declared.link_of.LinkOf.TheVariants.{Eight, Wide}

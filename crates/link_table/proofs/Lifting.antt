@@ -9,12 +9,11 @@ use Rattle.ax_link.specs.declared.notice.LinkNotice.TheVariants.{Opened, Reset, 
 use Rattle.ax_link.specs.Standing.{LinkView, StandsFor, frame_of}
 use Rattle.ax_link.specs.State.{Frame, Effect, State}
 use Rattle.ax_link.specs.Table.{Arrive, Input, Take, step}
-use Rattle.ax_segment.specs.Joining.{HeldMessage as Joined, join_step}
-use Rattle.ax_segment.specs.Kept.{IsWithin}
+use Rattle.ax_segment.specs.Joining.{HeldMessage as Joined, join_step, IsWithin}
 use Rattle.link_table.specs.declared.route.Route.{Route}
 use Rattle.link_table.specs.declared.pending.Pending.{Pending}
 use Rattle.link_table.specs.declared.written.Written.{Written}
-use Rattle.link_table.specs.Fetching.{written}
+use Rattle.link_table.specs.Table.{written}
 use Rattle.link_table.specs.Frames.{Sent, all_sent, fitting, netrom, sent_by, segmented}
 use Rattle.link_table.specs.declared.entry.Entry.{Entry}
 use Rattle.link_table.specs.declared.link_of.LinkOf.{LinkOf}

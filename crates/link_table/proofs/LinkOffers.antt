@@ -1,18 +1,17 @@
 -- What is offered to a link, and what ends one without a frame or hands it one.
 use Rattle.std.proofs.Common.{◌≡◌, ℕ, suc, ◌≤◌, ◌<◌, Bool, true, false, cond, List, [], ◌∷◌, ◌++◌, length, map, min, ◌&&◌, is_some, nat_le, Option, Some, None, refl, ap, sym, ◌∙◌, subst, arith, if◌then◌else◌}
 use Rattle.std.specs.Map.{lookup, set_value, remove_entry}
-use Rattle.ax_address.specs.Callsign.{Callsign}
+use Rattle.ax_address.specs.Callsign.{Callsign, same_call}
 use Rattle.arrayvec.specs.ArrayVec.{ArrayVec}
 use Rattle.ax_address.specs.declared.address.Address.{Address}
 use Rattle.std.proofs.lemmas.Bool.Decides.{nat_tests}
-use Rattle.ax_address.specs.CallOrder.{same_call}
 use Rattle.ax_frame.specs.Frames.{Frame as AirFrame}
 use Rattle.link_table.specs.Frames.{Sent}
 use Rattle.ax_link.specs.declared.notice.LinkNotice.{LinkNotice}
 use Rattle.link_table.specs.declared.entry.Entry.{Entry}
 use Rattle.link_table.specs.declared.held_links.HeldLinks.{HeldLinks}
 use Rattle.link_table.specs.declared.pending.Pending.{Pending}
-use Rattle.link_table.specs.Fetching.{written}
+use Rattle.link_table.specs.Table.{written, Linked, Table, path_to, link_with, with_link, without}
 use Rattle.link_table.specs.Calls.{Offering, at_link, end, link_frame, made, offer, offer_link, offer_standing, offer_ui, set_up_link, pack, most_links}
 use Rattle.link_table.specs.declared.route.Route.{Route}
 use Rattle.ax_link.specs.State.{count_end}
@@ -23,12 +22,11 @@ use Rattle.ax_link.specs.declared.phase.LinkPhase.TheVariants.{Down, SettingUp, 
 use Rattle.ax_link.specs.State.{State, begin}
 use Rattle.ax_link.specs.Table.{Input, Send, Set_up, accept, may_close, set_up_in, step, takes}
 use Rattle.ax_link.specs.Standing.{IsDrained, LinkView, StandsFor}
-use Rattle.ax_segment.specs.Kept.{IsWithin}
-use Rattle.l3_datagram.specs.CarrierCall.{Datagram}
+use Rattle.ax_segment.specs.Joining.{IsWithin}
+use Rattle.l3_datagram.specs.Datagrams.{Datagram}
 use Rattle.l3_datagram.specs.declared.carrier.Offered.{Offered}
 use Rattle.l3_datagram.specs.declared.carrier.Offered.TheVariants.{Taken, Dropped}
 use Rattle.link_table.specs.Standing.{width, GoesQuietly, Offers, SameEntry, CoreGoes, AllDrained, CoreStands, EntryGoes, EntryStands, LinkStands, LinksStand, Rests, drop_if_down, held_of, size_of}
-use Rattle.link_table.specs.Table.{Linked, Table, path_to, link_with, with_link, without}
 use Rattle.link_table.specs.Works.{arrive_at_link, is_down, joiner_after, lost_by, emit, step_link, tell}
 use Rattle.link_table.proofs.Links.{Found, SameNode, at_link_stands, down_set, drained_removed, drained_set, few_removed, few_set, found, none_found, removed, set}
 

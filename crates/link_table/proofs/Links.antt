@@ -1,22 +1,19 @@
 -- Links by peer, as the map has them and as the table has them.
 use Rattle.std.proofs.Common.{◌≡◌, ℕ, suc, ◌≤◌, ◌<◌, Bool, true, false, cond, List, [], ◌∷◌, ◌++◌, length, map, Some, None, refl, ap, sym, ◌∙◌, subst, arith, if◌then◌else◌}
 use Rattle.std.specs.Map.{keys_of, lookup, set_value, remove_entry}
-use Rattle.ax_address.specs.Callsign.{Callsign}
-use Rattle.ax_address.specs.CallOrder.{same_call}
+use Rattle.ax_address.specs.Callsign.{Callsign, same_call}
 use Rattle.ax_link.specs.Opening.{opening, rules_new}
 use Rattle.link_table.specs.declared.entry.Entry.{Entry}
 use Rattle.link_table.specs.declared.held_links.HeldLinks.{HeldLinks}
 use Rattle.link_table.specs.declared.pending.Pending.{Pending}
-use Rattle.link_table.specs.Fetching.{PendingStands}
+use Rattle.link_table.specs.Table.{PendingStands, Linked, Table, link_with, with_link, without}
 use Rattle.link_table.specs.Calls.{at_link, made, keep, most_links, tick, tick_each}
-use Rattle.ax_segment.specs.Joining.{Nothing}
-use Rattle.ax_segment.specs.Kept.{IsWithin}
+use Rattle.ax_segment.specs.Joining.{Nothing, IsWithin}
 use Rattle.link_table.specs.declared.route.Route.{Route}
 use Rattle.ax_link.specs.State.{State}
 use Rattle.ax_link.specs.Table.{Tick}
 use Rattle.ax_link.specs.Standing.{IsDrained, StandsFor}
 use Rattle.link_table.specs.Standing.{width, CoreGoes, AllDrained, CoreStands, EntryGoes, EntryStands, LinkStands, LinksStand, Rests, down_at, down_by, drop_if_down, held_of, size_of}
-use Rattle.link_table.specs.Table.{Linked, Table, link_with, with_link, without}
 use Rattle.link_table.specs.Works.{Work, is_down, step_link}
 
 module _ (own peer : Callsign) where

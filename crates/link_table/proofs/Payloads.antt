@@ -2,8 +2,7 @@
 use Rattle.std.proofs.Common.{◌≡◌, ◌≤◌, ◌<◌, ◌+◌, ◌∙◌, ℕ, zero, suc, refl, sym, ap, subst, arith, length, append-nil, List, [], ◌∷◌, ◌++◌, replicate, slice_get}
 use Rattle.std.specs.Prelude.{Bool, true, false, if◌then◌else◌, ◌&&◌, nat_le, is_some, Option, Some, None}
 use Rattle.radio_base.specs.declared.payload.Payload.{Payload}
-use Rattle.ax_address.specs.Callsign.{Callsign}
-use Rattle.ax_address.specs.CallOrder.{same_call}
+use Rattle.ax_address.specs.Callsign.{Callsign, same_call}
 use Rattle.ax_link.specs.declared.phase.LinkPhase.{LinkPhase}
 use Rattle.ax_link.specs.declared.phase.LinkPhase.TheVariants.{Down, SettingUp, Up, Releasing}
 use Rattle.ax_link.specs.Opening.{opening, rules_new}
@@ -11,11 +10,11 @@ use Rattle.ax_link.specs.State.{Effect, Rules, State, begin, places}
 use Rattle.ax_link.specs.Table as link
 use Rattle.ax_link.specs.Table.{Send, Set_up, Take, may_close, step, takes}
 use Rattle.ax_segment.specs.Joining.{Nothing}
-use Rattle.l3_datagram.specs.CarrierCall.{Datagram}
+use Rattle.l3_datagram.specs.Datagrams.{Datagram}
 use Rattle.l3_datagram.specs.declared.carrier.Offered.TheVariants.{Taken, Dropped}
 use Rattle.link_table.specs.declared.entry.Entry.{Entry}
 use Rattle.link_table.specs.Calls as calls
-use Rattle.link_table.specs.Payloads.{CountsPayloads, Leaves, OffersLeave, TakesLower, all_payloads, entry_payloads, filled, link_payloads, payloads}
+use Rattle.link_table.specs.Kept.{CountsPayloads, Leaves, OffersLeave, TakesLower, all_payloads, entry_payloads, filled, link_payloads, payloads}
 use Rattle.link_table.specs.Standing.{LinksStand}
 use Rattle.link_table.specs.Table.{Linked, Table, link_with, path_to, with_link, without}
 use Rattle.link_table.specs.Texts as texts

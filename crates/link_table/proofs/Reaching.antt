@@ -7,8 +7,7 @@ use Rattle.std.proofs.lemmas.List.{length-map, length-reverse, reverse-append}
 use Rattle.arrayvec.specs.ArrayVec.{ArrayVec}
 use Rattle.indexmap.specs.IndexMap.{insert_entry}
 use Rattle.radio_base.specs.declared.payload.Payload.{Payload}
-use Rattle.ax_address.specs.Callsign.{Callsign}
-use Rattle.ax_address.specs.CallOrder.{same_call}
+use Rattle.ax_address.specs.Callsign.{Callsign, same_call}
 use Rattle.ax_address.specs.declared.address.Address.{Address}
 use Rattle.ax_frame.specs.declared.control.Control.{Control}
 use Rattle.ax_frame.specs.declared.control.Control.TheVariants as control
@@ -25,14 +24,13 @@ use Rattle.ax_link.specs.declared.notice.LinkNotice.{LinkNotice}
 use Rattle.ax_link.specs.declared.notice.LinkNotice.TheVariants.{Closed, Failed}
 use Rattle.ax_segment.specs.Joining.{Nothing, join_step}
 use Rattle.digi_path.specs.Paths.{unrepeated, way_back}
-use Rattle.l3_datagram.specs.CarrierCall.{Datagram}
+use Rattle.l3_datagram.specs.Datagrams.{Datagram}
 use Rattle.l3_datagram.specs.declared.carrier.Offered.TheVariants.{Taken, Dropped}
 use Rattle.link_table.specs.Calls as calls
 use Rattle.link_table.specs.Frames.{Sent, all_sent, fitting, head_to, most_octets, netrom, octets_of, segmented, sent, sent_by}
 use Rattle.link_table.specs.Reaching.{ComesFrom, IsCall, IsSpelled, IsWay, LinkReaches, Reaches, ReachesOn}
-use Rattle.link_table.specs.Sending as sending
-use Rattle.link_table.specs.Table.{Linked, Table, Via, path_or, path_to, link_with, with_link, without}
 use Rattle.link_table.specs.Texts as texts
+use Rattle.link_table.specs.Table.{Linked, Table, Via, path_or, path_to, link_with, with_link, without}
 use Rattle.link_table.specs.Works.{Work, arrive_at_link, first_to_take, is_down, hand_up, most_taken, emit, settle, step_link, take_payload, tell}
 use Rattle.link_table.proofs.Carrier.{OpeningBounded}
 
@@ -360,7 +358,7 @@ module _ (bounds_stay : BoundsStay) (settings_stay : SettingsStay) (written : Fr
       by true = at_link_reaches peer (texts.take_text_of t.own now) t (λ w y. text_taken t.own now w (x.own, x.modulus) y) x
       by false = x
 
-  each : (own : Callsign) (ps : List Payload) (now : ℕ) (w : Work) → Own own → WorkReaches w → WorkReaches (sending.send_each own ps now w)
+  each : (own : Callsign) (ps : List Payload) (now : ℕ) (w : Work) → Own own → WorkReaches w → WorkReaches (texts.send_each own ps now w)
   each own [] now w o x = x
   each own (p ∷ ps) now w o x = each own ps now (step_link own (Send p) now w) o (stepped own (Send p) now w o x)
 
@@ -372,7 +370,7 @@ module _ (bounds_stay : BoundsStay) (settings_stay : SettingsStay) (written : Fr
         closes = λ t peer now x. at_link_reaches peer (step_link t.own Close now) t (λ w y. stepped t.own Close now w (x.own, x.modulus) y) x;
         breaks = λ t peer x. ended peer (Failed ∷ []) t x;
         takes = λ t peer now x. taken peer now t x;
-        sends = λ t peer text now x. at_link_reaches peer (sending.send_text_of t.own text now) t (λ w y. each t.own (sending.payloads_of w.linked.link.rules.size text) now w (x.own, x.modulus) y) x;
+        sends = λ t peer text now x. at_link_reaches peer (texts.send_text_of t.own text now) t (λ w y. each t.own (texts.payloads_of w.linked.link.rules.size text) now w (x.own, x.modulus) y) x;
         offers = λ t to d now c x. offered to d now t c x;
         paths = λ t peer path w x. record { modulus = x.modulus; of_size = x.of_size; own = x.own; links = x.links; paths = path_set peer path t.paths w x.paths; frames = x.frames };
         collects = λ t x. record { modulus = x.modulus; of_size = x.of_size; own = x.own; links = x.links; paths = x.paths; frames = x.frames };

@@ -1,15 +1,13 @@
 -- What work at one link tells of it.
 use Rattle.std.proofs.Common.{◌≡◌, ℕ, zero, suc, ◌==◌, ◌&&◌, ◌||◌, Bool, true, false, List, [], ◌∷◌, ◌++◌, map, Option, Some, None, refl, ap, sym, ◌∙◌, if◌then◌else◌, append_assoc, append-nil, slice_get}
 use Rattle.radio_base.specs.declared.payload.Payload.{Payload}
-use Rattle.ax_address.specs.Callsign.{Callsign}
-use Rattle.ax_address.specs.CallOrder.{same_call}
+use Rattle.ax_address.specs.Callsign.{Callsign, same_call}
 use Rattle.ax_link.specs.State.{Frame}
 use Rattle.ax_link.specs.Table.{Arrive, Input, Send, Take, step}
 use Rattle.ax_link.specs.declared.notice.LinkNotice.{LinkNotice}
 use Rattle.ax_segment.specs.Joining.{join_step}
 use Rattle.link_table.specs.Ending.{is_end, tells_end}
 use Rattle.link_table.specs.Frames.{netrom, segmented}
-use Rattle.link_table.specs.Sending as sending
 use Rattle.link_table.specs.Texts as texts
 use Rattle.link_table.specs.Works.{Work, arrive_at_link, first_to_take, is_down, hand_up, most_taken, settle, step_link, take_payload}
 use Rattle.link_table.proofs.Phases.{any_end, ends_told}
@@ -147,6 +145,6 @@ arrived own f now w = by (is_down s.linked.link.phase)
     by true = stepped own (Arrive f) now w
     by false = next w s _ (stepped own (Arrive f) now w) (settled most_taken own now s)
 
-pub sent_each : (own : Callsign) (ps : List Payload) (now : ℕ) (w : Work) → Reports w (sending.send_each own ps now w)
+pub sent_each : (own : Callsign) (ps : List Payload) (now : ℕ) (w : Work) → Reports w (texts.send_each own ps now w)
 sent_each own [] now w = quiet w w refl refl refl
 sent_each own (p ∷ ps) now w = next w (step_link own (Send p) now w) _ (stepped own (Send p) now w) (sent_each own ps now (step_link own (Send p) now w))

@@ -3,24 +3,22 @@ use Rattle.std.proofs.Common.{◌≡◌, ◌≤◌, ◌+◌, ◌∙◌, ℕ, ref
 use Rattle.std.specs.Prelude.{Bool, true, false, if◌then◌else◌, ◌&&◌, not, nat_le, nat_lt, Option, Some, None, Result, Ok, Err}
 use Rattle.std.proofs.lemmas.Bool.Decides.{nat_tests}
 use Rattle.radio_base.specs.declared.payload.Payload.{Payload}
-use Rattle.ax_address.specs.Callsign.{Callsign}
-use Rattle.ax_address.specs.CallOrder.{same_call}
+use Rattle.ax_address.specs.Callsign.{Callsign, same_call}
 use Rattle.ax_link.specs.State.{State}
 use Rattle.ax_link.specs.Table.{Send, Set_up, may_close, step, takes}
 use Rattle.ax_link.specs.declared.phase.LinkPhase.{LinkPhase}
 use Rattle.ax_link.specs.declared.phase.LinkPhase.TheVariants.{Down, SettingUp, Up, Releasing}
 use Rattle.ax_segment.specs.Segments.{segments_of}
-use Rattle.l3_datagram.specs.CarrierCall.{Datagram}
+use Rattle.l3_datagram.specs.Datagrams.{Datagram}
 use Rattle.l3_datagram.specs.declared.carrier.Offered.TheVariants.{Taken, Dropped}
 use Rattle.link_table.specs.declared.text_refusal.TextRefusal.{TextRefusal}
 use Rattle.link_table.specs.declared.text_refusal.TextRefusal.TheVariants.{NoLink, TooLong, Full}
 use Rattle.link_table.specs.Calls as calls
 use Rattle.link_table.specs.Frames.{plain_text, segmented}
 use Rattle.link_table.specs.Rooms.{OffersTakeOne, RoomTakesTexts, TextsAreFew}
-use Rattle.link_table.specs.Sending as sending
-use Rattle.link_table.specs.Sending.{takes_texts}
+use Rattle.link_table.specs.Texts as sending
+use Rattle.link_table.specs.Texts.{takes_texts, room, room_of}
 use Rattle.link_table.specs.Table.{Linked, Table, link_with, path_to, with_link, without}
-use Rattle.link_table.specs.Texts.{room, room_of}
 use Rattle.link_table.specs.Works.{Work, is_down, step_link}
 use Rattle.link_table.proofs.Finding.{same_call-true}
 use Rattle.link_table.proofs.Sending.{Accepted, accepted, length_cut, length_payloads, length_segments, room_is}

@@ -6,8 +6,7 @@ use Rattle.std.specs.List.{concat}
 use Rattle.std.proofs.lemmas.Bool.Decides.{nat_tests}
 use Rattle.std.proofs.lemmas.List.{take-append-drop}
 use Rattle.radio_base.specs.declared.payload.Payload.{Payload}
-use Rattle.ax_address.specs.Callsign.{Callsign}
-use Rattle.ax_address.specs.CallOrder.{same_call}
+use Rattle.ax_address.specs.Callsign.{Callsign, same_call}
 use Rattle.ax_link.specs.State.{State}
 use Rattle.ax_link.specs.State.{count_end}
 use Rattle.ax_link.specs.Table.{Send, may_close, step, takes}
@@ -20,7 +19,7 @@ use Rattle.link_table.specs.declared.route.Route.{Route}
 use Rattle.link_table.specs.declared.text_refusal.TextRefusal.{TextRefusal}
 use Rattle.link_table.specs.declared.text_refusal.TextRefusal.TheVariants.{NoLink, TooLong, Full}
 use Rattle.link_table.specs.Frames.{plain_text, segmented}
-use Rattle.link_table.specs.Sending as sending
+use Rattle.link_table.specs.Texts as sending
 use Rattle.link_table.specs.Standing.{EntryGoes, EntryStands, LinksStand, answer_at, answer_of_entry, held_of, room_in, size_of, width}
 use Rattle.link_table.specs.Table.{Linked, Table}
 use Rattle.link_table.specs.Texts.{room_of}

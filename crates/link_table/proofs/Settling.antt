@@ -3,19 +3,18 @@ use Rattle.std.proofs.Common.{◌≡◌, ℕ, zero, suc, ◌+◌, ◌≤◌, ◌
 use Rattle.ax_link.specs.Bounds.{Bounded, stock}
 use Rattle.ax_link.specs.State.{count_end}
 use Rattle.radio_base.specs.declared.payload.Payload.{Payload}
-use Rattle.ax_address.specs.Callsign.{Callsign}
-use Rattle.ax_address.specs.CallOrder.{same_call}
+use Rattle.ax_address.specs.Callsign.{Callsign, same_call}
 use Rattle.ax_link.specs.Moves.{first_early, follow_by, next_early, resume, take_next}
 use Rattle.ax_link.specs.State.{State, begin, busy, is_up}
 use Rattle.ax_link.specs.Table.{Send, Set_up, Take, step, takes}
 use Rattle.ax_segment.specs.Joining.{Nothing, join_step}
 use Rattle.ax_link.specs.Opening.{opening, rules_new}
-use Rattle.l3_datagram.specs.CarrierCall.{Datagram}
+use Rattle.l3_datagram.specs.Datagrams.{Datagram}
 use Rattle.l3_datagram.specs.declared.carrier.Offered.TheVariants.{Taken, Dropped}
 use Rattle.link_table.specs.Calls as calls
 use Rattle.link_table.specs.Frames.{netrom, segmented}
 use Rattle.link_table.specs.Laws.{NewLinkTakes, SettledAll}
-use Rattle.link_table.specs.Payloads.{filled, link_payloads}
+use Rattle.link_table.specs.Kept.{filled, link_payloads}
 use Rattle.link_table.specs.Table.{Linked, Table, link_with, path_to, with_link}
 use Rattle.link_table.proofs.Lifting.{untexted}
 use Rattle.link_table.specs.Works.{first_to_take, unless_text, Work, hand_up, most_taken, settle, step_link, take_payload}

@@ -1,8 +1,7 @@
 -- What is held, and what contracts see of it.
 use Rattle.std.proofs.Common.{◌≡◌, ◌==◌, Bool, true, false, List, Some, None, refl, ap, sym, ◌∙◌, subst}
 use Rattle.std.specs.Map.{lookup}
-use Rattle.ax_address.specs.Callsign.{Callsign}
-use Rattle.ax_address.specs.CallOrder.{same_call}
+use Rattle.ax_address.specs.Callsign.{Callsign, same_call}
 use Rattle.ax_link.specs.State.{State}
 use Rattle.link_table.specs.declared.entry.Entry.{Entry}
 use Rattle.link_table.specs.Calls.{is_128}

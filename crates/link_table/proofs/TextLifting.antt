@@ -4,13 +4,11 @@ use Rattle.std.specs.Option.{option_to_list}
 use Rattle.std.specs.Map.{lookup}
 use Rattle.std.proofs.lemmas.Bool.{eqb-true}
 use Rattle.radio_base.specs.declared.payload.Payload.{Payload}
-use Rattle.ax_address.specs.Callsign.{Callsign}
-use Rattle.ax_address.specs.CallOrder.{same_call}
+use Rattle.ax_address.specs.Callsign.{Callsign, same_call}
 use Rattle.ax_link.specs.Standing.{LinkView, StandsFor}
 use Rattle.ax_link.specs.State.{State, count_end}
 use Rattle.ax_link.specs.Table.{Take, may_close}
-use Rattle.ax_segment.specs.Joining.{HeldMessage as Joined, join_step, whole_of}
-use Rattle.ax_segment.specs.Kept.{IsWithin}
+use Rattle.ax_segment.specs.Joining.{HeldMessage as Joined, join_step, whole_of, IsWithin}
 use Rattle.link_table.specs.declared.entry.Entry.{Entry}
 use Rattle.link_table.specs.declared.held_links.HeldLinks.{HeldLinks}
 use Rattle.link_table.specs.declared.link_of.LinkOf.{LinkOf}

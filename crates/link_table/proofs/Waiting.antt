@@ -12,13 +12,12 @@ use Rattle.ax_link.specs.Table.{Arrive, Close, Send, Set_up, Take, Tick, takes}
 use Rattle.ax_link.specs.declared.notice.LinkNotice.{LinkNotice}
 use Rattle.ax_link.specs.declared.notice.LinkNotice.TheVariants.{Closed, Failed}
 use Rattle.ax_segment.specs.Joining.{join_step}
-use Rattle.l3_datagram.specs.CarrierCall.{Datagram, Parcel}
+use Rattle.l3_datagram.specs.Datagrams.{Datagram, Parcel}
 use Rattle.l3_datagram.specs.declared.carrier.Offered.TheVariants.{Taken, Dropped}
 use Rattle.link_table.specs.Calls as calls
 use Rattle.link_table.specs.Frames.{netrom, segmented}
 use Rattle.link_table.specs.Laws.{OnlyFramesBring}
 use Rattle.link_table.specs.Table.{Linked, Table, link_with, path_to, without}
-use Rattle.link_table.specs.Sending as sending
 use Rattle.link_table.specs.Texts as texts
 use Rattle.link_table.specs.Works.{Work, arrive_at_link, first_to_take, is_down, hand_up, most_taken, settle, step_link, take_payload, tell}
 use Rattle.link_table.proofs.Finding.{found_peer}
@@ -224,7 +223,7 @@ offer_keeps to d now t = by t.by_links
     by true = link_keeps to d now t
     by false = refl
 
-each_keeps : (own : Callsign) (ps : List Payload) (now : ℕ) (w : Work) → (sending.send_each own ps now w).pending.waiting ≡ w.pending.waiting
+each_keeps : (own : Callsign) (ps : List Payload) (now : ℕ) (w : Work) → (texts.send_each own ps now w).pending.waiting ≡ w.pending.waiting
 each_keeps own [] now w = refl
 each_keeps own (p ∷ ps) now w = each_keeps own ps now (step_link own (Send p) now w)
 
@@ -236,6 +235,6 @@ only_frames_bring =
       ticks = λ t now. ticks_keep (map (λ l. l.peer) t.links) now t;
       closes = λ t peer now. at_link_keeps peer (step_link t.own Close now) t (λ w. refl);
       breaks = λ t peer. ended_keeps peer (Failed ∷ []) t;
-      sends = λ t peer text now. at_link_keeps peer (sending.send_text_of t.own text now) t (λ w. each_keeps t.own (sending.payloads_of w.linked.link.rules.size text) now w);
+      sends = λ t peer text now. at_link_keeps peer (texts.send_text_of t.own text now) t (λ w. each_keeps t.own (texts.payloads_of w.linked.link.rules.size text) now w);
       offers = λ t to d now. offer_keeps to d now t;
     }

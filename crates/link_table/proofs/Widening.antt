@@ -8,7 +8,7 @@ use Rattle.ax_frame.specs.declared.control.Control.{Control}
 use Rattle.ax_frame.specs.declared.control.Control.TheVariants as control
 use Rattle.ax_frame.specs.FrameText.{is_command}
 use Rattle.ax_frame.specs.Frames.{Frame as AirFrame, frame}
-use Rattle.ax_link.specs.Outputs.{Has, HasIf}
+use Rattle.ax_link.specs.Bounds.{Has, HasIf}
 use Rattle.link_table.specs.Calls.{answer_down, arrive, arrive_kind, no_set_up, pack, set_up_size, source, to_link}
 use Rattle.link_table.specs.Frames.{Sent, is_numbered, netrom}
 use Rattle.link_table.specs.Laws.{Brings, Carries, CarriesByWeaker, CarriesOn, CarriesWhatWasOffered, FrameHolds, Implies, LinkHolds, NumberedWithoutLink, ParcelCame, goes_to}

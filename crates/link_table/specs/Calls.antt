@@ -2,13 +2,12 @@
 use Rattle.std.specs.Prelude.{ℕ, ◌≡◌, ◌==◌, ◌&&◌, Bool, true, false, not, nat_le, nat_lt, is_some, Result, Ok, Err, if◌then◌else◌, List, [], ◌∷◌, ◌++◌, map, length, drop, Option, None, Some}
 use Rattle.std.specs.Map.{lookup}
 use Rattle.indexmap.specs.IndexMap.{insert_entry}
-use Rattle.ax_address.specs.CallOrder.{same_call}
+use Rattle.ax_address.specs.Callsign.{same_call, Callsign}
 use Rattle.ax_link.specs.declared.config.LinkConfig.{LinkConfig}
 use Rattle.link_table.specs.declared.path_refusal.PathRefusal.{PathRefusal}
 use Rattle.link_table.specs.declared.path_refusal.PathRefusal.TheVariants.{TooLong, Full}
 use Rattle.arrayvec.specs.ArrayVec.{ArrayVec}
 use Rattle.radio_base.specs.declared.payload.Payload.{Payload}
-use Rattle.ax_address.specs.Callsign.{Callsign}
 use Rattle.ax_address.specs.declared.address.Address.{Address}
 use Rattle.ax_frame.specs.declared.control.Control.{Control}
 use Rattle.ax_frame.specs.declared.control.Control.TheVariants as control
@@ -22,7 +21,7 @@ use Rattle.ax_link.specs.State.{Frame, Rules}
 use Rattle.ax_link.specs.Table.{Arrive, Close, Send, Set_up, Tick, step, takes}
 use Rattle.ax_segment.specs.Joining.{Nothing}
 use Rattle.digi_path.specs.Paths.{way_back}
-use Rattle.l3_datagram.specs.CarrierCall.{Datagram}
+use Rattle.l3_datagram.specs.Datagrams.{Datagram}
 use Rattle.l3_datagram.specs.declared.carrier.Offered.{Offered}
 use Rattle.l3_datagram.specs.declared.carrier.Offered.TheVariants.{Taken, Dropped}
 use Rattle.link_table.specs.Frames.{Sent, netrom, sent, fitting, head_to, all_sent}

@@ -1,6 +1,6 @@
 -- A table of links as a carrier of datagrams.
 use Rattle.std.specs.Prelude.{◌≡◌, List, [], ◌∷◌, slice_get}
-use Rattle.l3_datagram.specs.CarrierCall.{CarrierCall, Offer, Collect, Fail}
+use Rattle.l3_datagram.specs.Datagrams.{CarrierCall, Offer, Collect, Fail}
 use Rattle.link_table.specs.Table.{Table}
 use Rattle.link_table.specs.Calls.{collect, tell_lost, offer}
 

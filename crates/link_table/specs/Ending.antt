@@ -1,16 +1,14 @@
 -- A link leaves a node's table only where it is told that it has ended (this project's profile).
 use Rattle.std.specs.Prelude.{ℕ, ◌≡◌, ◌≤◌, Bool, true, false, ◌||◌, ◌&&◌, is_some, List, [], ◌∷◌, length, None}
 use Rattle.std.specs.List.{AllByRecursion}
-use Rattle.ax_address.specs.Callsign.{Callsign}
-use Rattle.ax_address.specs.CallOrder.{same_call}
+use Rattle.ax_address.specs.Callsign.{Callsign, same_call}
 use Rattle.ax_frame.specs.Frames.{Frame as AirFrame}
 use Rattle.ax_link.specs.declared.notice.LinkNotice.{LinkNotice}
 use Rattle.ax_link.specs.declared.notice.LinkNotice.TheVariants.{Opened, Reset, Closed, Failed, Refused}
-use Rattle.l3_datagram.specs.CarrierCall.{Datagram}
+use Rattle.l3_datagram.specs.Datagrams.{Datagram}
 use Rattle.link_table.specs.Calls.{arrive, break_link, close, offer, tick}
-use Rattle.link_table.specs.Sending.{send_text}
+use Rattle.link_table.specs.Texts.{send_text, take_text, text_peers}
 use Rattle.link_table.specs.Table.{Linked, Table, link_with}
-use Rattle.link_table.specs.Texts.{take_text, text_peers}
 use Rattle.link_table.specs.Works.{is_down}
 
 -- the notices by which a link has ended

@@ -5,15 +5,13 @@ use Rattle.radio_base.specs.declared.payload.Payload.{Payload}
 use Rattle.ax_address.specs.Callsign.{Callsign}
 use Rattle.ax_frame.specs.Frames.{Frame as AirFrame}
 use Rattle.ax_link.specs.Kinds.{payload_of}
-use Rattle.ax_link.specs.Bounds.{Bounded, stock}
-use Rattle.ax_link.specs.Outputs.{Has, HavePayloads}
-use Rattle.l3_datagram.specs.CarrierCall.{Datagram, Parcel}
+use Rattle.ax_link.specs.Bounds.{Bounded, stock, Has, HavePayloads}
+use Rattle.l3_datagram.specs.Datagrams.{Datagram, Parcel}
 use Rattle.l3_datagram.specs.declared.carrier.Offered.TheVariants.{Taken}
 use Rattle.link_table.specs.Calls.{arrive, break_link, close, collect, fetch, tell_lost, most_links, notice, offer, pack, set_up_size, source, tick}
 use Rattle.link_table.specs.Frames.{Sent, is_numbered, netrom}
 use Rattle.link_table.specs.Table.{Linked, Table, link_with}
-use Rattle.link_table.specs.Sending.{answer_of, cut, payloads_of, send_text, send_text_of}
-use Rattle.link_table.specs.Texts.{take_text}
+use Rattle.link_table.specs.Texts.{answer_of, cut, payloads_of, send_text, send_text_of, take_text}
 use Rattle.link_table.specs.Works.{Work, first_to_take, most_taken, settle}
 
 -- Three properties are any. The first two are of pairs of call and payload: the one is asked of what is offered, by the peer

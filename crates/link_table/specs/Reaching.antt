@@ -7,12 +7,11 @@ use Rattle.ax_address.specs.Callsign.{Callsign, IsCallsign}
 use Rattle.ax_address.specs.declared.address.Address.{Address}
 use Rattle.ax_frame.specs.Frames.{Frame as AirFrame, IsAddress, Spells}
 use Rattle.ax_link.specs.Bounds.{Bounded, stock}
-use Rattle.l3_datagram.specs.CarrierCall.{Datagram}
+use Rattle.l3_datagram.specs.Datagrams.{Datagram}
 use Rattle.link_table.specs.Calls.{arrive, break_link, close, collect, fetch, notice, offer, tell_lost, tick, set_up_size, with_path}
 use Rattle.link_table.specs.Frames.{Sent, octets_of}
-use Rattle.link_table.specs.Sending.{send_text}
+use Rattle.link_table.specs.Texts.{send_text, take_text}
 use Rattle.link_table.specs.Table.{Linked, Table, Via}
-use Rattle.link_table.specs.Texts.{take_text}
 
 abbrev pub IsCall : Callsign → Type 0
 IsCall c = IsCallsign c.letters c.ssid

@@ -1,12 +1,10 @@
 -- Room at a link: what a datagram leaves of it, and which texts it takes. Own profile.
 use Rattle.std.specs.Prelude.{ℕ, ◌≡◌, ◌≤◌, ◌+◌, false, List, length, Ok}
-use Rattle.ax_address.specs.Callsign.{Callsign}
-use Rattle.ax_address.specs.CallOrder.{same_call}
-use Rattle.l3_datagram.specs.CarrierCall.{Datagram}
+use Rattle.ax_address.specs.Callsign.{Callsign, same_call}
+use Rattle.l3_datagram.specs.Datagrams.{Datagram}
 use Rattle.link_table.specs.Calls.{offer}
-use Rattle.link_table.specs.Sending.{payloads_of, text_answer}
+use Rattle.link_table.specs.Texts.{payloads_of, text_answer, room}
 use Rattle.link_table.specs.Table.{Table, link_with}
-use Rattle.link_table.specs.Texts.{room}
 
 -- a datagram that is offered takes the place of one payload at most at the link with the peer to which it goes, and leaves the
 -- links with others as they are

@@ -1,7 +1,7 @@
 -- What the code keeps of a table of links, and for which tables it stands.
 use Rattle.std.specs.Prelude.{is_some, ◌≡◌, ℕ, ◌≤◌, ◌==◌, Bool, true, false, if◌then◌else◌, List, [], ◌∷◌, ◌++◌, length, map, Result, Ok, Err, Option, None, Some, min, ◌-◌, slice_get, not, ◌&&◌, nat_lt}
 use Rattle.std.specs.Option.{option_to_list}
-use Rattle.ax_address.specs.Callsign.{Callsign}
+use Rattle.ax_address.specs.Callsign.{Callsign, same_call}
 use Rattle.ax_link.specs.declared.config.LinkConfig.{LinkConfig}
 use Rattle.ax_link.specs.declared.notice.LinkNotice.{LinkNotice}
 use Rattle.ax_link.specs.Standing.{IsDrained}
@@ -10,10 +10,9 @@ use Rattle.ax_link.specs.State.{State, count_end}
 use Rattle.ax_link.specs.Table.{may_close, Input, Send, step, takes}
 use Rattle.l3_datagram.specs.declared.carrier.Offered.{Offered}
 use Rattle.l3_datagram.specs.declared.carrier.Offered.TheVariants.{Taken, Dropped}
-use Rattle.ax_segment.specs.Joining.{HeldMessage as Joined, join_step}
-use Rattle.ax_segment.specs.Kept.{IsWithin}
+use Rattle.ax_segment.specs.Joining.{HeldMessage as Joined, join_step, IsWithin}
 use Rattle.radio_base.specs.declared.payload.Payload.{Payload}
-use Rattle.l3_datagram.specs.CarrierCall.{Parcel}
+use Rattle.l3_datagram.specs.Datagrams.{Parcel, CarrierCall}
 use Rattle.link_table.specs.declared.link_of.LinkOf.{LinkOf}
 use Rattle.link_table.specs.declared.link_of.LinkOf.TheVariants.{Eight, Wide}
 use Rattle.link_table.specs.declared.path_refusal.PathRefusal.{PathRefusal}
@@ -27,15 +26,11 @@ use Rattle.link_table.specs.declared.entry.Entry.{Entry}
 use Rattle.link_table.specs.declared.held_links.HeldLinks.{HeldLinks}
 use Rattle.link_table.specs.Calls.{most_links}
 use Rattle.std.proofs.Common.{refl, subst, sym}
-use Rattle.l3_datagram.specs.CarrierCall.{CarrierCall}
 use Rattle.link_table.specs.Carrying.{AllAnswer, after_call, after_calls}
-use Rattle.link_table.specs.Fetching.{PendingStands, written}
+use Rattle.link_table.specs.Table.{PendingStands, written, Linked, Table, Via}
 use Rattle.link_table.specs.Frames.{all_sent, netrom, segmented}
-use Rattle.link_table.specs.Table.{Linked, Table, Via}
-use Rattle.ax_address.specs.CallOrder.{same_call}
 use Rattle.std.specs.Map.{lookup, remove_entry}
-use Rattle.link_table.specs.Texts.{first_text}
-use Rattle.link_table.specs.Sending.{most_text, payloads_of}
+use Rattle.link_table.specs.Texts.{first_text, most_text, payloads_of}
 use Rattle.link_table.specs.Works.{Work, is_down, joiner_after, lost_by}
 
 abbrev pub size_of : LinkOf → ℕ

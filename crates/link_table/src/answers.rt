@@ -2,7 +2,7 @@
 ghost use Rattle.std.specs.Prelude.{◌≡◌, ◌++◌, [], None, Some, false, map, OnOk};
 ghost use Rattle.ax_frame.specs.Frames.{HasParts, frame as whole, view};
 ghost use Rattle.link_table.specs.Calls.{back, refusal_of, source};
-ghost use Rattle.link_table.specs.Fetching.{written};
+ghost use Rattle.link_table.specs.Table.{written};
 ghost use Rattle.link_table.specs.Frames.{fitting, head_to, sent};
 
 use crate::pending::{Frames, put};

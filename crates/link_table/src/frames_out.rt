@@ -1,9 +1,9 @@
 //! The frames of a link go out (AX.25 2.2, section 3).
 ghost use Rattle.std.specs.Prelude.{◌≡◌, ◌++◌, [], map, OnOk};
 ghost use Rattle.ax_frame.specs.Controls.{IsLinkModulus};
-ghost use Rattle.ax_link.specs.Outputs.{CanBeSent};
+ghost use Rattle.ax_link.specs.Bounds.{CanBeSent};
 ghost use Rattle.ax_link.specs.Standing.{frame_of};
-ghost use Rattle.link_table.specs.Fetching.{written};
+ghost use Rattle.link_table.specs.Table.{written};
 ghost use Rattle.link_table.specs.Frames.{fitting, sent_by};
 ghost use Rattle.link_table.specs.Standing.{gone_out};
 

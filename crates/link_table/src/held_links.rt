@@ -5,7 +5,7 @@ ghost use Rattle.indexmap.specs.IndexMap.{shift_remove_entry, keys};
 ghost use Rattle.std.specs.Map.{keys_of, lookup};
 ghost use Rattle.ax_frame.specs.Frames.{HasParts, view};
 ghost use Rattle.ax_frame.specs.FrameText.{is_command};
-ghost use Rattle.ax_address.specs.CallOrder.{same_call};
+ghost use Rattle.ax_address.specs.Callsign.{same_call};
 ghost use Rattle.ax_link.specs.Table as table;
 ghost use Rattle.link_table.specs.Works as works;
 ghost use Rattle.link_table.specs.Calls as calls;

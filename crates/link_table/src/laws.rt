@@ -2,8 +2,7 @@
 ghost use Rattle.std.specs.Prelude.{◌≡◌};
 ghost use Rattle.link_table.specs.Calls.{AnsweredAsDown};
 ghost use Rattle.link_table.specs.Ending.{EndsAreTold, TextsAreOfLinks};
-ghost use Rattle.link_table.specs.Kept.{KeepsItsShare};
-ghost use Rattle.link_table.specs.Payloads.{CountsPayloads, OffersLeave, TakesLower};
+ghost use Rattle.link_table.specs.Kept.{KeepsItsShare, CountsPayloads, OffersLeave, TakesLower};
 ghost use Rattle.link_table.specs.Reaching.{FramesAreSpelled};
 ghost use Rattle.link_table.specs.Rooms.{OffersTakeOne, RoomTakesTexts, TextsAreFew};
 ghost use Rattle.link_table.specs.Laws.{CarriesByWeaker, CarriesWhatWasOffered, NewLinkTakes, NumberedWithoutLink, OnlyFramesBring, PiecesAreTheText, SettledAll, TextsAreGiven};

@@ -2,7 +2,7 @@
 ghost use Rattle.std.specs.Prelude.{◌≡◌, ◌≤◌, ◌<◌, ℕ, None, Some, OnOk, IfOk, if◌then◌else◌, length, is_some};
 ghost use Rattle.std.specs.Map.{lookup};
 ghost use Rattle.std.specs.Option.{unwrap_or};
-ghost use Rattle.ax_address.specs.CallOrder.{same_call};
+ghost use Rattle.ax_address.specs.Callsign.{same_call};
 ghost use Rattle.ax_link.specs.Table as table;
 ghost use Rattle.l3_datagram.specs.declared.carrier.Offered.TheVariants.{Dropped};
 ghost use Rattle.link_table.specs.Works as works;

@@ -1,7 +1,7 @@
 //! Sending a text over the link with a peer.
 ghost use Rattle.std.specs.Prelude.{◌≡◌, ◌≤◌, OnOk, length};
 ghost use Rattle.link_table.specs.Calls.{at_link};
-ghost use Rattle.link_table.specs.Sending.{most_text, send_text_of};
+ghost use Rattle.link_table.specs.Texts.{most_text, send_text_of};
 
 use crate::TextRefusal;
 use crate::held_links::HeldLinks;

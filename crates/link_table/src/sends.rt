@@ -4,7 +4,7 @@ ghost use Rattle.ax_link.specs.Standing.{IsDrained};
 ghost use Rattle.ax_link.specs.Table as table;
 ghost use Rattle.ax_segment.specs.Segments.{segments_of};
 ghost use Rattle.link_table.specs.Frames.{plain_text, segmented};
-ghost use Rattle.link_table.specs.Sending as sending;
+ghost use Rattle.link_table.specs.Texts as sending;
 ghost use Rattle.link_table.specs.Works as works;
 
 use crate::TextRefusal;

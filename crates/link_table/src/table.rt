@@ -1,10 +1,9 @@
 //! The table of links, and what it is to a router: a carrier of datagrams (AX.25 2.2, section 6; NET/ROM, Appendix B).
 ghost use Rattle.std.specs.Prelude.{◌≡◌, ◌≤◌, ◌<◌, ◌↔◌, ℕ, List, [], ◌∷◌, Bool, true, false, None, Some, OnOk, OnErr, IfOk, IsOk, IsErr, IsErrOf, IsTrue, is_some, slice_get, drop, length};
 ghost use Rattle.ax_link.specs.State.{count_end};
-ghost use Rattle.l3_datagram.specs.CarrierCall.{Offer};
+ghost use Rattle.l3_datagram.specs.Datagrams.{Offer};
 ghost use Rattle.link_table.specs.Table.{Table};
 ghost use Rattle.link_table.specs.Calls as calls;
-ghost use Rattle.link_table.specs.Sending as sending;
 ghost use Rattle.link_table.specs.Texts as texts;
 
 use crate::held_links::HeldLinks;
@@ -76,8 +75,7 @@ impl Model for LinkTable {
 
 impl LinkTable {
     ghost use Rattle.link_table.specs.Standing.{LentStands, NotNoMemory, TableGoes, TableStands, TextNotNoMemory, text_given, width};
-    ghost use Rattle.link_table.specs.Table.{link_with};
-    ghost use Rattle.link_table.specs.Fetching.{written};
+    ghost use Rattle.link_table.specs.Table.{link_with, written};
     ghost use Rattle.link_table.specs.Kept.{KeepsOn};
     ghost use Rattle.ax_frame.specs.Frames.{view};
     ghost use Rattle.std.specs.Option.{option_copied, option_map};
@@ -289,8 +287,8 @@ impl LinkTable {
     /// over a link of modulo 128, and in pieces of 256 bytes over one of modulo 8. An empty text sends nothing. It is refused,
     /// in this order: `NoLink`, `TooLong`, `Full`. A refusal but `NoMemory` changes nothing.
     pub fn send_text(&mut self, peer: &Call, text: &[u8], now: Moment) -> Result<(), TextRefusal>
-        ensures goes { OnOk result (TableGoes (sending.send_text peer.now text.now now.0) self.old self.new) }
-        ensures answer { TextNotNoMemory result → (t : Table) → TableStands self.old t → result ≡ sending.text_answer peer.now text.now t }
+        ensures goes { OnOk result (TableGoes (texts.send_text peer.now text.now now.0) self.old self.new) }
+        ensures answer { TextNotNoMemory result → (t : Table) → TableStands self.old t → result ≡ texts.text_answer peer.now text.now t }
         ensures err { OnErr result (TextNotNoMemory result → self.new ≡ self.old) }
         ensures few { OnOk result (length self.new.links ≤ 64) }
         ensures kept { OnOk result (KeepsOn self.old self.new) }

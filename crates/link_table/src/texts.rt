@@ -1,8 +1,7 @@
 //! Texts that come over a link: which payloads are texts, and taking them (the PIDs: AX.25 2.2, section 3.4).
 ghost use Rattle.std.specs.Prelude.{◌≡◌, ◌≤◌, [], Some, OnOk, is_some, length, true};
 ghost use Rattle.ax_link.specs.Standing.{IsDrained};
-ghost use Rattle.ax_segment.specs.Joining.{join_step, whole_of};
-ghost use Rattle.ax_segment.specs.Kept.{IsWithin};
+ghost use Rattle.ax_segment.specs.Joining.{join_step, whole_of, IsWithin};
 ghost use Rattle.link_table.specs.Texts as texts;
 ghost use Rattle.link_table.specs.Works as works;
 

@@ -3,8 +3,7 @@ ghost use Rattle.std.specs.Prelude.{◌≡◌, ◌≤◌, ◌++◌, ◌∷◌, [
 ghost use Rattle.radio_base.specs.declared.payload.Payload.{Payload};
 ghost use Rattle.std.specs.Option.{option_to_list};
 ghost use Rattle.ax_link.specs.Standing.{IsDrained};
-ghost use Rattle.ax_segment.specs.Joining.{join_step};
-ghost use Rattle.ax_segment.specs.Kept.{IsWithin};
+ghost use Rattle.ax_segment.specs.Joining.{join_step, IsWithin};
 ghost use Rattle.link_table.specs.Standing.{HandsUp};
 ghost use Rattle.link_table.specs.Works as works;
 

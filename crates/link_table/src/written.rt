@@ -1,6 +1,6 @@
 //! Frames in octets, as a node hands them out.
 ghost use Rattle.std.specs.Prelude.{◌≡◌};
-ghost use Rattle.link_table.specs.Fetching as fetching;
+ghost use Rattle.link_table.specs.Table as fetching;
 
 use crate::Octets;
 use radio_base::Modulus;

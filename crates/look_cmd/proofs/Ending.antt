@@ -2,7 +2,7 @@
 use Rattle.std.proofs.Common.{◌≡◌, inr, inl, ℕ, List, arith}
 use Rattle.std.specs.Prelude.{None}
 use Rattle.network_file.specs.Plan.{Plan}
-use Rattle.net_replay.specs.Files.{IsNetwork}
+use Rattle.net_replay.specs.Circuits.{IsNetwork}
 use Rattle.cmd_streams.specs.declared.status.Status.{Status}
 use Rattle.cmd_streams.specs.Reading.{ReadsAll}
 use Rattle.cmd_streams.specs.Told.{StreamsTold, told}

@@ -6,13 +6,11 @@ use Rattle.cmd_streams.specs.declared.status.Status.TheVariants.{Done, Usage, Ba
 use Rattle.cmd_streams.specs.Reading.{ReadsFew, ReadsTooMuch, TellsTooMuch}
 use Rattle.cmd_streams.specs.StreamEnds.{StreamEnds}
 use Rattle.cmd_streams.specs.Streams.{Read, bytes_of}
-use Rattle.cmd_streams.specs.Told.{StreamsTold}
+use Rattle.cmd_streams.specs.Told.{StreamsTold, Comes, ReadsWell, WritesWell, IsNoted}
 use Rattle.frame_lines.specs.declared.listener.Modulo.{Modulo}
 use Rattle.frame_lines.specs.Hearing.{Listening, by_items}
 use Rattle.kiss_framing.specs.Stream.{items}
-use Rattle.net_replay.specs.Files.{AirsTooMany}
-use Rattle.cmd_streams.specs.Comings.{Comes, ReadsWell, WritesWell}
-use Rattle.cmd_streams.specs.ToldBy.{IsNoted}
+use Rattle.net_replay.specs.Circuits.{AirsTooMany}
 use Rattle.look_cmd.specs.Traced.{ReadsBadFile, ReadsNetwork, TellsBadFile, TellsInTime, TellsLate, TellsTooManyFrames, TracesInTime, TracesLate, WritesFront}
 
 -- a listener that has heard nothing

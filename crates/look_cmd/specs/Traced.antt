@@ -5,22 +5,16 @@ use Rattle.radio_base.specs.Causes.{Rose}
 use Rattle.circuit_verdict.specs.declared.verdict.Late.{Late}
 use Rattle.cmd_streams.specs.declared.status.Status.{Status}
 use Rattle.cmd_streams.specs.declared.status.Status.TheVariants as statuses
-use Rattle.cmd_streams.specs.Notes.{bad_line_note}
+use Rattle.cmd_streams.specs.Told.{bad_line_note, StreamsTold, AppendsFront, Comes, WritesWell, IsNoted}
 use Rattle.cmd_streams.specs.Reading.{ReadsFile, TellsFile}
-use Rattle.cmd_streams.specs.Told.{StreamsTold}
-use Rattle.cmd_streams.specs.Writing.{AppendsFront}
-use Rattle.network_file.specs.Networks.{Bad, network_of}
+use Rattle.network_file.specs.Networks.{Bad, network_of, word_for}
 use Rattle.network_file.specs.Plan.{Plan}
-use Rattle.network_file.specs.Reasons.{word_for}
 use Rattle.net_replay.specs.declared.causes.LateCause.{LateCause}
 use Rattle.net_replay.specs.declared.trace.Trace.{Trace}
 use Rattle.net_replay.specs.Causes.{IsCauseOf}
-use Rattle.net_replay.specs.Circuits.{IsVerdictOn, allowance_of}
-use Rattle.net_replay.specs.Files.{AirsFew, AirsTooMany, IsInTime, IsLate, IsNetwork}
+use Rattle.net_replay.specs.Circuits.{IsVerdictOn, allowance_of, AirsFew, AirsTooMany, IsInTime, IsLate, IsNetwork}
 use Rattle.net_replay.specs.Lines.{world}
 use Rattle.net_replay.specs.Traces.{IsTraceOf, allowance_in, left_of}
-use Rattle.cmd_streams.specs.Comings.{Comes, WritesWell}
-use Rattle.cmd_streams.specs.ToldBy.{IsNoted}
 use Rattle.look_cmd.specs.declared.traces.TraceRefusal.{TraceRefusal}
 use Rattle.look_cmd.specs.declared.traces.TraceRefusal.TheVariants.{BadLine, TooManyFrames, NoMemory}
 use Rattle.trace_lines.specs.Texts.{trace_text}

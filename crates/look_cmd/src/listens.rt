@@ -1,7 +1,7 @@
 //! The command `listen`.
 ghost use Rattle.std.specs.Prelude.{◌≡◌};
 ghost use Rattle.cmd_streams.specs.StatusNotes.{HasNote, IsSilent};
-ghost use Rattle.cmd_streams.specs.ToldBy.{SaysTo, told_by};
+ghost use Rattle.cmd_streams.specs.Told.{SaysTo, told_by};
 ghost use Rattle.look_cmd.specs.Look.{ListenEnds};
 
 use cmd_streams::{ItemTaker, Status, answer_items};

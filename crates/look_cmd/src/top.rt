@@ -1,8 +1,7 @@
 //! The top call.
 ghost use Rattle.std.specs.Prelude.{◌≡◌, ◌↔◌};
 ghost use Rattle.cmd_streams.specs.StatusNotes.{HasNote, IsSilent};
-ghost use Rattle.cmd_streams.specs.ToldBy.{SaysTo, told_by};
-ghost use Rattle.cmd_streams.specs.Comings.{UnlessItWrote};
+ghost use Rattle.cmd_streams.specs.Told.{SaysTo, told_by, UnlessItWrote};
 ghost use Rattle.frame_lines.specs.declared.listener.Modulo.{Modulo};
 ghost use Rattle.look_cmd.specs.declared.words.Command.{Command};
 ghost use Rattle.look_cmd.specs.Look.{ListenEnds, TraceEnds};

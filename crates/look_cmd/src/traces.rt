@@ -2,14 +2,12 @@
 ghost use Rattle.std.specs.Prelude.{◌≡◌, ◌≤◌, length, Ok, IfOk, IfErr};
 ghost use Rattle.cmd_streams.specs.Reading.{max_file};
 ghost use Rattle.cmd_streams.specs.StatusNotes.{HasNote, IsSilent};
-ghost use Rattle.cmd_streams.specs.ToldBy.{SaysTo, output_by, told_by};
-ghost use Rattle.cmd_streams.specs.Comings.{UnlessItWrote};
+ghost use Rattle.cmd_streams.specs.Told.{SaysTo, output_by, told_by, UnlessItWrote};
 ghost use Rattle.network_file.specs.Networks.{network_of};
 ghost use Rattle.network_file.specs.Plan.{Plan};
-ghost use Rattle.net_replay.specs.Air.{most_frames};
+ghost use Rattle.net_replay.specs.World.{most_frames};
 ghost use Rattle.net_replay.specs.Causes.{IsCauseOf};
-ghost use Rattle.net_replay.specs.Circuits.{IsVerdictOn};
-ghost use Rattle.net_replay.specs.Files.{IsNetwork};
+ghost use Rattle.net_replay.specs.Circuits.{IsVerdictOn, IsNetwork};
 ghost use Rattle.net_replay.specs.Lines.{world};
 ghost use Rattle.net_replay.specs.Traces.{left_of};
 ghost use Rattle.look_cmd.specs.Look.{TraceEnds};

@@ -2,8 +2,8 @@
 use Rattle.std.proofs.Common.{◌≡◌, ◌≤◌, ◌+◌, ◌++◌, ◌∙◌, ℕ, zero, suc, refl, sym, ap, subst, List, [], ◌∷◌, length, map, drop, append_assoc, append-nil, arith, cond, Bool, true, false}
 use Rattle.std.specs.Prelude.{Option, Some, None, slice_get, slice_set}
 use Rattle.std.proofs.lemmas.List.{length-append, map-append}
-use Rattle.network_file.specs.Channels.{is_on_air}
-use Rattle.link_table.specs.Fetching.{written}
+use Rattle.network_file.specs.Plan.{is_on_air}
+use Rattle.link_table.specs.Table.{written}
 use Rattle.link_table.specs.Frames.{Sent}
 use Rattle.link_table.specs.declared.written.Written.{Written}
 use Rattle.node_turns.specs.Links.{all_fetched, sent_frames}

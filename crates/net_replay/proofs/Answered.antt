@@ -5,7 +5,7 @@ use Rattle.std.specs.List.{position_or_len}
 use Rattle.node_core.specs.declared.acts.ActDone.{ActDone}
 use Rattle.node_core.specs.declared.acts.ActDone.TheVariants as actions
 use Rattle.node_core.specs.declared.acts.ActRefusal.{ActRefusal}
-use Rattle.node_core.specs.UserActs.{UserAct}
+use Rattle.node_core.specs.Acts.{UserAct}
 use Rattle.net_replay.specs.declared.answer.Answer.{Answer}
 use Rattle.net_replay.specs.declared.answer.Answer.TheVariants as answers
 use Rattle.net_replay.specs.declared.reasons.LineRefusal.{LineRefusal}

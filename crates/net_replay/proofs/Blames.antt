@@ -6,9 +6,8 @@ use Rattle.std.proofs.lemmas.List.{drop_all, length-map, length-take-le, map-app
 use Rattle.std.proofs.lemmas.Option.{slice_get-map}
 use Rattle.circuit_set.specs.Events as set_events
 use Rattle.circuit_verdict.specs.Causes.{cause_after}
-use Rattle.circuit_verdict.specs.Verdicts.{AreInTime}
-use Rattle.circuit_verdict.specs.Events as told
-use Rattle.circuit_verdict.specs.Events.{events_of}
+use Rattle.circuit_verdict.specs.Verdicts.{AreInTime, events_of}
+use Rattle.circuit_verdict.specs.Verdicts as told
 use Rattle.circuit_verdict.specs.declared.cause.Cause.{Cause}
 use Rattle.circuit_verdict.specs.declared.event.Event.{Event as Coming}
 use Rattle.circuit_verdict.specs.declared.event.Numbered.{Numbered}

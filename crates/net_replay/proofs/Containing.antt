@@ -5,9 +5,8 @@ use Rattle.std.specs.List.{AllByRecursion, position_or_len}
 use Rattle.std.proofs.lemmas.List.{map-append}
 use Rattle.circuit_l4.specs.declared.config.EndConfig.{EndConfig}
 use Rattle.circuit_set.specs.Givings.{IsUp}
-use Rattle.circuit_set.specs.Inputs.{runs}
+use Rattle.circuit_set.specs.Pumps.{runs, at_rest}
 use Rattle.circuit_set.specs.Pumps as pumps
-use Rattle.circuit_set.specs.Pumps.{at_rest}
 use Rattle.circuit_set.specs.Runs as net
 use Rattle.circuit_set.specs.Runs.{AreSteps, IsAct, Step, sets_at, sets_run}
 use Rattle.circuit_set.specs.Sets as sets
@@ -15,12 +14,12 @@ use Rattle.circuit_set.specs.Sets.{Act, Holder, SetState, CircuitTold, all_gone,
 use Rattle.network_file.specs.declared.plan.declarations.Declaration.{Declaration}
 use Rattle.network_file.specs.declared.plan.keys.Key.TheVariants.{TimeToLive}
 use Rattle.network_file.specs.Plan.{Plan}
-use Rattle.network_file.specs.Settings.{value_of}
+use Rattle.network_file.specs.Keys.{value_of}
 use Rattle.node_core.specs.Runs.{InputsAreSteps, StepsOf, steps_at}
 use Rattle.node_turns.specs.States as states
 use Rattle.node_turns.specs.States.{NodeState, State}
 use Rattle.net_replay.specs.declared.ends.EndRecord.{EndRecord}
-use Rattle.net_replay.specs.CircuitRuns.{first_sets, set_of}
+use Rattle.net_replay.specs.Promises.{first_sets, set_of}
 use Rattle.net_replay.specs.Circuits as circuits
 use Rattle.net_replay.specs.Circuits.{CircuitEvent}
 use Rattle.net_replay.specs.Ends.{ends_of, note_event, note_events, with_offered}

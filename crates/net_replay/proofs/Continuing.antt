@@ -6,7 +6,7 @@ use Rattle.circuit_set.specs.CircuitSets.{partner_at}
 use Rattle.circuit_set.specs.Sets.{end_of}
 use Rattle.node_core.specs.declared.acts.ActDone.{ActDone}
 use Rattle.node_core.specs.declared.acts.ActRefusal.{ActRefusal}
-use Rattle.node_core.specs.UserActs as acts
+use Rattle.node_core.specs.Acts as acts
 use Rattle.net_replay.specs.Mailing.{Agent, aired_before, ends_here, hear_taken, is_taken, offer_one}
 use Rattle.net_replay.specs.World.{Act, World, answer, reach}
 

@@ -2,13 +2,12 @@
 use Rattle.std.proofs.Common.{◌≡◌, ◌∙◌, ℕ, refl, sym, ap, subst, List, [], ◌∷◌, ◌++◌, append_assoc}
 use Rattle.std.specs.Prelude.{false, slice_get, Option, Some}
 use Rattle.std.specs.List.{AllByRecursion}
-use Rattle.circuit_l4.specs.Receiving.{inbox}
+use Rattle.circuit_l4.specs.State.{inbox}
 use Rattle.circuit_set.specs.Events.{Event, Name}
-use Rattle.circuit_set.specs.Beginnings.{IsBeginning}
+use Rattle.circuit_set.specs.Safe.{IsBeginning, CircuitsSafe, IsSafe, PartnersLast, Safe, SafeBetween}
 use Rattle.circuit_set.specs.NotedRuns.{NarrowIsTimely}
 use Rattle.circuit_set.specs.ByBook.{FreshByBook, TimelyBy128, TimelyByBook}
 use Rattle.circuit_set.specs.Runs.{Step, end_in, end_named, events_of, sets_run}
-use Rattle.circuit_set.specs.Safe.{CircuitsSafe, IsSafe, PartnersLast, Safe, SafeBetween}
 use Rattle.circuit_set.specs.Sets.{Holder, SetState, end_of}
 use Rattle.circuit_set.specs.TooLate.{Partners}
 use Rattle.network_file.specs.Laws.{SettingsFit}
@@ -17,7 +16,7 @@ use Rattle.node_core.specs.Fetching.{FetchesAllEntries, FetchesAllFrames}
 use Rattle.node_turns.specs.Sessions.{Session, waits}
 use Rattle.node_turns.specs.States.{State}
 use Rattle.node_turns.specs.Users.{is_deaf}
-use Rattle.net_replay.specs.CircuitRuns.{NetworksAreSound, WorldsAreRuns, first_sets}
+use Rattle.net_replay.specs.Promises.{NetworksAreSound, WorldsAreRuns, first_sets}
 use Rattle.net_replay.specs.Conversations.{Agree, AgreeWith, AgreesAt, InTimeUsersAgree, IsSession, WritesTexts}
 use Rattle.net_replay.specs.Lines.{do_lines}
 use Rattle.net_replay.specs.Starting.{Placed}

@@ -4,7 +4,7 @@ use Rattle.std.specs.Prelude.{Option, Some, None, Result, Ok, Err, IfOk, IfSome,
 use Rattle.std.specs.Option.{option_map}
 use Rattle.radio_base.specs.declared.errors.NoMemory.{NoMemory}
 use Rattle.network_file.specs.declared.plan.declarations.Declaration.{Declaration}
-use Rattle.node_core.specs.Kept.{Kept, NodeStands}
+use Rattle.node_core.specs.Standing.{Kept, NodeStands}
 use Rattle.net_replay.specs.declared.events.Event.{Event as SeenEvent}
 use Rattle.node_turns.specs.States as states
 use Rattle.node_turns.specs.States.{NodeState}

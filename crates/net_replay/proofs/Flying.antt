@@ -7,7 +7,7 @@ use Rattle.ax_address.specs.Callsign.{Callsign}
 use Rattle.ax_frame.specs.Frames.{IsAddress}
 use Rattle.circuit_l4.specs.declared.transport.Pair.{Pair}
 use Rattle.circuit_set.specs.Events as set_events
-use Rattle.circuit_set.specs.Inputs.{runs}
+use Rattle.circuit_set.specs.Pumps.{runs}
 use Rattle.circuit_set.specs.Pairs.{IsPair}
 use Rattle.circuit_set.specs.Runs.{Step, events_of, sets_run}
 use Rattle.circuit_set.specs.Sets as sets
@@ -22,20 +22,19 @@ use Rattle.kiss_framing.specs.Laws.{FendParts, FramesReadBack, LongFramesAreTooL
 use Rattle.network_file.specs.declared.plan.declarations.Declaration.{Declaration}
 use Rattle.network_file.specs.declared.plan.keys.Key.TheVariants.{Modulo}
 use Rattle.network_file.specs.declared.plan.vias.Via.{Via}
-use Rattle.network_file.specs.Plan.{Plan}
-use Rattle.network_file.specs.Channels.{is_on_air}
-use Rattle.network_file.specs.Settings.{value_of}
+use Rattle.network_file.specs.Plan.{Plan, is_on_air}
+use Rattle.network_file.specs.Keys.{value_of}
 use Rattle.node_core.specs.Broadcasts.{broadcast_octets}
 use Rattle.node_core.specs.Carried.{ActsCarry, Borne, BytesCarry, CarriedFurther, CarriedOn, CarriesTraced, IsAloft, IsOfNode, Offered, Place, TicksCarry, WasBorne, borne_in, is_borne, offers_traced, sends_in, with_borne}
 use Rattle.node_core.specs.Configs.{new_node}
 use Rattle.node_core.specs.Runs.{ActsRun, BytesRun, InputsAreSteps, RunsOn, StepsOf, TicksRun, steps_at}
 use Rattle.node_core.specs.Standing.{IsTold}
 use Rattle.node_turns.specs.States.{NodeState, frames}
-use Rattle.node_core.specs.UserActs as acts
-use Rattle.node_core.specs.UserActs.{UserAct}
+use Rattle.node_core.specs.Acts as acts
+use Rattle.node_core.specs.Acts.{UserAct}
 use Rattle.net_replay.specs.declared.air.Aired.{Aired}
-use Rattle.net_replay.specs.Air.{settled_at}
-use Rattle.net_replay.specs.CircuitRuns.{first_sets, set_of}
+use Rattle.net_replay.specs.World.{settled_at, Bytes, Input, Time, World, after, aired, aired_as, air_events, all_fetched_of, all_told, numbered, place_of_node, put, reach, tell}
+use Rattle.net_replay.specs.Promises.{first_sets, set_of}
 use Rattle.net_replay.specs.Events.{Event, NumberedEvent}
 use Rattle.net_replay.specs.Ends.{ends_of}
 use Rattle.net_replay.specs.Mailing.{with_mail}
@@ -44,7 +43,6 @@ use Rattle.net_replay.specs.Hops.{all_borne, node_at}
 use Rattle.net_replay.specs.Lines.{kiss_bytes, restart, settle}
 use Rattle.net_replay.specs.Starting.{Placed, by_number, config_of, is_via_of, new_nodes, path_of, repeater, with_via, with_via_by, with_vias}
 use Rattle.net_replay.specs.World as worlds
-use Rattle.net_replay.specs.World.{Bytes, Input, Time, World, after, aired, aired_as, air_events, all_fetched_of, all_told, numbered, place_of_node, put, reach, tell}
 use Rattle.net_replay.proofs.Containing.{AreApart, Contains, IsQuiet, Tracks, TracksAt, comes_contains, events_append, name_at, names, quiet_contains}
 use Rattle.net_replay.proofs.LineWalks.{IsPlain, Moves}
 use Rattle.net_replay.proofs.Looks.{put_of, reaches, restart_of}

@@ -9,8 +9,8 @@ use Rattle.network_file.specs.declared.plan.instructions.Instruction.{Instructio
 use Rattle.network_file.specs.declared.plan.instructions.Instruction.TheVariants as instructions
 use Rattle.network_file.specs.Plan.{Plan}
 use Rattle.node_turns.specs.States as states
-use Rattle.node_core.specs.UserActs as acts
-use Rattle.net_replay.specs.CircuitRuns.{IsInstruction}
+use Rattle.node_core.specs.Acts as acts
+use Rattle.net_replay.specs.Promises.{IsInstruction}
 use Rattle.net_replay.specs.Datagrams.{LineRestartsNone, RestartsNone}
 use Rattle.net_replay.specs.Events as events
 use Rattle.net_replay.specs.Events.{Event}

@@ -5,23 +5,21 @@ use Rattle.std.specs.Fmt.{decimal}
 use Rattle.std.specs.List.{AllByRecursion, range_with_len}
 use Rattle.std.proofs.lemmas.List.{length-append}
 use Rattle.circuit_l4.specs.declared.transport.Pair.{Pair}
-use Rattle.network_file.specs.Channels.{hearers}
-use Rattle.network_file.specs.Plan.{Plan}
+use Rattle.network_file.specs.Plan.{hearers, Plan}
 use Rattle.network_file.specs.declared.network.NumberedInstruction.{NumberedInstruction}
 use Rattle.network_file.specs.declared.plan.instructions.Instruction.{Instruction}
 use Rattle.network_file.specs.declared.plan.instructions.Instruction.TheVariants as instructions
 use Rattle.node_core.specs.declared.acts.ActDone.{ActDone}
 use Rattle.node_core.specs.declared.acts.ActRefusal.{ActRefusal}
-use Rattle.node_core.specs.UserActs.{UserAct}
-use Rattle.node_core.specs.UserActs as acts
+use Rattle.node_core.specs.Acts.{UserAct}
+use Rattle.node_core.specs.Acts as acts
 use Rattle.net_replay.specs.declared.air.Aired.{Aired}
-use Rattle.net_replay.specs.Air.{oldest, settled_at}
-use Rattle.net_replay.specs.CircuitRuns.{IsLine}
+use Rattle.net_replay.specs.World.{oldest, settled_at, Act, Bytes, Input, Time, World, aired, answer, place_of_node, put, reach, tell}
+use Rattle.net_replay.specs.Promises.{IsLine}
 use Rattle.net_replay.specs.Events.{Delivered, Event, Wrote}
 use Rattle.net_replay.specs.Lines.{all_wrote, burst_from, cut, deliver_all, deliver_at, do_act, do_line, do_lines, flow, hear, kiss_bytes, lose_at, refusal_events, settle, spread, tick_from, tick_node, events_of_act}
 use Rattle.net_replay.specs.Refused.{of_act}
 use Rattle.net_replay.specs.Starting.{Placed}
-use Rattle.net_replay.specs.World.{Act, Bytes, Input, Time, World, aired, answer, place_of_node, put, reach, tell}
 use Rattle.net_replay.proofs.Looks.{burst_by, deliver_of, put_of, reaches, restart_of, spread_of}
 use Rattle.net_replay.proofs.LineWalks.{LineMoves, line_leads}
 use Rattle.net_replay.proofs.MailWalks.{AgentMoves, AnyUser, turns_of}

@@ -5,15 +5,14 @@ use Rattle.std.specs.Cmp.Lexicographic.{pointwise}
 use Rattle.std.specs.List.{AllByRecursion}
 use Rattle.std.proofs.lemmas.Bool.Decides.{nat_tests}
 use Rattle.std.proofs.lemmas.Cmp.{nat_list_eq_equiv}
-use Rattle.ax_address.specs.Callsign.{Callsign}
-use Rattle.ax_address.specs.CallOrder.{same_call}
+use Rattle.ax_address.specs.Callsign.{Callsign, same_call}
 use Rattle.circuit_set.specs.Events.{is_copy}
 use Rattle.circuit_set.specs.Events as events
 use Rattle.circuit_set.specs.Sets as sets
 use Rattle.network_file.specs.Plan.{Plan}
 use Rattle.node_core.specs.Carried.{Borne, borne_in, is_borne, ttl_of}
 use Rattle.net_replay.specs.declared.air.Aired.{Aired}
-use Rattle.net_replay.specs.Air.{settled_at}
+use Rattle.net_replay.specs.World.{settled_at}
 use Rattle.net_replay.specs.Hops.{CameBy, HopsTakeOne, Puts, all_borne}
 
 -- ---- tests

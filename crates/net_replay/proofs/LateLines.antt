@@ -6,9 +6,8 @@ use Rattle.circuit_set.specs.Events as set_events
 use Rattle.circuit_set.specs.Pumps.{Of}
 use Rattle.circuit_set.specs.Sets.{Restarted, Lost, CircuitTold}
 use Rattle.circuit_set.specs.TooLate.{Allowing, IsFresh, IsTimely}
-use Rattle.circuit_verdict.specs.Events as told
-use Rattle.circuit_verdict.specs.Events.{events_of}
-use Rattle.circuit_verdict.specs.Verdicts.{AreInTime, Fails, IsFirstLate, allows_of}
+use Rattle.circuit_verdict.specs.Verdicts as told
+use Rattle.circuit_verdict.specs.Verdicts.{events_of, AreInTime, Fails, IsFirstLate, allows_of}
 use Rattle.circuit_verdict.specs.declared.cause.Cause.{Cause}
 use Rattle.circuit_verdict.specs.declared.verdict.Allowance.{Allowance}
 use Rattle.circuit_verdict.specs.declared.verdict.Late.{Late}

@@ -12,10 +12,10 @@ use Rattle.network_file.specs.declared.plan.instructions.Instruction.TheVariants
 use Rattle.network_file.specs.Laws.{AreDifferent}
 use Rattle.network_file.specs.Places.{has_node}
 use Rattle.network_file.specs.Plan.{Plan}
-use Rattle.node_core.specs.UserActs.{UserAct}
-use Rattle.node_core.specs.UserActs as acts
+use Rattle.node_core.specs.Acts.{UserAct}
+use Rattle.node_core.specs.Acts as acts
 use Rattle.node_core.specs.Runs.{ActsRun, BytesRun, InputsAreSteps, IsUserAct, TicksRun}
-use Rattle.net_replay.specs.CircuitRuns.{IsInstruction, IsRunOf, IsSound, RunsThrough, first_sets, set_of}
+use Rattle.net_replay.specs.Promises.{IsInstruction, IsRunOf, IsSound, RunsThrough, first_sets, set_of}
 use Rattle.net_replay.specs.Circuits.{CircuitEvent}
 use Rattle.net_replay.specs.Events.{NumberedEvent}
 use Rattle.net_replay.specs.Lines.{do_line, do_lines, world}

@@ -18,30 +18,26 @@ use Rattle.nodes_broadcast.specs.Nodes.{Broadcast, view}
 use Rattle.network_file.specs.declared.network.NumberedInstruction.{NumberedInstruction}
 use Rattle.network_file.specs.declared.plan.instructions.Instruction.{Instruction}
 use Rattle.network_file.specs.declared.plan.instructions.Instruction.TheVariants as instructions
-use Rattle.network_file.specs.Channels.{hearers}
-use Rattle.network_file.specs.Plan.{Plan}
-use Rattle.node_core.specs.Acts.{refuse, write, write_by}
+use Rattle.network_file.specs.Plan.{hearers, Plan}
+use Rattle.node_core.specs.Acts.{refuse, write, write_by, write_refusal, UserAct}
 use Rattle.node_core.specs.Broadcasts.{broadcast_octets}
 use Rattle.node_core.specs.declared.acts.ActDone.{ActDone}
 use Rattle.node_core.specs.declared.acts.ActDone.TheVariants.{Done, Made, Took}
 use Rattle.node_core.specs.declared.acts.ActRefusal.{ActRefusal}
 use Rattle.node_core.specs.declared.acts.ActRefusal.TheVariants as refusal
 use Rattle.node_core.specs.Inputs.{act_answer, moment}
-use Rattle.node_core.specs.Refusals.{write_refusal}
 use Rattle.node_turns.specs.Serving.{is_served}
 use Rattle.node_turns.specs.States.{NodeState, State}
-use Rattle.node_core.specs.UserActs.{UserAct}
-use Rattle.node_core.specs.UserActs as acts
+use Rattle.node_core.specs.Acts as acts
 use Rattle.net_replay.specs.declared.air.Aired.{Aired}
 use Rattle.net_replay.specs.declared.reasons.LineRefusal.{LineRefusal}
-use Rattle.net_replay.specs.Air.{delivery_fault, frame_of, lost_fault, oldest}
+use Rattle.net_replay.specs.World.{delivery_fault, frame_of, lost_fault, oldest, Bytes, Input, Time, World, answer, place_of_node, put, reach, tell}
 use Rattle.net_replay.specs.Events as events
 use Rattle.net_replay.specs.Events.{Event}
 use Rattle.net_replay.specs.Lines.{all_wrote, burst, burst_from, cut, deliver_all, deliver_at, do_act, do_line, do_lines, flow, hear, kiss_bytes, lose_at, refusal_events, restart, settle, spread, table_of, tick_from, tick_node, events_of_act, took_of, unless_refused}
 use Rattle.net_replay.specs.Refused.{of_act}
 use Rattle.net_replay.specs.Starting.{Placed}
 use Rattle.net_replay.specs.World as worlds
-use Rattle.net_replay.specs.World.{Bytes, Input, Time, World, answer, place_of_node, put, reach, tell}
 use Rattle.net_replay.specs.Mailing.{ends_here, mail_at, mail_in, unless_agents, with_mail}
 use Rattle.node_mail.specs.Lists.{Lists}
 use Rattle.net_replay.proofs.Containing.{IsQuiet}

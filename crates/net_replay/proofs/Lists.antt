@@ -3,7 +3,7 @@ use Rattle.std.proofs.Common.{◌≡◌, ◌∙◌, ◌<◌, ℕ, zero, suc, ref
 use Rattle.std.specs.Prelude.{◌≢◌, nat_eq, slice_get, slice_index_or, slice_set, Contains, Some}
 use Rattle.std.specs.List.{AllByRecursion}
 use Rattle.net_replay.specs.declared.air.Aired.{Aired}
-use Rattle.net_replay.specs.Air.{settled_at}
+use Rattle.net_replay.specs.World.{settled_at}
 
 pub settled_all : (P : List ℕ → Type 0) (at : ℕ) (air : List Aired) → AllByRecursion (λ (f : Aired). P f.octets.items) air → AllByRecursion (λ (f : Aired). P f.octets.items) (settled_at at air)
 settled_all P at [] a = tt

@@ -7,15 +7,14 @@ use Rattle.circuit_l4.specs.declared.facts.EndFacts.{EndFacts}
 use Rattle.circuit_l4.specs.declared.refusal.WriteRefusal.{WriteRefusal}
 use Rattle.circuit_l4.specs.Opening.{facts_of}
 use Rattle.circuit_l4.specs.Standing.{EndView, StandsFor}
-use Rattle.circuit_l4.specs.State.{State, is_up}
+use Rattle.circuit_l4.specs.State.{State, is_up, inbox}
 use Rattle.circuit_l4.specs.Table as table
-use Rattle.circuit_l4.specs.Receiving.{inbox}
 use Rattle.circuit_set.specs.CircuitSets.{Circuits, LentStands, SetStands, facts_at, held_by, partner_at, requested_at}
 use Rattle.circuit_set.specs.Pumps.{Waiting, at_rest}
 use Rattle.circuit_set.specs.Sets.{Holder, end_of}
 use Rattle.circuit_set.specs.Standing.{by_write, take_answer, write_answer}
 use Rattle.link_table.specs.Standing.{TableView}
-use Rattle.node_core.specs.Kept.{Kept, NodeStands}
+use Rattle.node_core.specs.Standing.{Kept, NodeStands}
 use Rattle.node_turns.specs.States.{NodeState}
 use Rattle.net_replay.specs.Agents.{is_requested, is_up_end}
 use Rattle.net_replay.specs.Mailing.{dest_of, ends_here, is_agents, mail_in, waits}

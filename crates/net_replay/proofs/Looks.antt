@@ -4,13 +4,12 @@ use Rattle.std.specs.Prelude.{Option, None, option_map, unwrap_or, Result, Ok, i
 use Rattle.ax_address.specs.Callsign.{Callsign}
 use Rattle.circuit_l4.specs.declared.transport.Pair.{Pair}
 use Rattle.circuit_set.specs.Sets.{Holder}
-use Rattle.network_file.specs.Channels.{hearers}
-use Rattle.network_file.specs.Plan.{Plan}
+use Rattle.network_file.specs.Plan.{hearers, Plan}
 use Rattle.node_core.specs.declared.acts.ActDone.{ActDone}
 use Rattle.node_core.specs.declared.acts.ActDone.TheVariants.{Done}
 use Rattle.node_core.specs.declared.acts.ActRefusal.{ActRefusal}
 use Rattle.node_core.specs.Inputs.{act_answer}
-use Rattle.node_core.specs.UserActs.{UserAct}
+use Rattle.node_core.specs.Acts.{UserAct}
 use Rattle.node_turns.specs.States.{NodeState, frames}
 use Rattle.node_mail.specs.Lists.{Lists}
 use Rattle.net_replay.specs.declared.air.Aired.{Aired}

@@ -2,8 +2,7 @@
 use Rattle.std.proofs.Common.{◌≡◌, ◌∙◌, ℕ, zero, suc, refl, sym, ap, subst, arith, List, [], ◌∷◌, ◌++◌, map, Bool, true, false, cond}
 use Rattle.std.specs.Prelude.{◌&&◌, ◌==◌, slice_get, Some, None, is_some}
 use Rattle.std.specs.List.{AllByRecursion}
-use Rattle.ax_address.specs.Callsign.{Callsign}
-use Rattle.ax_address.specs.CallOrder.{same_call}
+use Rattle.ax_address.specs.Callsign.{Callsign, same_call}
 use Rattle.circuit_set.specs.ByBook.{FreshByBook, PartnersByBook, TimelyBy128, TimelyByBook}
 use Rattle.circuit_set.specs.Facing.{EndsStay, PartnersFace}
 use Rattle.circuit_set.specs.NotedRuns.{NarrowIsTimely}
@@ -20,16 +19,15 @@ use Rattle.network_file.specs.declared.plan.instructions.Instruction.TheVariants
 use Rattle.network_file.specs.declared.plan.keys.Key.TheVariants.{Mail, Prompt}
 use Rattle.network_file.specs.Laws.{CallsAreCalls, CallsDeclaredOnce, DeclaredOnce, HasCalls, IsCall, NamesCalls, NoMailAtPrompts, SettingsFit}
 use Rattle.network_file.specs.Plan.{Plan}
-use Rattle.network_file.specs.Settings.{value_of}
+use Rattle.network_file.specs.Keys.{value_of}
 use Rattle.node_core.specs.Runs.{ActsRun, BytesRun, InputsAreSteps, TicksRun}
-use Rattle.node_core.specs.UserActs as acts
+use Rattle.node_core.specs.Acts as acts
 use Rattle.node_mail.specs.Lists.{Lists, nothing_kept}
 use Rattle.node_mail.specs.MailOnce.{HoldsMailOnce, MailIsStoredOnce}
 use Rattle.node_mail.specs.Runs.{begin}
-use Rattle.net_replay.specs.CircuitRuns.{IsInstruction, IsRunOf, IsSound, NetworksAreSound, RunsThrough, first_sets, set_of}
+use Rattle.net_replay.specs.Promises.{IsInstruction, IsRunOf, IsSound, NetworksAreSound, RunsThrough, first_sets, set_of, InTimeMailIsOnce, MailOnceNow}
 use Rattle.net_replay.specs.Lines.{do_lines, world}
 use Rattle.net_replay.specs.Mailing.{mail_at, mail_in}
-use Rattle.net_replay.specs.Promises.{InTimeMailIsOnce, MailOnceNow}
 use Rattle.net_replay.specs.Starting.{Placed, by_number, new_mail, new_nodes, new_placed}
 use Rattle.net_replay.specs.World.{World, start}
 use Rattle.net_replay.proofs.Containing.{AreApart, names}

@@ -2,8 +2,7 @@
 use Rattle.std.proofs.Common.{◌≡◌, ◌∙◌, ◌+◌, ℕ, zero, suc, refl, sym, ap, subst, arith, List, [], ◌∷◌, ◌++◌, append_assoc, append-nil, length, map, filter, Bool, true, false, cond, inl, inr}
 use Rattle.std.specs.Prelude.{◌⊎◌, ◌&&◌, ◌==◌, nat_eq, slice_get, slice_set, Option, Some, None, is_some, Result, Ok, Err}
 use Rattle.std.specs.List.{AllByRecursion}
-use Rattle.ax_address.specs.Callsign.{Callsign}
-use Rattle.ax_address.specs.CallOrder.{same_call}
+use Rattle.ax_address.specs.Callsign.{Callsign, same_call}
 use Rattle.circuit_l4.specs.declared.transport.Pair.{Pair}
 use Rattle.circuit_set.specs.Facing.{EndsStay}
 use Rattle.circuit_set.specs.Pairs.{IsPair}
@@ -20,7 +19,7 @@ use Rattle.network_file.specs.declared.plan.declarations.Declaration.{Declaratio
 use Rattle.network_file.specs.declared.plan.keys.Key.TheVariants.{Mail, Prompt}
 use Rattle.network_file.specs.declared.plan.vias.Via.{Via}
 use Rattle.network_file.specs.Plan.{Plan}
-use Rattle.network_file.specs.Settings.{value_of}
+use Rattle.network_file.specs.Keys.{value_of}
 use Rattle.node_core.specs.declared.acts.ActDone.{ActDone}
 use Rattle.node_core.specs.declared.acts.ActRefusal.{ActRefusal}
 use Rattle.node_core.specs.Configs.{new_node}
@@ -28,11 +27,11 @@ use Rattle.node_core.specs.Inputs.{act_answer, moment}
 use Rattle.node_core.specs.Runs.{ActsRun, BytesRun, InputsAreSteps, IsUserAct, RunsBy, RunsOn, TicksRun, steps_at, user_writes, writes_in}
 use Rattle.node_core.specs.Standing.{IsTold}
 use Rattle.node_turns.specs.States.{NodeState}
-use Rattle.node_core.specs.UserActs as acts
-use Rattle.node_core.specs.UserActs.{UserAct}
+use Rattle.node_core.specs.Acts as acts
+use Rattle.node_core.specs.Acts.{UserAct}
 use Rattle.node_mail.specs.Lists.{Lists}
 use Rattle.node_mail.specs.Runs.{MailRun, Written, with_store}
-use Rattle.net_replay.specs.CircuitRuns.{first_sets, set_of}
+use Rattle.net_replay.specs.Promises.{first_sets, set_of}
 use Rattle.net_replay.specs.Ends.{ends_of}
 use Rattle.net_replay.specs.Events.{Event}
 use Rattle.net_replay.specs.Lines.{restart}

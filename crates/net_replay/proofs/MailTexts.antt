@@ -4,7 +4,7 @@ use Rattle.std.specs.Prelude.{◌==◌, Some, None, Result, Ok, Err}
 use Rattle.std.specs.Int.{w64, from_be_bytes}
 use Rattle.std.proofs.lemmas.List.{length-drop}
 use Rattle.ax_address.specs.Callsign.{Callsign}
-use Rattle.ax_address.specs.NetCalls.{net_call_at}
+use Rattle.ax_address.specs.Octets.{net_call_at}
 use Rattle.ax_address.specs.declared.octets.AddressRefusal.{AddressRefusal}
 use Rattle.node_mail.specs.Wires.{Carries, Receipt, Wire, carried, is_mail_size, is_number, mail_at, receipt_at, wire_at}
 

@@ -4,8 +4,7 @@ use Rattle.std.specs.Prelude.{◌&&◌, ◌==◌, nat_lt, slice_get, slice_set, 
 use Rattle.std.specs.List.{AllByRecursion}
 use Rattle.ax_address.specs.Callsign.{Callsign, IsCallsign}
 use Rattle.circuit_l4.specs.Halves.{first_or}
-use Rattle.circuit_l4.specs.Receiving.{inbox}
-use Rattle.circuit_l4.specs.State.{is_up}
+use Rattle.circuit_l4.specs.State.{inbox, is_up}
 use Rattle.circuit_set.specs.Books.{Book, Fresh, empty, with_event, with_events, partner}
 use Rattle.circuit_set.specs.ByBook.{FreshByBook, PartnersByBook}
 use Rattle.circuit_set.specs.CircuitSets.{partner_at}
@@ -22,8 +21,8 @@ use Rattle.circuit_set.specs.Writings.{EndsWroteByWrites}
 use Rattle.network_file.specs.declared.plan.declarations.Declaration.{Declaration}
 use Rattle.network_file.specs.declared.plan.keys.Key.TheVariants.{Mail, Prompt}
 use Rattle.network_file.specs.Plan.{Plan}
-use Rattle.network_file.specs.Settings.{value_of}
-use Rattle.node_core.specs.Acts.{answer_to_take, refuse, take}
+use Rattle.network_file.specs.Keys.{value_of}
+use Rattle.node_core.specs.Acts.{answer_to_take, refuse, take, UserAct}
 use Rattle.node_core.specs.declared.acts.ActDone.{ActDone}
 use Rattle.node_core.specs.declared.acts.ActDone.TheVariants.{Done, Made, Took}
 use Rattle.node_core.specs.declared.acts.ActRefusal.{ActRefusal}
@@ -32,15 +31,13 @@ use Rattle.node_core.specs.Inputs.{act_answer, moment}
 use Rattle.node_core.specs.Runs.{ActsRun, BytesRun, InputsAreSteps, RunsBy, TicksRun, steps_at, user_writes, writes_in}
 use Rattle.node_turns.specs.Serving.{is_served}
 use Rattle.node_turns.specs.States.{NodeState, State}
-use Rattle.node_core.specs.UserActs as acts
-use Rattle.node_core.specs.UserActs.{UserAct}
+use Rattle.node_core.specs.Acts as acts
 use Rattle.node_turns.specs.Users.{facts}
-use Rattle.node_mail.specs.Lists.{Lists, answer_to, hear_at, hear_step, letter_of, offer, post_step}
+use Rattle.node_mail.specs.Lists.{Lists, answer_to, hear_at, hear_step, letter_of, offer, post_step, octets_or}
 use Rattle.node_mail.specs.Runs as mail
 use Rattle.node_mail.specs.Runs.{MailRun, Written, with_store, with_written}
-use Rattle.node_mail.specs.Standing.{octets_or}
 use Rattle.node_mail.specs.Wires.{Wire, wire_octets}
-use Rattle.net_replay.specs.CircuitRuns.{first_sets, set_of}
+use Rattle.net_replay.specs.Promises.{first_sets, set_of}
 use Rattle.net_replay.specs.Ends.{ends_of, offered_at}
 use Rattle.net_replay.specs.Events as events
 use Rattle.net_replay.specs.Mailing as mailing

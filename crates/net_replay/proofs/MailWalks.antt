@@ -9,8 +9,8 @@ use Rattle.circuit_set.specs.Standing.{take_answer}
 use Rattle.node_core.specs.declared.acts.ActDone.{ActDone}
 use Rattle.node_core.specs.declared.acts.ActDone.TheVariants.{Done, Made, Took}
 use Rattle.node_core.specs.declared.acts.ActRefusal.{ActRefusal}
-use Rattle.node_core.specs.UserActs as acts
-use Rattle.node_core.specs.UserActs.{UserAct}
+use Rattle.node_core.specs.Acts as acts
+use Rattle.node_core.specs.Acts.{UserAct}
 use Rattle.node_mail.specs.declared.mail.Heard.{Heard}
 use Rattle.node_mail.specs.declared.mail.Heard.TheVariants as hearing
 use Rattle.node_mail.specs.declared.mail.PostRefusal.{PostRefusal}

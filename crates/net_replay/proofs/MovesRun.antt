@@ -3,9 +3,8 @@ use Rattle.std.proofs.Common.{◌≡◌, ◌∙◌, ◌+◌, ◌≤◌, ℕ, zer
 use Rattle.std.specs.Prelude.{slice_get, slice_set, Option, Some, None}
 use Rattle.std.specs.List.{AllByRecursion}
 use Rattle.circuit_l4.specs.declared.transport.Pair.{Pair}
-use Rattle.circuit_set.specs.Inputs.{runs}
+use Rattle.circuit_set.specs.Pumps.{runs, at_rest}
 use Rattle.circuit_set.specs.Pairs.{IsPair}
-use Rattle.circuit_set.specs.Pumps.{at_rest}
 use Rattle.circuit_set.specs.Runs as net
 use Rattle.circuit_set.specs.Runs.{IsAct, Step, sets_run}
 use Rattle.circuit_set.specs.Sets as sets
@@ -13,7 +12,7 @@ use Rattle.circuit_set.specs.Sets.{Holder, SetState, CircuitTold, all_gone, end_
 use Rattle.network_file.specs.Plan.{Plan}
 use Rattle.node_core.specs.Runs.{ActsRun, BytesRun, InputsAreSteps, IsUserAct, RunsOn, TicksRun, steps_at}
 use Rattle.node_turns.specs.States.{NodeState}
-use Rattle.net_replay.specs.CircuitRuns.{first_sets, set_of}
+use Rattle.net_replay.specs.Promises.{first_sets, set_of}
 use Rattle.net_replay.specs.Ends.{ends_of, note_events}
 use Rattle.net_replay.specs.Events as events
 use Rattle.net_replay.specs.Events.{Event, NumberedEvent}

@@ -20,7 +20,7 @@ use Rattle.network_file.specs.declared.plan.declarations.Declaration.{Declaratio
 use Rattle.network_file.specs.declared.plan.vias.Via.{Via}
 use Rattle.network_file.specs.declared.plan.keys.Key.TheVariants.{TimeToLive}
 use Rattle.network_file.specs.Plan.{Plan}
-use Rattle.network_file.specs.Settings.{value_of}
+use Rattle.network_file.specs.Keys.{value_of}
 use Rattle.node_core.specs.Configs.{new_node}
 use Rattle.node_core.specs.Runs.{MadeFrom, circuits_told}
 use Rattle.node_turns.specs.States as states
@@ -28,7 +28,7 @@ use Rattle.node_turns.specs.States.{NodeState}
 use Rattle.net_replay.specs.declared.ends.EndRecord.{EndRecord}
 use Rattle.net_replay.specs.declared.ends.Outcome.{Outcome}
 use Rattle.net_replay.specs.declared.ends.Outcome.TheVariants as outcomes
-use Rattle.net_replay.specs.CircuitRuns.{set_of}
+use Rattle.net_replay.specs.Promises.{set_of}
 use Rattle.net_replay.specs.Circuits.{CircuitEvent}
 use Rattle.net_replay.specs.Ends.{ends_of, note_entry, note_event, note_events, note_told, with_outcome}
 use Rattle.net_replay.specs.Events as events

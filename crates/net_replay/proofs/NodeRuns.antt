@@ -20,9 +20,9 @@ use Rattle.node_core.specs.Configs.{new_node}
 use Rattle.node_core.specs.Fetching.{FetchesAllEntries, FetchesAllFrames, fetch_entries, fetch_frames}
 use Rattle.node_turns.specs.Sessions.{Session}
 use Rattle.node_turns.specs.States.{NodeState, State, fetch_entry, fetch_frame, frames}
-use Rattle.node_core.specs.UserActs as acts
-use Rattle.node_core.specs.UserActs.{UserAct}
-use Rattle.net_replay.specs.CircuitRuns.{IsInstruction, IsLine, IsSound}
+use Rattle.node_core.specs.Acts as acts
+use Rattle.node_core.specs.Acts.{UserAct}
+use Rattle.net_replay.specs.Promises.{IsInstruction, IsLine, IsSound}
 use Rattle.net_replay.specs.Ends.{ends_of}
 use Rattle.net_replay.specs.Lines.{do_lines}
 use Rattle.net_replay.specs.Starting.{Placed, by_number, config_of, is_via_of, new_nodes, new_placed, path_of, started, with_via, with_via_by, with_vias}

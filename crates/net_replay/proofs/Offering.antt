@@ -3,8 +3,7 @@ use Rattle.std.proofs.Common.{◌≡◌, ◌∙◌, ◌+◌, ℕ, zero, suc, ref
 use Rattle.std.specs.Prelude.{Option, Some, None, IfOk, IfErr, Result, Ok, Err, slice_get}
 use Rattle.std.specs.Option.{option_map}
 use Rattle.ax_address.specs.Callsign.{Callsign}
-use Rattle.node_mail.specs.Lists.{Letter, Lists}
-use Rattle.node_mail.specs.Standing.{number_and_dest}
+use Rattle.node_mail.specs.Lists.{Letter, Lists, number_and_dest}
 use Rattle.net_replay.specs.declared.reasons.ReplayRefusal.{ReplayRefusal}
 use Rattle.net_replay.specs.Agents.{Offers, offer_from}
 use Rattle.net_replay.specs.Mailing.{mail_in, numbers_for, offer, queued_of}

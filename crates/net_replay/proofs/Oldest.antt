@@ -3,7 +3,7 @@ use Rattle.std.proofs.Common.{◌≡◌, ◌<◌, ◌≤◌, ◌+◌, ℕ, zero,
 use Rattle.std.specs.Prelude.{not}
 use Rattle.std.specs.List.{position_or_len}
 use Rattle.net_replay.specs.declared.air.Aired.{Aired}
-use Rattle.net_replay.specs.Air.{AllSettled, settled, settled_at}
+use Rattle.net_replay.specs.World.{AllSettled, settled, settled_at}
 
 abbrev open_place : List Aired → ℕ
 open_place fs = position_or_len (λ (f : Aired). not f.settled) fs

@@ -7,7 +7,7 @@ use Rattle.std.proofs.lemmas.Option.{get_or_from_slice_get, slice_get-map, slice
 use Rattle.std.specs.Option.{option_map}
 use Rattle.network_file.specs.declared.plan.declarations.Declaration.{Declaration}
 use Rattle.node_core.specs.Inputs.{moment}
-use Rattle.node_core.specs.Kept.{Kept, NodeStands, entries_left, frames_left}
+use Rattle.node_core.specs.Standing.{Kept, NodeStands, entries_left, frames_left}
 use Rattle.node_turns.specs.States.{NodeState}
 use Rattle.net_replay.specs.Running.{Course, Stands, change, entries_at, frames_at}
 use Rattle.net_replay.specs.Starting.{Placed, has_number}

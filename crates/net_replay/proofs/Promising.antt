@@ -12,22 +12,19 @@ use Rattle.circuit_set.specs.Runs.{AreNarrow, AreStarts, AreSteps, Step, end_in,
 use Rattle.circuit_set.specs.Safe.{CircuitsSafe, IsSafe, Safe, SafeEnd}
 use Rattle.circuit_set.specs.Sets.{Holder}
 use Rattle.circuit_verdict.specs.declared.event.Numbered.{Numbered}
-use Rattle.circuit_verdict.specs.Events as verdicts
+use Rattle.circuit_verdict.specs.Verdicts as verdicts
 use Rattle.circuit_verdict.specs.declared.verdict.Allowance.TheVariants as verdicts_at
-use Rattle.circuit_verdict.specs.Verdicts as verdicts_on
 use Rattle.network_file.specs.declared.network.NumberedInstruction.{NumberedInstruction}
 use Rattle.network_file.specs.declared.plan.declarations.Declaration.{Declaration}
 use Rattle.network_file.specs.declared.plan.keys.Key.{Key}
 use Rattle.network_file.specs.declared.plan.keys.Key.TheVariants.{Window}
-use Rattle.network_file.specs.Keys.{Assignment, takes}
+use Rattle.network_file.specs.Keys.{Assignment, takes, is_of, same_key, value_of}
 use Rattle.network_file.specs.Laws.{IsAllowed, SettingsFit}
 use Rattle.network_file.specs.Networks.{network_of}
 use Rattle.network_file.specs.Plan.{Plan, version_of}
-use Rattle.network_file.specs.Settings.{is_of, same_key, value_of}
-use Rattle.net_replay.specs.CircuitRuns.{IsRunOf, NetworksAreSound, RunsThrough, WorldsAreRuns, first_sets, set_of}
+use Rattle.net_replay.specs.Promises.{IsRunOf, NetworksAreSound, RunsThrough, WorldsAreRuns, first_sets, set_of, InTimeIsSafe, SafeNow, end_now, end_with}
 use Rattle.net_replay.specs.Circuits.{CircuitEvent, IsVerdictOn, allowance_of, circuit_events, judged}
 use Rattle.net_replay.specs.Lines.{do_lines, world}
-use Rattle.net_replay.specs.Promises.{InTimeIsSafe, SafeNow, end_now, end_with}
 use Rattle.net_replay.specs.Starting.{Placed, by_number, new_placed}
 use Rattle.net_replay.specs.World.{World, start}
 use Rattle.net_replay.proofs.Moving.{set_is}
@@ -67,15 +64,15 @@ told_are (n ∷ ns) = ap (λ es. verdicts.event_of n.event ∷ es) (told_are ns)
 -- by the allowance of the file's version
 timely_case : (plan : Plan) (b : Bool) → nat_le 3 (version_of plan) ≡ b → FreshByBook → TimelyByBook → TimelyBy128 → (narrow : NarrowIsTimely) → AreStarts (first_sets plan) → (nat_le 3 (version_of plan) ≡ false → AreNarrow (first_sets plan))
     → (steps : List Step) → AreSteps steps → IsFresh (events_of (first_sets plan) steps)
-    → IsTimely (verdicts_on.allows_of (allowance_of plan)) (events_of (first_sets plan) steps) → IsTimely AllowsByWindow (events_of (first_sets plan) steps)
+    → IsTimely (verdicts.allows_of (allowance_of plan)) (events_of (first_sets plan) steps) → IsTimely AllowsByWindow (events_of (first_sets plan) steps)
 timely_case plan true v pairs by_window by_128 narrow starts low steps are fresh t =
-    subst (λ b. IsTimely (verdicts_on.allows_of (cond b verdicts_at.OfWindow verdicts_at.Fixed)) (events_of (first_sets plan) steps)) v t
+    subst (λ b. IsTimely (verdicts.allows_of (cond b verdicts_at.OfWindow verdicts_at.Fixed)) (events_of (first_sets plan) steps)) v t
 timely_case plan false v pairs by_window by_128 narrow starts low steps are fresh t =
     let told = events_of (first_sets plan) steps in
     let noted : Fresh empty told = (pairs told).1 fresh in
     (by_window told noted).0
     (narrow (first_sets plan) starts (low v) steps are
-    ((by_128 told noted).1 (subst (λ b. IsTimely (verdicts_on.allows_of (cond b verdicts_at.OfWindow verdicts_at.Fixed)) told) v t)))
+    ((by_128 told noted).1 (subst (λ b. IsTimely (verdicts.allows_of (cond b verdicts_at.OfWindow verdicts_at.Fixed)) told) v t)))
 
 -- a run of the nodes' circuits through all lines is in time
 pub in_time_run : FreshByBook → TimelyByBook → TimelyBy128 → NetworksAreSound → NarrowIsTimely → SettingsFit → (bytes : List ℕ) (plan : Plan) → network_of bytes ≡ Ok plan → IsVerdictOn plan (world plan) None
@@ -89,7 +86,7 @@ in_time_run pairs by_window by_128 sounds narrow fit bytes plan e v done later r
     let fresh : IsFresh (events_of (first_sets plan) all) = subst IsFresh told ok.1 in (
       timely_case plan (nat_le 3 (version_of plan)) refl pairs by_window by_128 narrow (sounds bytes plan e).starts
           (λ low. are_narrow plan (by_number plan.declared 1 16) (λ node. narrow_in (version_of plan) node plan.settings (fit bytes plan e) low))
-          all r.all.are fresh (subst (IsTimely (verdicts_on.allows_of (allowance_of plan))) told ok.0),
+          all r.all.are fresh (subst (IsTimely (verdicts.allows_of (allowance_of plan))) told ok.0),
       fresh,
     )
 

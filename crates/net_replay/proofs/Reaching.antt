@@ -3,10 +3,10 @@ use Rattle.std.proofs.Common.{◌≡◌, ◌<◌, ◌≤◌, ◌∙◌, ◌++◌
 use Rattle.std.specs.Prelude.{None, min, slice_get, Result}
 use Rattle.node_core.specs.declared.acts.ActDone.{ActDone}
 use Rattle.node_core.specs.declared.acts.ActRefusal.{ActRefusal}
-use Rattle.node_core.specs.UserActs.{UserAct}
+use Rattle.node_core.specs.Acts.{UserAct}
 use Rattle.node_core.specs.Inputs.{act_answer, after_input, after_items, new_items, settled_act}
-use Rattle.node_core.specs.Kept.{Kept, NodeStands}
-use Rattle.node_core.specs.Rounds.{tick}
+use Rattle.node_core.specs.Standing.{Kept, NodeStands}
+use Rattle.node_core.specs.Broadcasts.{tick}
 use Rattle.node_turns.specs.States.{NodeState}
 use Rattle.net_replay.specs.Running.{Course, GoesOn, Stands, all_entries, change}
 use Rattle.net_replay.specs.Starting.{Placed}

@@ -1,9 +1,8 @@
 -- In each network an end is told that its retries are used up exactly where there was one expiry more than there are retries.
 use Rattle.std.proofs.Common.{subst, List, [], ◌∷◌, ◌++◌}
-use Rattle.circuit_set.specs.Retries as sets
+use Rattle.circuit_set.specs.Safe as sets
 use Rattle.circuit_set.specs.Runs.{AreSteps, Step}
-use Rattle.net_replay.specs.CircuitRuns.{NetworksAreSound, RunsThrough, WorldsAreRuns, first_sets}
-use Rattle.net_replay.specs.Promises.{EachTellsRetries}
+use Rattle.net_replay.specs.Promises.{NetworksAreSound, RunsThrough, WorldsAreRuns, first_sets, EachTellsRetries}
 
 front_steps : (xs ys : List Step) → AreSteps (xs ++ ys) → AreSteps xs
 front_steps [] ys a = tt

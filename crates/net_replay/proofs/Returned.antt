@@ -5,8 +5,7 @@ use Rattle.std.specs.Cmp.Lexicographic.{pointwise}
 use Rattle.std.specs.List.{AllByRecursion, position_or_len}
 use Rattle.std.proofs.Common.{arith, inl, inr}
 use Rattle.std.proofs.lemmas.Bool.Decides.{nat_tests}
-use Rattle.ax_address.specs.Callsign.{Callsign}
-use Rattle.ax_address.specs.CallOrder.{same_call}
+use Rattle.ax_address.specs.Callsign.{Callsign, same_call}
 use Rattle.circuit_set.specs.Returning as returning
 use Rattle.circuit_set.specs.Returning.{CallsDiffer, FreshBut, given_by}
 use Rattle.circuit_set.specs.Runs.{events_of}
@@ -15,7 +14,7 @@ use Rattle.network_file.specs.declared.plan.declarations.Declaration.{Declaratio
 use Rattle.network_file.specs.Laws.{CallsDeclaredOnce, DeclaredOnce, HaveOwnCalls}
 use Rattle.network_file.specs.Places.{has_call}
 use Rattle.network_file.specs.Plan.{Plan}
-use Rattle.net_replay.specs.CircuitRuns.{NetworksAreSound, first_sets, set_of}
+use Rattle.net_replay.specs.Promises.{NetworksAreSound, first_sets, set_of}
 use Rattle.net_replay.specs.Datagrams.{DatagramsSent, SendsAll}
 use Rattle.net_replay.specs.Lines.{do_lines}
 use Rattle.net_replay.specs.Returning.{CopiesAloneReturn, told_of_circuits}

@@ -5,11 +5,10 @@ use Rattle.radio_base.specs.declared.errors.NoMemory.{NoMemory}
 use Rattle.net_replay.specs.declared.air.Aired.{Aired}
 use Rattle.net_replay.specs.declared.reasons.ReplayRefusal.{ReplayRefusal}
 use Rattle.net_replay.specs.declared.reasons.ReplayRefusal.TheVariants as refusals
-use Rattle.net_replay.specs.Air.{settled_at}
+use Rattle.net_replay.specs.World.{settled_at, World}
 use Rattle.net_replay.specs.Lines.{settle}
 use Rattle.net_replay.specs.Running.{Course, GoesOn, Runs, Stands, Stops}
 use Rattle.net_replay.specs.Traces.{IsRefusal}
-use Rattle.net_replay.specs.World.{World}
 
 pub refused_still : (e : ReplayRefusal) (n m : ℕ) → n ≤ m → IsRefusal e n → IsRefusal e m
 refused_still refusals.FramesFull n m more h = omega arith

@@ -3,7 +3,7 @@ use Rattle.std.proofs.Common.{◌≡◌, ◌∙◌, ℕ, zero, suc, refl, sym, a
 use Rattle.std.specs.Prelude.{◌==◌, ◌⊎◌, slice_get, Contains, Option, Some, None}
 use Rattle.std.specs.List.{AllByRecursion}
 use Rattle.ax_address.specs.Callsign.{Callsign, IsCallsign}
-use Rattle.ax_address.specs.NetCalls.{SpelledNetCallIsRead, WrittenNetCallSpellsIt}
+use Rattle.ax_address.specs.Octets.{SpelledNetCallIsRead, WrittenNetCallSpellsIt}
 use Rattle.net_replay.specs.Circuits.{CircuitEvent, circuit_events}
 use Rattle.net_replay.specs.Events.{NumberedEvent}
 use Rattle.circuit_set.specs.Events as events
@@ -25,10 +25,10 @@ use Rattle.network_file.specs.declared.plan.instructions.Instruction.TheVariants
 use Rattle.network_file.specs.declared.plan.keys.Key.TheVariants.{Modulo}
 use Rattle.network_file.specs.Laws.{CallsAreCalls, DeclaredOnce, HasCalls, NamesCalls}
 use Rattle.network_file.specs.Plan.{Plan}
-use Rattle.network_file.specs.Settings.{value_of}
+use Rattle.network_file.specs.Keys.{value_of}
 use Rattle.node_core.specs.Carried.{ActsCarry, BytesCarry, CarriedFurther, TicksCarry}
 use Rattle.node_core.specs.Runs.{ActsRun, BytesRun, InputsAreSteps, TicksRun}
-use Rattle.net_replay.specs.CircuitRuns.{IsInstruction, IsSound, NetworksAreSound, first_sets, set_of}
+use Rattle.net_replay.specs.Promises.{IsInstruction, IsSound, NetworksAreSound, first_sets, set_of}
 use Rattle.net_replay.specs.Datagrams.{DatagramsSent, IsOfModulus, SendsAll, WasSent}
 use Rattle.net_replay.specs.Lines.{do_lines}
 use Rattle.net_replay.specs.Starting.{Placed, by_number, has_number, new_nodes, new_placed}

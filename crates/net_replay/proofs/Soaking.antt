@@ -11,8 +11,7 @@ use Rattle.net_replay.specs.declared.ends.EndRecord.{EndRecord}
 use Rattle.net_replay.specs.declared.events.NumberedEvent as code
 use Rattle.net_replay.specs.Events.{NumberedEvent, event_of, numbered_of}
 use Rattle.net_replay.specs.Reporting.{ends_left}
-use Rattle.net_replay.specs.Reports.{verdict_line}
-use Rattle.net_replay.specs.Soaks.{counts_text, facts_by, facts_from, facts_left, facts_of, failures, is_failure, soak_text}
+use Rattle.net_replay.specs.Reports.{verdict_line, counts_text, facts_by, facts_from, facts_left, facts_of, failures, is_failure, soak_text}
 use Rattle.net_replay.specs.Traces.{IsTraceOf, Left}
 use Rattle.net_replay.specs.World.{World}
 use Rattle.net_replay.proofs.Texts.{ends_same}

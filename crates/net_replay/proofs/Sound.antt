@@ -12,11 +12,10 @@ use Rattle.network_file.specs.declared.plan.instructions.Instruction.{Instructio
 use Rattle.network_file.specs.declared.plan.instructions.Instruction.TheVariants as instructions
 use Rattle.network_file.specs.declared.plan.keys.Key.{Key}
 use Rattle.network_file.specs.declared.plan.keys.Key.TheVariants.{Busy, Inactive, Timeout, Window}
-use Rattle.network_file.specs.Keys.{Assignment, default_of, least_of, most_of}
+use Rattle.network_file.specs.Keys.{Assignment, default_of, least_of, most_of, is_of, same_key, value_of}
 use Rattle.network_file.specs.Laws.{CallsAreCalls, IsCall, IsInRange, NamesCalls, NamesPair, PairsArePairs, SettingsInRange}
 use Rattle.network_file.specs.Plan.{Plan}
-use Rattle.network_file.specs.Settings.{is_of, same_key, value_of}
-use Rattle.net_replay.specs.CircuitRuns.{IsInstruction, IsLine, NetworksAreSound, set_of}
+use Rattle.net_replay.specs.Promises.{IsInstruction, IsLine, NetworksAreSound, set_of}
 use Rattle.net_replay.specs.Starting.{by_number, new_placed}
 use Rattle.net_replay.proofs.Containing.{ends_config}
 use Rattle.net_replay.proofs.Moving.{first_set, set_is}

@@ -7,9 +7,8 @@ use Rattle.std.specs.Prelude.{is_some, slice_get, slice_set}
 use Rattle.std.proofs.lemmas.List.{map-append, take_more}
 use Rattle.network_file.specs.declared.plan.declarations.Declaration.{Declaration}
 use Rattle.network_file.specs.Keys.{Assignment}
-use Rattle.node_mail.specs.Lists.{Lists}
+use Rattle.node_mail.specs.Lists.{Lists, StandsFor, StoreView}
 use Rattle.net_replay.specs.Starting.{new_mail}
-use Rattle.node_mail.specs.Standing.{StandsFor, StoreView}
 use Rattle.net_replay.specs.Agents.{change_mail}
 use Rattle.net_replay.specs.Mailing.{mail_in}
 use Rattle.net_replay.specs.Traces.{MailStands, MailsStand}

@@ -9,16 +9,15 @@ use Rattle.circuit_set.specs.CircuitSets.{facts_at}
 use Rattle.circuit_set.specs.Sets.{Holder, end_of}
 use Rattle.circuit_verdict.specs.declared.verdict.Late.{Late}
 use Rattle.network_file.specs.declared.plan.declarations.Declaration.{Declaration}
-use Rattle.node_core.specs.Kept.{Kept, NodeStands}
-use Rattle.node_mail.specs.Lists.{Lists}
-use Rattle.node_mail.specs.Standing.{StoreView}
+use Rattle.node_core.specs.Standing.{Kept, NodeStands}
+use Rattle.node_mail.specs.Lists.{Lists, StoreView}
 use Rattle.net_replay.specs.declared.ends.EndRecord.{EndRecord}
 use Rattle.net_replay.specs.Ends.{ends_of}
 use Rattle.net_replay.specs.Events.{numbered_of}
 use Rattle.net_replay.specs.Reporting.{AreDeclared, ends_left, text_left}
 use Rattle.net_replay.specs.Reports.{by_place, nodes_text, report_text, told_text, verdict_line}
 use Rattle.net_replay.specs.Starting.{Placed}
-use Rattle.net_replay.specs.ToldEntries.{last_text, last_texts}
+use Rattle.net_replay.specs.ToldLines.{last_text, last_texts}
 use Rattle.net_replay.specs.Traces.{IsTraceOf, Left, MailStands, MailsStand, StandFor}
 use Rattle.net_replay.specs.World.{World}
 

@@ -3,21 +3,19 @@ use Rattle.std.proofs.Common.{◌≡◌, ◌≤◌, ◌∙◌, ◌-◌, ℕ, zer
 use Rattle.std.specs.Prelude.{Option, Some, None, OnOk, Result, Ok, Err, nat_lt, slice_get, slice_set}
 use Rattle.radio_base.specs.declared.errors.NoMemory.{NoMemory}
 use Rattle.std.specs.Option.{option_map}
-use Rattle.ax_address.specs.Callsign.{Callsign}
-use Rattle.ax_address.specs.CallOrder.{same_call}
+use Rattle.ax_address.specs.Callsign.{Callsign, same_call}
 use Rattle.circuit_set.specs.CircuitSets.{partner_at}
 use Rattle.circuit_set.specs.Sets.{end_of}
 use Rattle.circuit_set.specs.Standing.{take_answer}
 use Rattle.node_core.specs.declared.acts.ActDone.{ActDone}
 use Rattle.node_core.specs.declared.acts.ActDone.TheVariants.{Done, Made, Took}
 use Rattle.node_core.specs.declared.acts.ActRefusal.{ActRefusal}
-use Rattle.node_core.specs.UserActs as acts
+use Rattle.node_core.specs.Acts as acts
 use Rattle.node_mail.specs.declared.mail.Heard.{Heard}
 use Rattle.node_mail.specs.declared.mail.Heard.TheVariants as hearing
 use Rattle.node_mail.specs.declared.mail.PostRefusal.{PostRefusal}
 use Rattle.node_mail.specs.declared.mail.PostRefusal.TheVariants as refusal
-use Rattle.node_mail.specs.Lists.{Letter, Lists, answer_to, hear_at, hear_step, heard_of, is_queued_for, post_at, post_step, posted_by, text_of}
-use Rattle.node_mail.specs.Standing.{IsPostAnswer, StoreView, number_and_dest, octets_in}
+use Rattle.node_mail.specs.Lists.{Letter, Lists, answer_to, hear_at, hear_step, heard_of, is_queued_for, post_at, post_step, posted_by, text_of, IsPostAnswer, StoreView, number_and_dest, octets_in}
 use Rattle.node_mail.specs.Wires.{Carries, Receipt, Wire, wire_at, wire_octets}
 use Rattle.net_replay.specs.declared.events.Event as code
 use Rattle.net_replay.specs.declared.mails.Posting.TheVariants as posting

@@ -5,8 +5,7 @@ use Rattle.circuit_l4.specs.State.{is_up}
 use Rattle.circuit_set.specs.Sets.{Holder}
 use Rattle.node_mail.specs.declared.mail.Heard.{Heard}
 use Rattle.node_mail.specs.declared.mail.PostRefusal.{PostRefusal}
-use Rattle.node_mail.specs.Lists.{Lists, answer_to, hear_at, hear_step, post_at, post_step}
-use Rattle.node_mail.specs.Standing.{IsPostAnswer, octets_in}
+use Rattle.node_mail.specs.Lists.{Lists, answer_to, hear_at, hear_step, post_at, post_step, IsPostAnswer, octets_in}
 use Rattle.net_replay.specs.declared.events.Event as code
 use Rattle.net_replay.specs.declared.mails.Posting.{Posting}
 use Rattle.net_replay.specs.declared.mails.Posting.TheVariants.{NoMail, Posted, Refused}

@@ -2,8 +2,7 @@
 use Rattle.std.specs.Prelude.{ℕ, suc, ◌≡◌, ◌+◌, List, [], ◌∷◌, ◌++◌, map, length, slice_get, slice_index, Bool, true, false, if◌then◌else◌, Option, Some, None}
 use Rattle.circuit_set.specs.Events as set_events
 use Rattle.circuit_verdict.specs.Causes.{cause_after}
-use Rattle.circuit_verdict.specs.Verdicts.{AreInTime}
-use Rattle.circuit_verdict.specs.Events.{events_of}
+use Rattle.circuit_verdict.specs.Verdicts.{AreInTime, events_of}
 use Rattle.circuit_verdict.specs.declared.cause.Cause.{Cause}
 use Rattle.circuit_verdict.specs.declared.cause.Cause.TheVariants as causes
 use Rattle.circuit_verdict.specs.declared.event.Numbered.{Numbered}

@@ -1,5 +1,5 @@
 -- What was told of circuits in a network, and the verdict on it. Own profile.
-use Rattle.std.specs.Prelude.{◌≡◌, ℕ, List, [], ◌∷◌, ◌++◌, map, slice_get, nat_le, if◌then◌else◌, Option, Some, None}
+use Rattle.std.specs.Prelude.{◌≡◌, ℕ, List, [], ◌∷◌, ◌++◌, map, slice_get, nat_le, if◌then◌else◌, Option, Some, None, ◌<◌, ◌≤◌, length, Ok}
 use Rattle.circuit_set.specs.Events as set_events
 use Rattle.circuit_set.specs.Pumps.{Of}
 use Rattle.circuit_set.specs.Sets as sets
@@ -7,13 +7,15 @@ use Rattle.circuit_verdict.specs.declared.event.Numbered.{Numbered}
 use Rattle.circuit_verdict.specs.declared.verdict.Allowance.{Allowance}
 use Rattle.circuit_verdict.specs.declared.verdict.Allowance.TheVariants.{Fixed, OfWindow}
 use Rattle.circuit_verdict.specs.declared.verdict.Late.{Late}
-use Rattle.circuit_verdict.specs.Events as verdicts
+use Rattle.circuit_verdict.specs.Verdicts as verdicts
 use Rattle.circuit_verdict.specs.Verdicts.{IsVerdict}
 use Rattle.network_file.specs.Plan.{Plan, version_of}
+use Rattle.network_file.specs.Networks.{network_of}
 use Rattle.node_turns.specs.States as states
 use Rattle.net_replay.specs.Events.{Event, Entry, Lost, NumberedEvent, Restarted}
 use Rattle.net_replay.specs.Starting.{Placed}
-use Rattle.net_replay.specs.World.{World, place_of_node}
+use Rattle.net_replay.specs.World.{World, place_of_node, most_frames}
+use Rattle.net_replay.specs.Lines.{world}
 
 -- what was told at a node's circuits, with the number of the line
 pub record CircuitEvent : Type 0 where
@@ -54,3 +56,23 @@ pub record IsVerdictOn (plan : Plan) (w : World) (late : Option Late) : Type 0 w
   pub events : List Numbered
   pub are : map judged events ≡ circuit_events w
   pub verdict : IsVerdict (allowance_of plan) events late
+
+-- What the file of a network is, and what its replay comes to. Own profile.
+
+-- a file is one of a network of which P holds
+abbrev pub IsNetwork : List ℕ → (Plan → Type 0) → Type 0
+IsNetwork bytes P = (network : Plan) × (network_of bytes ≡ Ok network) × P network
+
+-- so many frames as a replay may have in the air, or more, are put there
+abbrev pub AirsFew : Plan → Type 0
+AirsFew network = length (world network).air ≤ most_frames
+
+abbrev pub AirsTooMany : Plan → Type 0
+AirsTooMany network = most_frames < length (world network).air
+
+-- it puts as many frames in the air as it may, and nothing comes back too late, or something
+abbrev pub IsInTime : Plan → Type 0
+IsInTime network = AirsFew network × IsVerdictOn network (world network) None
+
+abbrev pub IsLate : Plan → Type 0
+IsLate network = AirsFew network × ((late : Late) × IsVerdictOn network (world network) (Some late))

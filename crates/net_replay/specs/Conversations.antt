@@ -3,7 +3,7 @@ use Rattle.std.specs.Prelude.{ℕ, ◌≡◌, false, List, [], ◌++◌, slice_g
 use Rattle.std.specs.List.{AllByRecursion}
 use Rattle.circuit_l4.specs.State as ends
 use Rattle.circuit_set.specs.Events.{Event, Name}
-use Rattle.circuit_set.specs.Beginnings.{IsBeginning}
+use Rattle.circuit_set.specs.Safe.{IsBeginning}
 use Rattle.circuit_set.specs.Runs.{Step, end_named, events_of, sets_run}
 use Rattle.circuit_set.specs.Sets.{Holder, SetState}
 use Rattle.circuit_set.specs.TooLate.{HasPartner, Partners}
@@ -15,7 +15,7 @@ use Rattle.node_turns.specs.declared.session.Stage.TheVariants.{Connected}
 use Rattle.node_turns.specs.Sessions.{Session}
 use Rattle.node_turns.specs.States.{State}
 use Rattle.node_turns.specs.Users.{is_deaf}
-use Rattle.net_replay.specs.CircuitRuns.{IsRunOf, first_sets}
+use Rattle.net_replay.specs.Promises.{IsRunOf, first_sets}
 use Rattle.net_replay.specs.Circuits.{IsVerdictOn}
 use Rattle.net_replay.specs.Lines.{do_lines, world}
 use Rattle.net_replay.specs.Starting.{Placed}

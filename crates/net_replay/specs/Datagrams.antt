@@ -16,10 +16,10 @@ use Rattle.network_file.specs.declared.plan.instructions.Instruction.TheVariants
 use Rattle.network_file.specs.declared.plan.keys.Key.TheVariants.{Modulo}
 use Rattle.network_file.specs.Networks.{network_of}
 use Rattle.network_file.specs.Plan.{Plan}
-use Rattle.network_file.specs.Settings.{value_of}
+use Rattle.network_file.specs.Keys.{value_of}
 use Rattle.node_core.specs.Carried.{ttl_of}
 use Rattle.net_replay.specs.declared.air.Aired.{Aired}
-use Rattle.net_replay.specs.CircuitRuns.{IsRunOf, first_sets}
+use Rattle.net_replay.specs.Promises.{IsRunOf, first_sets}
 use Rattle.net_replay.specs.Circuits.{CircuitEvent, circuit_events}
 use Rattle.net_replay.specs.Hops.{CameBy, node_at}
 use Rattle.net_replay.specs.Lines.{do_lines}

@@ -1,7 +1,6 @@
 -- The lines `post` and `mail`: mail is posted at a node, and the agent of a node takes in what waits for it and offers what is queued. Own profile.
 use Rattle.std.specs.Prelude.{ℕ, zero, suc, ◌==◌, ◌&&◌, Bool, true, false, List, [], ◌∷◌, ◌++◌, length, map, filter, nat_lt, slice_get, slice_set, is_none, is_ok, is_some, Option, Some, None, option_map, unwrap_or, Result, Ok, Err, if◌then◌else◌}
-use Rattle.ax_address.specs.Callsign.{Callsign}
-use Rattle.ax_address.specs.CallOrder.{same_call}
+use Rattle.ax_address.specs.Callsign.{Callsign, same_call}
 use Rattle.circuit_l4.specs.State.{is_up}
 use Rattle.circuit_set.specs.CircuitSets.{facts_at, held_ids, partner_at}
 use Rattle.circuit_set.specs.declared.event.NoEnd.{NoEnd}
@@ -10,13 +9,12 @@ use Rattle.circuit_set.specs.Standing.{take_answer, write_answer}
 use Rattle.node_core.specs.declared.acts.ActDone.{ActDone}
 use Rattle.node_core.specs.declared.acts.ActDone.TheVariants.{Took}
 use Rattle.node_core.specs.declared.acts.ActRefusal.{ActRefusal}
-use Rattle.node_core.specs.UserActs as acts
-use Rattle.node_core.specs.UserActs.{UserAct}
+use Rattle.node_core.specs.Acts as acts
+use Rattle.node_core.specs.Acts.{UserAct}
 use Rattle.node_mail.specs.declared.mail.Heard.{Heard}
 use Rattle.node_mail.specs.declared.mail.Heard.TheVariants as hearing
 use Rattle.node_mail.specs.declared.mail.PostRefusal.{PostRefusal}
-use Rattle.node_mail.specs.Lists.{Letter, Lists, answer_to, hear_at, hear_step, letter_of, post_at, post_step, text_of}
-use Rattle.node_mail.specs.Standing.{octets_or}
+use Rattle.node_mail.specs.Lists.{Letter, Lists, answer_to, hear_at, hear_step, letter_of, post_at, post_step, text_of, octets_or}
 use Rattle.node_mail.specs.Wires.{Wire, wire_at, wire_octets}
 use Rattle.net_replay.specs.declared.reasons.LineRefusal.TheVariants.{NoMail, Served}
 use Rattle.net_replay.specs.Ends.{ends_of, offered_at}

@@ -1,15 +1,16 @@
 -- Why a node didn't do what a line asks for, as the line's refusal. Want of memory is none. Own profile.
-use Rattle.std.specs.Prelude.{List, [], ◌∷◌, Option, Some, None}
+use Rattle.std.specs.Prelude.{List, [], ◌∷◌, Option, Some, None, ℕ, codes}
 use Rattle.circuit_l4.specs.declared.refusal.WriteRefusal.{WriteRefusal}
 use Rattle.circuit_l4.specs.declared.refusal.WriteRefusal.TheVariants as writes
-use Rattle.net_replay.specs.declared.reasons.LineRefusal.{LineRefusal}
 use Rattle.node_core.specs.declared.acts.ActRefusal.{ActRefusal}
 use Rattle.node_core.specs.declared.acts.ActRefusal.TheVariants as acts
-use Rattle.net_replay.specs.Events as events
-use Rattle.net_replay.specs.Events.{Event}
 use Rattle.node_mail.specs.declared.mail.PostRefusal.{PostRefusal}
 use Rattle.node_mail.specs.declared.mail.PostRefusal.TheVariants as posts
+use Rattle.net_replay.specs.declared.reasons.LineRefusal.{LineRefusal}
+use Rattle.net_replay.specs.Events as events
+use Rattle.net_replay.specs.Events.{Event}
 use Rattle.net_replay.specs.declared.reasons.LineRefusal.TheVariants.{NoEnd, Served, Nothing, Own, NoRoute, Full, NotUp, Closing, Empty, TooLong, QueueFull, Exhausted, TooLow, TableFull}
+use Rattle.net_replay.specs.declared.reasons.LineRefusal.TheVariants as whys
 
 abbrev pub of_write : WriteRefusal → LineRefusal
 of_write writes.NotUp = NotUp
@@ -44,3 +45,27 @@ of_post posts.NoMemory = None
 abbrev pub refusal_events : Option LineRefusal → List Event
 refusal_events None = []
 refusal_events (Some why) = events.Refused why ∷ []
+
+-- The word by which a reason is shown. Own profile.
+
+-- why an act wasn't done
+abbrev pub word_for_why : LineRefusal → List ℕ
+word_for_why whys.NoEnd = codes "no end"
+word_for_why whys.Served = codes "served"
+word_for_why whys.Nothing = codes "nothing"
+word_for_why whys.Own = codes "own"
+word_for_why whys.NoRoute = codes "no route"
+word_for_why whys.Full = codes "full"
+word_for_why whys.NotUp = codes "not up"
+word_for_why whys.Closing = codes "closing"
+word_for_why whys.Empty = codes "empty"
+word_for_why whys.TooLong = codes "too long"
+word_for_why whys.QueueFull = codes "queue full"
+word_for_why whys.Exhausted = codes "exhausted"
+word_for_why whys.TooLow = codes "too low"
+word_for_why whys.TableFull = codes "table full"
+word_for_why whys.NoFrame = codes "no frame"
+word_for_why whys.NoChannel = codes "no channel"
+word_for_why whys.Settled = codes "settled"
+word_for_why whys.NotSettled = codes "not settled"
+word_for_why whys.NoMail = codes "no mail"

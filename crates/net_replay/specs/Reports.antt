@@ -1,31 +1,37 @@
 -- The report of a network, line by line. Own profile.
-use Rattle.std.specs.Prelude.{ℕ, List, [], ◌∷◌, ◌++◌, flat_map, length, Option, Some, None, Result, Ok, Err, codes, if◌then◌else◌}
+use Rattle.std.specs.Prelude.{ℕ, List, [], ◌∷◌, ◌++◌, flat_map, length, Option, Some, None, Result, Ok, Err, codes, if◌then◌else◌, suc, count_by, sum_by, Bool, true, false}
 use Rattle.std.specs.Fmt.{decimal}
 use Rattle.ax_address.specs.Callsign as calls
 use Rattle.ax_address.specs.Alias as aliases
 use Rattle.ax_frame.specs.declared.frame.FrameRefusal.{FrameRefusal}
-use Rattle.ax_frame.specs.Frames.{Frame}
+use Rattle.ax_frame.specs.Frames.{Frame, read_at}
 use Rattle.ax_frame.specs.FrameText.{frame_text}
-use Rattle.ax_frame.specs.Read.{read_at}
 use Rattle.circuit_verdict.specs.declared.verdict.Late.{Late}
 use Rattle.circuit_verdict.specs.declared.verdict.LateWhy.{LateWhy}
 use Rattle.circuit_verdict.specs.declared.verdict.LateWhy.TheVariants.{Overtaken, Returned}
 use Rattle.node_mail.specs.Lists.{Lists}
 use Rattle.route_table.specs.declared.route.Route.{Route}
+use Rattle.circuit_l4.specs.declared.facts.EndFacts.{EndFacts}
+use Rattle.circuit_l4.specs.declared.notice.EndNotice.{EndNotice}
+use Rattle.circuit_l4.specs.declared.notice.EndNotice.TheVariants.{FailedRetries, FailedOversize, FailedInactive}
+use Rattle.circuit_set.specs.CircuitSets.{facts_at}
+use Rattle.circuit_set.specs.Pumps.{Of}
+use Rattle.circuit_set.specs.Sets.{Holder, Notice, end_of}
+use Rattle.node_turns.specs.States as nodes
 use Rattle.net_replay.specs.declared.air.Aired.{Aired}
 use Rattle.net_replay.specs.declared.ends.EndRecord.{EndRecord}
-use Rattle.net_replay.specs.Air.{frame_of}
+use Rattle.net_replay.specs.World.{frame_of, World}
 use Rattle.net_replay.specs.Ends.{ends_of}
 use Rattle.net_replay.specs.Events as events
-use Rattle.net_replay.specs.Events.{Event, NumberedEvent}
+use Rattle.net_replay.specs.Events.{Event, NumberedEvent, Entry}
 use Rattle.net_replay.specs.Lines.{table_of}
-use Rattle.net_replay.specs.Reasons.{word_for_why}
+use Rattle.net_replay.specs.Refused.{word_for_why}
 use Rattle.net_replay.specs.Starting.{Placed}
 use Rattle.net_replay.specs.Tables.{Table}
-use Rattle.net_replay.specs.ToldEntries.{entry_text, last_texts}
-use Rattle.net_replay.specs.ToldMails.{done_line, mail_line, posted_line, stored_line}
+use Rattle.net_replay.specs.ToldLines.{entry_text, last_texts, done_line, mail_line, posted_line, stored_line}
 use Rattle.net_replay.specs.ToldLines as lines
-use Rattle.net_replay.specs.World.{World}
+use Rattle.net_replay.specs.declared.ends.Outcome.{Outcome}
+use Rattle.net_replay.specs.declared.ends.Outcome.TheVariants as outcomes
 
 -- a frame that no octets are at fault of, as in the air none are
 abbrev pub text_of_frame : Result Frame FrameRefusal → List ℕ
@@ -118,3 +124,63 @@ abbrev pub report_text : World → Option Late → List ℕ
 report_text w late =
     (flat_map (told_text w.air (λ node. ends_of node w.told)) w.told ++ nodes_text (λ node. ends_of node w.told) w.nodes w.mails)
     ++ verdict_line late
+
+-- The line on what came of a soak. Own profile.
+
+-- ---- ends that failed
+
+abbrev pub has_failed : EndNotice → Bool
+has_failed FailedRetries = true
+has_failed FailedOversize = true
+has_failed FailedInactive = true
+has_failed notice = false
+
+-- an end was told that it failed, which it is once
+abbrev pub is_failure : Event → Bool
+is_failure (Entry node (nodes.Of_set (Of (Notice id notice)))) = has_failed notice
+is_failure event = false
+
+abbrev pub failures : List NumberedEvent → ℕ
+failures told = count_by (λ (e : NumberedEvent). is_failure e.event) told
+
+-- ---- ends as they were left
+
+-- gone, lost in a restart, or held with these facts
+abbrev pub facts_by : Outcome → Option EndFacts → List EndFacts
+facts_by (outcomes.Gone facts) held = facts ∷ []
+facts_by (outcomes.Lost facts) held = facts ∷ []
+facts_by outcomes.Held (Some facts) = facts ∷ []
+facts_by outcomes.Held None = []
+
+-- all ends that a node ever made, the first with this number; it holds these
+abbrev pub facts_from : ℕ → List EndRecord → List Holder → List EndFacts
+facts_from id [] held = []
+facts_from id (end ∷ ends) held = facts_by end.outcome (facts_at (end_of id held)) ++ facts_from (suc id) ends held
+
+abbrev pub facts_of : (ℕ → List EndRecord) → Placed → List EndFacts
+facts_of ends p = facts_from 1 (ends p.declared.node) p.state.station.set.set.ends
+
+-- of all nodes
+abbrev pub facts_left : World → List EndFacts
+facts_left w = flat_map (facts_of (λ node. ends_of node w.told)) w.nodes
+
+-- ---- the line
+
+abbrev pub wrote_in : List EndFacts → ℕ
+wrote_in ends = sum_by (λ (f : EndFacts). f.wrote) ends
+
+abbrev pub received_in : List EndFacts → ℕ
+received_in ends = sum_by (λ (f : EndFacts). f.received) ends
+
+-- soak SEED frames=F wrote=W received=R failed=X, and a space
+abbrev pub counts_text : ℕ → ℕ → List EndFacts → ℕ → List ℕ
+counts_text seed frames ends failed =
+    codes "soak "
+    ++ (decimal seed
+    ++ (codes " frames="
+    ++ (decimal frames
+    ++ (codes " wrote=" ++ (decimal (wrote_in ends) ++ (codes " received=" ++ (decimal (received_in ends) ++ (codes " failed=" ++ (decimal failed ++ codes " ")))))))))
+
+-- the number of the soak, the frames put in the air, the messages over all ends, the ends that failed; and the verdict
+abbrev pub soak_text : ℕ → World → Option Late → List ℕ
+soak_text seed w late = counts_text seed (length w.air) (facts_left w) (failures w.told) ++ verdict_line late

@@ -6,7 +6,7 @@ use Rattle.circuit_set.specs.Sets.{end_of}
 use Rattle.node_core.specs.declared.acts.ActDone.{ActDone}
 use Rattle.node_core.specs.declared.acts.ActDone.TheVariants as actions
 use Rattle.node_core.specs.declared.acts.ActRefusal.{ActRefusal}
-use Rattle.node_core.specs.Kept.{Kept, entries_left, frames_left}
+use Rattle.node_core.specs.Standing.{Kept, entries_left, frames_left}
 use Rattle.node_turns.specs.States.{NodeState, fetch_entry, fetch_frame, frames}
 use Rattle.node_turns.specs.States as states
 use Rattle.link_table.specs.declared.written.Written.{Written}

@@ -11,9 +11,8 @@ use Rattle.link_table.specs.declared.path_refusal.PathRefusal.{PathRefusal}
 use Rattle.network_file.specs.declared.plan.declarations.Declaration.{Declaration}
 use Rattle.network_file.specs.declared.plan.keys.Key.TheVariants.{Window, Timeout, Retries, Busy, Inactive, TimeToLive, Life, Least, MinimumQuality, PathQuality, Links, Modulo, LinkWindow, SelectiveReject, T1, T3, LinkRetries, Prompt, Interval, Mail}
 use Rattle.network_file.specs.declared.plan.vias.Via.{Via}
-use Rattle.network_file.specs.Keys.{Assignment}
+use Rattle.network_file.specs.Keys.{Assignment, value_of}
 use Rattle.network_file.specs.Plan.{Plan}
-use Rattle.network_file.specs.Settings.{value_of}
 use Rattle.node_core.specs.declared.config.NodeConfig.{NodeConfig}
 use Rattle.node_core.specs.Broadcasts.{address_of}
 use Rattle.route_table.specs.declared.route.RouteRules.{RouteRules}

@@ -1,14 +1,58 @@
 -- The lines of a report on links, circuits and datagrams. Own profile.
-use Rattle.std.specs.Prelude.{ℕ, ◌++◌, List, length, map, Bool, true, false, ◌&&◌, nat_le, if◌then◌else◌, codes}
+use Rattle.std.specs.Prelude.{ℕ, ◌++◌, List, length, map, Bool, true, false, ◌&&◌, nat_le, if◌then◌else◌, codes, Option, Some, None, suc, ◌-◌, [], ◌∷◌, slice_get, option_map, unwrap_or}
 use Rattle.std.specs.Fmt.{decimal}
 use Rattle.ax_address.specs.Callsign as calls
 use Rattle.ax_address.specs.Callsign.{Callsign}
 use Rattle.ax_link.specs.declared.notice.LinkNotice.{LinkNotice}
+use Rattle.ax_link.specs.declared.notice.LinkNotice.TheVariants as links
 use Rattle.circuit_l4.specs.declared.facts.EndFacts.{EndFacts}
 use Rattle.circuit_l4.specs.declared.notice.EndNotice.{EndNotice}
 use Rattle.circuit_l4.specs.declared.notice.EndNotice.TheVariants.{Opened}
 use Rattle.circuit_l4.specs.declared.phase.EndPhase.{EndPhase}
-use Rattle.net_replay.specs.ToldWords.{link_word, notice_word, phase_word}
+use Rattle.circuit_l4.specs.declared.notice.EndNotice.TheVariants as notices
+use Rattle.circuit_l4.specs.declared.phase.EndPhase.TheVariants as phases
+use Rattle.l3_datagram.specs.declared.routed.Routed.{Routed}
+use Rattle.l3_datagram.specs.declared.routed.Routed.TheVariants as routed
+use Rattle.circuit_set.specs.CircuitSets.{facts_at}
+use Rattle.circuit_set.specs.Pumps.{SetTold, Of, Dropped}
+use Rattle.circuit_set.specs.Sets.{Holder, Notice, end_of}
+use Rattle.node_turns.specs.States as nodes
+use Rattle.net_replay.specs.declared.ends.EndRecord.{EndRecord}
+use Rattle.net_replay.specs.declared.ends.Outcome.{Outcome}
+use Rattle.net_replay.specs.declared.ends.Outcome.TheVariants.{Held, Gone, Lost}
+
+-- The words by which a report shows what links, ends of circuits and routers tell. Own profile.
+
+abbrev pub link_word : LinkNotice → List ℕ
+link_word links.Opened = codes "opened"
+link_word links.Reset = codes "reset"
+link_word links.Closed = codes "closed"
+link_word links.Refused = codes "refused"
+link_word links.Failed = codes "failed"
+
+abbrev pub notice_word : EndNotice → List ℕ
+notice_word (notices.Opened window) = codes "opened"
+notice_word notices.Refused = codes "refused"
+notice_word notices.Closed = codes "closed"
+notice_word notices.ClosedByPartner = codes "closed by partner"
+notice_word notices.FailedRetries = codes "failed retries"
+notice_word notices.FailedOversize = codes "failed oversize"
+notice_word notices.FailedInactive = codes "failed inactive"
+
+abbrev pub phase_word : EndPhase → List ℕ
+phase_word phases.Connecting = codes "connecting"
+phase_word phases.Up = codes "up"
+phase_word phases.Closing = codes "closing"
+phase_word phases.Ended = codes "ended"
+
+-- why a router dropped a datagram; all else that it tells is no drop
+abbrev pub drop_word : Routed → Option (List ℕ)
+drop_word routed.Expired = Some (codes "expired")
+drop_word routed.NoRoute = Some (codes "no route")
+drop_word routed.Returned = Some (codes "returned")
+drop_word routed.Dropped = Some (codes "carrier")
+drop_word routed.Bad = Some (codes "bad")
+drop_word other = None
 
 -- link N CALL WHAT
 abbrev pub link_line : ℕ → Callsign → LinkNotice → List ℕ
@@ -70,3 +114,70 @@ end_line node end partner is_lost facts =
     ++ (decimal node
     ++ (codes " "
     ++ (decimal end ++ (codes " " ++ (calls.shown partner ++ (codes " " ++ (last_word is_lost facts.phase ++ (codes " " ++ (counts_text facts ++ codes "\n")))))))))
+
+-- What a report says of mail. Own profile.
+
+-- posted N NUMBER
+abbrev pub posted_line : ℕ → ℕ → List ℕ
+posted_line node number = codes "posted " ++ (decimal node ++ (codes " " ++ (decimal number ++ codes "\n")))
+
+-- stored N ORIGIN NUMBER TO LEN
+abbrev pub stored_line : ℕ → Callsign → ℕ → Callsign → ℕ → List ℕ
+stored_line node origin number to len =
+    codes "stored "
+    ++ (decimal node ++ (codes " " ++ (calls.shown origin ++ (codes " " ++ (decimal number ++ (codes " " ++ (calls.shown to ++ (codes " " ++ (decimal len ++ codes "\n")))))))))
+
+-- done N NUMBER
+abbrev pub done_line : ℕ → ℕ → List ℕ
+done_line node number = codes "done " ++ (decimal node ++ (codes " " ++ (decimal number ++ codes "\n")))
+
+-- mail N queued=Q stored=S
+abbrev pub mail_line : ℕ → ℕ → ℕ → List ℕ
+mail_line node queued stored =
+    codes "mail " ++ (decimal node ++ (codes " queued=" ++ (decimal queued ++ (codes " stored=" ++ (decimal stored ++ codes "\n")))))
+
+-- What a report says of the entries of nodes, and of their ends as they were left. Own profile.
+
+-- ends are numbered from 1, in the order in which the node made them
+abbrev pub notice_text : ℕ → List EndRecord → ℕ → EndNotice → List ℕ
+notice_text node ends id notice =
+    unwrap_or (option_map (λ (end : EndRecord). notice_line node id end.partner notice) (slice_get ends (id - 1))) []
+
+abbrev pub drop_text : ℕ → Routed → List ℕ
+drop_text node routed = unwrap_or (option_map (dropped_line node) (drop_word routed)) []
+
+-- of all that a node's circuits tell, notices and drops alone are written
+abbrev pub set_event_text : ℕ → List EndRecord → SetTold → List ℕ
+set_event_text node ends (Of (Notice id notice)) = notice_text node ends id notice
+set_event_text node ends (Dropped routed) = drop_text node routed
+set_event_text node ends event = []
+
+-- overflow N LIVE WOULDBE
+abbrev pub overflow_line : ℕ → ℕ → ℕ → List ℕ
+overflow_line node live would_be =
+    codes "overflow " ++ (decimal node ++ (codes " " ++ (decimal live ++ (codes " " ++ (decimal would_be ++ codes "\n")))))
+
+-- these are the ends that the node ever made
+abbrev pub entry_text : ℕ → List EndRecord → nodes.Entry → List ℕ
+entry_text node ends (nodes.Of_set told) = set_event_text node ends told
+entry_text node ends (nodes.Of_link peer notice) = link_line node peer notice
+entry_text node ends (nodes.Overflow live would_be) = overflow_line node live would_be
+
+-- an end that is held, with its facts
+abbrev pub held_text : ℕ → ℕ → Callsign → Option EndFacts → List ℕ
+held_text node id partner None = []
+held_text node id partner (Some facts) = end_line node id partner false facts
+
+abbrev pub left_text : ℕ → ℕ → Callsign → Outcome → Option EndFacts → List ℕ
+left_text node id partner (Lost facts) held = end_line node id partner true facts
+left_text node id partner (Gone facts) held = end_line node id partner false facts
+left_text node id partner Held held = held_text node id partner held
+
+-- an end as it was left: gone, lost in a restart, or held with these facts
+abbrev pub last_text : ℕ → ℕ → EndRecord → Option EndFacts → List ℕ
+last_text node id end held = left_text node id end.partner end.outcome held
+
+-- all ends that a node ever made, the first with this number; it holds these
+abbrev pub last_texts : ℕ → ℕ → List EndRecord → List Holder → List ℕ
+last_texts node id [] held = []
+last_texts node id (end ∷ ends) held = last_text node id end (facts_at (end_of id held)) ++ last_texts node (suc id) ends held

@@ -2,8 +2,8 @@
 ghost use Rattle.std.specs.Prelude.{◌≡◌, [], ℕ, false, OnOk, IfOk, length, slice_get};
 ghost use Rattle.std.specs.Option.{option_map};
 ghost use Rattle.node_core.specs.Broadcasts.{broadcast_octets};
-ghost use Rattle.node_core.specs.UserActs as acts;
-ghost use Rattle.node_core.specs.UserActs.{act_of};
+ghost use Rattle.node_core.specs.Acts as acts;
+ghost use Rattle.node_core.specs.Acts.{act_of};
 ghost use Rattle.nodes_broadcast.specs.Nodes.{view};
 ghost use Rattle.net_replay.specs.Lines as lines;
 ghost use Rattle.net_replay.specs.Mailing as mailing;

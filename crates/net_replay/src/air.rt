@@ -2,7 +2,7 @@
 ghost use Rattle.std.specs.Prelude.{◌≡◌, ◌≤◌, ◌-◌, Some, length, take, not};
 ghost use Rattle.std.specs.List.{position_or_len};
 ghost use Rattle.net_replay.specs.declared.air.Aired.{Aired};
-ghost use Rattle.net_replay.specs.Air as airs;
+ghost use Rattle.net_replay.specs.World as airs;
 
 use crate::limits::MAX_FRAMES;
 use crate::reasons::{LineRefusal, ReplayRefusal};
@@ -34,7 +34,7 @@ pub struct Air {
 impl Model for Air {
     ghost use Rattle.std.specs.Prelude.{List, ◌≤◌, length, take};
     ghost use Rattle.net_replay.specs.declared.air.Aired.{Aired};
-    ghost use Rattle.net_replay.specs.Air.{AllSettled};
+    ghost use Rattle.net_replay.specs.World.{AllSettled};
 
     ghost Value = { List Aired };
 
@@ -46,7 +46,7 @@ impl Model for Air {
 
 impl Air {
     ghost use Rattle.std.specs.Prelude.{◌≡◌, ◌≤◌, ◌<◌, ◌++◌, ◌∷◌, [], length, slice_get, OnOk, OnErr, IfErr, IfSome};
-    ghost use Rattle.net_replay.specs.Air.{in_air, most_frames, oldest, settled_at, frame_of, lost_fault, delivery_fault};
+    ghost use Rattle.net_replay.specs.World.{in_air, most_frames, oldest, settled_at, frame_of, lost_fault, delivery_fault};
     ghost use Rattle.net_replay.specs.declared.reasons.ReplayRefusal.TheVariants.{FramesFull};
 
     /// No frame is in the air.

@@ -1,7 +1,7 @@
 //! Bursts: many messages that are written at an end.
 ghost use Rattle.std.specs.Prelude.{◌≡◌, ◌≤◌, ◌+◌, ◌∷◌, [], ℕ, OnOk, IfOk, IfErr, suc};
 ghost use Rattle.std.specs.Fmt.{decimal};
-ghost use Rattle.node_core.specs.UserActs as acts;
+ghost use Rattle.node_core.specs.Acts as acts;
 ghost use Rattle.net_replay.specs.Events.{Wrote};
 ghost use Rattle.net_replay.specs.Lines as lines;
 ghost use Rattle.net_replay.specs.Mailing as mailing;

@@ -1,6 +1,6 @@
 //! The lines on frames: they go to nodes, are lost, or go where they go by themselves.
 ghost use Rattle.std.specs.Prelude.{◌≡◌, ◌∷◌, [], ℕ, Bool, Some, OnOk, filter, slice_get};
-ghost use Rattle.network_file.specs.Channels.{hearers};
+ghost use Rattle.network_file.specs.Plan.{hearers};
 ghost use Rattle.net_replay.specs.declared.air.Aired.{Aired};
 ghost use Rattle.net_replay.specs.Lines as lines;
 ghost use Rattle.net_replay.specs.Running.{GoesOn, Runs, course};

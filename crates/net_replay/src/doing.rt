@@ -2,9 +2,9 @@
 ghost use Rattle.std.specs.Prelude.{◌≡◌, ◌∷◌, [], OnOk};
 ghost use Rattle.std.specs.List.{AllByRecursion};
 ghost use Rattle.circuit_set.specs.Pairs.{IsPair};
-ghost use Rattle.node_core.specs.UserActs as acts;
-ghost use Rattle.node_core.specs.UserActs.{act_of};
-ghost use Rattle.net_replay.specs.CircuitRuns.{IsInstruction, IsLine};
+ghost use Rattle.node_core.specs.Acts as acts;
+ghost use Rattle.node_core.specs.Acts.{act_of};
+ghost use Rattle.net_replay.specs.Promises.{IsInstruction, IsLine};
 ghost use Rattle.net_replay.specs.Lines as lines;
 ghost use Rattle.net_replay.specs.Running.{GoesOn, Runs, course};
 ghost use Rattle.net_replay.specs.Running as running;

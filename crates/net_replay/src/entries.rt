@@ -1,7 +1,6 @@
 //! What a report says of the entries of nodes, and of their ends as they were left.
 ghost use Rattle.std.specs.Prelude.{◌≡◌, ◌++◌, OnOk, IfOk, string_bytes};
-ghost use Rattle.net_replay.specs.ToldEntries as texts;
-ghost use Rattle.net_replay.specs.ToldLines as lines;
+ghost use Rattle.net_replay.specs.ToldLines as texts;
 ghost use Rattle.circuit_set.specs.Standing.{event_told};
 ghost use Rattle.node_core.specs.Standing.{entry_of};
 
@@ -152,7 +151,7 @@ fn write_end(
     facts: &EndFacts,
     text: &mut TextOut,
 ) -> Result<(), NoMemory>
-    ensures { OnOk result (text.new ≡ text.old ++ lines.end_line node id partner.now is_lost facts.now) }
+    ensures { OnOk result (text.new ≡ text.old ++ texts.end_line node id partner.now is_lost facts.now) }
 {
     let line = end_line(alloc, node, id, partner, is_lost, facts)?;
     text.text(line.as_str())?;

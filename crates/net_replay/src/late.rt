@@ -3,7 +3,7 @@ ghost use Rattle.std.specs.Prelude.{◌≡◌, List, map, ℕ, OnOk, IfOk, nat_l
 ghost use Rattle.std.specs.Option.{option_copied, option_map};
 ghost use Rattle.circuit_set.specs.Sets as sets;
 ghost use Rattle.circuit_set.specs.Standing.{event_told};
-ghost use Rattle.circuit_verdict.specs.Events.{told_in_run};
+ghost use Rattle.circuit_verdict.specs.Verdicts.{told_in_run};
 ghost use Rattle.network_file.specs.Plan.{Plan};
 ghost use Rattle.node_core.specs.Standing.{entry_of};
 ghost use Rattle.net_replay.specs.Circuits as circuits;

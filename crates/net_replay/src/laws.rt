@@ -1,9 +1,8 @@
 //! What is promised of every network.
-ghost use Rattle.net_replay.specs.CircuitRuns.{NetworksAreSound, WorldsAreRuns};
+ghost use Rattle.net_replay.specs.Promises.{NetworksAreSound, WorldsAreRuns, EachTellsRetries, InTimeIsSafe, InTimeMailIsOnce};
 ghost use Rattle.net_replay.specs.Conversations.{InTimeUsersAgree};
 ghost use Rattle.net_replay.specs.Datagrams.{DatagramsSent};
 ghost use Rattle.net_replay.specs.Hops.{HopsTakeOne};
-ghost use Rattle.net_replay.specs.Promises.{EachTellsRetries, InTimeIsSafe, InTimeMailIsOnce};
 ghost use Rattle.net_replay.specs.Returning.{CopiesAloneReturn};
 
 /// In every network of a file the nodes' circuits start as circuits do; a circuit is asked for with a call, and a node starts again at a pair.

@@ -4,7 +4,7 @@ mod offering;
 mod taking;
 
 ghost use Rattle.std.specs.Prelude.{◌≡◌, ◌∷◌, [], OnOk, IfOk, IfErr, map};
-ghost use Rattle.node_core.specs.UserActs.{act_of};
+ghost use Rattle.node_core.specs.Acts.{act_of};
 ghost use Rattle.net_replay.specs.Events.{Refused, event_of};
 ghost use Rattle.net_replay.specs.Mailing as mailing;
 ghost use Rattle.net_replay.specs.Running.{GoesOn, IsAnswerTo, Runs, Stands, Stops, course};

@@ -1,8 +1,7 @@
 //! The mail of the nodes of a network: a store at the place of each node that keeps mail.
 ghost use Rattle.std.specs.Prelude.{◌≡◌, ℕ, List, [], Option, OnOk, OnErr, IfOk, is_some, length, map, slice_get};
 ghost use Rattle.std.specs.Option.{option_copied, option_map};
-ghost use Rattle.node_mail.specs.Lists.{Lists, letter_of};
-ghost use Rattle.node_mail.specs.Standing.{number_and_dest, octets_or};
+ghost use Rattle.node_mail.specs.Lists.{Lists, letter_of, number_and_dest, octets_or};
 ghost use Rattle.net_replay.specs.Agents as agents;
 ghost use Rattle.net_replay.specs.Mailing.{mail_in, queued_of};
 ghost use Rattle.net_replay.specs.Starting as starting;

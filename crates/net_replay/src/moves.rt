@@ -3,7 +3,7 @@ ghost use Rattle.std.specs.Prelude.{◌≡◌, ◌∷◌, [], ℕ, List, true, f
 ghost use Rattle.std.specs.List.{position_or_len};
 ghost use Rattle.std.specs.Option.{option_map};
 ghost use Rattle.node_core.specs.Standing.{entry_of};
-ghost use Rattle.node_core.specs.UserActs.{act_of};
+ghost use Rattle.node_core.specs.Acts.{act_of};
 ghost use Rattle.node_core.specs.Broadcasts.{broadcast_octets};
 ghost use Rattle.nodes_broadcast.specs.Nodes.{view};
 ghost use Rattle.net_replay.specs.declared.air.Aired.{Aired};

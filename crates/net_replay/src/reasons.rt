@@ -49,7 +49,7 @@ pub enum LineRefusal {
 
 impl fmt::Display for LineRefusal {
     ghost use Rattle.std.specs.Prelude.{Some};
-    ghost use Rattle.net_replay.specs.Reasons.{word_for_why};
+    ghost use Rattle.net_replay.specs.Refused.{word_for_why};
 
     ghost output = { λ why. Some (word_for_why why) };
 

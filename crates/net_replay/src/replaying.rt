@@ -1,7 +1,7 @@
 //! Replays.
 ghost use Rattle.std.specs.Prelude.{◌≡◌, ◌≤◌, IfOk, IfErr, length};
-ghost use Rattle.net_replay.specs.Air.{most_frames};
-ghost use Rattle.net_replay.specs.CircuitRuns.{IsSound};
+ghost use Rattle.net_replay.specs.World.{most_frames};
+ghost use Rattle.net_replay.specs.Promises.{IsSound};
 ghost use Rattle.net_replay.specs.Circuits.{allowance_of};
 ghost use Rattle.net_replay.specs.Lines as lines;
 ghost use Rattle.net_replay.specs.Traces.{IsRefusal, IsTraceOf, allowance_in, left_of};

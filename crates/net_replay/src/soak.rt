@@ -1,11 +1,10 @@
 //! The line on what came of a soak.
 ghost use Rattle.std.specs.Prelude.{◌≡◌, ◌++◌, ℕ, List, length, map, flat_map, string_bytes, OnOk, OnErr, IfOk};
-ghost use Rattle.node_core.specs.Kept.{NodeStands};
+ghost use Rattle.node_core.specs.Standing.{NodeStands, entry_of};
 ghost use Rattle.node_turns.specs.States.{NodeState};
-ghost use Rattle.node_core.specs.Standing.{entry_of};
 ghost use Rattle.net_replay.specs.Events.{Entry, event_of, numbered_of};
 ghost use Rattle.net_replay.specs.Reporting.{AreDeclared, ends_left};
-ghost use Rattle.net_replay.specs.Soaks as texts;
+ghost use Rattle.net_replay.specs.Reports as texts;
 ghost use Rattle.net_replay.specs.Starting.{Placed};
 ghost use Rattle.net_replay.specs.Traces.{IsTraceOf, StandFor, left_of};
 ghost use Rattle.net_replay.specs.World.{World};

@@ -4,9 +4,8 @@ use Rattle.std.specs.Prelude.{◌&&◌, ◌==◌, not, nat_eq, nat_lt, is_none, 
 use Rattle.std.specs.Cmp.Lexicographic.{pointwise}
 use Rattle.std.specs.Str.Lines.{lines}
 use Rattle.std.specs.List.{AllByRecursion}
-use Rattle.ax_address.specs.CallReading as calls
-use Rattle.ax_address.specs.CallReading.{ReadsCallTexts}
-use Rattle.ax_address.specs.Callsign.{Callsign}
+use Rattle.ax_address.specs.Callsign as calls
+use Rattle.ax_address.specs.Callsign.{ReadsCallTexts, Callsign}
 use Rattle.ax_address.specs.declared.call.CallRefusal.{CallRefusal}
 use Rattle.ax_address.specs.Results.{◌>>=◌}
 use Rattle.network_file.specs.declared.network.NumberedInstruction.{NumberedInstruction}
@@ -19,26 +18,20 @@ use Rattle.network_file.specs.declared.plan.instructions.Instruction.TheVariants
 use Rattle.network_file.specs.declared.plan.vias.Via.{Via}
 use Rattle.network_file.specs.declared.reasons.What.{What}
 use Rattle.network_file.specs.declared.reasons.What.TheVariants as whats
-use Rattle.network_file.specs.Keys.{Assignment, key_at, least_of, most_of, takes}
+use Rattle.network_file.specs.Keys.{Assignment, key_at, least_of, most_of, takes, clashes, set_to}
 use Rattle.network_file.specs.Laws.{AreDifferent, ArePairNumbers, CallsAreCalls, CallsDeclaredOnce, DeclaredOnce, HasCalls, HaveOwnCalls, IsAllowed, IsCall, IsInRange, NamesCalls, NamesPair, NoMailAtPrompts, PairsArePairs, SettingsFit, SettingsInRange}
 use Rattle.network_file.specs.Lines.{all_kinds, line_at, line_of}
-use Rattle.network_file.specs.Lines.Circuits as circuits
+use Rattle.network_file.specs.Lines.Instructions as circuits
 use Rattle.network_file.specs.Lines.Declaring.{are_members, are_repeaters, calls_at, channel_line, members_at, declaration_at, node_line, set_line, setting_at, version_at, version_line, via_at, via_line}
-use Rattle.network_file.specs.Lines.Frames as frames
-use Rattle.network_file.specs.Lines.Heard.{are_entries, broadcast_at, entries_at, heard_line}
+use Rattle.network_file.specs.Lines.Instructions.{are_entries, broadcast_at, entries_at, heard_line}
 use Rattle.network_file.specs.Lines.Kinds.{Kind, as_line, in_time, line_by}
-use Rattle.network_file.specs.Lines.Mails as mails
-use Rattle.network_file.specs.Lines.Nodes as nodes
 use Rattle.network_file.proofs.Declared.{more_calls, more_different}
 use Rattle.network_file.proofs.Prompts.{AreApart, known_key, more_apart}
 use Rattle.network_file.proofs.Ranges.{ranged}
 use Rattle.network_file.specs.Networks.{Bad, after_line, after_lines, and_then, network_of, nothing, with_line, with_said}
 use Rattle.network_file.specs.Places.{alias_at, call_at, has_call, has_node, known, needs, new_call_at, new_node_at, new_peer_at, node_at, number_at, value_at}
-use Rattle.network_file.specs.Settings.{clashes, set_to}
 use Rattle.network_file.specs.Plan.{Plan, is_untouched, may_declare, version_of}
-use Rattle.text_lines.specs.Lines.{is_skipped, is_text}
-use Rattle.text_lines.specs.Numbers.{is_number}
-use Rattle.text_lines.specs.Words.{words_of}
+use Rattle.text_lines.specs.Lines.{is_skipped, is_text, is_number, words_of}
 
 -- what is known of a setting that is read after a plan: it fits, is of a declared node, is set once, and makes no node keep mail that
 -- serves users at a prompt
@@ -169,37 +162,37 @@ module _ (reads : ReadsCallTexts) where
       bound (Fits plan) (needs (are_entries rest) whats.Count) _ (λ u _. bound (Fits plan) (node_at plan.declared number) _ (λ n _. bound (Fits plan) (call_at name) _ (λ c q. bound (Fits plan) (alias_at nick) _ (λ a _. bound (Fits plan) (entries_at rest) _ (λ es _ y z. done plan _ y z (is_call name c q) tt))))) l e
   heard_fits plan other l e = absurd (cc e)
 
-  lock_fits : (plan : Plan) (words : List (List ℕ)) (l : Line) → nodes.lock_line plan words ≡ Ok l → Fits plan l
-  unfolding nodes.lock_at
+  lock_fits : (plan : Plan) (words : List (List ℕ)) (l : Line) → circuits.lock_line plan words ≡ Ok l → Fits plan l
+  unfolding circuits.lock_at
   lock_fits plan (number ∷ dest ∷ nick ∷ neighbour ∷ quality ∷ []) l e =
       bound (Fits plan) (node_at plan.declared number) _ (λ n _. bound (Fits plan) (call_at dest) _ (λ d _. bound (Fits plan) (alias_at nick) _ (λ a _. bound (Fits plan) (call_at neighbour) _ (λ b is. bound (Fits plan) (number_at 0 255 quality) _ (λ q _ y z. done plan _ y z (is_call neighbour b is) tt))))) l e
   lock_fits plan other l e = absurd (cc e)
 
-  tick_fits : (plan : Plan) (words : List (List ℕ)) (l : Line) → nodes.tick_line words ≡ Ok l → Fits plan l
-  unfolding nodes.tick_at
+  tick_fits : (plan : Plan) (words : List (List ℕ)) (l : Line) → circuits.tick_line words ≡ Ok l → Fits plan l
+  unfolding circuits.tick_at
   tick_fits plan (word ∷ []) l e = bound (Fits plan) (number_at 1 86400000 word) _ (λ n _ y z. done plan _ y z tt tt) l e
   tick_fits plan other l e = absurd (cc e)
 
   restarts : (i d : ℕ) → (1 ≤ i) × (i ≤ 255) → (1 ≤ d) × (d ≤ 255) → ArePairNumbers (record { index = i; ident = d })
   restarts i d a b = record { index_some = a.0; index_most = a.1; ident_some = b.0; ident_most = b.1 }
 
-  restart_fits : (plan : Plan) (words : List (List ℕ)) (l : Line) → nodes.restart_line plan words ≡ Ok l → Fits plan l
-  unfolding nodes.restart_at
+  restart_fits : (plan : Plan) (words : List (List ℕ)) (l : Line) → circuits.restart_line plan words ≡ Ok l → Fits plan l
+  unfolding circuits.restart_at
   restart_fits plan (number ∷ index ∷ ident ∷ []) l e =
       bound (Fits plan) (node_at plan.declared number) _ (λ n _. bound (Fits plan) (number_at 1 255 index) _ (λ i first. bound (Fits plan) (number_at 1 255 ident) _ (λ d second y z. done plan _ y z tt (restarts i d (ranged whats.Number 1 255 index i first) (ranged whats.Number 1 255 ident d second))))) l e
   restart_fits plan other l e = absurd (cc e)
 
-  called_at : (plan : Plan) (number name : List ℕ) (way : ℕ × Callsign) → nodes.node_and_call_at plan number name ≡ Ok way → IsCall way.1
-  unfolding nodes.node_and_call_at
+  called_at : (plan : Plan) (number name : List ℕ) (way : ℕ × Callsign) → circuits.node_and_call_at plan number name ≡ Ok way → IsCall way.1
+  unfolding circuits.node_and_call_at
   called_at plan number name =
       bound (λ (w : ℕ × Callsign). IsCall w.1) (node_at plan.declared number) _ (λ n _. bound (λ (w : ℕ × Callsign). IsCall w.1) (call_at name) _ (λ c q. last (λ (w : ℕ × Callsign). IsCall w.1) (n, c) (is_call name c q)))
 
-  called : (plan : Plan) (words : List (List ℕ)) (way : ℕ × Callsign) → nodes.node_and_call plan words ≡ Ok way → IsCall way.1
+  called : (plan : Plan) (words : List (List ℕ)) (way : ℕ × Callsign) → circuits.node_and_call plan words ≡ Ok way → IsCall way.1
   called plan (number ∷ name ∷ []) way e = called_at plan number name way e
   called plan other way e = absurd (cc e)
 
-  open_fits : (plan : Plan) (words : List (List ℕ)) (l : Line) → as_line (nodes.node_and_call plan words) (λ way. instructions.Open way.0 way.1) ≡ Ok l → Fits plan l
-  open_fits plan words = bound (Fits plan) (nodes.node_and_call plan words) _ (λ way q y z. done plan _ y z (called plan words way q) tt)
+  open_fits : (plan : Plan) (words : List (List ℕ)) (l : Line) → as_line (circuits.node_and_call plan words) (λ way. instructions.Open way.0 way.1) ≡ Ok l → Fits plan l
+  open_fits plan words = bound (Fits plan) (circuits.node_and_call plan words) _ (λ way q y z. done plan _ y z (called plan words way q) tt)
 
   burst_fits : (plan : Plan) (words : List (List ℕ)) (l : Line) → circuits.burst_line plan words ≡ Ok l → Fits plan l
   unfolding circuits.burst_at
@@ -214,15 +207,15 @@ module _ (reads : ReadsCallTexts) where
   abbrev AreCalls : ℕ × Callsign × Callsign → Type 0
   AreCalls p = IsCall p.1 × IsCall p.2
 
-  posts : (plan : Plan) (number to dest : List ℕ) (p : ℕ × Callsign × Callsign) → mails.node_and_calls_at plan number to dest ≡ Ok p → AreCalls p
-  unfolding mails.node_and_calls_at
+  posts : (plan : Plan) (number to dest : List ℕ) (p : ℕ × Callsign × Callsign) → circuits.node_and_calls_at plan number to dest ≡ Ok p → AreCalls p
+  unfolding circuits.node_and_calls_at
   posts plan number to dest =
       bound AreCalls (node_at plan.declared number) _ (λ n _. bound AreCalls (call_at to) _ (λ t q. bound AreCalls (call_at dest) _ (λ d r. last AreCalls (n, t, d) (is_call to t q, is_call dest d r))))
 
-  post_fits : (plan : Plan) (line : List ℕ) (words : List (List ℕ)) (l : Line) → mails.post_line plan line words ≡ Ok l → Fits plan l
-  unfolding mails.post_at
+  post_fits : (plan : Plan) (line : List ℕ) (words : List (List ℕ)) (l : Line) → circuits.post_line plan line words ≡ Ok l → Fits plan l
+  unfolding circuits.post_at
   post_fits plan line (number ∷ to ∷ dest ∷ more) l e =
-      bound (Fits plan) (known whats.Count (mails.posted_text line)) _ (λ text _. bound (Fits plan) (mails.node_and_calls_at plan number to dest) _ (λ p q y z. done plan _ y z (posts plan number to dest p q) tt)) l e
+      bound (Fits plan) (known whats.Count (circuits.posted_text line)) _ (λ text _. bound (Fits plan) (circuits.node_and_calls_at plan number to dest) _ (λ p q y z. done plan _ y z (posts plan number to dest p q) tt)) l e
   post_fits plan line other l e = absurd (cc e)
 
   -- ---- all kinds
@@ -259,11 +252,11 @@ module _ (reads : ReadsCallTexts) where
               (
                 λ plan line. lock_fits plan,
                 (
-                  λ plan line words. plain plan (nodes.node_alone plan words) instructions.Round (λ x. (tt, tt)),
+                  λ plan line words. plain plan (circuits.node_alone plan words) instructions.Round (λ x. (tt, tt)),
                   (
-                    λ plan line words. plain plan (nodes.node_and_call plan words) (λ x. instructions.LinkFail x.0 x.1) (λ x. (tt, tt)),
+                    λ plan line words. plain plan (circuits.node_and_call plan words) (λ x. instructions.LinkFail x.0 x.1) (λ x. (tt, tt)),
                     (
-                      λ plan line words. plain plan (nodes.node_alone plan words) instructions.Show (λ x. (tt, tt)),
+                      λ plan line words. plain plan (circuits.node_alone plan words) instructions.Show (λ x. (tt, tt)),
                       (
                         λ plan line. tick_fits plan,
                         (
@@ -281,17 +274,17 @@ module _ (reads : ReadsCallTexts) where
                                     (
                                       post_fits,
                                       (
-                                        λ plan line words. plain plan (nodes.node_alone plan words) instructions.Mail (λ x. (tt, tt)),
+                                        λ plan line words. plain plan (circuits.node_alone plan words) instructions.Mail (λ x. (tt, tt)),
                                         (
-                                          λ plan line words. plain plan (frames.frame_and_node plan words) (λ x. instructions.Deliver x.0 x.1) (λ x. (tt, tt)),
+                                          λ plan line words. plain plan (circuits.frame_and_node plan words) (λ x. instructions.Deliver x.0 x.1) (λ x. (tt, tt)),
                                           (
-                                            λ plan line words. plain plan (frames.frame_and_node plan words) (λ x. instructions.Again x.0 x.1) (λ x. (tt, tt)),
+                                            λ plan line words. plain plan (circuits.frame_and_node plan words) (λ x. instructions.Again x.0 x.1) (λ x. (tt, tt)),
                                             (
-                                              λ plan line words. plain plan (frames.frame_alone words) instructions.Lose (λ x. (tt, tt)),
+                                              λ plan line words. plain plan (circuits.frame_alone words) instructions.Lose (λ x. (tt, tt)),
                                               (
-                                                λ plan line words. plain plan (frames.count_alone words) instructions.Flow (λ x. (tt, tt)),
+                                                λ plan line words. plain plan (circuits.count_alone words) instructions.Flow (λ x. (tt, tt)),
                                                 (
-                                                  λ plan line words. plain plan (frames.count_alone words) instructions.Cut (λ x. (tt, tt)),
+                                                  λ plan line words. plain plan (circuits.count_alone words) instructions.Cut (λ x. (tt, tt)),
                                                   tt,
                                                 ),
                                               ),

@@ -3,7 +3,7 @@ use Rattle.std.proofs.Common.{◌≡◌, ◌<◌, ◌≤◌, ℕ, zero, suc, Boo
 use Rattle.std.proofs.Math.Seq.{take-length}
 use Rattle.std.proofs.lemmas.Bool.Decides.{nat_tests}
 use Rattle.std.proofs.lemmas.Option.{slice_get_within}
-use Rattle.network_file.specs.Channels.{has_member, is_on, share_channel}
+use Rattle.network_file.specs.Plan.{has_member, is_on, share_channel}
 use Rattle.network_file.specs.declared.plan.channels.Channel.{Channel}
 
 either : (p q b : Bool) → Some (q || (if p then true else b)) ≡ Some ((p || q) || b)

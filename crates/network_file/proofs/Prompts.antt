@@ -7,8 +7,7 @@ use Rattle.network_file.specs.declared.plan.keys.Key.{Key}
 use Rattle.network_file.specs.declared.plan.keys.Key.TheVariants.{Mail, Prompt}
 use Rattle.network_file.specs.declared.reasons.What.{What}
 use Rattle.network_file.specs.declared.reasons.What.TheVariants as whats
-use Rattle.network_file.specs.Keys.{Assignment, all_keys, default_of, first_of, is_known, key_at}
-use Rattle.network_file.specs.Settings.{clashes, is_of, same_key, set_to, value_of}
+use Rattle.network_file.specs.Keys.{Assignment, all_keys, default_of, first_of, is_known, key_at, clashes, is_of, same_key, set_to, value_of}
 
 -- ---- keys
 

@@ -1,10 +1,13 @@
 -- The keys of `set` lines. Own profile.
-use Rattle.std.specs.Prelude.{ℕ, List, [], ◌∷◌, Option, Some, None, Result, Ok, Err, Bool, true, ◌||◌, ◌==◌, nat_le, nat_eq, if◌then◌else◌, codes}
+use Rattle.std.specs.Prelude.{ℕ, List, [], ◌∷◌, Option, Some, None, Result, Ok, Err, Bool, true, ◌||◌, ◌==◌, nat_le, nat_eq, if◌then◌else◌, codes, find, unwrap_or, false, ◌&&◌}
 use Rattle.std.specs.Cmp.Lexicographic.{pointwise}
+use Rattle.std.specs.Option.{option_map}
+use denote.Enum.Bare.{sameb}
 use Rattle.network_file.specs.declared.reasons.What.{What}
 use Rattle.network_file.specs.declared.reasons.What.TheVariants as whats
 use Rattle.network_file.specs.declared.plan.keys.Key.{Key}
 use Rattle.network_file.specs.declared.plan.keys.Key.TheVariants.{Window, Timeout, Retries, Busy, Inactive, TimeToLive, Life, Least, MinimumQuality, PathQuality, Links, Modulo, LinkWindow, SelectiveReject, T1, T3, LinkRetries, Prompt, Interval, Mail}
+use Rattle.network_file.specs.contracts.plan.keys.Key.{the_type}
 
 -- the word of a key, its least and its largest value, and the one where no line sets it
 pub record Row : Type 0 where
@@ -82,3 +85,26 @@ pub record Assignment : Type 0 where
   pub node : ℕ
   pub key : Key
   pub value : ℕ
+
+-- What the keys are set to. Own profile.
+
+-- `==` on keys
+abbrev pub same_key : Key → Key → Bool
+same_key = sameb the_type
+
+abbrev pub is_of : ℕ → Key → Assignment → Bool
+is_of node key s = (s.node == node) && same_key s.key key
+
+-- what the key is set to for the node, if it is
+abbrev pub set_to : List Assignment → ℕ → Key → Option ℕ
+set_to settings node key = option_map (λ s. s.value) (find (is_of node key) settings)
+
+-- what the key is set to for the node, or else its default
+abbrev pub value_of : List Assignment → ℕ → Key → ℕ
+value_of settings node key = unwrap_or (set_to settings node key) (default_of key)
+
+-- a node that serves users at a prompt would keep mail too
+abbrev pub clashes : List Assignment → ℕ → Key → ℕ → Bool
+clashes settings node Mail value = (value == 1) && (value_of settings node Prompt == 1)
+clashes settings node Prompt value = (value == 1) && (value_of settings node Mail == 1)
+clashes settings node key value = false

@@ -8,12 +8,11 @@ use Rattle.network_file.specs.declared.plan.instructions.Instruction.{Instructio
 use Rattle.network_file.specs.declared.plan.instructions.Instruction.TheVariants as instructions
 use Rattle.network_file.specs.declared.plan.keys.Key.TheVariants.{Mail, Prompt}
 use Rattle.network_file.specs.declared.plan.vias.Via.{Via}
-use Rattle.network_file.specs.Keys.{Assignment, is_known, least_of, most_of, takes}
+use Rattle.network_file.specs.Keys.{Assignment, is_known, least_of, most_of, takes, value_of}
 use Rattle.network_file.specs.Networks.{network_of}
 use Rattle.network_file.specs.Pairs.{PairNumbers}
 use Rattle.network_file.specs.Places.{has_call, has_node}
 use Rattle.network_file.specs.Plan.{Plan, version_of}
-use Rattle.network_file.specs.Settings.{value_of}
 
 -- a setting is one that files of a version may have: the key and the value
 abbrev pub IsAllowed : ℕ → Assignment → Type 0

@@ -1,8 +1,4 @@
-pub mod Reasons
 pub mod Keys
-pub mod Settings
-pub mod Channels
-pub mod Vias
 pub mod Pairs
 pub mod Places
 pub mod Plan

@@ -1,26 +1,18 @@
 -- The kinds of lines by their subjects, and what a line says. Own profile.
 pub mod Kinds
 pub mod Declaring
-pub mod Heard
-pub mod Nodes
-pub mod Circuits
-pub mod Mails
-pub mod Frames
+pub mod Instructions
 use Rattle.std.specs.Prelude.{ℕ, List, [], ◌∷◌, ◌++◌, Result, Err}
 use Rattle.network_file.specs.declared.reasons.What.{What}
 use Rattle.network_file.specs.declared.reasons.What.TheVariants as whats
 use Rattle.network_file.specs.declared.lines.Line.{Line}
 use Rattle.network_file.specs.Plan.{Plan}
-use Rattle.text_lines.specs.Lines.{is_text}
-use Rattle.text_lines.specs.Words.{words_of}
+use Rattle.text_lines.specs.Lines.{is_text, words_of}
 use Rattle.ax_address.specs.Results.{◌>>=◌}
 use Rattle.network_file.specs.Places.{needs}
 use Rattle.network_file.specs.Lines.Kinds.{Kind, line_by}
 use Rattle.network_file.specs.Lines.Declaring.{declaring_kinds}
-use Rattle.network_file.specs.Lines.Nodes.{node_kinds}
-use Rattle.network_file.specs.Lines.Circuits.{circuit_kinds}
-use Rattle.network_file.specs.Lines.Mails.{mail_kinds}
-use Rattle.network_file.specs.Lines.Frames.{frame_kinds}
+use Rattle.network_file.specs.Lines.Instructions.{node_kinds, circuit_kinds, mail_kinds, frame_kinds}
 
 -- all kinds, from those of a subject on
 abbrev pub from_mails : List Kind

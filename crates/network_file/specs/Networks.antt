@@ -1,5 +1,5 @@
 -- The network of a file: what its lines say, one after another, or the first bad line and why. Own profile.
-use Rattle.std.specs.Prelude.{ℕ, suc, ◌≡◌, List, [], ◌∷◌, ◌++◌, Some, None, Result, Ok, Err, nat_lt, if◌then◌else◌}
+use Rattle.std.specs.Prelude.{ℕ, suc, ◌≡◌, List, [], ◌∷◌, ◌++◌, Some, None, Result, Ok, Err, nat_lt, if◌then◌else◌, codes}
 use Rattle.std.specs.Str.Lines.{lines}
 use Rattle.text_lines.specs.Lines.{is_skipped}
 use Rattle.network_file.specs.declared.reasons.What.{What}
@@ -10,6 +10,7 @@ use Rattle.network_file.specs.declared.lines.Line.{Line}
 use Rattle.network_file.specs.declared.lines.Line.TheVariants.{Version, Node, Channel, Set, Via, Instruction}
 use Rattle.network_file.specs.Plan.{Plan}
 use Rattle.network_file.specs.Lines.{line_at}
+use Rattle.network_file.specs.declared.reasons.What.TheVariants as whats
 
 abbrev pub nothing : Plan
 nothing = record { version = None; declared = []; channels = []; settings = []; vias = []; instructions = [] }
@@ -54,3 +55,19 @@ network_of bytes = after_lines 0 nothing (lines bytes)
 abbrev pub ReadAs : NetworkRefusal → Result Plan Bad → Type 0
 ReadAs NoMemory r = Unit {0}
 ReadAs (BadLine n what) r = r ≡ Err (n, what)
+
+-- The word by which a reason is shown. Own profile.
+
+abbrev pub word_for : What → List ℕ
+word_for whats.Many = codes "many"
+word_for whats.Char = codes "char"
+word_for whats.Word = codes "word"
+word_for whats.Late = codes "late"
+word_for whats.Count = codes "count"
+word_for whats.Number = codes "number"
+word_for whats.Call = codes "call"
+word_for whats.Alias = codes "alias"
+word_for whats.Node = codes "node"
+word_for whats.Twice = codes "twice"
+word_for whats.Key = codes "key"
+word_for whats.Value = codes "value"

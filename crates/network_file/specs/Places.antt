@@ -1,9 +1,8 @@
 -- What a word has to be in its place of a line, and what it then stands for. Own profile.
 use Rattle.std.specs.Prelude.{ℕ, List, Option, Some, None, Result, Ok, Err, Bool, true, false, ◌==◌, not, nat_lt}
 use Rattle.std.specs.List.{list_any}
-use Rattle.ax_address.specs.Callsign.{Callsign}
-use Rattle.ax_address.specs.CallOrder.{same_call}
-use Rattle.ax_address.specs.CallReading as calls
+use Rattle.ax_address.specs.Callsign.{Callsign, same_call}
+use Rattle.ax_address.specs.Callsign as calls
 use Rattle.ax_address.specs.Alias as aliases
 use Rattle.ax_address.specs.declared.alias.Alias.{Alias}
 use Rattle.ax_address.specs.Results.{◌>>=◌}
@@ -11,8 +10,8 @@ use Rattle.network_file.specs.declared.reasons.What.{What}
 use Rattle.network_file.specs.declared.reasons.What.TheVariants as whats
 use Rattle.network_file.specs.declared.plan.declarations.Declaration.{Declaration}
 use Rattle.network_file.specs.declared.plan.vias.Via.{Via}
-use Rattle.network_file.specs.Vias.{has_via, via_count}
-use Rattle.text_lines.specs.Numbers.{is_number, number_of}
+use Rattle.network_file.specs.Plan.{has_via, via_count}
+use Rattle.text_lines.specs.Lines.{is_number, number_of}
 
 -- what is wrong where the test fails
 abbrev pub needs : Bool → What → Result (Unit {0}) What

@@ -1,7 +1,7 @@
 //! What a line says: its kind is named by its first word.
 ghost use Rattle.std.specs.Prelude.{◌≡◌, IfOk};
 ghost use Rattle.network_file.specs.Lines as lines;
-ghost use Rattle.text_lines.specs.Words.{texts, words_of};
+ghost use Rattle.text_lines.specs.Lines.{texts, words_of};
 
 pub mod circuits;
 pub mod declaring;

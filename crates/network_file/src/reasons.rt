@@ -34,7 +34,7 @@ pub enum What {
 
 impl fmt::Display for What {
     ghost use Rattle.std.specs.Prelude.{Some};
-    ghost use Rattle.network_file.specs.Reasons.{word_for};
+    ghost use Rattle.network_file.specs.Networks.{word_for};
 
     ghost output = { λ what. Some (word_for what) };
 

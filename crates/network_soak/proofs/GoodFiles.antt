@@ -6,7 +6,7 @@ use Rattle.std.specs.List.{slice_split}
 use Rattle.std.specs.Str.Lines.{lines, lines_of_parts}
 use Rattle.std.proofs.lemmas.List.Splits.{length-slice_split}
 use Rattle.std.proofs.lemmas.Fmt.{length-decimal-le}
-use Rattle.ax_address.specs.CallReading.{call_at}
+use Rattle.ax_address.specs.Callsign.{call_at}
 use Rattle.ax_address.specs.Results.{◌>>=◌}
 use Rattle.network_file.specs.declared.lines.Line.TheVariants as line
 use Rattle.network_file.specs.declared.network.NumberedInstruction.{NumberedInstruction}
@@ -18,14 +18,10 @@ use Rattle.network_file.specs.Plan.{Plan}
 use Rattle.network_file.specs.declared.reasons.What.TheVariants as whats
 use Rattle.network_file.specs.Places.{needs, node_at, new_node_at, new_call_at, value_at}
 use Rattle.network_file.specs.Lines.{line_at, line_of}
-use Rattle.network_file.specs.Lines.Circuits.{end_at, say_at}
+use Rattle.network_file.specs.Lines.Instructions.{end_at, say_at, node_and_call_at, tick_at, said_text}
 use Rattle.network_file.specs.Lines.Declaring.{declaration_at, channel_line, setting_at}
-use Rattle.network_file.specs.Lines.Nodes.{node_and_call_at, tick_at}
-use Rattle.text_lines.specs.Lines.{is_skipped, is_text}
-use Rattle.text_lines.specs.Words.{past_word, words_of}
-use Rattle.network_file.specs.Lines.Circuits.{said_text}
-use Rattle.network_soak.specs.Draws.{draw, next}
-use Rattle.network_soak.specs.Files.{soak_file, start_text, end_text, drawn_text, lines_of, drawn, Drawn, say_line, flow_line as flow_text}
+use Rattle.text_lines.specs.Lines.{is_skipped, is_text, past_word, words_of}
+use Rattle.network_soak.specs.Files.{draw, next, soak_file, start_text, end_text, drawn_text, lines_of, drawn, Drawn, say_line, flow_line as flow_text}
 use Rattle.network_soak.proofs.TextLines.{is_feed, is_space, pushed, parts_of, some_part, Says, one_line, some_length, decimal_is}
 
 -- ---- the lines before those that are drawn

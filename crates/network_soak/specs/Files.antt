@@ -1,10 +1,19 @@
 -- The network file of a number. Own profile.
-use Rattle.std.specs.Prelude.{ℕ, zero, suc, ◌+◌, ◌%◌, ◌==◌, List, [], ◌∷◌, ◌++◌, if◌then◌else◌, codes}
+use Rattle.std.specs.Prelude.{ℕ, zero, suc, ◌+◌, ◌%◌, ◌==◌, List, [], ◌∷◌, ◌++◌, if◌then◌else◌, codes, ◌*◌, ◌/◌, ◌^◌}
 use Rattle.std.specs.Fmt.{decimal}
 use Rattle.std.specs.List.{flat_map}
 use Rattle.network_soak.specs.declared.lines.Kind.{Kind}
 use Rattle.network_soak.specs.declared.lines.Kind.TheVariants.{Declare, Join, WithoutLinks, Round, Open, Close}
-use Rattle.network_soak.specs.Draws.{draw, next}
+
+-- Numbers that one number leads to. Own profile.
+
+-- the state after a draw
+abbrev pub next : ℕ → ℕ
+next x = (x * 6364136223846793005 + 1442695040888963407) % 2 ^ 64
+
+-- a draw below a bound
+abbrev pub draw : ℕ → ℕ → ℕ
+draw bound x = (next x / 2 ^ 33) % bound
 
 -- six nodes in a ring
 abbrev pub six : List ℕ

@@ -1,6 +1,6 @@
 //! Numbers that one number leads to: a linear congruential generator modulo 2^64.
 ghost use Rattle.std.specs.Prelude.{◌≡◌, ◌<◌};
-ghost use Rattle.network_soak.specs.Draws as draws;
+ghost use Rattle.network_soak.specs.Files as draws;
 
 /// The state of the draws.
 #[derive(Clone, Copy, Debug, PartialEq, Eq)]

@@ -13,7 +13,7 @@ use Rattle.tool_cmd.specs.declared.words.FrameModulus.{FrameModulus}
 use Rattle.tool_cmd.specs.declared.words.FrameModulus.TheVariants as modulo
 use Rattle.tool_cmd.specs.IpWords.{IsGateway}
 use Rattle.tool_cmd.specs.LifeWords.{AreSettings}
-use Rattle.tool_cmd.specs.FrameModuli.{modulo_word, size_of}
+use Rattle.tool_cmd.specs.Frames.{modulo_word, size_of}
 use Rattle.tool_cmd.specs.Laws.{AreOfOneGateway, AreOfOneLife}
 use Rattle.tool_cmd.specs.Standing.{state_of}
 use Rattle.node_cmd.specs.Words.{Ask, AskFor, AskForLife, AskForStream, Declare, seed_word}

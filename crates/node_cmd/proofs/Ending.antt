@@ -7,10 +7,9 @@ use Rattle.network_soak.specs.Laws.{AreNetworks}
 use Rattle.node_cmd.specs.declared.outcomes.Printed.TheVariants.{Report, SoakLine}
 use Rattle.node_cmd.specs.declared.ran.Ran.{Ran}
 use Rattle.cmd_streams.specs.declared.status.Status.{Status}
-use Rattle.net_replay.specs.Files.{IsNetwork}
-use Rattle.node_cmd.specs.Outcomes.{NetworkEnds}
+use Rattle.net_replay.specs.Circuits.{IsNetwork}
+use Rattle.node_cmd.specs.Outcomes.{NetworkEnds, Tells}
 use Rattle.cmd_streams.specs.Reading.{ReadsAll}
-use Rattle.node_cmd.specs.Replays.{Tells}
 use Rattle.node_cmd.specs.Run.{ReplayEnds, SoakEnds}
 use Rattle.cmd_streams.specs.Told.{StreamsTold, told}
 use Rattle.node_cmd.proofs.Verdicts.{told_whole}

@@ -4,15 +4,14 @@ use Rattle.std.specs.Prelude.{IsSomeAnd, Option, Some, None, Ok}
 use Rattle.std.specs.Io.KnownBytes.{Consumes, IsAtEnd}
 use Rattle.circuit_verdict.specs.declared.event.Numbered.{Numbered}
 use Rattle.circuit_verdict.specs.declared.verdict.Late.{Late}
-use Rattle.circuit_verdict.specs.Events as verdicts
+use Rattle.circuit_verdict.specs.Verdicts as verdicts
 use Rattle.circuit_verdict.specs.Verdicts.{AreInTime}
 use Rattle.network_file.specs.Networks.{network_of}
 use Rattle.network_file.specs.Plan.{Plan}
 use Rattle.net_replay.specs.Circuits as circuits
-use Rattle.net_replay.specs.Circuits.{CircuitEvent, IsVerdictOn, judged}
+use Rattle.net_replay.specs.Circuits.{CircuitEvent, IsVerdictOn, judged, AirsFew, AirsTooMany, IsInTime, IsLate, IsNetwork}
 use Rattle.net_replay.specs.Lines.{world}
 use Rattle.net_replay.specs.World.{World}
-use Rattle.net_replay.specs.Files.{AirsFew, AirsTooMany, IsInTime, IsLate, IsNetwork}
 
 told_are : (ns : List Numbered) → map (λ (e : CircuitEvent). e.event) (map judged ns) ≡ verdicts.events_of ns
 told_are [] = refl

@@ -1,14 +1,14 @@
 -- What a live node makes of the reads of a stream. Own profile.
 use Rattle.std.specs.Prelude.{ℕ, ◌≡◌, List, [], ◌∷◌, ◌++◌}
 use Rattle.std.specs.List.{flat_map}
-use Rattle.kiss_framing.specs.Enframing.{framed}
+use Rattle.kiss_framing.specs.Stream.{framed}
 use Rattle.link_table.specs.declared.written.Written.{Written}
 use Rattle.network_file.specs.declared.plan.live.LiveNode.{LiveNode}
 use Rattle.node_cmd.specs.Starting.{live_started}
 use Rattle.node_core.specs.Bounds.{IsWithin}
 use Rattle.node_core.specs.Fetching.{without_entries, without_frames}
 use Rattle.node_core.specs.Inputs.{after_bytes, after_tick}
-use Rattle.node_core.specs.Kept.{Kept, NodeStands}
+use Rattle.node_core.specs.Standing.{Kept, NodeStands}
 use Rattle.node_turns.specs.States.{NodeState, frames}
 use Rattle.node_cmd.specs.declared.ran.Ran.{Ran}
 use Rattle.node_cmd.specs.declared.ran.Ran.TheVariants.{Served}

@@ -3,21 +3,19 @@ use Rattle.std.specs.Prelude.{ℕ, ◌≡◌, ◌≢◌, ◌≤◌, List, length
 use Rattle.std.specs.Io.KnownBytes.{Appends}
 use Rattle.radio_base.specs.Causes.{Rose}
 use Rattle.circuit_verdict.specs.declared.verdict.Late.{Late}
-use Rattle.network_file.specs.Networks.{Bad, network_of}
+use Rattle.network_file.specs.Networks.{Bad, network_of, word_for}
 use Rattle.network_file.specs.Plan.{Plan}
-use Rattle.network_file.specs.Reasons.{word_for}
 use Rattle.net_replay.specs.declared.trace.Trace.{Trace}
-use Rattle.net_replay.specs.Air.{most_frames}
-use Rattle.net_replay.specs.Circuits.{IsVerdictOn, allowance_of}
-use Rattle.net_replay.specs.Files.{AirsFew, AirsTooMany, IsInTime, IsLate, IsNetwork}
+use Rattle.net_replay.specs.World.{most_frames, World}
+use Rattle.net_replay.specs.Circuits.{IsVerdictOn, allowance_of, AirsFew, AirsTooMany, IsInTime, IsLate, IsNetwork}
 use Rattle.net_replay.specs.Lines.{world}
 use Rattle.net_replay.specs.Promises.{MailOnceThroughout, RetriesAreTold, SafeThroughout}
-use Rattle.net_replay.specs.Reports.{report_text}
-use Rattle.net_replay.specs.Soaks.{soak_text}
+use Rattle.net_replay.specs.Reports.{report_text, soak_text}
 use Rattle.net_replay.specs.Traces.{IsTraceOf, allowance_in, left_of}
-use Rattle.net_replay.specs.World.{World}
-use Rattle.cmd_streams.specs.Comings.{Comes, WritesWell}
-use Rattle.cmd_streams.specs.ToldBy.{IsNoted}
+use Rattle.cmd_streams.specs.Told.{Comes, WritesWell, IsNoted, bad_line_note, StreamsTold, AppendsFront}
+use Rattle.cmd_streams.specs.declared.status.Status.{Status}
+use Rattle.cmd_streams.specs.declared.status.Status.TheVariants as statuses
+use Rattle.cmd_streams.specs.Reading.{ReadsFile, TellsFile}
 use Rattle.node_cmd.specs.declared.outcomes.Outcome.{Outcome}
 use Rattle.node_cmd.specs.declared.outcomes.Printed.{Printed}
 use Rattle.node_cmd.specs.declared.outcomes.Printed.TheVariants.{Report, SoakLine}
@@ -25,11 +23,6 @@ use Rattle.node_cmd.specs.declared.outcomes.ReportRefusal.{ReportRefusal}
 use Rattle.node_cmd.specs.declared.outcomes.ReportRefusal.TheVariants.{BadLine, TooManyFrames, NoMemory}
 use Rattle.node_cmd.specs.declared.ran.Ran.{Ran}
 use Rattle.node_cmd.specs.declared.ran.Ran.TheVariants.{Replayed}
-use Rattle.cmd_streams.specs.declared.status.Status.{Status}
-use Rattle.cmd_streams.specs.declared.status.Status.TheVariants as statuses
-use Rattle.cmd_streams.specs.Notes.{bad_line_note}
-use Rattle.cmd_streams.specs.Told.{StreamsTold}
-use Rattle.cmd_streams.specs.Writing.{AppendsFront}
 
 -- what is written of a network, with the verdict on it: its report, or the line on the soak of a number
 abbrev pub text_of : Printed → World → Option Late → List ℕ
@@ -103,3 +96,32 @@ pub record NetworkEnds (what : Printed) (bytes : List ℕ) (before after : Strea
   pub write_front : status ≡ statuses.WriteFault → IsNetwork bytes (WritesFront what before.written after.written)
   pub write_same : status ≢ statuses.WriteFault → after.write_faults ≡ before.write_faults
   pub others : (status ≢ statuses.Usage) × (status ≢ statuses.ReadFault)
+
+-- What `replay` reads.
+
+-- a file was read to its end, and it is one of a network of which P holds
+abbrev pub ReadsNetwork : StreamsTold → StreamsTold → (Plan → Type 0) → Type 0
+ReadsNetwork before after P = ReadsFile before.left after.left (λ bytes. IsNetwork bytes P)
+
+-- a file was read to its end, and it has a first bad line, of whose note P holds
+abbrev pub ReadsBadFile : StreamsTold → StreamsTold → (List ℕ → Type 0) → Type 0
+ReadsBadFile before after P = ReadsFile before.left after.left (λ bytes. IsBadFile bytes P)
+
+-- the source tells its bytes, and they are a file with a bad line
+abbrev pub TellsBadFile : Option (List ℕ) → Type 0
+TellsBadFile left = TellsFile left (λ bytes. (bad : Bad) × (network_of bytes ≡ Err bad))
+
+-- the source tells its bytes, and they are the file of a network of which P holds
+abbrev pub Tells : (Plan → Type 0) → Option (List ℕ) → Type 0
+Tells P left = TellsFile left (λ bytes. IsNetwork bytes P)
+
+-- one that puts as many frames in the air as it may, and in which nothing comes back too late, or something; or one that puts too
+-- many there
+abbrev pub TellsInTime : Option (List ℕ) → Type 0
+TellsInTime left = Tells IsInTime left
+
+abbrev pub TellsLate : Option (List ℕ) → Type 0
+TellsLate left = Tells IsLate left
+
+abbrev pub TellsTooManyFrames : Option (List ℕ) → Type 0
+TellsTooManyFrames left = Tells AirsTooMany left

@@ -4,7 +4,7 @@ use Rattle.circuit_l4.specs.declared.transport.Pair.{Pair}
 use Rattle.network_file.specs.declared.plan.keys.Key.TheVariants.{Interval, Prompt}
 use Rattle.network_file.specs.declared.plan.live.LiveNode.{LiveNode}
 use Rattle.network_file.specs.Pairs.{PairNumbers}
-use Rattle.network_file.specs.Settings.{set_to}
+use Rattle.network_file.specs.Keys.{set_to}
 use Rattle.net_replay.specs.Starting.{config_of, is_via_of, with_vias}
 use Rattle.node_core.specs.declared.config.NodeConfig.{NodeConfig}
 use Rattle.node_core.specs.Configs.{new_node}

@@ -9,7 +9,7 @@ use Rattle.tool_cmd.specs.declared.lives.words.LifeSettings.{LifeSettings}
 use Rattle.node_cmd.specs.declared.words.Command.{Command}
 use Rattle.node_cmd.specs.declared.words.Command.TheVariants.{Replay, Frames, Soak, Life, Node, Ip}
 use Rattle.tool_cmd.specs.declared.words.FrameModulus.{FrameModulus}
-use Rattle.tool_cmd.specs.FrameModuli.{modulo_word}
+use Rattle.tool_cmd.specs.Frames.{modulo_word}
 use Rattle.tool_cmd.specs.IpWords.{IsGateway}
 use Rattle.tool_cmd.specs.LifeWords.{AreSettings}
 use Rattle.tool_cmd.specs.Standing.{state_of}

@@ -2,11 +2,11 @@
 ghost use Rattle.std.specs.Prelude.{◌≡◌, ◌≢◌, ◌++◌, ◌≤◌, List, ℕ, false, length, OnOk};
 ghost use Rattle.node_core.specs.Bounds.{IsWithin};
 ghost use Rattle.node_core.specs.Fetching.{without_entries, without_frames};
-ghost use Rattle.node_core.specs.Kept.{NodeGoes};
+ghost use Rattle.node_core.specs.Standing.{NodeGoes};
 ghost use Rattle.node_cmd.specs.Live as live;
 ghost use Rattle.node_cmd.specs.Run.{NodeEnds};
 ghost use Rattle.cmd_streams.specs.StatusNotes.{HasNote, IsSilent};
-ghost use Rattle.cmd_streams.specs.ToldBy.{SaysTo, told_by};
+ghost use Rattle.cmd_streams.specs.Told.{SaysTo, told_by};
 ghost use Rattle.node_cmd.specs.declared.ran.Ran.TheVariants as rans;
 
 use crate::ran::Ran;

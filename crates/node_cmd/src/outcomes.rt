@@ -2,15 +2,13 @@
 ghost use Rattle.std.specs.Prelude.{◌≡◌, ◌≢◌, ◌≤◌, ◌++◌, length, None, Ok, OnOk, IfOk, IfErr};
 ghost use Rattle.network_file.specs.Networks.{network_of};
 ghost use Rattle.network_file.specs.Plan.{Plan};
-ghost use Rattle.net_replay.specs.CircuitRuns.{IsSound};
-ghost use Rattle.net_replay.specs.Promises.{MailOnceThroughout, RetriesAreTold, SafeThroughout};
+ghost use Rattle.net_replay.specs.Promises.{IsSound, MailOnceThroughout, RetriesAreTold, SafeThroughout};
 ghost use Rattle.net_replay.specs.Traces.{IsTraceOf, left_of};
 ghost use Rattle.net_replay.specs.World.{World};
 ghost use Rattle.node_cmd.specs.Outcomes.{IfReplayed, IsOutcome, NetworkEnds, NotReported, text_of};
 ghost use Rattle.cmd_streams.specs.Reading.{max_file};
 ghost use Rattle.cmd_streams.specs.StatusNotes.{HasNote, IsSilent};
-ghost use Rattle.cmd_streams.specs.ToldBy.{SaysTo, output_by};
-ghost use Rattle.cmd_streams.specs.Comings.{UnlessItWrote};
+ghost use Rattle.cmd_streams.specs.Told.{SaysTo, output_by, UnlessItWrote};
 ghost use Rattle.node_cmd.specs.declared.outcomes.ReportRefusal.TheVariants as Refusal;
 ghost use Rattle.node_cmd.specs.declared.ran.Ran.TheVariants as rans;
 

@@ -1,7 +1,6 @@
 //! The command `replay`.
 ghost use Rattle.std.specs.Prelude.{◌≡◌, ◌≢◌};
-ghost use Rattle.cmd_streams.specs.ToldBy.{SaysTo, told_by};
-ghost use Rattle.cmd_streams.specs.Comings.{UnlessItWrote};
+ghost use Rattle.cmd_streams.specs.Told.{SaysTo, told_by, UnlessItWrote};
 ghost use Rattle.cmd_streams.specs.StatusNotes.{HasNote, IsSilent};
 ghost use Rattle.node_cmd.specs.Run.{ReplayEnds};
 ghost use Rattle.node_cmd.specs.declared.ran.Ran.TheVariants as rans;

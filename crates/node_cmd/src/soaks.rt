@@ -1,7 +1,6 @@
 //! The command `soak`.
 ghost use Rattle.std.specs.Prelude.{◌≡◌, ◌≢◌};
-ghost use Rattle.cmd_streams.specs.ToldBy.{SaysTo, output_by};
-ghost use Rattle.cmd_streams.specs.Comings.{UnlessItWrote};
+ghost use Rattle.cmd_streams.specs.Told.{SaysTo, output_by, UnlessItWrote};
 ghost use Rattle.cmd_streams.specs.StatusNotes.{HasNote, IsSilent};
 ghost use Rattle.node_cmd.specs.Run.{SoakEnds};
 ghost use Rattle.node_cmd.specs.declared.ran.Ran.TheVariants as rans;

@@ -2,7 +2,7 @@
 ghost use Rattle.std.specs.Prelude.{◌≡◌, IfOk};
 ghost use Rattle.circuit_set.specs.Pairs.{IsPair};
 ghost use Rattle.node_core.specs.Configs.{IsConfig};
-ghost use Rattle.node_core.specs.Kept.{NodeStands};
+ghost use Rattle.node_core.specs.Standing.{NodeStands};
 ghost use Rattle.node_cmd.specs.Starting as starting;
 
 use circuit_l4::Pair;

@@ -3,8 +3,7 @@ use Rattle.std.proofs.Common.{◌≡◌, ℕ, ap, refl, subst, sym, List}
 use Rattle.std.specs.Prelude.{Bool, true, false, IsErrOf, IsTrue, Result, Err}
 use Rattle.ax_address.specs.Callsign.{Callsign}
 use Rattle.circuit_set.specs.CircuitSets.{Circuits, SetStands}
-use Rattle.circuit_set.specs.Inputs.{connect_answer}
-use Rattle.circuit_set.specs.Pumps.{at_rest}
+use Rattle.circuit_set.specs.Pumps.{connect_answer, at_rest}
 use Rattle.circuit_set.specs.Sets.{SetState}
 use Rattle.circuit_set.specs.declared.event.ConnectRefusal.{ConnectRefusal}
 use Rattle.circuit_set.specs.declared.event.ConnectRefusal.TheVariants as connecting

@@ -6,11 +6,9 @@ use Rattle.std.specs.List.{AllByRecursion}
 use Rattle.std.proofs.lemmas.Bool.Decides.{nat_tests}
 use Rattle.std.proofs.lemmas.Cmp.{nat_list_eq_equiv}
 use Rattle.radio_base.specs.declared.payload.Payload.{Payload}
-use Rattle.ax_address.specs.Callsign.{Callsign}
-use Rattle.ax_address.specs.CallOrder.{same_call}
+use Rattle.ax_address.specs.Callsign.{Callsign, same_call}
 use Rattle.ax_frame.specs.Controls.{IsLinkModulus}
-use Rattle.ax_frame.specs.Frames.{Frame, Spells}
-use Rattle.ax_frame.specs.Read.{SpelledIsRead, read_at}
+use Rattle.ax_frame.specs.Frames.{Frame, Spells, SpelledIsRead, read_at}
 use Rattle.ax_frame.specs.declared.frame.FrameRefusal.{FrameRefusal}
 use Rattle.link_table.specs.Frames.{is_numbered, netrom}
 use Rattle.link_table.specs.Laws.{FrameHolds}

@@ -14,7 +14,7 @@ use Rattle.link_table.specs.Table.{Linked}
 use Rattle.link_table.specs.declared.entry.Entry.{Entry}
 use Rattle.node_core.specs.Bounds.{IsWithin, pairs_of}
 use Rattle.node_core.specs.Bridged.{UsersAreFew}
-use Rattle.node_core.specs.Kept.{Kept}
+use Rattle.node_core.specs.Standing.{Kept}
 use Rattle.node_core.specs.Sound.{IsSound}
 use Rattle.node_turns.specs.States.{NodeState}
 use Rattle.node_core.proofs.Serving.{same_number}

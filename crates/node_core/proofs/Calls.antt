@@ -3,14 +3,12 @@ use Rattle.std.proofs.Common.{◌≡◌, ◌<◌, ◌+◌, ◌++◌, ◌∙◌, 
 use Rattle.std.specs.Prelude.{Bool, true, false, ◌&&◌, nat_lt, is_none, if◌then◌else◌, Option, Some, None, Result, Ok, Err}
 use Rattle.std.proofs.lemmas.Bool.Decides.{nat_tests}
 use Rattle.ax_address.specs.Callsign.{Callsign}
-use Rattle.circuit_set.specs.Inputs.{TellsLess}
+use Rattle.circuit_set.specs.Pumps.{TellsLess, Of, Dropped, Offers, Pumped, Says, SetTold, Turn, Turned, Waiting, at_rest, ends_with, is_drained, is_empty, offer_of, outcome, turn_step, weight, weights}
 use Rattle.circuit_set.specs.Pumps as pumps
-use Rattle.circuit_set.specs.Pumps.{Of, Dropped, Offers, Pumped, Says, SetTold, Turn, Turned, Waiting, at_rest, ends_with, is_drained, is_empty, offer_of, outcome, turn_step, weight, weights}
 use Rattle.circuit_set.specs.Sets as sets
 use Rattle.circuit_set.specs.Sets.{SetState}
-use Rattle.l3_datagram.specs.CarrierCall.{CarrierCall, Collect, Fail, Parcel}
-use Rattle.l3_datagram.specs.Datagrams.{head_at}
-use Rattle.l3_datagram.specs.Hops.{Way, Ends, ToNeighbour, way}
+use Rattle.l3_datagram.specs.Datagrams.{CarrierCall, Collect, Fail, Parcel, head_at}
+use Rattle.l3_datagram.specs.Routers.{Way, Ends, ToNeighbour, way}
 use Rattle.l3_datagram.specs.declared.carrier.Offered.{Offered}
 use Rattle.l3_datagram.specs.declared.carrier.Offered.TheVariants.{Taken, Dropped as No_room}
 use Rattle.l3_datagram.specs.declared.datagram.DatagramHead.{DatagramHead}
@@ -19,9 +17,9 @@ use Rattle.l3_datagram.specs.declared.routed.Routed.{Routed}
 use Rattle.l3_datagram.specs.declared.routed.Routed.TheVariants as routed
 use Rattle.link_table.specs.Calls.{collect, tell_lost}
 use Rattle.link_table.specs.Carrying.{AllAnswer, after_call as call_done, after_calls}
-use Rattle.link_table.specs.Payloads.{OffersLeave, TakesLower}
+use Rattle.link_table.specs.Kept.{OffersLeave, TakesLower}
 use Rattle.link_table.specs.Table.{Table}
-use Rattle.node_turns.specs.Circuits as circuits
+use Rattle.node_turns.specs.Links as circuits
 use Rattle.node_turns.specs.Links.{offer, offer_answer}
 use Rattle.node_turns.specs.Pumping.{ask, ask_for, at_router, pump, take_turn, tell_one, told_entries, with_turned}
 use Rattle.route_table.specs.Log.{Item}

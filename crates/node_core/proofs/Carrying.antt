@@ -3,18 +3,14 @@ use Rattle.std.proofs.Common.{◌≡◌, ◌∙◌, ℕ, refl, arith, sym, ap, s
 use Rattle.std.specs.Prelude.{Bool, true, false, ◌&&◌, ◌||◌, ◌==◌, ◌⊎◌, if◌then◌else◌, nat_eq, length, Option, Some, None, Result, Ok, Err}
 use Rattle.std.specs.List.{AllByRecursion}
 use Rattle.std.proofs.lemmas.Bool.Decides.{nat_tests}
-use Rattle.ax_address.specs.Callsign.{Callsign}
-use Rattle.ax_address.specs.CallOrder.{same_call}
-use Rattle.ax_address.specs.CallReading.{ReadsCallTexts}
+use Rattle.ax_address.specs.Callsign.{Callsign, same_call, ReadsCallTexts}
 use Rattle.ax_address.specs.declared.address.Address.{Address}
 use Rattle.ax_frame.specs.declared.head.Head.{Head}
 use Rattle.ax_frame.specs.declared.frame.FrameRefusal.{FrameRefusal}
-use Rattle.ax_frame.specs.Frames.{Frame, HeadWithoutFault}
-use Rattle.ax_frame.specs.Read.{SpelledHeadIsRead, SpelledIsRead, read_at, read_head_at}
+use Rattle.ax_frame.specs.Frames.{Frame, HeadWithoutFault, SpelledHeadIsRead, SpelledIsRead, read_at, read_head_at}
 use Rattle.ax_address.specs.declared.alias.Alias.{Alias}
 use Rattle.ax_address.specs.declared.Entry.{Entry as Said}
-use Rattle.circuit_set.specs.Inputs.{runs}
-use Rattle.circuit_set.specs.Pumps.{Waiting, at_rest}
+use Rattle.circuit_set.specs.Pumps.{runs, Waiting, at_rest}
 use Rattle.circuit_set.specs.Sets.{SetState, CircuitTold}
 use Rattle.digi_path.specs.Paths.{Action, For_me, Repeat, Not_yet, Heard, action, behind, repeated}
 use Rattle.kiss_framing.specs.Stream as kiss
@@ -26,8 +22,7 @@ use Rattle.link_table.specs.Reaching.{FramesAreSpelled, IsCall}
 use Rattle.link_table.specs.Laws.{Brings, CarriesByWeaker, CarriesOn, CarriesWhatWasOffered, LinkHolds, NumberedWithoutLink}
 use Rattle.link_table.specs.Table.{Linked, link_with}
 use Rattle.nodes_broadcast.specs.declared.nodes.NodesRefusal.{NodesRefusal}
-use Rattle.nodes_broadcast.specs.Nodes.{Broadcast}
-use Rattle.nodes_broadcast.specs.Reading.{nodes_at}
+use Rattle.nodes_broadcast.specs.Nodes.{Broadcast, nodes_at}
 use Rattle.route_table.specs.Log as logs
 use Rattle.route_table.specs.Log.{Item}
 use Rattle.route_table.specs.Table.{usable}
@@ -39,13 +34,12 @@ use Rattle.node_core.specs.Inputs.{after_input, after_item, after_items, moment,
 use Rattle.node_core.specs.Laws.{NothingLeftAfterInputs}
 use Rattle.node_turns.specs.Links as links
 use Rattle.node_core.specs.Receiving as receiving
-use Rattle.node_core.specs.Rounds as rounds
+use Rattle.node_core.specs.Broadcasts as rounds
 use Rattle.node_core.specs.Runs.{MadeFrom, circuits_told}
-use Rattle.node_turns.specs.Settling as s
+use Rattle.node_turns.specs.Serving as s
 use Rattle.node_core.specs.Standing.{IsTold}
 use Rattle.node_turns.specs.States.{Entry, Overflow, State, at_links, put, with_items}
-use Rattle.node_core.specs.UserActs as user
-use Rattle.node_core.specs.UserActs.{UserAct}
+use Rattle.node_core.specs.Acts.{UserAct}
 use Rattle.node_core.proofs.Inputs.{are_acts, are_up}
 use Rattle.node_core.proofs.Making.{runs_ok}
 use Rattle.node_core.proofs.Moves.{logged, put_carries, walks}
@@ -307,13 +301,13 @@ module _ (law : CarriesWhatWasOffered) (weaker : CarriesByWeaker) (numbered : Nu
       (settled_behind here law weaker numbered spelled one_hop reading reads sent (moment now) n.station m (tick_on (Goes here) NamesCall (walks here law weaker spelled one_hop) (moment now) n.station sent x)) e (told_after nothing (moment now) m)
 
   locks : (act : UserAct) → LocksCall act → LocksBy NamesCall act
-  locks user.Round l = tt
-  locks (user.LinkFail peer) l = tt
-  locks (user.Lock dest alias neighbour quality) l = l
-  locks (user.Connect dest) l = tt
-  locks (user.Write id message) l = tt
-  locks (user.Take id) l = tt
-  locks (user.Close id) l = tt
+  locks acts.Round l = tt
+  locks (acts.LinkFail peer) l = tt
+  locks (acts.Lock dest alias neighbour quality) l = l
+  locks (acts.Connect dest) l = tt
+  locks (acts.Write id message) l = tt
+  locks (acts.Take id) l = tt
+  locks (acts.Close id) l = tt
 
   pub acts_carry : ActsCarry
   acts_carry here sent now act n i l e x =

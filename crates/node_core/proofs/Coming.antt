@@ -2,12 +2,10 @@
 use Rattle.std.proofs.Common.{◌≡◌, ◌∙◌, ℕ, zero, suc, refl, sym, ap, subst, List, [], ◌∷◌, ◌++◌, append_assoc, append-nil}
 use Rattle.std.specs.Prelude.{Bool, true, false, if◌then◌else◌, nat_lt, Option, Some, None}
 use Rattle.ax_address.specs.Callsign.{Callsign}
-use Rattle.circuit_set.specs.Inputs.{OfEach, of_circuits}
-use Rattle.circuit_set.specs.Pumps.{SetTold, Turn, Turned, Says, Offers, Waiting}
+use Rattle.circuit_set.specs.Pumps.{OfEach, of_circuits, SetTold, Turn, Turned, Says, Offers, Waiting}
 use Rattle.circuit_set.specs.Sets.{Act, CircuitTold}
-use Rattle.l3_datagram.specs.CarrierCall.{Parcel}
+use Rattle.l3_datagram.specs.Datagrams.{Parcel}
 use Rattle.link_table.specs.Calls.{collect, tell_lost}
-use Rattle.node_turns.specs.Circuits as circuits
 use Rattle.node_turns.specs.Links as links
 use Rattle.node_turns.specs.Pumping as p
 use Rattle.node_core.specs.Runs.{circuits_told, write_in}
@@ -61,16 +59,16 @@ take_came now n m (Offers to d by) e f g each =
     turned_came n (at_links (links.offer to d now) m) (by (links.offer_answer to d now m.links)) e f g (each (links.offer_answer to d now m.links))
 
 tell_came : (now : ℕ) (o n : State) (b : Bool) → Came [] o n → Came [] o (if b then p.tell_one now n else n)
-tell_came now o n true w = then_came [] [] o n (p.tell_one now n) w (take_came now n n (circuits.tells (next_hop n) n.set) refl refl refl (tells_went (next_hop n) n.set))
+tell_came now o n true w = then_came [] [] o n (p.tell_one now n) w (take_came now n n (links.tells (next_hop n) n.set) refl refl refl (tells_went (next_hop n) n.set))
 tell_came now o n false w = w
 
 pub all_told_came : (now : ℕ) (n : State) → Came [] n (p.tell_all now n)
 all_told_came now n = told_kept now (Came [] n) (λ m w. tell_came now n m (nat_lt 0 (p.pending m)) w) n (still n)
 
 asked_came : (now : ℕ) (n : State) (lost : List Callsign) (waiting : List Parcel) → Came [] n (p.ask_for now lost waiting n)
-asked_came now n (c ∷ cs) waiting = turned_came n (at_links tell_lost n) (circuits.hears_lost c n.set) refl refl refl (lost_went c n.set)
+asked_came now n (c ∷ cs) waiting = turned_came n (at_links tell_lost n) (links.hears_lost c n.set) refl refl refl (lost_went c n.set)
 asked_came now n [] (parcel ∷ parcels) =
-    take_came now n (at_links collect n) (circuits.hears (next_hop n) now parcel n.set) refl refl refl (hears_went (next_hop n) now parcel n.set)
+    take_came now n (at_links collect n) (links.hears (next_hop n) now parcel n.set) refl refl refl (hears_went (next_hop n) now parcel n.set)
 asked_came now n [] [] = still n
 
 times_came : (now k : ℕ) (n : State) → Came [] n (p.ask_times now k n)
@@ -92,5 +90,5 @@ pub either : (n x y : State) (b : Bool) → Came [] n x → Came [] n y → Came
 either n x y true f g = f
 either n x y false f g = g
 
-pub act_came : (a : Act) (n : State) → IsInput a → Came (write_in a) n (at_set (circuits.acts a) n)
+pub act_came : (a : Act) (n : State) → IsInput a → Came (write_in a) n (at_set (links.acts a) n)
 act_came a n i = record { more = []; grew = sym (append-nil n.entries); went = act_went a n.set i; settings = refl }

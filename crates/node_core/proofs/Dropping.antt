@@ -4,7 +4,7 @@ use Rattle.std.specs.Prelude.{Bool, true, false, is_some, Some, None}
 use Rattle.ax_address.specs.Callsign.{Callsign}
 use Rattle.link_table.specs.Standing.{text_given}
 use Rattle.node_turns.specs.Links as links
-use Rattle.node_turns.specs.Settling.{drop_first, drop_text}
+use Rattle.node_turns.specs.Serving.{drop_first, drop_text}
 use Rattle.node_turns.specs.States.{State, at_links}
 use Rattle.node_turns.specs.Turns.{Turn}
 

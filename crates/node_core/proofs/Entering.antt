@@ -8,7 +8,7 @@ use Rattle.ax_link.specs.declared.notice.LinkNotice.{LinkNotice}
 use Rattle.link_table.specs.Calls as calls
 use Rattle.node_core.specs.declared.station.Station.{Station}
 use Rattle.node_turns.specs.Links.{all_noticed}
-use Rattle.node_turns.specs.Settling.{enter_notices, has_some}
+use Rattle.node_turns.specs.Serving.{enter_notices, has_some}
 use Rattle.node_core.specs.Standing.{Holds, entry_of}
 use Rattle.node_turns.specs.Sessions.{Session, hear_link, hear_links}
 use Rattle.node_turns.specs.States.{Entry, Of_link, State, at_links, at_sessions, enter}

@@ -2,18 +2,16 @@
 use Rattle.std.proofs.Common.{◌≡◌, ◌≤◌, ◌+◌, ◌∙◌, ℕ, zero, suc, refl, sym, subst, arith, length, List, [], ◌∷◌}
 use Rattle.std.specs.Prelude.{Bool, true, false, not, ◌&&◌, nat_eq, nat_lt, filter, if◌then◌else◌, Option, Some, None}
 use Rattle.std.proofs.lemmas.Bool.Decides.{nat_tests}
-use Rattle.ax_address.specs.Callsign.{Callsign}
-use Rattle.circuit_set.specs.Inputs.{TellsLess}
-use Rattle.ax_address.specs.CallReading.{ReadsCallTexts}
+use Rattle.ax_address.specs.Callsign.{Callsign, ReadsCallTexts}
+use Rattle.circuit_set.specs.Pumps.{TellsLess}
 use Rattle.link_table.specs.Laws.{CarriesWhatWasOffered}
-use Rattle.link_table.specs.Payloads.{OffersLeave, TakesLower}
+use Rattle.link_table.specs.Kept.{OffersLeave, TakesLower}
 use Rattle.node_turns.specs.declared.session.Circuit.{Circuit}
 use Rattle.node_turns.specs.declared.session.Reply.{Reply}
 use Rattle.node_turns.specs.declared.session.Stage.{Stage}
 use Rattle.node_turns.specs.declared.session.Stage.TheVariants.{AtPrompt, Trying, Failed, Connected}
 use Rattle.node_turns.specs.declared.session.User.TheVariants.{AtLink}
 use Rattle.node_turns.specs.Bridging as bridging
-use Rattle.node_turns.specs.Circuits as circuits
 use Rattle.node_turns.specs.Links as links
 use Rattle.node_turns.specs.Pumping.{at_router, pump}
 use Rattle.node_turns.specs.Serving as serving
@@ -128,7 +126,7 @@ else_fine first after n f idle more = by (first n).did refl
     by false e = subst (λ (m : State). Fine (after m).after) (sym (idle e)) (more e)
 
 module _ (offers : OffersLeave) (takes : TakesLower) (less : TellsLess) (law : CarriesWhatWasOffered) (reads : ReadsCallTexts) where
-  once : (now nth : ℕ) (n : State) → Fine n → IsShort n.links → at_router n ≡ 0 → circuits.pending n.set ≡ 0 → Fine (serving.serve_once now nth n).after
+  once : (now nth : ℕ) (n : State) → Fine n → IsShort n.links → at_router n ≡ 0 → links.pending n.set ≡ 0 → Fine (serving.serve_once now nth n).after
   once now nth n f short router told =
       else_fine (bridging.give_reply now nth) (or_else (bridging.give_message now nth) (or_else (serving.take_up now nth) (bridging.close_circuit now nth))) n
       (replied (bridging.next_reply (session_at nth n) n) now nth n f) (lowering.replied offers takes less now nth n (session_at nth n) refl).idle
@@ -138,7 +136,7 @@ module _ (offers : OffersLeave) (takes : TakesLower) (less : TellsLess) (law : C
       (taken_up reads now nth n f (λ peer e. text_is_short peer n.links short e) router (no_reply (bridging.next_reply (session_at nth n) n) now nth n e) (session_at nth n) refl) (falling.taken_up offers takes less (serving.stage_of (session_at nth n)) now nth n).idle
       (λ h. closes now nth n f (session_at nth n) refl)))
 
-  each : (now nth k : ℕ) (n : State) → Fine n → IsShort n.links → at_router n ≡ 0 → circuits.pending n.set ≡ 0 → Fine (serving.serve_each now nth k n).after
+  each : (now nth k : ℕ) (n : State) → Fine n → IsShort n.links → at_router n ≡ 0 → links.pending n.set ≡ 0 → Fine (serving.serve_each now nth k n).after
   each now nth zero n f short router told = f
   each now nth (suc k) n f short router told =
       let m : State = (serving.serve_once now nth n).after in
@@ -162,7 +160,7 @@ module _ (offers : OffersLeave) (takes : TakesLower) (less : TellsLess) (law : C
       by false true = push_every P ss (sessions.new_session (AtLink peer)) e (new peer)
       by false false = e
 
-  pub sessions_fine : (now : ℕ) (n : State) → Fine n → IsShort n.links → at_router n ≡ 0 → circuits.pending n.set ≡ 0 → Fine (serving.serve_sessions now n).after
+  pub sessions_fine : (now : ℕ) (n : State) → Fine n → IsShort n.links → at_router n ≡ 0 → links.pending n.set ≡ 0 → Fine (serving.serve_sessions now n).after
   unfolding serving.serve_sessions
   sessions_fine now n f short router told =
       let a : State = serving.greet_links n in

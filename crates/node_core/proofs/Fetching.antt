@@ -1,7 +1,7 @@
 -- What is fetched of a node comes in order, and then nothing waits.
 use Rattle.std.proofs.Common.{◌≡◌, ◌∙◌, refl, ap, drop, length, map, List, [], ◌∷◌, ◌++◌}
 use Rattle.link_table.specs.Calls.{fetch}
-use Rattle.link_table.specs.Fetching.{written}
+use Rattle.link_table.specs.Table.{written}
 use Rattle.link_table.specs.Frames.{Sent}
 use Rattle.link_table.specs.declared.written.Written.{Written}
 use Rattle.node_core.specs.Fetching.{FetchesAllEntries, FetchesAllFrames, FramesInOrder, fetch_entries, fetch_frames, without_entries, without_frames}

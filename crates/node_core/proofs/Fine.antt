@@ -4,11 +4,9 @@ use Rattle.std.specs.Prelude.{Bool, true, false, not, ◌&&◌, ◌^◌, nat_eq,
 use Rattle.std.proofs.lemmas.Bool.Decides.{nat_tests}
 use Rattle.ax_address.specs.Callsign.{Callsign}
 use Rattle.circuit_l4.specs.Opening.{facts_of}
-use Rattle.circuit_l4.specs.State.{State as End, is_up}
+use Rattle.circuit_l4.specs.State.{State as End, is_up, inbox, total as all_fragments, unacknowledged}
 use Rattle.circuit_l4.specs.Table as ends
 use Rattle.circuit_l4.specs.Halves.{first_or}
-use Rattle.circuit_l4.specs.Receiving.{inbox}
-use Rattle.circuit_l4.specs.Sending.{total as all_fragments, unacknowledged}
 use Rattle.circuit_l4.specs.declared.refusal.WriteRefusal.TheVariants as refusal
 use Rattle.circuit_reassembly.specs.Fragments.{fragments_of}
 use Rattle.circuit_set.specs.CircuitSets.{facts_at}
@@ -21,7 +19,6 @@ use Rattle.circuit_set.specs.declared.event.SetRefusal.TheVariants as set_refusa
 use Rattle.link_table.specs.declared.text_refusal.TextRefusal.{TextRefusal}
 use Rattle.node_turns.specs.declared.session.User.{User}
 use Rattle.node_turns.specs.declared.session.User.TheVariants.{AtEnd, AtLink}
-use Rattle.node_turns.specs.Circuits as circuits
 use Rattle.node_turns.specs.Links as links
 use Rattle.node_turns.specs.Pumping.{at_router, pump}
 use Rattle.node_core.specs.Runs.{MadeFrom}
@@ -106,14 +103,14 @@ session_fine nth f n on given wrote less a =
 -- ---- inputs of the circuits
 
 pub acted : (a : sets.Act) (n : State) → Keeps Any n.set.set (set_step n.set.set a).set → KeepsWrote n.set.set (set_step n.set.set a).set → MadeFrom n.set.set.number (set_step n.set.set a).told (set_step n.set.set a).set.number
-    → LeavesHeld n.set.set (set_step n.set.set a) → Fine n → Fine (at_set (circuits.acts a) n)
-unfolding circuits.acts
+    → LeavesHeld n.set.set (set_step n.set.set a) → Fine n → Fine (at_set (links.acts a) n)
+unfolding links.acts
 acted a n k kw made leaves f =
     (owns_input Any n.set.set (set_step n.set.set a) n.set.untold n.sessions f.0 k made (λ id some. tt) (λ id some. tt) leaves, goes_on Any n.set.set _ n.set.untold n.sessions k kw f)
 
 -- a call of an end that is no session's circuit
-call_fine : (call : sets.Call) (now id : ℕ) (n : State) → Keeps Any n.set.set (set_step n.set.set (sets.Calls id call now)).set → Every (NotIts id) n.sessions → Fine n → Fine (at_set (circuits.acts (sets.Calls id call now)) n)
-unfolding circuits.acts
+call_fine : (call : sets.Call) (now id : ℕ) (n : State) → Keeps Any n.set.set (set_step n.set.set (sets.Calls id call now)).set → Every (NotIts id) n.sessions → Fine n → Fine (at_set (links.acts (sets.Calls id call now)) n)
+unfolding links.acts
 call_fine call now id n k none f =
     let a : sets.Act = sets.Calls id call now in (
       owns_input Any n.set.set (set_step n.set.set a) n.set.untold n.sessions f.0 k (step_ok n.set.set a tt).made (λ i some. tt) (λ i some. tt) (calls_leaves n.set.set id call now),
@@ -126,10 +123,10 @@ call_fine call now id n k none f =
       ),
     )
 
-pub takes_fine : (now id : ℕ) (n : State) → Every (NotIts id) n.sessions → Fine n → Fine (at_set (circuits.acts (sets.Calls id sets.Takes now)) n)
+pub takes_fine : (now id : ℕ) (n : State) → Every (NotIts id) n.sessions → Fine n → Fine (at_set (links.acts (sets.Calls id sets.Takes now)) n)
 takes_fine now id n none f = call_fine sets.Takes now id n (takes_keep n.set.set now id) none f
 
-pub writes_fine : (now id : ℕ) (text : List ℕ) (n : State) → Every (NotIts id) n.sessions → Fine n → Fine (at_set (circuits.acts (sets.Calls id (sets.Writes text) now)) n)
+pub writes_fine : (now id : ℕ) (text : List ℕ) (n : State) → Every (NotIts id) n.sessions → Fine n → Fine (at_set (links.acts (sets.Calls id (sets.Writes text) now)) n)
 writes_fine now id text n none f = call_fine (sets.Writes text) now id n (writes_keep n.set.set text now id) none f
 
 same_number : (set : SetState) (now : ℕ) (o : Option Holder) → (sets.after_call set o sets.Closes now).set.number ≡ set.number
@@ -145,8 +142,8 @@ other_by id k true e f = absurd (f (grind (arith, nat_tests, e)))
 other_by id k false e f = e
 
 -- an end is closed that is none of those that are to stay open
-pub closes_fine : (now id : ℕ) (n : State) → total (opens_by id) n.sessions + mades id n.set.untold ≡ 0 → Fine n → Fine (at_set (circuits.acts (sets.Calls id sets.Closes now)) n)
-unfolding circuits.acts
+pub closes_fine : (now id : ℕ) (n : State) → total (opens_by id) n.sessions + mades id n.set.untold ≡ 0 → Fine n → Fine (at_set (links.acts (sets.Calls id sets.Closes now)) n)
+unfolding links.acts
 closes_fine now id n none f =
     let set = n.set.set in
     let d : SetDone = set_step set (sets.Calls id sets.Closes now) in
@@ -160,7 +157,7 @@ closes_fine now id n none f =
     )
 
 pub close_fine : (now id : ℕ) (n : State) → total (opens_by id) n.sessions + mades id n.set.untold ≡ 0 → Fine n → Fine (users.close now id n)
-close_fine now id n none f = pumped now (at_set (circuits.acts (sets.Calls id sets.Closes now)) n) (closes_fine now id n none f)
+close_fine now id n none f = pumped now (at_set (links.acts (sets.Calls id sets.Closes now)) n) (closes_fine now id n none f)
 
 written_fine : (now id : ℕ) (text : List ℕ) (r : Result (Unit {0}) SetRefusal) (n : State) → Every (NotIts id) n.sessions → Fine n → Fine (users.write_if_ok r (sets.Calls id (sets.Writes text) now) n)
 written_fine now id text (Ok _) n none f = writes_fine now id text n none f

@@ -1,12 +1,11 @@
 -- A round, and what the user of a node does, keep it fine.
 use Rattle.std.proofs.Common.{◌≡◌, ℕ, refl, sym, ap, subst, arith, List, [], ◌∷◌, ◌++◌, append-nil}
 use Rattle.std.specs.Prelude.{Bool, true, false, ◌||◌, ◌&&◌, is_some, nat_lt, if◌then◌else◌, Option, Some, None, Result, Ok, Err}
-use Rattle.ax_address.specs.Callsign.{Callsign}
-use Rattle.ax_address.specs.CallOrder.{same_call}
+use Rattle.ax_address.specs.Callsign.{Callsign, same_call}
 use Rattle.circuit_l4.specs.Opening.{facts_of}
 use Rattle.circuit_l4.specs.Table.{step}
 use Rattle.circuit_set.specs.CircuitSets.{facts_at}
-use Rattle.circuit_set.specs.Inputs.{connect_answer}
+use Rattle.circuit_set.specs.Pumps.{connect_answer}
 use Rattle.circuit_set.specs.Sets as sets
 use Rattle.circuit_set.specs.Sets.{Act, Holder, SetDone, SetState, CircuitTold, set_step}
 use Rattle.circuit_set.specs.Standing.{by_write, write_answer}
@@ -16,23 +15,21 @@ use Rattle.circuit_set.specs.declared.event.ConnectRefusal.{ConnectRefusal}
 use Rattle.circuit_set.specs.declared.event.SetRefusal.{SetRefusal}
 use Rattle.link_table.specs.Reaching.{IsCall}
 use Rattle.link_table.specs.declared.written.Written.{Written}
-use Rattle.route_table.specs.Broadcast.{to_broadcast}
+use Rattle.route_table.specs.Table.{to_broadcast}
 use Rattle.route_table.specs.Log as logs
 use Rattle.route_table.specs.Log.{Item}
 use Rattle.node_core.specs.declared.acts.ActRefusal.TheVariants as refusal
 use Rattle.node_core.specs.Acts as acts
-use Rattle.node_core.specs.Acts.{Answered}
+use Rattle.node_core.specs.Acts.{Answered, UserAct}
 use Rattle.node_core.specs.Broadcasts.{round_frames}
-use Rattle.node_turns.specs.Circuits as circuits
+use Rattle.node_turns.specs.Links as circuits
 use Rattle.node_core.specs.Receiving as receiving
-use Rattle.node_core.specs.Rounds as rounds
+use Rattle.node_core.specs.Broadcasts as rounds
 use Rattle.node_core.specs.Runs.{IsUserAct}
 use Rattle.node_turns.specs.Serving.{is_at_end, is_circuit, is_served}
 use Rattle.node_turns.specs.Sessions.{Session, circuit_of}
 use Rattle.node_core.specs.Standing.{IsTold}
 use Rattle.node_turns.specs.States.{State, at_set, next_hop, put, with_items}
-use Rattle.node_core.specs.UserActs as user
-use Rattle.node_core.specs.UserActs.{UserAct}
 use Rattle.node_turns.specs.Users.{facts}
 use Rattle.node_core.proofs.Fine.{All, Fine, acted, closes_fine, takes_fine, writes_fine}
 use Rattle.node_core.proofs.Holders.{connects_keeps}
@@ -147,11 +144,11 @@ takes_act now id n f true e = f
 takes_act now id n f false e = taken_by now id n (is_some (facts id n)) (is_served id n.sessions) refl refl e f
 
 pub act_fine : (now : ℕ) (act : UserAct) (n : State) → IsUserAct act → IsTold n → Fine n → Fine (acts.do_act now act n).node
-act_fine now user.Round n call t f = round_fine n f
-act_fine now (user.LinkFail peer) n call t f = f
-act_fine now (user.Lock dest alias neighbour quality) n call t f = locked dest (logs.Lock dest alias neighbour quality) quality n f
-act_fine now (user.Connect dest) n call t f = connected now dest (connect_answer (next_hop n) dest n.set.set) n call f
-act_fine now (user.Write id message) n call t f =
+act_fine now acts.Round n call t f = round_fine n f
+act_fine now (acts.LinkFail peer) n call t f = f
+act_fine now (acts.Lock dest alias neighbour quality) n call t f = locked dest (logs.Lock dest alias neighbour quality) quality n f
+act_fine now (acts.Connect dest) n call t f = connected now dest (connect_answer (next_hop n) dest n.set.set) n call f
+act_fine now (acts.Write id message) n call t f =
     writes now id message n f (acts.is_kept id n) refl
-act_fine now (user.Take id) n call t f = takes_act now id n f (acts.is_kept id n) refl
-act_fine now (user.Close id) n call t f = closes now id n t f (acts.is_kept id n) refl
+act_fine now (acts.Take id) n call t f = takes_act now id n f (acts.is_kept id n) refl
+act_fine now (acts.Close id) n call t f = closes now id n t f (acts.is_kept id n) refl

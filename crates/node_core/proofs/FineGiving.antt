@@ -14,7 +14,6 @@ use Rattle.node_turns.specs.declared.session.Reply.{Reply}
 use Rattle.node_turns.specs.declared.session.User.{User}
 use Rattle.node_turns.specs.declared.session.User.TheVariants.{AtEnd, AtLink}
 use Rattle.node_turns.specs.Bridging as bridging
-use Rattle.node_turns.specs.Circuits as circuits
 use Rattle.node_turns.specs.Links as links
 use Rattle.node_turns.specs.Pumping.{at_router, pump}
 use Rattle.node_turns.specs.Serving.{is_at_end, is_circuit}
@@ -246,14 +245,14 @@ taken_fine old message nth n outcome a given = (
 -- what of a session's circuit came to the node is given to its user
 given_from : (now nth : ℕ) (n : State) (x : Session) (c : Circuit) → Fine n → at_router n ≡ 0 → n.set.untold ≡ [] → session_at nth n ≡ Some x → circuit_of x.stage ≡ Some c → users.can_pass_on x c.id n ≡ true
     → Fine (bridging.give_from now nth c.id n).after
-unfolding circuits.acts
+unfolding links.acts
 given_from now nth n x c f router none e h gives = by (users.has_taken (answers.take_answer (users.end_at c.id n))) refl
   where
     message : List ℕ
     message = answers.message_at [] (users.end_at c.id n)
 
     took : State
-    took = at_set (circuits.acts (sets.Calls c.id sets.Takes now)) n
+    took = at_set (links.acts (sets.Calls c.id sets.Takes now)) n
 
     told : State
     told = pump now took

@@ -2,8 +2,8 @@
 use Rattle.std.proofs.Common.{◌≡◌, ◌≤◌, ◌<◌, ◌+◌, ◌∙◌, ℕ, suc, refl, sym, ap, subst, arith, length, List, [], ◌∷◌, slice_get}
 use Rattle.std.specs.Prelude.{Bool, true, false, ◌||◌, ◌&&◌, nat_eq, if◌then◌else◌, Option, Some, None}
 use Rattle.std.proofs.lemmas.Bool.Decides.{nat_tests}
-use Rattle.ax_address.specs.CallReading.{ReadsCallTexts}
-use Rattle.circuit_set.specs.Inputs.{connect_answer}
+use Rattle.ax_address.specs.Callsign.{ReadsCallTexts}
+use Rattle.circuit_set.specs.Pumps.{connect_answer}
 use Rattle.node_prompt.specs.Replies as texts
 use Rattle.node_prompt.specs.declared.action.Action.{Action}
 use Rattle.node_prompt.specs.declared.action.Action.TheVariants as action
@@ -22,7 +22,7 @@ use Rattle.node_turns.specs.States.{State, next_hop}
 use Rattle.node_turns.specs.Turns.{Turn, done, idle}
 use Rattle.node_turns.specs.Users as users
 use Rattle.node_turns.specs.Users.{at_session, session_at}
-use Rattle.node_turns.specs.Views.{view}
+use Rattle.node_turns.specs.Asking.{view}
 use Rattle.node_core.proofs.Fine.{Fine, close_fine, placed_said, said, session_fine}
 use Rattle.node_core.proofs.Given.{Given, given_bye, given_cut, given_dropped}
 use Rattle.node_core.proofs.Served.{IsNamed, at_named}

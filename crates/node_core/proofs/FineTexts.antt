@@ -6,7 +6,7 @@ use Rattle.ax_address.specs.Callsign.{Callsign}
 use Rattle.circuit_set.specs.CircuitSets.{facts_at}
 use Rattle.circuit_set.specs.Sets as sets
 use Rattle.circuit_l4.specs.Opening.{facts_of}
-use Rattle.circuit_l4.specs.Receiving.{inbox}
+use Rattle.circuit_l4.specs.State.{inbox}
 use Rattle.circuit_set.specs.Sets.{Holder, SetState, end_of}
 use Rattle.circuit_set.specs.Standing as answers
 use Rattle.link_table.specs.Table.{Table}
@@ -20,7 +20,6 @@ use Rattle.node_turns.specs.declared.session.Circuit.{Circuit}
 use Rattle.node_turns.specs.declared.session.User.{User}
 use Rattle.node_turns.specs.declared.session.User.TheVariants.{AtEnd, AtLink}
 use Rattle.node_turns.specs.Bridging as bridging
-use Rattle.node_turns.specs.Circuits as circuits
 use Rattle.node_turns.specs.Links as links
 use Rattle.node_turns.specs.Pumping.{at_router, pump}
 use Rattle.node_turns.specs.Sessions as s
@@ -83,14 +82,14 @@ some_taken text some = let l = length-take 8192 text in grind (arith, l)
 module _ (P : Session → Type 0) (hears : Hears P) (texts_leave : (text : List ℕ) (y : Session) → P y → P (users.with_text text y)) where
   end_next : (now nth u : ℕ) (n : State) (x : Session) → Fine n → at_router n ≡ 0 → session_at nth n ≡ Some x → x.user ≡ AtEnd u → length x.rest ≤ 0 → P x
       → Next nth P n x (users.take_from_end now nth u n)
-  unfolding circuits.acts
+  unfolding links.acts
   end_next now nth u n x f router e at none p = by (users.has_taken (answers.take_answer (users.end_at u n))) refl
     where
       text : List ℕ
       text = answers.message_at [] (users.end_at u n)
 
       took : State
-      took = at_set (circuits.acts (sets.Calls u sets.Takes now)) n
+      took = at_set (links.acts (sets.Calls u sets.Takes now)) n
 
       begun : State
       begun = at_session nth (users.with_text text) took
@@ -214,8 +213,8 @@ module _ (now nth : ℕ) (c : Circuit) (m : State) (y : Session) (f : Fine m) (e
       got Unheard b = refl
       got Refused b = refl
 
-  accepted : users.write_answer c.id y.rest m ≡ Ok tt → Fine (at_set (circuits.acts (sets.Calls c.id (sets.Writes y.rest) now)) (at_session nth (step Taken) m))
-  unfolding circuits.acts
+  accepted : users.write_answer c.id y.rest m ≡ Ok tt → Fine (at_set (links.acts (sets.Calls c.id (sets.Writes y.rest) now)) (at_session nth (step Taken) m))
+  unfolding links.acts
   accepted ok =
       let set : SetState = m.set.set in
       let a : sets.Act = sets.Calls c.id (sets.Writes y.rest) now in

@@ -2,10 +2,8 @@
 use Rattle.std.proofs.Common.{◌≡◌, ◌∙◌, ℕ, List, [], ◌∷◌, ◌++◌, ap, append_assoc, sym}
 use Rattle.std.specs.List.{flat_map}
 use Rattle.kiss_framing.specs.declared.TheConstants.{FEND}
-use Rattle.kiss_framing.specs.Deframing.{HeldPiece, StandsFor, held_of}
-use Rattle.kiss_framing.specs.Enframing.{escape_of, framed}
+use Rattle.kiss_framing.specs.Stream.{HeldPiece, StandsFor, held_of, escape_of, framed, Item, items, open_piece}
 use Rattle.kiss_framing.specs.Laws.{FendEnds, FendParts}
-use Rattle.kiss_framing.specs.Stream.{Item, items, open_piece}
 
 -- behind a stream it gives what the FEND before it does, and then itself
 pub frame_adds : FendParts → (stream octets : List ℕ) (given own : List Item) → items (stream ++ FEND ∷ []) ≡ items stream ++ given → items (framed 0 0 octets) ≡ own

@@ -4,7 +4,7 @@ use Rattle.std.specs.Prelude.{◌⊎◌}
 use Rattle.std.proofs.lemmas.Bool.Decides.{nat_tests}
 use Rattle.l3_datagram.specs.Onward.{GoesOneHopOn}
 use Rattle.link_table.specs.Laws.{CarriesByWeaker, CarriesWhatWasOffered}
-use Rattle.ax_frame.specs.Read.{SpelledIsRead}
+use Rattle.ax_frame.specs.Frames.{SpelledIsRead}
 use Rattle.link_table.specs.Reaching.{FramesAreSpelled, IsCall}
 use Rattle.node_core.specs.Carried.{CarriedFurther, is_aloft}
 use Rattle.node_core.proofs.Bearing.{carried_bears}

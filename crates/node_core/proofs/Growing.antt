@@ -3,15 +3,13 @@
 use Rattle.std.proofs.Common.{◌≡◌, ◌≤◌, ◌∙◌, ℕ, zero, suc, refl, sym, subst, arith, length, List, [], ◌∷◌, ◌++◌}
 use Rattle.std.proofs.lemmas.Bool.Decides.{nat_tests}
 use Rattle.std.specs.Prelude.{Bool, true, false, if◌then◌else◌, not, ◌&&◌, ◌||◌, ◌+◌, ◌^◌, min, is_ok, nat_le, nat_lt, Option, Some, None}
-use Rattle.circuit_reassembly.specs.Gathering.{Answer, More, Whole, Too_long, gather_step}
+use Rattle.circuit_reassembly.specs.Fragments.{Answer, More, Whole, Too_long, gather_step}
 use Rattle.circuit_reassembly.specs.declared.TheConstants.{LONGEST}
 use Rattle.radio_base.specs.Modulus.{place_of}
 use Rattle.circuit_l4.specs.Moves as m
-use Rattle.circuit_l4.specs.State.{Effect, State, begin, is_up}
+use Rattle.circuit_l4.specs.State.{Effect, State, begin, is_up, Appended, Receipt, Receiving, inbox, written}
 use Rattle.circuit_l4.specs.Table as t
-use Rattle.circuit_l4.specs.Receiving as r
-use Rattle.circuit_l4.specs.Receiving.{Appended, Receipt, Receiving, inbox}
-use Rattle.circuit_l4.specs.Sending.{written}
+use Rattle.circuit_l4.specs.State as r
 use Rattle.circuit_l4.specs.declared.piece.Piece.{Piece}
 use Rattle.circuit_l4.specs.declared.notice.EndNotice.TheVariants.{FailedOversize, Opened}
 use Rattle.circuit_l4.specs.declared.phase.EndPhase.{EndPhase}

@@ -4,20 +4,18 @@ use Rattle.std.proofs.Common.{◌≡◌, ◌≤◌, ◌<◌, ◌+◌, ◌∙◌,
 use Rattle.std.specs.Prelude.{Bool, true, false, not, ◌||◌, ◌&&◌, is_none, nat_eq, min, if◌then◌else◌, Option, Some, None, Result, Ok, Err}
 use Rattle.std.proofs.lemmas.Bool.Decides.{nat_tests}
 use Rattle.radio_base.specs.declared.modulus.TheConstants.{COUNT_MAX}
-use Rattle.ax_address.specs.Callsign.{Callsign}
-use Rattle.ax_address.specs.CallOrder.{same_call}
+use Rattle.ax_address.specs.Callsign.{Callsign, same_call}
 use Rattle.circuit_l4.specs.Opening.{facts_of, requesting, responding}
 use Rattle.circuit_l4.specs.State.{Effect, State}
 use Rattle.circuit_l4.specs.Table as end
-use Rattle.circuit_l4.specs.Reading.{transport_at}
+use Rattle.circuit_l4.specs.Transports.{transport_at}
 use Rattle.circuit_l4.specs.declared.transport.Pair.{Pair}
 use Rattle.circuit_l4.specs.declared.transport.Transport.{Transport}
 use Rattle.circuit_l4.specs.declared.transport.Transport.TheVariants.{Request, Accept, Refuse, Disconnect, Disconnected, Info, InfoAck}
 use Rattle.circuit_l4.specs.declared.transport.TransportRefusal.{TransportRefusal}
 use Rattle.circuit_set.specs.CircuitSets.{facts_at}
-use Rattle.circuit_set.specs.Heeds.{heeds}
+use Rattle.circuit_set.specs.Sets.{heeds, Call, Calls, Comes, Connect, Holder, SetDone, SetState, CircuitTold, Closes, Takes, Ticks, Writes}
 use Rattle.circuit_set.specs.Sets as s
-use Rattle.circuit_set.specs.Sets.{Call, Calls, Comes, Connect, Holder, SetDone, SetState, CircuitTold, Closes, Takes, Ticks, Writes}
 use Rattle.circuit_set.proofs.Origins.{origin_read}
 use Rattle.l3_datagram.specs.declared.datagram.DatagramHead.{DatagramHead}
 use Rattle.l3_datagram.specs.declared.datagram.DatagramRefusal.{DatagramRefusal}

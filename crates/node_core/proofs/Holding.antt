@@ -12,11 +12,10 @@ use Rattle.circuit_set.specs.Pumps.{Waiting, at_rest}
 use Rattle.circuit_set.specs.Sets.{SetState}
 use Rattle.l3_datagram.specs.Routers.{Routing}
 use Rattle.link_table.specs.Calls.{fetch}
-use Rattle.link_table.specs.Fetching.{written}
+use Rattle.link_table.specs.Table.{written, Table}
 use Rattle.link_table.specs.Frames.{Sent}
 use Rattle.link_table.specs.declared.written.Written.{Written}
 use Rattle.link_table.specs.Standing.{TableView as Kept, TableGoes}
-use Rattle.link_table.specs.Table.{Table}
 use Rattle.route_table.specs.Held.{TableGoesOn, HasRoom, TableRoutes, IsFull, SameNode, StandsFor}
 use Rattle.route_table.specs.Log.{Item, broadcast}
 use Rattle.route_table.specs.Table.{usable}
@@ -25,7 +24,7 @@ use Rattle.node_core.specs.declared.station.Station.{Station}
 use Rattle.node_core.specs.Receiving.{has_room, live_with, take_in}
 use Rattle.node_turns.specs.Sessions.{Session, bare}
 use Rattle.node_core.specs.Standing.{Holds, IsTold, entry_of}
-use Rattle.node_core.specs.Rounds.{put_all}
+use Rattle.node_core.specs.Broadcasts.{put_all}
 use Rattle.node_turns.specs.States.{Overflow, State, at_links, at_set, enter, fetch_frame, fetch_own, put, with_items}
 use Rattle.node_turns.specs.Links.{all_fetched, sent_frames}
 

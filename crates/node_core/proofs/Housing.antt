@@ -2,43 +2,38 @@
 use Rattle.std.proofs.Common.{◌≡◌, ◌∙◌, ℕ, zero, suc, refl, ap, arith, List, [], ◌∷◌, map, slice_get}
 use Rattle.std.specs.Prelude.{Bool, true, false, not, ◌&&◌, ◌==◌, nat_lt, filter, if◌then◌else◌, Option, Some, None, Result, Ok, Err}
 use Rattle.arrayvec.specs.ArrayVec.{ArrayVec}
-use Rattle.ax_address.specs.Callsign.{Callsign}
-use Rattle.ax_address.specs.CallOrder.{same_call}
+use Rattle.ax_address.specs.Callsign.{Callsign, same_call}
 use Rattle.ax_address.specs.declared.address.Address.{Address}
 use Rattle.ax_frame.specs.declared.frame.FrameRefusal.{FrameRefusal}
 use Rattle.ax_frame.specs.declared.head.Head.{Head}
-use Rattle.ax_frame.specs.Frames.{Frame}
-use Rattle.ax_frame.specs.Read.{read_at, read_head_at}
+use Rattle.ax_frame.specs.Frames.{Frame, read_at, read_head_at}
 use Rattle.ax_link.specs.declared.notice.LinkNotice.{LinkNotice}
 use Rattle.circuit_set.specs.Pumps.{Dropped, Lost, Of, Offers, Says, SetTold, Turn, Turned}
 use Rattle.circuit_set.specs.Sets as sets
 use Rattle.digi_path.specs.Paths.{Action, For_me, Heard, Not_yet, Repeat, action}
 use Rattle.kiss_framing.specs.Stream as kiss
-use Rattle.l3_datagram.specs.CarrierCall.{Parcel}
+use Rattle.l3_datagram.specs.Datagrams.{Parcel}
 use Rattle.link_table.specs.Calls as calls
 use Rattle.link_table.specs.Calls.{collect, tell_lost}
 use Rattle.link_table.specs.Ending.{EndsAreTold, TextsAreOfLinks}
 use Rattle.link_table.specs.declared.written.Written.{Written}
-use Rattle.nodes_broadcast.specs.Nodes.{Broadcast}
-use Rattle.nodes_broadcast.specs.Reading.{nodes_at}
+use Rattle.nodes_broadcast.specs.Nodes.{Broadcast, nodes_at}
 use Rattle.nodes_broadcast.specs.declared.nodes.NodesRefusal.{NodesRefusal}
-use Rattle.route_table.specs.Broadcast.{to_broadcast}
+use Rattle.route_table.specs.Table.{to_broadcast}
 use Rattle.route_table.specs.Log as logs
 use Rattle.route_table.specs.Log.{Item}
 use Rattle.node_core.specs.declared.config.NodeConfig.{NodeConfig}
 use Rattle.node_turns.specs.declared.session.User.{User}
 use Rattle.node_turns.specs.declared.session.User.TheVariants.{AtLink}
 use Rattle.node_core.specs.Broadcasts.{is_broadcast, round_frames}
-use Rattle.node_turns.specs.Circuits as circuits
-use Rattle.node_core.specs.Configs.{new_station}
 use Rattle.node_turns.specs.Links as links
+use Rattle.node_core.specs.Configs.{new_station}
 use Rattle.node_turns.specs.Pumping as p
 use Rattle.node_core.specs.Receiving as receiving
-use Rattle.node_core.specs.Rounds as rounds
+use Rattle.node_core.specs.Broadcasts as rounds
 use Rattle.node_turns.specs.Serving as serving
 use Rattle.node_turns.specs.Sessions as s
 use Rattle.node_turns.specs.Sessions.{Session}
-use Rattle.node_turns.specs.Settling as settling
 use Rattle.node_turns.specs.States.{State, at_links, fetch_own, next_hop, put, with_items}
 use Rattle.node_turns.specs.Users.{at_session, change_if}
 use Rattle.node_core.proofs.Lodging.{Housed, breaks, closes, dropped, greeted, moved, noticed_all, pumped, sends, stepped, takes, ticks, fewer}
@@ -75,15 +70,15 @@ quiet_taken now (Says t) n q = quiet_turned t n q
 quiet_taken now (Offers to d by) n q = quiet_turned (by (links.offer_answer to d now n.links)) (at_links (links.offer to d now) n) q
 
 quiet_tells : (now : ℕ) (n : State) (b : Bool) → IsQuiet n → IsQuiet (if b then p.tell_one now n else n)
-quiet_tells now n true q = quiet_taken now (circuits.tells (next_hop n) n.set) n q
+quiet_tells now n true q = quiet_taken now (links.tells (next_hop n) n.set) n q
 quiet_tells now n false q = q
 
 quiet_told : (now : ℕ) (n : State) → IsQuiet n → IsQuiet (p.tell_all now n)
 quiet_told now n q = told_kept now IsQuiet (λ m x. quiet_tells now m (nat_lt 0 (p.pending m)) x) n q
 
 quiet_asked : (now : ℕ) (n : State) (lost : List Callsign) (waiting : List Parcel) → IsQuiet n → IsQuiet (p.ask_for now lost waiting n)
-quiet_asked now n (c ∷ cs) waiting q = quiet_turned (circuits.hears_lost c n.set) (at_links tell_lost n) q
-quiet_asked now n [] (parcel ∷ parcels) q = quiet_taken now (circuits.hears (next_hop n) now parcel n.set) (at_links collect n) q
+quiet_asked now n (c ∷ cs) waiting q = quiet_turned (links.hears_lost c n.set) (at_links tell_lost n) q
+quiet_asked now n [] (parcel ∷ parcels) q = quiet_taken now (links.hears (next_hop n) now parcel n.set) (at_links collect n) q
 quiet_asked now n [] [] q = q
 
 quiet_times : (now k : ℕ) (n : State) → IsQuiet n → IsQuiet (p.ask_times now k n)
@@ -116,7 +111,7 @@ links_none : (ns : List (Callsign × LinkNotice)) → s.hear_links ns [] ≡ []
 links_none [] = refl
 links_none (x ∷ ns) = ap (λ (ss : List Session). s.hear_links ns ss) (left_none (s.ends_link x.1) x.0) ∙ links_none ns
 
-quiet_noticed : (n : State) → IsQuiet n → IsQuiet (settling.enter_notices n)
+quiet_noticed : (n : State) → IsQuiet n → IsQuiet (serving.enter_notices n)
 quiet_noticed n q e = ap (λ (ss : List Session). s.hear_links n.links.pending.notices ss) (q e) ∙ links_none n.links.pending.notices
 
 -- ---- both, as a node goes on

@@ -6,9 +6,8 @@ use Rattle.std.proofs.lemmas.Bool.Decides.{nat_tests}
 use Rattle.ax_address.specs.Callsign.{Callsign}
 use Rattle.circuit_l4.specs.Standing as ends
 use Rattle.circuit_l4.specs.Opening.{facts_of}
-use Rattle.circuit_l4.specs.State.{Effect, Out, begin}
+use Rattle.circuit_l4.specs.State.{Effect, Out, begin, inbox}
 use Rattle.circuit_l4.specs.Table.{take_first}
-use Rattle.circuit_l4.specs.Receiving.{inbox}
 use Rattle.circuit_l4.specs.declared.notice.EndNotice.{EndNotice}
 use Rattle.circuit_set.specs.CircuitSets as sets
 use Rattle.circuit_set.specs.CircuitSets.{Circuits, SetStands}
@@ -18,7 +17,7 @@ use Rattle.circuit_set.specs.Sets.{SetDone, SetState, CircuitTold}
 use Rattle.circuit_set.specs.Standing.{EachStands, Keeps, Rests, if_so, sendings_by, take_answer, untold_of}
 use Rattle.circuit_set.specs.declared.holder.Holder.{Holder}
 use Rattle.link_table.specs.Standing.{TableView as Kept}
-use Rattle.node_turns.specs.Circuits as circuits
+use Rattle.node_turns.specs.Links as circuits
 use Rattle.node_core.specs.Going.{SetHoldsTold}
 use Rattle.node_turns.specs.States.{State}
 use Rattle.node_turns.specs.Users.{has_taken}

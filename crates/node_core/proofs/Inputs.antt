@@ -4,18 +4,16 @@ use Rattle.std.specs.Prelude.{Bool, true, false, if◌then◌else◌, Option, So
 use Rattle.std.specs.List.{AllByRecursion}
 use Rattle.ax_address.specs.Callsign.{Callsign, IsCallsign}
 use Rattle.circuit_set.specs.Givings.{IsUp}
-use Rattle.circuit_set.specs.Inputs.{OfEach, of_circuits, runs, ticks_of}
-use Rattle.circuit_set.specs.Pumps.{Dropped, Offers, Says, Turn, Turned, Waiting, heard_as, hears_by, sent_by_head, sent_to, tells_first, tells_of, with_done}
+use Rattle.circuit_set.specs.Pumps.{OfEach, of_circuits, runs, ticks_of, Dropped, Offers, Says, Turn, Turned, Waiting, heard_as, hears_by, sent_by_head, sent_to, tells_first, tells_of, with_done}
 use Rattle.circuit_set.specs.Runs.{IsAct}
 use Rattle.circuit_set.specs.Sets.{Act, Connect, Comes, Calls, Discard, Restart, Ticks, Holder, SetState, CircuitTold, Made, Sent, Heeded, Notice, Gone, Restarted, Lost, set_step}
-use Rattle.l3_datagram.specs.CarrierCall.{Parcel}
-use Rattle.l3_datagram.specs.Datagrams.{head_at}
-use Rattle.l3_datagram.specs.Hops.{Way, Ends, ToNeighbour, forwarded_by, way}
+use Rattle.l3_datagram.specs.Datagrams.{Parcel, head_at}
+use Rattle.l3_datagram.specs.Routers.{Way, Ends, ToNeighbour, forwarded_by, way}
 use Rattle.l3_datagram.specs.declared.datagram.DatagramHead.{DatagramHead}
 use Rattle.l3_datagram.specs.declared.datagram.DatagramRefusal.{DatagramRefusal}
 use Rattle.l3_datagram.specs.declared.routed.Routed.{Routed}
 use Rattle.l3_datagram.specs.declared.routed.Routed.TheVariants as routed
-use Rattle.node_turns.specs.Circuits as circuits
+use Rattle.node_turns.specs.Links as circuits
 use Rattle.node_core.specs.Runs.{write_in, writes_in}
 
 -- ---- one input after another

@@ -3,16 +3,15 @@ use Rattle.std.proofs.Common.{◌≡◌, ◌++◌, ◌∙◌, ℕ, refl, sym, ap
 use Rattle.std.specs.Prelude.{Option, Some, None}
 use Rattle.std.specs.Option.{option_map}
 use Rattle.circuit_set.specs.CircuitSets.{Circuits, DoesPump, Pumps}
-use Rattle.circuit_set.specs.Inputs.{TellsLess}
+use Rattle.circuit_set.specs.Pumps.{TellsLess, Pumped, SetTold}
 use Rattle.circuit_set.specs.Pumps as pumps
-use Rattle.circuit_set.specs.Pumps.{Pumped, SetTold}
 use Rattle.circuit_set.specs.Standing.{event_told}
 use Rattle.circuit_set.specs.declared.event.SetEvent.{SetEvent}
-use Rattle.l3_datagram.specs.CarrierCall.{Parcel}
+use Rattle.l3_datagram.specs.Datagrams.{Parcel}
 use Rattle.l3_datagram.specs.Routers.{SameRouter}
 use Rattle.l3_datagram.specs.declared.carrier.Offered.{Offered}
 use Rattle.link_table.specs.Carrying.{AllAnswer, after_calls}
-use Rattle.link_table.specs.Payloads.{OffersLeave, TakesLower}
+use Rattle.link_table.specs.Kept.{OffersLeave, TakesLower}
 use Rattle.link_table.specs.Standing.{TableView as Kept, Made}
 use Rattle.route_table.specs.Table as routes
 use Rattle.node_core.specs.declared.station.Station.{Station}

@@ -2,8 +2,7 @@
 use Rattle.std.proofs.Common.{◌≡◌, ◌+◌, ◌∙◌, ℕ, refl, subst, List, [], ◌∷◌, ◌++◌}
 use Rattle.std.specs.Prelude.{min, Bool, true, false, not, ◌&&◌, ◌||◌, if◌then◌else◌, Option, Some, None, Result, Ok, Err}
 use Rattle.std.specs.List.{AllByRecursion}
-use Rattle.ax_address.specs.Callsign.{Callsign}
-use Rattle.ax_address.specs.CallOrder.{same_call}
+use Rattle.ax_address.specs.Callsign.{Callsign, same_call}
 use Rattle.circuit_l4.specs.State.{Effect, Out}
 use Rattle.circuit_l4.specs.Opening.{facts_of, requesting, responding}
 use Rattle.circuit_l4.specs.Table.{Arrive, step}
@@ -13,10 +12,9 @@ use Rattle.circuit_l4.specs.declared.transport.Pair.{Pair}
 use Rattle.circuit_l4.specs.declared.transport.Transport.{Transport}
 use Rattle.circuit_l4.specs.declared.transport.Transport.TheVariants.{Request, Accept, Refuse, Disconnect, Disconnected, Info, InfoAck}
 use Rattle.circuit_l4.specs.declared.transport.TransportRefusal.{TransportRefusal}
-use Rattle.circuit_set.specs.Heeds.{heeds}
-use Rattle.circuit_set.specs.Inputs.{runs}
+use Rattle.circuit_set.specs.Sets.{heeds, Act, Connect, Comes, Calls, Discard, Restart, Call, Holder, SetDone, SetState, CircuitTold, Made, Sent, Heeded, Notice, Gone, Restarted, Lost, end_of, first_open, set_step}
+use Rattle.circuit_set.specs.Pumps.{runs}
 use Rattle.circuit_set.specs.Sets as s
-use Rattle.circuit_set.specs.Sets.{Act, Connect, Comes, Calls, Discard, Restart, Call, Holder, SetDone, SetState, CircuitTold, Made, Sent, Heeded, Notice, Gone, Restarted, Lost, end_of, first_open, set_step}
 use Rattle.l3_datagram.specs.Datagrams.{head_at}
 use Rattle.l3_datagram.specs.declared.datagram.DatagramHead.{DatagramHead}
 use Rattle.l3_datagram.specs.declared.datagram.DatagramRefusal.{DatagramRefusal}

@@ -6,17 +6,16 @@ use Rattle.radio_base.specs.declared.payload.Payload.{Payload}
 use Rattle.ax_address.specs.Callsign.{Callsign}
 use Rattle.ax_address.specs.declared.alias.Alias.{Alias}
 use Rattle.ax_address.specs.declared.Entry.{Entry as Said}
-use Rattle.circuit_set.specs.Inputs.{ticks_of}
+use Rattle.circuit_set.specs.Pumps.{ticks_of}
 use Rattle.circuit_set.specs.Sets as sets
 use Rattle.circuit_set.specs.Sets.{Act, Holder, SetState, set_step}
 use Rattle.l3_datagram.specs.Onward.{GoesOneHopOn}
-use Rattle.link_table.specs.Fetching.{written}
+use Rattle.link_table.specs.Table.{written, Table}
 use Rattle.link_table.specs.Frames as frames
 use Rattle.link_table.specs.Laws.{CarriesByWeaker, CarriesOn, CarriesWhatWasOffered, FrameHolds}
-use Rattle.link_table.specs.Table.{Table}
 use Rattle.link_table.specs.declared.written.Written.{Written}
 use Rattle.nodes_broadcast.specs.Nodes.{Broadcast}
-use Rattle.route_table.specs.Broadcast.{to_broadcast}
+use Rattle.route_table.specs.Table.{to_broadcast}
 use Rattle.route_table.specs.Log as logs
 use Rattle.route_table.specs.Log.{Item}
 use Rattle.node_core.specs.Acts as acts
@@ -25,11 +24,10 @@ use Rattle.link_table.specs.Reaching.{FramesAreSpelled, IsCall, IsSpelled, Reach
 use Rattle.node_core.proofs.Names.{nodes_is_call}
 use Rattle.node_core.specs.Broadcasts.{broadcast_frame, broadcast_octets, entries_of_frame, frame_count, round_frame, round_frames}
 use Rattle.node_core.specs.Carried.{CarriesTraced, IsCarried, IsOfNode, NamesCall, Place, WasBorne, brings_traced, offers_traced}
-use Rattle.node_turns.specs.Circuits as circuits
 use Rattle.node_turns.specs.Links as links
-use Rattle.node_core.specs.Rounds as rounds
+use Rattle.node_core.specs.Broadcasts as rounds
 use Rattle.node_turns.specs.Sessions.{Session}
-use Rattle.node_turns.specs.Settling as s
+use Rattle.node_turns.specs.Serving as s
 use Rattle.node_turns.specs.States as states
 use Rattle.node_turns.specs.States.{State, Of_link, at_links, at_set, put, with_items}
 use Rattle.node_core.proofs.Inputs.{IsInput}
@@ -183,10 +181,10 @@ module _ (here : Place) (law : CarriesWhatWasOffered) (weaker : CarriesByWeaker)
   is_input (sets.Discard id) i = tt
   is_input (sets.Restart pair more) i = absurd i
 
-  asked : (a : Act) (n : State) → IsAsking a → Goes here n (at_set (circuits.acts a) n)
-  unfolding circuits.acts
+  asked : (a : Act) (n : State) → IsAsking a → Goes here n (at_set (links.acts a) n)
+  unfolding links.acts
   asked a n i sent x =
-      input here weaker sent n (at_set (circuits.acts a) n) (a ∷ []) (is_input a i, tt) refl refl (ap (λ ts. n.set.untold ++ ts) (sym (append-nil (set_step n.set.set a).told))) refl refl
+      input here weaker sent n (at_set (links.acts a) n) (a ∷ []) (is_input a i, tt) refl refl (ap (λ ts. n.set.untold ++ ts) (sym (append-nil (set_step n.set.set a).told))) refl refl
       (one_come a i) (x.links, x.reaches) x.names x
 
   ticks_input : (now : ℕ) (hs : List Holder) → AllByRecursion IsInput (ticks_of now hs)
@@ -205,10 +203,10 @@ module _ (here : Place) (law : CarriesWhatWasOffered) (weaker : CarriesByWeaker)
       by true a = a
       by false a = (tt, a)
 
-  ticked : (now : ℕ) (n : State) → Goes here n (at_set (circuits.ticks now) (at_links (links.tick_links now) n))
-  unfolding circuits.ticks links.tick_links
+  ticked : (now : ℕ) (n : State) → Goes here n (at_set (links.ticks now) (at_links (links.tick_links now) n))
+  unfolding links.ticks links.tick_links
   ticked now n sent x =
-      input here weaker sent n (at_set (circuits.ticks now) (at_links (links.tick_links now) n)) (ticks_of now n.set.set.ends) (ticks_input now n.set.set.ends) refl refl refl refl refl
+      input here weaker sent n (at_set (links.ticks now) (at_links (links.tick_links now) n)) (ticks_of now n.set.set.ends) (ticks_input now n.set.set.ends) refl refl refl refl refl
       (ticks_come now n.set.set.ends) ((on sent).ticks n.links now x.links, (spelled here.size).ticks n.links now x.reaches) x.names x
 
   -- ---- all of them

@@ -5,11 +5,9 @@ use Rattle.std.specs.List.{AllByRecursion, list_any}
 use Rattle.std.specs.Option.{option_map}
 use Rattle.ax_address.specs.Callsign.{Callsign}
 use Rattle.link_table.specs.Reaching.{IsCall}
-use Rattle.route_table.specs.Live.{is_live, is_lock_of, live, live_among, live_of, rounds}
+use Rattle.route_table.specs.Table.{is_live, is_lock_of, live, live_among, live_of, rounds, in_order, placed, stands_before, is_good, is_to, next_hop, table}
 use Rattle.route_table.specs.Log as logs
 use Rattle.route_table.specs.Log.{Item}
-use Rattle.route_table.specs.Ranks.{in_order, placed, stands_before}
-use Rattle.route_table.specs.Table.{is_good, is_to, next_hop, table}
 use Rattle.route_table.specs.declared.route.Route.{Route}
 use Rattle.route_table.specs.declared.route.RouteRules.{RouteRules}
 use Rattle.node_core.specs.Carried.{NamesCall}

@@ -4,8 +4,8 @@ use Rattle.std.specs.Prelude.{Bool, true, false, Some, Result, Ok, Err, OnOk, On
 use Rattle.std.specs.List.{AllByRecursion}
 use Rattle.std.proofs.lemmas.List.{drop_at, take_all}
 use Rattle.std.proofs.lemmas.Bool.Decides.{nat_tests}
-use Rattle.circuit_set.specs.Pumps.{Waiting, at_rest, is_drained}
-use Rattle.kiss_framing.specs.Deframing as kiss
+use Rattle.circuit_set.specs.Pumps.{Waiting, at_rest, is_drained, TellsLess}
+use Rattle.kiss_framing.specs.Stream as kiss
 use Rattle.kiss_framing.specs.Feeding.{handed_out}
 use Rattle.kiss_framing.specs.Stream.{Item, items}
 use Rattle.kiss_framing.specs.declared.deframer.KissItem.{KissItem}
@@ -16,9 +16,9 @@ use Rattle.link_table.specs.Table.{Table}
 use Rattle.link_table.specs.declared.path_refusal.PathRefusal.{PathRefusal}
 use Rattle.link_table.specs.declared.path_refusal.PathRefusal.TheVariants as paths
 use Rattle.node_core.specs.declared.station.Station.{Station}
-use Rattle.node_turns.specs.Circuits as circuits
+use Rattle.node_turns.specs.Links as circuits
 use Rattle.node_core.specs.Inputs.{after_bytes, after_input, after_item, after_items, moment, new_items}
-use Rattle.node_core.specs.Kept.{Kept, NodeStands, view_of}
+use Rattle.node_core.specs.Standing.{Kept, NodeStands, view_of, Holds, IsDrained, IsTold, entry_of}
 use Rattle.node_core.specs.Sound.{IsReached, IsSound}
 use Rattle.node_core.specs.Taking.{Takes}
 use Rattle.node_core.specs.Bridged.{AsksForCall, Bytes, Input, after, after_all}
@@ -27,12 +27,10 @@ use Rattle.node_core.specs.Laws.{NothingLeftAfterInputs}
 use Rattle.node_core.specs.Receiving.{take_item}
 use Rattle.link_table.specs.declared.written.Written.{Written}
 use Rattle.node_core.specs.declared.entry.NodeEntry.{NodeEntry}
-use Rattle.circuit_set.specs.Inputs.{TellsLess}
-use Rattle.link_table.specs.Payloads.{OffersLeave, TakesLower}
+use Rattle.link_table.specs.Kept.{OffersLeave, TakesLower}
 use Rattle.node_turns.specs.Pumping.{pump}
 use Rattle.node_turns.proofs.Resting.{pumped_dry}
 use Rattle.node_core.specs.Going.{StationGoes, item_of}
-use Rattle.node_core.specs.Standing.{Holds, IsDrained, IsTold, entry_of}
 use Rattle.node_turns.specs.States.{NodeState, State, at_links, fetch_entry, fetch_frame, fetch_own}
 use Rattle.node_core.proofs.Calls.{rest_of, some_pending}
 use Rattle.node_core.proofs.Holding.{links_go, with_carrier}

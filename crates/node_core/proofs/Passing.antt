@@ -2,13 +2,12 @@
 use Rattle.std.proofs.Common.{◌≡◌, ℕ, refl, sym, ap, Bool, true, false, ◌&&◌, List, length, take, drop, slice_get, Option, None, ◌∙◌}
 use Rattle.std.specs.Prelude.{Result, Ok, Err, IsOkAnd}
 use Rattle.std.proofs.lemmas.List.{take-append-drop}
-use Rattle.ax_address.specs.CallOrder.{same_call}
+use Rattle.ax_address.specs.Callsign.{same_call}
 use Rattle.ax_address.specs.Results.{◌>>=◌}
 use Rattle.ax_frame.specs.declared.head.Head.{Head}
 use Rattle.ax_frame.specs.declared.control.Control.{Control}
 use Rattle.ax_frame.specs.declared.frame.FrameRefusal.{FrameRefusal}
-use Rattle.ax_frame.specs.Frames.{BeginsWith, Frame, frame}
-use Rattle.ax_frame.specs.Read.{SpelledHeadIsRead, head_in, read_at, read_head_at}
+use Rattle.ax_frame.specs.Frames.{BeginsWith, Frame, frame, SpelledHeadIsRead, head_in, read_at, read_head_at}
 use Rattle.ax_frame.specs.Reading.{frame_at, head_end}
 use Rattle.node_core.specs.Broadcasts.{has_netrom_pid, is_ui, nodes_call}
 use Rattle.node_core.specs.Receiving.{take_frame}

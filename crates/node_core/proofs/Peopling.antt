@@ -1,22 +1,21 @@
 -- Every node that inputs may have led to serves no more users than it has links and ends.
 use Rattle.std.proofs.Common.{ℕ, arith, List, [], ◌∷◌}
 use Rattle.std.specs.List.{AllByRecursion}
-use Rattle.ax_address.specs.CallReading.{ReadsCallTexts}
-use Rattle.circuit_set.specs.Inputs.{TellsLess}
+use Rattle.ax_address.specs.Callsign.{ReadsCallTexts}
+use Rattle.circuit_set.specs.Pumps.{TellsLess}
 use Rattle.kiss_framing.specs.Stream as kiss
 use Rattle.link_table.specs.Ending.{EndsAreTold, TextsAreOfLinks}
 use Rattle.link_table.specs.Laws.{CarriesWhatWasOffered}
-use Rattle.link_table.specs.Payloads.{OffersLeave, TakesLower}
+use Rattle.link_table.specs.Kept.{OffersLeave, TakesLower}
 use Rattle.link_table.specs.declared.written.Written.{Written}
 use Rattle.node_core.specs.Acts as acts
 use Rattle.node_core.specs.Bridged.{Acts, AsksForCall, Bytes, Fetches_entry, Fetches_frame, Input, Paths, Ticks, UsersAreFew as EveryNodes, after, after_all}
 use Rattle.node_core.specs.Configs.{new_node}
 use Rattle.node_core.specs.Inputs.{after_input, after_item, after_items, moment, new_items}
 use Rattle.node_core.specs.Receiving as receiving
-use Rattle.node_core.specs.Rounds as rounds
+use Rattle.node_core.specs.Broadcasts as rounds
 use Rattle.node_turns.specs.States.{NodeState, State, fetch_own}
-use Rattle.node_core.specs.UserActs.{UserAct}
-use Rattle.node_core.specs.UserActs as user
+use Rattle.node_core.specs.Acts.{UserAct}
 use Rattle.node_core.proofs.Counting.{UsersAreFew, users_few}
 use Rattle.node_core.proofs.Housing.{Goes, Peopled, fetched_on, item_on, path_on, starts_on, walks}
 use Rattle.node_core.proofs.Nodes.{told_after}
@@ -45,13 +44,13 @@ module _ (offers : OffersLeave) (takes : TakesLower) (less : TellsLess) (law : C
       items_on now more (after_item now item n) next (settles now (receiving.take_item now item n) next (item_on told texts now item n c.people))
 
   any_lock : (act : UserAct) → LocksBy (λ item. Unit {0}) act
-  any_lock user.Round = tt
-  any_lock (user.LinkFail peer) = tt
-  any_lock (user.Lock dest alias neighbour quality) = tt
-  any_lock (user.Connect dest) = tt
-  any_lock (user.Write id message) = tt
-  any_lock (user.Take id) = tt
-  any_lock (user.Close id) = tt
+  any_lock acts.Round = tt
+  any_lock (acts.LinkFail peer) = tt
+  any_lock (acts.Lock dest alias neighbour quality) = tt
+  any_lock (acts.Connect dest) = tt
+  any_lock (acts.Write id message) = tt
+  any_lock (acts.Take id) = tt
+  any_lock (acts.Close id) = tt
 
   fetched : (own : List Written) (n : State) → Crowd n → Crowd (fetch_own own n)
   fetched [] n c = record { people = fetched_on [] n c.people; few = c.few }

@@ -2,14 +2,12 @@
 use Rattle.std.proofs.Common.{◌≡◌, ℕ, zero, suc, List, [], ◌∷◌, ◌++◌}
 use Rattle.std.specs.Prelude.{Bool, true, false, if◌then◌else◌, nat_lt, Option, Some, None, Result, Ok, Err}
 use Rattle.ax_address.specs.Callsign.{Callsign}
-use Rattle.circuit_set.specs.Inputs.{OfEach}
+use Rattle.circuit_set.specs.Pumps.{OfEach, Of, Offers, Says, Turn, Turned, Waiting}
 use Rattle.circuit_set.specs.Pumps as pumps
-use Rattle.circuit_set.specs.Pumps.{Of, Offers, Says, Turn, Turned, Waiting}
 use Rattle.circuit_set.specs.Sets as sets
 use Rattle.circuit_set.specs.Sets.{SetState, CircuitTold, set_step}
-use Rattle.l3_datagram.specs.CarrierCall.{Datagram, Parcel}
-use Rattle.l3_datagram.specs.Datagrams.{head_at}
-use Rattle.l3_datagram.specs.Hops.{Way, Ends, ToNeighbour, forwarded_by, way}
+use Rattle.l3_datagram.specs.Datagrams.{Datagram, Parcel, head_at}
+use Rattle.l3_datagram.specs.Routers.{Way, Ends, ToNeighbour, forwarded_by, way}
 use Rattle.l3_datagram.specs.declared.carrier.Offered.{Offered}
 use Rattle.l3_datagram.specs.declared.carrier.Offered.TheVariants.{Taken, Dropped as No_room}
 use Rattle.l3_datagram.specs.declared.datagram.DatagramHead.{DatagramHead}
@@ -18,7 +16,6 @@ use Rattle.l3_datagram.specs.declared.routed.Routed.{Routed}
 use Rattle.l3_datagram.specs.declared.routed.Routed.TheVariants as routed
 use Rattle.link_table.specs.Calls.{collect, tell_lost}
 use Rattle.link_table.specs.Table.{Table}
-use Rattle.node_turns.specs.Circuits as circuits
 use Rattle.node_turns.specs.Links as links
 use Rattle.node_turns.specs.Pumping as p
 use Rattle.node_turns.specs.Sessions.{Session, hear_circuits, hear_if}
@@ -57,8 +54,8 @@ module _ (R : SetState → List CircuitTold → List Session → Type 0)
   told_on prompt hop set [] ss None r = r
   told_on prompt hop set (t ∷ ts) ss None r = first_on prompt hop set t ts ss (tell prompt set t ts ss r)
 
-  tells_on : (prompt : Bool) (hop : Callsign → Option Callsign) (w : Waiting) (ss : List Session) → R w.set w.untold ss → OfEach (On prompt ss) (circuits.tells hop w)
-  unfolding circuits.tells
+  tells_on : (prompt : Bool) (hop : Callsign → Option Callsign) (w : Waiting) (ss : List Session) → R w.set w.untold ss → OfEach (On prompt ss) (links.tells hop w)
+  unfolding links.tells
   tells_on prompt hop w ss r = told_on prompt hop w.set w.untold ss w.lost r
 
   -- ---- a node
@@ -71,7 +68,7 @@ module _ (R : SetState → List CircuitTold → List Session → Type 0)
   take_on now m (Offers to d by) each = each (links.offer_answer to d now m.links)
 
   tell_by : (now : ℕ) (m : State) (b : Bool) → At m → At (if b then p.tell_one now m else m)
-  tell_by now m true r = take_on now m (circuits.tells (next_hop m) m.set) (tells_on m.settings.prompt (next_hop m) m.set m.sessions r)
+  tell_by now m true r = take_on now m (links.tells (next_hop m) m.set) (tells_on m.settings.prompt (next_hop m) m.set m.sessions r)
   tell_by now m false r = r
 
   all_on : (now : ℕ) (n : State) → At n → At (p.tell_all now n)
@@ -102,18 +99,18 @@ module _ (R : SetState → List CircuitTold → List Session → Type 0)
         by No_room = x
 
     hears_on : (prompt : Bool) (hop : Callsign → Option Callsign) (now : ℕ) (parcel : Parcel) (w : Waiting) (ss : List Session) → R w.set w.untold ss
-        → OfEach (On prompt ss) (circuits.hears hop now parcel w)
-    unfolding circuits.hears
+        → OfEach (On prompt ss) (links.hears hop now parcel w)
+    unfolding links.hears
     hears_on prompt hop now parcel w ss x = way_on prompt now w ss (way w.set.own hop parcel.1) x
 
-    lost_on : (prompt : Bool) (c : Callsign) (w : Waiting) (ss : List Session) → R w.set w.untold ss → On prompt ss (circuits.hears_lost c w)
-    unfolding circuits.hears_lost
+    lost_on : (prompt : Bool) (c : Callsign) (w : Waiting) (ss : List Session) → R w.set w.untold ss → On prompt ss (links.hears_lost c w)
+    unfolding links.hears_lost
     lost_on prompt c w ss x = x
 
     asked_on : (now : ℕ) (n : State) (lost : List Callsign) (waiting : List Parcel) → At n → At (p.ask_for now lost waiting n)
     asked_on now n (c ∷ cs) waiting r = lost_on n.settings.prompt c n.set n.sessions r
     asked_on now n [] (parcel ∷ parcels) r =
-        take_on now (at_links collect n) (circuits.hears (next_hop n) now parcel n.set) (hears_on n.settings.prompt (next_hop n) now parcel n.set n.sessions r)
+        take_on now (at_links collect n) (links.hears (next_hop n) now parcel n.set) (hears_on n.settings.prompt (next_hop n) now parcel n.set n.sessions r)
     asked_on now n [] [] r = r
 
     times_on : (now k : ℕ) (n : State) → At n → At (p.ask_times now k n)
@@ -133,7 +130,7 @@ module _ (L : Table → Type 0) (offer : (to : Callsign) (d : Datagram) (now : �
   take_links now m (Offers to d by) x = offer to d now m.links x
 
   links_by : (now : ℕ) (m : State) (b : Bool) → L m.links → L (if b then p.tell_one now m else m).links
-  links_by now m true x = take_links now m (circuits.tells (next_hop m) m.set) x
+  links_by now m true x = take_links now m (links.tells (next_hop m) m.set) x
   links_by now m false x = x
 
   all_links : (now : ℕ) (n : State) → L n.links → L (p.tell_all now n).links
@@ -142,7 +139,7 @@ module _ (L : Table → Type 0) (offer : (to : Callsign) (d : Datagram) (now : �
   module _ (collects : (t : Table) → L t → L (collect t)) (tells : (t : Table) → L t → L (tell_lost t)) where
     asked_links : (now : ℕ) (n : State) (lost : List Callsign) (waiting : List Parcel) → L n.links → L (p.ask_for now lost waiting n).links
     asked_links now n (c ∷ cs) waiting x = tells n.links x
-    asked_links now n [] (parcel ∷ parcels) x = take_links now (at_links collect n) (circuits.hears (next_hop n) now parcel n.set) (collects n.links x)
+    asked_links now n [] (parcel ∷ parcels) x = take_links now (at_links collect n) (links.hears (next_hop n) now parcel n.set) (collects n.links x)
     asked_links now n [] [] x = x
 
     times_links : (now k : ℕ) (n : State) → L n.links → L (p.ask_times now k n).links

@@ -2,16 +2,13 @@
 use Rattle.std.proofs.Common.{◌≡◌, ◌∙◌, ◌≤◌, ℕ, zero, suc, refl, sym, ap, subst, List, [], ◌∷◌, ◌++◌, length, append-nil}
 use Rattle.std.specs.Prelude.{Bool, true, false, if◌then◌else◌, nat_lt, nat_le, nat_eq, Option, Some, None, Result, Ok, Err}
 use Rattle.std.specs.List.{AllByRecursion}
-use Rattle.ax_address.specs.Callsign.{Callsign}
-use Rattle.ax_address.specs.CallOrder.{same_call}
-use Rattle.circuit_set.specs.Inputs.{of_circuits}
+use Rattle.ax_address.specs.Callsign.{Callsign, same_call}
+use Rattle.circuit_set.specs.Pumps.{of_circuits, Offers, Says, Turn, Turned}
 use Rattle.circuit_set.specs.Pumps as pumps
-use Rattle.circuit_set.specs.Pumps.{Offers, Says, Turn, Turned}
 use Rattle.circuit_set.specs.Sets as sets
 use Rattle.circuit_set.specs.Sets.{SetDone, CircuitTold, set_step}
-use Rattle.l3_datagram.specs.CarrierCall.{Datagram, Parcel}
-use Rattle.l3_datagram.specs.Datagrams.{head_at}
-use Rattle.l3_datagram.specs.Hops.{Way, Ends, ToNeighbour, forwarded_by, onward, way, way_of}
+use Rattle.l3_datagram.specs.Datagrams.{Datagram, Parcel, head_at}
+use Rattle.l3_datagram.specs.Routers.{Way, Ends, ToNeighbour, forwarded_by, onward, way, way_of}
 use Rattle.l3_datagram.specs.Onward.{GoesOneHopOn}
 use Rattle.l3_datagram.specs.declared.carrier.Offered.{Offered}
 use Rattle.l3_datagram.specs.declared.carrier.Offered.TheVariants as offered
@@ -24,7 +21,6 @@ use Rattle.link_table.specs.Laws.{CarriesByWeaker, CarriesWhatWasOffered}
 use Rattle.link_table.specs.Reaching.{FramesAreSpelled, IsCall}
 use Rattle.route_table.specs.Log.{Item}
 use Rattle.node_core.specs.Carried.{CarriesTraced, NamesCall, Place, brings_traced, is_borne, is_of_node, is_passed, is_sent, offers_traced, sends_in}
-use Rattle.node_turns.specs.Circuits as circuits
 use Rattle.node_turns.specs.Links as links
 use Rattle.node_turns.specs.Pumping as p
 use Rattle.node_turns.specs.States.{Settings, State, at_links, next_hop}
@@ -177,12 +173,12 @@ module _ (here : Place) (law : CarriesWhatWasOffered) (weaker : CarriesByWeaker)
     told_ok None [] e = Tells tt refl (sym e)
     told_ok None (t ∷ rest) e = first_ok t rest e
 
-    tells_ok : EachOk n (circuits.tells hop n.set)
-    unfolding circuits.tells
+    tells_ok : EachOk n (links.tells hop n.set)
+    unfolding links.tells
     tells_ok = told_ok n.set.lost n.set.untold refl
 
   told_by : (now : ℕ) (o n : State) (b : Bool) → Goes here o n → Goes here o (if b then p.tell_one now n else n)
-  told_by now o n true g = follows here o n (p.tell_one now n) g (take_goes now n n (circuits.tells (next_hop n) n.set) (itself n) (tells_ok (next_hop n) n (own_hops n)))
+  told_by now o n true g = follows here o n (p.tell_one now n) g (take_goes now n n (links.tells (next_hop n) n.set) (itself n) (tells_ok (next_hop n) n (own_hops n)))
   told_by now o n false g = g
 
   all_told : (now : ℕ) (n : State) → Goes here n (p.tell_all now n)
@@ -221,8 +217,8 @@ module _ (here : Place) (law : CarriesWhatWasOffered) (weaker : CarriesByWeaker)
     way_ok hop (ToNeighbour next d) hops is =
         (onward_traced hop next d is, λ sent x. hop_of n.set.set.own hop parcel.1 next d (head_at parcel.1.items) (λ dest e. hops sent dest next x e) is, λ answer. answered_ok (ToNeighbour next d) answer)
 
-    hears_ok : (hop : Callsign → Option Callsign) → HopsAreCalls n hop → EachOk n (circuits.hears hop now parcel n.set)
-    unfolding circuits.hears
+    hears_ok : (hop : Callsign → Option Callsign) → HopsAreCalls n hop → EachOk n (links.hears hop now parcel n.set)
+    unfolding links.hears
     hears_ok hop hops = way_ok hop (way n.set.set.own hop parcel.1) hops refl
 
     collected : Beside n (at_links collect n)
@@ -234,11 +230,11 @@ module _ (here : Place) (law : CarriesWhatWasOffered) (weaker : CarriesByWeaker)
       links = λ sent x. ((law (offers_traced here sent) (brings_traced here) (nat_eq here.size)).collects n.links x.links, (spelled here.size).collects n.links x.reaches);
     }
 
-    hears_goes : Goes here n (p.take_turn now (circuits.hears (next_hop n) now parcel n.set) (at_links collect n))
-    hears_goes = take_goes now n (at_links collect n) (circuits.hears (next_hop n) now parcel n.set) collected (hears_ok (next_hop n) (own_hops n))
+    hears_goes : Goes here n (p.take_turn now (links.hears (next_hop n) now parcel n.set) (at_links collect n))
+    hears_goes = take_goes now n (at_links collect n) (links.hears (next_hop n) now parcel n.set) collected (hears_ok (next_hop n) (own_hops n))
 
-  lost_goes : (n : State) (c : Callsign) → Goes here n (p.with_turned (circuits.hears_lost c n.set) (at_links tell_lost n))
-  unfolding circuits.hears_lost
+  lost_goes : (n : State) (c : Callsign) → Goes here n (p.with_turned (links.hears_lost c n.set) (at_links tell_lost n))
+  unfolding links.hears_lost
   lost_goes n c =
       turned_goes n (at_links tell_lost n) (pumps.hears_lost c n.set)
       (record {

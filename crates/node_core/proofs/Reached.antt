@@ -2,31 +2,27 @@
 use Rattle.std.proofs.Common.{◌≡◌, ◌∙◌, ℕ, refl, sym, ap, subst, arith, length, List, [], ◌∷◌, ◌++◌, append-nil, append_assoc}
 use Rattle.std.specs.List.{AllByRecursion}
 use Rattle.std.specs.Prelude.{Bool, true, false, ◌||◌, ◌&&◌, ◌==◌, is_none, not, nat_le, nat_lt, if◌then◌else◌, Option, Some, None, Result, Ok, Err}
-use Rattle.ax_address.specs.Callsign.{Callsign}
-use Rattle.ax_address.specs.CallOrder.{same_call}
+use Rattle.ax_address.specs.Callsign.{Callsign, same_call, ReadsCallTexts}
 use Rattle.ax_frame.specs.declared.head.Head.{Head}
 use Rattle.ax_frame.specs.declared.frame.FrameRefusal.{FrameRefusal}
-use Rattle.ax_frame.specs.Frames.{Frame}
-use Rattle.ax_frame.specs.Read.{read_head_at, read_at}
+use Rattle.ax_frame.specs.Frames.{Frame, read_head_at, read_at}
 use Rattle.circuit_l4.specs.Opening.{facts_of}
-use Rattle.circuit_l4.specs.Receiving.{inbox}
+use Rattle.circuit_l4.specs.State.{inbox}
 use Rattle.node_turns.specs.declared.session.User.{User}
 use Rattle.node_turns.specs.declared.session.User.TheVariants.{AtEnd, AtLink}
 use Rattle.circuit_set.specs.CircuitSets.{facts_at}
-use Rattle.circuit_set.specs.Inputs.{TellsLess, runs, ticks_of}
+use Rattle.circuit_set.specs.Pumps.{TellsLess, runs, ticks_of}
 use Rattle.circuit_set.specs.Sets as sets
 use Rattle.circuit_set.specs.Sets.{Act, Holder, SetDone, SetState, CircuitTold, set_step}
 use Rattle.circuit_set.specs.Standing.{take_answer}
 use Rattle.digi_path.specs.Paths.{Action, For_me, Repeat, Not_yet, Heard}
 use Rattle.kiss_framing.specs.Stream as kiss
-use Rattle.ax_address.specs.CallReading.{ReadsCallTexts}
 use Rattle.link_table.specs.Laws.{CarriesWhatWasOffered}
 use Rattle.link_table.specs.Reaching.{IsCall}
-use Rattle.link_table.specs.Payloads.{OffersLeave, TakesLower}
+use Rattle.link_table.specs.Kept.{OffersLeave, TakesLower}
 use Rattle.link_table.specs.declared.written.Written.{Written}
 use Rattle.nodes_broadcast.specs.declared.nodes.NodesRefusal.{NodesRefusal}
-use Rattle.nodes_broadcast.specs.Nodes.{Broadcast}
-use Rattle.nodes_broadcast.specs.Reading.{nodes_at}
+use Rattle.nodes_broadcast.specs.Nodes.{Broadcast, nodes_at}
 use Rattle.route_table.specs.Log as logs
 use Rattle.route_table.specs.Log.{Item}
 use Rattle.node_core.specs.declared.config.NodeConfig.{NodeConfig}
@@ -36,16 +32,15 @@ use Rattle.node_turns.specs.declared.session.Stage.{Stage}
 use Rattle.node_turns.specs.declared.session.Stage.TheVariants.{AtPrompt, Trying, Failed, Connected}
 use Rattle.node_core.specs.Bridged.{Acts, BridgedAt, Bytes, EverySession, Fetches_entry, Fetches_frame, Input, IsBounded, IsBridged, IsClosedLast, IsEndsReader, IsEndsWriter, AsksForCall, Paths, SessionsBounded, SessionsBridged, SessionsClosedLast, SessionsReadTheirEnds, SessionsWriteTheirEnds, Ticks, after, after_all}
 use Rattle.node_core.specs.Broadcasts.{is_broadcast}
-use Rattle.node_turns.specs.Circuits as circuits
+use Rattle.node_turns.specs.Links as links
 use Rattle.node_core.specs.Configs.{new_node, new_station}
 use Rattle.node_core.specs.Inputs.{after_input, after_item, after_items, moment, new_items, turns_settle}
-use Rattle.node_turns.specs.Links as links
 use Rattle.node_turns.specs.Pumping.{pump}
 use Rattle.node_core.specs.Receiving as receiving
-use Rattle.node_core.specs.Rounds as rounds
+use Rattle.node_core.specs.Broadcasts as rounds
 use Rattle.node_turns.specs.Serving.{serve_sessions}
 use Rattle.node_turns.specs.Sessions.{Session, leaves}
-use Rattle.node_turns.specs.Settling as s
+use Rattle.node_turns.specs.Serving as s
 use Rattle.node_core.specs.Standing.{IsTold}
 use Rattle.node_turns.specs.States.{NodeState, State, at_links, at_set, fetch_own, with_items}
 use Rattle.node_turns.specs.Users.{has_taken}
@@ -172,13 +167,13 @@ module _ (offers : OffersLeave) (takes : TakesLower) (less : TellsLess) (law : C
           let rest : SetDone = runs (ticks_of now hs) d.set in
           subst (λ (us : List CircuitTold). All rest.set us ss) (append_assoc ts d.told rest.told) (more d.set (ts ++ d.told) one_tick)
 
-  set_ticked : (now : ℕ) (n : State) → Fine n → Fine (at_set (circuits.ticks now) n)
-  unfolding circuits.ticks
+  set_ticked : (now : ℕ) (n : State) → Fine n → Fine (at_set (links.ticks now) n)
+  unfolding links.ticks
   set_ticked now n f = ticks_all now n.set.set.ends n.set.set n.set.untold n.sessions f
 
   tick_fine : (now : ℕ) (n : State) → Fine n → Fine (rounds.tick now n)
   tick_fine now n f =
-      let m : State = at_set (circuits.ticks now) (at_links (links.tick_links now) n) in
+      let m : State = at_set (links.ticks now) (at_links (links.tick_links now) n) in
       let g = set_ticked now (at_links (links.tick_links now) n) f in
       either m _ (m.settings.interval == 0) g (due_fine now m.next_round m g)
 

@@ -2,8 +2,7 @@
 use Rattle.std.proofs.Common.{◌≡◌, ◌<◌, ◌≤◌, ℕ, refl, arith, [], ◌∷◌, true, false}
 use Rattle.std.specs.Prelude.{Bool, IsTrue, IsErrOf, nat_lt, Ok, Err}
 use Rattle.std.proofs.lemmas.Bool.Decides.{nat_tests}
-use Rattle.ax_address.specs.Callsign.{Callsign}
-use Rattle.ax_address.specs.CallOrder.{same_call}
+use Rattle.ax_address.specs.Callsign.{Callsign, same_call}
 use Rattle.circuit_set.specs.declared.event.ConnectRefusal.{ConnectRefusal}
 use Rattle.circuit_set.specs.declared.event.ConnectRefusal.TheVariants as connecting
 use Rattle.route_table.specs.Held.{CanLock, TableRoutes, LockFault, StandsFor}
@@ -12,9 +11,8 @@ use Rattle.route_table.specs.declared.route.LockRefusal.{LockRefusal}
 use Rattle.route_table.specs.declared.route.LockRefusal.TheVariants as locking
 use Rattle.node_core.specs.declared.acts.ActDone.TheVariants.{Done}
 use Rattle.node_core.specs.declared.station.Station.{Station}
-use Rattle.node_core.specs.Acts.{lock}
+use Rattle.node_core.specs.Acts.{lock, connect_refusal, lock_refusal}
 use Rattle.node_core.specs.Receiving.{has_room}
-use Rattle.node_core.specs.Refusals.{connect_refusal, lock_refusal}
 use Rattle.node_core.specs.Going.{Answers}
 use Rattle.node_core.specs.Standing.{Holds, IsAnswer}
 use Rattle.node_turns.specs.States.{State, with_items}

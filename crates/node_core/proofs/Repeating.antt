@@ -6,8 +6,7 @@ use Rattle.std.specs.Int.Bits.{bit_and, bit_or, and_zero_r}
 use Rattle.std.proofs.lemmas.Nat.{and_block, or_disjoint}
 use Rattle.std.proofs.lemmas.List.{length-append, length-map, length-replicate}
 use Rattle.radio_base.specs.declared.payload.Payload.{Payload}
-use Rattle.ax_address.specs.Callsign.{Callsign, IsCallsign, name_in}
-use Rattle.ax_address.specs.CallOrder.{same_call}
+use Rattle.ax_address.specs.Callsign.{Callsign, IsCallsign, name_in, same_call}
 use Rattle.ax_address.specs.declared.address.Address.{Address}
 use Rattle.ax_address.specs.Octets.{address_octets, ssid_octet}
 use Rattle.ax_frame.specs.Controls.{control_octets}

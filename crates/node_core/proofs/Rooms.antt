@@ -3,15 +3,13 @@
 use Rattle.std.proofs.Common.{◌≡◌, ◌≤◌, ◌+◌, ◌∙◌, ◌⊎◌, inl, inr, ℕ, refl, sym, ap, subst, arith, append-nil, length, List, [], ◌∷◌, ◌++◌}
 use Rattle.std.specs.Prelude.{Bool, true, false, not, ◌&&◌, nat_le, nat_lt, if◌then◌else◌, Option, Some, None, Result, Ok, Err}
 use Rattle.std.proofs.lemmas.Bool.Decides.{nat_tests}
-use Rattle.ax_address.specs.Callsign.{Callsign, IsCallsign}
-use Rattle.ax_address.specs.CallOrder.{same_call}
+use Rattle.ax_address.specs.Callsign.{Callsign, IsCallsign, same_call}
 use Rattle.ax_address.proofs.NetCallLaws as net_calls
 use Rattle.circuit_l4.specs.Moves as moves
 use Rattle.circuit_l4.specs.Opening.{facts_of}
-use Rattle.circuit_l4.specs.State.{Effect, Out, State as End, begin, info_ack, is_up}
+use Rattle.circuit_l4.specs.State.{Effect, Out, State as End, begin, info_ack, is_up, Appended, Receiving, inbox}
 use Rattle.circuit_l4.specs.Table as ends
-use Rattle.circuit_l4.specs.Receiving as r
-use Rattle.circuit_l4.specs.Receiving.{Appended, Receiving, inbox}
+use Rattle.circuit_l4.specs.State as r
 use Rattle.circuit_l4.specs.Transports.{transport_octets}
 use Rattle.circuit_l4.specs.declared.notice.EndNotice.{EndNotice}
 use Rattle.circuit_l4.specs.declared.notice.EndNotice.TheVariants.{FailedOversize}
@@ -21,8 +19,7 @@ use Rattle.circuit_set.specs.Pumps.{Offers, Says, Turn, Waiting}
 use Rattle.circuit_set.specs.Sets as sets
 use Rattle.circuit_set.specs.Sets.{Holder, SetState, CircuitTold}
 use Rattle.circuit_set.specs.Standing as answers
-use Rattle.l3_datagram.specs.CarrierCall.{Datagram}
-use Rattle.l3_datagram.specs.Datagrams.{head_at, octets_with}
+use Rattle.l3_datagram.specs.Datagrams.{Datagram, head_at, octets_with}
 use Rattle.l3_datagram.specs.declared.carrier.Offered.{Offered}
 use Rattle.l3_datagram.specs.declared.datagram.DatagramHead.{DatagramHead}
 use Rattle.l3_datagram.specs.declared.datagram.DatagramRefusal.{DatagramRefusal}
@@ -32,7 +29,6 @@ use Rattle.link_table.specs.Table.{Linked, Table}
 use Rattle.link_table.specs.Texts.{room_of}
 use Rattle.link_table.proofs.Rooms.{offers_take_one, room_takes_texts}
 use Rattle.route_table.specs.Log.{Item}
-use Rattle.node_turns.specs.Circuits as circuits
 use Rattle.node_turns.specs.Links as links
 use Rattle.node_turns.specs.Pumping as p
 use Rattle.node_turns.specs.States.{State, at_set, next_hop}
@@ -106,8 +102,8 @@ module _ (hop : Callsign → Option Callsign) (peer : Callsign) where
   told_fits set [] None = (refl, omega arith)
   told_fits set (t ∷ ts) None = first_fits set t ts
 
-  tells_fits : (w : Waiting) → Fits hop peer (loads hop peer w.untold) (circuits.tells hop w)
-  unfolding circuits.tells
+  tells_fits : (w : Waiting) → Fits hop peer (loads hop peer w.untold) (links.tells hop w)
+  unfolding links.tells
   tells_fits w = told_fits w.set w.untold w.lost
 
 module _ (peer : Callsign) (now : ℕ) where
@@ -125,7 +121,7 @@ module _ (peer : Callsign) (now : ℕ) where
       subst (λ (log : List Item). 33 + loads (next_hop (record n { log = log })) peer u.after.untold ≤ links.room peer (links.offer to d now n.links)) (sym same) fits
 
   tell_by : (n : State) (b : Bool) → HasRoom peer n → HasRoom peer (if b then p.tell_one now n else n)
-  tell_by n true room = turn_room n (loads (next_hop n) peer n.set.untold) (circuits.tells (next_hop n) n.set) (tells_fits (next_hop n) peer n.set) room
+  tell_by n true room = turn_room n (loads (next_hop n) peer n.set.untold) (links.tells (next_hop n) n.set) (tells_fits (next_hop n) peer n.set) room
   tell_by n false room = room
 
   -- where nothing waits at the router
@@ -213,8 +209,8 @@ module _ (now id : ℕ) (n : State) (peer : Callsign) (named : AreNamed n.set.se
       held false f = outs_load (next_hop n) peer set h g.outs g.notes (sets.is_over g.end) named.0 at (takes_few h.end now) g.end
 
   took_room : n.set.untold ≡ [] → users.has_taken (answers.take_answer (users.end_at id n)) ≡ true → users.link_has_room_beside peer id n ≡ true
-      → HasRoom peer (at_set (circuits.acts (sets.Calls id sets.Takes now)) n)
-  unfolding circuits.acts
+      → HasRoom peer (at_set (links.acts (sets.Calls id sets.Takes now)) n)
+  unfolding links.acts
   took_room none t room =
       let o = users.end_at id n in
       let told : List CircuitTold = (sets.after_call set o sets.Takes now).told in
@@ -223,8 +219,8 @@ module _ (now id : ℕ) (n : State) (peer : Callsign) (named : AreNamed n.set.se
       subst (λ (ts : List CircuitTold). 33 + loads (next_hop n) peer (ts ++ told) ≤ links.room peer n.links) (sym none) (omega (arith, few, fits))
 
   pub room_after : p.at_router n ≡ 0 → n.set.untold ≡ [] → users.has_taken (answers.take_answer (users.end_at id n)) ≡ true → users.link_has_room_beside peer id n ≡ true
-      → 33 ≤ links.room peer (p.pump now (at_set (circuits.acts (sets.Calls id sets.Takes now)) n)).links
-  room_after router none t room = let has = dry_room peer now (at_set (circuits.acts (sets.Calls id sets.Takes now)) n) router (took_room none t room) in omega (arith, has)
+      → 33 ≤ links.room peer (p.pump now (at_set (links.acts (sets.Calls id sets.Takes now)) n)).links
+  room_after router none t room = let has = dry_room peer now (at_set (links.acts (sets.Calls id sets.Takes now)) n) router (took_room none t room) in omega (arith, has)
 
 -- ---- a text
 
@@ -242,8 +238,8 @@ weighs (sets.Gone id facts) = omega arith
 weighs (sets.Restarted pair) = omega arith
 weighs (sets.Lost id facts) = omega arith
 
-pub none_untold : (w : Waiting) → circuits.pending w ≡ 0 → w.untold ≡ []
-unfolding circuits.pending
+pub none_untold : (w : Waiting) → links.pending w ≡ 0 → w.untold ≡ []
+unfolding links.pending
 none_untold w e = by w.untold (omega (arith, e))
   where
     by : (ts : List CircuitTold) → pumps.weights ts ≤ 0 → ts ≡ []

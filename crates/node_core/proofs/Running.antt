@@ -1,15 +1,12 @@
 -- Each input of a node is inputs of its circuits.
 use Rattle.std.proofs.Common.{◌≡◌, ◌∙◌, ℕ, refl, sym, ap, subst, List, [], ◌∷◌, ◌++◌, append-nil}
 use Rattle.std.specs.Prelude.{Bool, true, false, if◌then◌else◌, map, ◌&&◌, ◌==◌, length, Result, Ok, Err}
-use Rattle.ax_address.specs.Callsign.{Callsign}
-use Rattle.ax_address.specs.CallOrder.{same_call}
+use Rattle.ax_address.specs.Callsign.{Callsign, same_call, ReadsCallTexts}
 use Rattle.ax_frame.specs.declared.head.Head.{Head}
 use Rattle.ax_frame.specs.declared.frame.FrameRefusal.{FrameRefusal}
-use Rattle.ax_frame.specs.Frames.{Frame}
-use Rattle.ax_frame.specs.Read.{read_head_at, read_at}
+use Rattle.ax_frame.specs.Frames.{Frame, read_head_at, read_at}
 use Rattle.ax_link.specs.declared.notice.LinkNotice.{LinkNotice}
-use Rattle.circuit_set.specs.Inputs.{runs}
-use Rattle.circuit_set.specs.Pumps.{Waiting, at_rest}
+use Rattle.circuit_set.specs.Pumps.{runs, Waiting, at_rest}
 use Rattle.circuit_set.specs.Sets as sets
 use Rattle.circuit_set.specs.Sets.{Act, SetState, CircuitTold}
 use Rattle.circuit_set.specs.Standing.{write_answer}
@@ -18,35 +15,29 @@ use Rattle.digi_path.specs.Paths.{Action, For_me, Repeat, Not_yet, Heard}
 use Rattle.kiss_framing.specs.Stream as kiss
 use Rattle.link_table.specs.declared.written.Written.{Written}
 use Rattle.nodes_broadcast.specs.declared.nodes.NodesRefusal.{NodesRefusal}
-use Rattle.nodes_broadcast.specs.Nodes.{Broadcast}
-use Rattle.nodes_broadcast.specs.Reading.{nodes_at}
-use Rattle.route_table.specs.Broadcast.{to_broadcast}
+use Rattle.nodes_broadcast.specs.Nodes.{Broadcast, nodes_at}
+use Rattle.route_table.specs.Table.{to_broadcast, usable}
 use Rattle.route_table.specs.Log as logs
 use Rattle.route_table.specs.Log.{Item, broadcast}
-use Rattle.route_table.specs.Table.{usable}
 use Rattle.node_core.specs.declared.acts.ActRefusal.TheVariants as refusal
 use Rattle.node_core.specs.Acts as acts
-use Rattle.node_core.specs.Acts.{Answered}
+use Rattle.node_core.specs.Acts.{Answered, UserAct}
 use Rattle.node_core.specs.Broadcasts.{is_broadcast, round_frames}
-use Rattle.node_turns.specs.Circuits as circuits
+use Rattle.node_turns.specs.Links as links
 use Rattle.node_core.specs.Inputs.{after_input, after_item, after_items, moment, new_items}
 use Rattle.node_core.specs.Laws.{NothingLeftAfterInputs}
-use Rattle.node_turns.specs.Links as links
 use Rattle.node_core.specs.Receiving as receiving
-use Rattle.node_core.specs.Rounds as rounds
+use Rattle.node_core.specs.Broadcasts as rounds
 use Rattle.node_core.specs.Runs.{ActsRun, BytesRun, IsUserAct, MadeFrom, RunsBy, TicksRun, circuits_told, user_writes, write_in}
-use Rattle.node_turns.specs.Settling as s
+use Rattle.node_turns.specs.Serving as s
 use Rattle.node_core.specs.Standing.{IsTold}
 use Rattle.node_turns.specs.States.{Of_link, Overflow, Settings, State, at_links, at_set, put, with_items}
-use Rattle.node_core.specs.UserActs as user
-use Rattle.node_core.specs.UserActs.{UserAct}
 use Rattle.node_core.proofs.Inputs.{are_acts, are_up, retold, stays, ticks_went}
 use Rattle.node_core.proofs.Making.{runs_ok}
 use Rattle.node_core.proofs.Nodes.{items_told, told_after}
 use Rattle.node_core.proofs.Coming.{Came, act_came, either, pumped_came, same_came, still, then_came}
 use Rattle.node_core.proofs.Served.{IsAsking, Serves, served_on}
 use Rattle.node_core.proofs.Walking.{Parts, ServesSo, do_by, settled_by, tick_by}
-use Rattle.ax_address.specs.CallReading.{ReadsCallTexts}
 use Rattle.node_turns.specs.Users.{at_session}
 use Rattle.node_turns.specs.Serving.{drop_over, greet_links, serve_sessions}
 
@@ -74,7 +65,7 @@ round_came n =
     let fs = round_frames m.settings.call m.settings.alias (to_broadcast m.settings.rules m.log) in
     then_came [] [] n m (rounds.put_all fs m) (same_came n m refl refl refl) (frames_came fs m)
 
-asked_came : (a : Act) (n : State) → IsAsking a → Came (write_in a) n (at_set (circuits.acts a) n)
+asked_came : (a : Act) (n : State) → IsAsking a → Came (write_in a) n (at_set (links.acts a) n)
 asked_came (sets.Connect dest now) n i = act_came (sets.Connect dest now) n i
 asked_came (sets.Comes datagram now) n i = absurd i
 asked_came (sets.Calls id call now) n i = act_came (sets.Calls id call now) n tt
@@ -152,23 +143,23 @@ module _ (reads : ReadsCallTexts) where
 
 -- an act, before the node settles
 write_case : (now id : ℕ) (message : List ℕ) (n : State) (r : Result (Unit {0}) SetRefusal)
-    → (let a : Answered = acts.write_by r (sets.Calls id (sets.Writes message) now) n in CameBy (user_writes now (user.Write id message) a.answer) n a.node)
+    → (let a : Answered = acts.write_by r (sets.Calls id (sets.Writes message) now) n in CameBy (user_writes now (acts.Write id message) a.answer) n a.node)
 write_case now id message n (Ok _) = record { some = sets.Calls id (sets.Writes message) now ∷ []; came = act_came (sets.Calls id (sets.Writes message) now) n tt; off = λ e. refl }
 write_case now id message n (Err why) = silent n n (still n)
 
-unless_case : (now id : ℕ) (message : List ℕ) (n : State) (b : Bool) (a : Answered) → CameBy (user_writes now (user.Write id message) a.answer) n a.node
-    → (let c : Answered = if b then acts.refuse refusal.Served n else a in CameBy (user_writes now (user.Write id message) c.answer) n c.node)
+unless_case : (now id : ℕ) (message : List ℕ) (n : State) (b : Bool) (a : Answered) → CameBy (user_writes now (acts.Write id message) a.answer) n a.node
+    → (let c : Answered = if b then acts.refuse refusal.Served n else a in CameBy (user_writes now (acts.Write id message) c.answer) n c.node)
 unless_case now id message n true a c = silent n n (still n)
 unless_case now id message n false a c = c
 
 done_by : (now : ℕ) (act : UserAct) (n : State) → IsUserAct act → CameBy (user_writes now act (acts.do_act now act n).answer) n (acts.do_act now act n).node
-done_by now user.Round n i = do_by (CameBy []) AnyItem parts now user.Round n i tt tt
-done_by now (user.LinkFail peer) n i = do_by (CameBy []) AnyItem parts now (user.LinkFail peer) n i tt tt
-done_by now (user.Lock dest alias neighbour quality) n i = do_by (CameBy []) AnyItem parts now (user.Lock dest alias neighbour quality) n i tt tt
-done_by now (user.Connect dest) n i = do_by (CameBy []) AnyItem parts now (user.Connect dest) n i tt tt
-done_by now (user.Write id message) n i = unless_case now id message n (acts.is_kept id n) (acts.write now id message n) (write_case now id message n (write_answer (sets.end_of id n.set.set.ends) message))
-done_by now (user.Take id) n i = do_by (CameBy []) AnyItem parts now (user.Take id) n i tt tt
-done_by now (user.Close id) n i = do_by (CameBy []) AnyItem parts now (user.Close id) n i tt tt
+done_by now acts.Round n i = do_by (CameBy []) AnyItem parts now acts.Round n i tt tt
+done_by now (acts.LinkFail peer) n i = do_by (CameBy []) AnyItem parts now (acts.LinkFail peer) n i tt tt
+done_by now (acts.Lock dest alias neighbour quality) n i = do_by (CameBy []) AnyItem parts now (acts.Lock dest alias neighbour quality) n i tt tt
+done_by now (acts.Connect dest) n i = do_by (CameBy []) AnyItem parts now (acts.Connect dest) n i tt tt
+done_by now (acts.Write id message) n i = unless_case now id message n (acts.is_kept id n) (acts.write now id message n) (write_case now id message n (write_answer (sets.end_of id n.set.set.ends) message))
+done_by now (acts.Take id) n i = do_by (CameBy []) AnyItem parts now (acts.Take id) n i tt tt
+done_by now (acts.Close id) n i = do_by (CameBy []) AnyItem parts now (acts.Close id) n i tt tt
 
 -- ---- KISS items
 

@@ -2,18 +2,17 @@
 -- that is done for them.
 use Rattle.std.proofs.Common.{◌≡◌, ℕ, zero, suc, refl, List, [], ◌∷◌}
 use Rattle.std.specs.Prelude.{Bool, true, false, if◌then◌else◌, not, ◌&&◌, length, map, nat_lt, Option, Some, None, Result, Ok, Err}
-use Rattle.ax_address.specs.CallReading.{ReadsCallTexts, call_at}
-use Rattle.ax_address.specs.Callsign.{Callsign, IsCallsign}
+use Rattle.ax_address.specs.Callsign.{ReadsCallTexts, call_at, Callsign, IsCallsign}
 use Rattle.ax_address.specs.declared.call.CallRefusal.{CallRefusal}
 use Rattle.circuit_set.specs.declared.event.ConnectRefusal.{ConnectRefusal}
 use Rattle.circuit_set.specs.declared.event.SetRefusal.{SetRefusal}
-use Rattle.circuit_set.specs.Inputs.{connect_answer}
+use Rattle.circuit_set.specs.Pumps.{connect_answer}
 use Rattle.circuit_set.specs.Sets as sets
 use Rattle.circuit_set.specs.Standing as answers
 use Rattle.link_table.specs.declared.text_refusal.TextRefusal.{TextRefusal}
 use Rattle.node_prompt.specs.Commands as commands
-use Rattle.node_prompt.specs.Words.{capital, words_of}
-use Rattle.node_prompt.specs.Prompts.{Prompt}
+use Rattle.node_prompt.specs.Commands.{capital, words_of}
+use Rattle.node_prompt.specs.Replies.{Prompt}
 use Rattle.node_prompt.specs.Replies as texts
 use Rattle.node_prompt.specs.declared.action.Action.{Action}
 use Rattle.node_prompt.specs.declared.action.Action.TheVariants as action
@@ -21,7 +20,7 @@ use Rattle.node_prompt.specs.declared.command.Command.{Command}
 use Rattle.node_prompt.specs.declared.command.Command.TheVariants as command
 use Rattle.node_prompt.specs.declared.command.LineRefusal.{LineRefusal}
 use Rattle.node_prompt.specs.declared.command.LineRefusal.TheVariants.{TooLong}
-use Rattle.node_turns.specs.Circuits as circuits
+use Rattle.node_turns.specs.Links as links
 use Rattle.node_prompt.specs.declared.command.Verb.{Verb}
 use Rattle.node_prompt.specs.declared.command.Verb.TheVariants as verb
 use Rattle.node_turns.specs.declared.session.Circuit.{Circuit}
@@ -32,14 +31,13 @@ use Rattle.node_turns.specs.declared.session.User.{User}
 use Rattle.node_turns.specs.declared.session.User.TheVariants.{AtEnd, AtLink}
 use Rattle.node_turns.specs.Asking as asking
 use Rattle.node_turns.specs.Bridging as bridging
-use Rattle.node_turns.specs.Links as links
 use Rattle.node_turns.specs.Pumping.{pump}
 use Rattle.node_turns.specs.Serving as serving
 use Rattle.node_turns.specs.Sessions.{Session}
 use Rattle.node_turns.specs.States.{State, at_links, at_set, next_hop}
 use Rattle.node_turns.specs.Turns.{Turn, or_else}
 use Rattle.node_turns.specs.Users as users
-use Rattle.node_turns.specs.Views.{view}
+use Rattle.node_turns.specs.Asking.{view}
 use Rattle.node_turns.specs.Users.{at_session, session_at}
 
 -- what a user asks the circuits for
@@ -61,7 +59,7 @@ pub record Serves (P : State → State → Type 0) : Type 0 where
   pub changes : (nth : ℕ) (step : Session → Session) (n : State) → KeepsUser step → P n (at_session nth step n)
   pub greets : (n : State) → P n (serving.greet_links n)
   pub drops : (n : State) → P n (serving.drop_over n)
-  pub acts : (a : sets.Act) (n : State) → IsAsking a → P n (at_set (circuits.acts a) n)
+  pub acts : (a : sets.Act) (n : State) → IsAsking a → P n (at_set (links.acts a) n)
   pub pumps : (now : ℕ) (n : State) → P n (pump now n)
   pub takes_text : (peer : Callsign) (now : ℕ) (n : State) → P n (at_links (links.take_text peer now) n)
   pub sends_text : (peer : Callsign) (text : List ℕ) (now : ℕ) (n : State) → P n (at_links (links.send_text peer text now) n)
@@ -149,7 +147,7 @@ module _ (P : State → State → Type 0) (w : Serves P) (reads : ReadsCallTexts
   -- ---- calls of the circuits
 
   acts_on : (now : ℕ) (a : sets.Act) (n : State) → IsAsking a → P n (users.acts now a n)
-  acts_on now a n i = let m : State = at_set (circuits.acts a) n in w.follows n m (users.acts now a n) (w.acts a n i) (w.pumps now m)
+  acts_on now a n i = let m : State = at_set (links.acts a) n in w.follows n m (users.acts now a n) (w.acts a n i) (w.pumps now m)
 
   -- behind a change of a session
   behind : (nth : ℕ) (step : Session → Session) (n m : State) → KeepsUser step → P (at_session nth step n) m → P n m
@@ -194,7 +192,7 @@ module _ (P : State → State → Type 0) (w : Serves P) (reads : ReadsCallTexts
 
   from_end_on : (now nth id : ℕ) (n : State) → TurnOn n (users.take_from_end now nth id n)
   from_end_on now nth id n =
-      let m : State = at_set (circuits.acts (sets.Calls id sets.Takes now)) n in
+      let m : State = at_set (links.acts (sets.Calls id sets.Takes now)) n in
       let step = users.with_text (answers.message_at [] (users.end_at id n)) in
       let b : State = at_session nth step m in
       take_if_on (users.has_taken (answers.take_answer (users.end_at id n))) (pump now b) n

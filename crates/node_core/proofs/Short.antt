@@ -5,22 +5,20 @@ use Rattle.std.specs.Prelude.{Bool, true, false, ◌&&◌, ◌||◌, ◌==◌, n
 use Rattle.std.proofs.lemmas.Bool.Decides.{nat_tests}
 use Rattle.arrayvec.specs.ArrayVec.{ArrayVec}
 use Rattle.radio_base.specs.declared.payload.Payload.{Payload}
-use Rattle.ax_address.specs.Callsign.{Callsign}
-use Rattle.ax_address.specs.CallOrder.{same_call}
+use Rattle.ax_address.specs.Callsign.{Callsign, same_call}
 use Rattle.ax_address.specs.declared.address.Address.{Address}
 use Rattle.ax_frame.specs.declared.control.Control.{Control}
 use Rattle.ax_frame.specs.declared.control.Control.TheVariants as control
 use Rattle.ax_frame.specs.declared.frame.FrameRefusal.{FrameRefusal}
 use Rattle.ax_frame.specs.declared.head.Head.{Head}
-use Rattle.ax_frame.specs.Frames.{Frame}
-use Rattle.ax_frame.specs.Read.{read_at, read_head_at}
+use Rattle.ax_frame.specs.Frames.{Frame, read_at, read_head_at}
 use Rattle.ax_link.specs.Kinds.{payload_of}
-use Rattle.ax_link.specs.Outputs.{Has}
+use Rattle.ax_link.specs.Bounds.{Has}
 use Rattle.ax_segment.specs.Joining.{Answer, HeldMessage, More, Whole, Short, Broken, join_step, whole_of}
 use Rattle.circuit_set.specs.Sets as sets
 use Rattle.digi_path.specs.Paths.{Action, For_me, Repeat, Not_yet, Heard, action}
 use Rattle.kiss_framing.specs.Stream as kiss
-use Rattle.l3_datagram.specs.CarrierCall.{Datagram}
+use Rattle.l3_datagram.specs.Datagrams.{Datagram}
 use Rattle.link_table.specs.Calls as calls
 use Rattle.link_table.specs.Frames.{plain_text, segmented}
 use Rattle.link_table.specs.Laws.{Carries, CarriesOn, CarriesWhatWasOffered, LinkHolds}
@@ -29,29 +27,26 @@ use Rattle.link_table.specs.Table.{Linked, Table, link_with}
 use Rattle.link_table.specs.Texts as texts
 use Rattle.link_table.specs.Works.{is_text, text_by}
 use Rattle.link_table.specs.declared.written.Written.{Written}
-use Rattle.route_table.specs.Broadcast.{to_broadcast}
+use Rattle.route_table.specs.Table.{to_broadcast}
 use Rattle.route_table.specs.Log as logs
 use Rattle.route_table.specs.Log.{Item}
 use Rattle.node_core.specs.declared.config.NodeConfig.{NodeConfig}
 use Rattle.circuit_set.specs.declared.event.ConnectRefusal.{ConnectRefusal}
 use Rattle.circuit_set.specs.declared.event.SetRefusal.{SetRefusal}
-use Rattle.circuit_set.specs.Inputs.{connect_answer}
+use Rattle.circuit_set.specs.Pumps.{connect_answer}
 use Rattle.circuit_set.specs.Sets.{Act}
 use Rattle.circuit_set.specs.Standing.{write_answer}
 use Rattle.nodes_broadcast.specs.declared.nodes.NodesRefusal.{NodesRefusal}
-use Rattle.nodes_broadcast.specs.Nodes.{Broadcast}
-use Rattle.nodes_broadcast.specs.Reading.{nodes_at}
+use Rattle.nodes_broadcast.specs.Nodes.{Broadcast, nodes_at}
 use Rattle.node_core.specs.Acts as acts
-use Rattle.node_core.specs.Acts.{Answered}
-use Rattle.node_core.specs.UserActs as user
-use Rattle.node_core.specs.UserActs.{UserAct}
+use Rattle.node_core.specs.Acts.{Answered, UserAct}
 use Rattle.node_core.specs.Broadcasts.{is_broadcast, round_frames}
 use Rattle.node_core.specs.Configs.{new_station}
 use Rattle.node_turns.specs.Links as links
 use Rattle.node_turns.specs.Pumping.{pump}
 use Rattle.node_core.specs.Receiving as receiving
-use Rattle.node_core.specs.Rounds as rounds
-use Rattle.node_turns.specs.Settling as s
+use Rattle.node_core.specs.Broadcasts as rounds
+use Rattle.node_turns.specs.Serving as s
 use Rattle.node_turns.specs.States.{State, at_links, fetch_own, next_hop, put, with_items}
 use Rattle.node_core.proofs.Pumped.{pump_links}
 use Rattle.node_core.proofs.Served.{Serves}
@@ -276,17 +271,17 @@ module _ (law : CarriesWhatWasOffered) where
   writes (Err why) a n c = c
 
   pub act_short : (now : ℕ) (act : UserAct) (n : State) → IsShort n.links → IsShort (acts.do_act now act n).node.links
-  act_short now user.Round n c = rounds_on n c
-  act_short now (user.LinkFail peer) n c = breaks peer n.links c
-  act_short now (user.Lock dest alias neighbour quality) n c =
+  act_short now acts.Round n c = rounds_on n c
+  act_short now (acts.LinkFail peer) n c = breaks peer n.links c
+  act_short now (acts.Lock dest alias neighbour quality) n c =
       either_node _ _ (same_call dest n.settings.call) c
       (either_node _ _ (nat_lt quality n.settings.rules.minq) c
       (either_node (acts.answer_done (with_items (logs.Lock dest alias neighbour quality ∷ []) n)) _ (receiving.has_room (logs.Lock dest alias neighbour quality ∷ []) n) c c))
-  act_short now (user.Connect dest) n c = connects (connect_answer (next_hop n) dest n.set.set) (sets.Connect dest now) n c
-  act_short now (user.Write id message) n c =
+  act_short now (acts.Connect dest) n c = connects (connect_answer (next_hop n) dest n.set.set) (sets.Connect dest now) n c
+  act_short now (acts.Write id message) n c =
       either_node _ _ (acts.is_kept id n) c (writes (write_answer (sets.end_of id n.set.set.ends) message) (sets.Calls id (sets.Writes message) now) n c)
-  act_short now (user.Take id) n c = either_node _ _ (acts.is_kept id n) c c
-  act_short now (user.Close id) n c = either_node _ _ (acts.is_kept id n) c c
+  act_short now (acts.Take id) n c = either_node _ _ (acts.is_kept id n) c c
+  act_short now (acts.Close id) n c = either_node _ _ (acts.is_kept id n) c c
 
   -- ---- what is set, and fetched; and a node as it starts
 

@@ -11,8 +11,7 @@ use Rattle.ax_frame.specs.declared.control.Control.TheVariants as control
 use Rattle.ax_frame.specs.declared.frame.FrameRefusal.{FrameRefusal}
 use Rattle.ax_frame.specs.declared.head.Head.{Head}
 use Rattle.ax_frame.specs.Controls.{IsLinkModulus, NumbersFit, control_octets, format_of}
-use Rattle.ax_frame.specs.Frames.{Frame, HeadWithoutFault, IsAddress, addresses, addresses_octets, frame, frame_octets, pid_octets, Spells}
-use Rattle.ax_frame.specs.Read.{SpelledHeadIsRead, SpelledIsRead, head_in, read_at, read_head_at}
+use Rattle.ax_frame.specs.Frames.{Frame, HeadWithoutFault, IsAddress, addresses, addresses_octets, frame, frame_octets, pid_octets, Spells, SpelledHeadIsRead, SpelledIsRead, head_in, read_at, read_head_at}
 use Rattle.ax_frame.specs.Reading.{control_at, control_from, control_or_short, field_end, frame_at, has_code, head_end, numbered, pid_at, poll_bit, supervisory, unnumbered}
 use Rattle.ax_link.specs.Kinds.{payload_of}
 use Rattle.link_table.specs.Calls.{set_up_size}

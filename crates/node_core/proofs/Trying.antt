@@ -3,12 +3,11 @@ use Rattle.std.proofs.Common.{◌≡◌, ◌≤◌, ◌<◌, ◌+◌, ◌∙◌,
 use Rattle.std.specs.Prelude.{Bool, true, false, ◌||◌, ◌&&◌, min, nat_eq, is_none, if◌then◌else◌, Option, Some, None, Result, Ok, Err}
 use Rattle.std.proofs.lemmas.Bool.{eq-eqb}
 use Rattle.std.proofs.lemmas.Bool.Decides.{nat_tests}
-use Rattle.ax_address.specs.Callsign.{Callsign}
-use Rattle.ax_address.specs.CallOrder.{same_call}
+use Rattle.ax_address.specs.Callsign.{Callsign, same_call}
 use Rattle.radio_base.specs.declared.modulus.TheConstants.{COUNT_MAX}
 use Rattle.circuit_l4.specs.Opening.{requesting}
 use Rattle.circuit_l4.specs.State.{Effect}
-use Rattle.circuit_set.specs.Inputs.{connect_answer}
+use Rattle.circuit_set.specs.Pumps.{connect_answer}
 use Rattle.circuit_set.specs.Sets as sets
 use Rattle.circuit_set.specs.Sets.{SetDone, SetState, CircuitTold, set_step}
 use Rattle.circuit_set.specs.declared.event.ConnectRefusal.{ConnectRefusal}
@@ -19,7 +18,7 @@ use Rattle.node_turns.specs.declared.session.Reply.{Reply}
 use Rattle.node_turns.specs.declared.session.Stage.TheVariants.{AtPrompt}
 use Rattle.node_turns.specs.Asking as asking
 use Rattle.node_turns.specs.Bridging as bridging
-use Rattle.node_turns.specs.Circuits as circuits
+use Rattle.node_turns.specs.Links as circuits
 use Rattle.node_core.specs.Runs.{MadeFrom}
 use Rattle.node_turns.specs.Sessions.{Session}
 use Rattle.node_turns.specs.States.{State, at_set, next_hop}

@@ -4,11 +4,9 @@ use Rattle.std.specs.List.{AllByRecursion}
 use Rattle.std.specs.Prelude.{Bool, true, false, if◌then◌else◌, not, ◌&&◌, ◌||◌, ◌+◌, ◌-◌, ◌^◌, min, is_ok, nat_eq, nat_le, nat_lt, Option, Some, None, Result, Ok, Err}
 use Rattle.radio_base.specs.Modulus.{place_of}
 use Rattle.circuit_l4.specs.Moves as m
-use Rattle.circuit_l4.specs.State.{Effect, State, begin, is_up}
+use Rattle.circuit_l4.specs.State.{Effect, State, begin, is_up, Appended, Receipt, Receiving, inbox, written}
 use Rattle.circuit_l4.specs.Table as t
-use Rattle.circuit_l4.specs.Receiving as r
-use Rattle.circuit_l4.specs.Receiving.{Appended, Receipt, Receiving, inbox}
-use Rattle.circuit_l4.specs.Sending.{written}
+use Rattle.circuit_l4.specs.State as r
 use Rattle.circuit_l4.specs.declared.role.Role.{Role}
 use Rattle.circuit_l4.specs.declared.role.Role.TheVariants.{Requester, Responder}
 use Rattle.circuit_l4.specs.declared.piece.Piece.{Piece}

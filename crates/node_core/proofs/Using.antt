@@ -4,19 +4,17 @@ use Rattle.std.specs.Prelude.{Bool, true, false, OnOk, OnErr, is_some, unwrap_or
 use Rattle.ax_address.specs.Callsign.{Callsign}
 use Rattle.circuit_set.specs.CircuitSets as sets
 use Rattle.circuit_set.specs.CircuitSets.{Circuits, SetStands}
-use Rattle.circuit_set.specs.Inputs as inputs
+use Rattle.circuit_set.specs.Pumps as inputs
 use Rattle.circuit_set.specs.Pumps.{Waiting, at_rest}
 use Rattle.circuit_set.specs.Sets as s
 use Rattle.circuit_set.specs.declared.event.SetRefusal.{SetRefusal}
 use Rattle.circuit_set.specs.Standing as answers
-use Rattle.link_table.specs.Sending as sending
-use Rattle.link_table.specs.Standing.{TableView as Kept, TableGoes, TableStands, TextNotNoMemory, text_given}
 use Rattle.link_table.specs.Texts as texts
+use Rattle.link_table.specs.Standing.{TableView as Kept, TableGoes, TableStands, TextNotNoMemory, text_given}
 use Rattle.link_table.specs.Table.{Table}
 use Rattle.link_table.specs.declared.text_refusal.TextRefusal.{TextRefusal}
 use Rattle.l3_datagram.specs.Routers.{Routing}
 use Rattle.node_core.specs.declared.station.Station.{Station}
-use Rattle.node_turns.specs.Circuits as circuits
 use Rattle.node_turns.specs.Links as links
 use Rattle.node_core.specs.Going.{HoldsTold, StandsTold}
 use Rattle.node_core.specs.Standing.{Holds, IsTold}
@@ -33,8 +31,8 @@ drained s t = told_is_drained s.set t.0 (t.1.0.parts.set, t.1.1)
 pub resting : (s : Station) (n : State) → HoldsTold s n → SetStands s.set (at_rest n.set.set)
 resting s n t = subst (SetStands s.set) t.1 t.0.parts.set
 
-pub set_acts : (a : s.Act) (st : Station) (new : Circuits Kept) → sets.GoesBy a st.set new → (n : State) → HoldsTold st n → Holds (record st { set = new }) (at_set (circuits.acts a) n)
-unfolding circuits.acts
+pub set_acts : (a : s.Act) (st : Station) (new : Circuits Kept) → sets.GoesBy a st.set new → (n : State) → HoldsTold st n → Holds (record st { set = new }) (at_set (links.acts a) n)
+unfolding links.acts
 set_acts a st new goes n t = set_steps (inputs.acts a) st new goes n t.0 t.1
 
 pub written_holds : (r : Result (Unit {0}) SetRefusal) (a : s.Act) (st : Station) (new : Circuits Kept) → OnOk r (sets.GoesBy a st.set new) → OnErr r (sets.IsUnchanged st.set new)
@@ -46,16 +44,16 @@ written_holds (Err why) a st new goes same n t = set_unchanged st new same n t.0
 pub not_taken : (st : Station) (new : Circuits Kept) (id now : ℕ) (n : State) → HoldsTold st n → sets.GoesBy (s.Calls id s.Takes now) st.set new → users.has_taken (answers.take_answer (users.end_at id n)) ≡ false
     → Holds (record st { set = new }) n
 not_taken st new id now n t goes none =
-    let same : at_set (circuits.acts (s.Calls id s.Takes now)) n ≡ n =
-    ap (λ (w : Waiting). record n { set = w }) (ap (circuits.acts (s.Calls id s.Takes now)) t.1 ∙ (take_nothing st.set n.set.set id now (resting st n t) none ∙ sym t.1)) in
+    let same : at_set (links.acts (s.Calls id s.Takes now)) n ≡ n =
+    ap (λ (w : Waiting). record n { set = w }) (ap (links.acts (s.Calls id s.Takes now)) t.1 ∙ (take_nothing st.set n.set.set id now (resting st n t) none ∙ sym t.1)) in
     subst (Holds (record st { set = new })) same (set_acts (s.Calls id s.Takes now) st new goes n t)
 
 -- a text was sent over a link, or refused
 pub sent_holds : (r : Result (Unit {0}) TextRefusal) (st : Station) (rt : Routing Kept) (old new : Kept) (peer : Callsign) (text : List ℕ) (now : ℕ) → rt ≡ st.set.router → old ≡ rt.carrier
-    → TextNotNoMemory r → OnOk r (TableGoes (sending.send_text peer text now) old new) → OnErr r (TextNotNoMemory r → new ≡ old)
+    → TextNotNoMemory r → OnOk r (TableGoes (texts.send_text peer text now) old new) → OnErr r (TextNotNoMemory r → new ≡ old)
     → (n : State) → Holds st n → Holds (with_carrier st rt new) (users.send_if_ok r peer text now n)
 unfolding links.send_text
-sent_holds (Ok u) st rt old new peer text now e f known goes same n h = links_go (sending.send_text peer text now) st rt old new e f goes n h
+sent_holds (Ok u) st rt old new peer text now e f known goes same n h = links_go (texts.send_text peer text now) st rt old new e f goes n h
 sent_holds (Err why) st rt old new peer text now e f known goes same n h =
     links_go (λ (t : Table). t) st rt old new e f (λ t s. subst (λ (k : Kept). TableStands k t) (sym (same known)) s) n h
 

@@ -4,11 +4,10 @@ use Rattle.std.specs.List.{AllByRecursion}
 use Rattle.std.specs.Prelude.{Bool, true, false, not, ◌||◌, ◌&&◌, filter, is_none, is_some, nat_eq, nat_le, nat_lt, if◌then◌else◌, Option, Some, None}
 use Rattle.std.specs.Cmp.Lexicographic.{pointwise}
 use Rattle.std.proofs.lemmas.Bool.Decides.{nat_tests}
-use Rattle.ax_address.specs.Callsign.{Callsign}
-use Rattle.ax_address.specs.CallOrder.{same_call}
+use Rattle.ax_address.specs.Callsign.{Callsign, same_call}
 use Rattle.circuit_set.specs.CircuitSets.{partner_at}
-use Rattle.circuit_set.specs.Inputs.{TellsLess}
-use Rattle.link_table.specs.Payloads.{OffersLeave, TakesLower}
+use Rattle.circuit_set.specs.Pumps.{TellsLess}
+use Rattle.link_table.specs.Kept.{OffersLeave, TakesLower}
 use Rattle.node_turns.specs.declared.session.Circuit.{Circuit}
 use Rattle.node_turns.specs.declared.session.Reply.{Reply}
 use Rattle.node_turns.specs.declared.session.Stage.{Stage}
@@ -17,7 +16,6 @@ use Rattle.node_turns.specs.declared.session.User.{User}
 use Rattle.node_turns.specs.declared.session.User.TheVariants.{AtEnd, AtLink}
 use Rattle.node_turns.specs.Asking as asking
 use Rattle.node_turns.specs.Bridging as bridging
-use Rattle.node_turns.specs.Circuits as circuits
 use Rattle.node_turns.specs.Links as links
 use Rattle.node_turns.specs.Pumping.{at_router}
 use Rattle.node_turns.specs.Serving as serving
@@ -447,7 +445,7 @@ module _ (offers : OffersLeave) (takes : TakesLower) (less : TellsLess) where
       }
 
   -- what is left of a node of which all was told when the users were served and nothing could be done
-  pub sessions_rest : (now : ℕ) (m : State) → m.settings.prompt ≡ true → circuits.pending m.set ≡ 0 → at_router m ≡ 0 → (serving.serve_sessions now m).did ≡ false → Rests now (serving.serve_sessions now m).after
+  pub sessions_rest : (now : ℕ) (m : State) → m.settings.prompt ≡ true → links.pending m.set ≡ 0 → at_router m ≡ 0 → (serving.serve_sessions now m).did ≡ false → Rests now (serving.serve_sessions now m).after
   unfolding serving.serve_sessions
   sessions_rest now m prompt told router e =
       let g : State = serving.greet_links m in

@@ -1,30 +1,25 @@
 -- What is so from one state of a node to another, and behind one another, is so of each input where it is so of each thing that it is made of.
 use Rattle.std.proofs.Common.{◌≡◌, ℕ, refl, List, [], ◌∷◌}
 use Rattle.std.specs.Prelude.{Bool, true, false, if◌then◌else◌, ◌+◌, ◌==◌, nat_lt, nat_le, Option, Some, None, Result, Ok, Err}
-use Rattle.ax_address.specs.Callsign.{Callsign}
-use Rattle.ax_address.specs.CallOrder.{same_call}
-use Rattle.ax_address.specs.CallReading.{ReadsCallTexts}
+use Rattle.ax_address.specs.Callsign.{Callsign, same_call, ReadsCallTexts}
 use Rattle.circuit_set.specs.declared.event.ConnectRefusal.{ConnectRefusal}
 use Rattle.circuit_set.specs.declared.event.SetRefusal.{SetRefusal}
-use Rattle.circuit_set.specs.Inputs.{connect_answer}
+use Rattle.circuit_set.specs.Pumps.{connect_answer}
 use Rattle.circuit_set.specs.Sets as sets
 use Rattle.circuit_set.specs.Sets.{Act}
 use Rattle.circuit_set.specs.Standing.{write_answer}
 use Rattle.route_table.specs.Log as logs
 use Rattle.route_table.specs.Log.{Item}
 use Rattle.node_core.specs.Acts as acts
-use Rattle.node_core.specs.Acts.{Answered}
-use Rattle.node_turns.specs.Circuits as circuits
+use Rattle.node_core.specs.Acts.{Answered, UserAct}
 use Rattle.node_turns.specs.Links as links
 use Rattle.node_turns.specs.Pumping as p
 use Rattle.node_core.specs.Receiving as receiving
-use Rattle.node_core.specs.Rounds as rounds
+use Rattle.node_core.specs.Broadcasts as rounds
 use Rattle.node_core.specs.Runs.{IsUserAct, write_in}
 use Rattle.node_turns.specs.Serving.{serve_sessions}
-use Rattle.node_turns.specs.Settling as s
+use Rattle.node_turns.specs.Serving as s
 use Rattle.node_turns.specs.States.{State, at_links, at_set, next_hop, with_items}
-use Rattle.node_core.specs.UserActs as user
-use Rattle.node_core.specs.UserActs.{UserAct}
 use Rattle.node_core.proofs.Served.{IsAsking, Serves, served_on}
 use Rattle.node_core.specs.Inputs.{after_input, turns_settle}
 use Rattle.node_turns.proofs.Turns.{kept, settled_kept}
@@ -34,7 +29,7 @@ pub record Others (P : State → State → Type 0) (Q : Item → Type 0) : Type 
   pub notices : (n : State) → P n (s.enter_notices n)
   pub rounds : (n : State) → P n (rounds.do_round n)
   pub next_round : (due : Option ℕ) (n : State) → P n (record n { next_round = due })
-  pub ticks : (now : ℕ) (n : State) → P n (at_set (circuits.ticks now) (at_links (links.tick_links now) n))
+  pub ticks : (now : ℕ) (n : State) → P n (at_set (links.ticks now) (at_links (links.tick_links now) n))
   pub items : (item : Item) (n : State) → Q item → P n (with_items (item ∷ []) n)
   pub fails : (peer : Callsign) (n : State) → P n (acts.fail_link peer n)
 
@@ -47,7 +42,7 @@ pub record Walks (P : State → State → Type 0) (Q : Item → Type 0) : Type 0
 pub record Parts (P : State → State → Type 0) (Q : Item → Type 0) : Type 0 where
   pub still : (n : State) → P n n
   pub follows : (a b c : State) → P a b → P b c → P a c
-  pub asks : (a : Act) (n : State) → IsAsking a → write_in a ≡ [] → P n (at_set (circuits.acts a) n)
+  pub asks : (a : Act) (n : State) → IsAsking a → write_in a ≡ [] → P n (at_set (links.acts a) n)
   pub pumps : (now : ℕ) (n : State) → P n (p.pump now n)
   pub takes_text : (peer : Callsign) (now : ℕ) (n : State) → P n (at_links (links.take_text peer now) n)
   pub others : Others P Q
@@ -58,12 +53,12 @@ ServesSo P = (now : ℕ) (n : State) → n.settings.prompt ≡ true → P n (ser
 
 -- what a user writes
 abbrev pub WritesSo : (State → State → Type 0) → ℕ → UserAct → Type 0
-WritesSo P now (user.Write id message) = (n : State) → P n (at_set (circuits.acts (sets.Calls id (sets.Writes message) now)) n)
+WritesSo P now (acts.Write id message) = (n : State) → P n (at_set (links.acts (sets.Calls id (sets.Writes message) now)) n)
 WritesSo P now _ = Unit {0}
 
 -- what is locked has the one property
 abbrev pub LocksBy : (Item → Type 0) → UserAct → Type 0
-LocksBy Q (user.Lock dest alias neighbour quality) = Q (logs.Lock dest alias neighbour quality)
+LocksBy Q (acts.Lock dest alias neighbour quality) = Q (logs.Lock dest alias neighbour quality)
 LocksBy Q _ = Unit {0}
 
 module _ (P : State → State → Type 0) (Q : Item → Type 0) (w : Parts P Q) where
@@ -104,7 +99,7 @@ module _ (P : State → State → Type 0) (Q : Item → Type 0) (w : Parts P Q) 
 
   pub tick_by : (now : ℕ) (n : State) → P n (rounds.tick now n)
   tick_by now n =
-      let m : State = at_set (circuits.ticks now) (at_links (links.tick_links now) n) in
+      let m : State = at_set (links.ticks now) (at_links (links.tick_links now) n) in
       w.follows n m _ (w.others.ticks now n) (either m m _ (m.settings.interval == 0) (w.still m) (due_on now m.next_round m))
 
   -- ---- acts
@@ -122,19 +117,19 @@ module _ (P : State → State → Type 0) (Q : Item → Type 0) (w : Parts P Q) 
   connect_on (Ok id) a n i e = w.asks a n i e
   connect_on (Err why) a n i e = w.still n
 
-  write_on : (r : Result (Unit {0}) SetRefusal) (a : Act) (n : State) → P n (at_set (circuits.acts a) n) → P n (acts.write_by r a n).node
+  write_on : (r : Result (Unit {0}) SetRefusal) (a : Act) (n : State) → P n (at_set (links.acts a) n) → P n (acts.write_by r a n).node
   write_on (Ok _) a n x = x
   write_on (Err why) a n x = w.still n
 
   pub do_by : (now : ℕ) (act : UserAct) (n : State) → IsUserAct act → LocksBy Q act → WritesSo P now act → P n (acts.do_act now act n).node
-  do_by now user.Round n i q x = w.others.rounds n
-  do_by now (user.LinkFail peer) n i q x = w.others.fails peer n
-  do_by now (user.Lock dest alias neighbour quality) n i q x = lock_on dest (logs.Lock dest alias neighbour quality) quality n q
-  do_by now (user.Connect dest) n i q x = connect_on (connect_answer (next_hop n) dest n.set.set) (sets.Connect dest now) n i refl
-  do_by now (user.Write id message) n i q x =
+  do_by now acts.Round n i q x = w.others.rounds n
+  do_by now (acts.LinkFail peer) n i q x = w.others.fails peer n
+  do_by now (acts.Lock dest alias neighbour quality) n i q x = lock_on dest (logs.Lock dest alias neighbour quality) quality n q
+  do_by now (acts.Connect dest) n i q x = connect_on (connect_answer (next_hop n) dest n.set.set) (sets.Connect dest now) n i refl
+  do_by now (acts.Write id message) n i q x =
       either_node n _ _ (acts.is_kept id n) (w.still n) (write_on (write_answer (sets.end_of id n.set.set.ends) message) (sets.Calls id (sets.Writes message) now) n (x n))
-  do_by now (user.Take id) n i q x = either_node n _ _ (acts.is_kept id n) (w.still n) (w.asks (sets.Calls id sets.Takes now) n tt refl)
-  do_by now (user.Close id) n i q x = either_node n _ _ (acts.is_kept id n) (w.still n) (w.asks (sets.Calls id sets.Closes now) n tt refl)
+  do_by now (acts.Take id) n i q x = either_node n _ _ (acts.is_kept id n) (w.still n) (w.asks (sets.Calls id sets.Takes now) n tt refl)
+  do_by now (acts.Close id) n i q x = either_node n _ _ (acts.is_kept id n) (w.still n) (w.asks (sets.Calls id sets.Closes now) n tt refl)
 
 module _ (P : State → State → Type 0) (Q : Item → Type 0) (w : Walks P Q) where
   parts : Parts P Q
@@ -151,13 +146,13 @@ module _ (P : State → State → Type 0) (Q : Item → Type 0) (w : Walks P Q) 
   serves_so reads now n on = served_on P w.serves reads now n
 
   writes_so : (now : ℕ) (act : UserAct) → WritesSo P now act
-  writes_so now user.Round = tt
-  writes_so now (user.LinkFail peer) = tt
-  writes_so now (user.Lock dest alias neighbour quality) = tt
-  writes_so now (user.Connect dest) = tt
-  writes_so now (user.Write id message) = λ n. w.serves.acts (sets.Calls id (sets.Writes message) now) n tt
-  writes_so now (user.Take id) = tt
-  writes_so now (user.Close id) = tt
+  writes_so now acts.Round = tt
+  writes_so now (acts.LinkFail peer) = tt
+  writes_so now (acts.Lock dest alias neighbour quality) = tt
+  writes_so now (acts.Connect dest) = tt
+  writes_so now (acts.Write id message) = λ n. w.serves.acts (sets.Calls id (sets.Writes message) now) n tt
+  writes_so now (acts.Take id) = tt
+  writes_so now (acts.Close id) = tt
 
   pub turn_on : ReadsCallTexts → (now : ℕ) (n : State) → P n (s.turn now n).after
   turn_on reads now n = turn_by P Q parts (serves_so reads) now n

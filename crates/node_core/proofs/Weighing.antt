@@ -7,12 +7,12 @@ use Rattle.circuit_set.specs.Sets as sets
 use Rattle.circuit_set.specs.Sets.{CircuitTold, has_ended}
 use Rattle.circuit_set.specs.Standing.{EachStands, Here, Keeps, Past}
 use Rattle.circuit_set.specs.declared.holder.Holder.{Holder}
-use Rattle.link_table.specs.Payloads.{CountsPayloads, kept_payloads}
+use Rattle.link_table.specs.Kept.{CountsPayloads, kept_payloads}
 use Rattle.node_core.specs.declared.station.Station.{Station}
 use Rattle.node_turns.specs.Links as links
 use Rattle.node_turns.specs.Pumping.{pending}
 use Rattle.node_turns.specs.Sessions.{Session, bare}
-use Rattle.node_turns.specs.Settling.{has_some}
+use Rattle.node_turns.specs.Serving.{has_some}
 use Rattle.node_core.specs.Standing.{Holds}
 use Rattle.node_turns.specs.States.{State}
 use Rattle.node_turns.proofs.Weights.{end_messages, filled, is_among, left, messages, messages_but, most_at, one_unless, sessions_work, text_cost}

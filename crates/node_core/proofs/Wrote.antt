@@ -5,10 +5,9 @@ use Rattle.std.proofs.Math.Seq.{drop-append_seam}
 use Rattle.std.specs.Prelude.{Bool, true, false, min, nat_eq, nat_lt, if◌then◌else◌, Option, Some, None, Result, Ok, Err}
 use Rattle.std.proofs.lemmas.Bool.Decides.{nat_tests}
 use Rattle.ax_address.specs.Callsign.{Callsign}
-use Rattle.circuit_l4.specs.State.{Effect, State}
+use Rattle.circuit_l4.specs.State.{Effect, State, Receiving, inbox}
 use Rattle.circuit_l4.specs.Table as end
 use Rattle.circuit_l4.specs.Halves.{first_or}
-use Rattle.circuit_l4.specs.Receiving.{Receiving, inbox}
 use Rattle.circuit_l4.specs.declared.notice.EndNotice.{EndNotice}
 use Rattle.circuit_l4.specs.declared.notice.EndNotice.TheVariants as notice
 use Rattle.circuit_l4.specs.declared.transport.Pair.{Pair}

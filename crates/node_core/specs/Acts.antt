@@ -1,29 +1,74 @@
 -- What a user does at a node, before it settles. Own profile, but for what the layers' own definitions say.
 use Rattle.std.specs.Prelude.{ℕ, Bool, true, false, ◌&&◌, is_some, nat_lt, if◌then◌else◌, List, [], ◌∷◌, length, Result, Ok, Err}
-use Rattle.ax_address.specs.Callsign.{Callsign}
-use Rattle.ax_address.specs.CallOrder.{same_call}
+use Rattle.ax_address.specs.Callsign.{Callsign, same_call}
+use Rattle.ax_address.specs.declared.alias.Alias.{Alias}
 use Rattle.circuit_set.specs.declared.event.ConnectRefusal.{ConnectRefusal}
 use Rattle.circuit_set.specs.declared.event.NoEnd.{NoEnd}
 use Rattle.circuit_set.specs.declared.event.SetRefusal.{SetRefusal}
-use Rattle.circuit_set.specs.Inputs.{connect_answer}
+use Rattle.circuit_set.specs.Pumps.{connect_answer}
 use Rattle.circuit_set.specs.Sets as sets
 use Rattle.circuit_set.specs.Standing.{close_answer, message_at, take_answer, write_answer}
+use Rattle.circuit_set.specs.declared.event.ConnectRefusal.TheVariants as connecting
+use Rattle.circuit_set.specs.declared.event.SetRefusal.TheVariants as set_refusal
 use Rattle.route_table.specs.Log as logs
 use Rattle.route_table.specs.Log.{Item}
 use Rattle.route_table.specs.Table.{usable}
+use Rattle.route_table.specs.declared.route.LockRefusal.{LockRefusal}
+use Rattle.route_table.specs.declared.route.LockRefusal.TheVariants as locking
+use Rattle.node_turns.specs.Links as circuits
+use Rattle.node_turns.specs.Links.{break_link}
+use Rattle.node_turns.specs.States.{State, at_links, at_set, next_hop, with_items}
+use Rattle.node_turns.specs.Serving.{is_served}
+use Rattle.node_turns.specs.Users.{facts}
 use Rattle.node_core.specs.declared.acts.ActDone.{ActDone}
 use Rattle.node_core.specs.declared.acts.ActDone.TheVariants.{Done, Made, Took}
 use Rattle.node_core.specs.declared.acts.ActRefusal.{ActRefusal}
 use Rattle.node_core.specs.declared.acts.ActRefusal.TheVariants as refusal
-use Rattle.node_turns.specs.Circuits as circuits
-use Rattle.node_core.specs.Refusals.{connect_refusal, write_refusal}
-use Rattle.node_turns.specs.Links.{break_link}
-use Rattle.node_turns.specs.States.{State, at_links, at_set, next_hop, with_items}
 use Rattle.node_core.specs.Receiving.{has_room, live_with}
-use Rattle.node_core.specs.Rounds.{do_round}
-use Rattle.node_turns.specs.Serving.{is_served}
-use Rattle.node_core.specs.UserActs.{UserAct, Round, LinkFail, Lock, Connect, Write, Take, Close}
-use Rattle.node_turns.specs.Users.{facts}
+use Rattle.node_core.specs.Broadcasts.{do_round}
+use Rattle.node_core.specs.declared.acts.UserAct as code
+use Rattle.node_core.specs.declared.acts.UserAct.TheVariants as codes
+
+-- What a node's user does, without where a message lies in memory. Own profile.
+
+-- An end of a circuit is named by its number.
+pub data UserAct : Type 0 where
+  Round : UserAct
+  LinkFail : Callsign → UserAct
+  Lock : (dest : Callsign) (alias : Alias) (neighbour : Callsign) (quality : ℕ) → UserAct
+  Connect : Callsign → UserAct
+  Write : (id : ℕ) (message : List ℕ) → UserAct
+  Take : (id : ℕ) → UserAct
+  Close : (id : ℕ) → UserAct
+
+-- the same as it is handed in
+abbrev pub act_of : code.UserAct → UserAct
+act_of codes.Round = Round
+act_of (codes.LinkFail peer) = LinkFail peer
+act_of (codes.Lock dest alias neighbour quality) = Lock dest alias neighbour quality
+act_of (codes.Connect dest) = Connect dest
+act_of (codes.Write id message) = Write id message.now
+act_of (codes.Take id) = Take id
+act_of (codes.Close id) = Close id
+
+-- Why an act isn't done, by what the part answers to which it goes: want of memory stays what it is.
+
+abbrev pub connect_refusal : ConnectRefusal → ActRefusal
+connect_refusal connecting.Own = refusal.Own
+connect_refusal connecting.NoRoute = refusal.NoRoute
+connect_refusal connecting.Full = refusal.Full
+connect_refusal connecting.NoMemory = refusal.NoMemory
+
+abbrev pub lock_refusal : LockRefusal → ActRefusal
+lock_refusal locking.Own = refusal.Own
+lock_refusal locking.TooLow = refusal.TooLow
+lock_refusal (locking.TableFull live would_be) = refusal.TableFull live would_be
+lock_refusal locking.NoMemory = refusal.NoMemory
+
+abbrev pub write_refusal : SetRefusal → ActRefusal
+write_refusal set_refusal.NoEnd = refusal.NoEnd
+write_refusal (set_refusal.Write why) = refusal.Write why
+write_refusal set_refusal.NoMemory = refusal.NoMemory
 
 -- what an act comes to: the answer, and the node then
 pub record Answered : Type 0 where

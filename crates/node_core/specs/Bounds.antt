@@ -3,9 +3,9 @@
 -- of the messages in a ring, numbers, times and calls, which are of one size for each link, end and session.
 use Rattle.std.specs.Prelude.{ℕ, ◌+◌, ◌*◌, ◌≤◌, length}
 use Rattle.circuit_set.specs.Kept as ends
-use Rattle.kiss_framing.specs.Deframing as kiss
+use Rattle.kiss_framing.specs.Stream as kiss
 use Rattle.link_table.specs.Kept as links
-use Rattle.node_core.specs.Kept.{Kept}
+use Rattle.node_core.specs.Standing.{Kept}
 
 -- how many links it has, ends, and usable pairs; what the windows of its ends sum to; and how many users it serves at the prompt
 abbrev pub links_of : Kept → ℕ

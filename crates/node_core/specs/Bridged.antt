@@ -4,7 +4,7 @@ use Rattle.std.specs.List.{AllByRecursion}
 use Rattle.ax_address.specs.Callsign.{Callsign}
 use Rattle.ax_address.specs.declared.address.Address.{Address}
 use Rattle.arrayvec.specs.ArrayVec.{ArrayVec}
-use Rattle.circuit_l4.specs.Receiving.{inbox}
+use Rattle.circuit_l4.specs.State.{inbox}
 use Rattle.circuit_set.specs.CircuitSets.{held_ids}
 use Rattle.circuit_set.specs.Sets.{Holder}
 use Rattle.link_table.specs.Calls.{with_path}
@@ -17,7 +17,7 @@ use Rattle.node_core.specs.Configs.{new_node}
 use Rattle.node_core.specs.Inputs.{after_act, after_bytes, after_tick}
 use Rattle.node_core.specs.Runs.{IsUserAct}
 use Rattle.node_turns.specs.Sessions.{Bridge, Session, circuit_of, waits}
-use Rattle.node_core.specs.UserActs.{UserAct}
+use Rattle.node_core.specs.Acts.{UserAct}
 use Rattle.node_turns.specs.States.{NodeState, State, at_links, fetch_entry, fetch_frame}
 use Rattle.node_turns.specs.Users.{end_at, is_deaf}
 use Rattle.node_core.specs.Waits.{has_text}

@@ -3,14 +3,12 @@ use Rattle.std.specs.Prelude.{ℕ, ◌≡◌, ◌+◌, ◌≤◌, ◌==◌, ◌&
 use Rattle.std.specs.Cmp.Lexicographic.{pointwise}
 use Rattle.std.specs.List.{AllByRecursion}
 use Rattle.radio_base.specs.declared.payload.Payload.{Payload}
-use Rattle.ax_address.specs.Callsign.{Callsign}
-use Rattle.ax_address.specs.CallOrder.{same_call}
+use Rattle.ax_address.specs.Callsign.{Callsign, same_call}
 use Rattle.ax_frame.specs.declared.frame.FrameRefusal.{FrameRefusal}
-use Rattle.ax_frame.specs.Frames.{Frame}
-use Rattle.ax_frame.specs.Read.{read_at}
-use Rattle.ax_link.specs.Outputs.{Has}
+use Rattle.ax_frame.specs.Frames.{Frame, read_at}
+use Rattle.ax_link.specs.Bounds.{Has}
 use Rattle.circuit_set.specs.Events.{is_copy}
-use Rattle.circuit_set.specs.Inputs.{runs}
+use Rattle.circuit_set.specs.Pumps.{runs}
 use Rattle.circuit_set.specs.Sets.{Act, Comes, Sent, CircuitTold}
 use Rattle.kiss_framing.specs.Stream as kiss
 use Rattle.link_table.specs.Frames as frames
@@ -34,8 +32,8 @@ use Rattle.node_core.specs.Runs.{IsUserAct, RunsOn}
 use Rattle.node_core.specs.Standing.{IsTold}
 use Rattle.node_turns.specs.States as states
 use Rattle.node_turns.specs.States.{NodeState, State, at_links}
-use Rattle.node_core.specs.UserActs as acts
-use Rattle.node_core.specs.UserActs.{UserAct}
+use Rattle.node_core.specs.Acts as acts
+use Rattle.node_core.specs.Acts.{UserAct}
 
 -- ---- what frames carry
 

@@ -5,11 +5,10 @@ use Rattle.kiss_framing.specs.Stream as kiss
 use Rattle.node_core.specs.declared.acts.ActDone.{ActDone}
 use Rattle.node_core.specs.declared.acts.ActRefusal.{ActRefusal}
 use Rattle.node_turns.specs.States.{NodeState, State}
-use Rattle.node_turns.specs.Settling.{turn}
+use Rattle.node_turns.specs.Serving.{turn}
 use Rattle.node_core.specs.Receiving.{take_item}
-use Rattle.node_core.specs.Rounds.{tick}
-use Rattle.node_core.specs.Acts.{Answered, do_act}
-use Rattle.node_core.specs.UserActs.{UserAct}
+use Rattle.node_core.specs.Broadcasts.{tick}
+use Rattle.node_core.specs.Acts.{Answered, do_act, UserAct}
 use Rattle.node_turns.specs.Turns.{Settled}
 use Rattle.node_turns.proofs.Settled.{turns_end}
 

@@ -4,8 +4,7 @@ use Rattle.std.specs.List.{AllByRecursion}
 use Rattle.node_turns.specs.Links.{text_peers}
 use Rattle.node_core.specs.Inputs.{after_input}
 use Rattle.node_turns.specs.Pumping.{pending, tell_all, tell_turn}
-use Rattle.node_turns.specs.Serving.{is_served_link}
-use Rattle.node_turns.specs.Settling.{drop_text, drop_texts, serve_users, turn}
+use Rattle.node_turns.specs.Serving.{is_served_link, drop_text, drop_texts, serve_users, turn}
 use Rattle.node_turns.specs.States.{State}
 use Rattle.node_turns.specs.Turns.{SettlesTo, Turn, idle}
 use Rattle.node_core.specs.Waits.{WaitsForRoom}

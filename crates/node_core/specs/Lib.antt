@@ -1,9 +1,6 @@
 pub mod Waits
 pub mod Broadcasts
 pub mod Receiving
-pub mod Rounds
-pub mod Refusals
-pub mod UserActs
 pub mod Acts
 pub mod Inputs
 pub mod Laws
@@ -14,7 +11,6 @@ pub mod Taking
 pub mod Runs
 pub mod Fetching
 pub mod Bridged
-pub mod Kept
 pub mod Bounds
 pub mod Sound
 pub mod Carried

@@ -2,20 +2,17 @@
 -- project's profile).
 use Rattle.std.specs.Prelude.{ℕ, ◌+◌, ◌*◌, Bool, true, false, ◌&&◌, ◌==◌, bit_or, nat_le, if◌then◌else◌, List, [], ◌∷◌, ◌++◌, length, slice_index, slice_set, Result, Ok, Err}
 use Rattle.std.specs.List.{prefix_len}
-use Rattle.ax_address.specs.Callsign.{Callsign}
-use Rattle.ax_address.specs.CallOrder.{same_call}
+use Rattle.ax_address.specs.Callsign.{Callsign, same_call}
 use Rattle.ax_address.specs.declared.address.Address.{Address}
 use Rattle.ax_frame.specs.declared.head.Head.{Head}
 use Rattle.ax_frame.specs.declared.frame.FrameRefusal.{FrameRefusal}
-use Rattle.ax_frame.specs.Frames.{Frame}
-use Rattle.ax_frame.specs.Read.{read_head_at, read_at}
+use Rattle.ax_frame.specs.Frames.{Frame, read_head_at, read_at}
 use Rattle.digi_path.specs.Paths.{Action, For_me, Repeat, Not_yet, Heard, action, has_repeated}
 use Rattle.kiss_framing.specs.Stream as kiss
 use Rattle.link_table.specs.declared.written.Written.{Written}
 use Rattle.link_table.specs.declared.written.WrittenAs.TheVariants.{AsItCame}
 use Rattle.nodes_broadcast.specs.declared.nodes.NodesRefusal.{NodesRefusal}
-use Rattle.nodes_broadcast.specs.Nodes.{Broadcast}
-use Rattle.nodes_broadcast.specs.Reading.{nodes_at}
+use Rattle.nodes_broadcast.specs.Nodes.{Broadcast, nodes_at}
 use Rattle.route_table.specs.Log.{Item, broadcast}
 use Rattle.route_table.specs.Table.{usable}
 use Rattle.node_core.specs.Broadcasts.{is_broadcast}

@@ -3,8 +3,7 @@ use Rattle.std.specs.Prelude.{ℕ, ◌≡◌, ◌+◌, false, List, [], ◌∷�
 use Rattle.std.specs.List.{AllByRecursion}
 use Rattle.ax_address.specs.Callsign.{IsCallsign}
 use Rattle.circuit_set.specs.Givings.{IsUp}
-use Rattle.circuit_set.specs.Inputs.{of_circuits, runs}
-use Rattle.circuit_set.specs.Pumps.{at_rest}
+use Rattle.circuit_set.specs.Pumps.{of_circuits, runs, at_rest}
 use Rattle.circuit_set.specs.Runs.{IsAct, Step, events_at, events_of, sets_run}
 use Rattle.circuit_set.specs.Sets.{Act, Calls, Writes, SetState, CircuitTold, Made}
 use Rattle.node_core.specs.declared.acts.ActDone.{ActDone}
@@ -12,7 +11,7 @@ use Rattle.node_core.specs.declared.acts.ActRefusal.{ActRefusal}
 use Rattle.node_core.specs.Inputs.{act_answer, after_act, after_bytes, after_tick, moment}
 use Rattle.node_core.specs.Standing.{IsTold}
 use Rattle.node_turns.specs.States.{Entry, NodeState, Of_link, Of_set, Overflow, State}
-use Rattle.node_core.specs.UserActs.{UserAct, Connect, Write}
+use Rattle.node_core.specs.Acts.{UserAct, Connect, Write}
 
 -- what is told of circuits in these entries, in order
 abbrev pub circuits_told : List Entry → List CircuitTold

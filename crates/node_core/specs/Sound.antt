@@ -6,8 +6,7 @@ use Rattle.node_core.specs.declared.config.NodeConfig.{NodeConfig}
 use Rattle.node_core.specs.Bounds.{IsWithin, pairs_of}
 use Rattle.node_core.specs.Bridged.{AsksForCall, Input, after_all}
 use Rattle.node_core.specs.Configs.{new_node}
-use Rattle.node_core.specs.Kept.{Kept, NodeStands}
-use Rattle.node_core.specs.Standing.{IsDrained}
+use Rattle.node_core.specs.Standing.{Kept, NodeStands, IsDrained}
 use Rattle.node_turns.specs.States.{NodeState}
 
 -- inputs have led to it, from the start of a node with a call on

@@ -1,20 +1,21 @@
 -- What a node's code keeps, and for which states it stands.
-use Rattle.std.specs.Prelude.{◌≡◌, ◌≤◌, map, Result, Ok, Err}
+use Rattle.std.specs.Prelude.{◌≡◌, ◌≤◌, map, Result, Ok, Err, ℕ, ◌+◌, Bool, false, length}
 use Rattle.ax_link.specs.State.{count_end}
 use Rattle.circuit_set.specs.CircuitSets as sets
 use Rattle.circuit_set.specs.CircuitSets.{Circuits, SetStands}
 use Rattle.circuit_set.specs.Pumps.{at_rest}
 use Rattle.circuit_set.specs.Standing.{event_told}
-use Rattle.link_table.specs.Standing.{TableView as Kept, TableStands}
+use Rattle.link_table.specs.Standing.{TableView, TableStands, TableView as LinkTable}
 use Rattle.route_table.specs.Held.{StandsFor}
+use Rattle.node_turns.specs.Sessions.{bare}
+use Rattle.node_turns.specs.States.{Entry, Of_link, Of_set, Overflow, State, NodeState}
+use Rattle.kiss_framing.specs.Stream as kiss
 use Rattle.node_core.specs.declared.acts.ActDone.{ActDone}
 use Rattle.node_core.specs.declared.acts.ActRefusal.{ActRefusal}
 use Rattle.node_core.specs.declared.acts.ActRefusal.TheVariants as refusal
 use Rattle.node_core.specs.declared.entry.NodeEntry.{NodeEntry}
 use Rattle.node_core.specs.declared.entry.NodeEntry.TheVariants as entry
 use Rattle.node_core.specs.declared.station.Station.{Station}
-use Rattle.node_turns.specs.Sessions.{bare}
-use Rattle.node_turns.specs.States.{Entry, Of_link, Of_set, Overflow, State}
 
 abbrev pub entry_of : NodeEntry → Entry
 entry_of (entry.Set event) = Of_set (event_told event)
@@ -22,7 +23,7 @@ entry_of (entry.Link peer notice) = Of_link peer notice
 entry_of (entry.Overflow live would_be) = Overflow live would_be
 
 -- the set that the node lends stands for its circuits, its router's carrier for its links, and its router's table for its log
-pub record HoldsParts (c : Circuits Kept) (n : State) : Type 0 where
+pub record HoldsParts (c : Circuits TableView) (n : State) : Type 0 where
   pub links : TableStands c.router.carrier n.links
   pub log : StandsFor c.router.table n.log
   pub rules : c.router.table.rules ≡ n.settings.rules
@@ -66,3 +67,38 @@ abbrev pub IsAnswer : Result ActDone ActRefusal → Type 0
 IsAnswer (Ok _) = Unit {0}
 IsAnswer (Err refusal.NoMemory) = ⊥
 IsAnswer (Err _) = Unit {0}
+
+-- What contracts see of a node.
+
+pub record Kept : Type 0 where
+  pub deframer : kiss.HeldPiece
+  pub station : Station
+  pub spent : Bool  -- memory ran out in an earlier call
+
+abbrev pub view_of : kiss.HeldPiece → Station → Bool → Kept
+view_of deframer station spent = record { deframer = deframer; station = station; spent = spent }
+
+-- the circuits that it lends, and with them its router, table and links
+abbrev pub circuits_of : Kept → Circuits LinkTable
+circuits_of k = k.station.set
+
+-- A node that isn't spent stands for a state between two inputs: its deframer for all bytes that came, its set and queues for
+-- those of the state, of which nothing is untold.
+pub record NodeStands (k : Kept) (n : NodeState) : Type 0 where
+  pub unspent : k.spent ≡ false
+  pub stream : kiss.StandsFor k.deframer n.stream
+  pub station : Holds k.station n.station
+  pub told : IsTold n.station
+
+-- how many frames wait to be fetched, and how many entries
+abbrev pub station_frames : Station → ℕ
+station_frames s = length s.own.items + length s.set.router.carrier.frames
+
+abbrev pub frames_left : Kept → ℕ
+frames_left k = station_frames k.station
+
+abbrev pub entries_left : Kept → ℕ
+entries_left k = length k.station.entries.items
+
+abbrev pub NodeGoes : (NodeState → NodeState) → Kept → Kept → Type 0
+NodeGoes step old new = (n : NodeState) → NodeStands old n → NodeStands new (step n)

@@ -15,8 +15,8 @@ use radio_base::{Moment, NoMemory};
 impl Station {
     ghost use Rattle.node_core.specs.Going.{Acts, HoldsTold, StandsTold, StationGoes};
     ghost use Rattle.node_core.specs.Standing.{IsAnswer, IsDrained};
-    ghost use Rattle.node_core.specs.UserActs as user;
-    ghost use Rattle.node_core.specs.UserActs.{act_of};
+    ghost use Rattle.node_core.specs.Acts as acts;
+    ghost use Rattle.node_core.specs.Acts.{act_of};
 
     /// Does an act, or tells why not, and all that follows an input.
     pub(crate) fn act(&mut self, act: &UserAct, now: Moment) -> Result<ActDone, ActRefusal>
@@ -103,7 +103,7 @@ impl Station {
     /// Asks for a circuit with a node.
     fn connect(&mut self, dest: &Call, now: Moment) -> Result<ActDone, ActRefusal>
         requires { IsDrained self.old }
-        ensures { Acts (acts.do_act now.0 (user.Connect dest.now)) self.old self.new result }
+        ensures { Acts (acts.do_act now.0 (acts.Connect dest.now)) self.old self.new result }
     {
         let id = self.set.connect(dest, now)?;
         Ok(ActDone::Made(id))

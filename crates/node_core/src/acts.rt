@@ -149,7 +149,7 @@ impl From<NoEnd> for ActRefusal {
 
 impl From<ConnectRefusal> for ActRefusal {
     ghost use Rattle.std.specs.Prelude.{◌≡◌};
-    ghost use Rattle.node_core.specs.Refusals.{connect_refusal};
+    ghost use Rattle.node_core.specs.Acts.{connect_refusal};
 
     ghost from_gives = { λ why e. e ≡ connect_refusal why };
 
@@ -165,7 +165,7 @@ impl From<ConnectRefusal> for ActRefusal {
 
 impl From<LockRefusal> for ActRefusal {
     ghost use Rattle.std.specs.Prelude.{◌≡◌};
-    ghost use Rattle.node_core.specs.Refusals.{lock_refusal};
+    ghost use Rattle.node_core.specs.Acts.{lock_refusal};
 
     ghost from_gives = { λ why e. e ≡ lock_refusal why };
 
@@ -181,7 +181,7 @@ impl From<LockRefusal> for ActRefusal {
 
 impl From<SetRefusal> for ActRefusal {
     ghost use Rattle.std.specs.Prelude.{◌≡◌};
-    ghost use Rattle.node_core.specs.Refusals.{write_refusal};
+    ghost use Rattle.node_core.specs.Acts.{write_refusal};
 
     ghost from_gives = { λ why e. e ≡ write_refusal why };
 

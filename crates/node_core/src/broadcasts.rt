@@ -1,6 +1,6 @@
 //! Broadcasts as frames (NET/ROM, Appendix B).
 ghost use Rattle.std.specs.Prelude.{◌≡◌, ◌≤◌, ◌*◌, length};
-ghost use Rattle.ax_address.specs.CallOrder.{same_call};
+ghost use Rattle.ax_address.specs.Callsign.{same_call};
 ghost use Rattle.ax_frame.specs.Frames.{view as frame_of};
 ghost use Rattle.nodes_broadcast.specs.Nodes.{view};
 ghost use Rattle.node_core.specs.Broadcasts as broadcasts;

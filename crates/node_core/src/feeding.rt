@@ -1,9 +1,8 @@
 //! What comes as KISS bytes, or as a frame where the channel has no bytes.
 ghost use Rattle.std.specs.Prelude.{◌≡◌, ◌<◌, ◌≤◌, ◌++◌, ℕ, List, IfOk, IfSome, Some, OnOk, length, take};
-ghost use Rattle.kiss_framing.specs.Deframing as kiss;
-ghost use Rattle.kiss_framing.specs.Enframing.{framed};
+ghost use Rattle.kiss_framing.specs.Stream as kiss;
+ghost use Rattle.kiss_framing.specs.Stream.{framed, items};
 ghost use Rattle.kiss_framing.specs.Feeding.{IsSmall, handed_out};
-ghost use Rattle.kiss_framing.specs.Stream.{items};
 ghost use Rattle.node_core.specs.Inputs as inputs;
 ghost use Rattle.node_core.specs.Taking.{Takes};
 ghost use Rattle.node_core.specs.Going.{StandsForSome, StationGoes};

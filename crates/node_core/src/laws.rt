@@ -1,6 +1,6 @@
 //! What the definitions promise by themselves.
-ghost use Rattle.circuit_set.specs.Inputs.{TellsLess};
-ghost use Rattle.link_table.specs.Payloads.{CountsPayloads, OffersLeave, TakesLower};
+ghost use Rattle.circuit_set.specs.Pumps.{TellsLess};
+ghost use Rattle.link_table.specs.Kept.{CountsPayloads, OffersLeave, TakesLower};
 ghost use Rattle.node_core.specs.Sound.{KeepsItsShare};
 ghost use Rattle.node_core.specs.Bridged.{SessionsBounded, SessionsBridged, SessionsClosedLast, SessionsReadTheirEnds, SessionsWriteTheirEnds, UsersAreFew};
 ghost use Rattle.node_core.specs.Carried.{ActsCarry, BytesCarry, CarriedFurther, TicksCarry};

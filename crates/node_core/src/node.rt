@@ -6,11 +6,11 @@ ghost use Rattle.ax_link.specs.State.{count_end};
 ghost use Rattle.link_table.specs.Calls as calls;
 ghost use Rattle.link_table.specs.Standing.{NotNoMemory};
 ghost use Rattle.node_core.specs.Configs.{IsConfig, new_node};
-ghost use Rattle.kiss_framing.specs.Enframing.{framed};
+ghost use Rattle.kiss_framing.specs.Stream.{framed};
 ghost use Rattle.node_core.specs.Bounds.{IsWithin};
 ghost use Rattle.node_core.specs.Inputs as inputs;
 ghost use Rattle.node_core.specs.Runs.{IsUserAct};
-ghost use Rattle.node_core.specs.UserActs.{act_of};
+ghost use Rattle.node_core.specs.Acts.{act_of};
 ghost use Rattle.node_turns.specs.States as states;
 ghost use Rattle.node_turns.specs.States.{NodeState};
 
@@ -66,7 +66,7 @@ impl Model for Node {
     ghost use Rattle.std.specs.Coded.{codes};
     ghost use Rattle.indexmap.specs.Layout.{hash_map_code};
     ghost use Rattle.circuit_set.specs.contracts.held_ends.HeldEnds.{the_row as held_row};
-    ghost use Rattle.node_core.specs.Kept.{Kept, view_of};
+    ghost use Rattle.node_core.specs.Standing.{Kept, view_of};
     ghost use Rattle.node_core.specs.Sound.{IsSound};
 
     ghost Value = { Kept };
@@ -82,9 +82,8 @@ impl Node {
     ghost use Rattle.circuit_set.specs.CircuitSets.{SetStands, facts_at};
     ghost use Rattle.circuit_set.specs.Pumps.{at_rest};
     ghost use Rattle.circuit_set.specs.Sets as sets;
-    ghost use Rattle.node_core.specs.Standing.{IsAnswer, entry_of};
-    ghost use Rattle.node_core.specs.Kept.{NodeGoes, NodeStands, circuits_of, entries_left, frames_left};
-    ghost use Rattle.node_core.specs.UserActs.{act_of};
+    ghost use Rattle.node_core.specs.Standing.{IsAnswer, entry_of, NodeGoes, NodeStands, circuits_of, entries_left, frames_left};
+    ghost use Rattle.node_core.specs.Acts.{act_of};
     ghost use Rattle.node_core.specs.declared.acts.ActRefusal.TheVariants as refusals;
     ghost use Rattle.link_table.specs.declared.path_refusal.PathRefusal.TheVariants as path_refusals;
 

@@ -1,13 +1,12 @@
 //! What comes in: KISS items, and the frames in them.
 ghost use Rattle.std.specs.Prelude.{◌≡◌, ◌≤◌, [], ◌∷◌, false, OnOk, bit_or, length, slice_index, slice_set, MatchResult, Ok, Err, if◌then◌else◌};
 ghost use Rattle.std.specs.List.{prefix_len};
-ghost use Rattle.ax_frame.specs.Frames.{BeginsWith, view, with_head};
-ghost use Rattle.ax_frame.specs.Read.{read_at};
+ghost use Rattle.ax_frame.specs.Frames.{BeginsWith, view, with_head, read_at};
 ghost use Rattle.ax_frame.specs.Reading.{head_end};
 ghost use Rattle.ax_frame.specs.declared.head.Head.{Head};
 ghost use Rattle.digi_path.specs.Paths.{action, has_repeated};
 ghost use Rattle.kiss_framing.specs.Feeding.{IsSmall};
-ghost use Rattle.nodes_broadcast.specs.Reading.{nodes_at};
+ghost use Rattle.nodes_broadcast.specs.Nodes.{nodes_at};
 ghost use Rattle.route_table.specs.Log.{broadcast};
 ghost use Rattle.node_turns.specs.Links as links;
 ghost use Rattle.node_core.specs.Receiving as receiving;

@@ -3,9 +3,8 @@ ghost use Rattle.std.specs.Prelude.{◌≤◌, ◌*◌, OnOk, length};
 ghost use Rattle.ax_link.specs.State.{count_end};
 ghost use Rattle.node_core.specs.Broadcasts.{round_frame};
 ghost use Rattle.node_core.specs.Inputs as inputs;
-ghost use Rattle.node_turns.specs.Circuits as circuits;
 ghost use Rattle.node_turns.specs.Links as links;
-ghost use Rattle.node_core.specs.Rounds as rounds;
+ghost use Rattle.node_core.specs.Broadcasts as rounds;
 ghost use Rattle.node_turns.specs.States as states;
 
 use crate::broadcasts::{entries_of_frame, frame_count, write_broadcast};
@@ -55,7 +54,7 @@ impl Station {
 
     fn tick_set(&mut self, now: Moment) -> Result<(), NoMemory>
         requires { IsDrained self.old }
-        ensures { OnOk result (GoesWhereTold (states.at_set (circuits.ticks now.0)) self.old self.new) }
+        ensures { OnOk result (GoesWhereTold (states.at_set (links.ticks now.0)) self.old self.new) }
     {
         self.set.tick(now)?;
         Ok(())

@@ -5,7 +5,7 @@ ghost use Rattle.link_table.specs.Calls as calls;
 ghost use Rattle.node_core.specs.Inputs as inputs;
 ghost use Rattle.node_turns.specs.Links as links;
 ghost use Rattle.node_turns.specs.Pumping as pumping;
-ghost use Rattle.node_turns.specs.Settling as settling;
+ghost use Rattle.node_turns.specs.Serving as settling;
 ghost use Rattle.node_turns.specs.States as states;
 ghost use Rattle.node_turns.specs.States.{State};
 

@@ -37,9 +37,8 @@ pub(crate) struct Station {
 }
 
 impl Station {
-    ghost use Rattle.node_core.specs.Kept.{station_frames};
+    ghost use Rattle.node_core.specs.Standing.{station_frames, Holds, IsDrained};
     ghost use Rattle.node_core.specs.Going.{StationGoes};
-    ghost use Rattle.node_core.specs.Standing.{Holds, IsDrained};
 
     /// The node as it starts.
     pub(crate) fn new(alloc: Global, config: &NodeConfig) -> Result<Station, NoMemory>

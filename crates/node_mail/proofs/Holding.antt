@@ -2,8 +2,7 @@
 use Rattle.std.proofs.Common.{◌≡◌, ℕ, ◌≤◌, List, length, Bool, true, false, Some, refl, cond, inl, inr}
 use Rattle.std.specs.Prelude.{◌⊎◌}
 use Rattle.std.specs.List.{AllByRecursion}
-use Rattle.ax_address.specs.Callsign.{Callsign}
-use Rattle.ax_address.specs.CallOrder.{same_call}
+use Rattle.ax_address.specs.Callsign.{Callsign, same_call}
 use Rattle.node_mail.specs.Wires.{Receipt, IsWire, IsNumber, wire_octets}
 use Rattle.node_mail.specs.Lists.{Lists, Letter, Mail, letter_of, is_stored, offer}
 use Rattle.node_mail.specs.Runs.{MailRun, Written, with_store, with_written}

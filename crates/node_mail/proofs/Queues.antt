@@ -3,8 +3,7 @@ use Rattle.std.proofs.Common.{◌≡◌, ◌≢◌, ℕ, zero, suc, ◌+◌, ◌
 use Rattle.std.specs.Prelude.{◌||◌, ◌==◌, not, remove}
 use Rattle.std.specs.List.{AllByRecursion}
 use Rattle.std.proofs.lemmas.Bool.{eq-eqb}
-use Rattle.ax_address.specs.Callsign.{Callsign}
-use Rattle.ax_address.specs.CallOrder.{same_call}
+use Rattle.ax_address.specs.Callsign.{Callsign, same_call}
 use Rattle.node_mail.specs.declared.places.QueuedMail.{QueuedMail}
 use Rattle.node_mail.specs.Lists.{Letter, letter_of, is_queued_for, without}
 use Rattle.node_mail.specs.Queues.{HasNone, IsInOrder, IsLetter, Rises, letter_in, letters}

@@ -4,8 +4,7 @@ use Rattle.std.specs.Prelude.{◌==◌, nat_lt, nat_le, not, slice_get, if◌the
 use Rattle.std.specs.List.{AllByRecursion}
 use Rattle.std.proofs.lemmas.Bool.{eqb-true, eq-eqb}
 use Rattle.std.proofs.lemmas.Bool.Decides.{nat_tests}
-use Rattle.ax_address.specs.Callsign.{Callsign, IsCallsign}
-use Rattle.ax_address.specs.CallOrder.{same_call}
+use Rattle.ax_address.specs.Callsign.{Callsign, IsCallsign, same_call}
 use Rattle.node_mail.specs.Wires.{Wire, Carries, Receipt, IsWire, IsNumber, IsText, wire_at, wire_octets}
 use Rattle.node_mail.specs.Lists.{Lists, Letter, Mail, Heard, PostRefusal, letter_of, is_stored, is_queued_for, offer, without, post_at, posted_by, with_letter, mail_of, heard_of, kept_after, answer_to, text_of, nothing_kept}
 use Rattle.node_mail.specs.declared.mail.PostRefusal.TheVariants as refusal

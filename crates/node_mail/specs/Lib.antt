@@ -2,7 +2,6 @@ pub mod Wires
 pub mod Lists
 pub mod Runs
 pub mod MailOnce
-pub mod Standing
 pub mod Queues
 pub mod Mailboxes
 pub mod Heads

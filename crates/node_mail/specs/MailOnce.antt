@@ -1,8 +1,7 @@
 -- Mail is stored once. Own profile.
 use Rattle.std.specs.Prelude.{ℕ, ◌≡◌, ◌⊎◌, List, [], ◌∷◌, map, filter, Bool, true, false, ◌==◌, Some}
 use Rattle.std.specs.List.{list_any, AllByRecursion}
-use Rattle.ax_address.specs.Callsign.{Callsign}
-use Rattle.ax_address.specs.CallOrder.{same_call}
+use Rattle.ax_address.specs.Callsign.{Callsign, same_call}
 use Rattle.node_mail.specs.Lists.{Lists, Letter, Mail, letter_of, is_stored}
 use Rattle.node_mail.specs.Runs.{MailRun, Event, IsEvent, begin, run}
 

@@ -1,8 +1,7 @@
 -- Runs of nodes that hand mail to each other: whatever is written may be heard, often, late, out of order, or never.
 -- Own profile.
 use Rattle.std.specs.Prelude.{ℕ, List, [], ◌∷◌, ◌++◌, slice_get, Bool, Option, Some, None, if◌then◌else◌}
-use Rattle.ax_address.specs.Callsign.{Callsign, IsCallsign}
-use Rattle.ax_address.specs.CallOrder.{same_call}
+use Rattle.ax_address.specs.Callsign.{Callsign, IsCallsign, same_call}
 use Rattle.node_mail.specs.Wires.{Wire, wire_octets}
 use Rattle.node_mail.specs.Lists.{Lists, Letter, nothing_kept, letter_of, offer, post_step, hear_at, hear_step, answer_to}
 

@@ -1,7 +1,7 @@
 //! What becomes of a mail and of a receipt that are heard. Own profile.
 ghost use Rattle.std.specs.Prelude.{◌≡◌, ◌≤◌, length, List, IfOk, OnErr};
 ghost use Rattle.node_mail.specs.Lists as lists;
-ghost use Rattle.node_mail.specs.Standing.{octets_in};
+ghost use Rattle.node_mail.specs.Lists.{octets_in};
 
 use crate::mail::{Heard, MAX_STORED, Mail};
 use crate::mailbox::Mailbox;

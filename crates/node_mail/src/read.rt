@@ -2,7 +2,7 @@
 ghost use Rattle.std.specs.Prelude.{◌≡◌, ◌≤◌, ◌∷◌, [], length, take, drop, IfSome};
 ghost use Rattle.std.specs.Int.{w64, from_be_bytes};
 ghost use Rattle.std.specs.Option.{option_map};
-ghost use Rattle.ax_address.specs.NetCalls.{SpellsNetCall, net_call_at};
+ghost use Rattle.ax_address.specs.Octets.{SpellsNetCall, net_call_at};
 ghost use Rattle.node_mail.specs.Wires as wires;
 ghost use Rattle.node_mail.specs.Heads.{wire_of, call_or_none, IsReceipt, IsSized};
 

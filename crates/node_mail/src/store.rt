@@ -29,7 +29,7 @@ pub struct Store {
 }
 
 impl Model for Store {
-    ghost use Rattle.node_mail.specs.Standing.{StoreView};
+    ghost use Rattle.node_mail.specs.Lists.{StoreView};
 
     ghost Value = { StoreView };
 
@@ -41,8 +41,7 @@ impl Store {
     ghost use Rattle.std.specs.Option.{option_map, option_copied};
     ghost use Rattle.node_mail.specs.Heads.{IsSized, wire_of};
     ghost use Rattle.node_mail.specs.Lists as lists;
-    ghost use Rattle.node_mail.specs.Lists.{Lists};
-    ghost use Rattle.node_mail.specs.Standing.{IsPostAnswer, SpellsOffer, StandsFor, number_and_dest, octets_in, octets_or, view_after};
+    ghost use Rattle.node_mail.specs.Lists.{Lists, IsPostAnswer, SpellsOffer, StandsFor, number_and_dest, octets_in, octets_or, view_after};
     ghost use Rattle.node_mail.specs.Wires.{ReadWireIsSpelled};
 
     /// A store of the node of that call, in which nothing is kept.

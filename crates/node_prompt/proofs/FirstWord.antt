@@ -8,7 +8,7 @@ use Rattle.std.proofs.lemmas.List.Quantifiers.{position-Some}
 use Rattle.std.proofs.lemmas.List.Sums.{prefix_len-le-length}
 use Rattle.std.proofs.lemmas.List.Splits.{slice_split_first}
 use Rattle.std.proofs.lemmas.Option.{cond_some}
-use Rattle.node_prompt.specs.Words.{words_of}
+use Rattle.node_prompt.specs.Commands.{words_of}
 
 abbrev is_some : List ℕ → Bool
 is_some word = not (length word == 0)

@@ -7,10 +7,9 @@ use Rattle.std.specs.Fmt.{decimal}
 use Rattle.std.proofs.lemmas.Bool.Decides.{nat_tests}
 use Rattle.std.proofs.lemmas.List.{length-map}
 use Rattle.std.proofs.lemmas.Slice.Eq.{bytes_eq-Decides}
-use Rattle.ax_address.specs.Callsign.{Callsign}
+use Rattle.ax_address.specs.Callsign.{Callsign, call_at}
 use Rattle.ax_address.specs.Alias as aliases
 use Rattle.ax_address.specs.Callsign as calls
-use Rattle.ax_address.specs.CallReading.{call_at}
 use Rattle.ax_address.specs.declared.call.CallRefusal.{CallRefusal}
 use Rattle.route_table.specs.declared.route.Route.{Route}
 use Rattle.node_prompt.specs.declared.action.Action.TheVariants.{Show}
@@ -25,9 +24,8 @@ use Rattle.node_prompt.specs.declared.command.LineRefusal.{LineRefusal}
 use Rattle.node_prompt.specs.declared.command.LineRefusal.TheVariants.{TooLong, UnknownCommand, WrongWords, BadCall}
 use Rattle.node_prompt.specs.declared.command.Verb.{Verb}
 use Rattle.node_prompt.specs.declared.command.Verb.TheVariants.{Connect, Nodes, Routes, Users, Info, Bye, Help}
-use Rattle.node_prompt.specs.Words.{capital, words_of}
-use Rattle.node_prompt.specs.Commands.{is_either, verb_of, about, command_from, command_of, command_at}
-use Rattle.node_prompt.specs.Prompts.{Prompt, prefix_of, ended}
+use Rattle.node_prompt.specs.Commands.{capital, words_of, is_either, verb_of, about, command_from, command_of, command_at}
+use Rattle.node_prompt.specs.Replies.{Prompt, prefix_of, ended}
 use Rattle.node_prompt.specs.Replies as replies
 use Rattle.node_prompt.specs.Laws.{AsksForRoutes, RoutesAreAskedFor, IsReply, AllIsReply, CaseIsNothing}
 

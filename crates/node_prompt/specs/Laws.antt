@@ -1,14 +1,12 @@
 -- What follows of the table of commands. Own profile.
 use Rattle.std.specs.Prelude.{ℕ, ◌≡◌, ◌≤◌, ◌⊎◌, ◌↔◌, List, [], ◌∷◌, ◌++◌, length, map, Ok, IfSome, codes}
-use Rattle.ax_address.specs.Callsign.{Callsign}
-use Rattle.ax_address.specs.CallReading.{call_at}
+use Rattle.ax_address.specs.Callsign.{Callsign, call_at}
 use Rattle.node_prompt.specs.declared.action.Action.TheVariants.{Show}
 use Rattle.node_prompt.specs.declared.action.Sight.TheVariants.{RoutesTo}
 use Rattle.node_prompt.specs.declared.action.Trouble.{Trouble}
 use Rattle.node_prompt.specs.declared.action.View.{View}
-use Rattle.node_prompt.specs.Words.{capital, words_of}
-use Rattle.node_prompt.specs.Prompts.{Prompt, prefix_of, ended}
-use Rattle.node_prompt.specs.Replies.{action_for, said, view_text, trying, connected, refused, disconnected}
+use Rattle.node_prompt.specs.Commands.{capital, words_of}
+use Rattle.node_prompt.specs.Replies.{Prompt, prefix_of, ended, action_for, said, view_text, trying, connected, refused, disconnected}
 
 -- the line is NODES and a call, or N and a call, in letters of any case
 pub record AsksForRoutes (line : List ℕ) (dest : Callsign) : Type 0 where

@@ -1,5 +1,3 @@
-pub mod Words
 pub mod Commands
-pub mod Prompts
 pub mod Replies
 pub mod Laws

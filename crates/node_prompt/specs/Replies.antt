@@ -1,11 +1,12 @@
 -- What a prompt says, and what is done for a line. Own profile.
-use Rattle.std.specs.Prelude.{ℕ, List, [], ◌++◌, Option, Some, None, Result, Ok, Err, ◌==◌, codes, if◌then◌else◌}
+use Rattle.std.specs.Prelude.{ℕ, List, [], ◌++◌, Option, Some, None, Result, Ok, Err, ◌==◌, codes, if◌then◌else◌, ◌∷◌}
 use Rattle.std.specs.Fmt.{decimal}
 use Rattle.std.specs.List.{flat_map}
 use Rattle.arrayvec.specs.ArrayVec.{ArrayVec}
 use Rattle.ax_address.specs.Alias as aliases
 use Rattle.ax_address.specs.Callsign as calls
 use Rattle.ax_address.specs.Callsign.{Callsign}
+use Rattle.ax_address.specs.declared.alias.Alias.{Alias}
 use Rattle.route_table.specs.declared.route.Route.{Route}
 use Rattle.node_prompt.specs.declared.action.Action.{Action}
 use Rattle.node_prompt.specs.declared.action.Action.TheVariants.{Say, Show, Connect, Bye, Nothing}
@@ -19,7 +20,21 @@ use Rattle.node_prompt.specs.declared.command.Command.TheVariants as ask
 use Rattle.node_prompt.specs.declared.command.LineRefusal.{LineRefusal}
 use Rattle.node_prompt.specs.declared.command.LineRefusal.TheVariants.{TooLong, UnknownCommand, WrongWords, BadCall}
 use Rattle.node_prompt.specs.Commands.{command_at}
-use Rattle.node_prompt.specs.Prompts.{Prompt, prefix_of, ended}
+
+-- Who speaks at a prompt, and how each text begins and ends. Own profile.
+
+-- a node by its names
+pub record Prompt : Type 0 where
+  pub alias : Alias
+  pub call : Callsign
+
+-- as `ANODE:N0AAA} `
+abbrev pub prefix_of : Prompt → List ℕ
+prefix_of p = aliases.shown p.alias ++ codes ":" ++ calls.shown p.call ++ codes "} "
+
+-- a line of a text, with the CR at its end
+abbrev pub ended : List ℕ → List ℕ
+ended line = line ++ 13 ∷ []
 
 -- ALIAS:CALL
 abbrev pub node_line : Route → List ℕ

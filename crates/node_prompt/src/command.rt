@@ -1,6 +1,5 @@
 //! What a line asks for.
 ghost use Rattle.std.specs.Prelude.{◌≡◌};
-ghost use Rattle.node_prompt.specs.Words as words;
 ghost use Rattle.node_prompt.specs.Commands as commands;
 
 use crate::words::{MAX_LINE, capitals, first_word};
@@ -67,7 +66,7 @@ pub fn command_at(line: &[u8]) -> Result<Command, LineRefusal>
 
 /// What the line, in capital letters, asks for.
 fn command_of(line: &[u8]) -> Result<Command, LineRefusal>
-    ensures { result ≡ commands.command_of (words.words_of line.now) }
+    ensures { result ≡ commands.command_of (commands.words_of line.now) }
 {
     match first_word(line) {
         None => Ok(Command::Nothing),
@@ -80,7 +79,7 @@ fn command_of(line: &[u8]) -> Result<Command, LineRefusal>
 
 /// What a command's first word and the rest of its line ask for.
 fn command_with(verb: Verb, rest: &[u8]) -> Result<Command, LineRefusal>
-    ensures { result ≡ commands.command_with verb (words.words_of rest.now) }
+    ensures { result ≡ commands.command_with verb (commands.words_of rest.now) }
 {
     match first_word(rest) {
         None => command_alone(verb),

@@ -2,7 +2,7 @@
 ghost use Rattle.std.specs.Prelude.{◌≡◌, ◌≤◌, ◌<◌, ◌+◌, ◌*◌, ◌++◌, length, codes};
 ghost use Rattle.std.specs.Fmt.{decimal};
 ghost use Rattle.std.specs.List.{flat_map};
-ghost use Rattle.node_prompt.specs.Prompts.{ended};
+ghost use Rattle.node_prompt.specs.Replies.{ended};
 ghost use Rattle.node_prompt.specs.Replies as replies;
 
 use arrayvec::ArrayString;

@@ -1,7 +1,7 @@
 //! What a node says at its prompt.
 ghost use Rattle.std.specs.Prelude.{◌≡◌, ◌≤◌, ◌+◌, ◌*◌, ◌++◌, length, IfSome, Ok};
 ghost use Rattle.ax_address.specs.Callsign as calls;
-ghost use Rattle.node_prompt.specs.Prompts.{ended, prefix_of};
+ghost use Rattle.node_prompt.specs.Replies.{ended, prefix_of};
 ghost use Rattle.node_prompt.specs.Replies as replies;
 
 use crate::command::{Command, LineRefusal, command_at};
@@ -25,7 +25,7 @@ pub struct Prompt {
 }
 
 impl Model for Prompt {
-    ghost use Rattle.node_prompt.specs.Prompts.{Prompt};
+    ghost use Rattle.node_prompt.specs.Replies.{Prompt};
 
     ghost Value = { Prompt };
 

@@ -1,6 +1,6 @@
 //! The words of a line.
 ghost use Rattle.std.specs.Prelude.{◌≡◌, ◌≢◌, ◌≤◌, ◌<◌, ◌==◌, ◌∷◌, [], length, map, position, slice_get, IfSome, IfNone};
-ghost use Rattle.node_prompt.specs.Words as words;
+ghost use Rattle.node_prompt.specs.Commands as words;
 
 use arrayvec::ArrayVec;
 

@@ -3,9 +3,9 @@ use Rattle.std.proofs.Common.{◌≡◌, ◌≤◌, ◌<◌, ◌+◌, ◌∙◌,
 use Rattle.std.specs.Prelude.{Bool, true, false, not, ◌||◌, nat_eq, filter, if◌then◌else◌, Option, Some, None, Result, Ok, Err}
 use Rattle.ax_address.specs.Callsign.{Callsign}
 use Rattle.circuit_set.specs.declared.event.ConnectRefusal.{ConnectRefusal}
-use Rattle.circuit_set.specs.Inputs.{TellsLess, connect_answer}
+use Rattle.circuit_set.specs.Pumps.{TellsLess, connect_answer}
 use Rattle.circuit_set.specs.Sets as sets
-use Rattle.link_table.specs.Payloads.{OffersLeave, TakesLower}
+use Rattle.link_table.specs.Kept.{OffersLeave, TakesLower}
 use Rattle.node_prompt.specs.declared.action.Action.{Action}
 use Rattle.node_prompt.specs.declared.action.Action.TheVariants as action
 use Rattle.node_turns.specs.declared.session.Stage.{Stage}
@@ -14,10 +14,9 @@ use Rattle.node_turns.specs.declared.session.User.{User}
 use Rattle.node_turns.specs.declared.session.User.TheVariants.{AtEnd, AtLink}
 use Rattle.node_turns.specs.Asking as asking
 use Rattle.node_turns.specs.Bridging as bridging
-use Rattle.node_turns.specs.Circuits as circuits
 use Rattle.node_turns.specs.Links as links
 use Rattle.node_turns.specs.Pumping.{at_router, pump}
-use Rattle.node_turns.specs.Views.{view}
+use Rattle.node_turns.specs.Asking.{view}
 use Rattle.node_prompt.specs.Commands as commands
 use Rattle.node_prompt.specs.Replies as texts
 use Rattle.node_prompt.specs.declared.command.Command.TheVariants as command
@@ -49,7 +48,7 @@ pub record Serves (now : ℕ) (n : State) (t : Turn State) : Type 0 where
 pub record ServesAll (n : State) (t : Turn State) : Type 0 where
   pub most : work t.after ≤ work n
   pub less : t.did ≡ true → work t.after < work n
-  pub idle : t.did ≡ false → circuits.pending n.set ≡ 0 → at_router n ≡ 0 → (ss : List Session) × (t.after ≡ record n { sessions = ss })
+  pub idle : t.did ≡ false → links.pending n.set ≡ 0 → at_router n ≡ 0 → (ss : List Session) × (t.after ≡ record n { sessions = ss })
 
 module _ (offers : OffersLeave) (takes : TakesLower) (less : TellsLess) where
   -- ---- lines
@@ -250,7 +249,7 @@ module _ (offers : OffersLeave) (takes : TakesLower) (less : TellsLess) where
       by false = greeted_same b (AtLink peer) ss
 
   -- two nodes of which pumping does as little
-  pub pumps_alike : (now : ℕ) (n : State) (ss : List Session) → circuits.pending n.set ≡ 0 → at_router n ≡ 0 → IsPumped now (record n { sessions = ss })
+  pub pumps_alike : (now : ℕ) (n : State) (ss : List Session) → links.pending n.set ≡ 0 → at_router n ≡ 0 → IsPumped now (record n { sessions = ss })
   pumps_alike now n ss e f = pumped_nothing offers takes less now (record n { sessions = ss }) (rw e refl) f
 
   pub sessions_served : (now : ℕ) (n : State) → ServesAll n (serving.serve_sessions now n)

@@ -4,10 +4,10 @@ use Rattle.std.specs.Prelude.{Bool, true, false, not, ◌&&◌, if◌then◌else
 use Rattle.std.proofs.lemmas.Bool.Decides.{nat_tests}
 use Rattle.ax_address.specs.Callsign.{Callsign}
 use Rattle.circuit_set.specs.declared.event.SetRefusal.{SetRefusal}
-use Rattle.circuit_set.specs.Inputs.{TellsLess}
+use Rattle.circuit_set.specs.Pumps.{TellsLess}
 use Rattle.circuit_set.specs.Sets as sets
 use Rattle.circuit_set.specs.Standing as answers
-use Rattle.link_table.specs.Payloads.{OffersLeave, TakesLower}
+use Rattle.link_table.specs.Kept.{OffersLeave, TakesLower}
 use Rattle.link_table.specs.declared.text_refusal.TextRefusal.{TextRefusal}
 use Rattle.node_turns.specs.declared.session.Circuit.{Circuit}
 use Rattle.node_turns.specs.declared.session.Reply.{Reply}
@@ -17,7 +17,6 @@ use Rattle.node_turns.specs.declared.session.User.{User}
 use Rattle.node_turns.specs.declared.session.User.TheVariants.{AtEnd, AtLink}
 use Rattle.node_turns.specs.Asking as asking
 use Rattle.node_turns.specs.Bridging as bridging
-use Rattle.node_turns.specs.Circuits as circuits
 use Rattle.node_turns.specs.Links as links
 use Rattle.node_turns.specs.Pumping.{pump}
 use Rattle.node_turns.specs.Sessions.{Session, circuit_of}
@@ -66,23 +65,23 @@ itself n = record { units = omega arith; sessions = omega arith }
 pub session_adds : (k : ℕ) (nth : ℕ) (f : Session → Session) (n : State) → ((s : Session) → session_work (f s) ≤ session_work s + k) → Adds k n (at_session nth f n)
 session_adds k nth f n few = record { units = omega arith; sessions = changed_most k f n.sessions nth (slice_get n.sessions nth) refl few }
 
-set_adds : (a : sets.Act) (n : State) → messages (at_set (circuits.acts a) n) ≤ messages n → Adds 0 n (at_set (circuits.acts a) n)
+set_adds : (a : sets.Act) (n : State) → messages (at_set (links.acts a) n) ≤ messages n → Adds 0 n (at_set (links.acts a) n)
 set_adds a n few = record { units = omega (arith, few); sessions = omega arith }
 
-writes_less : (text : List ℕ) (now id : ℕ) (n : State) → messages (at_set (circuits.acts (sets.Calls id (sets.Writes text) now)) n) ≤ messages n
-unfolding circuits.acts
+writes_less : (text : List ℕ) (now id : ℕ) (n : State) → messages (at_set (links.acts (sets.Calls id (sets.Writes text) now)) n) ≤ messages n
+unfolding links.acts
 writes_less text now id n = writes_most n.set.set text now id
 
-closes_less : (now id : ℕ) (n : State) → messages (at_set (circuits.acts (sets.Calls id sets.Closes now)) n) ≤ messages n
-unfolding circuits.acts
+closes_less : (now id : ℕ) (n : State) → messages (at_set (links.acts (sets.Calls id sets.Closes now)) n) ≤ messages n
+unfolding links.acts
 closes_less now id n = closes_most n.set.set now id
 
-pub connects_less : (dest : Callsign) (now : ℕ) (n : State) → messages (at_set (circuits.acts (sets.Connect dest now)) n) ≤ messages n
-unfolding circuits.acts
+pub connects_less : (dest : Callsign) (now : ℕ) (n : State) → messages (at_set (links.acts (sets.Connect dest now)) n) ≤ messages n
+unfolding links.acts
 connects_less dest now n = connects_most n.set.set dest now
 
-takes_less : (now id : ℕ) (n : State) → users.has_taken (answers.take_answer (users.end_at id n)) ≡ true → messages (at_set (circuits.acts (sets.Calls id sets.Takes now)) n) < messages n
-unfolding circuits.acts
+takes_less : (now id : ℕ) (n : State) → users.has_taken (answers.take_answer (users.end_at id n)) ≡ true → messages (at_set (links.acts (sets.Calls id sets.Takes now)) n) < messages n
+unfolding links.acts
 takes_less now id n e = takes_fewer n.set.set now id e
 
 -- what is done leaves less, and what isn't leaves all
@@ -109,8 +108,8 @@ module _ (offers : OffersLeave) (takes : TakesLower) (less : TellsLess) where
   pub pumped : (now : ℕ) (n : State) → Adds 0 n (pump now n)
   pumped now n = below_adds n (pump now n) (pumped_below offers takes less now n)
 
-  pub acted : (now : ℕ) (a : sets.Act) (n : State) → messages (at_set (circuits.acts a) n) ≤ messages n → Adds 0 n (users.acts now a n)
-  acted now a n few = let m : State = at_set (circuits.acts a) n in then_adds 0 0 n m (users.acts now a n) (set_adds a n few) (pumped now m)
+  pub acted : (now : ℕ) (a : sets.Act) (n : State) → messages (at_set (links.acts a) n) ≤ messages n → Adds 0 n (users.acts now a n)
+  acted now a n few = let m : State = at_set (links.acts a) n in then_adds 0 0 n m (users.acts now a n) (set_adds a n few) (pumped now m)
 
   written : (text : List ℕ) (now id : ℕ) (r : Result (Unit {0}) SetRefusal) (n : State) → Adds 0 n (users.write_if_ok r (sets.Calls id (sets.Writes text) now) n)
   written text now id (Ok _) n = set_adds (sets.Calls id (sets.Writes text) now) n (writes_less text now id n)
@@ -175,7 +174,7 @@ module _ (offers : OffersLeave) (takes : TakesLower) (less : TellsLess) where
       message = answers.message_at [] (users.end_at id n)
 
       took : State
-      took = at_set (circuits.acts (sets.Calls id sets.Takes now)) n
+      took = at_set (links.acts (sets.Calls id sets.Takes now)) n
 
       told : State
       told = pump now took
@@ -211,7 +210,7 @@ module _ (offers : OffersLeave) (takes : TakesLower) (less : TellsLess) where
       text = answers.message_at [] (users.end_at id n)
 
       took : State
-      took = at_set (circuits.acts (sets.Calls id sets.Takes now)) n
+      took = at_set (links.acts (sets.Calls id sets.Takes now)) n
 
       begun : State
       begun = at_session nth (users.with_text text) took

@@ -2,10 +2,10 @@
 use Rattle.std.proofs.Common.{◌≡◌, ◌<◌, ℕ, refl}
 use Rattle.std.specs.Prelude.{true, false}
 use Rattle.ax_address.specs.Callsign.{Callsign}
-use Rattle.circuit_set.specs.Inputs.{TellsLess}
-use Rattle.l3_datagram.specs.CarrierCall.{Datagram}
+use Rattle.circuit_set.specs.Pumps.{TellsLess}
+use Rattle.l3_datagram.specs.Datagrams.{Datagram}
 use Rattle.link_table.specs.Calls.{collect, tell_lost}
-use Rattle.link_table.specs.Payloads.{OffersLeave, TakesLower}
+use Rattle.link_table.specs.Kept.{OffersLeave, TakesLower}
 use Rattle.link_table.specs.Table.{Table}
 use Rattle.node_turns.specs.Links as links
 

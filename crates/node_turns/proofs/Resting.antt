@@ -3,16 +3,14 @@ use Rattle.std.proofs.Common.{◌≡◌, ◌≤◌, ◌<◌, ◌-◌, ◌∙◌,
 use Rattle.std.specs.Prelude.{Bool, true, false, nat_lt, not, ◌&&◌, ◌||◌, if◌then◌else◌}
 use Rattle.std.proofs.lemmas.Bool.Decides.{nat_tests}
 use Rattle.ax_address.specs.Callsign.{Callsign}
-use Rattle.circuit_set.specs.Inputs.{TellsLess}
-use Rattle.circuit_set.specs.Pumps.{Offers, Says, Turn}
-use Rattle.l3_datagram.specs.CarrierCall.{Parcel}
+use Rattle.circuit_set.specs.Pumps.{TellsLess, Offers, Says, Turn}
+use Rattle.l3_datagram.specs.Datagrams.{Parcel}
 use Rattle.link_table.specs.Calls.{collect, tell_lost}
-use Rattle.link_table.specs.Payloads.{OffersLeave, TakesLower}
+use Rattle.link_table.specs.Kept.{OffersLeave, TakesLower}
 use Rattle.link_table.specs.Table.{Table}
-use Rattle.node_turns.specs.Circuits as circuits
 use Rattle.node_turns.specs.Links as links
 use Rattle.node_turns.specs.Pumping as p
-use Rattle.node_turns.specs.Settling as s
+use Rattle.node_turns.specs.Serving as s
 use Rattle.node_turns.specs.States.{State, next_hop}
 use Rattle.node_turns.proofs.Parts.{Leaves, collect_payloads, lost_payloads, offer_leaves, taken, untaken}
 use Rattle.node_turns.proofs.Telling.{told_kept, told_nothing, told_on, told_rests}
@@ -29,22 +27,22 @@ module _ (offers : OffersLeave) (takes : TakesLower) (less : TellsLess) where
   abbrev pub Same : State → State → Type 0
   Same old new = Leaves old.links new.links
 
-  same_by : (now : ℕ) (o n : State) (b : Bool) → nat_lt 0 (circuits.pending n.set) ≡ b → Same o n → Same o (p.tell_turn now n).after
+  same_by : (now : ℕ) (o n : State) (b : Bool) → nat_lt 0 (links.pending n.set) ≡ b → Same o n → Same o (p.tell_turn now n).after
   same_by now o n true e same =
-      let more = talked_leaves now (circuits.tells (next_hop n) n.set) n in
+      let more = talked_leaves now (links.tells (next_hop n) n.set) n in
       rw e (record { waiting = more.waiting ∙ same.waiting; lost = more.lost ∙ same.lost; notices = more.notices ∙ same.notices; payloads = more.payloads ∙ same.payloads })
   same_by now o n false e same = rw e same
 
   pub told_same : (now : ℕ) (n : State) → Same n (p.tell_all now n)
   told_same now n =
-      told_kept now (Same n) (λ m same. same_by now n m (nat_lt 0 (circuits.pending m.set)) refl same) n
+      told_kept now (Same n) (λ m same. same_by now n m (nat_lt 0 (links.pending m.set)) refl same) n
       (record { waiting = refl; lost = refl; notices = refl; payloads = refl })
 
-  last_by : (now : ℕ) (n : State) → nat_lt 0 (circuits.pending n.set) ≡ false → circuits.pending (p.tell_turn now n).after.set ≡ 0
+  last_by : (now : ℕ) (n : State) → nat_lt 0 (links.pending n.set) ≡ false → links.pending (p.tell_turn now n).after.set ≡ 0
   last_by now n e = rw e (grind (arith, nat_tests, e))
 
   -- once all is told, nothing waits to be told
-  pub told_none : (now : ℕ) (n : State) → circuits.pending (p.tell_all now n).set ≡ 0
+  pub told_none : (now : ℕ) (n : State) → links.pending (p.tell_all now n).set ≡ 0
   told_none now n =
       let r = told_rests now n in
       rw r.is (last_by now r.last r.nothing)
@@ -67,7 +65,7 @@ module _ (offers : OffersLeave) (takes : TakesLower) (less : TellsLess) where
   asked_by now n [] (parcel ∷ parcels) e f =
       let m : State = record n { links = collect n.links } in
       let here : (collect n.links).pending.waiting ≡ parcels = ap (drop 1) f in
-      let talk = talked_leaves now (circuits.hears (next_hop n) now parcel n.set) m in
+      let talk = talked_leaves now (links.hears (next_hop n) now parcel n.set) m in
       record {
         one = rw (talk.lost, talk.waiting, here, e, f) (omega arith);
         notices = talk.notices;
@@ -81,11 +79,11 @@ module _ (offers : OffersLeave) (takes : TakesLower) (less : TellsLess) where
   -- what is pumped dry
   pub record Dry (old new : State) : Type 0 where
     pub router : p.at_router new ≡ 0
-    pub pending : circuits.pending new.set ≡ 0
+    pub pending : links.pending new.set ≡ 0
     pub notices : new.links.pending.notices ≡ old.links.pending.notices
     pub payloads : links.payloads new.links ≡ links.payloads old.links
 
-  pub routed_dry : (now k : ℕ) (n : State) → p.at_router n ≡ k → circuits.pending n.set ≡ 0 → Dry n (p.ask_times now k n)
+  pub routed_dry : (now k : ℕ) (n : State) → p.at_router n ≡ k → links.pending n.set ≡ 0 → Dry n (p.ask_times now k n)
   routed_dry now zero n e none = record { router = e; pending = none; notices = refl; payloads = refl }
   routed_dry now (suc k) n e none =
       let one = asked_one now n in
@@ -142,16 +140,16 @@ module _ (offers : OffersLeave) (takes : TakesLower) (less : TellsLess) where
   -- ---- a turn
 
   -- where nothing waits to be told or routed, pumping does nothing
-  pub pumped_nothing : (now : ℕ) (n : State) → nat_lt 0 (circuits.pending n.set) ≡ false → p.at_router n ≡ 0 → p.pump now n ≡ n
+  pub pumped_nothing : (now : ℕ) (n : State) → nat_lt 0 (links.pending n.set) ≡ false → p.at_router n ≡ 0 → p.pump now n ≡ n
   unfolding p.pump
   pumped_nothing now n e f = rw f (told_nothing now n e)
 
   pub record Quiet (n : State) : Type 0 where
     pub notices : s.has_some (n.links.pending.notices) ≡ false
-    pub pending : nat_lt 0 (circuits.pending n.set) ≡ false
+    pub pending : nat_lt 0 (links.pending n.set) ≡ false
     pub router : p.at_router n ≡ 0
 
-  quiet_by : (n : State) (a b c : Bool) → s.has_some (n.links.pending.notices) ≡ a → nat_lt 0 (circuits.pending n.set) ≡ b → nat_lt 0 (p.at_router n) ≡ c
+  quiet_by : (n : State) (a b c : Bool) → s.has_some (n.links.pending.notices) ≡ a → nat_lt 0 (links.pending n.set) ≡ b → nat_lt 0 (p.at_router n) ≡ c
       → (not a && (not b && not c)) ≡ true → Quiet n
   quiet_by n true b c e f g q = absurd (grind (arith, q))
   quiet_by n false true c e f g q = absurd (grind (arith, q))
@@ -159,10 +157,10 @@ module _ (offers : OffersLeave) (takes : TakesLower) (less : TellsLess) where
   quiet_by n false false false e f g q = record { notices = e; pending = f; router = grind (arith, nat_tests, g) }
 
   pub quiet_is : (n : State) → is_quiet n ≡ true → Quiet n
-  quiet_is n q = quiet_by n (s.has_some (n.links.pending.notices)) (nat_lt 0 (circuits.pending n.set)) (nat_lt 0 (p.at_router n)) refl refl refl q
+  quiet_is n q = quiet_by n (s.has_some (n.links.pending.notices)) (nat_lt 0 (links.pending n.set)) (nat_lt 0 (p.at_router n)) refl refl refl q
 
   -- what is pumped dry, and has no notice, is quiet
-  pub dry_is_quiet : (n : State) → n.links.pending.notices ≡ [] → circuits.pending n.set ≡ 0 → p.at_router n ≡ 0 → is_quiet n ≡ true
+  pub dry_is_quiet : (n : State) → n.links.pending.notices ≡ [] → links.pending n.set ≡ 0 → p.at_router n ≡ 0 → is_quiet n ≡ true
   dry_is_quiet n e f g = rw (e, f, g) refl
 
   pub same_entries : (n : State) → s.has_told n n ≡ false
@@ -178,18 +176,18 @@ module _ (offers : OffersLeave) (takes : TakesLower) (less : TellsLess) where
   -- ---- the pumping, call by call
 
   -- where something waits to be told, the set tells it and is pumped on
-  pub tells_on : (now : ℕ) (n : State) → nat_lt 0 (circuits.pending n.set) ≡ true → p.pump now n ≡ p.pump now (p.tell_one now n)
+  pub tells_on : (now : ℕ) (n : State) → nat_lt 0 (links.pending n.set) ≡ true → p.pump now n ≡ p.pump now (p.tell_one now n)
   unfolding p.pump
   tells_on now n e =
-      let leaves = talked_leaves now (circuits.tells (next_hop n) n.set) n in
+      let leaves = talked_leaves now (links.tells (next_hop n) n.set) n in
       let same : p.at_router (p.tell_one now n) ≡ p.at_router n = rw (leaves.lost, leaves.waiting) refl in
       rw (same, told_on now n e) refl
 
-  asks_by : (now k : ℕ) (n : State) → nat_lt 0 (circuits.pending n.set) ≡ false → p.at_router n ≡ suc k → p.at_router (p.ask now n) ≡ k
+  asks_by : (now k : ℕ) (n : State) → nat_lt 0 (links.pending n.set) ≡ false → p.at_router n ≡ suc k → p.at_router (p.ask now n) ≡ k
       → p.pump now n ≡ p.pump now (p.ask now n)
   unfolding p.pump
   asks_by now k n e f g = rw (f, g, told_nothing now n e) refl
 
   -- where nothing does and something waits at the router, that is asked and the set pumped on
-  pub asks_on : (now k : ℕ) (n : State) → nat_lt 0 (circuits.pending n.set) ≡ false → p.at_router n ≡ suc k → p.pump now n ≡ p.pump now (p.ask now n)
+  pub asks_on : (now k : ℕ) (n : State) → nat_lt 0 (links.pending n.set) ≡ false → p.at_router n ≡ suc k → p.pump now n ≡ p.pump now (p.ask now n)
   asks_on now k n e f = asks_by now k n e f ((asked_one now n).one ∙ omega (arith, f))

@@ -3,15 +3,13 @@ use Rattle.std.proofs.Common.{◌≡◌, ◌<◌, ◌+◌, ◌∙◌, ℕ, refl,
 use Rattle.std.specs.Prelude.{Bool, true, false, nat_lt, if◌then◌else◌, is_some, Option, Some, None, Result, Ok, Err}
 use Rattle.std.proofs.lemmas.Bool.Decides.{nat_tests}
 use Rattle.ax_address.specs.Callsign.{Callsign}
-use Rattle.circuit_set.specs.Inputs.{OfEach}
+use Rattle.circuit_set.specs.Pumps.{OfEach, Offers, Says, Turn, Turned, Waiting, weight, weights}
 use Rattle.circuit_set.specs.Pumps as pumps
-use Rattle.circuit_set.specs.Pumps.{Offers, Says, Turn, Turned, Waiting, weight, weights}
 use Rattle.circuit_set.specs.Sets.{SetState, CircuitTold, Made, Sent, Heeded, Notice, Gone, Restarted, Lost}
 use Rattle.l3_datagram.specs.Datagrams.{head_at}
 use Rattle.l3_datagram.specs.declared.datagram.DatagramHead.{DatagramHead}
 use Rattle.l3_datagram.specs.declared.datagram.DatagramRefusal.{DatagramRefusal}
 use Rattle.l3_datagram.specs.declared.routed.Routed.{Routed}
-use Rattle.node_turns.specs.Circuits as circuits
 use Rattle.node_turns.specs.Links as links
 use Rattle.node_turns.specs.Pumping as p
 use Rattle.node_turns.specs.States.{State, next_hop}
@@ -47,20 +45,20 @@ module _ (hop : Callsign → Option Callsign) (s : SetState) (rest : List Circui
   first_rest (Restarted pair) = refl
   first_rest (Lost id facts) = refl
 
-tells_rest : (hop : Callsign → Option Callsign) (w : Waiting) (t : CircuitTold) (rest : List CircuitTold) → w.lost ≡ None → w.untold ≡ t ∷ rest → OfEach (λ u. u.after.untold ≡ rest) (circuits.tells hop w)
-unfolding circuits.tells
+tells_rest : (hop : Callsign → Option Callsign) (w : Waiting) (t : CircuitTold) (rest : List CircuitTold) → w.lost ≡ None → w.untold ≡ t ∷ rest → OfEach (λ u. u.after.untold ≡ rest) (links.tells hop w)
+unfolding links.tells
 tells_rest hop w t rest e f = rw (e, f) (first_rest hop w.set rest t)
 
-tells_outcome : (hop : Callsign → Option Callsign) (w : Waiting) (r : Routed) → w.lost ≡ Some r → OfEach (λ u. (u.after.untold ≡ w.untold) × (u.after.lost ≡ None)) (circuits.tells hop w)
-unfolding circuits.tells
+tells_outcome : (hop : Callsign → Option Callsign) (w : Waiting) (r : Routed) → w.lost ≡ Some r → OfEach (λ u. (u.after.untold ≡ w.untold) × (u.after.lost ≡ None)) (links.tells hop w)
+unfolding links.tells
 tells_outcome hop w r e = rw e (refl, refl)
 
 rest_left : (now : ℕ) (n : State) (t : CircuitTold) (rest : List CircuitTold) → n.set.lost ≡ None → n.set.untold ≡ t ∷ rest → (p.tell_one now n).set.untold ≡ rest
-rest_left now n t rest e f = talked now (λ w. w.untold ≡ rest) (circuits.tells (next_hop n) n.set) n (tells_rest (next_hop n) n.set t rest e f)
+rest_left now n t rest e f = talked now (λ w. w.untold ≡ rest) (links.tells (next_hop n) n.set) n (tells_rest (next_hop n) n.set t rest e f)
 
 outcome_left : (now : ℕ) (n : State) (r : Routed) → n.set.lost ≡ Some r → ((p.tell_one now n).set.untold ≡ n.set.untold) × ((p.tell_one now n).set.lost ≡ None)
 outcome_left now n r e =
-    talked now (λ w. (w.untold ≡ n.set.untold) × (w.lost ≡ None)) (circuits.tells (next_hop n) n.set) n (tells_outcome (next_hop n) n.set r e)
+    talked now (λ w. (w.untold ≡ n.set.untold) × (w.lost ≡ None)) (links.tells (next_hop n) n.set) n (tells_outcome (next_hop n) n.set r e)
 
 -- ---- whether something is untold
 
@@ -73,19 +71,19 @@ some_weight (Gone id facts) = omega arith
 some_weight (Restarted pair) = omega arith
 some_weight (Lost id facts) = omega arith
 
-none_pending : (w : Waiting) → w.lost ≡ None → w.untold ≡ [] → nat_lt 0 (circuits.pending w) ≡ false
-unfolding circuits.pending
+none_pending : (w : Waiting) → w.lost ≡ None → w.untold ≡ [] → nat_lt 0 (links.pending w) ≡ false
+unfolding links.pending
 none_pending w e f = rw (e, f) refl
 
-first_pending : (w : Waiting) (t : CircuitTold) (rest : List CircuitTold) → w.lost ≡ None → w.untold ≡ t ∷ rest → nat_lt 0 (circuits.pending w) ≡ true
-unfolding circuits.pending
+first_pending : (w : Waiting) (t : CircuitTold) (rest : List CircuitTold) → w.lost ≡ None → w.untold ≡ t ∷ rest → nat_lt 0 (links.pending w) ≡ true
+unfolding links.pending
 first_pending w t rest e f =
     let some = some_weight t in
     let more : 0 < 0 + (weight t + weights rest) = omega (arith, some) in
     rw (e, f) (grind (arith, nat_tests, more))
 
-outcome_pending : (w : Waiting) (r : Routed) → w.lost ≡ Some r → nat_lt 0 (circuits.pending w) ≡ true
-unfolding circuits.pending
+outcome_pending : (w : Waiting) (r : Routed) → w.lost ≡ Some r → nat_lt 0 (links.pending w) ≡ true
+unfolding links.pending
 outcome_pending w r e =
     let more : 0 < 1 + weights w.untold = omega arith in
     rw e (grind (arith, nat_tests, more))

@@ -3,8 +3,7 @@ use Rattle.std.proofs.Common.{◌≡◌, ◌≤◌, ◌+◌, ◌∙◌, ◌==◌
 use Rattle.std.specs.Prelude.{Bool, true, false, if◌then◌else◌, ◌||◌, ◌&&◌, nat_le, is_some, Option, Some, None}
 use Rattle.std.proofs.lemmas.Bool.Decides.{nat_tests}
 use Rattle.radio_base.specs.declared.payload.Payload.{Payload}
-use Rattle.ax_address.specs.Callsign.{Callsign}
-use Rattle.ax_address.specs.CallOrder.{same_call}
+use Rattle.ax_address.specs.Callsign.{Callsign, same_call}
 use Rattle.ax_link.specs.Moves as moves
 use Rattle.ax_link.specs.Moves.{first_early, follow_by, next_early, resume, take_next}
 use Rattle.ax_link.specs.State.{Effect, State, begin, busy, count_end, is_up}
@@ -13,9 +12,8 @@ use Rattle.ax_link.specs.Table.{Take, step}
 use Rattle.ax_segment.specs.Joining.{HeldMessage, join_step}
 use Rattle.link_table.specs.Calls as calls
 use Rattle.link_table.specs.Frames.{netrom, plain_text, segmented}
-use Rattle.link_table.specs.Payloads.{all_payloads, filled, link_payloads, payloads}
+use Rattle.link_table.specs.Kept.{all_payloads, filled, link_payloads, payloads}
 use Rattle.link_table.specs.Table.{Linked, Table, link_with, with_link, without}
-use Rattle.link_table.specs.Sending as sending
 use Rattle.link_table.specs.Texts as texts
 use Rattle.link_table.specs.Works.{Work, first_to_take, is_down, is_text, most_taken, settle, step_link, take_payload, unless_text}
 use Rattle.node_turns.specs.Links as links
@@ -198,12 +196,12 @@ send_same : (s : State) (p : Payload) (now : ℕ) (b : Bool) → link_payloads (
 send_same s p now true = refl
 send_same s p now false = refl
 
-each_same : (own : Callsign) (ps : List Payload) (now : ℕ) (w : Work) → link_payloads (sending.send_each own ps now w).linked.link ≡ link_payloads w.linked.link
+each_same : (own : Callsign) (ps : List Payload) (now : ℕ) (w : Work) → link_payloads (texts.send_each own ps now w).linked.link ≡ link_payloads w.linked.link
 each_same own [] now w = refl
 each_same own (p ∷ ps) now w =
     each_same own ps now (step_link own (link.Send p) now w) ∙ send_same w.linked.link p _ (link.takes w.linked.link)
 
-each_waits : (own : Callsign) (ps : List Payload) (now : ℕ) (w : Work) → (sending.send_each own ps now w).pending.waiting ≡ w.pending.waiting
+each_waits : (own : Callsign) (ps : List Payload) (now : ℕ) (w : Work) → (texts.send_each own ps now w).pending.waiting ≡ w.pending.waiting
 each_waits own [] now w = refl
 each_waits own (p ∷ ps) now w = each_waits own ps now (step_link own (link.Send p) now w)
 
@@ -218,7 +216,7 @@ at_link_most peer part t same waits (Some l) e =
 pub sent_most : (peer : Callsign) (text : List ℕ) (now : ℕ) (t : Table) → Most t (links.send_text peer text now t)
 unfolding links.send_text links.payloads
 sent_most peer text now t =
-    let x = at_link_most peer (sending.send_text_of t.own text now) t (λ w. each_same t.own (sending.payloads_of w.linked.link.rules.size text) now w) (λ w. each_waits t.own (sending.payloads_of w.linked.link.rules.size text) now w) (link_with peer t.links) refl in
+    let x = at_link_most peer (texts.send_text_of t.own text now) t (λ w. each_same t.own (texts.payloads_of w.linked.link.rules.size text) now w) (λ w. each_waits t.own (texts.payloads_of w.linked.link.rules.size text) now w) (link_with peer t.links) refl in
     record { payloads = x.0; waiting = x.1 }
 
 finished_same : (now : ℕ) (g : Effect) (b : Bool) → link_payloads (if b then moves.release now g else g).link ≡ link_payloads g.link

@@ -1,7 +1,7 @@
 -- How much a node has left to do, by weights: each thing that is done leaves less. So the turns that follow an input come to an end; what
 -- they come to doesn't hang on these weights.
 use Rattle.std.specs.Prelude.{ℕ, ◌+◌, ◌*◌, max, Bool, true, false, not, ◌&&◌, ◌||◌, nat_eq, nat_lt, if◌then◌else◌, suc, Option, Some, None, List, [], ◌∷◌, length}
-use Rattle.circuit_l4.specs.Receiving.{inbox}
+use Rattle.circuit_l4.specs.State.{inbox}
 use Rattle.circuit_set.specs.Sets.{Holder}
 use Rattle.circuit_l4.specs.declared.piece.Piece.{Piece}
 use Rattle.node_turns.specs.declared.session.Circuit.{Circuit}
@@ -9,7 +9,7 @@ use Rattle.node_turns.specs.declared.session.Stage.{Stage}
 use Rattle.node_turns.specs.declared.session.Stage.TheVariants.{AtPrompt, Trying, Failed, Connected}
 use Rattle.node_turns.specs.Pumping.{at_router, pending}
 use Rattle.node_turns.specs.Sessions.{Session, circuit_of}
-use Rattle.node_turns.specs.Settling.{has_some, payloads}
+use Rattle.node_turns.specs.Serving.{has_some, payloads}
 use Rattle.node_turns.specs.States.{State}
 
 -- nothing is to be entered, told or routed

@@ -5,14 +5,12 @@ use Rattle.ax_address.specs.Callsign.{Callsign}
 use Rattle.ax_link.specs.declared.notice.LinkNotice.{LinkNotice}
 use Rattle.circuit_l4.specs.declared.notice.EndNotice.{EndNotice}
 use Rattle.circuit_l4.specs.declared.notice.EndNotice.TheVariants as end
-use Rattle.circuit_set.specs.Inputs.{OfEach, TellsLess}
+use Rattle.circuit_set.specs.Pumps.{OfEach, TellsLess, Of, Offers, Says, SetTold, Turn, Turned, Waiting}
 use Rattle.circuit_set.specs.Pumps as pumps
-use Rattle.circuit_set.specs.Pumps.{Of, Offers, Says, SetTold, Turn, Turned, Waiting}
 use Rattle.circuit_set.specs.Sets as sets
 use Rattle.circuit_set.specs.Sets.{SetState}
-use Rattle.l3_datagram.specs.CarrierCall.{Parcel}
-use Rattle.l3_datagram.specs.Datagrams.{head_at}
-use Rattle.l3_datagram.specs.Hops.{Way, Ends, ToNeighbour, forwarded_by, way}
+use Rattle.l3_datagram.specs.Datagrams.{Parcel, head_at}
+use Rattle.l3_datagram.specs.Routers.{Way, Ends, ToNeighbour, forwarded_by, way}
 use Rattle.l3_datagram.specs.declared.carrier.Offered.{Offered}
 use Rattle.l3_datagram.specs.declared.carrier.Offered.TheVariants.{Taken, Dropped as No_room}
 use Rattle.l3_datagram.specs.declared.datagram.DatagramHead.{DatagramHead}
@@ -20,19 +18,18 @@ use Rattle.l3_datagram.specs.declared.datagram.DatagramRefusal.{DatagramRefusal}
 use Rattle.l3_datagram.specs.declared.routed.Routed.{Routed}
 use Rattle.l3_datagram.specs.declared.routed.Routed.TheVariants as routed
 use Rattle.link_table.specs.Calls.{collect}
-use Rattle.link_table.specs.Payloads.{OffersLeave, TakesLower}
+use Rattle.link_table.specs.Kept.{OffersLeave, TakesLower}
 use Rattle.node_turns.specs.declared.session.Circuit.{Circuit}
 use Rattle.node_turns.specs.declared.session.Stage.{Stage}
 use Rattle.node_turns.specs.declared.session.Stage.TheVariants.{AtPrompt, Trying, Failed, Connected}
 use Rattle.node_turns.specs.declared.session.Reply.TheVariants as reply
 use Rattle.node_turns.specs.declared.session.User.{User}
 use Rattle.node_turns.specs.declared.session.User.TheVariants.{AtEnd}
-use Rattle.node_turns.specs.Circuits as circuits
 use Rattle.node_turns.specs.Links as links
 use Rattle.node_turns.specs.Pumping as p
 use Rattle.node_turns.specs.Sessions as s
 use Rattle.node_turns.specs.Sessions.{Session, circuit_of}
-use Rattle.node_turns.specs.Settling.{payloads}
+use Rattle.node_turns.specs.Serving.{payloads}
 use Rattle.node_turns.specs.States.{State, at_links, next_hop}
 use Rattle.node_turns.proofs.Heaping.{comes_most}
 use Rattle.node_turns.proofs.Parts.{collect_payloads, lost_payloads, offer_leaves}
@@ -148,8 +145,8 @@ told_same hop set ts (Some r) = refl
 told_same hop set [] None = refl
 told_same hop set (t ∷ ts) None = first_same hop set t ts
 
-tells_same : (hop : Callsign → Option Callsign) (w : Waiting) → OfEach (λ u. u.after.set ≡ w.set) (circuits.tells hop w)
-unfolding circuits.tells
+tells_same : (hop : Callsign → Option Callsign) (w : Waiting) → OfEach (λ u. u.after.set ≡ w.set) (links.tells hop w)
+unfolding links.tells
 tells_same hop w = told_same hop w.set w.untold w.lost
 
 heard_most : (now : ℕ) (w : Waiting) (r : Routed) → messages_but [] (pumps.heard_as now w r).after.set.ends ≤ suc (messages_but [] w.set.ends)
@@ -170,8 +167,8 @@ way_most now w (ToNeighbour to d) = by
     by Taken = omega arith
     by No_room = omega arith
 
-hears_most : (hop : Callsign → Option Callsign) (now : ℕ) (parcel : Parcel) (w : Waiting) → OfEach (λ u. messages_but [] u.after.set.ends ≤ suc (messages_but [] w.set.ends)) (circuits.hears hop now parcel w)
-unfolding circuits.hears
+hears_most : (hop : Callsign → Option Callsign) (now : ℕ) (parcel : Parcel) (w : Waiting) → OfEach (λ u. messages_but [] u.after.set.ends ≤ suc (messages_but [] w.set.ends)) (links.hears hop now parcel w)
+unfolding links.hears
 hears_most hop now parcel w = way_most now w (way w.set.own hop parcel.1)
 
 -- ---- the pumping
@@ -206,7 +203,7 @@ module _ (offers : OffersLeave) (takes : TakesLower) (less : TellsLess) where
 
   told_below : (now : ℕ) (n : State) → Below n (p.tell_one now n)
   told_below now n =
-      turned now (messages n) n n (circuits.tells (next_hop n) n.set) refl (omega arith) (each (circuits.tells (next_hop n) n.set) (tells_same (next_hop n) n.set))
+      turned now (messages n) n n (links.tells (next_hop n) n.set) refl (omega arith) (each (links.tells (next_hop n) n.set) (tells_same (next_hop n) n.set))
     where
       each : (t : Turn) → OfEach (λ u. u.after.set ≡ n.set.set) t → OfEach (λ u. messages_but [] u.after.set.ends ≤ messages n) t
       each (Says u) e = rw e (omega arith)
@@ -220,7 +217,7 @@ module _ (offers : OffersLeave) (takes : TakesLower) (less : TellsLess) where
   all_below now n = told_kept now (Below n) (λ m x. tell_below now n m (nat_lt 0 (p.pending m)) x) n (same_below n)
 
   asked_below : (now : ℕ) (n : State) (lost : List Callsign) (waiting : List Parcel) → n.links.pending.lost ≡ lost → n.links.pending.waiting ≡ waiting → Below n (p.ask_for now lost waiting n)
-  unfolding circuits.hears_lost
+  unfolding links.hears_lost
   asked_below now n (c ∷ cs) waiting e f =
       let same = lost_payloads n.links in
       record { units = omega (arith, same); sessions = heard_less n.settings.prompt (Some (pumps.Lost c)) n.sessions }
@@ -228,7 +225,7 @@ module _ (offers : OffersLeave) (takes : TakesLower) (less : TellsLess) where
       let m : State = at_links collect n in
       let same = collect_payloads n.links in
       let fewer : suc (length m.links.pending.waiting) ≡ length n.links.pending.waiting = rw f refl in
-      turned now (suc (messages n)) n m (circuits.hears (next_hop n) now parcel n.set) refl (omega (arith, same, fewer)) (hears_most (next_hop n) now parcel n.set)
+      turned now (suc (messages n)) n m (links.hears (next_hop n) now parcel n.set) refl (omega (arith, same, fewer)) (hears_most (next_hop n) now parcel n.set)
   asked_below now n [] [] e f = same_below n
 
   times_below : (now k : ℕ) (n : State) → Below n (p.ask_times now k n)

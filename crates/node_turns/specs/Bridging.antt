@@ -2,7 +2,7 @@
 use Rattle.std.specs.Prelude.{ℕ, Bool, true, false, not, ◌&&◌, nat_lt, if◌then◌else◌, List, [], ◌∷◌, ◌++◌, length, drop, slice_get, Option, Some, None}
 use Rattle.circuit_set.specs.Sets as sets
 use Rattle.circuit_set.specs.Standing as answers
-use Rattle.node_prompt.specs.Prompts.{Prompt}
+use Rattle.node_prompt.specs.Replies.{Prompt}
 use Rattle.node_prompt.specs.Replies as texts
 use Rattle.node_turns.specs.declared.session.Circuit.{Circuit}
 use Rattle.node_turns.specs.declared.session.Reply.{Reply}

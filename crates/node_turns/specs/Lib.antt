@@ -1,12 +1,9 @@
 pub mod Turns
 pub mod Links
-pub mod Circuits
 pub mod Sessions
 pub mod States
 pub mod Pumping
 pub mod Users
 pub mod Bridging
-pub mod Views
 pub mod Asking
 pub mod Serving
-pub mod Settling

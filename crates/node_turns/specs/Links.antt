@@ -1,17 +1,19 @@
 -- The links of a node, as the machine of `link_table` has them. Each step stands shut here: no goal about a node sees through it.
-use Rattle.std.specs.Prelude.{ℕ, Bool, is_some, List, [], map, unwrap_or, Result}
+use Rattle.std.specs.Prelude.{ℕ, Bool, is_some, List, [], map, unwrap_or, Result, Option}
 use Rattle.ax_address.specs.Callsign.{Callsign}
 use Rattle.ax_frame.specs.Frames.{Frame}
-use Rattle.l3_datagram.specs.CarrierCall.{Datagram}
+use Rattle.l3_datagram.specs.Datagrams.{Datagram, Parcel}
 use Rattle.l3_datagram.specs.declared.carrier.Offered.{Offered}
 use Rattle.link_table.specs.Calls as calls
-use Rattle.link_table.specs.Fetching as fetching
-use Rattle.link_table.specs.Payloads as kept
-use Rattle.link_table.specs.Sending as sending
-use Rattle.link_table.specs.Table.{Table}
+use Rattle.link_table.specs.Table as fetching
+use Rattle.link_table.specs.Kept as kept
 use Rattle.link_table.specs.Texts as texts
+use Rattle.link_table.specs.Table.{Table}
 use Rattle.link_table.specs.declared.text_refusal.TextRefusal.{TextRefusal}
 use Rattle.link_table.specs.declared.written.Written.{Written}
+use Rattle.circuit_set.specs.Pumps as pumps
+use Rattle.circuit_set.specs.Pumps.{Turn, Turned, Waiting}
+use Rattle.circuit_set.specs.Sets.{Act}
 
 unfoldable pub arrive : Frame → ℕ → Table → Table
 arrive f now t = calls.arrive f now t
@@ -43,10 +45,10 @@ unfoldable pub room : Callsign → Table → ℕ
 room peer t = texts.room peer t
 
 unfoldable pub text_answer : Callsign → List ℕ → Table → Result (Unit {0}) TextRefusal
-text_answer peer text t = sending.text_answer peer text t
+text_answer peer text t = texts.text_answer peer text t
 
 unfoldable pub send_text : Callsign → List ℕ → ℕ → Table → Table
-send_text peer text now t = sending.send_text peer text now t
+send_text peer text now t = texts.send_text peer text now t
 
 unfoldable pub close : Callsign → ℕ → Table → Table
 close peer now t = calls.close peer now t
@@ -71,3 +73,28 @@ all_fetched t = record t { pending = record t.pending { frames = [] } }
 
 abbrev pub all_noticed : Table → Table
 all_noticed t = record t { pending = record t.pending { notices = [] } }
+
+-- The circuits of a node, as the machine of `circuit_set` has them. Each step stands shut here: no goal about a node sees through it.
+
+-- how much is untold
+unfoldable pub pending : Waiting → ℕ
+pending w = pumps.untold_weight w
+
+-- the first that is untold is told
+unfoldable pub tells : (Callsign → Option Callsign) → Waiting → Turn
+tells next_hop w = pumps.tells next_hop w
+
+-- a datagram that waits at the router is taken
+unfoldable pub hears : (Callsign → Option Callsign) → ℕ → Parcel → Waiting → Turn
+hears next_hop now parcel w = pumps.hears next_hop now parcel w
+
+-- a neighbour was lost
+unfoldable pub hears_lost : Callsign → Waiting → Turned
+hears_lost neighbour w = pumps.hears_lost neighbour w
+
+unfoldable pub ticks : ℕ → Waiting → Waiting
+ticks now w = pumps.ticks now w
+
+-- one input of a user
+unfoldable pub acts : Act → Waiting → Waiting
+acts act w = pumps.acts act w

@@ -3,9 +3,9 @@ use Rattle.std.specs.Prelude.{ℕ, zero, suc, ◌+◌, nat_lt, if◌then◌else�
 use Rattle.ax_address.specs.Callsign.{Callsign}
 use Rattle.circuit_set.specs.Pumps.{SetTold, Turn, Turned, Says, Offers}
 use Rattle.circuit_set.specs.Sets.{CircuitTold}
-use Rattle.l3_datagram.specs.CarrierCall.{Parcel}
+use Rattle.l3_datagram.specs.Datagrams.{Parcel}
 use Rattle.link_table.specs.Calls.{collect, tell_lost}
-use Rattle.node_turns.specs.Circuits as circuits
+use Rattle.node_turns.specs.Links as circuits
 use Rattle.node_turns.specs.Links.{offer, offer_answer}
 use Rattle.node_turns.specs.Sessions.{hear_if}
 use Rattle.node_turns.specs.States.{Entry, Of_set, State, at_links, next_hop}

@@ -1,8 +1,7 @@
 -- The user's side of a session, which is an end of a circuit or a link: whether it has ended, whether it has room, and what is said to
 -- it. Own profile.
 use Rattle.std.specs.Prelude.{ℕ, Bool, true, false, ◌||◌, ◌&&◌, not, nat_le, if◌then◌else◌, is_none, List, [], ◌∷◌, ◌++◌, take, slice_get, slice_set, Option, Some, None, Result, Ok, Err}
-use Rattle.ax_address.specs.Callsign.{Callsign}
-use Rattle.ax_address.specs.CallOrder.{same_call}
+use Rattle.ax_address.specs.Callsign.{Callsign, same_call}
 use Rattle.circuit_l4.specs.declared.facts.EndFacts.{EndFacts}
 use Rattle.circuit_l4.specs.declared.refusal.WriteRefusal.TheVariants.{Exhausted}
 use Rattle.circuit_l4.specs.State.{is_up}
@@ -15,7 +14,6 @@ use Rattle.circuit_set.specs.declared.event.SetRefusal.TheVariants as set_refusa
 use Rattle.link_table.specs.declared.text_refusal.TextRefusal.{TextRefusal}
 use Rattle.node_turns.specs.declared.session.User.{User}
 use Rattle.node_turns.specs.declared.session.User.TheVariants.{AtEnd, AtLink}
-use Rattle.node_turns.specs.Circuits as circuits
 use Rattle.node_turns.specs.Links as links
 use Rattle.node_turns.specs.Pumping.{pump}
 use Rattle.node_turns.specs.Sessions.{Session}
@@ -58,11 +56,11 @@ end_has_room id n = room_by (facts id n)
 
 -- an input of the circuits, after which they are pumped
 abbrev pub acts : ℕ → sets.Act → State → State
-acts now act n = pump now (at_set (circuits.acts act) n)
+acts now act n = pump now (at_set (links.acts act) n)
 
 -- a text is written where that isn't refused
 abbrev pub write_if_ok : Result (Unit {0}) SetRefusal → sets.Act → State → State
-write_if_ok (Ok _) act n = at_set (circuits.acts act) n
+write_if_ok (Ok _) act n = at_set (links.acts act) n
 write_if_ok (Err why) act n = n
 
 abbrev pub write_answer : ℕ → List ℕ → State → Result (Unit {0}) SetRefusal
@@ -215,7 +213,7 @@ take_if false taken n = idle n
 abbrev pub take_from_end : ℕ → ℕ → ℕ → State → Turn State
 take_from_end now nth id n =
     take_if (has_taken (answers.take_answer (end_at id n)))
-    (pump now (at_session nth (with_text (answers.message_at [] (end_at id n))) (at_set (circuits.acts (sets.Calls id sets.Takes now)) n))) n
+    (pump now (at_session nth (with_text (answers.message_at [] (end_at id n))) (at_set (links.acts (sets.Calls id sets.Takes now)) n))) n
 
 abbrev pub take_from_link : ℕ → ℕ → Callsign → State → Turn State
 take_from_link now nth peer n =

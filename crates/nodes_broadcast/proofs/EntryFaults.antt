@@ -4,15 +4,14 @@ use Rattle.std.specs.Prelude.{Option, Some, None, Result, Ok, Err}
 use Rattle.std.proofs.lemmas.List.{append_assoc, drop-take, take-take, take-append-le, length-append, length-drop, length-take}
 use Rattle.std.proofs.Math.Seq.{drop-append-add}
 use Rattle.ax_address.specs.Callsign.{Callsign}
-use Rattle.ax_address.specs.NetCalls.{net_call_in, unless_at_fault}
-use Rattle.ax_address.specs.Octets.{FaultIsFirst, FrontGoesOn, address_fault, fault_in, refused_octet}
+use Rattle.ax_address.specs.Octets.{net_call_in, unless_at_fault, FaultIsFirst, FrontGoesOn, address_fault, fault_in, refused_octet}
 use Rattle.ax_address.specs.Results.{◌>>=◌}
 use Rattle.ax_address.specs.declared.octets.AddressRefusal.{AddressRefusal}
 use Rattle.ax_address.specs.declared.alias.Alias.{Alias}
 use Rattle.ax_address.specs.declared.Entry.{Entry}
 use Rattle.nodes_broadcast.specs.declared.nodes.NodesRefusal.{NodesRefusal}
 use Rattle.nodes_broadcast.specs.declared.nodes.NodesRefusal.TheVariants.{BadCall}
-use Rattle.nodes_broadcast.specs.Reading.{call_from, entry_at, entries_at}
+use Rattle.nodes_broadcast.specs.Nodes.{call_from, entry_at, entries_at}
 use Rattle.ax_address.proofs.CallFaults.{call_bad, drop_front, still_none}
 use Rattle.nodes_broadcast.proofs.Spelled.{entry_told}
 

@@ -9,8 +9,7 @@ use Rattle.ax_address.specs.declared.alias.Alias.{Alias}
 use Rattle.ax_address.specs.declared.Entry.{Entry}
 use Rattle.nodes_broadcast.specs.declared.nodes.NodesRefusal.{NodesRefusal}
 use Rattle.nodes_broadcast.specs.declared.nodes.NodesRefusal.TheVariants.{NotNodes, BadLength, TooMany}
-use Rattle.nodes_broadcast.specs.Nodes.{Broadcast}
-use Rattle.nodes_broadcast.specs.Reading.{is_nodes, is_length, shape_fault, entries_at, broadcast_at, unless_misshapen, nodes_at}
+use Rattle.nodes_broadcast.specs.Nodes.{Broadcast, is_nodes, is_length, shape_fault, entries_at, broadcast_at, unless_misshapen, nodes_at}
 use Rattle.nodes_broadcast.specs.Faults.{NoneHas, FirstFault, FaultIsFirst}
 use Rattle.ax_address.proofs.CallFaults.{drop_front}
 use Rattle.nodes_broadcast.proofs.EntryFaults.{EntriesBad, entries_bad}

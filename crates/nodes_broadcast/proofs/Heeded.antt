@@ -2,7 +2,7 @@
 use Rattle.std.proofs.Common.{◌≡◌, ◌/◌, ◌%◌, ◌++◌, ◌∙◌, ℕ, refl, sym, ap, List, [], ◌∷◌, length, take, drop}
 use Rattle.std.proofs.lemmas.List.{take_at, drop_at}
 use Rattle.ax_address.specs.Callsign.{Callsign}
-use Rattle.ax_address.specs.NetCalls.{SpellsNetCall, heeded_call}
+use Rattle.ax_address.specs.Octets.{SpellsNetCall, heeded_call}
 use Rattle.ax_address.specs.declared.Entry.{Entry}
 use Rattle.nodes_broadcast.specs.Nodes.{Broadcast, Spells, SpellsEntry, SpellsEntries, nodes_octets}
 use Rattle.nodes_broadcast.specs.Laws.{WrittenSpellsIt, WrittenAgainIsTheSame, heeded_entry, heeded_entries, heeded}

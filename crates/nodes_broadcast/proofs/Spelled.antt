@@ -4,7 +4,7 @@ use Rattle.std.specs.Prelude.{Option, Some, None, Result, Ok, Err, nat_le, nat_l
 use Rattle.std.proofs.lemmas.Bool.{eq-eqb}
 use Rattle.std.proofs.lemmas.Bool.Decides.{nat_tests}
 use Rattle.ax_address.specs.Callsign.{Callsign}
-use Rattle.ax_address.specs.NetCalls.{SpelledNetCallIsRead, net_call_at}
+use Rattle.ax_address.specs.Octets.{SpelledNetCallIsRead, net_call_at}
 use Rattle.ax_address.specs.declared.octets.AddressRefusal.{AddressRefusal}
 use Rattle.ax_address.specs.declared.alias.Alias.{Alias}
 use Rattle.ax_address.specs.declared.Entry.{Entry}
@@ -12,8 +12,7 @@ use Rattle.ax_address.specs.Results.{◌>>=◌}
 use Rattle.nodes_broadcast.specs.declared.nodes.Nodes.{Nodes}
 use Rattle.nodes_broadcast.specs.declared.nodes.NodesRefusal.{NodesRefusal}
 use Rattle.nodes_broadcast.specs.declared.nodes.NodesRefusal.TheVariants.{NotNodes, BadLength, TooMany}
-use Rattle.nodes_broadcast.specs.Nodes.{Broadcast, view, Spells, SpellsEntry, SpellsEntries}
-use Rattle.nodes_broadcast.specs.Reading.{is_nodes, is_length, shape_fault, call_from, entry_at, entries_at, broadcast_at, unless_misshapen, nodes_at}
+use Rattle.nodes_broadcast.specs.Nodes.{Broadcast, view, Spells, SpellsEntry, SpellsEntries, is_nodes, is_length, shape_fault, call_from, entry_at, entries_at, broadcast_at, unless_misshapen, nodes_at}
 use Rattle.nodes_broadcast.specs.Laws.{SpelledIsRead}
 
 pub entry_len : (e : Entry) (os : List ℕ) → SpellsEntry e os → length os ≡ 21

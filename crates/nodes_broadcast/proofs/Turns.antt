@@ -6,8 +6,7 @@ use Rattle.std.proofs.lemmas.List.{take_all}
 use Rattle.ax_address.specs.declared.Entry.{Entry}
 use Rattle.ax_address.specs.Results.{◌>>=◌}
 use Rattle.nodes_broadcast.specs.declared.nodes.NodesRefusal.{NodesRefusal}
-use Rattle.nodes_broadcast.specs.Nodes.{IsEntry, SpellsEntry, SpellsEntries, entry_octets, entries_octets}
-use Rattle.nodes_broadcast.specs.Reading.{entry_at, entries_at}
+use Rattle.nodes_broadcast.specs.Nodes.{IsEntry, SpellsEntry, SpellsEntries, entry_octets, entries_octets, entry_at, entries_at}
 
 -- what was read, before the rest
 abbrev pub behind : List Entry → Result (List Entry) NodesRefusal → Result (List Entry) NodesRefusal

@@ -3,8 +3,7 @@
 use Rattle.std.specs.Prelude.{ℕ, ◌≡◌, ◌+◌, ◌<◌, ◌≤◌, List, [], ◌++◌, length, take, ◌⊎◌, Ok, Err}
 use Rattle.nodes_broadcast.specs.declared.nodes.NodesRefusal.{NodesRefusal}
 use Rattle.nodes_broadcast.specs.declared.nodes.NodesRefusal.TheVariants.{NotNodes, BadLength, TooMany, BadCall}
-use Rattle.nodes_broadcast.specs.Nodes.{Broadcast}
-use Rattle.nodes_broadcast.specs.Reading.{nodes_at}
+use Rattle.nodes_broadcast.specs.Nodes.{Broadcast, nodes_at}
 
 -- the octet there is the first that none has there. What is read is spelled so, by the clauses of `read_nodes`.
 pub record FirstBad (octets : List ℕ) (at : ℕ) : Type 0 where

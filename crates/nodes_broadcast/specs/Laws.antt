@@ -1,8 +1,7 @@
 -- Laws of the spelling of broadcasts.
 use Rattle.std.specs.Prelude.{ℕ, zero, suc, ◌≡◌, List, ◌++◌, length, take, drop, Ok}
-use Rattle.ax_address.specs.NetCalls.{heeded_call}
-use Rattle.nodes_broadcast.specs.Nodes.{Broadcast, IsBroadcast, Spells, nodes_octets}
-use Rattle.nodes_broadcast.specs.Reading.{nodes_at}
+use Rattle.ax_address.specs.Octets.{heeded_call}
+use Rattle.nodes_broadcast.specs.Nodes.{Broadcast, IsBroadcast, Spells, nodes_octets, nodes_at}
 
 -- octets that spell a broadcast are read as it
 abbrev pub SpelledIsRead : Type 0

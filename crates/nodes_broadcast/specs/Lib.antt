@@ -1,4 +1,3 @@
 pub mod Nodes
-pub mod Reading
 pub mod Laws
 pub mod Faults

@@ -1,8 +1,8 @@
 //! Octets become broadcasts.
 ghost use Rattle.std.specs.Prelude.{◌≡◌, ◌≤◌, ◌/◌, ◌%◌, [], ◌∷◌, length, take, IfOk, OnOk, IfNone, IsOkAnd, MatchResult, Ok, Err, true};
 ghost use Rattle.nodes_broadcast.specs.Nodes.{Broadcast, view, Spells, SpellsEntry, SpellsEntries};
-ghost use Rattle.nodes_broadcast.specs.Reading as reading;
-ghost use Rattle.ax_address.specs.NetCalls.{SpellsNetCall};
+ghost use Rattle.nodes_broadcast.specs.Nodes as reading;
+ghost use Rattle.ax_address.specs.Octets.{SpellsNetCall};
 
 use crate::laws;
 use crate::nodes::{ENTRY_LEN, HEAD_LEN, Nodes, NodesRefusal, SIGNATURE};
@@ -101,7 +101,7 @@ fn read_entries(
 }
 
 /// The entry that its octets spell, which begin at that place of the information.
-#[tactic(auto, unfolding(crate::specs::Reading::entry_at))]
+#[tactic(auto, unfolding(crate::specs::Nodes::entry_at))]
 fn entry_of(octets: &[u8], at: usize) -> Result<Entry, NodesRefusal>
     requires whole { length octets.now ≡ 21 }
     requires place { at ≤ 300 }

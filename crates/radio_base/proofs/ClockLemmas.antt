@@ -1,7 +1,7 @@
 use Rattle.std.proofs.Common.{◌≡◌, ℕ, ◌+◌, ◌-◌, ◌^◌, ◌≤◌, [], ◌∷◌, zero, suc, min, length, Bool, true, false, nat_lt, refl, ap, arith}
 use Rattle.std.proofs.lemmas.List.{length-append}
 use Rattle.std.specs.Prelude.{Some, None, if◌then◌else◌}
-use Rattle.radio_base.specs.Clocks.{Gains, Ticking, moment_at, moments_told, first_moments}
+use Rattle.radio_base.specs.Causes.{Gains, Ticking, moment_at, moments_told, first_moments}
 
 -- the first n moments are n
 first_long : (start step n : ℕ) → length (first_moments start step n) ≡ n

@@ -1,6 +1,6 @@
 //! Moments, and who tells them.
 ghost use Rattle.std.specs.Prelude.{◌≡◌, ◌≤◌, [], ◌∷◌, List, ℕ, Option, min};
-ghost use Rattle.radio_base.specs.Clocks.{Gains, Ticking, moment_of, moments_told, after_moment};
+ghost use Rattle.radio_base.specs.Causes.{Gains, Ticking, moment_of, moments_told, after_moment};
 ghost use Rattle.radio_base.specs.declared.modulus.TheConstants.{COUNT_MAX};
 
 use crate::modulus::COUNT_MAX;
@@ -71,7 +71,7 @@ pub struct MemClock {
 }
 
 impl Model for MemClock {
-    ghost use Rattle.radio_base.specs.Clocks.{Ticking};
+    ghost use Rattle.radio_base.specs.Causes.{Ticking};
 
     ghost Value = { Ticking };
 

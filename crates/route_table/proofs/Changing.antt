@@ -3,11 +3,10 @@ use Rattle.std.proofs.Common.{◌≡◌, ◌<◌, ◌+◌, ◌-◌, ◌∙◌, �
 use Rattle.std.specs.Prelude.{remove, not, ◌||◌, ◌&&◌, is_none, slice_set, nat_lt, nat_eq}
 use Rattle.std.specs.List.{list_any}
 use Rattle.std.proofs.lemmas.List.{get_or_default}
-use Rattle.ax_address.specs.CallOrder.{same_call, call_lt}
+use Rattle.ax_address.specs.Callsign.{same_call, call_lt}
 use Rattle.route_table.specs.declared.route.Route.{Route}
-use Rattle.route_table.specs.Ranks.{is_before, stands_before, placed}
+use Rattle.route_table.specs.Table.{is_before, stands_before, placed, is_good}
 use Rattle.route_table.specs.Rows.{is_same_pair, is_lock_on, stays_beside, beside, with_report, after_reports, older, still_counts, after_round}
-use Rattle.route_table.specs.Table.{is_good}
 use Rattle.route_table.specs.Places.{InRows, NoneTwice, Stand, PairAt, FitsAt}
 use Rattle.route_table.proofs.Order.{stands_trans, stands_asym, same_pair_sym, same_pair_over, same_pair_true}
 use Rattle.route_table.proofs.Sorting.{Ahead, Apart, pairs_from_rows, placed_all, placed_rows, filter_rows, filter_once}

@@ -3,14 +3,13 @@ use Rattle.std.proofs.Common.{◌≡◌, ◌<◌, ◌≤◌, ◌+◌, ◌∙◌,
 use Rattle.std.specs.Prelude.{not, ◌||◌, ◌&&◌, is_none}
 use Rattle.std.specs.List.{list_any}
 use Rattle.std.proofs.lemmas.List.Sorted.{list_any-IsPermutation, length_permutation}
-use Rattle.ax_address.specs.CallOrder.{same_call}
+use Rattle.ax_address.specs.Callsign.{same_call}
 use Rattle.ax_address.specs.declared.Entry.{Entry}
 use Rattle.route_table.specs.declared.reports.Sender.{Sender}
 use Rattle.route_table.specs.declared.route.Route.{Route}
 use Rattle.route_table.specs.Log.{Report, entry_reports, quality_over}
-use Rattle.route_table.specs.Ranks.{placed}
+use Rattle.route_table.specs.Table.{placed, is_good}
 use Rattle.route_table.specs.Rows.{is_same_pair, is_lock_on, beside, with_report, after_reports, fresh, reported, reported_by, is_held_after, changed}
-use Rattle.route_table.specs.Table.{is_good}
 use Rattle.route_table.specs.Places.{NoneTwice, Stand, AreCounted}
 use Rattle.route_table.proofs.Order.{same_pair_sym, same_pair_over}
 use Rattle.route_table.proofs.Sorting.{Apart, placed_moves}

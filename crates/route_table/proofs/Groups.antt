@@ -5,17 +5,14 @@ use Rattle.std.specs.List.{cons_option, AllByRecursion, prefix_len, dedup_from}
 use Rattle.std.proofs.lemmas.List.{take_all, take-append-le}
 use Rattle.std.proofs.lemmas.List.Elements.{All-from_recursion}
 use Rattle.std.proofs.lemmas.List.Kept.{AllPairs-cons}
-use Rattle.ax_address.specs.Callsign.{Callsign}
-use Rattle.ax_address.specs.CallOrder.{same_call, call_lt}
+use Rattle.ax_address.specs.Callsign.{Callsign, same_call, call_lt}
 use Rattle.ax_address.specs.declared.Entry.{Entry}
 use Rattle.route_table.specs.declared.route.Route.{Route}
 use Rattle.route_table.specs.declared.route.RouteRules.{RouteRules}
 use Rattle.route_table.specs.Log.{Item}
-use Rattle.route_table.specs.Ranks.{Rise}
+use Rattle.route_table.specs.Table.{Rise, entry_by, is_to, usable, table, destinations}
 use Rattle.route_table.specs.Rows as rows
 use Rattle.route_table.specs.Rows.{calls_of, best_of, entry_from}
-use Rattle.route_table.specs.Broadcast.{entry_by}
-use Rattle.route_table.specs.Table.{is_to, usable, table, destinations}
 use Rattle.route_table.specs.Places.{InRows}
 use Rattle.route_table.proofs.Calls.{same_call-true, same_call_refl, call_lt_trans, call_lt_equal, call_lt_total}
 use Rattle.route_table.proofs.Sorting.{Ahead, in_order_rows}

@@ -6,17 +6,14 @@ use Rattle.std.specs.List.{list_any}
 use Rattle.std.proofs.lemmas.List.Elements.{filter-append}
 use Rattle.std.proofs.lemmas.List.Folds.{list_any-append}
 use Rattle.std.proofs.lemmas.Bool.Decides.{nat_tests}
-use Rattle.ax_address.specs.Callsign.{Callsign}
-use Rattle.ax_address.specs.CallOrder.{same_call}
+use Rattle.ax_address.specs.Callsign.{Callsign, same_call}
 use Rattle.ax_address.specs.declared.alias.Alias.{Alias}
 use Rattle.route_table.specs.declared.route.Route.{Route}
 use Rattle.route_table.specs.declared.route.RouteRules.{RouteRules}
 use Rattle.route_table.specs.Log.{Item, Report, Lock, Round, Failure}
-use Rattle.route_table.specs.Live.{is_report_of, is_lock_of, is_failure_of, rounds, is_live, live_of, live}
-use Rattle.route_table.specs.Table.{is_good, usable}
+use Rattle.route_table.specs.Table.{is_report_of, is_lock_of, is_failure_of, rounds, is_live, live_of, live, is_good, usable, placed}
 use Rattle.route_table.specs.Held.{StandsFor}
 use Rattle.route_table.specs.Places.{Stand}
-use Rattle.route_table.specs.Ranks.{placed}
 use Rattle.route_table.specs.Rows.{stays_beside, beside, rows_with_lock}
 use Rattle.route_table.proofs.LogSteps.{row, locked, among-append, rounds-append, keep_if, filter_comm}
 use Rattle.route_table.proofs.Sorting.{placed_moves}

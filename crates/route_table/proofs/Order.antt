@@ -7,10 +7,9 @@ use Rattle.std.specs.declared.cmp.Ordering.{Ordering}
 use Rattle.std.specs.declared.cmp.Ordering.TheVariants.{Less, Equal, Greater}
 use Rattle.std.proofs.lemmas.Bool.{eqb-true, eq-eqb}
 use Rattle.std.proofs.lemmas.Cmp.{then_total, on_total, back_total, nat_cmp_total, tied_itself}
-use Rattle.ax_address.specs.Callsign.{Callsign}
-use Rattle.ax_address.specs.CallOrder.{same_call, call_lt, call_cmp}
+use Rattle.ax_address.specs.Callsign.{Callsign, same_call, call_lt, call_cmp}
 use Rattle.route_table.specs.declared.route.Route.{Route}
-use Rattle.route_table.specs.Ranks.{is_before, stands_before}
+use Rattle.route_table.specs.Table.{is_before, stands_before}
 use Rattle.route_table.specs.Rows.{is_same_pair}
 use Rattle.route_table.proofs.Calls.{and_true, same_call-true, same_call-equal, call_total, call_cmp-Equal, then_equal, less_from_lt, greater_apart}
 

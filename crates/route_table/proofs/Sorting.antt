@@ -6,7 +6,7 @@ use Rattle.std.proofs.lemmas.List.Elements.{All-from_recursion}
 use Rattle.std.proofs.lemmas.List.Kept.{AllPairs-cons}
 use Rattle.std.proofs.lemmas.List.Sorted.{IsPermutation-refl, IsPermutation-cons, IsPermutation-insert, IsPermutation-trans, IsPermutation-sym, Contains-permutation}
 use Rattle.route_table.specs.declared.route.Route.{Route}
-use Rattle.route_table.specs.Ranks.{stands_before, placed, in_order}
+use Rattle.route_table.specs.Table.{stands_before, placed, in_order}
 use Rattle.route_table.specs.Rows.{is_same_pair}
 use Rattle.route_table.specs.Places.{InRows, NoneTwice}
 use Rattle.route_table.proofs.Order.{stands_trans, stands_irrefl, stands_asym, stands_total}

@@ -3,17 +3,15 @@ use Rattle.std.proofs.Common.{◌≡◌, ◌≤◌, ◌++◌, ◌∙◌, ℕ, re
 use Rattle.std.specs.Prelude.{◌||◌, ◌&&◌, not, is_none, Some, IsPermutation}
 use Rattle.std.specs.List.{AllByRecursion, list_any}
 use Rattle.std.proofs.lemmas.List.Sorted.{IsPermutation-map, IsPermutation-trans, IsPermutation-to_front, IsPermutation-cons, list_any-IsPermutation, length_permutation}
-use Rattle.ax_address.specs.Callsign.{Callsign}
-use Rattle.ax_address.specs.CallOrder.{same_call}
+use Rattle.ax_address.specs.Callsign.{Callsign, same_call}
 use Rattle.ax_address.specs.declared.alias.Alias.{Alias}
 use Rattle.ax_address.specs.declared.Entry.{Entry}
 use Rattle.route_table.specs.declared.route.Route.{Route}
 use Rattle.route_table.specs.declared.route.RouteRules.{RouteRules}
 use Rattle.route_table.specs.Log.{Item, Report, Lock, Round, Failure, broadcast, entry_reports, quality_over}
-use Rattle.route_table.specs.Table.{is_good, usable, table}
+use Rattle.route_table.specs.Table.{is_good, usable, table, placed}
 use Rattle.route_table.specs.Held.{IsGoodLock, StandsFor}
 use Rattle.route_table.specs.Places.{Stand, InRows, NoneTwice, AreCounted}
-use Rattle.route_table.specs.Ranks.{placed}
 use Rattle.route_table.specs.Rows.{is_same_pair, is_lock_on, fresh, stays, stays_beside, beside, rows_with, with_report, after_reports, older, still_counts, after_round, outlives}
 use Rattle.route_table.proofs.Order.{same_pair_sym}
 use Rattle.route_table.proofs.Sorting.{placed_moves, filter_moves, in_order_is}

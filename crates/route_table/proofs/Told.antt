@@ -4,14 +4,12 @@ use Rattle.std.specs.Prelude.{Option, Some, None, slice_get, filter_map, AllPair
 use Rattle.std.specs.List.{cons_option, AllByRecursion}
 use Rattle.std.proofs.lemmas.List.Elements.{All-from_recursion}
 use Rattle.std.proofs.lemmas.List.Kept.{AllPairs-cons}
-use Rattle.ax_address.specs.Callsign.{Callsign}
-use Rattle.ax_address.specs.CallOrder.{same_call, call_lt}
+use Rattle.ax_address.specs.Callsign.{Callsign, same_call, call_lt}
 use Rattle.ax_address.specs.declared.Entry.{Entry}
 use Rattle.route_table.specs.declared.route.Route.{Route}
 use Rattle.route_table.specs.declared.route.RouteRules.{RouteRules}
 use Rattle.route_table.specs.Log.{Item}
-use Rattle.route_table.specs.Table.{usable, table, is_to, routes_to, destinations}
-use Rattle.route_table.specs.Broadcast.{is_fresh, entry_by, entry_to, to_broadcast}
+use Rattle.route_table.specs.Table.{usable, table, is_to, routes_to, destinations, is_fresh, entry_by, entry_to, to_broadcast}
 use Rattle.route_table.specs.Laws.{TellsFirstRoute}
 use Rattle.route_table.proofs.Groups.{Below, InOrder, calls_rise}
 use Rattle.route_table.proofs.Sorting.{in_order_rows}

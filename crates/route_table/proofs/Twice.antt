@@ -3,16 +3,13 @@ use Rattle.std.proofs.Common.{◌≡◌, ◌++◌, ◌∙◌, ℕ, refl, sym, ap
 use Rattle.std.specs.Prelude.{◌&&◌, ◌||◌, not, nat_lt, AllPairs}
 use Rattle.std.specs.List.{list_any, AllByRecursion}
 use Rattle.std.proofs.lemmas.List.Folds.{list_any-append}
-use Rattle.ax_address.specs.Callsign.{Callsign}
-use Rattle.ax_address.specs.CallOrder.{same_call}
+use Rattle.ax_address.specs.Callsign.{Callsign, same_call}
 use Rattle.ax_address.specs.declared.alias.Alias.{Alias}
 use Rattle.route_table.specs.declared.route.Route.{Route}
 use Rattle.route_table.specs.declared.route.RouteRules.{RouteRules}
 use Rattle.route_table.specs.Log.{Item, Report, Lock, Round, Failure}
-use Rattle.route_table.specs.Live.{is_report_of, is_lock_of, is_failure_of, rounds, is_live, live_among, live}
-use Rattle.route_table.specs.Ranks.{AreInOrder}
+use Rattle.route_table.specs.Table.{is_report_of, is_lock_of, is_failure_of, rounds, is_live, live_among, live, AreInOrder, is_good, usable, table}
 use Rattle.route_table.specs.Rows.{is_same_pair}
-use Rattle.route_table.specs.Table.{is_good, usable, table}
 use Rattle.route_table.specs.Places.{NoneTwice}
 use Rattle.route_table.proofs.Calls.{and_true, same_call-true, same_call_refl}
 use Rattle.route_table.proofs.Sorting.{filter_once, in_order_rows, pairs_from_rows, pairs_from_once}

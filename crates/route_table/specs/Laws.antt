@@ -1,15 +1,12 @@
 -- Laws of the definitions of a log's table.
 use Rattle.std.specs.Prelude.{◌≡◌, ◌↔◌, List, filter, slice_get, Some, true, false, AllPairs, Contains, Any, IsPermutation}
-use Rattle.ax_address.specs.Callsign.{Callsign}
-use Rattle.ax_address.specs.CallOrder.{call_lt}
+use Rattle.ax_address.specs.Callsign.{Callsign, call_lt}
 use Rattle.ax_address.specs.declared.Entry.{Entry}
 use Rattle.route_table.specs.declared.route.RouteRules.{RouteRules}
 use Rattle.route_table.specs.declared.route.Route.{Route}
 use Rattle.route_table.specs.Log.{Item}
-use Rattle.route_table.specs.Ranks.{is_before, AreInOrder, Rise}
+use Rattle.route_table.specs.Table.{is_before, AreInOrder, Rise, usable, table, is_to, all_routes_to, routes_to, destinations, is_fresh, to_broadcast}
 use Rattle.route_table.specs.Rows.{is_same_pair}
-use Rattle.route_table.specs.Table.{usable, table, is_to, all_routes_to, routes_to, destinations}
-use Rattle.route_table.specs.Broadcast.{is_fresh, to_broadcast}
 
 -- no two usable routes lead to one destination by one neighbour
 abbrev pub NoPairTwice : Type 0

@@ -1,10 +1,9 @@
 -- Rows in order, by recursion, and places in them.
 use Rattle.std.specs.Prelude.{ℕ, ◌+◌, ◌-◌, ◌<◌, ◌≤◌, List, [], ◌∷◌, length, slice_index_or, ◌≡◌, true, false, not, Option, Some, None, is_none}
 use Rattle.std.specs.List.{AllByRecursion, list_any, prefix_len}
-use Rattle.ax_address.specs.Callsign.{Callsign}
-use Rattle.ax_address.specs.CallOrder.{call_lt}
+use Rattle.ax_address.specs.Callsign.{Callsign, call_lt}
 use Rattle.route_table.specs.declared.route.Route.{Route}
-use Rattle.route_table.specs.Ranks.{stands_before}
+use Rattle.route_table.specs.Table.{stands_before}
 use Rattle.route_table.specs.Rows.{is_same_pair}
 
 -- each row stands before those behind it

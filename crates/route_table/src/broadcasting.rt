@@ -3,7 +3,7 @@ ghost use Rattle.std.specs.Prelude.{◌≡◌, ◌<◌, ◌≤◌, ◌++◌, Lis
 ghost use Rattle.std.specs.List.{cons_option};
 ghost use Rattle.ax_address.specs.declared.Entry.{Entry};
 ghost use Rattle.arrayvec.specs.ArrayVec.{array_vec_len};
-ghost use Rattle.route_table.specs.Broadcast as broadcast;
+ghost use Rattle.route_table.specs.Table as broadcast;
 ghost use Rattle.route_table.specs.Places as places;
 ghost use Rattle.route_table.specs.Rows as spec;
 

@@ -2,7 +2,7 @@
 ghost use Rattle.std.specs.Prelude.{◌≡◌, ◌≤◌, ◌<◌, ◌+◌, ◌∷◌, ◌++◌, List, take, drop, length, vec_len, vec_capacity, is_none, false, IfSome, IfNone, ◌-◌};
 ghost use Rattle.ax_address.specs.declared.Entry.{Entry};
 ghost use Rattle.route_table.specs.Places as places;
-ghost use Rattle.route_table.specs.Ranks as ranks;
+ghost use Rattle.route_table.specs.Table as ranks;
 ghost use Rattle.route_table.specs.Rows as spec;
 
 use crate::ranking::{pair_from, place_of, place_of_pair, start_near};

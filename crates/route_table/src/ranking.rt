@@ -1,10 +1,10 @@
 //! Routes by quality, and which is the better one (NET/ROM, Appendix B).
 ghost use Rattle.std.specs.Prelude.{◌≡◌, ◌≤◌, ◌<◌, ◌-◌, length, slice_get, slice_index_or, true};
 ghost use Rattle.std.specs.Option.{option_map};
-ghost use Rattle.ax_address.specs.CallOrder.{call_lt};
+ghost use Rattle.ax_address.specs.Callsign.{call_lt};
 ghost use Rattle.route_table.specs.declared.route.Route.{Route};
 ghost use Rattle.route_table.specs.Places as places;
-ghost use Rattle.route_table.specs.Ranks as ranks;
+ghost use Rattle.route_table.specs.Table as ranks;
 ghost use Rattle.route_table.specs.Rows as rows_spec;
 
 use crate::route::Route;

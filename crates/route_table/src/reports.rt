@@ -1,6 +1,6 @@
 //! The reports that a broadcast stands for (NET/ROM, Appendix B).
 ghost use Rattle.std.specs.Prelude.{◌≡◌, ◌≤◌, ◌<◌, ◌+◌, ◌++◌, ◌∷◌, ◌||◌, List, not, length};
-ghost use Rattle.ax_address.specs.CallOrder.{same_call};
+ghost use Rattle.ax_address.specs.Callsign.{same_call};
 ghost use Rattle.ax_address.specs.declared.Entry.{Entry};
 ghost use Rattle.route_table.specs.Log as log;
 ghost use Rattle.route_table.specs.Rows as spec;

@@ -2,9 +2,8 @@
 ghost use Rattle.std.specs.Prelude.{◌≡◌, ◌≤◌, ◌<◌, ◌+◌, ◌-◌, ◌∷◌, [], map, filter, length, vec_len, vec_capacity, slice_index_or, true, Some, OnOk, OnErr};
 ghost use Rattle.route_table.specs.declared.route.Route.{Route};
 ghost use Rattle.route_table.specs.Places as places;
-ghost use Rattle.route_table.specs.Ranks as ranks;
-ghost use Rattle.route_table.specs.Rows as spec;
 ghost use Rattle.route_table.specs.Table as table;
+ghost use Rattle.route_table.specs.Rows as spec;
 
 use crate::ranking::{is_after, pair_from, place_of, place_of_pair, stands_before, start_near};
 use crate::reports::{Sender, reports_of};
@@ -28,7 +27,7 @@ pub(crate) fn is_good(minq: u8, report: &Route) -> bool
 pub(crate) fn enter(rows: &mut Vec<Route>, route: &Route)
     requires order { places.InRows rows.old.items }
     requires room { vec_len rows.old < vec_capacity rows.old }
-    ensures items { rows.new.items ≡ ranks.placed route.now rows.old.items }
+    ensures items { rows.new.items ≡ table.placed route.now rows.old.items }
     ensures len { vec_len rows.new ≡ vec_len rows.old + 1 }
     ensures capacity { vec_capacity rows.old ≤ vec_capacity rows.new }
 {
@@ -73,7 +72,7 @@ fn fits_at(rows: &[Route], at: usize, route: &Route) -> bool
 
 fn is_before(rows: &[Route], at: usize, route: &Route) -> bool
     requires { at < length rows.now }
-    ensures { result ≡ true → (d : Route) → at + 1 < length rows.now → ranks.stands_before route.now (slice_index_or rows.now (at + 1) d) ≡ true }
+    ensures { result ≡ true → (d : Route) → at + 1 < length rows.now → table.stands_before route.now (slice_index_or rows.now (at + 1) d) ≡ true }
 {
     match rows.get(at + 1) {
         Some(next) => stands_before(route, next),
@@ -200,7 +199,7 @@ fn is_held_with(minq: u8, route: &Route, report: &Route, held: bool) -> bool
 /// How many rows there are after a lock.
 pub(crate) fn count_with_lock(rows: &[Route], lock: &Route) -> usize
     requires stand { places.Stand rows.now }
-    ensures value { result ≡ length (ranks.placed lock.now (spec.beside lock.now rows.now)) }
+    ensures value { result ≡ length (table.placed lock.now (spec.beside lock.now rows.now)) }
     ensures bound { result ≤ length rows.now + 1 }
 {
     match place_of_pair(rows, lock) {
@@ -212,7 +211,7 @@ pub(crate) fn count_with_lock(rows: &[Route], lock: &Route) -> usize
 /// Puts a lock in the place of what is of its pair. Room is made first, so nothing changes on an `Err`.
 pub(crate) fn lock_in(rows: &mut Vec<Route>, lock: &Route) -> Result<(), AllocError>
     requires stand { places.Stand rows.old.items }
-    ensures ok { OnOk result (rows.new.items ≡ ranks.placed lock.now (spec.beside lock.now rows.old.items)) }
+    ensures ok { OnOk result (rows.new.items ≡ table.placed lock.now (spec.beside lock.now rows.old.items)) }
     ensures err { OnErr result (rows.new.items ≡ rows.old.items) }
 {
     rows.reserve(1)?;

@@ -4,7 +4,7 @@ use Rattle.std.specs.Prelude.{unwrap_or}
 use Rattle.std.specs.List.{slice_split, onto_first, position, position_or_len}
 use Rattle.std.proofs.lemmas.Bool.Decides.{nat_tests}
 use Rattle.std.proofs.lemmas.List.Sums.{prefix_len-le-length}
-use Rattle.text_lines.specs.Words.{after_spaces, after_word, before_space, words_of}
+use Rattle.text_lines.specs.Lines.{after_spaces, after_word, before_space, words_of}
 
 -- the pieces behind the first
 abbrev others : List ℕ → List (List ℕ)

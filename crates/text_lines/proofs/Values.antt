@@ -1,7 +1,7 @@
 use Rattle.std.proofs.Common.{◌≡◌, ◌≤◌, ◌<◌, ◌*◌, ◌+◌, ◌-◌, ◌∙◌, ℕ, suc, List, [], ◌∷◌, arith, sym, ap, drop, drop-cons, length, get_or, false}
 use Rattle.std.specs.Prelude.{nat_le}
 use Rattle.std.proofs.lemmas.Bool.Decides.{nat_tests}
-use Rattle.text_lines.specs.Numbers.{value_onto}
+use Rattle.text_lines.specs.Lines.{value_onto}
 
 -- more digits make a number no smaller
 pub value_onto_ge : (n : ℕ) (ds : List ℕ) → n ≤ value_onto n ds

@@ -1,7 +1,7 @@
 //! The numbers that words spell: decimal digits without a leading zero. Own profile.
 ghost use Rattle.std.specs.Prelude.{◌≡◌, nat_le, Some, None, if◌then◌else◌};
 ghost use Rattle.std.specs.List.{list_all};
-ghost use Rattle.text_lines.specs.Numbers as numbers;
+ghost use Rattle.text_lines.specs.Lines as numbers;
 
 fn is_digit(b: u8) -> bool
     ensures { result ≡ numbers.is_digit b }

@@ -1,7 +1,7 @@
 //! The words of a line, which spaces part. Own profile.
 ghost use Rattle.std.specs.Prelude.{◌≡◌, ◌<◌, ◌==◌, ◌∷◌, [], None, Some, length, IfOk, IfSome, MatchOption};
 ghost use Rattle.std.specs.List.{slice_split, position};
-ghost use Rattle.text_lines.specs.Words as words;
+ghost use Rattle.text_lines.specs.Lines as words;
 
 use std::alloc::{AllocError, Global};
 
@@ -64,7 +64,7 @@ pub fn after_space(rest: &[u8]) -> Option<&[u8]>
 }
 
 /// What stands behind the first word of a line: nothing, or a space and what follows.
-#[tactic(auto, unfolding(crate::specs::Words::past_word))]
+#[tactic(auto, unfolding(crate::specs::Lines::past_word))]
 pub fn past_word(line: &[u8]) -> &[u8]
     ensures { result.now ≡ words.past_word line.now }
 {

@@ -7,7 +7,7 @@ use Rattle.std.proofs.lemmas.Fmt.{decimal_injective}
 use Rattle.tool_cmd.specs.declared.lives.words.LifeSettings.{LifeSettings}
 use Rattle.tool_cmd.specs.declared.words.FrameModulus.{FrameModulus}
 use Rattle.tool_cmd.specs.declared.words.FrameModulus.TheVariants.{M8, M128}
-use Rattle.tool_cmd.specs.FrameModuli.{modulo_word}
+use Rattle.tool_cmd.specs.Frames.{modulo_word}
 use Rattle.tool_cmd.specs.LifeWords.{Among, AreSettings, delay_word, srej_word}
 
 -- the first character of a word

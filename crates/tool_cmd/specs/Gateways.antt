@@ -3,14 +3,12 @@ use Rattle.std.specs.Prelude.{ℕ, ◌≡◌, ◌++◌, List, [], ◌∷◌, Boo
 use Rattle.std.proofs.Common.{lit≤}
 use Rattle.kiss_framing.specs.declared.deframer.KissItem.{KissItem}
 use Rattle.kiss_framing.specs.declared.deframer.KissItem.TheVariants as kiss
-use Rattle.kiss_framing.specs.Stream.{Item, Frame as Piece, Too_long, items}
-use Rattle.kiss_framing.specs.Enframing.{framed}
+use Rattle.kiss_framing.specs.Stream.{Item, Frame as Piece, Too_long, items, framed}
 use Rattle.ax_address.specs.Callsign.{Callsign}
 use Rattle.ax_address.specs.declared.address.Address.{Address}
 use Rattle.ax_frame.specs.declared.control.Control.TheVariants.{Ui}
 use Rattle.ax_frame.specs.declared.frame.FrameRefusal.{FrameRefusal}
-use Rattle.ax_frame.specs.Frames.{Frame, frame, frame_octets}
-use Rattle.ax_frame.specs.Read.{read_at}
+use Rattle.ax_frame.specs.Frames.{Frame, frame, frame_octets, read_at}
 use Rattle.ax_ip.specs.declared.out.IpOut.{IpOut}
 use Rattle.ax_ip.specs.Machine.{State, Turn, after, turn}
 use Rattle.ax_ip.specs.declared.route.Route.{Route}

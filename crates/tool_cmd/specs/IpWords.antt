@@ -3,7 +3,7 @@ use Rattle.std.specs.Cmp.Lexicographic.{pointwise}
 use Rattle.std.specs.Prelude.{ℕ, ◌≡◌, List, [], ◌∷◌, length, take, drop, nat_eq, Option, Some, None, Result, Ok, Err, codes, if◌then◌else◌}
 use Rattle.ax_address.specs.Callsign.{Callsign}
 use Rattle.ax_address.specs.declared.call.CallRefusal.{CallRefusal}
-use Rattle.ax_address.specs.CallReading as reading
+use Rattle.ax_address.specs.Callsign as reading
 use Rattle.ax_ip.specs.Machine.{State}
 use Rattle.ax_ip.specs.declared.route.Route.{Route}
 use Rattle.ax_ip.specs.Routes as routes

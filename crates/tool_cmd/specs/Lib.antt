@@ -1,5 +1,4 @@
 pub mod Frames
-pub mod FrameModuli
 pub mod Gateways
 pub mod IpTexts
 pub mod IpWords

@@ -2,7 +2,7 @@
 use Rattle.std.specs.Prelude.{ℕ, ◌≡◌, ◌⊎◌, ◌≤◌, ◌++◌, List, [], ◌∷◌, length, Bool, true, false, codes}
 use Rattle.std.specs.Fmt.{decimal}
 use Rattle.tool_cmd.specs.declared.lives.words.LifeSettings.{LifeSettings}
-use Rattle.tool_cmd.specs.FrameModuli.{modulo_word}
+use Rattle.tool_cmd.specs.Frames.{modulo_word}
 
 abbrev pub srej_word : Bool → List ℕ
 srej_word false = codes "srej=0"

@@ -2,14 +2,12 @@
 use Rattle.std.specs.Prelude.{ℕ, ◌≡◌, List, Option, Ok, Err}
 use Rattle.link_life.specs.declared.script.NumberedAct.{NumberedAct}
 use Rattle.link_life.specs.Lives.{new_life}
-use Rattle.link_life.specs.Reasons.{word_for}
-use Rattle.link_life.specs.Reports.{life_text}
-use Rattle.link_life.specs.Scripts.{Bad, script_of}
+use Rattle.link_life.specs.Reports.{word_for, life_text}
+use Rattle.link_life.specs.Lines.{Bad, script_of}
 use Rattle.tool_cmd.specs.declared.lives.words.LifeSettings.{LifeSettings}
-use Rattle.tool_cmd.specs.FrameModuli.{size_of}
-use Rattle.cmd_streams.specs.Notes.{bad_line_note}
+use Rattle.tool_cmd.specs.Frames.{size_of}
+use Rattle.cmd_streams.specs.Told.{bad_line_note, StreamsTold}
 use Rattle.cmd_streams.specs.Reading.{ReadsFile, TellsFile}
-use Rattle.cmd_streams.specs.Told.{StreamsTold}
 
 -- the report of the life of a script, by these settings
 abbrev pub report_of : LifeSettings → List NumberedAct → List ℕ

@@ -4,12 +4,9 @@ use Rattle.std.specs.Io.KnownBytes.{Appends}
 use Rattle.radio_base.specs.Causes.{Rose}
 use Rattle.cmd_streams.specs.declared.status.Status.{Status}
 use Rattle.cmd_streams.specs.declared.status.Status.TheVariants.{Done, Usage, BadFile, ReadFault, WriteFault, TooLong, TooLate}
-use Rattle.cmd_streams.specs.Comings.{Comes, ReadsWell, WritesWell}
+use Rattle.cmd_streams.specs.Told.{Comes, ReadsWell, WritesWell, StreamsTold, IsNoted, AppendsFront}
 use Rattle.cmd_streams.specs.Reading.{ReadsFew, ReadsTooMuch, TellsTooMuch}
 use Rattle.cmd_streams.specs.StreamEnds.{StreamEnds}
-use Rattle.cmd_streams.specs.Told.{StreamsTold}
-use Rattle.cmd_streams.specs.ToldBy.{IsNoted}
-use Rattle.cmd_streams.specs.Writing.{AppendsFront}
 use Rattle.ax_ip.specs.Machine.{State}
 use Rattle.tool_cmd.specs.declared.lives.words.LifeSettings.{LifeSettings}
 use Rattle.tool_cmd.specs.Frames.{ListsReads}

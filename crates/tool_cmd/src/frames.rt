@@ -1,9 +1,9 @@
 //! The command `frames`.
 ghost use Rattle.std.specs.Prelude.{◌≡◌};
-ghost use Rattle.cmd_streams.specs.ToldBy.{SaysTo, told_by};
+ghost use Rattle.cmd_streams.specs.Told.{SaysTo, told_by};
 ghost use Rattle.cmd_streams.specs.StatusNotes.{HasNote, IsSilent};
 ghost use Rattle.tool_cmd.specs.Run.{FramesEnd};
-ghost use Rattle.tool_cmd.specs.FrameModuli.{size_of};
+ghost use Rattle.tool_cmd.specs.Frames.{size_of};
 
 use crate::words::FrameModulus;
 use cmd_streams::{ItemTaker, Status, answer_items};
@@ -24,7 +24,7 @@ struct Lister {
 impl ItemTaker for Lister {
     ghost use Rattle.std.specs.Prelude.{◌≡◌};
     ghost use Rattle.frame_lines.specs.Listing.{Lists};
-    ghost use Rattle.tool_cmd.specs.FrameModuli.{size_of};
+    ghost use Rattle.tool_cmd.specs.Frames.{size_of};
 
     ghost took = { λ first last items text. (last.modulo ≡ first.modulo) × Lists (size_of first.modulo) items text };
 

@@ -1,6 +1,6 @@
 //! The command `ip`.
 ghost use Rattle.std.specs.Prelude.{◌≡◌};
-ghost use Rattle.cmd_streams.specs.ToldBy.{SaysTo, told_by};
+ghost use Rattle.cmd_streams.specs.Told.{SaysTo, told_by};
 ghost use Rattle.cmd_streams.specs.StatusNotes.{HasNote, IsSilent};
 ghost use Rattle.tool_cmd.specs.Run.{IpEnds};
 ghost use Rattle.tool_cmd.specs.Standing.{state_of};

@@ -1,11 +1,11 @@
 //! The command `life`.
 ghost use Rattle.std.specs.Prelude.{◌≡◌, ◌≢◌, ◌≤◌, length, Ok, Err, IfOk, IfErr};
-ghost use Rattle.link_life.specs.Scripts.{ReadAs, script_of};
+ghost use Rattle.link_life.specs.Lines.{ReadAs, script_of};
 ghost use Rattle.tool_cmd.specs.Lives.{IsScript, report_of};
 ghost use Rattle.cmd_streams.specs.Reading.{max_file};
 ghost use Rattle.tool_cmd.specs.Run.{LifeEnds};
 ghost use Rattle.cmd_streams.specs.StatusNotes.{HasNote, IsSilent};
-ghost use Rattle.cmd_streams.specs.ToldBy.{SaysTo, told_by};
+ghost use Rattle.cmd_streams.specs.Told.{SaysTo, told_by};
 
 pub mod words;
 

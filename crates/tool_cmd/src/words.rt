@@ -2,7 +2,7 @@
 ghost use Rattle.std.specs.Prelude.{◌≡◌, ◌≢◌, ◌<◌, ◌^◌, ◌++◌, ℕ, IfSome, IfNone, IsTrue, ◌↔◌};
 ghost use Rattle.std.specs.Fmt.{decimal};
 ghost use Rattle.tool_cmd.specs.declared.words.FrameModulus.{FrameModulus};
-ghost use Rattle.tool_cmd.specs.FrameModuli.{modulo_word};
+ghost use Rattle.tool_cmd.specs.Frames.{modulo_word};
 
 use itoa::Buffer;
 

@@ -7,9 +7,9 @@ use Rattle.network_file.specs.declared.network.NumberedInstruction.{NumberedInst
 use Rattle.network_file.specs.declared.plan.instructions.Instruction.{Instruction}
 use Rattle.network_file.specs.declared.plan.instructions.Instruction.TheVariants.{Again}
 use Rattle.net_replay.specs.declared.air.Aired.{Aired}
-use Rattle.net_replay.specs.Air.{frame_of}
+use Rattle.net_replay.specs.World.{frame_of}
 use Rattle.net_replay.specs.Events.{Event, Entry, InAir, Delivered, Settled, Shown, Took, Wrote, Restarted, Lost, Refused, Posted, Offered, MailStored, MailSettled, NumberedEvent}
-use Rattle.net_replay.specs.Reasons.{word_for_why}
+use Rattle.net_replay.specs.Refused.{word_for_why}
 use Rattle.net_replay.specs.Tables.{Table}
 use Rattle.route_table.specs.declared.route.Route.{Route}
 use Rattle.trace_lines.specs.declared.stands.AtNode.{AtNode}

@@ -14,7 +14,7 @@ use Rattle.net_replay.specs.Lines.{table_of}
 use Rattle.net_replay.specs.Reports.{by_place}
 use Rattle.net_replay.specs.Starting.{Placed}
 use Rattle.net_replay.specs.Tables.{Table}
-use Rattle.net_replay.specs.ToldWords.{phase_word}
+use Rattle.net_replay.specs.ToldLines.{phase_word}
 use Rattle.node_mail.specs.Lists.{Lists}
 use Rattle.trace_lines.specs.Json.{object, Field, Number, NumberOrNull, Bytes, Word}
 use Rattle.trace_lines.specs.Mails.{mail_text}

@@ -5,7 +5,7 @@ ghost use Rattle.std.specs.Option.{option_map};
 ghost use Rattle.ax_address.specs.Callsign as calls;
 ghost use Rattle.circuit_set.specs.Standing.{event_told};
 ghost use Rattle.node_core.specs.Standing.{entry_of};
-ghost use Rattle.net_replay.specs.ToldWords.{drop_word, notice_word};
+ghost use Rattle.net_replay.specs.ToldLines.{drop_word, notice_word};
 ghost use Rattle.trace_lines.specs.Circuits as circuits;
 ghost use Rattle.trace_lines.specs.Json.{Number, NumberOrNull, Octets, OctetsOrNull, Word, fields_text, hex_text, or_null, quoted};
 

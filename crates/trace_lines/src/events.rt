@@ -1,8 +1,8 @@
 //! The events of a trace.
 ghost use Rattle.std.specs.Prelude.{◌≡◌, ◌++◌, [], ◌∷◌, length, OnOk, IfOk, string_bytes, map, flat_map};
-ghost use Rattle.net_replay.specs.Air.{frame_of};
+ghost use Rattle.net_replay.specs.World.{frame_of};
 ghost use Rattle.net_replay.specs.Events.{event_of, numbered_of};
-ghost use Rattle.net_replay.specs.Reasons.{word_for_why};
+ghost use Rattle.net_replay.specs.Refused.{word_for_why};
 ghost use Rattle.trace_lines.specs.Events as events;
 ghost use Rattle.trace_lines.specs.Json as json;
 ghost use Rattle.trace_lines.specs.Json.{Bytes, Number, Octets, fields_text};

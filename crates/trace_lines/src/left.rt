@@ -1,7 +1,7 @@
 //! The nodes as they were left: their tables, and the ends that they ever made.
 ghost use Rattle.std.specs.Prelude.{◌≡◌, ◌++◌, List, Option, OnOk, IfOk, string_bytes, flat_map};
 ghost use Rattle.std.specs.Fmt.{decimal};
-ghost use Rattle.node_core.specs.Kept.{NodeStands};
+ghost use Rattle.node_core.specs.Standing.{NodeStands};
 ghost use Rattle.node_turns.specs.States.{NodeState};
 ghost use Rattle.net_replay.specs.Reporting.{AreDeclared, ends_left};
 ghost use Rattle.net_replay.specs.Starting.{Placed};

@@ -4,7 +4,7 @@ ghost use Rattle.std.specs.Prelude.{◌≡◌, ◌∷◌, [], Some, nat_eq, refl
 ghost use Rattle.std.specs.Cmp.{and_equiv, and_per, both_tied, on_equiv, on_per, on_total, partial_equiv_from_equiv, nat_eq_equiv, nat_cmp_total, then_total, unsigned_Decides, unsigned_ties, partial_order_from_agreeing_total};
 ghost use Rattle.std.specs.Cmp.Lexicographic.{bytes_decides, nat_list_cmp_total, nat_list_eq_equiv, texts_ties};
 ghost use Rattle.std.specs.Hash.{and-Alike, on_Alike, same_Alike};
-ghost use Rattle.ax_address.specs.CallOrder.{AreDigits, call_cmp, call_writes, digits, number_from, same_call};
+ghost use Rattle.ax_address.specs.Callsign.{AreDigits, call_cmp, call_writes, digits, number_from, same_call};
 
 use crate::Call;
 use std::cmp::Ordering;

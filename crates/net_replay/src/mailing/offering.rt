@@ -1,6 +1,6 @@
 //! The mails that are queued are offered at the ends of an agent.
 ghost use Rattle.std.specs.Prelude.{◌≡◌, ◌&&◌, ◌+◌, ◌∷◌, ℕ, List, IfOk, IfErr, nat_lt};
-ghost use Rattle.ax_address.specs.CallOrder.{same_call};
+ghost use Rattle.ax_address.specs.Callsign.{same_call};
 ghost use Rattle.net_replay.specs.Agents as agents;
 ghost use Rattle.net_replay.specs.Mailing as mailing;
 ghost use Rattle.net_replay.specs.Running.{Runs, Stops, course};

@@ -1,6 +1,6 @@
 //! What a report says of mail.
 ghost use Rattle.std.specs.Prelude.{◌≡◌, IfOk, string_bytes};
-ghost use Rattle.net_replay.specs.ToldMails as mails;
+ghost use Rattle.net_replay.specs.ToldLines as mails;
 
 use crate::events::StoredMail;
 use std::alloc::{AllocError, Global};

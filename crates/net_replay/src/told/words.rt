@@ -1,6 +1,6 @@
 //! The words by which a report shows what links, ends of circuits and routers tell.
 ghost use Rattle.std.specs.Prelude.{◌≡◌, None, Some, MatchOption};
-ghost use Rattle.net_replay.specs.ToldWords as words;
+ghost use Rattle.net_replay.specs.ToldLines as words;
 
 use ax_link::LinkNotice;
 use circuit_l4::{EndNotice, EndPhase};

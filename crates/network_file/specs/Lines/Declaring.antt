@@ -7,10 +7,8 @@ use Rattle.network_file.specs.declared.reasons.What.TheVariants as whats
 use Rattle.network_file.specs.declared.lines.Line.{Line}
 use Rattle.network_file.specs.declared.lines.Line.TheVariants as lines
 use Rattle.network_file.specs.declared.plan.declarations.Declaration.{Declaration}
-use Rattle.network_file.specs.Channels.{has_member}
-use Rattle.network_file.specs.Plan.{Plan, version_of}
-use Rattle.network_file.specs.Keys.{key_at, least_of, most_of, takes}
-use Rattle.network_file.specs.Settings.{clashes, set_to}
+use Rattle.network_file.specs.Plan.{has_member, Plan, version_of}
+use Rattle.network_file.specs.Keys.{key_at, least_of, most_of, takes, clashes, set_to}
 use Rattle.network_file.specs.Lines.Kinds.{Kind, declaring, opening}
 use Rattle.network_file.specs.Places.{needs, value_at, node_at, new_node_at, call_at, new_call_at, new_peer_at, alias_at}
 

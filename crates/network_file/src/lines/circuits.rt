@@ -2,10 +2,10 @@
 ghost use Rattle.std.specs.Prelude.{◌≡◌, IfOk, MatchOption, None, Some};
 ghost use Rattle.network_file.specs.declared.plan.instructions.Instruction.TheVariants as instructions;
 ghost use Rattle.network_file.specs.Lines.{from_circuits};
-ghost use Rattle.network_file.specs.Lines.Circuits as lines;
+ghost use Rattle.network_file.specs.Lines.Instructions as lines;
 ghost use Rattle.network_file.specs.Lines.Kinds.{as_line, line_by};
-ghost use Rattle.network_file.specs.Lines.Nodes.{node_and_call};
-ghost use Rattle.text_lines.specs.Words.{texts};
+ghost use Rattle.network_file.specs.Lines.Instructions.{node_and_call};
+ghost use Rattle.text_lines.specs.Lines.{texts};
 
 use crate::lines::Line;
 use crate::lines::mails::mail_kind;
@@ -52,7 +52,7 @@ fn open_line(before: &Network, words: &[&[u8]]) -> Result<Line, What>
 }
 
 /// The number of a declared node, and that of one of its ends.
-#[tactic(auto, unfolding(crate::specs::Lines::Circuits::end_at))]
+#[tactic(auto, unfolding(crate::specs::Lines::Instructions::end_at))]
 fn end_of(before: &Network, number: &[u8], end: &[u8]) -> Result<(u8, u32), What>
     ensures { result ≡ lines.end_at before.now number.now end.now }
 {
@@ -76,7 +76,7 @@ fn say_line(
     }
 }
 
-#[tactic(auto, unfolding(crate::specs::Lines::Circuits::say_at))]
+#[tactic(auto, unfolding(crate::specs::Lines::Instructions::say_at))]
 fn say(
     alloc: Global,
     before: &Network,
@@ -99,7 +99,7 @@ fn say(
 }
 
 /// TEXT of a `say` line: what stands after its third word and the one space after that, if that space is there.
-#[tactic(auto, unfolding(crate::specs::Lines::Circuits::said_text))]
+#[tactic(auto, unfolding(crate::specs::Lines::Instructions::said_text))]
 fn said_text(line: &[u8]) -> Option<&[u8]>
     ensures { MatchOption result (lines.said_text line.now ≡ None) (λ text. lines.said_text line.now ≡ Some text.now) }
 {
@@ -116,7 +116,7 @@ fn burst_line(before: &Network, words: &[&[u8]]) -> Result<Line, What>
     }
 }
 
-#[tactic(auto, unfolding(crate::specs::Lines::Circuits::burst_at))]
+#[tactic(auto, unfolding(crate::specs::Lines::Instructions::burst_at))]
 fn burst(before: &Network, number: &[u8], end: &[u8], count: &[u8]) -> Result<Line, What>
     ensures { result ≡ lines.burst_at before.now number.now end.now count.now }
 {

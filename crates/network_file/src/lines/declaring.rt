@@ -1,7 +1,7 @@
 //! Lines that declare: `version`, `node`, `set`, `channel`, `via`.
 ghost use Rattle.std.specs.Prelude.{◌≡◌, ◌≤◌, ◌+◌, ◌++◌, List, [], length, Ok, Err, IfOk, IsTrue, MatchResult};
 ghost use Rattle.ax_address.specs.Callsign.{Callsign};
-ghost use Rattle.text_lines.specs.Words.{texts};
+ghost use Rattle.text_lines.specs.Lines.{texts};
 ghost use Rattle.network_file.specs.Lines.{all_kinds};
 ghost use Rattle.network_file.specs.Lines.Declaring as lines;
 ghost use Rattle.network_file.specs.Lines.Kinds as kinds;

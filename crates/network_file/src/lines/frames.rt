@@ -1,9 +1,9 @@
 //! Lines that move frames: `deliver`, `again`, `lose`, `flow`, `cut`.
 ghost use Rattle.std.specs.Prelude.{◌≡◌, []};
 ghost use Rattle.network_file.specs.declared.plan.instructions.Instruction.TheVariants as instructions;
-ghost use Rattle.network_file.specs.Lines.Frames as lines;
+ghost use Rattle.network_file.specs.Lines.Instructions as lines;
 ghost use Rattle.network_file.specs.Lines.Kinds.{as_line, line_by};
-ghost use Rattle.text_lines.specs.Words.{texts};
+ghost use Rattle.text_lines.specs.Lines.{texts};
 
 use crate::lines::Line;
 use crate::network::Network;
@@ -60,7 +60,7 @@ fn frame_and_node(before: &Network, words: &[&[u8]]) -> Result<(u32, u8), What>
     }
 }
 
-#[tactic(auto, unfolding(crate::specs::Lines::Frames::frame_and_node_at))]
+#[tactic(auto, unfolding(crate::specs::Lines::Instructions::frame_and_node_at))]
 fn frame_and_node_of(before: &Network, word: &[u8], number: &[u8]) -> Result<(u32, u8), What>
     ensures { result ≡ lines.frame_and_node_at before.now word.now number.now }
 {

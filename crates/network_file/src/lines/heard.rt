@@ -1,8 +1,8 @@
 //! The line `heard`.
 ghost use Rattle.std.specs.Prelude.{◌≡◌, ◌≤◌, ◌+◌, ◌*◌, ◌++◌, List, length, Ok, Err, IfOk, IsTrue, MatchResult};
 ghost use Rattle.ax_address.specs.declared.Entry.{Entry};
-ghost use Rattle.text_lines.specs.Words.{texts};
-ghost use Rattle.network_file.specs.Lines.Heard as lines;
+ghost use Rattle.text_lines.specs.Lines.{texts};
+ghost use Rattle.network_file.specs.Lines.Instructions as lines;
 ghost use Rattle.network_file.specs.declared.lines.Line.TheVariants as said;
 ghost use Rattle.network_file.specs.declared.plan.instructions.Instruction.TheVariants as instructions;
 
@@ -51,7 +51,7 @@ fn broadcast(
 }
 
 /// Which node hears a broadcast, whose, and what it says.
-#[tactic(auto, unfolding(crate::specs::Lines::Heard::broadcast_at))]
+#[tactic(auto, unfolding(crate::specs::Lines::Instructions::broadcast_at))]
 fn heard(
     before: &Network,
     number: &[u8],
@@ -103,7 +103,7 @@ fn add_entries(entries: &mut ArrayVec<Entry, MAX_ENTRIES>, words: &[&[u8]]) -> R
     }
 }
 
-#[tactic(auto, unfolding(crate::specs::Lines::Heard::entry_at))]
+#[tactic(auto, unfolding(crate::specs::Lines::Instructions::entry_at))]
 fn entry_of(dest: &[u8], nick: &[u8], best: &[u8], quality: &[u8]) -> Result<Entry, What>
     ensures { result ≡ lines.entry_at dest.now nick.now best.now quality.now }
 {

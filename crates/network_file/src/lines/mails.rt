@@ -3,9 +3,9 @@ ghost use Rattle.std.specs.Prelude.{◌≡◌, IfOk, MatchOption, None, Some};
 ghost use Rattle.network_file.specs.declared.plan.instructions.Instruction.TheVariants as instructions;
 ghost use Rattle.network_file.specs.Lines.{from_mails};
 ghost use Rattle.network_file.specs.Lines.Kinds.{as_line, line_by};
-ghost use Rattle.network_file.specs.Lines.Mails as lines;
-ghost use Rattle.network_file.specs.Lines.Nodes.{node_alone};
-ghost use Rattle.text_lines.specs.Words.{texts};
+ghost use Rattle.network_file.specs.Lines.Instructions as lines;
+ghost use Rattle.network_file.specs.Lines.Instructions.{node_alone};
+ghost use Rattle.text_lines.specs.Lines.{texts};
 
 use crate::lines::Line;
 use crate::lines::frames::frame_kind;
@@ -53,7 +53,7 @@ fn post_line(
     }
 }
 
-#[tactic(auto, unfolding(crate::specs::Lines::Mails::post_at))]
+#[tactic(auto, unfolding(crate::specs::Lines::Instructions::post_at))]
 fn post(
     alloc: Global,
     before: &Network,
@@ -82,7 +82,7 @@ fn post(
 }
 
 /// TEXT of a `post` line.
-#[tactic(auto, unfolding(crate::specs::Lines::Mails::posted_text))]
+#[tactic(auto, unfolding(crate::specs::Lines::Instructions::posted_text))]
 fn posted_text(line: &[u8]) -> Option<&[u8]>
     ensures { MatchOption result (lines.posted_text line.now ≡ None) (λ text. lines.posted_text line.now ≡ Some text.now) }
 {
@@ -90,7 +90,7 @@ fn posted_text(line: &[u8]) -> Option<&[u8]>
 }
 
 /// A node, a user, and the user's node.
-#[tactic(auto, unfolding(crate::specs::Lines::Mails::node_and_calls_at))]
+#[tactic(auto, unfolding(crate::specs::Lines::Instructions::node_and_calls_at))]
 fn node_and_calls(
     before: &Network,
     number: &[u8],

@@ -3,8 +3,8 @@ ghost use Rattle.std.specs.Prelude.{◌≡◌, IfOk};
 ghost use Rattle.network_file.specs.declared.plan.instructions.Instruction.TheVariants as instructions;
 ghost use Rattle.network_file.specs.Lines.{from_nodes};
 ghost use Rattle.network_file.specs.Lines.Kinds.{as_line, line_by};
-ghost use Rattle.network_file.specs.Lines.Nodes as lines;
-ghost use Rattle.text_lines.specs.Words.{texts};
+ghost use Rattle.network_file.specs.Lines.Instructions as lines;
+ghost use Rattle.text_lines.specs.Lines.{texts};
 
 use crate::lines::Line;
 use crate::lines::circuits::circuit_kind;
@@ -58,7 +58,7 @@ fn lock_line(before: &Network, words: &[&[u8]]) -> Result<Line, What>
     }
 }
 
-#[tactic(auto, unfolding(crate::specs::Lines::Nodes::lock_at))]
+#[tactic(auto, unfolding(crate::specs::Lines::Instructions::lock_at))]
 fn lock(
     before: &Network,
     number: &[u8],
@@ -119,7 +119,7 @@ pub fn node_and_call(before: &Network, words: &[&[u8]]) -> Result<(u8, Call), Wh
     }
 }
 
-#[tactic(auto, unfolding(crate::specs::Lines::Nodes::node_and_call_at))]
+#[tactic(auto, unfolding(crate::specs::Lines::Instructions::node_and_call_at))]
 fn node_and_call_of(before: &Network, number: &[u8], name: &[u8]) -> Result<(u8, Call), What>
     ensures { result ≡ lines.node_and_call_at before.now number.now name.now }
 {
@@ -146,7 +146,7 @@ fn tick_line(words: &[&[u8]]) -> Result<Line, What>
     }
 }
 
-#[tactic(auto, unfolding(crate::specs::Lines::Nodes::tick_at))]
+#[tactic(auto, unfolding(crate::specs::Lines::Instructions::tick_at))]
 fn tick(word: &[u8]) -> Result<Line, What>
     ensures { result ≡ lines.tick_at word.now }
 {
@@ -164,7 +164,7 @@ fn restart_line(before: &Network, words: &[&[u8]]) -> Result<Line, What>
     }
 }
 
-#[tactic(auto, unfolding(crate::specs::Lines::Nodes::restart_at))]
+#[tactic(auto, unfolding(crate::specs::Lines::Instructions::restart_at))]
 fn restart(before: &Network, number: &[u8], index: &[u8], ident: &[u8]) -> Result<Line, What>
     ensures { result ≡ lines.restart_at before.now number.now index.now ident.now }
 {

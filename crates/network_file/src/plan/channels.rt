@@ -1,6 +1,6 @@
 //! Who hears whom.
 ghost use Rattle.std.specs.Prelude.{◌≡◌, ◌<◌, ◌==◌, ℕ, Bool, Some, ◌&&◌, ◌||◌, if◌then◌else◌, slice_get};
-ghost use Rattle.network_file.specs.Channels as hearing;
+ghost use Rattle.network_file.specs.Plan as hearing;
 
 use crate::limits::MAX_NODES;
 use arrayvec::ArrayVec;

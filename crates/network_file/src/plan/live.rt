@@ -1,7 +1,7 @@
 //! A node that runs alone, as the words of a command declare it.
 ghost use Rattle.std.specs.Prelude.{◌≡◌, ◌==◌, ◌≤◌, ◌<◌, ◌++◌, ◌∷◌, length, position, map, string_bytes, Some, None, Ok, Err, IfSome, MatchOption, MatchResult};
 ghost use Rattle.network_file.specs.Live as live;
-ghost use Rattle.text_lines.specs.Words.{texts};
+ghost use Rattle.text_lines.specs.Lines.{texts};
 
 use crate::limits::{MAX_KEYS, MAX_VIAS};
 use crate::lines::declaring::repeaters_of;

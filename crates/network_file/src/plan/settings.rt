@@ -1,13 +1,12 @@
 //! The settings of nodes, and their defaults.
 ghost use Rattle.std.specs.Prelude.{◌≡◌, ◌≤◌, IsTrue, IfSome};
 ghost use Rattle.network_file.specs.Keys as keys;
-ghost use Rattle.network_file.specs.Settings as set;
 
 use crate::plan::keys::{Key, Setting};
 
 /// What the key is set to for the node, if it is.
 pub fn set_to(settings: &[Setting], node: u8, key: Key) -> Option<u32>
-    ensures value { result ≡ set.set_to settings.now node key }
+    ensures value { result ≡ keys.set_to settings.now node key }
     ensures in_range { IfSome result (λ v. (keys.least_of key ≤ v) × (v ≤ keys.most_of key)) }
 {
     for setting in settings {
@@ -19,7 +18,7 @@ pub fn set_to(settings: &[Setting], node: u8, key: Key) -> Option<u32>
 }
 
 fn is_of(setting: &Setting, node: u8, key: Key) -> bool
-    ensures value { result ≡ set.is_of node key setting.now }
+    ensures value { result ≡ keys.is_of node key setting.now }
     ensures key { IsTrue result → setting.now.key ≡ key }
 {
     setting.node == node && setting.key == key
@@ -28,7 +27,7 @@ fn is_of(setting: &Setting, node: u8, key: Key) -> bool
 /// What the key is set to for the node, or else its default.
 #[tactic(auto, using(crate::proofs::KeyRanges::default_in_range))]
 pub fn value_of(settings: &[Setting], node: u8, key: Key) -> u32
-    ensures value { result ≡ set.value_of settings.now node key }
+    ensures value { result ≡ keys.value_of settings.now node key }
     ensures least { keys.least_of key ≤ result }
     ensures most { result ≤ keys.most_of key }
 {
@@ -40,7 +39,7 @@ pub fn value_of(settings: &[Setting], node: u8, key: Key) -> u32
 
 /// The node would serve users at a prompt and keep mail too, of which it does one alone.
 pub fn clashes(settings: &[Setting], node: u8, key: Key, value: u32) -> bool
-    ensures { result ≡ set.clashes settings.now node key value }
+    ensures { result ≡ keys.clashes settings.now node key value }
 {
     match key {
         Key::Mail => value == 1 && value_of(settings, node, Key::Prompt) == 1,

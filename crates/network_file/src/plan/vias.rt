@@ -1,6 +1,6 @@
 //! The repeaters over which nodes reach others.
 ghost use Rattle.std.specs.Prelude.{◌≡◌};
-ghost use Rattle.network_file.specs.Vias as vias;
+ghost use Rattle.network_file.specs.Plan as vias;
 
 use crate::limits::MAX_VIA_REPEATERS;
 use arrayvec::ArrayVec;

@@ -4,7 +4,7 @@ ghost use Rattle.std.specs.Option.{option_to_list};
 ghost use Rattle.circuit_set.specs.CircuitSets.{held_ids};
 ghost use Rattle.node_prompt.specs.declared.action.Sight.TheVariants as sights;
 ghost use Rattle.node_turns.specs.States.{State};
-ghost use Rattle.node_turns.specs.Views as views;
+ghost use Rattle.node_turns.specs.Asking as views;
 
 use crate::station::Station;
 use arrayvec::ArrayVec;

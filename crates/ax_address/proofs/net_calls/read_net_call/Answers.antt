@@ -1,5 +1,5 @@
 use Rattle.std.proofs.Common.{◌∙◌, ap, Ok}
-use Rattle.ax_address.specs.NetCalls.{net_call_in, unless_at_fault}
+use Rattle.ax_address.specs.Octets.{net_call_in, unless_at_fault}
 use Rattle.ax_address.proofs.NetCallLaws.{spelled_is_read}
 use Rattle.ax_address.proofs.net_calls.read_net_call.Goals as goal
 

@@ -1,7 +1,6 @@
 use Rattle.std.proofs.Common.{◌≡◌, ◌+◌, ◌-◌, ℕ, List, take, drop, get_or, set, refl}
-use Rattle.ax_ip.specs.Onward.{with_header_sum}
-use Rattle.ax_ip.specs.Numbers.{word_octets}
-use Rattle.ax_ip.specs.Sums.{lacking, word_sum}
+use Rattle.ax_ip.specs.Machine.{with_header_sum}
+use Rattle.ax_ip.specs.Packets.{word_octets, lacking, word_sum}
 use Rattle.ax_ip.proofs.onward.age.Goals as goal
 
 signed : (p w : List ℕ) (header x y s : ℕ) → x ≡ word_sum (take 10 p) → y ≡ word_sum (take (header - 12) (drop 12 p)) → s ≡ lacking (x + y) → w ≡ word_octets s

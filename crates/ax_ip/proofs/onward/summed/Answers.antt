@@ -1,6 +1,5 @@
 use Rattle.std.proofs.Common.{◌≡◌, ◌∙◌, ◌++◌, ap}
-use Rattle.ax_ip.specs.Numbers.{word_octets}
-use Rattle.ax_ip.specs.Sums.{lacking, word_sum}
+use Rattle.ax_ip.specs.Packets.{word_octets, lacking, word_sum}
 use Rattle.ax_ip.proofs.Words.{sum_is, pushed}
 use Rattle.ax_ip.proofs.onward.summed.Goals as goal
 

@@ -1,5 +1,5 @@
 use Rattle.std.proofs.Common.{◌≡◌, ◌≤◌, ◌+◌, ◌*◌, length}
-use Rattle.ax_ip.specs.Sums as sums
+use Rattle.ax_ip.specs.Packets as sums
 use Rattle.ax_ip.proofs.sums.word_sum.Given as goal
 
 abbrev pub invariant-loop-rest : goal.invariant-loop-rest

@@ -1,5 +1,5 @@
 use Rattle.std.proofs.Common.{◌≡◌, slice_get}
-use Rattle.circuit_l4.specs.Sending.{fragments_of_all}
+use Rattle.circuit_l4.specs.State.{fragments_of_all}
 use Rattle.circuit_l4.specs.Queued.{cut}
 use Rattle.circuit_l4.proofs.Rings.{Left, fragments_from}
 use Rattle.circuit_l4.proofs.messages.fragment_of.Given as goal

@@ -1,6 +1,5 @@
 use Rattle.std.proofs.Common.{◌≡◌, ◌≤◌, ◌-◌, ◌++◌, ℕ, List, length, take}
-use Rattle.kiss_framing.specs.Deframing.{StandsFor}
-use Rattle.kiss_framing.specs.Stream.{items}
+use Rattle.kiss_framing.specs.Stream.{StandsFor, items}
 use Rattle.cmd_streams.proofs.items.take_items.Given as goal
 
 -- the front was taken in, and its items were answered

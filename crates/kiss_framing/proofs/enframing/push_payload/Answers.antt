@@ -2,7 +2,7 @@ use Rattle.std.proofs.Common.{◌≡◌, ◌<◌, ◌+◌, ◌++◌, ap, arith, 
 use Rattle.std.specs.List.{flat_map}
 use Rattle.std.proofs.lemmas.List.{drop-drop}
 use Rattle.std.proofs.lemmas.Result.{err_from_is_err_and}
-use Rattle.kiss_framing.specs.Enframing.{escape_of}
+use Rattle.kiss_framing.specs.Stream.{escape_of}
 use Rattle.kiss_framing.proofs.PlainRuns.{front_kept, rest_kept, rest_of}
 use Rattle.kiss_framing.proofs.enframing.push_payload.Goals as goal
 

@@ -1,6 +1,6 @@
 use Rattle.std.proofs.Common.{◌≡◌, ◌≤◌, ◌-◌, ◌++◌, length, take, drop}
 use Rattle.std.specs.List.{flat_map}
-use Rattle.kiss_framing.specs.Enframing.{escape_of}
+use Rattle.kiss_framing.specs.Stream.{escape_of}
 use Rattle.kiss_framing.proofs.enframing.push_payload.Given as goal
 
 -- what stood there at first still stands in front, and with what is left to come it's the whole

@@ -1,7 +1,7 @@
 use Rattle.std.proofs.Common.{◌≡◌, ◌++◌, ◌∙◌, ap, sym, length, take}
 use Rattle.std.specs.List.{flat_map}
 use Rattle.std.proofs.lemmas.Result.{err_from_is_err_and}
-use Rattle.kiss_framing.specs.Enframing.{escape_of}
+use Rattle.kiss_framing.specs.Stream.{escape_of}
 use Rattle.kiss_framing.proofs.PlainRuns.{escaped_run, no_room_for_run}
 use Rattle.kiss_framing.proofs.enframing.push_some.Goals as goal
 

@@ -1,6 +1,6 @@
 use Rattle.std.proofs.Common.{◌≡◌, ◌≤◌, length}
 use Rattle.std.specs.Str.Lines.{lines}
-use Rattle.link_life.specs.Scripts as scripts
+use Rattle.link_life.specs.Lines as scripts
 use Rattle.link_life.proofs.script.read_life.Given as goal
 
 abbrev pub invariant-loop-rest : goal.invariant-loop-rest

@@ -1,6 +1,6 @@
 use Rattle.std.proofs.Common.{sym, ◌∙◌}
 use Rattle.link_table.specs.Frames.{plain_text}
-use Rattle.link_table.specs.Sending.{cut}
+use Rattle.link_table.specs.Texts.{cut}
 use Rattle.link_table.proofs.Sending.{length_cut, length_payloads}
 use Rattle.link_table.proofs.sends.piece_count.Goals as goal
 

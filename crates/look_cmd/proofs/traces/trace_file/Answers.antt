@@ -1,4 +1,4 @@
-use Rattle.cmd_streams.specs.ToldBy.{told_by}
+use Rattle.cmd_streams.specs.Told.{told_by}
 use Rattle.look_cmd.proofs.Ending.{trace_ends}
 use Rattle.look_cmd.proofs.traces.trace_file.Goals as goal
 

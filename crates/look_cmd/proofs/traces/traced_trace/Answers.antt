@@ -1,5 +1,5 @@
 use Rattle.std.proofs.Common.{◌≤◌, length, subst}
-use Rattle.net_replay.specs.Air.{most_frames}
+use Rattle.net_replay.specs.World.{most_frames}
 use Rattle.net_replay.specs.Lines.{world}
 use Rattle.look_cmd.proofs.traces.traced_trace.Goals as goal
 

@@ -1,6 +1,6 @@
 use Rattle.std.proofs.Common.{sym, subst}
 use Rattle.std.proofs.lemmas.List.{take_all}
-use Rattle.net_replay.specs.Air.{AllSettled}
+use Rattle.net_replay.specs.World.{AllSettled}
 use Rattle.net_replay.proofs.Oldest.{place_at, place_none}
 use Rattle.net_replay.proofs.air.open_from.Goals as goal
 

@@ -1,5 +1,5 @@
 use Rattle.std.proofs.Common.{take}
-use Rattle.net_replay.specs.Air.{AllSettled}
+use Rattle.net_replay.specs.World.{AllSettled}
 use Rattle.net_replay.proofs.air.open_from.Given as goal
 
 abbrev pub invariant-loop-at : goal.invariant-loop-at

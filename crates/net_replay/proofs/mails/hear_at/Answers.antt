@@ -1,7 +1,7 @@
 use Rattle.std.proofs.Common.{◌∙◌, ap, refl, sym}
 use Rattle.std.specs.Prelude.{Option, Some, slice_set}
 use Rattle.std.proofs.lemmas.Result.{err_from_is_err_and}
-use Rattle.node_mail.specs.Standing.{StoreView}
+use Rattle.node_mail.specs.Lists.{StoreView}
 use Rattle.net_replay.proofs.Stores.{called, here, none_here, past, same_set}
 use Rattle.net_replay.proofs.mails.hear_at.Goals as goal
 

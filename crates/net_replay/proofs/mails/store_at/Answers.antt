@@ -1,5 +1,5 @@
 use Rattle.std.proofs.Common.{sym, subst}
-use Rattle.node_mail.specs.Standing.{StoreView}
+use Rattle.node_mail.specs.Lists.{StoreView}
 use Rattle.std.specs.Prelude.{Option}
 use Rattle.net_replay.specs.Mailing.{mail_in}
 use Rattle.net_replay.specs.Traces.{MailStands}

@@ -1,6 +1,5 @@
 use Rattle.std.proofs.Common.{◌∙◌, ap}
-use Rattle.node_mail.specs.Lists.{letter_of}
-use Rattle.node_mail.specs.Standing.{octets_or}
+use Rattle.node_mail.specs.Lists.{letter_of, octets_or}
 use Rattle.net_replay.specs.Mailing.{mail_in}
 use Rattle.net_replay.proofs.Stores.{none_there, some_here}
 use Rattle.net_replay.proofs.mails.wire_at.Goals as goal

@@ -1,7 +1,7 @@
 use Rattle.std.proofs.Common.{List, ◌∙◌, sym, subst}
 use Rattle.std.specs.Prelude.{Option}
-use Rattle.node_core.specs.Kept.{Kept}
-use Rattle.node_mail.specs.Standing.{StoreView}
+use Rattle.node_core.specs.Standing.{Kept}
+use Rattle.node_mail.specs.Lists.{StoreView}
 use Rattle.net_replay.specs.Traces.{MailsStand, StandFor, left_of}
 use Rattle.net_replay.proofs.Texts.{report_joined}
 use Rattle.net_replay.proofs.reports.report_of.Goals as goal

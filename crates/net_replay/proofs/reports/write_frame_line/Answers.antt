@@ -1,6 +1,6 @@
 use Rattle.std.proofs.Common.{◌++◌, ◌∷◌, [], ◌∙◌, ap}
 use Rattle.net_replay.specs.Reports.{modulus_of, text_of_frame}
-use Rattle.ax_frame.specs.Read.{read_at}
+use Rattle.ax_frame.specs.Frames.{read_at}
 use Rattle.net_replay.proofs.Texts.{frame_line_joined}
 use Rattle.net_replay.proofs.reports.write_frame_line.Goals as goal
 

@@ -1,5 +1,5 @@
 use Rattle.net_replay.specs.Reporting.{ends_left}
-use Rattle.net_replay.specs.Soaks.{facts_of}
+use Rattle.net_replay.specs.Reports.{facts_of}
 use Rattle.net_replay.specs.Traces.{left_of}
 use Rattle.net_replay.proofs.Texts.{nodes_joined}
 use Rattle.net_replay.proofs.soak.+add_nodes.Goals as goal

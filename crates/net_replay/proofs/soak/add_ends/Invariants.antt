@@ -1,7 +1,7 @@
 use Rattle.std.proofs.Common.{◌≡◌, ◌++◌, drop, suc}
-use Rattle.node_core.specs.Kept.{NodeStands}
+use Rattle.node_core.specs.Standing.{NodeStands}
 use Rattle.node_turns.specs.States.{NodeState}
-use Rattle.net_replay.specs.Soaks.{facts_from}
+use Rattle.net_replay.specs.Reports.{facts_from}
 use Rattle.net_replay.proofs.soak.add_ends.Given as goal
 
 abbrev pub invariant-loop-place : goal.invariant-loop-place

@@ -1,5 +1,5 @@
 use Rattle.std.proofs.Common.{List, ◌∙◌, sym, subst}
-use Rattle.node_core.specs.Kept.{Kept}
+use Rattle.node_core.specs.Standing.{Kept}
 use Rattle.net_replay.specs.Traces.{StandFor, left_of}
 use Rattle.net_replay.proofs.Soaking.{facts_joined}
 use Rattle.net_replay.proofs.soak.facts_left.Goals as goal

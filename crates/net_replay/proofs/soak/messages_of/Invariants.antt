@@ -1,5 +1,5 @@
 use Rattle.std.proofs.Common.{◌≡◌, ◌≤◌, ◌*◌, ◌^◌, take}
-use Rattle.net_replay.specs.Soaks.{received_in, wrote_in}
+use Rattle.net_replay.specs.Reports.{received_in, wrote_in}
 use Rattle.net_replay.proofs.soak.messages_of.Given as goal
 
 -- the sums so far, of numbers below 2^64

@@ -1,6 +1,6 @@
 use Rattle.std.proofs.Common.{map, take}
 use Rattle.circuit_set.specs.Runs.{AreStarts}
-use Rattle.net_replay.specs.CircuitRuns.{sets_of}
+use Rattle.net_replay.specs.Promises.{sets_of}
 use Rattle.net_replay.specs.Starting.{new_placed}
 use Rattle.net_replay.specs.Traces.{StandFor}
 use Rattle.net_replay.proofs.stations.nodes_of.Given as goal

@@ -1,5 +1,5 @@
 use Rattle.std.proofs.Common.{ap, sym, subst}
-use Rattle.node_core.specs.Kept.{NodeStands}
+use Rattle.node_core.specs.Standing.{NodeStands}
 use Rattle.net_replay.specs.Starting.{with_via, with_via_by}
 use Rattle.net_replay.proofs.stations.set_path.Goals as goal
 

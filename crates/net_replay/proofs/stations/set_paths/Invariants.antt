@@ -1,5 +1,5 @@
 use Rattle.std.proofs.Common.{◌≡◌, drop, filter}
-use Rattle.node_core.specs.Kept.{NodeStands}
+use Rattle.node_core.specs.Standing.{NodeStands}
 use Rattle.node_turns.specs.States.{NodeState}
 use Rattle.net_replay.specs.Starting.{is_via_of, with_vias}
 use Rattle.net_replay.proofs.stations.set_paths.Given as goal

@@ -1,7 +1,7 @@
 use Rattle.std.proofs.Common.{◌∙◌, ap, sym, subst, map, List, refl}
 use Rattle.network_file.specs.declared.plan.declarations.Declaration.{Declaration}
 use Rattle.circuit_set.specs.Runs.{AreStarts}
-use Rattle.net_replay.specs.CircuitRuns.{sets_of}
+use Rattle.net_replay.specs.Promises.{sets_of}
 use Rattle.net_replay.specs.Events.{numbered_of}
 use Rattle.net_replay.specs.Starting.{by_number, new_mail, new_placed}
 use Rattle.net_replay.specs.Traces.{MailsStand, StandFor}

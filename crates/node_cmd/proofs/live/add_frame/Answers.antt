@@ -1,5 +1,5 @@
 use Rattle.std.proofs.Common.{◌≡◌, ◌∙◌, ap, arith}
-use Rattle.kiss_framing.specs.Enframing.{framed}
+use Rattle.kiss_framing.specs.Stream.{framed}
 use Rattle.node_cmd.proofs.live.add_frame.Goals as goal
 
 pub returns : goal.returns

@@ -1,4 +1,4 @@
-use Rattle.cmd_streams.specs.ToldBy.{told_by}
+use Rattle.cmd_streams.specs.Told.{told_by}
 use Rattle.node_cmd.proofs.Ending.{replay_ends}
 use Rattle.node_cmd.proofs.replays.replay_file.Goals as goal
 

@@ -1,5 +1,5 @@
 use Rattle.std.proofs.Common.{◌∙◌}
-use Rattle.cmd_streams.specs.ToldBy.{output_by}
+use Rattle.cmd_streams.specs.Told.{output_by}
 use Rattle.node_cmd.proofs.Ending.{soak_ends}
 use Rattle.node_cmd.proofs.soaks.soak.Goals as goal
 

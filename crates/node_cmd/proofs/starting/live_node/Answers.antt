@@ -1,6 +1,6 @@
 use Rattle.std.proofs.Common.{subst}
 use Rattle.node_core.specs.Configs.{new_node}
-use Rattle.node_core.specs.Kept.{NodeStands}
+use Rattle.node_core.specs.Standing.{NodeStands}
 use Rattle.node_cmd.specs.Starting.{live_config}
 use Rattle.node_cmd.proofs.starting.live_node.Goals as goal
 

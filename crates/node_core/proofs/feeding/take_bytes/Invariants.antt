@@ -1,5 +1,5 @@
 use Rattle.std.proofs.Common.{ℕ, List, ◌≤◌, ◌-◌, ◌++◌, length, take}
-use Rattle.kiss_framing.specs.Deframing as kiss
+use Rattle.kiss_framing.specs.Stream as kiss
 use Rattle.node_core.specs.Taking.{Takes}
 use Rattle.node_core.specs.Going.{StandsForSome}
 use Rattle.node_core.specs.Standing.{IsDrained}

@@ -2,7 +2,7 @@ use Rattle.std.proofs.Common.{ap, sym, subst, ◌∙◌, is_some}
 use Rattle.node_mail.specs.declared.places.QueuedMail.{QueuedMail}
 use Rattle.node_mail.specs.Wires.{Carries, IsText, Spells, wire_octets}
 use Rattle.node_mail.specs.Queues.{IsLetter}
-use Rattle.node_mail.specs.Standing.{octets_or}
+use Rattle.node_mail.specs.Lists.{octets_or}
 use Rattle.node_mail.proofs.Queues.{each_get, found_of, none_of}
 use Rattle.node_mail.proofs.queue.wire_at.Goals as goal
 

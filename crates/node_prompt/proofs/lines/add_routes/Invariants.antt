@@ -1,7 +1,7 @@
 use Rattle.std.proofs.Common.{◌≡◌, ◌≤◌, ◌+◌, ◌*◌, ◌++◌, length, take}
 use Rattle.std.specs.Prelude.{codes}
 use Rattle.std.specs.List.{flat_map}
-use Rattle.node_prompt.specs.Prompts.{ended}
+use Rattle.node_prompt.specs.Replies.{ended}
 use Rattle.node_prompt.specs.Replies as replies
 use Rattle.node_prompt.proofs.lines.add_routes.Given as goal
 

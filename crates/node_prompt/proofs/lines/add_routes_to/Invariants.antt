@@ -2,7 +2,7 @@ use Rattle.std.proofs.Common.{◌≡◌, ◌≤◌, ◌+◌, ◌*◌, ◌++◌, 
 use Rattle.std.specs.Prelude.{codes}
 use Rattle.std.specs.List.{flat_map}
 use Rattle.ax_address.specs.Callsign as calls
-use Rattle.node_prompt.specs.Prompts.{ended}
+use Rattle.node_prompt.specs.Replies.{ended}
 use Rattle.node_prompt.specs.Replies as replies
 use Rattle.node_prompt.proofs.lines.add_routes_to.Given as goal
 

@@ -1,5 +1,5 @@
 use Rattle.std.proofs.Common.{◌≡◌, map, take}
-use Rattle.node_prompt.specs.Words as words
+use Rattle.node_prompt.specs.Commands as words
 use Rattle.node_prompt.proofs.words.capitals.Given as goal
 
 abbrev pub invariant-loop-b : goal.invariant-loop-b

@@ -1,7 +1,7 @@
 use Rattle.std.proofs.Common.{◌≡◌, ◌<◌, ◌+◌, ◌-◌, ◌∷◌, ◌∙◌, ap, sym, length, take, drop, length-drop, arith}
 use Rattle.std.proofs.lemmas.List.{take_all}
 use Rattle.std.proofs.lemmas.Bool.Decides.{nat_tests}
-use Rattle.node_prompt.specs.Words as words
+use Rattle.node_prompt.specs.Commands as words
 use Rattle.node_prompt.proofs.FirstWord.{words_of-none, words_of-first}
 use Rattle.node_prompt.proofs.words.first_word.Goals as goal
 

@@ -1,5 +1,5 @@
 use Rattle.std.proofs.Common.{◌≡◌, length}
-use Rattle.node_prompt.specs.Words as words
+use Rattle.node_prompt.specs.Commands as words
 use Rattle.node_prompt.proofs.words.without_spaces.Given as goal
 
 abbrev pub invariant-loop-rest : goal.invariant-loop-rest

@@ -1,7 +1,6 @@
 use Rattle.std.proofs.Common.{◌≡◌, ◌+◌, ◌-◌, ◌*◌, ◌/◌, ◌∙◌, suc, sym, ap, length, take, arith, Ok}
 use Rattle.std.proofs.lemmas.Result.{err_from_is_err_and}
-use Rattle.nodes_broadcast.specs.Nodes.{SpellsEntry}
-use Rattle.nodes_broadcast.specs.Reading.{entry_at, entries_at}
+use Rattle.nodes_broadcast.specs.Nodes.{SpellsEntry, entry_at, entries_at}
 use Rattle.nodes_broadcast.proofs.Turns.{behind_nothing, read_on, refused_here, read_all, spells_on, spells_all}
 use Rattle.nodes_broadcast.proofs.read.read_entries.Goals as goal
 

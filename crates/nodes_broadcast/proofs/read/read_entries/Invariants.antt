@@ -1,7 +1,6 @@
 use Rattle.std.proofs.Common.{◌≡◌, ◌+◌, ◌-◌, ◌*◌, ◌/◌, ◌++◌, List, length}
 use Rattle.ax_address.specs.declared.Entry.{Entry}
-use Rattle.nodes_broadcast.specs.Nodes.{SpellsEntries}
-use Rattle.nodes_broadcast.specs.Reading.{entries_at}
+use Rattle.nodes_broadcast.specs.Nodes.{SpellsEntries, entries_at}
 use Rattle.nodes_broadcast.proofs.Turns.{behind}
 use Rattle.nodes_broadcast.proofs.read.read_entries.Given as goal
 

@@ -1,6 +1,6 @@
 use Rattle.std.proofs.Common.{◌∙◌, ◌++◌, ap, sym, subst, Some}
 use Rattle.std.specs.List.{cons_option}
-use Rattle.route_table.specs.Broadcast.{entry_by}
+use Rattle.route_table.specs.Table.{entry_by}
 use Rattle.route_table.specs.Places.{InRows}
 use Rattle.route_table.proofs.Groups.{told, told_step, rest_rows}
 use Rattle.route_table.proofs.broadcasting.all_entries_of.Goals as goal

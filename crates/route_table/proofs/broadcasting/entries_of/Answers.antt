@@ -1,6 +1,6 @@
 use Rattle.std.proofs.Common.{◌≡◌, ◌∙◌, ◌++◌, ap, sym, subst, drop, length, rules, Some}
 use Rattle.std.specs.List.{cons_option}
-use Rattle.route_table.specs.Broadcast.{entry_by}
+use Rattle.route_table.specs.Table.{entry_by}
 use Rattle.route_table.specs.Places.{InRows}
 use Rattle.route_table.proofs.Groups.{told, told_step, rest_rows, page_full, page_done, none_left}
 use Rattle.route_table.proofs.broadcasting.entries_of.Goals as goal

@@ -1,5 +1,5 @@
 use Rattle.std.proofs.Common.{◌≡◌, ◌<◌, ◌-◌, ◌+◌, arith, length, subst}
-use Rattle.route_table.specs.Ranks.{all_placed}
+use Rattle.route_table.specs.Table.{all_placed}
 use Rattle.route_table.proofs.Waiting.{Entering, enter_step}
 use Rattle.route_table.proofs.entering.enter_all.Goals as goal
 

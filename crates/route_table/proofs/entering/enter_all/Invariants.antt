@@ -1,4 +1,4 @@
-use Rattle.route_table.specs.Ranks.{all_placed}
+use Rattle.route_table.specs.Table.{all_placed}
 use Rattle.route_table.proofs.Waiting.{Entering}
 use Rattle.route_table.proofs.entering.enter_all.Given as goal
 

@@ -1,9 +1,8 @@
 use Rattle.std.proofs.Common.{◌≡◌, ◌∙◌, sym, ap, subst, true, false, cond}
 use Rattle.std.specs.Prelude.{insert}
 use Rattle.route_table.specs.Places.{InRows, place_among}
-use Rattle.route_table.specs.Ranks.{placed}
+use Rattle.route_table.specs.Table.{placed, is_good}
 use Rattle.route_table.specs.Rows.{stays_beside, beside}
-use Rattle.route_table.specs.Table.{is_good}
 use Rattle.route_table.proofs.Sorting.{filter_rows}
 use Rattle.route_table.proofs.Placing.{placed-insert}
 use Rattle.route_table.proofs.Waiting.{kept_where}

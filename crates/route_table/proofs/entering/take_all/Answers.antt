@@ -1,6 +1,6 @@
 use Rattle.std.proofs.Common.{◌∙◌, sym, ap, subst}
 use Rattle.route_table.specs.Places.{Stand}
-use Rattle.route_table.specs.Ranks.{all_placed}
+use Rattle.route_table.specs.Table.{all_placed}
 use Rattle.route_table.proofs.Waiting.{waiting_stand}
 use Rattle.route_table.proofs.entering.take_all.Goals as goal
 

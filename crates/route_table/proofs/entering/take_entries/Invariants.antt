@@ -1,6 +1,6 @@
 use Rattle.std.proofs.Common.{◌≡◌, ◌≤◌, ◌+◌, ◌-◌, drop, length, vec_len, vec_capacity}
 use Rattle.route_table.specs.Places.{AreWaiting}
-use Rattle.route_table.specs.Ranks.{all_placed}
+use Rattle.route_table.specs.Table.{all_placed}
 use Rattle.route_table.specs.Rows as spec
 use Rattle.route_table.proofs.entering.take_entries.Given as goal
 

@@ -1,7 +1,7 @@
 use Rattle.std.proofs.Common.{◌≡◌, ◌∙◌, sym, ap, subst, Some, None, true}
 use Rattle.std.specs.List.{list_any}
 use Rattle.route_table.specs.Places.{PairAt, AreWaiting}
-use Rattle.route_table.specs.Ranks.{all_placed}
+use Rattle.route_table.specs.Table.{all_placed}
 use Rattle.route_table.specs.Rows.{is_same_pair}
 use Rattle.route_table.proofs.Changing.{pair_found}
 use Rattle.route_table.proofs.Waiting.{known_items, known_waiting, kept_items, kept_waiting}

@@ -1,6 +1,6 @@
 use Rattle.std.proofs.Common.{◌≡◌, ◌∙◌, true, false, arith, ap, sym, rules}
 use Rattle.std.proofs.lemmas.List.Sums.{prefix_len-drop_yes, prefix_len-drop_no, prefix_len-drop_all}
-use Rattle.ax_address.specs.CallOrder.{same_call}
+use Rattle.ax_address.specs.Callsign.{same_call}
 use Rattle.route_table.specs.declared.route.Route.{Route}
 use Rattle.route_table.specs.Table.{is_to}
 use Rattle.route_table.proofs.listing.run_to.Goals as goal

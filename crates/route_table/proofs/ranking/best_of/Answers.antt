@@ -1,5 +1,5 @@
 use Rattle.std.proofs.Common.{rules, arith, ◌≡◌, ap, false, length}
-use Rattle.ax_address.specs.CallOrder.{same_call}
+use Rattle.ax_address.specs.Callsign.{same_call}
 use Rattle.route_table.proofs.Placing.{from_start, whole_tail, best_full, best_elsewhere, best_end}
 use Rattle.route_table.proofs.ranking.best_of.Goals as goal
 use Rattle.route_table.proofs.ranking.best_of.Goals.{then-is_full-via-then-is_full, then-is_full-via-else-is_full+then-ne}

@@ -1,5 +1,5 @@
 use Rattle.std.proofs.Common.{◌≡◌, true, false, rules}
-use Rattle.ax_address.specs.CallOrder.{same_call}
+use Rattle.ax_address.specs.Callsign.{same_call}
 use Rattle.route_table.proofs.Placing.{hop_found, hop_elsewhere, hop_behind}
 use Rattle.route_table.proofs.ranking.hop_to.Goals as goal
 

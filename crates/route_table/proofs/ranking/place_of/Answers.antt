@@ -2,7 +2,7 @@ use Rattle.std.proofs.Common.{rules}
 use Rattle.std.specs.Prelude.{not}
 use Rattle.std.proofs.lemmas.List.Sorted.{IsPartitionPoint-from_clause}
 use Rattle.route_table.specs.declared.route.Route.{Route}
-use Rattle.route_table.specs.Ranks.{stands_before}
+use Rattle.route_table.specs.Table.{stands_before}
 use Rattle.route_table.proofs.Placing.{parted, place_down, point_is, place_behind}
 use Rattle.route_table.proofs.ranking.place_of.Goals as goal
 

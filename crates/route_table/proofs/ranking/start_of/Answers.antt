@@ -1,6 +1,6 @@
 use Rattle.std.proofs.Common.{rules}
 use Rattle.std.proofs.lemmas.List.Sorted.{IsPartitionPoint-from_clause}
-use Rattle.ax_address.specs.CallOrder.{call_lt}
+use Rattle.ax_address.specs.Callsign.{call_lt}
 use Rattle.route_table.specs.declared.route.Route.{Route}
 use Rattle.route_table.proofs.Placing.{parted, lower_down, start_is}
 use Rattle.route_table.proofs.ranking.start_of.Goals as goal

@@ -1,6 +1,6 @@
 use Rattle.std.proofs.Common.{◌≡◌, ◌<◌, ◌∙◌, true, false, arith, ap, sym, rules, length}
 use Rattle.std.proofs.lemmas.List.Sums.{prefix_len-drop_yes, prefix_len-drop_no}
-use Rattle.ax_address.specs.CallOrder.{call_lt}
+use Rattle.ax_address.specs.Callsign.{call_lt}
 use Rattle.route_table.specs.declared.route.Route.{Route}
 use Rattle.route_table.proofs.ranking.start_soon.Goals as goal
 

@@ -1,7 +1,7 @@
 use Rattle.std.proofs.Common.{◌≡◌, ◌∙◌, sym, ap, subst, false, rules}
 use Rattle.std.specs.Prelude.{is_none}
 use Rattle.route_table.specs.Places.{InRows, FitsAt}
-use Rattle.route_table.specs.Ranks.{placed}
+use Rattle.route_table.specs.Table.{placed}
 use Rattle.route_table.proofs.Changing.{change_bad, change_moved, change_same, remove_rows}
 use Rattle.route_table.proofs.rows.change.Goals as goal
 

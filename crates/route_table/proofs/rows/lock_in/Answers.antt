@@ -1,7 +1,7 @@
 use Rattle.std.proofs.Common.{◌∙◌, sym, ap, subst, Some, None}
 use Rattle.std.specs.Prelude.{remove}
 use Rattle.route_table.specs.Places.{InRows, PairAt}
-use Rattle.route_table.specs.Ranks.{placed}
+use Rattle.route_table.specs.Table.{placed}
 use Rattle.route_table.proofs.Changing.{beside_found, beside_none, remove_rows}
 use Rattle.route_table.proofs.rows.lock_in.Goals as goal
 

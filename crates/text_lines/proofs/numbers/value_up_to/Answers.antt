@@ -1,5 +1,5 @@
 use Rattle.std.proofs.Common.{◌≡◌, arith, false, refl}
-use Rattle.text_lines.specs.Numbers.{value_onto}
+use Rattle.text_lines.specs.Lines.{value_onto}
 use Rattle.std.specs.Prelude.{nat_le}
 use Rattle.text_lines.proofs.Values.{over}
 use Rattle.text_lines.proofs.numbers.value_up_to.Goals as goal

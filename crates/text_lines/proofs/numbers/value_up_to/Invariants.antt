@@ -1,5 +1,5 @@
 use Rattle.std.proofs.Common.{◌≡◌, ◌≤◌, drop}
-use Rattle.text_lines.specs.Numbers as numbers
+use Rattle.text_lines.specs.Lines as numbers
 use Rattle.text_lines.proofs.numbers.value_up_to.Given as goal
 
 abbrev pub invariant-loop-digit : goal.invariant-loop-digit

@@ -1,5 +1,5 @@
 use Rattle.std.proofs.Common.{◌≡◌, length}
-use Rattle.text_lines.specs.Words.{after_spaces}
+use Rattle.text_lines.specs.Lines.{after_spaces}
 use Rattle.text_lines.proofs.words.after_spaces.Given as goal
 
 abbrev pub invariant-loop-rest : goal.invariant-loop-rest

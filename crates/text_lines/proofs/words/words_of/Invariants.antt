@@ -1,6 +1,6 @@
 use Rattle.std.proofs.Common.{◌≡◌, ◌++◌, drop, filter, length}
 use Rattle.std.specs.Prelude.{not, ◌==◌}
-use Rattle.text_lines.specs.Words.{texts}
+use Rattle.text_lines.specs.Lines.{texts}
 use Rattle.text_lines.proofs.words.words_of.Given as goal
 
 abbrev pub invariant-loop-piece : goal.invariant-loop-piece

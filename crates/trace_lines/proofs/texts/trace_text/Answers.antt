@@ -1,10 +1,10 @@
 use Rattle.std.proofs.Common.{◌≡◌, ◌++◌, ◌∙◌, ℕ, List, map, sym, subst, ap}
 use Rattle.std.specs.Prelude.{Option}
 use Rattle.network_file.specs.declared.network.NumberedInstruction.{NumberedInstruction}
-use Rattle.node_core.specs.Kept.{Kept}
+use Rattle.node_core.specs.Standing.{Kept}
 use Rattle.net_replay.specs.Events.{numbered_of}
 use Rattle.net_replay.specs.Traces.{MailsStand, StandFor, left_of}
-use Rattle.node_mail.specs.Standing.{StoreView}
+use Rattle.node_mail.specs.Lists.{StoreView}
 use Rattle.trace_lines.specs.Events.{events_from, repeats}
 use Rattle.trace_lines.specs.Marks.{mark_at}
 use Rattle.trace_lines.proofs.Joining.{trace_joined}

@@ -1,5 +1,5 @@
 use Rattle.std.proofs.Common.{◌≤◌, ap, is_ok, length, OnOk, subst, sym, ◌∙◌}
-use Rattle.ax_link.specs.Outputs.{AllCanBeSent}
+use Rattle.ax_link.specs.Bounds.{AllCanBeSent}
 use Rattle.ax_link.specs.Standing.{LinkView}
 use Rattle.ax_link.specs.Calls.{view_of}
 use Rattle.ax_link.specs.Table as table

@@ -1,7 +1,6 @@
 use Rattle.std.proofs.Common.{◌≡◌, ◌-◌, length}
-use Rattle.circuit_l4.specs.Receiving.{Receiving, follow}
-use Rattle.circuit_l4.specs.Halves.{IsReceiving}
-use Rattle.circuit_l4.specs.Within.{IsFew}
+use Rattle.circuit_l4.specs.State.{Receiving, follow}
+use Rattle.circuit_l4.specs.Halves.{IsReceiving, IsFew}
 use Rattle.circuit_l4.proofs.Following.{Goes}
 use Rattle.circuit_l4.proofs.incoming.Incoming.move_on.Given as goal
 

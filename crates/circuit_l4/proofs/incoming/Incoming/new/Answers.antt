@@ -1,7 +1,7 @@
 use Rattle.std.proofs.Common.{ap, arith, length}
 use Rattle.circuit_reassembly.specs.Kept.{Gathering}
 use Rattle.circuit_l4.specs.Queued.{Queue}
-use Rattle.circuit_l4.specs.Sending.{bytes_of}
+use Rattle.circuit_l4.specs.State.{bytes_of}
 use Rattle.circuit_l4.proofs.Bounds.{early_most}
 use Rattle.circuit_l4.proofs.incoming.Incoming.new.Goals as goal
 

@@ -1,6 +1,5 @@
 use Rattle.std.proofs.Common.{◌≡◌, ◌-◌, ℕ, List, subst, sym}
-use Rattle.circuit_l4.specs.Sending.{written}
-use Rattle.circuit_l4.specs.State.{Out}
+use Rattle.circuit_l4.specs.State.{written, Out}
 use Rattle.circuit_l4.specs.Table.{write}
 use Rattle.circuit_l4.specs.Halves.{Outbox}
 use Rattle.circuit_l4.specs.Outputs.{outs_of}

@@ -1,6 +1,5 @@
 use Rattle.std.proofs.Common.{sym, ◌∙◌}
-use Rattle.circuit_l4.specs.Receiving.{Receipt, receive}
-use Rattle.circuit_l4.specs.State.{Effect}
+use Rattle.circuit_l4.specs.State.{Receipt, receive, Effect}
 use Rattle.circuit_l4.specs.Moves.{acknowledge, on_state}
 use Rattle.circuit_l4.proofs.Answered.{receipt_fails, receipt_fits, texted_fails, texted_fits}
 use Rattle.circuit_l4.proofs.machine.Machine.on_info.Goals as goal

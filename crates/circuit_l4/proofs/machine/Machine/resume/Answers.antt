@@ -1,5 +1,5 @@
 use Rattle.std.proofs.Common.{sym, ◌∙◌}
-use Rattle.circuit_l4.specs.Receiving.{follow}
+use Rattle.circuit_l4.specs.State.{follow}
 use Rattle.circuit_l4.specs.Standing.{EndView, view_of}
 use Rattle.circuit_l4.specs.Table.{resume}
 use Rattle.circuit_l4.proofs.Answered.{moved_fails, moved_fits}

@@ -1,6 +1,5 @@
 use Rattle.std.proofs.Common.{◌≡◌, ◌&&◌, true, false, nat_lt, length, ap, sym, ◌∙◌}
-use Rattle.circuit_l4.specs.Receiving.{busy, without_first, inbox}
-use Rattle.circuit_l4.specs.State.{is_up}
+use Rattle.circuit_l4.specs.State.{busy, without_first, inbox, is_up}
 use Rattle.circuit_l4.specs.Table.{take_first}
 use Rattle.circuit_l4.specs.Standing.{EndView, view_of}
 use Rattle.circuit_l4.proofs.Standings.{itself, standing}

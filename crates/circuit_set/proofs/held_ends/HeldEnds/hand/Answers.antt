@@ -1,6 +1,6 @@
 use Rattle.std.proofs.Common.{◌∙◌, ap, sym}
 use Rattle.circuit_l4.specs.declared.facts.EndFacts.{EndFacts}
-use Rattle.circuit_set.specs.Heeds.{heeds}
+use Rattle.circuit_set.specs.Sets.{heeds}
 use Rattle.circuit_set.proofs.Searching.{hands_some}
 use Rattle.circuit_set.proofs.Moving.{rests_at}
 use Rattle.circuit_set.proofs.held_ends.HeldEnds.hand.Goals as goal

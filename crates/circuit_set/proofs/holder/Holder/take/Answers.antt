@@ -1,6 +1,6 @@
 use Rattle.std.proofs.Common.{◌≡◌, ◌∙◌, ◌+◌, true, nat_lt, length, sym, ap}
 use Rattle.circuit_l4.specs.Table as table
-use Rattle.circuit_l4.specs.Receiving.{inbox}
+use Rattle.circuit_l4.specs.State.{inbox}
 use Rattle.circuit_set.specs.Standing.{capped_count}
 use Rattle.circuit_set.proofs.Taken.{one_more, taken_by, taken_more}
 use Rattle.circuit_set.proofs.holder.Holder.take.Goals as goal

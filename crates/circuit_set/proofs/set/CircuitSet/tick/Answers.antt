@@ -1,6 +1,6 @@
 use Rattle.circuit_set.specs.CircuitSets.{Circuits}
 use Rattle.circuit_set.proofs.Looking.{ticks_goes}
-use Rattle.circuit_set.specs.Inputs.{after_ticks}
+use Rattle.circuit_set.specs.Pumps.{after_ticks}
 use Rattle.circuit_set.proofs.Kept.{held_keeps}
 use Rattle.circuit_set.proofs.set.CircuitSet.tick.Goals as goal
 

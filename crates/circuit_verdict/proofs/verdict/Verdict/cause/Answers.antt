@@ -1,7 +1,7 @@
 use Rattle.std.proofs.Common.{[], ◌∷◌, ◌++◌}
 use Rattle.std.proofs.lemmas.Result.{IfOk-weaker}
 use Rattle.circuit_set.specs.Books.{empty, with_events}
-use Rattle.circuit_verdict.specs.Events.{event_of, events_of}
+use Rattle.circuit_verdict.specs.Verdicts.{event_of, events_of}
 use Rattle.circuit_verdict.specs.ByBook.{lost_in}
 use Rattle.circuit_verdict.proofs.AsTold.{as_noted, as_told}
 use Rattle.circuit_verdict.proofs.Causes.{none_after}

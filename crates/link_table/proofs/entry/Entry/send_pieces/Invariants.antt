@@ -1,7 +1,7 @@
 use Rattle.std.proofs.Common.{length}
 use Rattle.ax_link.specs.Standing.{IsDrained}
 use Rattle.link_table.specs.Frames.{plain_text}
-use Rattle.link_table.specs.Sending.{cut, payloads}
+use Rattle.link_table.specs.Texts.{cut, payloads}
 use Rattle.link_table.specs.Standing.{held_of}
 use Rattle.link_table.proofs.Sending.{ToGive}
 use Rattle.link_table.proofs.entry.Entry.send_pieces.Given as goal

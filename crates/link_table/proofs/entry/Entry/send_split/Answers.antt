@@ -1,5 +1,5 @@
 use Rattle.link_table.specs.Frames.{segmented}
-use Rattle.link_table.specs.Sending.{payloads}
+use Rattle.link_table.specs.Texts.{payloads}
 use Rattle.link_table.proofs.Sending.{given_first, segment_first}
 use Rattle.link_table.proofs.entry.Entry.send_split.Goals as goal
 

@@ -1,7 +1,7 @@
 use Rattle.std.proofs.Common.{length}
 use Rattle.ax_link.specs.Standing.{IsDrained}
 use Rattle.link_table.specs.Frames.{segmented}
-use Rattle.link_table.specs.Sending.{payloads}
+use Rattle.link_table.specs.Texts.{payloads}
 use Rattle.link_table.specs.Standing.{held_of}
 use Rattle.link_table.proofs.Sending.{ToGive}
 use Rattle.link_table.proofs.entry.Entry.send_split.Given as goal

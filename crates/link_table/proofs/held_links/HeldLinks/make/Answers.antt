@@ -1,5 +1,5 @@
 use Rattle.std.proofs.Common.{◌∙◌, refl}
-use Rattle.ax_address.specs.CallOrder.{same_call}
+use Rattle.ax_address.specs.Callsign.{same_call}
 use Rattle.indexmap.proofs.CallerLemmas.{insert_entry-new}
 use Rattle.link_table.specs.Standing.{width}
 use Rattle.link_table.proofs.Links.{made_stands, rests_more}

@@ -1,7 +1,7 @@
 use Rattle.std.proofs.Common.{◌∙◌, ap, sym, refl}
 use Rattle.link_table.specs.declared.held_links.HeldLinks.{HeldLinks}
 use Rattle.link_table.specs.Standing.{drop_if_down}
-use Rattle.link_table.specs.Sending.{send_text_of}
+use Rattle.link_table.specs.Texts.{send_text_of}
 use Rattle.link_table.proofs.Links.{at_link_stands, at_no_link, drained_at, rests_at}
 use Rattle.link_table.proofs.held_links.HeldLinks.send_text.Goals as goal
 

@@ -1,5 +1,5 @@
 use Rattle.std.proofs.Common.{◌∙◌, sym}
-use Rattle.link_table.specs.Sending as sending
+use Rattle.link_table.specs.Texts as sending
 use Rattle.link_table.specs.Standing.{CoreGoes}
 use Rattle.link_table.proofs.Kept.{keeps_on}
 use Rattle.link_table.proofs.TextLifting.{took_table}

@@ -1,5 +1,5 @@
 use Rattle.std.proofs.Common.{◌<◌, ◌≤◌, ◌∙◌, sym, ap, length, arith}
-use Rattle.net_replay.specs.Air.{settled_at}
+use Rattle.net_replay.specs.World.{settled_at}
 use Rattle.net_replay.proofs.Oldest.{set_settled, settled_past}
 use Rattle.net_replay.proofs.air.Air.settle.Goals as goal
 

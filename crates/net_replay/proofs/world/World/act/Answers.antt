@@ -1,5 +1,5 @@
 use Rattle.std.proofs.Common.{false}
-use Rattle.node_core.specs.UserActs.{act_of}
+use Rattle.node_core.specs.Acts.{act_of}
 use Rattle.net_replay.specs.Lines.{events_of_act}
 use Rattle.net_replay.specs.Running.{answer_events, course}
 use Rattle.net_replay.specs.World.{Act, World, answer, put, reach, tell}

@@ -1,5 +1,5 @@
 use Rattle.std.proofs.Common.{sym, subst}
-use Rattle.node_core.specs.UserActs.{act_of}
+use Rattle.node_core.specs.Acts.{act_of}
 use Rattle.net_replay.specs.Running.{IsAnswerTo, course}
 use Rattle.net_replay.specs.World.{Act}
 use Rattle.net_replay.proofs.Reaching.{answered, stepped}

@@ -1,6 +1,6 @@
 use Rattle.std.proofs.Common.{◌≤◌, arith, length, refl, subst}
 use Rattle.node_core.specs.declared.acts.ActDone.TheVariants.{Done}
-use Rattle.node_core.specs.UserActs.{act_of}
+use Rattle.node_core.specs.Acts.{act_of}
 use Rattle.net_replay.specs.Running.{Stands, change, course}
 use Rattle.net_replay.specs.World.{Act, World, after}
 use Rattle.net_replay.proofs.Entering.{reach_is}

@@ -1,6 +1,6 @@
 use Rattle.std.proofs.Common.{◌≡◌, ◌+◌, ◌-◌, ◌∙◌, suc, sym, ap, subst, arith}
 use Rattle.std.specs.Prelude.{None, Some}
-use Rattle.net_replay.specs.Air.{oldest}
+use Rattle.net_replay.specs.World.{oldest}
 use Rattle.net_replay.specs.Lines.{cut, lose_at, settle}
 use Rattle.net_replay.specs.Running.{Stands, course}
 use Rattle.net_replay.proofs.Growing.{cut_end, cut_none, cut_one}

@@ -1,8 +1,7 @@
 use Rattle.std.proofs.Common.{◌-◌, subst, false}
-use Rattle.net_replay.specs.Air.{delivery_fault, frame_of}
+use Rattle.net_replay.specs.World.{delivery_fault, frame_of, World}
 use Rattle.net_replay.specs.Lines.{deliver_at, settle}
 use Rattle.net_replay.specs.Running.{Runs, course}
-use Rattle.net_replay.specs.World.{World}
 use Rattle.net_replay.proofs.Faults.{accepted, refused}
 use Rattle.net_replay.proofs.Runs.{runs_then, settled_air, with_air}
 use Rattle.net_replay.proofs.world.World.deliver.Goals as goal

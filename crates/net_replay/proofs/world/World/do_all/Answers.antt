@@ -2,7 +2,7 @@ use Rattle.std.proofs.Common.{◌≡◌, ◌≤◌, ◌+◌, ◌++◌, ◌∷◌
 use Rattle.std.specs.List.{AllByRecursion}
 use Rattle.std.proofs.lemmas.List.{take_more}
 use Rattle.network_file.specs.declared.network.NumberedInstruction.{NumberedInstruction}
-use Rattle.net_replay.specs.CircuitRuns.{IsLine}
+use Rattle.net_replay.specs.Promises.{IsLine}
 use Rattle.std.proofs.Math.Seq.{drop-cons}
 use Rattle.std.proofs.lemmas.Result.{err_from_is_err_and}
 use Rattle.net_replay.specs.Lines.{do_line, do_lines}

@@ -1,6 +1,6 @@
 use Rattle.std.proofs.Common.{◌≡◌, drop, take}
 use Rattle.std.specs.List.{AllByRecursion}
-use Rattle.net_replay.specs.CircuitRuns.{IsLine}
+use Rattle.net_replay.specs.Promises.{IsLine}
 use Rattle.net_replay.specs.Lines.{do_lines}
 use Rattle.net_replay.specs.Running.{Stands, course}
 use Rattle.net_replay.specs.World.{World}

@@ -1,10 +1,9 @@
 use Rattle.std.proofs.Common.{◌≡◌, ◌≤◌, ◌+◌, ◌-◌, ◌∙◌, suc, sym, ap, subst, length, arith}
 use Rattle.std.specs.Prelude.{None, Some}
 use Rattle.std.proofs.lemmas.Result.{err_from_is_err_and}
-use Rattle.net_replay.specs.Air.{oldest}
+use Rattle.net_replay.specs.World.{oldest, World}
 use Rattle.net_replay.specs.Lines.{flow, settle, spread}
 use Rattle.net_replay.specs.Running.{Stands, course}
-use Rattle.net_replay.specs.World.{World}
 use Rattle.net_replay.proofs.Growing.{flow_end, flow_grows, flow_none, flow_one}
 use Rattle.net_replay.proofs.Runs.{refused_still, same_air, with_air}
 use Rattle.net_replay.proofs.world.World.flow.Goals as goal

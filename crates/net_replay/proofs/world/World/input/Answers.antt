@@ -1,6 +1,6 @@
 use Rattle.std.proofs.Common.{ap, arith, length, List, false}
 use Rattle.std.proofs.lemmas.Result.{err_from_is_err_and}
-use Rattle.node_core.specs.UserActs.{act_of}
+use Rattle.node_core.specs.Acts.{act_of}
 use Rattle.net_replay.specs.declared.air.Aired.{Aired}
 use Rattle.net_replay.specs.World.{Act, World, put}
 use Rattle.net_replay.proofs.Growing.{reach_stays}

@@ -1,9 +1,8 @@
 use Rattle.std.proofs.Common.{◌-◌, subst, false, ◌∷◌, []}
-use Rattle.net_replay.specs.Air.{frame_of, lost_fault}
+use Rattle.net_replay.specs.World.{frame_of, lost_fault, World, tell}
 use Rattle.net_replay.specs.Events.{Settled}
 use Rattle.net_replay.specs.Lines.{lose_at, settle}
 use Rattle.net_replay.specs.Running.{GoesOn, course}
-use Rattle.net_replay.specs.World.{World, tell}
 use Rattle.net_replay.proofs.Faults.{accepted_goes, refused}
 use Rattle.net_replay.proofs.Runs.{goes_then, settled_air, with_air}
 use Rattle.net_replay.proofs.world.World.lose.Goals as goal

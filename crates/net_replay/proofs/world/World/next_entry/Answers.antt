@@ -1,7 +1,7 @@
 use Rattle.std.proofs.Common.{◌≡◌, ◌<◌, ◌≤◌, ◌∙◌, ap, sym, refl, arith, length}
 use Rattle.std.specs.Prelude.{slice_get}
 use Rattle.node_turns.specs.States.{NodeState}
-use Rattle.node_core.specs.Kept.{entries_left}
+use Rattle.node_core.specs.Standing.{entries_left}
 use Rattle.net_replay.specs.Running.{course, entries_at, fetched_entry, first_entry}
 use Rattle.net_replay.proofs.Placing.{asked, asked_none, changed, entries_got, entries_set, unchanged}
 use Rattle.net_replay.proofs.world.World.next_entry.Goals as goal

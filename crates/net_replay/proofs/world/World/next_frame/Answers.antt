@@ -1,7 +1,7 @@
 use Rattle.std.proofs.Common.{◌≡◌, ◌<◌, ◌≤◌, ◌∙◌, ap, sym, refl, arith, length}
 use Rattle.std.specs.Prelude.{slice_get}
 use Rattle.node_turns.specs.States.{NodeState, frames}
-use Rattle.node_core.specs.Kept.{frames_left}
+use Rattle.node_core.specs.Standing.{frames_left}
 use Rattle.net_replay.specs.Running.{course, frames_at, fetched_frame, first_frame}
 use Rattle.net_replay.proofs.Placing.{asked, asked_none, changed, frames_got, frames_set, unchanged}
 use Rattle.net_replay.proofs.world.World.next_frame.Goals as goal

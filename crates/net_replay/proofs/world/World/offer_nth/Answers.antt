@@ -1,6 +1,6 @@
 use Rattle.std.proofs.Common.{◌≡◌, ◌&&◌, arith, true, false}
 use Rattle.std.specs.Prelude.{nat_lt}
-use Rattle.ax_address.specs.CallOrder.{same_call}
+use Rattle.ax_address.specs.Callsign.{same_call}
 use Rattle.net_replay.specs.Mailing.{mail_in, queued_of}
 use Rattle.net_replay.specs.Running.{course}
 use Rattle.net_replay.proofs.Offering.{nth_err, nth_ok, nth_passed, numbers_none}

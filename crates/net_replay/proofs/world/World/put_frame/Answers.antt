@@ -1,8 +1,7 @@
 use Rattle.std.proofs.Common.{◌≡◌, ◌∙◌, ◌++◌, ◌∷◌, [], ap, sym, List, length}
 use Rattle.net_replay.specs.declared.air.Aired.{Aired}
-use Rattle.net_replay.specs.Air.{in_air}
+use Rattle.net_replay.specs.World.{in_air, aired_as}
 use Rattle.net_replay.specs.Running.{course}
-use Rattle.net_replay.specs.World.{aired_as}
 use Rattle.net_replay.proofs.Airing.{put_one}
 use Rattle.net_replay.proofs.world.World.put_frame.Goals as goal
 

@@ -1,5 +1,5 @@
 use Rattle.std.proofs.Common.{◌≤◌, ◌∙◌, List, ap, sym, subst, arith, length}
-use Rattle.network_file.specs.Channels.{is_on_air}
+use Rattle.network_file.specs.Plan.{is_on_air}
 use Rattle.network_file.specs.declared.plan.channels.Channel.{Channel}
 use Rattle.net_replay.specs.Running.{Stands, course, put_by}
 use Rattle.net_replay.specs.Starting.{Placed}

@@ -1,8 +1,7 @@
 use Rattle.std.proofs.Common.{◌-◌, subst, true}
-use Rattle.net_replay.specs.Air.{delivery_fault, frame_of}
+use Rattle.net_replay.specs.World.{delivery_fault, frame_of, World}
 use Rattle.net_replay.specs.Lines.{deliver_at}
 use Rattle.net_replay.specs.Running.{Runs, course}
-use Rattle.net_replay.specs.World.{World}
 use Rattle.net_replay.proofs.Faults.{accepted, refused}
 use Rattle.net_replay.proofs.world.World.repeat.Goals as goal
 

@@ -1,7 +1,7 @@
 use Rattle.std.proofs.Common.{◌∙◌, [], sym}
 use Rattle.net_replay.specs.Lines.{do_act, events_of_act}
 use Rattle.net_replay.specs.Running.{course}
-use Rattle.node_core.specs.UserActs.{Write}
+use Rattle.node_core.specs.Acts.{Write}
 use Rattle.net_replay.proofs.Turning.{agents_refused, others_run}
 use Rattle.net_replay.proofs.world.World.say.Goals as goal
 

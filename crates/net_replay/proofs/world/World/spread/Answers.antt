@@ -1,6 +1,6 @@
 use Rattle.std.proofs.Common.{◌∙◌, ap, sym, subst, List}
 use Rattle.std.specs.Prelude.{slice_get}
-use Rattle.network_file.specs.Channels.{hearers}
+use Rattle.network_file.specs.Plan.{hearers}
 use Rattle.network_file.specs.declared.plan.channels.Channel.{Channel}
 use Rattle.net_replay.specs.declared.air.Aired.{Aired}
 use Rattle.net_replay.specs.Lines.{deliver_all, spread}

@@ -1,7 +1,7 @@
 use Rattle.std.proofs.Common.{◌≡◌, ◌≤◌, ◌+◌, ◌-◌, ◌∷◌, [], ◌∙◌, sym, subst, filter, length}
 use Rattle.std.specs.List.{range_with_len}
 use Rattle.std.proofs.lemmas.Result.{err_from_is_err_and}
-use Rattle.network_file.specs.Channels.{can_hear, hearers}
+use Rattle.network_file.specs.Plan.{can_hear, hearers}
 use Rattle.net_replay.specs.Lines.{deliver_all}
 use Rattle.net_replay.specs.World.{World}
 use Rattle.net_replay.proofs.Growing.{all_grows, all_next}

@@ -1,6 +1,6 @@
 use Rattle.std.proofs.Common.{◌≡◌, ◌-◌, filter}
 use Rattle.std.specs.List.{range_with_len}
-use Rattle.network_file.specs.Channels.{can_hear, hearers}
+use Rattle.network_file.specs.Plan.{can_hear, hearers}
 use Rattle.net_replay.specs.Lines.{deliver_all}
 use Rattle.net_replay.specs.Running.{Stands, course}
 use Rattle.net_replay.specs.World.{World}

@@ -1,7 +1,7 @@
 use Rattle.std.proofs.Common.{◌∙◌, [], sym}
 use Rattle.net_replay.specs.Lines.{do_act, took_of}
 use Rattle.net_replay.specs.Running.{course}
-use Rattle.node_core.specs.UserActs.{Take}
+use Rattle.node_core.specs.Acts.{Take}
 use Rattle.net_replay.proofs.Turning.{agents_refused, others_run}
 use Rattle.net_replay.proofs.world.World.take.Goals as goal
 

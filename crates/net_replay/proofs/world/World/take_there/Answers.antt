@@ -1,5 +1,5 @@
 use Rattle.std.proofs.Common.{false}
-use Rattle.node_core.specs.UserActs.{Take}
+use Rattle.node_core.specs.Acts.{Take}
 use Rattle.net_replay.specs.Lines.{took_of}
 use Rattle.net_replay.specs.Running.{course, taken_events}
 use Rattle.net_replay.specs.World.{Act, World, answer, put, reach, tell}

@@ -1,5 +1,5 @@
 use Rattle.std.proofs.Common.{◌∙◌, ◌==◌, Some, ap, false}
-use Rattle.network_file.specs.Channels.{share_channel}
+use Rattle.network_file.specs.Plan.{share_channel}
 use Rattle.network_file.proofs.Marks.{blank, hears}
 use Rattle.network_file.proofs.plan.channels.heard_by.Goals as goal
 

@@ -1,6 +1,6 @@
 use Rattle.std.proofs.Common.{◌≡◌, drop}
 use Rattle.std.specs.Prelude.{find}
-use Rattle.network_file.specs.Settings.{is_of}
+use Rattle.network_file.specs.Keys.{is_of}
 use Rattle.network_file.proofs.plan.settings.set_to.Given as goal
 
 abbrev pub invariant-loop-setting : goal.invariant-loop-setting

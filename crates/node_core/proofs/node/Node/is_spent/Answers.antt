@@ -1,5 +1,5 @@
 use Rattle.std.proofs.Common.{◌∙◌, ap, sym}
-use Rattle.node_core.specs.Kept.{Kept}
+use Rattle.node_core.specs.Standing.{Kept}
 use Rattle.node_core.proofs.node.Node.is_spent.Goals as goal
 
 pub returns-clause-kept : goal.returns-clause-kept

@@ -2,7 +2,7 @@ use Rattle.std.proofs.Common.{◌≡◌, ◌∙◌, ◌≤◌, ap, length, subst
 use Rattle.l3_datagram.specs.Routers.{Routing}
 use Rattle.link_table.specs.Standing.{TableView as LinkTable}
 use Rattle.route_table.specs.Held.{TableRoutes}
-use Rattle.node_core.specs.Kept.{view_of}
+use Rattle.node_core.specs.Standing.{view_of}
 use Rattle.node_core.proofs.node.Node.keeps_within.Goals as goal
 
 pub returns : goal.returns

@@ -1,9 +1,9 @@
 use Rattle.std.proofs.Common.{◌≡◌, ◌∙◌, false, subst, sym}
 use Rattle.std.specs.Prelude.{Bool}
-use Rattle.kiss_framing.specs.Enframing.{framed}
+use Rattle.kiss_framing.specs.Stream.{framed}
 use Rattle.link_table.proofs.Sending.{when_ok}
 use Rattle.node_core.specs.Inputs.{after_bytes}
-use Rattle.node_core.specs.Kept.{NodeStands, view_of}
+use Rattle.node_core.specs.Standing.{NodeStands, view_of}
 use Rattle.node_core.specs.Sound.{IsSound}
 use Rattle.node_core.proofs.Nodes.{bytes_on, sound_bytes}
 use Rattle.node_core.proofs.Outcomes.{ok_then}

@@ -6,7 +6,7 @@ use Rattle.link_table.specs.Calls.{with_path}
 use Rattle.link_table.specs.contracts.path_refusal.PathRefusalPartialEq.TheImpl as refused
 use Rattle.link_table.specs.declared.path_refusal.PathRefusal.{PathRefusal}
 use Rattle.link_table.specs.declared.path_refusal.PathRefusal.TheVariants as paths
-use Rattle.node_core.specs.Kept.{view_of}
+use Rattle.node_core.specs.Standing.{view_of}
 use Rattle.node_core.specs.Sound.{IsSound}
 use Rattle.node_core.proofs.Holding.{with_carrier}
 use Rattle.node_core.specs.Bridged.{Paths}

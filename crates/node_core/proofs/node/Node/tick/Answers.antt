@@ -2,8 +2,8 @@ use Rattle.std.proofs.Common.{◌≡◌, ◌∙◌, ℕ, false, subst, sym}
 use Rattle.std.specs.Prelude.{Bool}
 use Rattle.link_table.proofs.Sending.{when_ok}
 use Rattle.node_core.specs.Inputs.{after_tick}
-use Rattle.node_core.specs.Kept.{NodeStands, view_of}
-use Rattle.node_core.specs.Rounds as rounds
+use Rattle.node_core.specs.Standing.{NodeStands, view_of}
+use Rattle.node_core.specs.Broadcasts as rounds
 use Rattle.node_core.specs.Sound.{IsSound}
 use Rattle.node_turns.specs.States.{State}
 use Rattle.node_core.specs.Bridged.{Ticks}

@@ -1,7 +1,6 @@
 use Rattle.std.proofs.Common.{◌≡◌, ◌∙◌, ap, arith, map, refl, subst}
 use Rattle.std.specs.List.{range_with_len}
-use Rattle.node_core.specs.Broadcasts.{frame_count, round_frame}
-use Rattle.node_core.specs.Rounds.{put_all}
+use Rattle.node_core.specs.Broadcasts.{frame_count, round_frame, put_all}
 use Rattle.node_core.specs.Standing.{Holds}
 use Rattle.node_turns.specs.States.{State, put}
 use Rattle.node_core.proofs.Holding.{put_last, settings_stay}

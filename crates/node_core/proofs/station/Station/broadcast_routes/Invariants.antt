@@ -1,7 +1,6 @@
 use Rattle.std.proofs.Common.{map}
 use Rattle.std.specs.List.{range_with_len}
-use Rattle.node_core.specs.Broadcasts.{round_frame}
-use Rattle.node_core.specs.Rounds.{put_all}
+use Rattle.node_core.specs.Broadcasts.{round_frame, put_all}
 use Rattle.node_core.specs.Standing.{Holds}
 use Rattle.node_turns.specs.States.{State}
 use Rattle.node_core.proofs.station.Station.broadcast_routes.Given as goal

@@ -2,12 +2,11 @@ use Rattle.std.proofs.Common.{refl, subst, sym}
 use Rattle.std.specs.Prelude.{Ok, Err}
 use Rattle.std.proofs.lemmas.Result.{err_from_is_err_and}
 use Rattle.circuit_set.specs.CircuitSets.{SetStands}
-use Rattle.circuit_set.specs.Inputs as inputs
+use Rattle.circuit_set.specs.Pumps as inputs
 use Rattle.circuit_set.specs.Sets as sets
 use Rattle.node_core.specs.declared.acts.ActDone.TheVariants.{Made}
-use Rattle.node_core.specs.Acts.{connect_by}
-use Rattle.node_turns.specs.Circuits.{acts}
-use Rattle.node_core.specs.Refusals.{connect_refusal}
+use Rattle.node_core.specs.Acts.{connect_by, connect_refusal}
+use Rattle.node_turns.specs.Links.{acts}
 use Rattle.node_core.specs.Going.{Answers}
 use Rattle.node_core.specs.Standing.{Holds}
 use Rattle.node_core.proofs.Holding.{set_steps}

@@ -1,6 +1,6 @@
 use Rattle.std.proofs.Common.{◌∙◌, ◌<◌, arith, sym}
 use Rattle.node_turns.specs.Links as links
-use Rattle.node_turns.specs.Settling.{drop_text, payloads}
+use Rattle.node_turns.specs.Serving.{drop_text, payloads}
 use Rattle.node_turns.proofs.Resting.{drop_falls}
 use Rattle.node_turns.proofs.Turns.{ends, goes_on}
 use Rattle.node_core.proofs.Weighing.{counted}

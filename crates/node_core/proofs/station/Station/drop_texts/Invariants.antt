@@ -1,6 +1,6 @@
 use Rattle.std.proofs.Common.{◌≡◌}
-use Rattle.link_table.specs.Payloads.{kept_payloads}
-use Rattle.node_turns.specs.Settling.{drop_texts}
+use Rattle.link_table.specs.Kept.{kept_payloads}
+use Rattle.node_turns.specs.Serving.{drop_texts}
 use Rattle.node_core.specs.Going.{StandsForSome}
 use Rattle.node_core.specs.Standing.{Holds, IsDrained}
 use Rattle.node_turns.specs.States.{State}

@@ -1,7 +1,7 @@
 use Rattle.std.proofs.Common.{◌∙◌, [], ◌∷◌, refl, subst, sym}
 use Rattle.link_table.specs.Calls as calls
 use Rattle.node_core.specs.declared.entry.NodeEntry.TheVariants.{Link}
-use Rattle.node_turns.specs.Settling.{enter_notices}
+use Rattle.node_turns.specs.Serving.{enter_notices}
 use Rattle.node_core.specs.Standing.{Holds}
 use Rattle.node_turns.specs.Sessions.{hear_link}
 use Rattle.node_turns.specs.States.{Of_link, State, at_links, at_sessions, enter}

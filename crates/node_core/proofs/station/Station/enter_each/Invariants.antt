@@ -1,5 +1,5 @@
 use Rattle.std.proofs.Common.{◌≡◌, length}
-use Rattle.node_turns.specs.Settling.{enter_notices}
+use Rattle.node_turns.specs.Serving.{enter_notices}
 use Rattle.node_core.specs.Standing.{Holds}
 use Rattle.node_turns.specs.States.{State}
 use Rattle.node_core.proofs.station.Station.enter_each.Given as goal

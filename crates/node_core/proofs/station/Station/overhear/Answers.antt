@@ -1,5 +1,5 @@
 use Rattle.std.proofs.Common.{◌≡◌, ◌∙◌, false, sym, subst}
-use Rattle.ax_address.specs.CallOrder.{same_call}
+use Rattle.ax_address.specs.Callsign.{same_call}
 use Rattle.node_core.specs.Broadcasts.{nodes_call}
 use Rattle.node_core.specs.Receiving.{modulus_with}
 use Rattle.node_core.specs.Standing.{Holds}

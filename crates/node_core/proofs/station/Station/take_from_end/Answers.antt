@@ -2,7 +2,7 @@ use Rattle.std.proofs.Common.{◌≡◌, ◌∙◌, [], refl, sym, ap, subst, ru
 use Rattle.std.specs.Prelude.{true, false}
 use Rattle.circuit_set.specs.Sets as sets
 use Rattle.circuit_set.specs.Standing as answers
-use Rattle.node_turns.specs.Circuits as circuits
+use Rattle.node_turns.specs.Links as circuits
 use Rattle.node_core.specs.Standing.{Holds}
 use Rattle.node_turns.specs.States.{State, at_set}
 use Rattle.node_turns.specs.Users as users

@@ -3,7 +3,7 @@ use Rattle.circuit_set.specs.Sets as sets
 use Rattle.node_prompt.specs.Replies as texts
 use Rattle.node_turns.specs.Asking as asking
 use Rattle.node_turns.specs.Bridging as bridging
-use Rattle.node_turns.specs.Circuits as circuits
+use Rattle.node_turns.specs.Links as circuits
 use Rattle.node_turns.specs.Pumping.{pump}
 use Rattle.node_core.specs.Going.{HoldsTold}
 use Rattle.node_turns.specs.States.{State, at_set}

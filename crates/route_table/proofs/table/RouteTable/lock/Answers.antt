@@ -1,6 +1,6 @@
 use Rattle.std.proofs.Common.{◌≤◌, ◌∙◌, sym, subst, ap, arith, length}
 use Rattle.route_table.specs.Places.{Stand}
-use Rattle.route_table.specs.Ranks.{placed}
+use Rattle.route_table.specs.Table.{placed}
 use Rattle.route_table.specs.Rows.{beside}
 use Rattle.route_table.proofs.Changing.{placed_stand}
 use Rattle.route_table.proofs.LogSteps.{locked}

@@ -1,5 +1,5 @@
 use Rattle.std.proofs.Common.{◌∙◌, sym, subst}
-use Rattle.route_table.specs.Ranks.{AreInOrder}
+use Rattle.route_table.specs.Table.{AreInOrder}
 use Rattle.route_table.proofs.Sorting.{pairs_from_rows}
 use Rattle.route_table.proofs.Standing.{table_is}
 use Rattle.route_table.proofs.table.RouteTable.rows.Goals as goal

@@ -1,7 +1,7 @@
 use Rattle.std.proofs.Common.{◌≡◌, ◌∙◌, ap, sym}
 use Rattle.std.specs.Prelude.{Some}
 use Rattle.kiss_framing.specs.Feeding.{handed_out}
-use Rattle.tool_cmd.specs.FrameModuli.{size_of}
+use Rattle.tool_cmd.specs.Frames.{size_of}
 use Rattle.tool_cmd.proofs.StreamItems.{lists-more}
 use Rattle.tool_cmd.proofs.frames.ListerItemTaker.take_item.Goals as goal
 

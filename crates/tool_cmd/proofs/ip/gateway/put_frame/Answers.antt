@@ -1,5 +1,5 @@
 use Rattle.std.proofs.Common.{◌≡◌, ◌≤◌, ◌∙◌, length, ap, arith}
-use Rattle.kiss_framing.specs.Enframing.{framed}
+use Rattle.kiss_framing.specs.Stream.{framed}
 use Rattle.tool_cmd.specs.Gateways.{ui_octets}
 use Rattle.tool_cmd.proofs.ip.gateway.put_frame.Goals as goal
 
