@@ -30,6 +30,28 @@ program_crates() {
         }' "$top/crates.txt" | sort
 }
 
+# by_way FOLDER: the crates of that copy of the repository, first the one with the longest way of crates that stand on it, in lines.
+by_way() {
+    for crate in "$1"/crates/*; do
+        echo "lines ${crate##*/} $(find "$crate/" -name '*.rt' -o -name '*.antt' | xargs cat | wc -l)"
+    done | awk -F '[: ]+' '
+        $1 == "lines" { own[$2] = way[$2] = $3; next }
+        !/^#/ && NF { for (nth = 2; nth <= NF; nth++) if ($nth in own) above[$nth] = above[$nth] " " $1 }
+        END {
+            do {
+                changed = 0
+                for (name in own) {
+                    count = split(above[name], crates, " ")
+                    for (nth = 1; nth <= count; nth++) if (way[name] < own[name] + way[crates[nth]]) {
+                        way[name] = own[name] + way[crates[nth]]
+                        changed = 1
+                    }
+                }
+            } while (changed)
+            for (name in own) print way[name], name
+        }' - "$1/crates.txt" | sort -rn | cut -d " " -f 2
+}
+
 # sum_of_sources FOLDER: one number for all that is proved of the programs in that copy of the repository, and for the kit.
 sum_of_sources() {
     (
