@@ -97,9 +97,10 @@ impl Verdict {
         if self.late.is_some() {
             return Ok(());
         }
-        let why = self.book.take_in(event, self.allowance);
-        self.spent = why.is_err();
-        self.late = late_at(line, why?);
+        self.spent = true;
+        let why = self.book.take_in(event, self.allowance)?;
+        self.late = late_at(line, why);
+        self.spent = false;
         Ok(())
     }
 

@@ -133,10 +133,11 @@ impl LinkTable {
             return Err(PathRefusal::Full);
         }
         laws::kept();
-        self.spent = self.core.set_path(peer, path).is_err();
-        if self.spent {
+        self.spent = true;
+        if self.core.set_path(peer, path).is_err() {
             return Err(PathRefusal::NoMemory);
         }
+        self.spent = false;
         Ok(())
     }
 
@@ -172,9 +173,10 @@ impl LinkTable {
             return Err(NoMemory);
         }
         laws::kept();
-        let done = self.core.arrive(frame, now);
-        self.spent = done.is_err();
-        done
+        self.spent = true;
+        self.core.arrive(frame, now)?;
+        self.spent = false;
+        Ok(())
     }
 
     /// Time has passed: each link looks at its timers, in the order in which the links were made.
@@ -189,9 +191,10 @@ impl LinkTable {
             return Err(NoMemory);
         }
         laws::kept();
-        let done = self.core.tick(now);
-        self.spent = done.is_err();
-        done
+        self.spent = true;
+        self.core.tick(now)?;
+        self.spent = false;
+        Ok(())
     }
 
     /// Releases the link with a peer once all is acknowledged. Nothing where no link stands.
@@ -206,9 +209,10 @@ impl LinkTable {
             return Err(NoMemory);
         }
         laws::kept();
-        let done = self.core.close(peer, now);
-        self.spent = done.is_err();
-        done
+        self.spent = true;
+        self.core.close(peer, now)?;
+        self.spent = false;
+        Ok(())
     }
 
     /// The link with a peer is lost, and nothing is sent: it ends with Failed. Nothing where no link stands.
@@ -223,9 +227,10 @@ impl LinkTable {
             return Err(NoMemory);
         }
         laws::kept();
-        let done = self.core.end(peer, LinkNotice::Failed);
-        self.spent = done.is_err();
-        done
+        self.spent = true;
+        self.core.end(peer, LinkNotice::Failed)?;
+        self.spent = false;
+        Ok(())
     }
 
     /// The peers at whose link a text waits, in the order of the links. A table that is spent tells of none.
@@ -277,9 +282,9 @@ impl LinkTable {
         if !self.core.text_waits(peer) {
             return Ok(false);
         }
-        let taken = self.core.take_text(peer, out, now);
-        self.spent = taken.is_err();
-        taken?;
+        self.spent = true;
+        self.core.take_text(peer, out, now)?;
+        self.spent = false;
         Ok(true)
     }
 
@@ -302,10 +307,11 @@ impl LinkTable {
             return Err(refusal);
         }
         laws::kept();
-        self.spent = self.core.send_text(peer, text, now).is_err();
-        if self.spent {
+        self.spent = true;
+        if self.core.send_text(peer, text, now).is_err() {
             return Err(TextRefusal::NoMemory);
         }
+        self.spent = false;
         Ok(())
     }
 
@@ -362,9 +368,10 @@ impl Carrier for LinkTable {
             return Err(NoMemory);
         }
         laws::kept();
-        let offered = self.core.offer(to, datagram, now);
-        self.spent = offered.is_err();
-        offered
+        self.spent = true;
+        let offered = self.core.offer(to, datagram, now)?;
+        self.spent = false;
+        Ok(offered)
     }
 
     fn collect(&mut self) -> Option<(Call, Datagram)> {
