@@ -2,3 +2,4 @@ pub mod FramedSizes
 pub mod WritingLemmas
 pub mod StreamItems
 pub mod StreamReads
+pub mod WholeFiles

@@ -1,24 +1,19 @@
 -- How `trace` ends, from how the trace of its file is printed.
-use Rattle.std.proofs.Common.{◌≡◌, inr, inl, ℕ, List, arith}
-use Rattle.std.specs.Prelude.{None}
+use Rattle.std.proofs.Common.{◌≡◌, inr, inl, ℕ, List}
 use Rattle.network_file.specs.Plan.{Plan}
 use Rattle.net_replay.specs.Circuits.{IsNetwork}
 use Rattle.cmd_streams.specs.declared.status.Status.{Status}
 use Rattle.cmd_streams.specs.Reading.{ReadsAll}
-use Rattle.cmd_streams.specs.Told.{StreamsTold, told}
+use Rattle.cmd_streams.specs.Told.{StreamsTold}
 use Rattle.look_cmd.specs.Look.{TraceEnds}
 use Rattle.look_cmd.specs.Traced.{TellsNetwork, TracedEnds}
-use Rattle.look_cmd.proofs.Verdicts.{told_whole}
-
--- without the source
-abbrev pub output : StreamsTold → StreamsTold
-output t = told None None 0 t.written t.write_faults t.notes t.note_faults
+use Rattle.cmd_streams.proofs.WholeFiles.{file_told, not_too_much, output}
 
 -- a file that was read to its end
 pub trace_ends : (before after : StreamsTold) (status : Status) (bytes : List ℕ) → ReadsAll before.left after.left bytes → after.read_faults ≡ before.read_faults
     → TracedEnds bytes (output before) (output after) status → TraceEnds before after status
 trace_ends before after status bytes all same e =
-    let whole : (P : Plan → Type 0) → TellsNetwork before.left P → IsNetwork bytes P = λ P tells. (told_whole before.left after.left bytes _ all.taken all.ended tells).1 in
+    let whole : (P : Plan → Type 0) → TellsNetwork before.left P → IsNetwork bytes P = λ P tells. file_told before.left after.left bytes all _ tells in
     record {
       done = λ s. (bytes, all, e.done s);
       late = λ s. (bytes, all, e.late s);
@@ -28,9 +23,9 @@ trace_ends before after status bytes all same e =
       read_few = λ s. absurd (e.others.1 s);
       read_same = λ s. same;
       too_long = λ s. inr (bytes, all, e.too_long s);
-      too_long_comes = λ tells _. elim tells [ inl much ↦ absurd (let more = told_whole before.left after.left bytes _ all.taken all.ended much in let few = all.fits in omega arith) | inr many ↦ e.too_long_comes (whole _ many) ];
+      too_long_comes = λ tells _. elim tells [ inl much ↦ absurd (not_too_much before.left after.left bytes all much) | inr many ↦ e.too_long_comes (whole _ many) ];
       bad_file = λ s. (bytes, all, e.bad_file s);
-      bad_file_comes = λ tells _. e.bad_file_comes (told_whole before.left after.left bytes _ all.taken all.ended tells).1;
+      bad_file_comes = λ tells _. e.bad_file_comes (file_told before.left after.left bytes all _ tells);
       write_fault = e.write_fault;
       write_front = λ s. (bytes, all, e.write_front s);
       write_same = e.write_same;

@@ -1,7 +1,6 @@
 -- A network has one verdict: where none is one, none other is.
-use Rattle.std.proofs.Common.{◌≡◌, ◌∙◌, ℕ, refl, sym, ap, subst, List, [], ◌∷◌, ◌++◌, append-nil, map, arith}
-use Rattle.std.specs.Prelude.{IsSomeAnd, Option, Some, None, Ok}
-use Rattle.std.specs.Io.KnownBytes.{Consumes, IsAtEnd}
+use Rattle.std.proofs.Common.{◌≡◌, ◌∙◌, ℕ, refl, sym, ap, subst, List, [], ◌∷◌, map, arith}
+use Rattle.std.specs.Prelude.{Some, None, Ok}
 use Rattle.circuit_verdict.specs.Verdicts.{AreInTime}
 use Rattle.circuit_verdict.specs.declared.event.Numbered.{Numbered}
 use Rattle.circuit_verdict.specs.declared.verdict.Late.{Late}
@@ -23,12 +22,6 @@ one_verdict plan w late a b =
     let ok = a.verdict.none.0 refl in
     let none = b.verdict.none.1 (subst (AreInTime (allowance_of plan)) same ok) in
     absurd (cc none)
-
--- a source that tells its bytes told those that were read to its end
-pub told_whole : (a b : Option (List ℕ)) (bytes : List ℕ) (P : List ℕ → Type 0) → Consumes a b bytes → IsAtEnd b → IsSomeAnd a P → P bytes
-told_whole None b bytes P c e t = absurd t
-told_whole (Some xs) None bytes P c e t = absurd c
-told_whole (Some xs) (Some ys) bytes P c e t = subst P (c ∙ (ap (λ zs. bytes ++ zs) e ∙ append-nil bytes)) t
 
 -- and so has a file: there is nothing late in what has nothing late
 module _ (bytes : List ℕ) (network : Plan) (read : network_of bytes ≡ Ok network) where

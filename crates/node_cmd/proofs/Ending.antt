@@ -1,6 +1,5 @@
 -- How the two commands end that run a network, from how its file is printed.
-use Rattle.std.proofs.Common.{◌≡◌, inl, inr, ℕ, List, arith}
-use Rattle.std.specs.Prelude.{None}
+use Rattle.std.proofs.Common.{◌≡◌, inl, inr, ℕ, List}
 use Rattle.network_file.specs.Plan.{Plan}
 use Rattle.network_soak.specs.Files.{soak_file}
 use Rattle.network_soak.specs.Laws.{AreNetworks}
@@ -11,19 +10,15 @@ use Rattle.net_replay.specs.Circuits.{IsNetwork}
 use Rattle.node_cmd.specs.Outcomes.{NetworkEnds, Tells}
 use Rattle.cmd_streams.specs.Reading.{ReadsAll}
 use Rattle.node_cmd.specs.Run.{ReplayEnds, SoakEnds}
-use Rattle.cmd_streams.specs.Told.{StreamsTold, told}
-use Rattle.node_cmd.proofs.Verdicts.{told_whole}
-
--- without the source
-abbrev pub output : StreamsTold → StreamsTold
-output t = told None None 0 t.written t.write_faults t.notes t.note_faults
+use Rattle.cmd_streams.specs.Told.{StreamsTold}
+use Rattle.cmd_streams.proofs.WholeFiles.{file_told, not_too_much, output}
 
 module _ (before after : StreamsTold) (ran : Ran) (status : Status) where
   -- a file that was read to its end
   pub replay_ends : (bytes : List ℕ) → ReadsAll before.left after.left bytes → after.read_faults ≡ before.read_faults
       → NetworkEnds Report bytes (output before) (output after) ran status → ReplayEnds before after ran status
   replay_ends bytes all same e =
-      let whole : (P : Plan → Type 0) → Tells P before.left → IsNetwork bytes P = λ P tells. (told_whole before.left after.left bytes _ all.taken all.ended tells).1 in
+      let whole : (P : Plan → Type 0) → Tells P before.left → IsNetwork bytes P = λ P tells. file_told before.left after.left bytes all _ tells in
       record {
         done = λ s. (bytes, all, e.done s);
         late = λ s. (bytes, all, e.late s);
@@ -33,9 +28,9 @@ module _ (before after : StreamsTold) (ran : Ran) (status : Status) where
         read_few = λ s. absurd (e.others.1 s);
         read_same = λ s. same;
         too_long = λ s. inr (bytes, all, e.too_long s);
-        too_long_comes = λ tells _. elim tells [ inl much ↦ absurd (let more = told_whole before.left after.left bytes _ all.taken all.ended much in let few = all.fits in omega arith) | inr many ↦ e.too_long_comes (whole _ many) ];
+        too_long_comes = λ tells _. elim tells [ inl much ↦ absurd (not_too_much before.left after.left bytes all much) | inr many ↦ e.too_long_comes (whole _ many) ];
         bad_file = λ s. (bytes, all, e.bad_file s);
-        bad_file_comes = λ tells _. e.bad_file_comes (told_whole before.left after.left bytes _ all.taken all.ended tells).1;
+        bad_file_comes = λ tells _. e.bad_file_comes (file_told before.left after.left bytes all _ tells);
         write_fault = e.write_fault;
         write_front = λ s. (bytes, all, e.write_front s);
         write_same = e.write_same;
