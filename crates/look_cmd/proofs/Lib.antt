@@ -1,4 +1,3 @@
 pub mod Hearing
 pub mod Commands
-pub mod Verdicts
 pub mod Ending

@@ -11,7 +11,6 @@ use Rattle.circuit_set.specs.TooLate.{AllowsByWindow, IsFresh, IsTimely}
 use Rattle.circuit_set.specs.Runs.{AreNarrow, AreStarts, AreSteps, Step, end_in, end_named, events_of, sets_run}
 use Rattle.circuit_set.specs.Safe.{CircuitsSafe, IsSafe, Safe, SafeEnd}
 use Rattle.circuit_set.specs.Sets.{Holder}
-use Rattle.circuit_verdict.specs.declared.event.Numbered.{Numbered}
 use Rattle.circuit_verdict.specs.Verdicts as verdicts
 use Rattle.circuit_verdict.specs.declared.verdict.Allowance.TheVariants as verdicts_at
 use Rattle.network_file.specs.declared.network.NumberedInstruction.{NumberedInstruction}
@@ -23,10 +22,12 @@ use Rattle.network_file.specs.Laws.{IsAllowed, SettingsFit}
 use Rattle.network_file.specs.Networks.{network_of}
 use Rattle.network_file.specs.Plan.{Plan, version_of}
 use Rattle.net_replay.specs.Promises.{IsRunOf, NetworksAreSound, RunsThrough, WorldsAreRuns, first_sets, set_of, InTimeIsSafe, SafeNow, end_now, end_with}
-use Rattle.net_replay.specs.Circuits.{CircuitEvent, IsVerdictOn, allowance_of, circuit_events, judged}
+use Rattle.net_replay.specs.Causes.{what_was_told}
+use Rattle.net_replay.specs.Circuits.{IsVerdictOn, allowance_of, circuit_events}
 use Rattle.net_replay.specs.Lines.{do_lines, world}
 use Rattle.net_replay.specs.Starting.{Placed, by_number, new_placed}
 use Rattle.net_replay.specs.World.{World, start}
+use Rattle.net_replay.proofs.Blames.{told_are}
 use Rattle.net_replay.proofs.Moving.{set_is}
 
 -- ---- before version 3 no window is above 64
@@ -55,11 +56,7 @@ are_narrow plan [] h = tt
 are_narrow plan (d ∷ ds) h =
     (subst (λ x. x.config.window ≤ 64) (sym (set_is plan d (record { index = 1; ident = 1 }) 1)) (h d.node), are_narrow plan ds h)
 
--- ---- what was judged is what was told
-
-told_are : (ns : List Numbered) → map (λ (e : CircuitEvent). e.event) (map judged ns) ≡ verdicts.events_of ns
-told_are [] = refl
-told_are (n ∷ ns) = ap (λ es. verdicts.event_of n.event ∷ es) (told_are ns)
+-- ---- what is in time by its verdict
 
 -- by the allowance of the file's version
 timely_case : (plan : Plan) (b : Bool) → nat_le 3 (version_of plan) ≡ b → FreshByBook → TimelyByBook → TimelyBy128 → (narrow : NarrowIsTimely) → AreStarts (first_sets plan) → (nat_le 3 (version_of plan) ≡ false → AreNarrow (first_sets plan))
@@ -81,7 +78,7 @@ pub in_time_run : FreshByBook → TimelyByBook → TimelyBy128 → NetworksAreSo
 in_time_run pairs by_window by_128 sounds narrow fit bytes plan e v done later r =
     let all : List Step = r.steps ++ r.then in
     let told : verdicts.events_of v.events ≡ events_of (first_sets plan) all =
-    sym (told_are v.events) ∙ (ap (map (λ (x : CircuitEvent). x.event)) v.are ∙ r.all.told) in
+    told_are v.events ∙ (ap what_was_told v.are ∙ r.all.told) in
     let ok = v.verdict.none.0 refl in
     let fresh : IsFresh (events_of (first_sets plan) all) = subst IsFresh told ok.1 in (
       timely_case plan (nat_le 3 (version_of plan)) refl pairs by_window by_128 narrow (sounds bytes plan e).starts

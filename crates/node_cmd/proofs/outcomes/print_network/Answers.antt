@@ -3,7 +3,7 @@ use Rattle.std.specs.Io.KnownBytes.{Appends}
 use Rattle.net_replay.specs.Circuits.{IsVerdictOn}
 use Rattle.net_replay.specs.Lines.{world}
 use Rattle.node_cmd.specs.Outcomes.{text_of}
-use Rattle.node_cmd.proofs.Verdicts.{few_many, late_none, none_late}
+use Rattle.net_replay.proofs.Verdicts.{few_many, late_none, none_late}
 use Rattle.node_cmd.proofs.outcomes.print_network.Goals as goal
 
 -- the file's first bad line is the one that the note names

@@ -1,24 +1,20 @@
 -- A network has one verdict: where none is one, none other is.
-use Rattle.std.proofs.Common.{◌≡◌, ◌∙◌, ℕ, refl, sym, ap, subst, List, [], ◌∷◌, map, arith}
+use Rattle.std.proofs.Common.{◌≡◌, ◌∙◌, ℕ, List, refl, sym, ap, subst, arith}
 use Rattle.std.specs.Prelude.{Some, None, Ok}
-use Rattle.circuit_verdict.specs.Verdicts.{AreInTime}
-use Rattle.circuit_verdict.specs.declared.event.Numbered.{Numbered}
+use Rattle.circuit_verdict.specs.Verdicts.{AreInTime, events_of}
 use Rattle.circuit_verdict.specs.declared.verdict.Late.{Late}
-use Rattle.circuit_verdict.specs.Verdicts as verdicts
 use Rattle.network_file.specs.Networks.{network_of}
 use Rattle.network_file.specs.Plan.{Plan}
-use Rattle.net_replay.specs.Circuits.{CircuitEvent, IsVerdictOn, allowance_of, judged, AirsFew, AirsTooMany, IsInTime, IsLate, IsNetwork}
+use Rattle.net_replay.specs.Causes.{what_was_told}
+use Rattle.net_replay.specs.Circuits.{IsVerdictOn, allowance_of, AirsFew, AirsTooMany, IsInTime, IsLate, IsNetwork}
 use Rattle.net_replay.specs.Lines.{world}
 use Rattle.net_replay.specs.World.{World}
+use Rattle.net_replay.proofs.Blames.{told_are}
 
-told_are : (ns : List Numbered) → map (λ (e : CircuitEvent). e.event) (map judged ns) ≡ verdicts.events_of ns
-told_are [] = refl
-told_are (n ∷ ns) = ap (λ es. verdicts.event_of n.event ∷ es) (told_are ns)
-
-pub one_verdict : (plan : Plan) (w : World) (late : Late) → IsVerdictOn plan w None → IsVerdictOn plan w (Some late) → ⊥
+one_verdict : (plan : Plan) (w : World) (late : Late) → IsVerdictOn plan w None → IsVerdictOn plan w (Some late) → ⊥
 one_verdict plan w late a b =
-    let same : verdicts.events_of a.events ≡ verdicts.events_of b.events =
-    sym (told_are a.events) ∙ (ap (map (λ (e : CircuitEvent). e.event)) (a.are ∙ sym b.are) ∙ told_are b.events) in
+    let same : events_of a.events ≡ events_of b.events =
+    told_are a.events ∙ (ap what_was_told (a.are ∙ sym b.are) ∙ sym (told_are b.events)) in
     let ok = a.verdict.none.0 refl in
     let none = b.verdict.none.1 (subst (AreInTime (allowance_of plan)) same ok) in
     absurd (cc none)
