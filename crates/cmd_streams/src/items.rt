@@ -21,7 +21,9 @@ pub trait ItemTaker {
     /// Takes one item more, and adds the answer.
     fn take_item(&mut self, item: &KissItem<'_>, answer: &mut TextOut) -> Result<(), NoMemory>
         ensures added { OnOk result ((more : List ℕ) × (answer.new ≡ answer.old ++ more)) }
-        ensures takes { OnOk result ((first : Self) (before : List Item) (text more : List ℕ) → answer.new ≡ answer.old ++ more → took first self.old before text → took first self.new (before ++ handed_out (Some item.now)) (text ++ more)) };
+        ensures takes { OnOk result ((first : Self) (before : List Item) (text more : List ℕ)
+            → answer.new ≡ answer.old ++ more → took first self.old before text
+            → took first self.new (before ++ handed_out (Some item.now)) (text ++ more)) };
 }
 
 /// Takes the bytes of a KISS stream in, and hands its items on.
@@ -36,7 +38,8 @@ impl<T: ItemTaker + Drop> Taker for Deframed<T> {
     ghost use Rattle.kiss_framing.specs.Stream.{StandsFor, items};
     ghost use Rattle.cmd_streams.specs.Streams.{bytes_of};
 
-    ghost took = { λ first last reads text. StandsFor last.deframer (bytes_of reads) × T.took first.taker last.taker (items (bytes_of reads)) text };
+    ghost took = { λ first last reads text. StandsFor last.deframer (bytes_of reads)
+        × T.took first.taker last.taker (items (bytes_of reads)) text };
 
     fn take(&mut self, bytes: &[u8], now: Moment, answer: &mut TextOut) -> Result<(), NoMemory> {
         let _ = now;
@@ -68,8 +71,11 @@ fn take_items<T: ItemTaker>(
     taker: &mut T,
     answer: &mut TextOut,
 ) -> Result<(), NoMemory>
-    ensures fed { OnOk result ((stream : List ℕ) → StandsFor deframer.old stream → StandsFor deframer.new (stream ++ bytes.now)) }
-    ensures takes { OnOk result ((stream : List ℕ) → StandsFor deframer.old stream → (first : T) (text more : List ℕ) → answer.new ≡ answer.old ++ more → T.took first taker.old (items stream) text → T.took first taker.new (items (stream ++ bytes.now)) (text ++ more)) }
+    ensures fed { OnOk result ((stream : List ℕ) → StandsFor deframer.old stream
+        → StandsFor deframer.new (stream ++ bytes.now)) }
+    ensures takes { OnOk result ((stream : List ℕ) → StandsFor deframer.old stream → (first : T) (text more : List ℕ)
+        → answer.new ≡ answer.old ++ more → T.took first taker.old (items stream) text
+        → T.took first taker.new (items (stream ++ bytes.now)) (text ++ more)) }
     ensures added { OnOk result ((more : List ℕ) × (answer.new ≡ answer.old ++ more)) }
 {
     let mut taken = 0;
@@ -87,8 +93,12 @@ fn take_next<T: ItemTaker>(
     taker: &mut T,
     answer: &mut TextOut,
 ) -> Result<usize, NoMemory>
-    ensures fed { IfOk result (λ count. (stream : List ℕ) → StandsFor deframer.old stream → StandsFor deframer.new (stream ++ take count bytes.now)) }
-    ensures takes { IfOk result (λ count. (stream : List ℕ) → StandsFor deframer.old stream → (first : T) (text more : List ℕ) → answer.new ≡ answer.old ++ more → T.took first taker.old (items stream) text → T.took first taker.new (items (stream ++ take count bytes.now)) (text ++ more)) }
+    ensures fed { IfOk result (λ count. (stream : List ℕ) → StandsFor deframer.old stream
+        → StandsFor deframer.new (stream ++ take count bytes.now)) }
+    ensures takes { IfOk result (λ count. (stream : List ℕ) → StandsFor deframer.old stream
+        → (first : T) (text more : List ℕ) → answer.new ≡ answer.old ++ more
+        → T.took first taker.old (items stream) text
+        → T.took first taker.new (items (stream ++ take count bytes.now)) (text ++ more)) }
     ensures added { OnOk result ((more : List ℕ) × (answer.new ≡ answer.old ++ more)) }
     ensures within { IfOk result (λ count. count ≤ length bytes.now) }
     ensures moves { IfOk result (λ count. 0 < length bytes.now → 0 < count) }
@@ -119,12 +129,14 @@ pub fn answer_items<T: ItemTaker + Drop, S: Source, K: Sink, N: Sink>(
     requires start { T.took taker taker [] [] }
 
     // How it ends: what was written is what the taker answered, and each status has its reason.
-    ensures ends { StreamEnds (length buf.old) (λ reads text. (last : T) × T.took taker last (items (bytes_of reads)) text) None None
+    ensures ends { StreamEnds (length buf.old)
+        (λ reads text. (last : T) × T.took taker last (items (bytes_of reads)) text) None None
         (told_by S.Source K.Sink N.Sink source.old sink.old notes.old)
         (told_by S.Source K.Sink N.Sink source.new sink.new notes.new) result }
 
     // Nothing else is noted.
-    ensures noted { HasNote result (Says (N.written notes.old) (N.written notes.new) (N.faults notes.old) (N.faults notes.new)) }
+    ensures noted { HasNote result (Says (N.written notes.old) (N.written notes.new)
+        (N.faults notes.old) (N.faults notes.new)) }
     ensures silent { IsSilent result → notes.new ≡ notes.old }
 {
     let mut deframed = Deframed {

@@ -26,7 +26,8 @@ pub fn bad_line_note<W: Display + Drop>(
     line: u32,
     what: W,
 ) -> Result<String, NoMemory>
-    ensures { IfOk result (λ s. (word : List ℕ) → W.output what ≡ Some word → string_bytes s ≡ bad_line_note line word) }
+    ensures { IfOk result (λ s. (word : List ℕ) → W.output what ≡ Some word
+        → string_bytes s ≡ bad_line_note line word) }
 {
     Ok(format!(in alloc; "line {line}: {what}\n")?)
 }

@@ -41,7 +41,8 @@ impl From<AllocError> for ReadRefusal {
 pub fn read_file<S: Source>(alloc: Global, source: &mut S) -> Result<Vec<u8>, ReadRefusal>
     ensures all { IfOk result (λ v. ReadsAll (S.left source.old) (S.left source.new) v.items) }
     ensures same { OnOk result (S.faults source.new ≡ S.faults source.old) }
-    ensures err { IfErr result (λ e. WhyUnread (S.left source.old) (S.left source.new) (S.faults source.old) (S.faults source.new) e) }
+    ensures err { IfErr result (λ e. WhyUnread (S.left source.old) (S.left source.new)
+        (S.faults source.old) (S.faults source.new) e) }
 {
     let mut bytes = Vec::new(alloc);
     while bytes.len() <= MAX_FILE {
@@ -55,10 +56,12 @@ pub fn read_file<S: Source>(alloc: Global, source: &mut S) -> Result<Vec<u8>, Re
 
 /// Adds the bytes of one read, and answers with how many these are: none at the end alone.
 fn read_more<S: Source>(source: &mut S, bytes: &mut Vec<u8>) -> Result<usize, ReadRefusal>
-    ensures more { IfOk result (λ n. (more : List ℕ) × (bytes.new.items ≡ bytes.old.items ++ more) × (length more ≡ n) × Consumes (S.left source.old) (S.left source.new) more) }
+    ensures more { IfOk result (λ n. (more : List ℕ) × (bytes.new.items ≡ bytes.old.items ++ more) × (length more ≡ n)
+        × Consumes (S.left source.old) (S.left source.new) more) }
     ensures end { IfOk result (λ n. n ≡ 0 → IsAtEnd (S.left source.new)) }
     ensures same { OnOk result (S.faults source.new ≡ S.faults source.old) }
-    ensures err { IfErr result (λ e. WhyNoMore (S.left source.old) (S.left source.new) (S.faults source.old) (S.faults source.new) e) }
+    ensures err { IfErr result (λ e. WhyNoMore (S.left source.old) (S.left source.new)
+        (S.faults source.old) (S.faults source.new) e) }
 {
     let mut buf = [0u8; READ_SIZE];
     let count = source.read(&mut buf)?;

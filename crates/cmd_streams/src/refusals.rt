@@ -14,7 +14,8 @@ use std::fmt::Display;
 /// Notes why a file wasn't read.
 pub fn refuse_input<N: Sink>(why: ReadRefusal, notes: &mut N) -> Status
     ensures status { result ≡ status_of why }
-    ensures noted { HasNote result (Says (N.written notes.old) (N.written notes.new) (N.faults notes.old) (N.faults notes.new)) }
+    ensures noted { HasNote result (Says (N.written notes.old) (N.written notes.new)
+        (N.faults notes.old) (N.faults notes.new)) }
     ensures silent { IsSilent result → notes.new ≡ notes.old }
 {
     match why {
@@ -38,7 +39,9 @@ pub fn refuse_line<W: Display + Drop, N: Sink>(
     notes: &mut N,
 ) -> Status
     ensures status { (result ≡ Status.BadFile) ⊎ (result ≡ Status.NoMemory) }
-    ensures noted { result ≡ Status.BadFile → (word : List ℕ) → W.output what ≡ Some word → Says (N.written notes.old) (N.written notes.new) (N.faults notes.old) (N.faults notes.new) (bad_line_note line word) }
+    ensures noted { result ≡ Status.BadFile → (word : List ℕ) → W.output what ≡ Some word
+        → Says (N.written notes.old) (N.written notes.new) (N.faults notes.old) (N.faults notes.new)
+        (bad_line_note line word) }
     ensures silent { result ≢ Status.BadFile → notes.new ≡ notes.old }
 {
     match bad_line_note(alloc, line, what) {

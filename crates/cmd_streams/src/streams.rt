@@ -25,7 +25,9 @@ pub trait Taker {
     /// Takes one read more, at the moment behind it, and adds the answer.
     fn take(&mut self, bytes: &[u8], now: Moment, answer: &mut TextOut) -> Result<(), NoMemory>
         ensures added { OnOk result ((more : List ℕ) × (answer.new ≡ answer.old ++ more)) }
-        ensures takes { OnOk result ((first : Self) (reads : List Read) (text more : List ℕ) → answer.new ≡ answer.old ++ more → took first self.old reads text → took first self.new (reads ++ read_of bytes.now now.0 ∷ []) (text ++ more)) };
+        ensures takes { OnOk result ((first : Self) (reads : List Read) (text more : List ℕ)
+            → answer.new ≡ answer.old ++ more → took first self.old reads text
+            → took first self.new (reads ++ read_of bytes.now now.0 ∷ []) (text ++ more)) };
 }
 
 /// Why a stream wasn't answered to its end.
@@ -54,13 +56,19 @@ pub fn answer_stream<T: Taker, S: Source, K: Sink, N: Sink, C: Clock>(
     requires start { T.took taker.old taker.old [] [] }
 
     // How it ends: what was written is what the taker answered, and each status has its reason.
-    ensures ends { StreamEnds (length buf.old) (λ reads text. (last : T) × T.took taker.old last reads text) (C.given clock.old) (C.given clock.new)
+    ensures ends { StreamEnds (length buf.old)
+        (λ reads text. (last : T) × T.took taker.old last reads text) (C.given clock.old) (C.given clock.new)
         (told_by S.Source K.Sink N.Sink source.old sink.old notes.old)
         (told_by S.Source K.Sink N.Sink source.new sink.new notes.new) result }
-    ensures taken { result ≡ Done → AnswersAll (length buf.old) (λ reads text. T.took taker.old taker.new reads text) (input_of (S.left source.old) (S.reads source.old) (C.given clock.old)) (input_of (S.left source.new) (S.reads source.new) (C.given clock.new)) (K.written sink.old) (K.written sink.new) }
+    ensures taken { result ≡ Done
+        → AnswersAll (length buf.old) (λ reads text. T.took taker.old taker.new reads text)
+        (input_of (S.left source.old) (S.reads source.old) (C.given clock.old))
+        (input_of (S.left source.new) (S.reads source.new) (C.given clock.new))
+        (K.written sink.old) (K.written sink.new) }
 
     // Nothing else is noted.
-    ensures noted { HasNote result (Says (N.written notes.old) (N.written notes.new) (N.faults notes.old) (N.faults notes.new)) }
+    ensures noted { HasNote result (Says (N.written notes.old) (N.written notes.new)
+        (N.faults notes.old) (N.faults notes.new)) }
     ensures silent { IsSilent result → notes.new ≡ notes.old }
 {
     match answer_reads(alloc, buf, taker, source, sink, clock) {
@@ -89,10 +97,18 @@ fn answer_reads<T: Taker, S: Source, K: Sink, C: Clock>(
 ) -> Result<(), StreamRefusal>
     requires room { 0 < length buf.old }
     requires start { T.took taker.old taker.old [] [] }
-    ensures all { OnOk result (AnswersAll (length buf.old) (λ reads text. T.took taker.old taker.new reads text) (input_of (S.left source.old) (S.reads source.old) (C.given clock.old)) (input_of (S.left source.new) (S.reads source.new) (C.given clock.new)) (K.written sink.old) (K.written sink.new)) }
+    ensures all { OnOk result (AnswersAll (length buf.old) (λ reads text. T.took taker.old taker.new reads text)
+        (input_of (S.left source.old) (S.reads source.old) (C.given clock.old))
+        (input_of (S.left source.new) (S.reads source.new) (C.given clock.new))
+        (K.written sink.old) (K.written sink.new)) }
     ensures read_same { OnOk result (S.faults source.new ≡ S.faults source.old) }
     ensures write_same { OnOk result (K.faults sink.new ≡ K.faults sink.old) }
-    ensures err { IfErr result (λ e. WhyUnanswered (length buf.old) (λ reads text. (last : T) × T.took taker.old last reads text) (input_of (S.left source.old) (S.reads source.old) (C.given clock.old)) (input_of (S.left source.new) (S.reads source.new) (C.given clock.new)) (K.written sink.old) (K.written sink.new) (S.faults source.old) (S.faults source.new) (K.faults sink.old) (K.faults sink.new) e) }
+    ensures err { IfErr result (λ e. WhyUnanswered (length buf.old)
+        (λ reads text. (last : T) × T.took taker.old last reads text)
+        (input_of (S.left source.old) (S.reads source.old) (C.given clock.old))
+        (input_of (S.left source.new) (S.reads source.new) (C.given clock.new))
+        (K.written sink.old) (K.written sink.new) (S.faults source.old) (S.faults source.new)
+        (K.faults sink.old) (K.faults sink.new) e) }
 {
     let mut room = MAX_STREAM;
     loop {
@@ -123,9 +139,14 @@ fn answer_read<T: Taker, K: Sink>(
     taker: &mut T,
     sink: &mut K,
 ) -> Result<(), StreamRefusal>
-    ensures answered { OnOk result ((more : List ℕ) × Appends (K.written sink.old) (K.written sink.new) more × ((first : T) (reads : List Read) (text : List ℕ) → T.took first taker.old reads text → T.took first taker.new (reads ++ read_of bytes.now now.0 ∷ []) (text ++ more))) }
+    ensures answered { OnOk result ((more : List ℕ) × Appends (K.written sink.old) (K.written sink.new) more
+        × ((first : T) (reads : List Read) (text : List ℕ) → T.took first taker.old reads text
+        → T.took first taker.new (reads ++ read_of bytes.now now.0 ∷ []) (text ++ more))) }
     ensures same { OnOk result (K.faults sink.new ≡ K.faults sink.old) }
-    ensures err { IfErr result (λ e. WhyNoAnswer (λ (more : List ℕ). (first : T) (reads : List Read) (text : List ℕ) → T.took first taker.old reads text → T.took first taker.new (reads ++ read_of bytes.now now.0 ∷ []) (text ++ more)) (K.written sink.old) (K.written sink.new) (K.faults sink.old) (K.faults sink.new) e) }
+    ensures err { IfErr result (λ e. WhyNoAnswer
+        (λ (more : List ℕ). (first : T) (reads : List Read) (text : List ℕ) → T.took first taker.old reads text
+        → T.took first taker.new (reads ++ read_of bytes.now now.0 ∷ []) (text ++ more))
+        (K.written sink.old) (K.written sink.new) (K.faults sink.old) (K.faults sink.new) e) }
 {
     let mut answer = TextOut::new(alloc);
     match taker.take(bytes, now, &mut answer) {

@@ -155,7 +155,8 @@ impl Network {
 #[tactic(auto, unfolding(crate::specs::Networks::network_of))]
 pub fn read_network(alloc: Global, bytes: &[u8]) -> Result<Network, NetworkRefusal>
     requires { length bytes.now ≤ 1048576 }
-    ensures { MatchResult result (λ n. networks.network_of bytes.now ≡ Ok n) (λ e. networks.ReadAs e (networks.network_of bytes.now)) }
+    ensures { MatchResult result (λ n. networks.network_of bytes.now ≡ Ok n)
+        (λ e. networks.ReadAs e (networks.network_of bytes.now)) }
 {
     let mut network = Network::new(alloc);
     let mut number: u32 = 0;

@@ -87,7 +87,8 @@ fn overtaken_fields(
     overtakers: u64,
     allowance: u64,
 ) -> Result<String, AllocError>
-    ensures { IfOk result (λ s. string_bytes s ≡ fields_text (verdicts.sign_fields (signs.Overtaken sent overtakers allowance))) }
+    ensures { IfOk result (λ s. string_bytes s
+        ≡ fields_text (verdicts.sign_fields (signs.Overtaken sent overtakers allowance))) }
 {
     let fields = format!(in alloc;
         ",\"sign\":\"overtaken\",\"sent\":{sent},\"overtakers\":{overtakers},\"allowance\":{allowance}}}\n"

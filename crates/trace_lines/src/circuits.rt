@@ -172,7 +172,8 @@ pub(crate) fn write_sent(
 
 /// The fields from the number of the fragment on, and the end of their object.
 fn sent_fields(alloc: Global, number: Option<u64>, datagram: &[u8]) -> Result<String, AllocError>
-    ensures { IfOk result (λ s. string_bytes s ≡ fields_text (NumberOrNull "fragment" number ∷ Octets "octets" datagram.now ∷ [])) }
+    ensures { IfOk result (λ s. string_bytes s
+        ≡ fields_text (NumberOrNull "fragment" number ∷ Octets "octets" datagram.now ∷ [])) }
 {
     let fragment = number_or_null(alloc, number)?;
     let fragment = fragment.as_str();
@@ -221,7 +222,9 @@ fn write_notice(at: AtNode, end: u64, notice: &EndNotice, out: &mut Lines) -> Re
 
 /// The fields of a notice, and the end of their object.
 fn notice_fields(alloc: Global, notice: &EndNotice) -> Result<String, AllocError>
-    ensures { IfOk result (λ s. string_bytes s ≡ fields_text (Word "what" (notice_word notice.now) ∷ NumberOrNull "window" (circuits.window_of notice.now) ∷ [])) }
+    ensures { IfOk result (λ s. string_bytes s
+        ≡ fields_text (Word "what" (notice_word notice.now)
+        ∷ NumberOrNull "window" (circuits.window_of notice.now) ∷ [])) }
 {
     let what = notice_word(notice);
     let window = window_text(alloc, notice)?;

@@ -28,7 +28,8 @@ pub(crate) fn write_events(
     told: &[NumberedEvent],
     out: &mut Lines,
 ) -> Result<(), NoMemory>
-    ensures { OnOk result (out.new ≡ out.old ++ events.events_from (mark_at marks.now) frames.now 1 (map numbered_of told.now)) }
+    ensures { OnOk result (out.new
+        ≡ out.old ++ events.events_from (mark_at marks.now) frames.now 1 (map numbered_of told.now)) }
 {
     for (place, numbered) in told.iter().enumerate() {
         let stand = Stand {
@@ -47,7 +48,8 @@ fn write_event(
     event: &Event,
     out: &mut Lines,
 ) -> Result<(), NoMemory>
-    ensures { OnOk result (out.new ≡ out.old ++ events.event_text (mark_at marks.now) frames.now stand (event_of event.now)) }
+    ensures { OnOk result (out.new
+        ≡ out.old ++ events.event_text (mark_at marks.now) frames.now stand (event_of event.now)) }
 {
     match event {
         Event::Entry { node, entry } => write_entry(stand.at(*node), entry, out),
@@ -104,7 +106,9 @@ fn write_frame(stand: Stand, number: u32, frame: &Aired, out: &mut Lines) -> Res
 
 /// The fields from the modulus on, and the end of their object.
 fn frame_fields(alloc: Global, frame: &Aired) -> Result<String, AllocError>
-    ensures { IfOk result (λ s. string_bytes s ≡ fields_text (Number "modulo" (events.modulus_of frame.now.modulo128) ∷ Octets "octets" frame.now.octets.items ∷ [])) }
+    ensures { IfOk result (λ s. string_bytes s
+        ≡ fields_text (Number "modulo" (events.modulus_of frame.now.modulo128)
+        ∷ Octets "octets" frame.now.octets.items ∷ [])) }
 {
     let modulo = modulus_of(frame.modulo128);
     let octets = octets_text(alloc, frame)?;
@@ -176,7 +180,8 @@ fn write_took(at: AtNode, end: u32, message: &[u8], out: &mut Lines) -> Result<(
 
 /// The fields of a message, and the end of their object.
 fn message_fields(alloc: Global, message: &[u8]) -> Result<String, AllocError>
-    ensures { IfOk result (λ s. string_bytes s ≡ fields_text (Number "bytes" (length message.now) ∷ Bytes "text" message.now ∷ [])) }
+    ensures { IfOk result (λ s. string_bytes s
+        ≡ fields_text (Number "bytes" (length message.now) ∷ Bytes "text" message.now ∷ [])) }
 {
     let bytes = message.len();
     let said = string_text(alloc, message)?;

@@ -103,7 +103,8 @@ fn numbers_text(alloc: Global, numbers: &[u8]) -> Result<String, AllocError>
 }
 
 fn push_numbers(alloc: Global, numbers: &[u8], text: &mut String) -> Result<(), AllocError>
-    ensures { OnOk result (string_bytes text.new ≡ string_bytes text.old ++ flat_map (λ n. codes "," ++ decimal n) numbers.now) }
+    ensures { OnOk result (string_bytes text.new
+        ≡ string_bytes text.old ++ flat_map (λ n. codes "," ++ decimal n) numbers.now) }
 {
     for number in numbers {
         let more = format!(in alloc; ",{number}")?;
@@ -191,7 +192,8 @@ fn calls_text(alloc: Global, names: &[Call]) -> Result<String, AllocError>
 }
 
 fn push_calls(alloc: Global, names: &[Call], text: &mut String) -> Result<(), AllocError>
-    ensures { OnOk result (string_bytes text.new ≡ string_bytes text.old ++ flat_map (λ c. codes "," ++ quoted (calls.shown c)) names.now) }
+    ensures { OnOk result (string_bytes text.new
+        ≡ string_bytes text.old ++ flat_map (λ c. codes "," ++ quoted (calls.shown c)) names.now) }
 {
     for name in names {
         let name = name.show();

@@ -38,7 +38,8 @@ pub(crate) fn write_nodes(
     mails: &[Option<Store>],
     out: &mut Lines,
 ) -> Result<(), NoMemory>
-    ensures { OnOk result ((placed : List Placed) (kept : List (Option Lists)) → AreDeclared declared.now placed → StandFor nodes.now placed → MailsStand mails.now kept
+    ensures { OnOk result ((placed : List Placed) (kept : List (Option Lists)) → AreDeclared declared.now placed
+        → StandFor nodes.now placed → MailsStand mails.now kept
         → out.new ≡ out.old ++ left.nodes_text (ends_left (left_of trace.now)) placed kept) }
 {
     match declared {
@@ -64,7 +65,8 @@ fn write_node(
     mail: &Option<Store>,
     out: &mut Lines,
 ) -> Result<(), NoMemory>
-    ensures { OnOk result ((p : Placed) (kept : Option Lists) → declared.now ≡ p.declared → NodeStands node.now p.state → MailStands mail.now kept
+    ensures { OnOk result ((p : Placed) (kept : Option Lists) → declared.now ≡ p.declared → NodeStands node.now p.state
+        → MailStands mail.now kept
         → out.new ≡ out.old ++ left.kept_text (ends_left (left_of trace.now)) p kept) }
 {
     let table = shown(out.alloc(), declared, node)?;

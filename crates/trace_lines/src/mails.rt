@@ -96,7 +96,8 @@ pub(crate) fn write_left_mail(
     mail: &Option<Store>,
     out: &mut Lines,
 ) -> Result<(), NoMemory>
-    ensures { OnOk result ((kept : Option Lists) → MailStands mail.now kept → out.new ≡ out.old ++ mails.mail_text node kept) }
+    ensures { OnOk result ((kept : Option Lists) → MailStands mail.now kept
+        → out.new ≡ out.old ++ mails.mail_text node kept) }
 {
     match mail {
         Some(store) => {

@@ -22,7 +22,8 @@ pub(crate) fn repeat_marks(
 }
 
 fn mark_repeat(numbered: &NumberedInstruction, marks: &mut Vec<bool>) -> Result<(), NoMemory>
-    ensures { OnOk result ((line : ℕ) → mark_at marks.new.items line ≡ mark_at marks.old.items line || ((numbered.now.line == line) && events.is_again numbered.now.instruction)) }
+    ensures { OnOk result ((line : ℕ) → mark_at marks.new.items line
+        ≡ mark_at marks.old.items line || ((numbered.now.line == line) && events.is_again numbered.now.instruction)) }
 {
     match numbered.instruction {
         Instruction::Again { .. } => set_mark(numbered.line as usize, marks),

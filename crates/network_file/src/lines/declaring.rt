@@ -135,7 +135,8 @@ fn are_members(words: &[&[u8]]) -> bool
 
 fn members_of(declared: &[Declaration], words: &[&[u8]]) -> Result<ArrayVec<u8, MAX_NODES>, What>
     requires { length words.now ≤ 16 }
-    ensures { MatchResult result (λ v. lines.members_at declared.now [] (texts words.now) ≡ Ok v.items) (λ e. lines.members_at declared.now [] (texts words.now) ≡ Err e) }
+    ensures { MatchResult result (λ v. lines.members_at declared.now [] (texts words.now) ≡ Ok v.items)
+        (λ e. lines.members_at declared.now [] (texts words.now) ≡ Err e) }
 {
     let mut members = ArrayVec::new();
     add_members(declared, &mut members, words)?;
@@ -149,7 +150,9 @@ fn add_members(
     words: &[&[u8]],
 ) -> Result<(), What>
     requires { length members.old.items + length words.now ≤ 16 }
-    ensures { MatchResult result (λ _. lines.members_at declared.now members.old.items (texts words.now) ≡ Ok members.new.items) (λ e. lines.members_at declared.now members.old.items (texts words.now) ≡ Err e) }
+    ensures { MatchResult result
+        (λ _. lines.members_at declared.now members.old.items (texts words.now) ≡ Ok members.new.items)
+        (λ e. lines.members_at declared.now members.old.items (texts words.now) ≡ Err e) }
 {
     match words {
         [] => Ok(()),
@@ -199,7 +202,8 @@ fn are_repeaters(words: &[&[u8]]) -> bool
 
 pub fn repeaters_of(words: &[&[u8]]) -> Result<ArrayVec<Call, MAX_VIA_REPEATERS>, What>
     requires { length words.now ≤ 2 }
-    ensures { MatchResult result (λ v. lines.calls_at (texts words.now) ≡ Ok v.items) (λ e. lines.calls_at (texts words.now) ≡ Err e) }
+    ensures { MatchResult result (λ v. lines.calls_at (texts words.now) ≡ Ok v.items)
+        (λ e. lines.calls_at (texts words.now) ≡ Err e) }
 {
     let mut repeaters = ArrayVec::new();
     add_calls(&mut repeaters, words)?;
@@ -209,7 +213,10 @@ pub fn repeaters_of(words: &[&[u8]]) -> Result<ArrayVec<Call, MAX_VIA_REPEATERS>
 /// Adds the calls that the words are.
 fn add_calls(calls: &mut ArrayVec<Call, MAX_VIA_REPEATERS>, words: &[&[u8]]) -> Result<(), What>
     requires { length calls.old.items + length words.now ≤ 2 }
-    ensures { MatchResult result (λ _. (more : List Callsign) × (lines.calls_at (texts words.now) ≡ Ok more) × (calls.new.items ≡ calls.old.items ++ more)) (λ e. lines.calls_at (texts words.now) ≡ Err e) }
+    ensures { MatchResult result
+        (λ _. (more : List Callsign) × (lines.calls_at (texts words.now) ≡ Ok more)
+        × (calls.new.items ≡ calls.old.items ++ more))
+        (λ e. lines.calls_at (texts words.now) ≡ Err e) }
 {
     match words {
         [] => Ok(()),

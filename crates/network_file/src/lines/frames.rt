@@ -71,7 +71,8 @@ fn frame_and_node_of(before: &Network, word: &[u8], number: &[u8]) -> Result<(u3
 
 /// `deliver K N`
 fn deliver_line(before: &Network, words: &[&[u8]]) -> Result<Line, What>
-    ensures { result ≡ as_line (lines.frame_and_node before.now (texts words.now)) (λ way. instructions.Deliver way.0 way.1) }
+    ensures { result ≡ as_line (lines.frame_and_node before.now (texts words.now))
+        (λ way. instructions.Deliver way.0 way.1) }
 {
     let (frame, node) = frame_and_node(before, words)?;
     Ok(Line::Instruction(Instruction::Deliver { frame, node }))
@@ -79,7 +80,8 @@ fn deliver_line(before: &Network, words: &[&[u8]]) -> Result<Line, What>
 
 /// `again K N`
 fn again_line(before: &Network, words: &[&[u8]]) -> Result<Line, What>
-    ensures { result ≡ as_line (lines.frame_and_node before.now (texts words.now)) (λ way. instructions.Again way.0 way.1) }
+    ensures { result ≡ as_line (lines.frame_and_node before.now (texts words.now))
+        (λ way. instructions.Again way.0 way.1) }
 {
     let (frame, node) = frame_and_node(before, words)?;
     Ok(Line::Instruction(Instruction::Again { frame, node }))

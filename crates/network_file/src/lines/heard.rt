@@ -59,7 +59,10 @@ fn heard(
     nick: &[u8],
     rest: &[&[u8]],
 ) -> Result<(u8, Call, Nodes), What>
-    ensures { MatchResult result (λ h. lines.broadcast_at before.now number.now name.now nick.now (texts rest.now) ≡ Ok (said.Instruction (instructions.Heard h.0 h.1 h.2))) (λ e. lines.broadcast_at before.now number.now name.now nick.now (texts rest.now) ≡ Err e) }
+    ensures { MatchResult result
+        (λ h. lines.broadcast_at before.now number.now name.now nick.now (texts rest.now)
+        ≡ Ok (said.Instruction (instructions.Heard h.0 h.1 h.2)))
+        (λ e. lines.broadcast_at before.now number.now name.now nick.now (texts rest.now) ≡ Err e) }
 {
     needs(are_entries(rest), What::Count)?;
     let node = node(before.declared(), number)?;
@@ -79,7 +82,8 @@ fn are_entries(words: &[&[u8]]) -> bool
 
 fn entries_of(words: &[&[u8]]) -> Result<ArrayVec<Entry, MAX_ENTRIES>, What>
     requires { length words.now ≤ 44 }
-    ensures { MatchResult result (λ v. lines.entries_at (texts words.now) ≡ Ok v.items) (λ e. lines.entries_at (texts words.now) ≡ Err e) }
+    ensures { MatchResult result (λ v. lines.entries_at (texts words.now) ≡ Ok v.items)
+        (λ e. lines.entries_at (texts words.now) ≡ Err e) }
 {
     let mut entries = ArrayVec::new();
     add_entries(&mut entries, words)?;
@@ -89,7 +93,10 @@ fn entries_of(words: &[&[u8]]) -> Result<ArrayVec<Entry, MAX_ENTRIES>, What>
 /// Adds the entries that the words spell, four words to an entry.
 fn add_entries(entries: &mut ArrayVec<Entry, MAX_ENTRIES>, words: &[&[u8]]) -> Result<(), What>
     requires { 4 * length entries.old.items + length words.now ≤ 44 }
-    ensures { MatchResult result (λ _. (more : List Entry) × (lines.entries_at (texts words.now) ≡ Ok more) × (entries.new.items ≡ entries.old.items ++ more)) (λ e. lines.entries_at (texts words.now) ≡ Err e) }
+    ensures { MatchResult result
+        (λ _. (more : List Entry) × (lines.entries_at (texts words.now) ≡ Ok more)
+        × (entries.new.items ≡ entries.old.items ++ more))
+        (λ e. lines.entries_at (texts words.now) ≡ Err e) }
 {
     match words {
         [] => Ok(()),

@@ -84,7 +84,8 @@ fn post(
 /// TEXT of a `post` line.
 #[tactic(auto, unfolding(crate::specs::Lines::Instructions::posted_text))]
 fn posted_text(line: &[u8]) -> Option<&[u8]>
-    ensures { MatchOption result (lines.posted_text line.now ≡ None) (λ text. lines.posted_text line.now ≡ Some text.now) }
+    ensures { MatchOption result (lines.posted_text line.now ≡ None)
+        (λ text. lines.posted_text line.now ≡ Some text.now) }
 {
     after_space(past_word(past_word(past_word(past_word(line)))))
 }

@@ -130,7 +130,8 @@ fn node_and_call_of(before: &Network, number: &[u8], name: &[u8]) -> Result<(u8,
 
 /// `linkfail N CALL`
 fn linkfail_line(before: &Network, words: &[&[u8]]) -> Result<Line, What>
-    ensures { result ≡ as_line (lines.node_and_call before.now (texts words.now)) (λ link. instructions.LinkFail link.0 link.1) }
+    ensures { result ≡ as_line (lines.node_and_call before.now (texts words.now))
+        (λ link. instructions.LinkFail link.0 link.1) }
 {
     let (node, call) = node_and_call(before, words)?;
     Ok(Line::Instruction(Instruction::LinkFail { node, call }))

@@ -64,7 +64,8 @@ pub fn heard_by(channels: &[Channel], sender: u8) -> [bool; NUMBERS]
 
 /// Marks the nodes that share a channel with a sender.
 fn mark_near(channels: &[Channel], sender: u8, marks: &mut [bool])
-    ensures { (n : ℕ) (b : Bool) → slice_get marks.old n ≡ Some b → slice_get marks.new n ≡ Some (hearing.share_channel channels.now sender n || b) }
+    ensures { (n : ℕ) (b : Bool) → slice_get marks.old n ≡ Some b
+        → slice_get marks.new n ≡ Some (hearing.share_channel channels.now sender n || b) }
 {
     match channels {
         [] => {}
@@ -77,7 +78,8 @@ fn mark_near(channels: &[Channel], sender: u8, marks: &mut [bool])
 
 /// Marks the nodes of a channel, where the sender is on it.
 fn mark_with(channel: &Channel, sender: u8, marks: &mut [bool])
-    ensures { (n : ℕ) (b : Bool) → slice_get marks.old n ≡ Some b → slice_get marks.new n ≡ Some ((hearing.is_on sender channel.now && hearing.is_on n channel.now) || b) }
+    ensures { (n : ℕ) (b : Bool) → slice_get marks.old n ≡ Some b
+        → slice_get marks.new n ≡ Some ((hearing.is_on sender channel.now && hearing.is_on n channel.now) || b) }
 {
     if channel.has(sender) {
         mark(channel.nodes.as_slice(), marks);
@@ -86,7 +88,8 @@ fn mark_with(channel: &Channel, sender: u8, marks: &mut [bool])
 
 /// Marks these nodes.
 fn mark(nodes: &[u8], marks: &mut [bool])
-    ensures { (n : ℕ) (b : Bool) → slice_get marks.old n ≡ Some b → slice_get marks.new n ≡ Some (hearing.has_member nodes.now n || b) }
+    ensures { (n : ℕ) (b : Bool) → slice_get marks.old n ≡ Some b
+        → slice_get marks.new n ≡ Some (hearing.has_member nodes.now n || b) }
 {
     match nodes {
         [] => {}
@@ -99,7 +102,8 @@ fn mark(nodes: &[u8], marks: &mut [bool])
 
 /// Sets the mark of a node, where it has one.
 fn set(node: u8, mark: bool, marks: &mut [bool])
-    ensures { (n : ℕ) (b : Bool) → slice_get marks.old n ≡ Some b → slice_get marks.new n ≡ Some (if node == n then mark else b) }
+    ensures { (n : ℕ) (b : Bool) → slice_get marks.old n ≡ Some b
+        → slice_get marks.new n ≡ Some (if node == n then mark else b) }
 {
     if (node as usize) < marks.len() {
         marks[node as usize] = mark;

@@ -69,7 +69,8 @@ fn new_live_node(call: Call, alias: Alias) -> LiveNode
 
 /// Adds what the words say, one after another.
 fn add_words(node: &mut LiveNode, words: &[String]) -> Result<(), What>
-    ensures { MatchResult result (λ _. live.after_words node.old (map (λ w. string_bytes w) words.now) ≡ Ok node.new) (λ e. live.after_words node.old (map (λ w. string_bytes w) words.now) ≡ Err e) }
+    ensures { MatchResult result (λ _. live.after_words node.old (map (λ w. string_bytes w) words.now) ≡ Ok node.new)
+        (λ e. live.after_words node.old (map (λ w. string_bytes w) words.now) ≡ Err e) }
 {
     match words {
         [] => Ok(()),
@@ -83,7 +84,8 @@ fn add_words(node: &mut LiveNode, words: &[String]) -> Result<(), What>
 
 /// Adds what a word says.
 fn add_word(node: &mut LiveNode, word: &[u8]) -> Result<(), What>
-    ensures { MatchResult result (λ _. live.after_word node.old word.now ≡ Ok node.new) (λ e. live.after_word node.old word.now ≡ Err e) }
+    ensures { MatchResult result (λ _. live.after_word node.old word.now ≡ Ok node.new)
+        (λ e. live.after_word node.old word.now ≡ Err e) }
 {
     match split_once(b'=', word) {
         Some((name, value)) => {
@@ -104,7 +106,8 @@ fn add_word(node: &mut LiveNode, word: &[u8]) -> Result<(), What>
 
 /// `CALL,REPEATER`, or with a second REPEATER
 fn add_via(node: &mut LiveNode, text: &[u8]) -> Result<(), What>
-    ensures { MatchResult result (λ _. live.with_via node.old text.now ≡ Ok node.new) (λ e. live.with_via node.old text.now ≡ Err e) }
+    ensures { MatchResult result (λ _. live.with_via node.old text.now ≡ Ok node.new)
+        (λ e. live.with_via node.old text.now ≡ Err e) }
 {
     match split_once(b',', text) {
         Some((name, rest)) => match split_once(b',', rest) {
@@ -125,7 +128,8 @@ fn add_via(node: &mut LiveNode, text: &[u8]) -> Result<(), What>
 #[tactic(auto, unfolding(crate::specs::Live::with_way))]
 fn add_way(node: &mut LiveNode, name: &[u8], words: &[&[u8]]) -> Result<(), What>
     requires { length words.now ≤ 2 }
-    ensures { MatchResult result (λ _. live.with_way node.old name.now (texts words.now) ≡ Ok node.new) (λ e. live.with_way node.old name.now (texts words.now) ≡ Err e) }
+    ensures { MatchResult result (λ _. live.with_way node.old name.now (texts words.now) ≡ Ok node.new)
+        (λ e. live.with_way node.old name.now (texts words.now) ≡ Err e) }
 {
     let peer = new_peer(node.vias.as_slice(), 1, name)?;
     let repeaters = repeaters_of(words)?;
@@ -140,7 +144,8 @@ fn add_way(node: &mut LiveNode, name: &[u8], words: &[&[u8]]) -> Result<(), What
 
 /// `INDEX,IDENT`
 fn add_pair(node: &mut LiveNode, text: &[u8]) -> Result<(), What>
-    ensures { MatchResult result (λ _. live.with_pair node.old text.now ≡ Ok node.new) (λ e. live.with_pair node.old text.now ≡ Err e) }
+    ensures { MatchResult result (λ _. live.with_pair node.old text.now ≡ Ok node.new)
+        (λ e. live.with_pair node.old text.now ≡ Err e) }
 {
     match split_once(b',', text) {
         Some((index, ident)) => {
@@ -153,7 +158,8 @@ fn add_pair(node: &mut LiveNode, text: &[u8]) -> Result<(), What>
 
 #[tactic(auto, unfolding(crate::specs::Live::with_pair_of))]
 fn set_pair(node: &mut LiveNode, index: &[u8], ident: &[u8]) -> Result<(), What>
-    ensures { MatchResult result (λ _. live.with_pair_of node.old index.now ident.now ≡ Ok node.new) (λ e. live.with_pair_of node.old index.now ident.now ≡ Err e) }
+    ensures { MatchResult result (λ _. live.with_pair_of node.old index.now ident.now ≡ Ok node.new)
+        (λ e. live.with_pair_of node.old index.now ident.now ≡ Err e) }
 {
     needs(node.pair.is_none(), What::Twice)?;
     let index = pair_part(index)?;
@@ -165,7 +171,8 @@ fn set_pair(node: &mut LiveNode, index: &[u8], ident: &[u8]) -> Result<(), What>
 /// A key and its value.
 #[tactic(auto, unfolding(crate::specs::Live::with_setting))]
 fn add_setting(node: &mut LiveNode, name: &[u8], text: &[u8]) -> Result<(), What>
-    ensures { MatchResult result (λ _. live.with_setting node.old name.now text.now ≡ Ok node.new) (λ e. live.with_setting node.old name.now text.now ≡ Err e) }
+    ensures { MatchResult result (λ _. live.with_setting node.old name.now text.now ≡ Ok node.new)
+        (λ e. live.with_setting node.old name.now text.now ≡ Err e) }
 {
     let key = Key::read(3, name)?;
     let is_new = set_to(node.settings.as_slice(), 1, key).is_none();
@@ -183,7 +190,8 @@ fn add_setting(node: &mut LiveNode, name: &[u8], text: &[u8]) -> Result<(), What
 
 /// What stands behind `name=`.
 fn value_behind<'a>(name: &[u8], word: &'a [u8]) -> Result<&'a [u8], What>
-    ensures { MatchResult result (λ v. live.value_behind name.now word.now ≡ Ok v.now) (λ e. live.value_behind name.now word.now ≡ Err e) }
+    ensures { MatchResult result (λ v. live.value_behind name.now word.now ≡ Ok v.now)
+        (λ e. live.value_behind name.now word.now ≡ Err e) }
 {
     match split_once(b'=', word) {
         Some((front, value)) => {
@@ -199,7 +207,8 @@ fn value_behind<'a>(name: &[u8], word: &'a [u8]) -> Result<&'a [u8], What>
 
 /// What stands before and behind the first such character.
 fn split_once(mark: u8, text: &[u8]) -> Option<(&[u8], &[u8])>
-    ensures { MatchOption result (live.split_once mark text.now ≡ None) (λ x. live.split_once mark text.now ≡ Some (x.0.now, x.1.now)) }
+    ensures { MatchOption result (live.split_once mark text.now ≡ None)
+        (λ x. live.split_once mark text.now ≡ Some (x.0.now, x.1.now)) }
 {
     match place_of(mark, text) {
         Some(at) => Some((&text[..at], &text[at + 1..])),
