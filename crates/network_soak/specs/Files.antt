@@ -2,8 +2,8 @@
 use Rattle.std.specs.Prelude.{ℕ, zero, suc, ◌+◌, ◌%◌, ◌==◌, List, [], ◌∷◌, ◌++◌, if◌then◌else◌, codes, ◌*◌, ◌/◌, ◌^◌}
 use Rattle.std.specs.Fmt.{decimal}
 use Rattle.std.specs.List.{flat_map}
-use Rattle.network_soak.specs.declared.lines.Kind.{Kind}
-use Rattle.network_soak.specs.declared.lines.Kind.TheVariants.{Declare, Join, WithoutLinks, Round, Open, Close}
+use Rattle.network_soak.specs.declared.lines.LineKind.{LineKind}
+use Rattle.network_soak.specs.declared.lines.LineKind.TheVariants.{Declare, Join, WithoutLinks, Round, Open, Close}
 
 -- Numbers that one number leads to. Own profile.
 
@@ -38,7 +38,7 @@ far_node node = (node + 2) % 6 + 1
 
 -- lines of each node: it is declared, and hears the next one; its datagrams go in UI frames, without links; it broadcasts, and all
 -- that comes of it goes on; it asks for a circuit with the one opposite, and closes it
-abbrev pub line_of : Kind → ℕ → List ℕ
+abbrev pub line_of : LineKind → ℕ → List ℕ
 line_of Declare node = codes "node " ++ (decimal node ++ (codes " " ++ (call_of node ++ (codes " " ++ (alias_of node ++ codes "\n")))))
 line_of Join node = codes "channel " ++ (decimal node ++ (codes " " ++ (decimal (next_node node) ++ codes "\n")))
 line_of WithoutLinks node = codes "set " ++ (decimal node ++ codes " links 0\n")
@@ -47,11 +47,11 @@ line_of Open node = codes "open " ++ (decimal node ++ (codes " " ++ (call_of (fa
 line_of Close node = codes "close " ++ (decimal node ++ codes " 1\n")
 
 -- so it is for all six
-unfoldable pub lines_of : Kind → List ℕ
+unfoldable pub lines_of : LineKind → List ℕ
 lines_of kind = flat_map (line_of kind) six
 
 -- what the nodes know of each other, and a circuit of each
-abbrev pub start_kinds : List Kind
+abbrev pub start_kinds : List LineKind
 start_kinds = Declare ∷ Join ∷ WithoutLinks ∷ Round ∷ Round ∷ Round ∷ Open ∷ []
 
 unfoldable pub start_text : List ℕ

@@ -3,7 +3,7 @@ ghost use Rattle.std.specs.Prelude.{◌≡◌, ◌++◌, flat_map, OnOk, IfOk};
 ghost use Rattle.network_soak.specs.Files as files;
 
 use crate::draws::Draws;
-use crate::lines::{Kind, flow_line, line_of, say_line};
+use crate::lines::{LineKind, flow_line, line_of, say_line};
 use radio_base::NoMemory;
 use std::alloc::Global;
 
@@ -25,20 +25,20 @@ fn write_start(alloc: Global, text: &mut Vec<u8>) -> Result<(), NoMemory>
     ensures { OnOk result (text.new.items ≡ text.old.items ++ files.start_text) }
 {
     let kinds = [
-        Kind::Declare,
-        Kind::Join,
-        Kind::WithoutLinks,
-        Kind::Round,
-        Kind::Round,
-        Kind::Round,
-        Kind::Open,
+        LineKind::Declare,
+        LineKind::Join,
+        LineKind::WithoutLinks,
+        LineKind::Round,
+        LineKind::Round,
+        LineKind::Round,
+        LineKind::Open,
     ];
     write_kinds(alloc, &kinds, text)?;
     text.extend_from_slice(b"flow 1000\n")?;
     Ok(())
 }
 
-fn write_kinds(alloc: Global, kinds: &[Kind], text: &mut Vec<u8>) -> Result<(), NoMemory>
+fn write_kinds(alloc: Global, kinds: &[LineKind], text: &mut Vec<u8>) -> Result<(), NoMemory>
     ensures { OnOk result (text.new.items ≡ text.old.items ++ flat_map files.lines_of kinds.now) }
 {
     for kind in kinds {
@@ -49,13 +49,18 @@ fn write_kinds(alloc: Global, kinds: &[Kind], text: &mut Vec<u8>) -> Result<(), 
 
 /// The lines of that kind for all six nodes.
 #[tactic(auto, unfolding(crate::specs::Files::lines_of))]
-fn write_lines(alloc: Global, kind: Kind, text: &mut Vec<u8>) -> Result<(), NoMemory>
+fn write_lines(alloc: Global, kind: LineKind, text: &mut Vec<u8>) -> Result<(), NoMemory>
     ensures { OnOk result (text.new.items ≡ text.old.items ++ files.lines_of kind) }
 {
     write_each(alloc, kind, &[1, 2, 3, 4, 5, 6], text)
 }
 
-fn write_each(alloc: Global, kind: Kind, nodes: &[u8], text: &mut Vec<u8>) -> Result<(), NoMemory>
+fn write_each(
+    alloc: Global,
+    kind: LineKind,
+    nodes: &[u8],
+    text: &mut Vec<u8>,
+) -> Result<(), NoMemory>
     ensures { OnOk result (text.new.items ≡ text.old.items ++ flat_map (files.line_of kind) nodes.now) }
 {
     for node in nodes {
@@ -106,7 +111,7 @@ fn write_end(alloc: Global, text: &mut Vec<u8>) -> Result<(), NoMemory>
     ensures { OnOk result (text.new.items ≡ text.old.items ++ files.end_text) }
 {
     text.extend_from_slice(b"flow 100000\n")?;
-    write_lines(alloc, Kind::Close, text)?;
+    write_lines(alloc, LineKind::Close, text)?;
     text.extend_from_slice(b"flow 100000\n")?;
     Ok(())
 }

@@ -1,13 +1,13 @@
 //! The lines of a soak's file.
 ghost use Rattle.std.specs.Prelude.{◌≡◌, IfOk, string_bytes};
 ghost use Rattle.network_soak.specs.Files as files;
-ghost use Rattle.network_soak.specs.declared.lines.Kind.TheVariants as kinds;
+ghost use Rattle.network_soak.specs.declared.lines.LineKind.TheVariants as kinds;
 
 use std::alloc::{AllocError, Global};
 
 /// What is said of each node.
 #[derive(Clone, Copy, Debug, PartialEq, Eq)]
-pub enum Kind {
+pub enum LineKind {
     /// It is declared.
     Declare,
     /// It and the next one hear each other.
@@ -23,22 +23,22 @@ pub enum Kind {
 }
 
 /// The line of that kind for a node, from 1 to 6. After a round there is a second one.
-pub fn line_of(alloc: Global, kind: Kind, node: u8) -> Result<String, AllocError>
+pub fn line_of(alloc: Global, kind: LineKind, node: u8) -> Result<String, AllocError>
     ensures { IfOk result (λ s. string_bytes s ≡ files.line_of kind node) }
 {
     match kind {
-        Kind::Declare => declare_line(alloc, node),
-        Kind::Join => {
+        LineKind::Declare => declare_line(alloc, node),
+        LineKind::Join => {
             let next = node % 6 + 1;
             format!(in alloc; "channel {node} {next}\n")
         }
-        Kind::WithoutLinks => format!(in alloc; "set {node} links 0\n"),
-        Kind::Round => format!(in alloc; "round {node}\nflow 100\n"),
-        Kind::Open => {
+        LineKind::WithoutLinks => format!(in alloc; "set {node} links 0\n"),
+        LineKind::Round => format!(in alloc; "round {node}\nflow 100\n"),
+        LineKind::Open => {
             let far = call_of(((node as u16 + 2) % 6) as u8 + 1);
             format!(in alloc; "open {node} {far}\n")
         }
-        Kind::Close => format!(in alloc; "close {node} 1\n"),
+        LineKind::Close => format!(in alloc; "close {node} 1\n"),
     }
 }
 
