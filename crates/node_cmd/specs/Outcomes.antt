@@ -16,7 +16,7 @@ use Rattle.cmd_streams.specs.Told.{Comes, WritesWell, IsNoted, bad_line_note, St
 use Rattle.cmd_streams.specs.declared.status.Status.{Status}
 use Rattle.cmd_streams.specs.declared.status.Status.TheVariants as statuses
 use Rattle.cmd_streams.specs.Reading.{ReadsFile, TellsFile}
-use Rattle.node_cmd.specs.declared.outcomes.Outcome.{Outcome}
+use Rattle.node_cmd.specs.declared.outcomes.NetworkOutcome.{NetworkOutcome}
 use Rattle.node_cmd.specs.declared.outcomes.Printed.{Printed}
 use Rattle.node_cmd.specs.declared.outcomes.Printed.TheVariants.{Report, SoakLine}
 use Rattle.node_cmd.specs.declared.outcomes.ReportRefusal.{ReportRefusal}
@@ -40,7 +40,7 @@ NotReported TooManyFrames read = (network : Plan) × (read ≡ Ok network) × Ai
 NotReported NoMemory read = Unit {0}
 
 -- what came of a network: its trace, the verdict and the text
-pub record IsOutcome (what : Printed) (o : Outcome) (network : Plan) : Type 0 where
+pub record IsOutcome (what : Printed) (o : NetworkOutcome) (network : Plan) : Type 0 where
   pub few : AirsFew network
   pub trace : IsTraceOf (left_of o.trace) (world network)
   pub verdict : IsVerdictOn network (world network) o.late

@@ -42,7 +42,7 @@ pub enum ReportRefusal {
 
 /// What came of a network: what ran, the verdict on it, and what is written of it.
 #[derive(Drop)]
-pub struct Outcome {
+pub struct NetworkOutcome {
     pub trace: Trace,
     pub late: Option<Late>,
     pub text: TextOut,
@@ -71,7 +71,7 @@ pub fn print_network<K: Sink, N: Sink>(
     ensures noted { HasNote result (SaysTo N.Sink notes.old notes.new) }
     ensures silent { IsSilent result → notes.new ≡ notes.old }
 {
-    let Outcome { trace, late, text } = match outcome_of(alloc, bytes, what) {
+    let NetworkOutcome { trace, late, text } = match outcome_of(alloc, bytes, what) {
         Ok(outcome) => outcome,
         Err(ReportRefusal::BadLine { line, what }) => {
             return refuse_line(alloc, line, what, notes);
@@ -95,7 +95,7 @@ pub fn print_network<K: Sink, N: Sink>(
 }
 
 /// What comes of the network that a file spells.
-fn outcome_of(alloc: Global, bytes: &[u8], what: Printed) -> Result<Outcome, ReportRefusal>
+fn outcome_of(alloc: Global, bytes: &[u8], what: Printed) -> Result<NetworkOutcome, ReportRefusal>
     requires { length bytes.now ≤ max_file }
     ensures ok { IfOk result (λ o. (network : Plan) × (network_of bytes.now ≡ Ok network) × IsOutcome what o network
         × RetriesAreTold network × (o.late ≡ None → SafeThroughout network × MailOnceThroughout network)) }
@@ -115,7 +115,7 @@ fn outcome_of_network(
     alloc: Global,
     network: &Network,
     what: Printed,
-) -> Result<Outcome, ReportRefusal>
+) -> Result<NetworkOutcome, ReportRefusal>
     ensures ok { IfOk result (λ o. IsOutcome what o network.now × IsSound network.now) }
     ensures err { IfErr result (λ e. NotReported e (Ok network.now)) }
 {
@@ -126,7 +126,11 @@ fn outcome_of_network(
     }
 }
 
-fn outcome_of_trace(alloc: Global, trace: Trace, what: Printed) -> Result<Outcome, ReportRefusal>
+fn outcome_of_trace(
+    alloc: Global,
+    trace: Trace,
+    what: Printed,
+) -> Result<NetworkOutcome, ReportRefusal>
     ensures ok { IfOk result (λ o. (plan : Plan) → IfReplayed trace plan (IsOutcome what o plan)) }
     ensures err { IfErr result (λ e. e ≡ Refusal.NoMemory) }
 {
@@ -136,7 +140,7 @@ fn outcome_of_trace(alloc: Global, trace: Trace, what: Printed) -> Result<Outcom
     };
     let mut text = TextOut::new(alloc);
     match write_text(alloc, what, &trace, late, &mut text) {
-        Ok(()) => Ok(Outcome { trace, late, text }),
+        Ok(()) => Ok(NetworkOutcome { trace, late, text }),
         Err(_) => Err(ReportRefusal::NoMemory),
     }
 }
