@@ -20,7 +20,7 @@ use net_replay::{
 };
 use radio_base::{NoMemory, Sink, Source, TextOut};
 use std::alloc::Global;
-use trace_lines::{Verdict, trace_text};
+use trace_lines::{TraceVerdict, trace_text};
 
 /// Why there is nothing to write.
 #[derive(Clone, Copy, Debug, PartialEq, Eq)]
@@ -143,7 +143,7 @@ fn traced_trace(
 {
     let late = too_late(alloc, trace)?;
     let cause = cause_of(alloc, trace, late)?;
-    let text = trace_text(alloc, bytes, network, trace, Verdict { late, cause })?;
+    let text = trace_text(alloc, bytes, network, trace, TraceVerdict { late, cause })?;
     Ok(Traced { late, text })
 }
 

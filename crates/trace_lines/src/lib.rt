@@ -16,4 +16,4 @@ mod marks;
 mod stands;
 mod texts;
 
-pub use texts::{Verdict, trace_text};
+pub use texts::{TraceVerdict, trace_text};

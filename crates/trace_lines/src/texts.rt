@@ -16,7 +16,7 @@ use std::alloc::Global;
 
 /// The verdict on a trace, and where something came too late its cause.
 #[derive(Clone, Copy, Debug, PartialEq, Eq)]
-pub struct Verdict {
+pub struct TraceVerdict {
     pub late: Option<Late>,
     pub cause: Option<LateCause>,
 }
@@ -28,7 +28,7 @@ pub fn trace_text(
     file: &[u8],
     network: &Network,
     trace: &Trace,
-    verdict: Verdict,
+    verdict: TraceVerdict,
 ) -> Result<TextOut, NoMemory>
     ensures { IfOk result (λ out. (w : World) → IsTraceOf (left_of trace.now) w
         → out ≡ texts.trace_text file.now network.now w verdict.late verdict.cause) }
