@@ -3,18 +3,18 @@ use Rattle.std.specs.Prelude.{ℕ, ◌≡◌, List, [], ◌∷◌, map, codes, S
 use Rattle.std.specs.declared.alloc.Global.{Global}
 use Rattle.frame_lines.specs.declared.listener.Modulo.{Modulo}
 use Rattle.frame_lines.specs.declared.listener.Modulo.TheVariants.{Auto, M8, M128}
-use Rattle.look_cmd.specs.declared.words.Command.{Command}
-use Rattle.look_cmd.specs.declared.words.Command.TheVariants.{Listen, Trace}
+use Rattle.look_cmd.specs.declared.words.LookCommand.{LookCommand}
+use Rattle.look_cmd.specs.declared.words.LookCommand.TheVariants.{Listen, Trace}
 
 abbrev pub modulo_word : Modulo → List ℕ
 modulo_word Auto = codes "modulo=auto"
 modulo_word M8 = codes "modulo=8"
 modulo_word M128 = codes "modulo=128"
 
-abbrev pub Ask : List (List ℕ) → Command → Type 0
+abbrev pub Ask : List (List ℕ) → LookCommand → Type 0
 Ask words (Listen m) = words ≡ codes "listen" ∷ modulo_word m ∷ []
 Ask words Trace = words ≡ codes "trace" ∷ []
 
 -- these words ask for the command
-abbrev pub AskFor : List (String Global) → Command → Type 0
+abbrev pub AskFor : List (String Global) → LookCommand → Type 0
 AskFor words command = Ask (map (λ w. string_bytes w) words) command

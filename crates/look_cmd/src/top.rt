@@ -3,7 +3,7 @@ ghost use Rattle.std.specs.Prelude.{◌≡◌, ◌↔◌};
 ghost use Rattle.cmd_streams.specs.StatusNotes.{HasNote, IsSilent};
 ghost use Rattle.cmd_streams.specs.Told.{SaysTo, told_by, UnlessItWrote};
 ghost use Rattle.frame_lines.specs.declared.listener.Modulo.{Modulo};
-ghost use Rattle.look_cmd.specs.declared.words.Command.{Command};
+ghost use Rattle.look_cmd.specs.declared.words.LookCommand.{LookCommand};
 ghost use Rattle.look_cmd.specs.Look.{ListenEnds, TraceEnds};
 ghost use Rattle.look_cmd.specs.Usage.{usage_note};
 ghost use Rattle.look_cmd.specs.Words.{AskFor};
@@ -11,7 +11,7 @@ ghost use Rattle.look_cmd.specs.Words.{AskFor};
 use crate::listens::listen_to_stream;
 use crate::traces::trace_file;
 use crate::usage::USAGE;
-use crate::words::{Command, command_of};
+use crate::words::{LookCommand, command_of};
 use cmd_streams::{Status, say};
 use radio_base::{Sink, Source};
 use std::alloc::Global;
@@ -28,21 +28,21 @@ pub fn look<S: Source, K: Sink, N: Sink>(
     notes: &mut N,
 ) -> Status
     // Words that are no command's are refused before anything is read or written.
-    ensures usage { (result ≡ Status.Usage) ↔ ((c : Command) → ¬ AskFor words.now c) }
+    ensures usage { (result ≡ Status.Usage) ↔ ((c : LookCommand) → ¬ AskFor words.now c) }
     ensures unread { result ≡ Status.Usage → source.new ≡ source.old }
     ensures unwritten { result ≡ Status.Usage → sink.new ≡ sink.old }
 
     // How each command ends.
-    ensures listen { (m : Modulo) → AskFor words.now (Command.Listen m) → ListenEnds m
+    ensures listen { (m : Modulo) → AskFor words.now (LookCommand.Listen m) → ListenEnds m
         (told_by S.Source K.Sink N.Sink source.old sink.old notes.old)
         (told_by S.Source K.Sink N.Sink source.new sink.new notes.new) result }
 
-    ensures trace { AskFor words.now Command.Trace → TraceEnds
+    ensures trace { AskFor words.now LookCommand.Trace → TraceEnds
         (told_by S.Source K.Sink N.Sink source.old sink.old notes.old)
         (told_by S.Source K.Sink N.Sink source.new sink.new notes.new) result }
 
     // `trace` writes at the end: elsewhere it writes nothing.
-    ensures whole { AskFor words.now Command.Trace → UnlessItWrote result (sink.new ≡ sink.old) }
+    ensures whole { AskFor words.now LookCommand.Trace → UnlessItWrote result (sink.new ≡ sink.old) }
 
     // The notes are those of the status, and no others.
     ensures noted { HasNote result (SaysTo N.Sink notes.old notes.new) }
@@ -50,8 +50,10 @@ pub fn look<S: Source, K: Sink, N: Sink>(
     ensures silent { IsSilent result → notes.new ≡ notes.old }
 {
     match command_of(words) {
-        Some(Command::Listen { modulo }) => listen_to_stream(alloc, modulo, source, sink, notes),
-        Some(Command::Trace) => trace_file(alloc, source, sink, notes),
+        Some(LookCommand::Listen { modulo }) => {
+            listen_to_stream(alloc, modulo, source, sink, notes)
+        }
+        Some(LookCommand::Trace) => trace_file(alloc, source, sink, notes),
         None => {
             say(notes, USAGE);
             Status::Usage

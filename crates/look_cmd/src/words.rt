@@ -1,14 +1,14 @@
 //! The commands, and the words that ask for them.
 ghost use Rattle.std.specs.Prelude.{◌≡◌, ◌≢◌, IfSome, IfNone, IsTrue, ◌↔◌, codes};
 ghost use Rattle.frame_lines.specs.declared.listener.Modulo.{Modulo};
-ghost use Rattle.look_cmd.specs.declared.words.Command.{Command};
+ghost use Rattle.look_cmd.specs.declared.words.LookCommand.{LookCommand};
 ghost use Rattle.look_cmd.specs.Words.{AskFor, modulo_word};
 
 use frame_lines::Modulo;
 
 /// What the program can do.
 #[derive(Clone, Copy, Debug, PartialEq, Eq)]
-pub enum Command {
+pub enum LookCommand {
     /// `listen modulo=auto`, `listen modulo=8`, `listen modulo=128`
     Listen { modulo: Modulo },
     /// `trace`
@@ -16,14 +16,14 @@ pub enum Command {
 }
 
 /// The command that the words ask for.
-pub fn command_of(words: &[String]) -> Option<Command>
+pub fn command_of(words: &[String]) -> Option<LookCommand>
     ensures found { IfSome result (AskFor words.now) }
-    ensures none { IfNone result ((c : Command) → ¬ AskFor words.now c) }
+    ensures none { IfNone result ((c : LookCommand) → ¬ AskFor words.now c) }
 {
     match words {
-        [word] if is_trace(word.as_bytes()) => Some(Command::Trace),
+        [word] if is_trace(word.as_bytes()) => Some(LookCommand::Trace),
         [word, modulo] if is_listen(word.as_bytes()) => match modulo_of(modulo.as_str()) {
-            Some(modulo) => Some(Command::Listen { modulo }),
+            Some(modulo) => Some(LookCommand::Listen { modulo }),
             None => None,
         },
         _ => None,
