@@ -7,8 +7,8 @@ use Rattle.std.proofs.lemmas.Fmt.{decimal_injective}
 use Rattle.network_file.specs.declared.plan.live.LiveNode.{LiveNode}
 use Rattle.tool_cmd.specs.declared.ip.gateway.Gateway.{Gateway}
 use Rattle.tool_cmd.specs.declared.lives.words.LifeSettings.{LifeSettings}
-use Rattle.node_cmd.specs.declared.words.Command.{Command}
-use Rattle.node_cmd.specs.declared.words.Command.TheVariants.{Replay, Frames, Soak, Life, Node, Ip}
+use Rattle.node_cmd.specs.declared.words.RunCommand.{RunCommand}
+use Rattle.node_cmd.specs.declared.words.RunCommand.TheVariants.{Replay, Frames, Soak, Life, Node, Ip}
 use Rattle.tool_cmd.specs.declared.words.FrameModulus.{FrameModulus}
 use Rattle.tool_cmd.specs.declared.words.FrameModulus.TheVariants as modulo
 use Rattle.tool_cmd.specs.IpWords.{IsGateway}
@@ -42,7 +42,7 @@ one_life law words s t a b =
 
 -- ---- the first word tells the commands apart
 
-abbrev pub first_word : Command → List ℕ
+abbrev pub first_word : RunCommand → List ℕ
 first_word Replay = codes "replay"
 first_word (Frames m) = codes "frames"
 first_word (Soak seed) = codes "soak"
@@ -50,7 +50,7 @@ first_word (Life s) = codes "life"
 first_word (Node declared) = codes "node"
 first_word (Ip gateway) = codes "ip"
 
-headed : (words : List (List ℕ)) (c : Command) → Ask words c → (later : List (List ℕ)) × (words ≡ first_word c ∷ later)
+headed : (words : List (List ℕ)) (c : RunCommand) → Ask words c → (later : List (List ℕ)) × (words ≡ first_word c ∷ later)
 headed words Replay a = ([], a)
 headed words (Frames m) a = (modulo_word m ∷ [], a)
 headed words (Soak seed) a = (seed_word seed ∷ [], a.0)
@@ -58,25 +58,25 @@ headed words (Life s) a = (a.0, a.1)
 headed words (Node declared) a = (a.0, a.1)
 headed words (Ip gateway) a = (a.0, a.1)
 
-same_first : (words : List (String Global)) (c d : Command) → AskFor words c → AskFor words d → first_word c ≡ first_word d
+same_first : (words : List (String Global)) (c d : RunCommand) → AskFor words c → AskFor words d → first_word c ≡ first_word d
 same_first words c d a b = let x = headed _ c a in let y = headed _ d b in cc (sym x.1 ∙ y.1)
 
 abbrev pub first_char : List ℕ → ℕ
 first_char word = get_or word 0 0
 
 -- the first character of that word
-abbrev pub mark : Command → ℕ
+abbrev pub mark : RunCommand → ℕ
 mark c = first_char (first_word c)
 
 differ : (m n : ℕ) → nat_eq m n ≡ false → m ≡ n → ⊥
 differ m n two e = grind (arith, nat_tests, two, e)
 
 -- words that ask for one command don't ask for one of another kind
-pub other : (words : List (String Global)) (c d : Command) → nat_eq (mark c) (mark d) ≡ false → AskFor words c → AskFor words d → ⊥
+pub other : (words : List (String Global)) (c d : RunCommand) → nat_eq (mark c) (mark d) ≡ false → AskFor words c → AskFor words d → ⊥
 other words c d two a b = differ (mark c) (mark d) two (ap first_char (same_first words c d a b))
 
 -- nor for one that runs no network and no node
-pub runs_one : (words : List (String Global)) (c : Command) → nat_eq (mark c) (first_char (codes "frames")) ≡ false → nat_eq (mark c) (first_char (codes "ip")) ≡ false → nat_eq (mark c) (first_char (codes "life")) ≡ false
+pub runs_one : (words : List (String Global)) (c : RunCommand) → nat_eq (mark c) (first_char (codes "frames")) ≡ false → nat_eq (mark c) (first_char (codes "ip")) ≡ false → nat_eq (mark c) (first_char (codes "life")) ≡ false
     → AskFor words c → AskForStream words ⊎ AskForLife words → ⊥
 runs_one words c frames ip life a (inl (inl s)) = other words c (Frames s.0) frames a s.1
 runs_one words c frames ip life a (inl (inr s)) = other words c (Ip s.0) ip a s.1

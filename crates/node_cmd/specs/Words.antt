@@ -6,8 +6,8 @@ use Rattle.network_file.specs.declared.plan.live.LiveNode.{LiveNode}
 use Rattle.network_file.specs.Live.{live_node_at}
 use Rattle.tool_cmd.specs.declared.ip.gateway.Gateway.{Gateway}
 use Rattle.tool_cmd.specs.declared.lives.words.LifeSettings.{LifeSettings}
-use Rattle.node_cmd.specs.declared.words.Command.{Command}
-use Rattle.node_cmd.specs.declared.words.Command.TheVariants.{Replay, Frames, Soak, Life, Node, Ip}
+use Rattle.node_cmd.specs.declared.words.RunCommand.{RunCommand}
+use Rattle.node_cmd.specs.declared.words.RunCommand.TheVariants.{Replay, Frames, Soak, Life, Node, Ip}
 use Rattle.tool_cmd.specs.declared.words.FrameModulus.{FrameModulus}
 use Rattle.tool_cmd.specs.Frames.{modulo_word}
 use Rattle.tool_cmd.specs.IpWords.{IsGateway}
@@ -24,7 +24,7 @@ unfoldable pub Declare : List (List ℕ) → LiveNode → Type 0
 Declare words declared = live_node_at words ≡ Ok declared
 
 -- these words ask for the command; a seed is at most 2^64 - 1
-abbrev pub Ask : List (List ℕ) → Command → Type 0
+abbrev pub Ask : List (List ℕ) → RunCommand → Type 0
 Ask words Replay = words ≡ codes "replay" ∷ []
 Ask words (Frames m) = words ≡ codes "frames" ∷ modulo_word m ∷ []
 Ask words (Soak seed) = (words ≡ codes "soak" ∷ seed_word seed ∷ []) × (seed < 2 ^ 64)
@@ -33,7 +33,7 @@ Ask words (Node declared) = (later : List (List ℕ)) × (words ≡ codes "node"
 Ask words (Ip gateway) =
     (later : List (List ℕ)) × (words ≡ codes "ip" ∷ later) × IsGateway later (state_of gateway)
 
-abbrev pub AskFor : List (String Global) → Command → Type 0
+abbrev pub AskFor : List (String Global) → RunCommand → Type 0
 AskFor words command = Ask (texts_of words) command
 
 -- for a live node

@@ -3,7 +3,7 @@ ghost use Rattle.std.specs.Prelude.{ℕ, ◌≡◌, ◌≢◌, ◌↔◌, ◌⊎
 ghost use Rattle.tool_cmd.specs.declared.ip.gateway.Gateway.{Gateway};
 ghost use Rattle.tool_cmd.specs.declared.lives.words.LifeSettings.{LifeSettings};
 ghost use Rattle.node_cmd.specs.declared.ran.Ran.TheVariants as rans;
-ghost use Rattle.node_cmd.specs.declared.words.Command.{Command};
+ghost use Rattle.node_cmd.specs.declared.words.RunCommand.{RunCommand};
 ghost use Rattle.tool_cmd.specs.declared.words.FrameModulus.{FrameModulus};
 ghost use Rattle.network_file.specs.declared.plan.live.LiveNode.{LiveNode};
 ghost use Rattle.node_cmd.specs.Words.{AskFor, AskForLife, AskForNode, AskForStream};
@@ -20,7 +20,7 @@ use crate::ran::Ran;
 use crate::replays::replay_file;
 use crate::soaks::soak;
 use crate::usage::USAGE;
-use crate::words::{Command, command_of};
+use crate::words::{RunCommand, command_of};
 use cmd_streams::{Status, say};
 use radio_base::{Clock, Sink, Source};
 use std::alloc::Global;
@@ -44,35 +44,35 @@ pub fn run<S: Source, K: Sink, N: Sink, C: Clock>(
     requires { ran.old ≡ rans.Nothing }
 
     // Words that are no command's are refused before anything is read or written.
-    ensures usage { (result ≡ Status.Usage) ↔ ((c : Command) → ¬ AskFor words.now c) }
+    ensures usage { (result ≡ Status.Usage) ↔ ((c : RunCommand) → ¬ AskFor words.now c) }
     ensures unread { result ≡ Status.Usage → source.new ≡ source.old }
     ensures unwritten { result ≡ Status.Usage → sink.new ≡ sink.old }
 
     // How each command ends.
-    ensures replay { AskFor words.now Command.Replay → ReplayEnds
+    ensures replay { AskFor words.now RunCommand.Replay → ReplayEnds
         (told_by S.Source K.Sink N.Sink source.old sink.old notes.old)
         (told_by S.Source K.Sink N.Sink source.new sink.new notes.new)
         ran.new result }
-    ensures frames { (m : FrameModulus) → AskFor words.now (Command.Frames m) → FramesEnd (size_of m)
+    ensures frames { (m : FrameModulus) → AskFor words.now (RunCommand.Frames m) → FramesEnd (size_of m)
         (told_by S.Source K.Sink N.Sink source.old sink.old notes.old)
         (told_by S.Source K.Sink N.Sink source.new sink.new notes.new) result }
-    ensures soak { (seed : ℕ) → AskFor words.now (Command.Soak seed) → SoakEnds seed
+    ensures soak { (seed : ℕ) → AskFor words.now (RunCommand.Soak seed) → SoakEnds seed
         (output_by K.Sink N.Sink sink.old notes.old)
         (output_by K.Sink N.Sink sink.new notes.new) ran.new result }
-    ensures life { (s : LifeSettings) → AskFor words.now (Command.Life s) → LifeEnds s
+    ensures life { (s : LifeSettings) → AskFor words.now (RunCommand.Life s) → LifeEnds s
         (told_by S.Source K.Sink N.Sink source.old sink.old notes.old)
         (told_by S.Source K.Sink N.Sink source.new sink.new notes.new) result }
-    ensures node { (declared : LiveNode) → AskFor words.now (Command.Node declared) → NodeEnds declared
+    ensures node { (declared : LiveNode) → AskFor words.now (RunCommand.Node declared) → NodeEnds declared
         (C.given clock.old) (C.given clock.new)
         (told_by S.Source K.Sink N.Sink source.old sink.old notes.old)
         (told_by S.Source K.Sink N.Sink source.new sink.new notes.new)
         ran.new result }
-    ensures ip { (g : Gateway) → AskFor words.now (Command.Ip g) → IpEnds (state_of g)
+    ensures ip { (g : Gateway) → AskFor words.now (RunCommand.Ip g) → IpEnds (state_of g)
         (told_by S.Source K.Sink N.Sink source.old sink.old notes.old)
         (told_by S.Source K.Sink N.Sink source.new sink.new notes.new) result }
 
     // `soak` reads nothing.
-    ensures sourceless { (seed : ℕ) → AskFor words.now (Command.Soak seed) → source.new ≡ source.old }
+    ensures sourceless { (seed : ℕ) → AskFor words.now (RunCommand.Soak seed) → source.new ≡ source.old }
 
     // `replay`, `soak` and `life` write at the end: elsewhere they write nothing.
     ensures whole { ¬ AskForStream words.now → ¬ AskForNode words.now → UnlessItWrote result (sink.new ≡ sink.old) }
@@ -91,14 +91,14 @@ pub fn run<S: Source, K: Sink, N: Sink, C: Clock>(
 {
     tool_cmd::laws::words_ask_for_one();
     match command_of(words) {
-        Some(Command::Replay) => replay_file(alloc, source, sink, notes, ran),
-        Some(Command::Frames { modulo }) => frames_of_stream(alloc, modulo, source, sink, notes),
-        Some(Command::Node { declared }) => {
+        Some(RunCommand::Replay) => replay_file(alloc, source, sink, notes, ran),
+        Some(RunCommand::Frames { modulo }) => frames_of_stream(alloc, modulo, source, sink, notes),
+        Some(RunCommand::Node { declared }) => {
             run_node(alloc, &declared, source, sink, notes, clock, ran)
         }
-        Some(Command::Soak { seed }) => soak(alloc, seed, sink, notes, ran),
-        Some(Command::Life { settings }) => life_of_file(alloc, settings, source, sink, notes),
-        Some(Command::Ip { gateway }) => ip_over_stream(alloc, gateway, source, sink, notes),
+        Some(RunCommand::Soak { seed }) => soak(alloc, seed, sink, notes, ran),
+        Some(RunCommand::Life { settings }) => life_of_file(alloc, settings, source, sink, notes),
+        Some(RunCommand::Ip { gateway }) => ip_over_stream(alloc, gateway, source, sink, notes),
         None => {
             say(notes, USAGE);
             Status::Usage

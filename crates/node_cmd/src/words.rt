@@ -1,6 +1,6 @@
 //! The commands, and the words that ask for them.
 ghost use Rattle.std.specs.Prelude.{◌≡◌, ◌≢◌, ◌<◌, ◌^◌, ℕ, IfSome, IfNone, IsTrue, ◌↔◌, codes};
-ghost use Rattle.node_cmd.specs.declared.words.Command.{Command};
+ghost use Rattle.node_cmd.specs.declared.words.RunCommand.{RunCommand};
 ghost use Rattle.node_cmd.specs.Words.{AskFor, seed_word};
 
 use network_file::{LiveNode, read_live_node};
@@ -10,7 +10,7 @@ use tool_cmd::{
 
 /// What the program can do.
 #[derive(Drop)]
-pub enum Command {
+pub enum RunCommand {
     /// `replay`
     Replay,
     /// `frames modulo=8`, `frames modulo=128`
@@ -27,30 +27,30 @@ pub enum Command {
 
 /// The command that the words ask for.
 #[tactic(auto, unfolding(crate::specs::Words::Declare))]
-pub fn command_of(words: &[String]) -> Option<Command>
+pub fn command_of(words: &[String]) -> Option<RunCommand>
     ensures found { IfSome result (AskFor words.now) }
-    ensures none { IfNone result ((c : Command) → ¬ AskFor words.now c) }
+    ensures none { IfNone result ((c : RunCommand) → ¬ AskFor words.now c) }
 {
     match words {
-        [word] if is_replay(word.as_bytes()) => Some(Command::Replay),
+        [word] if is_replay(word.as_bytes()) => Some(RunCommand::Replay),
         [word, modulo] if is_frames(word.as_bytes()) => match modulo_of(modulo.as_str()) {
-            Some(modulo) => Some(Command::Frames { modulo }),
+            Some(modulo) => Some(RunCommand::Frames { modulo }),
             None => None,
         },
         [word, seed] if is_soak(word.as_bytes()) => match seed_of(seed.as_str()) {
-            Some(seed) => Some(Command::Soak { seed }),
+            Some(seed) => Some(RunCommand::Soak { seed }),
             None => None,
         },
         [word, rest @ ..] if is_life(word.as_bytes()) => match settings_of(rest) {
-            Some(settings) => Some(Command::Life { settings }),
+            Some(settings) => Some(RunCommand::Life { settings }),
             None => None,
         },
         [word, more @ ..] if is_node(word.as_bytes()) => match read_live_node(more) {
-            Ok(declared) => Some(Command::Node { declared }),
+            Ok(declared) => Some(RunCommand::Node { declared }),
             Err(_) => None,
         },
         [word, rest @ ..] if is_ip(word.as_bytes()) => match gateway_of(rest) {
-            Some(gateway) => Some(Command::Ip { gateway }),
+            Some(gateway) => Some(RunCommand::Ip { gateway }),
             None => None,
         },
         _ => None,
