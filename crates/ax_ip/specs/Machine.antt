@@ -104,7 +104,7 @@ state f = record { call = f.call; address = f.address; routes = f.routes.items; 
 
 -- what the last frame left to send, until it is fetched
 abbrev pub waiting : Forwarder → Option IpOut
-waiting f = f.out
+waiting f = if f.waits then Some f.out else None
 
 -- what it does, what it sends, and the neighbours that it knows then
 pub record Turn : Type 0 where

@@ -25,11 +25,11 @@ pub(crate) fn is_request(head: &PacketHead, packet: &[u8]) -> bool
     packet[20] == 8 && packet[21] == 0 && is_right(&packet[20..])
 }
 
-/// The reply to an echo request.
-pub(crate) fn reply(packet: &[u8]) -> Info
+/// Puts the reply to an echo request in place of what the buffer holds.
+pub(crate) fn put_reply(packet: &[u8], info: &mut Info)
     requires header { 28 ≤ length packet.now }
     requires few { length packet.now ≤ 256 }
-    ensures { result.items ≡ echoes.reply packet.now }
+    ensures { info.new.items ≡ echoes.reply packet.now }
 {
     let front = [
         0x45, packet[1], packet[2], packet[3], packet[4], packet[5], 0, 0, 64, 1,
@@ -38,8 +38,7 @@ pub(crate) fn reply(packet: &[u8]) -> Info
         packet[16], packet[17], packet[18], packet[19], packet[12], packet[13], packet[14],
         packet[15],
     ];
-    let mut info = Info::new();
-    summed(&mut info, &front, &back);
-    summed(&mut info, &[0, 0], &packet[24..]);
-    info
+    info.clear();
+    summed(info, &front, &back);
+    summed(info, &[0, 0], &packet[24..]);
 }

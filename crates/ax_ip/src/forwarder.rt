@@ -1,12 +1,13 @@
 //! A forwarder of packets: an IP gateway (RFC 791, section 2.4) with one address.
-ghost use Rattle.std.specs.Prelude.{◌≡◌, ◌++◌, ◌∷◌, [], None, OnOk, OnErr};
+ghost use Rattle.std.specs.Prelude.{◌≡◌, ◌++◌, ◌∷◌, [], None, OnOk, OnErr, true};
+ghost use Rattle.std.specs.Option.{option_copied};
 ghost use Rattle.ax_frame.specs.Frames.{view as frame_of};
 ghost use Rattle.ax_ip.specs.Machine as machine;
 ghost use Rattle.ax_ip.specs.Routes as routes;
 
 use crate::cache::Cache;
 use crate::content::{Content, content_of};
-use crate::out::IpOut;
+use crate::out::{IP_PID, Info, IpOut};
 use crate::route::Route;
 use crate::routes::{RouteRefusal, has_bits_past, stands};
 use arrayvec::ArrayVec;
@@ -47,8 +48,9 @@ pub enum IpWhy {
 /// A forwarder of packets, with at most 16 routes and 64 neighbours (RFC 791, section 2.4; RFC 826): a pure machine, which reads no clock
 /// and no stream. Its calls are of two kinds.
 ///
-/// - Inputs: `route` of its user, `arrive` of a frame, once `next_out` was fetched.
-/// - Outputs: `next_out`, which is fetched once after `arrive`.
+/// - Inputs: `route` of its user, `arrive` of a frame, once what the last one left to send was fetched.
+/// - Outputs: `next_out`, which is fetched once after `arrive`; or `fetched`, where what `waiting` lends was sent.
+/// - Looks, which change nothing: `waiting`.
 ///
 /// No call takes memory. What becomes of a frame stands case by case in `specs/Machine.antt`.
 ///
@@ -70,8 +72,10 @@ pub struct Forwarder {
     pub(crate) address: u32,
     pub(crate) routes: ArrayVec<Route, 16>,
     pub(crate) cache: Cache,
-    /// What the last frame left to send.
-    pub(crate) out: Option<IpOut>,
+    /// What was made to be sent last. It stands in one place, since it is long to move.
+    pub(crate) out: IpOut,
+    /// It waits to be fetched.
+    pub(crate) waits: bool,
 }
 
 impl Forwarder {
@@ -85,7 +89,12 @@ impl Forwarder {
             address: addr,
             routes: ArrayVec::new(),
             cache: Cache::new(),
-            out: None,
+            out: IpOut {
+                to: call,
+                pid: IP_PID,
+                info: Info::new(),
+            },
+            waits: false,
         }
     }
 
@@ -129,6 +138,38 @@ impl Forwarder {
         ensures fetched { machine.waiting self.new ≡ None }
         ensures same { machine.state self.new ≡ machine.state self.old }
     {
-        self.out.take()
+        if !self.waits {
+            return None;
+        }
+        self.waits = false;
+        Some(IpOut {
+            to: self.out.to,
+            pid: self.out.pid,
+            info: self.out.info.take(),
+        })
+    }
+
+    /// What `next_out` would give, lent.
+    pub fn waiting(&self) -> Option<&IpOut>
+        ensures { option_copied result ≡ machine.waiting self.now }
+    {
+        if self.waits { Some(&self.out) } else { None }
+    }
+
+    /// What `waiting` lends was sent: nothing waits behind this.
+    pub fn fetched(&mut self)
+        ensures fetched { machine.waiting self.new ≡ None }
+        ensures same { machine.state self.new ≡ machine.state self.old }
+    {
+        self.waits = false;
+    }
+
+    /// Lets the information that stands in `out` wait, on its way to a station.
+    pub(crate) fn send(&mut self, to: &Call, pid: u8)
+        ensures { self.new ≡ record self.old { out = record self.old.out { to = to.now; pid = pid }; waits = true } }
+    {
+        self.out.to = *to;
+        self.out.pid = pid;
+        self.waits = true;
     }
 }

@@ -6,12 +6,12 @@ ghost use Rattle.ax_ip.specs.Machine as machine;
 use crate::arp::{Arp, read_arp, write_arp};
 use crate::cache::{Neighbour, learn};
 use crate::forwarder::{Forwarder, IpDone, IpWhy};
-use crate::out::{ARP_PID, Info, IpOut};
-use ax_address::Call;
+use crate::numbers::push_octets;
+use crate::out::{ARP_PID, Info};
 
 impl Forwarder {
     pub(crate) fn take_arp(&mut self, info: &[u8]) -> IpDone
-        requires fetched { self.old.out ≡ None }
+        requires fetched { machine.waiting self.old ≡ None }
         ensures { machine.Does (machine.arp_turn (machine.state self.old) (arps.arp_at info.now)) result self.old self.new }
     {
         match read_arp(info) {
@@ -21,7 +21,7 @@ impl Forwarder {
     }
 
     fn take_message(&mut self, arp: &Arp) -> IpDone
-        requires fetched { self.old.out ≡ None }
+        requires fetched { machine.waiting self.old ≡ None }
         ensures { machine.Does (machine.message_turn (machine.state self.old) arp.now) result self.old self.new }
     {
         if arp.target_ip != self.address {
@@ -37,29 +37,23 @@ impl Forwarder {
         if arp.reply {
             return IpDone::Learned;
         }
-        self.out = Some(message(
-            arp.sender,
-            &Arp {
-                reply: true,
-                sender: self.call,
-                sender_ip: self.address,
-                target: Some(arp.sender),
-                target_ip: arp.sender_ip,
-            },
-        ));
+        let reply = Arp {
+            reply: true,
+            sender: self.call,
+            sender_ip: self.address,
+            target: Some(arp.sender),
+            target_ip: arp.sender_ip,
+        };
+        put_message(&reply, &mut self.out.info);
+        self.send(&arp.sender, ARP_PID);
         IpDone::Answered
     }
 }
 
-/// A message on its way to a station.
-pub(crate) fn message(to: Call, arp: &Arp) -> IpOut
-    ensures { result ≡ machine.message_to to arp.now }
+/// Puts a message in place of what the buffer holds.
+pub(crate) fn put_message(arp: &Arp, info: &mut Info)
+    ensures { info.new.items ≡ arps.arp_octets arp.now }
 {
-    let mut info = Info::new();
-    let _ = info.try_extend_from_slice(&write_arp(arp));
-    IpOut {
-        to,
-        pid: ARP_PID,
-        info,
-    }
+    info.clear();
+    push_octets(info, &write_arp(arp));
 }

@@ -9,18 +9,17 @@ use crate::out::Info;
 use crate::packet::PacketHead;
 use crate::sums::{checksum, word_sum};
 
-/// The packet with a time to live of one less.
-pub(crate) fn onward(head: &PacketHead, packet: &[u8]) -> Info
+/// Puts the packet with a time to live of one less in place of what the buffer holds.
+pub(crate) fn put_onward(head: &PacketHead, packet: &[u8], info: &mut Info)
     requires options { 20 ≤ head.now.header }
     requires header { head.now.header ≤ length packet.now }
     requires few { length packet.now ≤ 256 }
     requires alive { 1 < head.now.ttl }
-    ensures { result.items ≡ packets.onward head.now packet.now }
+    ensures { info.new.items ≡ packets.onward head.now packet.now }
 {
-    let mut info = Info::new();
-    push_octets(&mut info, packet);
+    info.clear();
+    push_octets(info, packet);
     age(info.as_mut_slice(), head);
-    info
 }
 
 /// Takes one from the packet's time to live.

@@ -6,18 +6,18 @@ ghost use Rattle.ax_ip.specs.Packets as packets;
 use crate::arp::Arp;
 use crate::cache::call_of;
 use crate::content::everyone;
-use crate::echo::{is_request, reply};
+use crate::echo::{is_request, put_reply};
 use crate::forwarder::{Forwarder, IpDone, IpWhy};
-use crate::messages::message;
-use crate::onward::onward;
-use crate::out::{IP_PID, IpOut};
+use crate::messages::put_message;
+use crate::onward::put_onward;
+use crate::out::{ARP_PID, IP_PID};
 use crate::packet::{PacketHead, read_packet};
 use crate::routes::{longest, next_hop};
 use ax_address::Call;
 
 impl Forwarder {
     pub(crate) fn take_packet(&mut self, source: &Call, info: &[u8]) -> IpDone
-        requires fetched { self.old.out ≡ None }
+        requires fetched { machine.waiting self.old ≡ None }
         ensures { machine.Does (machine.packet_turn (machine.state self.old) source.now info.now (packets.packet_at info.now)) result self.old self.new }
     {
         match read_packet(info) {
@@ -27,7 +27,7 @@ impl Forwarder {
     }
 
     fn take_whole(&mut self, source: &Call, head: &PacketHead, packet: &[u8]) -> IpDone
-        requires fetched { self.old.out ≡ None }
+        requires fetched { machine.waiting self.old ≡ None }
         requires header { head.now.header ≤ length packet.now }
         requires options { 20 ≤ head.now.header }
         requires few { length packet.now ≤ 256 }
@@ -41,7 +41,7 @@ impl Forwarder {
     }
 
     fn answer(&mut self, source: &Call, head: &PacketHead, packet: &[u8]) -> IpDone
-        requires fetched { self.old.out ≡ None }
+        requires fetched { machine.waiting self.old ≡ None }
         requires header { head.now.header ≤ length packet.now }
         requires options { 20 ≤ head.now.header }
         requires few { length packet.now ≤ 256 }
@@ -50,16 +50,13 @@ impl Forwarder {
         if !is_request(head, packet) {
             return IpDone::Dropped(IpWhy::Ours);
         }
-        self.out = Some(IpOut {
-            to: *source,
-            pid: IP_PID,
-            info: reply(packet),
-        });
+        put_reply(packet, &mut self.out.info);
+        self.send(source, IP_PID);
         IpDone::Echoed
     }
 
     fn forward(&mut self, head: &PacketHead, packet: &[u8]) -> IpDone
-        requires fetched { self.old.out ≡ None }
+        requires fetched { machine.waiting self.old ≡ None }
         requires header { head.now.header ≤ length packet.now }
         requires options { 20 ≤ head.now.header }
         requires few { length packet.now ≤ 256 }
@@ -75,7 +72,7 @@ impl Forwarder {
     }
 
     fn send_to(&mut self, hop: u32, head: &PacketHead, packet: &[u8]) -> IpDone
-        requires fetched { self.old.out ≡ None }
+        requires fetched { machine.waiting self.old ≡ None }
         requires header { head.now.header ≤ length packet.now }
         requires options { 20 ≤ head.now.header }
         requires few { length packet.now ≤ 256 }
@@ -84,24 +81,20 @@ impl Forwarder {
     {
         match call_of(self.cache.as_slice(), hop) {
             Some(to) => {
-                self.out = Some(IpOut {
-                    to,
-                    pid: IP_PID,
-                    info: onward(head, packet),
-                });
+                put_onward(head, packet, &mut self.out.info);
+                self.send(&to, IP_PID);
                 IpDone::Forwarded
             }
             None => {
-                self.out = Some(message(
-                    everyone(),
-                    &Arp {
-                        reply: false,
-                        sender: self.call,
-                        sender_ip: self.address,
-                        target: None,
-                        target_ip: hop,
-                    },
-                ));
+                let request = Arp {
+                    reply: false,
+                    sender: self.call,
+                    sender_ip: self.address,
+                    target: None,
+                    target_ip: hop,
+                };
+                put_message(&request, &mut self.out.info);
+                self.send(&everyone(), ARP_PID);
                 IpDone::Asked
             }
         }

@@ -87,10 +87,10 @@ fn expect_sent(rt: &impl Abort, own: &mut Forwarder, came: Frame<'_>, done: IpDo
     ensures { waiting own.new ≡ None }
 {
     let out = arrive(rt, own, came, done);
-    expect_out(rt, &out, sent);
+    expect_out(rt, out.as_ref(), sent);
 }
 
-fn expect_out(rt: &impl Abort, out: &Option<IpOut>, wanted: Frame<'_>) {
+fn expect_out(rt: &impl Abort, out: Option<&IpOut>, wanted: Frame<'_>) {
     let (to, pid, info) = wanted;
     match out {
         Some(out) => {
@@ -129,11 +129,30 @@ fn a_forwarder_in_use(rt: HostRuntime) {
 
     assert!(rt; routed == Ok(()));
     assert!(rt; asks == IpDone::Asked);
-    expect_out(&rt, &request, ("QST", ARP_PID, ASKED));
+    expect_out(&rt, request.as_ref(), ("QST", ARP_PID, ASKED));
     assert!(rt; learns == IpDone::Learned);
     assert!(rt; none == None);
     assert!(rt; sends == IpDone::Forwarded);
-    expect_out(&rt, &onward, ("N0BBB", IP_PID, ONWARD));
+    expect_out(&rt, onward.as_ref(), ("N0BBB", IP_PID, ONWARD));
+}
+
+#[test]
+fn what_is_sent_is_lent_until_it_is_fetched(rt: HostRuntime) {
+    let mut own = routed(&rt);
+    let packet = ui(&rt, ("N0AAA", IP_PID, PACKET));
+    assert!(rt; own.waiting().is_none());
+
+    let _ = own.arrive(&packet);
+    expect_out(&rt, own.waiting(), ("QST", ARP_PID, ASKED));
+    own.fetched();
+    assert!(rt; own.waiting().is_none());
+
+    let _ = own.arrive(&packet);
+    expect_out(&rt, own.waiting(), ("QST", ARP_PID, ASKED));
+    let out = own.next_out();
+    expect_out(&rt, out.as_ref(), ("QST", ARP_PID, ASKED));
+    assert!(rt; own.waiting().is_none());
+    assert!(rt; own.next_out().is_none());
 }
 
 #[test]
