@@ -88,8 +88,11 @@ impl Gateway {
         match read_frame::<M8>(octets) {
             Ok(frame) => {
                 let _ = self.forwarder.arrive(&frame);
-                match self.forwarder.next_out() {
-                    Some(sent) => put_frame(&self.call, &sent, &mut self.octets, &mut self.framed),
+                match self.forwarder.waiting() {
+                    Some(sent) => {
+                        put_frame(&self.call, sent, &mut self.octets, &mut self.framed);
+                        self.forwarder.fetched();
+                    }
                     None => {}
                 }
             }
