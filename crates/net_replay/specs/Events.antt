@@ -1,5 +1,6 @@
 -- What there is to tell of a replay, as plain data. Own profile.
-use Rattle.std.specs.Prelude.{ℕ, List}
+use Rattle.std.specs.Prelude.{ℕ, List, [], ◌++◌, codes, length}
+use Rattle.std.specs.Fmt.{decimal}
 use Rattle.ax_address.specs.Callsign.{Callsign}
 use Rattle.circuit_l4.specs.declared.facts.EndFacts.{EndFacts}
 use Rattle.circuit_l4.specs.declared.transport.Pair.{Pair}
@@ -8,10 +9,11 @@ use Rattle.circuit_set.specs.Sets as sets
 use Rattle.node_turns.specs.States as nodes
 use Rattle.node_core.specs.Standing.{entry_of}
 use Rattle.net_replay.specs.declared.events.Event as code
-use Rattle.net_replay.specs.declared.events.Event.TheVariants as codes
+use Rattle.net_replay.specs.declared.events.Event.TheVariants as variants
 use Rattle.net_replay.specs.declared.events.NumberedEvent as numbered
 use Rattle.net_replay.specs.declared.reasons.LineRefusal.{LineRefusal}
 use Rattle.net_replay.specs.Tables.{Table}
+use Rattle.net_replay.specs.ToldLines.{shown_text, stored_line}
 
 -- What the node of a number tells; that a frame was put in the air, goes to a node, or is settled since it is lost; a table that was
 -- shown; a message that was taken, and how many of a burst were written; that a node started again, and that this took an end away;
@@ -40,22 +42,37 @@ pub record NumberedEvent : Type 0 where
 -- ---- the same as the code hands it out
 
 abbrev pub event_of : code.Event → Event
-event_of (codes.Entry node entry) = Entry node (entry_of entry.value)
-event_of (codes.Sent node sent) = Entry node (nodes.Of_set (Of (sets.Sent sent.value.datagram.id sent.value.number sent.value.datagram.octets.items)))
-event_of (codes.Heeded node heeded) = Entry node (nodes.Of_set (Of (sets.Heeded heeded.value.id heeded.value.octets.items)))
-event_of (codes.InAir frame) = InAir frame
-event_of (codes.Delivered frame node) = Delivered frame node
-event_of (codes.Settled frame) = Settled frame
-event_of (codes.Shown table) = Shown table.value
-event_of (codes.Took node end message) = Took node end message.value.items
-event_of (codes.Wrote node end count) = Wrote node end count
-event_of (codes.Restarted node pair) = Restarted node pair
-event_of (codes.Lost node end) = Lost node end.value.id end.value.facts
-event_of (codes.Refused why) = Refused why
-event_of (codes.Posted node number) = Posted node number
-event_of (codes.Offered node offer) = Offered node offer.value.id offer.value.number
-event_of (codes.MailStored node mail) = MailStored node mail.value.origin mail.value.number mail.value.to mail.value.len
-event_of (codes.MailSettled node number) = MailSettled node number
+event_of (variants.Entry node entry) = Entry node (entry_of entry.value)
+event_of (variants.Sent node sent) = Entry node (nodes.Of_set (Of (sets.Sent sent.value.datagram.id sent.value.number sent.value.datagram.octets.items)))
+event_of (variants.Heeded node heeded) = Entry node (nodes.Of_set (Of (sets.Heeded heeded.value.id heeded.value.octets.items)))
+event_of (variants.InAir frame) = InAir frame
+event_of (variants.Delivered frame node) = Delivered frame node
+event_of (variants.Settled frame) = Settled frame
+event_of (variants.Shown table) = Shown table.value
+event_of (variants.Took node end message) = Took node end message.value.items
+event_of (variants.Wrote node end count) = Wrote node end count
+event_of (variants.Restarted node pair) = Restarted node pair
+event_of (variants.Lost node end) = Lost node end.value.id end.value.facts
+event_of (variants.Refused why) = Refused why
+event_of (variants.Posted node number) = Posted node number
+event_of (variants.Offered node offer) = Offered node offer.value.id offer.value.number
+event_of (variants.MailStored node mail) = MailStored node mail.value.origin mail.value.number mail.value.to mail.value.len
+event_of (variants.MailSettled node number) = MailSettled node number
 
 abbrev pub numbered_of : numbered.NumberedEvent → NumberedEvent
 numbered_of e = record { line = e.line; event = event_of e.event }
+
+-- ---- how a report tells of it
+
+-- the line that is made of what it holds alone: took N X LEN TEXT, wrote N X COUNT, restarted N, posted N NUMBER, `stored`, done N NUMBER
+abbrev pub event_line : Event → List ℕ
+event_line (Took node end message) =
+    codes "took "
+    ++ (decimal node ++ (codes " " ++ (decimal end ++ (codes " " ++ (decimal (length message) ++ (codes " " ++ (shown_text message ++ codes "\n")))))))
+event_line (Wrote node end count) =
+    codes "wrote " ++ (decimal node ++ (codes " " ++ (decimal end ++ (codes " " ++ (decimal count ++ codes "\n")))))
+event_line (Restarted node pair) = codes "restarted " ++ (decimal node ++ codes "\n")
+event_line (Posted node number) = codes "posted " ++ (decimal node ++ (codes " " ++ (decimal number ++ codes "\n")))
+event_line (MailStored node origin number to len) = stored_line node origin number to len
+event_line (MailSettled node number) = codes "done " ++ (decimal node ++ (codes " " ++ (decimal number ++ codes "\n")))
+event_line event = []

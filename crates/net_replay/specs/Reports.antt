@@ -23,13 +23,12 @@ use Rattle.net_replay.specs.declared.ends.EndRecord.{EndRecord}
 use Rattle.net_replay.specs.World.{frame_of, World}
 use Rattle.net_replay.specs.Ends.{ends_of}
 use Rattle.net_replay.specs.Events as events
-use Rattle.net_replay.specs.Events.{Event, NumberedEvent, Entry}
+use Rattle.net_replay.specs.Events.{Event, NumberedEvent, Entry, event_line}
 use Rattle.net_replay.specs.Lines.{table_of}
 use Rattle.net_replay.specs.Refused.{word_for_why}
 use Rattle.net_replay.specs.Starting.{Placed}
 use Rattle.net_replay.specs.Tables.{Table}
-use Rattle.net_replay.specs.ToldLines.{entry_text, last_texts, done_line, mail_line, posted_line, stored_line}
-use Rattle.net_replay.specs.ToldLines as lines
+use Rattle.net_replay.specs.ToldLines.{entry_text, last_texts, mail_line}
 use Rattle.net_replay.specs.declared.ends.Outcome.{Outcome}
 use Rattle.net_replay.specs.declared.ends.Outcome.TheVariants as outcomes
 
@@ -77,14 +76,8 @@ abbrev pub event_text : List Aired → (ℕ → List EndRecord) → ℕ → Even
 event_text air ends line (events.Entry node entry) = entry_text node (ends node) entry
 event_text air ends line (events.InAir number) = air_line number (frame_of air number)
 event_text air ends line (events.Shown table) = table_text table
-event_text air ends line (events.Took node end message) = lines.took_line node end message
-event_text air ends line (events.Wrote node end count) = lines.wrote_line node end count
-event_text air ends line (events.Restarted node pair) = lines.restarted_line node
 event_text air ends line (events.Refused why) = refused_line line (word_for_why why)
-event_text air ends line (events.Posted node number) = posted_line node number
-event_text air ends line (events.MailStored node origin number to len) = stored_line node origin number to len
-event_text air ends line (events.MailSettled node number) = done_line node number
-event_text air ends line _ = []
+event_text air ends line event = event_line event
 
 abbrev pub told_text : List Aired → (ℕ → List EndRecord) → NumberedEvent → List ℕ
 told_text air ends e = event_text air ends e.line e.event

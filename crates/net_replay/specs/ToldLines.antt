@@ -77,26 +77,12 @@ notice_line node end partner notice = what_line node end (notice_word notice)
 abbrev pub dropped_line : ℕ → List ℕ → List ℕ
 dropped_line node why = codes "dropped " ++ (decimal node ++ (codes " " ++ (why ++ codes "\n")))
 
--- wrote N X COUNT
-abbrev pub wrote_line : ℕ → ℕ → ℕ → List ℕ
-wrote_line node end count = codes "wrote " ++ (decimal node ++ (codes " " ++ (decimal end ++ (codes " " ++ (decimal count ++ codes "\n")))))
-
--- restarted N
-abbrev pub restarted_line : ℕ → List ℕ
-restarted_line node = codes "restarted " ++ (decimal node ++ codes "\n")
-
 -- a byte that is no character from 0x20 to 0x7E is shown as a point
 abbrev pub shown_byte : ℕ → ℕ
 shown_byte b = if nat_le 32 b && nat_le b 126 then b else 46
 
 abbrev pub shown_text : List ℕ → List ℕ
 shown_text message = map shown_byte message
-
--- took N X LEN TEXT
-abbrev pub took_line : ℕ → ℕ → List ℕ → List ℕ
-took_line node end message =
-    codes "took "
-    ++ (decimal node ++ (codes " " ++ (decimal end ++ (codes " " ++ (decimal (length message) ++ (codes " " ++ (shown_text message ++ codes "\n")))))))
 
 -- where an end stands at last; a restart took away what is lost
 abbrev pub last_word : Bool → EndPhase → List ℕ
@@ -117,19 +103,11 @@ end_line node end partner is_lost facts =
 
 -- What a report says of mail. Own profile.
 
--- posted N NUMBER
-abbrev pub posted_line : ℕ → ℕ → List ℕ
-posted_line node number = codes "posted " ++ (decimal node ++ (codes " " ++ (decimal number ++ codes "\n")))
-
 -- stored N ORIGIN NUMBER TO LEN
 abbrev pub stored_line : ℕ → Callsign → ℕ → Callsign → ℕ → List ℕ
 stored_line node origin number to len =
     codes "stored "
     ++ (decimal node ++ (codes " " ++ (calls.shown origin ++ (codes " " ++ (decimal number ++ (codes " " ++ (calls.shown to ++ (codes " " ++ (decimal len ++ codes "\n")))))))))
-
--- done N NUMBER
-abbrev pub done_line : ℕ → ℕ → List ℕ
-done_line node number = codes "done " ++ (decimal node ++ (codes " " ++ (decimal number ++ codes "\n")))
 
 -- mail N queued=Q stored=S
 abbrev pub mail_line : ℕ → ℕ → ℕ → List ℕ

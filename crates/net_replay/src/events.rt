@@ -1,15 +1,17 @@
 //! What there is to tell of a replay.
-ghost use Rattle.std.specs.Prelude.{◌≡◌, IfOk, IfSome};
+ghost use Rattle.std.specs.Prelude.{◌≡◌, ◌++◌, IfOk, IfSome, OnOk};
 ghost use Rattle.node_core.specs.Standing.{entry_of};
-ghost use Rattle.net_replay.specs.Events.{Entry, event_of};
+ghost use Rattle.net_replay.specs.Events.{Entry, event_line, event_of};
 
 use crate::reasons::LineRefusal;
+use crate::told::lines::{shown_text, write_line};
+use crate::told::mails::stored_line;
 use ax_address::{Alias, Call};
 use circuit_l4::{EndFacts, Pair};
 use circuit_set::SetEvent;
 use l3_datagram::Datagram;
 use node_core::NodeEntry;
-use radio_base::NoMemory;
+use radio_base::{NoMemory, TextOut};
 use route_table::Route;
 use std::alloc::Global;
 use std::marker::Model;
@@ -193,6 +195,48 @@ pub enum Event {
         node: u8,
         number: u64,
     },
+}
+
+impl Event {
+    /// Appends the line by which a report tells of it, where that is made of what the event holds alone.
+    pub(crate) fn write(&self, alloc: Global, text: &mut TextOut) -> Result<(), NoMemory>
+        ensures { OnOk result (text.new ≡ text.old ++ event_line (event_of self.now)) }
+    {
+        match self {
+            Event::Took { node, end, message } => {
+                let len = message.len();
+                let shown = shown_text(alloc, message)?;
+                let shown = shown.as_str();
+                write_line(
+                    format!(in alloc; "took {node} {end} {len} {shown}\n")?,
+                    text,
+                )
+            }
+            Event::Wrote { node, end, count } => {
+                write_line(format!(in alloc; "wrote {node} {end} {count}\n")?, text)
+            }
+            Event::Restarted { node, .. } => {
+                write_line(format!(in alloc; "restarted {node}\n")?, text)
+            }
+            Event::Posted { node, number } => {
+                write_line(format!(in alloc; "posted {node} {number}\n")?, text)
+            }
+            Event::MailStored { node, mail } => write_line(stored_line(alloc, *node, mail)?, text),
+            Event::MailSettled { node, number } => {
+                write_line(format!(in alloc; "done {node} {number}\n")?, text)
+            }
+            Event::Entry { .. }
+            | Event::Sent { .. }
+            | Event::Heeded { .. }
+            | Event::InAir { .. }
+            | Event::Delivered { .. }
+            | Event::Settled { .. }
+            | Event::Shown { .. }
+            | Event::Lost { .. }
+            | Event::Refused { .. }
+            | Event::Offered { .. } => Ok(()),
+        }
+    }
 }
 
 /// An event with the number of the line at which it came, from 1.

@@ -9,6 +9,14 @@ use circuit_l4::{EndFacts, EndNotice};
 use radio_base::{NoMemory, TextOut};
 use std::alloc::{AllocError, Global};
 
+/// Appends a line.
+pub fn write_line(line: String, text: &mut TextOut) -> Result<(), NoMemory>
+    ensures { OnOk result (text.new ≡ text.old ++ string_bytes line) }
+{
+    text.text(line.as_str())?;
+    Ok(())
+}
+
 /// `link N CALL WHAT`
 pub fn link_line(
     alloc: Global,
@@ -57,39 +65,8 @@ pub fn dropped_line(alloc: Global, node: u8, why: &str) -> Result<String, AllocE
     format!(in alloc; "dropped {node} {why}\n")
 }
 
-/// `wrote N X COUNT`
-pub fn wrote_line(alloc: Global, node: u8, end: u32, count: u32) -> Result<String, AllocError>
-    ensures { IfOk result (λ s. string_bytes s ≡ lines.wrote_line node end count) }
-{
-    format!(in alloc; "wrote {node} {end} {count}\n")
-}
-
-/// `restarted N`
-pub fn restarted_line(alloc: Global, node: u8) -> Result<String, AllocError>
-    ensures { IfOk result (λ s. string_bytes s ≡ lines.restarted_line node) }
-{
-    format!(in alloc; "restarted {node}\n")
-}
-
-/// `took N X LEN TEXT`: LEN counts the bytes, and each that is no character from 0x20 to 0x7E is shown as a point.
-pub fn write_took(
-    alloc: Global,
-    node: u8,
-    end: u32,
-    message: &[u8],
-    text: &mut TextOut,
-) -> Result<(), NoMemory>
-    ensures { OnOk result (text.new ≡ text.old ++ lines.took_line node end message.now) }
-{
-    let len = message.len();
-    let shown = shown_text(alloc, message)?;
-    let shown = shown.as_str();
-    let line = format!(in alloc; "took {node} {end} {len} {shown}\n")?;
-    text.text(line.as_str())?;
-    Ok(())
-}
-
-fn shown_text(alloc: Global, message: &[u8]) -> Result<String, AllocError>
+/// The bytes of a message, where each that is no character from 0x20 to 0x7E is shown as a point.
+pub fn shown_text(alloc: Global, message: &[u8]) -> Result<String, AllocError>
     ensures { IfOk result (λ s. string_bytes s ≡ lines.shown_text message.now) }
 {
     let mut shown = String::new(alloc);

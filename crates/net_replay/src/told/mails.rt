@@ -5,13 +5,6 @@ ghost use Rattle.net_replay.specs.ToldLines as mails;
 use crate::events::StoredMail;
 use std::alloc::{AllocError, Global};
 
-/// `posted N NUMBER`
-pub fn posted_line(alloc: Global, node: u8, number: u64) -> Result<String, AllocError>
-    ensures { IfOk result (λ s. string_bytes s ≡ mails.posted_line node number) }
-{
-    format!(in alloc; "posted {node} {number}\n")
-}
-
 /// `stored N ORIGIN NUMBER TO LEN`
 pub fn stored_line(alloc: Global, node: u8, mail: &StoredMail) -> Result<String, AllocError>
     ensures { IfOk result (λ s. string_bytes s
@@ -24,13 +17,6 @@ pub fn stored_line(alloc: Global, node: u8, mail: &StoredMail) -> Result<String,
     let to = to.as_str();
     let len = mail.len;
     format!(in alloc; "stored {node} {origin} {number} {to} {len}\n")
-}
-
-/// `done N NUMBER`
-pub fn done_line(alloc: Global, node: u8, number: u64) -> Result<String, AllocError>
-    ensures { IfOk result (λ s. string_bytes s ≡ mails.done_line node number) }
-{
-    format!(in alloc; "done {node} {number}\n")
 }
 
 /// `mail N queued=Q stored=S`
