@@ -8,7 +8,8 @@ use Rattle.network_file.specs.declared.plan.instructions.Instruction.{Instructio
 use Rattle.network_file.specs.declared.plan.instructions.Instruction.TheVariants.{Again}
 use Rattle.net_replay.specs.declared.air.Aired.{Aired}
 use Rattle.net_replay.specs.World.{frame_of}
-use Rattle.net_replay.specs.Events.{Event, Entry, InAir, Delivered, Settled, Shown, Took, Wrote, Restarted, Lost, Refused, Posted, Offered, MailStored, MailSettled, NumberedEvent}
+use Rattle.net_replay.specs.Events as told
+use Rattle.net_replay.specs.Events.{Event, NumberedEvent}
 use Rattle.net_replay.specs.Refused.{word_for_why}
 use Rattle.net_replay.specs.Tables.{Table}
 use Rattle.route_table.specs.declared.route.Route.{Route}
@@ -17,7 +18,7 @@ use Rattle.trace_lines.specs.declared.stands.Stand.{Stand}
 use Rattle.trace_lines.specs.Circuits.{entry_text}
 use Rattle.trace_lines.specs.Json.{Bytes, Number, Octets, Truth, Word}
 use Rattle.trace_lines.specs.Left.{facts_fields, route_fields}
-use Rattle.trace_lines.specs.Mails.{offered_line, posted_line, settled_line, stored_line}
+use Rattle.trace_lines.specs.Mails.{stored_line}
 use Rattle.trace_lines.specs.Stands.{at_node, event, node_event}
 
 -- ---- which lines bring a frame again
@@ -48,14 +49,11 @@ delivered_line s frame node again = event "delivered" s (Number "frame" frame �
 abbrev pub lost_frame_line : Stand → ℕ → List ℕ
 lost_frame_line s frame = event "lost_frame" s (Number "frame" frame ∷ [])
 
--- ---- what users do, and what is shown to them
+-- ---- what users take, and what is shown to them
 
 abbrev pub took_line : AtNode → ℕ → List ℕ → List ℕ
 took_line at end message =
     node_event "took" at (Number "end" end ∷ Number "bytes" (length message) ∷ Bytes "text" message ∷ [])
-
-abbrev pub wrote_line : AtNode → ℕ → ℕ → List ℕ
-wrote_line at end messages = node_event "wrote" at (Number "end" end ∷ Number "messages" messages ∷ [])
 
 abbrev pub shown_line : AtNode → ℕ → List ℕ
 shown_line at routes = node_event "shown" at (Number "routes" routes ∷ [])
@@ -66,9 +64,6 @@ shown_route_line at r = node_event "shown_route" at (route_fields r)
 abbrev pub shown_text : Stand → Table → List ℕ
 shown_text s t = shown_line (at_node s t.node) (length t.routes) ++ flat_map (shown_route_line (at_node s t.node)) t.routes
 
-abbrev pub refused_line : Stand → List ℕ → List ℕ
-refused_line s why = event "refused" s (Word "why" why ∷ [])
-
 -- ---- restarts
 
 abbrev pub restarted_line : AtNode → Pair → List ℕ
@@ -77,23 +72,29 @@ restarted_line at pair = node_event "restarted" at (Number "index" pair.index �
 abbrev pub lost_end_line : AtNode → ℕ → EndFacts → List ℕ
 lost_end_line at end facts = node_event "lost_end" at (Number "end" end ∷ facts_fields facts)
 
+-- ---- what is told in one piece, of numbers and words
+
+abbrev pub event_object : Stand → Event → List ℕ
+event_object s (told.Wrote node end count) = node_event "wrote" (at_node s node) (Number "end" end ∷ Number "messages" count ∷ [])
+event_object s (told.Refused why) = event "refused" s (Word "why" (word_for_why why) ∷ [])
+event_object s (told.Posted node number) = node_event "posted" (at_node s node) (Number "mail" number ∷ [])
+event_object s (told.Offered node end number) = node_event "offered" (at_node s node) (Number "end" end ∷ Number "mail" number ∷ [])
+event_object s (told.MailSettled node number) = node_event "settled" (at_node s node) (Number "mail" number ∷ [])
+event_object s other = []
+
 -- ---- any event; `again` says which lines bring a frame again, and these are the frames in the air
 
 abbrev pub event_text : (ℕ → Bool) → List Aired → Stand → Event → List ℕ
-event_text again air s (Entry node entry) = entry_text (at_node s node) entry
-event_text again air s (InAir number) = aired_text s number (frame_of air number)
-event_text again air s (Delivered frame node) = delivered_line s frame node (again s.line)
-event_text again air s (Settled frame) = lost_frame_line s frame
-event_text again air s (Shown table) = shown_text s table
-event_text again air s (Took node end message) = took_line (at_node s node) end message
-event_text again air s (Wrote node end count) = wrote_line (at_node s node) end count
-event_text again air s (Restarted node pair) = restarted_line (at_node s node) pair
-event_text again air s (Lost node end facts) = lost_end_line (at_node s node) end facts
-event_text again air s (Refused why) = refused_line s (word_for_why why)
-event_text again air s (Posted node number) = posted_line (at_node s node) number
-event_text again air s (Offered node end number) = offered_line (at_node s node) end number
-event_text again air s (MailStored node origin number to len) = stored_line (at_node s node) origin number to len
-event_text again air s (MailSettled node number) = settled_line (at_node s node) number
+event_text again air s (told.Entry node entry) = entry_text (at_node s node) entry
+event_text again air s (told.InAir number) = aired_text s number (frame_of air number)
+event_text again air s (told.Delivered frame node) = delivered_line s frame node (again s.line)
+event_text again air s (told.Settled frame) = lost_frame_line s frame
+event_text again air s (told.Shown table) = shown_text s table
+event_text again air s (told.Took node end message) = took_line (at_node s node) end message
+event_text again air s (told.Restarted node pair) = restarted_line (at_node s node) pair
+event_text again air s (told.Lost node end facts) = lost_end_line (at_node s node) end facts
+event_text again air s (told.MailStored node origin number to len) = stored_line (at_node s node) origin number to len
+event_text again air s other = event_object s other
 
 -- all events, of which the first has this number
 abbrev pub events_from : (ℕ → Bool) → List Aired → ℕ → List NumberedEvent → List ℕ

@@ -7,12 +7,6 @@ use Rattle.trace_lines.specs.declared.stands.AtNode.{AtNode}
 use Rattle.trace_lines.specs.Json.{object, Field, Number, Word}
 use Rattle.trace_lines.specs.Stands.{node_event}
 
-abbrev pub posted_line : AtNode → ℕ → List ℕ
-posted_line at mail = node_event "posted" at (Number "mail" mail ∷ [])
-
-abbrev pub offered_line : AtNode → ℕ → ℕ → List ℕ
-offered_line at end mail = node_event "offered" at (Number "end" end ∷ Number "mail" mail ∷ [])
-
 -- where it was posted, for whom it is, and how many octets its text has
 abbrev pub stored_fields : Callsign → ℕ → Callsign → ℕ → List Field
 stored_fields origin mail to bytes =
@@ -20,9 +14,6 @@ stored_fields origin mail to bytes =
 
 abbrev pub stored_line : AtNode → Callsign → ℕ → Callsign → ℕ → List ℕ
 stored_line at origin mail to bytes = node_event "stored" at (stored_fields origin mail to bytes)
-
-abbrev pub settled_line : AtNode → ℕ → List ℕ
-settled_line at mail = node_event "settled" at (Number "mail" mail ∷ [])
 
 -- ---- how much a node has left, where it keeps any
 

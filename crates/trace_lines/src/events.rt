@@ -12,11 +12,11 @@ use crate::circuits::{write_entry, write_heeded, write_sent};
 use crate::json::{hex_text, string_text, truth};
 use crate::left::{facts_fields, route_fields};
 use crate::lines::Lines;
-use crate::mails::{write_offered, write_posted, write_settled, write_stored};
+use crate::mails::write_stored;
 use crate::marks::mark_of;
 use crate::stands::{AtNode, Stand};
 use circuit_l4::Pair;
-use net_replay::{Aired, Event, LineRefusal, LostEnd, NumberedEvent, Table};
+use net_replay::{Aired, Event, LostEnd, NumberedEvent, Offer, Table};
 use radio_base::NoMemory;
 use route_table::Route;
 use std::alloc::{AllocError, Global};
@@ -68,14 +68,56 @@ fn write_event(
         Event::Settled { frame } => write_lost_frame(stand, *frame, out),
         Event::Shown { table } => write_shown(stand, table, out),
         Event::Took { node, end, message } => write_took(stand.at(*node), *end, message, out),
-        Event::Wrote { node, end, count } => write_wrote(stand.at(*node), *end, *count, out),
         Event::Restarted { node, pair } => write_restarted(stand.at(*node), *pair, out),
         Event::Lost { node, end } => write_lost_end(stand.at(*node), end, out),
-        Event::Refused { why } => write_refused(stand, why, out),
-        Event::Posted { node, number } => write_posted(stand.at(*node), *number, out),
-        Event::Offered { node, offer } => write_offered(stand.at(*node), offer, out),
         Event::MailStored { node, mail } => write_stored(stand.at(*node), mail, out),
-        Event::MailSettled { node, number } => write_settled(stand.at(*node), *number, out),
+        event => write_object(event_object(out.alloc(), stand, event)?, out),
+    }
+}
+
+fn write_object(object: String, out: &mut Lines) -> Result<(), NoMemory>
+    ensures { OnOk result (out.new ≡ out.old ++ string_bytes object) }
+{
+    out.text(object.as_str())?;
+    Ok(())
+}
+
+/// The object of an event that is made in one piece, of numbers and words.
+#[tactic(auto, unfolding(crate::specs::Json::object))]
+fn event_object(alloc: Global, stand: Stand, event: &Event) -> Result<String, AllocError>
+    ensures { IfOk result (λ s. string_bytes s ≡ events.event_object stand (event_of event.now)) }
+{
+    let Stand { event: nth, line } = stand;
+    match event {
+        Event::Wrote { node, end, count } => format!(in alloc;
+            "{{\"kind\":\"wrote\",\"event\":{nth},\"line\":{line},\"node\":{node},\"end\":{end},\"messages\":{count}}}\n"
+        ),
+        Event::Refused { why } => format!(in alloc;
+            "{{\"kind\":\"refused\",\"event\":{nth},\"line\":{line},\"why\":\"{why}\"}}\n"
+        ),
+        Event::Posted { node, number } => format!(in alloc;
+            "{{\"kind\":\"posted\",\"event\":{nth},\"line\":{line},\"node\":{node},\"mail\":{number}}}\n"
+        ),
+        Event::Offered { node, offer } => {
+            let Offer { id, number } = **offer;
+            format!(in alloc;
+                "{{\"kind\":\"offered\",\"event\":{nth},\"line\":{line},\"node\":{node},\"end\":{id},\"mail\":{number}}}\n"
+            )
+        }
+        Event::MailSettled { node, number } => format!(in alloc;
+            "{{\"kind\":\"settled\",\"event\":{nth},\"line\":{line},\"node\":{node},\"mail\":{number}}}\n"
+        ),
+        Event::Entry { .. }
+        | Event::Sent { .. }
+        | Event::Heeded { .. }
+        | Event::InAir { .. }
+        | Event::Delivered { .. }
+        | Event::Settled { .. }
+        | Event::Shown { .. }
+        | Event::Took { .. }
+        | Event::Restarted { .. }
+        | Event::Lost { .. }
+        | Event::MailStored { .. } => Ok(String::new(alloc)),
     }
 }
 
@@ -190,20 +232,6 @@ fn message_fields(alloc: Global, message: &[u8]) -> Result<String, AllocError>
     Ok(fields)
 }
 
-/// So many messages of a burst were written.
-#[tactic(auto, unfolding(crate::specs::Json::object))]
-fn write_wrote(at: AtNode, end: u32, messages: u32, out: &mut Lines) -> Result<(), NoMemory>
-    ensures { OnOk result (out.new ≡ out.old ++ events.wrote_line at end messages) }
-{
-    let Stand { event, line } = at.stand;
-    let node = at.node;
-    let object = format!(in out.alloc();
-        "{{\"kind\":\"wrote\",\"event\":{event},\"line\":{line},\"node\":{node},\"end\":{end},\"messages\":{messages}}}\n"
-    )?;
-    out.text(object.as_str())?;
-    Ok(())
-}
-
 /// The node starts again, and gives this pair next.
 #[tactic(auto, unfolding(crate::specs::Json::object))]
 fn write_restarted(at: AtNode, pair: Pair, out: &mut Lines) -> Result<(), NoMemory>
@@ -232,19 +260,6 @@ fn write_lost_end(at: AtNode, lost: &LostEnd, out: &mut Lines) -> Result<(), NoM
     let facts = facts.as_str();
     let object = format!(in out.alloc();
         "{{\"kind\":\"lost_end\",\"event\":{event},\"line\":{line},\"node\":{node},\"end\":{end}{facts}"
-    )?;
-    out.text(object.as_str())?;
-    Ok(())
-}
-
-/// The line wasn't done.
-#[tactic(auto, unfolding(crate::specs::Json::object))]
-fn write_refused(stand: Stand, why: &LineRefusal, out: &mut Lines) -> Result<(), NoMemory>
-    ensures { OnOk result (out.new ≡ out.old ++ events.refused_line stand (word_for_why why.now)) }
-{
-    let Stand { event, line } = stand;
-    let object = format!(in out.alloc();
-        "{{\"kind\":\"refused\",\"event\":{event},\"line\":{line},\"why\":\"{why}\"}}\n"
     )?;
     out.text(object.as_str())?;
     Ok(())

@@ -7,40 +7,10 @@ ghost use Rattle.trace_lines.specs.Mails as mails;
 
 use crate::lines::Lines;
 use crate::stands::{AtNode, Stand};
-use net_replay::{Offer, StoredMail};
+use net_replay::StoredMail;
 use node_mail::Store;
 use radio_base::NoMemory;
 use std::alloc::{AllocError, Global};
-
-/// A mail was posted at the node, and has this number there.
-#[tactic(auto, unfolding(crate::specs::Json::object))]
-pub(crate) fn write_posted(at: AtNode, mail: u64, out: &mut Lines) -> Result<(), NoMemory>
-    ensures { OnOk result (out.new ≡ out.old ++ mails.posted_line at mail) }
-{
-    let Stand { event, line } = at.stand;
-    let node = at.node;
-    let object = format!(in out.alloc();
-        "{{\"kind\":\"posted\",\"event\":{event},\"line\":{line},\"node\":{node},\"mail\":{mail}}}\n"
-    )?;
-    out.text(object.as_str())?;
-    Ok(())
-}
-
-/// The agent of the node has written a queued mail at an end.
-#[tactic(auto, unfolding(crate::specs::Json::object))]
-pub(crate) fn write_offered(at: AtNode, offer: &Offer, out: &mut Lines) -> Result<(), NoMemory>
-    ensures { OnOk result (out.new ≡ out.old ++ mails.offered_line at offer.now.id offer.now.number) }
-{
-    let Stand { event, line } = at.stand;
-    let node = at.node;
-    let end = offer.id;
-    let mail = offer.number;
-    let object = format!(in out.alloc();
-        "{{\"kind\":\"offered\",\"event\":{event},\"line\":{line},\"node\":{node},\"end\":{end},\"mail\":{mail}}}\n"
-    )?;
-    out.text(object.as_str())?;
-    Ok(())
-}
 
 /// A mail is stored at the node.
 #[tactic(auto, unfolding(crate::specs::Json::object))]
@@ -74,20 +44,6 @@ fn stored_fields(alloc: Global, stored: &StoredMail) -> Result<String, AllocErro
         ",\"origin\":\"{origin}\",\"mail\":{mail},\"to\":\"{to}\",\"bytes\":{bytes}}}\n"
     )?;
     Ok(fields)
-}
-
-/// The mail of that number, which was posted at the node, is stored where it was to go.
-#[tactic(auto, unfolding(crate::specs::Json::object))]
-pub(crate) fn write_settled(at: AtNode, mail: u64, out: &mut Lines) -> Result<(), NoMemory>
-    ensures { OnOk result (out.new ≡ out.old ++ mails.settled_line at mail) }
-{
-    let Stand { event, line } = at.stand;
-    let node = at.node;
-    let object = format!(in out.alloc();
-        "{{\"kind\":\"settled\",\"event\":{event},\"line\":{line},\"node\":{node},\"mail\":{mail}}}\n"
-    )?;
-    out.text(object.as_str())?;
-    Ok(())
 }
 
 /// How much mail a node has left, where it keeps mail.
