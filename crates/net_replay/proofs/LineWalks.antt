@@ -34,7 +34,7 @@ use Rattle.net_replay.specs.declared.reasons.LineRefusal.{LineRefusal}
 use Rattle.net_replay.specs.World.{delivery_fault, frame_of, lost_fault, oldest, Bytes, Input, Time, World, answer, place_of_node, put, reach, tell}
 use Rattle.net_replay.specs.Events as events
 use Rattle.net_replay.specs.Events.{Event}
-use Rattle.net_replay.specs.Lines.{all_wrote, burst, burst_from, cut, deliver_all, deliver_at, do_act, do_line, do_lines, flow, hear, kiss_bytes, lose_at, refusal_events, restart, settle, spread, table_of, tick_from, tick_node, events_of_act, took_of, unless_refused}
+use Rattle.net_replay.specs.Lines.{act_at, all_wrote, burst, burst_from, cut, deliver_all, deliver_at, do_act, do_line, do_lines, flow, hear, kiss_bytes, lose_at, refusal_events, restart, settle, spread, table_of, tick_from, tick_node, events_of_act, took_of, unless_refused}
 use Rattle.net_replay.specs.Refused.{of_act}
 use Rattle.net_replay.specs.Starting.{Placed}
 use Rattle.net_replay.specs.World as worlds
@@ -226,14 +226,20 @@ module _ (plan : Plan) (Heard_from Locks Users : Callsign → Type 0) (Again : P
       let at : ℕ = place_of_node node w.nodes in
       unless_agents_goes Users P k.turns line node end first done w quiet (λ e. f (free_of (mail_at at w) (facts_at (end_of end (ends_here at w))) e))
 
-  act_leads : (line number : ℕ) (act : UserAct) (told : Result ActDone ActRefusal → List Event) (w : World) → P w (reach line (place_of_node number w.nodes) (worlds.Act act) w)
-      → ((r : Result ActDone ActRefusal) → AllByRecursion IsQuiet (told r)) → P w (do_act line number act told w)
-  act_leads line number act told w reached quiet =
-      let at : ℕ = place_of_node number w.nodes in
+  act_leads : (line at : ℕ) (act : UserAct) (told : Result ActDone ActRefusal → List Event) (w : World) → P w (reach line at (worlds.Act act) w)
+      → ((r : Result ActDone ActRefusal) → AllByRecursion IsQuiet (told r)) → P w (act_at line at act told w)
+  act_leads line at act told w reached quiet =
       let v : World = reach line at (worlds.Act act) w in
       let u : World = tell line (told (answer at act w)) v in
       next w v (put line at false u) reached
       (next v u (put line at false u) (tells line (told (answer at act w)) v (quiet (answer at act w))) (puts line at false u))
+
+  -- an act alone, of which nothing is asked; and that one event is told
+  alone_leads : (line at : ℕ) (act : UserAct) (w : World) → IsMute act → P w (act_at line at act events_of_act w)
+  alone_leads line at act w mute = act_leads line at act events_of_act w (k.does line at act w mute) quiet_told
+
+  one_told : (line : ℕ) (e : Event) (w : World) → IsQuiet e → P w (tell line (e ∷ []) w)
+  one_told line e w quiet = tells line (e ∷ []) w (quiet, tt)
 
   hear_leads : (line number : ℕ) (octets : List ℕ) (came128 : Bool) (w : World) → P w (reach line (place_of_node number w.nodes) (Bytes octets) w) → P w (hear line number octets came128 w)
   hear_leads line number octets came128 w reached =
@@ -337,23 +343,20 @@ module _ (plan : Plan) (Heard_from Locks Users : Callsign → Type 0) (Again : P
 
   pub line_leads : (line : ℕ) (i : Instruction) (w : World) → LineMay Heard_from Locks Users Again i → P w (do_line plan line i w)
   line_leads line (instructions.Heard node call nodes) w i = hear_leads line node (kiss_bytes (broadcast_octets call (view nodes))) false w (k.broadcasts line (place_of_node node w.nodes) call (view nodes) w i)
-  line_leads line (instructions.Lock node dest alias neighbour quality) w i = act_leads line node (acts.Lock dest alias neighbour quality) events_of_act w (k.locks line (place_of_node node w.nodes) dest alias neighbour quality w i) quiet_told
-  line_leads line (instructions.Round node) w i = act_leads line node acts.Round events_of_act w (k.does line (place_of_node node w.nodes) acts.Round w tt) quiet_told
-  line_leads line (instructions.LinkFail node call) w i = act_leads line node (acts.LinkFail call) events_of_act w (k.does line (place_of_node node w.nodes) (acts.LinkFail call) w tt) quiet_told
+  line_leads line (instructions.Lock node dest alias neighbour quality) w i = act_leads line (place_of_node node w.nodes) (acts.Lock dest alias neighbour quality) events_of_act w (k.locks line (place_of_node node w.nodes) dest alias neighbour quality w i) quiet_told
   line_leads line (instructions.Show node) w i =
       shows line (slice_get w.nodes (place_of_node node w.nodes)) w
   line_leads line (instructions.Tick milliseconds) w i = (let v : World = record w { now = w.now + milliseconds } in next w v _ (k.later milliseconds w) (ticks_lead line (length w.nodes) 0 v))
   line_leads line (instructions.Restart node pair) w i = k.restarts line node (record { index = pair.index; ident = pair.ident }) w i
-  line_leads line (instructions.Open node dest) w i = act_leads line node (acts.Connect dest) events_of_act w (k.connects line (place_of_node node w.nodes) dest w i) quiet_told
+  line_leads line (instructions.Open node dest) w i = act_leads line (place_of_node node w.nodes) (acts.Connect dest) events_of_act w (k.connects line (place_of_node node w.nodes) dest w i) quiet_told
   line_leads line (instructions.Say node end text) w i =
       others_lead line node end [] (do_act line node (acts.Write end text) events_of_act) w tt
-      (λ free. act_leads line node (acts.Write end text) events_of_act w (k.writes line (place_of_node node w.nodes) end text w free) quiet_told)
+      (λ free. act_leads line (place_of_node node w.nodes) (acts.Write end text) events_of_act w (k.writes line (place_of_node node w.nodes) end text w free) quiet_told)
   line_leads line (instructions.Burst node end count) w i =
       others_lead line node end (events.Wrote node end 0 ∷ []) (burst line node end count) w (tt, tt) (burst_leads line count (place_of_node node w.nodes) node end 1 w)
   line_leads line (instructions.Take node end) w i =
       others_lead line node end [] (do_act line node (acts.Take end) (took_of node end)) w tt
-      (λ free. act_leads line node (acts.Take end) (took_of node end) w (k.does line (place_of_node node w.nodes) (acts.Take end) w tt) (quiet_took node end))
-  line_leads line (instructions.Close node end) w i = act_leads line node (acts.Close end) events_of_act w (k.does line (place_of_node node w.nodes) (acts.Close end) w tt) quiet_told
+      (λ free. act_leads line (place_of_node node w.nodes) (acts.Take end) (took_of node end) w (k.does line (place_of_node node w.nodes) (acts.Take end) w tt) (quiet_took node end))
   line_leads line (instructions.Post node to dest text) w i = post_goes Users P k.turns line node to dest text w i
   line_leads line (instructions.Mail node) w i = mail_goes Users P k.turns line node w
   line_leads line (instructions.Deliver frame node) w i =
@@ -363,6 +366,7 @@ module _ (plan : Plan) (Heard_from Locks Users : Callsign → Type 0) (Again : P
   line_leads line (instructions.Lose frame) w i = unless_leads line (lost_fault false (frame_of w.air frame)) (lose_at line (frame - 1) frame w) w (lost line (frame - 1) frame w)
   line_leads line (instructions.Flow count) w i = flow_leads line count w
   line_leads line (instructions.Cut count) w i = cut_leads line count w
+  line_leads line other w i = search (alone_leads, one_told)
 
   pub lines_go : (ls : List NumberedInstruction) (w : World) → AllByRecursion (λ (l : NumberedInstruction). LineMay Heard_from Locks Users Again l.instruction) ls → P w (do_lines plan ls w)
   lines_go [] w all = stays w

@@ -1,6 +1,6 @@
 -- Each node is declared once, with a call of its own, what stands for calls are calls, and the version of a file stands before its settings, each of which is one that files of that version may have.
 use Rattle.std.proofs.Common.{◌≡◌, ◌≤◌, ℕ, suc, refl, sym, subst, List, [], ◌∷◌, ◌++◌, length, arith, Bool, true, false, cond}
-use Rattle.std.specs.Prelude.{◌&&◌, ◌==◌, not, nat_eq, nat_lt, is_none, Result, Ok, Err}
+use Rattle.std.specs.Prelude.{◌&&◌, ◌==◌, not, nat_eq, nat_lt, is_none, take, Option, Result, Ok, Err}
 use Rattle.std.specs.Cmp.Lexicographic.{pointwise}
 use Rattle.std.specs.Str.Lines.{lines}
 use Rattle.std.specs.List.{AllByRecursion}
@@ -29,7 +29,7 @@ use Rattle.network_file.proofs.Declared.{more_calls, more_different}
 use Rattle.network_file.proofs.Prompts.{AreApart, known_key, more_apart}
 use Rattle.network_file.proofs.Ranges.{ranged}
 use Rattle.network_file.specs.Networks.{Bad, after_line, after_lines, and_then, network_of, nothing, with_line, with_said}
-use Rattle.network_file.specs.Places.{alias_at, call_at, has_call, has_node, known, needs, new_call_at, new_node_at, new_peer_at, node_at, number_at, value_at}
+use Rattle.network_file.specs.Places.{alias_at, call_at, has_call, has_node, known, needs, text_behind, new_call_at, new_node_at, new_peer_at, node_at, number_at, value_at}
 use Rattle.network_file.specs.Plan.{Plan, is_untouched, may_declare, version_of}
 use Rattle.text_lines.specs.Lines.{is_skipped, is_text, is_number, words_of}
 
@@ -66,6 +66,12 @@ done plan i y e n p = last (Fits plan) (said.Instruction i) (n, p) y e
 -- an instruction that names no call and no pair
 plain : (plan : Plan) {A : Type 0} (parts : Result A What) (makes : A → Instruction) → ((x : A) → NamesCalls (makes x) × NamesPair (makes x)) → (y : Line) → as_line parts makes ≡ Ok y → Fits plan y
 plain plan parts makes none = bound (Fits plan) parts _ (λ x _ y z. done plan (makes x) y z (none x).0 (none x).1)
+
+-- and one with a text, which names calls as its parts do
+texted : (plan : Plan) {A : Type 0} (text : Option (List ℕ)) (parts : Result A What) (makes : A → List ℕ → Instruction)
+    → ((x : A) (t : List ℕ) → parts ≡ Ok x → NamesCalls (makes x t) × NamesPair (makes x t)) → (y : Line) → (known whats.Count text >>= (λ t. as_line parts (λ x. makes x t))) ≡ Ok y → Fits plan y
+texted plan text parts makes names =
+    bound (Fits plan) (known whats.Count text) _ (λ t _. bound (Fits plan) parts _ (λ x e y z. done plan (makes x t) y z (names x t e).0 (names x t e).1))
 
 declares : (plan : Plan) (d : Declaration) → (has_node plan.declared d.node ≡ false) × (has_call plan.declared d.call ≡ false) × IsCall d.call → (y : Line) → ◌≡◌ {A = Result Line What} (Ok (said.Node d)) (Ok y) → Fits plan y
 declares plan d new = last (Fits plan) (said.Node d) new
@@ -199,11 +205,6 @@ module _ (reads : ReadsCallTexts) where
   burst_fits plan (number ∷ nth ∷ count ∷ []) l e = bound (Fits plan) (circuits.end_at plan number nth) _ (λ n _. bound (Fits plan) (number_at 1 10000 count) _ (λ c _ y z. done plan _ y z tt tt)) l e
   burst_fits plan other l e = absurd (cc e)
 
-  say_fits : (plan : Plan) (line : List ℕ) (words : List (List ℕ)) (l : Line) → circuits.say_line plan line words ≡ Ok l → Fits plan l
-  unfolding circuits.say_at
-  say_fits plan line (number ∷ nth ∷ more) l e = bound (Fits plan) (known whats.Count (circuits.said_text line)) _ (λ text _. bound (Fits plan) (circuits.end_at plan number nth) _ (λ n _ y z. done plan _ y z tt tt)) l e
-  say_fits plan line other l e = absurd (cc e)
-
   abbrev AreCalls : ℕ × Callsign × Callsign → Type 0
   AreCalls p = IsCall p.1 × IsCall p.2
 
@@ -212,11 +213,9 @@ module _ (reads : ReadsCallTexts) where
   posts plan number to dest =
       bound AreCalls (node_at plan.declared number) _ (λ n _. bound AreCalls (call_at to) _ (λ t q. bound AreCalls (call_at dest) _ (λ d r. last AreCalls (n, t, d) (is_call to t q, is_call dest d r))))
 
-  post_fits : (plan : Plan) (line : List ℕ) (words : List (List ℕ)) (l : Line) → circuits.post_line plan line words ≡ Ok l → Fits plan l
-  unfolding circuits.post_at
-  post_fits plan line (number ∷ to ∷ dest ∷ more) l e =
-      bound (Fits plan) (known whats.Count (circuits.posted_text line)) _ (λ text _. bound (Fits plan) (circuits.node_and_calls_at plan number to dest) _ (λ p q y z. done plan _ y z (posts plan number to dest p q) tt)) l e
-  post_fits plan line other l e = absurd (cc e)
+  posted : (plan : Plan) (words : List (List ℕ)) (p : ℕ × Callsign × Callsign) → circuits.node_and_calls plan words ≡ Ok p → AreCalls p
+  posted plan (number ∷ to ∷ dest ∷ []) p e = posts plan number to dest p e
+  posted plan other p e = absurd (cc e)
 
   -- ---- all kinds
 
@@ -264,7 +263,7 @@ module _ (reads : ReadsCallTexts) where
                           (
                             λ plan line. open_fits plan,
                             (
-                              say_fits,
+                              λ plan line words. texted plan (text_behind 3 line) (circuits.end_alone plan (take 2 words)) (λ x. instructions.Say x.0 x.1) (λ x t e. (tt, tt)),
                               (
                                 λ plan line. burst_fits plan,
                                 (
@@ -272,7 +271,7 @@ module _ (reads : ReadsCallTexts) where
                                   (
                                     λ plan line words. plain plan (circuits.end_alone plan words) (λ x. instructions.Close x.0 x.1) (λ x. (tt, tt)),
                                     (
-                                      post_fits,
+                                      λ plan line words. texted plan (text_behind 4 line) (circuits.node_and_calls plan (take 3 words)) (λ p. instructions.Post p.0 p.1 p.2) (λ p t e. (posted plan (take 3 words) p e, tt)),
                                       (
                                         λ plan line words. plain plan (circuits.node_alone plan words) instructions.Mail (λ x. (tt, tt)),
                                         (

@@ -1,5 +1,5 @@
 -- What a word has to be in its place of a line, and what it then stands for. Own profile.
-use Rattle.std.specs.Prelude.{ℕ, List, Option, Some, None, Result, Ok, Err, Bool, true, false, ◌==◌, not, nat_lt}
+use Rattle.std.specs.Prelude.{ℕ, zero, suc, List, Option, Some, None, Result, Ok, Err, Bool, true, false, ◌==◌, not, nat_lt}
 use Rattle.std.specs.List.{list_any}
 use Rattle.ax_address.specs.Callsign.{Callsign, same_call}
 use Rattle.ax_address.specs.Callsign as calls
@@ -11,7 +11,7 @@ use Rattle.network_file.specs.declared.reasons.What.TheVariants as whats
 use Rattle.network_file.specs.declared.plan.declarations.Declaration.{Declaration}
 use Rattle.network_file.specs.declared.plan.vias.Via.{Via}
 use Rattle.network_file.specs.Plan.{has_via, via_count}
-use Rattle.text_lines.specs.Lines.{is_number, number_of}
+use Rattle.text_lines.specs.Lines.{after_space, is_number, number_of, past_word}
 
 -- what is wrong where the test fails
 abbrev pub needs : Bool → What → Result (Unit {0}) What
@@ -78,3 +78,8 @@ new_peer_at vias node word = do
 
 abbrev pub alias_at : List ℕ → Result Alias What
 alias_at word = elim (aliases.alias_at word) [ Ok alias ↦ Ok alias | Err e ↦ Err whats.Alias ]
+
+-- TEXT, which may hold spaces: what stands behind so many words of a line and one space, if that space is there
+unfoldable pub text_behind : ℕ → List ℕ → Option (List ℕ)
+text_behind zero line = after_space line
+text_behind (suc words) line = text_behind words (past_word line)

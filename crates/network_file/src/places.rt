@@ -1,13 +1,14 @@
 //! The words of a line, by the rules of their places.
-ghost use Rattle.std.specs.Prelude.{◌≡◌, ◌≤◌, IfOk};
+ghost use Rattle.std.specs.Prelude.{◌≡◌, ◌≤◌, IfOk, MatchOption, None, Some, take};
 ghost use Rattle.network_file.specs.Places as places;
+ghost use Rattle.text_lines.specs.Lines.{texts};
 
 use crate::limits::{MAX_BURST, MAX_COUNT, MAX_NODES, MAX_TICK, MAX_VIAS};
 use crate::plan::declarations::{Declaration, has_call, has_node};
 use crate::plan::vias::{Via, has_via, via_count};
 use crate::reasons::What;
 use ax_address::{Alias, Call};
-use text_lines::{is_number, number_of};
+use text_lines::{after_space, is_number, number_of, past_word};
 
 /// What is wrong, where the test fails.
 pub fn needs(holds: bool, what: What) -> Result<(), What>
@@ -144,5 +145,29 @@ pub fn alias(word: &[u8]) -> Result<Alias, What>
     match Alias::read(word) {
         Ok(alias) => Ok(alias),
         Err(_) => Err(What::Alias),
+    }
+}
+
+/// TEXT, which may hold spaces: what stands behind so many words of a line and one space, if that space is there.
+#[tactic(auto, unfolding(crate::specs::Places::text_behind))]
+pub fn text_behind(line: &[u8], words: usize) -> Option<&[u8]>
+    ensures { MatchOption result (places.text_behind words line.now ≡ None)
+        (λ text. places.text_behind words line.now ≡ Some text.now) }
+{
+    if words == 0 {
+        after_space(line)
+    } else {
+        text_behind(past_word(line), words - 1)
+    }
+}
+
+/// The first so many words, or all where there are fewer.
+pub fn first_words<'a, 'b>(words: &'a [&'b [u8]], count: usize) -> &'a [&'b [u8]]
+    ensures { texts result.now ≡ take count (texts words.now) }
+{
+    if count < words.len() {
+        &words[..count]
+    } else {
+        words
     }
 }

@@ -16,9 +16,9 @@ use Rattle.network_file.specs.Keys.{key_at}
 use Rattle.network_file.specs.Networks.{after_lines, network_of, nothing, Bad}
 use Rattle.network_file.specs.Plan.{Plan}
 use Rattle.network_file.specs.declared.reasons.What.TheVariants as whats
-use Rattle.network_file.specs.Places.{needs, node_at, new_node_at, new_call_at, value_at}
+use Rattle.network_file.specs.Places.{needs, node_at, new_node_at, new_call_at, value_at, text_behind}
 use Rattle.network_file.specs.Lines.{line_at, line_of}
-use Rattle.network_file.specs.Lines.Instructions.{end_at, say_at, node_and_call_at, tick_at, said_text}
+use Rattle.network_file.specs.Lines.Instructions.{end_at, node_and_call_at, tick_at}
 use Rattle.network_file.specs.Lines.Declaring.{declaration_at, channel_line, setting_at}
 use Rattle.text_lines.specs.Lines.{is_skipped, is_text, past_word, words_of}
 use Rattle.network_soak.specs.Files.{draw, next, soak_file, start_text, end_text, drawn_text, lines_of, drawn, Drawn, say_line, flow_line as flow_text}
@@ -111,7 +111,7 @@ module _ (told : List NumberedInstruction) (t : List ℕ) (text : is_text t ≡ 
       }
 
   says : AllFrom (λ node. Says (with_told told) (front node ++ t) (line.Instruction (Say node 1 (109 ∷ t)))) 1 6
-  unfolding start_text lines_of line_at declaration_at channel_line setting_at node_and_call_at node_at new_node_at new_call_at value_at digits call_at key_at say_at end_at said_text past_word
+  unfolding start_text lines_of line_at declaration_at channel_line setting_at node_and_call_at node_at new_node_at new_call_at value_at digits call_at key_at end_at text_behind past_word
   says = (say_at_node 1 refl refl refl refl, (say_at_node 2 refl refl refl refl, (say_at_node 3 refl refl refl refl, (say_at_node 4 refl refl refl refl, (say_at_node 5 refl refl refl refl, (say_at_node 6 refl refl refl refl, tt))))))
 
 say_line_is : (told : List NumberedInstruction) (x nth : ℕ) → nth < 301 → IsLine told (say_line (draw 6 x + 1) nth)

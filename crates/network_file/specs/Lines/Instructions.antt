@@ -1,17 +1,16 @@
 -- The line `heard`. Own profile.
-use Rattle.std.specs.Prelude.{ℕ, ◌%◌, List, [], ◌∷◌, length, Result, Ok, Err, Bool, ◌&&◌, ◌==◌, nat_le, codes, Option}
+use Rattle.std.specs.Prelude.{ℕ, ◌%◌, List, [], ◌∷◌, length, Result, Ok, Err, Bool, ◌&&◌, ◌==◌, nat_le, codes}
 use Rattle.ax_address.specs.declared.Entry.{Entry}
 use Rattle.ax_address.specs.Results.{◌>>=◌}
 use Rattle.ax_address.specs.Callsign.{Callsign}
-use Rattle.text_lines.specs.Lines.{after_space, past_word}
 use Rattle.network_file.specs.declared.reasons.What.{What}
 use Rattle.network_file.specs.declared.reasons.What.TheVariants as whats
 use Rattle.network_file.specs.declared.lines.Line.{Line}
 use Rattle.network_file.specs.declared.lines.Line.TheVariants as lines
 use Rattle.network_file.specs.declared.plan.instructions.Instruction.TheVariants as instructions
 use Rattle.network_file.specs.Plan.{Plan}
-use Rattle.network_file.specs.Places.{needs, number_at, node_at, call_at, alias_at, known, nth_at}
-use Rattle.network_file.specs.Lines.Kinds.{Kind, instruction, instruction_since, reads}
+use Rattle.network_file.specs.Places.{needs, number_at, node_at, call_at, alias_at, nth_at}
+use Rattle.network_file.specs.Lines.Kinds.{Kind, instruction, instruction_since, reads, reads_text}
 
 -- DEST ALIAS BEST QUALITY
 unfoldable pub entry_at : List ℕ → List ℕ → List ℕ → List ℕ → Result Entry What
@@ -119,21 +118,6 @@ end_at plan number nth = do
   x ← nth_at nth
   Ok (n, x)
 
--- TEXT of a `say` line: what stands after its third word and the one space after that, if that space is there
-unfoldable pub said_text : List ℕ → Option (List ℕ)
-said_text line = after_space (past_word (past_word (past_word line)))
-
--- say N X TEXT: without the space that TEXT stands behind the line has too few words
-unfoldable pub say_at : Plan → List ℕ → List ℕ → List ℕ → Result Line What
-say_at plan line number nth = do
-  text ← known whats.Count (said_text line)
-  e ← end_at plan number nth
-  Ok (lines.Instruction (instructions.Say e.0 e.1 text))
-
-abbrev pub say_line : Plan → List ℕ → List (List ℕ) → Result Line What
-say_line plan line (number ∷ nth ∷ more) = say_at plan line number nth
-say_line plan line other = Err whats.Count
-
 -- burst N X COUNT
 unfoldable pub burst_at : Plan → List ℕ → List ℕ → List ℕ → Result Line What
 burst_at plan number nth count = do
@@ -149,11 +133,11 @@ abbrev pub end_alone : Plan → List (List ℕ) → Result (ℕ × ℕ) What
 end_alone plan (number ∷ nth ∷ []) = end_at plan number nth
 end_alone plan other = Err whats.Count
 
--- open N DEST; say; burst; take N X; close N X
+-- open N DEST; say N X TEXT; burst; take N X; close N X
 abbrev pub circuit_kinds : List Kind
 circuit_kinds =
     instruction (codes "open") (reads node_and_call (λ way. instructions.Open way.0 way.1))
-    ∷ instruction (codes "say") say_line
+    ∷ instruction (codes "say") (reads_text 2 end_alone (λ e. instructions.Say e.0 e.1))
     ∷ instruction (codes "burst") (λ plan line. burst_line plan)
     ∷ instruction (codes "take") (reads end_alone (λ e. instructions.Take e.0 e.1))
     ∷ instruction (codes "close") (reads end_alone (λ e. instructions.Close e.0 e.1))
@@ -169,24 +153,16 @@ node_and_calls_at plan number to dest = do
   d ← call_at dest
   Ok (n, t, d)
 
--- TEXT of a `post` line: what stands after its fourth word and the one space after that, if that space is there
-unfoldable pub posted_text : List ℕ → Option (List ℕ)
-posted_text line = after_space (past_word (past_word (past_word (past_word line))))
+abbrev pub node_and_calls : Plan → List (List ℕ) → Result (ℕ × Callsign × Callsign) What
+node_and_calls plan (number ∷ to ∷ dest ∷ []) = node_and_calls_at plan number to dest
+node_and_calls plan other = Err whats.Count
 
--- post N TO DEST TEXT: without the space that TEXT stands behind the line has too few words
-unfoldable pub post_at : Plan → List ℕ → List ℕ → List ℕ → List ℕ → Result Line What
-post_at plan line number to dest = do
-  text ← known whats.Count (posted_text line)
-  p ← node_and_calls_at plan number to dest
-  Ok (lines.Instruction (instructions.Post p.0 p.1 p.2 text))
-
-abbrev pub post_line : Plan → List ℕ → List (List ℕ) → Result Line What
-post_line plan line (number ∷ to ∷ dest ∷ more) = post_at plan line number to dest
-post_line plan line other = Err whats.Count
-
--- mail N
+-- post N TO DEST TEXT; mail N
 abbrev pub mail_kinds : List Kind
-mail_kinds = instruction_since 4 (codes "post") post_line ∷ instruction_since 4 (codes "mail") (reads node_alone instructions.Mail) ∷ []
+mail_kinds =
+    instruction_since 4 (codes "post") (reads_text 3 node_and_calls (λ p. instructions.Post p.0 p.1 p.2))
+    ∷ instruction_since 4 (codes "mail") (reads node_alone instructions.Mail)
+    ∷ []
 
 -- Lines that move frames. Own profile.
 

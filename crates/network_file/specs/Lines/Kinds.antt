@@ -1,5 +1,5 @@
 -- What a kind of line is, and what a line says by the first kind that its word names. Own profile.
-use Rattle.std.specs.Prelude.{ℕ, List, [], ◌∷◌, Result, Ok, Err, Bool, true, false, ◌&&◌, nat_le, nat_eq, if◌then◌else◌}
+use Rattle.std.specs.Prelude.{ℕ, suc, List, [], ◌∷◌, take, Result, Ok, Err, Bool, true, false, ◌&&◌, nat_le, nat_eq, if◌then◌else◌}
 use Rattle.std.specs.Cmp.Lexicographic.{pointwise}
 use Rattle.ax_address.specs.Results.{◌>>=◌}
 use Rattle.network_file.specs.declared.reasons.What.{What}
@@ -7,6 +7,7 @@ use Rattle.network_file.specs.declared.reasons.What.TheVariants as whats
 use Rattle.network_file.specs.declared.lines.Line.{Line}
 use Rattle.network_file.specs.declared.lines.Line.TheVariants as lines
 use Rattle.network_file.specs.declared.plan.instructions.Instruction.{Instruction}
+use Rattle.network_file.specs.Places.{known, text_behind}
 use Rattle.network_file.specs.Plan.{Plan, version_of, is_untouched, may_declare}
 
 -- what a line and the words behind its first say, after the lines before; TEXT may hold spaces, and so is read from the line
@@ -45,6 +46,12 @@ as_line read makes = read >>= (λ x. Ok (lines.Instruction (makes x)))
 -- so it is where these parts are read of the words
 abbrev pub reads : {A : Type 0} → (Plan → List (List ℕ) → Result A What) → (A → Instruction) → Reader
 reads parts makes = λ plan line words. as_line (parts plan words) makes
+
+-- so it is of a line that ends in TEXT: so many words stand between its first and TEXT, and these parts are read of them. A line without the
+-- space before TEXT has too few words
+abbrev pub reads_text : {A : Type 0} → ℕ → (Plan → List (List ℕ) → Result A What) → (A → List ℕ → Instruction) → Reader
+reads_text count parts makes = λ plan line words.
+    known whats.Count (text_behind (suc count) line) >>= (λ text. as_line (parts plan (take count words)) (λ x. makes x text))
 
 -- what a line says, by the first of these kinds that its first word names
 abbrev pub line_by : List Kind → Plan → List ℕ → List ℕ → List (List ℕ) → Result Line What

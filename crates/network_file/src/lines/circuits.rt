@@ -1,9 +1,9 @@
 //! Lines that speak of circuits and their ends: `open`, `say`, `burst`, `take`, `close`.
-ghost use Rattle.std.specs.Prelude.{◌≡◌, IfOk, MatchOption, None, Some};
+ghost use Rattle.std.specs.Prelude.{◌≡◌, IfOk};
 ghost use Rattle.network_file.specs.declared.plan.instructions.Instruction.TheVariants as instructions;
 ghost use Rattle.network_file.specs.Lines.{from_circuits};
 ghost use Rattle.network_file.specs.Lines.Instructions as lines;
-ghost use Rattle.network_file.specs.Lines.Kinds.{as_line, line_by};
+ghost use Rattle.network_file.specs.Lines.Kinds.{as_line, line_by, reads_text};
 ghost use Rattle.network_file.specs.Lines.Instructions.{node_and_call};
 ghost use Rattle.text_lines.specs.Lines.{texts};
 
@@ -11,12 +11,11 @@ use crate::lines::Line;
 use crate::lines::mails::mail_kind;
 use crate::lines::nodes::node_and_call;
 use crate::network::Network;
-use crate::places::{node, nth, text_count};
+use crate::places::{first_words, node, nth, text_behind, text_count};
 use crate::plan::instructions::Instruction;
 use crate::plan::text::Text;
 use crate::reasons::What;
 use std::alloc::{AllocError, Global};
-use text_lines::{after_space, past_word};
 
 /// The line of a kind that speaks of circuits, or else of mail.
 pub fn circuit_kind(
@@ -61,49 +60,26 @@ fn end_of(before: &Network, number: &[u8], end: &[u8]) -> Result<(u8, u32), What
     Ok((node, end))
 }
 
-/// `say N X TEXT`: TEXT may be empty, and hold spaces
+/// `say N X TEXT`: TEXT may be empty
 fn say_line(
     alloc: Global,
     before: &Network,
     line: &[u8],
     words: &[&[u8]],
 ) -> Result<Result<Line, What>, AllocError>
-    ensures { IfOk result (λ said. said ≡ lines.say_line before.now line.now (texts words.now)) }
+    ensures { IfOk result (λ said. said ≡ reads_text 2 lines.end_alone (λ e. instructions.Say e.0 e.1)
+        before.now line.now (texts words.now)) }
 {
-    match words {
-        [number, end, ..] => say(alloc, before, line, number, end),
-        _ => Ok(Err(What::Count)),
-    }
-}
-
-#[tactic(auto, unfolding(crate::specs::Lines::Instructions::say_at))]
-fn say(
-    alloc: Global,
-    before: &Network,
-    line: &[u8],
-    number: &[u8],
-    end: &[u8],
-) -> Result<Result<Line, What>, AllocError>
-    ensures { IfOk result (λ said. said ≡ lines.say_at before.now line.now number.now end.now) }
-{
-    let Some(text) = said_text(line) else {
+    let Some(text) = text_behind(line, 3) else {
         return Ok(Err(What::Count));
     };
-    match end_of(before, number, end) {
+    match end_alone(before, first_words(words, 2)) {
         Ok((node, end)) => {
             let text = Text::new(alloc, text)?;
             Ok(Ok(Line::Instruction(Instruction::Say { node, end, text })))
         }
         Err(what) => Ok(Err(what)),
     }
-}
-
-/// TEXT of a `say` line: what stands after its third word and the one space after that, if that space is there.
-#[tactic(auto, unfolding(crate::specs::Lines::Instructions::said_text))]
-fn said_text(line: &[u8]) -> Option<&[u8]>
-    ensures { MatchOption result (lines.said_text line.now ≡ None) (λ text. lines.said_text line.now ≡ Some text.now) }
-{
-    after_space(past_word(past_word(past_word(line))))
 }
 
 /// `burst N X COUNT`

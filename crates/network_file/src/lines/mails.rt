@@ -1,8 +1,8 @@
 //! Lines that speak of mail: `post`, `mail`.
-ghost use Rattle.std.specs.Prelude.{◌≡◌, IfOk, MatchOption, None, Some};
+ghost use Rattle.std.specs.Prelude.{◌≡◌, IfOk};
 ghost use Rattle.network_file.specs.declared.plan.instructions.Instruction.TheVariants as instructions;
 ghost use Rattle.network_file.specs.Lines.{from_mails};
-ghost use Rattle.network_file.specs.Lines.Kinds.{as_line, line_by};
+ghost use Rattle.network_file.specs.Lines.Kinds.{as_line, line_by, reads_text};
 ghost use Rattle.network_file.specs.Lines.Instructions as lines;
 ghost use Rattle.network_file.specs.Lines.Instructions.{node_alone};
 ghost use Rattle.text_lines.specs.Lines.{texts};
@@ -11,13 +11,12 @@ use crate::lines::Line;
 use crate::lines::frames::frame_kind;
 use crate::lines::nodes::node_alone;
 use crate::network::Network;
-use crate::places::{call, node};
+use crate::places::{call, first_words, node, text_behind};
 use crate::plan::instructions::Instruction;
 use crate::plan::text::Text;
 use crate::reasons::What;
 use ax_address::Call;
 use std::alloc::{AllocError, Global};
-use text_lines::{after_space, past_word};
 
 /// The line of a kind that speaks of mail, or else of frames in the air.
 pub fn mail_kind(
@@ -45,29 +44,13 @@ fn post_line(
     line: &[u8],
     words: &[&[u8]],
 ) -> Result<Result<Line, What>, AllocError>
-    ensures { IfOk result (λ said. said ≡ lines.post_line before.now line.now (texts words.now)) }
+    ensures { IfOk result (λ said. said ≡ reads_text 3 lines.node_and_calls (λ p. instructions.Post p.0 p.1 p.2)
+        before.now line.now (texts words.now)) }
 {
-    match words {
-        [number, to, dest, ..] => post(alloc, before, line, number, to, dest),
-        _ => Ok(Err(What::Count)),
-    }
-}
-
-#[tactic(auto, unfolding(crate::specs::Lines::Instructions::post_at))]
-fn post(
-    alloc: Global,
-    before: &Network,
-    line: &[u8],
-    number: &[u8],
-    to: &[u8],
-    dest: &[u8],
-) -> Result<Result<Line, What>, AllocError>
-    ensures { IfOk result (λ said. said ≡ lines.post_at before.now line.now number.now to.now dest.now) }
-{
-    let Some(text) = posted_text(line) else {
+    let Some(text) = text_behind(line, 4) else {
         return Ok(Err(What::Count));
     };
-    match node_and_calls(before, number, to, dest) {
+    match node_and_calls(before, first_words(words, 3)) {
         Ok((node, to, dest)) => {
             let text = Text::new(alloc, text)?;
             Ok(Ok(Line::Instruction(Instruction::Post {
@@ -81,18 +64,18 @@ fn post(
     }
 }
 
-/// TEXT of a `post` line.
-#[tactic(auto, unfolding(crate::specs::Lines::Instructions::posted_text))]
-fn posted_text(line: &[u8]) -> Option<&[u8]>
-    ensures { MatchOption result (lines.posted_text line.now ≡ None)
-        (λ text. lines.posted_text line.now ≡ Some text.now) }
+/// The number of a declared node, and two calls.
+fn node_and_calls(before: &Network, words: &[&[u8]]) -> Result<(u8, Call, Call), What>
+    ensures { result ≡ lines.node_and_calls before.now (texts words.now) }
 {
-    after_space(past_word(past_word(past_word(past_word(line)))))
+    match words {
+        [number, to, dest] => node_and_calls_of(before, number, to, dest),
+        _ => Err(What::Count),
+    }
 }
 
-/// A node, a user, and the user's node.
 #[tactic(auto, unfolding(crate::specs::Lines::Instructions::node_and_calls_at))]
-fn node_and_calls(
+fn node_and_calls_of(
     before: &Network,
     number: &[u8],
     to: &[u8],
