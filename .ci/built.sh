@@ -33,7 +33,7 @@ program_crates() {
 # by_way FOLDER: the crates of that copy of the repository, first the one with the longest way of crates that stand on it, in lines.
 by_way() {
     for crate in "$1"/crates/*; do
-        echo "lines ${crate##*/} $(find "$crate/" -name '*.rt' -o -name '*.antt' | xargs cat | wc -l)"
+        echo "lines ${crate##*/} $(find "$crate/" \( -name '*.rt' -o -name '*.antt' \) -exec cat {} + | wc -l)"
     done | awk -F '[: ]+' '
         $1 == "lines" { own[$2] = way[$2] = $3; next }
         !/^#/ && NF { for (nth = 2; nth <= NF; nth++) if ($nth in own) above[$nth] = above[$nth] " " $1 }
