@@ -18,10 +18,12 @@ pub fn read_head(bytes: &[u8]) -> Result<(Head, usize), FrameRefusal>
     ensures found { IfOk result (λ x. (x.1 ≤ length bytes.now) × SpellsHead x.0 (take x.1 bytes.now)) }
 
     // What is spelled so is read.
-    ensures only { (h : Head) (octets rest : List ℕ) → SpellsHead h octets → bytes.now ≡ octets ++ rest → result ≡ Ok (h, length octets) }
+    ensures only { (h : Head) (octets rest : List ℕ) → SpellsHead h octets → bytes.now ≡ octets ++ rest
+        → result ≡ Ok (h, length octets) }
 
     // The addresses end there, or an octet is at fault.
-    ensures judged { MatchResult result (λ x. reading.head_end bytes.now ≡ Ok x.1) (λ e. reading.head_end bytes.now ≡ Err e) }
+    ensures judged { MatchResult result (λ x. reading.head_end bytes.now ≡ Ok x.1)
+        (λ e. reading.head_end bytes.now ≡ Err e) }
     ensures exact { result ≡ read_head_at bytes.now }
 {
     // By the laws of the spelling no other head is spelled so, and none that is spelled is refused.
@@ -34,7 +36,8 @@ pub fn read_head(bytes: &[u8]) -> Result<(Head, usize), FrameRefusal>
 #[inline(never)]
 fn head_of(bytes: &[u8]) -> Result<(Head, usize), FrameRefusal>
     ensures found { IfOk result (λ x. (x.1 ≤ length bytes.now) × SpellsHead x.0 (take x.1 bytes.now)) }
-    ensures judged { MatchResult result (λ x. reading.head_end bytes.now ≡ Ok x.1) (λ e. reading.head_end bytes.now ≡ Err e) }
+    ensures judged { MatchResult result (λ x. reading.head_end bytes.now ≡ Ok x.1)
+        (λ e. reading.head_end bytes.now ≡ Err e) }
 {
     let mut head = Head {
         dest: Address::default(),
@@ -52,8 +55,10 @@ fn head_of(bytes: &[u8]) -> Result<(Head, usize), FrameRefusal>
 #[inline(always)]
 fn addresses(bytes: &[u8], path: &mut Path) -> Result<(Address, Address, usize), FrameRefusal>
     requires { path.old.items ≡ [] }
-    ensures found { IfOk result (λ x. (x.2 ≤ length bytes.now) × SpellsHead (head x.0 x.1 path.new) (take x.2 bytes.now)) }
-    ensures judged { MatchResult result (λ x. reading.head_end bytes.now ≡ Ok x.2) (λ e. reading.head_end bytes.now ≡ Err e) }
+    ensures found { IfOk result (λ x. (x.2 ≤ length bytes.now)
+        × SpellsHead (head x.0 x.1 path.new) (take x.2 bytes.now)) }
+    ensures judged { MatchResult result (λ x. reading.head_end bytes.now ≡ Ok x.2)
+        (λ e. reading.head_end bytes.now ≡ Err e) }
 {
     let (dest, last) = address_at(bytes, 0)?;
     if last {
@@ -81,7 +86,8 @@ pub fn read_frame<M: Modulus>(bytes: &[u8]) -> Result<FrameView<'_>, FrameRefusa
 
     // It is refused exactly where an octet is at fault.
     ensures refused { result_err result ≡ reading.first_fault M.SIZE bytes.now }
-    ensures exact { MatchResult result (λ v. read_at M.SIZE bytes.now ≡ Ok (view v)) (λ e. read_at M.SIZE bytes.now ≡ Err e) }
+    ensures exact { MatchResult result (λ v. read_at M.SIZE bytes.now ≡ Ok (view v))
+        (λ e. read_at M.SIZE bytes.now ≡ Err e) }
 {
     // By the laws of the spelling no other frame is spelled so, and none that is spelled is refused.
     laws::frame_spelling();
@@ -106,7 +112,8 @@ pub fn read_behind<M: Modulus>(at: usize, bytes: &[u8]) -> Result<Behind<'_>, Fr
     requires ends { reading.head_end bytes.now ≡ Ok at }
 
     // Behind each head with which the octets begin, what is read is spelled so.
-    ensures found { IfOk result (λ b. (h : Head) → BeginsWith bytes.now h at → Spells M.SIZE (with_head h b) bytes.now) }
+    ensures found { IfOk result (λ b. (h : Head) → BeginsWith bytes.now h at
+        → Spells M.SIZE (with_head h b) bytes.now) }
 
     // What is spelled so is read.
     ensures only { (f : Frame) → Spells M.SIZE f bytes.now → IsOkAnd result (λ b. with_head f.head b ≡ f) }
@@ -114,7 +121,8 @@ pub fn read_behind<M: Modulus>(at: usize, bytes: &[u8]) -> Result<Behind<'_>, Fr
     // It is refused exactly where an octet is at fault.
     ensures refused { result_err result ≡ reading.first_fault M.SIZE bytes.now }
     ensures exact { (h : Head) → BeginsWith bytes.now h at
-        → MatchResult result (λ b. read_at M.SIZE bytes.now ≡ Ok (with_head h b)) (λ e. read_at M.SIZE bytes.now ≡ Err e) }
+        → MatchResult result (λ b. read_at M.SIZE bytes.now ≡ Ok (with_head h b))
+        (λ e. read_at M.SIZE bytes.now ≡ Err e) }
 {
     // By the laws of the spelling octets that begin with a head end it at one place.
     laws::head_spelling();
@@ -157,7 +165,9 @@ fn parts(size: u64, bytes: &[u8], at: usize) -> Result<(Control, Option<u8>, usi
 fn repeaters(bytes: &[u8], path: &mut Path) -> Result<(), FrameRefusal>
     requires len { 14 ≤ length bytes.now }
     requires empty { path.old.items ≡ [] }
-    ensures judged { MatchResult result (λ _. reading.addresses_end 8 14 bytes.now ≡ Ok (14 + 7 * length path.new.items)) (λ e. reading.addresses_end 8 14 bytes.now ≡ Err e) }
+    ensures judged { MatchResult result
+        (λ _. reading.addresses_end 8 14 bytes.now ≡ Ok (14 + 7 * length path.new.items))
+        (λ e. reading.addresses_end 8 14 bytes.now ≡ Err e) }
     ensures found { OnOk result (SpellsLast 14 bytes.now path.new.items) }
 {
     for nth in 0..MAX_REPEATERS {
@@ -174,8 +184,10 @@ fn repeaters(bytes: &[u8], path: &mut Path) -> Result<(), FrameRefusal>
 #[inline(always)]
 fn address_at(bytes: &[u8], at: usize) -> Result<(Address, bool), FrameRefusal>
     requires { at ≤ length bytes.now }
-    ensures judged { MatchResult result (λ x. reading.extension_at at bytes.now ≡ Ok x.1) (λ e. reading.extension_at at bytes.now ≡ Err e) }
-    ensures found { IfOk result (λ x. (at + 7 ≤ length bytes.now) × SpellsAddress x.0 x.1 (take 7 (drop at bytes.now))) }
+    ensures judged { MatchResult result (λ x. reading.extension_at at bytes.now ≡ Ok x.1)
+        (λ e. reading.extension_at at bytes.now ≡ Err e) }
+    ensures found { IfOk result (λ x. (at + 7 ≤ length bytes.now)
+        × SpellsAddress x.0 x.1 (take 7 (drop at bytes.now))) }
 {
     let octets = &bytes[at..];
     match octets.first_chunk::<7>() {

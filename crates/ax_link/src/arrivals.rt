@@ -92,7 +92,8 @@ impl<M: Modulus> Machine<M> {
     fn arrive_up(&mut self, frame: &FrameIn<'_>, now: Millis)
         requires drained { IsDrained (view_of self.old) }
         requires size { self.old.window < M.SIZE }
-        ensures does { Does M.SIZE (table.arrive_up now frame.now.command frame.now.kind (frame_come frame.now).payload) self.old self.new }
+        ensures does { Does M.SIZE
+            (table.arrive_up now frame.now.command frame.now.kind (frame_come frame.now).payload) self.old self.new }
         ensures window { self.new.window ≡ self.old.window }
     {
         match frame.kind {
@@ -149,7 +150,8 @@ impl<M: Modulus> Machine<M> {
     /// Where an acknowledgement stands among what was put out.
     fn ack_place(&self, nr: u8) -> Option<u64>
         requires { self.now.window < M.SIZE }
-        ensures exact { (before received : List Payload) → result ≡ state.ack_place (state_of M.SIZE (view_of self.now) before received) nr }
+        ensures exact { (before received : List Payload)
+            → result ≡ state.ack_place (state_of M.SIZE (view_of self.now) before received) nr }
         ensures bounds { IfSome result (λ below. (self.now.acked ≤ below) × (below ≤ self.now.sent)) }
     {
         if (nr as u64) < M::SIZE {
@@ -163,7 +165,8 @@ impl<M: Modulus> Machine<M> {
     fn on_supervisory(&mut self, said: Supervisory, nr: u8, now: Millis)
         requires outs { self.old.outs.items ≡ [] }
         requires size { self.old.window < M.SIZE }
-        ensures does { Does M.SIZE (moves.on_supervisory now said.command said.busy said.reject said.pf nr) self.old self.new }
+        ensures does { Does M.SIZE
+            (moves.on_supervisory now said.command said.busy said.reject said.pf nr) self.old self.new }
         ensures notice { self.new.notice ≡ self.old.notice }
         ensures window { self.new.window ≡ self.old.window }
     {
@@ -176,7 +179,8 @@ impl<M: Modulus> Machine<M> {
         requires outs { self.old.outs.items ≡ [] }
         requires from { self.old.acked ≤ below }
         requires to { below ≤ self.old.sent }
-        ensures does { Does M.SIZE (moves.supervisory_at now said.command said.busy said.reject said.pf below) self.old self.new }
+        ensures does { Does M.SIZE
+            (moves.supervisory_at now said.command said.busy said.reject said.pf below) self.old self.new }
         ensures notice { self.new.notice ≡ self.old.notice }
         ensures window { self.new.window ≡ self.old.window }
     {
@@ -190,7 +194,8 @@ impl<M: Modulus> Machine<M> {
     /// What a response with the final bit or a REJ asks for is put out again.
     fn supply_again(&mut self, said: Supervisory, now: Millis)
         requires room { length self.old.outs.items + self.old.window ≤ 2 * self.old.window + 4 }
-        ensures does { Does M.SIZE (moves.supply_again now (not said.command && said.pf) said.reject) self.old self.new }
+        ensures does { Does M.SIZE
+            (moves.supply_again now (not said.command && said.pf) said.reject) self.old self.new }
         ensures adds { Adds self.old.window (view_of self.old) (view_of self.new) }
     {
         if said.is_final() && self.polling {
@@ -282,7 +287,8 @@ impl<M: Modulus> Machine<M> {
     fn on_i(&mut self, i_frame: &IFrame<'_>, nr: u8, now: Millis)
         requires outs { self.old.outs.items ≡ [] }
         requires size { self.old.window < M.SIZE }
-        ensures does { Does M.SIZE (moves.on_i now i_frame.now.pf i_frame.now.ns nr (Some (brought i_frame.now))) self.old self.new }
+        ensures does { Does M.SIZE
+            (moves.on_i now i_frame.now.pf i_frame.now.ns nr (Some (brought i_frame.now))) self.old self.new }
         ensures notice { self.new.notice ≡ self.old.notice }
         ensures window { self.new.window ≡ self.old.window }
     {
@@ -296,7 +302,8 @@ impl<M: Modulus> Machine<M> {
         requires size { self.old.window < M.SIZE }
         requires from { self.old.acked ≤ below }
         requires to { below ≤ self.old.sent }
-        ensures does { Does M.SIZE (moves.i_at now i_frame.now.pf i_frame.now.ns (brought i_frame.now) below) self.old self.new }
+        ensures does { Does M.SIZE
+            (moves.i_at now i_frame.now.pf i_frame.now.ns (brought i_frame.now) below) self.old self.new }
         ensures notice { self.new.notice ≡ self.old.notice }
         ensures window { self.new.window ≡ self.old.window }
     {

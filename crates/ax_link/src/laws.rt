@@ -49,7 +49,8 @@ pub fn pair_start()
 /// than the other has got.
 pub fn pair_safe()
     ensures safe { (l r : State) (to_l to_r : List Frame) → PairSound l r to_l to_r →
-        IsPrefix r.received l.given × IsPrefix l.received r.given × (l.acked ≤ length r.received) × (r.acked ≤ length l.received) }
+        IsPrefix r.received l.given × IsPrefix l.received r.given × (l.acked ≤ length r.received)
+        × (r.acked ≤ length l.received) }
 {}
 
 /// A step of an end that is Up keeps the payloads and the acknowledgements of both ways sound, whether the end stays
@@ -63,7 +64,8 @@ pub fn pair_left()
         l.phase ≡ SettingUp → f.kind ≡ Ua true → Both (core l) other to_l to_other →
         Both (core (step l (Arrive f) now).link) other to_l (to_other ++ (step l (Arrive f) now).outs) }
     ensures sends { (now : ℕ) (l : State) (p : Payload) (other : Core) (to_l to_other : List Frame) →
-        Both (core l) other to_l to_other → Both (core (step l (Send p) now).link) other to_l (to_other ++ (step l (Send p) now).outs) }
+        Both (core l) other to_l to_other
+        → Both (core (step l (Send p) now).link) other to_l (to_other ++ (step l (Send p) now).outs) }
     ensures lost { (l r : Core) (f : Frame) (to_l to_r : List Frame) → Both l r (f ∷ to_l) to_r → Both l r to_l to_r }
 {}
 
@@ -93,10 +95,13 @@ pub fn link_safe()
     ensures new { (size : ℕ) (a b : LinkConfig) → (size ≡ 8) ⊎ (size ≡ 128) → a.srej ≡ b.srej →
         Starts (new_ends (rules_new size a) (rules_new size b)) }
     ensures met { (p : Payload) → CleanRun (two_new false) (carrying p) ×
-        ((run (two_new false) (carrying p)).right.link.received ≡ p ∷ []) × ((run (two_new false) (carrying p)).left.link.acked ≡ 1) }
+        ((run (two_new false) (carrying p)).right.link.received ≡ p ∷ [])
+        × ((run (two_new false) (carrying p)).left.link.acked ≡ 1) }
     ensures early { (p q : Payload) → CleanRun (two_new true) (losing p q) ×
-        ((run (two_new true) (losing p q)).right.link.received ≡ p ∷ q ∷ []) × ((run (two_new true) (losing p q)).left.link.acked ≡ 2) }
-    ensures taken { (w : Ends) (events : List (Side × Event)) → Starts w → EndsBounded w → CleanRun w events → TakenSafe (run w events) }
+        ((run (two_new true) (losing p q)).right.link.received ≡ p ∷ q ∷ [])
+        × ((run (two_new true) (losing p q)).left.link.acked ≡ 2) }
+    ensures taken { (w : Ends) (events : List (Side × Event)) → Starts w → EndsBounded w → CleanRun w events
+        → TakenSafe (run w events) }
     ensures bounded { (size : ℕ) (a b : LinkConfig) → (size ≡ 8) ⊎ (size ≡ 128) → a.srej ≡ b.srej →
         EndsBounded (new_ends (rules_new size a) (rules_new size b)) }
     ensures begun { (w : Ends) (early later : List (Side × Event)) → CleanRun w (early ++ later) → CleanRun w early }

@@ -82,7 +82,8 @@ impl<M: Modulus> Link<M> {
     /// Sets the link up, where it is Down.
     pub fn set_up(&mut self, now: Moment)
         requires { IsDrained self.old }
-        ensures does { (s : State) → StandsFor M.SIZE self.old s → Stands M.SIZE self.new (table.step s table.Set_up now.0) }
+        ensures does { (s : State) → StandsFor M.SIZE self.old s
+            → Stands M.SIZE self.new (table.step s table.Set_up now.0) }
         ensures kept { (s : State) → StandsFor M.SIZE self.old s → kept self.new ≤ share M.SIZE }
         ensures quiet { self.new.notice ≡ None }
     {
@@ -94,7 +95,8 @@ impl<M: Modulus> Link<M> {
         requires { IsDrained self.old }
         ensures answer { result ≡ send_answer self.old }
         ensures takes { (s : State) → StandsFor M.SIZE self.old s → is_ok result ≡ table.takes s }
-        ensures does { OnOk result ((s : State) → StandsFor M.SIZE self.old s → Stands M.SIZE self.new (table.step s (table.Send payload.now) now.0)) }
+        ensures does { OnOk result ((s : State) → StandsFor M.SIZE self.old s
+            → Stands M.SIZE self.new (table.step s (table.Send payload.now) now.0)) }
         ensures kept { OnOk result ((s : State) → StandsFor M.SIZE self.old s → kept self.new ≤ share M.SIZE) }
         ensures quiet { OnOk result (self.new.notice ≡ None) }
         ensures err { OnErr result (self.new ≡ self.old) }
@@ -112,7 +114,9 @@ impl<M: Modulus> Link<M> {
         now: Moment,
     )
         requires { IsDrained self.old }
-        ensures does { (s : State) → StandsFor M.SIZE self.old s → Stands M.SIZE self.new (table.step s (table.Arrive (frame_in M.SIZE command control.now pid info.now)) now.0) }
+        ensures does { (s : State) → StandsFor M.SIZE self.old s
+            → Stands M.SIZE self.new
+            (table.step s (table.Arrive (frame_in M.SIZE command control.now pid info.now)) now.0) }
         ensures kept { (s : State) → StandsFor M.SIZE self.old s → kept self.new ≤ share M.SIZE }
     {
         let frame = FrameIn::of::<M>(command, control, pid, info);
@@ -122,7 +126,8 @@ impl<M: Modulus> Link<M> {
     /// Time has passed.
     pub fn tick(&mut self, now: Moment)
         requires { IsDrained self.old }
-        ensures does { (s : State) → StandsFor M.SIZE self.old s → Stands M.SIZE self.new (table.step s table.Tick now.0) }
+        ensures does { (s : State) → StandsFor M.SIZE self.old s
+            → Stands M.SIZE self.new (table.step s table.Tick now.0) }
         ensures kept { (s : State) → StandsFor M.SIZE self.old s → kept self.new ≤ share M.SIZE }
     {
         self.machine.tick(Millis::of(now));
@@ -131,7 +136,8 @@ impl<M: Modulus> Link<M> {
     /// Releases the link once all that was accepted is acknowledged.
     pub fn close(&mut self, now: Moment)
         requires { IsDrained self.old }
-        ensures does { (s : State) → StandsFor M.SIZE self.old s → Stands M.SIZE self.new (table.step s table.Close now.0) }
+        ensures does { (s : State) → StandsFor M.SIZE self.old s
+            → Stands M.SIZE self.new (table.step s table.Close now.0) }
         ensures kept { (s : State) → StandsFor M.SIZE self.old s → kept self.new ≤ share M.SIZE }
     {
         self.machine.close(Millis::of(now));
@@ -168,7 +174,8 @@ impl<M: Modulus> Link<M> {
     #[inline(always)]
     pub fn take(&mut self, now: Moment) -> Option<Payload>
         requires { IsDrained self.old }
-        ensures does { (s : State) → StandsFor M.SIZE self.old s → Stands M.SIZE self.new (table.step s table.Take now.0) }
+        ensures does { (s : State) → StandsFor M.SIZE self.old s
+            → Stands M.SIZE self.new (table.step s table.Take now.0) }
         ensures kept { (s : State) → StandsFor M.SIZE self.old s → kept self.new ≤ share M.SIZE }
         ensures quiet { self.new.notice ≡ None }
         ensures payload { result ≡ slice_get self.old.inbox 0 }

@@ -43,7 +43,8 @@ impl<M: Modulus> Machine<M> {
         requires size { self.old.window < M.SIZE }
         requires busy { length self.old.inbox.items < 64 }
         requires more { self.old.got < COUNT_MAX }
-        ensures does { Does M.SIZE (moves.text_srej i_frame.now.pf i_frame.now.ns (brought i_frame.now)) self.old self.new }
+        ensures does { Does M.SIZE
+            (moves.text_srej i_frame.now.pf i_frame.now.ns (brought i_frame.now)) self.old self.new }
         ensures adds { Adds self.old.window (view_of self.old) (view_of self.new) }
     {
         match self.in_window(i_frame.ns) {
@@ -86,7 +87,8 @@ impl<M: Modulus> Machine<M> {
         requires room { length self.old.outs.items + 1 ≤ 2 * self.old.window + 4 }
         requires busy { length self.old.inbox.items < 64 }
         requires more { self.old.got < COUNT_MAX }
-        ensures does { Does M.SIZE (moves.text_plain i_frame.now.pf i_frame.now.ns (brought i_frame.now)) self.old self.new }
+        ensures does { Does M.SIZE
+            (moves.text_plain i_frame.now.pf i_frame.now.ns (brought i_frame.now)) self.old self.new }
         ensures adds { Adds 1 (view_of self.old) (view_of self.new) }
     {
         if i_frame.ns == M::wire(self.got) {

@@ -36,7 +36,8 @@ impl Gathered {
 
     /// Takes in a segment.
     pub(crate) fn take_in(&mut self, segment: &[u8]) -> Result<Joined, NoMemory>
-        ensures ok { IfOk result (λ joined. (held_at self.new, answer_of joined) ≡ join_step (held_at self.old) segment.now) }
+        ensures ok { IfOk result (λ joined. (held_at self.new, answer_of joined)
+            ≡ join_step (held_at self.old) segment.now) }
         ensures err { OnErr result (held_at self.new ≡ held_at self.old) }
     {
         match segment {
@@ -79,7 +80,8 @@ impl Gathered {
     /// Takes in a segment where one that isn't the first has to come.
     fn go_on(&mut self, header: u8, rest: &[u8]) -> Result<Joined, NoMemory>
         requires { 0 < self.old.to_come }
-        ensures ok { IfOk result (λ joined. (held_at self.new, answer_of joined) ≡ continued_by self.old.pid self.old.bytes.items self.old.to_come header rest.now) }
+        ensures ok { IfOk result (λ joined. (held_at self.new, answer_of joined)
+            ≡ continued_by self.old.pid self.old.bytes.items self.old.to_come header rest.now) }
         ensures err { OnErr result (held_at self.new ≡ held_at self.old) }
     {
         let expected = self.to_come - 1;

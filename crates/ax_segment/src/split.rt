@@ -40,7 +40,9 @@ impl<'a> Split<'a> {
     /// All segments of a message with this PID.
     #[tactic(auto, using(crate::proofs::Cutting::length_segments))]
     pub fn new(pid: u8, message: &'a [u8]) -> Result<Split<'a>, SplitRefusal>
-        ensures exact { MatchResult result (λ split. (split ≡ segments_of pid message.now) × IsSplittable pid message.now) (λ refusal. HasCause refusal pid message.now) }
+        ensures exact { MatchResult result
+            (λ split. (split ≡ segments_of pid message.now) × IsSplittable pid message.now)
+            (λ refusal. HasCause refusal pid message.now) }
         ensures longest { IsOk result ↔ ((1 ≤ length message.now) × (length message.now ≤ LONGEST_MESSAGE)) }
     {
         if message.is_empty() {
@@ -58,7 +60,8 @@ impl<'a> Split<'a> {
 
     /// Gives the next segment: none once all were given.
     pub fn next(&mut self) -> Option<Payload>
-        ensures { MatchOption result ((self.old ≡ []) × (self.new ≡ [])) (λ payload. (payload.pid ≡ 0x08) × (self.old ≡ payload.info.items ∷ self.new)) }
+        ensures { MatchOption result ((self.old ≡ []) × (self.new ≡ []))
+            (λ payload. (payload.pid ≡ 0x08) × (self.old ≡ payload.info.items ∷ self.new)) }
     {
         if !self.begun {
             let (bytes, left) = self.left.split_at((FULL_PIECE - 1).min(self.left.len()));

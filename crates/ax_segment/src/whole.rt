@@ -44,7 +44,8 @@ fn begun(header: u8, rest: &[u8]) -> Option<(u8, usize)>
 /// The same where one that isn't the first has to come.
 fn continued(gathered: &Gathered, header: u8, rest: &[u8]) -> Option<(u8, usize)>
     requires { 0 < gathered.now.to_come }
-    ensures { result ≡ whole_of (continued_by gathered.now.pid gathered.now.bytes.items gathered.now.to_come header rest.now).1 }
+    ensures { result ≡ whole_of
+        (continued_by gathered.now.pid gathered.now.bytes.items gathered.now.to_come header rest.now).1 }
 {
     if header != gathered.to_come - 1 {
         return None;

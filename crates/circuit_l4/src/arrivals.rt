@@ -93,7 +93,8 @@ impl Machine {
 
     fn hear_info(&mut self, info: &Info<'_>, now: Millis)
         requires { IsIdle self.old }
-        ensures does { Does (table.hear_info now info.now.tx info.now.rx info.now.flags info.now.piece.now) self.old self.new }
+        ensures does { Does
+            (table.hear_info now info.now.tx info.now.rx info.now.flags info.now.piece.now) self.old self.new }
         ensures config { self.new.config ≡ self.old.config }
     {
         self.last_active = now.ms();

@@ -75,7 +75,8 @@ impl End {
         now: Moment,
     ) -> Result<End, NoMemory>
         requires { IsConfig config }
-        ensures opening { IfOk result (λ end. Stands end (opening.requesting pair user node config (min now.0 (2 ^ 62)))) }
+        ensures opening { IfOk result (λ end. Stands end
+            (opening.requesting pair user node config (min now.0 (2 ^ 62)))) }
     {
         let now = Millis::of(now);
         let beginning = Beginning {
@@ -102,7 +103,8 @@ impl End {
         now: Moment,
     ) -> Result<End, NoMemory>
         requires { IsConfig config }
-        ensures opening { IfOk result (λ end. Stands end (opening.responding pair partner proposed config (min now.0 (2 ^ 62)))) }
+        ensures opening { IfOk result (λ end. Stands end
+            (opening.responding pair partner proposed config (min now.0 (2 ^ 62)))) }
     {
         let window = common_window(config.window, proposed);
         let beginning = Beginning {
@@ -129,7 +131,8 @@ impl End {
     pub fn write(&mut self, message: &[u8], now: Moment) -> Result<(), WriteRefusal>
         requires { IsDrained self.old }
         ensures answer { (s : State) → StandsFor self.old s → result ≡ table.write_answer s message.now }
-        ensures does { OnOk result ((s : State) → StandsFor self.old s → Stands self.new (table.step s (table.Write message.now) now.0)) }
+        ensures does { OnOk result ((s : State) → StandsFor self.old s
+            → Stands self.new (table.step s (table.Write message.now) now.0)) }
         ensures err { OnErr result (self.new ≡ self.old) }
         ensures few { length self.new.outs ≤ 2 * self.old.config.window + 2 }
         ensures kept { kept self.new ≤ share self.new.config.window }
@@ -159,7 +162,8 @@ impl End {
     /// Takes in what the other end has sent.
     pub fn arrive(&mut self, transport: &Transport, now: Moment)
         requires { IsDrained self.old }
-        ensures does { (s : State) → StandsFor self.old s → Stands self.new (table.step s (table.Arrive transport.now) now.0) }
+        ensures does { (s : State) → StandsFor self.old s
+            → Stands self.new (table.step s (table.Arrive transport.now) now.0) }
         ensures few { length self.new.outs ≤ 2 * self.old.config.window + 2 }
         ensures kept { kept self.new ≤ share self.new.config.window }
         ensures most { length self.new.outs ≤ 256 }
@@ -184,7 +188,8 @@ impl End {
     pub fn take(&mut self, out: &mut Message, now: Moment) -> bool
         requires { IsDrained self.old }
         ensures does { (s : State) → StandsFor self.old s → Stands self.new (table.step s table.Take now.0) }
-        ensures message { (s : State) → StandsFor self.old s → out.new.items ≡ first_or out.old.items (inbox s.receiving) }
+        ensures message { (s : State) → StandsFor self.old s
+            → out.new.items ≡ first_or out.old.items (inbox s.receiving) }
         ensures answer { (s : State) → StandsFor self.old s → result ≡ nat_lt 0 (length (inbox s.receiving)) }
         ensures few { length self.new.outs ≤ 2 * self.old.config.window + 2 }
         ensures kept { kept self.new ≤ share self.new.config.window }

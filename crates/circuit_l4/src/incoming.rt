@@ -57,7 +57,14 @@ impl Model for Incoming {
 impl Incoming {
     /// Nothing has come. Takes all the memory that is ever needed.
     pub(crate) fn new(alloc: Global, window: u8) -> Result<Incoming, NoMemory>
-        ensures value { IfOk result (λ i. i ≡ record { got = 0; early = replicate window None; gathered = []; messages = []; received = 0; nak_sent_for = None }) }
+        ensures value { IfOk result (λ i. i ≡ record {
+          got = 0;
+          early = replicate window None;
+          gathered = [];
+          messages = [];
+          received = 0;
+          nak_sent_for = None;
+        }) }
         ensures few { IfOk result IsFew }
     {
         Ok(Incoming {
@@ -110,8 +117,10 @@ impl Incoming {
     pub(crate) fn receive(&mut self, window: u64, tx: u8, piece: &Piece) -> Result<bool, Oversize>
         requires window { window ≤ length self.old.early }
         requires numbers { window ≤ 256 }
-        ensures does { (r : Receiving) → IsReceiving self.old r → IsReceiving self.new (spec.receive window tx piece.now r).half }
-        ensures answer { (r : Receiving) → IsReceiving self.old r → result ≡ receipt_answer (spec.receive window tx piece.now r) }
+        ensures does { (r : Receiving) → IsReceiving self.old r
+            → IsReceiving self.new (spec.receive window tx piece.now r).half }
+        ensures answer { (r : Receiving) → IsReceiving self.old r
+            → result ≡ receipt_answer (spec.receive window tx piece.now r) }
         ensures places { length self.new.early ≡ length self.old.early }
         ensures few { IsFew self.new }
     {
@@ -128,8 +137,10 @@ impl Incoming {
     fn receive_at(&mut self, number: u64, piece: &Piece) -> Result<bool, Oversize>
         requires takes { Takes self.old }
         requires from { self.old.got ≤ number }
-        ensures does { (r : Receiving) → IsReceiving self.old r → IsReceiving self.new (spec.receive_at number piece.now r).half }
-        ensures answer { (r : Receiving) → IsReceiving self.old r → result ≡ receipt_answer (spec.receive_at number piece.now r) }
+        ensures does { (r : Receiving) → IsReceiving self.old r
+            → IsReceiving self.new (spec.receive_at number piece.now r).half }
+        ensures answer { (r : Receiving) → IsReceiving self.old r
+            → result ≡ receipt_answer (spec.receive_at number piece.now r) }
         ensures places { length self.new.early ≡ length self.old.early }
         ensures few { IsFew self.new }
     {
@@ -143,8 +154,10 @@ impl Incoming {
     /// A fragment has come before its turn: the next one expected is asked for, once.
     fn receive_early(&mut self, number: u64, piece: &Piece) -> bool
         requires { self.old.got ≤ number }
-        ensures does { (r : Receiving) → IsReceiving self.old r → IsReceiving self.new (spec.receive_early number piece.now r).half }
-        ensures answer { (r : Receiving) → IsReceiving self.old r → result ≡ (spec.receive_early number piece.now r).nak }
+        ensures does { (r : Receiving) → IsReceiving self.old r
+            → IsReceiving self.new (spec.receive_early number piece.now r).half }
+        ensures answer { (r : Receiving) → IsReceiving self.old r
+            → result ≡ (spec.receive_early number piece.now r).nak }
         ensures places { length self.new.early ≡ length self.old.early }
         ensures few { IsFew self.new }
     {
@@ -157,8 +170,10 @@ impl Incoming {
     /// The next fragment has come.
     fn receive_next(&mut self, piece: &Piece) -> Result<bool, Oversize>
         requires { Takes self.old }
-        ensures does { (r : Receiving) → IsReceiving self.old r → IsReceiving self.new (spec.receive_next piece.now r).half }
-        ensures answer { (r : Receiving) → IsReceiving self.old r → result ≡ receipt_answer (spec.receive_next piece.now r) }
+        ensures does { (r : Receiving) → IsReceiving self.old r
+            → IsReceiving self.new (spec.receive_next piece.now r).half }
+        ensures answer { (r : Receiving) → IsReceiving self.old r
+            → result ≡ receipt_answer (spec.receive_next piece.now r) }
         ensures places { length self.new.early ≡ length self.old.early }
         ensures few { IsFew self.new }
     {
@@ -170,8 +185,10 @@ impl Incoming {
     /// Appends the next fragment. What came early is one place nearer then.
     fn append(&mut self, piece: &Piece) -> Result<(), Oversize>
         requires { Takes self.old }
-        ensures does { (r : Receiving) → IsReceiving self.old r → IsReceiving self.new (spec.append piece.now.text.items piece.now.more r).half }
-        ensures answer { (r : Receiving) → IsReceiving self.old r → result ≡ moved_answer (spec.append piece.now.text.items piece.now.more r) }
+        ensures does { (r : Receiving) → IsReceiving self.old r
+            → IsReceiving self.new (spec.append piece.now.text.items piece.now.more r).half }
+        ensures answer { (r : Receiving) → IsReceiving self.old r
+            → result ≡ moved_answer (spec.append piece.now.text.items piece.now.more r) }
         ensures places { length self.new.early ≡ length self.old.early }
         ensures few { IsFew self.new }
     {
@@ -272,7 +289,8 @@ fn gather_next(
     requires text { length text.now ≤ 236 }
     requires room { bytes_of inbox.old.messages + length gather.old.held + length text.now ≤ inbox.old.room }
     ensures held { gather.new ≡ still (gather_step gather.old.held text.now more).0 }
-    ensures messages { inbox.new ≡ record inbox.old { messages = with_answer (gather_step gather.old.held text.now more).1 inbox.old.messages } }
+    ensures messages { inbox.new
+        ≡ record inbox.old { messages = with_answer (gather_step gather.old.held text.now more).1 inbox.old.messages } }
     ensures answer { result ≡ whole_answer (gather_step gather.old.held text.now more).1 }
 {
     match gather.push(text, more) {

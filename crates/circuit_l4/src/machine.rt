@@ -112,7 +112,8 @@ impl Machine {
     /// An answer is awaited from now on.
     pub(crate) fn wait(&mut self, now: Millis)
         ensures does { Does (moves.on_state (moves.wait now)) self.old self.new }
-        ensures rest { view_of self.new ≡ record (view_of self.old) { answer_due = Some (now + self.old.config.timeout) } }
+        ensures rest { view_of self.new
+            ≡ record (view_of self.old) { answer_due = Some (now + self.old.config.timeout) } }
         ensures outs { self.new.outs ≡ self.old.outs }
     {
         self.answer_due = Some(now.ms() + self.config.timeout);

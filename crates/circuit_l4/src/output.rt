@@ -80,7 +80,9 @@ impl Output {
 
 /// An information message with the fragment of this number.
 fn info(to: Pair, number: u64, rx: u8, choke: bool, outgoing: &Outgoing) -> Transport
-    ensures { (result, Some number) ≡ with_text to number rx choke (fragment_from outgoing.now.queue (outgoing.now.acked - outgoing.now.done) number) }
+    ensures { (result, Some number)
+        ≡ with_text to number rx choke
+        (fragment_from outgoing.now.queue (outgoing.now.acked - outgoing.now.done) number) }
 {
     let piece = outgoing.piece(number);
     Transport::Info {

@@ -32,7 +32,8 @@ impl Machine {
     /// An information message: its acknowledgement first, then its text.
     pub(crate) fn on_info(&mut self, info: &Info<'_>, now: Millis)
         requires { IsIdle self.old }
-        ensures does { Does (moves.on_info now info.now.tx info.now.rx info.now.flags info.now.piece.now) self.old self.new }
+        ensures does { Does
+            (moves.on_info now info.now.tx info.now.rx info.now.flags info.now.piece.now) self.old self.new }
         ensures config { self.new.config ≡ self.old.config }
     {
         let owed = self.acknowledge(info.rx, info.flags, now);
@@ -45,7 +46,8 @@ impl Machine {
     /// The text of a message has come. Answers whether a negative acknowledgement is owed.
     fn receive(&mut self, tx: u8, piece: &Piece) -> Result<bool, Oversize>
         ensures does { (g : Effect) → KeepsEffect (view_of self.old) g →
-            KeepsEffect (view_of self.new) (moves.with_receiving (receive g.end.window tx piece.now g.end.receiving).half g)
+            KeepsEffect (view_of self.new)
+            (moves.with_receiving (receive g.end.window tx piece.now g.end.receiving).half g)
             × (result ≡ receipt_answer (receive g.end.window tx piece.now g.end.receiving)) }
         ensures adds { Adds 0 self.old self.new }
         ensures outgoing { self.new.outgoing ≡ self.old.outgoing }

@@ -6,7 +6,8 @@ use crate::FRAGMENT;
 
 /// The `nth` fragment of the message, counted from 0, and whether more follow; `None` where it has no more.
 pub fn fragment(message: &[u8], nth: usize) -> Option<(&[u8], bool)>
-    ensures exact { MatchOption result (slice_get (fragments_of message.now) nth ≡ None) (λ x. slice_get (fragments_of message.now) nth ≡ Some (x.0.now, x.1)) }
+    ensures exact { MatchOption result (slice_get (fragments_of message.now) nth ≡ None)
+        (λ x. slice_get (fragments_of message.now) nth ≡ Some (x.0.now, x.1)) }
     ensures most { IfSome result (λ x. length x.0.now ≤ 236) }
 {
     if nth < fragment_count(message.len()) {

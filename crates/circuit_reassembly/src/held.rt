@@ -40,8 +40,10 @@ impl Held {
 
     /// Takes in the next fragment.
     pub(crate) fn take_in(&mut self, piece: &[u8], more: bool) -> Took
-        ensures does { gathering self.new.handed_up self.new.bytes.items ≡ answered (gather_step (held_at self.old.handed_up self.old.bytes.items) piece.now more) }
-        ensures answer { answer_at result self.new.bytes.items ≡ (gather_step (held_at self.old.handed_up self.old.bytes.items) piece.now more).1 }
+        ensures does { gathering self.new.handed_up self.new.bytes.items
+            ≡ answered (gather_step (held_at self.old.handed_up self.old.bytes.items) piece.now more) }
+        ensures answer { answer_at result self.new.bytes.items
+            ≡ (gather_step (held_at self.old.handed_up self.old.bytes.items) piece.now more).1 }
     {
         self.let_go();
         self.take_behind(piece, more)
@@ -61,7 +63,8 @@ impl Held {
     /// Takes in the next fragment, where nothing was handed up since the last one.
     fn take_behind(&mut self, piece: &[u8], more: bool) -> Took
         requires { self.old.handed_up ≡ false }
-        ensures does { gathering self.new.handed_up self.new.bytes.items ≡ answered (gather_step self.old.bytes.items piece.now more) }
+        ensures does { gathering self.new.handed_up self.new.bytes.items
+            ≡ answered (gather_step self.old.bytes.items piece.now more) }
         ensures answer { answer_at result self.new.bytes.items ≡ (gather_step self.old.bytes.items piece.now more).1 }
     {
         if self.bytes.as_slice().len() + piece.len() > LONGEST {

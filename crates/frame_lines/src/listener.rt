@@ -72,8 +72,11 @@ impl Listener {
 
     /// Takes the octets of a frame in.
     fn hear_frame(&mut self, port: u8, octets: &[u8], out: &mut TextOut) -> Result<(), NoMemory>
-        ensures heard { OnOk result (self.new ≡ (hearing.by_read self.old port (read_at (hearing.size_for self.old octets.now) octets.now)).0) }
-        ensures told { OnOk result (out.new ≡ out.old ++ (hearing.by_read self.old port (read_at (hearing.size_for self.old octets.now) octets.now)).1) }
+        ensures heard { OnOk result (self.new
+            ≡ (hearing.by_read self.old port (read_at (hearing.size_for self.old octets.now) octets.now)).0) }
+        ensures told { OnOk result (out.new
+            ≡ out.old ++ (hearing.by_read self.old port
+            (read_at (hearing.size_for self.old octets.now) octets.now)).1) }
     {
         if self.is_extended(octets) {
             self.hear_as::<M128>(port, octets, out)
@@ -111,7 +114,8 @@ impl Listener {
     ) -> Result<(), NoMemory>
         requires { IsLinkModulus M.SIZE }
         ensures heard { OnOk result (self.new ≡ (hearing.by_read self.old port (read_at M.SIZE octets.now)).0) }
-        ensures told { OnOk result (out.new ≡ out.old ++ (hearing.by_read self.old port (read_at M.SIZE octets.now)).1) }
+        ensures told { OnOk result (out.new
+            ≡ out.old ++ (hearing.by_read self.old port (read_at M.SIZE octets.now)).1) }
     {
         match read_frame::<M>(octets) {
             Ok(frame) => {

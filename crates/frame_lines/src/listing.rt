@@ -18,7 +18,8 @@ type Line = ArrayString<96>;
 /// Adds the line of an item of a KISS stream.
 pub fn add_item<M: Modulus>(item: &KissItem<'_>, text: &mut TextOut) -> Result<(), NoMemory>
     requires { IsLinkModulus M.SIZE }
-    ensures { OnOk result ((line : List ℕ) × Lists M.SIZE (handed_out (Some item.now)) line × (text.new ≡ text.old ++ line)) }
+    ensures { OnOk result ((line : List ℕ) × Lists M.SIZE (handed_out (Some item.now)) line
+        × (text.new ≡ text.old ++ line)) }
 {
     match item {
         KissItem::Frame {

@@ -63,7 +63,8 @@ impl Deframer {
     /// Takes in the next byte of the stream, and hands out the item that it completes, if any.
     pub fn feed(&mut self, byte: u8) -> Option<KissItem<'_>>
         ensures* goes_on { sem 𝓛 (TakesIn self.entry (byte ∷ [])) }
-        ensures adds { (stream : List ℕ) → StandsFor self.old stream → items (stream ++ byte ∷ []) ≡ items stream ++ handed_out result }
+        ensures adds { (stream : List ℕ) → StandsFor self.old stream
+            → items (stream ++ byte ∷ []) ≡ items stream ++ handed_out result }
         ensures exact { (stream : List ℕ) → StandsFor self.old stream → handed_out result ≡ given_by_byte stream byte }
         ensures small { IfSome result IsSmall }
     {
@@ -75,7 +76,8 @@ impl Deframer {
     /// it took in, and the item.
     pub fn feed_until_item(&mut self, bytes: &[u8]) -> (usize, Option<KissItem<'_>>)
         ensures* goes_on { sem 𝓛 (TakesIn self.entry (take result.0 bytes.now)) }
-        ensures adds { (stream : List ℕ) → StandsFor self.old stream → items (stream ++ take result.0 bytes.now) ≡ items stream ++ handed_out result.1 }
+        ensures adds { (stream : List ℕ) → StandsFor self.old stream
+            → items (stream ++ take result.0 bytes.now) ≡ items stream ++ handed_out result.1 }
 
         // No byte before the last gives an item, and where none gives one all are taken in.
         ensures first { (stream : List ℕ) → StandsFor self.old stream → IsQuietBefore result.0 stream bytes.now }

@@ -26,7 +26,8 @@ pub fn enframe<const CAP: usize>(
     ensures err { OnErr result (out.new ≡ out.old) }
 
     // A deframer gets the frame back, and nothing else.
-    ensures reads_back { length payload.now ≤ 1023 → items (framed port command payload.now) ≡ Frame port command payload.now ∷ [] }
+    ensures reads_back { length payload.now ≤ 1023
+        → items (framed port command payload.now) ≡ Frame port command payload.now ∷ [] }
 {
     let start = out.len();
     match push_frame(port * 16 + command, payload, out) {

@@ -67,7 +67,8 @@ impl Piece {
 
     /// Takes in bytes of the stream up to the first that ends something, or all of them where none does.
     pub(crate) fn take_in_some(&mut self, bytes: &[u8]) -> (usize, Ends)
-        ensures { EndsAt (held_at self.old.place self.old.bytes.items) bytes.now result.0 result.1 (held_at self.new.place self.new.bytes.items) self.new.bytes.items }
+        ensures { EndsAt (held_at self.old.place self.old.bytes.items) bytes.now result.0 result.1
+            (held_at self.new.place self.new.bytes.items) self.new.bytes.items }
     {
         let mut taken = 0;
         while taken < bytes.len() {
@@ -83,7 +84,8 @@ impl Piece {
 
     /// Takes in bytes that stand for themselves, and the byte behind them.
     fn take_in_next(&mut self, bytes: &[u8]) -> (usize, Ends)
-        ensures ends { EndsNext (held_at self.old.place self.old.bytes.items) bytes.now result.0 result.1 (held_at self.new.place self.new.bytes.items) self.new.bytes.items }
+        ensures ends { EndsNext (held_at self.old.place self.old.bytes.items) bytes.now result.0 result.1
+            (held_at self.new.place self.new.bytes.items) self.new.bytes.items }
         ensures within { result.0 ≤ length bytes.now }
         ensures moves { 0 < length bytes.now → 0 < result.0 }
     {
@@ -98,7 +100,8 @@ impl Piece {
     /// too long.
     fn take_in_run(&mut self, bytes: &[u8]) -> usize
         ensures count { result ≤ length bytes.now }
-        ensures led { Leads (held_at self.old.place self.old.bytes.items) (take result bytes.now) (held_at self.new.place self.new.bytes.items) }
+        ensures led { Leads (held_at self.old.place self.old.bytes.items) (take result bytes.now)
+            (held_at self.new.place self.new.bytes.items) }
     {
         match self.place {
             Place::Within => self.hold_run(plain_run(bytes)),
@@ -112,7 +115,8 @@ impl Piece {
         requires within { self.old.place ≡ Place.Within }
         requires plain { AllByRecursion IsPlain run.now }
         ensures count { result ≤ length run.now }
-        ensures led { Leads (held_at self.old.place self.old.bytes.items) (take result run.now) (held_at self.new.place self.new.bytes.items) }
+        ensures led { Leads (held_at self.old.place self.old.bytes.items) (take result run.now)
+            (held_at self.new.place self.new.bytes.items) }
     {
         let count = run.len().min(self.bytes.remaining_capacity());
         let _ = self.bytes.try_extend_from_slice(&run[..count]);
@@ -122,7 +126,8 @@ impl Piece {
     /// Takes in the next byte of the stream.
     pub(crate) fn take_in(&mut self, byte: u8) -> Ends
         ensures some { result ≢ Ends.Nothing → items_at result self.new.bytes.items ≢ [] }
-        ensures stepped { (held_at self.new.place self.new.bytes.items, items_at result self.new.bytes.items) ≡ step (held_at self.old.place self.old.bytes.items) byte }
+        ensures stepped { (held_at self.new.place self.new.bytes.items, items_at result self.new.bytes.items)
+            ≡ step (held_at self.old.place self.old.bytes.items) byte }
     {
         if byte == FEND {
             return self.end();
@@ -140,7 +145,8 @@ impl Piece {
 
     fn end(&mut self) -> Ends
         ensures some { result ≢ Ends.Nothing → items_at result self.new.bytes.items ≢ [] }
-        ensures stepped { (held_at self.new.place self.new.bytes.items, items_at result self.new.bytes.items) ≡ after_fend (held_at self.old.place self.old.bytes.items) }
+        ensures stepped { (held_at self.new.place self.new.bytes.items, items_at result self.new.bytes.items)
+            ≡ after_fend (held_at self.old.place self.old.bytes.items) }
     {
         let ends = match self.place {
             Place::Within | Place::Escaped if !self.bytes.is_empty() => Ends::Piece,
@@ -153,7 +159,8 @@ impl Piece {
     /// Takes in a byte that no `FESC` stands before.
     fn take_plain(&mut self, byte: u8) -> Ends
         ensures some { result ≢ Ends.Nothing → items_at result self.new.bytes.items ≢ [] }
-        ensures stepped { (held_at self.new.place self.new.bytes.items, items_at result self.new.bytes.items) ≡ after_plain self.old.bytes.items byte }
+        ensures stepped { (held_at self.new.place self.new.bytes.items, items_at result self.new.bytes.items)
+            ≡ after_plain self.old.bytes.items byte }
     {
         if byte == FESC {
             self.place = Place::Escaped;
@@ -166,7 +173,8 @@ impl Piece {
     /// Takes in the byte behind a `FESC`.
     fn take_escaped(&mut self, byte: u8) -> Ends
         ensures some { result ≢ Ends.Nothing → items_at result self.new.bytes.items ≢ [] }
-        ensures stepped { (held_at self.new.place self.new.bytes.items, items_at result self.new.bytes.items) ≡ after_escape self.old.bytes.items byte }
+        ensures stepped { (held_at self.new.place self.new.bytes.items, items_at result self.new.bytes.items)
+            ≡ after_escape self.old.bytes.items byte }
     {
         match byte {
             TFEND => self.hold(FEND),
@@ -181,7 +189,8 @@ impl Piece {
     /// Holds one more byte, or drops the piece where it has no room.
     fn hold(&mut self, byte: u8) -> Ends
         ensures some { result ≢ Ends.Nothing → items_at result self.new.bytes.items ≢ [] }
-        ensures stepped { (held_at self.new.place self.new.bytes.items, items_at result self.new.bytes.items) ≡ grown (self.old.bytes.items ++ byte ∷ []) }
+        ensures stepped { (held_at self.new.place self.new.bytes.items, items_at result self.new.bytes.items)
+            ≡ grown (self.old.bytes.items ++ byte ∷ []) }
     {
         match self.bytes.try_push(byte) {
             Ok(()) => {

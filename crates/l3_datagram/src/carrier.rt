@@ -55,5 +55,6 @@ pub trait Carrier {
     ghost none_made: { (c : Self) → made c [] c };
 
     // Calls and then more calls are all of them.
-    ghost more_made: { (a b c : Self) (calls more : List CarrierCall) → made a calls b → made b more c → made a (calls ++ more) c };
+    ghost more_made: { (a b c : Self) (calls more : List CarrierCall) → made a calls b → made b more c
+        → made a (calls ++ more) c };
 }

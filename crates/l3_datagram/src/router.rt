@@ -76,7 +76,8 @@ impl<C: Carrier> Router<C> {
     /// Sends a datagram of this node with this transport, of at most 241 octets, to the next hop towards `to`.
     pub fn send(&mut self, to: &Call, transport: &[u8], now: Moment) -> Result<Sending, NoMemory>
         requires { length transport.now ≤ 241 }
-        ensures sends { let d = datagram_with (record { origin = self.old.own; dest = to.now; ttl = self.old.ttl }) transport.now in
+        ensures sends { let d = datagram_with
+            (record { origin = self.old.own; dest = to.now; ttl = self.old.ttl }) transport.now in
             IfOk result (Sends C.made self.old self.new to.now d now.0) }
         ensures lost { C.lost self.new.carrier ≡ C.lost self.old.carrier }
         ensures waiting { C.waiting self.new.carrier ≡ C.waiting self.old.carrier }
@@ -105,12 +106,14 @@ impl<C: Carrier> Router<C> {
     /// Takes one lost neighbour or else one waiting datagram from the carrier, and says what became of it: None where
     /// neither is there.
     pub fn pump(&mut self, now: Moment) -> Result<Option<Routed>, NoMemory>
-        ensures pumps { IfOk result (Pumps C.made self.old self.new (C.lost self.old.carrier) (C.waiting self.old.carrier) now.0) }
+        ensures pumps { IfOk result (Pumps C.made self.old self.new
+            (C.lost self.old.carrier) (C.waiting self.old.carrier) now.0) }
         ensures mine { IfOk result (HandsUp self.old.own) }
         ensures first { IfOk result (TellsLost (C.lost self.old.carrier)) }
         ensures none { IfOk result (NoneWhereEmpty (C.lost self.old.carrier) (C.waiting self.old.carrier)) }
         ensures lost { IfOk result (λ _. C.lost self.new.carrier ≡ drop 1 (C.lost self.old.carrier)) }
-        ensures waiting { IfOk result (λ _. C.waiting self.new.carrier ≡ waiting_left (C.lost self.old.carrier) (C.waiting self.old.carrier)) }
+        ensures waiting { IfOk result (λ _. C.waiting self.new.carrier
+            ≡ waiting_left (C.lost self.old.carrier) (C.waiting self.old.carrier)) }
         ensures same { SameRouter self.old self.new }
         ensures memory { IsErr result ↔ IsTrue self.new.spent }
         ensures spent { IsTrue self.old.spent → self.new ≡ self.old }
@@ -177,7 +180,8 @@ impl<C: Carrier> Router<C> {
 
     /// Offers a datagram to the carrier. Want of memory spends the router.
     fn offer(&mut self, to: &Call, datagram: &Datagram, now: Moment) -> Result<Offered, NoMemory>
-        ensures made { IfOk result (λ answer. C.made self.old.carrier (Offer to.now datagram.now now.0 answer ∷ []) self.new.carrier) }
+        ensures made { IfOk result (λ answer. C.made self.old.carrier
+            (Offer to.now datagram.now now.0 answer ∷ []) self.new.carrier) }
         ensures lost { C.lost self.new.carrier ≡ C.lost self.old.carrier }
         ensures waiting { C.waiting self.new.carrier ≡ C.waiting self.old.carrier }
         ensures same { self.new ≡ record self.old { carrier = self.new.carrier; spent = self.new.spent } }
@@ -212,7 +216,8 @@ impl<C: Carrier> Router<C> {
     /// The same, to be changed: what is left of it is the router's table then.
     pub fn table_mut(&mut self) -> &mut RouteTable
         ensures value { result.now ≡ self.old.table }
-        ensures* writes_back { sem 𝓛 (Lends (the_row C.row) table_row self.entry result (λ w. record self.old { table = w })) }
+        ensures* writes_back { sem 𝓛
+            (Lends (the_row C.row) table_row self.entry result (λ w. record self.old { table = w })) }
     {
         &mut self.table
     }
@@ -227,7 +232,8 @@ impl<C: Carrier> Router<C> {
     /// The same, to be changed: what is left of it is the router's carrier then.
     pub fn carrier_mut(&mut self) -> &mut C
         ensures value { result.now ≡ self.old.carrier }
-        ensures* writes_back { sem 𝓛 (Lends (the_row C.row) C.row self.entry result (λ w. record self.old { carrier = w })) }
+        ensures* writes_back { sem 𝓛
+            (Lends (the_row C.row) C.row self.entry result (λ w. record self.old { carrier = w })) }
     {
         &mut self.carrier
     }

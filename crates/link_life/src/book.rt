@@ -93,7 +93,8 @@ impl Book {
 
     /// The epoch that lasts is over, if there is one.
     pub fn end_epoch(&mut self, facts: &LinkFacts) -> Result<(), NoMemory>
-        ensures over { OnOk result (self.new.over.items ≡ self.old.over.items ++ standing.over_kept facts.now self.old.lasting) }
+        ensures over { OnOk result (self.new.over.items
+            ≡ self.old.over.items ++ standing.over_kept facts.now self.old.lasting) }
         ensures lasting { OnOk result (self.new.lasting ≡ None) }
         ensures down { OnOk result (self.new.down_since ≡ self.old.down_since) }
         ensures coming { OnOk result (self.new.coming.items ≡ self.old.coming.items) }

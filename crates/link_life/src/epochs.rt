@@ -72,7 +72,8 @@ fn write_over(side: Side, epochs: &[Epoch], text: &mut TextOut) -> Result<(), No
 }
 
 fn write_end<M: Modulus>(side: Side, end: &End<M>, text: &mut TextOut) -> Result<(), NoMemory>
-    ensures { OnOk result ((e : ends.End) → standing.EndStands M.SIZE end.now e → text.new ≡ text.old ++ reports.epoch_lines side 0 (ends.epochs e)) }
+    ensures { OnOk result ((e : ends.End) → standing.EndStands M.SIZE end.now e
+        → text.new ≡ text.old ++ reports.epoch_lines side 0 (ends.epochs e)) }
 {
     write_over(side, &end.book.over, text)?;
     match end.book.lasting {
@@ -87,7 +88,8 @@ fn write_end<M: Modulus>(side: Side, end: &End<M>, text: &mut TextOut) -> Result
 
 /// The epochs of a, then those of b.
 pub fn write_epochs<M: Modulus>(life: &Life<M>, text: &mut TextOut) -> Result<(), NoMemory>
-    ensures { OnOk result ((w : lives.Life) → standing.LifeStands M.SIZE life.now w → text.new ≡ text.old ++ reports.epochs_text w) }
+    ensures { OnOk result ((w : lives.Life) → standing.LifeStands M.SIZE life.now w
+        → text.new ≡ text.old ++ reports.epochs_text w) }
 {
     write_end(Side::A, &life.a, text)?;
     write_end(Side::B, &life.b, text)?;

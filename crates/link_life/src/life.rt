@@ -64,7 +64,8 @@ fn act_at<M: Modulus>(
     requires modulus { IsLinkModulus M.SIZE }
     requires rests { standing.Rests life.old }
     ensures rests { OnOk result (standing.Rests life.new) }
-    ensures does { IfOk result (λ answer. (w : lives.Life) → standing.LifeStands M.SIZE life.old w → standing.LifeComesTo M.SIZE answer life.new text.old text.new w (lives.act_at side act.now w)) }
+    ensures does { IfOk result (λ answer. (w : lives.Life) → standing.LifeStands M.SIZE life.old w
+        → standing.LifeComesTo M.SIZE answer life.new text.old text.new w (lives.act_at side act.now w)) }
 {
     let turn = Turn {
         alloc: life.alloc,
@@ -96,7 +97,8 @@ fn is_late(delay: u64, now: u64, coming: &VecDeque<Flight>) -> bool
 
 /// Whether any frame would be, at a later moment.
 fn is_too_late<M: Modulus>(life: &Life<M>, later: u64) -> bool
-    ensures { result ≡ (standing.is_late_kept life.now.delay later life.now.a.book.coming.items || standing.is_late_kept life.now.delay later life.now.b.book.coming.items) }
+    ensures { result ≡ (standing.is_late_kept life.now.delay later life.now.a.book.coming.items
+        || standing.is_late_kept life.now.delay later life.now.b.book.coming.items) }
 {
     is_late(life.delay, later, &life.a.book.coming)
         || is_late(life.delay, later, &life.b.book.coming)
@@ -107,7 +109,8 @@ fn tick_both<M: Modulus>(life: &mut Life<M>, text: &mut TextOut) -> Result<(), N
     requires modulus { IsLinkModulus M.SIZE }
     requires rests { standing.Rests life.old }
     ensures rests { OnOk result (standing.Rests life.new) }
-    ensures does { OnOk result ((w : lives.Life) → standing.LifeStands M.SIZE life.old w → standing.LifeComesTo M.SIZE None life.new text.old text.new w (lives.tick_both w)) }
+    ensures does { OnOk result ((w : lives.Life) → standing.LifeStands M.SIZE life.old w
+        → standing.LifeComesTo M.SIZE None life.new text.old text.new w (lives.tick_both w)) }
 {
     let mut frames = TextOut::new(life.alloc);
     let turn = Turn {
@@ -131,7 +134,8 @@ fn tick_on<M: Modulus>(life: &mut Life<M>, passed: u64, text: &mut TextOut) -> A
     requires modulus { IsLinkModulus M.SIZE }
     requires rests { standing.Rests life.old }
     ensures rests { OnOk result (standing.Rests life.new) }
-    ensures does { IfOk result (λ answer. (w : lives.Life) → standing.LifeStands M.SIZE life.old w → standing.LifeComesTo M.SIZE answer life.new text.old text.new w (lives.tick_on passed w)) }
+    ensures does { IfOk result (λ answer. (w : lives.Life) → standing.LifeStands M.SIZE life.old w
+        → standing.LifeComesTo M.SIZE answer life.new text.old text.new w (lives.tick_on passed w)) }
 {
     let later = life.moment.saturating_add(passed);
     if is_too_late(life, later) {
@@ -146,7 +150,8 @@ fn act_on<M: Modulus>(life: &mut Life<M>, act: &LifeAct<'_>, text: &mut TextOut)
     requires modulus { IsLinkModulus M.SIZE }
     requires rests { standing.Rests life.old }
     ensures rests { OnOk result (standing.Rests life.new) }
-    ensures does { IfOk result (λ answer. (w : lives.Life) → standing.LifeStands M.SIZE life.old w → standing.LifeComesTo M.SIZE answer life.new text.old text.new w (lives.act_on act.now w)) }
+    ensures does { IfOk result (λ answer. (w : lives.Life) → standing.LifeStands M.SIZE life.old w
+        → standing.LifeComesTo M.SIZE answer life.new text.old text.new w (lives.act_on act.now w)) }
 {
     match act {
         LifeAct::At(side, act) => act_at(life, *side, act, text),
@@ -163,7 +168,9 @@ fn write_line<M: Modulus>(
     requires modulus { IsLinkModulus M.SIZE }
     requires rests { standing.Rests life.old }
     ensures rests { OnOk result (standing.Rests life.new) }
-    ensures does { OnOk result ((w : lives.Life) → standing.LifeStands M.SIZE life.old w → standing.LineWritten M.SIZE life.new report.old report.new numbered.now.line w (lives.act_on numbered.now.act w)) }
+    ensures does { OnOk result ((w : lives.Life) → standing.LifeStands M.SIZE life.old w
+        → standing.LineWritten M.SIZE life.new report.old report.new numbered.now.line w
+        (lives.act_on numbered.now.act w)) }
 {
     match act_on(life, &numbered.act, report)? {
         Some(why) => {

@@ -61,7 +61,8 @@ impl<'a> LifeScript<'a> {
 #[tactic(auto, unfolding(crate::specs::Lines::script_of))]
 pub fn read_life(alloc: Global, bytes: &[u8]) -> Result<LifeScript<'_>, LifeFileRefusal>
     requires { length bytes.now ≤ 1048576 }
-    ensures { MatchResult result (λ s. scripts.script_of bytes.now ≡ Ok s) (λ e. scripts.ReadAs e (scripts.script_of bytes.now)) }
+    ensures { MatchResult result (λ s. scripts.script_of bytes.now ≡ Ok s)
+        (λ e. scripts.ReadAs e (scripts.script_of bytes.now)) }
 {
     let mut script = LifeScript::new(alloc);
     let mut number: u32 = 0;

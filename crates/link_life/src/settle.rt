@@ -31,7 +31,9 @@ fn tell<M: Modulus>(
     ensures lasting { OnOk result (book.new.lasting ≡ standing.lasting_after link.old.notice book.old.lasting) }
     ensures down { OnOk result (book.new.down_since ≡ book.old.down_since) }
     ensures coming { OnOk result (book.new.coming.items ≡ book.old.coming.items) }
-    ensures notices { OnOk result (notices.new ≡ notices.old ++ flat_map reports.notice_line (map (λ n. (turn.now.side, n)) (option_to_list link.old.notice))) }
+    ensures notices { OnOk result (notices.new
+        ≡ notices.old ++ flat_map reports.notice_line
+        (map (λ n. (turn.now.side, n)) (option_to_list link.old.notice))) }
 {
     if let Some(notice) = link.notice() {
         write_notice(turn.side, notice, notices)?;
@@ -49,8 +51,12 @@ fn send_out<M: Modulus>(
     frames: &mut TextOut,
 ) -> Result<(), NoMemory>
     ensures link { OnOk result (link.new ≡ record link.old { outs = [] }) }
-    ensures coming { OnOk result (map (standing.flight_of M.SIZE) coming.new.items ≡ map (standing.flight_of M.SIZE) coming.old.items ++ ends.flights turn.now.moment epoch (map (frame_of M.SIZE) link.old.outs)) }
-    ensures frames { OnOk result (frames.new ≡ frames.old ++ flat_map (reports.air_line M.SIZE) (map (λ f. (turn.now.side, f)) (map (frame_of M.SIZE) link.old.outs))) }
+    ensures coming { OnOk result (map (standing.flight_of M.SIZE) coming.new.items
+        ≡ map (standing.flight_of M.SIZE) coming.old.items
+        ++ ends.flights turn.now.moment epoch (map (frame_of M.SIZE) link.old.outs)) }
+    ensures frames { OnOk result (frames.new
+        ≡ frames.old ++ flat_map (reports.air_line M.SIZE)
+        (map (λ f. (turn.now.side, f)) (map (frame_of M.SIZE) link.old.outs))) }
 {
     while let Some(out) = link.next_out() {
         write_frame::<M>(turn.calls, turn.side, &out, frames)?;
@@ -68,7 +74,9 @@ fn replace<M: Modulus>(turn: &Turn<'_>, was: LinkPhase, near: &mut End<M>) -> Re
     requires modulus { IsLinkModulus M.SIZE }
     requires drained { IsDrained near.old.link }
     ensures drained { OnOk result (IsDrained near.new.link) }
-    ensures stands { OnOk result ((e : ends.End) → standing.EndStands M.SIZE near.old e → standing.EndStands M.SIZE near.new (ends.rest (rules_new M.SIZE (lives.settings turn.now.srej)) turn.now.moment was e)) }
+    ensures stands { OnOk result ((e : ends.End) → standing.EndStands M.SIZE near.old e
+        → standing.EndStands M.SIZE near.new
+        (ends.rest (rules_new M.SIZE (lives.settings turn.now.srej)) turn.now.moment was e)) }
 {
     if is_down(was) || !is_down(near.link.facts().phase) {
         return Ok(());
@@ -79,7 +87,9 @@ fn replace<M: Modulus>(turn: &Turn<'_>, was: LinkPhase, near: &mut End<M>) -> Re
 fn go_down<M: Modulus>(turn: &Turn<'_>, near: &mut End<M>) -> Result<(), NoMemory>
     requires modulus { IsLinkModulus M.SIZE }
     ensures drained { OnOk result (IsDrained near.new.link) }
-    ensures stands { OnOk result ((e : ends.End) → standing.EndStands M.SIZE near.old e → standing.EndStands M.SIZE near.new (ends.go_down (rules_new M.SIZE (lives.settings turn.now.srej)) turn.now.moment e)) }
+    ensures stands { OnOk result ((e : ends.End) → standing.EndStands M.SIZE near.old e
+        → standing.EndStands M.SIZE near.new
+        (ends.go_down (rules_new M.SIZE (lives.settings turn.now.srej)) turn.now.moment e)) }
 {
     let facts = near.link.facts();
     near.book.end_epoch(&facts)?;
@@ -96,8 +106,11 @@ pub fn heed<M: Modulus>(
     notices: &mut TextOut,
 ) -> Result<(), NoMemory>
     ensures link { OnOk result (near.new.link ≡ record near.old.link { notice = None }) }
-    ensures book { OnOk result ((e : ends.End) (g : Effect) → standing.FactsAre before.now e.link → Stands M.SIZE near.old.link g → standing.BookStands M.SIZE near.old.book e → standing.BookStands M.SIZE near.new.book (ends.after_step g e)) }
-    ensures tells { OnOk result ((g : Effect) → Stands M.SIZE near.old.link g → notices.new ≡ notices.old ++ standing.notices_text turn.now.side g) }
+    ensures book { OnOk result ((e : ends.End) (g : Effect) → standing.FactsAre before.now e.link
+        → Stands M.SIZE near.old.link g → standing.BookStands M.SIZE near.old.book e
+        → standing.BookStands M.SIZE near.new.book (ends.after_step g e)) }
+    ensures tells { OnOk result ((g : Effect) → Stands M.SIZE near.old.link g
+        → notices.new ≡ notices.old ++ standing.notices_text turn.now.side g) }
 {
     tell(turn, before, &mut near.link, &mut near.book, notices)?;
     Ok(())
@@ -115,8 +128,12 @@ pub fn put_out<M: Modulus>(
     requires quiet { near.old.link.notice ≡ None }
     ensures drained { OnOk result (IsDrained near.new.link) }
     ensures far { OnOk result (far.new.link ≡ far.old.link) }
-    ensures stands { OnOk result ((p : ends.Ends) (g : Effect) → was ≡ p.near.link.phase → standing.Heeded M.SIZE near.old g (ends.after_step g p.near) → standing.EndStands M.SIZE far.old p.far → standing.EndsStand M.SIZE near.new far.new (ends.step_near (rules_new M.SIZE (lives.settings turn.now.srej)) turn.now.moment g p)) }
-    ensures tells { OnOk result ((g : Effect) → Stands M.SIZE near.old.link g → frames.new ≡ frames.old ++ standing.frames_text M.SIZE turn.now.side g) }
+    ensures stands { OnOk result ((p : ends.Ends) (g : Effect) → was ≡ p.near.link.phase
+        → standing.Heeded M.SIZE near.old g (ends.after_step g p.near) → standing.EndStands M.SIZE far.old p.far
+        → standing.EndsStand M.SIZE near.new far.new
+        (ends.step_near (rules_new M.SIZE (lives.settings turn.now.srej)) turn.now.moment g p)) }
+    ensures tells { OnOk result ((g : Effect) → Stands M.SIZE near.old.link g
+        → frames.new ≡ frames.old ++ standing.frames_text M.SIZE turn.now.side g) }
 {
     let epoch = near.book.number();
     send_out(turn, epoch, &mut near.link, &mut far.book.coming, frames)?;
@@ -135,8 +152,12 @@ pub fn settle<M: Modulus>(
     requires modulus { IsLinkModulus M.SIZE }
     ensures drained { OnOk result (IsDrained near.new.link) }
     ensures far { OnOk result (far.new.link ≡ far.old.link) }
-    ensures stands { OnOk result ((p : ends.Ends) (g : Effect) → standing.FactsAre before.now p.near.link → standing.StepStands M.SIZE near.old far.old g p → standing.EndsStand M.SIZE near.new far.new (ends.step_near (rules_new M.SIZE (lives.settings turn.now.srej)) turn.now.moment g p)) }
-    ensures tells { OnOk result ((g : Effect) → Stands M.SIZE near.old.link g → text.new ≡ text.old ++ reports.told_text M.SIZE (lives.told_by_step turn.now.side [] g)) }
+    ensures stands { OnOk result ((p : ends.Ends) (g : Effect) → standing.FactsAre before.now p.near.link
+        → standing.StepStands M.SIZE near.old far.old g p
+        → standing.EndsStand M.SIZE near.new far.new
+        (ends.step_near (rules_new M.SIZE (lives.settings turn.now.srej)) turn.now.moment g p)) }
+    ensures tells { OnOk result ((g : Effect) → Stands M.SIZE near.old.link g
+        → text.new ≡ text.old ++ reports.told_text M.SIZE (lives.told_by_step turn.now.side [] g)) }
 {
     heed(turn, before, near, text)?;
     put_out(turn, before.phase, near, far, text)?;

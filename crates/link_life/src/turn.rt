@@ -73,7 +73,8 @@ impl<M: Modulus> End<M> {
     /// An end that is Down and has known nothing yet.
     pub fn new(alloc: Global, srej: bool) -> Result<End<M>, NoMemory>
         requires { IsLinkModulus M.SIZE }
-        ensures stands { IfOk result (λ e. standing.EndStands M.SIZE e (lives.new_end (rules_new M.SIZE (lives.settings srej)))) }
+        ensures stands { IfOk result (λ e. standing.EndStands M.SIZE e
+            (lives.new_end (rules_new M.SIZE (lives.settings srej)))) }
         ensures drained { IfOk result (λ e. IsDrained e.link) }
     {
         let link = Link::new(alloc, config(srej))?;
@@ -103,7 +104,9 @@ fn set_up<M: Modulus>(
     requires drained { IsDrained near.old.link }
     ensures drained { OnOk result (IsDrained near.new.link) }
     ensures far { OnOk result (far.new.link ≡ far.old.link) }
-    ensures does { IfOk result (λ answer. (p : ends.Ends) → standing.EndsStand M.SIZE near.old far.old p → standing.ComesTo M.SIZE answer near.new far.new text.old text.new p (lives.act_near (standing.turn_of M.SIZE turn.now) acts.SetUp p)) }
+    ensures does { IfOk result (λ answer. (p : ends.Ends) → standing.EndsStand M.SIZE near.old far.old p
+        → standing.ComesTo M.SIZE answer near.new far.new text.old text.new p
+        (lives.act_near (standing.turn_of M.SIZE turn.now) acts.SetUp p)) }
 {
     let before = near.link.facts();
     if !is_down(before.phase) {
@@ -138,7 +141,9 @@ fn send<M: Modulus>(
     requires drained { IsDrained near.old.link }
     ensures drained { OnOk result (IsDrained near.new.link) }
     ensures far { OnOk result (far.new.link ≡ far.old.link) }
-    ensures does { IfOk result (λ answer. (p : ends.Ends) → standing.EndsStand M.SIZE near.old far.old p → standing.ComesTo M.SIZE answer near.new far.new text.old text.new p (lives.act_near (standing.turn_of M.SIZE turn.now) (acts.Send sent.now) p)) }
+    ensures does { IfOk result (λ answer. (p : ends.Ends) → standing.EndsStand M.SIZE near.old far.old p
+        → standing.ComesTo M.SIZE answer near.new far.new text.old text.new p
+        (lives.act_near (standing.turn_of M.SIZE turn.now) (acts.Send sent.now) p)) }
 {
     let before = near.link.facts();
     match near.link.send(&sent.payload(), Moment(turn.moment)) {
@@ -160,7 +165,9 @@ fn close<M: Modulus>(
     requires drained { IsDrained near.old.link }
     ensures drained { OnOk result (IsDrained near.new.link) }
     ensures far { OnOk result (far.new.link ≡ far.old.link) }
-    ensures does { IfOk result (λ answer. (p : ends.Ends) → standing.EndsStand M.SIZE near.old far.old p → standing.ComesTo M.SIZE answer near.new far.new text.old text.new p (lives.act_near (standing.turn_of M.SIZE turn.now) acts.Close p)) }
+    ensures does { IfOk result (λ answer. (p : ends.Ends) → standing.EndsStand M.SIZE near.old far.old p
+        → standing.ComesTo M.SIZE answer near.new far.new text.old text.new p
+        (lives.act_near (standing.turn_of M.SIZE turn.now) acts.Close p)) }
 {
     let before = near.link.facts();
     near.link.close(Moment(turn.moment));
@@ -178,7 +185,9 @@ fn take<M: Modulus>(
     requires drained { IsDrained near.old.link }
     ensures drained { OnOk result (IsDrained near.new.link) }
     ensures far { OnOk result (far.new.link ≡ far.old.link) }
-    ensures does { IfOk result (λ answer. (p : ends.Ends) → standing.EndsStand M.SIZE near.old far.old p → standing.ComesTo M.SIZE answer near.new far.new text.old text.new p (lives.act_near (standing.turn_of M.SIZE turn.now) acts.Take p)) }
+    ensures does { IfOk result (λ answer. (p : ends.Ends) → standing.EndsStand M.SIZE near.old far.old p
+        → standing.ComesTo M.SIZE answer near.new far.new text.old text.new p
+        (lives.act_near (standing.turn_of M.SIZE turn.now) acts.Take p)) }
 {
     let Some(payload) = near.link.first() else {
         return Ok(Some(LifeRefusal::Nothing));
@@ -202,7 +211,9 @@ pub fn tick<M: Modulus>(
     requires drained { IsDrained near.old.link }
     ensures drained { OnOk result (IsDrained near.new.link) }
     ensures far { OnOk result (far.new.link ≡ far.old.link) }
-    ensures does { OnOk result ((p : ends.Ends) → standing.EndsStand M.SIZE near.old far.old p → standing.Ticked M.SIZE (standing.turn_of M.SIZE turn.now) near.new far.new notices.old notices.new frames.old frames.new p) }
+    ensures does { OnOk result ((p : ends.Ends) → standing.EndsStand M.SIZE near.old far.old p
+        → standing.Ticked M.SIZE
+        (standing.turn_of M.SIZE turn.now) near.new far.new notices.old notices.new frames.old frames.new p) }
 {
     let before = near.link.facts();
     near.link.tick(Moment(turn.moment));
@@ -214,7 +225,8 @@ pub fn tick<M: Modulus>(
 /// The link takes in a frame.
 fn hand<M: Modulus>(out: &LinkOut, link: &mut Link<M>, now: u64)
     requires { IsDrained link.old }
-    ensures { (s : State) → StandsFor M.SIZE link.old s → Stands M.SIZE link.new (table.step s (table.Arrive (frame_of M.SIZE out.now)) now) }
+    ensures { (s : State) → StandsFor M.SIZE link.old s
+        → Stands M.SIZE link.new (table.step s (table.Arrive (frame_of M.SIZE out.now)) now) }
 {
     match &out.payload {
         Some(payload) => link.arrive(
@@ -250,7 +262,9 @@ fn arrive<M: Modulus>(
     requires drained { IsDrained near.old.link }
     ensures drained { OnOk result (IsDrained near.new.link) }
     ensures far { OnOk result (far.new.link ≡ far.old.link) }
-    ensures does { IfOk result (λ answer. (p : ends.Ends) → standing.EndsStand M.SIZE near.old far.old p → standing.ComesTo M.SIZE answer near.new far.new text.old text.new p (lives.act_near (standing.turn_of M.SIZE turn.now) acts.Arrive p)) }
+    ensures does { IfOk result (λ answer. (p : ends.Ends) → standing.EndsStand M.SIZE near.old far.old p
+        → standing.ComesTo M.SIZE answer near.new far.new text.old text.new p
+        (lives.act_near (standing.turn_of M.SIZE turn.now) acts.Arrive p)) }
 {
     match near.book.coming.pop_front() {
         Some(flight) => {
@@ -266,7 +280,8 @@ fn arrive<M: Modulus>(
 
 fn lose<M: Modulus>(near: &mut End<M>) -> Option<LifeRefusal>
     ensures link { near.new.link ≡ near.old.link }
-    ensures does { (e : ends.End) → standing.EndStands M.SIZE near.old e → standing.LosesTo M.SIZE result near.new e e.coming }
+    ensures does { (e : ends.End) → standing.EndStands M.SIZE near.old e
+        → standing.LosesTo M.SIZE result near.new e e.coming }
 {
     match near.book.coming.pop_front() {
         Some(_) => None,
@@ -286,7 +301,9 @@ pub fn act_near<M: Modulus>(
     requires drained { IsDrained near.old.link }
     ensures drained { OnOk result (IsDrained near.new.link) }
     ensures far { OnOk result (far.new.link ≡ far.old.link) }
-    ensures does { IfOk result (λ answer. (p : ends.Ends) → standing.EndsStand M.SIZE near.old far.old p → standing.ComesTo M.SIZE answer near.new far.new text.old text.new p (lives.act_near (standing.turn_of M.SIZE turn.now) act.now p)) }
+    ensures does { IfOk result (λ answer. (p : ends.Ends) → standing.EndsStand M.SIZE near.old far.old p
+        → standing.ComesTo M.SIZE answer near.new far.new text.old text.new p
+        (lives.act_near (standing.turn_of M.SIZE turn.now) act.now p)) }
 {
     match act {
         EndAct::SetUp => set_up(turn, near, far, text),

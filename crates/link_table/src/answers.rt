@@ -34,7 +34,8 @@ pub(crate) fn answer(
     info: &[u8],
 ) -> Result<(), NoMemory>
     requires { HasParts 8 control.now None info.now }
-    ensures { OnOk result (frames.new.items ≡ frames.old.items ++ map written (fitting (sent 8 (whole (head_to own.now (source (view frame.now)) (back (view frame.now)) false) control.now None info.now)))) }
+    ensures { OnOk result (frames.new.items ≡ frames.old.items ++ map written (fitting (sent 8
+        (whole (head_to own.now (source (view frame.now)) (back (view frame.now)) false) control.now None info.now)))) }
 {
     let head = way_back(own, frame).head(false);
     put::<M8>(frames, &head, control, None, info)?;

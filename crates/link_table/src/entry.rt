@@ -42,7 +42,8 @@ impl Entry {
         requires t1 { config.t1 ≤ count_end }
         requires t3 { config.t3 ≤ count_end }
         ensures width { IfOk result (λ e. size_of e.link ≡ width wide) }
-        ensures link { IfOk result (λ e. StandsFor (width wide) (held_of e.link) (opening (rules_new (width wide) config))) }
+        ensures link { IfOk result (λ e. StandsFor (width wide) (held_of e.link)
+            (opening (rules_new (width wide) config))) }
         ensures drained { IfOk result (λ e. IsDrained (held_of e.link)) }
         ensures route { IfOk result (λ e. e.route ≡ route) }
         ensures joiner { IfOk result (λ e. e.joiner ≡ Nothing) }
@@ -103,7 +104,11 @@ impl Entry {
     ) -> Result<(), NoMemory>
         requires drained { IsDrained (held_of self.old.link) }
         ensures drained { OnOk result (IsDrained (held_of self.new.link)) }
-        ensures goes { OnOk result (EntryGoes (works.arrive_at_link self.old.route.own (frame_in (size_of self.old.link) (is_command frame.now.head) frame.now.control frame.now.pid frame.now.info.now) now.0) self.old self.new pending.old pending.new) }
+        ensures goes { OnOk result (EntryGoes
+            (works.arrive_at_link self.old.route.own
+            (frame_in (size_of self.old.link) (is_command frame.now.head) frame.now.control frame.now.pid
+            frame.now.info.now) now.0)
+            self.old self.new pending.old pending.new) }
     {
         self.link.arrive(frame, now);
         self.lift(pending)?;
@@ -117,7 +122,8 @@ impl Entry {
     pub(crate) fn tick(&mut self, pending: &mut Pending, now: Moment) -> Result<(), NoMemory>
         requires drained { IsDrained (held_of self.old.link) }
         ensures drained { OnOk result (IsDrained (held_of self.new.link)) }
-        ensures goes { OnOk result (EntryGoes (works.step_link self.old.route.own table.Tick now.0) self.old self.new pending.old pending.new) }
+        ensures goes { OnOk result (EntryGoes
+            (works.step_link self.old.route.own table.Tick now.0) self.old self.new pending.old pending.new) }
     {
         self.link.tick(now);
         self.lift(pending)?;
@@ -128,7 +134,8 @@ impl Entry {
     pub(crate) fn close(&mut self, pending: &mut Pending, now: Moment) -> Result<(), NoMemory>
         requires drained { IsDrained (held_of self.old.link) }
         ensures drained { OnOk result (IsDrained (held_of self.new.link)) }
-        ensures goes { OnOk result (EntryGoes (works.step_link self.old.route.own table.Close now.0) self.old self.new pending.old pending.new) }
+        ensures goes { OnOk result (EntryGoes
+            (works.step_link self.old.route.own table.Close now.0) self.old self.new pending.old pending.new) }
     {
         self.link.close(now);
         self.lift(pending)?;

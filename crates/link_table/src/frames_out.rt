@@ -33,7 +33,9 @@ pub(crate) fn emit<M: Modulus>(
 fn emit_one<M: Modulus>(frames: &mut Frames, route: &Route, out: &LinkOut) -> Result<(), NoMemory>
     requires modulus { IsLinkModulus M.SIZE }
     requires can_be_sent { CanBeSent M.SIZE out.now }
-    ensures { OnOk result (frames.new.items ≡ frames.old.items ++ map written (fitting (sent_by M.SIZE route.now.own route.now.peer route.now.path (frame_of M.SIZE out.now)))) }
+    ensures { OnOk result (frames.new.items
+        ≡ frames.old.items ++ map written
+        (fitting (sent_by M.SIZE route.now.own route.now.peer route.now.path (frame_of M.SIZE out.now)))) }
 {
     let head = route.head(out.command);
     match &out.payload {

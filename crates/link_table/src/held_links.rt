@@ -121,7 +121,8 @@ impl HeldLinks {
         requires { Rests self.old }
         ensures rests { OnOk result (Rests self.new) }
         ensures goes { OnOk result (CoreGoes (calls.to_link (view frame.now) now.0) self.old self.new) }
-        ensures stood { IfOk result (λ stood. stood ≡ is_some (lookup (same_call (calls.source (view frame.now))) self.old.links.entries)) }
+        ensures stood { IfOk result (λ stood. stood
+            ≡ is_some (lookup (same_call (calls.source (view frame.now))) self.old.links.entries)) }
     {
         let peer = frame.head.source.call;
         let down = match self.links.get_mut(&peer) {
@@ -159,7 +160,8 @@ impl HeldLinks {
         requires rests { Rests self.old }
         requires none { lookup (same_call (calls.source (view frame.now))) self.old.links.entries ≡ None }
         ensures rests { OnOk result (Rests self.new) }
-        ensures goes { OnOk result (CoreGoes (calls.set_up_new (width wide) pf (view frame.now) now.0) self.old self.new) }
+        ensures goes { OnOk result (CoreGoes
+            (calls.set_up_new (width wide) pf (view frame.now) now.0) self.old self.new) }
     {
         if self.links.len() >= MAX_LINKS {
             self.answer(frame, &Control::Dm { pf }, &[])?;
@@ -270,7 +272,8 @@ impl HeldLinks {
         requires rests { Rests self.old }
         requires command { is_command frame.now.head ≡ true }
         ensures rests { OnOk result (Rests self.new) }
-        ensures goes { OnOk result (CoreGoes (calls.arrive_kind true frame.now.control (view frame.now) now.0) self.old self.new) }
+        ensures goes { OnOk result (CoreGoes
+            (calls.arrive_kind true frame.now.control (view frame.now) now.0) self.old self.new) }
     {
         match frame.control {
             Control::Ui { .. } => self.ui(frame)?,
@@ -295,7 +298,8 @@ impl HeldLinks {
     fn tick_link(&mut self, peer: &Call, now: Moment) -> Result<(), NoMemory>
         requires { Rests self.old }
         ensures rests { OnOk result (Rests self.new) }
-        ensures goes { OnOk result (CoreGoes (λ t. calls.at_link peer.now (works.step_link t.own table.Tick now.0) t) self.old self.new) }
+        ensures goes { OnOk result (CoreGoes
+            (λ t. calls.at_link peer.now (works.step_link t.own table.Tick now.0) t) self.old self.new) }
     {
         let down = match self.links.get_mut(peer) {
             Some(entry) => {

@@ -45,7 +45,8 @@ impl HeldLinks {
     fn set_up_link(&mut self, to: &Call, now: Moment) -> Result<(), NoMemory>
         requires { Rests self.old }
         ensures rests { OnOk result (Rests self.new) }
-        ensures goes { OnOk result (CoreGoes (λ t. calls.at_link to.now (works.step_link t.own table.Set_up now.0) t) self.old self.new) }
+        ensures goes { OnOk result (CoreGoes
+            (λ t. calls.at_link to.now (works.step_link t.own table.Set_up now.0) t) self.old self.new) }
         ensures waiting { self.new.pending.waiting ≡ self.old.pending.waiting }
         ensures lost { self.new.pending.lost ≡ self.old.pending.lost }
     {
@@ -67,9 +68,11 @@ impl HeldLinks {
     ) -> Result<Option<Offered>, NoMemory>
         requires { Rests self.old }
         ensures rests { OnOk result (Rests self.new) }
-        ensures stood { IfOk result (λ answer. is_some answer ≡ is_some (lookup (same_call to.now) self.old.links.entries)) }
+        ensures stood { IfOk result (λ answer. is_some answer
+            ≡ is_some (lookup (same_call to.now) self.old.links.entries)) }
         ensures offers { IfOk result (λ answer. (t : Table) → CoreStands self.old t →
-            (unwrap_or answer Dropped ≡ (calls.offer_standing to.now datagram.now now.0 t).answer) × CoreStands self.new (calls.offer_standing to.now datagram.now now.0 t).table) }
+            (unwrap_or answer Dropped ≡ (calls.offer_standing to.now datagram.now now.0 t).answer)
+            × CoreStands self.new (calls.offer_standing to.now datagram.now now.0 t).table) }
         ensures none { IfOk result (λ answer. answer ≡ None → self.new ≡ self.old) }
         ensures waiting { self.new.pending.waiting ≡ self.old.pending.waiting }
         ensures lost { self.new.pending.lost ≡ self.old.pending.lost }
@@ -93,7 +96,8 @@ impl HeldLinks {
         requires { Rests self.old }
         ensures rests { OnOk result (Rests self.new) }
         ensures offers { IfOk result (λ answer. (t : Table) → CoreStands self.old t →
-            (answer ≡ (calls.offer to.now datagram.now now.0 t).answer) × CoreStands self.new (calls.offer to.now datagram.now now.0 t).table) }
+            (answer ≡ (calls.offer to.now datagram.now now.0 t).answer)
+            × CoreStands self.new (calls.offer to.now datagram.now now.0 t).table) }
         ensures waiting { self.new.pending.waiting ≡ self.old.pending.waiting }
         ensures lost { self.new.pending.lost ≡ self.old.pending.lost }
     {
@@ -125,7 +129,8 @@ impl HeldLinks {
         ensures rests { OnOk result (Rests self.new) }
         ensures offers { IfOk result (λ answer. (t : Table) → CoreStands self.old t →
             (answer ≡ (calls.offer_standing to.now datagram.now now.0 (calls.set_up_link to.now now.0 t)).answer)
-            × CoreStands self.new (calls.offer_standing to.now datagram.now now.0 (calls.set_up_link to.now now.0 t)).table) }
+            × CoreStands self.new
+            (calls.offer_standing to.now datagram.now now.0 (calls.set_up_link to.now now.0 t)).table) }
         ensures waiting { self.new.pending.waiting ≡ self.old.pending.waiting }
         ensures lost { self.new.pending.lost ≡ self.old.pending.lost }
     {

@@ -31,7 +31,8 @@ impl HeldLinks {
         requires rests { Rests self.old }
         requires few { length text.now ≤ most_text }
         ensures rests { OnOk result (Rests self.new) }
-        ensures goes { OnOk result (CoreGoes (λ t. at_link peer.now (send_text_of t.own text.now now.0) t) self.old self.new) }
+        ensures goes { OnOk result (CoreGoes
+            (λ t. at_link peer.now (send_text_of t.own text.now now.0) t) self.old self.new) }
     {
         let down = match self.links.get_mut(peer) {
             Some(entry) => {

@@ -61,7 +61,8 @@ impl Entry {
         requires drained { IsDrained (held_of self.old.link) }
         requires few { length text.now ≤ sending.most_text }
         ensures drained { OnOk result (IsDrained (held_of self.new.link)) }
-        ensures goes { OnOk result (EntryGoes (sending.send_text_of self.old.route.own text.now now.0) self.old self.new pending.old pending.new) }
+        ensures goes { OnOk result (EntryGoes
+            (sending.send_text_of self.old.route.own text.now now.0) self.old self.new pending.old pending.new) }
     {
         if self.in_segments(text) {
             self.send_segments(pending, text, now)?;
@@ -80,7 +81,9 @@ impl Entry {
     ) -> Result<(), NoMemory>
         requires drained { IsDrained (held_of self.old.link) }
         ensures drained { OnOk result (IsDrained (held_of self.new.link)) }
-        ensures goes { OnOk result (EntryGoes (sending.send_each self.old.route.own (sending.payloads plain_text (sending.cut text.now)) now.0) self.old self.new pending.old pending.new) }
+        ensures goes { OnOk result (EntryGoes
+            (sending.send_each self.old.route.own (sending.payloads plain_text (sending.cut text.now)) now.0)
+            self.old self.new pending.old pending.new) }
     {
         let mut rest = text;
         while !rest.is_empty() {
@@ -103,7 +106,10 @@ impl Entry {
         requires some { 1 ≤ length text.now }
         requires few { length text.now ≤ sending.most_text }
         ensures drained { OnOk result (IsDrained (held_of self.new.link)) }
-        ensures goes { OnOk result (EntryGoes (sending.send_each self.old.route.own (sending.payloads segmented (segments_of plain_text text.now)) now.0) self.old self.new pending.old pending.new) }
+        ensures goes { OnOk result (EntryGoes
+            (sending.send_each self.old.route.own
+            (sending.payloads segmented (segments_of plain_text text.now)) now.0)
+            self.old self.new pending.old pending.new) }
     {
         match Split::new(TEXT_PID, text) {
             Ok(mut split) => self.send_split(pending, &mut split, now),
@@ -120,7 +126,9 @@ impl Entry {
     ) -> Result<(), NoMemory>
         requires drained { IsDrained (held_of self.old.link) }
         ensures drained { OnOk result (IsDrained (held_of self.new.link)) }
-        ensures goes { OnOk result (EntryGoes (sending.send_each self.old.route.own (sending.payloads segmented split.old) now.0) self.old self.new pending.old pending.new) }
+        ensures goes { OnOk result (EntryGoes
+            (sending.send_each self.old.route.own (sending.payloads segmented split.old) now.0)
+            self.old self.new pending.old pending.new) }
     {
         while let Some(segment) = split.next() {
             self.give(pending, &segment, now)?;
@@ -137,7 +145,9 @@ impl Entry {
     ) -> Result<(), NoMemory>
         requires drained { IsDrained (held_of self.old.link) }
         ensures drained { OnOk result (IsDrained (held_of self.new.link)) }
-        ensures goes { OnOk result (EntryGoes (works.step_link self.old.route.own (table.Send payload.now) now.0) self.old self.new pending.old pending.new) }
+        ensures goes { OnOk result (EntryGoes
+            (works.step_link self.old.route.own (table.Send payload.now) now.0)
+            self.old self.new pending.old pending.new) }
     {
         match self.link.send(payload, now) {
             Ok(()) => {

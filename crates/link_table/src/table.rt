@@ -116,7 +116,8 @@ impl LinkTable {
     /// `TooLong` where there are more than two, `Full` where 16 other peers have some. A refusal but `NoMemory` changes nothing.
     pub fn set_path(&mut self, peer: &Call, path: &Path) -> Result<(), PathRefusal>
         ensures goes { OnOk result (TableGoes (calls.with_path peer.now path.now) self.old self.new) }
-        ensures answer { NotNoMemory result → (t : Table) → TableStands self.old t → result ≡ calls.path_answer peer.now path.now t }
+        ensures answer { NotNoMemory result → (t : Table) → TableStands self.old t
+            → result ≡ calls.path_answer peer.now path.now t }
         ensures err { OnErr result (NotNoMemory result → self.new ≡ self.old) }
         ensures few { OnOk result (length self.new.links ≤ 64) }
         ensures kept { OnOk result (KeepsOn self.old self.new) }
@@ -153,7 +154,8 @@ impl LinkTable {
 
     /// The link with a peer: none where none stands.
     pub fn link(&self, peer: &Call) -> Option<&LinkOf>
-        ensures { (t : Table) → TableStands self.now t → LentStands (option_copied result) (link_with peer.now t.links) }
+        ensures { (t : Table) → TableStands self.now t
+            → LentStands (option_copied result) (link_with peer.now t.links) }
     {
         match self.core.links.get(peer) {
             Some(entry) => Some(entry.link()),
@@ -268,7 +270,8 @@ impl LinkTable {
         now: Moment,
     ) -> Result<bool, NoMemory>
         ensures goes { OnOk result (TableGoes (texts.take_text peer.now now.0) self.old self.new) }
-        ensures answer { IfOk result (λ taken. (t : Table) → TableStands self.old t → text_given taken out.new.items ≡ texts.text_with peer.now t) }
+        ensures answer { IfOk result (λ taken. (t : Table) → TableStands self.old t
+            → text_given taken out.new.items ≡ texts.text_with peer.now t) }
         ensures out { IfOk result (λ taken. taken ≡ false → out.new ≡ out.old) }
         ensures few { OnOk result (length self.new.links ≤ 64) }
         ensures kept { OnOk result (KeepsOn self.old self.new) }
@@ -293,7 +296,8 @@ impl LinkTable {
     /// in this order: `NoLink`, `TooLong`, `Full`. A refusal but `NoMemory` changes nothing.
     pub fn send_text(&mut self, peer: &Call, text: &[u8], now: Moment) -> Result<(), TextRefusal>
         ensures goes { OnOk result (TableGoes (texts.send_text peer.now text.now now.0) self.old self.new) }
-        ensures answer { TextNotNoMemory result → (t : Table) → TableStands self.old t → result ≡ texts.text_answer peer.now text.now t }
+        ensures answer { TextNotNoMemory result → (t : Table) → TableStands self.old t
+            → result ≡ texts.text_answer peer.now text.now t }
         ensures err { OnErr result (TextNotNoMemory result → self.new ≡ self.old) }
         ensures few { OnOk result (length self.new.links ≤ 64) }
         ensures kept { OnOk result (KeepsOn self.old self.new) }
@@ -317,7 +321,8 @@ impl LinkTable {
 
     /// The next frame that waits to be sent, and how its octets were written: the oldest one. None where no frame waits.
     pub fn next_out(&mut self) -> Option<Written>
-        ensures answer { (t : Table) → TableStands self.old t → result ≡ option_map written (slice_get t.pending.frames 0) }
+        ensures answer { (t : Table) → TableStands self.old t
+            → result ≡ option_map written (slice_get t.pending.frames 0) }
         ensures rest { TableGoes calls.fetch self.old self.new }
         ensures first { result ≡ slice_get self.old.frames 0 }
         ensures left { self.new ≡ record self.old { frames = drop 1 self.old.frames } }

@@ -109,7 +109,8 @@ fn first_text(links: Slice<'_, Call, Entry>) -> Option<Call>
 /// Names the peer where a text waits at its link.
 fn add_text(peers: &mut ArrayVec<Call, 64>, peer: &Call, entry: &Entry)
     requires { length peers.old.items < 64 }
-    ensures { peers.new.items ≡ (if is_some (text_in entry.now) then peers.old.items ++ peer.now ∷ [] else peers.old.items) }
+    ensures { peers.new.items
+        ≡ (if is_some (text_in entry.now) then peers.old.items ++ peer.now ∷ [] else peers.old.items) }
 {
     if entry.text_waits() {
         let _ = peers.try_push(*peer);

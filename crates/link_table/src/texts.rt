@@ -56,7 +56,8 @@ impl Entry {
         requires waits { is_some (text_in self.old) ≡ true }
         ensures drained { OnOk result (IsDrained (held_of self.new.link)) }
         ensures text { OnOk result (text_in self.old ≡ Some out.new.items) }
-        ensures goes { OnOk result (EntryGoes (texts.take_text_of self.old.route.own now.0) self.old self.new pending.old pending.new) }
+        ensures goes { OnOk result (EntryGoes
+            (texts.take_text_of self.old.route.own now.0) self.old self.new pending.old pending.new) }
     {
         match self.link.take(now) {
             None => Ok(()),

@@ -35,10 +35,15 @@ impl Entry {
         ensures route { OnOk result (self.new.route ≡ self.old.route) }
         ensures size { OnOk result (size_of self.new.link ≡ size_of self.old.link) }
         ensures link { OnOk result (held_of self.new.link ≡ record (held_of self.old.link) { notice = None }) }
-        ensures joiner { OnOk result (self.new.joiner ≡ works.joiner_after (option_to_list (held_of self.old.link).notice) self.old.joiner) }
+        ensures joiner { OnOk result (self.new.joiner
+            ≡ works.joiner_after (option_to_list (held_of self.old.link).notice) self.old.joiner) }
         ensures waiting { OnOk result (pending.new.waiting.items ≡ pending.old.waiting.items) }
-        ensures lost { OnOk result (pending.new.lost.items ≡ pending.old.lost.items ++ works.lost_by self.old.route.peer (option_to_list (held_of self.old.link).notice)) }
-        ensures notices { OnOk result (pending.new.notices.items ≡ pending.old.notices.items ++ map (λ n. (self.old.route.peer, n)) (option_to_list (held_of self.old.link).notice)) }
+        ensures lost { OnOk result (pending.new.lost.items
+            ≡ pending.old.lost.items
+            ++ works.lost_by self.old.route.peer (option_to_list (held_of self.old.link).notice)) }
+        ensures notices { OnOk result (pending.new.notices.items
+            ≡ pending.old.notices.items
+            ++ map (λ n. (self.old.route.peer, n)) (option_to_list (held_of self.old.link).notice)) }
         ensures frames { OnOk result (pending.new.frames.items ≡ pending.old.frames.items) }
     {
         if let Some(notice) = self.link.notice() {
@@ -55,7 +60,8 @@ impl Entry {
         requires drained { IsDrained (held_of self.old.link) }
         ensures drained { OnOk result (IsDrained (held_of self.new.link)) }
         ensures goes { (p : Payload) → slice_get (held_of self.old.link).inbox 0 ≡ Some p →
-            OnOk result (EntryGoes (works.take_payload self.old.route.own now.0 p) self.old self.new pending.old pending.new) }
+            OnOk result (EntryGoes (works.take_payload self.old.route.own now.0 p)
+            self.old self.new pending.old pending.new) }
     {
         match self.link.first() {
             None => Ok(()),
@@ -87,7 +93,8 @@ impl Entry {
     pub(crate) fn settle(&mut self, pending: &mut Pending, now: Moment) -> Result<(), NoMemory>
         requires drained { IsDrained (held_of self.old.link) }
         ensures drained { OnOk result (IsDrained (held_of self.new.link)) }
-        ensures goes { OnOk result (EntryGoes (works.settle works.most_taken self.old.route.own now.0) self.old self.new pending.old pending.new) }
+        ensures goes { OnOk result (EntryGoes
+            (works.settle works.most_taken self.old.route.own now.0) self.old self.new pending.old pending.new) }
     {
         for turn in 0..MOST_TAKEN {
             if !self.goes_up() {
@@ -102,7 +109,8 @@ impl Entry {
 /// Notes what has become of the link with a peer. Where it has failed or was refused, the peer is lost.
 pub(crate) fn note(notice: LinkNotice, peer: &Call, pending: &mut Pending) -> Result<(), NoMemory>
     ensures waiting { OnOk result (pending.new.waiting.items ≡ pending.old.waiting.items) }
-    ensures lost { OnOk result (pending.new.lost.items ≡ pending.old.lost.items ++ works.lost_by peer.now (notice ∷ [])) }
+    ensures lost { OnOk result (pending.new.lost.items
+        ≡ pending.old.lost.items ++ works.lost_by peer.now (notice ∷ [])) }
     ensures notices { OnOk result (pending.new.notices.items ≡ pending.old.notices.items ++ (peer.now, notice) ∷ []) }
     ensures frames { OnOk result (pending.new.frames.items ≡ pending.old.frames.items) }
 {

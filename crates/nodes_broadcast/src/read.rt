@@ -16,10 +16,12 @@ pub fn read_nodes(info: &[u8]) -> Result<Nodes, NodesRefusal>
     ensures found { IfOk result (λ nodes. Spells (view nodes) info.now) }
 
     // What is spelled so is read.
-    ensures only { (broadcast : Broadcast) → Spells broadcast info.now → IsOkAnd result (λ nodes. view nodes ≡ broadcast) }
+    ensures only { (broadcast : Broadcast) → Spells broadcast info.now
+        → IsOkAnd result (λ nodes. view nodes ≡ broadcast) }
 
     // Which refusal it is.
-    ensures exact { MatchResult result (λ nodes. reading.nodes_at info.now ≡ Ok (view nodes)) (λ e. reading.nodes_at info.now ≡ Err e) }
+    ensures exact { MatchResult result (λ nodes. reading.nodes_at info.now ≡ Ok (view nodes))
+        (λ e. reading.nodes_at info.now ≡ Err e) }
 {
     let mut nodes = Nodes::default();
     read_nodes_into(&mut nodes, info)?;
@@ -30,8 +32,10 @@ pub fn read_nodes(info: &[u8]) -> Result<Nodes, NodesRefusal>
 /// what stands there.
 pub fn read_nodes_into(nodes: &mut Nodes, info: &[u8]) -> Result<(), NodesRefusal>
     ensures found { OnOk result (Spells (view nodes.new) info.now) }
-    ensures only { (broadcast : Broadcast) → Spells broadcast info.now → IsOkAnd result (λ _. view nodes.new ≡ broadcast) }
-    ensures exact { MatchResult result (λ _. reading.nodes_at info.now ≡ Ok (view nodes.new)) (λ e. reading.nodes_at info.now ≡ Err e) }
+    ensures only { (broadcast : Broadcast) → Spells broadcast info.now
+        → IsOkAnd result (λ _. view nodes.new ≡ broadcast) }
+    ensures exact { MatchResult result (λ _. reading.nodes_at info.now ≡ Ok (view nodes.new))
+        (λ e. reading.nodes_at info.now ≡ Err e) }
 {
     // By the laws of the spelling none that is spelled is refused.
     laws::nodes_spelling();
@@ -41,7 +45,8 @@ pub fn read_nodes_into(nodes: &mut Nodes, info: &[u8]) -> Result<(), NodesRefusa
 
 fn fill(nodes: &mut Nodes, info: &[u8]) -> Result<(), NodesRefusal>
     ensures found { OnOk result (Spells (view nodes.new) info.now) }
-    ensures exact { MatchResult result (λ _. reading.nodes_at info.now ≡ Ok (view nodes.new)) (λ e. reading.nodes_at info.now ≡ Err e) }
+    ensures exact { MatchResult result (λ _. reading.nodes_at info.now ≡ Ok (view nodes.new))
+        (λ e. reading.nodes_at info.now ≡ Err e) }
 {
     if let Some(refusal) = shape_fault(info) {
         return Err(refusal);
@@ -89,7 +94,9 @@ fn read_entries(
     requires few { length octets.now ≤ 231 }
     ensures found { OnOk result (SpellsEntries entries.new.items octets.now) }
     ensures few { length entries.new.items ≤ 11 }
-    ensures exact { MatchResult result (λ _. reading.entries_at (length octets.now / 21) 7 octets.now ≡ Ok entries.new.items) (λ e. reading.entries_at (length octets.now / 21) 7 octets.now ≡ Err e) }
+    ensures exact { MatchResult result
+        (λ _. reading.entries_at (length octets.now / 21) 7 octets.now ≡ Ok entries.new.items)
+        (λ e. reading.entries_at (length octets.now / 21) 7 octets.now ≡ Err e) }
 {
     let mut rest = octets;
     for nth in 0..octets.len() / ENTRY_LEN {

@@ -29,10 +29,12 @@ pub fn write_nodes(nodes: &Nodes) -> ArrayVec<u8, 256>
 pub fn push_nodes<const CAP: usize>(alias: &Alias, entries: &[Entry], out: &mut ArrayVec<u8, CAP>)
     requires few { length entries.now ≤ 11 }
     requires room { length out.old.items + 7 + 21 * length entries.now ≤ CAP }
-    ensures exact { out.new.items ≡ out.old.items ++ nodes_octets (record { alias = alias.now; entries = entries.now }) }
+    ensures exact { out.new.items ≡ out.old.items
+        ++ nodes_octets (record { alias = alias.now; entries = entries.now }) }
 
     // What is put there spells the broadcast.
-    ensures spelled { let b : Broadcast = record { alias = alias.now; entries = entries.now } in Spells b (nodes_octets b) }
+    ensures spelled { let b : Broadcast = record { alias = alias.now; entries = entries.now } in
+        Spells b (nodes_octets b) }
 {
     // By the laws of the spelling the octets that it defines spell the broadcast.
     laws::nodes_spelling();

@@ -16,7 +16,8 @@ use std::alloc::{AllocError, Global};
 /// The entries that the rows give to broadcast, in call order, from that number on.
 pub(crate) fn entries_of(rows: &[Route], least: u8, from: usize) -> ArrayVec<Entry, MAX_ENTRIES>
     requires { places.InRows rows.now }
-    ensures { result.items ≡ take 11 (drop from (filter_map (spec.entry_from least rows.now) (spec.calls_of rows.now))) }
+    ensures { result.items
+        ≡ take 11 (drop from (filter_map (spec.entry_from least rows.now) (spec.calls_of rows.now))) }
 {
     let mut entries = ArrayVec::new();
     let mut skip = from;
@@ -35,7 +36,8 @@ pub(crate) fn entries_of(rows: &[Route], least: u8, from: usize) -> ArrayVec<Ent
 fn add_entry(entries: &mut ArrayVec<Entry, MAX_ENTRIES>, skip: &mut usize, found: Option<Entry>)
     requires { array_vec_len entries.old < 11 }
     ensures few { length entries.new.items ≤ 11 }
-    ensures told { (later : List Entry) → entries.new.items ++ drop skip.new later ≡ entries.old.items ++ drop skip.old (cons_option found later) }
+    ensures told { (later : List Entry)
+        → entries.new.items ++ drop skip.new later ≡ entries.old.items ++ drop skip.old (cons_option found later) }
 {
     let Some(entry) = found else {
         return;
@@ -54,7 +56,8 @@ pub(crate) fn all_entries_of(
     least: u8,
 ) -> Result<Vec<Entry>, AllocError>
     requires { places.InRows rows.now }
-    ensures { IfOk result (λ entries. entries.items ≡ filter_map (spec.entry_from least rows.now) (spec.calls_of rows.now)) }
+    ensures { IfOk result (λ entries. entries.items
+        ≡ filter_map (spec.entry_from least rows.now) (spec.calls_of rows.now)) }
 {
     let mut entries = Vec::new(alloc);
     let mut rest = rows;
@@ -67,7 +70,9 @@ pub(crate) fn all_entries_of(
 
 /// Adds what is broadcast of a destination with this first route, if anything is.
 fn push_entry(entries: &mut Vec<Entry>, least: u8, first: &Route) -> Result<(), AllocError>
-    ensures { OnOk result ((later : List Entry) → entries.new.items ++ later ≡ entries.old.items ++ cons_option (broadcast.entry_by least first.now.dest (Some first.now)) later) }
+    ensures { OnOk result ((later : List Entry)
+        → entries.new.items ++ later
+        ≡ entries.old.items ++ cons_option (broadcast.entry_by least first.now.dest (Some first.now)) later) }
 {
     if is_fresh(least, first) {
         entries.push(entry_through(first))?;

@@ -79,7 +79,8 @@ fn take_if_known(
 ) -> Option<usize>
     requires stand { places.Stand rows.old.items }
     requires room { vec_len rows.old < vec_capacity rows.old }
-    ensures items { IfSome result (λ _. (later : List Entry) → spec.after_reports minq (spec.reported_by sender.now later) rows.new.items
+    ensures items { IfSome result (λ _. (later : List Entry)
+        → spec.after_reports minq (spec.reported_by sender.now later) rows.new.items
         ≡ spec.after_reports minq (spec.reported_by sender.now (entry.now ∷ later)) rows.old.items) }
     ensures same { IfNone result (rows.new ≡ rows.old) }
     ensures stand { places.Stand rows.new.items }
@@ -129,7 +130,9 @@ fn take_entries(
     requires waiting { places.AreWaiting waiting.old.items rows.old.items }
     requires few { length waiting.old.items + length entries.now ≤ 12 }
     requires room { vec_len rows.old + length waiting.old.items + length entries.now ≤ vec_capacity rows.old }
-    ensures items { ranks.all_placed waiting.new.items rows.new.items ≡ spec.after_reports minq (spec.reported_by sender.now entries.now) (ranks.all_placed waiting.old.items rows.old.items) }
+    ensures items { ranks.all_placed waiting.new.items rows.new.items
+        ≡ spec.after_reports minq (spec.reported_by sender.now entries.now)
+        (ranks.all_placed waiting.old.items rows.old.items) }
     ensures waiting { places.AreWaiting waiting.new.items rows.new.items }
     ensures room { vec_len rows.new + length waiting.new.items ≤ vec_capacity rows.new }
 {
@@ -151,8 +154,11 @@ fn take_entry(
     requires waiting { places.AreWaiting waiting.old.items rows.old.items }
     requires few { length waiting.old.items < 12 }
     requires room { vec_len rows.old + length waiting.old.items < vec_capacity rows.old }
-    ensures items { (later : List Entry) → spec.after_reports minq (spec.reported_by sender.now later) (ranks.all_placed waiting.new.items rows.new.items)
-        ≡ spec.after_reports minq (spec.reported_by sender.now (entry.now ∷ later)) (ranks.all_placed waiting.old.items rows.old.items) }
+    ensures items { (later : List Entry)
+        → spec.after_reports minq (spec.reported_by sender.now later)
+        (ranks.all_placed waiting.new.items rows.new.items)
+        ≡ spec.after_reports minq (spec.reported_by sender.now (entry.now ∷ later))
+        (ranks.all_placed waiting.old.items rows.old.items) }
     ensures waiting { places.AreWaiting waiting.new.items rows.new.items }
     ensures few { length waiting.new.items ≤ length waiting.old.items + 1 }
     ensures len { vec_len rows.new + length waiting.new.items ≤ vec_len rows.old + length waiting.old.items + 1 }
@@ -178,7 +184,8 @@ fn take_or_keep(
     requires counted { is_none report.now.count ≡ false }
     requires few { length waiting.old.items < 12 }
     requires room { vec_len rows.old + length waiting.old.items < vec_capacity rows.old }
-    ensures items { ranks.all_placed waiting.new.items rows.new.items ≡ spec.with_report minq report.now (ranks.all_placed waiting.old.items rows.old.items) }
+    ensures items { ranks.all_placed waiting.new.items rows.new.items
+        ≡ spec.with_report minq report.now (ranks.all_placed waiting.old.items rows.old.items) }
     ensures waiting { places.AreWaiting waiting.new.items rows.new.items }
     ensures few { length waiting.new.items ≤ length waiting.old.items + 1 }
     ensures len { vec_len rows.new + length waiting.new.items ≤ vec_len rows.old + length waiting.old.items + 1 }
@@ -248,7 +255,8 @@ fn enter_before(rows: &mut [Route], end: usize, gap: usize, route: &Route) -> us
     requires order { places.InRows (take end rows.old) }
     ensures place { result ≡ places.place_among route.now (take end rows.old) }
     ensures bound { result ≤ end }
-    ensures rows { rows.new ≡ take (result + gap) rows.old ++ route.now ∷ (drop result (take end rows.old) ++ drop (end + gap + 1) rows.old) }
+    ensures rows { rows.new ≡ take (result + gap) rows.old ++ route.now
+        ∷ (drop result (take end rows.old) ++ drop (end + gap + 1) rows.old) }
 {
     let at = place_of(&rows[..end], route);
     rows.copy_within(at..end, at + gap + 1);

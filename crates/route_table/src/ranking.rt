@@ -52,7 +52,8 @@ pub(crate) fn start_near(rows: &[Route], from: usize, dest: &Call) -> usize
 /// Whether the rows before that place lead lower: there are so many, and the last of them does.
 fn leads_lower(rows: &[Route], at: usize, dest: &Call) -> bool
     ensures within { result ≡ true → at ≤ length rows.now }
-    ensures lower { result ≡ true → (d : Route) → 0 < at → call_lt (slice_index_or rows.now (at - 1) d).dest dest.now ≡ true }
+    ensures lower { result ≡ true → (d : Route) → 0 < at
+        → call_lt (slice_index_or rows.now (at - 1) d).dest dest.now ≡ true }
 {
     at == 0 || at <= rows.len() && rows[at - 1].dest.cmp(dest).is_lt()
 }
@@ -89,7 +90,8 @@ pub(crate) fn place_of(rows: &[Route], route: &Route) -> usize
 /// Whether a route stands behind the row before that place, if there is one.
 pub(crate) fn is_after(rows: &[Route], at: usize, route: &Route) -> bool
     requires { at ≤ length rows.now }
-    ensures { result ≡ true → (d : Route) → 0 < at → ranks.stands_before (slice_index_or rows.now (at - 1) d) route.now ≡ true }
+    ensures { result ≡ true → (d : Route) → 0 < at
+        → ranks.stands_before (slice_index_or rows.now (at - 1) d) route.now ≡ true }
 {
     at == 0 || stands_before(&rows[at - 1], route)
 }

@@ -41,7 +41,9 @@ pub(crate) fn reports_of(sender: &Sender, entries: &[Entry]) -> ArrayVec<Route, 
 /// Adds what an entry reports, if it reports a route.
 fn push_report(reports: &mut ArrayVec<Route, MAX_REPORTS>, sender: &Sender, entry: &Entry)
     requires { length reports.old.items < 12 }
-    ensures told { (later : List Entry) → reports.new.items ++ spec.reported_by sender.now later ≡ reports.old.items ++ spec.reported_by sender.now (entry.now ∷ later) }
+    ensures told { (later : List Entry)
+        → reports.new.items ++ spec.reported_by sender.now later
+        ≡ reports.old.items ++ spec.reported_by sender.now (entry.now ∷ later) }
     ensures few { length reports.new.items ≤ length reports.old.items + 1 }
 {
     if is_reported(sender, entry) {

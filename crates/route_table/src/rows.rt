@@ -72,7 +72,8 @@ fn fits_at(rows: &[Route], at: usize, route: &Route) -> bool
 
 fn is_before(rows: &[Route], at: usize, route: &Route) -> bool
     requires { at < length rows.now }
-    ensures { result ≡ true → (d : Route) → at + 1 < length rows.now → table.stands_before route.now (slice_index_or rows.now (at + 1) d) ≡ true }
+    ensures { result ≡ true → (d : Route) → at + 1 < length rows.now
+        → table.stands_before route.now (slice_index_or rows.now (at + 1) d) ≡ true }
 {
     match rows.get(at + 1) {
         Some(next) => stands_before(route, next),
@@ -92,7 +93,8 @@ pub(crate) fn surplus_after(
     requires stand { places.Stand rows.now }
     requires few { length rows.now ≤ 16384 }
     requires entries { length entries.now ≤ 11 }
-    ensures { places.IsSurplus (length (spec.after_reports minq (spec.reported sender.now entries.now) rows.now)) result }
+    ensures { places.IsSurplus
+        (length (spec.after_reports minq (spec.reported sender.now entries.now) rows.now)) result }
 {
     if rows.len() + entries.len() < MAX_PAIRS {
         return None;
@@ -106,7 +108,8 @@ fn counted_surplus(rows: &[Route], minq: u8, sender: &Sender, entries: &[Entry])
     requires stand { places.Stand rows.now }
     requires few { length rows.now ≤ 16384 }
     requires entries { length entries.now ≤ 11 }
-    ensures { places.IsSurplus (length (spec.after_reports minq (spec.reported sender.now entries.now) rows.now)) result }
+    ensures { places.IsSurplus
+        (length (spec.after_reports minq (spec.reported sender.now entries.now) rows.now)) result }
 {
     let count = count_after(rows, minq, &reports_of(sender, entries));
     if count > MAX_PAIRS { Some(count) } else { None }

@@ -38,7 +38,8 @@ pub fn number_of(least: u32, most: u32, word: &[u8]) -> Option<u32>
 /// The number that the digits spell, where it is no larger than the bound.
 #[tactic(auto, using(crate::proofs::Values::value_onto_ge))]
 fn value_up_to(digits: &[u8], most: u32) -> Option<u32>
-    ensures { result ≡ (if nat_le (numbers.value_onto 0 digits.now) most then Some (numbers.value_onto 0 digits.now) else None) }
+    ensures { result ≡ (if nat_le (numbers.value_onto 0 digits.now) most
+        then Some (numbers.value_onto 0 digits.now) else None) }
 {
     let mut value: u64 = 0;
     for digit in digits {

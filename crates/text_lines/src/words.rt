@@ -27,7 +27,8 @@ fn pieces_of(alloc: Global, line: &[u8]) -> Result<Vec<&[u8]>, AllocError>
 
 /// The first word of a line, and what stands behind it: nothing, or a space and what follows. None where it has no word.
 pub fn first_word(line: &[u8]) -> Option<(&[u8], &[u8])>
-    ensures { MatchOption result (words.words_of line.now ≡ []) (λ cut. words.words_of line.now ≡ cut.0.now ∷ words.words_of cut.1.now) }
+    ensures { MatchOption result (words.words_of line.now ≡ [])
+        (λ cut. words.words_of line.now ≡ cut.0.now ∷ words.words_of cut.1.now) }
 {
     let rest = after_spaces(line);
     if rest.is_empty() {
@@ -55,7 +56,8 @@ fn first_space(line: &[u8]) -> Option<usize>
 
 /// What stands after the one space at the front, if that space is there.
 pub fn after_space(rest: &[u8]) -> Option<&[u8]>
-    ensures { MatchOption result (words.after_space rest.now ≡ None) (λ text. words.after_space rest.now ≡ Some text.now) }
+    ensures { MatchOption result (words.after_space rest.now ≡ None)
+        (λ text. words.after_space rest.now ≡ Some text.now) }
 {
     match rest {
         [] => None,
