@@ -285,7 +285,7 @@ module _ (plan : Plan) (Heard_from Locks Users : Callsign → Type 0) (Again : P
   delivered line at node None w e = stays w
   delivered line at node (Some f) w e =
       let v : World = tell line (events.Delivered (at + 1) node ∷ []) w in
-      next w v (hear line node (kiss_bytes f.octets.items) f.modulo128 v) (tells line (events.Delivered (at + 1) node ∷ []) w (tt, tt))
+      next w v (hear line node (kiss_bytes f.octets.items) f.modulo128 v) (one_told line (events.Delivered (at + 1) node) w tt)
       (hear_leads line node (kiss_bytes f.octets.items) f.modulo128 v (k.frames line (place_of_node node v.nodes) at f v e))
 
   deliver_leads : (line at node : ℕ) (w : World) → P w (deliver_at line at node w)
@@ -294,7 +294,7 @@ module _ (plan : Plan) (Heard_from Locks Users : Callsign → Type 0) (Again : P
 
   unless_leads : (line : ℕ) (o : Option LineRefusal) (done w : World) → P w done → P w (unless_refused line o done w)
   unless_leads line None done w l = l
-  unless_leads line (Some why) done w l = tells line (events.Refused why ∷ []) w (tt, tt)
+  unless_leads line (Some why) done w l = one_told line (events.Refused why) w tt
 
   all_leads : (line at : ℕ) (nodes : List ℕ) (w : World) → P w (deliver_all line at nodes w)
   all_leads line at [] w = stays w
@@ -321,7 +321,7 @@ module _ (plan : Plan) (Heard_from Locks Users : Callsign → Type 0) (Again : P
   flow_leads line (suc count) w = flow_case line count w (oldest w.air) (flow_leads line count)
 
   lost : (line at frame : ℕ) (w : World) → P w (lose_at line at frame w)
-  lost line at frame w = next w (settle at w) (lose_at line at frame w) (k.settles at w) (tells line (events.Settled frame ∷ []) (settle at w) (tt, tt))
+  lost line at frame w = next w (settle at w) (lose_at line at frame w) (k.settles at w) (one_told line (events.Settled frame) (settle at w) tt)
 
   abbrev cut_by : ℕ → ℕ → World → Option ℕ → World
   cut_by line count w o = elim o [ None ↦ w | Some at ↦ cut line count (lose_at line at (at + 1) w) ]
@@ -339,7 +339,7 @@ module _ (plan : Plan) (Heard_from Locks Users : Callsign → Type 0) (Again : P
 
   shows : (line : ℕ) (o : Option Placed) (w : World) → P w (shown_of line o w)
   shows line None w = stays w
-  shows line (Some p) w = tells line (events.Shown (table_of p) ∷ []) w (tt, tt)
+  shows line (Some p) w = one_told line (events.Shown (table_of p)) w tt
 
   pub line_leads : (line : ℕ) (i : Instruction) (w : World) → LineMay Heard_from Locks Users Again i → P w (do_line plan line i w)
   line_leads line (instructions.Heard node call nodes) w i = hear_leads line node (kiss_bytes (broadcast_octets call (view nodes))) false w (k.broadcasts line (place_of_node node w.nodes) call (view nodes) w i)

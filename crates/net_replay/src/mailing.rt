@@ -5,7 +5,8 @@ mod taking;
 
 ghost use Rattle.std.specs.Prelude.{◌≡◌, ◌∷◌, [], OnOk, IfOk, IfErr, map};
 ghost use Rattle.node_core.specs.Acts.{act_of};
-ghost use Rattle.net_replay.specs.Events.{Refused, event_of};
+ghost use Rattle.net_replay.specs.Events as events;
+ghost use Rattle.net_replay.specs.Events.{event_of};
 ghost use Rattle.net_replay.specs.Mailing as mailing;
 ghost use Rattle.net_replay.specs.Running.{GoesOn, IsAnswerTo, Runs, Stands, Stops, course};
 ghost use Rattle.net_replay.specs.World as worlds;
@@ -50,7 +51,7 @@ impl World<'_> {
 
     /// Tells why a line isn't done.
     pub fn refuse(&mut self, line: u32, why: LineRefusal) -> Result<(), NoMemory>
-        ensures { OnOk result (GoesOn (course self.old) (course self.new) (worlds.tell line (Refused why ∷ []))) }
+        ensures { OnOk result (GoesOn (course self.old) (course self.new) (worlds.tell line (events.Refused why ∷ []))) }
     {
         self.tell(line, Event::Refused { why })?;
         Ok(())
