@@ -1,6 +1,6 @@
 -- Each node is declared once, with a call of its own, what stands for calls are calls, and the version of a file stands before its settings, each of which is one that files of that version may have.
 use Rattle.std.proofs.Common.{◌≡◌, ◌≤◌, ℕ, suc, refl, sym, subst, List, [], ◌∷◌, ◌++◌, length, arith, Bool, true, false, cond}
-use Rattle.std.specs.Prelude.{◌&&◌, ◌==◌, not, nat_eq, nat_lt, is_none, take, Option, Result, Ok, Err}
+use Rattle.std.specs.Prelude.{◌&&◌, ◌==◌, not, nat_eq, nat_lt, is_none, take, Result, Ok, Err}
 use Rattle.std.specs.Cmp.Lexicographic.{pointwise}
 use Rattle.std.specs.Str.Lines.{lines}
 use Rattle.std.specs.List.{AllByRecursion}
@@ -20,11 +20,11 @@ use Rattle.network_file.specs.declared.reasons.What.{What}
 use Rattle.network_file.specs.declared.reasons.What.TheVariants as whats
 use Rattle.network_file.specs.Keys.{Assignment, key_at, least_of, most_of, takes, clashes, set_to}
 use Rattle.network_file.specs.Laws.{AreDifferent, ArePairNumbers, CallsAreCalls, CallsDeclaredOnce, DeclaredOnce, HasCalls, HaveOwnCalls, IsAllowed, IsCall, IsInRange, NamesCalls, NamesPair, NoMailAtPrompts, PairsArePairs, SettingsFit, SettingsInRange}
-use Rattle.network_file.specs.Lines.{all_kinds, line_at, line_of}
+use Rattle.network_file.specs.Lines.{all_kinds, from_circuits, from_mails, line_at, line_of}
 use Rattle.network_file.specs.Lines.Instructions as circuits
 use Rattle.network_file.specs.Lines.Declaring.{are_members, are_repeaters, calls_at, channel_line, members_at, declaration_at, node_line, set_line, setting_at, version_at, version_line, via_at, via_line}
 use Rattle.network_file.specs.Lines.Instructions.{are_entries, broadcast_at, entries_at, heard_line}
-use Rattle.network_file.specs.Lines.Kinds.{Kind, as_line, in_time, line_by}
+use Rattle.network_file.specs.Lines.Kinds.{Kind, as_line, in_time, line_by, with_text}
 use Rattle.network_file.proofs.Declared.{more_calls, more_different}
 use Rattle.network_file.proofs.Prompts.{AreApart, known_key, more_apart}
 use Rattle.network_file.proofs.Ranges.{ranged}
@@ -66,12 +66,6 @@ done plan i y e n p = last (Fits plan) (said.Instruction i) (n, p) y e
 -- an instruction that names no call and no pair
 plain : (plan : Plan) {A : Type 0} (parts : Result A What) (makes : A → Instruction) → ((x : A) → NamesCalls (makes x) × NamesPair (makes x)) → (y : Line) → as_line parts makes ≡ Ok y → Fits plan y
 plain plan parts makes none = bound (Fits plan) parts _ (λ x _ y z. done plan (makes x) y z (none x).0 (none x).1)
-
--- and one with a text, which names calls as its parts do
-texted : (plan : Plan) {A : Type 0} (text : Option (List ℕ)) (parts : Result A What) (makes : A → List ℕ → Instruction)
-    → ((x : A) (t : List ℕ) → parts ≡ Ok x → NamesCalls (makes x t) × NamesPair (makes x t)) → (y : Line) → (known whats.Count text >>= (λ t. as_line parts (λ x. makes x t))) ≡ Ok y → Fits plan y
-texted plan text parts makes names =
-    bound (Fits plan) (known whats.Count text) _ (λ t _. bound (Fits plan) parts _ (λ x e y z. done plan (makes x t) y z (names x t e).0 (names x t e).1))
 
 declares : (plan : Plan) (d : Declaration) → (has_node plan.declared d.node ≡ false) × (has_call plan.declared d.call ≡ false) × IsCall d.call → (y : Line) → ◌≡◌ {A = Result Line What} (Ok (said.Node d)) (Ok y) → Fits plan y
 declares plan d new = last (Fits plan) (said.Node d) new
@@ -217,6 +211,13 @@ module _ (reads : ReadsCallTexts) where
   posted plan (number ∷ to ∷ dest ∷ []) p e = posts plan number to dest p e
   posted plan other p e = absurd (cc e)
 
+  texted : (plan : Plan) (line : List ℕ) (words : List (List ℕ)) (p : (ℕ × Callsign × Callsign) × List ℕ) → with_text 3 circuits.node_and_calls plan line words ≡ Ok p → AreCalls p.0
+  texted plan line words =
+      bound (λ p. AreCalls p.0) (known whats.Count (text_behind 4 line)) _ (λ t _. bound (λ p. AreCalls p.0) (circuits.node_and_calls plan (take 3 words)) _ (λ x q. last (λ p. AreCalls p.0) (x, t) (posted plan (take 3 words) x q)))
+
+  post_fits : (plan : Plan) (line : List ℕ) (words : List (List ℕ)) (l : Line) → as_line (with_text 3 circuits.node_and_calls plan line words) (λ p. instructions.Post p.0.0 p.0.1 p.0.2 p.1) ≡ Ok l → Fits plan l
+  post_fits plan line words = bound (Fits plan) (with_text 3 circuits.node_and_calls plan line words) _ (λ p q y z. done plan _ y z (texted plan line words p q) tt)
+
   -- ---- all kinds
 
   timely : (plan : Plan) (b : Bool) (r : Result Line What) (l : Line) → (b ≡ true → r ≡ Ok l → Fits plan l) → in_time b r ≡ Ok l → Fits plan l
@@ -235,6 +236,23 @@ module _ (reads : ReadsCallTexts) where
   by_fits (k ∷ ks) all plan line first words l e =
       either plan (k.is_known plan && pointwise nat_eq first k.word) (k.says plan line words) (line_by ks plan line first words) l (all.0 plan line words l) (by_fits ks all.1 plan line first words l) e
 
+  -- the exceptions are listed: a kind that names no call and no pair needs no lemma of its own
+  node_fit : AllByRecursion KindFits circuits.node_kinds
+  node_fit = search (heard_fits, lock_fits, tick_fits, restart_fits, plain)
+
+  circuit_fit : AllByRecursion KindFits circuits.circuit_kinds
+  circuit_fit = search (open_fits, burst_fits, plain)
+
+  mail_fit : AllByRecursion KindFits circuits.mail_kinds
+  mail_fit = search (post_fits, plain)
+
+  frame_fit : AllByRecursion KindFits circuits.frame_kinds
+  frame_fit = search plain
+
+  joined : (xs ys : List Kind) → AllByRecursion KindFits xs → AllByRecursion KindFits ys → AllByRecursion KindFits (xs ++ ys)
+  joined [] ys a b = b
+  joined (x ∷ xs) ys a b = (a.0, joined xs ys a.1 b)
+
   all_fit : AllByRecursion KindFits all_kinds
   all_fit = (
     λ plan line words l. timely plan (is_untouched plan) (version_line words) l (λ h. version_fits plan h words l),
@@ -246,64 +264,7 @@ module _ (reads : ReadsCallTexts) where
           λ plan line words l. timely plan (may_declare plan) (set_line plan words) l (λ _. set_fits plan words l),
           (
             λ plan line words l. timely plan (may_declare plan) (via_line plan words) l (λ _. via_fits plan words l),
-            (
-              λ plan line. heard_fits plan,
-              (
-                λ plan line. lock_fits plan,
-                (
-                  λ plan line words. plain plan (circuits.node_alone plan words) instructions.Round (λ x. (tt, tt)),
-                  (
-                    λ plan line words. plain plan (circuits.node_and_call plan words) (λ x. instructions.LinkFail x.0 x.1) (λ x. (tt, tt)),
-                    (
-                      λ plan line words. plain plan (circuits.node_alone plan words) instructions.Show (λ x. (tt, tt)),
-                      (
-                        λ plan line. tick_fits plan,
-                        (
-                          λ plan line. restart_fits plan,
-                          (
-                            λ plan line. open_fits plan,
-                            (
-                              λ plan line words. texted plan (text_behind 3 line) (circuits.end_alone plan (take 2 words)) (λ x. instructions.Say x.0 x.1) (λ x t e. (tt, tt)),
-                              (
-                                λ plan line. burst_fits plan,
-                                (
-                                  λ plan line words. plain plan (circuits.end_alone plan words) (λ x. instructions.Take x.0 x.1) (λ x. (tt, tt)),
-                                  (
-                                    λ plan line words. plain plan (circuits.end_alone plan words) (λ x. instructions.Close x.0 x.1) (λ x. (tt, tt)),
-                                    (
-                                      λ plan line words. texted plan (text_behind 4 line) (circuits.node_and_calls plan (take 3 words)) (λ p. instructions.Post p.0 p.1 p.2) (λ p t e. (posted plan (take 3 words) p e, tt)),
-                                      (
-                                        λ plan line words. plain plan (circuits.node_alone plan words) instructions.Mail (λ x. (tt, tt)),
-                                        (
-                                          λ plan line words. plain plan (circuits.frame_and_node plan words) (λ x. instructions.Deliver x.0 x.1) (λ x. (tt, tt)),
-                                          (
-                                            λ plan line words. plain plan (circuits.frame_and_node plan words) (λ x. instructions.Again x.0 x.1) (λ x. (tt, tt)),
-                                            (
-                                              λ plan line words. plain plan (circuits.frame_alone words) instructions.Lose (λ x. (tt, tt)),
-                                              (
-                                                λ plan line words. plain plan (circuits.count_alone words) instructions.Flow (λ x. (tt, tt)),
-                                                (
-                                                  λ plan line words. plain plan (circuits.count_alone words) instructions.Cut (λ x. (tt, tt)),
-                                                  tt,
-                                                ),
-                                              ),
-                                            ),
-                                          ),
-                                        ),
-                                      ),
-                                    ),
-                                  ),
-                                ),
-                              ),
-                            ),
-                          ),
-                        ),
-                      ),
-                    ),
-                  ),
-                ),
-              ),
-            ),
+            joined circuits.node_kinds from_circuits node_fit (joined circuits.circuit_kinds from_mails circuit_fit (joined circuits.mail_kinds circuits.frame_kinds mail_fit frame_fit)),
           ),
         ),
       ),

@@ -47,11 +47,15 @@ as_line read makes = read >>= (λ x. Ok (lines.Instruction (makes x)))
 abbrev pub reads : {A : Type 0} → (Plan → List (List ℕ) → Result A What) → (A → Instruction) → Reader
 reads parts makes = λ plan line words. as_line (parts plan words) makes
 
--- so it is of a line that ends in TEXT: so many words stand between its first and TEXT, and these parts are read of them. A line without the
--- space before TEXT has too few words
+-- parts that so many words are, which stand between the first and TEXT, and TEXT; without the space before TEXT the line has too few words
+abbrev pub with_text : {A : Type 0} → ℕ → (Plan → List (List ℕ) → Result A What) → Plan → List ℕ → List (List ℕ) → Result (A × List ℕ) What
+with_text count parts plan line words = do
+  text ← known whats.Count (text_behind (suc count) line)
+  x ← parts plan (take count words)
+  Ok (x, text)
+
 abbrev pub reads_text : {A : Type 0} → ℕ → (Plan → List (List ℕ) → Result A What) → (A → List ℕ → Instruction) → Reader
-reads_text count parts makes = λ plan line words.
-    known whats.Count (text_behind (suc count) line) >>= (λ text. as_line (parts plan (take count words)) (λ x. makes x text))
+reads_text count parts makes = λ plan line words. as_line (with_text count parts plan line words) (λ p. makes p.0 p.1)
 
 -- what a line says, by the first of these kinds that its first word names
 abbrev pub line_by : List Kind → Plan → List ℕ → List ℕ → List (List ℕ) → Result Line What
