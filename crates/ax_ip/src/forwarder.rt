@@ -102,7 +102,9 @@ impl Forwarder {
     /// `Twice` where a route with this prefix and length stands, `Full` where 16 routes do. A refusal changes nothing.
     pub fn route(&mut self, prefix: u32, len: u8, hop: u32) -> Result<(), RouteRefusal>
         ensures exact { result ≡ routes.route_at prefix len (machine.state self.old).routes }
-        ensures entered { OnOk result ((r : routes.Route) × routes.IsRoute prefix len hop r × (machine.state self.new ≡ record (machine.state self.old) { routes = (machine.state self.old).routes ++ r ∷ [] })) }
+        ensures entered { OnOk result ((r : routes.Route) × routes.IsRoute prefix len hop r
+            × (machine.state self.new
+            ≡ record (machine.state self.old) { routes = (machine.state self.old).routes ++ r ∷ [] })) }
         ensures out { machine.waiting self.new ≡ machine.waiting self.old }
         ensures err { OnErr result (self.new ≡ self.old) }
     {
@@ -123,7 +125,8 @@ impl Forwarder {
     #[tactic(auto, unfolding(crate::specs::Machine::turn))]
     pub fn arrive(&mut self, frame: &FrameView<'_>) -> IpDone
         requires fetched { machine.waiting self.old ≡ None }
-        ensures turn { machine.Does (machine.turn (machine.state self.old) (frame_of frame.now)) result self.old self.new }
+        ensures turn { machine.Does (machine.turn (machine.state self.old) (frame_of frame.now))
+            result self.old self.new }
     {
         match content_of(frame, &self.call) {
             Content::Packet => self.take_packet(&frame.head.source.call, frame.info),

@@ -12,7 +12,8 @@ use crate::out::{ARP_PID, Info};
 impl Forwarder {
     pub(crate) fn take_arp(&mut self, info: &[u8]) -> IpDone
         requires fetched { machine.waiting self.old ≡ None }
-        ensures { machine.Does (machine.arp_turn (machine.state self.old) (arps.arp_at info.now)) result self.old self.new }
+        ensures { machine.Does (machine.arp_turn (machine.state self.old) (arps.arp_at info.now))
+            result self.old self.new }
     {
         match read_arp(info) {
             Ok(arp) => self.take_message(&arp),

@@ -18,7 +18,9 @@ use ax_address::Call;
 impl Forwarder {
     pub(crate) fn take_packet(&mut self, source: &Call, info: &[u8]) -> IpDone
         requires fetched { machine.waiting self.old ≡ None }
-        ensures { machine.Does (machine.packet_turn (machine.state self.old) source.now info.now (packets.packet_at info.now)) result self.old self.new }
+        ensures { machine.Does
+            (machine.packet_turn (machine.state self.old) source.now info.now (packets.packet_at info.now))
+            result self.old self.new }
     {
         match read_packet(info) {
             Ok(head) => self.take_whole(source, &head, &info[..head.total]),
@@ -31,7 +33,8 @@ impl Forwarder {
         requires header { head.now.header ≤ length packet.now }
         requires options { 20 ≤ head.now.header }
         requires few { length packet.now ≤ 256 }
-        ensures { machine.Does (machine.whole_turn (machine.state self.old) source.now head.now packet.now) result self.old self.new }
+        ensures { machine.Does (machine.whole_turn (machine.state self.old) source.now head.now packet.now)
+            result self.old self.new }
     {
         if head.dest == self.address {
             self.answer(source, head, packet)
@@ -45,7 +48,8 @@ impl Forwarder {
         requires header { head.now.header ≤ length packet.now }
         requires options { 20 ≤ head.now.header }
         requires few { length packet.now ≤ 256 }
-        ensures { machine.Does (machine.own_turn (machine.state self.old) source.now head.now packet.now) result self.old self.new }
+        ensures { machine.Does (machine.own_turn (machine.state self.old) source.now head.now packet.now)
+            result self.old self.new }
     {
         if !is_request(head, packet) {
             return IpDone::Dropped(IpWhy::Ours);
@@ -60,7 +64,8 @@ impl Forwarder {
         requires header { head.now.header ≤ length packet.now }
         requires options { 20 ≤ head.now.header }
         requires few { length packet.now ≤ 256 }
-        ensures { machine.Does (machine.onward_turn (machine.state self.old) head.now packet.now) result self.old self.new }
+        ensures { machine.Does (machine.onward_turn (machine.state self.old) head.now packet.now)
+            result self.old self.new }
     {
         if head.ttl <= 1 {
             return IpDone::Dropped(IpWhy::Expired);
@@ -77,7 +82,8 @@ impl Forwarder {
         requires options { 20 ≤ head.now.header }
         requires few { length packet.now ≤ 256 }
         requires alive { 1 < head.now.ttl }
-        ensures { machine.Does (machine.to_hop (machine.state self.old) head.now packet.now hop) result self.old self.new }
+        ensures { machine.Does (machine.to_hop (machine.state self.old) head.now packet.now hop)
+            result self.old self.new }
     {
         match call_of(self.cache.as_slice(), hop) {
             Some(to) => {

@@ -51,7 +51,8 @@ impl World<'_> {
 
     /// Tells why a line isn't done.
     pub fn refuse(&mut self, line: u32, why: LineRefusal) -> Result<(), NoMemory>
-        ensures { OnOk result (GoesOn (course self.old) (course self.new) (worlds.tell line (events.Refused why ∷ []))) }
+        ensures { OnOk result (GoesOn (course self.old) (course self.new)
+            (worlds.tell line (events.Refused why ∷ []))) }
     {
         self.tell(line, Event::Refused { why })?;
         Ok(())
