@@ -12,7 +12,7 @@ use Rattle.l3_datagram.specs.declared.carrier.Offered.{Offered}
 use Rattle.l3_datagram.specs.declared.carrier.Offered.TheVariants.{Taken, Dropped}
 use Rattle.ax_segment.specs.Joining.{HeldMessage as Joined, join_step, IsWithin}
 use Rattle.radio_base.specs.declared.payload.Payload.{Payload}
-use Rattle.l3_datagram.specs.Datagrams.{Parcel, CarrierCall}
+use Rattle.l3_datagram.specs.Datagrams.{Parcel, CarrierCall, Collect, Fail, Offer}
 use Rattle.link_table.specs.declared.link_of.LinkOf.{LinkOf}
 use Rattle.link_table.specs.declared.link_of.LinkOf.TheVariants.{Eight, Wide}
 use Rattle.link_table.specs.declared.path_refusal.PathRefusal.{PathRefusal}
@@ -24,9 +24,8 @@ use Rattle.link_table.specs.declared.pending.Pending.{Pending}
 use Rattle.link_table.specs.declared.written.Written.{Written}
 use Rattle.link_table.specs.declared.entry.Entry.{Entry}
 use Rattle.link_table.specs.declared.held_links.HeldLinks.{HeldLinks}
-use Rattle.link_table.specs.Calls.{most_links}
+use Rattle.link_table.specs.Calls.{collect, most_links, offer, tell_lost}
 use Rattle.std.proofs.Common.{refl, subst, sym}
-use Rattle.link_table.specs.Carrying.{AllAnswer, after_call, after_calls}
 use Rattle.link_table.specs.Table.{PendingStands, written, Linked, Table, Via}
 use Rattle.link_table.specs.Frames.{all_sent, netrom, segmented}
 use Rattle.std.specs.Map.{lookup, remove_entry}
@@ -219,6 +218,28 @@ pub record TableStands (k : TableView) (t : Table) : Type 0 where
 
 abbrev pub TableGoes : (Table → Table) → TableView → TableView → Type 0
 TableGoes part old new = (t : Table) → TableStands old t → TableStands new (part t)
+
+-- ---- the table as a carrier of datagrams
+
+-- the call has this answer
+abbrev pub Answers : Table → CarrierCall → Type 0
+Answers t (Offer to datagram now answer) = answer ≡ (offer to datagram now t).answer
+Answers t (Collect answer) = answer ≡ slice_get t.pending.waiting 0
+Answers t (Fail answer) = answer ≡ slice_get t.pending.lost 0
+
+-- after the call
+abbrev pub after_call : CarrierCall → Table → Table
+after_call (Offer to datagram now answer) t = (offer to datagram now t).table
+after_call (Collect answer) t = collect t
+after_call (Fail answer) t = tell_lost t
+
+abbrev pub AllAnswer : Table → List CarrierCall → Type 0
+AllAnswer t [] = Unit {0}
+AllAnswer t (c ∷ cs) = Answers t c × AllAnswer (after_call c t) cs
+
+abbrev pub after_calls : List CarrierCall → Table → Table
+after_calls [] t = t
+after_calls (c ∷ cs) t = after_calls cs (after_call c t)
 
 -- For each table that the carrier before stands for, these calls have these answers, and the carrier after stands for the
 -- table to which they lead.

@@ -23,8 +23,7 @@ use Rattle.network_file.specs.Keys.{value_of}
 use Rattle.node_core.specs.Runs.{ActsRun, BytesRun, InputsAreSteps, TicksRun}
 use Rattle.node_core.specs.Acts as acts
 use Rattle.node_mail.specs.Lists.{Lists, nothing_kept}
-use Rattle.node_mail.specs.MailOnce.{HoldsMailOnce, MailIsStoredOnce}
-use Rattle.node_mail.specs.Runs.{begin}
+use Rattle.node_mail.specs.Runs.{HoldsMailOnce, MailIsStoredOnce, begin}
 use Rattle.net_replay.specs.Promises.{IsInstruction, IsRunOf, IsSound, NetworksAreSound, RunsThrough, first_sets, set_of, InTimeMailIsOnce, MailOnceNow}
 use Rattle.net_replay.specs.Lines.{do_lines, world}
 use Rattle.net_replay.specs.Mailing.{mail_at, mail_in}

@@ -16,7 +16,7 @@ use Rattle.l3_datagram.specs.declared.datagram.DatagramRefusal.{DatagramRefusal}
 use Rattle.l3_datagram.specs.declared.routed.Routed.{Routed}
 use Rattle.l3_datagram.specs.declared.routed.Routed.TheVariants as routed
 use Rattle.link_table.specs.Calls.{collect, tell_lost}
-use Rattle.link_table.specs.Carrying.{AllAnswer, after_call as call_done, after_calls}
+use Rattle.link_table.specs.Standing.{AllAnswer, after_call as call_done, after_calls}
 use Rattle.link_table.specs.Kept.{OffersLeave, TakesLower}
 use Rattle.link_table.specs.Table.{Table}
 use Rattle.node_turns.specs.Links as circuits

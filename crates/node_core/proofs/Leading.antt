@@ -10,9 +10,8 @@ use Rattle.circuit_set.specs.declared.event.SetEvent.{SetEvent}
 use Rattle.l3_datagram.specs.Datagrams.{Parcel}
 use Rattle.l3_datagram.specs.Routers.{SameRouter}
 use Rattle.l3_datagram.specs.declared.carrier.Offered.{Offered}
-use Rattle.link_table.specs.Carrying.{AllAnswer, after_calls}
 use Rattle.link_table.specs.Kept.{OffersLeave, TakesLower}
-use Rattle.link_table.specs.Standing.{TableView as Kept, Made}
+use Rattle.link_table.specs.Standing.{AllAnswer, Made, TableView as Kept, after_calls}
 use Rattle.route_table.specs.Table as routes
 use Rattle.node_core.specs.declared.station.Station.{Station}
 use Rattle.node_turns.specs.Pumping.{pump, told_entries}

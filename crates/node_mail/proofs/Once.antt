@@ -2,8 +2,8 @@
 use Rattle.std.proofs.Common.{◌≡◌, ◌∙◌, Some, ap}
 use Rattle.node_mail.specs.Wires.{SpelledWireIsRead, WrittenWireSpellsIt, wire_octets}
 use Rattle.node_mail.specs.Lists.{Mail, letter_of}
-use Rattle.node_mail.specs.Runs.{MailRun, begin, run}
-use Rattle.node_mail.specs.MailOnce.{HoldsMailOnce, MailIsStoredOnce, posted_as}
+use Rattle.node_mail.specs.Runs.{HoldsMailOnce, MailIsStoredOnce, MailRun, begin, run}
+use Rattle.node_mail.specs.MailOnce.{posted_as}
 use Rattle.node_mail.proofs.Each.{each_map}
 use Rattle.node_mail.proofs.Letters.{numbers_differ}
 use Rattle.node_mail.proofs.Holding.{Holds, CameFrom}

@@ -1,9 +1,8 @@
 -- Mail is stored once. Own profile.
-use Rattle.std.specs.Prelude.{ℕ, ◌≡◌, ◌⊎◌, List, [], ◌∷◌, map, filter, Bool, true, false, ◌==◌, Some}
+use Rattle.std.specs.Prelude.{ℕ, ◌≡◌, ◌⊎◌, List, [], ◌∷◌, map, filter, true, false, ◌==◌, Some}
 use Rattle.std.specs.List.{list_any, AllByRecursion}
 use Rattle.ax_address.specs.Callsign.{Callsign, same_call}
 use Rattle.node_mail.specs.Lists.{Lists, Letter, Mail, letter_of, is_stored}
-use Rattle.node_mail.specs.Runs.{MailRun, Event, IsEvent, begin, run}
 
 abbrev pub AllDiffer : List ℕ → Type 0
 AllDiffer [] = Unit {0}
@@ -33,14 +32,3 @@ pub record MailOnce (origin dest : Callsign) (from at : Lists) : Type 0 where
   pub as_posted : AllByRecursion (WasPosted origin dest from) at.stored
   -- each mail that `origin` has posted for `dest` is queued there or stored here
   pub kept : AllByRecursion (λ (l : Letter). l.dest ≡ dest → IsKept origin from at l) from.posted
-
--- of all nodes with a store
-abbrev pub HoldsMailOnce : MailRun → Type 0
-HoldsMailOnce w =
-    (origin dest : Callsign) (from at : Lists) →
-    w.store_of origin ≡ Some from → w.store_of dest ≡ Some at → MailOnce origin dest from at
-
-abbrev pub MailIsStoredOnce : Type 0
-MailIsStoredOnce =
-    (has_store : Callsign → Bool) (events : List Event) →
-    AllByRecursion IsEvent events → HoldsMailOnce (run events (begin has_store))

@@ -1,9 +1,11 @@
--- Runs of nodes that hand mail to each other: whatever is written may be heard, often, late, out of order, or never.
--- Own profile.
-use Rattle.std.specs.Prelude.{ℕ, List, [], ◌∷◌, ◌++◌, slice_get, Bool, Option, Some, None, if◌then◌else◌}
+-- Runs of nodes that hand mail to each other: whatever is written may be heard, often, late, out of order, or never. Mail is stored once
+-- in each. Own profile.
+use Rattle.std.specs.Prelude.{ℕ, ◌≡◌, List, [], ◌∷◌, ◌++◌, slice_get, Bool, Option, Some, None, if◌then◌else◌}
+use Rattle.std.specs.List.{AllByRecursion}
 use Rattle.ax_address.specs.Callsign.{Callsign, IsCallsign, same_call}
 use Rattle.node_mail.specs.Wires.{Wire, wire_octets}
 use Rattle.node_mail.specs.Lists.{Lists, Letter, nothing_kept, letter_of, offer, post_step, hear_at, hear_step, answer_to}
+use Rattle.node_mail.specs.MailOnce.{MailOnce}
 
 -- a message that was written, by the node `writer` to the node `addressee`
 pub record Written : Type 0 where
@@ -84,3 +86,14 @@ begin has_store = record { store_of = λ c. if has_store c then Some (nothing_ke
 abbrev pub run : List Event → MailRun → MailRun
 run [] w = w
 run (e ∷ es) w = run es (happens w e)
+
+-- of all nodes with a store
+abbrev pub HoldsMailOnce : MailRun → Type 0
+HoldsMailOnce w =
+    (origin dest : Callsign) (from at : Lists) →
+    w.store_of origin ≡ Some from → w.store_of dest ≡ Some at → MailOnce origin dest from at
+
+abbrev pub MailIsStoredOnce : Type 0
+MailIsStoredOnce =
+    (has_store : Callsign → Bool) (events : List Event) →
+    AllByRecursion IsEvent events → HoldsMailOnce (run events (begin has_store))

@@ -1,6 +1,6 @@
 //! What the definitions promise by themselves: how messages are spelled, and that mail is stored once.
 ghost use Rattle.std.specs.Prelude.{◌≡◌};
-ghost use Rattle.node_mail.specs.MailOnce.{MailIsStoredOnce};
+ghost use Rattle.node_mail.specs.Runs.{MailIsStoredOnce};
 ghost use Rattle.node_mail.specs.Wires.{SpelledWireIsRead, WrittenWireSpellsIt};
 
 use crate::{MAX_MAIL, MAX_QUEUED, MAX_STORED};
