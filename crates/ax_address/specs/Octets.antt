@@ -1,5 +1,5 @@
--- Addresses in octets: six characters, each shifted left by one, and an octet with the SSID.
--- (AX.25 2.2, section 3.12.)
+-- Calls in octets: as the addresses of frames (AX.25 2.2, section 3.12), and as they stand inside NET/ROM's broadcasts,
+-- datagrams and requests (NET/ROM, Appendix B).
 use Rattle.std.specs.Prelude.{ℕ, ◌≡◌, ◌+◌, ◌*◌, ◌/◌, ◌%◌, ◌<◌, ◌≤◌, length, List, [], ◌∷◌, ◌++◌, map, take, drop, slice_get, slice_index, nat_le, Bool, ◌&&◌, ◌==◌, Option, Some, None, if◌then◌else◌, get_or, Result, Ok, Err}
 use Rattle.std.specs.List.{prefix_len}
 use Rattle.std.proofs.Common.{lit<}
@@ -8,6 +8,8 @@ use Rattle.ax_address.specs.declared.address.Address.{Address}
 use Rattle.ax_address.specs.declared.octets.AddressRefusal.{AddressRefusal}
 use Rattle.ax_address.specs.declared.octets.AddressRefusal.TheVariants.{BadChar, BadPadding}
 use Rattle.ax_address.specs.Callsign.{IsCallsign, is_call_char, space, Callsign}
+
+-- Addresses: six characters, each shifted left by one, and an octet with the SSID. (AX.25 2.2, section 3.12.)
 
 -- the C or H bit, two reserved bits, the SSID, and the extension bit, which the last address has
 abbrev pub ssid_octet : Address → Bool → ℕ

@@ -1,4 +1,4 @@
--- Frames, and the octets that spell them (AX.25 2.2, section 3).
+-- Frames, the octets that spell them, and what octets are read as (AX.25 2.2, section 3).
 use Rattle.std.specs.Prelude.{◌≡◌, ℕ, ◌≤◌, List, [], ◌∷◌, ◌++◌, length, take, true, false, Option, Some, None, Ok, is_some, zero, suc, ◌-◌, ◌/◌, drop, Result}
 use Rattle.std.specs.List.{AllByRecursion}
 use Rattle.arrayvec.specs.ArrayVec.{ArrayVec}

@@ -1,4 +1,4 @@
--- What the readers of a frame's parts say to each other.
+-- What the readers of a frame's parts say to each other. No public clause cites it: not for the reader of a contract.
 use Rattle.std.specs.Prelude.{◌≡◌, ℕ, ◌+◌, ◌*◌, ◌<◌, ◌≤◌, List, length, take, drop}
 use Rattle.std.specs.List.{AllByRecursion}
 use Rattle.ax_address.specs.declared.address.Address.{Address}

@@ -1,5 +1,6 @@
--- What a forwarder does with a frame, case by case in the order in which the cases are tried. (RFC 791, section 2.4; RFC 792,
--- "Echo or Echo Reply Message"; RFC 826, Packet Reception; that a packet is dropped whose next hop is asked for is this project's profile.)
+-- What a forwarder does with a frame, case by case in the order in which the cases are tried; and before that what it goes by: echoes,
+-- packets that go on, what a frame carries, and the neighbours that are known. (RFC 791, section 2.4; RFC 792, "Echo or Echo Reply
+-- Message"; RFC 826, Packet Reception; that a packet is dropped whose next hop is asked for is this project's profile.)
 use Rattle.std.specs.Prelude.{ℕ, ◌≡◌, List, take, true, false, ◌==◌, nat_le, Option, Some, None, Result, Ok, Err, if◌then◌else◌, ◌%◌, [], ◌∷◌, ◌++◌, length, drop, Bool, ◌&&◌, ◌+◌, ◌-◌, ◌/◌, slice_range, slice_set, ◌||◌, codes, position}
 use Rattle.std.specs.List.{list_all, find}
 use Rattle.std.specs.Option.{option_map}
@@ -91,6 +92,8 @@ entered None cache n = drop (length cache - 63) cache ++ n ∷ []
 
 abbrev pub learned : List Neighbour → Neighbour → List Neighbour
 learned cache n = entered (position (λ m. m.address == n.address) cache) cache n
+
+-- A forwarder, and its turns.
 
 -- its call, its address, its routes, and the neighbours that it knows, at most 64
 pub record State : Type 0 where
@@ -191,7 +194,7 @@ content_turn s f content.Packet = packet_turn s f.head.source.call f.info (packe
 content_turn s f content.Arp = arp_turn s (arp_at f.info)
 content_turn s f content.Nothing = dropped NotMine s
 
--- What a forwarder does with a frame.
+-- what a forwarder does with a frame
 unfoldable pub turn : State → Frame → Turn
 turn s f = content_turn s f (content_of s.call f)
 

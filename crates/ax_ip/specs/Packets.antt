@@ -1,5 +1,5 @@
--- Packets: how a header is laid out, and what shows that octets begin with none. (RFC 791, section 3.1; that a packet has
--- at most 256 octets is this project's profile.)
+-- Packets: numbers and checksums in their octets, how a header is laid out, and what shows that octets begin with none. (RFC 791,
+-- section 3.1; that a packet has at most 256 octets is this project's profile.)
 use Rattle.std.specs.Prelude.{ℕ, ◌≡◌, ◌≤◌, ◌*◌, ◌/◌, ◌%◌, List, length, take, Bool, true, ◌||◌, ◌==◌, nat_lt, not, Result, Ok, Err, if◌then◌else◌, ◌+◌, [], ◌∷◌, get_or, ◌-◌, ◌++◌, ◌&&◌}
 pub use Rattle.ax_ip.specs.declared.packet.PacketHead.{PacketHead}
 use Rattle.ax_ip.specs.declared.packet.PacketRefusal.{PacketRefusal}
@@ -42,6 +42,8 @@ lacking sum = (65535 - sum % 65535) % 65535
 -- octets with their checksum between them
 abbrev pub summed : List ℕ → List ℕ → List ℕ
 summed front back = front ++ word_octets (lacking (word_sum (front ++ back))) ++ back
+
+-- Headers, and octets judged. (RFC 791, section 3.1.)
 
 -- The octets begin with a packet of this header.
 pub record SpellsPacket (h : PacketHead) (octets : List ℕ) : Type 0 where

@@ -1,4 +1,5 @@
--- The bounds that a link keeps, whatever comes.
+-- The bounds that a link keeps, whatever comes; where the payloads are from that it puts out and keeps; and how large what it holds
+-- may be.
 use Rattle.std.specs.Prelude.{◌≡◌, ℕ, ◌+◌, ◌<◌, ◌≤◌, List, length, Option, Bool, true, Some, None, ◌*◌, nat_le}
 use Rattle.std.specs.List.{AllByRecursion}
 use mathlib.Core.List.{IsSuffix}
@@ -8,6 +9,8 @@ use Rattle.ax_link.specs.State.{Rules, State, count_end, places}
 use Rattle.ax_link.specs.Kinds.{control_of, info_of, kind_of, pid_of}
 use Rattle.ax_link.specs.declared.out.LinkOut.{LinkOut}
 use Rattle.ax_link.specs.Table.{Input, Set_up, Send, Arrive, Tick, Close, Take}
+
+-- The bounds.
 
 -- what of a state they speak of
 pub record Stock : Type 0 where

@@ -1,4 +1,4 @@
--- What the calls inside a link do.
+-- What the calls inside a link do. Contracts see a link by `view_of`; no public clause cites the rest.
 use Rattle.std.specs.Prelude.{◌≡◌, ℕ, ◌+◌, ◌-◌, min, Bool, true, false, not, ◌&&◌, if◌then◌else◌, List, [], ◌∷◌, ◌++◌, length, map, Option, Some, None, slice_get, slice_set}
 use Rattle.radio_base.specs.declared.payload.Payload.{Payload}
 use Rattle.ax_link.specs.declared.machine.Machine.{Machine}

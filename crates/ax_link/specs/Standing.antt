@@ -1,4 +1,4 @@
--- What the code keeps of an end of a link, and what it has forgotten.
+-- What the code keeps of an end of a link, what it has forgotten, and how many octets it keeps at most.
 use Rattle.std.specs.Prelude.{◌≡◌, ℕ, ◌+◌, ◌≤◌, Bool, List, [], ◌++◌, map, length, Option, None, ◌*◌, ◌∷◌, Some}
 use Rattle.std.specs.Option.{option_to_list}
 use Rattle.radio_base.specs.declared.payload.Payload.{Payload}

@@ -1,4 +1,4 @@
--- How segments are joined, one after another (this project's profile).
+-- How segments are joined, one after another, and how many octets are kept of them (this project's profile).
 use Rattle.std.specs.Prelude.{ℕ, ◌-◌, ◌%◌, ◌==◌, nat_lt, if◌then◌else◌, Option, None, Some, List, [], ◌∷◌, ◌++◌, length, ◌+◌, ◌*◌, ◌≤◌}
 use Rattle.ax_segment.specs.declared.TheConstants.{FIRST_BIT}
 

@@ -1,4 +1,4 @@
--- What the calls inside an end do.
+-- What the calls inside an end do. No public clause cites it: not for the reader of a contract.
 use Rattle.std.specs.Prelude.{◌≡◌, ℕ, ◌+◌, ◌-◌, ◌^◌, ◌≤◌, ◌<◌, List, [], ◌∷◌, ◌++◌, length, Option, Some, None}
 use Rattle.circuit_reassembly.specs.Fragments.{fragments_of}
 use Rattle.circuit_l4.specs.declared.machine.Machine.{Machine}

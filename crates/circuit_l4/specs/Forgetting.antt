@@ -1,4 +1,4 @@
--- Messages of which all fragments are acknowledged are forgotten.
+-- Messages of which all fragments are acknowledged are forgotten. No public clause cites it: not for the reader of a contract.
 use Rattle.std.specs.Prelude.{◌≡◌, ℕ, ◌+◌, ◌<◌, Bool, true, false, List, [], ◌∷◌, ◌++◌, length}
 use Rattle.circuit_reassembly.specs.Fragments.{fragments_of}
 use Rattle.circuit_l4.specs.State.{fragments_of_all}

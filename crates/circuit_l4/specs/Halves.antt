@@ -1,4 +1,4 @@
--- What the code keeps of the two halves of an end, and what it has forgotten.
+-- What the code keeps of the two halves of an end, what it has forgotten, and the bounds of what it keeps.
 use Rattle.std.specs.Prelude.{◌≡◌, ℕ, ◌+◌, ◌^◌, ◌<◌, ◌≤◌, Bool, true, false, if◌then◌else◌, List, [], ◌∷◌, ◌++◌, length, Option, Result, Ok, Err, ◌*◌, Some, None}
 use Rattle.circuit_reassembly.specs.Fragments.{Fragment, Answer, More, Whole, Too_long}
 use Rattle.circuit_reassembly.specs.declared.gather.Oversize.{Oversize}

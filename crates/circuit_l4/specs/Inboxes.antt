@@ -1,4 +1,4 @@
--- The fields of the receiving half.
+-- The fields of the receiving half. No public clause cites it: not for the reader of a contract.
 use Rattle.std.specs.Prelude.{◌≡◌, ◌+◌, ◌^◌, ◌<◌, ◌≤◌, List, [], ◌∷◌, length, Option, Some, None}
 use Rattle.circuit_l4.specs.declared.incoming.Incoming.TheInside.{Inside}
 use Rattle.circuit_l4.specs.declared.piece.Piece.{Piece}

@@ -1,4 +1,4 @@
--- What the code keeps of the messages that were written.
+-- What the code keeps of the messages that were written. No public clause cites it: not for the reader of a contract.
 use Rattle.std.specs.Prelude.{◌≡◌, ◌+◌, ◌^◌, ◌≤◌, length}
 use Rattle.circuit_l4.specs.declared.outgoing.Outgoing.TheInside.{Inside}
 use Rattle.circuit_l4.specs.State.{fragments_of_all, bytes_of}

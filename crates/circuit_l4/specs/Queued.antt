@@ -1,4 +1,4 @@
--- Messages in a queue of bytes, by their lengths.
+-- Messages in a queue of bytes, by their lengths. No public clause cites it: not for the reader of a contract.
 use Rattle.std.specs.Prelude.{◌≡◌, ℕ, ◌-◌, ◌<◌, ◌≤◌, List, [], ◌∷◌, take, drop, length}
 use Rattle.circular_buffer.specs.Buffer.{Buffer}
 

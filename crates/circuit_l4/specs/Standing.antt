@@ -1,5 +1,5 @@
 -- What the code keeps of an end of a circuit stands for every state that agrees with it: of the halves it has forgotten the
--- messages that were wholly acknowledged and those that were taken.
+-- messages that were wholly acknowledged and those that were taken. And how many octets it keeps at most.
 use Rattle.std.specs.Prelude.{◌≡◌, ℕ, ◌-◌, Bool, List, [], Option, None, ◌+◌, ◌*◌, ◌≤◌, length}
 use Rattle.std.specs.Option.{option_to_list}
 use Rattle.circuit_l4.specs.declared.machine.Machine.{Machine}

@@ -1,4 +1,5 @@
--- An end of a circuit (NET/ROM, Appendix B, with the choices of this project's profile).
+-- An end of a circuit: its sending half, its receiving half, and its state (NET/ROM, Appendix B, with the choices of this
+-- project's profile).
 use Rattle.std.specs.Prelude.{ℕ, zero, suc, ◌%◌, Bool, true, false, List, [], ◌∷◌, ◌++◌, slice_get, Option, Some, None, ◌+◌, ◌-◌, nat_le, if◌then◌else◌, length, ◌^◌, not, ◌||◌, nat_eq, nat_lt, drop, slice_set}
 use Rattle.circuit_reassembly.specs.Fragments.{Fragment, fragments_of, Answer, More, Whole, Too_long, gather_step}
 use Rattle.radio_base.specs.Modulus.{place_of}
@@ -164,6 +165,8 @@ receive window tx piece r =
 -- the first message is taken
 abbrev pub without_first : Receiving → Receiving
 without_first r = record r { taken = r.taken + 1 }
+
+-- The state of an end, and a step under way (NET/ROM, Appendix B, with the choices of this project's profile).
 
 pub record State : Type 0 where
   pub role : Role

@@ -1,4 +1,4 @@
--- Transports in octets (NET/ROM, Appendix B). Where this project's profile chooses, it is said.
+-- Transports in octets, and what octets are read as (NET/ROM, Appendix B). Where this project's profile chooses, it is said.
 use Rattle.std.specs.Prelude.{ℕ, ◌≡◌, ◌+◌, ◌/◌, ◌%◌, ◌≤◌, List, [], ◌∷◌, ◌++◌, length, take, drop, slice_index, Bool, true, false, ◌==◌, if◌then◌else◌, nat_le, nat_lt, Option, Some, None, Result, Ok, Err}
 use Rattle.ax_address.specs.Callsign.{Callsign}
 use Rattle.ax_address.specs.Octets.{SpellsNetCall, net_call_octets, net_call_at, address_fault, refused_octet}

@@ -1,8 +1,10 @@
--- The fragments of a message (NET/ROM, Appendix B).
+-- The fragments of a message, and how messages are gathered from them (NET/ROM, Appendix B).
 use Rattle.std.specs.Prelude.{ℕ, ◌*◌, List, take, drop, map, length, Bool, nat_lt, if◌then◌else◌, [], ◌++◌}
 use Rattle.std.specs.Int.{div_ceil}
 use Rattle.std.specs.List.{range_with_len}
 use Rattle.circuit_reassembly.specs.declared.TheConstants.{FRAGMENT, LONGEST}
+
+-- The fragments of a message (NET/ROM, Appendix B).
 
 -- a piece, and whether more follow
 abbrev pub Fragment : Type 0

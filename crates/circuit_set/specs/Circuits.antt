@@ -131,7 +131,7 @@ pub record SafeTo (x y : Side) : Type 0 where
   pub acked : IsBeginning (take (wholes x.e.sending.wrote x.e.sending.acked) x.e.sending.wrote) y.e.receiving.received
   pub closed : Contains x.notes Closed ⊎ Contains y.notes ClosedByPartner → y.e.receiving.received ≡ x.e.sending.wrote
 
--- ---- what is kept ----
+-- ---- what is kept; no public clause cites it ----
 abbrev pub is_shut : EndPhase → Bool
 is_shut Connecting = false
 is_shut Up = false

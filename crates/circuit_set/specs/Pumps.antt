@@ -1,6 +1,7 @@
 -- How a set is pumped, turn by turn: what is untold is told, one thing a turn, and what is sent is offered to the next hop when it
 -- is told; only where nothing is untold is the router asked, for one lost neighbour or one datagram. A call of `pump` is turns
--- until something is told or nothing is left. Each call of the carrier stands here, in its order (this project's profile).
+-- until something is told or nothing is left. Each call of the carrier stands here, in its order (this project's profile). And how
+-- the calls of a set are inputs of its machine.
 use Rattle.std.specs.Prelude.{ℕ, ◌+◌, Bool, true, false, ◌&&◌, List, [], ◌∷◌, ◌++◌, if◌then◌else◌, Option, Some, None, is_none, Result, Ok, Err, ◌≡◌, ◌<◌}
 use Rattle.ax_address.specs.Callsign.{Callsign, same_call}
 use Rattle.route_table.specs.Log.{Item, Failure}

@@ -1,4 +1,5 @@
--- Safe: what the two ends of a circuit have, by the events that were told (this project's profile).
+-- Safe: what the two ends of a circuit have, by the events that were told; and when an end is told that its retries are used up
+-- (this project's profile).
 use Rattle.std.specs.Prelude.{◌≡◌, ◌≢◌, ◌+◌, ◌⊎◌, ◌↔◌, List, [], ◌++◌, take, Option, Some, ℕ, ◌-◌, suc, nat_lt, if◌then◌else◌, ◌∷◌, length}
 use Rattle.circuit_l4.specs.declared.notice.EndNotice.TheVariants.{Closed, ClosedByPartner, FailedRetries}
 use Rattle.circuit_l4.specs.State.{State}

@@ -1,4 +1,4 @@
--- The ends of a node's circuits: how they are made and found, and what the set of them tells.
+-- The ends of a node's circuits: what they heed, how they are made and found, and what the set of them tells.
 use Rattle.std.specs.Prelude.{ℕ, ◌+◌, min, Bool, true, false, not, ◌&&◌, ◌||◌, nat_eq, nat_lt, nat_le, if◌then◌else◌, List, [], ◌∷◌, ◌++◌, length, drop, Option, Some, None, Result, Ok, Err}
 use Rattle.radio_base.specs.declared.modulus.TheConstants.{COUNT_MAX}
 use Rattle.ax_address.specs.Callsign.{Callsign, same_call}

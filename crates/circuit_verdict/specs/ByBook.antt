@@ -1,4 +1,5 @@
--- The same by the notes that are kept of the events, as `circuit_set` says. Of the public calls `Verdict::cause` alone speaks by them.
+-- The verdict on a list of events by the notes that are kept of them, as `circuit_set` says. Of the public calls `Verdict::cause` alone
+-- speaks by them.
 use Rattle.std.specs.Prelude.{◌≡◌, ℕ, List, [], ◌∷◌, ◌++◌}
 use Rattle.circuit_set.specs.Books.{Book, Timely, TimelyTold, Fresh, FreshTold, empty, with_events, lost_with}
 use Rattle.circuit_set.specs.Events.{Event, Name}

@@ -1,4 +1,4 @@
--- Why one read of a stream wasn't answered. No clause of `run` cites this: it is for the proof of the loop over the reads.
+-- Why one read of a stream wasn't answered. No public clause cites it: it is for the proof of the loop over the reads.
 use Rattle.std.specs.Prelude.{ℕ, ◌≡◌, List, Option}
 use Rattle.radio_base.specs.Causes.{Rose}
 use Rattle.cmd_streams.specs.declared.streams.StreamRefusal.{StreamRefusal}

@@ -1,4 +1,5 @@
--- What the streams of a run tell at a moment.
+-- What the streams of a command tell at a moment, what writing a text leaves, when a status comes, and what is noted where input was
+-- refused. Own profile.
 use Rattle.std.specs.Prelude.{ℕ, List, Option, ◌≡◌, ◌⊎◌, ◌++◌, None, ◌≢◌, codes}
 use Rattle.std.specs.Io.KnownBytes.{Appends}
 use Rattle.std.specs.Fmt.{decimal}
@@ -7,6 +8,8 @@ use Rattle.radio_base.specs.declared.stream.Sink as sinks
 use Rattle.radio_base.specs.declared.stream.Source as sources
 use Rattle.cmd_streams.specs.declared.status.Status.{Status}
 use Rattle.cmd_streams.specs.declared.status.Status.TheVariants.{Done, WriteFault, TooLate, NoMemory}
+
+-- What the streams of a run tell at a moment.
 
 -- the bytes still to come and the sizes of the reads, the bytes that were written, and the notes, each where it is told, with
 -- the counts of faults

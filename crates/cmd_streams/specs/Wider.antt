@@ -1,4 +1,5 @@
 -- A stream that was answered as one relation says was answered as a wider one says.
+-- No public clause cites it: not for the reader of a contract.
 use Rattle.std.proofs.Common.{ℕ, List}
 use Rattle.std.specs.Prelude.{Option}
 use Rattle.cmd_streams.specs.declared.status.Status.{Status}

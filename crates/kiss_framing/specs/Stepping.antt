@@ -1,4 +1,5 @@
--- How what is held goes on by one byte, case by case as the deframer takes it in.
+-- How what is held goes on by one byte, case by case as the deframer takes it in. Contracts see a deframer by `held_at`; no public
+-- clause cites the rest.
 use Rattle.std.specs.Prelude.{◌≡◌, ◌≢◌, ℕ, ◌+◌, true, false, ◌==◌, if◌then◌else◌, List, [], ◌∷◌, ◌++◌, length, take}
 use Rattle.kiss_framing.specs.declared.TheConstants.{FEND, FESC, TFEND, TFESC}
 use Rattle.kiss_framing.specs.declared.piece.Place.{Place}

@@ -1,4 +1,5 @@
--- What a KISS stream holds (Chepponis and Karn, "The KISS TNC"; the rules on faulty pieces are this project's profile).
+-- What a KISS stream holds, how a frame stands on one, and what a deframer holds of it (Chepponis and Karn, "The KISS TNC"; the rules
+-- on faulty pieces are this project's profile).
 use Rattle.std.specs.Prelude.{ℕ, ◌/◌, ◌%◌, Bool, ◌==◌, nat_lt, not, ◌&&◌, if◌then◌else◌, List, [], ◌∷◌, ◌++◌, length, ◌+◌, ◌*◌, ◌≡◌, false}
 use Rattle.std.specs.List.{slice_split, flat_map}
 use Rattle.kiss_framing.specs.declared.TheConstants.{FEND, FESC, TFEND, TFESC, LONGEST}

@@ -1,5 +1,4 @@
--- Datagrams in octets: the call of the origin, the call of the destination, the time to live, and then the transport.
--- (NET/ROM, Appendix B.)
+-- Datagrams, as a carrier brings and takes them, and in octets. (NET/ROM, Appendix B.)
 use Rattle.std.specs.Prelude.{ℕ, ◌≡◌, ◌+◌, ◌*◌, ◌/◌, ◌%◌, ◌≤◌, List, [], ◌∷◌, ◌++◌, length, take, drop, slice_index, Result, Ok, Err, nat_lt, if◌then◌else◌, Option}
 use Rattle.ax_address.specs.Callsign.{Callsign, IsCallsign}
 use Rattle.ax_address.specs.Octets.{refused_octet, SpellsNetCall, net_call_at, net_call_octets}
@@ -27,6 +26,9 @@ pub data CarrierCall : Type 0 where
   Offer : (to : Callsign) (datagram : Datagram) (now : ℕ) (answer : Offered) → CarrierCall
   Collect : (answer : Option Parcel) → CarrierCall
   Fail : (answer : Option Callsign) → CarrierCall
+
+-- Datagrams in octets: the call of the origin, the call of the destination, the time to live, and then the transport.
+-- (NET/ROM, Appendix B.)
 
 -- at most 256 octets are the datagram with this head and this transport
 pub record SpellsDatagram (head : DatagramHead) (transport octets : List ℕ) : Type 0 where

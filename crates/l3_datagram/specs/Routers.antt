@@ -1,4 +1,4 @@
--- A router: a node's routing table over a carrier.
+-- A router, which is a node's routing table over a carrier, and what it does with one datagram (NET/ROM Appendix B).
 use Rattle.std.specs.Prelude.{ℕ, ◌≡◌, ◌+◌, ◌<◌, ◌≤◌, List, [], ◌∷◌, ◌++◌, length, drop, Option, Some, None, Bool, true, false, Ok, ◌-◌, slice_set, Result, Err, nat_le, if◌then◌else◌}
 use Rattle.ax_address.specs.Callsign.{Callsign, same_call}
 use Rattle.route_table.specs.Log.{Item, Failure}
@@ -90,6 +90,8 @@ sent_by offered.Dropped = sending.Dropped
 abbrev pub sending_to : Datagram → Option Callsign → ℕ → Offered → Sent
 sending_to d None now answer = record { told = sending.NoRoute; calls = [] }
 sending_to d (Some neighbour) now answer = record { told = sent_by answer; calls = Offer neighbour d now answer ∷ [] }
+
+-- A router.
 
 -- what contracts see of a router: this node's call, how many hops its datagrams go over, its table and its carrier, and
 -- whether it is spent

@@ -1,4 +1,4 @@
--- What a line of a script says. Own profile.
+-- What a line of a script says, and what the script of a file asks for. Own profile.
 use Rattle.std.specs.Prelude.{ℕ, List, [], ◌∷◌, length, Option, Some, None, Result, Ok, Err, Bool, true, false, ◌&&◌, nat_eq, nat_le, if◌then◌else◌, codes, suc, ◌≡◌, ◌++◌, nat_lt}
 use Rattle.std.specs.Cmp.Lexicographic.{pointwise}
 use Rattle.std.specs.Str.Lines.{lines}

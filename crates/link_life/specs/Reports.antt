@@ -1,4 +1,4 @@
--- The report of a life. Own profile.
+-- The report of a life, and the words by which it shows reasons. Own profile.
 use Rattle.std.specs.Prelude.{ℕ, suc, ◌++◌, List, [], ◌∷◌, length, not, codes, Bool}
 use Rattle.std.specs.Fmt.{decimal}
 use Rattle.std.specs.List.{flat_map}

@@ -1,4 +1,4 @@
--- What a node's links keep, in octets, and the most that they may (this project's profile). Frames that wait to be fetched are left out.
+-- What a node's links keep: octets, and payloads that came and weren't taken (this project's profile).
 use Rattle.std.specs.Prelude.{ℕ, ◌+◌, ◌*◌, ◌≤◌, List, [], ◌∷◌, length, ◌≡◌, ◌<◌, suc, true, is_some, Option, Some, None}
 use Rattle.ax_address.specs.Callsign.{Callsign}
 use Rattle.ax_link.specs.Standing as link
@@ -12,6 +12,8 @@ use Rattle.link_table.specs.Standing.{TableStands, TableView, held_of}
 use Rattle.link_table.specs.Table.{Table, Linked}
 use Rattle.link_table.specs.Calls.{offer}
 use Rattle.link_table.specs.Texts.{take_text, text_with}
+
+-- Octets, and the most that there may be (this project's profile). Frames that wait to be fetched are left out.
 
 -- of one link: what the link keeps, and what is joined
 abbrev pub entry_kept : Entry → ℕ

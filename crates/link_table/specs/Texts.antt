@@ -1,4 +1,4 @@
--- Texts over links: where one waits, what it is, and taking it (this project's profile).
+-- Texts over links: where one waits, what it is, taking it, and sending one (this project's profile).
 use Rattle.std.specs.Prelude.{ℕ, ◌-◌, ◌+◌, ◌==◌, ◌&&◌, not, min, is_some, if◌then◌else◌, List, [], ◌∷◌, length, slice_get, Option, None, Some, zero, suc, ◌/◌, Bool, nat_lt, take, drop, Result, Ok, Err}
 use Rattle.radio_base.specs.declared.payload.Payload.{Payload}
 use Rattle.ax_address.specs.Callsign.{Callsign}
@@ -12,6 +12,8 @@ use Rattle.link_table.specs.Table.{Linked, Table, link_with}
 use Rattle.link_table.specs.Works.{Work, is_text, most_taken, settle, take_payload, step_link}
 use Rattle.link_table.specs.declared.text_refusal.TextRefusal.{TextRefusal}
 use Rattle.link_table.specs.declared.text_refusal.TextRefusal.TheVariants.{NoLink, TooLong, Full}
+
+-- Texts that came over links: where one waits, what it is, and taking it (this project's profile).
 
 -- the bytes of a message that is whole
 abbrev pub message_of : Answer → List ℕ

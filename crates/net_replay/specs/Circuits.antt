@@ -1,4 +1,4 @@
--- What was told of circuits in a network, and the verdict on it. Own profile.
+-- What was told of circuits in a network, the verdict on it, and what the replay of a file's network comes to. Own profile.
 use Rattle.std.specs.Prelude.{◌≡◌, ℕ, List, [], ◌∷◌, ◌++◌, map, slice_get, nat_le, if◌then◌else◌, Option, Some, None, ◌<◌, ◌≤◌, length, Ok}
 use Rattle.circuit_set.specs.Events as set_events
 use Rattle.circuit_set.specs.Pumps.{Of}

@@ -1,4 +1,5 @@
--- What is promised of the circuits of every network. Own profile.
+-- What is promised of every network: that its circuits' part in it is a run of which `circuit_set` speaks, and what holds of its
+-- circuits and its mail. Own profile.
 use Rattle.std.specs.Prelude.{ℕ, ◌≡◌, List, ◌++◌, map, slice_get, Option, Some, None, Ok, true}
 use Rattle.std.specs.List.{AllByRecursion}
 use Rattle.circuit_set.specs.Events.{Name}

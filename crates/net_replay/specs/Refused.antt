@@ -1,4 +1,5 @@
--- Why a node didn't do what a line asks for, as the line's refusal. Want of memory is none. Own profile.
+-- Why a node didn't do what a line asks for, as the line's refusal, and the word by which that is shown. Want of memory is none. Own
+-- profile.
 use Rattle.std.specs.Prelude.{List, [], ◌∷◌, Option, Some, None, ℕ, codes}
 use Rattle.circuit_l4.specs.declared.refusal.WriteRefusal.{WriteRefusal}
 use Rattle.circuit_l4.specs.declared.refusal.WriteRefusal.TheVariants as writes

@@ -1,4 +1,4 @@
--- The report of a network, line by line. Own profile.
+-- The report of a network, line by line, and the line on what came of a soak. Own profile.
 use Rattle.std.specs.Prelude.{ℕ, List, [], ◌∷◌, ◌++◌, flat_map, length, Option, Some, None, Result, Ok, Err, codes, if◌then◌else◌, suc, count_by, sum_by, Bool, true, false}
 use Rattle.std.specs.Fmt.{decimal}
 use Rattle.ax_address.specs.Callsign as calls

@@ -1,4 +1,4 @@
--- The lines of a report on links, circuits and datagrams. Own profile.
+-- The lines of a report on links, circuits and datagrams, on mail, and on the entries of nodes and their ends. Own profile.
 use Rattle.std.specs.Prelude.{ℕ, ◌++◌, List, length, map, Bool, true, false, ◌&&◌, nat_le, if◌then◌else◌, codes, Option, Some, None, suc, ◌-◌, [], ◌∷◌, slice_get, option_map, unwrap_or}
 use Rattle.std.specs.Fmt.{decimal}
 use Rattle.ax_address.specs.Callsign as calls
@@ -53,6 +53,8 @@ drop_word routed.Returned = Some (codes "returned")
 drop_word routed.Dropped = Some (codes "carrier")
 drop_word routed.Bad = Some (codes "bad")
 drop_word other = None
+
+-- The lines on links, circuits and datagrams. Own profile.
 
 -- link N CALL WHAT
 abbrev pub link_line : ℕ → Callsign → LinkNotice → List ℕ

@@ -1,4 +1,4 @@
--- The keys of `set` lines. Own profile.
+-- The keys of `set` lines, and what they are set to. Own profile.
 use Rattle.std.specs.Prelude.{ℕ, List, [], ◌∷◌, Option, Some, None, Result, Ok, Err, Bool, true, ◌||◌, ◌==◌, nat_le, nat_eq, if◌then◌else◌, codes, find, unwrap_or, false, ◌&&◌}
 use Rattle.std.specs.Cmp.Lexicographic.{pointwise}
 use Rattle.std.specs.Option.{option_map}

@@ -1,4 +1,5 @@
--- The network of a file: what its lines say, one after another, or the first bad line and why. Own profile.
+-- The network of a file: what its lines say, one after another, or the first bad line and why, with the word by which that is shown.
+-- Own profile.
 use Rattle.std.specs.Prelude.{ℕ, suc, ◌≡◌, List, [], ◌∷◌, ◌++◌, Some, None, Result, Ok, Err, nat_lt, if◌then◌else◌, codes}
 use Rattle.std.specs.Str.Lines.{lines}
 use Rattle.text_lines.specs.Lines.{is_skipped}

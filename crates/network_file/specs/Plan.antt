@@ -1,4 +1,5 @@
--- What a network file lays down, each part in the order of the file. Own profile.
+-- What a network file lays down, each part in the order of the file; who hears whom, and over which repeaters nodes reach others. Own
+-- profile.
 use Rattle.std.specs.Prelude.{ℕ, List, length, Option, unwrap_or, is_none, Bool, ◌&&◌, ◌==◌, filter, not, count_by}
 use Rattle.std.specs.List.{list_any, range_with_len}
 use Rattle.ax_address.specs.Callsign.{Callsign, same_call}

@@ -1,4 +1,4 @@
--- The network file of a number. Own profile.
+-- The network file of a number, and the numbers that it is drawn by. Own profile.
 use Rattle.std.specs.Prelude.{ℕ, zero, suc, ◌+◌, ◌%◌, ◌==◌, List, [], ◌∷◌, ◌++◌, if◌then◌else◌, codes, ◌*◌, ◌/◌, ◌^◌}
 use Rattle.std.specs.Fmt.{decimal}
 use Rattle.std.specs.List.{flat_map}
@@ -14,6 +14,8 @@ next x = (x * 6364136223846793005 + 1442695040888963407) % 2 ^ 64
 -- a draw below a bound
 abbrev pub draw : ℕ → ℕ → ℕ
 draw bound x = (next x / 2 ^ 33) % bound
+
+-- The file. Own profile.
 
 -- six nodes in a ring
 abbrev pub six : List ℕ

@@ -1,4 +1,4 @@
--- What a command that runs a network writes and leaves of it.
+-- What a command that runs a network writes and leaves of it, and what `replay` reads.
 use Rattle.std.specs.Prelude.{ℕ, ◌≡◌, ◌≢◌, ◌≤◌, List, length, Option, Some, None, Result, Ok, Err}
 use Rattle.std.specs.Io.KnownBytes.{Appends}
 use Rattle.radio_base.specs.Causes.{Rose}

@@ -1,4 +1,5 @@
--- A node's broadcasts as frames: UI to NODES with the PID of NET/ROM (NET/ROM, Appendix B), eleven entries a frame.
+-- A node's broadcasts as frames: UI to NODES with the PID of NET/ROM (NET/ROM, Appendix B), eleven entries a frame; and the rounds and
+-- ticks in which they are sent.
 use Rattle.std.specs.Prelude.{ℕ, ◌+◌, ◌*◌, ◌/◌, Bool, true, false, ◌&&◌, ◌==◌, List, [], ◌∷◌, length, take, drop, map, Option, Some, None, codes, nat_le, if◌then◌else◌}
 use Rattle.std.specs.List.{range_with_len}
 use Rattle.std.proofs.Common.{lit≤}

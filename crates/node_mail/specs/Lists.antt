@@ -1,4 +1,4 @@
--- What a node keeps of mail, and what each call does to it. Own profile.
+-- What a node keeps of mail, what each call does to it, and when what a store keeps stands for it. Own profile.
 use Rattle.std.specs.Prelude.{ℕ, ◌+◌, List, [], ◌∷◌, ◌++◌, length, filter, Bool, ◌&&◌, ◌==◌, not, nat_lt, nat_le, Option, Some, None, Result, Ok, Err, if◌then◌else◌, ◌≡◌, IsOk}
 use Rattle.std.specs.List.{list_any}
 use Rattle.radio_base.specs.declared.modulus.TheConstants.{COUNT_MAX}

@@ -1,4 +1,4 @@
--- What a line of a user asks for. Own profile.
+-- What a line of a user asks for, by its words. Own profile.
 use Rattle.std.specs.Prelude.{ℕ, List, [], ◌∷◌, length, map, Option, Some, None, Result, Ok, Err, Bool, ◌||◌, nat_eq, nat_lt, codes, if◌then◌else◌, ◌-◌, filter, ◌&&◌, ◌==◌, not, nat_le}
 use Rattle.std.specs.Cmp.Lexicographic.{pointwise}
 use Rattle.std.specs.List.{slice_split}

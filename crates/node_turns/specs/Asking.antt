@@ -1,4 +1,4 @@
--- The lines of a user at the prompt. Own profile.
+-- What a user sees of a node, and the lines of a user at the prompt. Own profile.
 use Rattle.std.specs.Prelude.{ℕ, Bool, true, false, ◌==◌, if◌then◌else◌, List, [], ◌∷◌, Option, Some, None, Result, Ok, Err, ◌-◌, length, take, filter, flat_map}
 use Rattle.std.specs.Option.{option_to_list}
 use Rattle.ax_address.specs.Callsign.{Callsign, same_call}

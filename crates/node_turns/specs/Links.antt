@@ -1,4 +1,5 @@
--- The links of a node, as the machine of `link_table` has them. Each step stands shut here: no goal about a node sees through it.
+-- The links and the circuits of a node, as the machines of `link_table` and of `circuit_set` have them. Each step stands shut here: no
+-- goal about a node sees through it.
 use Rattle.std.specs.Prelude.{ℕ, Bool, is_some, List, [], map, unwrap_or, Result, Option}
 use Rattle.ax_address.specs.Callsign.{Callsign}
 use Rattle.ax_frame.specs.Frames.{Frame}
@@ -14,6 +15,8 @@ use Rattle.link_table.specs.declared.written.Written.{Written}
 use Rattle.circuit_set.specs.Pumps as pumps
 use Rattle.circuit_set.specs.Pumps.{Turn, Turned, Waiting}
 use Rattle.circuit_set.specs.Sets.{Act}
+
+-- The links of a node, as the machine of `link_table` has them.
 
 unfoldable pub arrive : Frame → ℕ → Table → Table
 arrive f now t = calls.arrive f now t
@@ -74,7 +77,7 @@ all_fetched t = record t { pending = record t.pending { frames = [] } }
 abbrev pub all_noticed : Table → Table
 all_noticed t = record t { pending = record t.pending { notices = [] } }
 
--- The circuits of a node, as the machine of `circuit_set` has them. Each step stands shut here: no goal about a node sees through it.
+-- The circuits of a node, as the machine of `circuit_set` has them.
 
 -- how much is untold
 unfoldable pub pending : Waiting → ℕ

@@ -1,4 +1,5 @@
--- The sessions are served in the order of their making, each with at most one thing. Own profile.
+-- The sessions are served in the order of their making, each with at most one thing; and what follows an input, of which that is a
+-- part. Own profile.
 use Rattle.std.specs.Prelude.{ℕ, zero, suc, Bool, false, ◌&&◌, ◌||◌, not, is_none, nat_eq, nat_lt, slice_get, if◌then◌else◌, List, [], ◌∷◌, length, filter, Option, Some, None, map}
 use Rattle.ax_address.specs.Callsign.{Callsign}
 use Rattle.ax_link.specs.declared.notice.LinkNotice.{LinkNotice}

@@ -1,4 +1,4 @@
--- What a NODES broadcast says, and the octets that spell it (NET/ROM, Appendix B).
+-- What a NODES broadcast says, the octets that spell it, and what octets are read as (NET/ROM, Appendix B).
 use Rattle.std.specs.Prelude.{ℕ, ◌≡◌, ◌≤◌, List, [], ◌∷◌, ◌++◌, length, take, drop, zero, suc, ◌+◌, ◌-◌, ◌/◌, ◌%◌, get_or, Bool, false, ◌&&◌, ◌==◌, nat_le, nat_lt, not, Option, Some, None, Result, Ok, Err, if◌then◌else◌}
 use Rattle.std.specs.List.{AllByRecursion}
 use Rattle.ax_address.specs.Callsign.{IsCallsign, Callsign}

@@ -1,4 +1,4 @@
--- What holds of every sink in memory.
+-- What holds of every sink in memory: the invariant of `MemSink`. No public clause cites it.
 use Rattle.std.specs.Prelude.{◌≤◌, vec_len, vec_capacity}
 use Rattle.radio_base.specs.declared.mem_sink.MemSink.TheInside.{Inside}
 

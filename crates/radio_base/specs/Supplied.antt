@@ -1,4 +1,4 @@
--- What holds of every source in memory.
+-- What holds of every source in memory: the invariant of `MemSource`. No public clause cites it.
 use Rattle.std.specs.Prelude.{◌+◌, ◌-◌, ◌≤◌, vec_len, vec_capacity}
 use Rattle.radio_base.specs.declared.mem_source.MemSource.TheInside.{Inside}
 

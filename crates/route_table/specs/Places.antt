@@ -1,4 +1,4 @@
--- Rows in order, by recursion, and places in them.
+-- Rows in order, by recursion, and places in them. No public clause cites it: not for the reader of a contract.
 use Rattle.std.specs.Prelude.{ℕ, ◌+◌, ◌-◌, ◌<◌, ◌≤◌, List, [], ◌∷◌, length, slice_index_or, ◌≡◌, true, false, not, Option, Some, None, is_none}
 use Rattle.std.specs.List.{AllByRecursion, list_any, prefix_len}
 use Rattle.ax_address.specs.Callsign.{Callsign, call_lt}

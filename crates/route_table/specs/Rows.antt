@@ -1,4 +1,5 @@
--- What a table's rows come to by each kind of item; `usable` of the log says the same afresh.
+-- What a table's rows come to by each kind of item; `usable` of the log says the same afresh. A law cites `is_same_pair`; no public
+-- clause cites the rest.
 use Rattle.std.specs.Prelude.{ℕ, ◌+◌, ◌-◌, List, [], ◌∷◌, ◌++◌, filter, map, take, drop, slice_get, Option, Some, None, Bool, true, false, ◌&&◌, ◌||◌, ◌==◌, not, is_none, if◌then◌else◌}
 use Rattle.std.specs.List.{list_any, dedup, prefix_len}
 use Rattle.ax_address.specs.Callsign.{Callsign, same_call}

@@ -1,7 +1,9 @@
--- Lines. Own profile.
+-- Lines, their words, and the numbers that words spell. Own profile.
 use Rattle.std.specs.Prelude.{ℕ, List, length, Bool, ◌&&◌, ◌||◌, ◌==◌, nat_le, slice_index, [], ◌∷◌, filter, map, Option, Some, None, not, if◌then◌else◌, ◌+◌, ◌-◌, ◌*◌}
 use Rattle.std.specs.List.{list_all, slice_split}
 use Rattle.std.specs.Borrow.{Bor}
+
+-- Lines. Own profile.
 
 -- printed characters and spaces
 abbrev pub is_text : List ℕ → Bool

@@ -1,4 +1,4 @@
--- What `frames` writes. Own profile.
+-- What `frames` writes, and the modulus that a word names. Own profile.
 use Rattle.std.specs.Prelude.{ℕ, List, codes}
 use Rattle.kiss_framing.specs.Stream.{items}
 use Rattle.frame_lines.specs.Listing.{Lists}

@@ -1,4 +1,4 @@
--- The line `heard`. Own profile.
+-- The lines that are instructions, by their subjects: `heard`; nodes and time; circuits and their ends; mail; frames. Own profile.
 use Rattle.std.specs.Prelude.{ℕ, ◌%◌, List, [], ◌∷◌, length, Result, Ok, Err, Bool, ◌&&◌, ◌==◌, nat_le, codes}
 use Rattle.ax_address.specs.declared.Entry.{Entry}
 use Rattle.ax_address.specs.Results.{◌>>=◌}
@@ -11,6 +11,8 @@ use Rattle.network_file.specs.declared.plan.instructions.Instruction.TheVariants
 use Rattle.network_file.specs.Plan.{Plan}
 use Rattle.network_file.specs.Places.{needs, number_at, node_at, call_at, alias_at, nth_at}
 use Rattle.network_file.specs.Lines.Kinds.{Kind, instruction, instruction_since, reads, reads_text}
+
+-- The line `heard`. Own profile.
 
 -- DEST ALIAS BEST QUALITY
 unfoldable pub entry_at : List ℕ → List ℕ → List ℕ → List ℕ → Result Entry What
