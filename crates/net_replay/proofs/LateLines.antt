@@ -51,8 +51,8 @@ none_split [] after e split = absurd (cc split)
 none_split (x ∷ before) after e split = absurd (cc split)
 
 -- none comes too late among none
-pub none_late : (a : Allowance) → AreInTime a []
-none_late a = (λ before after e x d split heeds. absurd (none_split before after e split), λ before after e x pair at request split made. absurd (none_split before after e split))
+pub empty_in_time : (a : Allowance) → AreInTime a []
+empty_in_time a = (λ before after e x d split heeds. absurd (none_split before after e split), λ before after e x pair at request split made. absurd (none_split before after e split))
 
 abbrev IsInTime : Allowance → List CircuitEvent → Type 0
 IsInTime a es = AreInTime a (what_was_told es)

@@ -21,14 +21,14 @@ one_verdict plan w late a b =
 
 -- and so has a file: there is nothing late in what has nothing late
 module _ (bytes : List ℕ) (network : Plan) (read : network_of bytes ≡ Ok network) where
-  pub none_late : IsVerdictOn network (world network) None → IsNetwork bytes IsLate → ⊥
-  none_late verdict other =
+  pub in_time_not_late : IsVerdictOn network (world network) None → IsNetwork bytes IsLate → ⊥
+  in_time_not_late verdict other =
       let some : Ok network ≡ Ok other.0 = sym read ∙ other.1 in
       let same : network ≡ other.0 = cc some in
       one_verdict other.0 (world other.0) other.2.1.0 (subst (λ n. IsVerdictOn n (world n) None) same verdict) other.2.1.1
 
-  pub late_none : (late : Late) → IsVerdictOn network (world network) (Some late) → IsNetwork bytes IsInTime → ⊥
-  late_none late verdict other =
+  pub late_not_in_time : (late : Late) → IsVerdictOn network (world network) (Some late) → IsNetwork bytes IsInTime → ⊥
+  late_not_in_time late verdict other =
       let some : Ok network ≡ Ok other.0 = sym read ∙ other.1 in
       let same : network ≡ other.0 = cc some in
       one_verdict other.0 (world other.0) late other.2.1 (subst (λ n. IsVerdictOn n (world n) (Some late)) same verdict)

@@ -1,7 +1,7 @@
 use Rattle.std.proofs.Common.{rules, inl, inr, refl, subst, None, Some}
 use Rattle.std.specs.Io.KnownBytes.{Appends}
 use Rattle.look_cmd.specs.Traced.{IsTraced}
-use Rattle.net_replay.proofs.Verdicts.{few_many, late_none, none_late}
+use Rattle.net_replay.proofs.Verdicts.{few_many, in_time_not_late, late_not_in_time}
 use Rattle.look_cmd.proofs.traces.print_trace.Goals as goal
 
 -- the file's first bad line is the one that the note names
@@ -37,7 +37,7 @@ returns-in-None-clause-ends g c =
       done = λ _. (ok.0, ok.1, (c.in-Ok.traced.text, traced, written));
       late = search rules;
       done_comes = search rules;
-      late_comes = λ n _. absurd (none_late c.args.bytes.now ok.0 ok.1 traced.verdict n);
+      late_comes = λ n _. absurd (in_time_not_late c.args.bytes.now ok.0 ok.1 traced.verdict n);
       too_long = search rules;
       too_long_comes = λ n. absurd (few_many c.args.bytes.now ok.0 ok.1 traced.few n);
       bad_file = search rules;
@@ -59,7 +59,7 @@ returns-in-Ok-write_all-clause-ends g c =
     record {
       done = search rules;
       late = λ _. (ok.0, ok.1, (late, (c.in-Ok.traced.text, traced, written)));
-      done_comes = λ n _. absurd (late_none c.args.bytes.now ok.0 ok.1 late traced.verdict n);
+      done_comes = λ n _. absurd (late_not_in_time c.args.bytes.now ok.0 ok.1 late traced.verdict n);
       late_comes = search rules;
       too_long = search rules;
       too_long_comes = λ n. absurd (few_many c.args.bytes.now ok.0 ok.1 traced.few n);

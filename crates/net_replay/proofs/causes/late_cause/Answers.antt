@@ -5,13 +5,13 @@ use Rattle.net_replay.specs.Circuits.{allowance_of, events_at}
 use Rattle.net_replay.specs.Events as events
 use Rattle.net_replay.specs.Events.{numbered_of}
 use Rattle.net_replay.specs.Reporting.{AreDeclared}
-use Rattle.net_replay.proofs.LateLines.{cause_is, no_cause, none_late}
+use Rattle.net_replay.proofs.LateLines.{cause_is, empty_in_time, no_cause}
 use Rattle.net_replay.proofs.causes.late_cause.Goals as goal
 
 pub returns-in-Some : goal.returns-in-Some
 returns-in-Some c = λ plan w late allowed trace verdict.
     let start : HasTaken (allowance_of plan) c.new-verdict.result [] =
-    record { allows = c.new-verdict.ensures.allowance ∙ (c.allowance.ensures ∙ allowed); events = []; are = refl; stands = c.new-verdict.ensures.start; in_time = none_late (allowance_of plan) } in
+    record { allows = c.new-verdict.ensures.allowance ∙ (c.allowance.ensures ∙ allowed); events = []; are = refl; stands = c.new-verdict.ensures.start; in_time = empty_in_time (allowance_of plan) } in
     let declared : AreDeclared c.declared-declared.result.now w.nodes = c.declared-declared.ensures ∙ trace.declared in
     let same : map numbered_of c.events-events.result.now ≡ w.told = ap (map numbered_of) c.events-events.ensures ∙ trace.told in
     let comes = subst (Finds (allowance_of plan) w.nodes (map numbered_of c.events-events.result.now)) c.in-Some.is (c.in_ok-event.ensures (allowance_of plan) w.nodes declared start) in
@@ -22,7 +22,7 @@ returns-in-Some c = λ plan w late allowed trace verdict.
 pub returns : goal.returns
 returns c = λ plan w late allowed trace verdict.
     let start : HasTaken (allowance_of plan) c.new-verdict.result [] =
-    record { allows = c.new-verdict.ensures.allowance ∙ (c.allowance.ensures ∙ allowed); events = []; are = refl; stands = c.new-verdict.ensures.start; in_time = none_late (allowance_of plan) } in
+    record { allows = c.new-verdict.ensures.allowance ∙ (c.allowance.ensures ∙ allowed); events = []; are = refl; stands = c.new-verdict.ensures.start; in_time = empty_in_time (allowance_of plan) } in
     let declared : AreDeclared c.declared-declared.result.now w.nodes = c.declared-declared.ensures ∙ trace.declared in
     let same : map numbered_of c.events-events.result.now ≡ w.told = ap (map numbered_of) c.events-events.ensures ∙ trace.told in
     let all = subst (Finds (allowance_of plan) w.nodes (map numbered_of c.events-events.result.now)) c.in-None.is (c.in_ok-event.ensures (allowance_of plan) w.nodes declared start) in

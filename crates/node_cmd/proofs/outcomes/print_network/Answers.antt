@@ -3,7 +3,7 @@ use Rattle.std.specs.Io.KnownBytes.{Appends}
 use Rattle.net_replay.specs.Circuits.{IsVerdictOn}
 use Rattle.net_replay.specs.Lines.{world}
 use Rattle.node_cmd.specs.Outcomes.{text_of}
-use Rattle.net_replay.proofs.Verdicts.{few_many, late_none, none_late}
+use Rattle.net_replay.proofs.Verdicts.{few_many, in_time_not_late, late_not_in_time}
 use Rattle.node_cmd.proofs.outcomes.print_network.Goals as goal
 
 -- the file's first bad line is the one that the note names
@@ -41,7 +41,7 @@ returns-in-None-clause-ends g c =
       done = λ _. (ok.0, ok.1, (record { few = ok.2.few; verdict = verdict; written = written; left = ok.2.trace; retries = ok.3 }, (ok.4 late).0, (ok.4 late).1));
       late = search rules;
       done_comes = search rules;
-      late_comes = λ n _. absurd (none_late c.args.bytes.now ok.0 ok.1 verdict n);
+      late_comes = λ n _. absurd (in_time_not_late c.args.bytes.now ok.0 ok.1 verdict n);
       too_long = search rules;
       too_long_comes = λ n. absurd (few_many c.args.bytes.now ok.0 ok.1 ok.2.few n);
       bad_file = search rules;
@@ -64,7 +64,7 @@ returns-in-Ok-write_all-clause-ends g c =
     record {
       done = search rules;
       late = λ _. (ok.0, ok.1, (c.in-Some.field-0, record { few = ok.2.few; verdict = verdict; written = written; left = ok.2.trace; retries = ok.3 }));
-      done_comes = λ n _. absurd (late_none c.args.bytes.now ok.0 ok.1 c.in-Some.field-0 verdict n);
+      done_comes = λ n _. absurd (late_not_in_time c.args.bytes.now ok.0 ok.1 c.in-Some.field-0 verdict n);
       late_comes = search rules;
       too_long = search rules;
       too_long_comes = λ n. absurd (few_many c.args.bytes.now ok.0 ok.1 ok.2.few n);
