@@ -10,14 +10,13 @@ use Rattle.circuit_set.specs.Pumps as pumps
 use Rattle.circuit_set.specs.Runs as net
 use Rattle.circuit_set.specs.Runs.{AreSteps, IsAct, Step, sets_at, sets_run}
 use Rattle.circuit_set.specs.Sets as sets
-use Rattle.circuit_set.specs.Sets.{Act, Holder, SetState, CircuitTold, all_gone, end_of, losses, set_step}
+use Rattle.circuit_set.specs.Sets.{Act, Holder, SetState, CircuitTold}
 use Rattle.network_file.specs.declared.plan.declarations.Declaration.{Declaration}
 use Rattle.network_file.specs.declared.plan.keys.Key.TheVariants.{TimeToLive}
 use Rattle.network_file.specs.Plan.{Plan}
 use Rattle.network_file.specs.Keys.{value_of}
 use Rattle.node_core.specs.Runs.{InputsAreSteps, StepsOf, steps_at}
 use Rattle.node_turns.specs.States as states
-use Rattle.node_turns.specs.States.{NodeState, State}
 use Rattle.net_replay.specs.declared.ends.EndRecord.{EndRecord}
 use Rattle.net_replay.specs.Promises.{first_sets, set_of}
 use Rattle.net_replay.specs.Circuits as circuits

@@ -21,7 +21,7 @@ use Rattle.net_replay.specs.Events.{NumberedEvent}
 use Rattle.net_replay.specs.Lines.{do_line, do_lines, world}
 use Rattle.net_replay.specs.Starting.{Placed, by_number, has_number, new_nodes, new_placed}
 use Rattle.net_replay.specs.World as worlds
-use Rattle.net_replay.specs.World.{Bytes, Time, World, answer, place_of_node, put, reach, start, tell}
+use Rattle.net_replay.specs.World.{Time, World, start}
 use Rattle.net_replay.proofs.Containing.{AreApart, Contains, Tracks, TracksAt, events_by, events_named, is_named, names}
 use Rattle.ax_address.specs.Callsign.{Callsign}
 use Rattle.net_replay.proofs.LineWalks.{IsPlain, LineIs, Moves, lines_lead}

@@ -6,9 +6,9 @@ use Rattle.circuit_l4.specs.declared.transport.Pair.{Pair}
 use Rattle.circuit_set.specs.Pumps.{runs, at_rest}
 use Rattle.circuit_set.specs.Pairs.{IsPair}
 use Rattle.circuit_set.specs.Runs as net
-use Rattle.circuit_set.specs.Runs.{IsAct, Step, sets_run}
+use Rattle.circuit_set.specs.Runs.{Step, sets_run}
 use Rattle.circuit_set.specs.Sets as sets
-use Rattle.circuit_set.specs.Sets.{Holder, SetState, CircuitTold, all_gone, end_of, losses}
+use Rattle.circuit_set.specs.Sets.{SetState, all_gone, losses}
 use Rattle.network_file.specs.Plan.{Plan}
 use Rattle.node_core.specs.Runs.{ActsRun, BytesRun, InputsAreSteps, IsUserAct, RunsOn, TicksRun, steps_at}
 use Rattle.node_turns.specs.States.{NodeState}
@@ -19,7 +19,7 @@ use Rattle.net_replay.specs.Events.{Event, NumberedEvent}
 use Rattle.net_replay.specs.Lines.{losses_of, restart}
 use Rattle.net_replay.specs.Starting.{Placed, new_nodes}
 use Rattle.net_replay.specs.World as worlds
-use Rattle.net_replay.specs.World.{Bytes, Input, Time, World, after, aired, air_events, all_fetched_of, all_told, numbered, place_of_node, put, puts, reach, tell, tells_entries}
+use Rattle.net_replay.specs.World.{Bytes, Input, Time, World, after, aired, air_events, all_fetched_of, all_told, numbered, place_of_node, put, reach, tell, tells_entries}
 use Rattle.net_replay.proofs.Containing.{AreApart, Comes, Contains, IsQuiet, Tracks, TracksAt, comes_contains, events_by, name_at, names, note_append, place_is, quiet_contains, quiet_events, quiet_notes}
 use Rattle.net_replay.proofs.Looks.{put_of, reaches, restart_of}
 use Rattle.net_replay.proofs.Remembering.{Lifts, Rising, lift, losses_lift, rising_le, runs_lift}

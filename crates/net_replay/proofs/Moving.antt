@@ -11,7 +11,6 @@ use Rattle.circuit_set.specs.CircuitSets.{facts_at}
 use Rattle.circuit_set.specs.Pumps as pumps
 use Rattle.circuit_set.specs.Pumps.{at_rest}
 use Rattle.circuit_set.specs.Runs as net
-use Rattle.circuit_set.specs.Runs.{IsAct, Step}
 use Rattle.circuit_set.specs.Sets as sets
 use Rattle.circuit_set.specs.Sets.{Holder, SetState, CircuitTold, all_gone, end_of, losses}
 use Rattle.link_table.specs.Calls as links

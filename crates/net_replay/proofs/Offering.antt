@@ -1,6 +1,6 @@
 -- The nth queued mail is offered at an end, or passed over.
-use Rattle.std.proofs.Common.{◌≡◌, ◌∙◌, ◌+◌, ℕ, zero, suc, refl, sym, ap, subst, add-one, List, [], ◌∷◌, length, drop, Bool, true, false, cond}
-use Rattle.std.specs.Prelude.{Option, Some, None, IfOk, IfErr, Result, Ok, Err, slice_get}
+use Rattle.std.proofs.Common.{◌≡◌, ◌∙◌, ◌+◌, ℕ, zero, suc, refl, sym, ap, subst, add-one, List, [], ◌∷◌, length, drop, Bool, true, false}
+use Rattle.std.specs.Prelude.{Option, None, IfOk, IfErr, Result, Ok, Err, slice_get}
 use Rattle.std.specs.Option.{option_map}
 use Rattle.ax_address.specs.Callsign.{Callsign}
 use Rattle.node_mail.specs.Lists.{Letter, Lists, number_and_dest}

@@ -1,9 +1,8 @@
 -- Stores at their places.
-use Rattle.std.proofs.Common.{◌≡◌, ◌∙◌, ℕ, zero, suc, ◌<◌, ◌≤◌, List, [], ◌∷◌, ◌++◌, length, Bool, take, map, ◌+◌, Option, Some, None, refl, sym, ap, subst, arith, get_or}
-use Rattle.ax_address.specs.Callsign.{Callsign}
+use Rattle.std.proofs.Common.{◌≡◌, ◌∙◌, ℕ, zero, suc, ◌<◌, ◌≤◌, List, [], ◌∷◌, ◌++◌, length, take, map, ◌+◌, Option, Some, None, refl, ap, subst, arith, get_or}
 use Rattle.std.specs.Borrow.{Bor}
 use Rattle.std.specs.Option.{option_copied}
-use Rattle.std.specs.Prelude.{is_some, slice_get, slice_set}
+use Rattle.std.specs.Prelude.{is_some, slice_set}
 use Rattle.std.proofs.lemmas.List.{map-append, take_more}
 use Rattle.network_file.specs.declared.plan.declarations.Declaration.{Declaration}
 use Rattle.network_file.specs.Keys.{Assignment}
@@ -12,7 +11,6 @@ use Rattle.net_replay.specs.Starting.{new_mail}
 use Rattle.net_replay.specs.Agents.{change_mail}
 use Rattle.net_replay.specs.Mailing.{mail_in}
 use Rattle.net_replay.specs.Traces.{MailStands, MailsStand}
-use Rattle.net_replay.proofs.Looks.{joined}
 
 pub past : (vs : List (Option StoreView)) (ls : List (Option Lists)) (at : ℕ) → MailsStand vs ls → length vs ≤ at → mail_in at ls ≡ None
 past [] [] at h k = refl

@@ -22,17 +22,17 @@ use Rattle.net_replay.specs.declared.mails.Posting.TheVariants as posting
 use Rattle.net_replay.specs.declared.reasons.LineRefusal.{LineRefusal}
 use Rattle.net_replay.specs.declared.reasons.LineRefusal.TheVariants.{NoMail, Served}
 use Rattle.net_replay.specs.declared.reasons.ReplayRefusal.{ReplayRefusal}
-use Rattle.net_replay.specs.Agents.{AgentRuns, AgentStands, HearsAt, PostsAt, change_mail, heard_at, offer_from, posted_at}
+use Rattle.net_replay.specs.Agents.{AgentRuns, AgentStands, HearsAt, PostsAt, change_mail, heard_at, posted_at}
 use Rattle.net_replay.specs.Events as events
 use Rattle.net_replay.specs.Events.{Event, event_of}
-use Rattle.net_replay.specs.Mailing.{Agent, agent_turn, ends_here, heard_by, heard_events, heard_from, input, is_agents, mail_at, mail_in, may_write, numbers_for, offer, offer_at, offer_octets, offer_part, post_by, posted_events, queued_of, take_at, take_from, take_part, unless_agents, waits, with_mail, write_answer_to, write_if_taken}
+use Rattle.net_replay.specs.Mailing.{Agent, agent_turn, ends_here, heard_by, heard_events, input, is_agents, mail_at, mail_in, may_write, numbers_for, offer, offer_at, offer_octets, offer_part, post_by, posted_events, take_at, take_from, take_part, unless_agents, waits, with_mail, write_answer_to, write_if_taken}
 use Rattle.net_replay.specs.Refused.{of_post, refusal_events}
 use Rattle.net_replay.specs.Running.{Course, GoesOn, Runs, Stands, Stops, message_in}
 use Rattle.net_replay.specs.Traces.{IsRefusal, MailsStand}
 use Rattle.net_replay.specs.World as worlds
 use Rattle.net_replay.specs.World.{World, answer, put, tell}
 use Rattle.net_replay.proofs.Continuing.{offer_by, take_then, took_by}
-use Rattle.net_replay.proofs.Growing.{grown, put_grows, reach_stays}
+use Rattle.net_replay.proofs.Growing.{grown}
 use Rattle.net_replay.proofs.MailTexts.{read_long}
 use Rattle.net_replay.proofs.MailWalks.{offer_at_leads, offers_lead, put_mails, reach_mails, take_at_leads, takes_lead, took_leads}
 use Rattle.net_replay.proofs.Runs.{goes_as, refused_still, runs_as}

@@ -1,5 +1,5 @@
 -- The lines of a report on links, circuits and datagrams, on mail, and on the entries of nodes and their ends. Own profile.
-use Rattle.std.specs.Prelude.{ℕ, ◌++◌, List, length, map, Bool, true, false, ◌&&◌, nat_le, if◌then◌else◌, codes, Option, Some, None, suc, ◌-◌, [], ◌∷◌, slice_get, option_map, unwrap_or}
+use Rattle.std.specs.Prelude.{ℕ, ◌++◌, List, map, Bool, true, false, ◌&&◌, nat_le, if◌then◌else◌, codes, Option, Some, None, suc, ◌-◌, [], ◌∷◌, slice_get, option_map, unwrap_or}
 use Rattle.std.specs.Fmt.{decimal}
 use Rattle.ax_address.specs.Callsign as calls
 use Rattle.ax_address.specs.Callsign.{Callsign}

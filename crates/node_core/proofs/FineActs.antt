@@ -7,7 +7,7 @@ use Rattle.circuit_l4.specs.Table.{step}
 use Rattle.circuit_set.specs.CircuitSets.{facts_at}
 use Rattle.circuit_set.specs.Pumps.{connect_answer}
 use Rattle.circuit_set.specs.Sets as sets
-use Rattle.circuit_set.specs.Sets.{Act, Holder, SetDone, SetState, CircuitTold, set_step}
+use Rattle.circuit_set.specs.Sets.{Holder, SetDone, SetState, CircuitTold}
 use Rattle.circuit_set.specs.Standing.{by_write, write_answer}
 use Rattle.circuit_l4.specs.Table as ends
 use Rattle.circuit_set.specs.declared.event.SetRefusal.TheVariants as set_refusal

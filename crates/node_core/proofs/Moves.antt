@@ -8,7 +8,7 @@ use Rattle.ax_address.specs.declared.alias.Alias.{Alias}
 use Rattle.ax_address.specs.declared.Entry.{Entry as Said}
 use Rattle.circuit_set.specs.Pumps.{ticks_of}
 use Rattle.circuit_set.specs.Sets as sets
-use Rattle.circuit_set.specs.Sets.{Act, Holder, SetState, set_step}
+use Rattle.circuit_set.specs.Sets.{Act, Holder, set_step}
 use Rattle.l3_datagram.specs.Onward.{GoesOneHopOn}
 use Rattle.link_table.specs.Table.{written, Table}
 use Rattle.link_table.specs.Frames as frames

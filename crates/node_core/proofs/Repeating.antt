@@ -13,7 +13,6 @@ use Rattle.ax_frame.specs.Controls.{control_octets}
 use Rattle.ax_frame.specs.Frames.{Frame, IsAddress, addresses, addresses_octets, frame, head, pid_octets}
 use Rattle.digi_path.specs.Paths.{Action, For_me, Repeat, Not_yet, Heard, action, behind, has_repeated, repeated}
 use Rattle.link_table.specs.Frames as frames
-use Rattle.link_table.specs.Frames.{octets_of}
 use Rattle.link_table.specs.Laws.{FrameHolds}
 use Rattle.node_core.specs.Broadcasts.{is_broadcast}
 use Rattle.node_core.specs.Carried.{IsCarried}

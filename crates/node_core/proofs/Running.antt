@@ -18,7 +18,7 @@ use Rattle.nodes_broadcast.specs.declared.nodes.NodesRefusal.{NodesRefusal}
 use Rattle.nodes_broadcast.specs.Nodes.{Broadcast, nodes_at}
 use Rattle.route_table.specs.Table.{to_broadcast, usable}
 use Rattle.route_table.specs.Log as logs
-use Rattle.route_table.specs.Log.{Item, broadcast}
+use Rattle.route_table.specs.Log.{Item}
 use Rattle.node_core.specs.declared.acts.ActRefusal.TheVariants as refusal
 use Rattle.node_core.specs.Acts as acts
 use Rattle.node_core.specs.Acts.{Answered, UserAct}

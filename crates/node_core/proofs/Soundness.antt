@@ -16,7 +16,7 @@ use Rattle.node_turns.specs.declared.session.User.TheVariants.{AtEnd}
 use Rattle.node_core.specs.Bridged.{WritesTaken, most_replies}
 use Rattle.node_turns.specs.Bridging as bridging
 use Rattle.node_turns.specs.Sessions as s
-use Rattle.node_turns.specs.Sessions.{Bridge, Session, after_opening, circuit_of, waits}
+use Rattle.node_turns.specs.Sessions.{Session, after_opening, waits}
 use Rattle.node_turns.specs.Users as users
 use Rattle.node_turns.specs.Users.{Outcome, Taken, Exhausts, Unheard, Refused, change_if}
 

@@ -9,7 +9,7 @@ use Rattle.circuit_l4.specs.Opening.{requesting}
 use Rattle.circuit_l4.specs.State.{Effect}
 use Rattle.circuit_set.specs.Pumps.{connect_answer}
 use Rattle.circuit_set.specs.Sets as sets
-use Rattle.circuit_set.specs.Sets.{SetDone, SetState, CircuitTold, set_step}
+use Rattle.circuit_set.specs.Sets.{SetDone, SetState, set_step}
 use Rattle.circuit_set.specs.declared.event.ConnectRefusal.{ConnectRefusal}
 use Rattle.circuit_set.specs.declared.event.ConnectRefusal.TheVariants as connecting
 use Rattle.link_table.specs.Reaching.{IsCall}

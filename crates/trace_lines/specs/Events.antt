@@ -1,5 +1,5 @@
 -- The events of a trace, one JSON object a line. Own profile.
-use Rattle.std.specs.Prelude.{ℕ, suc, List, [], ◌∷◌, ◌++◌, flat_map, length, slice_get, Bool, true, false, ◌&&◌, ◌==◌, if◌then◌else◌, Option, Some, None}
+use Rattle.std.specs.Prelude.{ℕ, suc, List, [], ◌∷◌, ◌++◌, flat_map, length, Bool, true, false, ◌&&◌, ◌==◌, if◌then◌else◌, Option, Some, None}
 use Rattle.std.specs.List.{list_any}
 use Rattle.circuit_l4.specs.declared.facts.EndFacts.{EndFacts}
 use Rattle.circuit_l4.specs.declared.transport.Pair.{Pair}

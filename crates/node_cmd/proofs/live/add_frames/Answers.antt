@@ -1,7 +1,6 @@
-use Rattle.std.proofs.Common.{◌≡◌, ◌∙◌, ◌++◌, [], ℕ, List, refl, sym, ap, subst, append_assoc, append-nil}
-use Rattle.std.specs.Prelude.{Some, None, slice_get}
+use Rattle.std.proofs.Common.{◌≡◌, ◌∙◌, ◌++◌, [], ℕ, List, sym, ap, subst, append_assoc, append-nil}
+use Rattle.std.specs.Prelude.{Some, slice_get}
 use Rattle.link_table.specs.declared.written.Written.{Written}
-use Rattle.node_core.specs.Fetching.{without_frames}
 use Rattle.node_core.specs.Standing.{NodeStands}
 use Rattle.node_turns.specs.States.{NodeState, State, fetch_frame, frames}
 use Rattle.node_cmd.specs.Live.{kiss_of, kiss_of_frame}

@@ -1,4 +1,4 @@
-use Rattle.std.proofs.Common.{◌≡◌, ◌∙◌, ap, subst, sym}
+use Rattle.std.proofs.Common.{◌∙◌, ap, subst, sym}
 use Rattle.node_core.specs.Standing.{NodeStands}
 use Rattle.node_turns.specs.States.{NodeState, State}
 use Rattle.node_cmd.proofs.Fetched.{all_heard}

@@ -1,4 +1,4 @@
-use Rattle.std.proofs.Common.{subst, None}
+use Rattle.std.proofs.Common.{subst}
 use Rattle.std.proofs.lemmas.Result.{IfOk-weaker}
 use Rattle.net_replay.specs.Circuits.{IsVerdictOn}
 use Rattle.net_replay.specs.Lines.{world}

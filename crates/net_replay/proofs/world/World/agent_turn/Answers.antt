@@ -1,12 +1,11 @@
-use Rattle.std.proofs.Common.{◌≡◌, ◌≤◌, ◌∙◌, [], refl, ap, arith, length, subst, false}
+use Rattle.std.proofs.Common.{[], arith, length, false}
 use Rattle.std.proofs.lemmas.Result.{err_from_is_err_and}
 use Rattle.circuit_set.specs.CircuitSets.{held_ids}
-use Rattle.net_replay.specs.Agents.{AgentStands}
-use Rattle.net_replay.specs.Mailing.{Agent, agent_turn, ends_here, offer_part, take_part}
-use Rattle.net_replay.specs.Running.{Runs, Stands, course}
-use Rattle.net_replay.specs.World.{World, put, tell}
+use Rattle.net_replay.specs.Mailing.{Agent, ends_here, offer_part, take_part}
+use Rattle.net_replay.specs.Running.{course}
+use Rattle.net_replay.specs.World.{World, tell}
 use Rattle.net_replay.proofs.Growing.{put_grows}
-use Rattle.net_replay.proofs.Runs.{refused_still, runs_as, runs_then}
+use Rattle.net_replay.proofs.Runs.{refused_still}
 use Rattle.net_replay.proofs.Turning.{offer_at_grows, starts, turn_runs}
 use Rattle.net_replay.proofs.world.World.agent_turn.Goals as goal
 

@@ -1,7 +1,6 @@
-use Rattle.std.proofs.Common.{◌≡◌, ◌∙◌, ap, sym, subst}
+use Rattle.std.proofs.Common.{◌∙◌, ap, sym, subst}
 use Rattle.net_replay.specs.Mailing.{agent_turn, mail, mail_at, turn_by}
 use Rattle.net_replay.specs.Running.{Stands, course}
-use Rattle.net_replay.specs.World.{World}
 use Rattle.std.specs.Prelude.{is_some}
 use Rattle.net_replay.proofs.Placing.{place_is}
 use Rattle.net_replay.proofs.Runs.{runs_as}

@@ -1,5 +1,4 @@
-use Rattle.std.proofs.Common.{◌≡◌, ◌∙◌, sym, ap, subst}
-use Rattle.std.specs.Prelude.{Some, None}
+use Rattle.std.proofs.Common.{◌∙◌, ap, subst}
 use Rattle.net_replay.specs.Agents.{offer_from}
 use Rattle.net_replay.specs.Ends.{offered_at}
 use Rattle.net_replay.specs.Mailing.{offer_all}
