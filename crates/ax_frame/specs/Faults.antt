@@ -1,5 +1,5 @@
 -- The first fault of octets is at the first octet that no frame has at its place, or where the octets end and one must
--- follow.
+-- follow. (AX.25 2.2, section 3.)
 use Rattle.std.specs.Prelude.{ℕ, ◌+◌, ◌<◌, ◌≡◌, List, ◌++◌, length, take, Bool, true, false, Some, None}
 use Rattle.std.specs.Bool.{MatchBool}
 use Rattle.ax_frame.specs.declared.frame.FrameRefusal.{FrameRefusal}

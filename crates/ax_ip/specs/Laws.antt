@@ -1,4 +1,4 @@
--- What the definitions promise by themselves.
+-- What holds of every message of ARP, of the route that is taken, and of packets that go on.
 use Rattle.std.specs.Prelude.{ℕ, ◌≡◌, ◌≢◌, ◌<◌, ◌≤◌, ◌-◌, List, [], ◌∷◌, length, take, Contains, MatchOption, true, false, Some, Ok}
 use Rattle.ax_address.specs.Callsign.{Callsign}
 use Rattle.ax_frame.specs.Frames.{Frame}

@@ -88,8 +88,8 @@ KindsGoOut =
     (s : State) (i : Input) (now : ℕ) → Bounded (stock s) →
     AllByRecursion (λ f. may_go_out s.phase f.kind ≡ true) (step s i now).outs
 
--- A frame can be written, with sequence numbers of this modulus: its numbers are below the modulus, and it has a PID and information exactly
--- where its kind has them. Where it sets a link up, that is of this modulus.
+-- A frame can be written, with sequence numbers of this modulus: its numbers are below the modulus, and it has a PID and information
+-- exactly where its kind has them. Where it sets a link up, that is of this modulus.
 pub record CanBeWritten (size : ℕ) (f : Frame) : Type 0 where
   pub parts : HasParts size (control_of size f.kind) (pid_of f.payload) (info_of f.payload)
   pub sets_up : (pf : Bool) → f.kind ≡ OtherSetUp pf → ⊥

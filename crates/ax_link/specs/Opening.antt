@@ -1,4 +1,4 @@
--- How a link begins, and when it accepts a payload.
+-- How a link begins, when it accepts a payload, and what it tells of itself.
 use Rattle.std.specs.Prelude.{ℕ, ◌+◌, Bool, false, not, ◌||◌, ◌==◌, nat_le, min, if◌then◌else◌, [], length, None, Result, Ok, Err, replicate}
 use Rattle.ax_link.specs.declared.config.LinkConfig.{LinkConfig}
 use Rattle.ax_link.specs.declared.facts.LinkFacts.{LinkFacts}

@@ -1,5 +1,5 @@
--- Runs that show what "too late" bears: a text that is made up, a node that starts again at a pair of its former ends, and a request that comes
--- again after its circuit.
+-- Runs that show what "too late" bears: a text that is made up, a node that starts again at a pair of its former ends, and a request
+-- that comes again after its circuit.
 use Rattle.std.specs.Prelude.{◌≡◌, ℕ, ◌+◌, ◌-◌, ◌≤◌, ◌%◌, false, List, [], ◌∷◌}
 use Rattle.ax_address.specs.Callsign.{Callsign}
 use Rattle.l3_datagram.specs.Datagrams.{octets_with}

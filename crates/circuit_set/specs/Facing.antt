@@ -21,8 +21,8 @@ pub record Faces (net : Net) (x y : Name) : Type 0 where
   pub at : IsCallOf net.sets y.node mine.at
   pub back : IsCallOf net.sets x.node other.at
 
--- So it is with an end and its partner, at each moment of every run of nodes of which no two have one call: timely and fresh or not, and where
--- nodes start again.
+-- So it is with an end and its partner, at each moment of every run of nodes of which no two have one call: timely and fresh or not,
+-- and where nodes start again.
 abbrev pub PartnersFace : Type 0
 PartnersFace =
     (sets : List SetState) → AreStarts sets → CallsDiffer sets → (steps : List Step) → AreSteps steps

@@ -31,8 +31,8 @@ abbrev pub StaysUp : List Act → Type 0
 StaysUp [] = Unit {0}
 StaysUp (a ∷ acts) = IsUp a × StaysUp acts
 
--- Whatever a set was given before: while its node doesn't start again, its ends are made and go by some changes, and the pairs that it tells
--- are those that are given by them.
+-- Whatever a set was given before: while its node doesn't start again, its ends are made and go by some changes, and the pairs that it
+-- tells are those that are given by them.
 pub record GivenBy (s : SetState) (done : SetDone) : Type 0 where
   pub changes : List Change
   pub pairs : pairs_made done.told ≡ pairs_given changes (giving s)
@@ -43,8 +43,8 @@ MadeAreGiven =
     (s : SetState) → IsStart s → (before acts : List Act) → StaysUp acts
     → let t : SetState = (runs before s).set in GivenBy t (runs acts t)
 
--- A set that holds no end, as at its start and where its node has started again: among the first 48,960 pairs that it tells then none stands
--- twice.
+-- A set that holds no end, as at its start and where its node has started again: among the first 48,960 pairs that it tells then none
+-- stands twice.
 abbrev pub MadeDiffer : Type 0
 MadeDiffer =
     (s : SetState) → IsStart s → (before acts : List Act) → StaysUp acts

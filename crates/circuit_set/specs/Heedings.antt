@@ -19,8 +19,8 @@ pair_named (Disconnected to) = Some to
 pair_named (Info to tx rx flags text) = Some to
 pair_named (InfoAck to rx flags) = Some to
 
--- The datagram came with this input. It is from the node of the partner of an end that is held, names that end's pair, and carries what the end
--- takes in in its phase.
+-- The datagram came with this input. It is from the node of the partner of an end that is held, names that end's pair, and carries what
+-- the end takes in in its phase.
 pub record IsFor (s : SetState) (a : Act) (id : ℕ) (datagram : List ℕ) : Type 0 where
   pub now : ℕ
   pub came : a ≡ Comes datagram now

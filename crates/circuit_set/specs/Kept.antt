@@ -1,5 +1,5 @@
--- How many ends a set holds, what they keep, in octets, and the most that they may (this project's profile). Its router is left out, and so is
--- what waits to be told.
+-- How many ends a set holds, what they keep, in octets, and the most that they may (this project's profile). Its router is left out,
+-- and so is what waits to be told.
 use Rattle.std.specs.Prelude.{ℕ, ◌+◌, ◌*◌, ◌≤◌, List, [], ◌∷◌, length}
 use Rattle.route_table.specs.Held.{StandsFor}
 use Rattle.route_table.specs.Log.{Item}

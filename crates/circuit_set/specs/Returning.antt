@@ -39,7 +39,8 @@ pub record WasSent (events : List Event) (datagram : List ℕ) : Type 0 where
   pub told : Contains events (record { node = node; own = own; told = Sent id number sent })
   pub copy : is_copy datagram sent ≡ true
 
--- Each node has a call of its own, none starts again, none gives so many pairs that one may stand twice, and nothing comes that wasn't sent before.
+-- Each node has a call of its own, none starts again, none gives so many pairs that one may stand twice, and nothing comes that wasn't
+-- sent before.
 pub record IsUnbroken (sets : List SetState) (steps : List Step) : Type 0 where
   pub apart : CallsDiffer sets
   pub up : AllByRecursion (λ (st : Step). IsUp st.act) steps
@@ -49,8 +50,8 @@ pub record IsUnbroken (sets : List SetState) (steps : List Step) : Type 0 where
 
 -- ---- the law
 
--- A datagram opens an end at this node, though it is a copy of a connect request that has opened one there before: an end of the node that is
--- its origin has sent that request, and the end which was opened for that one earlier was told how it ended.
+-- A datagram opens an end at this node, though it is a copy of a connect request that has opened one there before: an end of the node
+-- that is its origin has sent that request, and the end which was opened for that one earlier was told how it ended.
 pub record IsReturn (b : Book) (node : ℕ) (datagram : List ℕ) : Type 0 where
   pub head : DatagramHead
   pub read : head_at datagram ≡ Ok head

@@ -20,8 +20,8 @@ abbrev pub wholes : List (List ℕ) → ℕ → ℕ
 wholes [] g = 0
 wholes (m ∷ ms) g = if nat_lt g (length (fragments_of m)) then 0 else suc (wholes ms (g - length (fragments_of m)))
 
--- What x wrote and its partner y received: a beginning of it, with every message that is acknowledged in it; and all of it where x was told that
--- its circuit is closed, or y that its partner has closed it.
+-- What x wrote and its partner y received: a beginning of it, with every message that is acknowledged in it; and all of it where x was
+-- told that its circuit is closed, or y that its partner has closed it.
 pub record SafeBetween (events : List Event) (x y : Name) (from to : State) : Type 0 where
   pub received : IsBeginning to.receiving.received from.sending.wrote
   pub acked : IsBeginning (take (wholes from.sending.wrote from.sending.acked) from.sending.wrote) to.receiving.received
@@ -37,8 +37,8 @@ pub record SafeEnd (events : List Event) (ends : Name → Option Holder) (x : Na
   pub joined : (y : Name) (k : Holder) → Partners events x y → ends y ≡ Some k → SafeBetween events x y h.end k.end
   pub alone : (HasPartner events x → ⊥) → SafeAlone h.end
 
--- By these steps it is so with each end, and its partner is an end, too. And each was told that its retries are used up exactly where there was
--- one expiry more than there are retries.
+-- By these steps it is so with each end, and its partner is an end, too. And each was told that its retries are used up exactly where
+-- there was one expiry more than there are retries.
 pub record IsSafe (sets : List SetState) (steps : List Step) (x : Name) (h : Holder) : Type 0 where
   pub end : SafeEnd (events_of sets steps) (end_named (sets_run sets steps)) x h
   pub partner : (y : Name) → Partners (events_of sets steps) x y → (k : Holder) × (end_named (sets_run sets steps) y ≡ Some k)

@@ -1,5 +1,5 @@
--- What "too late" means, by the events that were told before (this project's profile). Each event is judged by how those before it split. What
--- a verdict computes with are the notes of `Books`, by which the same is late.
+-- What "too late" means, by the events that were told before (this project's profile). Each event is judged by how those before it
+-- split. What a verdict computes with are the notes of `Books`, by which the same is late.
 use Rattle.std.specs.Prelude.{◌≡◌, ◌≢◌, ℕ, ◌-◌, ◌*◌, ◌<◌, ◌⊎◌, Bool, true, nat_eq, ◌&&◌, List, [], ◌∷◌, ◌++◌, length, drop, Option, Some, Ok}
 use Rattle.std.specs.List.{AllByRecursion, IsDistinct}
 use Rattle.ax_address.specs.Callsign.{Callsign}
@@ -78,8 +78,8 @@ WasTold events x notice =
 
 -- ---- partners
 
--- This datagram is a request of x: x is the end to which the node that it is from has last given the pair that it names behind its head of 15
--- octets, and x has sent a copy of it.
+-- This datagram is a request of x: x is the end to which the node that it is from has last given the pair that it names behind its head
+-- of 15 octets, and x has sent a copy of it.
 pub record Asks (before : List Event) (d : List ℕ) (x : Name) : Type 0 where
   pub head : DatagramHead
   pub read : head_at d ≡ Ok head
@@ -122,8 +122,8 @@ same_overtaker a b = same_name b.by a.by && nat_eq a.number b.number
 abbrev pub FirstSent : List Event → List Event → Name → ℕ → Type 0
 FirstSent earlier later x n = Has (λ p e. SendsFragment x n e) later × (Has (λ p e. SendsFragment x n e) earlier → ⊥)
 
--- Of a circuit of x and y, and what was told up to a sending and since: a fragment of either direction that was first sent since, and has been
--- heeded (so it was first heeded since, too).
+-- Of a circuit of x and y, and what was told up to a sending and since: a fragment of either direction that was first sent since, and
+-- has been heeded (so it was first heeded since, too).
 pub record Overtakes (x y : Name) (upto since : List Event) (o : Overtaker) : Type 0 where
   pub sent : ((o.by ≡ x) × FirstSent upto since y o.number) ⊎ ((o.by ≡ y) × FirstSent upto since x o.number)
   pub heeded : Has (HeedsFragment o.by o.number) (upto ++ since)
@@ -132,8 +132,8 @@ pub record Overtakes (x y : Name) (upto since : List Event) (o : Overtaker) : Ty
 abbrev pub Allowing : Type 1
 Allowing = List Event → Name → Name → ℕ → Type 0
 
--- It is a copy of one that x's partner has sent, and its latest sending and this arrival have fewer overtakers than are too many: so has each
--- list of different ones.
+-- It is a copy of one that x's partner has sent, and its latest sending and this arrival have fewer overtakers than are too many: so
+-- has each list of different ones.
 pub record InTime (allows : Allowing) (before : List Event) (x : Name) (d : List ℕ) : Type 0 where
   pub partner : Name
   pub joined : Partners before x partner
@@ -179,7 +179,8 @@ pub record IsOpen (before : List Event) (z : Name) : Type 0 where
   pub lasts : Has (λ p e. Ends z e) made.after → ⊥
   pub kept : Has (λ p e. Loses z e) before → ⊥
 
--- An end that is made for a request has a partner, which has had none; and no open end of another node has a partner at this node with this pair.
+-- An end that is made for a request has a partner, which has had none; and no open end of another node has a partner at this node with
+-- this pair.
 pub record IsNew (before : List Event) (node : ℕ) (pair : Pair) (request : Option (List ℕ)) : Type 0 where
   pub asked : (d : List ℕ) → request ≡ Some d → (x : Name) × Asks before d x × (HasPartner before x → ⊥)
   pub apart : (z y : Name) → IsOpen before z → z.node ≢ node → Partners before z y → y.node ≡ node → Has (λ p e. (own : Callsign) × Gives own pair y e) before → ⊥

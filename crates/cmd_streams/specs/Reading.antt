@@ -1,4 +1,4 @@
--- What reading a file leaves.
+-- What reading a file leaves, what a source tells of a file, and why one wasn't read.
 use Rattle.std.specs.Prelude.{ℕ, ◌≡◌, ◌<◌, ◌≤◌, List, length, Option, IsSomeAnd}
 use Rattle.std.specs.Io.KnownBytes.{Consumes, Keeps, IsAtEnd}
 use Rattle.radio_base.specs.Causes.{Rose}

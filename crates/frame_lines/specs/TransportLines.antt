@@ -1,4 +1,5 @@
--- The line of a transport: its kind, the pair of the end that it is for, and what its kind has. (NET/ROM, Appendix B; the text is own profile.)
+-- The line of a transport: its kind, the pair of the end that it is for, and what its kind has. (NET/ROM, Appendix B; the text is own
+-- profile.)
 use Rattle.std.specs.Prelude.{ℕ, List, [], ◌++◌, length, Bool, codes, if◌then◌else◌, Result, Ok, Err}
 use Rattle.std.specs.Fmt.{decimal}
 use Rattle.ax_address.specs.Callsign as calls

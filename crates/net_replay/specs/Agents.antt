@@ -1,4 +1,4 @@
--- Turns of an agent while they run. No public clause speaks of it: this isn't for the reader.
+-- Turns of an agent while they run. No public clause cites it: not for the reader of a contract.
 use Rattle.std.specs.Prelude.{ℕ, ◌≡◌, Bool, true, false, List, drop, length, map, slice_set, Option, Some, None, is_none, Result, Ok, Err, if◌then◌else◌}
 use Rattle.ax_address.specs.Callsign.{Callsign}
 use Rattle.circuit_l4.specs.State.{is_up}

@@ -27,13 +27,14 @@ pub record WritesTexts (sets : List SetState) (x : Name) (s : Session) : Type 0 
   pub here : end_named sets x ≡ Some end
   pub wrote : IsBeginning end.end.sending.wrote s.bridge.taken
 
--- Of a user at the prompt of a node, and the other end of its circuit: what the user was given is a beginning of what that end wrote, where the
--- user's side hasn't ended and the user hasn't said BYE; and what that end received is a beginning of the user's texts.
+-- Of a user at the prompt of a node, and the other end of its circuit: what the user was given is a beginning of what that end wrote,
+-- where the user's side hasn't ended and the user hasn't said BYE; and what that end received is a beginning of the user's texts.
 pub record Agree (n : State) (s : Session) (other : ends.State) : Type 0 where
   pub given : is_deaf s n ≡ false → IsBeginning s.bridge.gave other.sending.wrote
   pub received : IsBeginning other.receiving.received s.bridge.taken
 
--- Of a user and the end x of its circuit here: it agrees with the other end, by what was told; and where there is none, it was given nothing.
+-- Of a user and the end x of its circuit here: it agrees with the other end, by what was told; and where there is none, it was given
+-- nothing.
 pub record AgreeWith (events : List Event) (sets : List SetState) (n : State) (x : Name) (s : Session) : Type 0 where
   pub joined : (y : Name) → Partners events x y → (k : Holder) × (end_named sets y ≡ Some k) × Agree n s k.end
   pub alone : (HasPartner events x → ⊥) → is_deaf s n ≡ false → s.bridge.gave ≡ []
@@ -53,8 +54,9 @@ pub record IsSession (w : World) (x : Name) (p : Placed) (s : Session) : Type 0 
   pub end : circuit.id ≡ x.id
   pub quiet : s.bridge.exhausted ≡ false
 
--- What the lines of a front of a file have come to is a run of the nodes' circuits, in whose ends each node's sessions agree with those whom
--- their circuits lead to. And where a user's circuit leads to a user's, what the one was given is a beginning of the other's texts.
+-- What the lines of a front of a file have come to is a run of the nodes' circuits, in whose ends each node's sessions agree with those
+-- whom their circuits lead to. And where a user's circuit leads to a user's, what the one was given is a beginning of the other's
+-- texts.
 pub record UsersAgreeAt (plan : Plan) (done : List NumberedInstruction) : Type 0 where
   pub steps : List Step
   pub run : IsRunOf plan steps (do_lines plan done (start plan))

@@ -42,9 +42,9 @@ LineRestartsNone l = RestartsNone l.instruction
 
 -- ---- the law
 
--- By these steps of the nodes' circuits a datagram was sent by the node that is its origin, as it came but for its time to live: an end of that
--- node told so, or its set, as number 0, where that refused a circuit. By the frames in the air it came to the node at a place by so many hops,
--- each of which took one from the time to live that it was sent with: so there were no more than that.
+-- By these steps of the nodes' circuits a datagram was sent by the node that is its origin, as it came but for its time to live: an end
+-- of that node told so, or its set, as number 0, where that refused a circuit. By the frames in the air it came to the node at a place
+-- by so many hops, each of which took one from the time to live that it was sent with: so there were no more than that.
 pub record WasSent (plan : Plan) (size : ℕ) (air : List Aired) (before : List Step) (place : ℕ) (datagram : List ℕ) : Type 0 where
   pub sending : returning.WasSent (events_of (first_sets plan) before) datagram
   pub ttl : ℕ
@@ -69,9 +69,10 @@ pub record CameFromEnd (plan : Plan) (size : ℕ) (air : List Aired) (steps : Li
   pub came : CameTo plan size air steps place datagram
   pub end : 1 ≤ came.was.sending.id
 
--- What a front of a file's lines has come to is a run of the nodes' circuits, in which each datagram that reached its node, so that the node's
--- circuits were handed it, was sent before; so was each that an end heeded, as the network's events tell, and that by an end. And one that an end heeded
--- came from the node of its partner, and names that end's pair. In the run a node starts again only where one of these lines says so.
+-- What a front of a file's lines has come to is a run of the nodes' circuits, in which each datagram that reached its node, so that the
+-- node's circuits were handed it, was sent before; so was each that an end heeded, as the network's events tell, and that by an end.
+-- And one that an end heeded came from the node of its partner, and names that end's pair. In the run a node starts again only where
+-- one of these lines says so.
 pub record SendsAll (plan : Plan) (size : ℕ) (done : List NumberedInstruction) : Type 0 where
   pub steps : List Step
   pub run : IsRunOf plan steps (do_lines plan done (start plan))

@@ -1,4 +1,4 @@
--- What there is to tell of a replay, as plain data. Own profile.
+-- What there is to tell of a replay, as plain data, and the lines of a report that are made of that alone. Own profile.
 use Rattle.std.specs.Prelude.{ℕ, List, [], ◌++◌, codes, length}
 use Rattle.std.specs.Fmt.{decimal}
 use Rattle.ax_address.specs.Callsign.{Callsign}

@@ -1,5 +1,5 @@
--- By how many hops a datagram has come, by the frames in the air of a network whose links are of one modulus: a hop is a node that passed it on,
--- with one less to live. Own profile.
+-- By how many hops a datagram has come, by the frames in the air of a network whose links are of one modulus: a hop is a node that
+-- passed it on, with one less to live. Own profile.
 use Rattle.std.specs.Prelude.{ℕ, zero, suc, ◌≡◌, ◌+◌, true, List, [], ◌∷◌, ◌++◌, slice_get, Option, Some}
 use Rattle.ax_address.specs.Callsign.{Callsign}
 use Rattle.network_file.specs.declared.plan.declarations.Declaration.{Declaration}
@@ -29,16 +29,17 @@ pub record Puts (plan : Plan) (size : ℕ) (air : List Aired) (by to : Callsign)
   pub call : node.call ≡ by
   pub sender : frame.sender ≡ node.node
 
--- A datagram has come by so many hops to the node of a call, from the node of `origin`, which sent `sent`. By none: the origin put it in the air for
--- that node, as it was sent. By one more: a node to which it had come by the others passed it on, that is, put it in the air for that node, the
--- same but for the time to live, of which it took one.
+-- A datagram has come by so many hops to the node of a call, from the node of `origin`, which sent `sent`. By none: the origin put it
+-- in the air for that node, as it was sent. By one more: a node to which it had come by the others passed it on, that is, put it in the
+-- air for that node, the same but for the time to live, of which it took one.
 module _ (plan : Plan) (size : ℕ) (air : List Aired) (origin : Callsign) (sent : List ℕ) where
   abbrev pub CameBy : ℕ → Callsign → List ℕ → Type 0
   CameBy zero to datagram = (datagram ≡ sent) × Puts plan size air origin to datagram
   CameBy (suc hops) to datagram =
       (via : Callsign) × (came : List ℕ) × CameBy hops via came × (is_hop came datagram ≡ true) × Puts plan size air via to datagram
 
--- Each hop takes one: with the time to live that it was sent with, a datagram comes only where its origin has put it in the air for that node.
+-- Each hop takes one: with the time to live that it was sent with, a datagram comes only where its origin has put it in the air for
+-- that node.
 abbrev pub HopsTakeOne : Type 0
 HopsTakeOne =
     (plan : Plan) (size : ℕ) (air : List Aired) (origin : Callsign) (sent : List ℕ) (hops : ℕ) (to : Callsign) (datagram : List ℕ)

@@ -1,4 +1,4 @@
--- What a verdict takes in of a trace. For the parts of the verdict; not for the reader of a contract.
+-- What a verdict takes in of a trace, for the parts of the verdict. No public clause cites it: not for the reader of a contract.
 use Rattle.std.specs.Prelude.{◌≡◌, ℕ, List, [], ◌∷◌, ◌++◌, map, Option, Some, None}
 use Rattle.ax_address.specs.Callsign.{Callsign}
 use Rattle.circuit_set.specs.Pumps.{SetTold, Of}

@@ -1,4 +1,5 @@
--- The lines `post` and `mail`: mail is posted at a node, and the agent of a node takes in what waits for it and offers what is queued. Own profile.
+-- The lines `post` and `mail`: mail is posted at a node, and the agent of a node takes in what waits for it and offers what is queued.
+-- Own profile.
 use Rattle.std.specs.Prelude.{ℕ, zero, suc, ◌&&◌, Bool, true, false, List, [], ◌∷◌, ◌++◌, length, map, filter, nat_lt, slice_get, slice_set, is_none, is_ok, is_some, Option, Some, None, option_map, unwrap_or, Result, Ok, Err, if◌then◌else◌}
 use Rattle.ax_address.specs.Callsign.{Callsign, same_call}
 use Rattle.circuit_l4.specs.State.{is_up}

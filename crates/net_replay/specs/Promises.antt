@@ -34,8 +34,8 @@ sets_of nodes = map set_of nodes
 abbrev pub first_sets : Plan → List SetState
 first_sets plan = sets_of (new_nodes plan)
 
--- In the run a node's circuits are those that it knows of, and before them the ends that restarts took from it: each of them is gone, and none has
--- the number of one that it knows of.
+-- In the run a node's circuits are those that it knows of, and before them the ends that restarts took from it: each of them is gone,
+-- and none has the number of one that it knows of.
 pub record Remembers (s : SetState) (p : Placed) : Type 0 where
   pub past : List Holder
   pub gone : AllByRecursion (λ (h : Holder). h.gone ≡ true) past
@@ -96,15 +96,15 @@ end_with (Some p) id = end_of id (set_of p).ends
 abbrev pub end_now : World → Name → Option Holder
 end_now w x = end_with (slice_get w.nodes x.node) x.id
 
--- Of each end that a node knows of, and its partner by what was told of circuits, where a node knows of that: each has received a beginning of
--- what the other wrote, with every message that is acknowledged in it, and all of it after an orderly close. An end without a partner has received
--- nothing.
+-- Of each end that a node knows of, and its partner by what was told of circuits, where a node knows of that: each has received a
+-- beginning of what the other wrote, with every message that is acknowledged in it, and all of it after an orderly close. An end
+-- without a partner has received nothing.
 abbrev pub SafeNow : World → Type 0
 SafeNow w = (x : Name) (h : Holder) → end_now w x ≡ Some h → SafeEnd (map (λ e. e.event) (circuit_events w)) (end_now w) x h
 
--- So it is when the lines of a front of a file are done. What these have come to is a run of the nodes' circuits, and so it is at each moment of
--- that run of the ends that it has, with those that a node forgot as it started again; and an end is told that its retries are used up exactly
--- where there was one expiry more than there are retries (`Safe`).
+-- So it is when the lines of a front of a file are done. What these have come to is a run of the nodes' circuits, and so it is at each
+-- moment of that run of the ends that it has, with those that a node forgot as it started again; and an end is told that its retries
+-- are used up exactly where there was one expiry more than there are retries (`Safe`).
 pub record IsSafeAt (plan : Plan) (done : List NumberedInstruction) : Type 0 where
   pub now : SafeNow (do_lines plan done (start plan))
   pub steps : List Step

@@ -1,4 +1,4 @@
--- What the writing of a report goes by; not for the reader of a contract.
+-- What the writing of a report goes by. No public clause cites it: not for the reader of a contract.
 use Rattle.std.specs.Prelude.{ℕ, ◌≡◌, List, map}
 use Rattle.network_file.specs.declared.plan.declarations.Declaration.{Declaration}
 use Rattle.net_replay.specs.declared.ends.EndRecord.{EndRecord}

@@ -15,8 +15,9 @@ use Rattle.net_replay.specs.World.{World, start}
 abbrev pub told_of_circuits : World → List set_events.Event
 told_of_circuits w = map (λ e. e.event) (circuit_events w)
 
--- What a front of a file's lines has come to, where none of them starts a node again and no node has given more pairs than it gives before one
--- may stand twice: whatever is lost, repeated, delayed or reordered, it is fresh, but where a copy of a connect request returns.
+-- What a front of a file's lines has come to, where none of them starts a node again and no node has given more pairs than it gives
+-- before one may stand twice: whatever is lost, repeated, delayed or reordered, it is fresh, but where a copy of a connect request
+-- returns.
 abbrev pub CopiesAloneReturn : Type 0
 CopiesAloneReturn =
     (bytes : List ℕ) (plan : Plan) (size : ℕ) → network_of bytes ≡ Ok plan → IsOfModulus size plan

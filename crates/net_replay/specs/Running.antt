@@ -1,4 +1,4 @@
--- A replay while it runs. No public clause speaks of it: this isn't for the reader.
+-- A replay while it runs. No public clause cites it: not for the reader of a contract.
 use Rattle.std.specs.Prelude.{ℕ, zero, suc, ◌≡◌, min, List, [], ◌∷◌, ◌++◌, length, map, Option, Some, None, Result, Ok, Err, Bool, true, false, if◌then◌else◌, slice_get}
 use Rattle.circuit_l4.specs.declared.facts.EndFacts.{EndFacts}
 use Rattle.circuit_set.specs.CircuitSets.{facts_at}

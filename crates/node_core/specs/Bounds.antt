@@ -1,6 +1,6 @@
--- What a node keeps, in octets, and the most that it may (this project's profile): all its buffers of octets, and 64 for each usable pair of
--- destination and neighbour. Frames and entries that wait to be fetched are left out. What stands beside the octets is left out, too: the lengths
--- of the messages in a ring, numbers, times and calls, which are of one size for each link, end and session.
+-- What a node keeps, in octets, and the most that it may (this project's profile): all its buffers of octets, and 64 for each usable
+-- pair of destination and neighbour. Frames and entries that wait to be fetched are left out. What stands beside the octets is left
+-- out, too: the lengths of the messages in a ring, numbers, times and calls, which are of one size for each link, end and session.
 use Rattle.std.specs.Prelude.{ℕ, ◌+◌, ◌*◌, ◌≤◌, length}
 use Rattle.circuit_set.specs.Kept as ends
 use Rattle.kiss_framing.specs.Stream as kiss
@@ -23,13 +23,14 @@ windows_of k = ends.windows k.station.set.held.ends.entries
 abbrev pub users_of : Kept → ℕ
 users_of k = length k.station.sessions.items
 
--- The deframer's piece, what the links and the ends keep, and the text that was taken last from each user. Its buffer of 8,192 octets counts whole,
--- since what is done with of a text stays in it until the next one is taken.
+-- The deframer's piece, what the links and the ends keep, and the text that was taken last from each user. Its buffer of 8,192 octets
+-- counts whole, since what is done with of a text stays in it until the next one is taken.
 abbrev pub kept : Kept → ℕ
 kept k =
     kiss.kept k.deframer + links.kept k.station.set.router.carrier + ends.kept k.station.set.held + 8192 * users_of k + 64 * pairs_of k
 
--- The most of it: a link keeps at most 98,175 octets, an end 90,347 and 236 for each fragment of its window, and a user is at a link or an end
+-- The most of it: a link keeps at most 98,175 octets, an end 90,347 and 236 for each fragment of its window, and a user is at a link or
+-- an end
 abbrev pub bound : Kept → ℕ
 bound k = 140000 * links_of k + 100000 * ends_of k + 236 * windows_of k + 64 * pairs_of k + 16384
 

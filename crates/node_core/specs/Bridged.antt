@@ -25,7 +25,8 @@ use Rattle.node_core.specs.Waits.{has_text}
 -- ---- one session
 
 -- Each text that was taken from the user since its circuit stood was written to the circuit whole, as one message and in order, but for
--- what is left of the text that was taken last, which waits; unless something was refused, since the numbers of fragments have come to their end.
+-- what is left of the text that was taken last, which waits; unless something was refused, since the numbers of fragments have come to
+-- their end.
 abbrev pub WritesTaken : Bridge → List ℕ → Type 0
 WritesTaken b rest = b.exhausted ≡ false → b.taken ≡ b.wrote ++ waits rest
 
@@ -124,7 +125,8 @@ SessionsBounded = EverySession (λ n. IsBounded)
 
 -- ---- how many they are
 
--- each session has a user at a link or an end of its own, or has asked for a circuit of which the end is held; and there are at most 64 links
+-- each session has a user at a link or an end of its own, or has asked for a circuit of which the end is held; and there are at most 64
+-- links
 abbrev pub UsersAreFew : Type 0
 UsersAreFew =
     (c : NodeConfig) (inputs : List Input) → IsCall c.call → AllByRecursion AsksForCall inputs

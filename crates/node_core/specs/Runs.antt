@@ -26,8 +26,8 @@ MadeFrom first [] next = next ≡ first
 MadeFrom first (Made id pair partner request ∷ ts) next = (id ≡ first) × MadeFrom (first + 1) ts next
 MadeFrom first (t ∷ ts) next = MadeFrom first ts next
 
--- A node has come from one state to another: its circuits took some inputs, each of them one that a run of sets may have, and none that starts
--- the node again, and the entries that are new tell what these inputs told, in their order. It is at rest again.
+-- A node has come from one state to another: its circuits took some inputs, each of them one that a run of sets may have, and none that
+-- starts the node again, and the entries that are new tell what these inputs told, in their order. It is at rest again.
 pub record RunsOn (old new : State) : Type 0 where
   pub inputs : List Act
   pub more : List Entry

@@ -17,7 +17,8 @@ pub record IsReached (n : NodeState) : Type 0 where
   pub asked : AllByRecursion AsksForCall inputs
   pub is : after_all inputs (new_node config) ≡ n
 
--- between two inputs a node stands for some state to which inputs have led, nothing of its circuits is untold, and each datagram that came was collected
+-- between two inputs a node stands for some state to which inputs have led, nothing of its circuits is untold, and each datagram that
+-- came was collected
 pub record IsSound (k : Kept) : Type 0 where
   pub state : NodeState
   pub stands : NodeStands k state

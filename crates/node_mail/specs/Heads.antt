@@ -1,4 +1,4 @@
--- What the code has read, as a message. Cited by no public clause: not for the reader of a contract.
+-- What the code has read, as a message. No public clause cites it: not for the reader of a contract.
 use Rattle.std.specs.Prelude.{ℕ, ◌≤◌, List, length, Option, Some, None, Result, Ok, Err}
 use Rattle.ax_address.specs.Callsign.{Callsign}
 use Rattle.ax_address.specs.declared.octets.AddressRefusal.{AddressRefusal}

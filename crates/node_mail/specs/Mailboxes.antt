@@ -1,4 +1,4 @@
--- The mails that are stored, under their names. Cited by no public clause: not for the reader of a contract.
+-- The mails that are stored, under their names. No public clause cites it: not for the reader of a contract.
 use Rattle.std.specs.Prelude.{◌≡◌, List}
 use Rattle.std.specs.List.{AllByRecursion}
 use Rattle.node_mail.specs.declared.mail.Mail.{Mail}

@@ -1,5 +1,4 @@
--- The mails that are queued, by what the code keeps of them. Cited by no public clause: not for the reader of a
--- contract.
+-- The mails that are queued, by what the code keeps of them. No public clause cites it: not for the reader of a contract.
 use Rattle.std.specs.Prelude.{ℕ, ◌≢◌, ◌<◌, ◌≤◌, List, [], ◌∷◌, map}
 use Rattle.std.specs.List.{AllByRecursion}
 use Rattle.node_mail.specs.declared.places.QueuedMail.{QueuedMail}

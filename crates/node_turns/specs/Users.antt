@@ -1,5 +1,5 @@
--- The user's side of a session, which is an end of a circuit or a link: whether it has ended, whether it has room, and what is said to
--- it. Own profile.
+-- The user's side of a session, which is an end of a circuit or a link: whether it has ended, whether it has room, what is said to
+-- it, and what comes from it. Own profile.
 use Rattle.std.specs.Prelude.{ℕ, Bool, true, false, ◌||◌, ◌&&◌, not, nat_le, if◌then◌else◌, is_none, List, [], ◌∷◌, ◌++◌, take, slice_get, slice_set, Option, Some, None, Result, Ok, Err}
 use Rattle.ax_address.specs.Callsign.{Callsign, same_call}
 use Rattle.circuit_l4.specs.declared.facts.EndFacts.{EndFacts}

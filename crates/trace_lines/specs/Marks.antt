@@ -1,4 +1,4 @@
--- How the lines are marked that bring a frame again; not for the reader of a contract.
+-- How the lines are marked that bring a frame again. No public clause cites it: not for the reader of a contract.
 use Rattle.std.specs.Prelude.{ℕ, List, slice_get, Bool, false, Option, Some, None}
 
 abbrev pub marked : Option Bool → Bool
