@@ -5,28 +5,8 @@ ghost use Rattle.std.specs.Result.{result_err};
 ghost use Rattle.ax_address.specs.Octets as octet;
 ghost use Rattle.ax_address.specs.declared.address.Address.{Address};
 
+use crate::address::AddressRefusal;
 use crate::{Address, Call};
-
-/// Why octets are no address. Places count octets from 0.
-#[derive(Clone, Copy, Debug, PartialEq, Eq)]
-pub enum AddressRefusal {
-    /// The octet at `at` is no capital letter, digit or space, shifted left by one, or a space that no
-    /// character precedes.
-    BadChar { at: usize },
-    /// The octet at `at` is a character after a space.
-    BadPadding { at: usize },
-}
-
-impl AddressRefusal {
-    /// The place of the octet.
-    pub fn at(&self) -> usize
-        ensures { result ≡ octet.refused_octet self.now }
-    {
-        match *self {
-            AddressRefusal::BadChar { at } | AddressRefusal::BadPadding { at } => at,
-        }
-    }
-}
 
 /// The first octet that can't stand at its place, of the six for characters, or of fewer where some of
 /// the six are missing.

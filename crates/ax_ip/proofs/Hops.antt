@@ -8,8 +8,8 @@ use Rattle.ax_frame.specs.Frames.{Frame}
 use Rattle.ax_ip.specs.declared.arp.ArpRefusal.{ArpRefusal}
 use Rattle.ax_ip.specs.declared.content.Content.{Content}
 use Rattle.ax_ip.specs.declared.content.Content.TheVariants as content
-use Rattle.ax_ip.specs.declared.forwarder.IpDone.TheVariants.{Forwarded, Echoed}
-use Rattle.ax_ip.specs.declared.forwarder.IpWhy.TheVariants.{Ours, Expired}
+use Rattle.ax_ip.specs.declared.ip_done.IpDone.TheVariants.{Forwarded, Echoed}
+use Rattle.ax_ip.specs.declared.ip_done.IpWhy.TheVariants.{Ours, Expired}
 use Rattle.ax_ip.specs.declared.out.IpOut.{IpOut}
 use Rattle.ax_ip.specs.declared.packet.PacketRefusal.{PacketRefusal}
 use Rattle.ax_ip.specs.Arps.{Arp, arp_at}

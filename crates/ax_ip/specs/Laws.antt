@@ -2,7 +2,7 @@
 use Rattle.std.specs.Prelude.{ℕ, ◌≡◌, ◌≢◌, ◌<◌, ◌≤◌, ◌-◌, List, [], ◌∷◌, length, take, Contains, MatchOption, true, false, Some, Ok}
 use Rattle.ax_address.specs.Callsign.{Callsign}
 use Rattle.ax_frame.specs.Frames.{Frame}
-use Rattle.ax_ip.specs.declared.forwarder.IpDone.TheVariants.{Forwarded}
+use Rattle.ax_ip.specs.declared.ip_done.IpDone.TheVariants.{Forwarded}
 use Rattle.ax_ip.specs.Packets.{octet, PacketHead, SpellsPacket}
 use Rattle.ax_ip.specs.Machine.{onward, State, Turn, turn, packet_to}
 use Rattle.ax_ip.specs.Routes.{Route, matches, longest}

@@ -13,16 +13,16 @@ use Rattle.ax_ip.specs.declared.arp.ArpRefusal.{ArpRefusal}
 use Rattle.ax_ip.specs.declared.packet.PacketRefusal.{PacketRefusal}
 use Rattle.ax_ip.specs.declared.content.Content.{Content}
 use Rattle.ax_ip.specs.declared.content.Content.TheVariants as content
-use Rattle.ax_ip.specs.declared.forwarder.IpDone.{IpDone}
-use Rattle.ax_ip.specs.declared.forwarder.IpDone.TheVariants.{Forwarded, Echoed, Asked, Answered, Learned, Dropped}
-use Rattle.ax_ip.specs.declared.forwarder.IpWhy.{IpWhy}
-use Rattle.ax_ip.specs.declared.forwarder.IpWhy.TheVariants.{NotMine, Bad, Ours, Expired, NoRoute}
+use Rattle.ax_ip.specs.declared.ip_done.IpDone.{IpDone}
+use Rattle.ax_ip.specs.declared.ip_done.IpDone.TheVariants.{Forwarded, Echoed, Asked, Answered, Learned, Dropped}
+use Rattle.ax_ip.specs.declared.ip_done.IpWhy.{IpWhy}
+use Rattle.ax_ip.specs.declared.ip_done.IpWhy.TheVariants.{NotMine, Bad, Ours, Expired, NoRoute}
 use Rattle.ax_ip.specs.declared.forwarder.Forwarder.{Forwarder}
 use Rattle.ax_ip.specs.declared.out.IpOut.{IpOut}
 use Rattle.ax_ip.specs.Arps.{Arp, arp_at, arp_octets}
 use Rattle.ax_ip.specs.Packets.{PacketHead, packet_at, octet, word, is_right, summed, lacking, word_sum}
 use Rattle.ax_ip.specs.Routes.{Route, longest, next_hop}
-pub use Rattle.ax_ip.specs.declared.cache.Neighbour.{Neighbour}
+pub use Rattle.ax_ip.specs.declared.neighbours.Neighbour.{Neighbour}
 
 -- Echo requests and their replies. (RFC 792, "Echo or Echo Reply Message".)
 

@@ -5,45 +5,15 @@ ghost use Rattle.ax_frame.specs.Frames.{view as frame_of};
 ghost use Rattle.ax_ip.specs.Machine as machine;
 ghost use Rattle.ax_ip.specs.Routes as routes;
 
-use crate::cache::Cache;
 use crate::content::{Content, content_of};
+use crate::ip_done::{IpDone, IpWhy};
+use crate::neighbours::Cache;
 use crate::out::{IP_PID, Info, IpOut};
 use crate::route::Route;
 use crate::routes::{RouteRefusal, has_bits_past, stands};
 use arrayvec::ArrayVec;
 use ax_address::Call;
 use ax_frame::FrameView;
-
-/// What a forwarder did with a frame.
-#[derive(Clone, Copy, Debug, PartialEq, Eq)]
-pub enum IpDone {
-    /// A packet goes on.
-    Forwarded,
-    /// An echo request is answered.
-    Echoed,
-    /// The next hop of a packet isn't known: it is asked for, and the packet is dropped.
-    Asked,
-    /// A request of ARP is answered.
-    Answered,
-    /// A reply of ARP is heard.
-    Learned,
-    Dropped(IpWhy),
-}
-
-/// Why a forwarder dropped a frame.
-#[derive(Clone, Copy, Debug, PartialEq, Eq)]
-pub enum IpWhy {
-    /// It isn't for this station.
-    NotMine,
-    /// It carries no packet, or no message of ARP, though it says so.
-    Bad,
-    /// A packet for this station is no echo request.
-    Ours,
-    /// A packet's time to live ends here.
-    Expired,
-    /// No route leads to a packet's destination.
-    NoRoute,
-}
 
 /// A forwarder of packets, with at most 16 routes and 64 neighbours (RFC 791, section 2.4; RFC 826): a pure machine, which reads no clock
 /// and no stream. Its calls are of two kinds.

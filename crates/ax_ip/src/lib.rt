@@ -5,12 +5,13 @@
 #![tactic(auto)]
 
 mod arp;
-mod cache;
 mod content;
 mod echo;
 mod forwarder;
+mod ip_done;
 pub mod laws;
 mod messages;
+mod neighbours;
 mod numbers;
 mod onward;
 mod out;
@@ -21,7 +22,8 @@ mod routes;
 mod sums;
 
 pub use arp::{Arp, ArpRefusal, read_arp, write_arp};
-pub use forwarder::{Forwarder, IpDone, IpWhy};
+pub use forwarder::Forwarder;
+pub use ip_done::{IpDone, IpWhy};
 pub use out::{ARP_PID, IP_PID, IpOut};
 pub use packet::{PacketHead, PacketRefusal, read_packet};
 pub use routes::RouteRefusal;

@@ -4,8 +4,9 @@ ghost use Rattle.ax_ip.specs.Arps as arps;
 ghost use Rattle.ax_ip.specs.Machine as machine;
 
 use crate::arp::{Arp, read_arp, write_arp};
-use crate::cache::{Neighbour, learn};
-use crate::forwarder::{Forwarder, IpDone, IpWhy};
+use crate::forwarder::Forwarder;
+use crate::ip_done::{IpDone, IpWhy};
+use crate::neighbours::{Neighbour, learn};
 use crate::numbers::push_octets;
 use crate::out::{ARP_PID, Info};
 

@@ -4,11 +4,12 @@ ghost use Rattle.ax_ip.specs.Machine as machine;
 ghost use Rattle.ax_ip.specs.Packets as packets;
 
 use crate::arp::Arp;
-use crate::cache::call_of;
 use crate::content::everyone;
 use crate::echo::{is_request, put_reply};
-use crate::forwarder::{Forwarder, IpDone, IpWhy};
+use crate::forwarder::Forwarder;
+use crate::ip_done::{IpDone, IpWhy};
 use crate::messages::put_message;
+use crate::neighbours::call_of;
 use crate::onward::put_onward;
 use crate::out::{ARP_PID, IP_PID};
 use crate::packet::{PacketHead, read_packet};

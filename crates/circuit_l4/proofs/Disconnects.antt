@@ -5,7 +5,7 @@ use Rattle.std.proofs.lemmas.List.Elements as elements
 use Rattle.radio_base.specs.declared.modulus.TheConstants.{COUNT_MAX}
 use Rattle.circuit_reassembly.specs.Fragments.{Fragment}
 use Rattle.circuit_l4.specs.declared.transport.Flags.{Flags}
-use Rattle.circuit_l4.specs.declared.transport.Pair.{Pair}
+use Rattle.circuit_l4.specs.declared.pair.Pair.{Pair}
 use Rattle.circuit_l4.specs.declared.transport.Transport.{Transport}
 use Rattle.circuit_l4.specs.declared.transport.Transport.TheVariants.{Request, Accept, Refuse, Disconnect, Disconnected, Info, InfoAck}
 use Rattle.circuit_l4.specs.declared.piece.Piece.{Piece}

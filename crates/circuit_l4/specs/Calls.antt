@@ -7,7 +7,7 @@ use Rattle.circuit_l4.specs.declared.role.Role.TheVariants.{Requester, Responder
 use Rattle.circuit_l4.specs.declared.output.Output.{Output}
 use Rattle.circuit_l4.specs.declared.output.Output.TheVariants.{Request}
 use Rattle.circuit_l4.specs.declared.owed.Owed.{Owed}
-use Rattle.circuit_l4.specs.declared.transport.Pair.{Pair}
+use Rattle.circuit_l4.specs.declared.pair.Pair.{Pair}
 use Rattle.circuit_l4.specs.State.{bytes_of, Effect}
 use Rattle.circuit_l4.specs.Halves.{Outbox}
 use Rattle.circuit_l4.specs.Standing.{KeepsEffect, view_of}

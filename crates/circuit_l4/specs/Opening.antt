@@ -1,7 +1,7 @@
 -- How an end of a circuit begins, and what it tells of itself.
 use Rattle.std.specs.Prelude.{ℕ, ◌^◌, ◌≤◌, false, [], length, None, replicate}
 use Rattle.ax_address.specs.Callsign.{Callsign}
-use Rattle.circuit_l4.specs.declared.transport.Pair.{Pair}
+use Rattle.circuit_l4.specs.declared.pair.Pair.{Pair}
 use Rattle.circuit_l4.specs.declared.transport.Transport.TheVariants.{Accept}
 use Rattle.circuit_l4.specs.declared.config.EndConfig.{EndConfig}
 use Rattle.circuit_l4.specs.declared.facts.EndFacts.{EndFacts}

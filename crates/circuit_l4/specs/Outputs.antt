@@ -1,7 +1,7 @@
 -- What waits to be put out, and what it is once it is fetched.
 use Rattle.std.specs.Prelude.{ℕ, ◌-◌, ◌%◌, Bool, false, List, [], map, slice_get, unwrap_or, None, Some}
 use Rattle.circuit_reassembly.specs.Fragments.{Fragment}
-use Rattle.circuit_l4.specs.declared.transport.Pair.{Pair}
+use Rattle.circuit_l4.specs.declared.pair.Pair.{Pair}
 use Rattle.circuit_l4.specs.declared.transport.Transport.TheVariants as transport
 use Rattle.circuit_l4.specs.declared.output.Output.{Output}
 use Rattle.circuit_l4.specs.declared.output.Output.TheVariants.{Request, Accept, Disconnect, Disconnected, Info, InfoAck}

@@ -4,7 +4,7 @@ use Rattle.std.specs.Prelude.{◌≡◌, ℕ, ◌-◌, Bool, List, [], Option, N
 use Rattle.std.specs.Option.{option_to_list}
 use Rattle.circuit_l4.specs.declared.machine.Machine.{Machine}
 use Rattle.circuit_l4.specs.declared.role.Role.{Role}
-use Rattle.circuit_l4.specs.declared.transport.Pair.{Pair}
+use Rattle.circuit_l4.specs.declared.pair.Pair.{Pair}
 use Rattle.circuit_l4.specs.declared.config.EndConfig.{EndConfig}
 use Rattle.circuit_l4.specs.declared.phase.EndPhase.{EndPhase}
 use Rattle.circuit_l4.specs.declared.notice.EndNotice.{EndNotice}

@@ -3,7 +3,7 @@
 use Rattle.std.specs.Prelude.{ℕ, zero, suc, ◌%◌, Bool, true, false, List, [], ◌∷◌, ◌++◌, slice_get, Option, Some, None, ◌+◌, ◌-◌, nat_le, if◌then◌else◌, length, ◌^◌, not, ◌||◌, nat_eq, nat_lt, drop, slice_set}
 use Rattle.circuit_reassembly.specs.Fragments.{Fragment, fragments_of, Answer, More, Whole, Too_long, gather_step}
 use Rattle.radio_base.specs.Modulus.{place_of}
-use Rattle.circuit_l4.specs.declared.transport.Pair.{Pair}
+use Rattle.circuit_l4.specs.declared.pair.Pair.{Pair}
 use Rattle.circuit_l4.specs.declared.transport.Transport.{Transport}
 use Rattle.circuit_l4.specs.declared.transport.Transport.TheVariants.{Info, InfoAck}
 use Rattle.circuit_l4.specs.declared.config.EndConfig.{EndConfig}

@@ -2,7 +2,7 @@
 -- this project's profile). An input that the table doesn't name does nothing.
 use Rattle.std.specs.Prelude.{ℕ, suc, ◌+◌, ◌^◌, min, max, Bool, true, false, not, ◌&&◌, nat_eq, nat_lt, nat_le, if◌then◌else◌, List, length, Option, Some, None, Result, Ok, Err, is_ok}
 use Rattle.circuit_reassembly.specs.Fragments.{fragments_of}
-use Rattle.circuit_l4.specs.declared.transport.Pair.{Pair}
+use Rattle.circuit_l4.specs.declared.pair.Pair.{Pair}
 use Rattle.circuit_l4.specs.declared.transport.Flags.{Flags}
 use Rattle.circuit_l4.specs.declared.piece.Piece.{Piece}
 use Rattle.circuit_l4.specs.declared.transport.Transport.{Transport}

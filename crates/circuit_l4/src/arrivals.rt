@@ -6,9 +6,10 @@ use crate::info::Info;
 use crate::machine::Machine;
 use crate::notice::EndNotice;
 use crate::output::Output;
+use crate::pair::Pair;
 use crate::phase::EndPhase;
 use crate::piece::piece_of;
-use crate::transport::{Flags, Pair, Transport};
+use crate::transport::{Flags, Transport};
 use radio_base::Millis;
 
 /// The window that both ends take: that of the other end, at most the own one, and at least 1.

@@ -1,7 +1,7 @@
 //! How an end of a circuit begins.
+use crate::pair::Pair;
 use crate::phase::EndPhase;
 use crate::role::Role;
-use crate::transport::Pair;
 
 /// How a machine begins.
 #[derive(Clone, Copy, Debug, PartialEq, Eq)]

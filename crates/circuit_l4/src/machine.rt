@@ -9,9 +9,9 @@ use crate::incoming::Incoming;
 use crate::notice::EndNotice;
 use crate::outgoing::Outgoing;
 use crate::output::{Out, Output};
+use crate::pair::Pair;
 use crate::phase::EndPhase;
 use crate::role::Role;
-use crate::transport::Pair;
 use circular_buffer::HeapCircularBuffer;
 use radio_base::Millis;
 

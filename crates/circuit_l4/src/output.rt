@@ -3,7 +3,8 @@ ghost use Rattle.std.specs.Prelude.{◌≡◌, ◌-◌, Some};
 ghost use Rattle.circuit_l4.specs.Outputs.{fragment_from, out_of, with_text};
 
 use crate::outgoing::Outgoing;
-use crate::transport::{Flags, Pair, Transport};
+use crate::pair::Pair;
+use crate::transport::{Flags, Transport};
 use ax_address::Call;
 use radio_base::{M256, Modulus};
 

@@ -1,4 +1,5 @@
 //! What the ends of a circuit say to each other (NET/ROM, Appendix B, level 4).
+use crate::pair::Pair;
 use arrayvec::ArrayVec;
 use ax_address::Call;
 
@@ -8,13 +9,6 @@ pub const MAX_TRANSPORT: usize = 241;
 pub const MAX_TEXT: usize = 236;
 /// How many octets each transport begins with.
 pub(crate) const HEAD_SIZE: usize = 5;
-
-/// How a node names one end of a circuit: its index and its identification (NET/ROM, Appendix B).
-#[derive(Clone, Copy, Debug, Default, PartialEq, Eq)]
-pub struct Pair {
-    pub index: u8,
-    pub ident: u8,
-}
 
 /// The flags in the opcode octet (NET/ROM, Appendix B).
 #[derive(Clone, Copy, Debug, Default, PartialEq, Eq)]

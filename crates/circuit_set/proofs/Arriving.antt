@@ -4,15 +4,15 @@ use Rattle.std.proofs.Common.{sym, ◌∙◌, ap, subst}
 use Rattle.std.specs.Map.{lookup}
 use Rattle.ax_address.specs.Callsign.{Callsign}
 use Rattle.arrayvec.specs.ArrayVec.{ArrayVec}
-use Rattle.circuit_l4.specs.declared.transport.Pair.{Pair}
+use Rattle.circuit_l4.specs.declared.pair.Pair.{Pair}
 use Rattle.circuit_l4.specs.declared.transport.Transport.{Transport}
 use Rattle.circuit_l4.specs.State.{State}
 use Rattle.circuit_l4.specs.Standing.{StandsFor}
 use Rattle.circuit_l4.specs.Table.{Arrive, step}
 use Rattle.circuit_set.specs.declared.event.SetEvent.TheVariants as event
 use Rattle.circuit_set.specs.declared.holder.Holder.{Holder}
-use Rattle.circuit_set.specs.declared.holder.Untold.{Untold}
-use Rattle.circuit_set.specs.declared.holder.Untold.TheVariants as untold
+use Rattle.circuit_set.specs.declared.untold.Untold.{Untold}
+use Rattle.circuit_set.specs.declared.untold.Untold.TheVariants as untold
 use Rattle.circuit_set.specs.declared.held_ends.HeldEnds.{HeldEnds}
 use Rattle.circuit_set.specs.Sets.{heeds, SetDone, SetState, CircuitTold, arrives_at, end_of, first_open, goes_to, hands_to, named_by}
 use Rattle.circuit_set.specs.Sets as sets

@@ -1,7 +1,7 @@
 -- What comes too late by the book comes too late by the events, and the other way round.
 use Rattle.std.specs.Prelude.{◌≡◌, ℕ, suc, ◌+◌, ◌-◌, ◌*◌, ◌<◌, Bool, true, false, if◌then◌else◌, List, [], ◌∷◌, ◌++◌, length, Contains, Option, Some, None, refl}
 use Rattle.std.proofs.Common.{sym, ◌∙◌, ap, subst, inl, inr, arith, append_assoc, length-append}
-use Rattle.circuit_l4.specs.declared.transport.Pair.{Pair}
+use Rattle.circuit_l4.specs.declared.pair.Pair.{Pair}
 use Rattle.circuit_set.specs.Books.{Book, Fresh, FreshTold, HasRequester, MadeNote, NoOther, SentNote, Timely, TimelyTo, TimelyTold, any_ends, empty, is_lost, is_unknown, latest_in, overtakers, partner_in, was_asked}
 use Rattle.circuit_set.specs.Events.{Event, Name}
 use Rattle.circuit_set.specs.NotedRuns.{allowance, allowance_at, opened_window, partner_allowance, told_to}

@@ -1,6 +1,6 @@
 -- A step that goes one of two ways, and who an end is.
 use Rattle.std.specs.Prelude.{ℕ, Bool, true, false, if◌then◌else◌, None}
-use Rattle.circuit_l4.specs.declared.transport.Pair.{Pair}
+use Rattle.circuit_l4.specs.declared.pair.Pair.{Pair}
 use Rattle.circuit_l4.specs.declared.config.EndConfig.{EndConfig}
 use Rattle.circuit_l4.specs.declared.role.Role.{Role}
 use Rattle.circuit_l4.specs.State.{Effect, State}

@@ -5,8 +5,8 @@ use Rattle.ax_address.specs.Callsign.{Callsign, same_call}
 use Rattle.route_table.specs.Log.{Item}
 use Rattle.route_table.specs.Held.{TableRoutes, StandsFor}
 use Rattle.route_table.specs.Table.{next_hop}
-use Rattle.circuit_set.specs.declared.event.ConnectRefusal.{ConnectRefusal}
-use Rattle.circuit_set.specs.declared.event.ConnectRefusal.TheVariants as refusal
+use Rattle.circuit_set.specs.declared.refusal.ConnectRefusal.{ConnectRefusal}
+use Rattle.circuit_set.specs.declared.refusal.ConnectRefusal.TheVariants as refusal
 
 -- the answer by its three tests: the node is this one, no route leads to it, no further end can be held
 abbrev answer : Bool → Bool → Bool → ℕ → Result ℕ ConnectRefusal

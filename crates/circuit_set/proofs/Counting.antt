@@ -4,7 +4,7 @@ use Rattle.std.proofs.Common.{sym, ◌∙◌, ap, subst, arith, cond, inl, inr}
 use Rattle.std.proofs.lemmas.Bool.Decides.{nat_tests}
 use Rattle.std.specs.Map.{lookup, remove_entry, set_value}
 use Rattle.indexmap.specs.IndexMap.{insert_entry}
-use Rattle.circuit_l4.specs.declared.transport.Pair.{Pair}
+use Rattle.circuit_l4.specs.declared.pair.Pair.{Pair}
 use Rattle.circuit_l4.specs.declared.transport.Transport.{Transport}
 use Rattle.circuit_l4.specs.declared.config.EndConfig.{EndConfig}
 use Rattle.circuit_l4.specs.declared.notice.EndNotice.{EndNotice}
@@ -12,7 +12,7 @@ use Rattle.circuit_l4.specs.Opening.{responding}
 use Rattle.circuit_l4.specs.State.{Effect}
 use Rattle.circuit_l4.specs.Standing.{Stands}
 use Rattle.circuit_set.specs.declared.holder.Holder.{Holder}
-use Rattle.circuit_set.specs.declared.holder.Untold.{Untold}
+use Rattle.circuit_set.specs.declared.untold.Untold.{Untold}
 use Rattle.circuit_set.specs.declared.held_ends.HeldEnds.{HeldEnds}
 use Rattle.circuit_set.specs.Standing.{Brings, FallsBy, FirstLoud, Hands, Holds, NextOf, is_last, left_at, left_of, untold_at, untold_in}
 

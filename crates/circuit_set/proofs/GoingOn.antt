@@ -2,7 +2,7 @@
 use Rattle.std.specs.Prelude.{◌≡◌, ℕ, true, false, is_some, Bool, List, [], ◌∷◌, Option, Some, None, Result, Ok, Err, OnOk, refl}
 use Rattle.std.proofs.Common.{sym, ◌∙◌, ap, subst}
 use Rattle.std.proofs.lemmas.List.{append-nil}
-use Rattle.radio_base.specs.declared.errors.NoMemory.{NoMemory}
+use Rattle.radio_base.specs.declared.no_memory.NoMemory.{NoMemory}
 use Rattle.ax_address.specs.Callsign.{Callsign}
 use Rattle.route_table.specs.Log.{Item}
 use Rattle.route_table.specs.Held.{StandsFor}
@@ -14,7 +14,7 @@ use Rattle.l3_datagram.specs.Datagrams.{CarrierCall, Parcel}
 use Rattle.circuit_set.specs.declared.event.SetEvent.{SetEvent}
 use Rattle.circuit_set.specs.declared.event.SetEvent.TheVariants as event
 use Rattle.circuit_set.specs.declared.held_ends.HeldEnds.{HeldEnds}
-use Rattle.circuit_set.specs.declared.holder.Untold.{Untold}
+use Rattle.circuit_set.specs.declared.untold.Untold.{Untold}
 use Rattle.circuit_set.specs.Sets.{SetState, CircuitTold}
 use Rattle.circuit_set.specs.Pumps.{Dropped, Pumped, asks, at_rest, ends_with, is_empty, pump_step, says_nothing, tells_first, turn_step}
 use Rattle.circuit_set.specs.Standing.{FirstLoud, Gives, HeldStands}

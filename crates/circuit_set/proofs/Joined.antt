@@ -5,7 +5,7 @@ use Rattle.ax_address.specs.Callsign.{Callsign}
 use Rattle.l3_datagram.specs.declared.datagram.DatagramHead.{DatagramHead}
 use Rattle.l3_datagram.specs.declared.datagram.DatagramRefusal.{DatagramRefusal}
 use Rattle.l3_datagram.specs.Datagrams.{head_at}
-use Rattle.circuit_l4.specs.declared.transport.Pair.{Pair}
+use Rattle.circuit_l4.specs.declared.pair.Pair.{Pair}
 use Rattle.circuit_l4.specs.Transports.{pair_at}
 use Rattle.circuit_set.specs.Books.{Book, Fresh, FreshTold, HasRequester, MadeNote, asked_by, empty, first_name, has_sent, if_asked, is_unknown, made_last, with_event, partner_in, requester, was_asked}
 use Rattle.circuit_set.specs.Events.{Event, Name, same_name}

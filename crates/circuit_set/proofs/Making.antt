@@ -6,7 +6,7 @@ use Rattle.std.proofs.lemmas.List.{append_assoc, append-nil}
 use Rattle.std.specs.Map.{lookup, set_value}
 use Rattle.radio_base.specs.declared.modulus.TheConstants.{COUNT_MAX}
 use Rattle.ax_address.specs.Callsign.{Callsign, same_call}
-use Rattle.circuit_l4.specs.declared.transport.Pair.{Pair}
+use Rattle.circuit_l4.specs.declared.pair.Pair.{Pair}
 use Rattle.circuit_l4.specs.State.{Effect, State}
 use Rattle.circuit_l4.specs.Standing.{EndView, Stands, StandsFor}
 use Rattle.circuit_set.specs.declared.holder.Holder.{Holder}
@@ -14,7 +14,7 @@ use Rattle.circuit_set.specs.declared.held_ends.HeldEnds.{HeldEnds}
 use Rattle.circuit_set.specs.Pairs.{pair_after, next_free}
 use Rattle.circuit_set.specs.Sets as sets
 use Rattle.circuit_set.specs.declared.event.SetEvent.TheVariants as event
-use Rattle.circuit_set.specs.declared.holder.Untold.TheVariants as untold
+use Rattle.circuit_set.specs.declared.untold.Untold.TheVariants as untold
 use Rattle.circuit_set.specs.Sets.{SetState, CircuitTold, end_of, with_end, held_pairs, is_over, notices, told_by}
 use Rattle.arrayvec.specs.ArrayVec.{ArrayVec}
 use Rattle.circuit_l4.specs.Opening.{facts_of, requesting, responding}
@@ -24,7 +24,7 @@ use Rattle.circuit_set.specs.Standing.{FirstFit, Gives, EachStands, HeldStands, 
 use Rattle.circuit_l4.specs.declared.transport.Transport.TheVariants.{Accept, Refuse}
 use Rattle.circuit_set.proofs.Holding.{At, at, some_is, stood}
 use Rattle.circuit_set.proofs.Searching.{Fitting, fitting, unfitting}
-use Rattle.circuit_set.specs.declared.holder.Untold.{Untold}
+use Rattle.circuit_set.specs.declared.untold.Untold.{Untold}
 use Rattle.circuit_set.proofs.Moving.{IsQuiet, not_gone, nothing, quiet, sents_is, set_back, so_is}
 
 module _ (own : Callsign) (ttl : ℕ) where

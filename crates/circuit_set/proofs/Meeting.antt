@@ -16,7 +16,7 @@ use Rattle.circuit_l4.specs.State.{Effect, State, begin, is_up, Appended, Receip
 use Rattle.circuit_l4.specs.Moves.{acknowledge, acknowledge_by, advance, again, answer, answer_all, wait, wait_if_out, on_state, hold, begin_to_close, end_with, fill, fill_count, finish, with_receiving, is_done, is_silent, on_info, on_info_ack, put_out, emit_owed, supply, emit_ack}
 use Rattle.circuit_l4.specs.Table.{Input, Write, Arrive, Tick, Close, Take, arrive_in, ask_by, close_in_turn, due_in, expire, note_activity, is_due, may_close, unchoke, resume_by, retry, retry_in, step, step_at, take_from, write_answer, write}
 use Rattle.std.proofs.Common.{sym, ap, ◌∙◌}
-use Rattle.circuit_l4.specs.declared.transport.Pair.{Pair}
+use Rattle.circuit_l4.specs.declared.pair.Pair.{Pair}
 use Rattle.circuit_set.specs.Standing.{Met, MetBy, is_connecting}
 use Rattle.circuit_set.proofs.Choices.{either, either_going, on_due}
 

@@ -12,8 +12,8 @@ use Rattle.circuit_l4.specs.Table as end
 use Rattle.circuit_l4.specs.Halves.{first_or}
 use Rattle.circuit_l4.specs.declared.notice.EndNotice.{EndNotice}
 use Rattle.circuit_l4.specs.declared.refusal.WriteRefusal.{WriteRefusal}
-use Rattle.circuit_set.specs.declared.event.SetRefusal.TheVariants as set_refusal
-use Rattle.circuit_set.specs.declared.event.DiscardRefusal.TheVariants as discard_refusal
+use Rattle.circuit_set.specs.declared.refusal.SetRefusal.TheVariants as set_refusal
+use Rattle.circuit_set.specs.declared.refusal.DiscardRefusal.TheVariants as discard_refusal
 use Rattle.circuit_set.specs.declared.holder.Holder.{Holder}
 use Rattle.circuit_set.specs.declared.held_ends.HeldEnds.{HeldEnds}
 use Rattle.circuit_set.specs.Sets as sets

@@ -7,7 +7,7 @@ use Rattle.ax_address.specs.Callsign.{Callsign, same_call}
 use Rattle.l3_datagram.specs.declared.datagram.DatagramHead.{DatagramHead}
 use Rattle.l3_datagram.specs.declared.datagram.DatagramRefusal.{DatagramRefusal}
 use Rattle.l3_datagram.specs.Datagrams.{head_at}
-use Rattle.circuit_l4.specs.declared.transport.Pair.{Pair}
+use Rattle.circuit_l4.specs.declared.pair.Pair.{Pair}
 use Rattle.circuit_l4.specs.Transports.{pair_at}
 use Rattle.circuit_set.specs.Pairs.{IsPair, is_used}
 use Rattle.circuit_set.specs.Sets.{Holder, SetState, end_of, has_ended, held_pairs, is_open, same_pair}

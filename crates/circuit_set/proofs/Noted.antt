@@ -4,7 +4,7 @@ use Rattle.std.proofs.Common.{sym, ◌∙◌, ap, subst, inl, inr, arith}
 use Rattle.std.proofs.lemmas.Bool.Decides.{nat_tests}
 use Rattle.std.specs.Cmp.Lexicographic.{pointwise}
 use Rattle.ax_address.specs.Callsign.{Callsign, same_call}
-use Rattle.circuit_l4.specs.declared.transport.Pair.{Pair}
+use Rattle.circuit_l4.specs.declared.pair.Pair.{Pair}
 use Rattle.circuit_set.specs.TooLate.{Has, Last}
 use Rattle.circuit_set.specs.Books.{Book, Fresh, FreshFrom, Timely, TimelyTold, FreshTold, empty, lost_with, with_event, with_events}
 use Rattle.circuit_set.specs.Events.{Event, Name, same_name}

@@ -2,7 +2,7 @@
 use Rattle.std.specs.Prelude.{◌≡◌, ◌≢◌, ℕ, ◌+◌, ◌*◌, ◌-◌, ◌≤◌, ◌<◌, ◌/◌, ◌%◌, Bool, true, false, if◌then◌else◌, List, [], ◌∷◌, ◌++◌, map, length, get_or, slice_get, nat_eq, nat_lt, zero, suc, Some, refl}
 use Rattle.std.proofs.Common.{sym, ◌∙◌, ap, arith}
 use Rattle.std.proofs.lemmas.Bool.Decides.{nat_tests}
-use Rattle.circuit_l4.specs.declared.transport.Pair.{Pair}
+use Rattle.circuit_l4.specs.declared.pair.Pair.{Pair}
 use Rattle.circuit_set.specs.Pairs.{Change, EndMade, Giving, EndGone, IsPair, PairsDiffer, pair_after, after_giving, pair_given, is_full, is_used, next_free, pairs_given, without}
 use Rattle.circuit_set.proofs.Walks.{Walk, full, give_next, gone, next_place, give, places, skip, started, used}
 use Rattle.circuit_set.proofs.Places.{PlacesOk, Rising, all_places, started_ok}

@@ -2,7 +2,7 @@
 use Rattle.std.specs.Prelude.{◌≡◌, ℕ, List, Option, Some, None, Result, Ok, Err, OnOk, refl}
 use Rattle.std.proofs.Common.{sym, ◌∙◌, ap, subst}
 use Rattle.std.proofs.lemmas.List.{append-nil}
-use Rattle.radio_base.specs.declared.errors.NoMemory.{NoMemory}
+use Rattle.radio_base.specs.declared.no_memory.NoMemory.{NoMemory}
 use Rattle.ax_address.specs.Callsign.{Callsign}
 use Rattle.route_table.specs.Log.{Item}
 use Rattle.route_table.specs.Held.{StandsFor}
@@ -11,7 +11,7 @@ use Rattle.l3_datagram.specs.declared.carrier.Offered.TheVariants as offered
 use Rattle.l3_datagram.specs.declared.datagram.DatagramHead.{DatagramHead}
 use Rattle.l3_datagram.specs.declared.datagram.DatagramRefusal.{DatagramRefusal}
 use Rattle.l3_datagram.specs.declared.routed.Routed.{Routed}
-use Rattle.l3_datagram.specs.declared.routed.Sending.{Sending}
+use Rattle.l3_datagram.specs.declared.sending.Sending.{Sending}
 use Rattle.l3_datagram.specs.Datagrams.{CarrierCall, Datagram, datagram_with, head_at}
 use Rattle.l3_datagram.specs.Routers.{sending_to, sent_by, DoesSend, Routing, SameRouter}
 use Rattle.circuit_l4.specs.declared.transport.Transport.{Transport}

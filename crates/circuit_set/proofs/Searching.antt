@@ -4,7 +4,7 @@ use Rattle.std.proofs.Common.{sym, ◌∙◌, ap, subst, inl, inr, arith}
 use Rattle.std.specs.Map.{lookup, set_value, remove_entry}
 use Rattle.ax_address.specs.Callsign.{Callsign}
 use Rattle.circuit_set.specs.declared.holder.Holder.{Holder}
-use Rattle.circuit_set.specs.declared.holder.Untold.{Untold}
+use Rattle.circuit_set.specs.declared.untold.Untold.{Untold}
 use Rattle.circuit_set.specs.declared.held_ends.HeldEnds.{HeldEnds}
 use Rattle.circuit_set.specs.Sets as sets
 use Rattle.circuit_set.specs.Sets.{SetDone, SetState, CircuitTold, end_of, first_open, has_ended, is_open, heeds}

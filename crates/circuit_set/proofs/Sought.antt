@@ -2,7 +2,7 @@
 use Rattle.std.specs.Prelude.{◌≡◌, ℕ, suc, ◌+◌, ◌⊎◌, Bool, true, false, ◌&&◌, if◌then◌else◌, List, [], ◌∷◌, ◌++◌, length, Option, Some, None, refl}
 use Rattle.std.proofs.Common.{sym, ◌∙◌, ap, subst, inl, inr, arith, length-append}
 use Rattle.ax_address.specs.Callsign.{Callsign, same_call}
-use Rattle.circuit_l4.specs.declared.transport.Pair.{Pair}
+use Rattle.circuit_l4.specs.declared.pair.Pair.{Pair}
 use Rattle.circuit_l4.specs.declared.notice.EndNotice.{EndNotice}
 use Rattle.circuit_set.specs.TooLate.{Last, Gives, LatestSending, Loses, SendsCopy, SendsFragment, Tells}
 use Rattle.circuit_set.specs.Books.{Book, MadeNote, SentNote, has, has_sent, is_lost, is_number, latest_in, lost_with, made_last, with_event, with_notice}

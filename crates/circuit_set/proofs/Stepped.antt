@@ -2,7 +2,7 @@
 use Rattle.std.specs.Prelude.{◌≡◌, ◌≢◌, ℕ, ◌⊎◌, Bool, true, false, nat_eq, if◌then◌else◌, [], ◌∷◌, ◌++◌, slice_get, slice_set, Option, Some, None, refl}
 use Rattle.std.proofs.Common.{sym, ◌∙◌, ap, subst, inl, inr, arith}
 use Rattle.std.proofs.lemmas.Bool.Decides.{nat_tests}
-use Rattle.circuit_l4.specs.declared.transport.Pair.{Pair}
+use Rattle.circuit_l4.specs.declared.pair.Pair.{Pair}
 use Rattle.circuit_l4.specs.State.{State}
 use Rattle.circuit_set.specs.Sets.{Holder, SetState, end_of, has_ended, after_restart, with_end}
 use Rattle.circuit_set.specs.Books.{Book}

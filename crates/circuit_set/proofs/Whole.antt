@@ -5,7 +5,7 @@ use Rattle.std.proofs.lemmas.List.{take_all, take-take}
 use Rattle.radio_base.specs.declared.modulus.TheConstants.{COUNT_MAX}
 use Rattle.ax_address.specs.Callsign.{Callsign}
 use Rattle.circuit_reassembly.specs.Fragments.{Fragment}
-use Rattle.circuit_l4.specs.declared.transport.Pair.{Pair}
+use Rattle.circuit_l4.specs.declared.pair.Pair.{Pair}
 use Rattle.circuit_l4.specs.declared.transport.Transport.TheVariants.{Request, Accept, Refuse, Disconnect, Disconnected, Info, InfoAck}
 use Rattle.circuit_l4.specs.declared.config.EndConfig.{EndConfig}
 use Rattle.circuit_l4.specs.declared.phase.EndPhase.{EndPhase}

@@ -1,6 +1,6 @@
 -- The pairs that a set gives its ends, as it tells them.
 use Rattle.std.specs.Prelude.{◌≡◌, ◌≢◌, ℕ, ◌<◌, if◌then◌else◌, List, [], ◌∷◌, slice_get, Some}
-use Rattle.circuit_l4.specs.declared.transport.Pair.{Pair}
+use Rattle.circuit_l4.specs.declared.pair.Pair.{Pair}
 use Rattle.circuit_set.specs.Pairs.{Change, EndMade, Giving, EndGone, IsPair, after_giving, is_full, pairs_given, without}
 use Rattle.circuit_set.specs.Sets.{Act, Made, Restart, SetDone, SetState, CircuitTold, held_pairs}
 use Rattle.circuit_set.specs.Pumps.{runs}

@@ -1,7 +1,7 @@
 -- For which end a set heeds a datagram.
 use Rattle.std.specs.Prelude.{ℕ, ◌≡◌, true, List, [], ◌∷◌, drop, Option, Some, None, Ok, Contains}
 use Rattle.circuit_l4.specs.Transports.{transport_at}
-use Rattle.circuit_l4.specs.declared.transport.Pair.{Pair}
+use Rattle.circuit_l4.specs.declared.pair.Pair.{Pair}
 use Rattle.circuit_l4.specs.declared.transport.Transport.{Transport}
 use Rattle.circuit_l4.specs.declared.transport.Transport.TheVariants.{Request, Accept, Refuse, Disconnect, Disconnected, Info, InfoAck}
 use Rattle.l3_datagram.specs.Datagrams.{head_at}

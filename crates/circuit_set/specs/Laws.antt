@@ -1,7 +1,7 @@
 -- What is promised of one circuit by itself.
 use Rattle.std.specs.Prelude.{ℕ, ◌+◌, ◌*◌, ◌≤◌, List}
 use Rattle.ax_address.specs.Callsign.{Callsign}
-use Rattle.circuit_l4.specs.declared.transport.Pair.{Pair}
+use Rattle.circuit_l4.specs.declared.pair.Pair.{Pair}
 use Rattle.circuit_l4.specs.declared.config.EndConfig.{EndConfig}
 use Rattle.circuit_l4.specs.Table.{common_window}
 use Rattle.circuit_set.specs.Circuits.{Circuit, Event, InTimeAll, SafeTo, new_circuit, run}

@@ -14,8 +14,8 @@ use Rattle.l3_datagram.specs.declared.routed.Routed.TheVariants as routed
 use Rattle.l3_datagram.specs.Datagrams.{CarrierCall, Datagram, Parcel, Collect, Fail, Offer, head_at}
 use Rattle.l3_datagram.specs.Routers.{Way, Ends, ToNeighbour, forwarded_by, way}
 use Rattle.circuit_set.specs.Sets.{SetDone, SetState, CircuitTold, Sent, Comes, set_step, Act, Calls, Holder, Ticks, is_full, does_nothing}
-use Rattle.circuit_set.specs.declared.event.ConnectRefusal.{ConnectRefusal}
-use Rattle.circuit_set.specs.declared.event.ConnectRefusal.TheVariants as refusal
+use Rattle.circuit_set.specs.declared.refusal.ConnectRefusal.{ConnectRefusal}
+use Rattle.circuit_set.specs.declared.refusal.ConnectRefusal.TheVariants as refusal
 
 -- a set between its calls: what is untold, and what a sending that was told came to, where it came to nothing
 pub record Waiting : Type 0 where

@@ -6,7 +6,7 @@ use Rattle.l3_datagram.specs.Datagrams.{head_at}
 use Rattle.l3_datagram.specs.declared.datagram.DatagramHead.{DatagramHead}
 use Rattle.l3_datagram.specs.declared.datagram.TheConstants.{HEAD_SIZE}
 use Rattle.circuit_l4.specs.Transports.{transport_at}
-use Rattle.circuit_l4.specs.declared.transport.Pair.{Pair}
+use Rattle.circuit_l4.specs.declared.pair.Pair.{Pair}
 use Rattle.circuit_l4.specs.declared.transport.Transport.TheVariants.{Request}
 use Rattle.circuit_set.specs.Books.{Book, FreshTold, MadeNote, any_ends, empty, has_sent, lost_with, made_last, with_event}
 use Rattle.circuit_set.specs.Events.{Event, Name, is_copy}

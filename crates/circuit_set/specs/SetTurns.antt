@@ -7,12 +7,12 @@ use Rattle.route_table.specs.Table.{next_hop}
 use Rattle.l3_datagram.specs.declared.carrier.Offered.{Offered}
 use Rattle.l3_datagram.specs.declared.routed.Routed.{Routed}
 use Rattle.l3_datagram.specs.declared.routed.Routed.TheVariants as routed
-use Rattle.l3_datagram.specs.declared.routed.Sending.{Sending}
-use Rattle.l3_datagram.specs.declared.routed.Sending.TheVariants as sending
+use Rattle.l3_datagram.specs.declared.sending.Sending.{Sending}
+use Rattle.l3_datagram.specs.declared.sending.Sending.TheVariants as sending
 use Rattle.l3_datagram.specs.Datagrams.{CarrierCall, Fail, Parcel}
 use Rattle.l3_datagram.specs.Routers.{SameRouter}
 use Rattle.circuit_set.specs.declared.event.SetEvent.{SetEvent}
-use Rattle.circuit_set.specs.declared.holder.Untold.{Untold}
+use Rattle.circuit_set.specs.declared.untold.Untold.{Untold}
 use Rattle.circuit_set.specs.Sets.{SetState, CircuitTold}
 use Rattle.circuit_set.specs.Pumps.{Pumped, after_calls, asks, at_rest, ends_with, heard_as, hears_lost, says_nothing, takes, tells_first, tells_on, turn_step}
 use Rattle.circuit_set.specs.Standing.{Rests, told_for}

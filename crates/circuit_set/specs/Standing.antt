@@ -7,25 +7,25 @@ use Rattle.ax_address.specs.Callsign.{Callsign}
 use Rattle.l3_datagram.specs.Datagrams.{octets_with}
 use Rattle.circuit_l4.specs.declared.phase.EndPhase.{EndPhase}
 use Rattle.circuit_l4.specs.declared.phase.EndPhase.TheVariants.{Connecting}
-use Rattle.circuit_l4.specs.declared.transport.Pair.{Pair}
+use Rattle.circuit_l4.specs.declared.pair.Pair.{Pair}
 use Rattle.circuit_l4.specs.declared.transport.Transport.{Transport}
 use Rattle.circuit_l4.specs.State.{Effect, Out, State, inbox}
 use Rattle.circuit_l4.specs.declared.refusal.WriteRefusal.{WriteRefusal}
 use Rattle.circuit_l4.specs.Table as end
 use Rattle.circuit_l4.specs.Halves.{first_or}
 use Rattle.circuit_l4.specs.Opening.{facts_of}
-use Rattle.circuit_set.specs.declared.event.SetRefusal.{SetRefusal}
-use Rattle.circuit_set.specs.declared.event.SetRefusal.TheVariants as set_refusal
-use Rattle.circuit_set.specs.declared.event.DiscardRefusal.{DiscardRefusal}
-use Rattle.circuit_set.specs.declared.event.DiscardRefusal.TheVariants as discard_refusal
-use Rattle.circuit_set.specs.declared.event.NoEnd.{NoEnd}
+use Rattle.circuit_set.specs.declared.refusal.SetRefusal.{SetRefusal}
+use Rattle.circuit_set.specs.declared.refusal.SetRefusal.TheVariants as set_refusal
+use Rattle.circuit_set.specs.declared.refusal.DiscardRefusal.{DiscardRefusal}
+use Rattle.circuit_set.specs.declared.refusal.DiscardRefusal.TheVariants as discard_refusal
+use Rattle.circuit_set.specs.declared.refusal.NoEnd.{NoEnd}
 use Rattle.circuit_l4.specs.Standing.{IsDrained, EndView, Stands, StandsFor}
 use Rattle.circuit_l4.specs.Transports.{transport_octets}
 use Rattle.circuit_set.specs.declared.event.SetEvent.{SetEvent}
 use Rattle.circuit_set.specs.declared.event.SetEvent.TheVariants as event
 use Rattle.circuit_set.specs.declared.holder.Holder.{Holder}
-use Rattle.circuit_set.specs.declared.holder.Untold.{Untold}
-use Rattle.circuit_set.specs.declared.holder.Untold.TheVariants as untold
+use Rattle.circuit_set.specs.declared.untold.Untold.{Untold}
+use Rattle.circuit_set.specs.declared.untold.Untold.TheVariants as untold
 use Rattle.circuit_set.specs.declared.held_ends.HeldEnds.{HeldEnds}
 use Rattle.indexmap.specs.IndexMap.{insert_entry}
 use Rattle.indexmap.specs.IndexMap.{set_value_at}

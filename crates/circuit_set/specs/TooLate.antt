@@ -5,7 +5,7 @@ use Rattle.std.specs.List.{AllByRecursion, IsDistinct}
 use Rattle.ax_address.specs.Callsign.{Callsign}
 use Rattle.l3_datagram.specs.declared.datagram.DatagramHead.{DatagramHead}
 use Rattle.l3_datagram.specs.Datagrams.{head_at}
-use Rattle.circuit_l4.specs.declared.transport.Pair.{Pair}
+use Rattle.circuit_l4.specs.declared.pair.Pair.{Pair}
 use Rattle.circuit_l4.specs.declared.facts.EndFacts.{EndFacts}
 use Rattle.circuit_l4.specs.declared.notice.EndNotice.{EndNotice}
 use Rattle.circuit_l4.specs.declared.notice.EndNotice.TheVariants.{Opened}

@@ -1,6 +1,6 @@
-//! What a set tells, and why it refuses.
+//! What a set tells.
 use ax_address::Call;
-use circuit_l4::{EndFacts, EndNotice, Pair, WriteRefusal};
+use circuit_l4::{EndFacts, EndNotice, Pair};
 use l3_datagram::{Datagram, Routed};
 
 /// What has happened at a node's circuits. An end is named by its number.
@@ -39,41 +39,4 @@ pub enum SetEvent {
         id: u64,
         facts: EndFacts,
     },
-}
-
-/// Why no circuit is asked for.
-#[derive(Clone, Copy, Debug, PartialEq, Eq)]
-pub enum ConnectRefusal {
-    /// The node is this one.
-    Own,
-    /// No route leads to it.
-    NoRoute,
-    /// 64 ends are held, or the numbers of ends have come to their end.
-    Full,
-    /// There is no memory.
-    NoMemory,
-}
-
-/// Why a message isn't accepted.
-#[derive(Clone, Copy, Debug, PartialEq, Eq)]
-pub enum SetRefusal {
-    /// No end of that number is held.
-    NoEnd,
-    /// The end doesn't accept it.
-    Write(WriteRefusal),
-    /// Memory ran out in an earlier call.
-    NoMemory,
-}
-
-/// No end of that number is held.
-#[derive(Clone, Copy, Debug, PartialEq, Eq)]
-pub struct NoEnd;
-
-/// Why an end isn't discarded.
-#[derive(Clone, Copy, Debug, PartialEq, Eq)]
-pub enum DiscardRefusal {
-    /// No end of that number is held.
-    NoEnd,
-    /// The circuit hasn't ended.
-    NotEnded,
 }

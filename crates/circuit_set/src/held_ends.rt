@@ -7,10 +7,11 @@ ghost use Rattle.circuit_set.specs.Sets as sets;
 ghost use Rattle.circuit_set.specs.Still.{OthersAreStill, OthersAreStill-prop};
 
 use crate::MAX_ENDS;
-use crate::event::{DiscardRefusal, NoEnd, SetRefusal};
-use crate::holder::{Holder, Untold, is_last};
+use crate::holder::Holder;
 use crate::loud::Loud;
 use crate::pair_order::{next_free, pair_after};
+use crate::refusal::{DiscardRefusal, NoEnd, SetRefusal};
+use crate::untold::{Untold, is_last};
 use ax_address::Call;
 use circuit_l4::{End, EndConfig, Pair};
 use indexmap::IndexMap;
@@ -40,7 +41,7 @@ pub(crate) struct HeldEnds {
 
 impl HeldEnds {
     ghost use Rattle.circuit_set.specs.Pumps.{is_empty, after_ticks};
-    ghost use Rattle.circuit_set.specs.declared.event.SetRefusal.TheVariants as refusals;
+    ghost use Rattle.circuit_set.specs.declared.refusal.SetRefusal.TheVariants as refusals;
     ghost use Rattle.circuit_set.specs.Sets.{SetState, CircuitTold};
     ghost use Rattle.circuit_set.specs.Standing.{FirstLoud, Gives, HeldGoes, HasEnded, Holds, RestsAt, TicksNth, HeldStands, NextOf, ToldBy, Rests, FallsBy, untold_in, SameNode, close_answer, discard_answer, message_at, take_answer, write_answer};
 

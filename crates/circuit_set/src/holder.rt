@@ -8,38 +8,15 @@ ghost use Rattle.circuit_l4.specs.Halves.{first_or};
 ghost use Rattle.circuit_set.specs.Sets as sets;
 ghost use Rattle.circuit_set.specs.Sets.{CircuitTold};
 ghost use Rattle.circuit_set.specs.Pumps.{is_empty};
-ghost use Rattle.circuit_set.specs.Standing as last;
 ghost use Rattle.circuit_set.specs.Standing.{Fits, IsSilent, Keeps, Tells, cost, capped_count, left_at, untold_at};
 ghost use Rattle.circuit_set.specs.Still.{IsStill};
 
 use crate::SetEvent;
+use crate::untold::Untold;
 use ax_address::Call;
-use circuit_l4::{End, EndPhase, Pair, Transport};
+use circuit_l4::{End, EndPhase, Pair};
 use l3_datagram::Message;
 use radio_base::Moment;
-
-/// What is to be told next.
-#[derive(Debug, Drop)]
-pub(crate) enum Untold {
-    Event(SetEvent),
-    /// A transport goes out, and that it was sent is told.
-    Out {
-        id: u64,
-        number: Option<u64>,
-        to: Call,
-        transport: Transport,
-    },
-}
-
-/// Whether this is the last that an end tells, where it tells something: that it is gone.
-pub(crate) fn is_last(told: &Option<Untold>) -> bool
-    ensures { result ≡ last.is_last_of told.now }
-{
-    matches!(
-        told,
-        Some(Untold::Event(SetEvent::Gone { id: _, facts: _ }))
-    )
-}
 
 /// An end, and what no call of it tells.
 #[derive(Drop)]

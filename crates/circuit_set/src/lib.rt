@@ -11,9 +11,12 @@ mod loud;
 mod pair_order;
 mod pump;
 mod receiving;
+mod refusal;
 mod set;
+mod untold;
 
-pub use event::{ConnectRefusal, DiscardRefusal, NoEnd, SetEvent, SetRefusal};
+pub use event::SetEvent;
+pub use refusal::{ConnectRefusal, DiscardRefusal, NoEnd, SetRefusal};
 pub use set::CircuitSet;
 
 /// The most ends that a node holds (this project's profile).

@@ -3,8 +3,8 @@ ghost use Rattle.std.specs.Prelude.{◌≡◌, ◌≤◌, ◌<◌, ◌↔◌, �
 ghost use Rattle.circuit_set.specs.SetTurns as turns;
 
 use crate::event::SetEvent;
-use crate::holder::Untold;
 use crate::set::CircuitSet;
+use crate::untold::Untold;
 use ax_address::Call;
 use circuit_l4::{Transport, read_transport, write_transport};
 use l3_datagram::{
@@ -15,7 +15,7 @@ use radio_base::{Moment, NoMemory};
 impl<C: Carrier> CircuitSet<C> {
     ghost use Rattle.l3_datagram.specs.Datagrams.{SpellsDatagram, datagram_with};
     ghost use Rattle.l3_datagram.specs.Routers.{IsFor, MineIsFor, SameRouter, waiting_left};
-    ghost use Rattle.circuit_set.specs.declared.holder.Untold.TheVariants as untold;
+    ghost use Rattle.circuit_set.specs.declared.untold.Untold.TheVariants as untold;
     ghost use Rattle.circuit_set.specs.Sets.{CircuitTold};
     ghost use Rattle.circuit_set.specs.Standing.{Brings, FirstLoud, Rests, cost, untold_in};
     ghost use Rattle.circuit_set.specs.CircuitSets.{Falls, IsDrained, Pumps};

@@ -5,9 +5,9 @@ ghost use Rattle.std.specs.Borrow.{Lends, sem};
 ghost use Rattle.radio_base.specs.declared.modulus.TheConstants.{COUNT_MAX};
 
 use crate::MAX_ENDS;
-use crate::event::{ConnectRefusal, DiscardRefusal, NoEnd, SetRefusal};
 use crate::held_ends::HeldEnds;
 use crate::loud::Loud;
+use crate::refusal::{ConnectRefusal, DiscardRefusal, NoEnd, SetRefusal};
 use ax_address::Call;
 use circuit_l4::{End, EndConfig, EndFacts, Pair};
 use indexmap::IndexMap;
@@ -124,9 +124,9 @@ impl<C: Carrier> CircuitSet<C> {
     ghost use Rattle.route_table.specs.Table.{next_hop};
     ghost use Rattle.l3_datagram.specs.contracts.router.Router.{the_row as router_row};
     ghost use Rattle.circuit_set.specs.contracts.set.CircuitSet.{the_row};
-    ghost use Rattle.circuit_set.specs.declared.holder.Untold.TheVariants as untold;
-    ghost use Rattle.circuit_set.specs.declared.event.ConnectRefusal.TheVariants as connect_refusals;
-    ghost use Rattle.circuit_set.specs.declared.event.SetRefusal.TheVariants as refusals;
+    ghost use Rattle.circuit_set.specs.declared.untold.Untold.TheVariants as untold;
+    ghost use Rattle.circuit_set.specs.declared.refusal.ConnectRefusal.TheVariants as connect_refusals;
+    ghost use Rattle.circuit_set.specs.declared.refusal.SetRefusal.TheVariants as refusals;
     ghost use Rattle.circuit_set.specs.Sets as sets;
     ghost use Rattle.circuit_set.specs.Sets.{SetState};
     ghost use Rattle.circuit_set.specs.Pumps.{Waiting, at_rest, is_drained, connect_answer, ticks};

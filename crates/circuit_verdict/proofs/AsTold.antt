@@ -8,11 +8,11 @@ use Rattle.circuit_set.specs.Sets.{CircuitTold, Made, Sent, Heeded, Notice, Gone
 use Rattle.circuit_set.specs.TooLate.{IsFresh, IsTimely}
 use Rattle.circuit_verdict.specs.declared.book.Book.{Book}
 use Rattle.circuit_verdict.specs.declared.event.Numbered.{Numbered}
-use Rattle.circuit_verdict.specs.declared.verdict.Allowance.{Allowance}
-use Rattle.circuit_verdict.specs.declared.verdict.Allowance.TheVariants.{Fixed, OfWindow}
-use Rattle.circuit_verdict.specs.declared.verdict.Late.{Late}
-use Rattle.circuit_verdict.specs.declared.verdict.LateWhy.{LateWhy}
-use Rattle.circuit_verdict.specs.declared.verdict.LateWhy.TheVariants.{Overtaken, Returned}
+use Rattle.circuit_verdict.specs.declared.allowance.Allowance.{Allowance}
+use Rattle.circuit_verdict.specs.declared.allowance.Allowance.TheVariants.{Fixed, OfWindow}
+use Rattle.circuit_verdict.specs.declared.late.Late.{Late}
+use Rattle.circuit_verdict.specs.declared.late.LateWhy.{LateWhy}
+use Rattle.circuit_verdict.specs.declared.late.LateWhy.TheVariants.{Overtaken, Returned}
 use Rattle.circuit_verdict.specs.ByBook.{FailsAt, FirstLateByBook, InTimeByBook, allowance_of, lost_in}
 use Rattle.circuit_verdict.specs.Verdicts.{event_of, events_of, AreInTime, Fails, IsFirstLate, IsVerdict, allows_of}
 use Rattle.circuit_verdict.specs.Standing.{Follows}

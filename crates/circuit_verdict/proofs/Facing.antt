@@ -1,6 +1,6 @@
 -- A pair that is faced is one that no node may give again.
 use Rattle.std.proofs.Common.{◌≡◌, ℕ, refl, List}
-use Rattle.circuit_l4.specs.declared.transport.Pair.{Pair}
+use Rattle.circuit_l4.specs.declared.pair.Pair.{Pair}
 use Rattle.circuit_set.specs.Books.{MadeNote}
 use Rattle.circuit_set.specs.Events.{Name}
 use Rattle.circuit_verdict.specs.declared.ends.Ends.{Ends}

@@ -3,7 +3,7 @@ use Rattle.std.proofs.Common.{◌≡◌, ◌∙◌, ap, refl, ℕ, List, [], ◌
 use Rattle.std.specs.Prelude.{◌&&◌, cond, nat_eq, Option, Some, is_some}
 use Rattle.indexmap.specs.IndexMap.{get}
 use Rattle.ax_address.specs.Callsign.{Callsign, same_call}
-use Rattle.circuit_l4.specs.declared.transport.Pair.{Pair}
+use Rattle.circuit_l4.specs.declared.pair.Pair.{Pair}
 use Rattle.circuit_set.specs.Sets.{same_pair}
 use Rattle.circuit_set.specs.Books.{MadeNote}
 use Rattle.circuit_set.specs.Events.{Name, same_name}

@@ -4,7 +4,7 @@ use Rattle.std.specs.Prelude.{Bool, true, false, not, cond, ◌&&◌, if◌then�
 use Rattle.std.proofs.lemmas.List.Sorted.{IsNonDecreasingBy-push}
 use Rattle.circuit_set.specs.Books.{SentNote, has}
 use Rattle.circuit_set.specs.Events.{Name, same_name}
-use Rattle.circuit_verdict.specs.declared.sendings.Message.{Message}
+use Rattle.circuit_verdict.specs.declared.message.Message.{Message}
 use Rattle.circuit_verdict.specs.Sendings.{AllUpTo, IsInOrder, Rises, first_sent, messages_in, with_message}
 
 keep_by : (b h : Bool) (m : Message) (xs ys : List Message) → b ≡ false → length xs ≡ length ys → length (cond (h && b) (m ∷ xs) xs) ≡ length ys

@@ -9,10 +9,10 @@ use Rattle.circuit_set.specs.Books.{Fresh, FreshFrom, FreshTold, Timely, TimelyT
 use Rattle.circuit_verdict.specs.declared.book.Book.{Book}
 use Rattle.circuit_verdict.specs.declared.event.Event.{Event as Coming}
 use Rattle.circuit_verdict.specs.declared.event.Numbered.{Numbered}
-use Rattle.circuit_verdict.specs.declared.verdict.Allowance.{Allowance}
-use Rattle.circuit_verdict.specs.declared.verdict.Late.{Late}
-use Rattle.circuit_verdict.specs.declared.verdict.LateWhy.{LateWhy}
-use Rattle.circuit_verdict.specs.declared.verdict.LateWhy.TheVariants.{Overtaken, Returned}
+use Rattle.circuit_verdict.specs.declared.allowance.Allowance.{Allowance}
+use Rattle.circuit_verdict.specs.declared.late.Late.{Late}
+use Rattle.circuit_verdict.specs.declared.late.LateWhy.{LateWhy}
+use Rattle.circuit_verdict.specs.declared.late.LateWhy.TheVariants.{Overtaken, Returned}
 use Rattle.circuit_verdict.specs.Verdicts.{event_of, events_of, late_of}
 use Rattle.circuit_verdict.specs.Judging.{BookStands, Judges}
 use Rattle.circuit_verdict.specs.Standing.{Follows, InTime}

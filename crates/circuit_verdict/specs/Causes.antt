@@ -1,6 +1,6 @@
 -- By what it shows that an event comes too late, as it is read off the notes of what was told before it (this project's profile).
 use Rattle.std.specs.Prelude.{ℕ, ◌&&◌, nat_le, is_some, if◌then◌else◌, List, [], filter, flat_map, slice_get, Option, Some, None}
-use Rattle.circuit_l4.specs.declared.transport.Pair.{Pair}
+use Rattle.circuit_l4.specs.declared.pair.Pair.{Pair}
 use Rattle.circuit_set.specs.Books.{Book, MadeNote, SentNote, empty, is_unknown, latest_in, with_events, overtakers, partner, requester}
 use Rattle.circuit_set.specs.Events.{Event, Name, same_name}
 use Rattle.circuit_set.specs.Sets.{Made, Heeded, CircuitTold}
@@ -8,7 +8,7 @@ use Rattle.indexmap.specs.IndexMap.{get}
 use Rattle.circuit_verdict.specs.declared.cause.Cause.{Cause}
 use Rattle.circuit_verdict.specs.declared.cause.Cause.TheVariants.{Unsent, Overtaken, Unasked, Held}
 use Rattle.circuit_verdict.specs.declared.ends.Ends.{Ends}
-use Rattle.circuit_verdict.specs.declared.verdict.Allowance.{Allowance}
+use Rattle.circuit_verdict.specs.declared.allowance.Allowance.{Allowance}
 use Rattle.circuit_verdict.specs.Ends.{faces, facing_in, given_in, kept_faces}
 use Rattle.circuit_verdict.specs.Lists.{list_in}
 use Rattle.circuit_verdict.specs.ByBook.{allowance_of, lost_in}

@@ -2,7 +2,7 @@
 use Rattle.std.specs.Prelude.{◌≡◌, ℕ, Bool, true, false, not, ◌&&◌, ◌||◌, nat_eq, if◌then◌else◌, List, [], ◌∷◌, ◌++◌, Option, Some, None}
 use Rattle.std.specs.List.{list_any}
 use Rattle.ax_address.specs.Callsign.{Callsign, same_call}
-use Rattle.circuit_l4.specs.declared.transport.Pair.{Pair}
+use Rattle.circuit_l4.specs.declared.pair.Pair.{Pair}
 use Rattle.circuit_l4.specs.declared.notice.EndNotice.{EndNotice}
 use Rattle.circuit_l4.specs.declared.notice.EndNotice.TheVariants.{Opened}
 use Rattle.circuit_set.specs.Sets.{same_pair}
@@ -13,9 +13,9 @@ use Rattle.indexmap.specs.IndexMap.{get}
 use Rattle.indexmap.specs.IndexSet.{contains}
 use Rattle.circuit_verdict.specs.declared.ends.EndNote.{EndNote}
 use Rattle.circuit_verdict.specs.declared.ends.Ends.{Ends}
-use Rattle.circuit_verdict.specs.declared.names.CallPair.{CallPair}
-use Rattle.circuit_verdict.specs.declared.names.NodePair.{NodePair}
-use Rattle.circuit_verdict.specs.declared.names.PairKey.{PairKey}
+use Rattle.circuit_verdict.specs.declared.pairs.CallPair.{CallPair}
+use Rattle.circuit_verdict.specs.declared.pairs.NodePair.{NodePair}
+use Rattle.circuit_verdict.specs.declared.pairs.PairKey.{PairKey}
 use Rattle.circuit_verdict.specs.Lists.{list_in}
 
 -- ---- an end that was made ----

@@ -4,9 +4,9 @@ use Rattle.circuit_set.specs.Books as books
 use Rattle.circuit_set.specs.Events.{Event, Name}
 use Rattle.circuit_set.specs.Books.{FreshTold, TimelyTold, lost_with, with_event}
 use Rattle.circuit_verdict.specs.declared.book.Book.{Book}
-use Rattle.circuit_verdict.specs.declared.verdict.Allowance.{Allowance}
-use Rattle.circuit_verdict.specs.declared.verdict.LateWhy.{LateWhy}
-use Rattle.circuit_verdict.specs.declared.verdict.LateWhy.TheVariants.{Overtaken, Returned}
+use Rattle.circuit_verdict.specs.declared.allowance.Allowance.{Allowance}
+use Rattle.circuit_verdict.specs.declared.late.LateWhy.{LateWhy}
+use Rattle.circuit_verdict.specs.declared.late.LateWhy.TheVariants.{Overtaken, Returned}
 use Rattle.circuit_verdict.specs.Ends.{EndsStand}
 use Rattle.circuit_verdict.specs.Sendings.{SendingsStand}
 use Rattle.circuit_verdict.specs.ByBook.{FailsAt, allowance_of}

@@ -11,9 +11,9 @@ use Rattle.indexmap.specs.IndexMap.{get}
 use Rattle.indexmap.specs.IndexSet.{contains}
 use Rattle.circuit_set.specs.Books.{HeardNote, SentNote, first_place, has, is_heard}
 use Rattle.circuit_set.specs.Events.{Name, same_name}
-use Rattle.circuit_verdict.specs.declared.names.MessageName.{MessageName}
+use Rattle.circuit_verdict.specs.declared.message.MessageName.{MessageName}
 use Rattle.circuit_verdict.specs.declared.sendings.Likeness.{Likeness}
-use Rattle.circuit_verdict.specs.declared.sendings.Message.{Message}
+use Rattle.circuit_verdict.specs.declared.message.Message.{Message}
 use Rattle.circuit_verdict.specs.declared.sendings.Sending.{Sending}
 use Rattle.circuit_verdict.specs.declared.sendings.Sendings.{Sendings}
 use Rattle.circuit_verdict.specs.Lists.{list_in}

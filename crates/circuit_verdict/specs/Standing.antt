@@ -2,8 +2,8 @@
 use Rattle.std.specs.Prelude.{◌≡◌, List, [], Option, Some, None, true}
 use Rattle.circuit_set.specs.Books.{Fresh, Timely, empty, with_events}
 use Rattle.circuit_verdict.specs.declared.event.Numbered.{Numbered}
-use Rattle.circuit_verdict.specs.declared.verdict.Allowance.{Allowance}
-use Rattle.circuit_verdict.specs.declared.verdict.Late.{Late}
+use Rattle.circuit_verdict.specs.declared.allowance.Allowance.{Allowance}
+use Rattle.circuit_verdict.specs.declared.late.Late.{Late}
 use Rattle.circuit_verdict.specs.declared.verdict.Verdict.{Verdict}
 use Rattle.circuit_verdict.specs.declared.book.Book.{Book}
 use Rattle.circuit_verdict.specs.Verdicts.{events_of}

@@ -7,13 +7,13 @@ use Rattle.circuit_set.specs.TooLate.{Allowing, AllowsByWindow, IsFresh, IsTimel
 use Rattle.circuit_set.specs.Sets as sets
 use Rattle.circuit_set.specs.Events as events
 use Rattle.circuit_verdict.specs.declared.event.Numbered.{Numbered}
-use Rattle.circuit_verdict.specs.declared.verdict.Allowance.{Allowance}
-use Rattle.circuit_verdict.specs.declared.verdict.Allowance.TheVariants.{Fixed, OfWindow}
-use Rattle.circuit_verdict.specs.declared.verdict.Late.{Late}
-use Rattle.circuit_verdict.specs.declared.verdict.LateWhy.{LateWhy}
-use Rattle.circuit_verdict.specs.declared.verdict.LateWhy.TheVariants.{Overtaken, Returned}
-use Rattle.circuit_verdict.specs.declared.event.CircuitTold.{CircuitTold}
-use Rattle.circuit_verdict.specs.declared.event.CircuitTold.TheVariants.{Made, Sent, Heeded, Notice, Gone, Restarted, Lost}
+use Rattle.circuit_verdict.specs.declared.allowance.Allowance.{Allowance}
+use Rattle.circuit_verdict.specs.declared.allowance.Allowance.TheVariants.{Fixed, OfWindow}
+use Rattle.circuit_verdict.specs.declared.late.Late.{Late}
+use Rattle.circuit_verdict.specs.declared.late.LateWhy.{LateWhy}
+use Rattle.circuit_verdict.specs.declared.late.LateWhy.TheVariants.{Overtaken, Returned}
+use Rattle.circuit_verdict.specs.declared.circuit_told.CircuitTold.{CircuitTold}
+use Rattle.circuit_verdict.specs.declared.circuit_told.CircuitTold.TheVariants.{Made, Sent, Heeded, Notice, Gone, Restarted, Lost}
 use Rattle.circuit_verdict.specs.declared.event.Event as code
 
 -- What is told here, as it stands in a run of sets.

@@ -12,11 +12,13 @@ ghost use Rattle.circuit_verdict.specs.Verdicts.{event_of};
 ghost use Rattle.circuit_verdict.specs.Judging as judged;
 ghost use Rattle.circuit_verdict.specs.ByBook.{allowance_of};
 
+use crate::allowance::Allowance;
+use crate::circuit_told::CircuitTold;
 use crate::ends::Ends;
-use crate::event::{CircuitTold, Event};
+use crate::event::Event;
+use crate::late::LateWhy;
 use crate::names::Name;
 use crate::sendings::{Sending, Sendings};
-use crate::verdict::{Allowance, LateWhy};
 use ax_address::Call;
 use circuit_l4::Pair;
 use l3_datagram::{HEAD_SIZE, read_datagram};

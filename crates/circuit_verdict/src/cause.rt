@@ -7,10 +7,11 @@ ghost use Rattle.circuit_verdict.specs.Causes as causes;
 ghost use Rattle.circuit_verdict.specs.Verdicts.{told_in_run};
 ghost use Rattle.circuit_verdict.specs.Judging as judged;
 
+use crate::allowance::Allowance;
 use crate::book::{Book, lacks_requester};
-use crate::event::{CircuitTold, Event};
+use crate::circuit_told::CircuitTold;
+use crate::event::Event;
 use crate::names::Name;
-use crate::verdict::Allowance;
 use circuit_l4::Pair;
 use radio_base::NoMemory;
 

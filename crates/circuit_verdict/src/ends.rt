@@ -2,7 +2,7 @@
 ghost use Rattle.std.specs.Prelude.{◌≡◌, ◌∷◌, ◌++◌, ◌&&◌, [], OnOk, ℕ, List, Option, Some, None, cond, nat_eq, slice_get};
 ghost use Rattle.indexmap.specs.IndexMap.{get};
 ghost use Rattle.ax_address.specs.Callsign.{Callsign, same_call};
-ghost use Rattle.circuit_l4.specs.declared.transport.Pair.{Pair as SeenPair};
+ghost use Rattle.circuit_l4.specs.declared.pair.Pair.{Pair as SeenPair};
 ghost use Rattle.circuit_set.specs.Sets.{same_pair};
 ghost use Rattle.circuit_set.specs.Books as books;
 ghost use Rattle.circuit_set.specs.NotedRuns.{opened_window, told_to};
@@ -12,7 +12,8 @@ ghost use Rattle.circuit_verdict.specs.Ends as made;
 ghost use Rattle.circuit_verdict.specs.Lists.{list_in};
 
 use crate::lists::Lists;
-use crate::names::{CallPair, Name, NodePair};
+use crate::names::Name;
+use crate::pairs::{CallPair, NodePair};
 use ax_address::Call;
 use circuit_l4::{EndNotice, Pair};
 use indexmap::{IndexMap, IndexSet};

@@ -2,15 +2,23 @@
 //! profile).
 #![tactic(auto)]
 
+mod allowance;
 mod book;
 mod cause;
+mod circuit_told;
 mod ends;
 mod event;
+mod late;
 mod lists;
+mod message;
 mod names;
+mod pairs;
 mod sendings;
 mod verdict;
 
+pub use allowance::Allowance;
 pub use cause::Cause;
-pub use event::{CircuitTold, Event, Numbered};
-pub use verdict::{Allowance, Late, LateWhy, Verdict, too_late};
+pub use circuit_told::CircuitTold;
+pub use event::{Event, Numbered};
+pub use late::{Late, LateWhy};
+pub use verdict::{Verdict, too_late};

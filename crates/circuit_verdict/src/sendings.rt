@@ -9,10 +9,11 @@ ghost use Rattle.circuit_set.specs.Events as set_events;
 ghost use Rattle.circuit_verdict.specs.Lists.{list_in};
 ghost use Rattle.circuit_verdict.specs.Sendings as sends;
 ghost use Rattle.circuit_verdict.specs.declared.sendings.Likeness.{Likeness as SeenLikeness};
-ghost use Rattle.circuit_verdict.specs.declared.sendings.Message.{Message as SeenMessage};
+ghost use Rattle.circuit_verdict.specs.declared.message.Message.{Message as SeenMessage};
 
 use crate::lists::Lists;
-use crate::names::{MessageName, Name};
+use crate::message::{Message, MessageName};
+use crate::names::Name;
 use indexmap::IndexSet;
 use l3_datagram::{HEAD_SIZE, TTL_AT};
 use radio_base::NoMemory;
@@ -31,13 +32,6 @@ pub(crate) struct Likeness {
 pub(crate) struct Sending {
     pub(crate) place: u64,
     pub(crate) number: Option<u64>,
-}
-
-/// An information message: its number, and the place of its first sending.
-#[derive(Clone, Copy, Debug, PartialEq, Eq)]
-pub(crate) struct Message {
-    pub(crate) number: u64,
-    pub(crate) first: u64,
 }
 
 /// All sendings, and which information messages were heeded.

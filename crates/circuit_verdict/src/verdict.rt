@@ -4,37 +4,14 @@ ghost use Rattle.circuit_verdict.specs.declared.event.Numbered.{Numbered as Seen
 ghost use Rattle.circuit_verdict.specs.Verdicts.{IsVerdict, late_of};
 ghost use Rattle.circuit_verdict.specs.Standing.{allowance_in};
 
+use crate::allowance::Allowance;
 use crate::book::Book;
 use crate::cause::Cause;
 use crate::event::{Event, Numbered};
+use crate::late::{Late, LateWhy};
 use circuit_set::laws;
 use radio_base::NoMemory;
 use std::alloc::Global;
-
-/// How many overtakers are too many (this project's profile).
-#[derive(Clone, Copy, Debug, PartialEq, Eq)]
-pub enum Allowance {
-    /// 128, whatever the window of the circuit.
-    Fixed,
-    /// 256 less twice the window of that end of the circuit which a request has opened.
-    OfWindow,
-}
-
-/// What came back too late.
-#[derive(Clone, Copy, Debug, PartialEq, Eq)]
-pub enum LateWhy {
-    /// A datagram: an end has heeded one that its partner hadn't sent, or that too many messages have overtaken.
-    Overtaken,
-    /// A pair: an end was opened without a partner, or has the pair by which an open end still knows another one.
-    Returned,
-}
-
-/// The first event that came too late.
-#[derive(Clone, Copy, Debug, PartialEq, Eq)]
-pub struct Late {
-    pub line: u32,
-    pub why: LateWhy,
-}
 
 /// The verdict on the events so far (this project's profile): a pure machine, which reads no stream. Its calls are of two kinds.
 ///

@@ -2,8 +2,8 @@
 use Rattle.std.specs.Prelude.{ℕ, ◌≡◌, ◌<◌, ◌≤◌, List, length, Option, IsSomeAnd}
 use Rattle.std.specs.Io.KnownBytes.{Consumes, Keeps, IsAtEnd}
 use Rattle.radio_base.specs.Causes.{Rose}
-use Rattle.cmd_streams.specs.declared.reading.ReadRefusal.{ReadRefusal}
-use Rattle.cmd_streams.specs.declared.reading.ReadRefusal.TheVariants.{Fault, TooLong, NoMemory}
+use Rattle.cmd_streams.specs.declared.refusals.ReadRefusal.{ReadRefusal}
+use Rattle.cmd_streams.specs.declared.refusals.ReadRefusal.TheVariants.{Fault, TooLong, NoMemory}
 use Rattle.cmd_streams.specs.declared.status.Status.{Status}
 use Rattle.cmd_streams.specs.declared.status.Status.TheVariants as statuses
 

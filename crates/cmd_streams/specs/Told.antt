@@ -4,8 +4,8 @@ use Rattle.std.specs.Prelude.{ℕ, List, Option, ◌≡◌, ◌⊎◌, ◌++◌,
 use Rattle.std.specs.Io.KnownBytes.{Appends}
 use Rattle.std.specs.Fmt.{decimal}
 use Rattle.radio_base.specs.Causes.{Rose}
-use Rattle.radio_base.specs.declared.stream.Sink as sinks
-use Rattle.radio_base.specs.declared.stream.Source as sources
+use Rattle.radio_base.specs.declared.sink.Sink as sinks
+use Rattle.radio_base.specs.declared.source.Source as sources
 use Rattle.cmd_streams.specs.declared.status.Status.{Status}
 use Rattle.cmd_streams.specs.declared.status.Status.TheVariants.{Done, WriteFault, TooLate, NoMemory}
 

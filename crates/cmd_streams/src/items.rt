@@ -8,7 +8,8 @@ ghost use Rattle.cmd_streams.specs.Streams.{bytes_of};
 ghost use Rattle.cmd_streams.specs.Told.{told_by, Says};
 
 use crate::status::Status;
-use crate::streams::{Taker, answer_stream};
+use crate::streams::answer_stream;
+use crate::taker::Taker;
 use kiss_framing::{Deframer, KissItem};
 use radio_base::{Clock, Moment, NoMemory, Sink, Source, TextOut};
 use std::alloc::Global;

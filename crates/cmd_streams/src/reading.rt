@@ -1,11 +1,12 @@
-//! A file is read to its end.
-ghost use Rattle.std.specs.Prelude.{◌≡◌, ◌++◌, List, ℕ, length, OnOk, IfOk, IfErr};
+//! A file is read to its end, and a source over any reader: the edge of what is proved.
+ghost use Rattle.std.specs.Prelude.{◌≡◌, ◌++◌, List, ℕ, length, OnOk, IfOk, IfErr, None};
 ghost use Rattle.std.specs.Io.KnownBytes.{Consumes, IsAtEnd};
-ghost use Rattle.cmd_streams.specs.declared.reading.ReadRefusal.TheVariants.{Fault, NoMemory};
 ghost use Rattle.cmd_streams.specs.Reading.{ReadsAll, WhyUnread, WhyNoMore};
 
+use crate::refusals::ReadRefusal;
 use radio_base::{Failed, Source};
-use std::alloc::{AllocError, Global};
+use std::alloc::Global;
+use std::io::Read;
 
 /// The most bytes that a file may have.
 const MAX_FILE: usize = 1_048_576;
@@ -13,27 +14,41 @@ const MAX_FILE: usize = 1_048_576;
 /// The most bytes that are read at a time.
 const READ_SIZE: usize = 4096;
 
-/// Why a file wasn't read.
-#[derive(Clone, Copy, Debug, PartialEq, Eq)]
-pub enum ReadRefusal {
-    Fault,
-    TooLong,
-    NoMemory,
+/// A source over any reader. It tells nothing of content.
+#[derive(Drop)]
+pub struct Reading<R: Read + Drop> {
+    reader: R,
+    faults: u64,
 }
 
-impl From<Failed> for ReadRefusal {
-    ghost from_gives = { λ _ e. e ≡ Fault };
+impl<R: Read + Drop> Reading<R> {
+    pub fn new(reader: R) -> Self {
+        Reading { reader, faults: 0 }
+    }
 
-    fn from(_: Failed) -> Self {
-        ReadRefusal::Fault
+    /// How many reads have failed.
+    pub fn faults(&self) -> u64
+        ensures { result ≡ self.now.faults }
+    {
+        self.faults
     }
 }
 
-impl From<AllocError> for ReadRefusal {
-    ghost from_gives = { λ _ e. e ≡ NoMemory };
+impl<R: Read + Drop> Source for Reading<R> {
+    ghost left = { λ _. None };
 
-    fn from(_: AllocError) -> Self {
-        ReadRefusal::NoMemory
+    ghost reads = { λ _. None };
+
+    ghost faults = { λ s. s.faults };
+
+    fn read(&mut self, buf: &mut [u8]) -> Result<usize, Failed> {
+        match self.reader.read(buf) {
+            Ok(count) => Ok(count),
+            Err(_) => {
+                self.faults = self.faults.saturating_add(1);
+                Err(Failed)
+            }
+        }
     }
 }
 

@@ -1,15 +1,39 @@
-//! Input that is refused: what is noted of it, and how the command ends.
+//! Input that is refused: why a file wasn't read, what is noted of that, and how the command ends.
 ghost use Rattle.std.specs.Prelude.{◌≡◌, ◌≢◌, ◌⊎◌, ℕ, List, Some};
 ghost use Rattle.cmd_streams.specs.Told.{bad_line_note, Says};
 ghost use Rattle.cmd_streams.specs.Reading.{status_of};
 ghost use Rattle.cmd_streams.specs.StatusNotes.{HasNote, IsSilent};
+ghost use Rattle.cmd_streams.specs.declared.refusals.ReadRefusal.TheVariants.{Fault, NoMemory};
 
 use crate::notes::{READ_FAULT, TOO_LONG, bad_line_note, say};
-use crate::reading::ReadRefusal;
 use crate::status::Status;
-use radio_base::Sink;
-use std::alloc::Global;
+use radio_base::{Failed, Sink};
+use std::alloc::{AllocError, Global};
 use std::fmt::Display;
+
+/// Why a file wasn't read.
+#[derive(Clone, Copy, Debug, PartialEq, Eq)]
+pub enum ReadRefusal {
+    Fault,
+    TooLong,
+    NoMemory,
+}
+
+impl From<Failed> for ReadRefusal {
+    ghost from_gives = { λ _ e. e ≡ Fault };
+
+    fn from(_: Failed) -> Self {
+        ReadRefusal::Fault
+    }
+}
+
+impl From<AllocError> for ReadRefusal {
+    ghost from_gives = { λ _ e. e ≡ NoMemory };
+
+    fn from(_: AllocError) -> Self {
+        ReadRefusal::NoMemory
+    }
+}
 
 /// Notes why a file wasn't read.
 pub fn refuse_input<N: Sink>(why: ReadRefusal, notes: &mut N) -> Status

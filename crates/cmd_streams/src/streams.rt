@@ -10,25 +10,13 @@ ghost use Rattle.cmd_streams.specs.Told.{told_by, Says};
 
 use crate::notes::{READ_FAULT, TOO_LONG, say};
 use crate::status::Status;
+use crate::taker::Taker;
 use crate::writing::write_all;
 use radio_base::{Clock, Moment, NoMemory, Sink, Source, TextOut};
 use std::alloc::Global;
 
 /// The most bytes that a stream may have: one less than 2^32.
 const MAX_STREAM: u64 = 4_294_967_295;
-
-/// What takes a stream in read by read, and answers each read.
-pub trait Taker {
-    /// From the first value to the second it has taken these reads, and answered them with this text.
-    ghost took: { Self → Self → List Read → List ℕ → Type 0 };
-
-    /// Takes one read more, at the moment behind it, and adds the answer.
-    fn take(&mut self, bytes: &[u8], now: Moment, answer: &mut TextOut) -> Result<(), NoMemory>
-        ensures added { OnOk result ((more : List ℕ) × (answer.new ≡ answer.old ++ more)) }
-        ensures takes { OnOk result ((first : Self) (reads : List Read) (text more : List ℕ)
-            → answer.new ≡ answer.old ++ more → took first self.old reads text
-            → took first self.new (reads ++ read_of bytes.now now.0 ∷ []) (text ++ more)) };
-}
 
 /// Why a stream wasn't answered to its end.
 #[derive(Clone, Copy, Debug, PartialEq, Eq)]

@@ -1,10 +1,50 @@
-//! All of a text is written, piece by piece.
-ghost use Rattle.std.specs.Prelude.{◌≡◌, OnOk, OnErr};
+//! All of a text is written, piece by piece, and a sink over any writer: the edge of what is proved.
+ghost use Rattle.std.specs.Prelude.{◌≡◌, OnOk, OnErr, None};
 ghost use Rattle.std.specs.Io.KnownBytes.{Appends};
 ghost use Rattle.radio_base.specs.Causes.{Rose};
 ghost use Rattle.cmd_streams.specs.Told.{AppendsFront};
 
 use radio_base::{Failed, Sink};
+use std::io::Write;
+
+/// A sink over any writer. It tells nothing of content. A write of no bytes of a piece is a fault.
+#[derive(Drop)]
+pub struct Writing<W: Write + Drop> {
+    writer: W,
+    faults: u64,
+}
+
+impl<W: Write + Drop> Writing<W> {
+    pub fn new(writer: W) -> Self {
+        Writing { writer, faults: 0 }
+    }
+
+    /// How many writes have failed.
+    pub fn faults(&self) -> u64
+        ensures { result ≡ self.now.faults }
+    {
+        self.faults
+    }
+}
+
+impl<W: Write + Drop> Sink for Writing<W> {
+    ghost written = { λ _. None };
+
+    ghost faults = { λ s. s.faults };
+
+    fn write(&mut self, piece: &[u8]) -> Result<usize, Failed> {
+        if piece.is_empty() {
+            return Ok(0);
+        }
+        match self.writer.write(piece) {
+            Ok(count) if count > 0 => Ok(count),
+            _ => {
+                self.faults = self.faults.saturating_add(1);
+                Err(Failed)
+            }
+        }
+    }
+}
 
 /// Writes the whole text.
 pub fn write_all<K: Sink>(sink: &mut K, text: &[u8]) -> Result<(), Failed>

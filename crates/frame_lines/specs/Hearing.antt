@@ -3,12 +3,12 @@ use Rattle.std.specs.Prelude.{ℕ, List, [], ◌∷◌, ◌++◌, length, ◌==�
 use Rattle.ax_frame.specs.declared.frame.FrameRefusal.{FrameRefusal}
 use Rattle.ax_frame.specs.declared.head.Head.{Head}
 use Rattle.ax_frame.specs.Frames.{Frame, read_at, read_head_at}
-use Rattle.kiss_framing.specs.declared.deframer.KissItem.{KissItem}
-use Rattle.kiss_framing.specs.declared.deframer.KissItem.TheVariants as kiss
+use Rattle.kiss_framing.specs.declared.item.KissItem.{KissItem}
+use Rattle.kiss_framing.specs.declared.item.KissItem.TheVariants as kiss
 use Rattle.kiss_framing.specs.Stream.{Item, Frame as Piece, Too_long}
-use Rattle.frame_lines.specs.declared.listener.Modulo.{Modulo}
-use Rattle.frame_lines.specs.declared.listener.Modulo.TheVariants.{Auto, M8, M128}
-use Rattle.frame_lines.specs.declared.moduli.Stations.{Stations}
+use Rattle.frame_lines.specs.declared.modulo.Modulo.{Modulo}
+use Rattle.frame_lines.specs.declared.modulo.Modulo.TheVariants.{Auto, M8, M128}
+use Rattle.frame_lines.specs.declared.stations.Stations.{Stations}
 use Rattle.frame_lines.specs.Contents.{contents}
 use Rattle.frame_lines.specs.Listing.{bad_line, command_line, frame_line}
 use Rattle.frame_lines.specs.Moduli.{after_frame, modulus_of}

@@ -5,7 +5,7 @@ use Rattle.ax_address.specs.Callsign.{Callsign, same_call}
 use Rattle.ax_frame.specs.declared.control.Control.{Control}
 use Rattle.ax_frame.specs.declared.control.Control.TheVariants.{Sabm, Sabme}
 use Rattle.ax_frame.specs.declared.head.Head.{Head}
-use Rattle.frame_lines.specs.declared.moduli.Stations.{Stations}
+use Rattle.frame_lines.specs.declared.stations.Stations.{Stations}
 
 -- these are the two stations, either way round
 abbrev pub are_these : Callsign → Callsign → Stations → Bool

@@ -3,7 +3,7 @@ use Rattle.std.specs.Prelude.{ℕ, List, ◌++◌, flat_map, length, codes, Resu
 use Rattle.std.specs.Fmt.{decimal}
 use Rattle.ax_address.specs.Alias as aliases
 use Rattle.ax_address.specs.Callsign as calls
-use Rattle.ax_address.specs.declared.Entry.{Entry}
+use Rattle.ax_address.specs.declared.entry.Entry.{Entry}
 use Rattle.nodes_broadcast.specs.declared.nodes.NodesRefusal.{NodesRefusal}
 use Rattle.nodes_broadcast.specs.Nodes.{Broadcast, nodes_at}
 use Rattle.frame_lines.specs.Words.{nodes_fault}

@@ -9,12 +9,14 @@ mod contents;
 mod datagrams;
 mod listener;
 mod listing;
-mod moduli;
+mod modulo;
 mod nodes;
 mod packets;
+mod stations;
 mod texts;
 mod transports;
 mod words;
 
-pub use listener::{Listener, Modulo};
+pub use listener::Listener;
 pub use listing::add_item;
+pub use modulo::Modulo;

@@ -1,21 +1,13 @@
 //! A listener takes the items of a KISS stream in, and tells what each carries.
 use crate::contents::write_contents;
 use crate::listing::{add_bad, add_command, add_frame};
-use crate::moduli::{Stations, is_extended, note_frame};
+use crate::modulo::Modulo;
+use crate::stations::{Stations, is_extended, note_frame};
 use ax_frame::{read_frame, read_head};
 use kiss_framing::KissItem;
 use radio_base::{M8, M128, Modulus, NoMemory, TextOut};
 use std::alloc::Global;
 use std::marker::Model;
-
-/// By which modulus sequence numbers are read, which no frame tells (AX.25 2.2, section 4.2.1).
-#[derive(Clone, Copy, Debug, PartialEq, Eq)]
-pub enum Modulo {
-    /// As the set-up commands between two stations say: 8 before any.
-    Auto,
-    M8,
-    M128,
-}
 
 /// Takes the items of a KISS stream in, one after another, and adds the line of each and what it carries.
 #[derive(Drop)]

@@ -6,7 +6,7 @@ use Rattle.std.proofs.lemmas.List.{take-append-le, take_more}
 use Rattle.std.specs.List.{AllByRecursion}
 use Rattle.std.specs.Prelude.{Option, None, Some, IfNone}
 use Rattle.kiss_framing.specs.declared.TheConstants.{LONGEST}
-use Rattle.kiss_framing.specs.declared.deframer.KissItem.{KissItem}
+use Rattle.kiss_framing.specs.declared.item.KissItem.{KissItem}
 use Rattle.kiss_framing.specs.declared.piece.Ends.{Ends}
 use Rattle.kiss_framing.specs.declared.piece.Ends.TheVariants as ends
 use Rattle.kiss_framing.specs.Stream.{Item, is_too_long, items, HeldPiece, Piece, Skipped, StandsFor}

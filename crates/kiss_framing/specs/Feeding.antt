@@ -2,8 +2,8 @@
 use Rattle.std.specs.Prelude.{◌≡◌, ℕ, ◌≤◌, ◌<◌, List, [], ◌∷◌, ◌++◌, length, take, Option, None, Some, ⊤}
 use Rattle.std.specs.Borrow.{follows_so, MutBor, Fml}
 use mathlib.Core.Option.{none}
-use Rattle.kiss_framing.specs.declared.deframer.KissItem.{KissItem}
-use Rattle.kiss_framing.specs.declared.deframer.KissItem.TheVariants as kiss
+use Rattle.kiss_framing.specs.declared.item.KissItem.{KissItem}
+use Rattle.kiss_framing.specs.declared.item.KissItem.TheVariants as kiss
 use Rattle.kiss_framing.specs.contracts.deframer.Deframer.{the_row}
 use Rattle.kiss_framing.specs.Stream.{Item, Frame, Too_long, items, HeldPiece, StandsFor}
 

@@ -4,21 +4,9 @@ ghost use Rattle.kiss_framing.specs.Stream.{items, given_by_byte, frame_of as fr
 ghost use Rattle.kiss_framing.specs.Stepping.{items_at};
 ghost use Rattle.kiss_framing.specs.Feeding.{TakesIn, IsQuietBefore, IsSmall, handed_out};
 
+use crate::item::KissItem;
 use crate::piece::{Ends, Piece};
 use std::marker::Model;
-
-/// What a stream gives.
-#[derive(Clone, Copy, Debug, PartialEq, Eq)]
-pub enum KissItem<'a> {
-    /// A frame: its port and its command, each at most 15, and at most 1,023 bytes of payload.
-    Frame {
-        port: u8,
-        command: u8,
-        payload: &'a [u8],
-    },
-    /// A piece has its 1,025th unescaped byte. Nothing of it is handed out.
-    TooLong,
-}
 
 /// Takes the items out of a stream, by single bytes or as many as there are. However the stream is cut, they are the
 /// same.

@@ -7,11 +7,13 @@
 
 mod deframer;
 mod enframing;
+mod item;
 pub mod laws;
 mod piece;
 
-pub use deframer::{Deframer, KissItem};
+pub use deframer::Deframer;
 pub use enframing::{Full, enframe};
+pub use item::KissItem;
 
 /// Ends a frame, and a piece of the stream.
 pub const FEND: u8 = 0xC0;

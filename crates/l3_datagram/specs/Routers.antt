@@ -9,10 +9,10 @@ use Rattle.l3_datagram.specs.declared.datagram.DatagramHead.{DatagramHead}
 use Rattle.l3_datagram.specs.Datagrams.{head_at, CarrierCall, Datagram, Parcel, Offer, Collect, Fail}
 use Rattle.l3_datagram.specs.declared.routed.Routed.{Routed}
 use Rattle.l3_datagram.specs.declared.routed.Routed.TheVariants.{Lost, Mine, Forwarded, Expired, NoRoute, Returned, Dropped, Bad}
-use Rattle.l3_datagram.specs.declared.routed.Sending.{Sending}
+use Rattle.l3_datagram.specs.declared.sending.Sending.{Sending}
 use Rattle.l3_datagram.specs.declared.carrier.Offered.TheVariants as offered
 use Rattle.l3_datagram.specs.declared.datagram.DatagramRefusal.{DatagramRefusal}
-use Rattle.l3_datagram.specs.declared.routed.Sending.TheVariants as sending
+use Rattle.l3_datagram.specs.declared.sending.Sending.TheVariants as sending
 
 -- The routing step: what becomes of one datagram (NET/ROM Appendix B). It knows no carrier, but only what that answers.
 

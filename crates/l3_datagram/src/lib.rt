@@ -11,6 +11,7 @@ pub mod laws;
 mod plain_carrier;
 mod routed;
 mod router;
+mod sending;
 
 pub use carrier::{Carrier, Offered};
 pub use datagram::{
@@ -18,5 +19,6 @@ pub use datagram::{
     read_datagram, write_datagram,
 };
 pub use plain_carrier::{MAX_OFFERED, PlainCarrier};
-pub use routed::{Routed, Sending};
+pub use routed::Routed;
 pub use router::Router;
+pub use sending::Sending;

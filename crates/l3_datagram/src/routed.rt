@@ -1,17 +1,6 @@
-//! What became of a datagram.
+//! What came up at a node, and what became of it.
 use crate::Datagram;
 use ax_address::Call;
-
-/// What became of a datagram of this node.
-#[derive(Clone, Copy, Debug, PartialEq, Eq)]
-pub enum Sending {
-    /// The carrier took it to the next hop.
-    Sent,
-    /// No route leads to its destination.
-    NoRoute,
-    /// The carrier had no room for it.
-    Dropped,
-}
 
 /// What came up: a lost neighbour, or a datagram and what became of it.
 #[derive(Debug, Drop, PartialEq, Eq)]

@@ -7,10 +7,10 @@ use Rattle.ax_link.specs.Opening.{answer_by, rules_new, send_answer}
 use Rattle.ax_link.specs.Standing.{LinkView, Stands, StandsFor}
 use Rattle.ax_link.specs.State.{Effect, State, count_end}
 use Rattle.ax_link.specs.Table.{Input, Tick, may_close, step}
-use Rattle.link_life.specs.declared.reasons.LifeRefusal.{LifeRefusal}
-use Rattle.link_life.specs.declared.reasons.LifeRefusal.TheVariants as why
+use Rattle.link_life.specs.declared.life_refusals.LifeRefusal.{LifeRefusal}
+use Rattle.link_life.specs.declared.life_refusals.LifeRefusal.TheVariants as why
 use Rattle.link_life.specs.declared.turn.Turn.{Turn as TurnKept}
-use Rattle.link_life.specs.declared.turn.End.{End as EndKept}
+use Rattle.link_life.specs.declared.end.End.{End as EndKept}
 use Rattle.link_life.specs.Ends.{End, Ends, after_step, step_near}
 use Rattle.link_life.specs.Lives.{Outcome, moved, send_refusal, settings, told_by_step, unless}
 use Rattle.link_life.specs.Reports.{told_text}

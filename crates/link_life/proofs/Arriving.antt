@@ -9,9 +9,9 @@ use Rattle.ax_link.specs.Opening.{facts_of}
 use Rattle.ax_link.specs.Standing.{Stands, StandsFor, frame_of}
 use Rattle.ax_link.specs.State.{State, is_up}
 use Rattle.ax_link.specs.Table.{Arrive, step}
-use Rattle.link_life.specs.declared.book.Flight.{Flight as FlightKept}
-use Rattle.link_life.specs.declared.book.Lasting.{Lasting}
-use Rattle.link_life.specs.declared.turn.End.{End as EndKept}
+use Rattle.link_life.specs.declared.flight.Flight.{Flight as FlightKept}
+use Rattle.link_life.specs.declared.epoch.Lasting.{Lasting}
+use Rattle.link_life.specs.declared.end.End.{End as EndKept}
 use Rattle.link_life.specs.declared.turn.Turn.{Turn as TurnKept}
 use Rattle.link_life.specs.Ends.{End, Ends, Flight, heard_more, is_of_account}
 use Rattle.link_life.specs.Lives.{arrive_first, moved}

@@ -8,8 +8,8 @@ use Rattle.ax_link.specs.Opening.{facts_of}
 use Rattle.ax_link.specs.Standing.{LinkView, StandsFor}
 use Rattle.ax_link.specs.State.{State}
 use Rattle.link_life.specs.declared.book.Book.{Book}
-use Rattle.link_life.specs.declared.book.Epoch.{Epoch as EpochKept}
-use Rattle.link_life.specs.declared.book.Lasting.{Lasting}
+use Rattle.link_life.specs.declared.epoch.Epoch.{Epoch as EpochKept}
+use Rattle.link_life.specs.declared.epoch.Lasting.{Lasting}
 use Rattle.link_life.specs.Ends as ends
 use Rattle.link_life.specs.Ends.{End, Epoch, begins, epochs, heed, lasting, number}
 use Rattle.link_life.specs.Standing.{BookStands, FactsAre, counted, epoch_kept, lasting_after, lasting_of, number_by, number_kept, over_after, over_kept}

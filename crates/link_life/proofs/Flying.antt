@@ -5,7 +5,7 @@ use Rattle.std.proofs.lemmas.List.{map-append}
 use Rattle.ax_link.specs.declared.out.LinkOut.{LinkOut}
 use Rattle.ax_link.specs.Standing.{LinkView, frame_of}
 use Rattle.link_life.specs.declared.act.Side.{Side}
-use Rattle.link_life.specs.declared.book.Flight.{Flight as FlightKept}
+use Rattle.link_life.specs.declared.flight.Flight.{Flight as FlightKept}
 use Rattle.link_life.specs.Ends.{Flight, flights}
 use Rattle.link_life.specs.Reports.{air_line}
 use Rattle.link_life.specs.Standing.{flight_of}

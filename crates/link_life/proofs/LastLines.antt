@@ -5,8 +5,8 @@ use Rattle.std.specs.Fmt.{decimal}
 use Rattle.ax_link.specs.declared.facts.LinkFacts.{LinkFacts}
 use Rattle.link_life.specs.declared.act.Side.{Side}
 use Rattle.link_life.specs.declared.book.Book.{Book}
-use Rattle.link_life.specs.declared.book.Epoch.{Epoch as EpochKept}
-use Rattle.link_life.specs.declared.book.Lasting.{Lasting}
+use Rattle.link_life.specs.declared.epoch.Epoch.{Epoch as EpochKept}
+use Rattle.link_life.specs.declared.epoch.Lasting.{Lasting}
 use Rattle.link_life.specs.Ends.{End, Epoch, epochs, lasting, partner_of}
 use Rattle.link_life.specs.Reports.{epoch_line, epoch_lines, letter}
 use Rattle.link_life.specs.Standing as standing

@@ -7,11 +7,11 @@ use Rattle.ax_link.specs.State.{Effect, Rules}
 use Rattle.ax_link.specs.Table.{Tick, step}
 use Rattle.link_life.specs.declared.act.Side.{Side}
 use Rattle.link_life.specs.declared.act.Side.TheVariants.{A, B}
-use Rattle.link_life.specs.declared.book.Flight.{Flight as FlightKept}
+use Rattle.link_life.specs.declared.flight.Flight.{Flight as FlightKept}
 use Rattle.link_life.specs.declared.life.Life.{Life as LifeKept}
-use Rattle.link_life.specs.declared.reasons.LifeRefusal.{LifeRefusal}
-use Rattle.link_life.specs.declared.reasons.LifeRefusal.TheVariants as why
-use Rattle.link_life.specs.declared.script.NumberedAct.{NumberedAct}
+use Rattle.link_life.specs.declared.life_refusals.LifeRefusal.{LifeRefusal}
+use Rattle.link_life.specs.declared.life_refusals.LifeRefusal.TheVariants as why
+use Rattle.link_life.specs.declared.act.NumberedAct.{NumberedAct}
 use Rattle.link_life.specs.Ends.{Ends, Flight, step_near}
 use Rattle.link_life.specs.Lives.{Life, Outcome, Refused, Done, LifeTold, Turn, after_act, delay_refusal, ends_at, is_late, joined, lifted, act_on, settings, tick_both, told_by_step, tick_on, tick_to, turn_at, unless, with_ends}
 use Rattle.link_life.specs.Reports.{air_line, life_text, line_text, notice_line, refused_line, told_text}

@@ -12,8 +12,8 @@ use Rattle.link_life.specs.declared.act.EndAct.{EndAct}
 use Rattle.link_life.specs.declared.act.EndAct.TheVariants as acts
 use Rattle.link_life.specs.declared.act.LifeAct.{LifeAct}
 use Rattle.link_life.specs.declared.act.LifeAct.TheVariants.{At, Tick}
-use Rattle.link_life.specs.declared.reasons.LifeRefusal.{LifeRefusal}
-use Rattle.link_life.specs.declared.reasons.LifeRefusal.TheVariants as why
+use Rattle.link_life.specs.declared.life_refusals.LifeRefusal.{LifeRefusal}
+use Rattle.link_life.specs.declared.life_refusals.LifeRefusal.TheVariants as why
 use Rattle.link_life.specs.Ends.{End, Ends, Flight, after_step, any_begins, epochs, flights, go_down, heard_more, hear, is_down, is_of_account, number, step_near}
 use Rattle.link_life.specs.Laws.{AllInTime, FramesInTime, InTime, IsInTime}
 use Rattle.link_life.specs.Lives.{Done, Life, Outcome, Refused, Turn, act_at, act_near, act_on, after_act, arrive_first, clock_end, ends_at, is_late, lifted, lose_first, moved, new_life, run, send_refusal, set_up_refusal, take_first, tick_at, tick_both, tick_to, turn_at, unless}

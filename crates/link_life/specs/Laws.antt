@@ -9,7 +9,7 @@ use Rattle.link_life.specs.declared.act.LifeAct.{LifeAct}
 use Rattle.link_life.specs.declared.act.LifeAct.TheVariants.{At, Tick}
 use Rattle.link_life.specs.declared.act.Side.TheVariants.{A, B}
 use Rattle.link_life.specs.Ends.{End, Epoch, Flight, epochs, partner_of}
-use Rattle.link_life.specs.declared.script.NumberedAct.{NumberedAct}
+use Rattle.link_life.specs.declared.act.NumberedAct.{NumberedAct}
 use Rattle.link_life.specs.Lives.{Life, new_life, run, settings}
 use Rattle.link_life.specs.Reports.{epochs_text, life_text}
 

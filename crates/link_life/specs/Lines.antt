@@ -5,18 +5,18 @@ use Rattle.std.specs.Str.Lines.{lines}
 use Rattle.radio_base.specs.declared.payload.Payload.{Payload}
 use Rattle.text_lines.specs.Lines.{is_text, number_of, after_space, past_word, words_of, is_skipped}
 use Rattle.ax_address.specs.Results.{◌>>=◌}
-use Rattle.link_life.specs.declared.reasons.LifeWhat.{LifeWhat}
-use Rattle.link_life.specs.declared.reasons.LifeWhat.TheVariants as whats
+use Rattle.link_life.specs.declared.life_refusals.LifeWhat.{LifeWhat}
+use Rattle.link_life.specs.declared.life_refusals.LifeWhat.TheVariants as whats
 use Rattle.link_life.specs.declared.act.Side.{Side}
 use Rattle.link_life.specs.declared.act.Side.TheVariants.{A, B}
 use Rattle.link_life.specs.declared.act.EndAct.{EndAct}
 use Rattle.link_life.specs.declared.act.EndAct.TheVariants.{SetUp, Send, Close, Take, Arrive, Lose}
 use Rattle.link_life.specs.declared.act.LifeAct.{LifeAct}
 use Rattle.link_life.specs.declared.act.LifeAct.TheVariants.{At, Tick}
-use Rattle.link_life.specs.declared.reasons.LifeWhat.TheVariants.{Many}
-use Rattle.link_life.specs.declared.reasons.LifeFileRefusal.{LifeFileRefusal}
-use Rattle.link_life.specs.declared.reasons.LifeFileRefusal.TheVariants.{BadLine, NoMemory}
-use Rattle.link_life.specs.declared.script.NumberedAct.{NumberedAct}
+use Rattle.link_life.specs.declared.life_refusals.LifeWhat.TheVariants.{Many}
+use Rattle.link_life.specs.declared.life_refusals.LifeFileRefusal.{LifeFileRefusal}
+use Rattle.link_life.specs.declared.life_refusals.LifeFileRefusal.TheVariants.{BadLine, NoMemory}
+use Rattle.link_life.specs.declared.act.NumberedAct.{NumberedAct}
 
 -- what is wrong where the test fails
 abbrev pub needs : Bool → LifeWhat → Result (Unit {0}) LifeWhat

@@ -9,8 +9,8 @@ use Rattle.ax_link.specs.Opening.{opening, rules_new}
 use Rattle.ax_link.specs.State.{Effect, Frame, Rules, State, count_end}
 use Rattle.ax_link.specs.Table.{Input, may_close, step}
 use Rattle.ax_link.specs.Table as table
-use Rattle.link_life.specs.declared.reasons.LifeRefusal.{LifeRefusal}
-use Rattle.link_life.specs.declared.reasons.LifeRefusal.TheVariants as why
+use Rattle.link_life.specs.declared.life_refusals.LifeRefusal.{LifeRefusal}
+use Rattle.link_life.specs.declared.life_refusals.LifeRefusal.TheVariants as why
 use Rattle.link_life.specs.declared.act.Side.{Side}
 use Rattle.link_life.specs.declared.act.Side.TheVariants.{A, B}
 use Rattle.link_life.specs.declared.act.EndAct.{EndAct}

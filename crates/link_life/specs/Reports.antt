@@ -13,13 +13,13 @@ use Rattle.ax_link.specs.Kinds.{control_of, info_of, pid_of}
 use Rattle.ax_link.specs.State.{Frame}
 use Rattle.link_life.specs.declared.act.Side.{Side}
 use Rattle.link_life.specs.declared.act.Side.TheVariants.{A, B}
-use Rattle.link_life.specs.declared.reasons.LifeRefusal.{LifeRefusal}
-use Rattle.link_life.specs.declared.script.NumberedAct.{NumberedAct}
+use Rattle.link_life.specs.declared.life_refusals.LifeRefusal.{LifeRefusal}
+use Rattle.link_life.specs.declared.act.NumberedAct.{NumberedAct}
 use Rattle.link_life.specs.Ends.{Epoch, epochs, partner_of}
 use Rattle.link_life.specs.Lives.{Life, Outcome, LifeTold, Refused, Done, act_on, after_act}
-use Rattle.link_life.specs.declared.reasons.LifeWhat.{LifeWhat}
-use Rattle.link_life.specs.declared.reasons.LifeWhat.TheVariants as whats
-use Rattle.link_life.specs.declared.reasons.LifeRefusal.TheVariants.{Phase, Early, Delay, Nothing, NotUp, QueueFull, Exhausted}
+use Rattle.link_life.specs.declared.life_refusals.LifeWhat.{LifeWhat}
+use Rattle.link_life.specs.declared.life_refusals.LifeWhat.TheVariants as whats
+use Rattle.link_life.specs.declared.life_refusals.LifeRefusal.TheVariants.{Phase, Early, Delay, Nothing, NotUp, QueueFull, Exhausted}
 
 -- The words by which reasons are shown. Own profile.
 

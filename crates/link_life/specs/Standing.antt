@@ -17,14 +17,14 @@ use Rattle.ax_link.specs.Standing.{IsDrained, Stands, StandsFor, frame_of}
 use Rattle.ax_link.specs.State.{Effect, State, count_end, is_up}
 use Rattle.ax_link.specs.Table.{Tick, step}
 use Rattle.link_life.specs.declared.act.Side.{Side}
-use Rattle.link_life.specs.declared.reasons.LifeRefusal.{LifeRefusal}
-use Rattle.link_life.specs.declared.reasons.LifeRefusal.TheVariants.{Nothing, NotUp, QueueFull, Exhausted}
+use Rattle.link_life.specs.declared.life_refusals.LifeRefusal.{LifeRefusal}
+use Rattle.link_life.specs.declared.life_refusals.LifeRefusal.TheVariants.{Nothing, NotUp, QueueFull, Exhausted}
 use Rattle.link_life.specs.declared.book.Book.{Book}
-use Rattle.link_life.specs.declared.book.Epoch.{Epoch as EpochKept}
-use Rattle.link_life.specs.declared.book.Flight.{Flight as FlightKept}
-use Rattle.link_life.specs.declared.book.Lasting.{Lasting}
+use Rattle.link_life.specs.declared.epoch.Epoch.{Epoch as EpochKept}
+use Rattle.link_life.specs.declared.flight.Flight.{Flight as FlightKept}
+use Rattle.link_life.specs.declared.epoch.Lasting.{Lasting}
 use Rattle.link_life.specs.declared.turn.Turn.{Turn as TurnKept}
-use Rattle.link_life.specs.declared.turn.End.{End as EndKept}
+use Rattle.link_life.specs.declared.end.End.{End as EndKept}
 use Rattle.link_life.specs.declared.life.Life.{Life as LifeKept}
 use Rattle.link_life.specs.Ends.{End, Ends, Epoch, Flight, begins, step_near}
 use Rattle.link_life.specs.Lives.{Life, Outcome, Turn, Refused, Done, after_act, settings}

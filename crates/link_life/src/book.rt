@@ -1,42 +1,15 @@
-//! What is kept of an end beside its link: its epochs, and the frames that are under way to it.
+//! What is kept of an end beside its link.
 ghost use Rattle.std.specs.Prelude.{◌≡◌, ◌++◌, [], None, Some, OnOk};
 ghost use Rattle.link_life.specs.Ends as ends;
 ghost use Rattle.link_life.specs.Standing as standing;
 
+use crate::epoch::{Epoch, Lasting, epoch_of};
+use crate::flight::Flight;
 use ax_frame::Control;
-use ax_link::{LinkFacts, LinkNotice, LinkOut};
+use ax_link::{LinkFacts, LinkNotice};
 use radio_base::NoMemory;
 use std::alloc::Global;
 use std::collections::VecDeque;
-
-/// A frame under way.
-#[derive(Drop)]
-pub struct Flight {
-    /// When it was sent.
-    pub sent: u64,
-    /// In which epoch of its sender: 0 where it had none then.
-    pub epoch: u64,
-    pub out: LinkOut,
-}
-
-/// What an end went through from its opening or a reset to its next reset or until it went Down.
-#[derive(Clone, Copy)]
-pub struct Epoch {
-    /// How many payloads it was given.
-    pub given: u64,
-    /// How many it got.
-    pub got: u64,
-    /// How many of its own it counts as acknowledged.
-    pub acked: u64,
-    /// The epoch of the other end that sent the first frame of account which it took.
-    pub partner: Option<u64>,
-}
-
-/// An epoch that isn't over: its counts are those of the link.
-#[derive(Clone, Copy)]
-pub struct Lasting {
-    pub partner: Option<u64>,
-}
 
 /// What is kept of an end beside its link.
 #[derive(Drop)]
@@ -49,18 +22,6 @@ pub struct Book {
     pub down_since: Option<u64>,
     /// What is under way to the end, the oldest first.
     pub coming: VecDeque<Flight>,
-}
-
-/// An epoch by the counts of its link.
-pub fn epoch_of(facts: &LinkFacts, lasting: Lasting) -> Epoch
-    ensures { result ≡ standing.epoch_kept facts.now lasting }
-{
-    Epoch {
-        given: facts.acked.saturating_add(facts.held as u64),
-        got: facts.got,
-        acked: facts.acked,
-        partner: lasting.partner,
-    }
 }
 
 impl Book {

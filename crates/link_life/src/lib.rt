@@ -5,17 +5,22 @@
 mod act;
 mod book;
 mod calls;
-mod epochs;
+mod end;
+mod epoch;
+mod epoch_lines;
+mod flight;
 pub mod laws;
 mod life;
+mod life_refusals;
 mod line;
-mod reasons;
 mod script;
+mod sent_text;
 mod settle;
 mod told;
 mod turn;
 
-pub use act::{EndAct, LifeAct, SentText, Side};
+pub use act::{EndAct, LifeAct, NumberedAct, Side};
 pub use life::run_life;
-pub use reasons::{LifeFileRefusal, LifeRefusal, LifeWhat};
-pub use script::{LifeScript, NumberedAct, read_life};
+pub use life_refusals::{LifeFileRefusal, LifeRefusal, LifeWhat};
+pub use script::{LifeScript, read_life};
+pub use sent_text::SentText;

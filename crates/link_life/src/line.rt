@@ -3,8 +3,9 @@ ghost use Rattle.std.specs.Prelude.{◌≡◌, ◌∷◌, MatchOption, None, Som
 ghost use Rattle.link_life.specs.Lines as lines;
 ghost use Rattle.text_lines.specs.Lines.{words_of};
 
-use crate::act::{EndAct, LifeAct, SentText, Side};
-use crate::reasons::LifeWhat;
+use crate::act::{EndAct, LifeAct, Side};
+use crate::life_refusals::LifeWhat;
+use crate::sent_text::SentText;
 use radio_base::MAX_INFO;
 use text_lines::{after_space, first_word, is_text, number_of, past_word};
 

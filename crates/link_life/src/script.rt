@@ -3,19 +3,12 @@ ghost use Rattle.std.specs.Prelude.{◌≡◌, ◌≤◌, ◌++◌, ◌∷◌, �
 ghost use Rattle.std.specs.Str.Lines.{lines};
 ghost use Rattle.link_life.specs.Lines as scripts;
 
-use crate::act::LifeAct;
+use crate::act::{LifeAct, NumberedAct};
+use crate::life_refusals::{LifeFileRefusal, LifeWhat};
 use crate::line::read_line;
-use crate::reasons::{LifeFileRefusal, LifeWhat};
 use std::alloc::{AllocError, Global};
 use std::marker::Model;
 use text_lines::{MAX_LINES, first_line, is_skipped};
-
-/// What a line asks for, with the number of the line, from 1.
-#[derive(Debug, Drop)]
-pub struct NumberedAct<'a> {
-    pub line: u32,
-    pub act: LifeAct<'a>,
-}
 
 /// What is done in a life, in order. It lends the texts of the file.
 #[derive(Debug, Drop)]
@@ -25,7 +18,7 @@ pub struct LifeScript<'a> {
 
 impl<'a> Model for LifeScript<'a> {
     ghost use Rattle.std.specs.Prelude.{List};
-    ghost use Rattle.link_life.specs.declared.script.NumberedAct.{NumberedAct};
+    ghost use Rattle.link_life.specs.declared.act.NumberedAct.{NumberedAct};
 
     ghost Value = { List NumberedAct };
 

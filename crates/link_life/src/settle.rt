@@ -11,9 +11,11 @@ ghost use Rattle.link_life.specs.Lives as lives;
 ghost use Rattle.link_life.specs.Reports as reports;
 ghost use Rattle.link_life.specs.Standing as standing;
 
-use crate::book::{Book, Flight};
+use crate::book::Book;
+use crate::end::{End, config};
+use crate::flight::Flight;
 use crate::told::{write_frame, write_notice};
-use crate::turn::{End, Turn, config, is_down};
+use crate::turn::{Turn, is_down};
 use ax_link::{Link, LinkFacts, LinkPhase};
 use radio_base::{Modulus, NoMemory, TextOut};
 use std::collections::VecDeque;

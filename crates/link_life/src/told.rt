@@ -7,7 +7,7 @@ ghost use Rattle.link_life.specs.Standing as standing;
 
 use crate::act::Side;
 use crate::calls::Calls;
-use crate::reasons::LifeRefusal;
+use crate::life_refusals::LifeRefusal;
 use arrayvec::ArrayString;
 use ax_address::{Address, Path};
 use ax_frame::{FrameView, Head, show_frame};

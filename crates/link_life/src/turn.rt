@@ -1,7 +1,6 @@
 //! What is done at one end.
-ghost use Rattle.std.specs.Prelude.{◌≡◌, [], None, Some, OnOk, IfOk};
+ghost use Rattle.std.specs.Prelude.{◌≡◌, Some, OnOk, IfOk};
 ghost use Rattle.ax_frame.specs.Controls.{IsLinkModulus};
-ghost use Rattle.ax_link.specs.Opening.{rules_new};
 ghost use Rattle.ax_link.specs.Standing.{IsDrained, Stands, StandsFor, frame_of};
 ghost use Rattle.ax_link.specs.State.{State};
 ghost use Rattle.ax_link.specs.Table as table;
@@ -10,13 +9,16 @@ ghost use Rattle.link_life.specs.Ends as ends;
 ghost use Rattle.link_life.specs.Lives as lives;
 ghost use Rattle.link_life.specs.Standing as standing;
 
-use crate::act::{EndAct, SentText, Side};
-use crate::book::{Book, Flight, is_of_account};
+use crate::act::{EndAct, Side};
+use crate::book::{Book, is_of_account};
 use crate::calls::Calls;
-use crate::reasons::LifeRefusal;
+use crate::end::End;
+use crate::flight::Flight;
+use crate::life_refusals::LifeRefusal;
+use crate::sent_text::SentText;
 use crate::settle::{heed, put_out, settle};
 use crate::told::write_took;
-use ax_link::{Link, LinkConfig, LinkOut, LinkPhase, SendRefusal};
+use ax_link::{Link, LinkOut, LinkPhase, SendRefusal};
 use radio_base::{Modulus, Moment, NoMemory, TextOut};
 use std::alloc::Global;
 
@@ -33,56 +35,13 @@ pub struct Turn<'a> {
     pub calls: &'a Calls,
 }
 
-/// One end: its link, and what is kept beside it.
-#[derive(Drop)]
-pub struct End<M: Modulus> {
-    pub link: Link<M>,
-    pub book: Book,
-}
-
 /// Nothing where an act is done, or why it isn't.
 pub type Answer = Result<Option<LifeRefusal>, NoMemory>;
-
-/// The settings of both ends.
-pub(crate) fn config(srej: bool) -> LinkConfig
-    ensures { result ≡ lives.settings srej }
-{
-    LinkConfig {
-        window: 0,
-        srej,
-        t1: 3000,
-        t3: 300_000,
-        retries: 10,
-    }
-}
 
 pub(crate) fn is_down(phase: LinkPhase) -> bool
     ensures { result ≡ ends.is_down phase }
 {
     matches!(phase, LinkPhase::Down)
-}
-
-impl<M: Modulus> End<M> {
-    ghost use Rattle.std.specs.Prelude.{[], None, IfOk, ◌≡◌};
-    ghost use Rattle.ax_frame.specs.Controls.{IsLinkModulus};
-    ghost use Rattle.ax_link.specs.Standing.{IsDrained};
-    ghost use Rattle.ax_link.specs.Opening.{rules_new};
-    ghost use Rattle.link_life.specs.Standing as standing;
-    ghost use Rattle.link_life.specs.Lives as lives;
-
-    /// An end that is Down and has known nothing yet.
-    pub fn new(alloc: Global, srej: bool) -> Result<End<M>, NoMemory>
-        requires { IsLinkModulus M.SIZE }
-        ensures stands { IfOk result (λ e. standing.EndStands M.SIZE e
-            (lives.new_end (rules_new M.SIZE (lives.settings srej)))) }
-        ensures drained { IfOk result (λ e. IsDrained e.link) }
-    {
-        let link = Link::new(alloc, config(srej))?;
-        Ok(End {
-            link,
-            book: Book::new(alloc),
-        })
-    }
 }
 
 fn is_early(down_since: Option<u64>, now: u64) -> bool

@@ -3,8 +3,8 @@ use Rattle.std.proofs.Common.{◌≡◌, ◌++◌, ◌∙◌, ℕ, refl, List, [
 use Rattle.std.specs.Prelude.{Some}
 use Rattle.kiss_framing.specs.Stream.{Item}
 use Rattle.kiss_framing.specs.Feeding.{handed_out}
-use Rattle.kiss_framing.specs.declared.deframer.KissItem.{KissItem}
-use Rattle.kiss_framing.specs.declared.deframer.KissItem.TheVariants as kiss
+use Rattle.kiss_framing.specs.declared.item.KissItem.{KissItem}
+use Rattle.kiss_framing.specs.declared.item.KissItem.TheVariants as kiss
 use Rattle.frame_lines.specs.Hearing.{Listening, by_item, by_items, item_of}
 
 abbrev both : Listening → List ℕ → Listening × List ℕ

@@ -7,7 +7,7 @@ use Rattle.cmd_streams.specs.Reading.{ReadsFew, ReadsTooMuch, TellsTooMuch}
 use Rattle.cmd_streams.specs.StreamEnds.{StreamEnds}
 use Rattle.cmd_streams.specs.Streams.{Read, bytes_of}
 use Rattle.cmd_streams.specs.Told.{StreamsTold, Comes, ReadsWell, WritesWell, IsNoted}
-use Rattle.frame_lines.specs.declared.listener.Modulo.{Modulo}
+use Rattle.frame_lines.specs.declared.modulo.Modulo.{Modulo}
 use Rattle.frame_lines.specs.Hearing.{Listening, by_items}
 use Rattle.kiss_framing.specs.Stream.{items}
 use Rattle.net_replay.specs.Circuits.{AirsTooMany}

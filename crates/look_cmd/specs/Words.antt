@@ -1,10 +1,10 @@
 -- The commands, and the words that ask for them.
 use Rattle.std.specs.Prelude.{ℕ, ◌≡◌, List, [], ◌∷◌, map, codes, String, string_bytes}
 use Rattle.std.specs.declared.alloc.Global.{Global}
-use Rattle.frame_lines.specs.declared.listener.Modulo.{Modulo}
-use Rattle.frame_lines.specs.declared.listener.Modulo.TheVariants.{Auto, M8, M128}
-use Rattle.look_cmd.specs.declared.words.LookCommand.{LookCommand}
-use Rattle.look_cmd.specs.declared.words.LookCommand.TheVariants.{Listen, Trace}
+use Rattle.frame_lines.specs.declared.modulo.Modulo.{Modulo}
+use Rattle.frame_lines.specs.declared.modulo.Modulo.TheVariants.{Auto, M8, M128}
+use Rattle.look_cmd.specs.declared.commands.LookCommand.{LookCommand}
+use Rattle.look_cmd.specs.declared.commands.LookCommand.TheVariants.{Listen, Trace}
 
 abbrev pub modulo_word : Modulo → List ℕ
 modulo_word Auto = codes "modulo=auto"

@@ -3,11 +3,11 @@
 //! The program itself is the crate `wursthatch_look`.
 #![tactic(auto)]
 
+mod commands;
 mod listens;
 mod top;
 mod traces;
 mod usage;
-mod words;
 
 pub use cmd_streams::{Reading, Status, Writing};
 pub use top::look;

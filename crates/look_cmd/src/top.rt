@@ -2,16 +2,16 @@
 ghost use Rattle.std.specs.Prelude.{◌≡◌, ◌↔◌};
 ghost use Rattle.cmd_streams.specs.StatusNotes.{HasNote, IsSilent};
 ghost use Rattle.cmd_streams.specs.Told.{SaysTo, told_by, UnlessItWrote};
-ghost use Rattle.frame_lines.specs.declared.listener.Modulo.{Modulo};
-ghost use Rattle.look_cmd.specs.declared.words.LookCommand.{LookCommand};
+ghost use Rattle.frame_lines.specs.declared.modulo.Modulo.{Modulo};
+ghost use Rattle.look_cmd.specs.declared.commands.LookCommand.{LookCommand};
 ghost use Rattle.look_cmd.specs.Look.{ListenEnds, TraceEnds};
 ghost use Rattle.look_cmd.specs.Usage.{usage_note};
 ghost use Rattle.look_cmd.specs.Words.{AskFor};
 
+use crate::commands::{LookCommand, command_of};
 use crate::listens::listen_to_stream;
 use crate::traces::trace_file;
 use crate::usage::USAGE;
-use crate::words::{LookCommand, command_of};
 use cmd_streams::{Status, say};
 use radio_base::{Sink, Source};
 use std::alloc::Global;

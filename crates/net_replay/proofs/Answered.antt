@@ -8,8 +8,8 @@ use Rattle.node_core.specs.declared.acts.ActRefusal.{ActRefusal}
 use Rattle.node_core.specs.Acts.{UserAct}
 use Rattle.net_replay.specs.declared.answer.Answer.{Answer}
 use Rattle.net_replay.specs.declared.answer.Answer.TheVariants as answers
-use Rattle.net_replay.specs.declared.reasons.LineRefusal.{LineRefusal}
-use Rattle.net_replay.specs.declared.reasons.ReplayRefusal.{ReplayRefusal}
+use Rattle.net_replay.specs.declared.refusals.LineRefusal.{LineRefusal}
+use Rattle.net_replay.specs.declared.refusals.ReplayRefusal.{ReplayRefusal}
 use Rattle.net_replay.specs.Events.{Event}
 use Rattle.net_replay.specs.Lines.{refusal_events, events_of_act, took_of}
 use Rattle.net_replay.specs.Running.{Course, GoesOn, IsAnswerTo, IsRefusedFor, Runs, Stands, answer_events, message_events, message_in, refusal_in, taken_events}

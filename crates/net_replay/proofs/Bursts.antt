@@ -4,8 +4,8 @@ use Rattle.std.specs.Prelude.{Ok}
 use Rattle.std.specs.Fmt.{decimal}
 use Rattle.node_core.specs.declared.acts.ActDone.{ActDone}
 use Rattle.node_core.specs.Acts.{UserAct, Write}
-use Rattle.net_replay.specs.declared.reasons.LineRefusal.{LineRefusal}
-use Rattle.net_replay.specs.declared.reasons.ReplayRefusal.{ReplayRefusal}
+use Rattle.net_replay.specs.declared.refusals.LineRefusal.{LineRefusal}
+use Rattle.net_replay.specs.declared.refusals.ReplayRefusal.{ReplayRefusal}
 use Rattle.net_replay.specs.Events.{Refused, Wrote}
 use Rattle.net_replay.specs.Lines.{all_wrote, burst_from, refusal_events}
 use Rattle.net_replay.specs.Running.{IsRefusedFor}

@@ -2,7 +2,7 @@
 use Rattle.std.proofs.Common.{◌≡◌, ◌<◌, ◌++◌, ◌∙◌, ℕ, refl, sym, ap, subst, List, [], ◌∷◌, length, map, drop, get_or, append_assoc, append-nil}
 use Rattle.std.specs.Prelude.{Option, Some, None, Result, Ok, Err, IfOk, IfSome, false, is_some, slice_get, slice_set}
 use Rattle.std.specs.Option.{option_map}
-use Rattle.radio_base.specs.declared.errors.NoMemory.{NoMemory}
+use Rattle.radio_base.specs.declared.no_memory.NoMemory.{NoMemory}
 use Rattle.network_file.specs.declared.plan.declarations.Declaration.{Declaration}
 use Rattle.node_core.specs.Standing.{Kept, NodeStands}
 use Rattle.net_replay.specs.declared.events.Event.{Event as SeenEvent}

@@ -3,8 +3,8 @@ use Rattle.std.proofs.Common.{◌≡◌, ◌∙◌, ℕ, ap, sym, List, [], ◌�
 use Rattle.std.specs.Prelude.{Option, Some, None, Result}
 use Rattle.network_file.specs.declared.plan.channels.Channel.{Channel}
 use Rattle.net_replay.specs.declared.air.Aired.{Aired}
-use Rattle.net_replay.specs.declared.reasons.LineRefusal.{LineRefusal}
-use Rattle.net_replay.specs.declared.reasons.ReplayRefusal.{ReplayRefusal}
+use Rattle.net_replay.specs.declared.refusals.LineRefusal.{LineRefusal}
+use Rattle.net_replay.specs.declared.refusals.ReplayRefusal.{ReplayRefusal}
 use Rattle.net_replay.specs.Events.{Refused}
 use Rattle.net_replay.specs.Lines.{unless_refused}
 use Rattle.net_replay.specs.Running.{Course, GoesOn, Runs, Stands}

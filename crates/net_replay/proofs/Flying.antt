@@ -5,7 +5,7 @@ use Rattle.std.specs.List.{AllByRecursion}
 use Rattle.std.proofs.lemmas.Bool.{ltb-false}
 use Rattle.ax_address.specs.Callsign.{Callsign}
 use Rattle.ax_frame.specs.Frames.{IsAddress}
-use Rattle.circuit_l4.specs.declared.transport.Pair.{Pair}
+use Rattle.circuit_l4.specs.declared.pair.Pair.{Pair}
 use Rattle.circuit_set.specs.Events as set_events
 use Rattle.circuit_set.specs.Pumps.{runs}
 use Rattle.circuit_set.specs.Pairs.{IsPair}

@@ -3,8 +3,8 @@ use Rattle.std.proofs.Common.{ℕ, zero, suc, List, [], ◌∷◌, length, map, 
 use Rattle.std.specs.Prelude.{slice_get, Option, Some, None}
 use Rattle.std.specs.List.{AllByRecursion}
 use Rattle.ax_address.specs.Callsign.{Callsign}
-use Rattle.circuit_l4.specs.declared.transport.Pair.{Pair}
-use Rattle.network_file.specs.declared.network.NumberedInstruction.{NumberedInstruction}
+use Rattle.circuit_l4.specs.declared.pair.Pair.{Pair}
+use Rattle.network_file.specs.declared.plan.instructions.NumberedInstruction.{NumberedInstruction}
 use Rattle.network_file.specs.declared.plan.instructions.Instruction.{Instruction}
 use Rattle.network_file.specs.declared.plan.instructions.Instruction.TheVariants as instructions
 use Rattle.network_file.specs.Plan.{Plan}

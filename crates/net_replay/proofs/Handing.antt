@@ -4,7 +4,7 @@ use Rattle.std.specs.Prelude.{Some, None, Result, nat_lt, slice_get}
 use Rattle.std.proofs.lemmas.Bool.{ltb-false}
 use Rattle.std.proofs.lemmas.Option.{slice_get-get_or, slice_get_past}
 use Rattle.net_replay.specs.declared.air.Aired.{Aired}
-use Rattle.net_replay.specs.declared.reasons.ReplayRefusal.{ReplayRefusal}
+use Rattle.net_replay.specs.declared.refusals.ReplayRefusal.{ReplayRefusal}
 use Rattle.net_replay.specs.Events.{Delivered}
 use Rattle.net_replay.specs.Lines.{deliver_at, hear, kiss_bytes}
 use Rattle.net_replay.specs.Running.{Course, GoesOn, Runs, Stands}

@@ -9,10 +9,10 @@ use Rattle.circuit_set.specs.TooLate.{Allowing, IsFresh, IsTimely}
 use Rattle.circuit_verdict.specs.Verdicts as told
 use Rattle.circuit_verdict.specs.Verdicts.{events_of, AreInTime, Fails, IsFirstLate, allows_of}
 use Rattle.circuit_verdict.specs.declared.cause.Cause.{Cause}
-use Rattle.circuit_verdict.specs.declared.verdict.Allowance.{Allowance}
-use Rattle.circuit_verdict.specs.declared.verdict.Late.{Late}
-use Rattle.circuit_verdict.specs.declared.verdict.LateWhy.{LateWhy}
-use Rattle.circuit_verdict.specs.declared.verdict.LateWhy.TheVariants.{Overtaken, Returned}
+use Rattle.circuit_verdict.specs.declared.allowance.Allowance.{Allowance}
+use Rattle.circuit_verdict.specs.declared.late.Late.{Late}
+use Rattle.circuit_verdict.specs.declared.late.LateWhy.{LateWhy}
+use Rattle.circuit_verdict.specs.declared.late.LateWhy.TheVariants.{Overtaken, Returned}
 use Rattle.network_file.specs.Plan.{Plan}
 use Rattle.node_turns.specs.States as states
 use Rattle.net_replay.specs.declared.causes.LateCause.{LateCause}

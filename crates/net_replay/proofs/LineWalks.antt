@@ -6,16 +6,16 @@ use Rattle.std.specs.List.{AllByRecursion}
 use Rattle.ax_address.specs.Callsign.{Callsign, IsCallsign}
 use Rattle.ax_address.specs.declared.alias.Alias.{Alias}
 use Rattle.circuit_l4.specs.declared.facts.EndFacts.{EndFacts}
-use Rattle.circuit_l4.specs.declared.transport.Pair.{Pair}
+use Rattle.circuit_l4.specs.declared.pair.Pair.{Pair}
 use Rattle.circuit_l4.specs.Opening.{facts_of}
 use Rattle.circuit_l4.specs.Table as table
 use Rattle.circuit_set.specs.CircuitSets.{facts_at}
-use Rattle.circuit_set.specs.declared.event.SetRefusal.TheVariants as set_refusal
+use Rattle.circuit_set.specs.declared.refusal.SetRefusal.TheVariants as set_refusal
 use Rattle.circuit_set.specs.Sets as sets
 use Rattle.circuit_set.specs.Sets.{Holder, end_of}
 use Rattle.circuit_set.specs.Standing.{by_write, write_answer}
 use Rattle.nodes_broadcast.specs.Nodes.{Broadcast, view}
-use Rattle.network_file.specs.declared.network.NumberedInstruction.{NumberedInstruction}
+use Rattle.network_file.specs.declared.plan.instructions.NumberedInstruction.{NumberedInstruction}
 use Rattle.network_file.specs.declared.plan.instructions.Instruction.{Instruction}
 use Rattle.network_file.specs.declared.plan.instructions.Instruction.TheVariants as instructions
 use Rattle.network_file.specs.Plan.{hearers, Plan}
@@ -30,7 +30,7 @@ use Rattle.node_turns.specs.Serving.{is_served}
 use Rattle.node_turns.specs.States.{NodeState, State}
 use Rattle.node_core.specs.Acts as acts
 use Rattle.net_replay.specs.declared.air.Aired.{Aired}
-use Rattle.net_replay.specs.declared.reasons.LineRefusal.{LineRefusal}
+use Rattle.net_replay.specs.declared.refusals.LineRefusal.{LineRefusal}
 use Rattle.net_replay.specs.World.{delivery_fault, frame_of, lost_fault, oldest, Bytes, Input, Time, World, answer, place_of_node, put, reach, tell}
 use Rattle.net_replay.specs.Events as events
 use Rattle.net_replay.specs.Events.{Event}

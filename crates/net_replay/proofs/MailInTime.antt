@@ -12,7 +12,7 @@ use Rattle.circuit_set.specs.Runs.{AreStarts, Step, end_named}
 use Rattle.circuit_set.specs.Safe.{CircuitsSafe, PartnersLast}
 use Rattle.circuit_set.specs.Sets.{Holder, SetState, end_of}
 use Rattle.circuit_set.specs.Writings.{EndsWroteByWrites}
-use Rattle.network_file.specs.declared.network.NumberedInstruction.{NumberedInstruction}
+use Rattle.network_file.specs.declared.plan.instructions.NumberedInstruction.{NumberedInstruction}
 use Rattle.network_file.specs.declared.plan.declarations.Declaration.{Declaration}
 use Rattle.network_file.specs.declared.plan.instructions.Instruction.{Instruction}
 use Rattle.network_file.specs.declared.plan.instructions.Instruction.TheVariants as instructions

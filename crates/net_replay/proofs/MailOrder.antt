@@ -5,10 +5,10 @@ use Rattle.std.specs.List.{AllByRecursion}
 use Rattle.std.proofs.lemmas.List.{length-append}
 use Rattle.radio_base.specs.declared.modulus.TheConstants.{COUNT_MAX}
 use Rattle.ax_address.specs.Callsign.{Callsign, same_call}
-use Rattle.node_mail.specs.declared.mail.Heard.{Heard}
-use Rattle.node_mail.specs.declared.mail.Heard.TheVariants as hearing
-use Rattle.node_mail.specs.declared.mail.PostRefusal.{PostRefusal}
-use Rattle.node_mail.specs.declared.mail.PostRefusal.TheVariants as refusal
+use Rattle.node_mail.specs.declared.heard.Heard.{Heard}
+use Rattle.node_mail.specs.declared.heard.Heard.TheVariants as hearing
+use Rattle.node_mail.specs.declared.post_refusal.PostRefusal.{PostRefusal}
+use Rattle.node_mail.specs.declared.post_refusal.PostRefusal.TheVariants as refusal
 use Rattle.node_mail.specs.Lists.{Letter, Lists, hear_at, hear_step, kept_after, letter_of, new_letter, nothing_kept, post_at, post_step, posted_by, text_of}
 use Rattle.node_mail.specs.Queues.{Rises}
 use Rattle.node_mail.specs.Wires.{wire_at}

@@ -11,13 +11,13 @@ use Rattle.node_core.specs.declared.acts.ActDone.TheVariants.{Done, Made, Took}
 use Rattle.node_core.specs.declared.acts.ActRefusal.{ActRefusal}
 use Rattle.node_core.specs.Acts as acts
 use Rattle.node_core.specs.Acts.{UserAct}
-use Rattle.node_mail.specs.declared.mail.Heard.{Heard}
-use Rattle.node_mail.specs.declared.mail.Heard.TheVariants as hearing
-use Rattle.node_mail.specs.declared.mail.PostRefusal.{PostRefusal}
+use Rattle.node_mail.specs.declared.heard.Heard.{Heard}
+use Rattle.node_mail.specs.declared.heard.Heard.TheVariants as hearing
+use Rattle.node_mail.specs.declared.post_refusal.PostRefusal.{PostRefusal}
 use Rattle.node_mail.specs.Lists.{Lists, answer_to, hear_at, hear_step, post_at, post_step, text_of}
 use Rattle.node_mail.specs.Wires.{Wire, wire_at, wire_octets}
-use Rattle.net_replay.specs.declared.reasons.LineRefusal.{LineRefusal}
-use Rattle.net_replay.specs.declared.reasons.LineRefusal.TheVariants.{NoMail, Served}
+use Rattle.net_replay.specs.declared.refusals.LineRefusal.{LineRefusal}
+use Rattle.net_replay.specs.declared.refusals.LineRefusal.TheVariants.{NoMail, Served}
 use Rattle.net_replay.specs.Events as events
 use Rattle.net_replay.specs.Events.{Event}
 use Rattle.net_replay.specs.Mailing.{Agent, dest_of, ends_here, heard_by, heard_events, input, is_agents, mail, mail_at, may_write, offer, offer_all, offer_at, offer_octets, post, post_by, posted_events, take_at, take_from, turn_by, unless_agents, waits, with_mail, write_answer_to, write_if_taken}

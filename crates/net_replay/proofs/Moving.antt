@@ -4,7 +4,7 @@ use Rattle.std.specs.Prelude.{◌≢◌, ◌==◌, nat_eq, slice_get, Some, None
 use Rattle.std.specs.List.{AllByRecursion, flat_map, position_or_len, range_with_len}
 use Rattle.std.proofs.lemmas.List.{length-append}
 use Rattle.ax_address.specs.Callsign.{Callsign}
-use Rattle.circuit_l4.specs.declared.transport.Pair.{Pair}
+use Rattle.circuit_l4.specs.declared.pair.Pair.{Pair}
 use Rattle.circuit_l4.specs.Opening.{facts_of}
 use Rattle.circuit_set.specs.Events as set_events
 use Rattle.circuit_set.specs.CircuitSets.{facts_at}
@@ -25,8 +25,8 @@ use Rattle.node_core.specs.Runs.{MadeFrom, circuits_told}
 use Rattle.node_turns.specs.States as states
 use Rattle.node_turns.specs.States.{NodeState}
 use Rattle.net_replay.specs.declared.ends.EndRecord.{EndRecord}
-use Rattle.net_replay.specs.declared.ends.Outcome.{Outcome}
-use Rattle.net_replay.specs.declared.ends.Outcome.TheVariants as outcomes
+use Rattle.net_replay.specs.declared.outcome.Outcome.{Outcome}
+use Rattle.net_replay.specs.declared.outcome.Outcome.TheVariants as outcomes
 use Rattle.net_replay.specs.Promises.{set_of}
 use Rattle.net_replay.specs.Circuits.{CircuitEvent}
 use Rattle.net_replay.specs.Ends.{ends_of, note_entry, note_event, note_events, note_told, with_outcome}

@@ -4,7 +4,7 @@ use Rattle.std.specs.Prelude.{◌==◌}
 use Rattle.std.specs.declared.vec.Vec.{Vec}
 use Rattle.std.proofs.lemmas.Bool.Decides.{nat_tests}
 use Rattle.net_replay.specs.declared.ends.EndRecord.{EndRecord}
-use Rattle.net_replay.specs.declared.ends.Outcome.{Outcome}
+use Rattle.net_replay.specs.declared.outcome.Outcome.{Outcome}
 use Rattle.net_replay.specs.Ends.{all_items, ends_at, ends_of, note_event, note_events, with_offered, with_outcome}
 use Rattle.net_replay.specs.Events.{NumberedEvent}
 

@@ -4,7 +4,7 @@ use Rattle.std.specs.Prelude.{Option, None, IfOk, IfErr, Result, Ok, Err, slice_
 use Rattle.std.specs.Option.{option_map}
 use Rattle.ax_address.specs.Callsign.{Callsign}
 use Rattle.node_mail.specs.Lists.{Letter, Lists, number_and_dest}
-use Rattle.net_replay.specs.declared.reasons.ReplayRefusal.{ReplayRefusal}
+use Rattle.net_replay.specs.declared.refusals.ReplayRefusal.{ReplayRefusal}
 use Rattle.net_replay.specs.Agents.{Offers, offer_from}
 use Rattle.net_replay.specs.Mailing.{mail_in, numbers_for, offer, queued_of}
 use Rattle.net_replay.specs.Running.{Course, Stands, Stops}

@@ -12,8 +12,8 @@ use Rattle.circuit_set.specs.Runs.{AreNarrow, AreStarts, AreSteps, Step, end_in,
 use Rattle.circuit_set.specs.Safe.{CircuitsSafe, IsSafe, Safe, SafeEnd}
 use Rattle.circuit_set.specs.Sets.{Holder}
 use Rattle.circuit_verdict.specs.Verdicts as verdicts
-use Rattle.circuit_verdict.specs.declared.verdict.Allowance.TheVariants as verdicts_at
-use Rattle.network_file.specs.declared.network.NumberedInstruction.{NumberedInstruction}
+use Rattle.circuit_verdict.specs.declared.allowance.Allowance.TheVariants as verdicts_at
+use Rattle.network_file.specs.declared.plan.instructions.NumberedInstruction.{NumberedInstruction}
 use Rattle.network_file.specs.declared.plan.declarations.Declaration.{Declaration}
 use Rattle.network_file.specs.declared.plan.keys.Key.{Key}
 use Rattle.network_file.specs.declared.plan.keys.Key.TheVariants.{Window}

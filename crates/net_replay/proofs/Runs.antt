@@ -1,10 +1,10 @@
 -- One thing done after another.
 use Rattle.std.proofs.Common.{◌≡◌, ◌≤◌, ◌∙◌, ℕ, List, length, arith, ap, sym, subst}
 use Rattle.std.specs.Prelude.{Result, Ok, Err, OnOk}
-use Rattle.radio_base.specs.declared.errors.NoMemory.{NoMemory}
+use Rattle.radio_base.specs.declared.no_memory.NoMemory.{NoMemory}
 use Rattle.net_replay.specs.declared.air.Aired.{Aired}
-use Rattle.net_replay.specs.declared.reasons.ReplayRefusal.{ReplayRefusal}
-use Rattle.net_replay.specs.declared.reasons.ReplayRefusal.TheVariants as refusals
+use Rattle.net_replay.specs.declared.refusals.ReplayRefusal.{ReplayRefusal}
+use Rattle.net_replay.specs.declared.refusals.ReplayRefusal.TheVariants as refusals
 use Rattle.net_replay.specs.World.{settled_at, World}
 use Rattle.net_replay.specs.Lines.{settle}
 use Rattle.net_replay.specs.Running.{Course, GoesOn, Runs, Stands, Stops}

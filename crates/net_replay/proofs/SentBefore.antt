@@ -18,7 +18,7 @@ use Rattle.circuit_set.specs.Sets.{SetState, CircuitTold}
 use Rattle.link_table.specs.Reaching.{IsCall}
 use Rattle.link_table.specs.Standing.{width}
 use Rattle.kiss_framing.specs.Laws.{FendParts, FramesReadBack, LongFramesAreTooLong}
-use Rattle.network_file.specs.declared.network.NumberedInstruction.{NumberedInstruction}
+use Rattle.network_file.specs.declared.plan.instructions.NumberedInstruction.{NumberedInstruction}
 use Rattle.network_file.specs.declared.plan.declarations.Declaration.{Declaration}
 use Rattle.network_file.specs.declared.plan.instructions.Instruction.{Instruction}
 use Rattle.network_file.specs.declared.plan.instructions.Instruction.TheVariants as instructions

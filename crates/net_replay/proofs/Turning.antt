@@ -1,7 +1,7 @@
 -- Posts, and turns of an agent, part by part.
 use Rattle.std.proofs.Common.{◌≡◌, ◌≤◌, ◌∙◌, ◌-◌, ℕ, zero, suc, refl, sym, ap, subst, arith, List, [], ◌∷◌, ◌++◌, length, map, filter, drop, Bool, true, false, ◌&&◌, cond}
 use Rattle.std.specs.Prelude.{Option, Some, None, OnOk, Result, Ok, Err, nat_lt, slice_get, slice_set}
-use Rattle.radio_base.specs.declared.errors.NoMemory.{NoMemory}
+use Rattle.radio_base.specs.declared.no_memory.NoMemory.{NoMemory}
 use Rattle.std.specs.Option.{option_map}
 use Rattle.ax_address.specs.Callsign.{Callsign, same_call}
 use Rattle.circuit_set.specs.CircuitSets.{partner_at}
@@ -11,17 +11,17 @@ use Rattle.node_core.specs.declared.acts.ActDone.{ActDone}
 use Rattle.node_core.specs.declared.acts.ActDone.TheVariants.{Done, Made, Took}
 use Rattle.node_core.specs.declared.acts.ActRefusal.{ActRefusal}
 use Rattle.node_core.specs.Acts as acts
-use Rattle.node_mail.specs.declared.mail.Heard.{Heard}
-use Rattle.node_mail.specs.declared.mail.Heard.TheVariants as hearing
-use Rattle.node_mail.specs.declared.mail.PostRefusal.{PostRefusal}
-use Rattle.node_mail.specs.declared.mail.PostRefusal.TheVariants as refusal
+use Rattle.node_mail.specs.declared.heard.Heard.{Heard}
+use Rattle.node_mail.specs.declared.heard.Heard.TheVariants as hearing
+use Rattle.node_mail.specs.declared.post_refusal.PostRefusal.{PostRefusal}
+use Rattle.node_mail.specs.declared.post_refusal.PostRefusal.TheVariants as refusal
 use Rattle.node_mail.specs.Lists.{Letter, Lists, answer_to, hear_at, hear_step, heard_of, is_queued_for, post_at, post_step, posted_by, text_of, IsPostAnswer, StoreView, number_and_dest, octets_in}
 use Rattle.node_mail.specs.Wires.{Carries, Receipt, Wire, wire_at, wire_octets}
 use Rattle.net_replay.specs.declared.events.Event as code
-use Rattle.net_replay.specs.declared.mails.Posting.TheVariants as posting
-use Rattle.net_replay.specs.declared.reasons.LineRefusal.{LineRefusal}
-use Rattle.net_replay.specs.declared.reasons.LineRefusal.TheVariants.{NoMail, Served}
-use Rattle.net_replay.specs.declared.reasons.ReplayRefusal.{ReplayRefusal}
+use Rattle.net_replay.specs.declared.posting.Posting.TheVariants as posting
+use Rattle.net_replay.specs.declared.refusals.LineRefusal.{LineRefusal}
+use Rattle.net_replay.specs.declared.refusals.LineRefusal.TheVariants.{NoMail, Served}
+use Rattle.net_replay.specs.declared.refusals.ReplayRefusal.{ReplayRefusal}
 use Rattle.net_replay.specs.Agents.{AgentRuns, AgentStands, HearsAt, PostsAt, change_mail, heard_at, posted_at}
 use Rattle.net_replay.specs.Events as events
 use Rattle.net_replay.specs.Events.{Event, event_of}

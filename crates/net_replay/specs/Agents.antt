@@ -3,13 +3,13 @@ use Rattle.std.specs.Prelude.{ℕ, ◌≡◌, Bool, true, false, List, drop, len
 use Rattle.ax_address.specs.Callsign.{Callsign}
 use Rattle.circuit_l4.specs.State.{is_up}
 use Rattle.circuit_set.specs.Sets.{Holder}
-use Rattle.node_mail.specs.declared.mail.Heard.{Heard}
-use Rattle.node_mail.specs.declared.mail.PostRefusal.{PostRefusal}
+use Rattle.node_mail.specs.declared.heard.Heard.{Heard}
+use Rattle.node_mail.specs.declared.post_refusal.PostRefusal.{PostRefusal}
 use Rattle.node_mail.specs.Lists.{Lists, answer_to, hear_at, hear_step, post_at, post_step, IsPostAnswer, octets_in}
 use Rattle.net_replay.specs.declared.events.Event as code
-use Rattle.net_replay.specs.declared.mails.Posting.{Posting}
-use Rattle.net_replay.specs.declared.mails.Posting.TheVariants.{NoMail, Posted, Refused}
-use Rattle.net_replay.specs.declared.reasons.ReplayRefusal.{ReplayRefusal}
+use Rattle.net_replay.specs.declared.posting.Posting.{Posting}
+use Rattle.net_replay.specs.declared.posting.Posting.TheVariants.{NoMail, Posted, Refused}
+use Rattle.net_replay.specs.declared.refusals.ReplayRefusal.{ReplayRefusal}
 use Rattle.net_replay.specs.Events.{event_of}
 use Rattle.net_replay.specs.Mailing.{Agent, mail_at, mail_in, numbers_for, offer, queued_of}
 use Rattle.net_replay.specs.Running.{Course, GoesOn, Stands}

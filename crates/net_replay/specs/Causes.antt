@@ -6,14 +6,14 @@ use Rattle.circuit_verdict.specs.Verdicts.{AreInTime, events_of}
 use Rattle.circuit_verdict.specs.declared.cause.Cause.{Cause}
 use Rattle.circuit_verdict.specs.declared.cause.Cause.TheVariants as causes
 use Rattle.circuit_verdict.specs.declared.event.Numbered.{Numbered}
-use Rattle.circuit_verdict.specs.declared.verdict.Allowance.{Allowance}
-use Rattle.circuit_verdict.specs.declared.verdict.Late.{Late}
+use Rattle.circuit_verdict.specs.declared.allowance.Allowance.{Allowance}
+use Rattle.circuit_verdict.specs.declared.late.Late.{Late}
 use Rattle.circuit_verdict.specs.declared.verdict.Verdict.{Verdict}
 use Rattle.circuit_verdict.specs.Standing.{StandsFor, allowance_in}
 use Rattle.network_file.specs.Plan.{Plan}
 use Rattle.net_replay.specs.declared.causes.LateCause.{LateCause}
-use Rattle.net_replay.specs.declared.causes.Sign.{Sign}
-use Rattle.net_replay.specs.declared.causes.Sign.TheVariants as signs
+use Rattle.net_replay.specs.declared.sign.Sign.{Sign}
+use Rattle.net_replay.specs.declared.sign.Sign.TheVariants as signs
 use Rattle.net_replay.specs.Circuits.{CircuitEvent, allowance_of, event_at, events_at, judged}
 use Rattle.net_replay.specs.Events.{NumberedEvent}
 use Rattle.net_replay.specs.Starting.{Placed}

@@ -4,9 +4,9 @@ use Rattle.circuit_set.specs.Events as set_events
 use Rattle.circuit_set.specs.Pumps.{Of}
 use Rattle.circuit_set.specs.Sets as sets
 use Rattle.circuit_verdict.specs.declared.event.Numbered.{Numbered}
-use Rattle.circuit_verdict.specs.declared.verdict.Allowance.{Allowance}
-use Rattle.circuit_verdict.specs.declared.verdict.Allowance.TheVariants.{Fixed, OfWindow}
-use Rattle.circuit_verdict.specs.declared.verdict.Late.{Late}
+use Rattle.circuit_verdict.specs.declared.allowance.Allowance.{Allowance}
+use Rattle.circuit_verdict.specs.declared.allowance.Allowance.TheVariants.{Fixed, OfWindow}
+use Rattle.circuit_verdict.specs.declared.late.Late.{Late}
 use Rattle.circuit_verdict.specs.Verdicts as verdicts
 use Rattle.circuit_verdict.specs.Verdicts.{IsVerdict}
 use Rattle.network_file.specs.Plan.{Plan, version_of}

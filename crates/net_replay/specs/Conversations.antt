@@ -7,11 +7,11 @@ use Rattle.circuit_set.specs.Safe.{IsBeginning}
 use Rattle.circuit_set.specs.Runs.{Step, end_named, events_of, sets_run}
 use Rattle.circuit_set.specs.Sets.{Holder, SetState}
 use Rattle.circuit_set.specs.TooLate.{HasPartner, Partners}
-use Rattle.network_file.specs.declared.network.NumberedInstruction.{NumberedInstruction}
+use Rattle.network_file.specs.declared.plan.instructions.NumberedInstruction.{NumberedInstruction}
 use Rattle.network_file.specs.Networks.{network_of}
 use Rattle.network_file.specs.Plan.{Plan}
-use Rattle.node_turns.specs.declared.session.Circuit.{Circuit}
-use Rattle.node_turns.specs.declared.session.Stage.TheVariants.{Connected}
+use Rattle.node_turns.specs.declared.circuit.Circuit.{Circuit}
+use Rattle.node_turns.specs.declared.stage.Stage.TheVariants.{Connected}
 use Rattle.node_turns.specs.Sessions.{Session}
 use Rattle.node_turns.specs.States.{State}
 use Rattle.node_turns.specs.Users.{is_deaf}

@@ -9,7 +9,7 @@ use Rattle.circuit_set.specs.Sendings.{IsFrom}
 use Rattle.circuit_set.specs.Sets.{Comes, Heeded, SetState, set_step}
 use Rattle.l3_datagram.specs.Datagrams.{head_at}
 use Rattle.l3_datagram.specs.declared.datagram.DatagramHead.{DatagramHead}
-use Rattle.network_file.specs.declared.network.NumberedInstruction.{NumberedInstruction}
+use Rattle.network_file.specs.declared.plan.instructions.NumberedInstruction.{NumberedInstruction}
 use Rattle.network_file.specs.declared.plan.declarations.Declaration.{Declaration}
 use Rattle.network_file.specs.declared.plan.instructions.Instruction.{Instruction}
 use Rattle.network_file.specs.declared.plan.instructions.Instruction.TheVariants.{Restart}

@@ -5,8 +5,8 @@ use Rattle.circuit_set.specs.Pumps.{Of}
 use Rattle.circuit_set.specs.Sets as sets
 use Rattle.node_turns.specs.States as nodes
 use Rattle.net_replay.specs.declared.ends.EndRecord.{EndRecord}
-use Rattle.net_replay.specs.declared.ends.Outcome.{Outcome}
-use Rattle.net_replay.specs.declared.ends.Outcome.TheVariants as outcomes
+use Rattle.net_replay.specs.declared.outcome.Outcome.{Outcome}
+use Rattle.net_replay.specs.declared.outcome.Outcome.TheVariants as outcomes
 use Rattle.net_replay.specs.Events.{Event, Entry, Lost, Offered, NumberedEvent}
 
 -- the records, where the one at a place has come to this

@@ -3,7 +3,7 @@ use Rattle.std.specs.Prelude.{ℕ, List, [], ◌++◌, codes, length}
 use Rattle.std.specs.Fmt.{decimal}
 use Rattle.ax_address.specs.Callsign.{Callsign}
 use Rattle.circuit_l4.specs.declared.facts.EndFacts.{EndFacts}
-use Rattle.circuit_l4.specs.declared.transport.Pair.{Pair}
+use Rattle.circuit_l4.specs.declared.pair.Pair.{Pair}
 use Rattle.circuit_set.specs.Pumps.{Of}
 use Rattle.circuit_set.specs.Sets as sets
 use Rattle.node_turns.specs.States as nodes
@@ -11,7 +11,7 @@ use Rattle.node_core.specs.Standing.{entry_of}
 use Rattle.net_replay.specs.declared.events.Event as code
 use Rattle.net_replay.specs.declared.events.Event.TheVariants as variants
 use Rattle.net_replay.specs.declared.events.NumberedEvent as numbered
-use Rattle.net_replay.specs.declared.reasons.LineRefusal.{LineRefusal}
+use Rattle.net_replay.specs.declared.refusals.LineRefusal.{LineRefusal}
 use Rattle.net_replay.specs.Tables.{Table}
 use Rattle.net_replay.specs.ToldLines.{shown_text, stored_line}
 

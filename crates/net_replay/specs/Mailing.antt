@@ -4,7 +4,7 @@ use Rattle.std.specs.Prelude.{ℕ, zero, suc, ◌&&◌, Bool, true, false, List,
 use Rattle.ax_address.specs.Callsign.{Callsign, same_call}
 use Rattle.circuit_l4.specs.State.{is_up}
 use Rattle.circuit_set.specs.CircuitSets.{facts_at, held_ids, partner_at}
-use Rattle.circuit_set.specs.declared.event.NoEnd.{NoEnd}
+use Rattle.circuit_set.specs.declared.refusal.NoEnd.{NoEnd}
 use Rattle.circuit_set.specs.Sets.{Holder, end_of}
 use Rattle.circuit_set.specs.Standing.{take_answer, write_answer}
 use Rattle.node_core.specs.declared.acts.ActDone.{ActDone}
@@ -12,12 +12,12 @@ use Rattle.node_core.specs.declared.acts.ActDone.TheVariants.{Took}
 use Rattle.node_core.specs.declared.acts.ActRefusal.{ActRefusal}
 use Rattle.node_core.specs.Acts as acts
 use Rattle.node_core.specs.Acts.{UserAct}
-use Rattle.node_mail.specs.declared.mail.Heard.{Heard}
-use Rattle.node_mail.specs.declared.mail.Heard.TheVariants as hearing
-use Rattle.node_mail.specs.declared.mail.PostRefusal.{PostRefusal}
+use Rattle.node_mail.specs.declared.heard.Heard.{Heard}
+use Rattle.node_mail.specs.declared.heard.Heard.TheVariants as hearing
+use Rattle.node_mail.specs.declared.post_refusal.PostRefusal.{PostRefusal}
 use Rattle.node_mail.specs.Lists.{Letter, Lists, answer_to, hear_at, hear_step, letter_of, post_at, post_step, text_of, octets_or}
 use Rattle.node_mail.specs.Wires.{Wire, wire_at, wire_octets}
-use Rattle.net_replay.specs.declared.reasons.LineRefusal.TheVariants.{NoMail, Served}
+use Rattle.net_replay.specs.declared.refusals.LineRefusal.TheVariants.{NoMail, Served}
 use Rattle.net_replay.specs.Ends.{ends_of, offered_at}
 use Rattle.net_replay.specs.Events as events
 use Rattle.net_replay.specs.Events.{Event}

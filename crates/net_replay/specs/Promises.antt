@@ -7,7 +7,7 @@ use Rattle.circuit_set.specs.Safe.{TellsRetries, Safe, SafeEnd}
 use Rattle.circuit_set.specs.Runs.{Step, AreStarts, AreSteps, events_of, sets_run}
 use Rattle.circuit_set.specs.Sets.{Holder, end_of, SetState}
 use Rattle.circuit_set.specs.Pairs.{IsPair}
-use Rattle.network_file.specs.declared.network.NumberedInstruction.{NumberedInstruction}
+use Rattle.network_file.specs.declared.plan.instructions.NumberedInstruction.{NumberedInstruction}
 use Rattle.network_file.specs.Networks.{network_of}
 use Rattle.network_file.specs.Plan.{Plan}
 use Rattle.network_file.specs.declared.plan.instructions.Instruction.{Instruction}

@@ -5,13 +5,13 @@ use Rattle.circuit_l4.specs.declared.refusal.WriteRefusal.{WriteRefusal}
 use Rattle.circuit_l4.specs.declared.refusal.WriteRefusal.TheVariants as writes
 use Rattle.node_core.specs.declared.acts.ActRefusal.{ActRefusal}
 use Rattle.node_core.specs.declared.acts.ActRefusal.TheVariants as acts
-use Rattle.node_mail.specs.declared.mail.PostRefusal.{PostRefusal}
-use Rattle.node_mail.specs.declared.mail.PostRefusal.TheVariants as posts
-use Rattle.net_replay.specs.declared.reasons.LineRefusal.{LineRefusal}
+use Rattle.node_mail.specs.declared.post_refusal.PostRefusal.{PostRefusal}
+use Rattle.node_mail.specs.declared.post_refusal.PostRefusal.TheVariants as posts
+use Rattle.net_replay.specs.declared.refusals.LineRefusal.{LineRefusal}
 use Rattle.net_replay.specs.Events as events
 use Rattle.net_replay.specs.Events.{Event}
-use Rattle.net_replay.specs.declared.reasons.LineRefusal.TheVariants.{NoEnd, Served, Nothing, Own, NoRoute, Full, NotUp, Closing, Empty, TooLong, QueueFull, Exhausted, TooLow, TableFull}
-use Rattle.net_replay.specs.declared.reasons.LineRefusal.TheVariants as whys
+use Rattle.net_replay.specs.declared.refusals.LineRefusal.TheVariants.{NoEnd, Served, Nothing, Own, NoRoute, Full, NotUp, Closing, Empty, TooLong, QueueFull, Exhausted, TooLow, TableFull}
+use Rattle.net_replay.specs.declared.refusals.LineRefusal.TheVariants as whys
 
 abbrev pub of_write : WriteRefusal → LineRefusal
 of_write writes.NotUp = NotUp

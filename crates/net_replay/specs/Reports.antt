@@ -6,9 +6,9 @@ use Rattle.ax_address.specs.Alias as aliases
 use Rattle.ax_frame.specs.declared.frame.FrameRefusal.{FrameRefusal}
 use Rattle.ax_frame.specs.Frames.{Frame, read_at}
 use Rattle.ax_frame.specs.FrameText.{frame_text}
-use Rattle.circuit_verdict.specs.declared.verdict.Late.{Late}
-use Rattle.circuit_verdict.specs.declared.verdict.LateWhy.{LateWhy}
-use Rattle.circuit_verdict.specs.declared.verdict.LateWhy.TheVariants.{Overtaken, Returned}
+use Rattle.circuit_verdict.specs.declared.late.Late.{Late}
+use Rattle.circuit_verdict.specs.declared.late.LateWhy.{LateWhy}
+use Rattle.circuit_verdict.specs.declared.late.LateWhy.TheVariants.{Overtaken, Returned}
 use Rattle.node_mail.specs.Lists.{Lists}
 use Rattle.route_table.specs.declared.route.Route.{Route}
 use Rattle.circuit_l4.specs.declared.facts.EndFacts.{EndFacts}
@@ -29,8 +29,8 @@ use Rattle.net_replay.specs.Refused.{word_for_why}
 use Rattle.net_replay.specs.Starting.{Placed}
 use Rattle.net_replay.specs.Tables.{Table}
 use Rattle.net_replay.specs.ToldLines.{entry_text, last_texts, mail_line}
-use Rattle.net_replay.specs.declared.ends.Outcome.{Outcome}
-use Rattle.net_replay.specs.declared.ends.Outcome.TheVariants as outcomes
+use Rattle.net_replay.specs.declared.outcome.Outcome.{Outcome}
+use Rattle.net_replay.specs.declared.outcome.Outcome.TheVariants as outcomes
 
 -- a frame that no octets are at fault of, as in the air none are
 abbrev pub text_of_frame : Result Frame FrameRefusal → List ℕ

@@ -3,7 +3,7 @@ use Rattle.std.specs.Prelude.{ℕ, ◌≡◌, ◌≤◌, List, ◌++◌, Ok, map
 use Rattle.std.specs.List.{AllByRecursion}
 use Rattle.circuit_set.specs.Events as set_events
 use Rattle.circuit_set.specs.Returning.{FreshBut, given_by}
-use Rattle.network_file.specs.declared.network.NumberedInstruction.{NumberedInstruction}
+use Rattle.network_file.specs.declared.plan.instructions.NumberedInstruction.{NumberedInstruction}
 use Rattle.network_file.specs.Networks.{network_of}
 use Rattle.network_file.specs.Plan.{Plan}
 use Rattle.net_replay.specs.Circuits.{circuit_events}

@@ -15,8 +15,8 @@ use Rattle.net_replay.specs.declared.air.Aired.{Aired}
 use Rattle.net_replay.specs.declared.answer.Answer.{Answer}
 use Rattle.net_replay.specs.declared.answer.Answer.TheVariants as answers
 use Rattle.net_replay.specs.declared.world.World as code
-use Rattle.net_replay.specs.declared.reasons.LineRefusal.{LineRefusal}
-use Rattle.net_replay.specs.declared.reasons.ReplayRefusal.{ReplayRefusal}
+use Rattle.net_replay.specs.declared.refusals.LineRefusal.{LineRefusal}
+use Rattle.net_replay.specs.declared.refusals.ReplayRefusal.{ReplayRefusal}
 use Rattle.net_replay.specs.Events.{Event, Entry, Took}
 use Rattle.net_replay.specs.Lines.{loss_of, losses_of, refusal_events}
 use Rattle.net_replay.specs.Refused.{of_act}

@@ -18,8 +18,8 @@ use Rattle.circuit_set.specs.Pumps.{SetTold, Of, Dropped}
 use Rattle.circuit_set.specs.Sets.{Holder, Notice, end_of}
 use Rattle.node_turns.specs.States as nodes
 use Rattle.net_replay.specs.declared.ends.EndRecord.{EndRecord}
-use Rattle.net_replay.specs.declared.ends.Outcome.{Outcome}
-use Rattle.net_replay.specs.declared.ends.Outcome.TheVariants.{Held, Gone, Lost}
+use Rattle.net_replay.specs.declared.outcome.Outcome.{Outcome}
+use Rattle.net_replay.specs.declared.outcome.Outcome.TheVariants.{Held, Gone, Lost}
 
 -- The words by which a report shows what links, ends of circuits and routers tell. Own profile.
 

@@ -12,9 +12,10 @@ ghost use Rattle.net_replay.specs.Running.{GoesOn, Runs, Stands, course};
 ghost use Rattle.net_replay.specs.World as worlds;
 
 use crate::answer::Answer;
-use crate::events::{Event, Table};
-use crate::reasons::{LineRefusal, ReplayRefusal};
+use crate::events::Event;
+use crate::refusals::{LineRefusal, ReplayRefusal};
 use crate::stations::shown;
+use crate::table::Table;
 use crate::world::World;
 use ax_address::Call;
 use node_core::UserAct;

@@ -5,7 +5,7 @@ ghost use Rattle.net_replay.specs.declared.air.Aired.{Aired};
 ghost use Rattle.net_replay.specs.World as airs;
 
 use crate::limits::MAX_FRAMES;
-use crate::reasons::{LineRefusal, ReplayRefusal};
+use crate::refusals::{LineRefusal, ReplayRefusal};
 use link_table::Octets;
 use network_file::{Channel, can_hear};
 use std::alloc::Global;
@@ -47,7 +47,7 @@ impl Model for Air {
 impl Air {
     ghost use Rattle.std.specs.Prelude.{◌≡◌, ◌≤◌, ◌<◌, ◌++◌, ◌∷◌, [], length, slice_get, OnOk, OnErr, IfErr, IfSome};
     ghost use Rattle.net_replay.specs.World.{in_air, most_frames, oldest, settled_at, frame_of, lost_fault, delivery_fault};
-    ghost use Rattle.net_replay.specs.declared.reasons.ReplayRefusal.TheVariants.{FramesFull};
+    ghost use Rattle.net_replay.specs.declared.refusals.ReplayRefusal.TheVariants.{FramesFull};
 
     /// No frame is in the air.
     pub fn new(alloc: Global) -> Air

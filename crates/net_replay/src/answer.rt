@@ -3,7 +3,7 @@ ghost use Rattle.std.specs.Prelude.{IfOk, Ok};
 ghost use Rattle.node_core.specs.Standing.{IsAnswer};
 ghost use Rattle.net_replay.specs.Running as running;
 
-use crate::reasons::LineRefusal;
+use crate::refusals::LineRefusal;
 use crate::refused::of_act;
 use node_core::{ActDone, ActRefusal};
 use radio_base::NoMemory;

@@ -12,7 +12,7 @@ ghost use Rattle.net_replay.specs.World as worlds;
 use crate::answer::Answer;
 use crate::events::Event;
 use crate::places::LineAt;
-use crate::reasons::{LineRefusal, ReplayRefusal};
+use crate::refusals::{LineRefusal, ReplayRefusal};
 use crate::world::World;
 use node_core::UserAct;
 use radio_base::NoMemory;

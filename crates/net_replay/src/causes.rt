@@ -1,8 +1,8 @@
 //! By what it shows that something in a trace came too late.
 ghost use Rattle.std.specs.Prelude.{◌≡◌, ◌∷◌, [], ℕ, List, IfOk, Option, map, slice_get};
 ghost use Rattle.network_file.specs.Plan.{Plan};
-ghost use Rattle.circuit_verdict.specs.declared.verdict.Allowance.{Allowance};
-ghost use Rattle.circuit_verdict.specs.declared.verdict.Late.{Late};
+ghost use Rattle.circuit_verdict.specs.declared.allowance.Allowance.{Allowance};
+ghost use Rattle.circuit_verdict.specs.declared.late.Late.{Late};
 ghost use Rattle.net_replay.specs.Causes as causes;
 ghost use Rattle.net_replay.specs.Circuits.{IsVerdictOn, allowance_of, event_at, judged};
 ghost use Rattle.net_replay.specs.Events.{event_of, numbered_of};
@@ -13,31 +13,12 @@ ghost use Rattle.net_replay.specs.World.{World};
 
 use crate::events::NumberedEvent;
 use crate::late::circuit_event;
+use crate::sign::Sign;
 use crate::trace::Trace;
 use circuit_verdict::{Cause, Event as CircuitEvent, Verdict};
 use network_file::Declaration;
 use radio_base::NoMemory;
 use std::alloc::Global;
-
-/// By what it shows that an event came too late. Events are numbered from 1, in the order of the trace.
-#[derive(Clone, Copy, Debug, PartialEq, Eq)]
-pub enum Sign {
-    /// An end has heeded a datagram that its partner never sent, or has no partner.
-    Unsent,
-    /// So many messages of the circuit have overtaken the datagram since its latest sending; `allowance` are too many.
-    Overtaken {
-        sent: u64,
-        overtakers: u64,
-        allowance: u64,
-    },
-    /// An end was opened by a request that no end waits for any more.
-    Unasked,
-    /// This end, neither ended nor lost, still has a partner at the node with the pair that was given.
-    Held {
-        node: u8,
-        end: u64,
-    },
-}
 
 /// The first event of a trace that came too late, by its number from 1, and by what that shows.
 #[derive(Clone, Copy, Debug, PartialEq, Eq)]

@@ -7,7 +7,7 @@ ghost use Rattle.net_replay.specs.Running.{GoesOn, Runs, course};
 
 use crate::air::place_of_frame;
 use crate::events::Event;
-use crate::reasons::ReplayRefusal;
+use crate::refusals::ReplayRefusal;
 use crate::world::World;
 use network_file::heard_by;
 use radio_base::NoMemory;

@@ -10,7 +10,7 @@ ghost use Rattle.net_replay.specs.Running.{GoesOn, Runs, course};
 ghost use Rattle.net_replay.specs.Running as running;
 ghost use Rattle.net_replay.specs.World as worlds;
 
-use crate::reasons::ReplayRefusal;
+use crate::refusals::ReplayRefusal;
 use crate::stations::is_callsign;
 use crate::world::World;
 use ax_address::{Alias, Call};

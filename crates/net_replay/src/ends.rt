@@ -4,25 +4,16 @@ ghost use Rattle.node_core.specs.Standing.{entry_of};
 ghost use Rattle.net_replay.specs.Ends as ends;
 ghost use Rattle.net_replay.specs.Events.{event_of};
 
-use crate::events::{Event, LostEnd, Offer};
+use crate::end_datagrams::LostEnd;
+use crate::events::Event;
+use crate::mails::Offer;
+use crate::outcome::Outcome;
 use ax_address::Call;
-use circuit_l4::EndFacts;
 use circuit_set::SetEvent;
 use node_core::NodeEntry;
 use radio_base::NoMemory;
 use std::alloc::Global;
 use std::marker::Model;
-
-/// What has become of an end.
-#[derive(Clone, Copy, Debug, PartialEq, Eq)]
-pub enum Outcome {
-    /// It is still held.
-    Held,
-    /// It ended, and is gone.
-    Gone(EndFacts),
-    /// A restart of its node took it away.
-    Lost(EndFacts),
-}
 
 /// An end that a node made. Ends are numbered from 1 in the order of their making.
 #[derive(Clone, Copy, Debug, PartialEq, Eq)]

@@ -4,7 +4,8 @@ ghost use Rattle.net_replay.specs.ToldLines as texts;
 ghost use Rattle.circuit_set.specs.Standing.{event_told};
 ghost use Rattle.node_core.specs.Standing.{entry_of};
 
-use crate::ends::{EndRecord, Outcome};
+use crate::ends::EndRecord;
+use crate::outcome::Outcome;
 use crate::told::lines::{dropped_line, end_line, link_line, notice_line};
 use crate::told::words::drop_word;
 use ax_address::Call;

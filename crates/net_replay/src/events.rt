@@ -3,116 +3,18 @@ ghost use Rattle.std.specs.Prelude.{◌≡◌, ◌++◌, IfOk, IfSome, OnOk};
 ghost use Rattle.node_core.specs.Standing.{entry_of};
 ghost use Rattle.net_replay.specs.Events.{Entry, event_line, event_of};
 
-use crate::reasons::LineRefusal;
+use crate::end_datagrams::{EndDatagram, LostEnd, SentDatagram};
+use crate::mails::{Offer, StoredMail};
+use crate::refusals::LineRefusal;
+use crate::table::Table;
 use crate::told::lines::{shown_text, write_line};
 use crate::told::mails::stored_line;
-use ax_address::{Alias, Call};
-use circuit_l4::{EndFacts, Pair};
+use circuit_l4::Pair;
 use circuit_set::SetEvent;
 use l3_datagram::Datagram;
 use node_core::NodeEntry;
 use radio_base::{NoMemory, TextOut};
-use route_table::Route;
 use std::alloc::Global;
-use std::marker::Model;
-
-/// A node's table as it was when it was shown.
-#[derive(Debug, Drop)]
-pub struct Table {
-    node: u8,
-    call: Call,
-    alias: Alias,
-    routes: Vec<Route>,
-}
-
-impl Model for Table {
-    ghost use Rattle.net_replay.specs.Tables.{Table};
-
-    ghost Value = { Table };
-
-    ghost view = { λ t. record { node = t.node; call = t.call; alias = t.alias; routes = t.routes.items } };
-}
-
-impl Table {
-    ghost use Rattle.std.specs.Prelude.{◌≡◌};
-
-    /// A table of these routes, by destination, and of each the best first.
-    pub(crate) fn new(node: u8, call: Call, alias: Alias, routes: Vec<Route>) -> Table
-        ensures { result ≡ record { node = node; call = call; alias = alias; routes = routes.items } }
-    {
-        Table {
-            node,
-            call,
-            alias,
-            routes,
-        }
-    }
-
-    /// The node's number.
-    pub fn node(&self) -> u8
-        ensures { result ≡ self.now.node }
-    {
-        self.node
-    }
-
-    /// The node's call.
-    pub fn call(&self) -> Call
-        ensures { result ≡ self.now.call }
-    {
-        self.call
-    }
-
-    /// The node's alias.
-    pub fn alias(&self) -> Alias
-        ensures { result ≡ self.now.alias }
-    {
-        self.alias
-    }
-
-    /// The routes, by destination, and of each the best first.
-    pub fn routes(&self) -> &[Route]
-        ensures { result.now ≡ self.now.routes }
-    {
-        &self.routes
-    }
-}
-
-/// An end that a restart took away: its number at the node, and what it had come to.
-#[derive(Clone, Copy, Debug)]
-pub struct LostEnd {
-    pub id: u64,
-    pub facts: EndFacts,
-}
-
-/// A datagram of an end: the end's number at its node, and the octets.
-#[derive(Debug, Drop)]
-pub struct EndDatagram {
-    pub id: u64,
-    pub octets: Vec<u8>,
-}
-
-/// A datagram that an end has sent. That of an information message has the number of its fragment.
-#[derive(Debug, Drop)]
-pub struct SentDatagram {
-    pub number: Option<u64>,
-    pub datagram: EndDatagram,
-}
-
-/// A mail that was offered: the end's number at its node, and the mail's.
-#[derive(Clone, Copy, Debug)]
-pub struct Offer {
-    pub id: u64,
-    pub number: u64,
-}
-
-/// A mail that is stored: where it was posted, its number there, its user, and how many octets its text has.
-#[derive(Clone, Copy, Debug)]
-pub struct StoredMail {
-    pub origin: Call,
-    pub number: u64,
-    pub to: Call,
-    pub len: usize,
-}
 
 /// Something that a replay has to tell. What is large and seldom stands on the heap, since there are three events for a frame.
 #[derive(Debug, Drop)]

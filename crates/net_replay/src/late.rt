@@ -15,7 +15,8 @@ ghost use Rattle.net_replay.specs.Starting.{Placed};
 ghost use Rattle.net_replay.specs.Traces.{IsTraceOf, allowance_in, left_of};
 ghost use Rattle.net_replay.specs.World.{World};
 
-use crate::events::{Event, LostEnd, NumberedEvent};
+use crate::end_datagrams::LostEnd;
+use crate::events::{Event, NumberedEvent};
 use crate::places::place_of;
 use crate::trace::Trace;
 use ax_address::Call;

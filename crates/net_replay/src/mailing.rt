@@ -13,9 +13,10 @@ ghost use Rattle.net_replay.specs.World as worlds;
 
 use crate::answer::Answer;
 use crate::events::Event;
-use crate::mails::{Posting, keeps_mail, post_at};
+use crate::mails::{keeps_mail, post_at};
 use crate::places::LineAt;
-use crate::reasons::{LineRefusal, ReplayRefusal};
+use crate::posting::Posting;
+use crate::refusals::{LineRefusal, ReplayRefusal};
 use crate::refused::of_post;
 use crate::world::World;
 use ax_address::Call;

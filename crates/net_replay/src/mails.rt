@@ -7,21 +7,28 @@ ghost use Rattle.net_replay.specs.Mailing.{mail_in, queued_of};
 ghost use Rattle.net_replay.specs.Starting as starting;
 ghost use Rattle.net_replay.specs.Traces.{MailStands, MailsStand};
 
+use crate::posting::Posting;
 use ax_address::Call;
 use l3_datagram::Message;
 use network_file::{Declaration, Key, Network, Setting, value_of};
-use node_mail::{Heard, PostRefusal, Store};
+use node_mail::{Heard, Store};
 use radio_base::NoMemory;
 use std::alloc::Global;
 
-/// What became of a post.
-#[derive(Clone, Copy, Debug, PartialEq, Eq)]
-pub enum Posting {
-    /// The node keeps no mail.
-    NoMail,
-    /// The mail has this number.
-    Posted(u64),
-    Refused(PostRefusal),
+/// A mail that was offered: the end's number at its node, and the mail's.
+#[derive(Clone, Copy, Debug)]
+pub struct Offer {
+    pub id: u64,
+    pub number: u64,
+}
+
+/// A mail that is stored: where it was posted, its number there, its user, and how many octets its text has.
+#[derive(Clone, Copy, Debug)]
+pub struct StoredMail {
+    pub origin: Call,
+    pub number: u64,
+    pub to: Call,
+    pub len: usize,
 }
 
 /// The mail of these nodes as they start: none where a node keeps no mail.

@@ -17,7 +17,7 @@ ghost use Rattle.net_replay.specs.World as worlds;
 use crate::answer::{Answer, answer_of};
 use crate::events::{Event, NumberedEvent, datagram_event, entry_event};
 use crate::places::place_of;
-use crate::reasons::ReplayRefusal;
+use crate::refusals::ReplayRefusal;
 use crate::world::World;
 use ax_address::Call;
 use link_table::{Written, WrittenAs};

@@ -2,7 +2,7 @@
 ghost use Rattle.std.specs.Prelude.{◌≡◌};
 ghost use Rattle.net_replay.specs.Refused as refused;
 
-use crate::reasons::LineRefusal;
+use crate::refusals::LineRefusal;
 use circuit_l4::WriteRefusal;
 use node_core::ActRefusal;
 use node_mail::PostRefusal;

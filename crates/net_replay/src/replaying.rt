@@ -7,7 +7,7 @@ ghost use Rattle.net_replay.specs.Lines as lines;
 ghost use Rattle.net_replay.specs.Traces.{IsRefusal, IsTraceOf, allowance_in, left_of};
 
 use crate::late::allowance_of;
-use crate::reasons::ReplayRefusal;
+use crate::refusals::ReplayRefusal;
 use crate::trace::Trace;
 use crate::world::start;
 use network_file::Network;

@@ -6,7 +6,8 @@ ghost use Rattle.net_replay.specs.Running as running;
 ghost use Rattle.net_replay.specs.Running.{GoesOn, Stands, course};
 ghost use Rattle.net_replay.specs.World as worlds;
 
-use crate::events::{Event, LostEnd};
+use crate::end_datagrams::LostEnd;
+use crate::events::Event;
 use crate::stations::started;
 use crate::world::World;
 use circuit_l4::{EndFacts, Pair};

@@ -9,8 +9,9 @@ ghost use Rattle.net_replay.specs.Starting.{Placed};
 ghost use Rattle.net_replay.specs.Traces.{IsTraceOf, StandFor, left_of};
 ghost use Rattle.net_replay.specs.World.{World};
 
-use crate::ends::{EndRecord, Outcome};
+use crate::ends::EndRecord;
 use crate::events::{Event, NumberedEvent};
+use crate::outcome::Outcome;
 use crate::reports::write_verdict;
 use crate::trace::Trace;
 use circuit_l4::{EndFacts, EndNotice};

@@ -13,8 +13,8 @@ ghost use Rattle.net_replay.specs.Starting as starting;
 ghost use Rattle.net_replay.specs.Starting.{Placed};
 ghost use Rattle.net_replay.specs.Traces.{StandFor};
 
-use crate::events::Table;
 use crate::settings::config_of;
+use crate::table::Table;
 use ax_address::{Address, Call, Path};
 use circuit_l4::Pair;
 use link_table::PathRefusal;

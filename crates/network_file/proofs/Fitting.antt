@@ -8,7 +8,7 @@ use Rattle.ax_address.specs.Callsign as calls
 use Rattle.ax_address.specs.Callsign.{ReadsCallTexts, Callsign}
 use Rattle.ax_address.specs.declared.call.CallRefusal.{CallRefusal}
 use Rattle.ax_address.specs.Results.{◌>>=◌}
-use Rattle.network_file.specs.declared.network.NumberedInstruction.{NumberedInstruction}
+use Rattle.network_file.specs.declared.plan.instructions.NumberedInstruction.{NumberedInstruction}
 use Rattle.network_file.specs.declared.lines.Line.{Line}
 use Rattle.network_file.specs.declared.lines.Line.TheVariants as said
 use Rattle.network_file.specs.declared.plan.channels.Channel.{Channel}
@@ -16,8 +16,8 @@ use Rattle.network_file.specs.declared.plan.declarations.Declaration.{Declaratio
 use Rattle.network_file.specs.declared.plan.instructions.Instruction.{Instruction}
 use Rattle.network_file.specs.declared.plan.instructions.Instruction.TheVariants as instructions
 use Rattle.network_file.specs.declared.plan.vias.Via.{Via}
-use Rattle.network_file.specs.declared.reasons.What.{What}
-use Rattle.network_file.specs.declared.reasons.What.TheVariants as whats
+use Rattle.network_file.specs.declared.what.What.{What}
+use Rattle.network_file.specs.declared.what.What.TheVariants as whats
 use Rattle.network_file.specs.Keys.{Assignment, key_at, least_of, most_of, takes, clashes, set_to}
 use Rattle.network_file.specs.Laws.{AreDifferent, ArePairNumbers, CallsAreCalls, CallsDeclaredOnce, DeclaredOnce, HasCalls, HaveOwnCalls, IsAllowed, IsCall, IsInRange, NamesCalls, NamesPair, NoMailAtPrompts, PairsArePairs, SettingsFit, SettingsInRange}
 use Rattle.network_file.specs.Lines.{all_kinds, from_circuits, from_mails, line_at, line_of}

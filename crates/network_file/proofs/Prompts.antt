@@ -5,8 +5,8 @@ use Rattle.std.specs.Prelude.{◌&&◌, ◌==◌, find, is_none, unwrap_or, Opti
 use Rattle.std.specs.Option.{option_map}
 use Rattle.network_file.specs.declared.plan.keys.Key.{Key}
 use Rattle.network_file.specs.declared.plan.keys.Key.TheVariants.{Mail, Prompt}
-use Rattle.network_file.specs.declared.reasons.What.{What}
-use Rattle.network_file.specs.declared.reasons.What.TheVariants as whats
+use Rattle.network_file.specs.declared.what.What.{What}
+use Rattle.network_file.specs.declared.what.What.TheVariants as whats
 use Rattle.network_file.specs.Keys.{Assignment, all_keys, default_of, first_of, is_known, key_at, clashes, is_of, same_key, set_to, value_of}
 
 -- ---- keys

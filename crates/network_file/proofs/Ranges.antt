@@ -3,7 +3,7 @@ use Rattle.std.proofs.Common.{◌≡◌, ◌≤◌, ℕ, refl, List, arith, Bool
 use Rattle.std.specs.Prelude.{◌&&◌, nat_le, Option, Some, None, Ok}
 use Rattle.std.proofs.lemmas.Bool.Decides.{nat_tests}
 use Rattle.text_lines.specs.Lines.{is_number, number_of, value_onto}
-use Rattle.network_file.specs.declared.reasons.What.{What}
+use Rattle.network_file.specs.declared.what.What.{What}
 use Rattle.network_file.specs.Places.{known}
 
 and_both : (a b : Bool) → (a && b) ≡ true → (a ≡ true) × (b ≡ true)

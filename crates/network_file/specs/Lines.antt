@@ -3,8 +3,8 @@ pub mod Kinds
 pub mod Declaring
 pub mod Instructions
 use Rattle.std.specs.Prelude.{ℕ, List, [], ◌∷◌, ◌++◌, Result, Err}
-use Rattle.network_file.specs.declared.reasons.What.{What}
-use Rattle.network_file.specs.declared.reasons.What.TheVariants as whats
+use Rattle.network_file.specs.declared.what.What.{What}
+use Rattle.network_file.specs.declared.what.What.TheVariants as whats
 use Rattle.network_file.specs.declared.lines.Line.{Line}
 use Rattle.network_file.specs.Plan.{Plan}
 use Rattle.text_lines.specs.Lines.{is_text, words_of}

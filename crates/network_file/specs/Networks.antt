@@ -3,15 +3,15 @@
 use Rattle.std.specs.Prelude.{ℕ, suc, ◌≡◌, List, [], ◌∷◌, ◌++◌, Some, None, Result, Ok, Err, nat_lt, if◌then◌else◌, codes}
 use Rattle.std.specs.Str.Lines.{lines}
 use Rattle.text_lines.specs.Lines.{is_skipped}
-use Rattle.network_file.specs.declared.reasons.What.{What}
-use Rattle.network_file.specs.declared.reasons.What.TheVariants.{Many}
-use Rattle.network_file.specs.declared.reasons.NetworkRefusal.{NetworkRefusal}
-use Rattle.network_file.specs.declared.reasons.NetworkRefusal.TheVariants.{BadLine, NoMemory}
+use Rattle.network_file.specs.declared.what.What.{What}
+use Rattle.network_file.specs.declared.what.What.TheVariants.{Many}
+use Rattle.network_file.specs.declared.network.NetworkRefusal.{NetworkRefusal}
+use Rattle.network_file.specs.declared.network.NetworkRefusal.TheVariants.{BadLine, NoMemory}
 use Rattle.network_file.specs.declared.lines.Line.{Line}
 use Rattle.network_file.specs.declared.lines.Line.TheVariants.{Version, Node, Channel, Set, Via, Instruction}
 use Rattle.network_file.specs.Plan.{Plan}
 use Rattle.network_file.specs.Lines.{line_at}
-use Rattle.network_file.specs.declared.reasons.What.TheVariants as whats
+use Rattle.network_file.specs.declared.what.What.TheVariants as whats
 
 abbrev pub nothing : Plan
 nothing = record { version = None; declared = []; channels = []; settings = []; vias = []; instructions = [] }

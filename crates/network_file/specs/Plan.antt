@@ -7,7 +7,7 @@ use Rattle.network_file.specs.declared.plan.channels.Channel.{Channel}
 use Rattle.network_file.specs.declared.plan.declarations.Declaration.{Declaration}
 use Rattle.network_file.specs.declared.plan.vias.Via.{Via}
 use Rattle.network_file.specs.Keys.{Assignment}
-use Rattle.network_file.specs.declared.network.NumberedInstruction.{NumberedInstruction}
+use Rattle.network_file.specs.declared.plan.instructions.NumberedInstruction.{NumberedInstruction}
 
 pub record Plan : Type 0 where
   pub version : Option ℕ

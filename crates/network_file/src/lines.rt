@@ -15,9 +15,9 @@ use crate::network::Network;
 use crate::plan::channels::Channel;
 use crate::plan::declarations::Declaration;
 use crate::plan::instructions::Instruction;
-use crate::plan::keys::Setting;
+use crate::plan::settings::Setting;
 use crate::plan::vias::Via;
-use crate::reasons::What;
+use crate::what::What;
 use std::alloc::{AllocError, Global};
 use text_lines::{is_text, words_of};
 

@@ -1,4 +1,4 @@
-//! What a network file lays down.
+//! What a network file lays down, and why one is refused.
 ghost use Rattle.std.specs.Prelude.{◌≡◌, ◌≤◌, ◌++◌, ◌∷◌, ◌+◌, [], length, Ok, Err, IsTrue, ◌↔◌, OnOk, OnErr, IfOk, IfErr, MatchResult};
 ghost use Rattle.std.specs.Str.Lines.{lines};
 ghost use Rattle.network_file.specs.Networks as networks;
@@ -6,20 +6,14 @@ ghost use Rattle.network_file.specs.Networks as networks;
 use crate::lines::{Line, read_line};
 use crate::plan::channels::Channel;
 use crate::plan::declarations::Declaration;
-use crate::plan::instructions::Instruction;
-use crate::plan::keys::Setting;
+use crate::plan::instructions::{Instruction, NumberedInstruction};
+use crate::plan::settings::Setting;
 use crate::plan::vias::Via;
-use crate::reasons::{NetworkRefusal, What};
-use std::alloc::{AllocError, Global};
+use crate::what::What;
+use std::alloc::{AllocError, AllocFailed, Global};
 use std::marker::Model;
 use text_lines::{MAX_LINES, first_line, is_skipped};
-
-/// An instruction with the number of its line, from 1.
-#[derive(Debug, Drop)]
-pub struct NumberedInstruction {
-    pub line: u32,
-    pub instruction: Instruction,
-}
+use thiserror::Error;
 
 /// What a network file lays down: its declarations and its instructions, each in the order of the file.
 #[derive(Debug, Drop)]
@@ -148,6 +142,38 @@ impl Network {
                 Ok(())
             }
         }
+    }
+}
+
+/// Why a network file wasn't read.
+#[derive(Clone, Copy, Debug, PartialEq, Eq, Error)]
+pub enum NetworkRefusal {
+    /// The first bad line, counted from 1.
+    #[error("line {line}: {what}")]
+    BadLine { line: u32, what: What },
+    #[error("out of memory")]
+    NoMemory,
+}
+
+impl From<AllocError> for NetworkRefusal {
+    ghost use Rattle.std.specs.Prelude.{◌≡◌};
+    ghost use Rattle.network_file.specs.declared.network.NetworkRefusal.TheVariants.{NoMemory};
+
+    ghost from_gives = { λ _ e. e ≡ NoMemory };
+
+    fn from(_: AllocError) -> Self {
+        NetworkRefusal::NoMemory
+    }
+}
+
+impl<T: Drop> From<AllocFailed<T>> for NetworkRefusal {
+    ghost use Rattle.std.specs.Prelude.{◌≡◌};
+    ghost use Rattle.network_file.specs.declared.network.NetworkRefusal.TheVariants.{NoMemory};
+
+    ghost from_gives = { λ _ e. e ≡ NoMemory };
+
+    fn from(_: AllocFailed<T>) -> Self {
+        NetworkRefusal::NoMemory
     }
 }
 

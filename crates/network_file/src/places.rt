@@ -6,7 +6,7 @@ ghost use Rattle.text_lines.specs.Lines.{texts};
 use crate::limits::{MAX_BURST, MAX_COUNT, MAX_NODES, MAX_TICK, MAX_VIAS};
 use crate::plan::declarations::{Declaration, has_call, has_node};
 use crate::plan::vias::{Via, has_via, via_count};
-use crate::reasons::What;
+use crate::what::What;
 use ax_address::{Alias, Call};
 use text_lines::{after_space, is_number, number_of, past_word};
 

@@ -1,7 +1,7 @@
 //! What a network file lays down: nodes, who hears whom, settings, ways over repeaters, and what happens.
-pub mod broadcasts;
 pub mod channels;
 pub mod declarations;
+pub mod heard_nodes;
 pub mod instructions;
 pub mod keys;
 pub mod live;

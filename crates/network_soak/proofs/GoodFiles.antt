@@ -9,13 +9,13 @@ use Rattle.std.proofs.lemmas.Fmt.{length-decimal-le}
 use Rattle.ax_address.specs.Callsign.{call_at}
 use Rattle.ax_address.specs.Results.{◌>>=◌}
 use Rattle.network_file.specs.declared.lines.Line.TheVariants as line
-use Rattle.network_file.specs.declared.network.NumberedInstruction.{NumberedInstruction}
+use Rattle.network_file.specs.declared.plan.instructions.NumberedInstruction.{NumberedInstruction}
 use Rattle.network_file.specs.declared.plan.instructions.Instruction.{Instruction}
 use Rattle.network_file.specs.declared.plan.instructions.Instruction.TheVariants.{Flow, Cut, Tick, Say}
 use Rattle.network_file.specs.Keys.{key_at}
 use Rattle.network_file.specs.Networks.{after_lines, network_of, nothing, Bad}
 use Rattle.network_file.specs.Plan.{Plan}
-use Rattle.network_file.specs.declared.reasons.What.TheVariants as whats
+use Rattle.network_file.specs.declared.what.What.TheVariants as whats
 use Rattle.network_file.specs.Places.{needs, node_at, new_node_at, new_call_at, value_at, text_behind}
 use Rattle.network_file.specs.Lines.{line_at, line_of}
 use Rattle.network_file.specs.Lines.Instructions.{end_at, node_and_call_at, tick_at}

@@ -6,11 +6,11 @@ use Rattle.std.specs.Fmt.{decimal}
 use Rattle.std.proofs.lemmas.Fmt.{decimal_injective}
 use Rattle.network_file.specs.declared.plan.live.LiveNode.{LiveNode}
 use Rattle.tool_cmd.specs.declared.ip.gateway.Gateway.{Gateway}
-use Rattle.tool_cmd.specs.declared.lives.words.LifeSettings.{LifeSettings}
-use Rattle.node_cmd.specs.declared.words.RunCommand.{RunCommand}
-use Rattle.node_cmd.specs.declared.words.RunCommand.TheVariants.{Replay, Frames, Soak, Life, Node, Ip}
-use Rattle.tool_cmd.specs.declared.words.FrameModulus.{FrameModulus}
-use Rattle.tool_cmd.specs.declared.words.FrameModulus.TheVariants as modulo
+use Rattle.tool_cmd.specs.declared.lives.settings.LifeSettings.{LifeSettings}
+use Rattle.node_cmd.specs.declared.commands.RunCommand.{RunCommand}
+use Rattle.node_cmd.specs.declared.commands.RunCommand.TheVariants.{Replay, Frames, Soak, Life, Node, Ip}
+use Rattle.tool_cmd.specs.declared.frame_modulus.FrameModulus.{FrameModulus}
+use Rattle.tool_cmd.specs.declared.frame_modulus.FrameModulus.TheVariants as modulo
 use Rattle.tool_cmd.specs.IpWords.{IsGateway}
 use Rattle.tool_cmd.specs.LifeWords.{AreSettings}
 use Rattle.tool_cmd.specs.Frames.{modulo_word, size_of}

@@ -2,7 +2,7 @@
 use Rattle.std.specs.Prelude.{ℕ, ◌≡◌, ◌≢◌, ◌≤◌, List, length, Option, Some, None, Result, Ok, Err}
 use Rattle.std.specs.Io.KnownBytes.{Appends}
 use Rattle.radio_base.specs.Causes.{Rose}
-use Rattle.circuit_verdict.specs.declared.verdict.Late.{Late}
+use Rattle.circuit_verdict.specs.declared.late.Late.{Late}
 use Rattle.network_file.specs.Networks.{Bad, network_of, word_for}
 use Rattle.network_file.specs.Plan.{Plan}
 use Rattle.net_replay.specs.declared.trace.Trace.{Trace}
@@ -19,8 +19,8 @@ use Rattle.cmd_streams.specs.Reading.{ReadsFile, TellsFile}
 use Rattle.node_cmd.specs.declared.outcomes.NetworkOutcome.{NetworkOutcome}
 use Rattle.node_cmd.specs.declared.outcomes.Printed.{Printed}
 use Rattle.node_cmd.specs.declared.outcomes.Printed.TheVariants.{Report, SoakLine}
-use Rattle.node_cmd.specs.declared.outcomes.ReportRefusal.{ReportRefusal}
-use Rattle.node_cmd.specs.declared.outcomes.ReportRefusal.TheVariants.{BadLine, TooManyFrames, NoMemory}
+use Rattle.node_cmd.specs.declared.report_refusal.ReportRefusal.{ReportRefusal}
+use Rattle.node_cmd.specs.declared.report_refusal.ReportRefusal.TheVariants.{BadLine, TooManyFrames, NoMemory}
 use Rattle.node_cmd.specs.declared.ran.Ran.{Ran}
 use Rattle.node_cmd.specs.declared.ran.Ran.TheVariants.{Replayed}
 

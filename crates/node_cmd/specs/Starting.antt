@@ -1,6 +1,6 @@
 -- How a node starts that runs alone. Own profile.
 use Rattle.std.specs.Prelude.{◌==◌, filter, Option, Some, None, unwrap_or}
-use Rattle.circuit_l4.specs.declared.transport.Pair.{Pair}
+use Rattle.circuit_l4.specs.declared.pair.Pair.{Pair}
 use Rattle.network_file.specs.declared.plan.keys.Key.TheVariants.{Interval, Prompt}
 use Rattle.network_file.specs.declared.plan.live.LiveNode.{LiveNode}
 use Rattle.network_file.specs.Pairs.{PairNumbers}

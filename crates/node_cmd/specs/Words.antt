@@ -5,10 +5,10 @@ use Rattle.std.specs.declared.alloc.Global.{Global}
 use Rattle.network_file.specs.declared.plan.live.LiveNode.{LiveNode}
 use Rattle.network_file.specs.Live.{live_node_at}
 use Rattle.tool_cmd.specs.declared.ip.gateway.Gateway.{Gateway}
-use Rattle.tool_cmd.specs.declared.lives.words.LifeSettings.{LifeSettings}
-use Rattle.node_cmd.specs.declared.words.RunCommand.{RunCommand}
-use Rattle.node_cmd.specs.declared.words.RunCommand.TheVariants.{Replay, Frames, Soak, Life, Node, Ip}
-use Rattle.tool_cmd.specs.declared.words.FrameModulus.{FrameModulus}
+use Rattle.tool_cmd.specs.declared.lives.settings.LifeSettings.{LifeSettings}
+use Rattle.node_cmd.specs.declared.commands.RunCommand.{RunCommand}
+use Rattle.node_cmd.specs.declared.commands.RunCommand.TheVariants.{Replay, Frames, Soak, Life, Node, Ip}
+use Rattle.tool_cmd.specs.declared.frame_modulus.FrameModulus.{FrameModulus}
 use Rattle.tool_cmd.specs.Frames.{modulo_word}
 use Rattle.tool_cmd.specs.IpWords.{IsGateway}
 use Rattle.tool_cmd.specs.LifeWords.{AreSettings}

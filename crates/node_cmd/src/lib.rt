@@ -3,15 +3,16 @@
 //! The program itself is the crate `wursthatch`; the tests of `run` stand in `node_cmd_tests`.
 #![tactic(auto)]
 
+mod commands;
 mod live;
 mod outcomes;
 mod ran;
 mod replays;
+mod report_refusal;
 mod soaks;
 mod starting;
 mod top;
 mod usage;
-mod words;
 
 pub use cmd_streams::{Reading, Status, SystemClock, Writing};
 pub use ran::Ran;

@@ -9,10 +9,11 @@ ghost use Rattle.node_cmd.specs.Outcomes.{IfReplayed, IsOutcome, NetworkEnds, No
 ghost use Rattle.cmd_streams.specs.Reading.{max_file};
 ghost use Rattle.cmd_streams.specs.StatusNotes.{HasNote, IsSilent};
 ghost use Rattle.cmd_streams.specs.Told.{SaysTo, output_by, UnlessItWrote};
-ghost use Rattle.node_cmd.specs.declared.outcomes.ReportRefusal.TheVariants as Refusal;
+ghost use Rattle.node_cmd.specs.declared.report_refusal.ReportRefusal.TheVariants as Refusal;
 ghost use Rattle.node_cmd.specs.declared.ran.Ran.TheVariants as rans;
 
 use crate::ran::Ran;
+use crate::report_refusal::ReportRefusal;
 use cmd_streams::{Status, TOO_LONG, refuse_line, say, write_all};
 use net_replay::{
     Late, Network, NetworkRefusal, ReplayRefusal, Trace, What, read_network, replay, report,
@@ -28,16 +29,6 @@ pub enum Printed {
     Report,
     /// The line on the soak of that number.
     SoakLine { seed: u64 },
-}
-
-/// Why there is nothing to write.
-#[derive(Clone, Copy, Debug, PartialEq, Eq)]
-pub enum ReportRefusal {
-    /// The first bad line, counted from 1.
-    BadLine { line: u32, what: What },
-    /// A frame would be put in the air after the last that may be there.
-    TooManyFrames,
-    NoMemory,
 }
 
 /// What came of a network: what ran, the verdict on it, and what is written of it.

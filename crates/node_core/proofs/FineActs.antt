@@ -10,9 +10,9 @@ use Rattle.circuit_set.specs.Sets as sets
 use Rattle.circuit_set.specs.Sets.{Holder, SetDone, SetState, CircuitTold}
 use Rattle.circuit_set.specs.Standing.{by_write, write_answer}
 use Rattle.circuit_l4.specs.Table as ends
-use Rattle.circuit_set.specs.declared.event.SetRefusal.TheVariants as set_refusal
-use Rattle.circuit_set.specs.declared.event.ConnectRefusal.{ConnectRefusal}
-use Rattle.circuit_set.specs.declared.event.SetRefusal.{SetRefusal}
+use Rattle.circuit_set.specs.declared.refusal.SetRefusal.TheVariants as set_refusal
+use Rattle.circuit_set.specs.declared.refusal.ConnectRefusal.{ConnectRefusal}
+use Rattle.circuit_set.specs.declared.refusal.SetRefusal.{SetRefusal}
 use Rattle.link_table.specs.Reaching.{IsCall}
 use Rattle.link_table.specs.declared.written.Written.{Written}
 use Rattle.route_table.specs.Table.{to_broadcast}

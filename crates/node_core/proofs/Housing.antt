@@ -23,8 +23,8 @@ use Rattle.route_table.specs.Table.{to_broadcast}
 use Rattle.route_table.specs.Log as logs
 use Rattle.route_table.specs.Log.{Item}
 use Rattle.node_core.specs.declared.config.NodeConfig.{NodeConfig}
-use Rattle.node_turns.specs.declared.session.User.{User}
-use Rattle.node_turns.specs.declared.session.User.TheVariants.{AtLink}
+use Rattle.node_turns.specs.declared.user.User.{User}
+use Rattle.node_turns.specs.declared.user.User.TheVariants.{AtLink}
 use Rattle.node_core.specs.Broadcasts.{is_broadcast, round_frames}
 use Rattle.node_turns.specs.Links as links
 use Rattle.node_core.specs.Configs.{new_station}

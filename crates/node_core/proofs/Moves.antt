@@ -5,7 +5,7 @@ use Rattle.std.specs.List.{AllByRecursion, range_with_len}
 use Rattle.radio_base.specs.declared.payload.Payload.{Payload}
 use Rattle.ax_address.specs.Callsign.{Callsign}
 use Rattle.ax_address.specs.declared.alias.Alias.{Alias}
-use Rattle.ax_address.specs.declared.Entry.{Entry as Said}
+use Rattle.ax_address.specs.declared.entry.Entry.{Entry as Said}
 use Rattle.circuit_set.specs.Pumps.{ticks_of}
 use Rattle.circuit_set.specs.Sets as sets
 use Rattle.circuit_set.specs.Sets.{Act, Holder, set_step}

@@ -8,8 +8,8 @@ use Rattle.circuit_set.specs.Pumps.{Waiting, at_rest, is_drained, TellsLess}
 use Rattle.kiss_framing.specs.Stream as kiss
 use Rattle.kiss_framing.specs.Feeding.{handed_out}
 use Rattle.kiss_framing.specs.Stream.{Item, items}
-use Rattle.kiss_framing.specs.declared.deframer.KissItem.{KissItem}
-use Rattle.kiss_framing.specs.declared.deframer.KissItem.TheVariants as kiss_items
+use Rattle.kiss_framing.specs.declared.item.KissItem.{KissItem}
+use Rattle.kiss_framing.specs.declared.item.KissItem.TheVariants as kiss_items
 use Rattle.l3_datagram.specs.Routers.{Routing}
 use Rattle.link_table.specs.Standing.{NotNoMemory, TableGoes, TableStands, TableView as LinkTable}
 use Rattle.link_table.specs.Table.{Table}

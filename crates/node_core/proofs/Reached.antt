@@ -8,8 +8,8 @@ use Rattle.ax_frame.specs.declared.frame.FrameRefusal.{FrameRefusal}
 use Rattle.ax_frame.specs.Frames.{Frame, read_head_at, read_at}
 use Rattle.circuit_l4.specs.Opening.{facts_of}
 use Rattle.circuit_l4.specs.State.{inbox}
-use Rattle.node_turns.specs.declared.session.User.{User}
-use Rattle.node_turns.specs.declared.session.User.TheVariants.{AtEnd, AtLink}
+use Rattle.node_turns.specs.declared.user.User.{User}
+use Rattle.node_turns.specs.declared.user.User.TheVariants.{AtEnd, AtLink}
 use Rattle.circuit_set.specs.CircuitSets.{facts_at}
 use Rattle.circuit_set.specs.Pumps.{TellsLess, runs, ticks_of}
 use Rattle.circuit_set.specs.Sets as sets
@@ -27,8 +27,8 @@ use Rattle.route_table.specs.Log as logs
 use Rattle.route_table.specs.Log.{Item}
 use Rattle.node_core.specs.declared.config.NodeConfig.{NodeConfig}
 use Rattle.node_core.specs.Acts as acts
-use Rattle.node_turns.specs.declared.session.Stage.{Stage}
-use Rattle.node_turns.specs.declared.session.Stage.TheVariants.{AtPrompt, Trying, Failed, Connected}
+use Rattle.node_turns.specs.declared.stage.Stage.{Stage}
+use Rattle.node_turns.specs.declared.stage.Stage.TheVariants.{AtPrompt, Trying, Failed, Connected}
 use Rattle.node_core.specs.Bridged.{Acts, BridgedAt, Bytes, EverySession, Fetches_entry, Fetches_frame, Input, IsBounded, IsBridged, IsClosedLast, IsEndsReader, IsEndsWriter, AsksForCall, Paths, SessionsBounded, SessionsBridged, SessionsClosedLast, SessionsReadTheirEnds, SessionsWriteTheirEnds, Ticks, after, after_all}
 use Rattle.node_core.specs.Broadcasts.{is_broadcast}
 use Rattle.node_turns.specs.Links as links

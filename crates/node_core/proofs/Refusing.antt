@@ -3,12 +3,12 @@ use Rattle.std.proofs.Common.{◌≡◌, ◌<◌, ◌≤◌, ℕ, refl, arith, [
 use Rattle.std.specs.Prelude.{Bool, IsTrue, IsErrOf, nat_lt, Ok, Err}
 use Rattle.std.proofs.lemmas.Bool.Decides.{nat_tests}
 use Rattle.ax_address.specs.Callsign.{Callsign, same_call}
-use Rattle.circuit_set.specs.declared.event.ConnectRefusal.{ConnectRefusal}
-use Rattle.circuit_set.specs.declared.event.ConnectRefusal.TheVariants as connecting
+use Rattle.circuit_set.specs.declared.refusal.ConnectRefusal.{ConnectRefusal}
+use Rattle.circuit_set.specs.declared.refusal.ConnectRefusal.TheVariants as connecting
 use Rattle.route_table.specs.Held.{CanLock, TableRoutes, LockFault, StandsFor}
 use Rattle.route_table.specs.Log.{Item}
-use Rattle.route_table.specs.declared.route.LockRefusal.{LockRefusal}
-use Rattle.route_table.specs.declared.route.LockRefusal.TheVariants as locking
+use Rattle.route_table.specs.declared.refusal.LockRefusal.{LockRefusal}
+use Rattle.route_table.specs.declared.refusal.LockRefusal.TheVariants as locking
 use Rattle.node_core.specs.declared.acts.ActDone.TheVariants.{Done}
 use Rattle.node_core.specs.declared.station.Station.{Station}
 use Rattle.node_core.specs.Acts.{lock, connect_refusal, lock_refusal}

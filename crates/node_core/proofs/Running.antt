@@ -10,7 +10,7 @@ use Rattle.circuit_set.specs.Pumps.{runs, Waiting, at_rest}
 use Rattle.circuit_set.specs.Sets as sets
 use Rattle.circuit_set.specs.Sets.{Act, SetState, CircuitTold}
 use Rattle.circuit_set.specs.Standing.{write_answer}
-use Rattle.circuit_set.specs.declared.event.SetRefusal.{SetRefusal}
+use Rattle.circuit_set.specs.declared.refusal.SetRefusal.{SetRefusal}
 use Rattle.digi_path.specs.Paths.{Action, For_me, Repeat, Not_yet, Heard}
 use Rattle.kiss_framing.specs.Stream as kiss
 use Rattle.link_table.specs.declared.written.Written.{Written}

@@ -6,7 +6,7 @@ use Rattle.std.proofs.lemmas.List.{length-take, take_all, take-take}
 use Rattle.std.proofs.lemmas.List.Concat.{flat_map-append}
 use Rattle.std.proofs.lemmas.List.Elements.{filter_more}
 use Rattle.arrayvec.specs.ArrayVec.{ArrayVec}
-use Rattle.node_prompt.specs.declared.action.View.TheVariants as see
+use Rattle.node_prompt.specs.declared.view.View.TheVariants as see
 use Rattle.route_table.specs.declared.route.Route.{Route}
 
 -- ---- a list that is full at so many

@@ -4,8 +4,8 @@ use Rattle.std.proofs.Common.{◌≡◌, ℕ, zero, suc, refl, List, [], ◌∷�
 use Rattle.std.specs.Prelude.{Bool, true, false, if◌then◌else◌, not, ◌&&◌, length, map, nat_lt, Option, Some, None, Result, Ok, Err}
 use Rattle.ax_address.specs.Callsign.{ReadsCallTexts, call_at, Callsign, IsCallsign}
 use Rattle.ax_address.specs.declared.call.CallRefusal.{CallRefusal}
-use Rattle.circuit_set.specs.declared.event.ConnectRefusal.{ConnectRefusal}
-use Rattle.circuit_set.specs.declared.event.SetRefusal.{SetRefusal}
+use Rattle.circuit_set.specs.declared.refusal.ConnectRefusal.{ConnectRefusal}
+use Rattle.circuit_set.specs.declared.refusal.SetRefusal.{SetRefusal}
 use Rattle.circuit_set.specs.Pumps.{connect_answer}
 use Rattle.circuit_set.specs.Sets as sets
 use Rattle.circuit_set.specs.Standing as answers
@@ -18,17 +18,17 @@ use Rattle.node_prompt.specs.declared.action.Action.{Action}
 use Rattle.node_prompt.specs.declared.action.Action.TheVariants as action
 use Rattle.node_prompt.specs.declared.command.Command.{Command}
 use Rattle.node_prompt.specs.declared.command.Command.TheVariants as command
-use Rattle.node_prompt.specs.declared.command.LineRefusal.{LineRefusal}
-use Rattle.node_prompt.specs.declared.command.LineRefusal.TheVariants.{TooLong}
+use Rattle.node_prompt.specs.declared.line_refusal.LineRefusal.{LineRefusal}
+use Rattle.node_prompt.specs.declared.line_refusal.LineRefusal.TheVariants.{TooLong}
 use Rattle.node_turns.specs.Links as links
 use Rattle.node_prompt.specs.declared.command.Verb.{Verb}
 use Rattle.node_prompt.specs.declared.command.Verb.TheVariants as verb
-use Rattle.node_turns.specs.declared.session.Circuit.{Circuit}
-use Rattle.node_turns.specs.declared.session.Reply.{Reply}
-use Rattle.node_turns.specs.declared.session.Stage.{Stage}
-use Rattle.node_turns.specs.declared.session.Stage.TheVariants.{AtPrompt, Trying, Failed, Connected}
-use Rattle.node_turns.specs.declared.session.User.{User}
-use Rattle.node_turns.specs.declared.session.User.TheVariants.{AtEnd, AtLink}
+use Rattle.node_turns.specs.declared.circuit.Circuit.{Circuit}
+use Rattle.node_turns.specs.declared.reply.Reply.{Reply}
+use Rattle.node_turns.specs.declared.stage.Stage.{Stage}
+use Rattle.node_turns.specs.declared.stage.Stage.TheVariants.{AtPrompt, Trying, Failed, Connected}
+use Rattle.node_turns.specs.declared.user.User.{User}
+use Rattle.node_turns.specs.declared.user.User.TheVariants.{AtEnd, AtLink}
 use Rattle.node_turns.specs.Asking as asking
 use Rattle.node_turns.specs.Bridging as bridging
 use Rattle.node_turns.specs.Pumping.{pump}

@@ -10,12 +10,12 @@ use Rattle.circuit_l4.specs.State.{Effect}
 use Rattle.circuit_set.specs.Pumps.{connect_answer}
 use Rattle.circuit_set.specs.Sets as sets
 use Rattle.circuit_set.specs.Sets.{SetDone, SetState, set_step}
-use Rattle.circuit_set.specs.declared.event.ConnectRefusal.{ConnectRefusal}
-use Rattle.circuit_set.specs.declared.event.ConnectRefusal.TheVariants as connecting
+use Rattle.circuit_set.specs.declared.refusal.ConnectRefusal.{ConnectRefusal}
+use Rattle.circuit_set.specs.declared.refusal.ConnectRefusal.TheVariants as connecting
 use Rattle.link_table.specs.Reaching.{IsCall}
 use Rattle.node_prompt.specs.Replies as texts
-use Rattle.node_turns.specs.declared.session.Reply.{Reply}
-use Rattle.node_turns.specs.declared.session.Stage.TheVariants.{AtPrompt}
+use Rattle.node_turns.specs.declared.reply.Reply.{Reply}
+use Rattle.node_turns.specs.declared.stage.Stage.TheVariants.{AtPrompt}
 use Rattle.node_turns.specs.Asking as asking
 use Rattle.node_turns.specs.Bridging as bridging
 use Rattle.node_turns.specs.Links as circuits

@@ -7,7 +7,7 @@ use Rattle.circuit_set.specs.CircuitSets.{Circuits, SetStands}
 use Rattle.circuit_set.specs.Pumps as inputs
 use Rattle.circuit_set.specs.Pumps.{Waiting, at_rest}
 use Rattle.circuit_set.specs.Sets as s
-use Rattle.circuit_set.specs.declared.event.SetRefusal.{SetRefusal}
+use Rattle.circuit_set.specs.declared.refusal.SetRefusal.{SetRefusal}
 use Rattle.circuit_set.specs.Standing as answers
 use Rattle.link_table.specs.Texts as texts
 use Rattle.link_table.specs.Standing.{TableView as Kept, TableGoes, TableStands, TextNotNoMemory, text_given}

@@ -8,12 +8,12 @@ use Rattle.ax_address.specs.Callsign.{Callsign, same_call}
 use Rattle.circuit_set.specs.CircuitSets.{partner_at}
 use Rattle.circuit_set.specs.Pumps.{TellsLess}
 use Rattle.link_table.specs.Kept.{OffersLeave, TakesLower}
-use Rattle.node_turns.specs.declared.session.Circuit.{Circuit}
-use Rattle.node_turns.specs.declared.session.Reply.{Reply}
-use Rattle.node_turns.specs.declared.session.Stage.{Stage}
-use Rattle.node_turns.specs.declared.session.Stage.TheVariants.{AtPrompt, Trying, Failed, Connected}
-use Rattle.node_turns.specs.declared.session.User.{User}
-use Rattle.node_turns.specs.declared.session.User.TheVariants.{AtEnd, AtLink}
+use Rattle.node_turns.specs.declared.circuit.Circuit.{Circuit}
+use Rattle.node_turns.specs.declared.reply.Reply.{Reply}
+use Rattle.node_turns.specs.declared.stage.Stage.{Stage}
+use Rattle.node_turns.specs.declared.stage.Stage.TheVariants.{AtPrompt, Trying, Failed, Connected}
+use Rattle.node_turns.specs.declared.user.User.{User}
+use Rattle.node_turns.specs.declared.user.User.TheVariants.{AtEnd, AtLink}
 use Rattle.node_turns.specs.Asking as asking
 use Rattle.node_turns.specs.Bridging as bridging
 use Rattle.node_turns.specs.Links as links

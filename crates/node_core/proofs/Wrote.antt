@@ -10,20 +10,20 @@ use Rattle.circuit_l4.specs.Table as end
 use Rattle.circuit_l4.specs.Halves.{first_or}
 use Rattle.circuit_l4.specs.declared.notice.EndNotice.{EndNotice}
 use Rattle.circuit_l4.specs.declared.notice.EndNotice.TheVariants as notice
-use Rattle.circuit_l4.specs.declared.transport.Pair.{Pair}
+use Rattle.circuit_l4.specs.declared.pair.Pair.{Pair}
 use Rattle.circuit_l4.specs.declared.transport.Transport.{Transport}
 use Rattle.circuit_set.specs.Sets as s
 use Rattle.circuit_set.specs.Sets.{Call, Calls, Comes, Connect, Holder, SetState, CircuitTold, Closes, Takes, Ticks, Writes}
 use Rattle.circuit_set.specs.Standing as answers
-use Rattle.circuit_set.specs.declared.event.SetRefusal.TheVariants as set_refusal
+use Rattle.circuit_set.specs.declared.refusal.SetRefusal.TheVariants as set_refusal
 use Rattle.circuit_l4.specs.Opening.{requesting}
 use Rattle.circuit_l4.specs.declared.refusal.WriteRefusal.{WriteRefusal}
 use Rattle.radio_base.specs.declared.modulus.TheConstants.{COUNT_MAX}
 use Rattle.node_turns.specs.Asking as asking
-use Rattle.node_turns.specs.declared.session.Circuit.{Circuit}
-use Rattle.node_turns.specs.declared.session.Stage.{Stage}
-use Rattle.node_turns.specs.declared.session.Stage.TheVariants.{AtPrompt, Trying, Failed, Connected}
-use Rattle.node_turns.specs.declared.session.User.{User}
+use Rattle.node_turns.specs.declared.circuit.Circuit.{Circuit}
+use Rattle.node_turns.specs.declared.stage.Stage.{Stage}
+use Rattle.node_turns.specs.declared.stage.Stage.TheVariants.{AtPrompt, Trying, Failed, Connected}
+use Rattle.node_turns.specs.declared.user.User.{User}
 use Rattle.node_turns.specs.Bridging as bridging
 use Rattle.node_turns.specs.Serving.{is_circuit}
 use Rattle.node_turns.specs.Sessions as sessions

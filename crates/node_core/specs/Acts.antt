@@ -2,19 +2,19 @@
 use Rattle.std.specs.Prelude.{ℕ, Bool, true, false, ◌&&◌, is_some, nat_lt, if◌then◌else◌, List, [], ◌∷◌, length, Result, Ok, Err}
 use Rattle.ax_address.specs.Callsign.{Callsign, same_call}
 use Rattle.ax_address.specs.declared.alias.Alias.{Alias}
-use Rattle.circuit_set.specs.declared.event.ConnectRefusal.{ConnectRefusal}
-use Rattle.circuit_set.specs.declared.event.NoEnd.{NoEnd}
-use Rattle.circuit_set.specs.declared.event.SetRefusal.{SetRefusal}
+use Rattle.circuit_set.specs.declared.refusal.ConnectRefusal.{ConnectRefusal}
+use Rattle.circuit_set.specs.declared.refusal.NoEnd.{NoEnd}
+use Rattle.circuit_set.specs.declared.refusal.SetRefusal.{SetRefusal}
 use Rattle.circuit_set.specs.Pumps.{connect_answer}
 use Rattle.circuit_set.specs.Sets as sets
 use Rattle.circuit_set.specs.Standing.{close_answer, message_at, take_answer, write_answer}
-use Rattle.circuit_set.specs.declared.event.ConnectRefusal.TheVariants as connecting
-use Rattle.circuit_set.specs.declared.event.SetRefusal.TheVariants as set_refusal
+use Rattle.circuit_set.specs.declared.refusal.ConnectRefusal.TheVariants as connecting
+use Rattle.circuit_set.specs.declared.refusal.SetRefusal.TheVariants as set_refusal
 use Rattle.route_table.specs.Log as logs
 use Rattle.route_table.specs.Log.{Item}
 use Rattle.route_table.specs.Table.{usable}
-use Rattle.route_table.specs.declared.route.LockRefusal.{LockRefusal}
-use Rattle.route_table.specs.declared.route.LockRefusal.TheVariants as locking
+use Rattle.route_table.specs.declared.refusal.LockRefusal.{LockRefusal}
+use Rattle.route_table.specs.declared.refusal.LockRefusal.TheVariants as locking
 use Rattle.node_turns.specs.Links as circuits
 use Rattle.node_turns.specs.Links.{break_link}
 use Rattle.node_turns.specs.States.{State, at_links, at_set, next_hop, with_items}

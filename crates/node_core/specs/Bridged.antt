@@ -10,9 +10,9 @@ use Rattle.circuit_set.specs.Sets.{Holder}
 use Rattle.link_table.specs.Calls.{with_path}
 use Rattle.link_table.specs.Reaching.{IsCall}
 use Rattle.node_core.specs.declared.config.NodeConfig.{NodeConfig}
-use Rattle.node_turns.specs.declared.session.Circuit.{Circuit}
-use Rattle.node_turns.specs.declared.session.Stage.{Stage}
-use Rattle.node_turns.specs.declared.session.Stage.TheVariants.{AtPrompt, Trying, Failed, Connected}
+use Rattle.node_turns.specs.declared.circuit.Circuit.{Circuit}
+use Rattle.node_turns.specs.declared.stage.Stage.{Stage}
+use Rattle.node_turns.specs.declared.stage.Stage.TheVariants.{AtPrompt, Trying, Failed, Connected}
 use Rattle.node_core.specs.Configs.{new_node}
 use Rattle.node_core.specs.Inputs.{after_act, after_bytes, after_tick}
 use Rattle.node_core.specs.Runs.{IsUserAct}

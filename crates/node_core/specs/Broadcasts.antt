@@ -6,7 +6,7 @@ use Rattle.std.proofs.Common.{lit≤}
 use Rattle.ax_address.specs.Callsign.{Callsign, padded, same_call}
 use Rattle.ax_address.specs.declared.address.Address.{Address}
 use Rattle.ax_address.specs.declared.alias.Alias.{Alias}
-use Rattle.ax_address.specs.declared.Entry.{Entry}
+use Rattle.ax_address.specs.declared.entry.Entry.{Entry}
 use Rattle.ax_frame.specs.declared.control.Control.{Control}
 use Rattle.ax_frame.specs.declared.control.Control.TheVariants.{Ui}
 use Rattle.ax_frame.specs.Frames.{Frame, frame, frame_octets}

@@ -2,8 +2,8 @@
 use Rattle.std.specs.Prelude.{ℕ, ◌≡◌, Bool, true, false, slice_get, Result, Ok, Err}
 use Rattle.circuit_set.specs.CircuitSets.{Circuits, SetStands}
 use Rattle.kiss_framing.specs.Stream.{Item, Frame, Too_long}
-use Rattle.kiss_framing.specs.declared.deframer.KissItem.{KissItem}
-use Rattle.kiss_framing.specs.declared.deframer.KissItem.TheVariants as kiss
+use Rattle.kiss_framing.specs.declared.item.KissItem.{KissItem}
+use Rattle.kiss_framing.specs.declared.item.KissItem.TheVariants as kiss
 use Rattle.link_table.specs.Standing.{TableView as Kept}
 use Rattle.node_core.specs.declared.acts.ActDone.{ActDone}
 use Rattle.node_core.specs.declared.acts.ActRefusal.{ActRefusal}

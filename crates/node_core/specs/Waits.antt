@@ -1,10 +1,10 @@
 -- What waits after an input: only what the side that it goes to has no room for. Own profile.
 use Rattle.std.specs.Prelude.{ℕ, ◌≡◌, ◌<◌, Bool, true, false, not, ◌&&◌, ◌||◌, nat_lt, length, Some}
 use Rattle.circuit_set.specs.Standing as answers
-use Rattle.node_turns.specs.declared.session.Circuit.{Circuit}
-use Rattle.node_turns.specs.declared.session.Stage.TheVariants.{AtPrompt, Connected}
-use Rattle.node_turns.specs.declared.session.User.{User}
-use Rattle.node_turns.specs.declared.session.User.TheVariants.{AtEnd, AtLink}
+use Rattle.node_turns.specs.declared.circuit.Circuit.{Circuit}
+use Rattle.node_turns.specs.declared.stage.Stage.TheVariants.{AtPrompt, Connected}
+use Rattle.node_turns.specs.declared.user.User.{User}
+use Rattle.node_turns.specs.declared.user.User.TheVariants.{AtEnd, AtLink}
 use Rattle.node_turns.specs.Bridging.{may_close}
 use Rattle.node_turns.specs.Links as links
 use Rattle.node_turns.specs.Serving.{is_over}

@@ -2,13 +2,12 @@
 ghost use Rattle.std.specs.Prelude.{◌≡◌};
 ghost use Rattle.node_core.specs.Going as going;
 
+use crate::taken_message::TakenMessage;
 use ax_address::{Alias, Call};
 use circuit_l4::WriteRefusal;
 use circuit_set::{ConnectRefusal, NoEnd, SetRefusal};
 use radio_base::NoMemory;
 use route_table::LockRefusal;
-use std::alloc::Global;
-use std::marker::Model;
 
 /// What a node's user does. An end of a circuit is named by its number.
 #[derive(Clone, Copy, Debug, PartialEq, Eq)]
@@ -39,47 +38,6 @@ pub enum UserAct<'a> {
     Close {
         id: u64,
     },
-}
-
-/// A message that was taken from an end.
-#[derive(Debug, Drop)]
-pub struct TakenMessage {
-    bytes: Vec<u8>,
-}
-
-impl Model for TakenMessage {
-    ghost use Rattle.std.specs.Prelude.{ℕ, List};
-
-    ghost Value = { List ℕ };
-
-    ghost view = { λ m. m.bytes.items };
-}
-
-impl TakenMessage {
-    ghost use Rattle.std.specs.Prelude.{◌≡◌, IfOk};
-
-    /// A message of these bytes.
-    pub(crate) fn new(alloc: Global, bytes: &[u8]) -> Result<TakenMessage, NoMemory>
-        ensures { IfOk result (λ message. message ≡ bytes.now) }
-    {
-        Ok(TakenMessage {
-            bytes: bytes.to_vec(alloc)?,
-        })
-    }
-
-    /// Its bytes.
-    pub fn as_slice(&self) -> &[u8]
-        ensures { result.now ≡ self.now }
-    {
-        &self.bytes
-    }
-
-    /// Its bytes, without a copy.
-    pub fn into_vec(self) -> Vec<u8>
-        ensures { result.items ≡ self }
-    {
-        self.bytes
-    }
 }
 
 /// What was done.

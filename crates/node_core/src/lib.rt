@@ -16,9 +16,11 @@ mod rounds;
 mod sessions;
 mod settling;
 mod station;
+mod taken_message;
 
-pub use acts::{ActDone, ActRefusal, TakenMessage, UserAct};
+pub use acts::{ActDone, ActRefusal, UserAct};
 pub use broadcasts::broadcast_frame;
 pub use config::NodeConfig;
 pub use entry::NodeEntry;
 pub use node::Node;
+pub use taken_message::TakenMessage;

@@ -5,7 +5,7 @@ use Rattle.std.specs.Map.{lookup, values_of}
 use Rattle.std.proofs.lemmas.Bool.{eqb-true, eq-eqb}
 use Rattle.ax_address.specs.Callsign.{Callsign, same_call}
 use Rattle.node_mail.specs.declared.mail.Mail.{Mail}
-use Rattle.node_mail.specs.declared.mailbox.MailName.{MailName}
+use Rattle.node_mail.specs.declared.mail.MailName.{MailName}
 use Rattle.node_mail.specs.Lists.{is_stored}
 use Rattle.node_mail.specs.Mailboxes.{AreNamed}
 use Rattle.node_mail.proofs.Calls.{same_call-true, same_call-equal}

@@ -4,7 +4,7 @@ use Rattle.std.specs.Prelude.{◌||◌, ◌==◌, not, remove}
 use Rattle.std.specs.List.{AllByRecursion}
 use Rattle.std.proofs.lemmas.Bool.{eq-eqb}
 use Rattle.ax_address.specs.Callsign.{Callsign, same_call}
-use Rattle.node_mail.specs.declared.places.QueuedMail.{QueuedMail}
+use Rattle.node_mail.specs.declared.queued_mails.QueuedMail.{QueuedMail}
 use Rattle.node_mail.specs.Lists.{Letter, letter_of, is_queued_for, without}
 use Rattle.node_mail.specs.Queues.{HasNone, IsInOrder, IsLetter, Rises, letter_in, letters}
 use Rattle.node_mail.proofs.Each.{each_map, each_push, each_filter}

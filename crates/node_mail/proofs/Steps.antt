@@ -7,8 +7,8 @@ use Rattle.std.proofs.lemmas.Bool.Decides.{nat_tests}
 use Rattle.ax_address.specs.Callsign.{Callsign, IsCallsign, same_call}
 use Rattle.node_mail.specs.Wires.{Wire, Carries, Receipt, IsWire, IsNumber, IsText, wire_at, wire_octets}
 use Rattle.node_mail.specs.Lists.{Lists, Letter, Mail, Heard, PostRefusal, letter_of, is_stored, is_queued_for, offer, without, post_at, posted_by, with_letter, mail_of, heard_of, kept_after, answer_to, text_of, nothing_kept}
-use Rattle.node_mail.specs.declared.mail.PostRefusal.TheVariants as refusal
-use Rattle.node_mail.specs.declared.mail.Heard.TheVariants.{Stored, Again, Settled, Stray, Full}
+use Rattle.node_mail.specs.declared.post_refusal.PostRefusal.TheVariants as refusal
+use Rattle.node_mail.specs.declared.heard.Heard.TheVariants.{Stored, Again, Settled, Stray, Full}
 use Rattle.node_mail.specs.Runs.{MailRun, Written, Event, Posts, Writes, Says, Hears, IsEvent, with_store, posts, writes, writes_letter, says, answers, hears, hears_by, happens, begin, run}
 use Rattle.node_mail.specs.MailOnce.{IsKept}
 use Rattle.node_mail.proofs.Calls.{same_call-equal}

@@ -4,10 +4,10 @@ use Rattle.std.specs.List.{list_any}
 use Rattle.radio_base.specs.declared.modulus.TheConstants.{COUNT_MAX}
 use Rattle.ax_address.specs.Callsign.{Callsign, same_call}
 pub use Rattle.node_mail.specs.declared.mail.Mail.{Mail}
-pub use Rattle.node_mail.specs.declared.mail.Heard.{Heard}
-use Rattle.node_mail.specs.declared.mail.Heard.TheVariants.{Stored, Again, Settled, Stray, Full, Bad}
-pub use Rattle.node_mail.specs.declared.mail.PostRefusal.{PostRefusal}
-use Rattle.node_mail.specs.declared.mail.PostRefusal.TheVariants as refusal
+pub use Rattle.node_mail.specs.declared.heard.Heard.{Heard}
+use Rattle.node_mail.specs.declared.heard.Heard.TheVariants.{Stored, Again, Settled, Stray, Full, Bad}
+pub use Rattle.node_mail.specs.declared.post_refusal.PostRefusal.{PostRefusal}
+use Rattle.node_mail.specs.declared.post_refusal.PostRefusal.TheVariants as refusal
 use Rattle.node_mail.specs.Wires.{Wire, Carries, Receipt, wire_at, Spells, wire_octets}
 
 -- a mail as it was posted

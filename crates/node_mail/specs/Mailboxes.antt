@@ -2,7 +2,7 @@
 use Rattle.std.specs.Prelude.{◌≡◌, List}
 use Rattle.std.specs.List.{AllByRecursion}
 use Rattle.node_mail.specs.declared.mail.Mail.{Mail}
-use Rattle.node_mail.specs.declared.mailbox.MailName.{MailName}
+use Rattle.node_mail.specs.declared.mail.MailName.{MailName}
 
 abbrev pub name_of : Mail → MailName
 name_of m = record { origin = m.origin; number = m.number }

@@ -1,7 +1,7 @@
 -- The mails that are queued, by what the code keeps of them. No public clause cites it: not for the reader of a contract.
 use Rattle.std.specs.Prelude.{ℕ, ◌≢◌, ◌<◌, ◌≤◌, List, [], ◌∷◌, map}
 use Rattle.std.specs.List.{AllByRecursion}
-use Rattle.node_mail.specs.declared.places.QueuedMail.{QueuedMail}
+use Rattle.node_mail.specs.declared.queued_mails.QueuedMail.{QueuedMail}
 use Rattle.node_mail.specs.Wires.{IsNumber, IsText}
 use Rattle.node_mail.specs.Lists.{Letter}
 

@@ -3,7 +3,8 @@ ghost use Rattle.std.specs.Prelude.{◌≡◌, ◌≤◌, length, List, IfOk, On
 ghost use Rattle.node_mail.specs.Lists as lists;
 ghost use Rattle.node_mail.specs.Lists.{octets_in};
 
-use crate::mail::{Heard, MAX_STORED, Mail};
+use crate::heard::Heard;
+use crate::mail::{MAX_STORED, Mail};
 use crate::mailbox::Mailbox;
 use crate::queue::Queue;
 use crate::write::write_receipt;

@@ -5,15 +5,20 @@
 //! node's circuits, and hands what comes by them to `Store::hear`.
 #![tactic(auto)]
 
+mod heard;
 mod hearing;
 pub mod laws;
 mod mail;
 mod mailbox;
-mod places;
+mod post_refusal;
 mod queue;
+mod queued_mails;
 mod read;
 mod store;
+mod wire_head;
 mod write;
 
-pub use mail::{Heard, MAX_MAIL, MAX_QUEUED, MAX_STORED, Mail, PostRefusal};
+pub use heard::Heard;
+pub use mail::{MAX_MAIL, MAX_QUEUED, MAX_STORED, Mail};
+pub use post_refusal::PostRefusal;
 pub use store::Store;

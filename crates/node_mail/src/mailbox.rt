@@ -3,19 +3,12 @@ ghost use Rattle.std.specs.Prelude.{◌≡◌, ◌++◌, ◌∷◌, [], length, 
 ghost use Rattle.std.specs.Option.{option_copied};
 ghost use Rattle.node_mail.specs.Lists.{is_stored};
 
-use crate::mail::Mail;
+use crate::mail::{Mail, MailName};
 use ax_address::Call;
 use indexmap::IndexMap;
 use radio_base::NoMemory;
 use std::alloc::Global;
 use std::marker::Model;
-
-/// What tells a mail from all others: the node where it was posted, and its number there.
-#[derive(Clone, Copy, Debug, PartialEq, Eq, Hash)]
-pub(crate) struct MailName {
-    pub(crate) origin: Call,
-    pub(crate) number: u64,
-}
 
 /// The mails that are stored. A look-up is one by the hash of a name, and touches no text.
 #[derive(Drop)]

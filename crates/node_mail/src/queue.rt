@@ -5,8 +5,9 @@ ghost use Rattle.node_mail.specs.Lists.{is_queued_for, letter_of, new_letter, nu
 ghost use Rattle.node_mail.specs.Queues.{IsInOrder, QueueView, letters};
 ghost use Rattle.node_mail.specs.Wires.{IsNumber, IsText};
 
-use crate::mail::{MAX_MAIL, MAX_QUEUED, PostRefusal};
-use crate::places::{QueuedMail, place_for, place_of};
+use crate::mail::{MAX_MAIL, MAX_QUEUED};
+use crate::post_refusal::PostRefusal;
+use crate::queued_mails::{QueuedMail, place_for, place_of};
 use crate::write::write_mail;
 use ax_address::Call;
 use l3_datagram::Message;

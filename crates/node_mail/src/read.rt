@@ -7,20 +7,9 @@ ghost use Rattle.node_mail.specs.Wires as wires;
 ghost use Rattle.node_mail.specs.Heads.{wire_of, call_or_none, IsReceipt, IsSized};
 
 use crate::mail::MAX_MAIL;
+use crate::wire_head::WireHead;
 use ax_address::{Call, read_net_call};
 use radio_base::COUNT_MAX;
-
-/// Where the text of a mail begins in its message.
-pub(crate) const TEXT_AT: usize = 16;
-
-/// A message about mail, but for the text, which is all from `TEXT_AT` on.
-#[derive(Clone, Copy, Debug)]
-pub(crate) enum WireHead {
-    /// A mail.
-    Carries { number: u64, to: Call },
-    /// The mail of that number is stored.
-    Receipt { number: u64 },
-}
 
 /// The message that the octets are.
 #[tactic(auto, unfolding(crate::specs::Wires::wire_at))]

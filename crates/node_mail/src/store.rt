@@ -1,9 +1,12 @@
 //! The mail of a node: its public calls. Own profile.
+use crate::heard::Heard;
 use crate::hearing::{hear_mail, hear_receipt};
-use crate::mail::{Heard, Mail, PostRefusal};
+use crate::mail::Mail;
 use crate::mailbox::Mailbox;
+use crate::post_refusal::PostRefusal;
 use crate::queue::Queue;
-use crate::read::{TEXT_AT, WireHead, read_wire};
+use crate::read::read_wire;
+use crate::wire_head::{TEXT_AT, WireHead};
 use ax_address::Call;
 use l3_datagram::Message;
 use radio_base::NoMemory;

@@ -13,15 +13,15 @@ use Rattle.ax_address.specs.Callsign as calls
 use Rattle.ax_address.specs.declared.call.CallRefusal.{CallRefusal}
 use Rattle.route_table.specs.declared.route.Route.{Route}
 use Rattle.node_prompt.specs.declared.action.Action.TheVariants.{Show}
-use Rattle.node_prompt.specs.declared.action.Sight.TheVariants as sight
-use Rattle.node_prompt.specs.declared.action.Trouble.{Trouble}
-use Rattle.node_prompt.specs.declared.action.Trouble.TheVariants.{NoRoute, Own, Full, Busy, Failure}
-use Rattle.node_prompt.specs.declared.action.View.{View}
-use Rattle.node_prompt.specs.declared.action.View.TheVariants as see
+use Rattle.node_prompt.specs.declared.sight.Sight.TheVariants as sight
+use Rattle.node_prompt.specs.declared.trouble.Trouble.{Trouble}
+use Rattle.node_prompt.specs.declared.trouble.Trouble.TheVariants.{NoRoute, Own, Full, Busy, Failure}
+use Rattle.node_prompt.specs.declared.view.View.{View}
+use Rattle.node_prompt.specs.declared.view.View.TheVariants as see
 use Rattle.node_prompt.specs.declared.command.Command.{Command}
 use Rattle.node_prompt.specs.declared.command.Command.TheVariants as ask
-use Rattle.node_prompt.specs.declared.command.LineRefusal.{LineRefusal}
-use Rattle.node_prompt.specs.declared.command.LineRefusal.TheVariants.{TooLong, UnknownCommand, WrongWords, BadCall}
+use Rattle.node_prompt.specs.declared.line_refusal.LineRefusal.{LineRefusal}
+use Rattle.node_prompt.specs.declared.line_refusal.LineRefusal.TheVariants.{TooLong, UnknownCommand, WrongWords, BadCall}
 use Rattle.node_prompt.specs.declared.command.Verb.{Verb}
 use Rattle.node_prompt.specs.declared.command.Verb.TheVariants.{Connect, Nodes, Routes, Users, Info, Bye, Help}
 use Rattle.node_prompt.specs.Commands.{capital, words_of, is_either, verb_of, about, command_from, command_of, command_at}

@@ -6,8 +6,8 @@ use Rattle.ax_address.specs.Callsign.{Callsign, call_at}
 use Rattle.ax_address.specs.declared.call.CallRefusal.{CallRefusal}
 use Rattle.node_prompt.specs.declared.command.Command.{Command}
 use Rattle.node_prompt.specs.declared.command.Command.TheVariants as ask
-use Rattle.node_prompt.specs.declared.command.LineRefusal.{LineRefusal}
-use Rattle.node_prompt.specs.declared.command.LineRefusal.TheVariants.{TooLong, UnknownCommand, WrongWords, BadCall}
+use Rattle.node_prompt.specs.declared.line_refusal.LineRefusal.{LineRefusal}
+use Rattle.node_prompt.specs.declared.line_refusal.LineRefusal.TheVariants.{TooLong, UnknownCommand, WrongWords, BadCall}
 use Rattle.node_prompt.specs.declared.command.Verb.{Verb}
 use Rattle.node_prompt.specs.declared.command.Verb.TheVariants.{Connect, Nodes, Routes, Users, Info, Bye, Help}
 

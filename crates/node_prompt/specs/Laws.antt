@@ -2,9 +2,9 @@
 use Rattle.std.specs.Prelude.{ℕ, ◌≡◌, ◌≤◌, ◌⊎◌, ◌↔◌, List, [], ◌∷◌, ◌++◌, length, map, Ok, IfSome, codes}
 use Rattle.ax_address.specs.Callsign.{Callsign, call_at}
 use Rattle.node_prompt.specs.declared.action.Action.TheVariants.{Show}
-use Rattle.node_prompt.specs.declared.action.Sight.TheVariants.{RoutesTo}
-use Rattle.node_prompt.specs.declared.action.Trouble.{Trouble}
-use Rattle.node_prompt.specs.declared.action.View.{View}
+use Rattle.node_prompt.specs.declared.sight.Sight.TheVariants.{RoutesTo}
+use Rattle.node_prompt.specs.declared.trouble.Trouble.{Trouble}
+use Rattle.node_prompt.specs.declared.view.View.{View}
 use Rattle.node_prompt.specs.Commands.{capital, words_of}
 use Rattle.node_prompt.specs.Replies.{Prompt, prefix_of, ended, action_for, said, view_text, trying, connected, refused, disconnected}
 

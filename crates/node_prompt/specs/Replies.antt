@@ -10,15 +10,15 @@ use Rattle.ax_address.specs.declared.alias.Alias.{Alias}
 use Rattle.route_table.specs.declared.route.Route.{Route}
 use Rattle.node_prompt.specs.declared.action.Action.{Action}
 use Rattle.node_prompt.specs.declared.action.Action.TheVariants.{Say, Show, Connect, Bye, Nothing}
-use Rattle.node_prompt.specs.declared.action.Sight.TheVariants as sight
-use Rattle.node_prompt.specs.declared.action.Trouble.{Trouble}
-use Rattle.node_prompt.specs.declared.action.Trouble.TheVariants.{NoRoute, Own, Full, Busy, Failure}
-use Rattle.node_prompt.specs.declared.action.View.{View}
-use Rattle.node_prompt.specs.declared.action.View.TheVariants as view
+use Rattle.node_prompt.specs.declared.sight.Sight.TheVariants as sight
+use Rattle.node_prompt.specs.declared.trouble.Trouble.{Trouble}
+use Rattle.node_prompt.specs.declared.trouble.Trouble.TheVariants.{NoRoute, Own, Full, Busy, Failure}
+use Rattle.node_prompt.specs.declared.view.View.{View}
+use Rattle.node_prompt.specs.declared.view.View.TheVariants as view
 use Rattle.node_prompt.specs.declared.command.Command.{Command}
 use Rattle.node_prompt.specs.declared.command.Command.TheVariants as ask
-use Rattle.node_prompt.specs.declared.command.LineRefusal.{LineRefusal}
-use Rattle.node_prompt.specs.declared.command.LineRefusal.TheVariants.{TooLong, UnknownCommand, WrongWords, BadCall}
+use Rattle.node_prompt.specs.declared.line_refusal.LineRefusal.{LineRefusal}
+use Rattle.node_prompt.specs.declared.line_refusal.LineRefusal.TheVariants.{TooLong, UnknownCommand, WrongWords, BadCall}
 use Rattle.node_prompt.specs.Commands.{command_at}
 
 -- Who speaks at a prompt, and how each text begins and ends. Own profile.

@@ -2,6 +2,7 @@
 ghost use Rattle.std.specs.Prelude.{◌≡◌};
 ghost use Rattle.node_prompt.specs.Commands as commands;
 
+use crate::line_refusal::LineRefusal;
 use crate::words::{MAX_LINE, capitals, first_word};
 use ax_address::Call;
 
@@ -26,19 +27,6 @@ pub enum Command {
     Bye,
     /// The commands.
     Help,
-}
-
-/// Why a line asks for nothing that there is.
-#[derive(Clone, Copy, Debug, PartialEq, Eq)]
-pub enum LineRefusal {
-    /// It has more than 80 bytes.
-    TooLong,
-    /// Its first word is no command.
-    UnknownCommand,
-    /// There are too few or too many words.
-    WrongWords,
-    /// A call is asked for, and the word is none.
-    BadCall,
 }
 
 /// The commands by their first words.

@@ -7,9 +7,16 @@
 mod action;
 mod command;
 pub mod laws;
+mod line_refusal;
 mod lines;
 mod prompt;
+mod sight;
+mod trouble;
+mod view;
 mod words;
 
-pub use action::{Action, Sight, Trouble, View};
+pub use action::Action;
 pub use prompt::Prompt;
+pub use sight::Sight;
+pub use trouble::Trouble;
+pub use view::View;

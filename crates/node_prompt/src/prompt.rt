@@ -4,7 +4,8 @@ ghost use Rattle.ax_address.specs.Callsign as calls;
 ghost use Rattle.node_prompt.specs.Replies.{ended, prefix_of};
 ghost use Rattle.node_prompt.specs.Replies as replies;
 
-use crate::command::{Command, LineRefusal, command_at};
+use crate::command::{Command, command_at};
+use crate::line_refusal::LineRefusal;
 use crate::lines::{add, add_nodes, add_routes, add_routes_to, add_users};
 use crate::{Action, Sight, Trouble, View};
 use arrayvec::ArrayVec;

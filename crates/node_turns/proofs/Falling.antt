@@ -2,16 +2,16 @@
 use Rattle.std.proofs.Common.{◌≡◌, ◌≤◌, ◌<◌, ◌+◌, ◌∙◌, ◌⊎◌, inl, inr, ℕ, zero, suc, refl, sym, ap, subst, arith, length, List, [], ◌∷◌}
 use Rattle.std.specs.Prelude.{Bool, true, false, not, ◌||◌, nat_eq, filter, if◌then◌else◌, Option, Some, None, Result, Ok, Err}
 use Rattle.ax_address.specs.Callsign.{Callsign}
-use Rattle.circuit_set.specs.declared.event.ConnectRefusal.{ConnectRefusal}
+use Rattle.circuit_set.specs.declared.refusal.ConnectRefusal.{ConnectRefusal}
 use Rattle.circuit_set.specs.Pumps.{TellsLess, connect_answer}
 use Rattle.circuit_set.specs.Sets as sets
 use Rattle.link_table.specs.Kept.{OffersLeave, TakesLower}
 use Rattle.node_prompt.specs.declared.action.Action.{Action}
 use Rattle.node_prompt.specs.declared.action.Action.TheVariants as action
-use Rattle.node_turns.specs.declared.session.Stage.{Stage}
-use Rattle.node_turns.specs.declared.session.Stage.TheVariants.{AtPrompt, Trying, Failed, Connected}
-use Rattle.node_turns.specs.declared.session.User.{User}
-use Rattle.node_turns.specs.declared.session.User.TheVariants.{AtEnd, AtLink}
+use Rattle.node_turns.specs.declared.stage.Stage.{Stage}
+use Rattle.node_turns.specs.declared.stage.Stage.TheVariants.{AtPrompt, Trying, Failed, Connected}
+use Rattle.node_turns.specs.declared.user.User.{User}
+use Rattle.node_turns.specs.declared.user.User.TheVariants.{AtEnd, AtLink}
 use Rattle.node_turns.specs.Asking as asking
 use Rattle.node_turns.specs.Bridging as bridging
 use Rattle.node_turns.specs.Links as links

@@ -8,7 +8,7 @@ use Rattle.circuit_l4.specs.Opening.{requesting, responding}
 use Rattle.circuit_l4.specs.State.{Effect, inbox}
 use Rattle.circuit_l4.specs.Table as end
 use Rattle.circuit_l4.specs.Transports.{transport_at}
-use Rattle.circuit_l4.specs.declared.transport.Pair.{Pair}
+use Rattle.circuit_l4.specs.declared.pair.Pair.{Pair}
 use Rattle.circuit_l4.specs.declared.transport.Transport.{Transport}
 use Rattle.circuit_l4.specs.declared.transport.Transport.TheVariants.{Request, Accept, Refuse, Disconnect, Disconnected, Info, InfoAck}
 use Rattle.circuit_l4.specs.declared.transport.TransportRefusal.{TransportRefusal}

@@ -4,9 +4,9 @@ use Rattle.std.specs.Prelude.{ℕ, ◌+◌, ◌*◌, max, Bool, true, false, not
 use Rattle.circuit_l4.specs.State.{inbox}
 use Rattle.circuit_set.specs.Sets.{Holder}
 use Rattle.circuit_l4.specs.declared.piece.Piece.{Piece}
-use Rattle.node_turns.specs.declared.session.Circuit.{Circuit}
-use Rattle.node_turns.specs.declared.session.Stage.{Stage}
-use Rattle.node_turns.specs.declared.session.Stage.TheVariants.{AtPrompt, Trying, Failed, Connected}
+use Rattle.node_turns.specs.declared.circuit.Circuit.{Circuit}
+use Rattle.node_turns.specs.declared.stage.Stage.{Stage}
+use Rattle.node_turns.specs.declared.stage.Stage.TheVariants.{AtPrompt, Trying, Failed, Connected}
 use Rattle.node_turns.specs.Pumping.{at_router, pending}
 use Rattle.node_turns.specs.Sessions.{Session, circuit_of}
 use Rattle.node_turns.specs.Serving.{has_some, payloads}

@@ -2,8 +2,8 @@
 use Rattle.std.specs.Prelude.{ℕ, Bool, true, false, ◌==◌, if◌then◌else◌, List, [], ◌∷◌, Option, Some, None, Result, Ok, Err, ◌-◌, length, take, filter, flat_map}
 use Rattle.std.specs.Option.{option_to_list}
 use Rattle.ax_address.specs.Callsign.{Callsign, same_call}
-use Rattle.circuit_set.specs.declared.event.ConnectRefusal.{ConnectRefusal}
-use Rattle.circuit_set.specs.declared.event.ConnectRefusal.TheVariants as refusal
+use Rattle.circuit_set.specs.declared.refusal.ConnectRefusal.{ConnectRefusal}
+use Rattle.circuit_set.specs.declared.refusal.ConnectRefusal.TheVariants as refusal
 use Rattle.circuit_set.specs.Pumps.{connect_answer}
 use Rattle.circuit_set.specs.Sets as sets
 use Rattle.circuit_set.specs.CircuitSets.{held_ids, partner_at}
@@ -11,16 +11,16 @@ use Rattle.circuit_set.specs.Sets.{Holder, end_of}
 use Rattle.node_prompt.specs.Replies as texts
 use Rattle.node_prompt.specs.declared.action.Action.{Action}
 use Rattle.node_prompt.specs.declared.action.Action.TheVariants.{Say, Show, Connect, Bye, Nothing}
-use Rattle.node_prompt.specs.declared.action.Sight.{Sight}
-use Rattle.node_prompt.specs.declared.action.Trouble.{Trouble}
-use Rattle.node_prompt.specs.declared.action.Trouble.TheVariants as trouble
-use Rattle.node_prompt.specs.declared.action.Sight.TheVariants as sight
-use Rattle.node_prompt.specs.declared.action.View.{View}
-use Rattle.node_prompt.specs.declared.action.View.TheVariants as views
+use Rattle.node_prompt.specs.declared.sight.Sight.{Sight}
+use Rattle.node_prompt.specs.declared.trouble.Trouble.{Trouble}
+use Rattle.node_prompt.specs.declared.trouble.Trouble.TheVariants as trouble
+use Rattle.node_prompt.specs.declared.sight.Sight.TheVariants as sight
+use Rattle.node_prompt.specs.declared.view.View.{View}
+use Rattle.node_prompt.specs.declared.view.View.TheVariants as views
 use Rattle.route_table.specs.declared.route.Route.{Route}
 use Rattle.route_table.specs.Table as table
-use Rattle.node_turns.specs.declared.session.Circuit.{Circuit}
-use Rattle.node_turns.specs.declared.session.Stage.TheVariants.{Trying}
+use Rattle.node_turns.specs.declared.circuit.Circuit.{Circuit}
+use Rattle.node_turns.specs.declared.stage.Stage.TheVariants.{Trying}
 use Rattle.node_turns.specs.Bridging.{drop_rest, next_text, prompt_of}
 use Rattle.node_turns.specs.Sessions.{Session, unused}
 use Rattle.node_turns.specs.States.{State, next_hop}

@@ -4,11 +4,11 @@ use Rattle.circuit_set.specs.Sets as sets
 use Rattle.circuit_set.specs.Standing as answers
 use Rattle.node_prompt.specs.Replies.{Prompt}
 use Rattle.node_prompt.specs.Replies as texts
-use Rattle.node_turns.specs.declared.session.Circuit.{Circuit}
-use Rattle.node_turns.specs.declared.session.Reply.{Reply}
-use Rattle.node_turns.specs.declared.session.Reply.TheVariants as reply
-use Rattle.node_turns.specs.declared.session.Stage.{Stage}
-use Rattle.node_turns.specs.declared.session.Stage.TheVariants.{AtPrompt, Trying, Failed, Connected}
+use Rattle.node_turns.specs.declared.circuit.Circuit.{Circuit}
+use Rattle.node_turns.specs.declared.reply.Reply.{Reply}
+use Rattle.node_turns.specs.declared.reply.Reply.TheVariants as reply
+use Rattle.node_turns.specs.declared.stage.Stage.{Stage}
+use Rattle.node_turns.specs.declared.stage.Stage.TheVariants.{AtPrompt, Trying, Failed, Connected}
 use Rattle.node_turns.specs.Sessions.{Bridge, Session, circuit_of}
 use Rattle.node_turns.specs.States.{State}
 use Rattle.node_turns.specs.Turns.{Turn, done, idle}

@@ -3,11 +3,11 @@
 use Rattle.std.specs.Prelude.{ℕ, zero, suc, Bool, false, ◌&&◌, ◌||◌, not, is_none, nat_eq, nat_lt, slice_get, if◌then◌else◌, List, [], ◌∷◌, length, filter, Option, Some, None, map}
 use Rattle.ax_address.specs.Callsign.{Callsign}
 use Rattle.ax_link.specs.declared.notice.LinkNotice.{LinkNotice}
-use Rattle.node_turns.specs.declared.session.Circuit.{Circuit}
-use Rattle.node_turns.specs.declared.session.Stage.{Stage}
-use Rattle.node_turns.specs.declared.session.Stage.TheVariants.{AtPrompt, Trying, Failed, Connected}
-use Rattle.node_turns.specs.declared.session.User.{User}
-use Rattle.node_turns.specs.declared.session.User.TheVariants.{AtEnd, AtLink}
+use Rattle.node_turns.specs.declared.circuit.Circuit.{Circuit}
+use Rattle.node_turns.specs.declared.stage.Stage.{Stage}
+use Rattle.node_turns.specs.declared.stage.Stage.TheVariants.{AtPrompt, Trying, Failed, Connected}
+use Rattle.node_turns.specs.declared.user.User.{User}
+use Rattle.node_turns.specs.declared.user.User.TheVariants.{AtEnd, AtLink}
 use Rattle.node_turns.specs.Asking.{take_line}
 use Rattle.node_turns.specs.Bridging.{close_circuit, give_message, give_reply, write_text}
 use Rattle.node_turns.specs.Links as links

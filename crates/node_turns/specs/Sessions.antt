@@ -7,14 +7,14 @@ use Rattle.circuit_l4.specs.declared.notice.EndNotice.{EndNotice}
 use Rattle.circuit_l4.specs.declared.notice.EndNotice.TheVariants as end
 use Rattle.circuit_set.specs.Pumps.{SetTold, Of}
 use Rattle.circuit_set.specs.Sets.{Gone, Made, Notice}
-use Rattle.node_prompt.specs.declared.action.Trouble.TheVariants.{Busy, Failure}
-use Rattle.node_turns.specs.declared.session.Circuit.{Circuit}
-use Rattle.node_turns.specs.declared.session.Reply.{Reply}
-use Rattle.node_turns.specs.declared.session.Reply.TheVariants as reply
-use Rattle.node_turns.specs.declared.session.Stage.{Stage}
-use Rattle.node_turns.specs.declared.session.Stage.TheVariants.{AtPrompt, Trying, Failed, Connected}
-use Rattle.node_turns.specs.declared.session.User.{User}
-use Rattle.node_turns.specs.declared.session.User.TheVariants.{AtEnd, AtLink}
+use Rattle.node_prompt.specs.declared.trouble.Trouble.TheVariants.{Busy, Failure}
+use Rattle.node_turns.specs.declared.circuit.Circuit.{Circuit}
+use Rattle.node_turns.specs.declared.reply.Reply.{Reply}
+use Rattle.node_turns.specs.declared.reply.Reply.TheVariants as reply
+use Rattle.node_turns.specs.declared.stage.Stage.{Stage}
+use Rattle.node_turns.specs.declared.stage.Stage.TheVariants.{AtPrompt, Trying, Failed, Connected}
+use Rattle.node_turns.specs.declared.user.User.{User}
+use Rattle.node_turns.specs.declared.user.User.TheVariants.{AtEnd, AtLink}
 
 -- What went between a user and its circuit: texts since that stood, messages since it was asked for, in whole. No node keeps it.
 pub record Bridge : Type 0 where

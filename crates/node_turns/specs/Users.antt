@@ -8,12 +8,12 @@ use Rattle.circuit_l4.specs.State.{is_up}
 use Rattle.circuit_set.specs.CircuitSets.{facts_at, partner_at}
 use Rattle.circuit_set.specs.Sets as sets
 use Rattle.circuit_set.specs.Standing as answers
-use Rattle.circuit_set.specs.declared.event.NoEnd.{NoEnd}
-use Rattle.circuit_set.specs.declared.event.SetRefusal.{SetRefusal}
-use Rattle.circuit_set.specs.declared.event.SetRefusal.TheVariants as set_refusal
+use Rattle.circuit_set.specs.declared.refusal.NoEnd.{NoEnd}
+use Rattle.circuit_set.specs.declared.refusal.SetRefusal.{SetRefusal}
+use Rattle.circuit_set.specs.declared.refusal.SetRefusal.TheVariants as set_refusal
 use Rattle.link_table.specs.declared.text_refusal.TextRefusal.{TextRefusal}
-use Rattle.node_turns.specs.declared.session.User.{User}
-use Rattle.node_turns.specs.declared.session.User.TheVariants.{AtEnd, AtLink}
+use Rattle.node_turns.specs.declared.user.User.{User}
+use Rattle.node_turns.specs.declared.user.User.TheVariants.{AtEnd, AtLink}
 use Rattle.node_turns.specs.Links as links
 use Rattle.node_turns.specs.Pumping.{pump}
 use Rattle.node_turns.specs.Sessions.{Session}

@@ -3,6 +3,12 @@
 //! They stand below `node_core`, whose definitions can so go by that proof.
 #![tactic(auto)]
 
-mod session;
+mod circuit;
+mod reply;
+mod stage;
+mod user;
 
-pub use session::{Circuit, Reply, Stage, User};
+pub use circuit::Circuit;
+pub use reply::Reply;
+pub use stage::Stage;
+pub use user::User;

@@ -6,7 +6,7 @@ use Rattle.std.proofs.lemmas.List.{take-take, take-append-le, length-append, len
 use Rattle.ax_address.specs.Octets as octets
 use Rattle.ax_address.specs.Results.{◌>>=◌}
 use Rattle.ax_address.specs.declared.alias.Alias.{Alias}
-use Rattle.ax_address.specs.declared.Entry.{Entry}
+use Rattle.ax_address.specs.declared.entry.Entry.{Entry}
 use Rattle.nodes_broadcast.specs.declared.nodes.NodesRefusal.{NodesRefusal}
 use Rattle.nodes_broadcast.specs.declared.nodes.NodesRefusal.TheVariants.{NotNodes, BadLength, TooMany}
 use Rattle.nodes_broadcast.specs.Nodes.{Broadcast, is_nodes, is_length, shape_fault, entries_at, broadcast_at, unless_misshapen, nodes_at}

@@ -3,7 +3,7 @@ use Rattle.std.proofs.Common.{◌≡◌, ◌/◌, ◌%◌, ◌++◌, ◌∙◌, 
 use Rattle.std.proofs.lemmas.List.{take_at, drop_at}
 use Rattle.ax_address.specs.Callsign.{Callsign}
 use Rattle.ax_address.specs.Octets.{SpellsNetCall, heeded_call}
-use Rattle.ax_address.specs.declared.Entry.{Entry}
+use Rattle.ax_address.specs.declared.entry.Entry.{Entry}
 use Rattle.nodes_broadcast.specs.Nodes.{Broadcast, Spells, SpellsEntry, SpellsEntries, nodes_octets}
 use Rattle.nodes_broadcast.specs.Laws.{WrittenSpellsIt, WrittenAgainIsTheSame, heeded_entry, heeded_entries, heeded}
 use Rattle.nodes_broadcast.proofs.Written.{doubles, six_doubled, is_broadcast}

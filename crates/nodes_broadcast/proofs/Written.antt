@@ -4,7 +4,7 @@ use Rattle.std.specs.List.{AllByRecursion}
 use Rattle.std.proofs.lemmas.List.{take_at, drop_at, length-append, length-map, length-replicate}
 use Rattle.ax_address.specs.Callsign.{Callsign, IsCallsign, name_in, padded}
 use Rattle.ax_address.specs.Octets.{WrittenNetCallSpellsIt, SpellsNetCall, net_call_octets}
-use Rattle.ax_address.specs.declared.Entry.{Entry}
+use Rattle.ax_address.specs.declared.entry.Entry.{Entry}
 use Rattle.nodes_broadcast.specs.Nodes.{Broadcast, IsEntry, IsBroadcast, Spells, SpellsEntry, SpellsEntries, entry_octets, entries_octets, nodes_octets}
 use Rattle.nodes_broadcast.specs.Laws.{SpelledIsRead, WrittenSpellsIt, WrittenIsRead}
 use Rattle.nodes_broadcast.proofs.Spelled.{entry_len}

@@ -1,50 +1,9 @@
-//! Moments, and who tells them.
-ghost use Rattle.std.specs.Prelude.{◌≡◌, ◌≤◌, [], ◌∷◌, List, ℕ, Option, min};
+//! Who tells moments.
+ghost use Rattle.std.specs.Prelude.{◌≡◌, ◌≤◌, [], ◌∷◌, List, ℕ, Option};
 ghost use Rattle.radio_base.specs.Causes.{Gains, Ticking, moment_of, moments_told, after_moment};
-ghost use Rattle.radio_base.specs.declared.modulus.TheConstants.{COUNT_MAX};
 
-use crate::modulus::COUNT_MAX;
+use crate::moment::Moment;
 use std::marker::Model;
-
-/// A count of milliseconds.
-#[derive(Clone, Copy, Debug, PartialEq, Eq, Hash, PartialOrd, Ord)]
-pub struct Moment(pub u64);
-
-/// A count of milliseconds to which another can be added: at most 2^62.
-#[derive(Clone, Copy, Debug)]
-pub struct Millis(u64);
-
-impl Model for Millis {
-    ghost use Rattle.std.specs.Prelude.{◌≡◌, ◌≤◌, ℕ, refl};
-    ghost use Rattle.radio_base.specs.declared.modulus.TheConstants.{COUNT_MAX};
-
-    ghost Value = { ℕ };
-
-    ghost view = { λ m. m.0 };
-
-    ghost invariant = { λ m. m.0 ≤ COUNT_MAX };
-
-    ghost inverse = { λ n. record { 0 = n } };
-
-    ghost inverse_ok = { λ m h. refl };
-}
-
-impl Millis {
-    /// The moment; 2^62 ms, where it is later.
-    pub fn of(now: Moment) -> Millis
-        ensures { result ≡ min now.0 COUNT_MAX }
-    {
-        Millis(now.0.min(COUNT_MAX))
-    }
-
-    /// The count.
-    pub fn ms(self) -> u64
-        ensures value { result ≡ self }
-        ensures most { result ≤ COUNT_MAX }
-    {
-        self.0
-    }
-}
 
 /// A clock that never goes back. It tells what it has handed out always or never, but for the end of a count (`Gains`).
 pub trait Clock {

@@ -4,8 +4,8 @@ use Rattle.std.specs.Prelude.{not, ◌||◌, ◌&&◌, is_none}
 use Rattle.std.specs.List.{list_any}
 use Rattle.std.proofs.lemmas.List.Sorted.{list_any-IsPermutation, length_permutation}
 use Rattle.ax_address.specs.Callsign.{same_call}
-use Rattle.ax_address.specs.declared.Entry.{Entry}
-use Rattle.route_table.specs.declared.reports.Sender.{Sender}
+use Rattle.ax_address.specs.declared.entry.Entry.{Entry}
+use Rattle.route_table.specs.declared.sender.Sender.{Sender}
 use Rattle.route_table.specs.declared.route.Route.{Route}
 use Rattle.route_table.specs.Log.{Report, entry_reports, quality_over}
 use Rattle.route_table.specs.Table.{placed, is_good}

@@ -4,8 +4,8 @@ use Rattle.std.specs.Prelude.{not, ◌||◌, is_none, slice_set}
 use Rattle.std.specs.List.{list_any, AllByRecursion, copy_within}
 use Rattle.std.proofs.lemmas.List.{length-append, length-take-le, take-append-le, take-take, drop_at, drop-take, set_split}
 use Rattle.ax_address.specs.Callsign.{same_call}
-use Rattle.ax_address.specs.declared.Entry.{Entry}
-use Rattle.route_table.specs.declared.reports.Sender.{Sender}
+use Rattle.ax_address.specs.declared.entry.Entry.{Entry}
+use Rattle.route_table.specs.declared.sender.Sender.{Sender}
 use Rattle.route_table.specs.declared.route.Route.{Route}
 use Rattle.route_table.specs.Table.{stands_before, placed, all_placed, is_good}
 use Rattle.route_table.specs.Rows.{is_same_pair, is_lock_on, stays_beside, beside, route_over, reported_by, with_report, after_reports}

@@ -1,7 +1,7 @@
 -- Laws of the definitions of a log's table.
 use Rattle.std.specs.Prelude.{◌≡◌, ◌↔◌, List, filter, slice_get, Some, true, false, AllPairs, Contains, Any, IsPermutation}
 use Rattle.ax_address.specs.Callsign.{Callsign, call_lt}
-use Rattle.ax_address.specs.declared.Entry.{Entry}
+use Rattle.ax_address.specs.declared.entry.Entry.{Entry}
 use Rattle.route_table.specs.declared.route.RouteRules.{RouteRules}
 use Rattle.route_table.specs.declared.route.Route.{Route}
 use Rattle.route_table.specs.Log.{Item}

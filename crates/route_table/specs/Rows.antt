@@ -3,9 +3,9 @@
 use Rattle.std.specs.Prelude.{ℕ, ◌+◌, ◌-◌, List, [], ◌∷◌, ◌++◌, filter, map, take, drop, slice_get, Option, Some, None, Bool, true, false, ◌&&◌, ◌||◌, ◌==◌, not, is_none, if◌then◌else◌}
 use Rattle.std.specs.List.{list_any, dedup, prefix_len}
 use Rattle.ax_address.specs.Callsign.{Callsign, same_call}
-use Rattle.ax_address.specs.declared.Entry.{Entry}
+use Rattle.ax_address.specs.declared.entry.Entry.{Entry}
 use Rattle.route_table.specs.declared.route.Route.{Route}
-use Rattle.route_table.specs.declared.reports.Sender.{Sender}
+use Rattle.route_table.specs.declared.sender.Sender.{Sender}
 use Rattle.route_table.specs.Log.{Item, Report, broadcast, entry_reports, quality_over}
 use Rattle.route_table.specs.Table.{is_good, is_to, placed, entry_by}
 

@@ -1,7 +1,7 @@
 //! The entries that a node broadcasts (NET/ROM, Appendix B).
 ghost use Rattle.std.specs.Prelude.{◌≡◌, ◌<◌, ◌≤◌, ◌++◌, List, Some, length, take, drop, filter_map, IfOk, OnOk};
 ghost use Rattle.std.specs.List.{cons_option};
-ghost use Rattle.ax_address.specs.declared.Entry.{Entry};
+ghost use Rattle.ax_address.specs.declared.entry.Entry.{Entry};
 ghost use Rattle.arrayvec.specs.ArrayVec.{array_vec_len};
 ghost use Rattle.route_table.specs.Table as broadcast;
 ghost use Rattle.route_table.specs.Places as places;

@@ -1,14 +1,15 @@
 //! A broadcast's reports, taken in: those of pairs that have a row one by one, and all others in one pass.
 ghost use Rattle.std.specs.Prelude.{◌≡◌, ◌≤◌, ◌<◌, ◌+◌, ◌∷◌, ◌++◌, List, take, drop, length, vec_len, vec_capacity, is_none, false, IfSome, IfNone, ◌-◌};
-ghost use Rattle.ax_address.specs.declared.Entry.{Entry};
+ghost use Rattle.ax_address.specs.declared.entry.Entry.{Entry};
 ghost use Rattle.route_table.specs.Places as places;
 ghost use Rattle.route_table.specs.Table as ranks;
 ghost use Rattle.route_table.specs.Rows as spec;
 
 use crate::ranking::{pair_from, place_of, place_of_pair, start_near};
-use crate::reports::{MAX_REPORTS, Sender, is_reported, route_over, route_to};
+use crate::reports::{MAX_REPORTS, is_reported, route_over, route_to};
 use crate::route::Route;
 use crate::rows::{change, enter, is_good};
+use crate::sender::Sender;
 use arrayvec::ArrayVec;
 use ax_address::Entry;
 

@@ -1,26 +1,17 @@
 //! The reports that a broadcast stands for (NET/ROM, Appendix B).
 ghost use Rattle.std.specs.Prelude.{◌≡◌, ◌≤◌, ◌<◌, ◌+◌, ◌++◌, ◌∷◌, ◌||◌, List, not, length};
 ghost use Rattle.ax_address.specs.Callsign.{same_call};
-ghost use Rattle.ax_address.specs.declared.Entry.{Entry};
+ghost use Rattle.ax_address.specs.declared.entry.Entry.{Entry};
 ghost use Rattle.route_table.specs.Log as log;
 ghost use Rattle.route_table.specs.Rows as spec;
 
 use crate::route::Route;
+use crate::sender::Sender;
 use arrayvec::ArrayVec;
-use ax_address::{Alias, Call, Entry, MAX_ENTRIES};
+use ax_address::{Call, Entry, MAX_ENTRIES};
 
 /// The reports of a broadcast: one of the neighbour itself, and one for each entry.
 pub(crate) const MAX_REPORTS: usize = 1 + MAX_ENTRIES;
-
-/// What all reports of a broadcast have in common: who hears it of whom, and for how many rounds a report lives.
-#[derive(Clone, Copy)]
-pub(crate) struct Sender {
-    pub own: Call,
-    pub life: u8,
-    pub neighbour: Call,
-    pub alias: Alias,
-    pub path_quality: u8,
-}
 
 /// The routes that a broadcast reports, each with a whole life before it.
 pub(crate) fn reports_of(sender: &Sender, entries: &[Entry]) -> ArrayVec<Route, MAX_REPORTS>

@@ -1,6 +1,5 @@
-//! A route, the rules of a table, and why it refuses.
+//! A route, and the rules of a table.
 use ax_address::{Alias, Call};
-use std::alloc::AllocError;
 
 /// How many usable routes a table holds at most (this project's profile).
 pub const MAX_PAIRS: usize = 16_384;
@@ -28,46 +27,4 @@ pub struct Route {
     pub quality: u8,
     /// How many rounds the route has left, and none where it is locked.
     pub count: Option<u8>,
-}
-
-/// Why a route was not locked in. What stands first comes first.
-#[derive(Clone, Copy, Debug, PartialEq, Eq)]
-pub enum LockRefusal {
-    /// It leads to the node itself.
-    Own,
-    /// Its quality is below the least that is used.
-    TooLow,
-    /// The table has `live` usable routes, and would have `would_be`, more than `MAX_PAIRS`.
-    TableFull { live: usize, would_be: usize },
-    NoMemory,
-}
-
-/// Why a broadcast was not taken in.
-#[derive(Clone, Copy, Debug, PartialEq, Eq)]
-pub enum HeardRefusal {
-    /// The table has `live` usable routes, and would have `would_be`, more than `MAX_PAIRS`.
-    TableFull { live: usize, would_be: usize },
-    NoMemory,
-}
-
-impl From<AllocError> for HeardRefusal {
-    ghost use Rattle.std.specs.Prelude.{◌≡◌};
-    ghost use Rattle.route_table.specs.declared.route.HeardRefusal.TheVariants.{NoMemory};
-
-    ghost from_gives = { λ _ e. e ≡ NoMemory };
-
-    fn from(_: AllocError) -> Self {
-        HeardRefusal::NoMemory
-    }
-}
-
-impl From<AllocError> for LockRefusal {
-    ghost use Rattle.std.specs.Prelude.{◌≡◌};
-    ghost use Rattle.route_table.specs.declared.route.LockRefusal.TheVariants.{NoMemory};
-
-    ghost from_gives = { λ _ e. e ≡ NoMemory };
-
-    fn from(_: AllocError) -> Self {
-        LockRefusal::NoMemory
-    }
 }

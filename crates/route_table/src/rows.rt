@@ -6,8 +6,9 @@ ghost use Rattle.route_table.specs.Table as table;
 ghost use Rattle.route_table.specs.Rows as spec;
 
 use crate::ranking::{is_after, pair_from, place_of, place_of_pair, stands_before, start_near};
-use crate::reports::{Sender, reports_of};
+use crate::reports::reports_of;
 use crate::route::{MAX_PAIRS, Route};
+use crate::sender::Sender;
 use ax_address::{Call, Entry};
 use std::alloc::AllocError;
 

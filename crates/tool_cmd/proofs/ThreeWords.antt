@@ -4,9 +4,9 @@ use Rattle.std.specs.Prelude.{nat_eq}
 use Rattle.std.specs.Fmt.{decimal}
 use Rattle.std.proofs.lemmas.Bool.Decides.{nat_tests}
 use Rattle.std.proofs.lemmas.Fmt.{decimal_injective}
-use Rattle.tool_cmd.specs.declared.lives.words.LifeSettings.{LifeSettings}
-use Rattle.tool_cmd.specs.declared.words.FrameModulus.{FrameModulus}
-use Rattle.tool_cmd.specs.declared.words.FrameModulus.TheVariants.{M8, M128}
+use Rattle.tool_cmd.specs.declared.lives.settings.LifeSettings.{LifeSettings}
+use Rattle.tool_cmd.specs.declared.frame_modulus.FrameModulus.{FrameModulus}
+use Rattle.tool_cmd.specs.declared.frame_modulus.FrameModulus.TheVariants.{M8, M128}
 use Rattle.tool_cmd.specs.Frames.{modulo_word}
 use Rattle.tool_cmd.specs.LifeWords.{Among, AreSettings, delay_word, srej_word}
 

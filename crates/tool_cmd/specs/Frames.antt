@@ -3,8 +3,8 @@ use Rattle.std.specs.Prelude.{ℕ, List, codes}
 use Rattle.kiss_framing.specs.Stream.{items}
 use Rattle.frame_lines.specs.Listing.{Lists}
 use Rattle.cmd_streams.specs.Streams.{Read, bytes_of}
-use Rattle.tool_cmd.specs.declared.words.FrameModulus.{FrameModulus}
-use Rattle.tool_cmd.specs.declared.words.FrameModulus.TheVariants.{M8, M128}
+use Rattle.tool_cmd.specs.declared.frame_modulus.FrameModulus.{FrameModulus}
+use Rattle.tool_cmd.specs.declared.frame_modulus.FrameModulus.TheVariants.{M8, M128}
 
 -- the text has the lines of what these reads brought, with sequence numbers of that modulus
 abbrev pub ListsReads : ℕ → List Read → List ℕ → Type 0

@@ -1,8 +1,8 @@
 -- What a forwarder of packets does with the items of a KISS stream, and what is sent. (AX.25 2.2, section 4.3.3.6; own profile.)
 use Rattle.std.specs.Prelude.{ℕ, ◌≡◌, ◌++◌, List, [], ◌∷◌, Bool, true, false, ◌&&◌, ◌==◌, Option, Some, None, Result, Ok, Err, if◌then◌else◌}
 use Rattle.std.proofs.Common.{lit≤}
-use Rattle.kiss_framing.specs.declared.deframer.KissItem.{KissItem}
-use Rattle.kiss_framing.specs.declared.deframer.KissItem.TheVariants as kiss
+use Rattle.kiss_framing.specs.declared.item.KissItem.{KissItem}
+use Rattle.kiss_framing.specs.declared.item.KissItem.TheVariants as kiss
 use Rattle.kiss_framing.specs.Stream.{Item, Frame as Piece, Too_long, items, framed}
 use Rattle.ax_address.specs.Callsign.{Callsign}
 use Rattle.ax_address.specs.declared.address.Address.{Address}

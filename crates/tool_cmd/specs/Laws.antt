@@ -1,7 +1,7 @@
 -- What holds of the words of commands.
 use Rattle.std.specs.Prelude.{ℕ, ◌≡◌, List}
 use Rattle.ax_ip.specs.Machine.{State}
-use Rattle.tool_cmd.specs.declared.lives.words.LifeSettings.{LifeSettings}
+use Rattle.tool_cmd.specs.declared.lives.settings.LifeSettings.{LifeSettings}
 use Rattle.tool_cmd.specs.IpWords.{IsGateway}
 use Rattle.tool_cmd.specs.LifeWords.{AreSettings}
 

@@ -1,7 +1,7 @@
 -- The words of `life`: `modulo=8` or `modulo=128`, `srej=0` or `srej=1`, and `delay=D`. Own profile.
 use Rattle.std.specs.Prelude.{ℕ, ◌≡◌, ◌⊎◌, ◌≤◌, ◌++◌, List, [], ◌∷◌, length, Bool, true, false, codes}
 use Rattle.std.specs.Fmt.{decimal}
-use Rattle.tool_cmd.specs.declared.lives.words.LifeSettings.{LifeSettings}
+use Rattle.tool_cmd.specs.declared.lives.settings.LifeSettings.{LifeSettings}
 use Rattle.tool_cmd.specs.Frames.{modulo_word}
 
 abbrev pub srej_word : Bool → List ℕ

@@ -1,10 +1,10 @@
 -- What `life` reads, and what it writes of it. Own profile.
 use Rattle.std.specs.Prelude.{ℕ, ◌≡◌, List, Option, Ok, Err}
-use Rattle.link_life.specs.declared.script.NumberedAct.{NumberedAct}
+use Rattle.link_life.specs.declared.act.NumberedAct.{NumberedAct}
 use Rattle.link_life.specs.Lives.{new_life}
 use Rattle.link_life.specs.Reports.{word_for, life_text}
 use Rattle.link_life.specs.Lines.{Bad, script_of}
-use Rattle.tool_cmd.specs.declared.lives.words.LifeSettings.{LifeSettings}
+use Rattle.tool_cmd.specs.declared.lives.settings.LifeSettings.{LifeSettings}
 use Rattle.tool_cmd.specs.Frames.{size_of}
 use Rattle.cmd_streams.specs.Told.{bad_line_note, StreamsTold}
 use Rattle.cmd_streams.specs.Reading.{ReadsFile, TellsFile}

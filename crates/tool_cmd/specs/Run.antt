@@ -8,7 +8,7 @@ use Rattle.cmd_streams.specs.Told.{Comes, ReadsWell, WritesWell, StreamsTold, Is
 use Rattle.cmd_streams.specs.Reading.{ReadsFew, ReadsTooMuch, TellsTooMuch}
 use Rattle.cmd_streams.specs.StreamEnds.{StreamEnds}
 use Rattle.ax_ip.specs.Machine.{State}
-use Rattle.tool_cmd.specs.declared.lives.words.LifeSettings.{LifeSettings}
+use Rattle.tool_cmd.specs.declared.lives.settings.LifeSettings.{LifeSettings}
 use Rattle.tool_cmd.specs.Frames.{ListsReads}
 use Rattle.tool_cmd.specs.Gateways.{ForwardsReads}
 use Rattle.tool_cmd.specs.Lives.{ReadsBadScript, ReadsScript, TellsBadScript, TellsScript, report_of}

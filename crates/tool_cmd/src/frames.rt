@@ -5,7 +5,7 @@ ghost use Rattle.cmd_streams.specs.StatusNotes.{HasNote, IsSilent};
 ghost use Rattle.tool_cmd.specs.Run.{FramesEnd};
 ghost use Rattle.tool_cmd.specs.Frames.{size_of};
 
-use crate::words::FrameModulus;
+use crate::frame_modulus::FrameModulus;
 use cmd_streams::{ItemTaker, Status, answer_items};
 use frame_lines::add_item;
 use kiss_framing::KissItem;

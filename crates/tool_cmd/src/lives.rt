@@ -7,14 +7,14 @@ ghost use Rattle.tool_cmd.specs.Run.{LifeEnds};
 ghost use Rattle.cmd_streams.specs.StatusNotes.{HasNote, IsSilent};
 ghost use Rattle.cmd_streams.specs.Told.{SaysTo, told_by};
 
-pub mod words;
+pub mod settings;
 
-use crate::words::FrameModulus;
+use crate::frame_modulus::FrameModulus;
 use cmd_streams::{Status, read_file, refuse_input, refuse_line, write_all};
 use link_life::{LifeFileRefusal, LifeScript, read_life, run_life};
 use radio_base::{M8, M128, NoMemory, Sink, Source, TextOut};
+use settings::LifeSettings;
 use std::alloc::Global;
-use words::LifeSettings;
 
 /// Reads a script from the source to its end, and writes the report of that life to the sink.
 ///

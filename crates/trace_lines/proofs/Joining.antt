@@ -4,7 +4,7 @@ use Rattle.std.specs.Prelude.{Option}
 use Rattle.circuit_l4.specs.declared.facts.EndFacts.{EndFacts}
 use Rattle.circuit_set.specs.CircuitSets.{facts_at}
 use Rattle.circuit_set.specs.Sets.{Holder, end_of}
-use Rattle.circuit_verdict.specs.declared.verdict.Late.{Late}
+use Rattle.circuit_verdict.specs.declared.late.Late.{Late}
 use Rattle.network_file.specs.Plan.{Plan}
 use Rattle.net_replay.specs.declared.air.Aired.{Aired}
 use Rattle.net_replay.specs.declared.causes.LateCause.{LateCause}

@@ -8,8 +8,8 @@ use Rattle.circuit_set.specs.CircuitSets.{facts_at}
 use Rattle.circuit_set.specs.Sets.{Holder, end_of}
 use Rattle.route_table.specs.declared.route.Route.{Route}
 use Rattle.net_replay.specs.declared.ends.EndRecord.{EndRecord}
-use Rattle.net_replay.specs.declared.ends.Outcome.{Outcome}
-use Rattle.net_replay.specs.declared.ends.Outcome.TheVariants.{Held, Gone, Lost}
+use Rattle.net_replay.specs.declared.outcome.Outcome.{Outcome}
+use Rattle.net_replay.specs.declared.outcome.Outcome.TheVariants.{Held, Gone, Lost}
 use Rattle.net_replay.specs.Lines.{table_of}
 use Rattle.net_replay.specs.Reports.{by_place}
 use Rattle.net_replay.specs.Starting.{Placed}

@@ -1,6 +1,6 @@
 -- The trace of a network as text: JSON objects, one a line. Own profile.
 use Rattle.std.specs.Prelude.{ℕ, List, ◌++◌, Option}
-use Rattle.circuit_verdict.specs.declared.verdict.Late.{Late}
+use Rattle.circuit_verdict.specs.declared.late.Late.{Late}
 use Rattle.network_file.specs.Plan.{Plan}
 use Rattle.net_replay.specs.declared.causes.LateCause.{LateCause}
 use Rattle.net_replay.specs.Ends.{ends_of}

@@ -1,6 +1,6 @@
 //! The verdict, and its cause.
 ghost use Rattle.std.specs.Prelude.{◌≡◌, ◌++◌, OnOk, IfOk, Some, string_bytes};
-ghost use Rattle.net_replay.specs.declared.causes.Sign.TheVariants as signs;
+ghost use Rattle.net_replay.specs.declared.sign.Sign.TheVariants as signs;
 ghost use Rattle.net_replay.specs.Reports.{late_word};
 ghost use Rattle.trace_lines.specs.Json.{fields_text};
 ghost use Rattle.trace_lines.specs.Verdicts as verdicts;

@@ -14,6 +14,6 @@ mod lines;
 mod mails;
 mod marks;
 mod stands;
-mod texts;
+mod traces;
 
-pub use texts::{TraceVerdict, trace_text};
+pub use traces::{TraceVerdict, trace_text};

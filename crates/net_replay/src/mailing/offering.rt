@@ -5,10 +5,10 @@ ghost use Rattle.net_replay.specs.Agents as agents;
 ghost use Rattle.net_replay.specs.Mailing as mailing;
 ghost use Rattle.net_replay.specs.Running.{Runs, Stops, course};
 
-use crate::events::{Event, Offer};
-use crate::mails::{queued_at, queued_count, wire_at};
+use crate::events::Event;
+use crate::mails::{Offer, queued_at, queued_count, wire_at};
 use crate::places::LineAt;
-use crate::reasons::ReplayRefusal;
+use crate::refusals::ReplayRefusal;
 use crate::world::World;
 use ax_address::Call;
 

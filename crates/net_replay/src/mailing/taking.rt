@@ -11,10 +11,10 @@ ghost use Rattle.net_replay.specs.Mailing.{ends_here};
 ghost use Rattle.net_replay.specs.Running.{Runs, course};
 
 use crate::answer::Answer;
-use crate::events::{Event, StoredMail};
-use crate::mails::hear_at;
+use crate::events::Event;
+use crate::mails::{StoredMail, hear_at};
 use crate::places::LineAt;
-use crate::reasons::ReplayRefusal;
+use crate::refusals::ReplayRefusal;
 use crate::world::World;
 use ax_address::Call;
 use l3_datagram::Message;

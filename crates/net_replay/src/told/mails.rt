@@ -2,7 +2,7 @@
 ghost use Rattle.std.specs.Prelude.{◌≡◌, IfOk, string_bytes};
 ghost use Rattle.net_replay.specs.ToldLines as mails;
 
-use crate::events::StoredMail;
+use crate::mails::StoredMail;
 use std::alloc::{AllocError, Global};
 
 /// `stored N ORIGIN NUMBER TO LEN`

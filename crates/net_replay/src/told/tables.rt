@@ -5,7 +5,7 @@ ghost use Rattle.ax_address.specs.Alias as aliases;
 ghost use Rattle.ax_address.specs.Callsign as calls;
 ghost use Rattle.net_replay.specs.Reports as texts;
 
-use crate::events::Table;
+use crate::table::Table;
 use arrayvec::ArrayString;
 use radio_base::{NoMemory, TextOut, push_decimal};
 use route_table::Route;

@@ -14,7 +14,7 @@ use crate::network::Network;
 use crate::places::{first_words, node, nth, text_behind, text_count};
 use crate::plan::instructions::Instruction;
 use crate::plan::text::Text;
-use crate::reasons::What;
+use crate::what::What;
 use std::alloc::{AllocError, Global};
 
 /// The line of a kind that speaks of circuits, or else of mail.

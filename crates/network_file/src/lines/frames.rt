@@ -9,7 +9,7 @@ use crate::lines::Line;
 use crate::network::Network;
 use crate::places::{frame_count, node, nth};
 use crate::plan::instructions::Instruction;
-use crate::reasons::What;
+use crate::what::What;
 
 /// The line of a kind that speaks of frames in the air. None is read from the line itself, so that an empty one stands for it.
 pub fn frame_kind(before: &Network, word: &[u8], words: &[&[u8]]) -> Result<Line, What>

@@ -1,6 +1,6 @@
 //! The line `heard`.
 ghost use Rattle.std.specs.Prelude.{◌≡◌, ◌≤◌, ◌+◌, ◌*◌, ◌++◌, List, length, Ok, Err, IfOk, IsTrue, MatchResult};
-ghost use Rattle.ax_address.specs.declared.Entry.{Entry};
+ghost use Rattle.ax_address.specs.declared.entry.Entry.{Entry};
 ghost use Rattle.text_lines.specs.Lines.{texts};
 ghost use Rattle.network_file.specs.Lines.Instructions as lines;
 ghost use Rattle.network_file.specs.declared.lines.Line.TheVariants as said;
@@ -9,9 +9,9 @@ ghost use Rattle.network_file.specs.declared.plan.instructions.Instruction.TheVa
 use crate::lines::Line;
 use crate::network::Network;
 use crate::places::{alias, call, needs, node, octet};
-use crate::plan::broadcasts::HeardNodes;
+use crate::plan::heard_nodes::HeardNodes;
 use crate::plan::instructions::Instruction;
-use crate::reasons::What;
+use crate::what::What;
 use arrayvec::ArrayVec;
 use ax_address::{Call, Entry, MAX_ENTRIES};
 use nodes_broadcast::Nodes;

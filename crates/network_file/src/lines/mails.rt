@@ -14,7 +14,7 @@ use crate::network::Network;
 use crate::places::{call, first_words, node, text_behind};
 use crate::plan::instructions::Instruction;
 use crate::plan::text::Text;
-use crate::reasons::What;
+use crate::what::What;
 use ax_address::Call;
 use std::alloc::{AllocError, Global};
 

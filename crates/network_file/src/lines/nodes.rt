@@ -13,7 +13,7 @@ use crate::network::Network;
 use crate::places::{alias, call, node, octet, pair_part, time};
 use crate::plan::instructions::Instruction;
 use crate::plan::pairs::FirstPair;
-use crate::reasons::What;
+use crate::what::What;
 use ax_address::Call;
 use std::alloc::{AllocError, Global};
 

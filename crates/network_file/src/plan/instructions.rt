@@ -1,5 +1,5 @@
 //! What happens in a network, one instruction a line.
-use crate::plan::broadcasts::HeardNodes;
+use crate::plan::heard_nodes::HeardNodes;
 use crate::plan::pairs::FirstPair;
 use crate::plan::text::Text;
 use ax_address::{Alias, Call};
@@ -106,4 +106,11 @@ pub enum Instruction {
     Cut {
         count: u32,
     },
+}
+
+/// An instruction with the number of its line, from 1.
+#[derive(Debug, Drop)]
+pub struct NumberedInstruction {
+    pub line: u32,
+    pub instruction: Instruction,
 }

@@ -7,11 +7,11 @@ use crate::limits::{MAX_KEYS, MAX_VIAS};
 use crate::lines::declaring::repeaters_of;
 use crate::places::{alias, call, needs, new_peer, pair_part, value};
 use crate::plan::declarations::Declaration;
-use crate::plan::keys::{Key, Setting};
+use crate::plan::keys::Key;
 use crate::plan::pairs::FirstPair;
-use crate::plan::settings::set_to;
+use crate::plan::settings::{Setting, set_to};
 use crate::plan::vias::Via;
-use crate::reasons::What;
+use crate::what::What;
 use arrayvec::ArrayVec;
 use ax_address::{Alias, Call};
 

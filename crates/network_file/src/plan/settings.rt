@@ -2,7 +2,68 @@
 ghost use Rattle.std.specs.Prelude.{◌≡◌, ◌≤◌, IsTrue, IfSome};
 ghost use Rattle.network_file.specs.Keys as keys;
 
-use crate::plan::keys::{Key, Setting};
+use crate::plan::keys::Key;
+use std::marker::Model;
+
+/// One setting of a node: a value that the key allows.
+#[derive(Clone, Copy, Debug, PartialEq, Eq)]
+pub struct Setting {
+    pub(crate) node: u8,
+    pub(crate) key: Key,
+    pub(crate) value: u32,
+}
+
+impl Model for Setting {
+    ghost use Rattle.std.specs.Prelude.{◌≤◌};
+    ghost use Rattle.network_file.specs.Keys.{Assignment, least_of, most_of};
+
+    ghost Value = { Assignment };
+
+    ghost view = { λ s. record { node = s.node; key = s.key; value = s.value } };
+
+    ghost invariant = { λ s. (least_of s.key ≤ s.value) × (s.value ≤ most_of s.key) };
+
+    ghost inverse = { λ a. record { node = a.node; key = a.key; value = a.value } };
+}
+
+impl Setting {
+    ghost use Rattle.std.specs.Prelude.{◌≡◌, ◌≤◌};
+    ghost use Rattle.network_file.specs.Keys.{least_of, most_of};
+
+    /// The node's number, from 1 to 16.
+    pub fn node(&self) -> u8
+        ensures { result ≡ self.now.node }
+    {
+        self.node
+    }
+
+    /// What is set.
+    pub fn key(&self) -> Key
+        ensures { result ≡ self.now.key }
+    {
+        self.key
+    }
+
+    /// To what it is set: a value that the key allows.
+    pub fn value(&self) -> u32
+        ensures value { result ≡ self.now.value }
+        ensures least { least_of self.now.key ≤ result }
+        ensures most { result ≤ most_of self.now.key }
+    {
+        self.value
+    }
+}
+
+/// The default window: what an unused place of a buffer holds.
+impl Default for Setting {
+    fn default() -> Setting {
+        Setting {
+            node: 1,
+            key: Key::Window,
+            value: 4,
+        }
+    }
+}
 
 /// What the key is set to for the node, if it is.
 pub fn set_to(settings: &[Setting], node: u8, key: Key) -> Option<u32>

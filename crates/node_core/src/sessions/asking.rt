@@ -1,6 +1,6 @@
 //! The lines of a user at the prompt.
 ghost use Rattle.std.specs.Prelude.{◌≡◌, IfOk, OnOk, ◌≢◌};
-ghost use Rattle.circuit_set.specs.declared.event.ConnectRefusal.TheVariants as connecting;
+ghost use Rattle.circuit_set.specs.declared.refusal.ConnectRefusal.TheVariants as connecting;
 ghost use Rattle.node_turns.specs.Asking as asking;
 ghost use Rattle.node_turns.specs.States.{State};
 ghost use Rattle.node_turns.specs.Users as users;

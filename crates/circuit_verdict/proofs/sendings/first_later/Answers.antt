@@ -1,7 +1,7 @@
 use Rattle.std.proofs.lemmas.List.Sorted.{IsPartitionPoint-from_clause, IsPartitionedBy-leb}
 use Rattle.std.proofs.lemmas.Bool.Decides.{nat_tests}
 use Rattle.std.proofs.Common.{arith, rules}
-use Rattle.circuit_verdict.specs.declared.sendings.Message.{Message}
+use Rattle.circuit_verdict.specs.declared.message.Message.{Message}
 use lib.Dec.{leb}
 use Rattle.circuit_verdict.proofs.sendings.first_later.Goals as goal
 

@@ -1,5 +1,5 @@
 use Rattle.std.proofs.Common.{◌≡◌, ◌++◌, List, [], ◌∷◌, ℕ, map, refl, sym, ◌∙◌, ap, append_assoc}
-use Rattle.link_life.specs.declared.script.NumberedAct.{NumberedAct}
+use Rattle.link_life.specs.declared.act.NumberedAct.{NumberedAct}
 use Rattle.link_life.specs.Lives.{Life, act_on, after_act, run}
 use Rattle.link_life.specs.Reports.{epochs_text, life_text, line_text}
 use Rattle.link_life.proofs.laws.reports_end.Goals as goal

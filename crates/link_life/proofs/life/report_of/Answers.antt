@@ -1,7 +1,7 @@
 use Rattle.std.proofs.Common.{◌∙◌, ◌++◌, ◌∷◌, ◌+◌, ap, sym, List, drop}
 use Rattle.std.proofs.lemmas.List.{at_drop_all, at_drop_more}
 use Rattle.ax_link.specs.State.{Rules}
-use Rattle.link_life.specs.declared.script.NumberedAct.{NumberedAct}
+use Rattle.link_life.specs.declared.act.NumberedAct.{NumberedAct}
 use Rattle.link_life.specs.Lives.{act_on, after_act, new_life}
 use Rattle.link_life.specs.Reports.{life_text}
 use Rattle.link_life.proofs.Living.{line_on}

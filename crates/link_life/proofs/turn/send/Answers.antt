@@ -1,7 +1,7 @@
 use Rattle.std.proofs.Common.{[], Some, sym, subst}
 use Rattle.ax_link.specs.Table.{Send}
 use Rattle.link_life.specs.Lives.{moved, send_refusal, unless}
-use Rattle.link_life.specs.declared.reasons.LifeRefusal.{LifeRefusal}
+use Rattle.link_life.specs.declared.life_refusals.LifeRefusal.{LifeRefusal}
 use Rattle.link_life.specs.Standing.{ComesTo, EndStands, of_send, turn_of}
 use Rattle.link_life.proofs.Acting.{allows, moves, refuses, send_refused, send_taken}
 use Rattle.link_life.proofs.Books.{facts_stand}

@@ -1,5 +1,5 @@
 use Rattle.std.proofs.Common.{List, [], map, take}
-use Rattle.circuit_verdict.specs.declared.verdict.Allowance.{Allowance}
+use Rattle.circuit_verdict.specs.declared.allowance.Allowance.{Allowance}
 use Rattle.net_replay.specs.Causes.{HasTaken}
 use Rattle.net_replay.specs.Circuits.{events_at}
 use Rattle.net_replay.specs.Events.{numbered_of}

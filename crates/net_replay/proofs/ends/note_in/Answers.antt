@@ -1,9 +1,9 @@
 use Rattle.std.proofs.Common.{◌≡◌, ◌<◌, ◌∙◌, ap, arith, length, ◌-◌, get_or}
 use Rattle.std.specs.Vec.{with_items}
 use Rattle.std.proofs.lemmas.List.{with_items_is}
-use Rattle.net_replay.specs.declared.ends.Outcome.TheVariants.{Lost}
-use Rattle.net_replay.specs.declared.events.LostEnd.{LostEnd}
-use Rattle.net_replay.specs.declared.events.Offer.{Offer}
+use Rattle.net_replay.specs.declared.outcome.Outcome.TheVariants.{Lost}
+use Rattle.net_replay.specs.declared.end_datagrams.LostEnd.{LostEnd}
+use Rattle.net_replay.specs.declared.mails.Offer.{Offer}
 use Rattle.net_replay.specs.Ends.{note_entry, with_offered, with_outcome}
 use Rattle.node_core.specs.declared.entry.NodeEntry.{NodeEntry}
 use Rattle.node_core.specs.Standing.{entry_of}

@@ -1,7 +1,7 @@
 use Rattle.std.proofs.Common.{◌∙◌, ap}
 use Rattle.std.specs.Prelude.{Option}
 use Rattle.kiss_framing.specs.Feeding.{handed_out}
-use Rattle.kiss_framing.specs.declared.deframer.KissItem.{KissItem}
+use Rattle.kiss_framing.specs.declared.item.KissItem.{KissItem}
 use Rattle.node_core.proofs.Nodes.{handed_is}
 use Rattle.node_core.proofs.feeding.take_given.Goals as goal
 

@@ -1,5 +1,5 @@
 use Rattle.std.proofs.Common.{ap, sym, subst, ◌∙◌, is_some}
-use Rattle.node_mail.specs.declared.places.QueuedMail.{QueuedMail}
+use Rattle.node_mail.specs.declared.queued_mails.QueuedMail.{QueuedMail}
 use Rattle.node_mail.specs.Wires.{Carries, IsText, Spells, wire_octets}
 use Rattle.node_mail.specs.Queues.{IsLetter}
 use Rattle.node_mail.specs.Lists.{octets_or}

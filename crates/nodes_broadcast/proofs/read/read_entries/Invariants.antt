@@ -1,5 +1,5 @@
 use Rattle.std.proofs.Common.{◌≡◌, ◌+◌, ◌-◌, ◌*◌, ◌/◌, ◌++◌, List, length}
-use Rattle.ax_address.specs.declared.Entry.{Entry}
+use Rattle.ax_address.specs.declared.entry.Entry.{Entry}
 use Rattle.nodes_broadcast.specs.Nodes.{SpellsEntries, entries_at}
 use Rattle.nodes_broadcast.proofs.Turns.{behind}
 use Rattle.nodes_broadcast.proofs.read.read_entries.Given as goal

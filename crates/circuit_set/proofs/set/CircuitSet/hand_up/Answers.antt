@@ -1,7 +1,7 @@
 use Rattle.std.proofs.Common.{◌∙◌, ap, drop, List, ℕ, Ok, Option, is_some, subst, sym}
 use Rattle.l3_datagram.specs.declared.carrier.Offered.TheVariants.{Taken}
 use Rattle.circuit_l4.specs.Transports.{transport_at}
-use Rattle.circuit_set.specs.declared.holder.Untold.{Untold}
+use Rattle.circuit_set.specs.declared.untold.Untold.{Untold}
 use Rattle.circuit_set.specs.Sets.{after_transport}
 use Rattle.circuit_set.specs.Standing.{Gives}
 use Rattle.circuit_set.proofs.Owning.{comes}

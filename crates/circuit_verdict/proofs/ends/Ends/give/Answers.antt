@@ -1,5 +1,5 @@
-use Rattle.circuit_verdict.specs.declared.names.CallPair.{CallPair}
-use Rattle.circuit_verdict.specs.declared.names.NodePair.{NodePair}
+use Rattle.circuit_verdict.specs.declared.pairs.CallPair.{CallPair}
+use Rattle.circuit_verdict.specs.declared.pairs.NodePair.{NodePair}
 use Rattle.circuit_verdict.specs.Ends.{key_of}
 use Rattle.circuit_verdict.proofs.ends.Ends.give.Goals as goal
 

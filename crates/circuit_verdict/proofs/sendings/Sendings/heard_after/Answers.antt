@@ -2,7 +2,7 @@ use Rattle.std.proofs.Common.{◌≡◌, ◌∙◌, ◌-◌, sym, ap, arith, len
 use Rattle.circuit_set.specs.Books.{is_heard}
 use Rattle.indexmap.specs.IndexSet.{contains}
 use Rattle.circuit_verdict.specs.Sendings.{Rises, message_name, messages_in, same_message}
-use Rattle.circuit_verdict.specs.declared.sendings.Message.{Message}
+use Rattle.circuit_verdict.specs.declared.message.Message.{Message}
 use Rattle.circuit_verdict.proofs.Messages.{behind, messages_rise}
 use Rattle.circuit_verdict.proofs.Heard.{among, among_same, heard_counted, heard_later}
 use Rattle.circuit_verdict.proofs.sendings.Sendings.heard_after.Goals as goal

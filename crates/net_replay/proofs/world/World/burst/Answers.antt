@@ -1,7 +1,7 @@
 use Rattle.std.proofs.Common.{◌∙◌, ◌∷◌, [], sym, subst}
 use Rattle.net_replay.specs.Lines.{burst}
 use Rattle.net_replay.specs.Running.{Stands, course}
-use Rattle.net_replay.specs.declared.reasons.LineRefusal.TheVariants.{Served}
+use Rattle.net_replay.specs.declared.refusals.LineRefusal.TheVariants.{Served}
 use Rattle.net_replay.specs.Events.{Refused, Wrote}
 use Rattle.net_replay.proofs.Telling.{tell_both}
 use Rattle.net_replay.proofs.Turning.{agents_refused, others_run}

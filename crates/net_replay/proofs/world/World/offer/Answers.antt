@@ -1,6 +1,6 @@
 use Rattle.std.proofs.Common.{◌≡◌, ◌∙◌, ◌∷◌, [], ap, sym, subst, true, false}
 use Rattle.std.proofs.lemmas.Result.{err_from_is_err_and}
-use Rattle.net_replay.specs.declared.events.Offer.{Offer}
+use Rattle.net_replay.specs.declared.mails.Offer.{Offer}
 use Rattle.net_replay.specs.Events.{Offered}
 use Rattle.net_replay.specs.Mailing.{may_write, offer_octets, write_if_taken}
 use Rattle.net_replay.specs.Running.{Stands, course}

@@ -1,8 +1,8 @@
 use Rattle.std.proofs.Common.{◌≡◌, ◌∙◌, ◌∷◌, [], refl, sym, ap, subst}
 use Rattle.std.specs.Vec.{with_items}
 use Rattle.std.proofs.lemmas.List.{with_items_is}
-use Rattle.net_replay.specs.declared.mails.Posting.TheVariants as posting
-use Rattle.net_replay.specs.declared.reasons.LineRefusal.TheVariants.{NoMail}
+use Rattle.net_replay.specs.declared.posting.Posting.TheVariants as posting
+use Rattle.net_replay.specs.declared.refusals.LineRefusal.TheVariants.{NoMail}
 use Rattle.net_replay.specs.Agents.{posted_at}
 use Rattle.net_replay.specs.Events.{Refused}
 use Rattle.net_replay.specs.Mailing as mailing

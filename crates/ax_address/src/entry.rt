@@ -1,0 +1,11 @@
+//! One destination of a NODES broadcast (NET/ROM, Appendix B).
+use crate::{Alias, Call};
+
+/// What a NODES broadcast says of one destination: by which neighbour its sender would reach it, and how well.
+#[derive(Clone, Copy, Debug, Default, PartialEq, Eq)]
+pub struct Entry {
+    pub dest: Call,
+    pub alias: Alias,
+    pub best: Call,
+    pub quality: u8,
+}

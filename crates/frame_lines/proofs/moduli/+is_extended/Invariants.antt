@@ -1,5 +1,0 @@
-use Rattle.std.proofs.Common.{length}
-use Rattle.frame_lines.proofs.moduli.+is_extended.Given as goal
-
-abbrev pub decreases-is_extended : goal.decreases-is_extended
-decreases-is_extended l = length l.pairs.now

@@ -1,0 +1,12 @@
+//! What became of a post.
+use node_mail::PostRefusal;
+
+/// What became of a post.
+#[derive(Clone, Copy, Debug, PartialEq, Eq)]
+pub enum Posting {
+    /// The node keeps no mail.
+    NoMail,
+    /// The mail has this number.
+    Posted(u64),
+    Refused(PostRefusal),
+}

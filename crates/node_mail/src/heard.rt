@@ -1,0 +1,19 @@
+//! What became of a message that was heard. Own profile.
+use ax_address::Call;
+
+/// What became of a message that was heard.
+#[derive(Clone, Copy, Debug, PartialEq, Eq)]
+pub enum Heard {
+    /// The mail of that number is stored, for that user.
+    Stored { number: u64, to: Call },
+    /// The mail of that number was stored before.
+    Again { number: u64 },
+    /// The mail of that number is stored where it was to go, and is queued here no longer.
+    Settled { number: u64 },
+    /// It is a receipt for a number that isn't queued for that node.
+    Stray { number: u64 },
+    /// 4,096 mails are stored, and that of this number isn't among them.
+    Full { number: u64 },
+    /// It is neither a mail nor a receipt.
+    Bad,
+}
