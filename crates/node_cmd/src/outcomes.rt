@@ -16,8 +16,8 @@ use crate::ran::Ran;
 use crate::report_refusal::ReportRefusal;
 use cmd_streams::{Status, TOO_LONG, refuse_line, say, write_all};
 use net_replay::{
-    Late, Network, NetworkRefusal, ReplayRefusal, Trace, What, read_network, replay, report,
-    soak_line, too_late,
+    Late, Network, NetworkRefusal, ReplayRefusal, Trace, read_network, replay, report, soak_line,
+    too_late,
 };
 use radio_base::{NoMemory, Sink, TextOut};
 use std::alloc::Global;
