@@ -2,7 +2,7 @@
 use Rattle.std.proofs.Common.{◌≡◌, ◌∙◌, List, refl, sym, String, Global}
 use Rattle.frame_lines.specs.declared.modulo.Modulo.{Modulo}
 use Rattle.frame_lines.specs.declared.modulo.Modulo.TheVariants.{Auto, M8, M128}
-use Rattle.look_cmd.specs.declared.commands.LookCommand.TheVariants.{Listen, Trace}
+use Rattle.look_cmd.specs.declared.command.LookCommand.TheVariants.{Listen, Trace}
 use Rattle.look_cmd.specs.Words.{AskFor, modulo_word}
 
 one_word : (m n : Modulo) → modulo_word m ≡ modulo_word n → m ≡ n

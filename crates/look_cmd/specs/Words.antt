@@ -3,8 +3,8 @@ use Rattle.std.specs.Prelude.{ℕ, ◌≡◌, List, [], ◌∷◌, map, codes, S
 use Rattle.std.specs.declared.alloc.Global.{Global}
 use Rattle.frame_lines.specs.declared.modulo.Modulo.{Modulo}
 use Rattle.frame_lines.specs.declared.modulo.Modulo.TheVariants.{Auto, M8, M128}
-use Rattle.look_cmd.specs.declared.commands.LookCommand.{LookCommand}
-use Rattle.look_cmd.specs.declared.commands.LookCommand.TheVariants.{Listen, Trace}
+use Rattle.look_cmd.specs.declared.command.LookCommand.{LookCommand}
+use Rattle.look_cmd.specs.declared.command.LookCommand.TheVariants.{Listen, Trace}
 
 abbrev pub modulo_word : Modulo → List ℕ
 modulo_word Auto = codes "modulo=auto"

@@ -3,7 +3,7 @@
 //! The program itself is the crate `wursthatch_look`.
 #![tactic(auto)]
 
-mod commands;
+mod command;
 mod listens;
 mod top;
 mod traces;

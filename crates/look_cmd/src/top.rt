@@ -3,12 +3,12 @@ ghost use Rattle.std.specs.Prelude.{◌≡◌, ◌↔◌};
 ghost use Rattle.cmd_streams.specs.StatusNotes.{HasNote, IsSilent};
 ghost use Rattle.cmd_streams.specs.Told.{SaysTo, told_by, UnlessItWrote};
 ghost use Rattle.frame_lines.specs.declared.modulo.Modulo.{Modulo};
-ghost use Rattle.look_cmd.specs.declared.commands.LookCommand.{LookCommand};
+ghost use Rattle.look_cmd.specs.declared.command.LookCommand.{LookCommand};
 ghost use Rattle.look_cmd.specs.Look.{ListenEnds, TraceEnds};
 ghost use Rattle.look_cmd.specs.Usage.{usage_note};
 ghost use Rattle.look_cmd.specs.Words.{AskFor};
 
-use crate::commands::{LookCommand, command_of};
+use crate::command::{LookCommand, command_of};
 use crate::listens::listen_to_stream;
 use crate::traces::trace_file;
 use crate::usage::USAGE;

@@ -7,8 +7,8 @@ use Rattle.std.proofs.lemmas.Fmt.{decimal_injective}
 use Rattle.network_file.specs.declared.plan.live.LiveNode.{LiveNode}
 use Rattle.tool_cmd.specs.declared.ip.gateway.Gateway.{Gateway}
 use Rattle.tool_cmd.specs.declared.lives.settings.LifeSettings.{LifeSettings}
-use Rattle.node_cmd.specs.declared.commands.RunCommand.{RunCommand}
-use Rattle.node_cmd.specs.declared.commands.RunCommand.TheVariants.{Replay, Frames, Soak, Life, Node, Ip}
+use Rattle.node_cmd.specs.declared.command.RunCommand.{RunCommand}
+use Rattle.node_cmd.specs.declared.command.RunCommand.TheVariants.{Replay, Frames, Soak, Life, Node, Ip}
 use Rattle.tool_cmd.specs.declared.frame_modulus.FrameModulus.{FrameModulus}
 use Rattle.tool_cmd.specs.declared.frame_modulus.FrameModulus.TheVariants as modulo
 use Rattle.tool_cmd.specs.IpWords.{IsGateway}

@@ -6,8 +6,8 @@ use Rattle.network_file.specs.declared.plan.live.LiveNode.{LiveNode}
 use Rattle.network_file.specs.Live.{live_node_at}
 use Rattle.tool_cmd.specs.declared.ip.gateway.Gateway.{Gateway}
 use Rattle.tool_cmd.specs.declared.lives.settings.LifeSettings.{LifeSettings}
-use Rattle.node_cmd.specs.declared.commands.RunCommand.{RunCommand}
-use Rattle.node_cmd.specs.declared.commands.RunCommand.TheVariants.{Replay, Frames, Soak, Life, Node, Ip}
+use Rattle.node_cmd.specs.declared.command.RunCommand.{RunCommand}
+use Rattle.node_cmd.specs.declared.command.RunCommand.TheVariants.{Replay, Frames, Soak, Life, Node, Ip}
 use Rattle.tool_cmd.specs.declared.frame_modulus.FrameModulus.{FrameModulus}
 use Rattle.tool_cmd.specs.Frames.{modulo_word}
 use Rattle.tool_cmd.specs.IpWords.{IsGateway}

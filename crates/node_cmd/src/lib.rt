@@ -3,7 +3,7 @@
 //! The program itself is the crate `wursthatch`; the tests of `run` stand in `node_cmd_tests`.
 #![tactic(auto)]
 
-mod commands;
+mod command;
 mod live;
 mod outcomes;
 mod ran;

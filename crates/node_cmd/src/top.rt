@@ -3,7 +3,7 @@ ghost use Rattle.std.specs.Prelude.{ℕ, ◌≡◌, ◌≢◌, ◌↔◌, ◌⊎
 ghost use Rattle.tool_cmd.specs.declared.ip.gateway.Gateway.{Gateway};
 ghost use Rattle.tool_cmd.specs.declared.lives.settings.LifeSettings.{LifeSettings};
 ghost use Rattle.node_cmd.specs.declared.ran.Ran.TheVariants as rans;
-ghost use Rattle.node_cmd.specs.declared.commands.RunCommand.{RunCommand};
+ghost use Rattle.node_cmd.specs.declared.command.RunCommand.{RunCommand};
 ghost use Rattle.tool_cmd.specs.declared.frame_modulus.FrameModulus.{FrameModulus};
 ghost use Rattle.network_file.specs.declared.plan.live.LiveNode.{LiveNode};
 ghost use Rattle.node_cmd.specs.Words.{AskFor, AskForLife, AskForNode, AskForStream};
@@ -15,7 +15,7 @@ ghost use Rattle.node_cmd.specs.Usage.{usage_note};
 ghost use Rattle.tool_cmd.specs.Run.{FramesEnd, IpEnds, LifeEnds};
 ghost use Rattle.node_cmd.specs.Run.{NodeEnds, ReplayEnds, SoakEnds};
 
-use crate::commands::{RunCommand, command_of};
+use crate::command::{RunCommand, command_of};
 use crate::live::run_node;
 use crate::ran::Ran;
 use crate::replays::replay_file;

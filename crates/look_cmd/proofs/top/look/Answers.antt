@@ -1,5 +1,5 @@
 use Rattle.std.proofs.Common.{◌≡◌}
-use Rattle.look_cmd.specs.declared.commands.LookCommand.TheVariants.{Listen, Trace}
+use Rattle.look_cmd.specs.declared.command.LookCommand.TheVariants.{Listen, Trace}
 use Rattle.look_cmd.proofs.Commands.{never_both, one_modulus}
 use Rattle.look_cmd.proofs.top.look.Goals as goal
 

@@ -1,5 +1,5 @@
 use Rattle.std.proofs.Common.{◌≡◌, inl, inr, refl}
-use Rattle.node_cmd.specs.declared.commands.RunCommand.TheVariants.{Replay, Frames, Soak, Life, Node, Ip}
+use Rattle.node_cmd.specs.declared.command.RunCommand.TheVariants.{Replay, Frames, Soak, Life, Node, Ip}
 use Rattle.tool_cmd.specs.Frames.{size_of}
 use Rattle.tool_cmd.specs.Standing.{state_of}
 use Rattle.node_cmd.proofs.Commands.{one_declared, one_gateway, one_life, one_modulus, one_seed, other, runs_one}

@@ -1,6 +1,6 @@
 //! The commands, and the words that ask for them.
 ghost use Rattle.std.specs.Prelude.{◌≡◌, ◌≢◌, ◌<◌, ◌^◌, ℕ, IfSome, IfNone, IsTrue, ◌↔◌, codes};
-ghost use Rattle.node_cmd.specs.declared.commands.RunCommand.{RunCommand};
+ghost use Rattle.node_cmd.specs.declared.command.RunCommand.{RunCommand};
 ghost use Rattle.node_cmd.specs.Words.{AskFor, seed_word};
 
 use network_file::{LiveNode, read_live_node};

@@ -1,7 +1,7 @@
 //! The commands, and the words that ask for them.
 ghost use Rattle.std.specs.Prelude.{◌≡◌, ◌≢◌, IfSome, IfNone, IsTrue, ◌↔◌, codes};
 ghost use Rattle.frame_lines.specs.declared.modulo.Modulo.{Modulo};
-ghost use Rattle.look_cmd.specs.declared.commands.LookCommand.{LookCommand};
+ghost use Rattle.look_cmd.specs.declared.command.LookCommand.{LookCommand};
 ghost use Rattle.look_cmd.specs.Words.{AskFor, modulo_word};
 
 use frame_lines::Modulo;
