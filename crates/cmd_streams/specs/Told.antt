@@ -1,6 +1,6 @@
--- What the streams of a command tell at a moment, what writing a text leaves, when a status comes, and what is noted where input was
--- refused. Own profile.
-use Rattle.std.specs.Prelude.{ℕ, List, Option, ◌≡◌, ◌⊎◌, ◌++◌, None, ◌≢◌, codes}
+-- What the streams of a command tell at a moment, what writing a text leaves, when a status comes, what is noted where input was
+-- refused, and which files are bad. Own profile.
+use Rattle.std.specs.Prelude.{ℕ, List, Option, ◌≡◌, ◌⊎◌, ◌++◌, None, Result, Err, ◌≢◌, codes}
 use Rattle.std.specs.Io.KnownBytes.{Appends}
 use Rattle.std.specs.Fmt.{decimal}
 use Rattle.radio_base.specs.Causes.{Rose}
@@ -8,6 +8,7 @@ use Rattle.radio_base.specs.declared.sink.Sink as sinks
 use Rattle.radio_base.specs.declared.source.Source as sources
 use Rattle.cmd_streams.specs.declared.status.Status.{Status}
 use Rattle.cmd_streams.specs.declared.status.Status.TheVariants.{Done, WriteFault, TooLate, NoMemory}
+use Rattle.cmd_streams.specs.Reading.{ReadsFile, TellsFile}
 
 -- What the streams of a run tell at a moment.
 
@@ -87,3 +88,18 @@ too_long_note = codes "too long\n"
 -- the line's number, and the word for what is wrong with it
 abbrev pub bad_line_note : ℕ → List ℕ → List ℕ
 bad_line_note line word = codes "line " ++ decimal line ++ codes ": " ++ word ++ codes "\n"
+
+-- Bad files: those of which `read` says the first bad line, by its number, and what is wrong with it, which `word_for` shows. Own profile.
+
+-- a bad file, of whose note P holds
+abbrev pub IsBadFile : {T W : Type 0} → (List ℕ → Result T (ℕ × W)) → (W → List ℕ) → List ℕ → (List ℕ → Type 0) → Type 0
+IsBadFile {W = W} read word_for bytes P = (bad : ℕ × W) × (read bytes ≡ Err bad) × P (bad_line_note bad.0 (word_for bad.1))
+
+-- a file was read to its end, and it is a bad one, of whose note P holds
+abbrev pub ReadsBadFile : {T W : Type 0} → (List ℕ → Result T (ℕ × W)) → (W → List ℕ) → StreamsTold → StreamsTold
+    → (List ℕ → Type 0) → Type 0
+ReadsBadFile read word_for before after P = ReadsFile before.left after.left (λ bytes. IsBadFile read word_for bytes P)
+
+-- the source tells its bytes, and they are a bad file
+abbrev pub TellsBadFile : {T W : Type 0} → (List ℕ → Result T (ℕ × W)) → Option (List ℕ) → Type 0
+TellsBadFile {W = W} read left = TellsFile left (λ bytes. (bad : ℕ × W) × (read bytes ≡ Err bad))

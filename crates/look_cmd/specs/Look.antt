@@ -6,12 +6,13 @@ use Rattle.cmd_streams.specs.declared.status.Status.TheVariants.{Done, Usage, Ba
 use Rattle.cmd_streams.specs.Reading.{ReadsFew, ReadsTooMuch, TellsTooMuch}
 use Rattle.cmd_streams.specs.StreamEnds.{StreamEnds}
 use Rattle.cmd_streams.specs.Streams.{Read, bytes_of}
-use Rattle.cmd_streams.specs.Told.{StreamsTold, Comes, ReadsWell, WritesWell, IsNoted}
+use Rattle.cmd_streams.specs.Told.{StreamsTold, Comes, ReadsBadFile, ReadsWell, TellsBadFile, WritesWell, IsNoted}
 use Rattle.frame_lines.specs.declared.modulo.Modulo.{Modulo}
 use Rattle.frame_lines.specs.Hearing.{Listening, by_items}
 use Rattle.kiss_framing.specs.Stream.{items}
+use Rattle.network_file.specs.Networks.{network_of, word_for}
 use Rattle.net_replay.specs.Circuits.{AirsTooMany}
-use Rattle.look_cmd.specs.Traced.{ReadsBadFile, ReadsNetwork, TellsBadFile, TellsInTime, TellsLate, TellsTooManyFrames, TracesInTime, TracesLate, WritesFront}
+use Rattle.look_cmd.specs.Traced.{ReadsNetwork, TellsInTime, TellsLate, TellsTooManyFrames, TracesInTime, TracesLate, WritesFront}
 
 -- a listener that has heard nothing
 abbrev pub silent : Modulo → Listening
@@ -44,8 +45,8 @@ pub record TraceEnds (before after : StreamsTold) (status : Status) : Type 0 whe
   pub too_long_comes : TellsTooMuch before.left ⊎ TellsTooManyFrames before.left
       → ReadsWell before after → Comes TooLong status
   -- A file is bad exactly where it was read to its end and has a first bad line, which the note names.
-  pub bad_file : status ≡ BadFile → ReadsBadFile before after (IsNoted before after)
-  pub bad_file_comes : TellsBadFile before.left → ReadsWell before after → Comes BadFile status
+  pub bad_file : status ≡ BadFile → ReadsBadFile network_of word_for before after (IsNoted before after)
+  pub bad_file_comes : TellsBadFile network_of before.left → ReadsWell before after → Comes BadFile status
   -- A write fault comes only where the sink's count rose, behind a front of the trace. Elsewhere the count stays.
   pub write_fault : status ≡ WriteFault → Rose before.write_faults after.write_faults
   pub write_front : status ≡ WriteFault

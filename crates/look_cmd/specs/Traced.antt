@@ -5,7 +5,7 @@ use Rattle.radio_base.specs.Causes.{Rose}
 use Rattle.circuit_verdict.specs.declared.late.Late.{Late}
 use Rattle.cmd_streams.specs.declared.status.Status.{Status}
 use Rattle.cmd_streams.specs.declared.status.Status.TheVariants as statuses
-use Rattle.cmd_streams.specs.Told.{bad_line_note, StreamsTold, AppendsFront, Comes, WritesWell, IsNoted}
+use Rattle.cmd_streams.specs.Told.{StreamsTold, AppendsFront, Comes, WritesWell, IsBadFile, IsNoted}
 use Rattle.cmd_streams.specs.Reading.{ReadsFile, TellsFile}
 use Rattle.network_file.specs.Networks.{Bad, network_of, word_for}
 use Rattle.network_file.specs.Plan.{Plan}
@@ -22,10 +22,6 @@ use Rattle.trace_lines.specs.Texts.{trace_text}
 -- P holds, if the trace has the allowance of the network and stands for its world
 abbrev pub IfTraceOf : Trace → Plan → Type 0 → Type 0
 IfTraceOf trace network P = allowance_in trace ≡ allowance_of network → IsTraceOf (left_of trace) (world network) → P
-
--- a file has a first bad line, of whose note P holds
-abbrev pub IsBadFile : List ℕ → (List ℕ → Type 0) → Type 0
-IsBadFile bytes P = (bad : Bad) × (network_of bytes ≡ Err bad) × P (bad_line_note bad.0 (word_for bad.1))
 
 -- the text is the trace of the network of that file, with the verdict on it and its cause
 pub record IsTraced (file text : List ℕ) (late : Option Late) (network : Plan) : Type 0 where
@@ -60,10 +56,6 @@ WritesFront file old new network =
 abbrev pub ReadsNetwork : StreamsTold → StreamsTold → (List ℕ → Plan → Type 0) → Type 0
 ReadsNetwork before after P = ReadsFile before.left after.left (λ bytes. IsNetwork bytes (P bytes))
 
--- a file was read to its end, and it has a first bad line, of whose note P holds
-abbrev pub ReadsBadFile : StreamsTold → StreamsTold → (List ℕ → Type 0) → Type 0
-ReadsBadFile before after P = ReadsFile before.left after.left (λ bytes. IsBadFile bytes P)
-
 -- the source tells its bytes, and they are the file of a network of which P holds
 abbrev pub TellsNetwork : Option (List ℕ) → (Plan → Type 0) → Type 0
 TellsNetwork left P = TellsFile left (λ bytes. IsNetwork bytes P)
@@ -79,10 +71,6 @@ TellsLate left = TellsNetwork left IsLate
 abbrev pub TellsTooManyFrames : Option (List ℕ) → Type 0
 TellsTooManyFrames left = TellsNetwork left AirsTooMany
 
--- the source tells its bytes, and they are a file with a bad line
-abbrev pub TellsBadFile : Option (List ℕ) → Type 0
-TellsBadFile left = TellsFile left (λ bytes. (bad : Bad) × (network_of bytes ≡ Err bad))
-
 -- What is written and noted of the network of a file; how the command ends is said in `Look`.
 pub record TracedEnds (file : List ℕ) (before after : StreamsTold) (status : Status) : Type 0 where
   pub done : status ≡ statuses.Done → IsNetwork file (TracesInTime file before.written after.written)
@@ -91,7 +79,7 @@ pub record TracedEnds (file : List ℕ) (before after : StreamsTold) (status : S
   pub late_comes : IsNetwork file IsLate → WritesWell before after → Comes statuses.TooLate status
   pub too_long : status ≡ statuses.TooLong → IsNetwork file AirsTooMany
   pub too_long_comes : IsNetwork file AirsTooMany → Comes statuses.TooLong status
-  pub bad_file : status ≡ statuses.BadFile → IsBadFile file (IsNoted before after)
+  pub bad_file : status ≡ statuses.BadFile → IsBadFile network_of word_for file (IsNoted before after)
   pub bad_file_comes : ((bad : Bad) × (network_of file ≡ Err bad)) → Comes statuses.BadFile status
   pub write_fault : status ≡ statuses.WriteFault → Rose before.write_faults after.write_faults
   pub write_front : status ≡ statuses.WriteFault → IsNetwork file (WritesFront file before.written after.written)

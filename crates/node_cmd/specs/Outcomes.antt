@@ -12,7 +12,7 @@ use Rattle.net_replay.specs.Lines.{world}
 use Rattle.net_replay.specs.Promises.{MailOnceThroughout, RetriesAreTold, SafeThroughout}
 use Rattle.net_replay.specs.Reports.{report_text, soak_text}
 use Rattle.net_replay.specs.Traces.{IsTraceOf, allowance_in, left_of}
-use Rattle.cmd_streams.specs.Told.{Comes, WritesWell, IsNoted, bad_line_note, StreamsTold, AppendsFront}
+use Rattle.cmd_streams.specs.Told.{Comes, WritesWell, IsBadFile, IsNoted, StreamsTold, AppendsFront}
 use Rattle.cmd_streams.specs.declared.status.Status.{Status}
 use Rattle.cmd_streams.specs.declared.status.Status.TheVariants as statuses
 use Rattle.cmd_streams.specs.Reading.{ReadsFile, TellsFile}
@@ -28,10 +28,6 @@ use Rattle.node_cmd.specs.declared.ran.Ran.TheVariants.{Replayed}
 abbrev pub text_of : Printed → World → Option Late → List ℕ
 text_of Report w late = report_text w late
 text_of (SoakLine seed) w late = soak_text seed w late
-
--- a file has a first bad line, of whose note P holds
-abbrev pub IsBadFile : List ℕ → (List ℕ → Type 0) → Type 0
-IsBadFile bytes P = (bad : Bad) × (network_of bytes ≡ Err bad) × P (bad_line_note bad.0 (word_for bad.1))
 
 -- why there is nothing to write of what was read: a bad line, too many frames, or want of memory
 abbrev pub NotReported : ReportRefusal → Result Plan Bad → Type 0
@@ -90,7 +86,7 @@ pub record NetworkEnds (what : Printed) (bytes : List ℕ) (before after : Strea
   pub late_comes : IsNetwork bytes IsLate → WritesWell before after → Comes statuses.TooLate status
   pub too_long : status ≡ statuses.TooLong → IsNetwork bytes AirsTooMany
   pub too_long_comes : IsNetwork bytes AirsTooMany → Comes statuses.TooLong status
-  pub bad_file : status ≡ statuses.BadFile → IsBadFile bytes (IsNoted before after)
+  pub bad_file : status ≡ statuses.BadFile → IsBadFile network_of word_for bytes (IsNoted before after)
   pub bad_file_comes : ((bad : Bad) × (network_of bytes ≡ Err bad)) → Comes statuses.BadFile status
   pub write_fault : status ≡ statuses.WriteFault → Rose before.write_faults after.write_faults
   pub write_front : status ≡ statuses.WriteFault → IsNetwork bytes (WritesFront what before.written after.written)
@@ -102,14 +98,6 @@ pub record NetworkEnds (what : Printed) (bytes : List ℕ) (before after : Strea
 -- a file was read to its end, and it is one of a network of which P holds
 abbrev pub ReadsNetwork : StreamsTold → StreamsTold → (Plan → Type 0) → Type 0
 ReadsNetwork before after P = ReadsFile before.left after.left (λ bytes. IsNetwork bytes P)
-
--- a file was read to its end, and it has a first bad line, of whose note P holds
-abbrev pub ReadsBadFile : StreamsTold → StreamsTold → (List ℕ → Type 0) → Type 0
-ReadsBadFile before after P = ReadsFile before.left after.left (λ bytes. IsBadFile bytes P)
-
--- the source tells its bytes, and they are a file with a bad line
-abbrev pub TellsBadFile : Option (List ℕ) → Type 0
-TellsBadFile left = TellsFile left (λ bytes. (bad : Bad) × (network_of bytes ≡ Err bad))
 
 -- the source tells its bytes, and they are the file of a network of which P holds
 abbrev pub Tells : (Plan → Type 0) → Option (List ℕ) → Type 0

@@ -4,14 +4,16 @@ use Rattle.std.specs.Io.KnownBytes.{Appends}
 use Rattle.radio_base.specs.Causes.{Rose}
 use Rattle.cmd_streams.specs.declared.status.Status.{Status}
 use Rattle.cmd_streams.specs.declared.status.Status.TheVariants.{Done, Usage, BadFile, ReadFault, WriteFault, TooLong, TooLate}
-use Rattle.cmd_streams.specs.Told.{Comes, ReadsWell, WritesWell, StreamsTold, IsNoted, AppendsFront}
+use Rattle.cmd_streams.specs.Told.{Comes, ReadsBadFile, ReadsWell, TellsBadFile, WritesWell, StreamsTold, IsNoted, AppendsFront}
 use Rattle.cmd_streams.specs.Reading.{ReadsFew, ReadsTooMuch, TellsTooMuch}
 use Rattle.cmd_streams.specs.StreamEnds.{StreamEnds}
 use Rattle.ax_ip.specs.Machine.{State}
+use Rattle.link_life.specs.Lines.{script_of}
+use Rattle.link_life.specs.Reports.{word_for}
 use Rattle.tool_cmd.specs.declared.lives.settings.LifeSettings.{LifeSettings}
 use Rattle.tool_cmd.specs.Frames.{ListsReads}
 use Rattle.tool_cmd.specs.Gateways.{ForwardsReads}
-use Rattle.tool_cmd.specs.Lives.{ReadsBadScript, ReadsScript, TellsBadScript, TellsScript, report_of}
+use Rattle.tool_cmd.specs.Lives.{ReadsScript, TellsScript, report_of}
 
 -- `frames`, with sequence numbers of that modulus: at most 16,384 bytes are read at a time, and no clock is asked
 abbrev pub FramesEnd : ℕ → StreamsTold → StreamsTold → Status → Type 0
@@ -35,8 +37,8 @@ pub record LifeEnds (s : LifeSettings) (before after : StreamsTold) (status : St
   pub too_long : status ≡ TooLong → ReadsTooMuch before.left after.left
   pub too_long_comes : TellsTooMuch before.left → ReadsWell before after → Comes TooLong status
   -- A script is bad exactly where it was read to its end and has a first bad line, which the note names.
-  pub bad_file : status ≡ BadFile → ReadsBadScript before after (IsNoted before after)
-  pub bad_file_comes : TellsBadScript before.left → ReadsWell before after → Comes BadFile status
+  pub bad_file : status ≡ BadFile → ReadsBadFile script_of word_for before after (IsNoted before after)
+  pub bad_file_comes : TellsBadFile script_of before.left → ReadsWell before after → Comes BadFile status
   -- A write fault comes only where the sink's count rose, behind a front of the report. Elsewhere the count stays.
   pub write_fault : status ≡ WriteFault → Rose before.write_faults after.write_faults
   pub write_front : status ≡ WriteFault
