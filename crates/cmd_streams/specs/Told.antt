@@ -1,6 +1,6 @@
 -- What the streams of a command tell at a moment, what writing a text leaves, when a status comes, what is noted where input was
--- refused, and which files are bad. Own profile.
-use Rattle.std.specs.Prelude.{ℕ, List, Option, ◌≡◌, ◌⊎◌, ◌++◌, None, Result, Err, ◌≢◌, codes}
+-- refused, and which files are good or bad. Own profile.
+use Rattle.std.specs.Prelude.{ℕ, List, Option, ◌≡◌, ◌⊎◌, ◌++◌, None, Result, Ok, Err, ◌≢◌, codes}
 use Rattle.std.specs.Io.KnownBytes.{Appends}
 use Rattle.std.specs.Fmt.{decimal}
 use Rattle.radio_base.specs.Causes.{Rose}
@@ -89,7 +89,12 @@ too_long_note = codes "too long\n"
 abbrev pub bad_line_note : ℕ → List ℕ → List ℕ
 bad_line_note line word = codes "line " ++ decimal line ++ codes ": " ++ word ++ codes "\n"
 
--- Bad files: those of which `read` says the first bad line, by its number, and what is wrong with it, which `word_for` shows. Own profile.
+-- Good and bad files, as `read` says: what a file is of, or its first bad line, by its number, and what is wrong with it, which `word_for`
+-- shows. Own profile.
+
+-- the source tells its bytes, and they are a good file: one of something of which P holds
+abbrev pub TellsGoodFile : {T E : Type 0} → (List ℕ → Result T E) → (T → Type 0) → Option (List ℕ) → Type 0
+TellsGoodFile {T = T} read P left = TellsFile left (λ bytes. (good : T) × (read bytes ≡ Ok good) × P good)
 
 -- a bad file, of whose note P holds
 abbrev pub IsBadFile : {T W : Type 0} → (List ℕ → Result T (ℕ × W)) → (W → List ℕ) → List ℕ → (List ℕ → Type 0) → Type 0

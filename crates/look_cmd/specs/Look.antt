@@ -6,13 +6,13 @@ use Rattle.cmd_streams.specs.declared.status.Status.TheVariants.{Done, Usage, Ba
 use Rattle.cmd_streams.specs.Reading.{ReadsFew, ReadsTooMuch, TellsTooMuch}
 use Rattle.cmd_streams.specs.StreamEnds.{StreamEnds}
 use Rattle.cmd_streams.specs.Streams.{Read, bytes_of}
-use Rattle.cmd_streams.specs.Told.{StreamsTold, Comes, ReadsBadFile, ReadsWell, TellsBadFile, WritesWell, IsNoted}
+use Rattle.cmd_streams.specs.Told.{StreamsTold, Comes, ReadsBadFile, ReadsWell, TellsBadFile, TellsGoodFile, WritesWell, IsNoted}
 use Rattle.frame_lines.specs.declared.modulo.Modulo.{Modulo}
 use Rattle.frame_lines.specs.Hearing.{Listening, by_items}
 use Rattle.kiss_framing.specs.Stream.{items}
 use Rattle.network_file.specs.Networks.{network_of, word_for}
-use Rattle.net_replay.specs.Circuits.{AirsTooMany}
-use Rattle.look_cmd.specs.Traced.{ReadsNetwork, TellsInTime, TellsLate, TellsTooManyFrames, TracesInTime, TracesLate, WritesFront}
+use Rattle.net_replay.specs.Circuits.{AirsTooMany, IsInTime, IsLate}
+use Rattle.look_cmd.specs.Traced.{ReadsNetwork, TracesInTime, TracesLate, WritesFront}
 
 -- a listener that has heard nothing
 abbrev pub silent : Modulo → Listening
@@ -33,8 +33,8 @@ pub record TraceEnds (before after : StreamsTold) (status : Status) : Type 0 whe
   pub done : status ≡ Done → ReadsNetwork before after (λ file. TracesInTime file before.written after.written)
   pub late : status ≡ TooLate → ReadsNetwork before after (λ file. TracesLate file before.written after.written)
   -- A good file is done, or too late, exactly by its verdict, but for faults and want of memory.
-  pub done_comes : TellsInTime before.left → ReadsWell before after → WritesWell before after → Comes Done status
-  pub late_comes : TellsLate before.left → ReadsWell before after → WritesWell before after → Comes TooLate status
+  pub done_comes : TellsGoodFile network_of IsInTime before.left → ReadsWell before after → WritesWell before after → Comes Done status
+  pub late_comes : TellsGoodFile network_of IsLate before.left → ReadsWell before after → WritesWell before after → Comes TooLate status
   -- A read fault comes only where the source's count rose, before a file was too long. Elsewhere the count stays.
   pub read_fault : status ≡ ReadFault → Rose before.read_faults after.read_faults
   pub read_few : status ≡ ReadFault → ReadsFew before.left after.left
@@ -42,7 +42,7 @@ pub record TraceEnds (before after : StreamsTold) (status : Status) : Type 0 whe
   -- It is too long exactly where one more byte was read than a file may have, or where a good file would put one more frame
   -- in the air than may be there.
   pub too_long : status ≡ TooLong → ReadsTooMuch before.left after.left ⊎ ReadsNetwork before after (λ _. AirsTooMany)
-  pub too_long_comes : TellsTooMuch before.left ⊎ TellsTooManyFrames before.left
+  pub too_long_comes : TellsTooMuch before.left ⊎ TellsGoodFile network_of AirsTooMany before.left
       → ReadsWell before after → Comes TooLong status
   -- A file is bad exactly where it was read to its end and has a first bad line, which the note names.
   pub bad_file : status ≡ BadFile → ReadsBadFile network_of word_for before after (IsNoted before after)

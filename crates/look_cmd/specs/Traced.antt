@@ -6,7 +6,7 @@ use Rattle.circuit_verdict.specs.declared.late.Late.{Late}
 use Rattle.cmd_streams.specs.declared.status.Status.{Status}
 use Rattle.cmd_streams.specs.declared.status.Status.TheVariants as statuses
 use Rattle.cmd_streams.specs.Told.{StreamsTold, AppendsFront, Comes, WritesWell, IsBadFile, IsNoted}
-use Rattle.cmd_streams.specs.Reading.{ReadsFile, TellsFile}
+use Rattle.cmd_streams.specs.Reading.{ReadsFile}
 use Rattle.network_file.specs.Networks.{Bad, network_of, word_for}
 use Rattle.network_file.specs.Plan.{Plan}
 use Rattle.net_replay.specs.declared.causes.LateCause.{LateCause}
@@ -55,21 +55,6 @@ WritesFront file old new network =
 -- a file was read to its end, and it is one of a network of which P holds, which is told of the file too
 abbrev pub ReadsNetwork : StreamsTold → StreamsTold → (List ℕ → Plan → Type 0) → Type 0
 ReadsNetwork before after P = ReadsFile before.left after.left (λ bytes. IsNetwork bytes (P bytes))
-
--- the source tells its bytes, and they are the file of a network of which P holds
-abbrev pub TellsNetwork : Option (List ℕ) → (Plan → Type 0) → Type 0
-TellsNetwork left P = TellsFile left (λ bytes. IsNetwork bytes P)
-
--- one that puts as many frames in the air as it may, and in which nothing comes back too late, or something; or one that puts too
--- many there
-abbrev pub TellsInTime : Option (List ℕ) → Type 0
-TellsInTime left = TellsNetwork left IsInTime
-
-abbrev pub TellsLate : Option (List ℕ) → Type 0
-TellsLate left = TellsNetwork left IsLate
-
-abbrev pub TellsTooManyFrames : Option (List ℕ) → Type 0
-TellsTooManyFrames left = TellsNetwork left AirsTooMany
 
 -- What is written and noted of the network of a file; how the command ends is said in `Look`.
 pub record TracedEnds (file : List ℕ) (before after : StreamsTold) (status : Status) : Type 0 where

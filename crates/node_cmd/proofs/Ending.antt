@@ -1,5 +1,6 @@
 -- How the two commands end that run a network, from how its file is printed.
 use Rattle.std.proofs.Common.{◌≡◌, inl, inr, ℕ, List}
+use Rattle.network_file.specs.Networks.{network_of}
 use Rattle.network_file.specs.Plan.{Plan}
 use Rattle.network_soak.specs.Files.{soak_file}
 use Rattle.network_soak.specs.Laws.{AreNetworks}
@@ -7,10 +8,10 @@ use Rattle.node_cmd.specs.declared.outcomes.Printed.TheVariants.{Report, SoakLin
 use Rattle.node_cmd.specs.declared.ran.Ran.{Ran}
 use Rattle.cmd_streams.specs.declared.status.Status.{Status}
 use Rattle.net_replay.specs.Circuits.{IsNetwork}
-use Rattle.node_cmd.specs.Outcomes.{NetworkEnds, Tells}
+use Rattle.node_cmd.specs.Outcomes.{NetworkEnds}
 use Rattle.cmd_streams.specs.Reading.{ReadsAll}
 use Rattle.node_cmd.specs.Run.{ReplayEnds, SoakEnds}
-use Rattle.cmd_streams.specs.Told.{StreamsTold}
+use Rattle.cmd_streams.specs.Told.{StreamsTold, TellsGoodFile}
 use Rattle.cmd_streams.proofs.WholeFiles.{file_told, not_too_much, output}
 
 module _ (before after : StreamsTold) (ran : Ran) (status : Status) where
@@ -18,7 +19,8 @@ module _ (before after : StreamsTold) (ran : Ran) (status : Status) where
   pub replay_ends : (bytes : List ℕ) → ReadsAll before.left after.left bytes → after.read_faults ≡ before.read_faults
       → NetworkEnds Report bytes (output before) (output after) ran status → ReplayEnds before after ran status
   replay_ends bytes all same e =
-      let whole : (P : Plan → Type 0) → Tells P before.left → IsNetwork bytes P = λ P tells. file_told before.left after.left bytes all _ tells in
+      let whole : (P : Plan → Type 0) → TellsGoodFile network_of P before.left → IsNetwork bytes P =
+      λ P tells. file_told before.left after.left bytes all _ tells in
       record {
         done = λ s. (bytes, all, e.done s);
         late = λ s. (bytes, all, e.late s);

@@ -15,7 +15,7 @@ use Rattle.net_replay.specs.Traces.{IsTraceOf, allowance_in, left_of}
 use Rattle.cmd_streams.specs.Told.{Comes, WritesWell, IsBadFile, IsNoted, StreamsTold, AppendsFront}
 use Rattle.cmd_streams.specs.declared.status.Status.{Status}
 use Rattle.cmd_streams.specs.declared.status.Status.TheVariants as statuses
-use Rattle.cmd_streams.specs.Reading.{ReadsFile, TellsFile}
+use Rattle.cmd_streams.specs.Reading.{ReadsFile}
 use Rattle.node_cmd.specs.declared.outcomes.NetworkOutcome.{NetworkOutcome}
 use Rattle.node_cmd.specs.declared.outcomes.Printed.{Printed}
 use Rattle.node_cmd.specs.declared.outcomes.Printed.TheVariants.{Report, SoakLine}
@@ -98,18 +98,3 @@ pub record NetworkEnds (what : Printed) (bytes : List ℕ) (before after : Strea
 -- a file was read to its end, and it is one of a network of which P holds
 abbrev pub ReadsNetwork : StreamsTold → StreamsTold → (Plan → Type 0) → Type 0
 ReadsNetwork before after P = ReadsFile before.left after.left (λ bytes. IsNetwork bytes P)
-
--- the source tells its bytes, and they are the file of a network of which P holds
-abbrev pub Tells : (Plan → Type 0) → Option (List ℕ) → Type 0
-Tells P left = TellsFile left (λ bytes. IsNetwork bytes P)
-
--- one that puts as many frames in the air as it may, and in which nothing comes back too late, or something; or one that puts too
--- many there
-abbrev pub TellsInTime : Option (List ℕ) → Type 0
-TellsInTime left = Tells IsInTime left
-
-abbrev pub TellsLate : Option (List ℕ) → Type 0
-TellsLate left = Tells IsLate left
-
-abbrev pub TellsTooManyFrames : Option (List ℕ) → Type 0
-TellsTooManyFrames left = Tells AirsTooMany left
