@@ -8,7 +8,7 @@ use Rattle.std.proofs.lemmas.List.Folds.{prefix_len-replicate}
 use Rattle.std.proofs.Math.Bridge.{le_prop}
 use Rattle.std.proofs.lemmas.Bool.Decides.{nat_tests}
 use Rattle.ax_address.specs.declared.address.Address.{Address}
-use Rattle.ax_address.specs.declared.address.AddressRefusal.{AddressRefusal}
+use Rattle.ax_address.specs.declared.address_refusal.AddressRefusal.{AddressRefusal}
 use Rattle.ax_address.specs.Callsign.{Callsign, IsCallsign, IsCallChar, name_in, padded}
 use Rattle.ax_address.specs.Octets.{SpellsAddress, SpelledWithoutFault, SpelledOnce, ssid_octet, is_char_octet, is_space_octet, good_octets, fault_in, address_fault}
 use Rattle.ax_address.proofs.CallOctets.{doubles, halves, doubles-replicate}

@@ -7,8 +7,8 @@ use Rattle.std.proofs.Math.Seq.{take-append-add}
 use Rattle.std.proofs.lemmas.List.Sums.{prefix_len-le-length}
 use Rattle.std.proofs.lemmas.Option.{slice_get_past, slice_get_within}
 use Rattle.std.proofs.lemmas.Bool.Decides.{nat_tests}
-use Rattle.ax_address.specs.declared.address.AddressRefusal.{AddressRefusal}
-use Rattle.ax_address.specs.declared.address.AddressRefusal.TheVariants.{BadChar, BadPadding}
+use Rattle.ax_address.specs.declared.address_refusal.AddressRefusal.{AddressRefusal}
+use Rattle.ax_address.specs.declared.address_refusal.AddressRefusal.TheVariants.{BadChar, BadPadding}
 use Rattle.ax_address.specs.Callsign.{padded}
 use Rattle.ax_address.specs.Octets.{is_char_octet, is_space_octet, good_octets, refusal_at, refused_octet, fault_in, address_fault, FaultIsFirst, FrontGoesOn}
 use Rattle.ax_address.proofs.CallOctets.{halves, doubles, chars, spaces, none_past, no_refusal}

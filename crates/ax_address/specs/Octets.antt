@@ -5,8 +5,8 @@ use Rattle.std.specs.List.{prefix_len}
 use Rattle.std.proofs.Common.{lit<}
 use Rattle.std.proofs.Math.Nat.{mod-lt, le-pred_of_lt}
 use Rattle.ax_address.specs.declared.address.Address.{Address}
-use Rattle.ax_address.specs.declared.address.AddressRefusal.{AddressRefusal}
-use Rattle.ax_address.specs.declared.address.AddressRefusal.TheVariants.{BadChar, BadPadding}
+use Rattle.ax_address.specs.declared.address_refusal.AddressRefusal.{AddressRefusal}
+use Rattle.ax_address.specs.declared.address_refusal.AddressRefusal.TheVariants.{BadChar, BadPadding}
 use Rattle.ax_address.specs.Callsign.{IsCallsign, is_call_char, space, Callsign}
 
 -- Addresses: six characters, each shifted left by one, and an octet with the SSID. (AX.25 2.2, section 3.12.)

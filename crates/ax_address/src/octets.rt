@@ -5,7 +5,7 @@ ghost use Rattle.std.specs.Result.{result_err};
 ghost use Rattle.ax_address.specs.Octets as octet;
 ghost use Rattle.ax_address.specs.declared.address.Address.{Address};
 
-use crate::address::AddressRefusal;
+use crate::address_refusal::AddressRefusal;
 use crate::{Address, Call};
 
 /// The first octet that can't stand at its place, of the six for characters, or of fewer where some of

@@ -3,7 +3,7 @@
 use Rattle.std.specs.Prelude.{ℕ, ◌≡◌, ◌+◌, ◌<◌, ◌≤◌, ◌^◌, List, [], ◌∷◌, ◌++◌, length, take, drop, replicate, Bool, true, false, ◌&&◌, ◌==◌, nat_lt, not, Option, Some, None, is_some, Result, Ok, Err, if◌then◌else◌}
 use Rattle.ax_address.specs.Callsign.{Callsign, IsCallsign}
 use Rattle.ax_address.specs.Octets.{SpellsNetCall, net_call_at, net_call_octets, refused_octet}
-use Rattle.ax_address.specs.declared.address.AddressRefusal.{AddressRefusal}
+use Rattle.ax_address.specs.declared.address_refusal.AddressRefusal.{AddressRefusal}
 use Rattle.ax_address.specs.Results.{◌>>=◌}
 pub use Rattle.ax_ip.specs.declared.arp.Arp.{Arp}
 use Rattle.ax_ip.specs.declared.arp.ArpRefusal.{ArpRefusal}

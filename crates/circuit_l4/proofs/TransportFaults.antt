@@ -5,7 +5,7 @@ use Rattle.std.proofs.lemmas.Bool.{ltb-true, ltb-false}
 use Rattle.std.proofs.lemmas.List.{append_assoc, drop-append-le, drop-take, take-append-drop, take-append-le, get_or_append_left, get_or-take, get_or_at, length-append, length-drop, length-replicate, length-take}
 use Rattle.ax_address.specs.Octets.{net_call_in, address_fault, fault_in, refused_octet}
 use Rattle.ax_address.specs.Octets as octets
-use Rattle.ax_address.specs.declared.address.AddressRefusal.{AddressRefusal}
+use Rattle.ax_address.specs.declared.address_refusal.AddressRefusal.{AddressRefusal}
 use Rattle.ax_address.proofs.CallFaults.{call_bad, not_both, still_none}
 use Rattle.l3_datagram.proofs.Spelling.{drop_at}
 use Rattle.circuit_l4.specs.declared.transport.Transport.{Transport}

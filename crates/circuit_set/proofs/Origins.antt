@@ -5,7 +5,7 @@ use Rattle.std.proofs.lemmas.Bool.Decides.{nat_tests}
 use Rattle.std.proofs.lemmas.List.{length-drop, length-take-le}
 use Rattle.ax_address.specs.Callsign.{Callsign, IsCallsign}
 use Rattle.ax_address.specs.Octets.{net_call_at, net_call_in, unless_at_fault, address_fault}
-use Rattle.ax_address.specs.declared.address.AddressRefusal.{AddressRefusal}
+use Rattle.ax_address.specs.declared.address_refusal.AddressRefusal.{AddressRefusal}
 use Rattle.ax_address.proofs.CallOctets.{six_are_call}
 use Rattle.ax_address.proofs.NetCallLaws.{letters_taken}
 use Rattle.ax_address.specs.Results.{◌>>=◌}

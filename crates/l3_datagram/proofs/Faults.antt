@@ -7,7 +7,7 @@ use Rattle.ax_address.specs.Callsign.{Callsign}
 use Rattle.ax_address.specs.Octets.{net_call_in, unless_at_fault, address_fault, fault_in, refused_octet}
 use Rattle.ax_address.specs.Octets as octets
 use Rattle.ax_address.specs.Results.{◌>>=◌}
-use Rattle.ax_address.specs.declared.address.AddressRefusal.{AddressRefusal}
+use Rattle.ax_address.specs.declared.address_refusal.AddressRefusal.{AddressRefusal}
 use Rattle.l3_datagram.specs.declared.datagram.DatagramHead.{DatagramHead}
 use Rattle.l3_datagram.specs.declared.datagram.DatagramRefusal.{DatagramRefusal}
 use Rattle.l3_datagram.specs.declared.datagram.DatagramRefusal.TheVariants.{Short, TooLong, BadCall}

@@ -5,7 +5,7 @@ use Rattle.std.specs.Int.{w64, from_be_bytes}
 use Rattle.std.proofs.lemmas.List.{length-drop}
 use Rattle.ax_address.specs.Callsign.{Callsign}
 use Rattle.ax_address.specs.Octets.{net_call_at}
-use Rattle.ax_address.specs.declared.address.AddressRefusal.{AddressRefusal}
+use Rattle.ax_address.specs.declared.address_refusal.AddressRefusal.{AddressRefusal}
 use Rattle.node_mail.specs.Wires.{Carries, Receipt, Wire, carried, is_mail_size, is_number, mail_at, receipt_at, wire_at}
 
 abbrev pub IsLong : ℕ → Wire → Type 0

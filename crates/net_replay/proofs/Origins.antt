@@ -6,7 +6,7 @@ use Rattle.std.specs.List.{AllByRecursion, position_or_len}
 use Rattle.std.proofs.lemmas.List.{length-append, length-map, length-replicate, take-take, take_at}
 use Rattle.ax_address.specs.Callsign.{Callsign, name_in}
 use Rattle.ax_address.specs.Octets.{SpelledNetCallIsRead, WrittenNetCallSpellsIt, net_call_at, net_call_octets}
-use Rattle.ax_address.specs.declared.address.AddressRefusal.{AddressRefusal}
+use Rattle.ax_address.specs.declared.address_refusal.AddressRefusal.{AddressRefusal}
 use Rattle.ax_address.specs.Results.{◌>>=◌}
 use Rattle.circuit_set.specs.Events.{is_copy}
 use Rattle.circuit_set.specs.Events as set_events

@@ -8,7 +8,7 @@ use Rattle.std.proofs.lemmas.List.{take_at, length-append, length-map, length-re
 use Rattle.std.proofs.Math.Seq.{drop-append-add}
 use Rattle.ax_address.specs.Callsign.{Callsign, name_in, padded}
 use Rattle.ax_address.specs.Octets.{SpellsNetCall, SpelledNetCallIsRead, WrittenNetCallSpellsIt, net_call_at, net_call_octets}
-use Rattle.ax_address.specs.declared.address.AddressRefusal.{AddressRefusal}
+use Rattle.ax_address.specs.declared.address_refusal.AddressRefusal.{AddressRefusal}
 use Rattle.node_mail.specs.Wires.{Wire, Carries, Receipt, IsNumber, IsText, Spells, SpellsNumber, SpelledWireIsRead, WrittenWireSpellsIt, is_number, is_mail_size, carried, mail_at, receipt_at, wire_at, wire_octets}
 
 seven : (c : Callsign) (octets : List ℕ) → SpellsNetCall c octets → length octets ≡ 7

@@ -1,7 +1,7 @@
 -- What the code has read, as a message. No public clause cites it: not for the reader of a contract.
 use Rattle.std.specs.Prelude.{ℕ, ◌≤◌, List, length, Option, Some, None, Result, Ok, Err}
 use Rattle.ax_address.specs.Callsign.{Callsign}
-use Rattle.ax_address.specs.declared.address.AddressRefusal.{AddressRefusal}
+use Rattle.ax_address.specs.declared.address_refusal.AddressRefusal.{AddressRefusal}
 use Rattle.node_mail.specs.declared.wire_head.WireHead.{WireHead}
 use Rattle.node_mail.specs.declared.wire_head.WireHead.TheVariants as head
 use Rattle.node_mail.specs.Wires.{Wire, Carries, Receipt}

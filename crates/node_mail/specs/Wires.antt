@@ -4,7 +4,7 @@ use Rattle.std.specs.Int.{w64, to_be_bytes, from_be_bytes}
 use Rattle.radio_base.specs.declared.modulus.TheConstants.{COUNT_MAX}
 use Rattle.ax_address.specs.Callsign.{Callsign, IsCallsign}
 use Rattle.ax_address.specs.Octets.{SpellsNetCall, net_call_at, net_call_octets}
-use Rattle.ax_address.specs.declared.address.AddressRefusal.{AddressRefusal}
+use Rattle.ax_address.specs.declared.address_refusal.AddressRefusal.{AddressRefusal}
 
 -- a mail, with the number that it has at the node where it was posted, its user and its text; and a receipt for the
 -- mail of a number

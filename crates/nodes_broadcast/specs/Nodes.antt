@@ -5,7 +5,7 @@ use Rattle.ax_address.specs.Callsign.{IsCallsign, Callsign}
 use Rattle.ax_address.specs.Octets.{SpellsNetCall, net_call_octets, net_call_at, refused_octet}
 use Rattle.ax_address.specs.declared.alias.Alias.{Alias}
 use Rattle.ax_address.specs.declared.entry.Entry.{Entry}
-use Rattle.ax_address.specs.declared.address.AddressRefusal.{AddressRefusal}
+use Rattle.ax_address.specs.declared.address_refusal.AddressRefusal.{AddressRefusal}
 use Rattle.ax_address.specs.Results.{◌>>=◌}
 use Rattle.nodes_broadcast.specs.declared.nodes.Nodes.{Nodes}
 use Rattle.nodes_broadcast.specs.declared.nodes.NodesRefusal.{NodesRefusal}
