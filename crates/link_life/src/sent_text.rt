@@ -1,7 +1,7 @@
 //! A text that is sent, as a script lends it.
 ghost use Rattle.std.specs.Prelude.{◌≡◌, ◌≤◌, length};
 
-use radio_base::{MAX_INFO, Payload, TEXT_PID};
+use radio_base::{Payload, TEXT_PID};
 use std::marker::Model;
 
 /// A payload of no layer 3, as a script lends its text.
