@@ -1,19 +1,22 @@
 -- What is held, and what contracts see of it.
-use Rattle.std.proofs.Common.{◌≡◌, ◌==◌, Bool, true, false, List, Some, None, refl, ap, sym, ◌∙◌, subst}
+use Rattle.std.proofs.Common.{◌≡◌, ◌==◌, ℕ, Bool, true, false, List, [], ◌∷◌, Some, None, refl, ap, sym, ◌∙◌, subst}
+use Rattle.std.specs.Prelude.{Result, Ok, Err, OnOk, IfOk, is_err}
 use Rattle.std.specs.Map.{lookup}
 use Rattle.ax_address.specs.Callsign.{Callsign, same_call}
 use Rattle.ax_link.specs.State.{State}
+use Rattle.l3_datagram.specs.Datagrams.{Datagram, Offer}
+use Rattle.l3_datagram.specs.declared.carrier.Offered.{Offered}
 use Rattle.link_table.specs.declared.entry.Entry.{Entry}
-use Rattle.link_table.specs.Calls.{is_128}
+use Rattle.link_table.specs.Calls.{is_128, offer}
 use Rattle.link_table.proofs.Links.{Found, found, none_found}
 use Rattle.link_table.specs.declared.held_links.HeldLinks.{HeldLinks}
-use Rattle.link_table.specs.Standing.{CoreGoes, CoreStands, LentStands, LinksStand, TableGoes, TableStands, shown, size_of, width}
+use Rattle.link_table.specs.Standing.{CoreGoes, CoreStands, LentStands, LinksStand, Made, TableGoes, TableStands, shown, size_of, width}
 use Rattle.link_table.specs.Table.{Linked, Table, link_with}
 
-pub to_table : (c : HeldLinks) (t : Table) → CoreStands c t → TableStands (shown c false) t
-to_table c t s =
+pub to_table : (c : HeldLinks) (spent : Bool) (t : Table) → spent ≡ false → CoreStands c t → TableStands (shown c spent) t
+to_table c spent t unspent s =
     record {
-      spent = refl;
+      spent = unspent;
       own = s.own;
       by_links = s.by_links;
       size = s.size;
@@ -26,8 +29,8 @@ to_table c t s =
       frames = s.pending.frames;
     }
 
-pub to_core : (c : HeldLinks) (t : Table) → TableStands (shown c false) t → CoreStands c t
-to_core c t s =
+pub to_core : (c : HeldLinks) (spent : Bool) (t : Table) → TableStands (shown c spent) t → CoreStands c t
+to_core c spent t s =
     record {
       own = s.own;
       by_links = s.by_links;
@@ -38,9 +41,24 @@ to_core c t s =
       pending = record { waiting = s.waiting; lost = s.lost; notices = s.notices; frames = s.frames };
     }
 
--- what the links do, the table does
-pub goes_as : (part : Table → Table) (old new : HeldLinks) → CoreGoes part old new → TableGoes part (shown old false) (shown new false)
-goes_as part old new goes t s = to_table new (part t) (goes t (to_core old t s))
+-- what the links do, the table does, where memory didn't run out
+pub goes_as : (part : Table → Table) (old new : HeldLinks) (before spent : Bool) → spent ≡ false → CoreGoes part old new → TableGoes part (shown old before) (shown new spent)
+goes_as part old new before spent unspent goes t s = to_table new spent (part t) unspent (goes t (to_core old before t s))
+
+-- ---- the same by what a call of the links answers, which tells whether memory ran out
+
+pub goes_if_ok : {T E : Type 0} (r : Result T E) (part : Table → Table) (old new : HeldLinks) (before spent : Bool) → spent ≡ is_err r → OnOk r (CoreGoes part old new) →
+    OnOk r (TableGoes part (shown old before) (shown new spent))
+goes_if_ok (Ok x) part old new before spent told goes = goes_as part old new before spent told goes
+goes_if_ok (Err e) part old new before spent told goes = tt
+
+pub offers_if_ok : {E : Type 0} (r : Result Offered E) (to : Callsign) (d : Datagram) (now : ℕ) (old new : HeldLinks) (before spent : Bool) → spent ≡ is_err r →
+    IfOk r (λ answer. (t : Table) → CoreStands old t → (answer ≡ (offer to d now t).answer) × CoreStands new (offer to d now t).table) →
+    IfOk r (λ answer. Made (shown old before) (Offer to d now answer ∷ []) (shown new spent))
+offers_if_ok (Ok answer) to d now old new before spent told offers = λ t s.
+    let x = offers t (to_core old before t s) in
+    ((x.0, tt), to_table new spent (offer to d now t).table told x.1)
+offers_if_ok (Err e) to d now old new before spent told offers = tt
 
 -- ---- what is lent, by what the map has
 

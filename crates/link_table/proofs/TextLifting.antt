@@ -15,13 +15,12 @@ use Rattle.link_table.specs.declared.link_of.LinkOf.{LinkOf}
 use Rattle.link_table.specs.declared.route.Route.{Route}
 use Rattle.link_table.specs.declared.pending.Pending.{Pending}
 use Rattle.link_table.specs.Frames.{netrom, plain_text, segmented}
-use Rattle.link_table.specs.Standing.{CoreGoes, CoreStands, EntryGoes, EntryStands, HandsUp, Lifted, LinkGoes, LinkStands, LinksStand, TableGoes, shown, held_of, joined_with, room_at, room_in, room_of_entry, size_of, text_at, text_in, text_keys, text_of_entry}
+use Rattle.link_table.specs.Standing.{CoreGoes, CoreStands, EntryGoes, EntryStands, HandsUp, Lifted, LinkGoes, LinkStands, LinksStand, held_of, joined_with, room_at, room_in, room_of_entry, size_of, text_at, text_in, text_keys, text_of_entry}
 use Rattle.link_table.specs.Calls.{at_link}
 use Rattle.link_table.specs.Table.{Linked, Table}
 use Rattle.link_table.specs.Texts as texts
 use Rattle.link_table.specs.Works.{Work, hand_up, is_text, joiner_after, most_taken, settle, step_link, take_payload, text_by}
 use Rattle.link_table.proofs.Lifting.{follows, hands, lifts}
-use Rattle.link_table.proofs.Tables.{to_table}
 use Rattle.link_table.proofs.Links.{Found, found, none_found}
 
 not_netrom : (j : Joined) (p : Payload) → (p.pid == netrom) ≡ true → is_text j p ≡ false
@@ -135,18 +134,6 @@ took_none c peer now b t s e q =
 pub no_text : (x : Option (List ℕ)) (b : Bool) → b ≡ is_some x → b ≡ false → None ≡ x
 no_text None b e q = refl
 no_text (Some y) b e q = absurd (cc (sym q ∙ e))
-
-pub took_table : (c c2 : HeldLinks) (b : Bool) (part : Table → Table) → CoreGoes part c c2 → TableGoes part (shown c b) (shown c2 false)
-took_table c c2 b part goes t s =
-    to_table c2 (part t) (goes t (record {
-      own = s.own;
-      by_links = s.by_links;
-      size = s.size;
-      config = s.config;
-      links = s.links;
-      paths = s.paths;
-      pending = record { waiting = s.waiting; lost = s.lost; notices = s.notices; frames = s.frames };
-    }))
 
 -- ---- where texts wait
 

@@ -134,12 +134,13 @@ impl LinkTable {
             return Err(PathRefusal::Full);
         }
         laws::kept();
-        self.spent = true;
-        if self.core.set_path(peer, path).is_err() {
-            return Err(PathRefusal::NoMemory);
+        match self.core.set_path(peer, path) {
+            Ok(()) => Ok(()),
+            Err(NoMemory) => {
+                self.spent = true;
+                Err(PathRefusal::NoMemory)
+            }
         }
-        self.spent = false;
-        Ok(())
     }
 
     /// Whether the link with a peer is of modulo 128: frames from it are read by that modulus. False where none stands.
@@ -175,10 +176,9 @@ impl LinkTable {
             return Err(NoMemory);
         }
         laws::kept();
-        self.spent = true;
-        self.core.arrive(frame, now)?;
-        self.spent = false;
-        Ok(())
+        let taken = self.core.arrive(frame, now);
+        self.spent = taken.is_err();
+        taken
     }
 
     /// Time has passed: each link looks at its timers, in the order in which the links were made.
@@ -193,10 +193,9 @@ impl LinkTable {
             return Err(NoMemory);
         }
         laws::kept();
-        self.spent = true;
-        self.core.tick(now)?;
-        self.spent = false;
-        Ok(())
+        let ticked = self.core.tick(now);
+        self.spent = ticked.is_err();
+        ticked
     }
 
     /// Releases the link with a peer once all is acknowledged. Nothing where no link stands.
@@ -211,10 +210,9 @@ impl LinkTable {
             return Err(NoMemory);
         }
         laws::kept();
-        self.spent = true;
-        self.core.close(peer, now)?;
-        self.spent = false;
-        Ok(())
+        let closed = self.core.close(peer, now);
+        self.spent = closed.is_err();
+        closed
     }
 
     /// The link with a peer is lost, and nothing is sent: it ends with Failed. Nothing where no link stands.
@@ -229,10 +227,9 @@ impl LinkTable {
             return Err(NoMemory);
         }
         laws::kept();
-        self.spent = true;
-        self.core.end(peer, LinkNotice::Failed)?;
-        self.spent = false;
-        Ok(())
+        let ended = self.core.end(peer, LinkNotice::Failed);
+        self.spent = ended.is_err();
+        ended
     }
 
     /// The peers at whose link a text waits, in the order of the links. A table that is spent tells of none.
@@ -285,9 +282,9 @@ impl LinkTable {
         if !self.core.text_waits(peer) {
             return Ok(false);
         }
-        self.spent = true;
-        self.core.take_text(peer, out, now)?;
-        self.spent = false;
+        let taken = self.core.take_text(peer, out, now);
+        self.spent = taken.is_err();
+        taken?;
         Ok(true)
     }
 
@@ -311,12 +308,13 @@ impl LinkTable {
             return Err(refusal);
         }
         laws::kept();
-        self.spent = true;
-        if self.core.send_text(peer, text, now).is_err() {
-            return Err(TextRefusal::NoMemory);
+        match self.core.send_text(peer, text, now) {
+            Ok(()) => Ok(()),
+            Err(NoMemory) => {
+                self.spent = true;
+                Err(TextRefusal::NoMemory)
+            }
         }
-        self.spent = false;
-        Ok(())
     }
 
     /// The next frame that waits to be sent, and how its octets were written: the oldest one. None where no frame waits.
@@ -373,10 +371,9 @@ impl Carrier for LinkTable {
             return Err(NoMemory);
         }
         laws::kept();
-        self.spent = true;
-        let offered = self.core.offer(to, datagram, now)?;
-        self.spent = false;
-        Ok(offered)
+        let offered = self.core.offer(to, datagram, now);
+        self.spent = offered.is_err();
+        offered
     }
 
     fn collect(&mut self) -> Option<(Call, Datagram)> {
