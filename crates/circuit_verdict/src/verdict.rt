@@ -74,10 +74,9 @@ impl Verdict {
         if self.late.is_some() {
             return Ok(());
         }
-        self.spent = true;
-        let why = self.book.take_in(event, self.allowance)?;
-        self.late = late_at(line, why);
-        self.spent = false;
+        let judged = self.book.take_in(event, self.allowance);
+        self.spent = judged.is_err();
+        self.late = late_at(line, judged?);
         Ok(())
     }
 

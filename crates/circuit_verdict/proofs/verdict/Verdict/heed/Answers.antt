@@ -12,5 +12,5 @@ pub returns-clause-goes_on : goal.returns-clause-goes_on
 returns-clause-goes_on c events stands =
     let none : is_some c.args.self.now.late ≡ false = search rules in
     rw c.late_at-self.ensures
-    (goes_on c.args.self.now.allowance c.args.self.now.late c.args.line c.args.event.now c.in_ok-why.why c.args.self.now.book c.take_in.new.self events none stands
-    c.in_ok-why.ensures)
+    (goes_on c.args.self.now.allowance c.args.self.now.late c.args.line c.args.event.now c.in_ok-judged.field-0 c.args.self.now.book c.take_in-judged.new.self events none stands
+    (rw c.in_ok-judged.was at c.take_in-judged.ensures))
