@@ -16,7 +16,7 @@ use Rattle.ax_ip.specs.Arps.{Arp, arp_at}
 use Rattle.ax_ip.specs.Machine.{Neighbour, call_of, content_of, is_request, reply, onward, State, Turn, turn, packet_to, sends, arp_turn, own_turn, to_call, by_route, onward_turn, packet_turn, content_turn, dropped}
 use Rattle.ax_ip.specs.Laws.{SendsOn, ForwardedIsSentOn, Forwards, AtMostItsTimeToLive}
 use Rattle.ax_ip.specs.Packets.{octet, word, PacketHead, SpellsPacket, packet_at, head_in, header_len, is_outside, is_right}
-use Rattle.ax_ip.specs.Routes.{Route, longest, next_hop}
+use Rattle.ax_ip.specs.Routes.{IpRoute, longest, next_hop}
 use Rattle.ax_ip.proofs.Aged.{onward_ttl}
 
 -- what is read is laid out so
@@ -70,7 +70,7 @@ by_call : (s : State) (h : PacketHead) (os : List ℕ) (hop : ℕ) (o : Option C
 by_call s h os hop (Some call) p a e = record { head = h; packet = p; alive = a; call = call; sent = refl }
 by_call s h os hop None p a e = absurd (cc)
 
-routed : (s : State) (h : PacketHead) (os : List ℕ) (o : Option Route) → SpellsPacket h os → 1 < h.ttl → (by_route s h (take h.total os) o).done ≡ Forwarded → SendsOn os (by_route s h (take h.total os) o)
+routed : (s : State) (h : PacketHead) (os : List ℕ) (o : Option IpRoute) → SpellsPacket h os → 1 < h.ttl → (by_route s h (take h.total os) o).done ≡ Forwarded → SendsOn os (by_route s h (take h.total os) o)
 routed s h os (Some r) p a e = by_call s h os (next_hop r h.dest) (call_of (next_hop r h.dest) s.cache) p a e
 routed s h os None p a e = absurd (cc)
 

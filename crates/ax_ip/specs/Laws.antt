@@ -5,7 +5,7 @@ use Rattle.ax_frame.specs.Frames.{Frame}
 use Rattle.ax_ip.specs.declared.ip_done.IpDone.TheVariants.{Forwarded}
 use Rattle.ax_ip.specs.Packets.{octet, PacketHead, SpellsPacket}
 use Rattle.ax_ip.specs.Machine.{onward, State, Turn, turn, packet_to}
-use Rattle.ax_ip.specs.Routes.{Route, matches, longest}
+use Rattle.ax_ip.specs.Routes.{IpRoute, matches, longest}
 use Rattle.ax_ip.specs.Arps.{Arp, IsArp, SpellsArp, arp_at, arp_octets}
 
 -- octets that spell a message are read as it, and so spell no other
@@ -21,16 +21,16 @@ abbrev pub WrittenArpIsRead : Type 0
 WrittenArpIsRead = (a : Arp) → IsArp a → arp_at (arp_octets a) ≡ Ok a
 
 -- it stands among the routes and matches, and none that matches is longer
-pub record IsLongest (dest : ℕ) (routes : List Route) (r : Route) : Type 0 where
+pub record IsLongest (dest : ℕ) (routes : List IpRoute) (r : IpRoute) : Type 0 where
   pub stands : Contains routes r
   pub fits : matches dest r ≡ true
-  pub longest : (other : Route) → Contains routes other → matches dest other ≡ true → other.len ≤ r.len
+  pub longest : (other : IpRoute) → Contains routes other → matches dest other ≡ true → other.len ≤ r.len
 
 -- no route is taken where none matches, and else the longest of those that do
 abbrev pub LongestIsTaken : Type 0
 LongestIsTaken =
-    (dest : ℕ) (routes : List Route)
-    → MatchOption (longest dest routes) ((other : Route) → Contains routes other → matches dest other ≡ false) (λ r. IsLongest dest routes r)
+    (dest : ℕ) (routes : List IpRoute)
+    → MatchOption (longest dest routes) ((other : IpRoute) → Contains routes other → matches dest other ≡ false) (λ r. IsLongest dest routes r)
 
 -- a packet that goes on is laid out as the one that came, with a time to live of one less
 abbrev pub OnwardIsPacket : Type 0

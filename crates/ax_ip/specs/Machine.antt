@@ -21,7 +21,7 @@ use Rattle.ax_ip.specs.declared.forwarder.Forwarder.{Forwarder}
 use Rattle.ax_ip.specs.declared.out.IpOut.{IpOut}
 use Rattle.ax_ip.specs.Arps.{Arp, arp_at, arp_octets}
 use Rattle.ax_ip.specs.Packets.{PacketHead, packet_at, octet, word, is_right, summed, lacking, word_sum}
-use Rattle.ax_ip.specs.Routes.{Route, longest, next_hop}
+use Rattle.ax_ip.specs.Routes.{IpRoute, longest, next_hop}
 pub use Rattle.ax_ip.specs.declared.neighbours.Neighbour.{Neighbour}
 
 -- Echo requests and their replies. (RFC 792, "Echo or Echo Reply Message".)
@@ -99,7 +99,7 @@ learned cache n = entered (position (λ m. m.address == n.address) cache) cache 
 pub record State : Type 0 where
   pub call : Callsign
   pub address : ℕ
-  pub routes : List Route
+  pub routes : List IpRoute
   pub cache : List Neighbour
 
 abbrev pub state : Forwarder → State
@@ -173,7 +173,7 @@ to_call s h packet hop None = sends Asked (message_to everyone (request_for s ho
 abbrev pub to_hop : State → PacketHead → List ℕ → ℕ → Turn
 to_hop s h packet hop = to_call s h packet hop (call_of hop s.cache)
 
-abbrev pub by_route : State → PacketHead → List ℕ → Option Route → Turn
+abbrev pub by_route : State → PacketHead → List ℕ → Option IpRoute → Turn
 by_route s h packet (Some route) = to_hop s h packet (next_hop route h.dest)
 by_route s h packet None = dropped NoRoute s
 

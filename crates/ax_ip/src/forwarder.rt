@@ -9,7 +9,7 @@ use crate::content::{Content, content_of};
 use crate::ip_done::{IpDone, IpWhy};
 use crate::neighbours::Cache;
 use crate::out::{IP_PID, Info, IpOut};
-use crate::route::Route;
+use crate::route::IpRoute;
 use crate::routes::{RouteRefusal, has_bits_past, stands};
 use arrayvec::ArrayVec;
 use ax_address::Call;
@@ -40,7 +40,7 @@ use ax_frame::FrameView;
 pub struct Forwarder {
     pub(crate) call: Call,
     pub(crate) address: u32,
-    pub(crate) routes: ArrayVec<Route, 16>,
+    pub(crate) routes: ArrayVec<IpRoute, 16>,
     pub(crate) cache: Cache,
     /// What was made to be sent last. It stands in one place, since it is long to move.
     pub(crate) out: IpOut,
@@ -72,7 +72,7 @@ impl Forwarder {
     /// `Twice` where a route with this prefix and length stands, `Full` where 16 routes do. A refusal changes nothing.
     pub fn route(&mut self, prefix: u32, len: u8, hop: u32) -> Result<(), RouteRefusal>
         ensures exact { result ≡ routes.route_at prefix len (machine.state self.old).routes }
-        ensures entered { OnOk result ((r : routes.Route) × routes.IsRoute prefix len hop r
+        ensures entered { OnOk result ((r : routes.IpRoute) × routes.IsRoute prefix len hop r
             × (machine.state self.new
             ≡ record (machine.state self.old) { routes = (machine.state self.old).routes ++ r ∷ [] })) }
         ensures out { machine.waiting self.new ≡ machine.waiting self.old }
@@ -87,7 +87,7 @@ impl Forwarder {
         if self.routes.is_full() {
             return Err(RouteRefusal::Full);
         }
-        self.routes.push(Route { prefix, len, hop });
+        self.routes.push(IpRoute { prefix, len, hop });
         Ok(())
     }
 

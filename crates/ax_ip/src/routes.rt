@@ -2,7 +2,7 @@
 ghost use Rattle.std.specs.Prelude.{◌≡◌, ◌≤◌};
 ghost use Rattle.ax_ip.specs.Routes as spec;
 
-use crate::route::Route;
+use crate::route::IpRoute;
 
 /// Why a route isn't taken. What stands first comes first.
 #[derive(Clone, Copy, Debug, PartialEq, Eq)]
@@ -24,7 +24,7 @@ pub(crate) fn has_bits_past(prefix: u32, len: u8) -> bool
 }
 
 /// Whether a route of this prefix stands.
-pub(crate) fn stands(routes: &[Route], prefix: u32, len: u8) -> bool
+pub(crate) fn stands(routes: &[IpRoute], prefix: u32, len: u8) -> bool
     ensures { result ≡ spec.stands prefix len routes.now }
 {
     routes
@@ -33,7 +33,7 @@ pub(crate) fn stands(routes: &[Route], prefix: u32, len: u8) -> bool
 }
 
 /// Whether the address begins with the route's prefix.
-fn matches(route: &Route, dest: u32) -> bool
+fn matches(route: &IpRoute, dest: u32) -> bool
     ensures { result ≡ spec.matches dest route.now }
 {
     let past = 32 - route.len;
@@ -41,7 +41,7 @@ fn matches(route: &Route, dest: u32) -> bool
 }
 
 /// The longest route to an address.
-pub(crate) fn longest(routes: &[Route], dest: u32) -> Option<Route>
+pub(crate) fn longest(routes: &[IpRoute], dest: u32) -> Option<IpRoute>
     ensures { result ≡ spec.longest dest routes.now }
 {
     let mut best = None;
@@ -53,7 +53,7 @@ pub(crate) fn longest(routes: &[Route], dest: u32) -> Option<Route>
     best
 }
 
-fn longer(first: &Route, other: Option<Route>) -> Route
+fn longer(first: &IpRoute, other: Option<IpRoute>) -> IpRoute
     ensures { result ≡ spec.longer first.now other }
 {
     match other {
@@ -63,7 +63,7 @@ fn longer(first: &Route, other: Option<Route>) -> Route
 }
 
 /// The address to which a packet by this route goes next.
-pub(crate) fn next_hop(route: &Route, dest: u32) -> u32
+pub(crate) fn next_hop(route: &IpRoute, dest: u32) -> u32
     ensures { result ≡ spec.next_hop route.now dest }
 {
     if route.hop == 0 { dest } else { route.hop }

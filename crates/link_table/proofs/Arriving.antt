@@ -15,7 +15,7 @@ use Rattle.ax_link.specs.Opening.{opening}
 use Rattle.ax_link.specs.State.{Rules, State}
 use Rattle.ax_link.specs.Table.{Arrive, step}
 use Rattle.ax_link.specs.declared.notice.LinkNotice.TheVariants.{Closed}
-use Rattle.link_table.specs.declared.entry.Entry.{Entry}
+use Rattle.link_table.specs.declared.entry.LinkEntry.{LinkEntry}
 use Rattle.link_table.specs.declared.held_links.HeldLinks.{HeldLinks}
 use Rattle.link_table.specs.declared.link_of.LinkOf.{LinkOf}
 use Rattle.link_table.specs.declared.link_of.LinkOf.TheVariants.{Eight, Wide}
@@ -70,11 +70,11 @@ new_made c c2 c3 size pf f now l first next t s =
     subst (CoreStands c3) (sym (ap (λ b. if b then answer f (control.Dm pf) [] t else to_link f now (made (source f) size (back f) t)) room))
     (next (made (source f) size (back f) t) (first t s))
 
-wide_none : (x : Option Entry) → wide_by x ≡ None → x ≡ None
+wide_none : (x : Option LinkEntry) → wide_by x ≡ None → x ≡ None
 wide_none None e = refl
 wide_none (Some y) e = absurd (cc e)
 
-wide_some : (x : Option Entry) (b : Bool) → wide_by x ≡ Some b → (e : Entry) × (x ≡ Some e) × (is_wide e.link ≡ b)
+wide_some : (x : Option LinkEntry) (b : Bool) → wide_by x ≡ Some b → (e : LinkEntry) × (x ≡ Some e) × (is_wide e.link ≡ b)
 wide_some None b e = absurd (cc e)
 wide_some (Some y) b e = (y, refl, cc e)
 

@@ -8,7 +8,7 @@ use Rattle.ax_segment.specs.Joining as segment
 use Rattle.l3_datagram.specs.Datagrams.{Datagram, Offer}
 use Rattle.l3_datagram.specs.declared.carrier.Offered.{Offered}
 use Rattle.link_table.specs.Calls.{offer}
-use Rattle.link_table.specs.declared.entry.Entry.{Entry}
+use Rattle.link_table.specs.declared.entry.LinkEntry.{LinkEntry}
 use Rattle.link_table.specs.declared.link_of.LinkOf.{LinkOf}
 use Rattle.link_table.specs.declared.link_of.LinkOf.TheVariants.{Eight, Wide}
 use Rattle.link_table.specs.Kept.{KeepsItsShare, KeepsOn, entry_kept, links_kept}
@@ -20,10 +20,10 @@ module _ (of_link : link.KeepsItsShare) (of_joiner : segment.KeepsFew) where
   most (Eight h) = omega arith
   most (Wide h) = omega arith
 
-  one : (own key : Callsign) (e : Entry) (l : Linked) → LinkStands own key e l → entry_kept e ≤ 98175
+  one : (own key : Callsign) (e : LinkEntry) (l : Linked) → LinkStands own key e l → entry_kept e ≤ 98175
   one own key e l s = omega (arith, of_link _ _ _ s.link, most e.link, of_joiner e.joiner s.within)
 
-  all : (own : Callsign) (es : List (Callsign × Entry)) (ls : List Linked) → LinksStand own es ls → links_kept es ≤ 98175 * length es
+  all : (own : Callsign) (es : List (Callsign × LinkEntry)) (ls : List Linked) → LinksStand own es ls → links_kept es ≤ 98175 * length es
   all own [] ls s = omega arith
   all own (e ∷ es) [] s = absurd s
   all own (e ∷ es) (l ∷ ls) s = omega (arith, one own e.0 e.1 l s.0, all own es ls s.1)

@@ -10,19 +10,19 @@ use Rattle.ax_link.specs.Standing.{LinkView, StandsFor, frame_of}
 use Rattle.ax_link.specs.State.{Frame, Effect, State}
 use Rattle.ax_link.specs.Table.{Arrive, Input, Take, step}
 use Rattle.ax_segment.specs.Joining.{HeldMessage as Joined, join_step, IsWithin}
-use Rattle.link_table.specs.declared.route.Route.{Route}
+use Rattle.link_table.specs.declared.route.LinkRoute.{LinkRoute}
 use Rattle.link_table.specs.declared.pending.Pending.{Pending}
 use Rattle.link_table.specs.declared.written.Written.{Written}
 use Rattle.link_table.specs.Table.{written}
 use Rattle.link_table.specs.Frames.{Sent, all_sent, fitting, netrom, sent_by, segmented}
-use Rattle.link_table.specs.declared.entry.Entry.{Entry}
+use Rattle.link_table.specs.declared.entry.LinkEntry.{LinkEntry}
 use Rattle.link_table.specs.declared.link_of.LinkOf.{LinkOf}
 use Rattle.link_table.specs.Standing.{EntryGoes, EntryStands, GoesQuietly, HandsUp, Lifted, LinkGoes, gone_out, held_of, size_of}
 use Rattle.ax_address.specs.Callsign.{Callsign}
 use Rattle.link_table.specs.Works.{Work, arrive_at_link, first_to_take, hand_up, is_down, is_text, joiner_after, lost_by, most_taken, settle, step_link, take_payload, unless_text}
 
 -- the oldest frame of a link has gone out, and the others are still to go
-pub one_out : (size : ℕ) (route : Route) (out : LinkOut) (old new : LinkView) (fs fs2 : List Written) → slice_get old.outs 0 ≡ Some out → new.outs ≡ drop 1 old.outs →
+pub one_out : (size : ℕ) (route : LinkRoute) (out : LinkOut) (old new : LinkView) (fs fs2 : List Written) → slice_get old.outs 0 ≡ Some out → new.outs ≡ drop 1 old.outs →
     fs2 ≡ fs ++ map written (fitting (sent_by size route.own route.peer route.path (frame_of size out))) → fs2 ++ gone_out size route new ≡ fs ++ gone_out size route old
 one_out size route out old new fs fs2 first rest one =
     ap (λ (xs : List LinkOut). fs2 ++ gone xs) rest ∙ ap (λ ys. ys ++ gone (drop 1 old.outs)) one ∙ by old.outs first
@@ -42,7 +42,7 @@ one_out size route out old new fs fs2 first rest one =
         ∙ ap (λ ys. fs ++ ys) (sym (map-append written (sent_one x) (all_sent size route.own route.peer route.path (map (frame_of size) xs))))
 
 -- no frame is still to go
-pub none_out : (size : ℕ) (route : Route) (link : LinkView) → slice_get link.outs 0 ≡ None → gone_out size route link ≡ []
+pub none_out : (size : ℕ) (route : LinkRoute) (link : LinkView) → slice_get link.outs 0 ≡ None → gone_out size route link ≡ []
 none_out size route link e = by link.outs e
   where
     by : (xs : List LinkOut) → slice_get xs 0 ≡ None → map written (all_sent size route.own route.peer route.path (map (frame_of size) xs)) ≡ []
@@ -71,11 +71,11 @@ after_within (Refused ∷ notes) j x = after_within notes j x
 after_within (Failed ∷ notes) j x = after_within notes j x
 
 -- one step of an entry behind another
-pub follows : (a b : Work → Work) (x y z : Entry) (k k2 k3 : Pending) → EntryGoes a x y k k2 → EntryGoes b y z k2 k3 → EntryGoes (λ w. b (a w)) x z k k3
+pub follows : (a b : Work → Work) (x y z : LinkEntry) (k k2 k3 : Pending) → EntryGoes a x y k k2 → EntryGoes b y z k2 k3 → EntryGoes (λ w. b (a w)) x z k k3
 follows a b x y z k k2 k3 f g = record { route = g.route ∙ f.route; size = g.size ∙ f.size; goes = λ w s. g.goes (a w) (f.goes w s) }
 
 -- a step of the link and what comes of it are a step of the work
-pub lifts : (i : Input) (now : ℕ) (old : Entry) (mid : LinkOf) (new : Entry) (k k2 : Pending) → LinkGoes i now old.link mid →
+pub lifts : (i : Input) (now : ℕ) (old : LinkEntry) (mid : LinkOf) (new : LinkEntry) (k k2 : Pending) → LinkGoes i now old.link mid →
     Lifted (record old { link = mid }) new k k2 → EntryGoes (step_link old.route.own i now) old new k k2
 lifts i now old mid new k k2 done l = record { route = l.route; size = size; goes = goes }
   where
@@ -99,8 +99,8 @@ lifts i now old mid new k k2 done l = record { route = l.route; size = size; goe
           sized = s.sized;
         } in
         record {
-          peer = stands.peer ∙ sym (ap (λ (r : Route). r.peer) l.route);
-          path = stands.path ∙ sym (ap (λ (r : Route). r.path) l.route);
+          peer = stands.peer ∙ sym (ap (λ (r : LinkRoute). r.peer) l.route);
+          path = stands.path ∙ sym (ap (λ (r : LinkRoute). r.path) l.route);
           link = subst (λ n. StandsFor n (held_of new.link) g.link) (sym size) link;
           joiner = rw (notes, stands.joiner) (sym l.joiner);
           within = subst IsWithin (sym l.joiner) (after_within (option_to_list (held_of mid).notice) old.joiner stands.within);
@@ -113,7 +113,7 @@ lifts i now old mid new k k2 done l = record { route = l.route; size = size; goe
         }
 
 -- a payload that was taken is handed up
-pub hands : (p : Payload) (e : Entry) (j2 : Joined) (k k2 : Pending) → HandsUp p e.route.peer e.joiner j2 k k2 → EntryGoes (hand_up p) e (record e { joiner = j2 }) k k2
+pub hands : (p : Payload) (e : LinkEntry) (j2 : Joined) (k k2 : Pending) → HandsUp p e.route.peer e.joiner j2 k k2 → EntryGoes (hand_up p) e (record e { joiner = j2 }) k k2
 hands p e j2 k k2 u = record { route = refl; size = refl; goes = λ w s. by w s (p.pid == netrom) (p.pid == segmented) u.joiner u.waiting }
   where
     by : (w : Work) → EntryStands e k w → (b c : Bool) → j2 ≡ (if b then e.joiner else if c then (join_step e.joiner p.info.items).0 else e.joiner) →
@@ -153,7 +153,7 @@ hands p e j2 k k2 u = record { route = refl; size = refl; goes = λ w s. by w s 
         }
 
 -- The oldest payload is taken, and may be handed up before: a link that gives a payload tells nothing.
-pub hands_first : (now : ℕ) (p q : Payload) (old : Entry) (mid : LinkOf) (j2 : Joined) (new : Entry) (k k2 k3 : Pending) → q ≡ p →
+pub hands_first : (now : ℕ) (p q : Payload) (old : LinkEntry) (mid : LinkOf) (j2 : Joined) (new : LinkEntry) (k k2 k3 : Pending) → q ≡ p →
     LinkGoes Take now old.link mid → (held_of mid).notice ≡ None → HandsUp q old.route.peer old.joiner j2 k k2 → Lifted (record old { link = mid; joiner = j2 }) new k2 k3 →
     EntryGoes (take_payload old.route.own now p) old new k k3
 hands_first now p q old mid j2 new k k2 k3 e done quiet u l =
@@ -180,7 +180,7 @@ hands_first now p q old mid j2 new k k2 k3 e done quiet u l =
       frames = refl;
     } in
     let there : HandsUp p new.route.peer old.joiner new.joiner before k3 =
-    subst (λ (r : Route). HandsUp p r.peer old.joiner new.joiner before k3) (sym l.route) (subst (λ x. HandsUp x old.route.peer old.joiner new.joiner before k3) e up) in
+    subst (λ (r : LinkRoute). HandsUp p r.peer old.joiner new.joiner before k3) (sym l.route) (subst (λ x. HandsUp x old.route.peer old.joiner new.joiner before k3) e up) in
     follows (step_link old.route.own Take now) (hand_up p) old (record new { joiner = old.joiner }) new k before k3
     (lifts Take now old mid (record new { joiner = old.joiner }) k before done lifted) (hands p (record new { joiner = old.joiner }) new.joiner before k3 there)
 
@@ -194,15 +194,15 @@ untexted j (Some q) p e = by (is_text j q) e
     by false r = r
 
 -- so many payloads may still be taken
-pub record Left (n now : ℕ) (old new : Entry) (k k2 : Pending) : Type 0 where
+pub record Left (n now : ℕ) (old new : LinkEntry) (k k2 : Pending) : Type 0 where
   pub route : new.route ≡ old.route
   pub size : size_of new.link ≡ size_of old.link
   pub left : (w : Work) → EntryStands old k w → (w2 : Work) × EntryStands new k2 w2 × (settle n old.route.own now w2 ≡ settle most_taken old.route.own now w)
 
-pub none_taken : (now : ℕ) (e : Entry) (k : Pending) → Left most_taken now e e k k
+pub none_taken : (now : ℕ) (e : LinkEntry) (k : Pending) → Left most_taken now e e k k
 none_taken now e k = record { route = refl; size = refl; left = λ w s. (w, s, refl) }
 
-first_of : (e : Entry) (k : Pending) (w : Work) → EntryStands e k w → first_to_take w ≡ unless_text e.joiner (slice_get (held_of e.link).inbox 0)
+first_of : (e : LinkEntry) (k : Pending) (w : Work) → EntryStands e k w → first_to_take w ≡ unless_text e.joiner (slice_get (held_of e.link).inbox 0)
 first_of e k w s =
     ap (λ (x : Joined). unless_text x (slice_get w.linked.link.inbox 0)) s.joiner ∙ ap (λ (x : State). unless_text e.joiner (slice_get x.inbox 0)) s.link.keeps.is
 
@@ -210,7 +210,7 @@ none_left : (own : Callsign) (now n : ℕ) (w : Work) → first_to_take w ≡ No
 none_left own now zero w e = refl
 none_left own now (suc n) w e = ap (λ x. elim x as (λ y. Work) [ None ↦ w | Some z ↦ settle n own now (take_payload own now z w) ]) e
 
-pub left_none : (n now : ℕ) (old new : Entry) (k k2 : Pending) → Left n now old new k k2 → unless_text new.joiner (slice_get (held_of new.link).inbox 0) ≡ None →
+pub left_none : (n now : ℕ) (old new : LinkEntry) (k k2 : Pending) → Left n now old new k k2 → unless_text new.joiner (slice_get (held_of new.link).inbox 0) ≡ None →
     EntryGoes (settle most_taken old.route.own now) old new k k2
 left_none n now old new k k2 left e =
     record {
@@ -221,7 +221,7 @@ left_none n now old new k k2 left e =
           subst (EntryStands new k2) (sym (none_left old.route.own now n r.0 (first_of new k2 r.0 r.1 ∙ e)) ∙ r.2) r.1;
     }
 
-pub left_end : (n now : ℕ) (old new : Entry) (k k2 : Pending) → n ≡ 0 → Left n now old new k k2 → EntryGoes (settle most_taken old.route.own now) old new k k2
+pub left_end : (n now : ℕ) (old new : LinkEntry) (k k2 : Pending) → n ≡ 0 → Left n now old new k k2 → EntryGoes (settle most_taken old.route.own now) old new k k2
 left_end n now old new k k2 e left =
     record {
       route = left.route;
@@ -231,7 +231,7 @@ left_end n now old new k k2 e left =
           subst (EntryStands new k2) (subst (λ m. settle m old.route.own now r.0 ≡ settle most_taken old.route.own now w) e r.2) r.1;
     }
 
-pub left_one : (n m now : ℕ) (p : Payload) (old mid new : Entry) (k k2 k3 : Pending) → n ≡ suc m → Left n now old mid k k2 →
+pub left_one : (n m now : ℕ) (p : Payload) (old mid new : LinkEntry) (k k2 k3 : Pending) → n ≡ suc m → Left n now old mid k k2 →
     unless_text mid.joiner (slice_get (held_of mid.link).inbox 0) ≡ Some p → EntryGoes (take_payload mid.route.own now p) mid new k2 k3 → Left m now old new k k3
 left_one n m now p old mid new k k2 k3 e left q goes =
     record {
@@ -243,7 +243,7 @@ left_one n m now p old mid new k k2 k3 e left q goes =
           let one : settle (suc m) own now r.0 ≡ settle m own now (take_payload own now p r.0) =
           ap (λ x. elim x as (λ y. Work) [ None ↦ r.0 | Some z ↦ settle m own now (take_payload own now z r.0) ]) (first_of mid k2 r.0 r.1 ∙ q) in (
             take_payload own now p r.0,
-            subst (λ (x : Route). EntryStands new k3 (take_payload x.own now p r.0)) left.route (goes.goes r.0 r.1),
+            subst (λ (x : LinkRoute). EntryStands new k3 (take_payload x.own now p r.0)) left.route (goes.goes r.0 r.1),
             sym one ∙ subst (λ i. settle i own now r.0 ≡ settle most_taken own now w) e r.2,
           );
     }
@@ -256,11 +256,11 @@ pub one_waits : (x : Option Payload) → is_some x ≡ true → (p : Payload) ×
 one_waits None e = absurd (cc e)
 one_waits (Some p) e = (p, refl)
 
-phase_is : (e : Entry) (k : Pending) (w : Work) → EntryStands e k w → is_down w.linked.link.phase ≡ is_down (held_of e.link).phase
+phase_is : (e : LinkEntry) (k : Pending) (w : Work) → EntryStands e k w → is_down w.linked.link.phase ≡ is_down (held_of e.link).phase
 phase_is e k w s = ap (λ (x : State). is_down x.phase) s.link.keeps.is
 
 -- a frame has come, and the link has ended
-pub arrives_down : (f : Frame) (now : ℕ) (old new : Entry) (k k2 : Pending) → EntryGoes (step_link old.route.own (Arrive f) now) old new k k2 →
+pub arrives_down : (f : Frame) (now : ℕ) (old new : LinkEntry) (k k2 : Pending) → EntryGoes (step_link old.route.own (Arrive f) now) old new k k2 →
     is_down (held_of new.link).phase ≡ true → EntryGoes (arrive_at_link old.route.own f now) old new k k2
 arrives_down f now old new k k2 g e =
     record {
@@ -273,7 +273,7 @@ arrives_down f now old new k k2 g e =
     }
 
 -- or it stands, and what it brought is taken
-pub arrives_on : (f : Frame) (now : ℕ) (old mid new : Entry) (k k2 k3 : Pending) → EntryGoes (step_link old.route.own (Arrive f) now) old mid k k2 →
+pub arrives_on : (f : Frame) (now : ℕ) (old mid new : LinkEntry) (k k2 k3 : Pending) → EntryGoes (step_link old.route.own (Arrive f) now) old mid k k2 →
     is_down (held_of mid.link).phase ≡ false → EntryGoes (settle most_taken mid.route.own now) mid new k2 k3 → EntryGoes (arrive_at_link old.route.own f now) old new k k3
 arrives_on f now old mid new k k2 k3 g e more =
     record {
@@ -283,12 +283,12 @@ arrives_on f now old mid new k k2 k3 g e more =
           let s2 : Work = step_link old.route.own (Arrive f) now w in
           let r = g.goes w s in
           subst (EntryStands new k3) (sym (ap (λ b. if b then s2 else settle most_taken old.route.own now s2) (phase_is mid k2 s2 r ∙ e)))
-          (subst (λ (x : Route). EntryStands new k3 (settle most_taken x.own now s2)) g.route (more.goes s2 r));
+          (subst (λ (x : LinkRoute). EntryStands new k3 (settle most_taken x.own now s2)) g.route (more.goes s2 r));
     }
 
 -- ---- steps that tell nothing
 
-pub quietly : (route : Route) (i : Input) (now : ℕ) (old mid new : LinkOf) (fs fs2 : List Written) →
+pub quietly : (route : LinkRoute) (i : Input) (now : ℕ) (old mid new : LinkOf) (fs fs2 : List Written) →
     LinkGoes i now old mid → (held_of mid).notice ≡ None → held_of new ≡ record (held_of mid) { outs = [] } →
     fs2 ≡ fs ++ gone_out (size_of mid) route (held_of mid) → GoesQuietly (size_of old) route i now (held_of old) (held_of new) fs fs2
 quietly route i now old mid new fs fs2 done quiet e out s stands =

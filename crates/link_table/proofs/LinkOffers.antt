@@ -8,12 +8,12 @@ use Rattle.std.proofs.lemmas.Bool.Decides.{nat_tests}
 use Rattle.ax_frame.specs.Frames.{Frame as AirFrame}
 use Rattle.link_table.specs.Frames.{Sent}
 use Rattle.ax_link.specs.declared.notice.LinkNotice.{LinkNotice}
-use Rattle.link_table.specs.declared.entry.Entry.{Entry}
+use Rattle.link_table.specs.declared.entry.LinkEntry.{LinkEntry}
 use Rattle.link_table.specs.declared.held_links.HeldLinks.{HeldLinks}
 use Rattle.link_table.specs.declared.pending.Pending.{Pending}
 use Rattle.link_table.specs.Table.{written, Linked, Table, path_to, link_with, with_link, without}
 use Rattle.link_table.specs.Calls.{Offering, at_link, end, link_frame, made, offer, offer_link, offer_standing, offer_ui, set_up_link, pack, most_links}
-use Rattle.link_table.specs.declared.route.Route.{Route}
+use Rattle.link_table.specs.declared.route.LinkRoute.{LinkRoute}
 use Rattle.ax_link.specs.State.{count_end}
 use Rattle.radio_base.specs.declared.payload.Payload.{Payload}
 use Rattle.std.proofs.lemmas.List.{map-append}
@@ -36,7 +36,7 @@ pub append_none : {A : Type 0} (xs : List A) → xs ++ [] ≡ xs
 append_none [] = refl
 append_none (x ∷ xs) = ap (λ ys. x ∷ ys) (append_none xs)
 
-pub entry_quietly : (i : Input) (now : ℕ) (e e2 : Entry) (k k2 : Pending) → SameEntry e e2 →
+pub entry_quietly : (i : Input) (now : ℕ) (e e2 : LinkEntry) (k k2 : Pending) → SameEntry e e2 →
     GoesQuietly (size_of e.link) e.route i now (held_of e.link) (held_of e2.link) k.frames.items k2.frames.items →
     k2.waiting.items ≡ k.waiting.items → k2.lost.items ≡ k.lost.items → k2.notices.items ≡ k.notices.items →
     EntryGoes (step_link e.route.own i now) e e2 k k2
@@ -48,8 +48,8 @@ entry_quietly i now e e2 k k2 same goes waiting lost notices =
           let q = goes w.linked.link s.link in
           let before : w.linked.link.rules.size ≡ size_of e.link = ap (λ (x : State). x.rules.size) s.link.keeps.is in
           record {
-            peer = s.peer ∙ sym (ap (λ (r : Route). r.peer) same.route);
-            path = s.path ∙ sym (ap (λ (r : Route). r.path) same.route);
+            peer = s.peer ∙ sym (ap (λ (r : LinkRoute). r.peer) same.route);
+            path = s.path ∙ sym (ap (λ (r : LinkRoute). r.path) same.route);
             link = subst (λ n. StandsFor n (held_of e2.link) (step w.linked.link i now).link) (sym same.size) q.link;
             joiner = ap (λ ns. joiner_after ns w.linked.joiner) q.notes ∙ s.joiner ∙ sym same.joiner;
             within = subst IsWithin (sym same.joiner) s.within;
@@ -63,7 +63,7 @@ entry_quietly i now e e2 k k2 same goes waiting lost notices =
     }
 
 -- an entry that isn't Down stays
-pub not_down_left : (peer : Callsign) (es : List (Callsign × Entry)) (e w : Entry) → lookup (same_call peer) es ≡ Some e → is_down (held_of w.link).phase ≡ false →
+pub not_down_left : (peer : Callsign) (es : List (Callsign × LinkEntry)) (e w : LinkEntry) → lookup (same_call peer) es ≡ Some e → is_down (held_of w.link).phase ≡ false →
     set_value (same_call peer) es w ≡ drop_if_down peer (set_value (same_call peer) es w)
 not_down_left peer es e w q d = sym (ap (λ b. if b then remove_entry (same_call peer) (set_value (same_call peer) es w) else set_value (same_call peer) es w) (down_set peer es e w q ∙ d))
 
@@ -87,7 +87,7 @@ send_stays now p s e =
     ap (λ b. is_down (if b then accept (min now count_end) p (begin s) else begin s).link.phase) e ∙ takes_phase s.phase _ e
 
 -- a step that tells nothing and leaves the link standing
-pub quiet_at : (c c2 : HeldLinks) (peer : Callsign) (e e2 : Entry) (i : Input) (now : ℕ) →
+pub quiet_at : (c c2 : HeldLinks) (peer : Callsign) (e e2 : LinkEntry) (i : Input) (now : ℕ) →
     lookup (same_call peer) c.links.entries ≡ Some e → SameEntry e e2 →
     GoesQuietly (size_of e.link) e.route i now (held_of e.link) (held_of e2.link) c.pending.frames.items c2.pending.frames.items →
     c2.pending.waiting.items ≡ c.pending.waiting.items → c2.pending.lost.items ≡ c.pending.lost.items → c2.pending.notices.items ≡ c.pending.notices.items →
@@ -101,7 +101,7 @@ quiet_at c c2 peer e e2 i now there same goes waiting lost notices n entries t s
     at_link_stands c c2 peer e e2 c2.pending (λ own. step_link own i now) there (entry_quietly i now e e2 c.pending c2.pending same goes waiting lost notices) refl n
     (entries ∙ not_down_left peer c.links.entries e e2 there up) t s
 
-pub rests_set : (c c2 : HeldLinks) (peer : Callsign) (e2 : Entry) → Rests c → IsDrained (held_of e2.link) →
+pub rests_set : (c c2 : HeldLinks) (peer : Callsign) (e2 : LinkEntry) → Rests c → IsDrained (held_of e2.link) →
     c2.links.entries ≡ set_value (same_call peer) c.links.entries e2 → Rests c2
 rests_set c c2 peer e2 r d q =
     record {
@@ -118,7 +118,7 @@ with_same peer (m ∷ ls) l q = by (same_call peer m.peer) q (λ r. with_same pe
     by false r rest = ap (λ xs. m ∷ xs) (rest r)
 
 -- a payload was offered to the link that stands
-pub offer_at : (c c2 : HeldLinks) (peer : Callsign) (e e2 : Entry) (d : Datagram) (now : ℕ) (answer : Offered) →
+pub offer_at : (c c2 : HeldLinks) (peer : Callsign) (e e2 : LinkEntry) (d : Datagram) (now : ℕ) (answer : Offered) →
     lookup (same_call peer) c.links.entries ≡ Some e → SameEntry e e2 →
     Offers (size_of e.link) e.route (pack d) now (held_of e.link) (held_of e2.link) c.pending.frames.items c2.pending.frames.items answer →
     c2.pending.waiting.items ≡ c.pending.waiting.items → c2.pending.lost.items ≡ c.pending.lost.items → c2.pending.notices.items ≡ c.pending.notices.items →
@@ -143,17 +143,17 @@ offer_at c c2 peer e e2 d now Dropped there same offers waiting lost notices n e
     ap (λ x. elim x as (λ y. Offering) [ None ↦ no | Some l ↦ if takes l.link then yes else no ]) f.with ∙ ap (λ b. if b then yes else no) (offers.0 f.link.link f.stands.link) in
     let one : (k : Callsign) → e.route.peer ≡ k → LinkStands c.own k e2 f.link = λ k q.
     record {
-      own = ap (λ (r : Route). r.own) same.route ∙ f.stands.own;
-      peer = ap (λ (r : Route). r.peer) same.route ∙ q;
+      own = ap (λ (r : LinkRoute). r.own) same.route ∙ f.stands.own;
+      peer = ap (λ (r : LinkRoute). r.peer) same.route ∙ q;
       is = f.stands.is ∙ sym f.stands.peer ∙ q;
-      path = f.stands.path ∙ sym (ap (λ (r : Route). r.path) same.route);
+      path = f.stands.path ∙ sym (ap (λ (r : LinkRoute). r.path) same.route);
       link = subst (λ m. StandsFor m (held_of e2.link) f.link.link) (sym same.size) (subst (λ (h : LinkView). StandsFor (size_of e.link) h f.link.link) (sym offers.1) f.stands.link);
       joiner = f.stands.joiner ∙ sym same.joiner;
       within = subst IsWithin (sym same.joiner) f.stands.within;
     } in
     let links : LinksStand c.own (set_value (same_call peer) c.links.entries e2) t.links =
     subst (λ ls. LinksStand c.own (set_value (same_call peer) c.links.entries e2) ls) (with_same peer t.links f.link f.with)
-    (set c.own peer c.links.entries t.links e2 f.link s.links (λ e3 q g. let a : e3 ≡ e = cc (sym q ∙ there) in one g.key (subst (λ (y : Entry). y.route.peer ≡ g.key) a g.stands.peer))) in
+    (set c.own peer c.links.entries t.links e2 f.link s.links (λ e3 q g. let a : e3 ≡ e = cc (sym q ∙ there) in one g.key (subst (λ (y : LinkEntry). y.route.peer ≡ g.key) a g.stands.peer))) in
     subst (λ (o : Offering). (Dropped ≡ o.answer) × CoreStands c2 o.table) (sym is) (
       refl,
       record {
@@ -190,7 +190,7 @@ unchanged c c2 n entries pending t s =
       pending = rw pending s.pending;
     }
 
-pub same_length : (own : Callsign) (es : List (Callsign × Entry)) (ls : List Linked) → LinksStand own es ls → length es ≡ length ls
+pub same_length : (own : Callsign) (es : List (Callsign × LinkEntry)) (ls : List Linked) → LinksStand own es ls → length es ≡ length ls
 same_length own [] [] s = refl
 same_length own [] (l ∷ ls) s = absurd s
 same_length own (e ∷ es) [] s = absurd s
@@ -206,11 +206,11 @@ opens c c2 c3 to path now e first next t s =
     (subst (λ (p : ArrayVec Address). CoreStands c3 (at_link to (step_link t.own Set_up now) (made to (width c.wide) p t))) over
     (next (made to (width c.wide) path t) (first t s)))
 
-pub some_looks : (x : Option Entry) → is_some x ≡ false → x ≡ None
+pub some_looks : (x : Option LinkEntry) → is_some x ≡ false → x ≡ None
 some_looks None e = refl
 some_looks (Some y) e = absurd (cc e)
 
-pub entry_looks : (x : Option Entry) → is_some x ≡ true → (e : Entry) × (x ≡ Some e)
+pub entry_looks : (x : Option LinkEntry) → is_some x ≡ true → (e : LinkEntry) × (x ≡ Some e)
 entry_looks None e = absurd (cc e)
 entry_looks (Some y) e = (y, refl)
 
@@ -270,7 +270,7 @@ offers_without c c2 to d now e goes t s =
 
 -- ---- a link ends without a frame
 
-removed_absent : (peer : Callsign) (es : List (Callsign × Entry)) → lookup (same_call peer) es ≡ None → remove_entry (same_call peer) es ≡ es
+removed_absent : (peer : Callsign) (es : List (Callsign × LinkEntry)) → lookup (same_call peer) es ≡ None → remove_entry (same_call peer) es ≡ es
 removed_absent peer [] q = refl
 removed_absent peer (x ∷ es) q = by (same_call peer x.0) q (λ r. removed_absent peer es r)
   where
@@ -320,7 +320,7 @@ ends_none c c2 peer ns b e f n entries pending t s =
 
 -- ---- a frame to the link with its source
 
-pub sized : (f : AirFrame) (now : ℕ) (e e2 : Entry) (k k2 : Pending) → EntryGoes (arrive_at_link e.route.own (link_frame (size_of e.link) f) now) e e2 k k2 →
+pub sized : (f : AirFrame) (now : ℕ) (e e2 : LinkEntry) (k k2 : Pending) → EntryGoes (arrive_at_link e.route.own (link_frame (size_of e.link) f) now) e e2 k k2 →
     EntryGoes (λ w. arrive_at_link e.route.own (link_frame w.linked.link.rules.size f) now w) e e2 k k2
 sized f now e e2 k k2 g =
     record {

@@ -3,13 +3,13 @@ use Rattle.std.proofs.Common.{◌≡◌, ℕ, suc, ◌≤◌, ◌<◌, Bool, tru
 use Rattle.std.specs.Map.{keys_of, lookup, set_value, remove_entry}
 use Rattle.ax_address.specs.Callsign.{Callsign, same_call}
 use Rattle.ax_link.specs.Opening.{opening, rules_new}
-use Rattle.link_table.specs.declared.entry.Entry.{Entry}
+use Rattle.link_table.specs.declared.entry.LinkEntry.{LinkEntry}
 use Rattle.link_table.specs.declared.held_links.HeldLinks.{HeldLinks}
 use Rattle.link_table.specs.declared.pending.Pending.{Pending}
 use Rattle.link_table.specs.Table.{PendingStands, Linked, Table, link_with, with_link, without}
 use Rattle.link_table.specs.Calls.{at_link, made, keep, most_links, tick, tick_each}
 use Rattle.ax_segment.specs.Joining.{Nothing, IsWithin}
-use Rattle.link_table.specs.declared.route.Route.{Route}
+use Rattle.link_table.specs.declared.route.LinkRoute.{LinkRoute}
 use Rattle.ax_link.specs.State.{State}
 use Rattle.ax_link.specs.Table.{Tick}
 use Rattle.ax_link.specs.Standing.{IsDrained, StandsFor}
@@ -18,25 +18,25 @@ use Rattle.link_table.specs.Works.{Work, is_down, step_link}
 
 module _ (own peer : Callsign) where
   -- the link that the map has stands for the one that the table has
-  pub record Found (e : Entry) (ls : List Linked) : Type 0 where
+  pub record Found (e : LinkEntry) (ls : List Linked) : Type 0 where
     pub key : Callsign
     pub link : Linked
     pub with : link_with peer ls ≡ Some link
     pub stands : LinkStands own key e link
 
-  found_by : (b : Bool) (k : Callsign) (x e : Entry) (es : List (Callsign × Entry)) (l : Linked) (ls : List Linked) → same_call peer k ≡ b →
+  found_by : (b : Bool) (k : Callsign) (x e : LinkEntry) (es : List (Callsign × LinkEntry)) (l : Linked) (ls : List Linked) → same_call peer k ≡ b →
       LinkStands own k x l → (lookup (same_call peer) es ≡ Some e → Found e ls) → cond b (Some x) (lookup (same_call peer) es) ≡ Some e → Found e (l ∷ ls)
   found_by true k x e es l ls t s rest q =
-      record { key = k; link = l; with = rw (s.is, t) refl; stands = let same : x ≡ e = cc q in subst (λ (y : Entry). LinkStands own k y l) same s }
+      record { key = k; link = l; with = rw (s.is, t) refl; stands = let same : x ≡ e = cc q in subst (λ (y : LinkEntry). LinkStands own k y l) same s }
   found_by false k x e es l ls t s rest q =
       let f = rest q in record { key = f.key; link = f.link; with = rw (s.is, t) f.with; stands = f.stands }
 
-  pub found : (es : List (Callsign × Entry)) (ls : List Linked) (e : Entry) → LinksStand own es ls → lookup (same_call peer) es ≡ Some e → Found e ls
+  pub found : (es : List (Callsign × LinkEntry)) (ls : List Linked) (e : LinkEntry) → LinksStand own es ls → lookup (same_call peer) es ≡ Some e → Found e ls
   found [] ls e s q = absurd (cc q)
   found (x ∷ es) [] e s q = absurd s
   found (x ∷ es) (l ∷ ls) e s q = found_by (same_call peer x.0) x.0 x.1 e es l ls refl s.0 (found es ls e s.1) q
 
-  pub none_found : (es : List (Callsign × Entry)) (ls : List Linked) → LinksStand own es ls → lookup (same_call peer) es ≡ None → link_with peer ls ≡ None
+  pub none_found : (es : List (Callsign × LinkEntry)) (ls : List Linked) → LinksStand own es ls → lookup (same_call peer) es ≡ None → link_with peer ls ≡ None
   none_found [] [] s q = refl
   none_found [] (l ∷ ls) s q = absurd s
   none_found (x ∷ es) [] s q = absurd s
@@ -48,8 +48,8 @@ module _ (own peer : Callsign) where
       by false r rest = rest r
 
   -- another entry and another link in the place of those with the peer
-  pub set : (es : List (Callsign × Entry)) (ls : List Linked) (e2 : Entry) (l2 : Linked) → LinksStand own es ls →
-      ((e : Entry) → lookup (same_call peer) es ≡ Some e → (f : Found e ls) → LinkStands own f.key e2 l2) →
+  pub set : (es : List (Callsign × LinkEntry)) (ls : List Linked) (e2 : LinkEntry) (l2 : Linked) → LinksStand own es ls →
+      ((e : LinkEntry) → lookup (same_call peer) es ≡ Some e → (f : Found e ls) → LinkStands own f.key e2 l2) →
       LinksStand own (set_value (same_call peer) es e2) (with_link peer l2 ls)
   set [] [] e2 l2 s h = tt
   set [] (l ∷ ls) e2 l2 s h = absurd s
@@ -59,12 +59,12 @@ module _ (own peer : Callsign) where
       (by (same_call peer x.0) refl (λ g. set es ls e2 l2 s.1 g))
     where
       by : (b : Bool) → same_call peer x.0 ≡ b →
-          (((e : Entry) → lookup (same_call peer) es ≡ Some e → (f : Found e ls) → LinkStands own f.key e2 l2) → LinksStand own (set_value (same_call peer) es e2) (with_link peer l2 ls)) →
+          (((e : LinkEntry) → lookup (same_call peer) es ≡ Some e → (f : Found e ls) → LinkStands own f.key e2 l2) → LinksStand own (set_value (same_call peer) es e2) (with_link peer l2 ls)) →
           LinksStand own (cond b ((x.0, e2) ∷ es) (x ∷ set_value (same_call peer) es e2)) (if b then l2 ∷ ls else l ∷ with_link peer l2 ls)
       by true t rest = (h x.1 (rw t refl) (record { key = x.0; link = l; with = rw (s.0.is, t) refl; stands = s.0 }), s.1)
       by false t rest = (s.0, rest (λ e q f. h e (rw t q) (record { key = f.key; link = f.link; with = rw (s.0.is, t) f.with; stands = f.stands })))
 
-  pub removed : (es : List (Callsign × Entry)) (ls : List Linked) → LinksStand own es ls → LinksStand own (remove_entry (same_call peer) es) (without peer ls)
+  pub removed : (es : List (Callsign × LinkEntry)) (ls : List Linked) → LinksStand own es ls → LinksStand own (remove_entry (same_call peer) es) (without peer ls)
   removed [] [] s = tt
   removed [] (l ∷ ls) s = absurd s
   removed (x ∷ es) [] s = absurd s
@@ -78,7 +78,7 @@ module _ (own peer : Callsign) where
       by false rest = (s.0, rest)
 
 module _ (peer : Callsign) where
-  pub removed_set : (es : List (Callsign × Entry)) (w : Entry) → remove_entry (same_call peer) (set_value (same_call peer) es w) ≡ remove_entry (same_call peer) es
+  pub removed_set : (es : List (Callsign × LinkEntry)) (w : LinkEntry) → remove_entry (same_call peer) (set_value (same_call peer) es w) ≡ remove_entry (same_call peer) es
   removed_set [] w = refl
   removed_set (x ∷ es) w = by (same_call peer x.0) refl (removed_set es w)
     where
@@ -87,7 +87,7 @@ module _ (peer : Callsign) where
       by true t rest = ap (λ c. cond c es ((x.0, w) ∷ remove_entry (same_call peer) es)) t
       by false t rest = ap (λ c. cond c (set_value (same_call peer) es w) (x ∷ remove_entry (same_call peer) (set_value (same_call peer) es w))) t ∙ ap (λ ys. x ∷ ys) rest
 
-  pub lookup_set : (es : List (Callsign × Entry)) (e w : Entry) → lookup (same_call peer) es ≡ Some e → lookup (same_call peer) (set_value (same_call peer) es w) ≡ Some w
+  pub lookup_set : (es : List (Callsign × LinkEntry)) (e w : LinkEntry) → lookup (same_call peer) es ≡ Some e → lookup (same_call peer) (set_value (same_call peer) es w) ≡ Some w
   lookup_set [] e w q = absurd (cc q)
   lookup_set (x ∷ es) e w q = by (same_call peer x.0) refl (λ r. lookup_set es e w r)
     where
@@ -96,10 +96,10 @@ module _ (peer : Callsign) where
       by true t rest = rw t refl
       by false t rest = rw t (rest (rw t at q))
 
-  pub down_set : (es : List (Callsign × Entry)) (e w : Entry) → lookup (same_call peer) es ≡ Some e → down_at peer (set_value (same_call peer) es w) ≡ is_down (held_of w.link).phase
+  pub down_set : (es : List (Callsign × LinkEntry)) (e w : LinkEntry) → lookup (same_call peer) es ≡ Some e → down_at peer (set_value (same_call peer) es w) ≡ is_down (held_of w.link).phase
   down_set es e w q = ap down_by (lookup_set es e w q)
 
-  pub drained_set : (es : List (Callsign × Entry)) (w : Entry) → AllDrained es → IsDrained (held_of w.link) → AllDrained (set_value (same_call peer) es w)
+  pub drained_set : (es : List (Callsign × LinkEntry)) (w : LinkEntry) → AllDrained es → IsDrained (held_of w.link) → AllDrained (set_value (same_call peer) es w)
   drained_set [] w a d = tt
   drained_set (x ∷ es) w a d = by (same_call peer x.0) (drained_set es w a.1 d)
     where
@@ -107,7 +107,7 @@ module _ (peer : Callsign) where
       by true rest = (d, a.1)
       by false rest = (a.0, rest)
 
-  pub drained_removed : (es : List (Callsign × Entry)) → AllDrained es → AllDrained (remove_entry (same_call peer) es)
+  pub drained_removed : (es : List (Callsign × LinkEntry)) → AllDrained es → AllDrained (remove_entry (same_call peer) es)
   drained_removed [] a = tt
   drained_removed (x ∷ es) a = by (same_call peer x.0) (drained_removed es a.1)
     where
@@ -115,15 +115,15 @@ module _ (peer : Callsign) where
       by true rest = a.1
       by false rest = (a.0, rest)
 
-  pub drained_at : (es : List (Callsign × Entry)) (e : Entry) → AllDrained es → lookup (same_call peer) es ≡ Some e → IsDrained (held_of e.link)
+  pub drained_at : (es : List (Callsign × LinkEntry)) (e : LinkEntry) → AllDrained es → lookup (same_call peer) es ≡ Some e → IsDrained (held_of e.link)
   drained_at [] e a q = absurd (cc q)
   drained_at (x ∷ es) e a q = by (same_call peer x.0) q (λ r. drained_at es e a.1 r)
     where
       by : (b : Bool) → cond b (Some x.1) (lookup (same_call peer) es) ≡ Some e → (lookup (same_call peer) es ≡ Some e → IsDrained (held_of e.link)) → IsDrained (held_of e.link)
-      by true r rest = let same : x.1 ≡ e = cc r in subst (λ (y : Entry). IsDrained (held_of y.link)) same a.0
+      by true r rest = let same : x.1 ≡ e = cc r in subst (λ (y : LinkEntry). IsDrained (held_of y.link)) same a.0
       by false r rest = rest r
 
-  pub few_set : (es : List (Callsign × Entry)) (w : Entry) → length (set_value (same_call peer) es w) ≡ length es
+  pub few_set : (es : List (Callsign × LinkEntry)) (w : LinkEntry) → length (set_value (same_call peer) es w) ≡ length es
   few_set [] w = refl
   few_set (x ∷ es) w = by (same_call peer x.0) (few_set es w)
     where
@@ -131,7 +131,7 @@ module _ (peer : Callsign) where
       by true rest = refl
       by false rest = ap suc rest
 
-  pub few_removed : (es : List (Callsign × Entry)) → length (remove_entry (same_call peer) es) ≤ length es
+  pub few_removed : (es : List (Callsign × LinkEntry)) → length (remove_entry (same_call peer) es) ≤ length es
   few_removed [] = omega arith
   few_removed (x ∷ es) = by (same_call peer x.0) (few_removed es)
     where
@@ -165,7 +165,7 @@ at_no_link c c2 peer part none n entries pending t s =
     })
 
 -- a link that has gone on, in the table
-pub at_link_stands : (c c2 : HeldLinks) (peer : Callsign) (e e2 : Entry) (kept2 : Pending) (part : Callsign → Work → Work) →
+pub at_link_stands : (c c2 : HeldLinks) (peer : Callsign) (e e2 : LinkEntry) (kept2 : Pending) (part : Callsign → Work → Work) →
     lookup (same_call peer) c.links.entries ≡ Some e → EntryGoes (part e.route.own) e e2 c.pending kept2 → c2.pending ≡ kept2 →
     SameNode c c2 →
     c2.links.entries ≡ drop_if_down peer (set_value (same_call peer) c.links.entries e2) →
@@ -176,10 +176,10 @@ at_link_stands c c2 peer e e2 kept2 part there goes same_pending n entries t s =
     let w2 : Work = part t.own w in
     let stands : EntryStands e c.pending w = record { peer = f.stands.is ∙ sym f.stands.peer; path = f.stands.path; link = f.stands.link; joiner = f.stands.joiner; within = f.stands.within; pending = s.pending } in
     let after : EntryStands e2 kept2 w2 = subst (λ o. EntryStands e2 kept2 (part o w)) (f.stands.own ∙ sym s.own) (goes.goes w stands) in
-    let same_peer : e2.route.peer ≡ e.route.peer = ap (λ (r : Route). r.peer) goes.route in
+    let same_peer : e2.route.peer ≡ e.route.peer = ap (λ (r : LinkRoute). r.peer) goes.route in
     let one : (k : Callsign) → e.route.peer ≡ k → LinkStands c.own k e2 w2.linked = λ k q.
     record {
-      own = ap (λ (r : Route). r.own) goes.route ∙ f.stands.own;
+      own = ap (λ (r : LinkRoute). r.own) goes.route ∙ f.stands.own;
       peer = same_peer ∙ q;
       is = after.peer ∙ same_peer ∙ q;
       path = after.path;
@@ -188,7 +188,7 @@ at_link_stands c c2 peer e e2 kept2 part there goes same_pending n entries t s =
       within = after.within;
     } in
     let links : LinksStand c.own (set_value (same_call peer) c.links.entries e2) (with_link peer w2.linked t.links) =
-    set c.own peer c.links.entries t.links e2 w2.linked s.links (λ e3 q g. let same : e3 ≡ e = cc (sym q ∙ there) in one g.key (subst (λ (y : Entry). y.route.peer ≡ g.key) same g.stands.peer)) in
+    set c.own peer c.links.entries t.links e2 w2.linked s.links (λ e3 q g. let same : e3 ≡ e = cc (sym q ∙ there) in one g.key (subst (λ (y : LinkEntry). y.route.peer ≡ g.key) same g.stands.peer)) in
     let phase : is_down w2.linked.link.phase ≡ is_down (held_of e2.link).phase = ap (λ (x : State). is_down x.phase) after.link.keeps.is in
     subst (CoreStands c2)
     (sym (ap (λ x. elim x as (λ y. Table) [ None ↦ t | Some l ↦ keep peer (part t.own (record { linked = l; pending = t.pending })) t ]) f.with))
@@ -209,21 +209,21 @@ at_link_stands c c2 peer e e2 kept2 part there goes same_pending n entries t s =
     by w2 links false = links
 
 -- and nothing waits at any link
-pub rests_at : (c c2 : HeldLinks) (peer : Callsign) (e2 : Entry) → Rests c → IsDrained (held_of e2.link) →
+pub rests_at : (c c2 : HeldLinks) (peer : Callsign) (e2 : LinkEntry) → Rests c → IsDrained (held_of e2.link) →
     c2.links.entries ≡ drop_if_down peer (set_value (same_call peer) c.links.entries e2) → Rests c2
 rests_at c c2 peer e2 r d entries =
-    let es : List (Callsign × Entry) = set_value (same_call peer) c.links.entries e2 in
+    let es : List (Callsign × LinkEntry) = set_value (same_call peer) c.links.entries e2 in
     let x = left_rests es (down_at peer es) (drained_set peer c.links.entries e2 r.drained d) (subst (λ n. n ≤ most_links) (sym (few_set peer c.links.entries e2)) r.few) in
     record { drained = subst AllDrained (sym entries) x.0; few = subst (λ ys. length ys ≤ most_links) (sym entries) x.1 }
   where
-    left_rests : (es : List (Callsign × Entry)) (b : Bool) → AllDrained es → length es ≤ most_links →
+    left_rests : (es : List (Callsign × LinkEntry)) (b : Bool) → AllDrained es → length es ≤ most_links →
         AllDrained (if b then remove_entry (same_call peer) es else es) × (length (if b then remove_entry (same_call peer) es else es) ≤ most_links)
     left_rests es true a l = (drained_removed peer es a, omega (arith, l, few_removed peer es))
     left_rests es false a l = (a, l)
 
 -- ---- each link in its turn
 
-keys_stand : (own : Callsign) (es : List (Callsign × Entry)) (ls : List Linked) → LinksStand own es ls → keys_of es ≡ map (λ l. l.peer) ls
+keys_stand : (own : Callsign) (es : List (Callsign × LinkEntry)) (ls : List Linked) → LinksStand own es ls → keys_of es ≡ map (λ l. l.peer) ls
 keys_stand own [] [] s = refl
 keys_stand own [] (l ∷ ls) s = absurd s
 keys_stand own (e ∷ es) [] s = absurd s
@@ -248,22 +248,22 @@ ticks_end ps now old new e left t s =
 
 -- ---- one link more
 
-pub appended : (own : Callsign) (es : List (Callsign × Entry)) (ls : List Linked) (k : Callsign) (e : Entry) (l : Linked) → LinksStand own es ls → LinkStands own k e l →
+pub appended : (own : Callsign) (es : List (Callsign × LinkEntry)) (ls : List Linked) (k : Callsign) (e : LinkEntry) (l : Linked) → LinksStand own es ls → LinkStands own k e l →
     LinksStand own (es ++ (k, e) ∷ []) (ls ++ l ∷ [])
 appended own [] [] k e l s x = (x, tt)
 appended own [] (m ∷ ls) k e l s x = absurd s
 appended own (y ∷ es) [] k e l s x = absurd s
 appended own (y ∷ es) (m ∷ ls) k e l s x = (s.0, appended own es ls k e l s.1 x)
 
-pub drained_appended : (es : List (Callsign × Entry)) (k : Callsign) (e : Entry) → AllDrained es → IsDrained (held_of e.link) → AllDrained (es ++ (k, e) ∷ [])
+pub drained_appended : (es : List (Callsign × LinkEntry)) (k : Callsign) (e : LinkEntry) → AllDrained es → IsDrained (held_of e.link) → AllDrained (es ++ (k, e) ∷ [])
 drained_appended [] k e a d = (d, tt)
 drained_appended (y ∷ es) k e a d = (a.0, drained_appended es k e a.1 d)
 
-length_appended : (es : List (Callsign × Entry)) (x : Callsign × Entry) → length (es ++ x ∷ []) ≡ suc (length es)
+length_appended : (es : List (Callsign × LinkEntry)) (x : Callsign × LinkEntry) → length (es ++ x ∷ []) ≡ suc (length es)
 length_appended [] x = refl
 length_appended (y ∷ es) x = ap suc (length_appended es x)
 
-pub rests_more : (c c2 : HeldLinks) (k : Callsign) (e : Entry) → Rests c → length c.links.entries < most_links → IsDrained (held_of e.link) →
+pub rests_more : (c c2 : HeldLinks) (k : Callsign) (e : LinkEntry) → Rests c → length c.links.entries < most_links → IsDrained (held_of e.link) →
     c2.links.entries ≡ c.links.entries ++ (k, e) ∷ [] → Rests c2
 rests_more c c2 k e r l d q =
     record {
@@ -271,7 +271,7 @@ rests_more c c2 k e r l d q =
       few = subst (λ xs. length xs ≤ most_links) (sym q) (subst (λ n. n ≤ most_links) (sym (length_appended c.links.entries (k, e))) l);
     }
 
-pub made_stands : (c c2 : HeldLinks) (size : ℕ) (e : Entry) (route : Route) → SameNode c c2 → c2.pending ≡ c.pending →
+pub made_stands : (c c2 : HeldLinks) (size : ℕ) (e : LinkEntry) (route : LinkRoute) → SameNode c c2 → c2.pending ≡ c.pending →
     c2.links.entries ≡ c.links.entries ++ (route.peer, e) ∷ [] → route.own ≡ c.own → e.route ≡ route → e.joiner ≡ Nothing → size_of e.link ≡ size →
     StandsFor size (held_of e.link) (opening (rules_new size c.config)) → CoreGoes (made route.peer size route.path) c c2
 made_stands c c2 size e route n pending entries own same joiner width_is link t s =
@@ -281,10 +281,10 @@ made_stands c c2 size e route n pending entries own same joiner width_is link t 
       size = s.size ∙ ap width (sym n.wide);
       config = s.config ∙ sym n.config;
       links = rw (n.own, entries) (appended c.own c.links.entries t.links route.peer e _ s.links (record {
-        own = ap (λ (r : Route). r.own) same ∙ own;
-        peer = ap (λ (r : Route). r.peer) same;
+        own = ap (λ (r : LinkRoute). r.own) same ∙ own;
+        peer = ap (λ (r : LinkRoute). r.peer) same;
         is = refl;
-        path = sym (ap (λ (r : Route). r.path) same);
+        path = sym (ap (λ (r : LinkRoute). r.path) same);
         link = rw (s.config, width_is) link;
         joiner = sym joiner;
         within = subst IsWithin (sym joiner) tt;

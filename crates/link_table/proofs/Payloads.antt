@@ -12,7 +12,7 @@ use Rattle.ax_link.specs.Table.{Send, Set_up, Take, may_close, step, takes}
 use Rattle.ax_segment.specs.Joining.{Nothing}
 use Rattle.l3_datagram.specs.Datagrams.{Datagram}
 use Rattle.l3_datagram.specs.declared.carrier.Offered.TheVariants.{Taken, Dropped}
-use Rattle.link_table.specs.declared.entry.Entry.{Entry}
+use Rattle.link_table.specs.declared.entry.LinkEntry.{LinkEntry}
 use Rattle.link_table.specs.Calls as calls
 use Rattle.link_table.specs.Kept.{CountsPayloads, Leaves, OffersLeave, TakesLower, all_payloads, entry_payloads, filled, link_payloads, payloads}
 use Rattle.link_table.specs.Standing.{LinksStand}
@@ -200,7 +200,7 @@ offers_leave to d now t = offer_by to d now t t.by_links
 
 -- ---- what the code keeps has as many
 
-stand_same : (own : Callsign) (es : List (Callsign × Entry)) (ls : List Linked) → LinksStand own es ls → entry_payloads es ≡ all_payloads ls
+stand_same : (own : Callsign) (es : List (Callsign × LinkEntry)) (ls : List Linked) → LinksStand own es ls → entry_payloads es ≡ all_payloads ls
 stand_same own [] [] s = refl
 stand_same own (e ∷ es) (l ∷ ls) s =
     let same = ap link_payloads s.0.link.keeps.is in

@@ -13,9 +13,9 @@ use Rattle.ax_link.specs.Table.{Send, may_close, step, takes}
 use Rattle.ax_segment.specs.Segments.{counted_down, segments_of, with_first}
 use Rattle.ax_segment.specs.Segments as segments
 use Rattle.ax_segment.specs.declared.TheConstants.{FULL_PIECE}
-use Rattle.link_table.specs.declared.entry.Entry.{Entry}
+use Rattle.link_table.specs.declared.entry.LinkEntry.{LinkEntry}
 use Rattle.link_table.specs.declared.pending.Pending.{Pending}
-use Rattle.link_table.specs.declared.route.Route.{Route}
+use Rattle.link_table.specs.declared.route.LinkRoute.{LinkRoute}
 use Rattle.link_table.specs.declared.text_refusal.TextRefusal.{TextRefusal}
 use Rattle.link_table.specs.declared.text_refusal.TextRefusal.TheVariants.{NoLink, TooLong, Full}
 use Rattle.link_table.specs.Frames.{plain_text, segmented}
@@ -29,17 +29,17 @@ use Rattle.link_table.proofs.Links.{Found, found, none_found}
 use Rattle.link_table.proofs.TextLifting.{room_stands}
 
 -- ---- so many payloads are still to be given
-pub record ToGive (all left : List Payload) (now : ℕ) (old new : Entry) (k k2 : Pending) : Type 0 where
+pub record ToGive (all left : List Payload) (now : ℕ) (old new : LinkEntry) (k k2 : Pending) : Type 0 where
   pub route : new.route ≡ old.route
   pub size : size_of new.link ≡ size_of old.link
   pub to_give : (w : Work) → EntryStands old k w →
       (w2 : Work) × EntryStands new k2 w2 × (sending.send_each old.route.own left now w2 ≡ sending.send_each old.route.own all now w)
 
-pub to_give_all : (all : List Payload) (now : ℕ) (e : Entry) (k : Pending) → ToGive all all now e e k k
+pub to_give_all : (all : List Payload) (now : ℕ) (e : LinkEntry) (k : Pending) → ToGive all all now e e k k
 to_give_all all now e k = record { route = refl; size = refl; to_give = λ w s. (w, s, refl) }
 
 -- the payload that is given is the first of those that are left
-pub given_first : (all left rest : List Payload) (p : Payload) (now : ℕ) (old mid new : Entry) (k k2 k3 : Pending) → left ≡ p ∷ rest →
+pub given_first : (all left rest : List Payload) (p : Payload) (now : ℕ) (old mid new : LinkEntry) (k k2 k3 : Pending) → left ≡ p ∷ rest →
     ToGive all left now old mid k k2 → EntryGoes (step_link mid.route.own (Send p) now) mid new k2 k3 → ToGive all rest now old new k k3
 given_first all left rest p now old mid new k k2 k3 first so_far goes =
     record {
@@ -49,7 +49,7 @@ given_first all left rest p now old mid new k k2 k3 first so_far goes =
           let own : Callsign = old.route.own in
           let r = so_far.to_give w s in (
             step_link own (Send p) now r.0,
-            subst (λ (x : Route). EntryStands new k3 (step_link x.own (Send p) now r.0)) so_far.route (goes.goes r.0 r.1),
+            subst (λ (x : LinkRoute). EntryStands new k3 (step_link x.own (Send p) now r.0)) so_far.route (goes.goes r.0 r.1),
             subst (λ (ps : List Payload). sending.send_each own ps now r.0 ≡ sending.send_each own all now w) first r.2,
           );
     }
@@ -59,7 +59,7 @@ pub segment_first : (p : Payload) (infos rest : List (List ℕ)) → p.pid ≡ s
 segment_first p infos rest pid first =
     ap (sending.payloads segmented) first ∙ ap (λ (n : ℕ). record { pid = n; info = p.info } ∷ sending.payloads segmented rest) (sym pid)
 
-pub all_given : (all : List Payload) (now : ℕ) (old new : Entry) (k k2 : Pending) → ToGive all [] now old new k k2 → EntryGoes (sending.send_each old.route.own all now) old new k k2
+pub all_given : (all : List Payload) (now : ℕ) (old new : LinkEntry) (k k2 : Pending) → ToGive all [] now old new k k2 → EntryGoes (sending.send_each old.route.own all now) old new k k2
 all_given all now old new k k2 given =
     record {
       route = given.route;
@@ -148,7 +148,7 @@ length_segments pid text =
     omega (arith, e, f)
 
 -- ---- by the modulus of the link
-pub of_link : (text : List ℕ) (ps : List Payload) (now : ℕ) (old new : Entry) (k k2 : Pending) → sending.payloads_of (size_of old.link) text ≡ ps →
+pub of_link : (text : List ℕ) (ps : List Payload) (now : ℕ) (old new : LinkEntry) (k k2 : Pending) → sending.payloads_of (size_of old.link) text ≡ ps →
     EntryGoes (sending.send_each old.route.own ps now) old new k k2 → EntryGoes (sending.send_text_of old.route.own text now) old new k k2
 of_link text ps now old new k k2 e g =
     record {
@@ -183,7 +183,7 @@ segments_some b size text e q =
     omega (arith, more)
 
 -- ---- why a text isn't sent
-pub answer_same : (own peer : Callsign) (text : List ℕ) (es : List (Callsign × Entry)) (t : Table) → LinksStand own es t.links → answer_at peer text es ≡ sending.text_answer peer text t
+pub answer_same : (own peer : Callsign) (text : List ℕ) (es : List (Callsign × LinkEntry)) (t : Table) → LinksStand own es t.links → answer_at peer text es ≡ sending.text_answer peer text t
 answer_same own peer text es t s = by (lookup (same_call peer) es) refl
   where
     shape : Bool → ℕ → ℕ → Result (Unit {0}) TextRefusal
@@ -196,7 +196,7 @@ answer_same own peer text es t s = by (lookup (same_call peer) es) refl
     with_answer : Option Linked → Result (Unit {0}) TextRefusal
     with_answer x = elim x as (λ y. Result (Unit {0}) TextRefusal) [ None ↦ Err NoLink | Some l ↦ sending.answer_of text l.link ]
 
-    by : (x : Option Entry) → lookup (same_call peer) es ≡ x → answer_at peer text es ≡ sending.text_answer peer text t
+    by : (x : Option LinkEntry) → lookup (same_call peer) es ≡ x → answer_at peer text es ≡ sending.text_answer peer text t
     by None e = ap (answer_of_entry text) e ∙ sym (ap with_answer (none_found own peer es t.links s e))
     by (Some y) e =
         let f : Found own peer y t.links = found own peer es t.links y s e in

@@ -6,7 +6,7 @@ use Rattle.ax_address.specs.Callsign.{Callsign, same_call}
 use Rattle.ax_link.specs.State.{State}
 use Rattle.l3_datagram.specs.Datagrams.{Datagram, Offer}
 use Rattle.l3_datagram.specs.declared.carrier.Offered.{Offered}
-use Rattle.link_table.specs.declared.entry.Entry.{Entry}
+use Rattle.link_table.specs.declared.entry.LinkEntry.{LinkEntry}
 use Rattle.link_table.specs.Calls.{is_128, offer}
 use Rattle.link_table.proofs.Links.{Found, found, none_found}
 use Rattle.link_table.specs.declared.held_links.HeldLinks.{HeldLinks}
@@ -62,25 +62,25 @@ offers_if_ok (Err e) to d now old new before spent told offers = tt
 
 -- ---- what is lent, by what the map has
 
-pub lent : (own peer : Callsign) (es : List (Callsign × Entry)) (ls : List Linked) (e : Entry) → LinksStand own es ls → lookup (same_call peer) es ≡ Some e →
+pub lent : (own peer : Callsign) (es : List (Callsign × LinkEntry)) (ls : List Linked) (e : LinkEntry) → LinksStand own es ls → lookup (same_call peer) es ≡ Some e →
     LentStands (Some e.link) (link_with peer ls)
 lent own peer es ls e s q =
     let f : Found own peer e ls = found own peer es ls e s q in
     subst (λ x. LentStands (Some e.link) x) (sym f.with) f.stands.link
 
-pub lent_none : (own peer : Callsign) (es : List (Callsign × Entry)) (ls : List Linked) → LinksStand own es ls → lookup (same_call peer) es ≡ None → LentStands None (link_with peer ls)
+pub lent_none : (own peer : Callsign) (es : List (Callsign × LinkEntry)) (ls : List Linked) → LinksStand own es ls → lookup (same_call peer) es ≡ None → LentStands None (link_with peer ls)
 lent_none own peer es ls s q = subst (λ x. LentStands None x) (sym (none_found own peer es ls s q)) tt
 
 wide_128 : (b : Bool) → (width b == 128) ≡ b
 wide_128 true = refl
 wide_128 false = refl
 
-pub wide_is : (own peer : Callsign) (es : List (Callsign × Entry)) (t : Table) (e : Entry) (b : Bool) → LinksStand own es t.links → lookup (same_call peer) es ≡ Some e → width b ≡ size_of e.link →
+pub wide_is : (own peer : Callsign) (es : List (Callsign × LinkEntry)) (t : Table) (e : LinkEntry) (b : Bool) → LinksStand own es t.links → lookup (same_call peer) es ≡ Some e → width b ≡ size_of e.link →
     b ≡ is_128 peer t
 wide_is own peer es t e b s q w =
     let f : Found own peer e t.links = found own peer es t.links e s q in
     let size : f.link.link.rules.size ≡ width b = ap (λ (z : State). z.rules.size) f.stands.link.keeps.is ∙ sym w in
     sym (ap (λ z. elim z as (λ x. Bool) [ None ↦ false | Some l ↦ l.link.rules.size == 128 ]) f.with ∙ ap (λ n. n == 128) size ∙ wide_128 b)
 
-pub wide_none : (own peer : Callsign) (es : List (Callsign × Entry)) (t : Table) → LinksStand own es t.links → lookup (same_call peer) es ≡ None → false ≡ is_128 peer t
+pub wide_none : (own peer : Callsign) (es : List (Callsign × LinkEntry)) (t : Table) → LinksStand own es t.links → lookup (same_call peer) es ≡ None → false ≡ is_128 peer t
 wide_none own peer es t s q = sym (ap (λ z. elim z as (λ x. Bool) [ None ↦ false | Some l ↦ l.link.rules.size == 128 ]) (none_found own peer es t.links s q))

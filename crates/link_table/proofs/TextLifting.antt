@@ -9,10 +9,10 @@ use Rattle.ax_link.specs.Standing.{LinkView, StandsFor}
 use Rattle.ax_link.specs.State.{State, count_end}
 use Rattle.ax_link.specs.Table.{Take, may_close}
 use Rattle.ax_segment.specs.Joining.{HeldMessage as Joined, join_step, whole_of, IsWithin}
-use Rattle.link_table.specs.declared.entry.Entry.{Entry}
+use Rattle.link_table.specs.declared.entry.LinkEntry.{LinkEntry}
 use Rattle.link_table.specs.declared.held_links.HeldLinks.{HeldLinks}
 use Rattle.link_table.specs.declared.link_of.LinkOf.{LinkOf}
-use Rattle.link_table.specs.declared.route.Route.{Route}
+use Rattle.link_table.specs.declared.route.LinkRoute.{LinkRoute}
 use Rattle.link_table.specs.declared.pending.Pending.{Pending}
 use Rattle.link_table.specs.Frames.{netrom, plain_text, segmented}
 use Rattle.link_table.specs.Standing.{CoreGoes, CoreStands, EntryGoes, EntryStands, HandsUp, Lifted, LinkGoes, LinkStands, LinksStand, held_of, joined_with, room_at, room_in, room_of_entry, size_of, text_at, text_in, text_keys, text_of_entry}
@@ -44,7 +44,7 @@ was_text j p = by (is_text j p)
     by false q = absurd (cc q)
 
 -- the oldest payload is taken and handed out, and then what waited behind it is taken
-pub text_goes : (now : ℕ) (p : Payload) (old : Entry) (mid : LinkOf) (lifted handed new : Entry) (k k2 k3 : Pending) →
+pub text_goes : (now : ℕ) (p : Payload) (old : LinkEntry) (mid : LinkOf) (lifted handed new : LinkEntry) (k k2 k3 : Pending) →
     slice_get (held_of old.link).inbox 0 ≡ Some p → is_some (text_in old) ≡ true → LinkGoes Take now old.link mid → (held_of mid).notice ≡ None →
     Lifted (record old { link = mid }) lifted k k2 → handed ≡ record lifted { joiner = joined_with p lifted.joiner } → (IsWithin lifted.joiner → IsWithin handed.joiner) →
     EntryGoes (settle most_taken handed.route.own now) handed new k2 k3 → EntryGoes (texts.take_text_of old.route.own now) old new k k3
@@ -58,10 +58,10 @@ text_goes now p old mid lifted handed new k k2 k3 first waits done quiet l e wit
     is = ap (λ x. is_text x p) same ∙ was_text old.joiner p (ap (λ x. is_some (texts.first_text old.joiner x)) (sym first) ∙ waits)
 
     hand : HandsUp p lifted.route.peer lifted.joiner (joined_with p lifted.joiner) k2 k2
-    hand = text_handed lifted.route.peer p lifted.joiner k2 is (λ x. subst IsWithin (ap (λ (y : Entry). y.joiner) e) (within x))
+    hand = text_handed lifted.route.peer p lifted.joiner k2 is (λ x. subst IsWithin (ap (λ (y : LinkEntry). y.joiner) e) (within x))
 
     one : EntryGoes (take_payload old.route.own now p) old handed k k2
-    one = subst (λ (y : Entry). EntryGoes (take_payload old.route.own now p) old y k k2) (sym e)
+    one = subst (λ (y : LinkEntry). EntryGoes (take_payload old.route.own now p) old y k k2) (sym e)
         (follows (step_link old.route.own Take now) (hand_up p) old lifted (record lifted { joiner = joined_with p lifted.joiner }) k k2 k2 (lifts Take now old mid lifted k k2 done l)
         (hands p lifted (joined_with p lifted.joiner) k2 k2 hand))
 
@@ -70,7 +70,7 @@ text_goes now p old mid lifted handed new k k2 k3 first waits done quiet l e wit
         let there : slice_get w.linked.link.inbox 0 ≡ Some p = ap (λ (x : State). slice_get x.inbox 0) s.link.keeps.is ∙ first in
         subst (EntryStands new k3)
         (sym (ap (λ x. elim x as (λ y. Work) [ None ↦ w | Some q ↦ settle most_taken old.route.own now (take_payload old.route.own now q w) ]) there))
-        (subst (λ (x : Route). EntryStands new k3 (settle most_taken x.own now (take_payload old.route.own now p w))) one.route
+        (subst (λ (x : LinkRoute). EntryStands new k3 (settle most_taken x.own now (take_payload old.route.own now p w))) one.route
         (more.goes (take_payload old.route.own now p w) (one.goes w s)))
 
 -- ---- what waits at a link, as the map and as the table have it
@@ -78,10 +78,10 @@ text_goes now p old mid lifted handed new k k2 k3 first waits done quiet l e wit
 abbrev with_text : Option Linked → Option (List ℕ)
 with_text x = elim x as (λ y. Option (List ℕ)) [ None ↦ None | Some l ↦ texts.text_at l ]
 
-pub text_same : (own peer : Callsign) (es : List (Callsign × Entry)) (t : Table) → LinksStand own es t.links → texts.text_with peer t ≡ text_at peer es
+pub text_same : (own peer : Callsign) (es : List (Callsign × LinkEntry)) (t : Table) → LinksStand own es t.links → texts.text_with peer t ≡ text_at peer es
 text_same own peer es t s = by (lookup (same_call peer) es) refl
   where
-    by : (x : Option Entry) → lookup (same_call peer) es ≡ x → texts.text_with peer t ≡ text_at peer es
+    by : (x : Option LinkEntry) → lookup (same_call peer) es ≡ x → texts.text_with peer t ≡ text_at peer es
     by None e = ap with_text (none_found own peer es t.links s e) ∙ sym (ap text_of_entry e)
     by (Some y) e =
         let f : Found own peer y t.links = found own peer es t.links y s e in
@@ -110,10 +110,10 @@ room_stands size h s st = ap texts.room_of st.keeps.is ∙ by (may_close h.phase
 abbrev with_room : Option Linked → ℕ
 with_room x = elim x as (λ y. ℕ) [ None ↦ 0 | Some l ↦ texts.room_of l.link ]
 
-pub room_same : (own peer : Callsign) (es : List (Callsign × Entry)) (t : Table) → LinksStand own es t.links → texts.room peer t ≡ room_at peer es
+pub room_same : (own peer : Callsign) (es : List (Callsign × LinkEntry)) (t : Table) → LinksStand own es t.links → texts.room peer t ≡ room_at peer es
 room_same own peer es t s = by (lookup (same_call peer) es) refl
   where
-    by : (x : Option Entry) → lookup (same_call peer) es ≡ x → texts.room peer t ≡ room_at peer es
+    by : (x : Option LinkEntry) → lookup (same_call peer) es ≡ x → texts.room peer t ≡ room_at peer es
     by None e = ap with_room (none_found own peer es t.links s e) ∙ sym (ap room_of_entry e)
     by (Some y) e =
         let f : Found own peer y t.links = found own peer es t.links y s e in
@@ -137,11 +137,11 @@ no_text (Some y) b e q = absurd (cc (sym q ∙ e))
 
 -- ---- where texts wait
 
-entry_text : (own key : Callsign) (e : Entry) (l : Linked) → LinkStands own key e l → texts.text_at l ≡ text_in e
+entry_text : (own key : Callsign) (e : LinkEntry) (l : Linked) → LinkStands own key e l → texts.text_at l ≡ text_in e
 entry_text own key e l s =
     ap (λ j. texts.first_text j (slice_get l.link.inbox 0)) s.joiner ∙ ap (λ (x : State). texts.first_text e.joiner (slice_get x.inbox 0)) s.link.keeps.is
 
-pub peers_same : (own : Callsign) (es : List (Callsign × Entry)) (ls : List Linked) → LinksStand own es ls → text_keys es ≡ texts.text_peers ls
+pub peers_same : (own : Callsign) (es : List (Callsign × LinkEntry)) (ls : List Linked) → LinksStand own es ls → text_keys es ≡ texts.text_peers ls
 peers_same own [] [] s = refl
 peers_same own [] (l ∷ ls) s = absurd s
 peers_same own (e ∷ es) [] s = absurd s
@@ -151,12 +151,12 @@ peers_same own (e ∷ es) (l ∷ ls) s =
     ∙ ap (λ ks. if is_some (texts.text_at l) then l.peer ∷ ks else ks) (peers_same own es ls s.1)
 
 -- the peers so far, and those among the entries to come
-pub entry_first : (es : List (Callsign × Entry)) (i : ℕ) (x : Callsign × Entry) → slice_get es i ≡ Some x → drop i es ≡ x ∷ drop (suc i) es
+pub entry_first : (es : List (Callsign × LinkEntry)) (i : ℕ) (x : Callsign × LinkEntry) → slice_get es i ≡ Some x → drop i es ≡ x ∷ drop (suc i) es
 entry_first [] i x e = absurd (cc e)
 entry_first (y ∷ es) zero x e = let same : y ≡ x = cc e in ap (λ z. z ∷ es) same
 entry_first (y ∷ es) (suc i) x e = entry_first es i x e
 
-pub one_more : (es : List (Callsign × Entry)) (i m : ℕ) (k : Callsign) (e : Entry) (ps ps2 all : List Callsign) → m ≡ suc i → slice_get es i ≡ Some (k, e) →
+pub one_more : (es : List (Callsign × LinkEntry)) (i m : ℕ) (k : Callsign) (e : LinkEntry) (ps ps2 all : List Callsign) → m ≡ suc i → slice_get es i ≡ Some (k, e) →
     ps2 ≡ (if is_some (text_in e) then ps ++ k ∷ [] else ps) → ps ++ text_keys (drop i es) ≡ all → ps2 ++ text_keys (drop m es) ≡ all
 one_more es i m k e ps ps2 all next q added so_far =
     ap (λ n. ps2 ++ text_keys (drop n es)) next ∙ ap (λ xs. xs ++ text_keys (drop (suc i) es)) added ∙ by (is_some (text_in e))
@@ -170,7 +170,7 @@ pub one_length : (b : Bool) (k : Callsign) (ps : List Callsign) (n : ℕ) → le
 one_length true k ps n l = let a : length (ps ++ k ∷ []) ≡ length ps + 1 = length-append ps (k ∷ []) in omega (arith, l, a)
 one_length false k ps n l = omega (arith, l)
 
-pub entry_at : (es : List (Callsign × Entry)) (i : ℕ) → i < length es → (x : Callsign × Entry) × (slice_get es i ≡ Some x)
+pub entry_at : (es : List (Callsign × LinkEntry)) (i : ℕ) → i < length es → (x : Callsign × LinkEntry) × (slice_get es i ≡ Some x)
 entry_at [] i l = absurd (omega (arith, l))
 entry_at (y ∷ es) zero l = (y, refl)
 entry_at (y ∷ es) (suc i) l = entry_at es i (omega (arith, l))

@@ -7,7 +7,7 @@ use Rattle.ax_link.specs.State.{State}
 use Rattle.ax_segment.specs.Joining as segment
 use Rattle.l3_datagram.specs.Datagrams.{Parcel, Datagram}
 use Rattle.radio_base.specs.declared.payload.Payload.{Payload}
-use Rattle.link_table.specs.declared.entry.Entry.{Entry}
+use Rattle.link_table.specs.declared.entry.LinkEntry.{LinkEntry}
 use Rattle.link_table.specs.Standing.{TableStands, TableView, held_of}
 use Rattle.link_table.specs.Table.{Table, Linked}
 use Rattle.link_table.specs.Calls.{offer}
@@ -16,10 +16,10 @@ use Rattle.link_table.specs.Texts.{take_text, text_with}
 -- Octets, and the most that there may be (this project's profile). Frames that wait to be fetched are left out.
 
 -- of one link: what the link keeps, and what is joined
-abbrev pub entry_kept : Entry → ℕ
+abbrev pub entry_kept : LinkEntry → ℕ
 entry_kept e = link.kept (held_of e.link) + segment.kept e.joiner
 
-abbrev pub links_kept : List (Callsign × Entry) → ℕ
+abbrev pub links_kept : List (Callsign × LinkEntry) → ℕ
 links_kept [] = 0
 links_kept (e ∷ es) = entry_kept e.1 + links_kept es
 
@@ -67,7 +67,7 @@ payloads t = all_payloads t.links
 abbrev pub held_payloads : LinkView → ℕ
 held_payloads h = length h.inbox + filled h.early
 
-abbrev pub entry_payloads : List (Callsign × Entry) → ℕ
+abbrev pub entry_payloads : List (Callsign × LinkEntry) → ℕ
 entry_payloads [] = 0
 entry_payloads (e ∷ es) = held_payloads (held_of e.1.link) + entry_payloads es
 

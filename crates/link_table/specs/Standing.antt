@@ -19,10 +19,10 @@ use Rattle.link_table.specs.declared.path_refusal.PathRefusal.{PathRefusal}
 use Rattle.link_table.specs.declared.path_refusal.PathRefusal.TheVariants.{TooLong, Full, NoMemory}
 use Rattle.link_table.specs.declared.text_refusal.TextRefusal.{TextRefusal}
 use Rattle.link_table.specs.declared.text_refusal.TextRefusal.TheVariants as TextRefusals
-use Rattle.link_table.specs.declared.route.Route.{Route}
+use Rattle.link_table.specs.declared.route.LinkRoute.{LinkRoute}
 use Rattle.link_table.specs.declared.pending.Pending.{Pending}
 use Rattle.link_table.specs.declared.written.Written.{Written}
-use Rattle.link_table.specs.declared.entry.Entry.{Entry}
+use Rattle.link_table.specs.declared.entry.LinkEntry.{LinkEntry}
 use Rattle.link_table.specs.declared.held_links.HeldLinks.{HeldLinks}
 use Rattle.link_table.specs.Calls.{collect, most_links, offer, tell_lost}
 use Rattle.std.proofs.Common.{refl, subst, sym}
@@ -46,7 +46,7 @@ pub record LinkGoes (i : Input) (now : ℕ) (old new : LinkOf) : Type 0 where
   pub does : (s : State) → StandsFor (size_of old) (held_of old) s → Stands (size_of old) (held_of new) (step s i now)
 
 -- an entry as it is kept: its link, over what its frames go, its joiner and what waits to be fetched
-pub record EntryStands (e : Entry) (keep : Pending) (w : Work) : Type 0 where
+pub record EntryStands (e : LinkEntry) (keep : Pending) (w : Work) : Type 0 where
   pub peer : w.linked.peer ≡ e.route.peer
   pub path : w.linked.path ≡ e.route.path
   pub link : StandsFor (size_of e.link) (held_of e.link) w.linked.link
@@ -55,17 +55,17 @@ pub record EntryStands (e : Entry) (keep : Pending) (w : Work) : Type 0 where
   pub pending : PendingStands keep w.pending
 
 -- what was kept of an entry goes over to what is kept as the work does; the entry stays at its route and modulus
-pub record EntryGoes (part : Work → Work) (old new : Entry) (keep kept2 : Pending) : Type 0 where
+pub record EntryGoes (part : Work → Work) (old new : LinkEntry) (keep kept2 : Pending) : Type 0 where
   pub route : new.route ≡ old.route
   pub size : size_of new.link ≡ size_of old.link
   pub goes : (w : Work) → EntryStands old keep w → EntryStands new kept2 (part w)
 
 -- the frames of a link have gone out
-abbrev pub gone_out : ℕ → Route → LinkView → List Written
+abbrev pub gone_out : ℕ → LinkRoute → LinkView → List Written
 gone_out size route h = map written (all_sent size route.own route.peer route.path (map (frame_of size) h.outs))
 
 -- what comes of a step of an entry's link, by what waited after it
-pub record Lifted (old new : Entry) (keep kept2 : Pending) : Type 0 where
+pub record Lifted (old new : LinkEntry) (keep kept2 : Pending) : Type 0 where
   pub route : new.route ≡ old.route
   pub size : size_of new.link ≡ size_of old.link
   pub link : held_of new.link ≡ record (held_of old.link) { outs = []; notice = None }
@@ -95,7 +95,7 @@ abbrev pub width : Bool → ℕ
 width wide = if wide then 128 else 8
 
 -- a link of the table
-pub record LinkStands (node key : Callsign) (e : Entry) (l : Linked) : Type 0 where
+pub record LinkStands (node key : Callsign) (e : LinkEntry) (l : Linked) : Type 0 where
   pub own : e.route.own ≡ node
   pub peer : e.route.peer ≡ key
   pub is : l.peer ≡ key
@@ -105,13 +105,13 @@ pub record LinkStands (node key : Callsign) (e : Entry) (l : Linked) : Type 0 wh
   pub within : IsWithin e.joiner
 
 -- link by link, in their order
-abbrev pub LinksStand : Callsign → List (Callsign × Entry) → List Linked → Type 0
+abbrev pub LinksStand : Callsign → List (Callsign × LinkEntry) → List Linked → Type 0
 LinksStand own [] [] = Unit {0}
 LinksStand own (e ∷ es) (l ∷ ls) = LinkStands own e.0 e.1 l × LinksStand own es ls
 LinksStand own _ _ = ⊥
 
 -- nothing waits at a link
-abbrev pub AllDrained : List (Callsign × Entry) → Type 0
+abbrev pub AllDrained : List (Callsign × LinkEntry) → Type 0
 AllDrained [] = Unit {0}
 AllDrained (e ∷ es) = IsDrained (held_of e.1.link) × AllDrained es
 
@@ -135,18 +135,18 @@ pub record Rests (c : HeldLinks) : Type 0 where
   pub few : length c.links.entries ≤ most_links
 
 -- the text that waits at a link
-abbrev pub text_in : Entry → Option (List ℕ)
+abbrev pub text_in : LinkEntry → Option (List ℕ)
 text_in e = first_text e.joiner (slice_get (held_of e.link).inbox 0)
 
-abbrev pub text_of_entry : Option Entry → Option (List ℕ)
+abbrev pub text_of_entry : Option LinkEntry → Option (List ℕ)
 text_of_entry None = None
 text_of_entry (Some e) = text_in e
 
-abbrev pub text_at : Callsign → List (Callsign × Entry) → Option (List ℕ)
+abbrev pub text_at : Callsign → List (Callsign × LinkEntry) → Option (List ℕ)
 text_at peer es = text_of_entry (lookup (same_call peer) es)
 
 -- the peers at whose link a text waits
-abbrev pub text_keys : List (Callsign × Entry) → List Callsign
+abbrev pub text_keys : List (Callsign × LinkEntry) → List Callsign
 text_keys [] = []
 text_keys (e ∷ es) = if is_some (text_in e.1) then e.0 ∷ text_keys es else text_keys es
 
@@ -154,22 +154,22 @@ text_keys (e ∷ es) = if is_some (text_in e.1) then e.0 ∷ text_keys es else t
 abbrev pub room_in : LinkView → ℕ
 room_in h = if may_close h.phase && not h.closing then min (128 - length h.queue) (count_end - h.acked - length h.queue) else 0
 
-abbrev pub room_of_entry : Option Entry → ℕ
+abbrev pub room_of_entry : Option LinkEntry → ℕ
 room_of_entry None = 0
 room_of_entry (Some e) = room_in (held_of e.link)
 
-abbrev pub room_at : Callsign → List (Callsign × Entry) → ℕ
+abbrev pub room_at : Callsign → List (Callsign × LinkEntry) → ℕ
 room_at peer es = room_of_entry (lookup (same_call peer) es)
 
 -- whether the link with a peer is Down
-abbrev pub down_by : Option Entry → Bool
+abbrev pub down_by : Option LinkEntry → Bool
 down_by None = false
 down_by (Some e) = is_down (held_of e.link).phase
 
-abbrev pub down_at : Callsign → List (Callsign × Entry) → Bool
+abbrev pub down_at : Callsign → List (Callsign × LinkEntry) → Bool
 down_at peer es = down_by (lookup (same_call peer) es)
 
-abbrev pub drop_if_down : Callsign → List (Callsign × Entry) → List (Callsign × Entry)
+abbrev pub drop_if_down : Callsign → List (Callsign × LinkEntry) → List (Callsign × LinkEntry)
 drop_if_down peer es = if down_at peer es then remove_entry (same_call peer) es else es
 
 -- what contracts see of a table of links
@@ -178,7 +178,7 @@ pub record TableView : Type 0 where
   pub by_links : Bool
   pub wide : Bool
   pub config : LinkConfig
-  pub links : List (Callsign × Entry)
+  pub links : List (Callsign × LinkEntry)
   pub paths : List Via
   pub waiting : List Parcel
   pub lost : List Callsign
@@ -261,21 +261,21 @@ more_made a b c cs more first next t s =
     (all_answer t cs more x.0 y.0, subst (TableStands c) (sym (after_more t cs more)) y.1)
 
 -- frames that were kept go over to those that are kept as the step of the link puts out; it tells nothing
-pub record Quietly (size : ℕ) (route : Route) (i : Input) (now : ℕ) (s : State) (new : LinkView) (fs fs2 : List Written) : Type 0 where
+pub record Quietly (size : ℕ) (route : LinkRoute) (i : Input) (now : ℕ) (s : State) (new : LinkView) (fs fs2 : List Written) : Type 0 where
   pub link : StandsFor size new (step s i now).link
   pub frames : fs2 ≡ fs ++ map written (all_sent size route.own route.peer route.path (step s i now).outs)
   pub notes : (step s i now).notes ≡ []
 
-abbrev pub GoesQuietly : ℕ → Route → Input → ℕ → LinkView → LinkView → List Written → List Written → Type 0
+abbrev pub GoesQuietly : ℕ → LinkRoute → Input → ℕ → LinkView → LinkView → List Written → List Written → Type 0
 GoesQuietly size route i now old new fs fs2 = (s : State) → StandsFor size old s → Quietly size route i now s new fs fs2
 
 -- a payload is offered to a link: it is taken, or nothing is changed
-abbrev pub Offers : ℕ → Route → Payload → ℕ → LinkView → LinkView → List Written → List Written → Offered → Type 0
+abbrev pub Offers : ℕ → LinkRoute → Payload → ℕ → LinkView → LinkView → List Written → List Written → Offered → Type 0
 Offers size route p now old new fs fs2 Taken = ((s : State) → StandsFor size old s → takes s ≡ true) × GoesQuietly size route (Send p) now old new fs fs2
 Offers size route p now old new fs fs2 Dropped = ((s : State) → StandsFor size old s → takes s ≡ false) × (new ≡ old) × (fs2 ≡ fs)
 
 -- of an entry, all but its link stays, and that keeps its modulus
-pub record SameEntry (old new : Entry) : Type 0 where
+pub record SameEntry (old new : LinkEntry) : Type 0 where
   pub route : new.route ≡ old.route
   pub joiner : new.joiner ≡ old.joiner
   pub size : size_of new.link ≡ size_of old.link
@@ -285,11 +285,11 @@ is_wide (Eight l) = false
 is_wide (Wide l) = true
 
 -- whether the link with a peer is of modulo 128, where one stands
-abbrev pub wide_by : Option Entry → Option Bool
+abbrev pub wide_by : Option LinkEntry → Option Bool
 wide_by None = None
 wide_by (Some e) = Some (is_wide e.link)
 
-abbrev pub wide_at : Callsign → List (Callsign × Entry) → Option Bool
+abbrev pub wide_at : Callsign → List (Callsign × LinkEntry) → Option Bool
 wide_at peer es = wide_by (lookup (same_call peer) es)
 
 -- a link that is lent stands for the one of the table: none where none stands
@@ -312,18 +312,18 @@ text_given true out = Some out
 text_given false out = None
 
 -- why a text isn't sent over a link, by what is kept of it
-abbrev pub answer_in : List ℕ → Entry → Result (Unit {0}) TextRefusal
+abbrev pub answer_in : List ℕ → LinkEntry → Result (Unit {0}) TextRefusal
 answer_in text e =
     if not (may_close (held_of e.link).phase && not (held_of e.link).closing) then Err TextRefusals.NoLink
     else if nat_lt most_text (length text) then Err TextRefusals.TooLong
     else if nat_lt (room_in (held_of e.link)) (length (payloads_of (size_of e.link) text)) then Err TextRefusals.Full
     else Ok tt
 
-abbrev pub answer_of_entry : List ℕ → Option Entry → Result (Unit {0}) TextRefusal
+abbrev pub answer_of_entry : List ℕ → Option LinkEntry → Result (Unit {0}) TextRefusal
 answer_of_entry text None = Err TextRefusals.NoLink
 answer_of_entry text (Some e) = answer_in text e
 
-abbrev pub answer_at : Callsign → List ℕ → List (Callsign × Entry) → Result (Unit {0}) TextRefusal
+abbrev pub answer_at : Callsign → List ℕ → List (Callsign × LinkEntry) → Result (Unit {0}) TextRefusal
 answer_at peer text es = answer_of_entry text (lookup (same_call peer) es)
 
 abbrev pub TextNotNoMemory : Result (Unit {0}) TextRefusal → Type 0

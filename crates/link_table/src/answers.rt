@@ -6,19 +6,19 @@ ghost use Rattle.link_table.specs.Table.{written};
 ghost use Rattle.link_table.specs.Frames.{fitting, head_to, sent};
 
 use crate::pending::{Frames, put};
-use crate::route::Route;
+use crate::route::LinkRoute;
 use ax_address::Call;
 use ax_frame::{Control, FrameView};
 use digi_path::reversed;
 use radio_base::{M8, NoMemory};
 
 /// The way back to the station from which a frame came.
-pub(crate) fn way_back(own: &Call, frame: &FrameView<'_>) -> Route
+pub(crate) fn way_back(own: &Call, frame: &FrameView<'_>) -> LinkRoute
     ensures own { result.own ≡ own.now }
     ensures peer { result.peer ≡ source (view frame.now) }
     ensures path { result.path ≡ back (view frame.now) }
 {
-    Route {
+    LinkRoute {
         own: *own,
         peer: frame.head.source.call,
         path: reversed(&frame.head.path),

@@ -11,7 +11,7 @@ ghost use Rattle.link_table.specs.Works as works;
 
 use crate::LinkOf;
 use crate::pending::Pending;
-use crate::route::Route;
+use crate::route::LinkRoute;
 use ax_frame::FrameView;
 use ax_link::{LinkConfig, LinkPhase};
 use ax_segment::Joiner;
@@ -23,13 +23,13 @@ const MOST_HELD: usize = 128;
 
 /// A link, over what its frames go, and what is held of a message in segments.
 #[derive(Drop)]
-pub(crate) struct Entry {
+pub(crate) struct LinkEntry {
     pub(crate) link: LinkOf,
-    pub(crate) route: Route,
+    pub(crate) route: LinkRoute,
     pub(crate) joiner: Joiner,
 }
 
-impl Entry {
+impl LinkEntry {
     ghost use Rattle.link_table.specs.Standing.{EntryGoes, held_of, room_in, size_of, width};
 
     /// A link that is Down.
@@ -37,8 +37,8 @@ impl Entry {
         alloc: Global,
         wide: bool,
         config: LinkConfig,
-        route: Route,
-    ) -> Result<Entry, NoMemory>
+        route: LinkRoute,
+    ) -> Result<LinkEntry, NoMemory>
         requires t1 { config.t1 ≤ count_end }
         requires t3 { config.t3 ≤ count_end }
         ensures width { IfOk result (λ e. size_of e.link ≡ width wide) }
@@ -48,7 +48,7 @@ impl Entry {
         ensures route { IfOk result (λ e. e.route ≡ route) }
         ensures joiner { IfOk result (λ e. e.joiner ≡ Nothing) }
     {
-        Ok(Entry {
+        Ok(LinkEntry {
             link: LinkOf::new(alloc, wide, config)?,
             route,
             joiner: Joiner::new(alloc),

@@ -8,14 +8,14 @@ ghost use Rattle.link_table.specs.Frames.{fitting, sent_by};
 ghost use Rattle.link_table.specs.Standing.{gone_out};
 
 use crate::pending::{Frames, put};
-use crate::route::Route;
+use crate::route::LinkRoute;
 use ax_link::{Link, LinkOut};
 use radio_base::{Modulus, NoMemory};
 
 /// Puts out all frames of a link, each from where it stands.
 pub(crate) fn emit<M: Modulus>(
     link: &mut Link<M>,
-    route: &Route,
+    route: &LinkRoute,
     frames: &mut Frames,
 ) -> Result<(), NoMemory>
     requires modulus { IsLinkModulus M.SIZE }
@@ -30,7 +30,11 @@ pub(crate) fn emit<M: Modulus>(
 }
 
 /// Puts out one frame of a link.
-fn emit_one<M: Modulus>(frames: &mut Frames, route: &Route, out: &LinkOut) -> Result<(), NoMemory>
+fn emit_one<M: Modulus>(
+    frames: &mut Frames,
+    route: &LinkRoute,
+    out: &LinkOut,
+) -> Result<(), NoMemory>
     requires modulus { IsLinkModulus M.SIZE }
     requires can_be_sent { CanBeSent M.SIZE out.now }
     ensures { OnOk result (frames.new.items

@@ -12,9 +12,9 @@ ghost use Rattle.link_table.specs.Calls as calls;
 
 use crate::MAX_LINKS;
 use crate::answers::{answer, refusal, way_back};
-use crate::entry::Entry;
+use crate::entry::LinkEntry;
 use crate::pending::Pending;
-use crate::route::{Route, copy_of};
+use crate::route::{LinkRoute, copy_of};
 use crate::work::{bring, note};
 use arrayvec::ArrayVec;
 use ax_address::{Call, Path};
@@ -32,7 +32,7 @@ pub(crate) struct HeldLinks {
     pub(crate) by_links: bool,
     pub(crate) wide: bool,
     pub(crate) config: LinkConfig,
-    pub(crate) links: IndexMap<Call, Entry>,
+    pub(crate) links: IndexMap<Call, LinkEntry>,
     pub(crate) paths: IndexMap<Call, Path>,
     pub(crate) pending: Pending,
     ghost t1_fits: { config.t1 ≤ count_end },
@@ -76,7 +76,7 @@ impl HeldLinks {
     }
 
     /// One link more, which is Down.
-    pub(crate) fn make(&mut self, wide: bool, route: Route) -> Result<(), NoMemory>
+    pub(crate) fn make(&mut self, wide: bool, route: LinkRoute) -> Result<(), NoMemory>
         requires rests { Rests self.old }
         requires none { lookup (same_call route.peer) self.old.links.entries ≡ None }
         requires room { length self.old.links.entries < calls.most_links }
@@ -87,7 +87,7 @@ impl HeldLinks {
         ensures pending { self.new.pending ≡ self.old.pending }
     {
         let peer = route.peer;
-        let entry = Entry::new(self.alloc, wide, self.config, route)?;
+        let entry = LinkEntry::new(self.alloc, wide, self.config, route)?;
         self.links.insert(peer, entry)?;
         Ok(())
     }

@@ -12,7 +12,7 @@ use crate::MAX_LINKS;
 use crate::held_links::HeldLinks;
 use crate::offers::pack;
 use crate::pending::put;
-use crate::route::Route;
+use crate::route::LinkRoute;
 use ax_address::Call;
 use ax_frame::Control;
 use l3_datagram::{Datagram, Offered};
@@ -28,7 +28,7 @@ impl HeldLinks {
         ensures waiting { self.new.pending.waiting ≡ self.old.pending.waiting }
         ensures lost { self.new.pending.lost ≡ self.old.pending.lost }
     {
-        let route = Route {
+        let route = LinkRoute {
             own: self.own,
             peer: *to,
             path: self.path_to(to),
@@ -134,7 +134,7 @@ impl HeldLinks {
         ensures waiting { self.new.pending.waiting ≡ self.old.pending.waiting }
         ensures lost { self.new.pending.lost ≡ self.old.pending.lost }
     {
-        let route = Route {
+        let route = LinkRoute {
             own: self.own,
             peer: *to,
             path: self.path_to(to),

@@ -8,14 +8,14 @@ ghost use Rattle.link_table.specs.Texts as sending;
 ghost use Rattle.link_table.specs.Works as works;
 
 use crate::TextRefusal;
-use crate::entry::Entry;
+use crate::entry::LinkEntry;
 use crate::pending::Pending;
 use crate::texts::MAX_TEXT;
 use arrayvec::ArrayVec;
 use ax_segment::{FULL_PIECE, Split};
 use radio_base::{MAX_INFO, Moment, NoMemory, Payload, TEXT_PID};
 
-impl Entry {
+impl LinkEntry {
     ghost use Rattle.link_table.specs.Standing.{EntryGoes, answer_in, held_of, size_of};
 
     /// Why a text isn't sent over the link, if it isn't.

@@ -2,7 +2,7 @@
 ghost use Rattle.std.specs.Prelude.{◌≡◌, ◌<◌, ◌++◌, ◌∷◌, [], Some, OnOk, if◌then◌else◌, is_some, length, slice_get, true};
 ghost use Rattle.link_table.specs.Standing.{text_in, text_keys};
 
-use crate::entry::Entry;
+use crate::entry::LinkEntry;
 use crate::held_links::HeldLinks;
 use arrayvec::ArrayVec;
 use ax_address::Call;
@@ -12,7 +12,7 @@ use radio_base::{Moment, NoMemory};
 
 impl HeldLinks {
     ghost use Rattle.ax_address.specs.Callsign.{Callsign};
-    ghost use Rattle.link_table.specs.declared.entry.Entry.{Entry};
+    ghost use Rattle.link_table.specs.declared.entry.LinkEntry.{LinkEntry};
     ghost use Rattle.link_table.specs.Calls.{at_link};
     ghost use Rattle.link_table.specs.Standing.{CoreGoes, Rests, room_at, text_at};
     ghost use Rattle.link_table.specs.Texts.{take_text_of};
@@ -49,7 +49,7 @@ impl HeldLinks {
     /// Names the peer of this link where a text waits at it.
     fn add_text_at(&self, at: usize, peers: &mut ArrayVec<Call, 64>)
         requires { length peers.old.items < 64 }
-        ensures { (x : Callsign × Entry) → slice_get self.now.links.entries at ≡ Some x →
+        ensures { (x : Callsign × LinkEntry) → slice_get self.now.links.entries at ≡ Some x →
             peers.new.items ≡ (if is_some (text_in x.1) then peers.old.items ++ x.0 ∷ [] else peers.old.items) }
     {
         if let Some((peer, entry)) = self.links.get_index(at) {
@@ -93,7 +93,7 @@ impl HeldLinks {
 }
 
 /// The first peer of these links at which a text waits.
-fn first_text(links: Slice<'_, Call, Entry>) -> Option<Call>
+fn first_text(links: Slice<'_, Call, LinkEntry>) -> Option<Call>
     ensures { result ≡ slice_get (text_keys links.entry) 0 }
 {
     let mut rest = links;
@@ -107,7 +107,7 @@ fn first_text(links: Slice<'_, Call, Entry>) -> Option<Call>
 }
 
 /// Names the peer where a text waits at its link.
-fn add_text(peers: &mut ArrayVec<Call, 64>, peer: &Call, entry: &Entry)
+fn add_text(peers: &mut ArrayVec<Call, 64>, peer: &Call, entry: &LinkEntry)
     requires { length peers.old.items < 64 }
     ensures { peers.new.items
         ≡ (if is_some (text_in entry.now) then peers.old.items ++ peer.now ∷ [] else peers.old.items) }

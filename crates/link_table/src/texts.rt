@@ -5,7 +5,7 @@ ghost use Rattle.ax_segment.specs.Joining.{join_step, whole_of, IsWithin};
 ghost use Rattle.link_table.specs.Texts as texts;
 ghost use Rattle.link_table.specs.Works as works;
 
-use crate::entry::Entry;
+use crate::entry::LinkEntry;
 use crate::pending::Pending;
 use ax_segment::{Joined, Joiner};
 use l3_datagram::Message;
@@ -14,7 +14,7 @@ use radio_base::{Moment, NoMemory, Payload, SEGMENT_PID, TEXT_PID};
 /// The most bytes of a text that is joined from segments, or sent.
 pub(crate) const MAX_TEXT: usize = 8192;
 
-impl Entry {
+impl LinkEntry {
     ghost use Rattle.link_table.specs.Standing.{EntryGoes, held_of, joined_with, text_in};
 
     /// Whether a payload is a text, or a segment at which the joiner would give one.

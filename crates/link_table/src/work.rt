@@ -7,7 +7,7 @@ ghost use Rattle.ax_segment.specs.Joining.{join_step, IsWithin};
 ghost use Rattle.link_table.specs.Standing.{HandsUp};
 ghost use Rattle.link_table.specs.Works as works;
 
-use crate::entry::Entry;
+use crate::entry::LinkEntry;
 use crate::pending::{Pending, Waiting};
 use ax_address::Call;
 use ax_link::LinkNotice;
@@ -18,7 +18,7 @@ use radio_base::{Moment, NETROM_PID, NoMemory, Payload, SEGMENT_PID};
 /// More payloads than an inbox and the places for early ones hold.
 const MOST_TAKEN: usize = 192;
 
-impl Entry {
+impl LinkEntry {
     ghost use Rattle.link_table.specs.Standing.{EntryGoes, Lifted, held_of, size_of};
 
     /// What comes of a step of the link.

@@ -11,7 +11,7 @@ use Rattle.circuit_set.specs.declared.holder.Holder.{Holder}
 use Rattle.link_table.specs.Kept as links
 use Rattle.link_table.specs.Standing.{LinksStand}
 use Rattle.link_table.specs.Table.{Linked}
-use Rattle.link_table.specs.declared.entry.Entry.{Entry}
+use Rattle.link_table.specs.declared.entry.LinkEntry.{LinkEntry}
 use Rattle.node_core.specs.Bounds.{IsWithin, pairs_of}
 use Rattle.node_core.specs.Bridged.{UsersAreFew}
 use Rattle.node_core.specs.Standing.{Kept}
@@ -21,13 +21,13 @@ use Rattle.node_core.proofs.Serving.{same_number}
 
 -- ---- as many links and ends as the state has
 
-links_many : (own : Callsign) (es : List (Callsign × Entry)) (ls : List Linked) → LinksStand own es ls → length ls ≤ length es
+links_many : (own : Callsign) (es : List (Callsign × LinkEntry)) (ls : List Linked) → LinksStand own es ls → length ls ≤ length es
 links_many own [] [] s = omega arith
 links_many own (e ∷ es) (l ∷ ls) s = omega (arith, links_many own es ls s.1)
 links_many own [] (l ∷ ls) s = absurd s
 links_many own (e ∷ es) [] s = absurd s
 
-no_more_links : (own : Callsign) (es : List (Callsign × Entry)) (ls : List Linked) → LinksStand own es ls → length es ≤ length ls
+no_more_links : (own : Callsign) (es : List (Callsign × LinkEntry)) (ls : List Linked) → LinksStand own es ls → length es ≤ length ls
 no_more_links own [] [] s = omega arith
 no_more_links own (e ∷ es) (l ∷ ls) s = omega (arith, no_more_links own es ls s.1)
 no_more_links own [] (l ∷ ls) s = absurd s

@@ -3,17 +3,17 @@ use Rattle.std.proofs.Common.{◌≡◌, ◌≤◌, ◌++◌, ◌∙◌, ℕ, sy
 use Rattle.std.specs.Prelude.{string_bytes, Some}
 use Rattle.std.proofs.Math.Bridge.{le_prop}
 use Rattle.ax_ip.specs.Machine.{State}
-use Rattle.ax_ip.specs.declared.route.Route.{Route}
+use Rattle.ax_ip.specs.declared.route.IpRoute.{IpRoute}
 use Rattle.tool_cmd.specs.declared.ip.texts.RouteText.{RouteText}
 use Rattle.tool_cmd.specs.IpWords.{AddsRoute, Adds, IsGateway, start_at}
 
-made : (prefix len hop : ℕ) → len ≤ 32 → Route
+made : (prefix len hop : ℕ) → len ≤ 32 → IpRoute
 made prefix len hop bits = record { prefix = prefix; len = len; hop = hop; bits = bits }
 
 made_again : (prefix hop l m : ℕ) → l ≡ m → (b : l ≤ 32) (c : m ≤ 32) → made prefix l hop b ≡ made prefix m hop c
 made_again prefix hop l m e b c = subst (λ (k : ℕ). (ks : k ≤ 32) → made prefix l hop b ≡ made prefix k hop ks) e (λ ks. ap (made prefix l hop) (le_prop b ks)) c
 
-same_route : (a b : Route) → a.prefix ≡ b.prefix → a.len ≡ b.len → a.hop ≡ b.hop → a ≡ b
+same_route : (a b : IpRoute) → a.prefix ≡ b.prefix → a.len ≡ b.len → a.hop ≡ b.hop → a ≡ b
 unfolding made
 same_route a b p l h =
     let first : a ≡ made b.prefix a.len a.hop a.bits = ap (λ k. made k a.len a.hop a.bits) p in

@@ -11,7 +11,7 @@ use Rattle.ax_frame.specs.declared.frame.FrameRefusal.{FrameRefusal}
 use Rattle.ax_frame.specs.Frames.{Frame, frame, frame_octets, read_at}
 use Rattle.ax_ip.specs.declared.out.IpOut.{IpOut}
 use Rattle.ax_ip.specs.Machine.{State, Turn, after, turn}
-use Rattle.ax_ip.specs.declared.route.Route.{Route}
+use Rattle.ax_ip.specs.declared.route.IpRoute.{IpRoute}
 use Rattle.ax_ip.specs.Routes.{IsRoute}
 use Rattle.cmd_streams.specs.Streams.{Read, bytes_of}
 
@@ -20,11 +20,11 @@ abbrev pub address_of : Callsign → Bool → Address
 address_of c bit7 = record { call = c; bit7 = bit7; reserved = 3; two_bits = lit≤ tt }
 
 -- a route with these parts was taken in, and stands last
-abbrev pub with_route : Route → State → State
+abbrev pub with_route : IpRoute → State → State
 with_route route s = record s { routes = s.routes ++ route ∷ [] }
 
 abbrev pub EntersRoute : ℕ → ℕ → ℕ → State → State → Type 0
-EntersRoute prefix len hop old new = (r : Route) × IsRoute prefix len hop r × (new ≡ with_route r old)
+EntersRoute prefix len hop old new = (r : IpRoute) × IsRoute prefix len hop r × (new ≡ with_route r old)
 
 -- what is sent is a UI command without repeaters
 abbrev pub ui_frame : Callsign → Callsign → ℕ → List ℕ → Frame

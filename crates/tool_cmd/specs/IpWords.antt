@@ -5,7 +5,7 @@ use Rattle.ax_address.specs.Callsign.{Callsign}
 use Rattle.ax_address.specs.declared.call.CallRefusal.{CallRefusal}
 use Rattle.ax_address.specs.Callsign as reading
 use Rattle.ax_ip.specs.Machine.{State}
-use Rattle.ax_ip.specs.declared.route.Route.{Route}
+use Rattle.ax_ip.specs.declared.route.IpRoute.{IpRoute}
 use Rattle.ax_ip.specs.Routes as routes
 use Rattle.tool_cmd.specs.declared.ip.texts.RouteText.{RouteText}
 use Rattle.tool_cmd.specs.Gateways.{with_route}
@@ -44,7 +44,7 @@ pub record AddsRoute (word : List ℕ) (old new : State) : Type 0 where
   pub text : RouteText
   pub spelled : route_word_at word ≡ Some text
   pub taken : routes.route_at text.prefix text.len old.routes ≡ Ok tt
-  pub route : Route
+  pub route : IpRoute
   pub parts : routes.IsRoute text.prefix text.len text.hop route
   pub last : new ≡ with_route route old
 

@@ -3,7 +3,7 @@ use Rattle.std.proofs.lemmas.Bool.Decides.{nat_tests}
 use Rattle.link_table.specs.Frames.{plain_text}
 use Rattle.link_table.specs.Texts.{cut, payloads}
 use Rattle.link_table.proofs.Sending.{given_first, piece_first}
-use Rattle.link_table.proofs.entry.Entry.send_pieces.Goals as goal
+use Rattle.link_table.proofs.entry.LinkEntry.send_pieces.Goals as goal
 
 pub loop-rest-preserved : goal.loop-rest-preserved
 loop-rest-preserved c =

@@ -1,6 +1,6 @@
 use Rattle.std.proofs.Common.{◌∙◌}
 use Rattle.link_table.proofs.Lifting.{hands_first}
-use Rattle.link_table.proofs.entry.Entry.take_one.Goals as goal
+use Rattle.link_table.proofs.entry.LinkEntry.take_one.Goals as goal
 
 pub returns-in_ok-lift-in-Some-clause-goes : goal.returns-in_ok-lift-in-Some-clause-goes
 returns-in_ok-lift-in-Some-clause-goes c = λ p e.

@@ -1,7 +1,7 @@
 use Rattle.link_table.specs.Frames.{segmented}
 use Rattle.link_table.specs.Texts.{payloads}
 use Rattle.link_table.proofs.Sending.{given_first, segment_first}
-use Rattle.link_table.proofs.entry.Entry.send_split.Goals as goal
+use Rattle.link_table.proofs.entry.LinkEntry.send_split.Goals as goal
 
 pub loop-segment-preserved : goal.loop-segment-preserved
 loop-segment-preserved c =

@@ -1,6 +1,6 @@
 use Rattle.std.proofs.Common.{◌-◌, ◌+◌, ◌∙◌, sym, arith}
 use Rattle.link_table.proofs.Lifting.{left_none, left_end, left_one, none_taken, none_waits, one_waits, untexted}
-use Rattle.link_table.proofs.entry.Entry.settle.Goals as goal
+use Rattle.link_table.proofs.entry.LinkEntry.settle.Goals as goal
 
 pub loop-turn-init : goal.loop-turn-init
 loop-turn-init c = record { drained = c.requires.drained; left = none_taken c.args.now.0 c.args.self.now c.args.pending.now }

@@ -4,7 +4,7 @@ use Rattle.link_table.specs.Frames.{segmented}
 use Rattle.link_table.specs.Texts.{payloads}
 use Rattle.link_table.specs.Standing.{held_of}
 use Rattle.link_table.proofs.Sending.{ToGive}
-use Rattle.link_table.proofs.entry.Entry.send_split.Given as goal
+use Rattle.link_table.proofs.entry.LinkEntry.send_split.Given as goal
 
 abbrev pub invariant-loop-segment : goal.invariant-loop-segment
 invariant-loop-segment l =

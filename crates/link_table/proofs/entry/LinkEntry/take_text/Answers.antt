@@ -1,6 +1,6 @@
 use Rattle.std.proofs.Common.{sym}
 use Rattle.link_table.proofs.TextLifting.{text_goes}
-use Rattle.link_table.proofs.entry.Entry.take_text.Goals as goal
+use Rattle.link_table.proofs.entry.LinkEntry.take_text.Goals as goal
 
 pub returns-in_ok-settle-in-Some-clause-goes : goal.returns-in_ok-settle-in-Some-clause-goes
 returns-in_ok-settle-in-Some-clause-goes c =

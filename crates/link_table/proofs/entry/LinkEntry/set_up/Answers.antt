@@ -1,6 +1,6 @@
 use Rattle.ax_link.specs.Table as table
 use Rattle.link_table.proofs.Lifting.{quietly}
-use Rattle.link_table.proofs.entry.Entry.set_up.Goals as goal
+use Rattle.link_table.proofs.entry.LinkEntry.set_up.Goals as goal
 
 pub returns-clause-goes : goal.returns-clause-goes
 returns-clause-goes c =

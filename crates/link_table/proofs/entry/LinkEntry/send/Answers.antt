@@ -1,7 +1,7 @@
 use Rattle.std.proofs.Common.{sym}
 use Rattle.ax_link.specs.Table as table
 use Rattle.link_table.proofs.Lifting.{quietly}
-use Rattle.link_table.proofs.entry.Entry.send.Goals as goal
+use Rattle.link_table.proofs.entry.LinkEntry.send.Goals as goal
 
 pub returns-in_ok-emit-in-Ok-clause-offers : goal.returns-in_ok-emit-in-Ok-clause-offers
 returns-in_ok-emit-in-Ok-clause-offers c = (

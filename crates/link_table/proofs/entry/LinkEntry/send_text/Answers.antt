@@ -1,6 +1,6 @@
 use Rattle.link_table.specs.Standing.{size_of}
 use Rattle.link_table.proofs.Sending.{in_pieces_is, in_segments_is, of_link, segments_some}
-use Rattle.link_table.proofs.entry.Entry.send_text.Goals as goal
+use Rattle.link_table.proofs.entry.LinkEntry.send_text.Goals as goal
 
 pub returns-then-in_segments-clause-goes : goal.returns-then-in_segments-clause-goes
 returns-then-in_segments-clause-goes c =

@@ -4,7 +4,7 @@ use Rattle.link_table.specs.Frames.{plain_text}
 use Rattle.link_table.specs.Texts.{cut, payloads}
 use Rattle.link_table.specs.Standing.{held_of}
 use Rattle.link_table.proofs.Sending.{ToGive}
-use Rattle.link_table.proofs.entry.Entry.send_pieces.Given as goal
+use Rattle.link_table.proofs.entry.LinkEntry.send_pieces.Given as goal
 
 abbrev pub invariant-loop-rest : goal.invariant-loop-rest
 invariant-loop-rest l =

@@ -1,6 +1,6 @@
 use Rattle.ax_link.specs.Table as table
 use Rattle.link_table.proofs.Lifting.{lifts}
-use Rattle.link_table.proofs.entry.Entry.close.Goals as goal
+use Rattle.link_table.proofs.entry.LinkEntry.close.Goals as goal
 
 pub returns-clause-goes : goal.returns-clause-goes
 returns-clause-goes c = lifts table.Close c.args.now.0 c.args.self.now _ _ _ _ c.close.ensures c.in_ok-lift.ensures
