@@ -64,20 +64,22 @@ def instructions(command, path=os.devnull):
 
 def heads(other):
     """The heads of what `beside` prints."""
-    return f" {'other s':>8} {'least':>6} {'median':>7} {'instructions':>13}" if other else ""
+    return f" {'other s':>8} {'least':>6} {'median':>7} {'pairs':>6} {'instructions':>13}" if other else ""
 
 
 def beside(command, other, path=os.devnull, few=5):
     """Seconds of the shortest run, the largest peak, and what a row tells of another command, where there is one.
 
     Fifteen runs of each then take turns. A row has the other's shortest run, and how many times its time the command takes: by the
-    shortest runs, by the medians, and by instructions.
+    shortest runs, by the medians, by the median of the pairs of neighbouring runs, and by instructions. The pairs tell most where the
+    machine's speed changes.
     """
     if not other:
         return (*shortest(command, path, few), "")
     turns = [(run(command, path), run(other, path)) for _ in range(15)]
     ours, others = [one[0] for one, _ in turns], [one[0] for _, one in turns]
-    told = f" {min(others):8.3f} {min(ours) / min(others):6.2f} {statistics.median(ours) / statistics.median(others):7.2f}"
+    pairs = statistics.median(one / another for one, another in zip(ours, others))
+    told = f" {min(others):8.3f} {min(ours) / min(others):6.2f} {statistics.median(ours) / statistics.median(others):7.2f} {pairs:6.2f}"
     counts = instructions(command, path), instructions(other, path)
     told += f" {counts[0] / counts[1]:13.2f}" if None not in counts else f" {'-':>13}"
     return min(ours), max(peak for (_, peak), _ in turns), told
