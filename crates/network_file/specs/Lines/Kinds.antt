@@ -47,7 +47,7 @@ as_line read makes = read >>= (λ x. Ok (lines.Instruction (makes x)))
 abbrev pub reads : {A : Type 0} → (Plan → List (List ℕ) → Result A What) → (A → Instruction) → Reader
 reads parts makes = λ plan line words. as_line (parts plan words) makes
 
--- parts that so many words are, which stand between the first and TEXT, and TEXT; without the space before TEXT the line has too few words
+-- the parts that the `count` words behind the first are, and the text behind these; a line without the space before that text has too few words
 abbrev pub with_text : {A : Type 0} → ℕ → (Plan → List (List ℕ) → Result A What) → Plan → List ℕ → List (List ℕ) → Result (A × List ℕ) What
 with_text count parts plan line words = do
   text ← known whats.Count (text_behind (suc count) line)
