@@ -1,4 +1,5 @@
 # Sourced by the scripts beside it.
+# shellcheck shell=sh
 
 # needs SCRIPT THING:PACKAGE..: ends the script where a command or file is missing, after naming Debian's package for each; - is for the kit.
 needs() {
