@@ -3,12 +3,14 @@
 It is well formed XML; no text meets another one, leaves the picture, or is met by an arrow; and where nothing is folded, each frame has
 as many arrows as it was delivered, a cross exactly where it was lost, and a ring exactly where neither. Where a picture stands beside a
 network, NAME.svg, it is that one. A network that is refused has none, and the note beside it, NAME.notes. Files with words of their own,
-NAME.args, are for other commands. The traces are those of ./wursthatch-look, or of the program that WURSTHATCH_LOOK names.
+NAME.args, are for other commands. The traces are those of ./wursthatch-look, or of the program that WURSTHATCH_LOOK names. Where no files
+are named, words and streams that ./picture can't take are tried, too.
 """
 
 import glob
 import os
 import re
+import subprocess
 import sys
 import tempfile
 import xml.etree.ElementTree as ET
@@ -28,6 +30,16 @@ SPEC = re.compile(r"([MLlhHvVaz])|(-?\d*\.?\d+)")
 WIDTHS = {15: .62, 12: .55}                        # of a character over its size, where it isn't monospaced
 USUAL = (4, 12, 600)                               # as ./picture folds without words: keep, fold, rows
 NEVER = 10 ** 9                                    # longer than any run: nothing is folded
+LOOK = """#!/bin/sh
+cat >/dev/null
+echo '{"kind":"network","version":4}{"kind":"node","node":1,"call":"N0AAA","alias":"A"}{"kind":"verdict","late":false}' | sed 's/}{/}\\n{/g'
+"""                                                # stands in for wursthatch-look where only words and streams are tried
+RUNS = (                                           # words and redirections of ./picture, and its status
+    ("page=0", 0), ("page=1 order=1", 0), ("keep=1 fold=2 rows=3 overheard=0 $FILE", 0), ("$ODD", 0),
+    ("--help", 2), ("page=2", 2), ("keep=", 2), ("keep=-1", 2), (f"keep={'9' * 5000}", 2), ("$FILE $FILE", 2),
+    ("order=2", 2), ("order=1,1", 2),
+    ("/no/file", 4), ("<&-", 4), (">&-", 5), (">/dev/full", 5), ("--help 2>&-", 2),
+)
 
 
 def size_of(classes):
@@ -140,8 +152,28 @@ def faults_of(path):
     yield from faults_of_frames(root, run)
     run = read_trace(text, name)
     run.page = True
-    if not page(run, draw(run, *USUAL)).endswith("</html>\n"):
+    whole = page(run, draw(run, *USUAL))
+    if not whole.endswith("</html>\n"):
         yield "the page has no end"
+    if ":root{color-scheme:light dark}" not in whole:
+        yield "the page isn't dark where the reader likes that"
+
+
+def faults_of_runs():
+    """Words and streams that ./picture answers in another way, or with more than a line."""
+    with tempfile.TemporaryDirectory() as room:
+        look, file = os.path.join(room, "look"), os.path.join(room, "a.net")
+        odd = os.path.join(os.fsencode(room), b"\xff.net")
+        for path, text in (look, LOOK), (file, ""), (odd, ""):
+            with open(path, "w", encoding="ascii") as kept:
+                kept.write(text)
+        os.chmod(look, 0o755)
+        own = {**os.environb, b"WURSTHATCH_LOOK": os.fsencode(look), b"FILE": os.fsencode(file), b"ODD": odd}
+        for words, wanted in RUNS:
+            ran = subprocess.run(["sh", "-c", f"./picture {words}"], cwd=TOP, env=own, stdin=subprocess.DEVNULL,
+                                 capture_output=True, check=False)
+            if ran.returncode != wanted or ran.stderr.count(b"\n") > 1 or (wanted != 0) == bool(ran.stdout):
+                yield f"./picture {words[:40]}: status {ran.returncode}, {ran.stderr[-200:]}"
 
 
 def kept_beside(path, ending, otherwise):
@@ -153,16 +185,23 @@ def kept_beside(path, ending, otherwise):
         return otherwise
 
 
+def examples():
+    """The networks that have a picture: those with words of their own are for other commands."""
+    return sorted(path for path in glob.glob(os.path.join(TOP, "examples", "*.net")) if kept_beside(path, ".args", None) is None)
+
+
 def main(paths):
+    rows = [(os.path.basename(path), faults_of(path)) for path in paths or examples()]
+    if not paths:
+        rows.append(("words and streams", faults_of_runs()))
     failed = 0
-    paths = paths or sorted(path for path in glob.glob(os.path.join(TOP, "examples", "*.net")) if kept_beside(path, ".args", None) is None)
-    for path in paths:
-        faults = list(faults_of(path))
+    for name, found in rows:
+        faults = list(found)
         failed += bool(faults)
         for fault in faults[:5]:
-            print(f"{os.path.basename(path)}: {fault}")
-    print(f"{len(paths) - failed} passed, {failed} failed")
-    return bool(failed) or not paths
+            print(f"{name}: {fault}")
+    print(f"{len(rows) - failed} passed, {failed} failed")
+    return bool(failed)
 
 
 sys.exit(main(sys.argv[1:]))

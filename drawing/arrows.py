@@ -3,7 +3,7 @@
 from .items import Fold
 from .layout import choose, is_for, sides
 from .pens import arrow_path, broken_path, esc, icon, num, txt
-from .styles import FONT, LONG, ROW, SMALL
+from .styles import LONG, ROW, SMALL
 from .words import labels, story
 
 
@@ -16,7 +16,6 @@ def frame_group(run, p, k, row):
     tail_fold = at if isinstance(at, Fold) else None
     cls = labels(run, f)[0]
     parts, tip = [], story(run, k)
-    lines_ = {}
     for m in p.order:
         for j, (yz, b) in enumerate(p.arrive.get((k, m), [])):
             if b.folded and (b.folded is tail_fold or row is None):
@@ -41,8 +40,7 @@ def frame_group(run, p, k, row):
     if k in run.lost or not run.hearers.get(k):
         way = -1 if main == "L" else 1
         x = p.x[n][0 if way < 0 else 1]
-        hop = run.numbers.get(f["hop"])
-        span = p.gap if not p.narrow else p.gap
+        span = p.gap
         if k in run.lost:
             yz = p.gone.get(k, ya + ROW)
             fb = run.lost[k].folded

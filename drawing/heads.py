@@ -62,8 +62,9 @@ def marks(run, p):
     went = [w for _, k, w in run.events if k == "delivered"]
     reached = {w["frame"] for w in went} | set(run.lost)
     yield from ((25, stroke(cls + " g", 20), cls, word) for cls, word in KINDS if cls in kinds)
-    if any(w["again"] for w in went):
-        yield 31, stroke("i g r", 26), "m", "delivered again"
+    again = next((w["frame"] for w in went if w["again"]), None)
+    if again:
+        yield 31, stroke(labels(run, run.frames[again])[0] + " g r", 26), "m", "delivered again"
     if any(not is_for(run, w["frame"], w["node"]) for w in went):
         yield 31, stroke("h g", 24), "m", "overheard"
     if run.lost:

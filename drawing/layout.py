@@ -2,7 +2,6 @@
 
 import math
 
-from .folding import rows_of
 from .items import Item
 from .styles import BEAT_GAP, EM, FOLD_H, FONT, ROW, SMALL, STEP_PAD
 from .words import clock, cut_to, plural, width, wrap

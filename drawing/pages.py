@@ -7,7 +7,7 @@ from .report import report_lines
 from .words import labels
 
 CHOICES = (("h", "overheard"), ("a", "acknowledgements"), ("i", "information"), ("c", "circuits"), ("n", "NODES"), ("l", "links"))
-STYLE = ("body{margin:0;color-scheme:light dark}.bar{position:sticky;top:0;z-index:1;background:Canvas;"
+STYLE = (":root{color-scheme:light dark}body{margin:0}.bar{position:sticky;top:0;z-index:1;background:Canvas;"
          "border-bottom:1px solid GrayText}.bar form{font:13px system-ui,sans-serif;padding:6px 16px}"
          "details{margin:12px 16px;font:13px system-ui,sans-serif}table{border-collapse:collapse;font:11px ui-monospace,monospace}"
          "td{padding:1px 10px 1px 0;vertical-align:top}:target{outline:2px solid Highlight}")
