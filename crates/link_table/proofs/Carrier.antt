@@ -1,6 +1,6 @@
 -- What comes up came, and what is sent was offered.
 use Rattle.std.proofs.Common.{◌≡◌, ℕ, zero, suc, ◌==◌, Bool, true, false, nat_le, List, [], ◌∷◌, ◌++◌, length, map, drop, Option, Some, None, slice_get, refl, ap, sym, ◌∙◌, subst, if◌then◌else◌, ◌&&◌, replicate, inl, inr, is_some}
-use Rattle.std.specs.Prelude.{◌⊎◌}
+use Rattle.std.specs.Prelude.{◌⊎◌, is_ok}
 use Rattle.ax_link.specs.declared.config.LinkConfig.{LinkConfig}
 use Rattle.std.proofs.lemmas.Bool.{eqb-true}
 use Rattle.std.specs.List.{AllByRecursion}
@@ -33,7 +33,7 @@ use Rattle.link_table.proofs.Finding.{same_call-true}
 use Rattle.link_table.proofs.Lifting.{untexted}
 use Rattle.ax_segment.specs.Segments.{segments_of}
 use Rattle.link_table.specs.Texts as texts
-use Rattle.link_table.specs.Works.{Work, arrive_at_link, first_to_take, is_down, hand_up, most_taken, emit, settle, step_link, take_payload, tell}
+use Rattle.link_table.specs.Works.{Work, arrive_at_link, first_to_take, is_down, hand_up, most_taken, emit, note_caller, settle, step_link, take_payload, tell}
 
 all_snoc : {A : Type 0} (P : A → Type 0) (xs ys : List A) → AllByRecursion P xs → AllByRecursion P ys → AllByRecursion P (xs ++ ys)
 all_snoc P [] ys a b = b
@@ -140,8 +140,8 @@ module _ (law : PayloadsStay) (bounds_stay : BoundsStay) (settings_stay : Settin
 
   arrived_carries : (own : Callsign) (f : Frame) (now : ℕ) (w : Work) → HasIf (came w.linked.peer) f.payload → WorkCarries w → WorkCarries (arrive_at_link own f now w)
   arrived_carries own f now w b x =
-      let s : Work = step_link own (Arrive f) now w in
-      let y : WorkCarries s = stepped_carries own (Arrive f) now w b x in
+      let s : Work = step_link own (Arrive f) now (note_caller f w) in
+      let y : WorkCarries s = stepped_carries own (Arrive f) now (note_caller f w) b (record { bounds = x.0.bounds; payloads = x.0.payloads; size = x.0.size }, x.1) in
       by s y (is_down s.linked.link.phase)
     where
       by : (s : Work) → WorkCarries s → (b : Bool) → WorkCarries (if b then s else settle most_taken own now s)
@@ -199,7 +199,7 @@ module _ (law : PayloadsStay) (bounds_stay : BoundsStay) (settings_stay : Settin
 
   made_carries : (peer : Callsign) (size : ℕ) (path : ArrayVec Address) (t : Table) → ((size ≡ 8) ⊎ (size ≡ 128)) × (sizes size ≡ true) → Carries offered came sizes t → Carries offered came sizes (calls.made peer size path t)
   made_carries peer size path t z x =
-      let l : Linked = record { peer = peer; link = opening (rules_new size t.config); path = path; joiner = Nothing } in
+      let l : Linked = record { peer = peer; link = opening (rules_new size t.config); path = path; joiner = Nothing; called = false } in
       let h : LinkHolds offered came sizes l =
       record { bounds = opening_bounded size t.config z.0; payloads = record { given = tt; received = tt; inbox = tt; early = none_early (came peer) _ }; size = z.1 } in
       record { modulus = x.modulus; size = x.size; links = all_snoc (LinkHolds offered came sizes) t.links (l ∷ []) x.links (h, tt); waiting = x.waiting; frames = x.frames }
@@ -319,17 +319,24 @@ module _ (law : PayloadsStay) (bounds_stay : BoundsStay) (settings_stay : Settin
       by None = x
       by (Some l) = takes_by (takes l.link)
 
-  opened_carries : (to : Callsign) (now : ℕ) (t : Table) → Carries offered came sizes t → Carries offered came sizes (calls.set_up_link to now t)
-  opened_carries to now t x =
-      let m : Table = calls.made to t.size (path_to to t.paths) t in
-      at_link_carries to (step_link t.own Set_up now) m (λ w e y. stepped_carries t.own Set_up now w tt y) (made_carries to t.size (path_to to t.paths) t (x.modulus, x.size) x)
+  opened_carries : (to : Callsign) (path : ArrayVec Address) (now : ℕ) (t : Table) → Carries offered came sizes t → Carries offered came sizes (calls.set_up_over to path now t)
+  opened_carries to path now t x =
+      let m : Table = calls.made to t.size path t in
+      at_link_carries to (step_link t.own Set_up now) m (λ w e y. stepped_carries t.own Set_up now w tt y) (made_carries to t.size path t (x.modulus, x.size) x)
+
+  open_carries : (peer : Callsign) (path : ArrayVec Address) (now : ℕ) (t : Table) → Carries offered came sizes t → Carries offered came sizes (calls.open_link peer path now t)
+  open_carries peer path now t x = by (is_ok (calls.open_answer peer path t))
+    where
+      by : (b : Bool) → Carries offered came sizes (if b then calls.set_up_over peer (calls.open_path peer path t.paths) now t else t)
+      by true = opened_carries peer (calls.open_path peer path t.paths) now t x
+      by false = x
 
   offer_link_carries : (to : Callsign) (d : Datagram) (now : ℕ) (t : Table) → Has (offered to) (calls.pack d) → Carries offered came sizes t → Carries offered came sizes (calls.offer_link to d now t).table
   offer_link_carries to d now t a x = by (link_with to t.links)
     where
       full : (b : Bool) → Carries offered came sizes (if b then record { answer = Dropped; table = t } else calls.offer_standing to d now (calls.set_up_link to now t)).table
       full true = x
-      full false = standing_carries to d now (calls.set_up_link to now t) a (opened_carries to now t x)
+      full false = standing_carries to d now (calls.set_up_link to now t) a (opened_carries to (path_to to t.paths) now t x)
 
       by : (r : Option Linked) → Carries offered came sizes (elim r as (λ y. calls.Offering) [
         | None ↦ if nat_le calls.most_links (length t.links) then record { answer = Dropped; table = t } else calls.offer_standing to d now (calls.set_up_link to now t)
@@ -377,6 +384,7 @@ module _ (law : PayloadsStay) (bounds_stay : BoundsStay) (settings_stay : Settin
       record {
         arrives = λ t f now b x. kind_carries (is_command f.head) f.control f now t refl b x;
         ticks = λ t now x. ticks (map (λ l. l.peer) t.links) now t x;
+        opens = λ t peer path now x. open_carries peer path now t x;
         closes = λ t peer now x. at_link_carries peer (step_link t.own Close now) t (λ w e y. stepped_carries t.own Close now w tt y) x;
         breaks = λ t peer x. ended_carries peer (Failed ∷ []) t x;
         takes = λ t peer now x. text_taken_carries peer now t x;

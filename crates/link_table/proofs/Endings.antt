@@ -1,5 +1,5 @@
 -- Each call leaves a table in order, and a link that leaves it told.
-use Rattle.std.proofs.Common.{◌≡◌, ◌≤◌, ◌+◌, ℕ, ◌==◌, ◌&&◌, ◌||◌, Bool, true, false, nat_le, List, [], ◌∷◌, ◌++◌, length, map, Option, Some, None, refl, ap, sym, ◌∙◌, subst, if◌then◌else◌, arith, is_some, length-append}
+use Rattle.std.proofs.Common.{◌≡◌, ◌≤◌, ◌+◌, ℕ, ◌==◌, ◌&&◌, ◌||◌, Bool, true, false, nat_le, nat_lt, List, [], ◌∷◌, ◌++◌, length, map, Option, Some, None, refl, ap, sym, ◌∙◌, subst, if◌then◌else◌, arith, is_some, length-append}
 use Rattle.std.proofs.lemmas.Bool.Decides.{nat_tests}
 use Rattle.std.specs.List.{AllByRecursion}
 use Rattle.arrayvec.specs.ArrayVec.{ArrayVec}
@@ -16,6 +16,11 @@ use Rattle.ax_link.specs.Opening.{opening, rules_new}
 use Rattle.ax_segment.specs.Joining.{Nothing}
 use Rattle.l3_datagram.specs.Datagrams.{Datagram}
 use Rattle.l3_datagram.specs.declared.carrier.Offered.TheVariants.{Taken, Dropped}
+use Rattle.arrayvec.specs.ArrayVec.{ArrayVec}
+use Rattle.ax_address.specs.declared.address.Address.{Address}
+use Rattle.std.specs.Prelude.{Result, Ok, Err, is_ok}
+use Rattle.link_table.specs.declared.open_refusal.OpenRefusal.{OpenRefusal}
+use Rattle.link_table.specs.declared.open_refusal.OpenRefusal.TheVariants.{Full, Standing, TooLong}
 use Rattle.link_table.specs.Calls as calls
 use Rattle.link_table.specs.Ending.{EndsAreTold, Leaves, LeavesTold, OneEach, TextsAreOfLinks, has_link, stands_or_told, tells_end}
 use Rattle.link_table.specs.Frames.{netrom}
@@ -82,7 +87,7 @@ made peer size path part t none room r o =
     m = calls.made peer size path t
 
     new : Linked
-    new = record { peer = peer; link = opening (rules_new size t.config); path = path; joiner = Nothing }
+    new = record { peer = peer; link = opening (rules_new size t.config); path = path; joiner = Nothing; called = false }
 
     found : link_with peer m.links ≡ Some new
     found = last_found peer t.links new none (call_refl peer)
@@ -239,6 +244,32 @@ standing to d now t = by (link_with to t.links)
     by None = same t
     by (Some l) = takes_by (takes l.link)
 
+-- where nothing stands against it, no link stands and there is room
+abbrev pub answer_if : (there long full : Bool) → Result (Unit {0}) OpenRefusal
+answer_if there long full = if there then Err Standing else if long then Err TooLong else if full then Err Full else Ok tt
+
+pub none_opened : (there long full : Bool) → is_ok (answer_if there long full) ≡ true → (there ≡ false) × (full ≡ false)
+none_opened false false false e = (refl, refl)
+none_opened false false true e = absurd (cc e)
+none_opened false true full e = absurd (cc e)
+none_opened true long full e = absurd (cc e)
+
+pub none_there : (x : Option Linked) → is_some x ≡ false → x ≡ None
+none_there None e = refl
+none_there (Some l) e = absurd (cc e)
+
+opens : (peer : Callsign) (path : ArrayVec Address) (now : ℕ) (t : Table) → LeavesTold t (calls.open_link peer path now t)
+opens peer path now t = by (is_ok (calls.open_answer peer path t)) refl
+  where
+    over : ArrayVec Address
+    over = calls.open_path peer path t.paths
+
+    by : (b : Bool) → is_ok (calls.open_answer peer path t) ≡ b → LeavesTold t (if b then calls.set_up_over peer over now t else t)
+    by true e =
+        let free = none_opened (is_some (link_with peer t.links)) (nat_lt calls.most_repeaters (length path.items)) (nat_le calls.most_links (length t.links)) e in
+        made peer t.size over (step_link t.own Set_up now) t (none_there (link_with peer t.links) free.0) free.1 (λ w. stepped t.own Set_up now w)
+    by false e = same t
+
 over_link : (to : Callsign) (d : Datagram) (now : ℕ) (t : Table) → LeavesTold t (calls.offer_link to d now t).table
 over_link to d now t = by (link_with to t.links) refl
   where
@@ -267,6 +298,7 @@ pub ends_are_told : EndsAreTold
 ends_are_told = record {
   arrives = λ t f now. kind (is_command f.head) f.control f now t;
   ticks = λ t now. ticked (map (λ l. l.peer) t.links) now t;
+  opens = λ t peer path now. opens peer path now t;
   closes = λ t peer now. at_link peer (step_link t.own Close now) t (λ w. stepped t.own Close now w);
   breaks = λ t peer. ended peer (Failed ∷ []) t refl;
   takes = λ t peer now. take peer now t;

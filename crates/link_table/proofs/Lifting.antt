@@ -19,7 +19,7 @@ use Rattle.link_table.specs.declared.entry.LinkEntry.{LinkEntry}
 use Rattle.link_table.specs.declared.link_of.LinkOf.{LinkOf}
 use Rattle.link_table.specs.Standing.{EntryGoes, EntryStands, GoesQuietly, HandsUp, Lifted, LinkGoes, gone_out, held_of, size_of}
 use Rattle.ax_address.specs.Callsign.{Callsign}
-use Rattle.link_table.specs.Works.{Work, arrive_at_link, first_to_take, hand_up, is_down, is_text, joiner_after, lost_by, most_taken, settle, step_link, take_payload, unless_text}
+use Rattle.link_table.specs.Works.{Work, arrive_at_link, called_by, first_to_take, hand_up, is_down, is_text, joiner_after, lost_by, most_taken, note_caller, settle, step_link, take_payload, unless_text}
 
 -- the oldest frame of a link has gone out, and the others are still to go
 pub one_out : (size : ℕ) (route : LinkRoute) (out : LinkOut) (old new : LinkView) (fs fs2 : List Written) → slice_get old.outs 0 ≡ Some out → new.outs ≡ drop 1 old.outs →
@@ -103,6 +103,7 @@ lifts i now old mid new k k2 done l = record { route = l.route; size = size; goe
           path = stands.path ∙ sym (ap (λ (r : LinkRoute). r.path) l.route);
           link = subst (λ n. StandsFor n (held_of new.link) g.link) (sym size) link;
           joiner = rw (notes, stands.joiner) (sym l.joiner);
+          called = stands.called ∙ sym l.called;
           within = subst IsWithin (sym l.joiner) (after_within (option_to_list (held_of mid).notice) old.joiner stands.within);
           pending = record {
             waiting = l.waiting ∙ stands.pending.waiting;
@@ -130,6 +131,7 @@ hands p e j2 k k2 u = record { route = refl; size = refl; goes = λ w s. by w s 
           path = s.path;
           link = s.link;
           joiner = s.joiner ∙ sym same;
+          called = s.called;
           within = u.within s.within;
           pending = record { waiting = rw (came, s.pending.waiting, s.peer) refl; lost = u.lost ∙ s.pending.lost; notices = u.notices ∙ s.pending.notices; frames = u.frames ∙ s.pending.frames };
         }
@@ -139,6 +141,7 @@ hands p e j2 k k2 u = record { route = refl; size = refl; goes = λ w s. by w s 
           path = s.path;
           link = s.link;
           joiner = rw (same, s.joiner) refl;
+          called = s.called;
           within = u.within s.within;
           pending = record { waiting = came ∙ s.pending.waiting; lost = u.lost ∙ s.pending.lost; notices = u.notices ∙ s.pending.notices; frames = u.frames ∙ s.pending.frames };
         }
@@ -148,6 +151,7 @@ hands p e j2 k k2 u = record { route = refl; size = refl; goes = λ w s. by w s 
           path = s.path;
           link = s.link;
           joiner = s.joiner ∙ sym same;
+          called = s.called;
           within = u.within s.within;
           pending = record { waiting = came ∙ s.pending.waiting; lost = u.lost ∙ s.pending.lost; notices = u.notices ∙ s.pending.notices; frames = u.frames ∙ s.pending.frames };
         }
@@ -164,6 +168,7 @@ hands_first now p q old mid j2 new k k2 k3 e done quiet u l =
       size = l.size;
       link = l.link;
       joiner = ap (λ x. joiner_after (option_to_list x) old.joiner) (sym quiet);
+      called = l.called;
       waiting = refl;
       lost = l.lost ∙ ap (λ xs. xs ++ lost_by old.route.peer (option_to_list (held_of mid).notice)) u.lost;
       notices = l.notices ∙ ap (λ xs. xs ++ map (λ n. (old.route.peer, n)) (option_to_list (held_of mid).notice)) u.notices;
@@ -256,31 +261,56 @@ pub one_waits : (x : Option Payload) → is_some x ≡ true → (p : Payload) ×
 one_waits None e = absurd (cc e)
 one_waits (Some p) e = (p, refl)
 
+-- the set-up of the peer that a frame may be is noted
+pub notes_caller : (f : Frame) (e : LinkEntry) (k : Pending) (b : Bool) → b ≡ called_by f.kind (held_of e.link).phase e.called → EntryGoes (note_caller f) e (record e { called = b }) k k
+notes_caller f e k b is =
+    record {
+      route = refl;
+      size = refl;
+      goes = λ w s.
+          record {
+            peer = s.peer;
+            path = s.path;
+            link = s.link;
+            joiner = s.joiner;
+            called = ap (λ (x : State). called_by f.kind x.phase w.linked.called) s.link.keeps.is ∙ ap (called_by f.kind (held_of e.link).phase) s.called ∙ sym is;
+            within = s.within;
+            pending = s.pending;
+          };
+    }
+
+-- so it is before a step of the link, and what comes of that
+pub comes : (f : Frame) (now : ℕ) (old : LinkEntry) (b : Bool) (mid : LinkOf) (new : LinkEntry) (k k2 : Pending) → b ≡ called_by f.kind (held_of old.link).phase old.called →
+    LinkGoes (Arrive f) now old.link mid → Lifted (record old { link = mid; called = b }) new k k2 → EntryGoes (λ w. step_link old.route.own (Arrive f) now (note_caller f w)) old new k k2
+comes f now old b mid new k k2 is done l =
+    let noted : LinkEntry = record old { called = b } in
+    follows (note_caller f) (step_link old.route.own (Arrive f) now) old noted new k k k2 (notes_caller f old k b is) (lifts (Arrive f) now noted mid new k k2 done l)
+
 phase_is : (e : LinkEntry) (k : Pending) (w : Work) → EntryStands e k w → is_down w.linked.link.phase ≡ is_down (held_of e.link).phase
 phase_is e k w s = ap (λ (x : State). is_down x.phase) s.link.keeps.is
 
 -- a frame has come, and the link has ended
-pub arrives_down : (f : Frame) (now : ℕ) (old new : LinkEntry) (k k2 : Pending) → EntryGoes (step_link old.route.own (Arrive f) now) old new k k2 →
+pub arrives_down : (f : Frame) (now : ℕ) (old new : LinkEntry) (k k2 : Pending) → EntryGoes (λ w. step_link old.route.own (Arrive f) now (note_caller f w)) old new k k2 →
     is_down (held_of new.link).phase ≡ true → EntryGoes (arrive_at_link old.route.own f now) old new k k2
 arrives_down f now old new k k2 g e =
     record {
       route = g.route;
       size = g.size;
       goes = λ w s.
-          let s2 : Work = step_link old.route.own (Arrive f) now w in
+          let s2 : Work = step_link old.route.own (Arrive f) now (note_caller f w) in
           let r = g.goes w s in
           subst (EntryStands new k2) (sym (ap (λ b. if b then s2 else settle most_taken old.route.own now s2) (phase_is new k2 s2 r ∙ e))) r;
     }
 
 -- or it stands, and what it brought is taken
-pub arrives_on : (f : Frame) (now : ℕ) (old mid new : LinkEntry) (k k2 k3 : Pending) → EntryGoes (step_link old.route.own (Arrive f) now) old mid k k2 →
+pub arrives_on : (f : Frame) (now : ℕ) (old mid new : LinkEntry) (k k2 k3 : Pending) → EntryGoes (λ w. step_link old.route.own (Arrive f) now (note_caller f w)) old mid k k2 →
     is_down (held_of mid.link).phase ≡ false → EntryGoes (settle most_taken mid.route.own now) mid new k2 k3 → EntryGoes (arrive_at_link old.route.own f now) old new k k3
 arrives_on f now old mid new k k2 k3 g e more =
     record {
       route = more.route ∙ g.route;
       size = more.size ∙ g.size;
       goes = λ w s.
-          let s2 : Work = step_link old.route.own (Arrive f) now w in
+          let s2 : Work = step_link old.route.own (Arrive f) now (note_caller f w) in
           let r = g.goes w s in
           subst (EntryStands new k3) (sym (ap (λ b. if b then s2 else settle most_taken old.route.own now s2) (phase_is mid k2 s2 r ∙ e)))
           (subst (λ (x : LinkRoute). EntryStands new k3 (settle most_taken x.own now s2)) g.route (more.goes s2 r));

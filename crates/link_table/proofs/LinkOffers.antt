@@ -12,7 +12,7 @@ use Rattle.link_table.specs.declared.entry.LinkEntry.{LinkEntry}
 use Rattle.link_table.specs.declared.held_links.HeldLinks.{HeldLinks}
 use Rattle.link_table.specs.declared.pending.Pending.{Pending}
 use Rattle.link_table.specs.Table.{written, Linked, Table, path_to, link_with, with_link, without}
-use Rattle.link_table.specs.Calls.{Offering, at_link, end, link_frame, made, offer, offer_link, offer_standing, offer_ui, set_up_link, pack, most_links}
+use Rattle.link_table.specs.Calls.{Offering, at_link, end, link_frame, made, offer, offer_link, offer_standing, offer_ui, set_up_link, set_up_over, pack, most_links}
 use Rattle.link_table.specs.declared.route.LinkRoute.{LinkRoute}
 use Rattle.ax_link.specs.State.{count_end}
 use Rattle.radio_base.specs.declared.payload.Payload.{Payload}
@@ -52,6 +52,7 @@ entry_quietly i now e e2 k k2 same goes waiting lost notices =
             path = s.path ∙ sym (ap (λ (r : LinkRoute). r.path) same.route);
             link = subst (λ n. StandsFor n (held_of e2.link) (step w.linked.link i now).link) (sym same.size) q.link;
             joiner = ap (λ ns. joiner_after ns w.linked.joiner) q.notes ∙ s.joiner ∙ sym same.joiner;
+            called = s.called ∙ sym same.called;
             within = subst IsWithin (sym same.joiner) s.within;
             pending = record {
               waiting = waiting ∙ s.pending.waiting;
@@ -149,6 +150,7 @@ offer_at c c2 peer e e2 d now Dropped there same offers waiting lost notices n e
       path = f.stands.path ∙ sym (ap (λ (r : LinkRoute). r.path) same.route);
       link = subst (λ m. StandsFor m (held_of e2.link) f.link.link) (sym same.size) (subst (λ (h : LinkView). StandsFor (size_of e.link) h f.link.link) (sym offers.1) f.stands.link);
       joiner = f.stands.joiner ∙ sym same.joiner;
+      called = f.stands.called ∙ sym same.called;
       within = subst IsWithin (sym same.joiner) f.stands.within;
     } in
     let links : LinksStand c.own (set_value (same_call peer) c.links.entries e2) t.links =
@@ -196,15 +198,16 @@ same_length own [] (l ∷ ls) s = absurd s
 same_length own (e ∷ es) [] s = absurd s
 same_length own (e ∷ es) (l ∷ ls) s = ap suc (same_length own es ls s.1)
 
--- a new link, set up
-pub opens : (c c2 c3 : HeldLinks) (to : Callsign) (path : ArrayVec Address) (now : ℕ) → path ≡ path_to to c.paths.entries →
-    CoreGoes (made to (width c.wide) path) c c2 → CoreGoes (λ t. at_link to (step_link t.own Set_up now) t) c2 c3 → CoreGoes (set_up_link to now) c c3
-opens c c2 c3 to path now e first next t s =
+-- a new link, set up over these repeaters
+pub opens : (c c2 c3 : HeldLinks) (to : Callsign) (path : ArrayVec Address) (now : ℕ) →
+    CoreGoes (made to (width c.wide) path) c c2 → CoreGoes (λ t. at_link to (step_link t.own Set_up now) t) c2 c3 → CoreGoes (set_up_over to path now) c c3
+opens c c2 c3 to path now first next t s =
     let size : width c.wide ≡ t.size = sym s.size in
-    let over : path ≡ path_to to t.paths = e ∙ ap (path_to to) (sym s.paths) in
-    subst (λ n. CoreStands c3 (at_link to (step_link t.own Set_up now) (made to n (path_to to t.paths) t))) size
-    (subst (λ (p : ArrayVec Address). CoreStands c3 (at_link to (step_link t.own Set_up now) (made to (width c.wide) p t))) over
-    (next (made to (width c.wide) path t) (first t s)))
+    subst (λ n. CoreStands c3 (at_link to (step_link t.own Set_up now) (made to n path t))) size (next (made to (width c.wide) path t) (first t s))
+
+-- or over those that are set for the peer
+pub opens_set : (c c2 : HeldLinks) (to : Callsign) (path : ArrayVec Address) (now : ℕ) → path ≡ path_to to c.paths.entries → CoreGoes (set_up_over to path now) c c2 → CoreGoes (set_up_link to now) c c2
+opens_set c c2 to path now e goes t s = subst (λ (p : ArrayVec Address). CoreStands c2 (set_up_over to p now t)) (e ∙ ap (path_to to) (sym s.paths)) (goes t s)
 
 pub some_looks : (x : Option LinkEntry) → is_some x ≡ false → x ≡ None
 some_looks None e = refl

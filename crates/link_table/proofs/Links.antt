@@ -174,7 +174,7 @@ at_link_stands c c2 peer e e2 kept2 part there goes same_pending n entries t s =
     let f : Found c.own peer e t.links = found c.own peer c.links.entries t.links e s.links there in
     let w : Work = record { linked = f.link; pending = t.pending } in
     let w2 : Work = part t.own w in
-    let stands : EntryStands e c.pending w = record { peer = f.stands.is ∙ sym f.stands.peer; path = f.stands.path; link = f.stands.link; joiner = f.stands.joiner; within = f.stands.within; pending = s.pending } in
+    let stands : EntryStands e c.pending w = record { peer = f.stands.is ∙ sym f.stands.peer; path = f.stands.path; link = f.stands.link; joiner = f.stands.joiner; called = f.stands.called; within = f.stands.within; pending = s.pending } in
     let after : EntryStands e2 kept2 w2 = subst (λ o. EntryStands e2 kept2 (part o w)) (f.stands.own ∙ sym s.own) (goes.goes w stands) in
     let same_peer : e2.route.peer ≡ e.route.peer = ap (λ (r : LinkRoute). r.peer) goes.route in
     let one : (k : Callsign) → e.route.peer ≡ k → LinkStands c.own k e2 w2.linked = λ k q.
@@ -185,6 +185,7 @@ at_link_stands c c2 peer e e2 kept2 part there goes same_pending n entries t s =
       path = after.path;
       link = after.link;
       joiner = after.joiner;
+      called = after.called;
       within = after.within;
     } in
     let links : LinksStand c.own (set_value (same_call peer) c.links.entries e2) (with_link peer w2.linked t.links) =
@@ -223,7 +224,7 @@ rests_at c c2 peer e2 r d entries =
 
 -- ---- each link in its turn
 
-keys_stand : (own : Callsign) (es : List (Callsign × LinkEntry)) (ls : List Linked) → LinksStand own es ls → keys_of es ≡ map (λ l. l.peer) ls
+pub keys_stand : (own : Callsign) (es : List (Callsign × LinkEntry)) (ls : List Linked) → LinksStand own es ls → keys_of es ≡ map (λ l. l.peer) ls
 keys_stand own [] [] s = refl
 keys_stand own [] (l ∷ ls) s = absurd s
 keys_stand own (e ∷ es) [] s = absurd s
@@ -272,9 +273,9 @@ rests_more c c2 k e r l d q =
     }
 
 pub made_stands : (c c2 : HeldLinks) (size : ℕ) (e : LinkEntry) (route : LinkRoute) → SameNode c c2 → c2.pending ≡ c.pending →
-    c2.links.entries ≡ c.links.entries ++ (route.peer, e) ∷ [] → route.own ≡ c.own → e.route ≡ route → e.joiner ≡ Nothing → size_of e.link ≡ size →
+    c2.links.entries ≡ c.links.entries ++ (route.peer, e) ∷ [] → route.own ≡ c.own → e.route ≡ route → e.joiner ≡ Nothing → e.called ≡ false → size_of e.link ≡ size →
     StandsFor size (held_of e.link) (opening (rules_new size c.config)) → CoreGoes (made route.peer size route.path) c c2
-made_stands c c2 size e route n pending entries own same joiner width_is link t s =
+made_stands c c2 size e route n pending entries own same joiner called width_is link t s =
     record {
       own = s.own ∙ sym n.own;
       by_links = s.by_links ∙ sym n.by_links;
@@ -287,6 +288,7 @@ made_stands c c2 size e route n pending entries own same joiner width_is link t 
         path = sym (ap (λ (r : LinkRoute). r.path) same);
         link = rw (s.config, width_is) link;
         joiner = sym joiner;
+        called = sym called;
         within = subst IsWithin (sym joiner) tt;
       }));
       paths = s.paths ∙ sym n.paths;

@@ -166,7 +166,7 @@ one_more (k ∷ ls) l = omega (arith, one_more ls l)
 opened_leaves : (to : Callsign) (now : ℕ) (t : Table) → link_with to t.links ≡ None → Leaves t (calls.set_up_link to now t)
 opened_leaves to now t none =
     let rules : Rules = rules_new t.size t.config in
-    let l : Linked = record { peer = to; link = opening rules; path = path_to to t.paths; joiner = Nothing } in
+    let l : Linked = record { peer = to; link = opening rules; path = path_to to t.paths; joiner = Nothing; called = false } in
     let made : Table = calls.made to t.size (path_to to t.paths) t in
     let found : link_with to made.links ≡ Some l = found_last to t.links l (call_refl to) none in
     let empty = none_filled (places rules) in

@@ -1,6 +1,6 @@
 -- What a table of links puts out can be written.
 use Rattle.std.proofs.Common.{◌≡◌, ℕ, zero, suc, ◌==◌, ◌≤◌, ◌&&◌, slice_get, Bool, true, false, nat_le, List, [], ◌∷◌, ◌++◌, length, map, drop, reverse, Option, Some, None, refl, ap, sym, ◌∙◌, subst, if◌then◌else◌, inl, inr, is_some, arith}
-use Rattle.std.specs.Prelude.{◌⊎◌}
+use Rattle.std.specs.Prelude.{◌⊎◌, is_ok}
 use Rattle.std.specs.List.{AllByRecursion}
 use Rattle.std.specs.Map.{lookup}
 use Rattle.std.proofs.lemmas.List.{length-map, length-reverse, reverse-append}
@@ -31,7 +31,7 @@ use Rattle.link_table.specs.Frames.{Sent, all_sent, fitting, head_to, most_octet
 use Rattle.link_table.specs.Reaching.{ComesFrom, IsCall, IsSpelled, IsWay, LinkReaches, Reaches, ReachesOn}
 use Rattle.link_table.specs.Texts as texts
 use Rattle.link_table.specs.Table.{Linked, Table, Via, path_or, path_to, link_with, with_link, without}
-use Rattle.link_table.specs.Works.{Work, arrive_at_link, first_to_take, is_down, hand_up, most_taken, emit, settle, step_link, take_payload, tell}
+use Rattle.link_table.specs.Works.{Work, arrive_at_link, first_to_take, is_down, hand_up, most_taken, emit, note_caller, settle, step_link, take_payload, tell}
 use Rattle.link_table.proofs.Carrier.{OpeningBounded}
 
 -- ---- lists
@@ -160,8 +160,8 @@ module _ (bounds_stay : BoundsStay) (settings_stay : SettingsStay) (written : Fr
 
   arrived : (own : Callsign) (f : Frame) (now : ℕ) (w : Work) → Own own → WorkReaches w → WorkReaches (arrive_at_link own f now w)
   arrived own f now w o x =
-      let s : Work = step_link own (Arrive f) now w in
-      by s (stepped own (Arrive f) now w o x) (is_down s.linked.link.phase)
+      let s : Work = step_link own (Arrive f) now (note_caller f w) in
+      by s (stepped own (Arrive f) now (note_caller f w) o (record { bounds = x.0.bounds; of_size = x.0.of_size; peer = x.0.peer; path = x.0.path }, x.1)) (is_down s.linked.link.phase)
     where
       by : (s : Work) → WorkReaches s → (b : Bool) → WorkReaches (if b then s else settle most_taken own now s)
       by s y true = y
@@ -215,7 +215,7 @@ module _ (bounds_stay : BoundsStay) (settings_stay : SettingsStay) (written : Fr
 
   made : (peer : Callsign) (size : ℕ) (path : ArrayVec Address) (t : Table) → size ≡ one → IsCall peer → IsWay path → Reaches one t → Reaches one (calls.made peer size path t)
   made peer size path t z p w x =
-      let l : Linked = record { peer = peer; link = opening (rules_new size t.config); path = path; joiner = Nothing } in
+      let l : Linked = record { peer = peer; link = opening (rules_new size t.config); path = path; joiner = Nothing; called = false } in
       let h : LinkReaches one l = record { bounds = opening_bounded size t.config (subst (λ k. (k ≡ 8) ⊎ (k ≡ 128)) (sym z) x.modulus); of_size = z; peer = p; path = w } in
       record { modulus = x.modulus; of_size = x.of_size; own = x.own; links = both (LinkReaches one) t.links (l ∷ []) x.links (h, tt); paths = x.paths; frames = x.frames }
 
@@ -326,17 +326,28 @@ module _ (bounds_stay : BoundsStay) (settings_stay : SettingsStay) (written : Fr
       by None = x
       by (Some l) = takes_by (takes l.link)
 
-  opened : (to : Callsign) (now : ℕ) (t : Table) → IsCall to → Reaches one t → Reaches one (calls.set_up_link to now t)
-  opened to now t c x =
-      let m : Table = calls.made to t.size (path_to to t.paths) t in
-      at_link_reaches to (step_link t.own Set_up now) m (λ w y. stepped t.own Set_up now w (x.own, x.modulus) y) (made to t.size (path_to to t.paths) t x.of_size c (path_is to t.paths x.paths) x)
+  opened : (to : Callsign) (path : ArrayVec Address) (now : ℕ) (t : Table) → IsCall to → IsWay path → Reaches one t → Reaches one (calls.set_up_over to path now t)
+  opened to path now t c p x =
+      let m : Table = calls.made to t.size path t in
+      at_link_reaches to (step_link t.own Set_up now) m (λ w y. stepped t.own Set_up now w (x.own, x.modulus) y) (made to t.size path t x.of_size c p x)
+
+  opens : (peer : Callsign) (path : ArrayVec Address) (now : ℕ) (t : Table) → IsCall peer → IsWay path → Reaches one t → Reaches one (calls.open_link peer path now t)
+  opens peer path now t c p x = by (is_ok (calls.open_answer peer path t))
+    where
+      over : (b : Bool) → IsWay (if b then path_to peer t.paths else path)
+      over true = path_is peer t.paths x.paths
+      over false = p
+
+      by : (b : Bool) → Reaches one (if b then calls.set_up_over peer (calls.open_path peer path t.paths) now t else t)
+      by true = opened peer (calls.open_path peer path t.paths) now t c (over (length path.items == 0)) x
+      by false = x
 
   offered : (to : Callsign) (d : Datagram) (now : ℕ) (t : Table) → IsCall to → Reaches one t → Reaches one (calls.offer to d now t).table
   offered to d now t c x = by t.by_links
     where
       full : (b : Bool) → Reaches one (if b then record { answer = Dropped; table = t } else calls.offer_standing to d now (calls.set_up_link to now t)).table
       full true = x
-      full false = standing to d now (calls.set_up_link to now t) (opened to now t c x)
+      full false = standing to d now (calls.set_up_link to now t) (opened to (path_to to t.paths) now t c (path_is to t.paths x.paths) x)
 
       linked : (r : Option Linked) → Reaches one (elim r as (λ y. calls.Offering) [
         | None ↦ if nat_le calls.most_links (length t.links) then record { answer = Dropped; table = t } else calls.offer_standing to d now (calls.set_up_link to now t)
@@ -367,6 +378,7 @@ module _ (bounds_stay : BoundsStay) (settings_stay : SettingsStay) (written : Fr
       record {
         arrives = λ t f now from x. kind f now from (is_command f.head) f.control t refl x;
         ticks = λ t now x. ticks (map (λ l. l.peer) t.links) now t x;
+        opens = λ t peer path now c p x. opens peer path now t c p x;
         closes = λ t peer now x. at_link_reaches peer (step_link t.own Close now) t (λ w y. stepped t.own Close now w (x.own, x.modulus) y) x;
         breaks = λ t peer x. ended peer (Failed ∷ []) t x;
         takes = λ t peer now x. taken peer now t x;

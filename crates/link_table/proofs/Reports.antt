@@ -9,7 +9,7 @@ use Rattle.ax_segment.specs.Joining.{join_step}
 use Rattle.link_table.specs.Ending.{is_end, tells_end}
 use Rattle.link_table.specs.Frames.{netrom, segmented}
 use Rattle.link_table.specs.Texts as texts
-use Rattle.link_table.specs.Works.{Work, arrive_at_link, first_to_take, is_down, hand_up, most_taken, settle, step_link, take_payload}
+use Rattle.link_table.specs.Works.{Work, arrive_at_link, first_to_take, is_down, hand_up, most_taken, note_caller, settle, step_link, take_payload}
 use Rattle.link_table.proofs.Phases.{any_end, ends_told}
 
 -- ---- what is told
@@ -139,11 +139,14 @@ pub arrived : (own : Callsign) (f : Frame) (now : ℕ) (w : Work) → Reports w 
 arrived own f now w = by (is_down s.linked.link.phase)
   where
     s : Work
-    s = step_link own (Arrive f) now w
+    s = step_link own (Arrive f) now (note_caller f w)
+
+    come : Reports w s
+    come = next w (note_caller f w) s (quiet w (note_caller f w) refl refl refl) (stepped own (Arrive f) now (note_caller f w))
 
     by : (b : Bool) → Reports w (if b then s else settle most_taken own now s)
-    by true = stepped own (Arrive f) now w
-    by false = next w s _ (stepped own (Arrive f) now w) (settled most_taken own now s)
+    by true = come
+    by false = next w s _ come (settled most_taken own now s)
 
 pub sent_each : (own : Callsign) (ps : List Payload) (now : ℕ) (w : Work) → Reports w (texts.send_each own ps now w)
 sent_each own [] now w = quiet w w refl refl refl

@@ -136,7 +136,7 @@ found_with peer (m ∷ ls) l l2 s q = by (same_call peer m.peer) refl (λ r. fou
 new_takes : (to : Callsign) (d : Datagram) (now : ℕ) (t : Table) → link_with to t.links ≡ None → (calls.offer_standing to d now (calls.set_up_link to now t)).answer ≡ Taken
 new_takes to d now t q =
     let made : Table = calls.made to t.size (path_to to t.paths) t in
-    let l : Linked = record { peer = to; link = opening (rules_new t.size t.config); path = path_to to t.paths; joiner = Nothing } in
+    let l : Linked = record { peer = to; link = opening (rules_new t.size t.config); path = path_to to t.paths; joiner = Nothing; called = false } in
     let w : Work = step_link t.own Set_up now (record { linked = l; pending = t.pending }) in
     let there : link_with to made.links ≡ Some l = found_last to t.links l (call_refl to) q in
     let opened : calls.set_up_link to now t ≡ record made { links = with_link to w.linked made.links; pending = w.pending } =

@@ -1,13 +1,15 @@
 -- What is held, and what contracts see of it.
-use Rattle.std.proofs.Common.{◌≡◌, ◌==◌, ℕ, Bool, true, false, List, [], ◌∷◌, Some, None, refl, ap, sym, ◌∙◌, subst}
+use Rattle.std.proofs.Common.{◌≡◌, ◌==◌, ℕ, Bool, true, false, List, [], ◌∷◌, Option, Some, None, refl, ap, sym, ◌∙◌, subst}
 use Rattle.std.specs.Prelude.{Result, Ok, Err, OnOk, IfOk, is_err}
 use Rattle.std.specs.Map.{lookup}
+use Rattle.arrayvec.specs.ArrayVec.{ArrayVec}
 use Rattle.ax_address.specs.Callsign.{Callsign, same_call}
+use Rattle.ax_address.specs.declared.address.Address.{Address}
 use Rattle.ax_link.specs.State.{State}
 use Rattle.l3_datagram.specs.Datagrams.{Datagram, Offer}
 use Rattle.l3_datagram.specs.declared.carrier.Offered.{Offered}
 use Rattle.link_table.specs.declared.entry.LinkEntry.{LinkEntry}
-use Rattle.link_table.specs.Calls.{is_128, offer}
+use Rattle.link_table.specs.Calls.{is_128, is_called, link_path, offer}
 use Rattle.link_table.proofs.Links.{Found, found, none_found}
 use Rattle.link_table.specs.declared.held_links.HeldLinks.{HeldLinks}
 use Rattle.link_table.specs.Standing.{CoreGoes, CoreStands, LentStands, LinksStand, Made, TableGoes, TableStands, shown, size_of, width}
@@ -84,3 +86,23 @@ wide_is own peer es t e b s q w =
 
 pub wide_none : (own peer : Callsign) (es : List (Callsign × LinkEntry)) (t : Table) → LinksStand own es t.links → lookup (same_call peer) es ≡ None → false ≡ is_128 peer t
 wide_none own peer es t s q = sym (ap (λ z. elim z as (λ x. Bool) [ None ↦ false | Some l ↦ l.link.rules.size == 128 ]) (none_found own peer es t.links s q))
+
+-- who set a link up
+
+pub called_is : (c : HeldLinks) (peer : Callsign) (e : LinkEntry) → lookup (same_call peer) c.links.entries ≡ Some e → (t : Table) → CoreStands c t → e.called ≡ is_called peer t
+called_is c peer e q t s =
+    let f : Found c.own peer e t.links = found c.own peer c.links.entries t.links e s.links q in
+    sym (ap (λ z. elim z as (λ x. Bool) [ None ↦ false | Some l ↦ l.called ]) f.with ∙ f.stands.called)
+
+pub called_none : (c : HeldLinks) (peer : Callsign) → lookup (same_call peer) c.links.entries ≡ None → (t : Table) → CoreStands c t → false ≡ is_called peer t
+called_none c peer q t s = sym (ap (λ z. elim z as (λ x. Bool) [ None ↦ false | Some l ↦ l.called ]) (none_found c.own peer c.links.entries t.links s.links q))
+
+-- and over what it goes
+
+pub path_is : (c : HeldLinks) (peer : Callsign) (e : LinkEntry) → lookup (same_call peer) c.links.entries ≡ Some e → (t : Table) → CoreStands c t → Some e.route.path ≡ link_path peer t
+path_is c peer e q t s =
+    let f : Found c.own peer e t.links = found c.own peer c.links.entries t.links e s.links q in
+    sym (ap (λ z. elim z as (λ x. Option (ArrayVec Address)) [ None ↦ None | Some l ↦ Some l.path ]) f.with ∙ ap Some f.stands.path)
+
+pub path_none : (c : HeldLinks) (peer : Callsign) → lookup (same_call peer) c.links.entries ≡ None → (t : Table) → CoreStands c t → None ≡ link_path peer t
+path_none c peer q t s = sym (ap (λ z. elim z as (λ x. Option (ArrayVec Address)) [ None ↦ None | Some l ↦ Some l.path ]) (none_found c.own peer c.links.entries t.links s.links q))

@@ -14,12 +14,15 @@ use Rattle.ax_link.specs.declared.notice.LinkNotice.TheVariants.{Closed, Failed}
 use Rattle.ax_segment.specs.Joining.{join_step}
 use Rattle.l3_datagram.specs.Datagrams.{Datagram, Parcel}
 use Rattle.l3_datagram.specs.declared.carrier.Offered.TheVariants.{Taken, Dropped}
+use Rattle.arrayvec.specs.ArrayVec.{ArrayVec}
+use Rattle.ax_address.specs.declared.address.Address.{Address}
+use Rattle.std.specs.Prelude.{is_ok}
 use Rattle.link_table.specs.Calls as calls
 use Rattle.link_table.specs.Frames.{netrom, segmented}
 use Rattle.link_table.specs.Laws.{OnlyFramesBring}
 use Rattle.link_table.specs.Table.{Linked, Table, link_with, path_to, without}
 use Rattle.link_table.specs.Texts as texts
-use Rattle.link_table.specs.Works.{Work, arrive_at_link, first_to_take, is_down, hand_up, most_taken, settle, step_link, take_payload, tell}
+use Rattle.link_table.specs.Works.{Work, arrive_at_link, first_to_take, is_down, hand_up, most_taken, note_caller, settle, step_link, take_payload, tell}
 use Rattle.link_table.proofs.Finding.{found_peer}
 
 -- pairs with this call were added
@@ -86,7 +89,7 @@ arrived_adds : (own peer : Callsign) (f : Frame) (now : ℕ) (w : Work) → w.li
 arrived_adds own peer f now w e = by (is_down s.linked.link.phase)
   where
     s : Work
-    s = step_link own (Arrive f) now w
+    s = step_link own (Arrive f) now (note_caller f w)
 
     by : (b : Bool) → Adds peer w.pending.waiting (if b then s else settle most_taken own now s).pending.waiting
     by true = nothing peer w.pending.waiting
@@ -199,6 +202,13 @@ standing_keeps to d now t = by (link_with to t.links)
     by None = refl
     by (Some l) = takes_by (takes l.link)
 
+open_keeps : (peer : Callsign) (path : ArrayVec Address) (now : ℕ) (t : Table) → (calls.open_link peer path now t).pending.waiting ≡ t.pending.waiting
+open_keeps peer path now t = by (is_ok (calls.open_answer peer path t))
+  where
+    by : (b : Bool) → (if b then calls.set_up_over peer (calls.open_path peer path t.paths) now t else t).pending.waiting ≡ t.pending.waiting
+    by true = at_link_keeps peer (step_link t.own Set_up now) (calls.made peer t.size (calls.open_path peer path t.paths) t) (λ w. refl)
+    by false = refl
+
 link_keeps : (to : Callsign) (d : Datagram) (now : ℕ) (t : Table) → (calls.offer_link to d now t).table.pending.waiting ≡ t.pending.waiting
 link_keeps to d now t = by (link_with to t.links)
   where
@@ -233,6 +243,7 @@ only_frames_bring =
       arrives = λ t f now. kind_adds (is_command f.head) f.control f now t;
       takes = λ t peer now. take_adds peer now t;
       ticks = λ t now. ticks_keep (map (λ l. l.peer) t.links) now t;
+      opens = λ t peer path now. open_keeps peer path now t;
       closes = λ t peer now. at_link_keeps peer (step_link t.own Close now) t (λ w. refl);
       breaks = λ t peer. ended_keeps peer (Failed ∷ []) t;
       sends = λ t peer text now. at_link_keeps peer (texts.send_text_of t.own text now) t (λ w. each_keeps t.own (texts.payloads_of w.linked.link.rules.size text) now w);

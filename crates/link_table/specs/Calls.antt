@@ -1,9 +1,11 @@
 -- The calls of a table of links, each one step.
-use Rattle.std.specs.Prelude.{ℕ, ◌≡◌, ◌==◌, ◌&&◌, Bool, true, false, not, nat_le, nat_lt, is_some, Result, Ok, Err, if◌then◌else◌, List, [], ◌∷◌, ◌++◌, map, length, drop, Option, None, Some}
+use Rattle.std.specs.Prelude.{ℕ, ◌≡◌, ◌==◌, ◌&&◌, Bool, true, false, not, nat_le, nat_lt, is_some, is_ok, Result, Ok, Err, if◌then◌else◌, List, [], ◌∷◌, ◌++◌, map, length, drop, Option, None, Some}
 use Rattle.std.specs.Map.{lookup}
 use Rattle.indexmap.specs.IndexMap.{insert_entry}
 use Rattle.ax_address.specs.Callsign.{same_call, Callsign}
 use Rattle.ax_link.specs.declared.config.LinkConfig.{LinkConfig}
+use Rattle.link_table.specs.declared.open_refusal.OpenRefusal.{OpenRefusal}
+use Rattle.link_table.specs.declared.open_refusal.OpenRefusal.TheVariants as opens
 use Rattle.link_table.specs.declared.path_refusal.PathRefusal.{PathRefusal}
 use Rattle.link_table.specs.declared.path_refusal.PathRefusal.TheVariants.{TooLong, Full}
 use Rattle.arrayvec.specs.ArrayVec.{ArrayVec}
@@ -25,7 +27,7 @@ use Rattle.l3_datagram.specs.Datagrams.{Datagram}
 use Rattle.l3_datagram.specs.declared.carrier.Offered.{Offered}
 use Rattle.l3_datagram.specs.declared.carrier.Offered.TheVariants.{Taken, Dropped}
 use Rattle.link_table.specs.Frames.{Sent, netrom, sent, fitting, head_to, all_sent}
-use Rattle.link_table.specs.Table.{Table, link_with, with_link, without, path_to}
+use Rattle.link_table.specs.Table.{Linked, Table, Via, link_with, with_link, without, path_to}
 use Rattle.link_table.specs.Works.{Work, arrive_at_link, is_down, emit, step_link, tell}
 
 -- the most links of a node
@@ -55,7 +57,8 @@ end peer notes t =
 -- one link more, which is Down
 abbrev pub made : Callsign → ℕ → ArrayVec Address → Table → Table
 made peer size path t =
-    record t { links = t.links ++ record { peer = peer; link = opening (rules_new size t.config); path = path; joiner = Nothing } ∷ [] }
+    let new : Linked = record { peer = peer; link = opening (rules_new size t.config); path = path; joiner = Nothing; called = false } in
+    record t { links = t.links ++ new ∷ [] }
 
 -- ---- frames that come
 
@@ -174,9 +177,12 @@ offer_standing to d now t =
           else record { answer = Dropped; table = t }
     ]
 
--- a new link, for which there has to be room, is set up first
+-- a new link, for which there has to be room, is set up first: over these repeaters, or over those that are set for the peer
+abbrev pub set_up_over : Callsign → ArrayVec Address → ℕ → Table → Table
+set_up_over to path now t = at_link to (step_link t.own Set_up now) (made to t.size path t)
+
 abbrev pub set_up_link : Callsign → ℕ → Table → Table
-set_up_link to now t = at_link to (step_link t.own Set_up now) (made to t.size (path_to to t.paths) t)
+set_up_link to now t = set_up_over to (path_to to t.paths) now t
 
 abbrev pub offer_link : Callsign → Datagram → ℕ → Table → Offering
 offer_link to d now t =
@@ -187,6 +193,36 @@ offer_link to d now t =
 
 abbrev pub offer : Callsign → Datagram → ℕ → Table → Offering
 offer to d now t = if t.by_links then offer_link to d now t else record { answer = Taken; table = offer_ui to d t }
+
+-- ---- links that are opened
+
+-- the most repeaters over which a node reaches a peer
+abbrev pub most_repeaters : ℕ
+most_repeaters = 2
+
+-- a link isn't opened where one stands, over more than two repeaters, or where there is no room for it
+abbrev pub open_answer : Callsign → ArrayVec Address → Table → Result (Unit {0}) OpenRefusal
+open_answer peer path t =
+    if is_some (link_with peer t.links) then Err opens.Standing
+    else if nat_lt most_repeaters (length path.items) then Err opens.TooLong
+    else if nat_le most_links (length t.links) then Err opens.Full
+    else Ok tt
+
+-- over these repeaters, or where there are none over those that are set for the peer
+abbrev pub open_path : Callsign → ArrayVec Address → List Via → ArrayVec Address
+open_path peer path vias = if length path.items == 0 then path_to peer vias else path
+
+-- a link is made and set up, where nothing stands against it
+abbrev pub open_link : Callsign → ArrayVec Address → ℕ → Table → Table
+open_link peer path now t = if is_ok (open_answer peer path t) then set_up_over peer (open_path peer path t.paths) now t else t
+
+-- the repeaters over which the link with a peer goes, where one stands
+abbrev pub link_path : Callsign → Table → Option (ArrayVec Address)
+link_path peer t = elim (link_with peer t.links) as (λ x. Option (ArrayVec Address)) [ None ↦ None | Some l ↦ Some l.path ]
+
+-- whether a link with this peer stands that the peer has set up
+abbrev pub is_called : Callsign → Table → Bool
+is_called peer t = elim (link_with peer t.links) as (λ x. Bool) [ None ↦ false | Some l ↦ l.called ]
 
 -- ---- what is fetched
 
@@ -208,12 +244,9 @@ fetch t = record t { pending = record t.pending { frames = drop 1 t.pending.fram
 abbrev pub with_path : Callsign → ArrayVec Address → Table → Table
 with_path peer path t = record t { paths = insert_entry same_call t.paths peer path }
 
--- the most peers that have a path, and the most repeaters of one
+-- the most peers that have a path
 abbrev pub most_paths : ℕ
 most_paths = 16
-
-abbrev pub most_repeaters : ℕ
-most_repeaters = 2
 
 -- a path is refused where it has too many repeaters, or where so many other peers have one
 abbrev pub path_answer : Callsign → ArrayVec Address → Table → Result (Unit {0}) PathRefusal

@@ -1,12 +1,14 @@
 -- A link leaves a node's table only where it is told that it has ended (this project's profile).
 use Rattle.std.specs.Prelude.{ℕ, ◌≡◌, ◌≤◌, Bool, true, false, ◌||◌, ◌&&◌, is_some, List, [], ◌∷◌, length, None}
 use Rattle.std.specs.List.{AllByRecursion}
+use Rattle.arrayvec.specs.ArrayVec.{ArrayVec}
 use Rattle.ax_address.specs.Callsign.{Callsign, same_call}
+use Rattle.ax_address.specs.declared.address.Address.{Address}
 use Rattle.ax_frame.specs.Frames.{Frame as AirFrame}
 use Rattle.ax_link.specs.declared.notice.LinkNotice.{LinkNotice}
 use Rattle.ax_link.specs.declared.notice.LinkNotice.TheVariants.{Opened, Reset, Closed, Failed, Refused}
 use Rattle.l3_datagram.specs.Datagrams.{Datagram}
-use Rattle.link_table.specs.Calls.{arrive, break_link, close, offer, tick}
+use Rattle.link_table.specs.Calls.{arrive, break_link, close, offer, open_link, tick}
 use Rattle.link_table.specs.Texts.{send_text, take_text, text_peers}
 use Rattle.link_table.specs.Table.{Linked, Table, link_with}
 use Rattle.link_table.specs.Works.{is_down}
@@ -58,6 +60,7 @@ LeavesTold old new = IsInOrder old → Leaves old new
 pub record EndsAreTold : Type 0 where
   pub arrives : (t : Table) (f : AirFrame) (now : ℕ) → LeavesTold t (arrive f now t)
   pub ticks : (t : Table) (now : ℕ) → LeavesTold t (tick now t)
+  pub opens : (t : Table) (peer : Callsign) (path : ArrayVec Address) (now : ℕ) → LeavesTold t (open_link peer path now t)
   pub closes : (t : Table) (peer : Callsign) (now : ℕ) → LeavesTold t (close peer now t)
   pub breaks : (t : Table) (peer : Callsign) → LeavesTold t (break_link peer t)
   pub takes : (t : Table) (peer : Callsign) (now : ℕ) → LeavesTold t (take_text peer now t)

@@ -1,14 +1,16 @@
 -- What holds of every table of links.
 use Rattle.std.specs.Prelude.{ℕ, ◌≡◌, ◌≤◌, ◌==◌, ◌||◌, ◌⊎◌, not, nat_le, Bool, true, false, List, ◌++◌, length, None, Some, Ok}
 use Rattle.std.specs.List.{AllByRecursion, concat}
+use Rattle.arrayvec.specs.ArrayVec.{ArrayVec}
 use Rattle.radio_base.specs.declared.payload.Payload.{Payload}
 use Rattle.ax_address.specs.Callsign.{Callsign}
+use Rattle.ax_address.specs.declared.address.Address.{Address}
 use Rattle.ax_frame.specs.Frames.{Frame as AirFrame}
 use Rattle.ax_link.specs.Kinds.{payload_of}
 use Rattle.ax_link.specs.Bounds.{Bounded, stock, Has, HavePayloads}
 use Rattle.l3_datagram.specs.Datagrams.{Datagram, Parcel}
 use Rattle.l3_datagram.specs.declared.carrier.Offered.TheVariants.{Taken}
-use Rattle.link_table.specs.Calls.{arrive, break_link, close, collect, fetch, tell_lost, most_links, notice, offer, pack, set_up_size, source, tick}
+use Rattle.link_table.specs.Calls.{arrive, break_link, close, collect, fetch, tell_lost, most_links, notice, offer, open_link, pack, set_up_size, source, tick}
 use Rattle.link_table.specs.Frames.{Sent, is_numbered, netrom}
 use Rattle.link_table.specs.Table.{Linked, Table, link_with}
 use Rattle.link_table.specs.Texts.{answer_of, cut, payloads_of, send_text, send_text_of, take_text}
@@ -56,6 +58,7 @@ module _ (offered came : Callsign → Payload → Bool) (sizes : ℕ → Bool) w
   pub record CarriesOn : Type 0 where
     pub arrives : (t : Table) (f : AirFrame) (now : ℕ) → Brings f → Carries t → Carries (arrive f now t)
     pub ticks : (t : Table) (now : ℕ) → Carries t → Carries (tick now t)
+    pub opens : (t : Table) (peer : Callsign) (path : ArrayVec Address) (now : ℕ) → Carries t → Carries (open_link peer path now t)
     pub closes : (t : Table) (peer : Callsign) (now : ℕ) → Carries t → Carries (close peer now t)
     pub breaks : (t : Table) (peer : Callsign) → Carries t → Carries (break_link peer t)
     pub takes : (t : Table) (peer : Callsign) (now : ℕ) → Carries t → Carries (take_text peer now t)
@@ -107,6 +110,8 @@ pub record OnlyFramesBring : Type 0 where
   pub takes : (t : Table) (peer : Callsign) (now : ℕ) →
       (added : List Parcel) × ((take_text peer now t).pending.waiting ≡ t.pending.waiting ++ added) × AllByRecursion (λ p. p.0 ≡ peer) added
   pub ticks : (t : Table) (now : ℕ) → (tick now t).pending.waiting ≡ t.pending.waiting
+  pub opens : (t : Table) (peer : Callsign) (path : ArrayVec Address) (now : ℕ) →
+      (open_link peer path now t).pending.waiting ≡ t.pending.waiting
   pub closes : (t : Table) (peer : Callsign) (now : ℕ) → (close peer now t).pending.waiting ≡ t.pending.waiting
   pub breaks : (t : Table) (peer : Callsign) → (break_link peer t).pending.waiting ≡ t.pending.waiting
   pub sends : (t : Table) (peer : Callsign) (text : List ℕ) (now : ℕ) → (send_text peer text now t).pending.waiting ≡ t.pending.waiting

@@ -8,7 +8,7 @@ use Rattle.ax_address.specs.declared.address.Address.{Address}
 use Rattle.ax_frame.specs.Frames.{Frame as AirFrame, IsAddress, Spells}
 use Rattle.ax_link.specs.Bounds.{Bounded, stock}
 use Rattle.l3_datagram.specs.Datagrams.{Datagram}
-use Rattle.link_table.specs.Calls.{arrive, break_link, close, collect, fetch, notice, offer, tell_lost, tick, set_up_size, with_path}
+use Rattle.link_table.specs.Calls.{arrive, break_link, close, collect, fetch, notice, offer, open_link, tell_lost, tick, set_up_size, with_path}
 use Rattle.link_table.specs.Frames.{Sent, octets_of}
 use Rattle.link_table.specs.Texts.{send_text, take_text}
 use Rattle.link_table.specs.Table.{Linked, Table, Via}
@@ -50,6 +50,8 @@ pub record ComesFrom (size : ℕ) (f : AirFrame) : Type 0 where
 pub record ReachesOn (size : ℕ) : Type 0 where
   pub arrives : (t : Table) (f : AirFrame) (now : ℕ) → ComesFrom size f → Reaches size t → Reaches size (arrive f now t)
   pub ticks : (t : Table) (now : ℕ) → Reaches size t → Reaches size (tick now t)
+  pub opens : (t : Table) (peer : Callsign) (path : ArrayVec Address) (now : ℕ) → IsCall peer → IsWay path → Reaches size t
+      → Reaches size (open_link peer path now t)
   pub closes : (t : Table) (peer : Callsign) (now : ℕ) → Reaches size t → Reaches size (close peer now t)
   pub breaks : (t : Table) (peer : Callsign) → Reaches size t → Reaches size (break_link peer t)
   pub takes : (t : Table) (peer : Callsign) (now : ℕ) → Reaches size t → Reaches size (take_text peer now t)

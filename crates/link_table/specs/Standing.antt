@@ -1,6 +1,8 @@
 -- What the code keeps of a table of links, and for which tables it stands.
 use Rattle.std.specs.Prelude.{is_some, ◌≡◌, ℕ, ◌≤◌, ◌==◌, Bool, true, false, if◌then◌else◌, List, [], ◌∷◌, ◌++◌, length, map, Result, Ok, Err, Option, None, Some, min, ◌-◌, slice_get, not, ◌&&◌, nat_lt}
 use Rattle.std.specs.Option.{option_to_list}
+use Rattle.std.specs.declared.alloc.Global.{Global}
+use Rattle.std.specs.declared.vec.Vec.{Vec}
 use Rattle.ax_address.specs.Callsign.{Callsign, same_call}
 use Rattle.ax_link.specs.declared.config.LinkConfig.{LinkConfig}
 use Rattle.ax_link.specs.declared.notice.LinkNotice.{LinkNotice}
@@ -15,6 +17,8 @@ use Rattle.radio_base.specs.declared.payload.Payload.{Payload}
 use Rattle.l3_datagram.specs.Datagrams.{Parcel, CarrierCall, Collect, Fail, Offer}
 use Rattle.link_table.specs.declared.link_of.LinkOf.{LinkOf}
 use Rattle.link_table.specs.declared.link_of.LinkOf.TheVariants.{Eight, Wide}
+use Rattle.link_table.specs.declared.open_refusal.OpenRefusal.{OpenRefusal}
+use Rattle.link_table.specs.declared.open_refusal.OpenRefusal.TheVariants as OpenRefusals
 use Rattle.link_table.specs.declared.path_refusal.PathRefusal.{PathRefusal}
 use Rattle.link_table.specs.declared.path_refusal.PathRefusal.TheVariants.{TooLong, Full, NoMemory}
 use Rattle.link_table.specs.declared.text_refusal.TextRefusal.{TextRefusal}
@@ -51,6 +55,7 @@ pub record EntryStands (e : LinkEntry) (keep : Pending) (w : Work) : Type 0 wher
   pub path : w.linked.path ≡ e.route.path
   pub link : StandsFor (size_of e.link) (held_of e.link) w.linked.link
   pub joiner : w.linked.joiner ≡ e.joiner
+  pub called : w.linked.called ≡ e.called
   pub within : IsWithin e.joiner
   pub pending : PendingStands keep w.pending
 
@@ -70,6 +75,7 @@ pub record Lifted (old new : LinkEntry) (keep kept2 : Pending) : Type 0 where
   pub size : size_of new.link ≡ size_of old.link
   pub link : held_of new.link ≡ record (held_of old.link) { outs = []; notice = None }
   pub joiner : new.joiner ≡ joiner_after (option_to_list (held_of old.link).notice) old.joiner
+  pub called : new.called ≡ old.called
   pub waiting : kept2.waiting.items ≡ keep.waiting.items
   pub lost : kept2.lost.items ≡ keep.lost.items ++ lost_by old.route.peer (option_to_list (held_of old.link).notice)
   pub notices : kept2.notices.items ≡ keep.notices.items ++ map (λ n. (old.route.peer, n)) (option_to_list (held_of old.link).notice)
@@ -102,6 +108,7 @@ pub record LinkStands (node key : Callsign) (e : LinkEntry) (l : Linked) : Type 
   pub path : l.path ≡ e.route.path
   pub link : StandsFor (size_of e.link) (held_of e.link) l.link
   pub joiner : l.joiner ≡ e.joiner
+  pub called : l.called ≡ e.called
   pub within : IsWithin e.joiner
 
 -- link by link, in their order
@@ -278,6 +285,7 @@ Offers size route p now old new fs fs2 Dropped = ((s : State) → StandsFor size
 pub record SameEntry (old new : LinkEntry) : Type 0 where
   pub route : new.route ≡ old.route
   pub joiner : new.joiner ≡ old.joiner
+  pub called : new.called ≡ old.called
   pub size : size_of new.link ≡ size_of old.link
 
 abbrev pub is_wide : LinkOf → Bool
@@ -306,6 +314,11 @@ NotNoMemory (Err NoMemory) = ⊥
 NotNoMemory (Err TooLong) = Unit {0}
 NotNoMemory (Err Full) = Unit {0}
 
+-- a text: the message that was joined, or the payload itself
+abbrev pub text_among : Payload → Option (Vec ℕ Global) → List ℕ
+text_among p None = p.info.items
+text_among p (Some message) = message.items
+
 -- the text that was handed out, where one was
 abbrev pub text_given : Bool → List ℕ → Option (List ℕ)
 text_given true out = Some out
@@ -332,3 +345,10 @@ TextNotNoMemory (Err TextRefusals.NoMemory) = ⊥
 TextNotNoMemory (Err TextRefusals.NoLink) = Unit {0}
 TextNotNoMemory (Err TextRefusals.TooLong) = Unit {0}
 TextNotNoMemory (Err TextRefusals.Full) = Unit {0}
+
+abbrev pub OpenNotNoMemory : Result (Unit {0}) OpenRefusal → Type 0
+OpenNotNoMemory (Ok _) = Unit {0}
+OpenNotNoMemory (Err OpenRefusals.NoMemory) = ⊥
+OpenNotNoMemory (Err OpenRefusals.Standing) = Unit {0}
+OpenNotNoMemory (Err OpenRefusals.TooLong) = Unit {0}
+OpenNotNoMemory (Err OpenRefusals.Full) = Unit {0}

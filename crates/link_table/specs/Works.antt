@@ -1,11 +1,13 @@
 -- A step of one link, and what comes of it at the node.
-use Rattle.std.specs.Prelude.{ℕ, zero, suc, ◌==◌, Bool, true, false, if◌then◌else◌, List, [], ◌∷◌, ◌++◌, map, slice_get, None, Some, ◌&&◌, nat_le, length, Option}
+use Rattle.std.specs.Prelude.{ℕ, zero, suc, ◌==◌, Bool, true, false, if◌then◌else◌, List, [], ◌∷◌, ◌++◌, map, slice_get, None, Some, ◌&&◌, ◌||◌, nat_le, length, Option}
 use Rattle.radio_base.specs.declared.payload.Payload.{Payload}
 use Rattle.ax_address.specs.Callsign.{Callsign}
 use Rattle.ax_link.specs.declared.notice.LinkNotice.{LinkNotice}
 use Rattle.ax_link.specs.declared.notice.LinkNotice.TheVariants.{Reset, Refused, Failed}
+use Rattle.ax_link.specs.declared.kind.Kind.{Kind}
+use Rattle.ax_link.specs.declared.kind.Kind.TheVariants.{SetUp}
 use Rattle.ax_link.specs.declared.phase.LinkPhase.{LinkPhase}
-use Rattle.ax_link.specs.declared.phase.LinkPhase.TheVariants.{Down}
+use Rattle.ax_link.specs.declared.phase.LinkPhase.TheVariants.{Down, Up}
 use Rattle.ax_link.specs.State.{Frame, Effect}
 use Rattle.ax_link.specs.Table.{Input, Arrive, Take, step}
 use Rattle.ax_segment.specs.Joining.{HeldMessage, Nothing, join_step, whole_of}
@@ -92,8 +94,26 @@ abbrev pub is_down : LinkPhase → Bool
 is_down Down = true
 is_down _ = false
 
+abbrev pub is_set_up : Kind → Bool
+is_set_up (SetUp pf) = true
+is_set_up _ = false
+
+-- a set-up of the peer makes the link that is Down, and sets one up again that is Up. In any other phase it crosses with a frame of ours,
+-- and does neither
+abbrev pub heeds_set_up : LinkPhase → Bool
+heeds_set_up Down = true
+heeds_set_up Up = true
+heeds_set_up _ = false
+
+-- whether the peer has set the link up, once a frame of this kind has come in this phase
+abbrev pub called_by : Kind → LinkPhase → Bool → Bool
+called_by kind phase called = called || (is_set_up kind && heeds_set_up phase)
+
+abbrev pub note_caller : Frame → Work → Work
+note_caller f w = record w { linked = record w.linked { called = called_by f.kind w.linked.link.phase w.linked.called } }
+
 -- a frame has come: what it brought is taken at once, unless the link has ended
 abbrev pub arrive_at_link : Callsign → Frame → ℕ → Work → Work
 arrive_at_link own f now w =
-    let s : Work = step_link own (Arrive f) now w in
+    let s : Work = step_link own (Arrive f) now (note_caller f w) in
     if is_down s.linked.link.phase then s else settle most_taken own now s

@@ -1,18 +1,20 @@
 //! A link of the table, with its route and its joiner: its steps (AX.25 2.2, section 6).
-ghost use Rattle.std.specs.Prelude.{◌≡◌, ◌≤◌, ℕ, OnOk, IfOk, not, ◌&&◌};
+ghost use Rattle.std.specs.Prelude.{◌≡◌, ◌≤◌, ℕ, OnOk, IfOk, not, ◌&&◌, false};
 ghost use Rattle.ax_link.specs.State.{count_end};
 ghost use Rattle.ax_frame.specs.FrameText.{is_command};
-ghost use Rattle.ax_link.specs.Kinds.{frame_in};
+ghost use Rattle.ax_link.specs.Kinds.{frame_in, kind_of};
 ghost use Rattle.ax_link.specs.Opening.{opening, rules_new};
 ghost use Rattle.ax_link.specs.Standing.{IsDrained, StandsFor};
 ghost use Rattle.ax_link.specs.Table as table;
 ghost use Rattle.ax_segment.specs.Joining.{Nothing};
+ghost use Rattle.link_table.specs.Standing.{width};
 ghost use Rattle.link_table.specs.Works as works;
 
 use crate::LinkOf;
 use crate::pending::Pending;
 use crate::route::LinkRoute;
-use ax_frame::FrameView;
+use ax_address::Path;
+use ax_frame::{Control, FrameView, is_command};
 use ax_link::{LinkConfig, LinkPhase};
 use ax_segment::Joiner;
 use radio_base::{COUNT_MAX, Moment, NoMemory};
@@ -27,10 +29,12 @@ pub(crate) struct LinkEntry {
     pub(crate) link: LinkOf,
     pub(crate) route: LinkRoute,
     pub(crate) joiner: Joiner,
+    /// Whether the peer's set-up has made the link, or has set it up again since.
+    pub(crate) called: bool,
 }
 
 impl LinkEntry {
-    ghost use Rattle.link_table.specs.Standing.{EntryGoes, held_of, room_in, size_of, width};
+    ghost use Rattle.link_table.specs.Standing.{EntryGoes, held_of, room_in, size_of};
 
     /// A link that is Down.
     pub(crate) fn new(
@@ -47,11 +51,13 @@ impl LinkEntry {
         ensures drained { IfOk result (λ e. IsDrained (held_of e.link)) }
         ensures route { IfOk result (λ e. e.route ≡ route) }
         ensures joiner { IfOk result (λ e. e.joiner ≡ Nothing) }
+        ensures called { IfOk result (λ e. e.called ≡ false) }
     {
         Ok(LinkEntry {
             link: LinkOf::new(alloc, wide, config)?,
             route,
             joiner: Joiner::new(alloc),
+            called: false,
         })
     }
 
@@ -59,6 +65,12 @@ impl LinkEntry {
         ensures { result.now ≡ self.now.link }
     {
         &self.link
+    }
+
+    pub(crate) fn path(&self) -> &Path
+        ensures { result.now ≡ self.now.route.path }
+    {
+        &self.route.path
     }
 
     pub(crate) fn is_down(&self) -> bool
@@ -95,6 +107,22 @@ impl LinkEntry {
         MOST_HELD.saturating_sub(facts.held).min(numbers as usize)
     }
 
+    /// Whether the peer has set the link up, once this frame has come: its set-up makes the link, or sets one up again that is Up.
+    /// One that crosses with a frame of ours does neither.
+    fn is_called_by(&self, frame: &FrameView<'_>) -> bool
+        ensures { result ≡ works.called_by
+            (kind_of (size_of self.now.link) (is_command frame.now.head) frame.now.control)
+            (held_of self.now.link).phase self.now.called }
+    {
+        if self.called {
+            return true;
+        }
+        if !is_set_up(frame, self.is_wide()) {
+            return false;
+        }
+        matches!(self.link.phase(), LinkPhase::Down | LinkPhase::Up)
+    }
+
     /// A frame has come.
     pub(crate) fn arrive(
         &mut self,
@@ -110,6 +138,7 @@ impl LinkEntry {
             frame.now.info.now) now.0)
             self.old self.new pending.old pending.new) }
     {
+        self.called = self.is_called_by(frame);
         self.link.arrive(frame, now);
         self.lift(pending)?;
         if !self.is_down() {
@@ -140,5 +169,17 @@ impl LinkEntry {
         self.link.close(now);
         self.lift(pending)?;
         Ok(())
+    }
+}
+
+/// Whether a frame sets up a link of this modulus: a command does.
+fn is_set_up(frame: &FrameView<'_>, wide: bool) -> bool
+    ensures { result ≡ works.is_set_up (kind_of (width wide) (is_command frame.now.head) frame.now.control) }
+{
+    let command = is_command(&frame.head);
+    match frame.control {
+        Control::Sabm { .. } => command && !wide,
+        Control::Sabme { .. } => command && wide,
+        _ => false,
     }
 }

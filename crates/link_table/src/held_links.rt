@@ -65,6 +65,16 @@ impl HeldLinks {
         }
     }
 
+    /// Whether a link with this peer stands that the peer has set up.
+    pub(crate) fn is_called(&self, peer: &Call) -> bool
+        ensures { (t : Table) → CoreStands self.now t → result ≡ calls.is_called peer.now t }
+    {
+        match self.links.get(peer) {
+            Some(entry) => entry.called,
+            None => false,
+        }
+    }
+
     /// The repeaters to a peer.
     pub(crate) fn path_to(&self, peer: &Call) -> Path
         ensures { result ≡ path_to peer.now self.now.paths.entries }
@@ -286,7 +296,7 @@ impl HeldLinks {
     }
 
     /// The peers, in the order in which their links were made.
-    fn peers(&self) -> ArrayVec<Call, 64>
+    pub(crate) fn peers(&self) -> ArrayVec<Call, 64>
         requires { Rests self.now }
         ensures { result.items ≡ keys_of self.now.links.entries }
     {

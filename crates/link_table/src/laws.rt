@@ -1,6 +1,7 @@
 //! What the definitions promise by themselves.
 ghost use Rattle.std.specs.Prelude.{◌≡◌};
 ghost use Rattle.link_table.specs.Calls.{AnsweredAsDown};
+ghost use Rattle.link_table.specs.Called.{OnlyFramesCall};
 ghost use Rattle.link_table.specs.Ending.{EndsAreTold, TextsAreOfLinks};
 ghost use Rattle.link_table.specs.Kept.{KeepsItsShare, CountsPayloads, OffersLeave, TakesLower};
 ghost use Rattle.link_table.specs.Reaching.{FramesAreSpelled};
@@ -97,6 +98,11 @@ pub fn kept()
 pub fn ends_are_told()
     ensures told { EndsAreTold }
     ensures texts { TextsAreOfLinks }
+{}
+
+/// In such a table no call but `arrive` changes who has set a link up, and a link that the node itself has made is none of its peer's.
+pub fn only_frames_call()
+    ensures { OnlyFramesCall }
 {}
 
 /// The pieces of 256 bytes as which a text goes over a link of modulo 8 are the text.

@@ -1,19 +1,20 @@
 //! Datagrams that are offered to the links of a node (NET/ROM, Appendix B).
-ghost use Rattle.std.specs.Prelude.{◌≡◌, ◌≤◌, ◌<◌, ℕ, None, Some, OnOk, IfOk, if◌then◌else◌, length, is_some};
+ghost use Rattle.std.specs.Prelude.{◌≡◌, ◌≤◌, ◌<◌, ℕ, None, Some, OnOk, IfOk, IsErrOf, if◌then◌else◌, length, is_some};
 ghost use Rattle.std.specs.Map.{lookup};
 ghost use Rattle.std.specs.Option.{unwrap_or};
 ghost use Rattle.ax_address.specs.Callsign.{same_call};
 ghost use Rattle.ax_link.specs.Table as table;
 ghost use Rattle.l3_datagram.specs.declared.carrier.Offered.TheVariants.{Dropped};
+ghost use Rattle.link_table.specs.declared.open_refusal.OpenRefusal.TheVariants as open_refusals;
 ghost use Rattle.link_table.specs.Works as works;
 ghost use Rattle.link_table.specs.Calls as calls;
 
-use crate::MAX_LINKS;
 use crate::held_links::HeldLinks;
 use crate::offers::pack;
 use crate::pending::put;
-use crate::route::LinkRoute;
-use ax_address::Call;
+use crate::route::{LinkRoute, copy_of};
+use crate::{MAX_LINKS, MAX_ORIGINATED, OpenRefusal};
+use ax_address::{Call, Path};
 use ax_frame::Control;
 use l3_datagram::{Datagram, Offered};
 use radio_base::{M8, Moment, NETROM_PID, NoMemory};
@@ -57,6 +58,69 @@ impl HeldLinks {
             }
             None => Ok(()),
         }
+    }
+
+    /// A link is made and set up.
+    fn set_up_over(&mut self, peer: &Call, path: Path, now: Moment) -> Result<(), NoMemory>
+        requires rests { Rests self.old }
+        requires none { lookup (same_call peer.now) self.old.links.entries ≡ None }
+        requires room { length self.old.links.entries < calls.most_links }
+        ensures rests { OnOk result (Rests self.new) }
+        ensures goes { OnOk result (CoreGoes (calls.set_up_over peer.now path now.0) self.old self.new) }
+        ensures waiting { self.new.pending.waiting ≡ self.old.pending.waiting }
+        ensures lost { self.new.pending.lost ≡ self.old.pending.lost }
+    {
+        let route = LinkRoute {
+            own: self.own,
+            peer: *peer,
+            path,
+        };
+        self.make(self.wide, route)?;
+        self.set_up_link(peer, now)?;
+        Ok(())
+    }
+
+    /// Sets a link up over these repeaters, or where there are none over those that are set for the peer.
+    pub(crate) fn open(&mut self, peer: &Call, path: &Path, now: Moment) -> Result<(), NoMemory>
+        requires rests { Rests self.old }
+        requires none { lookup (same_call peer.now) self.old.links.entries ≡ None }
+        requires short { length path.now.items ≤ calls.most_repeaters }
+        requires room { length self.old.links.entries < calls.most_links }
+        ensures rests { OnOk result (Rests self.new) }
+        ensures goes { OnOk result (CoreGoes (calls.open_link peer.now path.now now.0) self.old self.new) }
+    {
+        let over = self.open_path(peer, path);
+        self.set_up_over(peer, over, now)?;
+        Ok(())
+    }
+
+    fn open_path(&self, peer: &Call, path: &Path) -> Path
+        ensures { result ≡ calls.open_path peer.now path.now self.now.paths.entries }
+    {
+        if path.is_empty() {
+            return self.path_to(peer);
+        }
+        copy_of(path)
+    }
+
+    /// Why a link isn't opened, where it isn't.
+    pub(crate) fn open_answer(&self, peer: &Call, path: &Path) -> Result<(), OpenRefusal>
+        ensures answer { (t : Table) → CoreStands self.now t → result ≡ calls.open_answer peer.now path.now t }
+        ensures none { OnOk result (lookup (same_call peer.now) self.now.links.entries ≡ None) }
+        ensures short { OnOk result (length path.now.items ≤ calls.most_repeaters) }
+        ensures room { OnOk result (length self.now.links.entries < calls.most_links) }
+        ensures memory { IsErrOf result open_refusals.NoMemory → ⊥ }
+    {
+        if self.links.contains_key(peer) {
+            return Err(OpenRefusal::Standing);
+        }
+        if path.len() > MAX_ORIGINATED {
+            return Err(OpenRefusal::TooLong);
+        }
+        if self.links.len() >= MAX_LINKS {
+            return Err(OpenRefusal::Full);
+        }
+        Ok(())
     }
 
     /// Offers a datagram to the link with a peer. None where no link stands: then nothing is changed.
@@ -134,13 +198,8 @@ impl HeldLinks {
         ensures waiting { self.new.pending.waiting ≡ self.old.pending.waiting }
         ensures lost { self.new.pending.lost ≡ self.old.pending.lost }
     {
-        let route = LinkRoute {
-            own: self.own,
-            peer: *to,
-            path: self.path_to(to),
-        };
-        self.make(self.wide, route)?;
-        self.set_up_link(to, now)?;
+        let path = self.path_to(to);
+        self.set_up_over(to, path, now)?;
         let offered = self.send(to, datagram, now)?;
         Ok(offered.unwrap_or(Offered::Dropped))
     }

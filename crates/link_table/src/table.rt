@@ -1,15 +1,14 @@
 //! The table of links, and what it is to a router: a carrier of datagrams (AX.25 2.2, section 6; NET/ROM, Appendix B).
-ghost use Rattle.std.specs.Prelude.{◌≡◌, ◌≤◌, ◌<◌, ◌↔◌, ℕ, List, [], ◌∷◌, Bool, true, false, None, Some, OnOk, OnErr, IfOk, IsOk, IsErr, IsErrOf, IsTrue, is_some, slice_get, drop, length};
+ghost use Rattle.std.specs.Prelude.{◌≡◌, ◌≤◌, ◌<◌, ◌↔◌, ℕ, List, [], ◌∷◌, Bool, true, false, None, Some, OnOk, OnErr, IfOk, IsOk, IsErr, IsErrOf, IsTrue, slice_get, drop, length};
 ghost use Rattle.ax_link.specs.State.{count_end};
-ghost use Rattle.l3_datagram.specs.Datagrams.{Offer};
+ghost use Rattle.l3_datagram.specs.Datagrams.{Collect, Fail, Offer};
 ghost use Rattle.link_table.specs.Table.{Table};
 ghost use Rattle.link_table.specs.Calls as calls;
 ghost use Rattle.link_table.specs.Texts as texts;
 
 use crate::held_links::HeldLinks;
 use crate::pending::Pending;
-use crate::{LinkOf, MAX_ORIGINATED, MAX_PATHS, PathRefusal, TextRefusal, Written, laws};
-use arrayvec::ArrayVec;
+use crate::{MAX_ORIGINATED, MAX_PATHS, OpenRefusal, PathRefusal, TextRefusal, Written, laws};
 use ax_address::{Call, Path};
 use ax_frame::FrameView;
 use ax_link::{LinkConfig, LinkNotice};
@@ -22,11 +21,12 @@ use std::marker::Model;
 /// A node's links by peer, and a carrier of datagrams (AX.25 2.2, section 6; NET/ROM, Appendix B): a pure machine, which reads no clock and
 /// no stream. Its calls are of three kinds.
 ///
-/// - Inputs, each but `set_path` and `break_link` with its moment in milliseconds: `offer` of a router, `send_text`, `take_text`,
+/// - Inputs, each but `set_path` and `break_link` with its moment in milliseconds: `offer` of a router, `open`, `send_text`, `take_text`,
 ///   `set_path`, `close` and `break_link` of the node, `arrive` of a frame to the node's own call, `tick` of time.
 /// - Outputs: `next_out` and `notice`, and for a router `collect` and `failed`. After each input they are fetched, in any order, until they
 ///   answer None.
-/// - Looks, which change nothing: `link`, `is_128`, `texts`, `first_text`, `room`, `has_notices`, `is_idle`.
+/// - Looks, which change nothing: `peers`, `link`, `link_path`, `is_128`, `is_called`, `texts`, `first_text`, `room`, `has_notices`,
+///   `is_idle`.
 ///
 /// `tick` is called about once a second, since no call tells when the next timer is due. Where `texts` names a peer, its text waits for
 /// `take_text`, and holds back what came behind it over that link. Links and what waits take memory; once it has answered NoMemory it is
@@ -34,7 +34,7 @@ use std::marker::Model;
 /// link with a peer, whose phases are drawn at `LinkPhase`:
 ///
 /// ```text
-///              offer / SABM(E), SABM(E) / UA,
+///              offer, open / SABM(E), SABM(E) / UA,
 /// +---------+  where fewer than 64 stand          +------+ --.  SABM(E) of the other modulus / UA:
 /// | no link | ----------------------------------> | link | <-'  told Closed, and another link
 /// |         | <---------------------------------- |      |
@@ -58,8 +58,8 @@ use std::marker::Model;
 /// ```
 #[derive(Drop)]
 pub struct LinkTable {
-    core: HeldLinks,
-    spent: bool,
+    pub(crate) core: HeldLinks,
+    pub(crate) spent: bool,
 }
 
 impl Model for LinkTable {
@@ -74,12 +74,13 @@ impl Model for LinkTable {
 }
 
 impl LinkTable {
-    ghost use Rattle.link_table.specs.Standing.{LentStands, NotNoMemory, TableGoes, TableStands, TextNotNoMemory, text_given, width};
-    ghost use Rattle.link_table.specs.Table.{link_with, written};
+    ghost use Rattle.link_table.specs.Standing.{NotNoMemory, OpenNotNoMemory, TableGoes, TableStands, TextNotNoMemory, text_given, width};
+    ghost use Rattle.link_table.specs.Table.{written};
     ghost use Rattle.link_table.specs.Kept.{KeepsOn};
     ghost use Rattle.ax_frame.specs.Frames.{view};
-    ghost use Rattle.std.specs.Option.{option_copied, option_map};
+    ghost use Rattle.std.specs.Option.{option_map};
     ghost use Rattle.link_table.specs.declared.path_refusal.PathRefusal.TheVariants as refusals;
+    ghost use Rattle.link_table.specs.declared.open_refusal.OpenRefusal.TheVariants as open_refusals;
     ghost use Rattle.link_table.specs.declared.text_refusal.TextRefusal.TheVariants as text_refusals;
 
     /// A table without links, of the node `own`. With `links`, datagrams go over links, else each in a UI frame; links that
@@ -143,27 +144,6 @@ impl LinkTable {
         }
     }
 
-    /// Whether the link with a peer is of modulo 128: frames from it are read by that modulus. False where none stands.
-    pub fn is_128(&self, peer: &Call) -> bool
-        ensures { (t : Table) → TableStands self.now t → result ≡ calls.is_128 peer.now t }
-    {
-        match self.core.links.get(peer) {
-            Some(entry) => entry.is_wide(),
-            None => false,
-        }
-    }
-
-    /// The link with a peer: none where none stands.
-    pub fn link(&self, peer: &Call) -> Option<&LinkOf>
-        ensures { (t : Table) → TableStands self.now t
-            → LentStands (option_copied result) (link_with peer.now t.links) }
-    {
-        match self.core.links.get(peer) {
-            Some(entry) => Some(entry.link()),
-            None => None,
-        }
-    }
-
     /// Takes in a frame to this node, whatever it is. It has to be read by the modulus that `is_128` tells of its source.
     pub fn arrive(&mut self, frame: &FrameView<'_>, now: Moment) -> Result<(), NoMemory>
         ensures goes { OnOk result (TableGoes (calls.arrive (view frame.now) now.0) self.old self.new) }
@@ -196,6 +176,35 @@ impl LinkTable {
         let ticked = self.core.tick(now);
         self.spent = ticked.is_err();
         ticked
+    }
+
+    /// Sets a link up over these repeaters, or where there are none over those that `set_path` has set for the peer. The link keeps its
+    /// repeaters, and what `set_path` has set stays. It is refused, in this order: `Standing` where a link with the peer stands,
+    /// `TooLong` where there are more than two repeaters, `Full` where 64 links stand. A refusal but `NoMemory` changes nothing.
+    pub fn open(&mut self, peer: &Call, path: &Path, now: Moment) -> Result<(), OpenRefusal>
+        ensures goes { OnOk result (TableGoes (calls.open_link peer.now path.now now.0) self.old self.new) }
+        ensures answer { OpenNotNoMemory result → (t : Table) → TableStands self.old t
+            → result ≡ calls.open_answer peer.now path.now t }
+        ensures err { OnErr result (OpenNotNoMemory result → self.new ≡ self.old) }
+        ensures few { OnOk result (length self.new.links ≤ 64) }
+        ensures kept { OnOk result (KeepsOn self.old self.new) }
+        ensures memory { IsErrOf result open_refusals.NoMemory ↔ IsTrue self.new.spent }
+        ensures spent { IsTrue self.old.spent → self.new ≡ self.old }
+    {
+        if self.spent {
+            return Err(OpenRefusal::NoMemory);
+        }
+        if let Err(refusal) = self.core.open_answer(peer, path) {
+            return Err(refusal);
+        }
+        laws::kept();
+        match self.core.open(peer, path, now) {
+            Ok(()) => Ok(()),
+            Err(NoMemory) => {
+                self.spent = true;
+                Err(OpenRefusal::NoMemory)
+            }
+        }
     }
 
     /// Releases the link with a peer once all is acknowledged. Nothing where no link stands.
@@ -232,34 +241,8 @@ impl LinkTable {
         ended
     }
 
-    /// The peers at whose link a text waits, in the order of the links. A table that is spent tells of none.
-    pub fn texts(&self) -> ArrayVec<Call, 64>
-        ensures { (t : Table) → TableStands self.now t → result.items ≡ texts.text_peers t.links }
-    {
-        if self.spent {
-            return ArrayVec::new();
-        }
-        self.core.texts()
-    }
-
-    /// The first of these peers.
-    pub fn first_text(&self) -> Option<Call>
-        ensures { (t : Table) → TableStands self.now t → result ≡ slice_get (texts.text_peers t.links) 0 }
-    {
-        if self.spent {
-            return None;
-        }
-        self.core.first_text()
-    }
-
-    /// How many payloads the link with a peer would still accept: 0 where no link stands that accepts any.
-    pub fn room(&self, peer: &Call) -> usize
-        ensures { (t : Table) → TableStands self.now t → result ≡ texts.room peer.now t }
-    {
-        self.core.room(peer)
-    }
-
-    /// Takes the text that waits at the link with a peer, and says whether one did. Where none did, `out` stays as it was.
+    /// Takes the text that waits at the link with a peer, and says whether one did. Where none did, and where memory runs out, `out`
+    /// stays as it was.
     pub fn take_text(
         &mut self,
         peer: &Call,
@@ -270,6 +253,7 @@ impl LinkTable {
         ensures answer { IfOk result (λ taken. (t : Table) → TableStands self.old t
             → text_given taken out.new.items ≡ texts.text_with peer.now t) }
         ensures out { IfOk result (λ taken. taken ≡ false → out.new ≡ out.old) }
+        ensures err { OnErr result (out.new ≡ out.old) }
         ensures few { OnOk result (length self.new.links ≤ 64) }
         ensures kept { OnOk result (KeepsOn self.old self.new) }
         ensures memory { IsErr result ↔ IsTrue self.new.spent }
@@ -328,13 +312,6 @@ impl LinkTable {
         self.core.pending.frames.pop_front()
     }
 
-    /// Whether a notice waits.
-    pub fn has_notices(&self) -> bool
-        ensures { (t : Table) → TableStands self.now t → result ≡ is_some (slice_get t.pending.notices 0) }
-    {
-        !self.core.pending.notices.is_empty()
-    }
-
     /// The next notice, the oldest one, with the peer of its link. None where none waits.
     pub fn notice(&mut self) -> Option<(Call, LinkNotice)>
         ensures answer { (t : Table) → TableStands self.old t → result ≡ slice_get t.pending.notices 0 }
@@ -376,11 +353,27 @@ impl Carrier for LinkTable {
         offered
     }
 
-    fn collect(&mut self) -> Option<(Call, Datagram)> {
+    fn collect(&mut self) -> Option<(Call, Datagram)>
+        ensures left { self.new ≡ record self.old { waiting = drop 1 self.old.waiting } }
+
+        // What each carrier says.
+        ensures made { Made self.old (Collect result ∷ []) self.new }
+        ensures answer { result ≡ slice_get self.old.waiting 0 }
+        ensures waiting { self.new.waiting ≡ drop 1 self.old.waiting }
+        ensures lost { self.new.lost ≡ self.old.lost }
+    {
         self.core.pending.waiting.pop_front()
     }
 
-    fn failed(&mut self) -> Option<Call> {
+    fn failed(&mut self) -> Option<Call>
+        ensures left { self.new ≡ record self.old { lost = drop 1 self.old.lost } }
+
+        // What each carrier says.
+        ensures made { Made self.old (Fail result ∷ []) self.new }
+        ensures answer { result ≡ slice_get self.old.lost 0 }
+        ensures lost { self.new.lost ≡ drop 1 self.old.lost }
+        ensures waiting { self.new.waiting ≡ self.old.waiting }
+    {
         self.core.pending.lost.pop_front()
     }
 

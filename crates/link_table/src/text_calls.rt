@@ -1,5 +1,5 @@
 //! Texts at the links of a node: where they wait, and taking them (the PIDs: AX.25 2.2, section 3.4).
-ghost use Rattle.std.specs.Prelude.{◌≡◌, ◌<◌, ◌++◌, ◌∷◌, [], Some, OnOk, if◌then◌else◌, is_some, length, slice_get, true};
+ghost use Rattle.std.specs.Prelude.{◌≡◌, ◌<◌, ◌++◌, ◌∷◌, [], Some, OnErr, OnOk, if◌then◌else◌, is_some, length, slice_get, true};
 ghost use Rattle.link_table.specs.Standing.{text_in, text_keys};
 
 use crate::entry::LinkEntry;
@@ -78,6 +78,7 @@ impl HeldLinks {
         requires waits { is_some (text_at peer.now self.old.links.entries) ≡ true }
         ensures rests { OnOk result (Rests self.new) }
         ensures text { OnOk result (text_at peer.now self.old.links.entries ≡ Some out.new.items) }
+        ensures err { OnErr result (out.new ≡ out.old) }
         ensures goes { OnOk result (CoreGoes (λ t. at_link peer.now (take_text_of t.own now.0) t) self.old self.new) }
     {
         let down = match self.links.get_mut(peer) {

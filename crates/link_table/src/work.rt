@@ -37,6 +37,7 @@ impl LinkEntry {
         ensures link { OnOk result (held_of self.new.link ≡ record (held_of self.old.link) { notice = None }) }
         ensures joiner { OnOk result (self.new.joiner
             ≡ works.joiner_after (option_to_list (held_of self.old.link).notice) self.old.joiner) }
+        ensures called { OnOk result (self.new.called ≡ self.old.called) }
         ensures waiting { OnOk result (pending.new.waiting.items ≡ pending.old.waiting.items) }
         ensures lost { OnOk result (pending.new.lost.items
             ≡ pending.old.lost.items

@@ -1,5 +1,5 @@
 //! What the tests of tables of links share.
-use crate::{carried, refused, rows, texts};
+use crate::{carried, opened, refused, rows, texts};
 use ax_address::Call;
 use ax_frame::{FrameView, read_frame};
 use ax_link::LinkConfig;
@@ -28,6 +28,9 @@ pub enum Trial {
     Paths,
     TextHoldsBack,
     WhichTexts,
+    OwnRepeaters,
+    NotOpened,
+    WhoCalled,
     Refused,
     /// Over a channel that loses frames; a long text comes as so many.
     Lossy { texts: u64 },
@@ -53,6 +56,9 @@ fn play(rt: &impl Abort, alloc: Global, trial: Trial, a: &mut LinkTable, b: &mut
         Trial::Paths => rows::set_paths(rt, a),
         Trial::TextHoldsBack => texts::hold_back(rt, a),
         Trial::WhichTexts => texts::send_texts(rt, a, b),
+        Trial::OwnRepeaters => opened::open_links(rt, alloc, a),
+        Trial::NotOpened => opened::open_no_more(rt, alloc, a),
+        Trial::WhoCalled => opened::tell_who_called(rt, a, b),
         Trial::Refused => refused::spend(rt, a),
         Trial::Lossy { texts } => carried::carry(rt, a, b, texts),
     }

@@ -8,6 +8,8 @@ mod carried;
 #[cfg(test)]
 mod common;
 #[cfg(test)]
+mod opened;
+#[cfg(test)]
 mod refused;
 #[cfg(test)]
 mod rows;

@@ -94,7 +94,7 @@ fn offer(rt: &impl Abort, a: &mut LinkTable) {
 }
 
 /// The next frame is this one.
-fn expect_frame(rt: &impl Abort, alloc: Global, table: &mut LinkTable, text: &[u8]) {
+pub fn expect_frame(rt: &impl Abort, alloc: Global, table: &mut LinkTable, text: &[u8]) {
     let shown = shown_next(rt, alloc, table);
     assert!(rt; shown.bytes() == text);
 }
@@ -153,7 +153,7 @@ fn hand_on(rt: &impl Abort, from: &mut LinkTable, own: Call, to: &mut LinkTable)
     }
 }
 
-fn expect_notice(rt: &impl Abort, table: &mut LinkTable, peer: Call, notice: LinkNotice) {
+pub fn expect_notice(rt: &impl Abort, table: &mut LinkTable, peer: Call, notice: LinkNotice) {
     assert!(rt; table.notice() == Some((peer, notice)));
 }
 
@@ -174,9 +174,14 @@ pub fn set_up_65_links(rt: &impl Abort, alloc: Global, a: &mut LinkTable) {
 
 /// A SABM with P of this station comes to N0AAA.
 pub fn set_up(rt: &impl Abort, a: &mut LinkTable, source: Call) {
+    arrive_kind(rt, a, source, Control::Sabm { pf: true });
+}
+
+/// A command of this kind, without a payload, comes from this station to N0AAA.
+pub fn arrive_kind(rt: &impl Abort, a: &mut LinkTable, source: Call, control: Control) {
     let frame = FrameView {
         head: head(source),
-        control: Control::Sabm { pf: true },
+        control,
         pid: None,
         info: &[],
     };

@@ -14,4 +14,4 @@ pub returns-clause-goes : goal.returns-clause-goes
 returns-clause-goes c = λ t s.
     made_stands c.args.self.now _ (width c.args.wide) c.in_ok-entry.entry c.args.route (record { own = refl; by_links = refl; wide = refl; config = refl; paths = refl }) refl
     (c.in_ok-insert.ensures.entries ∙ insert_entry-new same_call c.args.self.now.links c.args.route.peer c.in_ok-entry.entry c.requires.none)
-    c.requires.own c.in_ok-entry.ensures.route c.in_ok-entry.ensures.joiner c.in_ok-entry.ensures.width c.in_ok-entry.ensures.link t s
+    c.requires.own c.in_ok-entry.ensures.route c.in_ok-entry.ensures.joiner c.in_ok-entry.ensures.called c.in_ok-entry.ensures.width c.in_ok-entry.ensures.link t s
