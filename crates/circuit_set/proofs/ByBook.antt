@@ -2,7 +2,7 @@
 use Rattle.std.specs.Prelude.{◌≡◌, ℕ, suc, ◌+◌, ◌-◌, ◌*◌, ◌<◌, Bool, true, false, if◌then◌else◌, List, [], ◌∷◌, ◌++◌, length, Contains, Option, Some, None, refl}
 use Rattle.std.proofs.Common.{sym, ◌∙◌, ap, subst, inl, inr, arith, append_assoc, length-append}
 use Rattle.circuit_l4.specs.declared.pair.Pair.{Pair}
-use Rattle.circuit_set.specs.Books.{Book, Fresh, FreshTold, HasRequester, MadeNote, NoOther, SentNote, Timely, TimelyTo, TimelyTold, any_ends, empty, is_lost, is_unknown, latest_in, overtakers, partner_in, was_asked}
+use Rattle.circuit_set.specs.Books.{Book, Fresh, FreshTold, HasRequester, MadeNote, NoOther, SentNote, Timely, TimelyTo, TimelyTold, any_ends, empty, is_lost, is_unknown, latest_in, overtakers, partner_in, was_asked, lost_in}
 use Rattle.circuit_set.specs.Events.{Event, Name}
 use Rattle.circuit_set.specs.NotedRuns.{allowance, allowance_at, opened_window, partner_allowance, told_to}
 use Rattle.circuit_set.specs.ByBook.{FreshByBook, PartnersByBook, TimelyBy128, TimelyByBook}
@@ -10,7 +10,7 @@ use Rattle.circuit_set.specs.Sets.{CircuitTold, Made, Sent, Heeded, Notice, Gone
 use Rattle.circuit_set.specs.TooLate.{Allowing, AllowsByWindow, Gives, InTime, IsFresh, IsNew, IsOpen, IsTimely, OpenedWith, Tells, allows_fixed}
 use Rattle.circuit_set.proofs.Among.{by_snoc, none_split, snoc_split}
 use Rattle.circuit_set.proofs.Joined.{asked_marks, asks, has_none, is_free, partner_looks, requested, requests, unknown_none}
-use Rattle.circuit_set.proofs.Noted.{book, finds, found, fresh_less, fresh_one, lost_by, marked, marks, not_both, not_true, timely_less, timely_one}
+use Rattle.circuit_set.proofs.Noted.{book, finds, found, fresh_less, fresh_one, marked, marks, not_both, not_true, timely_less, timely_one}
 use Rattle.circuit_set.proofs.Notes.{MadeAt, NoteNow, contained, in_notes, made_at, note_now}
 use Rattle.circuit_set.proofs.Opened.{end_told, opened_with, opens_with, told_end}
 use Rattle.circuit_set.proofs.Overtakers.{as_many, at_most}
@@ -25,7 +25,7 @@ module _ (es : List Event) (fresh : Fresh empty es) (node : ℕ) (pair : Pair) w
     pub inside : Contains (book es).made note
     pub who : note.who ≡ z
     pub lasts : any_ends note.told ≡ false
-    pub kept : is_lost (lost_by [] es) note.who ≡ false
+    pub kept : is_lost (lost_in [] es) note.who ≡ false
 
   open_note : (z : Name) → IsOpen es z → OpenNote z
   open_note z o =
@@ -37,19 +37,19 @@ module _ (es : List Event) (fresh : Fresh empty es) (node : ℕ) (pair : Pair) w
         inside = contained n.note (book es).made n.inside;
         who = n.who;
         lasts = ap any_ends n.told ∙ not_true (any_ends (notices_in z o.made.after)) (λ t. o.lasts (told_end z o.made.after t));
-        kept = ap (is_lost (lost_by [] es)) n.who ∙ not_true (is_lost (lost_by [] es) z) (λ t. o.kept (marks (loss_marks z) es fresh t));
+        kept = ap (is_lost (lost_in [] es)) n.who ∙ not_true (is_lost (lost_in [] es) z) (λ t. o.kept (marks (loss_marks z) es fresh t));
       }
 
-  open_end : (m : MadeNote) → Contains (book es).made m → any_ends m.told ≡ false → is_lost (lost_by [] es) m.who ≡ false → IsOpen es m.who
+  pub open_end : (m : MadeNote) → Contains (book es).made m → any_ends m.told ≡ false → is_lost (lost_in [] es) m.who ≡ false → IsOpen es m.who
   open_end m c lasts kept =
       let a : MadeAt es m = made_at es m (in_notes m (book es).made c) in
       record {
         made = record { before = a.before; at = a.at; after = a.after; parts = a.parts; is = (a.request, a.made) };
         lasts = λ h. not_both (any_ends m.told) lasts (ap any_ends a.told ∙ end_told m.who a.after h);
-        kept = λ h. not_both (is_lost (lost_by [] es) m.who) kept (marked (loss_marks m.who) es fresh h);
+        kept = λ h. not_both (is_lost (lost_in [] es) m.who) kept (marked (loss_marks m.who) es fresh h);
       }
 
-  is_new : (request : Option (List ℕ)) → HasRequester (book es) request → NoOther (book es) (lost_by [] es) node pair → IsNew es node pair request
+  is_new : (request : Option (List ℕ)) → HasRequester (book es) request → NoOther (book es) (lost_in [] es) node pair → IsNew es node pair request
   is_new request has other = record {
     asked = λ d e. (let h : HasRequester (book es) (Some d) = subst (HasRequester (book es)) e has in
         let r = requested es d h.0 h.1 in
@@ -66,17 +66,17 @@ module _ (es : List Event) (fresh : Fresh empty es) (node : ℕ) (pair : Pair) w
   has_requester None n = tt
   has_requester (Some d) n = let a = n.asked d refl in (a.0, requests es fresh d a.0 a.1 (is_free es fresh a.0 a.2))
 
-  no_other : (request : Option (List ℕ)) → IsNew es node pair request → NoOther (book es) (lost_by [] es) node pair
+  no_other : (request : Option (List ℕ)) → IsNew es node pair request → NoOther (book es) (lost_in [] es) node pair
   no_other request n m q in_m in_q lasts kept far joined there same =
       let a : MadeAt es q = made_at es q (in_notes q (book es).made in_q) in
       n.apart m.who q.who (open_end m in_m lasts kept) far (finds (partner_looks m.who) es fresh q.who joined) there
       (record { before = a.before; at = a.at; after = a.after; parts = a.parts; is = (a.gives.0, subst (λ p. Gives a.gives.0 p q.who a.at) same a.gives.1) })
 
 -- ---- events, one more ----
-fresh_case : (es : List Event) (e : Event) → Fresh empty es → IsFresh (es ++ e ∷ []) → FreshTold (book es) (lost_by [] es) e.node e.told
+fresh_case : (es : List Event) (e : Event) → Fresh empty es → IsFresh (es ++ e ∷ []) → FreshTold (book es) (lost_in [] es) e.node e.told
 fresh_case es e fresh f = by e.told f
   where
-    by : (t : CircuitTold) → IsFresh (es ++ record { node = e.node; own = e.own; told = t } ∷ []) → FreshTold (book es) (lost_by [] es) e.node t
+    by : (t : CircuitTold) → IsFresh (es ++ record { node = e.node; own = e.own; told = t } ∷ []) → FreshTold (book es) (lost_in [] es) e.node t
     by (Made id pair at request) g =
         let n : IsNew es e.node pair request = g es [] (record { node = e.node; own = e.own; told = Made id pair at request }) (record { node = e.node; id = id }) pair at request refl (refl, refl) in
         (has_requester es fresh e.node pair request n, no_other es fresh e.node pair request n)
@@ -92,8 +92,8 @@ fresh_events = by_snoc (λ es. Fresh empty es → IsFresh es)
     (λ es e old fresh before after k x pair at request parts tells. (let less = fresh_less es e fresh in
     elim (snoc_split es before after e k parts) [
       | inl s ↦ (let t : Tells e x (Made x.id pair at request) = subst (λ j. Tells j x (Made x.id pair at request)) s.1 tells in
-          let f : FreshTold (book es) (lost_by [] es) x.node (Made x.id pair at request) =
-          subst (λ n. FreshTold (book es) (lost_by [] es) n (Made x.id pair at request)) t.0 (subst (FreshTold (book es) (lost_by [] es) e.node) t.1 less.1) in
+          let f : FreshTold (book es) (lost_in [] es) x.node (Made x.id pair at request) =
+          subst (λ n. FreshTold (book es) (lost_in [] es) n (Made x.id pair at request)) t.0 (subst (FreshTold (book es) (lost_in [] es) e.node) t.1 less.1) in
           subst (λ b. IsNew b x.node pair request) (sym s.0) (is_new es less.0 x.node pair request f.0 f.1))
       | inr s ↦ old less.0 before s.0 k x pair at request s.2 tells
     ]))
@@ -206,10 +206,10 @@ window_case k None l = absurd (omega (arith, l))
 window_case k (Some w) l = (w, refl, l)
 
 module _ (es : List Event) (fresh : Fresh empty es) (x y : Name) (joined : partner_in (book es).made x ≡ Some y) (k : ℕ) where
-  by_partner : was_asked (book es).made x ≡ false → allowance_at (book es) x ≡ allowance (opened_window (told_to (book es).made y))
+  pub by_partner : was_asked (book es).made x ≡ false → allowance_at (book es) x ≡ allowance (opened_window (told_to (book es).made y))
   by_partner h = ap (λ c. if c then allowance (opened_window (told_to (book es).made x)) else partner_allowance (book es) (partner_in (book es).made x)) h ∙ ap (partner_allowance (book es)) joined
 
-  by_itself : was_asked (book es).made x ≡ true → allowance_at (book es) x ≡ allowance (opened_window (told_to (book es).made x))
+  pub by_itself : was_asked (book es).made x ≡ true → allowance_at (book es) x ≡ allowance (opened_window (told_to (book es).made x))
   by_itself h = ap (λ c. if c then allowance (opened_window (told_to (book es).made x)) else partner_allowance (book es) (partner_in (book es).made x)) h
 
   allows_case : (c : Bool) → was_asked (book es).made x ≡ c → k < allowance_at (book es) x → (n : ℕ) × AllowsByWindow es x y n × (k < n)

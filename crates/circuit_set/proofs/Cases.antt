@@ -20,7 +20,7 @@ use Rattle.circuit_l4.specs.Laws as laws
 use Rattle.circuit_l4.specs.Laws.{Accepts, Asks}
 use Rattle.circuit_l4.specs.Table.{Arrive, step}
 use Rattle.circuit_l4.specs.Opening.{facts_of, requesting, responding}
-use Rattle.circuit_set.specs.Sets.{heeds, Act, Call, Writes, Ticks, Closes, Takes, Calls, Comes, Connect, Discard, Restart, Sent, Heeded, Gone, Holder, SetDone, SetState, accept_again, arrives_at, after_call, datagram_to, after_discarding, end_of, first_open, goes_to, hands_to, after_datagram, has_ended, input_of, is_full, is_open, makes_end, named_by, new_pair, opened_by, read_as, after_transport, after_new_request, requests, responds, set_step, does_nothing, with_end}
+use Rattle.circuit_set.specs.Sets.{heeds, Act, Call, Writes, Ticks, Closes, Takes, Calls, Comes, Connect, ConnectFor, Discard, Restart, Sent, Heeded, Gone, Holder, SetDone, SetState, accept_again, arrives_at, after_call, datagram_to, after_discarding, end_of, first_open, goes_to, hands_to, after_datagram, has_ended, input_of, is_full, is_open, makes_end, named_by, new_pair, opened_by, read_as, after_transport, after_new_request, requests_for, responds, set_step, does_nothing, with_end}
 use Rattle.circuit_set.specs.NotedRuns.{opened_window}
 use Rattle.circuit_set.specs.Books.{any_ends}
 use Rattle.circuit_set.specs.Givings.{IsUp}
@@ -98,6 +98,7 @@ abbrev pub MovedBy : Act → Holder → Effect → Type 0
 MovedBy (Calls id call now) h g = (id ≡ h.id) × (g ≡ step h.end (input_of call) now)
 MovedBy (Comes d now) h g = ((t : Transport) × (g ≡ step h.end (Arrive t) now)) ⊎ ((g.end ≡ h.end) × (g.notes ≡ []))
 MovedBy (Connect dest now) h g = ⊥
+MovedBy (ConnectFor user dest now) h g = ⊥
 MovedBy (Discard id) h g = ⊥
 MovedBy (Restart pair more) h g = ⊥
 
@@ -106,6 +107,7 @@ abbrev pub Idle : SetState → Act → Type 0
 Idle s (Calls id call now) = (h : Holder) → end_of id s.ends ≡ Some h → h.gone ≡ true
 Idle s (Comes d now) = Unit {0}
 Idle s (Connect dest now) = Unit {0}
+Idle s (ConnectFor user dest now) = Unit {0}
 Idle s (Discard id) = Unit {0}
 Idle s (Restart pair more) = Unit {0}
 
@@ -114,6 +116,7 @@ abbrev pub NoCall : Act → Type 0
 NoCall (Calls id call now) = ⊥
 NoCall (Comes d now) = Unit {0}
 NoCall (Connect dest now) = Unit {0}
+NoCall (ConnectFor user dest now) = Unit {0}
 NoCall (Discard id) = Unit {0}
 NoCall (Restart pair more) = Unit {0}
 
@@ -166,9 +169,17 @@ pub record Opener (s : SetState) (a : Act) (at : Callsign) (pair : Pair) (d : Li
   pub request : transport_at (drop 15 d) ≡ Ok (Request pair window user node)
   pub none : first_open (opened_by comer.head.origin pair) s.ends ≡ None
 
+-- a circuit was asked for with this node, for the set's user or for another one
+abbrev pub AskedFor : SetState → Act → Callsign → Callsign → Type 0
+AskedFor s a user at = (now : ℕ) × (((a ≡ Connect at now) × (user ≡ s.user)) ⊎ (a ≡ ConnectFor user at now))
+
+pub asked_quiet : (s : SetState) (a : Act) (user at : Callsign) → AskedFor s a user at → NoCall a
+asked_quiet s a user at (now, inl by) = subst NoCall (sym by.0) tt
+asked_quiet s a user at (now, inr by) = subst NoCall (sym by) tt
+
 -- a circuit was asked for with this node, or such a request has come from it
 abbrev pub MadeBy : SetState → Act → Callsign → Role → Option Pair → Option (List ℕ) → Type 0
-MadeBy s a at role None None = (now : ℕ) × (a ≡ Connect at now) × (role ≡ Requester s.user s.own)
+MadeBy s a at role None None = (user : Callsign) × AskedFor s a user at × (role ≡ Requester user s.own)
 MadeBy s a at role (Some pair) (Some d) = Opener s a at pair d × (role ≡ Responder)
 MadeBy s a at role _ _ = ⊥
 
@@ -300,11 +311,11 @@ module _ (s : SetState) (one : (h : Holder) → InEnds h s.ends → end_of h.id 
   handed_so d (Err e) now i h = k.rests (subst (Idle s) (sym i) tt)
   handed_so d (Ok head) now i h = handed_case d head now (same_call head.origin s.own) (not (same_call head.dest s.own)) i h refl refl
 
-  connected_case : (dest : Callsign) (now : ℕ) (v w : Bool) → a ≡ Connect dest now → is_full s ≡ w → P (if v || w then does_nothing s else requests s dest now)
-  connected_case dest now true w i e = k.rests (subst (Idle s) (sym i) tt)
-  connected_case dest now false true i e = k.rests (subst (Idle s) (sym i) tt)
-  connected_case dest now false false i e =
-      let g : Effect = requesting (new_pair s) s.user s.own s.config (min now COUNT_MAX) in
+  connected_case : (user dest : Callsign) (now : ℕ) (v w : Bool) → Idle s a → AskedFor s a user dest → is_full s ≡ w → P (if v || w then does_nothing s else requests_for s user dest now)
+  connected_case user dest now true w i by e = k.rests i
+  connected_case user dest now false true i by e = k.rests i
+  connected_case user dest now false false i by e =
+      let g : Effect = requesting (new_pair s) user s.own s.config (min now COUNT_MAX) in
       k.makes dest None None g (record {
         room = e;
         foreign = tt;
@@ -312,12 +323,13 @@ module _ (s : SetState) (one : (h : Holder) → InEnds h s.ends → end_of h.id 
         lasts = refl;
         told = refl;
         asks = λ e. refl;
-        lives = record { first = g; new = Asks (new_pair s) s.user s.own s.config (min now COUNT_MAX); inputs = []; end = refl; notes_are = refl };
-        born = Asks (new_pair s) s.user s.own s.config (min now COUNT_MAX);
-      }) (now, i, refl) ((refl, refl, refl, refl), tt)
+        lives = record { first = g; new = Asks (new_pair s) user s.own s.config (min now COUNT_MAX); inputs = []; end = refl; notes_are = refl };
+        born = Asks (new_pair s) user s.own s.config (min now COUNT_MAX);
+      }) (user, by, refl) ((refl, refl, refl, refl), tt)
 
   step_by : (b : Act) → a ≡ b → IsUp b → P (set_step s b)
-  step_by (Connect dest now) e up = connected_case dest now (same_call dest s.own) (is_full s) e refl
+  step_by (Connect dest now) e up = connected_case s.user dest now (same_call dest s.own) (is_full s) (subst (Idle s) (sym e) tt) (now, inl (e, refl)) refl
+  step_by (ConnectFor user dest now) e up = connected_case user dest now (same_call dest s.own) (is_full s) (subst (Idle s) (sym e) tt) (now, inr e) refl
   step_by (Comes d now) e up = handed_so d (head_at d) now e refl
   step_by (Calls id call now) e up = called_so id call now (end_of id s.ends) e refl
   step_by (Discard id) e up = discard_so id (end_of id s.ends) (subst (Idle s) (sym e) tt) (subst NoCall (sym e) tt) refl

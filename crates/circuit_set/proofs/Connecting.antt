@@ -1,5 +1,5 @@
 -- What is answered to a user that asks for a circuit, by what was tested.
-use Rattle.std.specs.Prelude.{◌≡◌, ℕ, Bool, true, false, not, if◌then◌else◌, List, Option, Some, None, is_some, is_none, Result, Ok, Err, refl}
+use Rattle.std.specs.Prelude.{◌≡◌, ℕ, Bool, true, false, not, if◌then◌else◌, List, Option, Some, None, is_some, is_none, Result, Ok, Err, OnOk, refl}
 use Rattle.std.proofs.Common.{sym, ◌∙◌, ap, subst}
 use Rattle.ax_address.specs.Callsign.{Callsign, same_call}
 use Rattle.route_table.specs.Log.{Item}
@@ -7,6 +7,9 @@ use Rattle.route_table.specs.Held.{TableRoutes, StandsFor}
 use Rattle.route_table.specs.Table.{next_hop}
 use Rattle.circuit_set.specs.declared.refusal.ConnectRefusal.{ConnectRefusal}
 use Rattle.circuit_set.specs.declared.refusal.ConnectRefusal.TheVariants as refusal
+use Rattle.circuit_set.specs.CircuitSets.{Circuits, GoesBy, SetStands}
+use Rattle.circuit_set.specs.Pumps.{acts, at_rest}
+use Rattle.circuit_set.specs.Sets.{Connect, ConnectFor}
 
 -- the answer by its three tests: the node is this one, no route leads to it, no further end can be held
 abbrev answer : Bool → Bool → Bool → ℕ → Result ℕ ConnectRefusal
@@ -49,3 +52,14 @@ pub none_read : (node : Callsign) (log : List Item) (table here : TableRoutes) (
 none_read node log table here hop b same stands found is =
     let at : hop ≡ next_hop here.rules log node = found log (subst (λ (t : TableRoutes). StandsFor t log) (sym same) stands) in
     ap is_none (sym (at ∙ ap (λ (t : TableRoutes). next_hop t.rules log node) same)) ∙ none_by hop b is
+
+-- ---- in whose name
+
+-- what is asked for in the name of the set's user is asked for by the set
+pub own_user : {C : Type 0} (r : Result ℕ ConnectRefusal) (old new : Circuits C) (user dest : Callsign) (now : ℕ) → user ≡ old.held.user → OnOk r (GoesBy (ConnectFor user dest now) old new)
+    → OnOk r (GoesBy (Connect dest now) old new)
+own_user (Ok id) old new user dest now e g = record {
+  stands = λ s st. subst (λ (u : Callsign). SetStands new (acts (ConnectFor u dest now) (at_rest s))) (e ∙ sym st.ends.user) (g.stands s st);
+  router = g.router;
+}
+own_user (Err why) old new user dest now e g = tt

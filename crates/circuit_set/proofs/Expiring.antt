@@ -16,7 +16,7 @@ use Rattle.circuit_l4.specs.Laws.{FailsAfterRetries}
 use Rattle.circuit_l4.specs.Table.{Arrive, Input, step}
 use Rattle.circuit_l4.specs.Expiries as ends
 use Rattle.circuit_l4.specs.Expiries.{Moment, expiries}
-use Rattle.circuit_set.specs.Sets.{Act, Call, Calls, Closes, Comes, Connect, Discard, Restart, Takes, Ticks, Writes, Made, Sent, Heeded, Gone, Restarted, Holder, SetDone, SetState, datagram_to, end_of, goes_to, holder_of, input_of, is_over, losses, makes_end, new_pair, after_restart, set_step, told_by, with_end}
+use Rattle.circuit_set.specs.Sets.{Act, Call, Calls, Closes, Comes, Connect, ConnectFor, Discard, Restart, Takes, Ticks, Writes, Made, Sent, Heeded, Gone, Restarted, Holder, SetDone, SetState, datagram_to, end_of, goes_to, holder_of, input_of, is_over, losses, makes_end, new_pair, after_restart, set_step, told_by, with_end}
 use Rattle.circuit_set.specs.Books.{Book, with_event, with_events}
 use Rattle.circuit_set.specs.Events.{Name}
 use Rattle.circuit_set.specs.NotedRuns.{Net, begins, end_at, net_run, net_step, told_to}
@@ -24,7 +24,7 @@ use Rattle.circuit_set.specs.Runs.{AreStarts, AreSteps, Step, expiries_in, momen
 use Rattle.circuit_set.specs.Givings.{IsUp}
 use Rattle.circuit_set.proofs.Acts.{set_self}
 use Rattle.circuit_set.proofs.Bridge.{name_itself}
-use Rattle.circuit_set.proofs.Cases.{Every, Idle, IsNew, MadeBy, MovedBy, NoCall, step_every}
+use Rattle.circuit_set.proofs.Cases.{Every, Idle, IsNew, MadeBy, MovedBy, NoCall, asked_quiet, step_every}
 use Rattle.circuit_set.proofs.Given.{none_of, one}
 use Rattle.circuit_set.proofs.Lookups.{has_note, not_same}
 use Rattle.circuit_set.proofs.Moved.{same_or}
@@ -82,6 +82,7 @@ far_tick n (Calls called call now) h g by z apart =
     (λ same. apart (ap (λ i. (let x : Name = record { node = n; id = i } in x)) (sym by.0) ∙ same))
 far_tick n (Comes d now) h g by z apart = either_none (nat_eq n z.node)
 far_tick n (Connect dest now) h g by z apart = absurd by
+far_tick n (ConnectFor user dest now) h g by z apart = absurd by
 far_tick n (Discard id) h g by z apart = absurd by
 far_tick n (Restart pair more) h g by z apart = absurd by
 
@@ -104,6 +105,7 @@ own_tick n (Calls called call now) h g by =
 own_tick n (Comes d now) h g (inl by) = inl (record { input = Arrive by.0; now = now; is = by.1; at = either_none (nat_eq n n) })
 own_tick n (Comes d now) h g (inr by) = inr (either_none (nat_eq n n), by.0, by.1)
 own_tick n (Connect dest now) h g by = absurd by
+own_tick n (ConnectFor user dest now) h g by = absurd by
 own_tick n (Discard id) h g by = absurd by
 own_tick n (Restart pair more) h g by = absurd by
 
@@ -122,6 +124,7 @@ idle_tick : (n : ℕ) (s : SetState) (a : Act) (z : Name) (j : Holder) → Idle 
 idle_tick n s (Calls called call now) z j idle there = idle_call n s z j called call now (nat_eq n z.node) (nat_eq called z.id) refl refl there idle
 idle_tick n s (Comes d now) z j idle there = inl (either_none (nat_eq n z.node))
 idle_tick n s (Connect dest now) z j idle there = inl (either_none (nat_eq n z.node))
+idle_tick n s (ConnectFor user dest now) z j idle there = inl (either_none (nat_eq n z.node))
 idle_tick n s (Discard id) z j idle there = inl (either_none (nat_eq n z.node))
 idle_tick n s (Restart pair more) z j idle there = inl (either_none (nat_eq n z.node))
 
@@ -129,6 +132,7 @@ no_tick : (n : ℕ) (a : Act) → NoCall a → (z : Name) → tick_at (record { 
 no_tick n (Calls id call now) quiet z = absurd quiet
 no_tick n (Comes d now) quiet z = either_none (nat_eq n z.node)
 no_tick n (Connect dest now) quiet z = either_none (nat_eq n z.node)
+no_tick n (ConnectFor user dest now) quiet z = either_none (nat_eq n z.node)
 no_tick n (Discard id) quiet z = either_none (nat_eq n z.node)
 no_tick n (Restart pair more) quiet z = either_none (nat_eq n z.node)
 
@@ -136,12 +140,13 @@ idle_of : (s : SetState) (a : Act) → NoCall a → Idle s a
 idle_of s (Calls id call now) quiet = absurd quiet
 idle_of s (Comes d now) quiet = tt
 idle_of s (Connect dest now) quiet = tt
+idle_of s (ConnectFor user dest now) quiet = tt
 idle_of s (Discard id) quiet = tt
 idle_of s (Restart pair more) quiet = tt
 
 -- an end is made by no call of one
 made_quiet : (s : SetState) (a : Act) (at : Callsign) (role : Role) (asked : Option Pair) (request : Option (List ℕ)) → MadeBy s a at role asked request → NoCall a
-made_quiet s a at role None None by = subst NoCall (sym by.1) tt
+made_quiet s a at role None None by = asked_quiet s a by.0 at by.1
 made_quiet s a at role (Some pair) (Some d) by = subst NoCall (sym by.0.comer.came) tt
 made_quiet s a at role None (Some d) by = absurd by
 made_quiet s a at role (Some pair) None by = absurd by
@@ -352,6 +357,7 @@ module _ (net : Net) (sets : SetsOk net) (live : AllLive net) (n : ℕ) (s : Set
 
   by_act : (b : Act) → a ≡ b → P (set_step s a)
   by_act (Connect dest now) i = step_every s (one s (sets n s here)) a P every (subst IsUp (sym i) tt)
+  by_act (ConnectFor user dest now) i = step_every s (one s (sets n s here)) a P every (subst IsUp (sym i) tt)
   by_act (Comes d now) i = step_every s (one s (sets n s here)) a P every (subst IsUp (sym i) tt)
   by_act (Calls id call now) i = step_every s (one s (sets n s here)) a P every (subst IsUp (sym i) tt)
   by_act (Discard id) i = step_every s (one s (sets n s here)) a P every (subst IsUp (sym i) tt)

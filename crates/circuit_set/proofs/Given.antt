@@ -10,7 +10,7 @@ use Rattle.circuit_l4.specs.State.{Effect, Out, inbox}
 use Rattle.circuit_l4.specs.Opening.{facts_of}
 use Rattle.circuit_set.specs.Pairs.{Change, EndMade, Giving, EndGone, pair_after, after_giving, pair_given, pairs_given, without}
 use Rattle.circuit_set.specs.Pairs as pairs
-use Rattle.circuit_set.specs.Sets.{Act, Calls, Comes, Connect, Discard, Restart, Made, Sent, Heeded, Notice, Gone, Restarted, Lost, Holder, SetDone, SetState, CircuitTold, all_gone, end_of, held_pairs, holder_of, is_over, makes_end, new_pair, notices, after_restart, sendings, set_step, after_effect, told_by, with_end}
+use Rattle.circuit_set.specs.Sets.{Act, Calls, Comes, Connect, ConnectFor, Discard, Restart, Made, Sent, Heeded, Notice, Gone, Restarted, Lost, Holder, SetDone, SetState, CircuitTold, all_gone, end_of, held_pairs, holder_of, is_over, makes_end, new_pair, notices, after_restart, sendings, set_step, after_effect, told_by, with_end}
 use Rattle.circuit_set.specs.Pumps.{runs}
 use Rattle.circuit_set.specs.Runs.{IsStart}
 use Rattle.circuit_set.specs.Givings.{GivenBy, MadeAreGiven, MadeDiffer, StaysUp, after_changes, giving, pairs_made}
@@ -257,6 +257,7 @@ module _ (s : SetState) (nums : Numbers s) where
 
   pub step_numbers : (a : Act) → Numbers (set_step s a).set
   step_numbers (Connect dest now) = (step_cases s one (Fine s) cases (Connect dest now) tt).1
+  step_numbers (ConnectFor user dest now) = (step_cases s one (Fine s) cases (ConnectFor user dest now) tt).1
   step_numbers (Comes d now) = (step_cases s one (Fine s) cases (Comes d now) tt).1
   step_numbers (Calls id call now) = (step_cases s one (Fine s) cases (Calls id call now) tt).1
   step_numbers (Discard id) = (step_cases s one (Fine s) cases (Discard id) tt).1

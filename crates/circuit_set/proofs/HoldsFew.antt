@@ -7,7 +7,7 @@ use Rattle.circuit_set.specs.Givings.{GivenBy, IsUp, after_changes, giving}
 use Rattle.circuit_set.specs.Pumps.{runs}
 use Rattle.circuit_set.specs.Kept.{HoldsFew}
 use Rattle.circuit_set.specs.Pairs.{Change, EndMade, Giving, EndGone, after_giving, pair_given, is_full, without}
-use Rattle.circuit_set.specs.Sets.{Act, Calls, Comes, Connect, Discard, Restart, Holder, SetState, all_gone, held_pairs, set_step}
+use Rattle.circuit_set.specs.Sets.{Act, Calls, Comes, Connect, ConnectFor, Discard, Restart, Holder, SetState, all_gone, held_pairs, set_step}
 use Rattle.circuit_set.proofs.Given.{Numbers, runs_given, start_numbers, step_numbers}
 
 without_few : (n : ℕ) (ps : List Pair) → length (without n ps) ≤ length ps
@@ -41,6 +41,7 @@ module _ (s : SetState) (nums : Numbers s) (few : length (held_pairs s.ends) ≤
 
   step_few : (a : Act) → length (held_pairs (set_step s a).set.ends) ≤ 64
   step_few (Connect dest now) = up_few (Connect dest now) tt
+  step_few (ConnectFor user dest now) = up_few (ConnectFor user dest now) tt
   step_few (Comes d now) = up_few (Comes d now) tt
   step_few (Calls id call now) = up_few (Calls id call now) tt
   step_few (Discard id) = up_few (Discard id) tt

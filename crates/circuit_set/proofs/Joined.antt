@@ -7,13 +7,13 @@ use Rattle.l3_datagram.specs.declared.datagram.DatagramRefusal.{DatagramRefusal}
 use Rattle.l3_datagram.specs.Datagrams.{head_at}
 use Rattle.circuit_l4.specs.declared.pair.Pair.{Pair}
 use Rattle.circuit_l4.specs.Transports.{pair_at}
-use Rattle.circuit_set.specs.Books.{Book, Fresh, FreshTold, HasRequester, MadeNote, asked_by, empty, first_name, has_sent, if_asked, is_unknown, made_last, with_event, partner_in, requester, was_asked}
+use Rattle.circuit_set.specs.Books.{Book, Fresh, FreshTold, HasRequester, MadeNote, asked_by, empty, first_name, has_sent, if_asked, is_unknown, made_last, with_event, partner_in, requester, was_asked, lost_in}
 use Rattle.circuit_set.specs.Events.{Event, Name, same_name}
 use Rattle.circuit_set.specs.Sets.{CircuitTold, Made, Sent, Heeded, Notice, Gone, Restarted, Lost}
 use Rattle.circuit_set.specs.TooLate.{Asks, HasPartner, Joins, Makes, Opens}
 use Rattle.circuit_set.proofs.Bridge.{name_itself, same_names}
 use Rattle.circuit_set.proofs.Lookups.{same_asked, same_partner}
-use Rattle.circuit_set.proofs.Noted.{LooksUp, Marks, book, book_more, both_so, both_true, finds, found, fresh_less, lost_by, marked, marks, name_true, named, names_so, none_found, not_both, or_none, or_so}
+use Rattle.circuit_set.proofs.Noted.{LooksUp, Marks, book, book_more, both_so, both_true, finds, found, fresh_less, marked, marks, name_true, named, names_so, none_found, not_both, or_none, or_so}
 use Rattle.circuit_set.proofs.Sought.{given_looks, sent_marks}
 
 -- ---- who asks ----
@@ -154,10 +154,10 @@ module _ (es : List Event) (fresh : Fresh empty es) (x : Name) where
   made_case node own id pair at (Some d) h =
       asked_case node own id pair at d h.0 (asks es fresh d h.0 (requested es d h.0 h.1)) h.1 (same_name h.0 x) (same_name (record { node = node; id = id }) x) refl refl
 
-  pub joined : (e : Event) → FreshTold (book es) (lost_by [] es) e.node e.told → Joined e
+  pub joined : (e : Event) → FreshTold (book es) (lost_in [] es) e.node e.told → Joined e
   joined e told = by e.told told
     where
-      by : (t : CircuitTold) → FreshTold (book es) (lost_by [] es) e.node t → Joined (record { node = e.node; own = e.own; told = t })
+      by : (t : CircuitTold) → FreshTold (book es) (lost_in [] es) e.node t → Joined (record { node = e.node; own = e.own; told = t })
       by (Made id pair at request) f = made_case e.node e.own id pair at request f.0
       by (Sent id number sent) f = inr ((λ y j. elim j [ inl p ↦ absurd (cc (p.1.2.1)) | inr p ↦ absurd (cc (p.1.2.1)) ]), refl)
       by (Heeded id k) f = inr ((λ y j. elim j [ inl p ↦ absurd (cc (p.1.2.1)) | inr p ↦ absurd (cc (p.1.2.1)) ]), refl)
@@ -222,10 +222,10 @@ module _ (es : List Event) (fresh : Fresh empty es) (x : Name) where
   was_made node own id pair at (Some d) h =
       was_case node own id pair at d h.0 (asks es fresh d h.0 (requested es d h.0 h.1)) h.1 (same_name (record { node = node; id = id }) x) refl
 
-  pub asked : (e : Event) → FreshTold (book es) (lost_by [] es) e.node e.told → Asked e
+  pub asked : (e : Event) → FreshTold (book es) (lost_in [] es) e.node e.told → Asked e
   asked e told = by e.told told
     where
-      by : (t : CircuitTold) → FreshTold (book es) (lost_by [] es) e.node t → Asked (record { node = e.node; own = e.own; told = t })
+      by : (t : CircuitTold) → FreshTold (book es) (lost_in [] es) e.node t → Asked (record { node = e.node; own = e.own; told = t })
       by (Made id pair at request) f = was_made e.node e.own id pair at request f.0
       by (Sent id number sent) f = inr ((λ p. absurd (cc (p.1.1.2.1))), refl)
       by (Heeded id k) f = inr ((λ p. absurd (cc (p.1.1.2.1))), refl)

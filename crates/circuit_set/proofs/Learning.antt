@@ -20,11 +20,11 @@ use Rattle.circuit_set.specs.Facing.{IsCallOf}
 use Rattle.circuit_set.specs.Givings.{IsUp}
 use Rattle.circuit_set.specs.Returning.{CallsDiffer}
 use Rattle.circuit_set.specs.Runs.{AreStarts, IsAct, IsStart, events_at}
-use Rattle.circuit_set.specs.Sets.{Act, Connect, Comes, Calls, Discard, Restart, Made, Sent, Heeded, Gone, Restarted, Holder, SetDone, SetState, datagram_to, end_of, goes_to, has_ended, holder_of, is_over, losses, makes_end, new_pair, after_restart, set_step, told_by, with_end}
+use Rattle.circuit_set.specs.Sets.{Act, Connect, ConnectFor, Comes, Calls, Discard, Restart, Made, Sent, Heeded, Gone, Restarted, Holder, SetDone, SetState, datagram_to, end_of, goes_to, has_ended, holder_of, is_over, losses, makes_end, new_pair, after_restart, set_step, told_by, with_end}
 use Rattle.circuit_l4.specs.Transports.{pair_at}
 use Rattle.circuit_set.proofs.Acts.{set_self}
 use Rattle.circuit_set.proofs.Asks.{Asks}
-use Rattle.circuit_set.proofs.Cases.{IsNew, Lives, MadeBy, Opener, Says, step_every}
+use Rattle.circuit_set.proofs.Cases.{AskedFor, IsNew, Lives, MadeBy, Opener, Says, step_every}
 use Rattle.circuit_set.proofs.Copies.{same_calls}
 use Rattle.circuit_set.proofs.Ended.{Ends}
 use Rattle.circuit_set.proofs.Given.{Numbers, none_of, one}
@@ -246,11 +246,15 @@ module _ (net : Net) (k : Known net) (n : ℕ) (s : SetState) (here : slice_get 
     forth2 : Forth net new2
     forth2 = record { is = λ z j q. (j, old_end z j q, lasts_itself j); owns = λ i u q. stepped.own_stays net n s here t2 refl i u (nat_eq i n) refl q }
 
+    asked_ok : (user at : Callsign) → AskedFor s a user at → IsCallsign user.letters user.ssid × IsCallsign at.letters at.ssid
+    asked_ok user at (now, inl b) = (subst (λ (c : Callsign). IsCallsign c.letters c.ssid) (sym b.1) (k.sets n s here).1, subst IsAct b.0 is_act)
+    asked_ok user at (now, inr b) = subst IsAct b is_act
+
     -- it was asked for with a callsign, or by one
     end_by : (p : Option Pair) (d : Option (List ℕ)) → asked ≡ p → MadeBy s a at g.end.role p d → IsCallsign at.letters at.ssid × RoleSpeaks g.end.role × ((asked ≡ None) ⊎ (g.end.role ≡ Responder))
     end_by None None e b =
-        let calls = k.sets n s here in
-        (subst IsAct b.1 is_act, subst RoleSpeaks (sym b.2) (calls.1, calls.0), inl e)
+        let calls = asked_ok b.0 at b.1 in
+        (calls.1, subst RoleSpeaks (sym b.2) (calls.0, (k.sets n s here).0), inl e)
     end_by (Some p) (Some d) e b =
         let o : Opener s a at p d = b.0 in
         (subst (λ (c : Callsign). IsCallsign c.letters c.ssid) o.origin (origin_read d o.comer.head o.comer.read), subst RoleSpeaks (sym b.1) tt, inr b.1)
@@ -353,6 +357,7 @@ module _ (net : Net) (k : Known net) (n : ℕ) (s : SetState) (here : slice_get 
 
   pub step_known : (a : Act) → IsAct a → P (set_step s a)
   step_known (Connect dest now) is_act = up_known (Connect dest now) is_act tt
+  step_known (ConnectFor user dest now) is_act = up_known (ConnectFor user dest now) is_act tt
   step_known (Comes d now) is_act = up_known (Comes d now) is_act tt
   step_known (Calls id call now) is_act = up_known (Calls id call now) is_act tt
   step_known (Discard id) is_act = up_known (Discard id) is_act tt

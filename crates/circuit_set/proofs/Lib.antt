@@ -98,3 +98,5 @@ pub mod Opened
 pub mod Notes
 pub mod ByBook
 pub mod SafeEvents
+pub mod Owned
+pub mod Signs

@@ -219,19 +219,18 @@ as_requester p node e = record { pair = p; at = node; asked = None; end = e; tak
 abbrev as_responder : Pair → Callsign → Pair → EndView → Holder
 as_responder p node q e = record { pair = p; at = node; asked = Some q; end = e; taken = 0; unannounced = false; discarded = false }
 
-pub requests_held : (c c2 : HeldEnds) (k : Holder) (e : EndView) (node : Callsign) (now : ℕ) (p : Pair) → k ≡ as_requester p node e → Holds k c c2
-    → Stands e (requesting p c.user c.own c.config (min now COUNT_MAX)) → ((s : SetState) → HeldStands c s [] → p ≡ sets.new_pair s)
-    → (s : SetState) → HeldStands c s [] → HeldStands c2 (sets.requests s node now).set (sets.requests s node now).told
-requests_held c c2 k e node now p is holds stands pair = λ s st.
-    let g : Effect = requesting p c.user c.own c.config (min now COUNT_MAX) in
+pub requests_held : (c c2 : HeldEnds) (k : Holder) (e : EndView) (user node : Callsign) (now : ℕ) (p : Pair) → k ≡ as_requester p node e → Holds k c c2
+    → Stands e (requesting p user c.own c.config (min now COUNT_MAX)) → ((s : SetState) → HeldStands c s [] → p ≡ sets.new_pair s)
+    → (s : SetState) → HeldStands c s [] → HeldStands c2 (sets.requests_for s user node now).set (sets.requests_for s user node now).told
+requests_held c c2 k e user node now p is holds stands pair = λ s st.
+    let g : Effect = requesting p user c.own c.config (min now COUNT_MAX) in
     let x : Holds (as_requester p node e) c c2 = subst (λ (y : Holder). Holds y c c2) is holds in
     let held : HeldStands c2 (sets.makes_end s node None None g).set (sets.makes_end s node None None g).told =
     made_quietly c c2 (as_requester p node e) x s st g stands refl refl refl (pair s st) refl tt refl refl in
-    let same : g ≡ requesting (sets.new_pair s) s.user s.own s.config (min now COUNT_MAX) =
-    ap (λ (q : Pair). requesting q c.user c.own c.config (min now COUNT_MAX)) (pair s st)
-    ∙ ap (λ (u : Callsign). requesting (sets.new_pair s) u c.own c.config (min now COUNT_MAX)) (sym st.user)
-    ∙ ap (λ (o : Callsign). requesting (sets.new_pair s) s.user o c.config (min now COUNT_MAX)) (sym st.own)
-    ∙ ap (λ (f : EndConfig). requesting (sets.new_pair s) s.user s.own f (min now COUNT_MAX)) (sym st.config) in
+    let same : g ≡ requesting (sets.new_pair s) user s.own s.config (min now COUNT_MAX) =
+    ap (λ (q : Pair). requesting q user c.own c.config (min now COUNT_MAX)) (pair s st)
+    ∙ ap (λ (o : Callsign). requesting (sets.new_pair s) user o c.config (min now COUNT_MAX)) (sym st.own)
+    ∙ ap (λ (f : EndConfig). requesting (sets.new_pair s) user s.own f (min now COUNT_MAX)) (sym st.config) in
     subst (λ (y : Effect). HeldStands c2 (sets.makes_end s node None None y).set (sets.makes_end s node None None y).told) same held
 
 pub responds_gives : (c c2 : HeldEnds) (k : Holder) (e : EndView) (origin : Callsign) (d : ArrayVec ℕ) (now window : ℕ) (p q : Pair) (id : ℕ) → k ≡ as_responder p origin q e → Holds k c c2 → id ≡ c.number

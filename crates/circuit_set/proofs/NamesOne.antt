@@ -9,7 +9,7 @@ use Rattle.circuit_l4.specs.declared.notice.EndNotice.{EndNotice}
 use Rattle.circuit_l4.specs.State.{Effect, Out, State}
 use Rattle.circuit_l4.specs.Opening.{facts_of}
 use Rattle.circuit_set.specs.Pairs.{IsPair, is_used}
-use Rattle.circuit_set.specs.Sets.{Act, Calls, Comes, Connect, Discard, Restart, Made, Sent, Heeded, Notice, Gone, Restarted, Lost, Holder, SetDone, SetState, CircuitTold, all_gone, end_of, goes_to, has_ended, held_pairs, holder_of, is_over, losses, makes_end, new_pair, notices, after_restart, sendings, set_step, told_by, with_end}
+use Rattle.circuit_set.specs.Sets.{Act, Calls, Comes, Connect, ConnectFor, Discard, Restart, Made, Sent, Heeded, Notice, Gone, Restarted, Lost, Holder, SetDone, SetState, CircuitTold, all_gone, end_of, goes_to, has_ended, held_pairs, holder_of, is_over, losses, makes_end, new_pair, notices, after_restart, sendings, set_step, told_by, with_end}
 use Rattle.circuit_set.specs.Books.{Book, FreshFrom, any_ends, is_lost, lost_with, with_event, with_events, partner_in, requester}
 use Rattle.circuit_set.specs.Events.{Event, Name, same_name}
 use Rattle.circuit_set.specs.NotedRuns.{Net, begins, end_at, net_run, net_step, told_to}
@@ -304,6 +304,7 @@ module _ (net : Net) (lost : List Name) (f : Fair net lost) (n : ℕ) (s : SetSt
 
   pub act_fair : (a : Act) → IsAct a → FreshFrom net.book lost (events_at n s.own (set_step s a).told) → Fair (After (set_step s a)) (lost_all lost (events_at n s.own (set_step s a).told))
   act_fair (Connect dest now) is fr = step_cases s (one s nums) P cases (Connect dest now) tt (step_numbers s nums (Connect dest now)) (step_cases s (one s nums) Q pair_cases (Connect dest now) tt) fr
+  act_fair (ConnectFor user dest now) is fr = step_cases s (one s nums) P cases (ConnectFor user dest now) tt (step_numbers s nums (ConnectFor user dest now)) (step_cases s (one s nums) Q pair_cases (ConnectFor user dest now) tt) fr
   act_fair (Comes d now) is fr = step_cases s (one s nums) P cases (Comes d now) tt (step_numbers s nums (Comes d now)) (step_cases s (one s nums) Q pair_cases (Comes d now) tt) fr
   act_fair (Calls id call now) is fr = step_cases s (one s nums) P cases (Calls id call now) tt (step_numbers s nums (Calls id call now)) (step_cases s (one s nums) Q pair_cases (Calls id call now) tt) fr
   act_fair (Discard id) is fr = step_cases s (one s nums) P cases (Discard id) tt (step_numbers s nums (Discard id)) (step_cases s (one s nums) Q pair_cases (Discard id) tt) fr

@@ -17,7 +17,7 @@ use Rattle.circuit_l4.specs.State.{Effect, Out}
 use Rattle.circuit_l4.specs.Table.{Arrive, common_window, step}
 use Rattle.circuit_l4.specs.Opening.{facts_of, requesting, responding}
 use Rattle.circuit_l4.specs.Transports.{transport_at}
-use Rattle.circuit_set.specs.Sets.{heeds, Act, Call, Calls, Comes, Connect, Discard, Restart, Holder, SetDone, SetState, CircuitTold, Made, Sent, Heeded, Notice, Gone, Restarted, Lost, accept_again, all_gone, after_call, datagram_to, after_discarding, end_of, first_open, goes_to, hands_to, after_datagram, has_ended, holder_of, input_of, is_full, is_over, losses, makes_end, named_by, new_pair, notices, opened_by, read_as, after_transport, after_new_request, requests, responds, sendings, set_step, after_effect, told_by, does_nothing, with_end}
+use Rattle.circuit_set.specs.Sets.{heeds, Act, Call, Calls, Comes, Connect, ConnectFor, Discard, Restart, Holder, SetDone, SetState, CircuitTold, Made, Sent, Heeded, Notice, Gone, Restarted, Lost, accept_again, all_gone, after_call, datagram_to, after_discarding, end_of, first_open, goes_to, hands_to, after_datagram, has_ended, holder_of, input_of, is_full, is_over, losses, makes_end, named_by, new_pair, notices, opened_by, read_as, after_transport, after_new_request, requests, requests_for, responds, sendings, set_step, after_effect, told_by, does_nothing, with_end}
 use Rattle.circuit_set.specs.Events.{Event, Name}
 use Rattle.circuit_set.specs.NotedRuns.{NarrowIsTimely, Net, allowance_at, begins, net_step}
 use Rattle.circuit_set.specs.Books.{Book, Timely, TimelyTo, TimelyTold, with_event, with_events}
@@ -142,6 +142,8 @@ module _ (s : SetState) where
   step_first : (a : Act) → First (set_step s a)
   step_first (Connect dest now) = either_told First (same_call dest s.own || is_full s) (does_nothing s) (requests s dest now) tt
       (made_first dest None None (requesting (new_pair s) s.user s.own s.config (min now COUNT_MAX)))
+  step_first (ConnectFor user dest now) = either_told First (same_call dest s.own || is_full s) (does_nothing s) (requests_for s user dest now) tt
+      (made_first dest None None (requesting (new_pair s) user s.own s.config (min now COUNT_MAX)))
   step_first (Comes d now) = headed_first d (head_at d) now
   step_first (Calls id call now) = called_first (end_of id s.ends) call now
   step_first (Discard id) = discarded_first (end_of id s.ends)
@@ -243,6 +245,8 @@ module _ (s : SetState) (n : NarrowSet s) where
   step_narrow : (a : Act) → Narrow (set_step s a)
   step_narrow (Connect dest now) =
       either_told Narrow (same_call dest s.own || is_full s) (does_nothing s) (requests s dest now) n (made_narrow dest None None (requesting (new_pair s) s.user s.own s.config (min now COUNT_MAX)) refl)
+  step_narrow (ConnectFor user dest now) =
+      either_told Narrow (same_call dest s.own || is_full s) (does_nothing s) (requests_for s user dest now) n (made_narrow dest None None (requesting (new_pair s) user s.own s.config (min now COUNT_MAX)) refl)
   step_narrow (Comes d now) = headed_narrow d (head_at d) now
   step_narrow (Calls id call now) = called_narrow id (end_of id s.ends) call now refl
   step_narrow (Discard id) = discarded_narrow id (end_of id s.ends) refl

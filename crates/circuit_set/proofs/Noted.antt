@@ -6,7 +6,7 @@ use Rattle.std.specs.Cmp.Lexicographic.{pointwise}
 use Rattle.ax_address.specs.Callsign.{Callsign, same_call}
 use Rattle.circuit_l4.specs.declared.pair.Pair.{Pair}
 use Rattle.circuit_set.specs.TooLate.{Has, Last}
-use Rattle.circuit_set.specs.Books.{Book, Fresh, FreshFrom, Timely, TimelyTold, FreshTold, empty, lost_with, with_event, with_events}
+use Rattle.circuit_set.specs.Books.{Book, Fresh, FreshFrom, Timely, TimelyTold, FreshTold, empty, lost_with, with_event, with_events, lost_in}
 use Rattle.circuit_set.specs.Events.{Event, Name, same_name}
 use Rattle.circuit_set.specs.Sets.{same_pair}
 use Rattle.circuit_set.proofs.Among.{by_snoc, has_cases, has_last, has_new, has_nothing, has_old, last_cases, last_new, last_old}
@@ -20,26 +20,22 @@ book es = with_events empty es
 pub book_more : (es : List Event) (e : Event) → book (es ++ e ∷ []) ≡ with_event (book es) e
 book_more es e = noted_append empty es (e ∷ [])
 
-abbrev pub lost_by : List Name → List Event → List Name
-lost_by lost [] = lost
-lost_by lost (e ∷ es) = lost_by (lost_with lost e.node e.told) es
-
-pub lost_more : (lost : List Name) (es : List Event) (e : Event) → lost_by lost (es ++ e ∷ []) ≡ lost_with (lost_by lost es) e.node e.told
+pub lost_more : (lost : List Name) (es : List Event) (e : Event) → lost_in lost (es ++ e ∷ []) ≡ lost_with (lost_in lost es) e.node e.told
 lost_more lost [] e = refl
 lost_more lost (k ∷ es) e = lost_more (lost_with lost k.node k.told) es e
 
-fresh_parts : (b : Book) (lost : List Name) (xs : List Event) (e : Event) → FreshFrom b lost (xs ++ e ∷ []) → FreshFrom b lost xs × FreshTold (with_events b xs) (lost_by lost xs) e.node e.told
+fresh_parts : (b : Book) (lost : List Name) (xs : List Event) (e : Event) → FreshFrom b lost (xs ++ e ∷ []) → FreshFrom b lost xs × FreshTold (with_events b xs) (lost_in lost xs) e.node e.told
 fresh_parts b lost [] e f = (tt, f.0)
 fresh_parts b lost (x ∷ xs) e f = let r = fresh_parts (with_event b x) (lost_with lost x.node x.told) xs e f.1 in ((f.0, r.0), r.1)
 
-fresh_joined : (b : Book) (lost : List Name) (xs : List Event) (e : Event) → FreshFrom b lost xs → FreshTold (with_events b xs) (lost_by lost xs) e.node e.told → FreshFrom b lost (xs ++ e ∷ [])
+fresh_joined : (b : Book) (lost : List Name) (xs : List Event) (e : Event) → FreshFrom b lost xs → FreshTold (with_events b xs) (lost_in lost xs) e.node e.told → FreshFrom b lost (xs ++ e ∷ [])
 fresh_joined b lost [] e f g = (g, tt)
 fresh_joined b lost (x ∷ xs) e f g = (f.0, fresh_joined (with_event b x) (lost_with lost x.node x.told) xs e f.1 g)
 
-pub fresh_less : (es : List Event) (e : Event) → Fresh empty (es ++ e ∷ []) → Fresh empty es × FreshTold (book es) (lost_by [] es) e.node e.told
+pub fresh_less : (es : List Event) (e : Event) → Fresh empty (es ++ e ∷ []) → Fresh empty es × FreshTold (book es) (lost_in [] es) e.node e.told
 fresh_less es e f = fresh_parts empty [] es e f
 
-pub fresh_one : (es : List Event) (e : Event) → Fresh empty es → FreshTold (book es) (lost_by [] es) e.node e.told → Fresh empty (es ++ e ∷ [])
+pub fresh_one : (es : List Event) (e : Event) → Fresh empty es → FreshTold (book es) (lost_in [] es) e.node e.told → Fresh empty (es ++ e ∷ [])
 fresh_one es e f g = fresh_joined empty [] es e f g
 
 pub timely_less : (allow : Book → Name → ℕ) (b : Book) (xs : List Event) (e : Event) → Timely allow b (xs ++ e ∷ []) → Timely allow b xs × TimelyTold allow (with_events b xs) e.node e.told

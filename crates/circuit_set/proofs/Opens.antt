@@ -18,7 +18,7 @@ use Rattle.circuit_l4.specs.State.{Effect, begin}
 use Rattle.circuit_l4.specs.Laws.{Accepts, Asks as NewAsks}
 use Rattle.circuit_l4.specs.Table.{Arrive, common_window, step}
 use Rattle.circuit_l4.specs.Opening.{requesting, responding}
-use Rattle.circuit_set.specs.Sets.{heeds, Act, Call, Calls, Comes, Connect, Discard, Restart, after_restart, Holder, SetDone, SetState, Heeded, Sent, accept_again, arrives_at, asked_with, after_call, after_connecting, datagram_to, after_discarding, end_of, first_open, goes_to, after_datagram, has_ended, input_of, is_full, is_open, is_over, makes_end, named_by, new_pair, opened_by, read_as, after_transport, same_pair, set_step, told_by, does_nothing}
+use Rattle.circuit_set.specs.Sets.{heeds, Act, Call, Calls, Comes, Connect, ConnectFor, Discard, Restart, after_restart, Holder, SetDone, SetState, Heeded, Sent, accept_again, arrives_at, asked_with, after_call, after_connecting_for, datagram_to, after_discarding, end_of, first_open, goes_to, after_datagram, has_ended, input_of, is_full, is_open, is_over, makes_end, named_by, new_pair, opened_by, read_as, after_transport, same_pair, set_step, told_by, does_nothing}
 use Rattle.circuit_set.specs.Events.{Event, Name, is_copy, same_name}
 use Rattle.circuit_set.specs.NotedRuns.{Net, allowance_at, net_run, net_step}
 use Rattle.circuit_set.specs.Pairs.{pair_after}
@@ -43,9 +43,9 @@ use Rattle.circuit_set.proofs.Restarts.{noted_losses}
 use Rattle.circuit_set.proofs.Acts as acts
 
 -- ---- new ends ----
-requester_made : (net : Net) (s : SetState) (pair : Pair) (dest : Callsign) (now : ℕ) → SetInv s → IsCallsign dest.letters dest.ssid
-    → IsMade net s dest None None (requesting pair s.user s.own s.config now)
-requester_made net s pair dest now inv call =
+requester_made : (net : Net) (s : SetState) (pair : Pair) (user dest : Callsign) (now : ℕ) → SetInv s → IsCallsign user.letters user.ssid → IsCallsign dest.letters dest.ssid
+    → IsMade net s dest None None (requesting pair user s.own s.config now)
+requester_made net s pair user dest now inv asker call =
     let some : 1 ≤ s.config.window = inv.some in
     record {
       new = λ w other fits. record {
@@ -60,14 +60,14 @@ requester_made net s pair dest now inv call =
       };
       window = s.config.window;
       fits = record { some = some; own = omega arith; is = λ r. cc };
-      lives = record { first = requesting pair s.user s.own s.config now; new = NewAsks pair s.user s.own s.config now; inputs = []; end = refl; notes_are = refl };
+      lives = record { first = requesting pair user s.own s.config now; new = NewAsks pair user s.own s.config now; inputs = []; end = refl; notes_are = refl };
       silent = (λ n e. cc, tt);
-      spelled = (record { head = record { origin = s.own; dest = dest; ttl = s.ttl }; is = refl; origin = inv.own; dest = call; transport = (inv.user, inv.own) }, tt);
+      spelled = (record { head = record { origin = s.own; dest = dest; ttl = s.ttl }; is = refl; origin = inv.own; dest = call; transport = (asker, inv.own) }, tt);
       asks = ((refl, refl, refl, refl), tt);
       some = some;
       most = inv.most;
       at_call = call;
-      role = (inv.user, inv.own);
+      role = (asker, inv.own);
       answers = λ p e. cc;
       asked = λ x e. cc;
       by_request = λ e. cc;
@@ -325,10 +325,10 @@ module _ (net : Net) (k : Kept net) (n : ℕ) (s : SetState) (here : slice_get n
       either_done K (same_call head.origin s.own || not (same_call head.dest s.own)) (does_nothing s) (read_as s head.origin d (transport_at (drop 15 d)) now) untold_so
       (read_case head.origin d (transport_at (drop 15 d)) now (origin_read d head h) refl)
 
-  connected_so : (dest : Callsign) (now : ℕ) → IsCallsign dest.letters dest.ssid → K (after_connecting s dest now)
-  connected_so dest now call =
-      either_done K (same_call dest s.own || is_full s) (does_nothing s) (makes_end s dest None None (requesting (new_pair s) s.user s.own s.config (min now COUNT_MAX))) untold_so
-      (new_end dest None None (requesting (new_pair s) s.user s.own s.config (min now COUNT_MAX)) (requester_made net s (new_pair s) dest (min now COUNT_MAX) inv call))
+  connected_so : (user dest : Callsign) (now : ℕ) → IsCallsign user.letters user.ssid → IsCallsign dest.letters dest.ssid → K (after_connecting_for s user dest now)
+  connected_so user dest now asker call =
+      either_done K (same_call dest s.own || is_full s) (does_nothing s) (makes_end s dest None None (requesting (new_pair s) user s.own s.config (min now COUNT_MAX))) untold_so
+      (new_end dest None None (requesting (new_pair s) user s.own s.config (min now COUNT_MAX)) (requester_made net s (new_pair s) user dest (min now COUNT_MAX) inv asker call))
 
   restarted_so : (pair : Pair) (more : ℕ) → K (after_restart s pair more)
   restarted_so pair more time =
@@ -340,7 +340,8 @@ module _ (net : Net) (k : Kept net) (n : ℕ) (s : SetState) (here : slice_get n
       )
 
   pub act_so : (act : Act) → IsAct act → K (set_step s act)
-  act_so (Connect dest now) call = connected_so dest now call
+  act_so (Connect dest now) call = connected_so s.user dest now inv.user call
+  act_so (ConnectFor user dest now) call = connected_so user dest now call.0 call.1
   act_so (Comes d now) call = handed_case d (head_at d) now refl
   act_so (Calls id call now) is = called_case id call now (end_of id s.ends) refl
   act_so (Discard id) call = discard_case id (end_of id s.ends) refl

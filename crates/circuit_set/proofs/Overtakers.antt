@@ -1,11 +1,12 @@
 -- How many fragments have overtaken a sending: as many as there are different ones.
-use Rattle.std.specs.Prelude.{◌≡◌, ℕ, suc, ◌+◌, ◌≤◌, ◌<◌, Bool, true, false, ◌&&◌, nat_eq, nat_lt, if◌then◌else◌, List, [], ◌∷◌, ◌++◌, length, Option, Some, None, refl}
+use Rattle.std.specs.Prelude.{◌≡◌, ℕ, suc, ◌+◌, ◌≤◌, ◌<◌, Bool, true, false, ◌&&◌, nat_eq, nat_lt, if◌then◌else◌, List, [], ◌∷◌, ◌++◌, length, Contains, Option, Some, None, refl}
 use Rattle.std.specs.List.{AllByRecursion, IsDistinct, list_any}
 use Rattle.std.specs.Cmp.{IsEquivalence}
 use Rattle.std.proofs.Common.{sym, ◌∙◌, ap, subst, inl, inr, arith}
 use Rattle.std.proofs.lemmas.Map.Made.{length-le_from_is_member}
 use Rattle.circuit_set.specs.Books.{Book, Fresh, HeardNote, SentNote, empty, first_place, heard_number, heard_sending, is_heard, latest_to, with_event, overtakers, overtakes}
 use Rattle.circuit_set.specs.Events.{Event, Name, same_name}
+use Rattle.circuit_set.specs.Signs.{AreOvertakers}
 use Rattle.circuit_set.specs.Sets.{CircuitTold, Made, Sent, Heeded, Notice, Gone, Restarted, Lost}
 use Rattle.circuit_set.specs.TooLate.{Overtaker, Overtakes, same_overtaker}
 use Rattle.circuit_set.proofs.Among.{by_snoc}
@@ -143,12 +144,19 @@ of_all P (o ∷ os) q a e = elim (or_cases (same_overtaker q o) (list_any (same_
   | inr f ↦ of_all P os q a.1 f
 ]
 
+inside : (q : Overtaker) (os : List Overtaker) → list_any (same_overtaker q) os ≡ true → Contains os q
+inside q [] e = absurd (cc e)
+inside q (o ∷ os) e = elim (or_cases (same_overtaker q o) (list_any (same_overtaker q) os) e) [
+  | inl f ↦ (0, omega arith, sym (over_is q o f))
+  | inr f ↦ (let r = inside q os f in let l : r.0 < length os = r.1 in (suc r.0, omega (arith, l), r.2))
+]
+
 -- ---- as many as there are ----
 module _ (x y : Name) (upto since : List Event) (fresh : Fresh empty (upto ++ since)) (i : ℕ) (size : length upto ≡ suc i) where
   abbrev all : List Event
   all = upto ++ since
 
-  abbrev told : List Overtaker
+  abbrev pub told : List Overtaker
   told = counted y x i (book all).sent (book all).heard
 
   overtaken : (o : Overtaker) → Overtakes x y upto since o → overtakes y x i (book all).sent (record { who = o.by; number = o.number }) ≡ true
@@ -167,6 +175,17 @@ module _ (x y : Name) (upto since : List Event) (fresh : Fresh empty (upto ++ si
     ];
     heeded = marks (heard_marks h.who h.number) all fresh e;
   }
+
+  -- they are all that there are
+  pub they_are : AreOvertakers x y upto since told
+  they_are = record {
+    different = counted_once y x i (book all).sent (book all).heard (once_all all);
+    only = all_counted y x i (book all).sent (Overtakes x y upto since) (book all).heard (book all).heard (λ z n e. e) overtaking;
+    all = λ o k. inside o told (is_counted y x i (book all).sent o (book all).heard (marked (heard_marks o.by o.number) all fresh k.heeded) (overtaken o k));
+  }
+
+  pub are_as_many : length told ≡ overtakers y x i (book all).sent (book all).heard
+  are_as_many = counts y x i (book all).sent (book all).heard
 
   -- no list of different ones is longer than the count
   pub at_most : (os : List Overtaker) → IsDistinct same_overtaker os → AllByRecursion (Overtakes x y upto since) os → length os ≤ overtakers y x i (book all).sent (book all).heard

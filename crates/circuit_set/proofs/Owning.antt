@@ -12,7 +12,7 @@ use Rattle.circuit_l4.specs.declared.transport.TransportRefusal.{TransportRefusa
 use Rattle.circuit_l4.specs.Transports.{transport_at}
 use Rattle.circuit_l4.specs.Table.{step}
 use Rattle.circuit_l4.specs.Opening.{facts_of}
-use Rattle.circuit_set.specs.Sets.{Act, Call, Calls, Comes, Connect, Discard, Restart, Holder, SetDone, SetState, accept_again, after_call, after_discarding, end_of, first_open, goes_to, hands_to, after_datagram, has_ended, is_full, input_of, named_by, opened_by, with_end, Gone, Sent, datagram_to, read_as, after_transport, after_new_request, requests, responds, set_step, does_nothing}
+use Rattle.circuit_set.specs.Sets.{Act, Call, Calls, Comes, Connect, ConnectFor, Discard, Restart, Holder, SetDone, SetState, accept_again, after_call, after_discarding, end_of, first_open, goes_to, hands_to, after_datagram, has_ended, is_full, input_of, named_by, opened_by, with_end, Gone, Sent, datagram_to, read_as, after_transport, after_new_request, requests, requests_for, responds, set_step, does_nothing}
 use Rattle.circuit_set.specs.Pumps.{runs}
 
 pub record SameOwn (s t : SetState) : Type 0 where
@@ -66,6 +66,7 @@ module _ (s : SetState) where
 
   pub step_own : (a : Act) → SameOwn s (set_step s a).set
   step_own (Connect dest now) = either s (same_call dest s.own || is_full s) (does_nothing s) (requests s dest now) (same s) (record { own = refl; ttl = refl })
+  step_own (ConnectFor user dest now) = either s (same_call dest s.own || is_full s) (does_nothing s) (requests_for s user dest now) (same s) (record { own = refl; ttl = refl })
   step_own (Comes d now) = headed d (head_at d) now
   step_own (Calls id call now) = calls (end_of id s.ends) call now
   step_own (Discard id) = discards (end_of id s.ends)

@@ -20,7 +20,7 @@ use Rattle.circuit_l4.specs.State.{Effect, Out}
 use Rattle.circuit_l4.specs.Opening.{facts_of, requesting, responding}
 use Rattle.circuit_l4.specs.Table.{Arrive, step}
 use Rattle.circuit_l4.proofs.Spelling as transports
-use Rattle.circuit_set.specs.Sets.{heeds, Call, Calls, Comes, Connect, Discard, Restart, Gone, Heeded, Holder, Lost, Made, Notice, Restarted, Sent, SetDone, SetState, CircuitTold, accept_again, all_gone, after_call, datagram_to, after_discarding, end_of, first_open, goes_to, hands_to, after_datagram, has_ended, holder_of, input_of, is_open, is_full, is_over, losses, makes_end, named_by, new_pair, notices, opened_by, read_as, after_transport, requests, responds, sendings, after_effect, told_by, does_nothing, with_end}
+use Rattle.circuit_set.specs.Sets.{heeds, Call, Calls, Comes, Connect, ConnectFor, Discard, Restart, Gone, Heeded, Holder, Lost, Made, Notice, Restarted, Sent, SetDone, SetState, CircuitTold, accept_again, all_gone, after_call, datagram_to, after_discarding, end_of, first_open, goes_to, hands_to, after_datagram, has_ended, holder_of, input_of, is_open, is_full, is_over, losses, makes_end, named_by, new_pair, notices, opened_by, read_as, after_transport, requests, requests_for, responds, sendings, after_effect, told_by, does_nothing, with_end}
 use Rattle.circuit_set.specs.Refusals.{FromOne, IsNumbered, RefusalsAreUnheeded, RefusesUnder0, SetsRefuseUnder0, StartsAreNumbered}
 use Rattle.circuit_set.proofs.Origins.{origin_read}
 
@@ -191,6 +191,8 @@ module _ (s : SetState) (n : IsNumbered s) where
 pub sets_refuse_under_0 : SetsRefuseUnder0
 sets_refuse_under_0 s n (Connect dest now) =
     either_so s n (same_call dest s.own || is_full s) (requests s dest now) (made_so s n dest None None (requesting (new_pair s) s.user s.own s.config (min now COUNT_MAX)))
+sets_refuse_under_0 s n (ConnectFor user dest now) =
+    either_so s n (same_call dest s.own || is_full s) (requests_for s user dest now) (made_so s n dest None None (requesting (new_pair s) user s.own s.config (min now COUNT_MAX)))
 sets_refuse_under_0 s n (Comes d now) = came_so s n d now (head_at d) refl
 sets_refuse_under_0 s n (Calls id call now) = called_so s n id (end_of id s.ends) call now refl
 sets_refuse_under_0 s n (Discard id) = discarded_so s n id (end_of id s.ends) refl

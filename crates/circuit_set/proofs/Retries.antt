@@ -6,7 +6,7 @@ use Rattle.circuit_l4.specs.declared.pair.Pair.{Pair}
 use Rattle.circuit_l4.specs.declared.notice.EndNotice.{EndNotice}
 use Rattle.circuit_l4.specs.State.{Effect, State}
 use Rattle.circuit_l4.specs.Opening.{facts_of}
-use Rattle.circuit_set.specs.Sets.{Act, Calls, Comes, Connect, Discard, Restart, Made, Sent, Heeded, Gone, Restarted, Holder, SetDone, SetState, end_of, goes_to, holder_of, is_over, losses, makes_end, new_pair, after_restart, set_step, told_by, with_end}
+use Rattle.circuit_set.specs.Sets.{Act, Calls, Comes, Connect, ConnectFor, Discard, Restart, Made, Sent, Heeded, Gone, Restarted, Holder, SetDone, SetState, end_of, goes_to, holder_of, is_over, losses, makes_end, new_pair, after_restart, set_step, told_by, with_end}
 use Rattle.circuit_set.specs.Books.{Book, with_event, with_events}
 use Rattle.circuit_set.specs.Events.{Name}
 use Rattle.circuit_set.specs.NotedRuns.{Net, begins, end_at, told_to}
@@ -148,6 +148,7 @@ module _ (net : Net) (sets : SetsOk net) (live : AllLive net) (n : ℕ) (s : Set
 
   act_lives : (a : Act) → AllLive (After (set_step s a))
   act_lives (Connect dest now) = step_cases s (one s (sets n s here)) P cases (Connect dest now) tt
+  act_lives (ConnectFor user dest now) = step_cases s (one s (sets n s here)) P cases (ConnectFor user dest now) tt
   act_lives (Comes d now) = step_cases s (one s (sets n s here)) P cases (Comes d now) tt
   act_lives (Calls id call now) = step_cases s (one s (sets n s here)) P cases (Calls id call now) tt
   act_lives (Discard id) = step_cases s (one s (sets n s here)) P cases (Discard id) tt

@@ -31,11 +31,11 @@ module _ {A : Type 0} (x : A) where
   one_more : (y : A) (xs : List A) → Contains xs x → Contains (y ∷ xs) x
   one_more y xs (k, l, e) = (suc k, omega (arith, l), e)
 
-  of_one_more : (y : A) (xs : List A) → Contains (y ∷ xs) x → (y ≡ x) ⊎ Contains xs x
+  pub of_one_more : (y : A) (xs : List A) → Contains (y ∷ xs) x → (y ≡ x) ⊎ Contains xs x
   of_one_more y xs (zero, l, e) = inl e
   of_one_more y xs (suc k, l, e) = inr (k, omega (arith, l), e)
 
-  of_none : Contains [] x → ⊥
+  pub of_none : Contains [] x → ⊥
   of_none (k, l, e) = absurd (omega (arith, l))
 
 -- ---- what z was told ----
@@ -124,19 +124,19 @@ run_sets net [] = refl
 run_sets net (st ∷ sts) = run_sets (net_step net st) sts
 
 module _ (sets : List SetState) (steps : List Step) where
-  book_is : (net_run (begins sets) steps).book ≡ book (events_of sets steps)
+  pub book_is : (net_run (begins sets) steps).book ≡ book (events_of sets steps)
   book_is = run_book (begins sets) steps
 
-  told_by_book : (x : Name) (n : EndNotice) → WasTold (events_of sets steps) x n → Contains (told_to (net_run (begins sets) steps).book.made x) n
+  pub told_by_book : (x : Name) (n : EndNotice) → WasTold (events_of sets steps) x n → Contains (told_to (net_run (begins sets) steps).book.made x) n
   told_by_book x n w = subst (λ (b : Book). Contains (told_to b.made x) n) (sym book_is) (was_told x n (events_of sets steps) w)
 
   told_by_events : (x : Name) (n : EndNotice) → Contains (told_to (net_run (begins sets) steps).book.made x) n → WasTold (events_of sets steps) x n
   told_by_events x n k = told_was x n (events_of sets steps) (subst (λ (b : Book). Contains (told_to b.made x) n) book_is k)
 
-  at_net : (x : Name) (h : Holder) → end_named (sets_run sets steps) x ≡ Some h → end_at (net_run (begins sets) steps) x ≡ Some h
+  pub at_net : (x : Name) (h : Holder) → end_named (sets_run sets steps) x ≡ Some h → end_at (net_run (begins sets) steps) x ≡ Some h
   at_net x h e = ap (λ ss. end_named ss x) (run_sets (begins sets) steps) ∙ e
 
-  at_sets : (x : Name) (h : Holder) → end_at (net_run (begins sets) steps) x ≡ Some h → end_named (sets_run sets steps) x ≡ Some h
+  pub at_sets : (x : Name) (h : Holder) → end_at (net_run (begins sets) steps) x ≡ Some h → end_named (sets_run sets steps) x ≡ Some h
   at_sets x h e = sym (ap (λ ss. end_named ss x) (run_sets (begins sets) steps)) ∙ e
 
 pub retries_are_told : RetriesNoted → RetriesAreTold
@@ -145,7 +145,7 @@ retries_are_told with_event sets starts steps are x h e =
     (λ w. r.0 (told_by_book sets steps x FailedRetries w), λ q. told_by_events sets steps x FailedRetries (r.1 q))
 
 -- what is told by more steps begins with what is told by these
-events_begin : (sets : List SetState) (steps later : List Step) → (more : List Event) × (events_of sets (steps ++ later) ≡ events_of sets steps ++ more)
+pub events_begin : (sets : List SetState) (steps later : List Step) → (more : List Event) × (events_of sets (steps ++ later) ≡ events_of sets steps ++ more)
 events_begin sets [] later = (events_of sets later, refl)
 events_begin sets (st ∷ sts) later =
     let next : List SetState = sets_at sets st.node (slice_get sets st.node) st.act in
@@ -177,13 +177,13 @@ module _ (sets : List SetState) (starts : AreStarts sets) (steps later : List St
   abbrev all : List Event
   all = events_of sets (steps ++ later)
 
-  all_fresh : Fresh empty all
+  pub all_fresh : Fresh empty all
   all_fresh = (fresh_by_book all).1 fresh
 
-  all_timely : Timely allowance_at empty all
+  pub all_timely : Timely allowance_at empty all
   all_timely = (timely_by_book all all_fresh).1 timely
 
-  front : Fresh empty events
+  pub front : Fresh empty events
   front = let more = events_begin sets steps later in fresh_front empty [] events more.0 (subst (Fresh empty) more.1 all_fresh)
 
   partner_is : (x y : Name) → Partners events x y → partner net.book x ≡ Some y
@@ -205,12 +205,20 @@ module _ (sets : List SetState) (starts : AreStarts sets) (steps later : List St
     ];
   }
 
+  pub last_now : (x y : Name) → Partners events x y → Partners all x y × Partners events y x × (x ≢ y)
+  last_now x y j =
+      let p = partners_stay sets starts steps later are all_timely x y (partner_is x y j) in
+      let thence : partner (book all) x ≡ Some y = ap (λ (b : Book). partner b x) (sym (run_book (begins sets) (steps ++ later))) ∙ p.0 in
+      let back : partner (book events) y ≡ Some x = ap (λ (b : Book). partner b y) (sym (book_is sets steps)) ∙ p.1 in
+      (finds (partner_looks x) all all_fresh y thence, finds (partner_looks y) events front x back, p.2)
+
   end_safe : RetriesAreTold → (x : Name) (h : Holder) → end_named (sets_run sets steps) x ≡ Some h → SafeWith net x h (partner net.book x) → IsSafe sets steps x h
   end_safe told x h e safe = record {
     end = record {
       joined = λ y k j there. (let w = with_partner x h safe y j in
           let same : w.0 ≡ k = one_end (end_at net y) w.1 (at_net sets steps y k there) in
           between x y h k (subst (λ (i : Holder). SafeNotes h.end i.end (told_to net.book.made x) (told_to net.book.made y)) same w.2));
+      back = λ y j. (let l = last_now x y j in (l.1, l.2));
       alone = λ none. subst (SafeWith net x h) (partner_none x none) safe;
     };
     partner = λ y j. (let w = with_partner x h safe y j in (w.0, at_sets sets steps y w.0 w.1));
@@ -219,13 +227,6 @@ module _ (sets : List SetState) (starts : AreStarts sets) (steps later : List St
 
   safe_now : RetriesAreTold → Safe sets steps
   safe_now told x h e = end_safe told x h e (circuits_now net (circuits_kept sets starts steps later are all_timely) x h (at_net sets steps x h e))
-
-  last_now : (x y : Name) → Partners events x y → Partners all x y × Partners events y x × (x ≢ y)
-  last_now x y j =
-      let p = partners_stay sets starts steps later are all_timely x y (partner_is x y j) in
-      let thence : partner (book all) x ≡ Some y = ap (λ (b : Book). partner b x) (sym (run_book (begins sets) (steps ++ later))) ∙ p.0 in
-      let back : partner (book events) y ≡ Some x = ap (λ (b : Book). partner b y) (sym (book_is sets steps)) ∙ p.1 in
-      (finds (partner_looks x) all all_fresh y thence, finds (partner_looks y) events front x back, p.2)
 
 pub circuits_safe : RetriesAreTold → CircuitsSafe
 circuits_safe told sets starts steps later are timely fresh = safe_now sets starts steps later are timely fresh told

@@ -9,7 +9,7 @@ use Rattle.circuit_l4.specs.declared.notice.EndNotice.TheVariants.{Opened, Refus
 use Rattle.circuit_l4.specs.Transports.{transport_at}
 use Rattle.circuit_l4.specs.State.{Effect, State}
 use Rattle.circuit_l4.specs.Opening.{facts_of}
-use Rattle.circuit_set.specs.Sets.{Act, Calls, Comes, Connect, Discard, Restart, Made, Sent, Heeded, Gone, Restarted, Holder, SetDone, SetState, end_of, goes_to, holder_of, is_over, losses, makes_end, new_pair, after_restart, set_step, told_by, with_end}
+use Rattle.circuit_set.specs.Sets.{Act, Calls, Comes, Connect, ConnectFor, Discard, Restart, Made, Sent, Heeded, Gone, Restarted, Holder, SetDone, SetState, end_of, goes_to, holder_of, is_over, losses, makes_end, new_pair, after_restart, set_step, told_by, with_end}
 use Rattle.circuit_set.specs.Books.{Book, Timely, TimelyTo, with_event, with_events, partner, partner_in}
 use Rattle.circuit_set.specs.Events.{Event, Name}
 use Rattle.circuit_set.specs.NotedRuns.{Net, allowance_at, begins, end_at, net_run, net_step, opened_window, told_to}
@@ -261,6 +261,7 @@ module _ (net : Net) (k : Kept net) (known : Known net) (n : ℕ) (s : SetState)
 
   pub act_known : (a : Act) → Stays (set_step s a) → Timely allowance_at net.book (events_at n s.own (set_step s a).told) → Known (After (set_step s a))
   act_known (Connect dest now) stays time = step_cases s one P cases (Connect dest now) tt stays time
+  act_known (ConnectFor user dest now) stays time = step_cases s one P cases (ConnectFor user dest now) tt stays time
   act_known (Comes d now) stays time = step_cases s one P cases (Comes d now) tt stays time
   act_known (Calls id call now) stays time = step_cases s one P cases (Calls id call now) tt stays time
   act_known (Discard id) stays time = step_cases s one P cases (Discard id) tt stays time

@@ -5,13 +5,13 @@ use Rattle.ax_address.specs.Callsign.{Callsign, same_call}
 use Rattle.circuit_l4.specs.declared.pair.Pair.{Pair}
 use Rattle.circuit_l4.specs.declared.notice.EndNotice.{EndNotice}
 use Rattle.circuit_set.specs.TooLate.{Last, Gives, LatestSending, Loses, SendsCopy, SendsFragment, Tells}
-use Rattle.circuit_set.specs.Books.{Book, MadeNote, SentNote, has, has_sent, is_lost, is_number, latest_in, lost_with, made_last, with_event, with_notice}
+use Rattle.circuit_set.specs.Books.{Book, MadeNote, SentNote, has, has_sent, is_lost, is_number, latest_in, lost_with, made_last, with_event, with_notice, lost_in}
 use Rattle.circuit_set.specs.Events.{Event, Name, is_copy, same_name}
 use Rattle.circuit_set.specs.Sets.{CircuitTold, Made, Sent, Heeded, Notice, Gone, Restarted, Lost, same_pair}
 use Rattle.circuit_set.proofs.Among.{by_snoc, last_so}
 use Rattle.circuit_set.proofs.Bridge.{same_names}
 use Rattle.circuit_set.proofs.Copies.{same_calls}
-use Rattle.circuit_set.proofs.Noted.{LooksUp, Marks, book, book_more, both_so, both_true, call_itself, lost_by, lost_more, name_true, named, names_so, nat_itself, nat_same, not_both, or_none, or_so, pair_itself, pairs_same}
+use Rattle.circuit_set.proofs.Noted.{LooksUp, Marks, book, book_more, both_so, both_true, call_itself, lost_more, name_true, named, names_so, nat_itself, nat_same, not_both, or_none, or_so, pair_itself, pairs_same}
 
 -- ---- places ----
 one_place : (b : Book) (e : Event) → (with_event b e).places ≡ suc b.places
@@ -262,10 +262,10 @@ module _ (x : Name) where
               inl ((facts, (ap (λ (z : Name). z.node) is, ap (λ (z : Name). Lost z.id facts) is)), or_so _ (is_lost lost x) h)
           at false h = inr ((λ c. (let i : id ≡ x.id = cc (c.1.1) in not_both _ h (name_true e.node id x c.1.0 i))), or_none _ (is_lost lost x) h)
 
-  pub loss_marks : Marks (λ es. is_lost (lost_by [] es) x) (λ p e. Loses x e)
+  pub loss_marks : Marks (λ es. is_lost (lost_in [] es) x) (λ p e. Loses x e)
   loss_marks = record {
     start = refl;
-    turn = λ es e fresh. elim (loss_turn (lost_by [] es) e) [
+    turn = λ es e fresh. elim (loss_turn (lost_in [] es) e) [
       | inl s ↦ inl (s.0, ap (λ lost. is_lost lost x) (lost_more [] es e) ∙ s.1)
       | inr s ↦ inr (s.0, ap (λ lost. is_lost lost x) (lost_more [] es e) ∙ s.1)
     ];

@@ -8,7 +8,7 @@ use Rattle.circuit_set.specs.Facing.{EndsStay}
 use Rattle.circuit_set.specs.Givings.{IsUp}
 use Rattle.circuit_set.specs.NotedRuns.{Net, begins, end_at, net_run}
 use Rattle.circuit_set.specs.Runs.{Step, end_in, sets_at, told_at}
-use Rattle.circuit_set.specs.Sets.{Act, Calls, Comes, Connect, Discard, Restart, Holder, SetDone, SetState, end_of, holder_of, is_over, makes_end, set_step, with_end}
+use Rattle.circuit_set.specs.Sets.{Act, Calls, Comes, Connect, ConnectFor, Discard, Restart, Holder, SetDone, SetState, end_of, holder_of, is_over, makes_end, set_step, with_end}
 use Rattle.circuit_set.proofs.Acts.{set_self}
 use Rattle.circuit_set.proofs.Cases.{step_every}
 use Rattle.circuit_set.proofs.Given.{Numbers, none_of, one}
@@ -64,6 +64,7 @@ module _ (net : Net) (n : ℕ) (s : SetState) (here : slice_get net.sets n ≡ S
 
   act_stays : (a : Act) → P (set_step s a)
   act_stays (Connect dest now) = up_stays (Connect dest now) tt
+  act_stays (ConnectFor user dest now) = up_stays (ConnectFor user dest now) tt
   act_stays (Comes d now) = up_stays (Comes d now) tt
   act_stays (Calls id call now) = up_stays (Calls id call now) tt
   act_stays (Discard id) = up_stays (Discard id) tt

@@ -13,10 +13,10 @@ use Rattle.circuit_set.specs.Events.{Name}
 use Rattle.circuit_set.specs.NotedRuns.{Net, begins, end_at, net_run, net_step}
 use Rattle.circuit_set.specs.Givings.{IsUp}
 use Rattle.circuit_set.specs.Runs.{Step, end_in, events_at, sets_at, told_at}
-use Rattle.circuit_set.specs.Sets.{Act, Call, Calls, Comes, Connect, Discard, Restart, Holder, SetDone, SetState, end_of, holder_of, input_of, is_over, makes_end, after_restart, set_step, with_end}
+use Rattle.circuit_set.specs.Sets.{Act, Call, Calls, Comes, Connect, ConnectFor, Discard, Restart, Holder, SetDone, SetState, end_of, holder_of, input_of, is_over, makes_end, after_restart, set_step, with_end}
 use Rattle.circuit_set.specs.Writings.{EndsWroteByWrites, act_writes, called_writes, step_writes, wrote_of}
 use Rattle.circuit_set.proofs.Acts.{set_self}
-use Rattle.circuit_set.proofs.Cases.{Idle, MadeBy, MovedBy, NoCall, step_every}
+use Rattle.circuit_set.proofs.Cases.{Idle, MadeBy, MovedBy, NoCall, asked_quiet, step_every}
 use Rattle.circuit_set.proofs.Given.{Numbers, none_of, one}
 use Rattle.circuit_set.proofs.Moved.{same_or}
 use Rattle.circuit_set.proofs.Retries.{Both, start_lives, step_lives}
@@ -31,11 +31,12 @@ no_call_none : (a : Act) (b : Bool) (m : ℕ) (o : Option Holder) → NoCall a �
 no_call_none (Calls id call now) b m o none = absurd none
 no_call_none (Comes d now) b m o none = none_if b [] refl
 no_call_none (Connect dest now) b m o none = none_if b [] refl
+no_call_none (ConnectFor user dest now) b m o none = none_if b [] refl
 no_call_none (Discard id) b m o none = none_if b [] refl
 no_call_none (Restart pair more) b m o none = none_if b [] refl
 
 made_no_call : (s : SetState) (a : Act) (at : Callsign) (role : Role) (asked : Option Pair) (request : Option (List ℕ)) → MadeBy s a at role asked request → NoCall a
-made_no_call s a at role None None b = subst NoCall (sym b.1) tt
+made_no_call s a at role None None b = asked_quiet s a b.0 at b.1
 made_no_call s a at role (Some p) (Some d) b = subst NoCall (sym b.0.comer.came) tt
 made_no_call s a at role None (Some d) b = absurd b
 made_no_call s a at role (Some p) None b = absurd b
@@ -85,6 +86,7 @@ module _ (law : WroteByWrites) (net : Net) (n : ℕ) (s : SetState) (here : slic
   idle_none (Calls id call now) z idle = idle_node id call z (nat_eq n z.node) refl idle
   idle_none (Comes d now) z idle = none_if (nat_eq n z.node) [] refl
   idle_none (Connect dest now) z idle = none_if (nat_eq n z.node) [] refl
+  idle_none (ConnectFor user dest now) z idle = none_if (nat_eq n z.node) [] refl
   idle_none (Discard id) z idle = none_if (nat_eq n z.node) [] refl
   idle_none (Restart pair more) z idle = none_if (nat_eq n z.node) [] refl
 
@@ -109,6 +111,7 @@ module _ (law : WroteByWrites) (net : Net) (n : ℕ) (s : SetState) (here : slic
     apart_none (Calls id call now) m z far = apart_case id z (called_writes call (end_at net z)) (nat_eq n z.node) (nat_eq id z.id) refl refl m.0 far
     apart_none (Comes d now) m z far = none_if (nat_eq n z.node) [] refl
     apart_none (Connect dest now) m z far = absurd m
+    apart_none (ConnectFor user dest now) m z far = absurd m
     apart_none (Discard id) m z far = absurd m
     apart_none (Restart pair more) m z far = absurd m
 
@@ -123,6 +126,7 @@ module _ (law : WroteByWrites) (net : Net) (n : ℕ) (s : SetState) (here : slic
     wrote_here (Comes d now) (inl came) o e held = ap (λ (k : Effect). k.end.sending.wrote) came.1 ∙ law h.end (Arrive came.0) now
     wrote_here (Comes d now) (inr still) o e held = ap (λ (k : State). k.sending.wrote) still.0 ∙ sym (append-nil h.end.sending.wrote)
     wrote_here (Connect dest now) m o e held = absurd m
+    wrote_here (ConnectFor user dest now) m o e held = absurd m
     wrote_here (Discard id) m o e held = absurd m
     wrote_here (Restart pair more) m o e held = absurd m
 
@@ -212,6 +216,7 @@ module _ (law : WroteByWrites) (net : Net) (n : ℕ) (s : SetState) (here : slic
 
   act_grows : (a : Act) → P a (set_step s a)
   act_grows (Connect dest now) = up_grows (Connect dest now) tt
+  act_grows (ConnectFor user dest now) = up_grows (ConnectFor user dest now) tt
   act_grows (Comes d now) = up_grows (Comes d now) tt
   act_grows (Calls id call now) = up_grows (Calls id call now) tt
   act_grows (Discard id) = up_grows (Discard id) tt
@@ -227,6 +232,7 @@ absent_act : (a : Act) (id : ℕ) (o : Option Holder) → o ≡ None → act_wri
 absent_act (Calls i call now) id o e = absent_call call o (nat_eq i id) e
 absent_act (Comes d now) id o e = refl
 absent_act (Connect dest now) id o e = refl
+absent_act (ConnectFor user dest now) id o e = refl
 absent_act (Discard i) id o e = refl
 absent_act (Restart pair more) id o e = refl
 

@@ -218,6 +218,11 @@ abbrev pub lost_with : List Name → ℕ → CircuitTold → List Name
 lost_with lost node (Lost id facts) = record { node = node; id = id } ∷ lost
 lost_with lost node _ = lost
 
+-- the ends that restarts took away
+abbrev pub lost_in : List Name → List Event → List Name
+lost_in lost [] = lost
+lost_in lost (e ∷ es) = lost_in (lost_with lost e.node e.told) es
+
 abbrev pub FreshFrom : Book → List Name → List Event → Type 0
 FreshFrom b lost [] = Unit {0}
 FreshFrom b lost (e ∷ es) = FreshTold b lost e.node e.told × FreshFrom (with_event b e) (lost_with lost e.node e.told) es

@@ -46,7 +46,8 @@ pub record SetGoes {C : Type 0} (old new : Circuits C) (to : SetState → Waitin
 abbrev pub GoesBy : {C : Type 0} → Act → Circuits C → Circuits C → Type 0
 GoesBy a old new = SetGoes old new (λ s. acts a (at_rest s))
 
--- All that a refusal leaves: the set stands for what it stood for. (How much room its map has isn't said.)
+-- All that a refusal leaves: the set stands for what it stood for. (How much room its map has isn't said, nor which ends it looks at for
+-- something to tell.)
 pub record IsUnchanged {C : Type 0} (old new : Circuits C) : Type 0 where
   pub router : new.router ≡ old.router
   pub lost : new.lost ≡ old.lost

@@ -10,8 +10,10 @@ pub mod Events
 pub mod Books
 pub mod TooLate
 pub mod ByBook
+pub mod Signs
 pub mod Runs
 pub mod Safe
+pub mod Owned
 pub mod NotedRuns
 pub mod Examples
 pub mod Pumps

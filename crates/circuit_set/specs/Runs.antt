@@ -4,7 +4,7 @@ use Rattle.ax_address.specs.Callsign.{Callsign, IsCallsign}
 use Rattle.circuit_l4.specs.Opening.{IsConfig}
 use Rattle.circuit_set.specs.Pairs.{IsPair}
 use Rattle.circuit_l4.specs.Expiries.{Moment, expiries}
-use Rattle.circuit_set.specs.Sets.{Act, Call, Calls, Connect, Restart, Ticks, Holder, SetState, CircuitTold, end_of, set_step}
+use Rattle.circuit_set.specs.Sets.{Act, Call, Calls, Connect, ConnectFor, Restart, Ticks, Holder, SetState, CircuitTold, end_of, set_step}
 use Rattle.circuit_set.specs.Events.{Event, Name}
 
 -- a step of the set at a node
@@ -48,9 +48,10 @@ abbrev pub AreStarts : List SetState → Type 0
 AreStarts [] = Unit {0}
 AreStarts (s ∷ ss) = IsStart s × AreStarts ss
 
--- a circuit is asked for at a call, and a node starts again at a pair
+-- a circuit is asked for at a call and for one, and a node starts again at a pair
 abbrev pub IsAct : Act → Type 0
 IsAct (Connect dest now) = IsCallsign dest.letters dest.ssid
+IsAct (ConnectFor user dest now) = IsCallsign user.letters user.ssid × IsCallsign dest.letters dest.ssid
 IsAct (Restart pair more) = IsPair pair
 IsAct _ = Unit {0}
 

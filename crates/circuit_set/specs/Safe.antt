@@ -32,9 +32,11 @@ pub record SafeAlone (x : State) : Type 0 where
   pub received : x.receiving.received ≡ []
   pub acked : x.sending.acked ≡ 0
 
--- so it is with the end x of these ends
+-- So it is with the end x of these ends. Its partner is another end, whose partner it is: so what x has received is a beginning of what its
+-- partner wrote.
 pub record SafeEnd (events : List Event) (ends : Name → Option Holder) (x : Name) (h : Holder) : Type 0 where
   pub joined : (y : Name) (k : Holder) → Partners events x y → ends y ≡ Some k → SafeBetween events x y h.end k.end
+  pub back : (y : Name) → Partners events x y → Partners events y x × (x ≢ y)
   pub alone : (HasPartner events x → ⊥) → SafeAlone h.end
 
 -- By these steps it is so with each end, and its partner is an end, too. And each was told that its retries are used up exactly where

@@ -219,24 +219,32 @@ input_of Ticks = Tick
 input_of Closes = Close
 input_of Takes = Take
 
--- A circuit is asked for, where that is accepted; a datagram is handed up by the router; an end is called, where it is held (a
+-- A circuit is asked for by the set's user or by another one, where that is accepted; a datagram is handed up by the router; an end is called, where it is held (a
 -- tick of the set is one of each held end, by number); an ended end is discarded; the node starts again at this pair, and its
 -- next number is the first one above all earlier ones, or so many more
 pub data Act : Type 0 where
   Connect : (dest : Callsign) (now : ℕ) → Act
+  ConnectFor : (user dest : Callsign) (now : ℕ) → Act
   Comes : (datagram : List ℕ) (now : ℕ) → Act
   Calls : (id : ℕ) (call : Call) (now : ℕ) → Act
   Discard : (id : ℕ) → Act
   Restart : (pair : Pair) (more : ℕ) → Act
 
--- an end is made that asks for a circuit with a node
+-- an end is made that asks for a circuit with a node, for this user
+abbrev pub requests_for : SetState → Callsign → Callsign → ℕ → SetDone
+requests_for s user dest now = makes_end s dest None None (requesting (new_pair s) user s.own s.config (min now COUNT_MAX))
+
+-- the same, for the set's user
 abbrev pub requests : SetState → Callsign → ℕ → SetDone
-requests s dest now = makes_end s dest None None (requesting (new_pair s) s.user s.own s.config (min now COUNT_MAX))
+requests s dest now = requests_for s s.user dest now
+
+abbrev pub after_connecting_for : SetState → Callsign → Callsign → ℕ → SetDone
+after_connecting_for s user dest now =
+    if same_call dest s.own || is_full s then does_nothing s
+    else requests_for s user dest now
 
 abbrev pub after_connecting : SetState → Callsign → ℕ → SetDone
-after_connecting s dest now =
-    if same_call dest s.own || is_full s then does_nothing s
-    else requests s dest now
+after_connecting s dest now = after_connecting_for s s.user dest now
 
 abbrev pub after_call : SetState → Option Holder → Call → ℕ → SetDone
 after_call s None call now = does_nothing s
@@ -264,6 +272,7 @@ after_restart s pair more =
 
 abbrev pub set_step : SetState → Act → SetDone
 set_step s (Connect dest now) = after_connecting s dest now
+set_step s (ConnectFor user dest now) = after_connecting_for s user dest now
 set_step s (Comes d now) = after_datagram s d (head_at d) now
 set_step s (Calls id call now) = after_call s (end_of id s.ends) call now
 set_step s (Discard id) = after_discarding s (end_of id s.ends)

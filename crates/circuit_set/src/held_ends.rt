@@ -77,16 +77,17 @@ impl HeldEnds {
         Ok(id)
     }
 
-    /// Makes an end that asks for a circuit with a node.
-    pub(crate) fn request(&mut self, node: &Call, now: Moment) -> Result<u64, NoMemory>
+    /// Makes an end that asks for a circuit with a node, for this user.
+    pub(crate) fn request(&mut self, user: &Call, node: &Call, now: Moment) -> Result<u64, NoMemory>
         requires number { self.old.number ≤ COUNT_MAX }
         requires few { length self.old.ends.entries < 64 }
         ensures number { IfOk result (λ id. id ≡ self.old.number) }
         ensures made { OnOk result ((s : SetState) → HeldStands self.old s [] →
-            HeldStands self.new (sets.requests s node.now now.0).set (sets.requests s node.now now.0).told) }
+            HeldStands self.new (sets.requests_for s user.now node.now now.0).set
+            (sets.requests_for s user.now node.now now.0).told) }
     {
         let pair = self.new_pair();
-        let end = End::requester(self.alloc, pair, self.user, self.own, self.config, now)?;
+        let end = End::requester(self.alloc, pair, *user, self.own, self.config, now)?;
         let id = self.hold(Holder::requester(end, pair, *node))?;
         Ok(id)
     }

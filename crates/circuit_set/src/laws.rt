@@ -6,6 +6,7 @@ ghost use Rattle.circuit_set.specs.Pairs.{PairsDiffer};
 ghost use Rattle.circuit_set.specs.Givings.{MadeAreGiven, MadeDiffer};
 ghost use Rattle.circuit_set.specs.Kept.{HoldsFew, KeepsItsShare, WindowsAreSmall};
 ghost use Rattle.circuit_set.specs.Naming.{PairNamesOne, RequestersSend};
+ghost use Rattle.circuit_set.specs.Owned.{EndsAreOwned};
 ghost use Rattle.circuit_set.specs.Safe.{RetriesAreTold, CircuitsSafe, PartnersLast};
 ghost use Rattle.circuit_set.specs.Returning.{CopiesAloneReturn};
 ghost use Rattle.circuit_set.specs.Facing.{EndsStay, PartnersFace};
@@ -16,12 +17,13 @@ ghost use Rattle.circuit_set.specs.Sendings.{SetsSendTheirOwn};
 ghost use Rattle.circuit_set.specs.Pumps.{ActsGo, HearsGo, HearsLostGoes, TellsGo, TellsLess, TicksGo};
 ghost use Rattle.circuit_set.specs.Examples.{CopyReturns, ForgedIsUnsafe, OneMoreIsTooMany, RestartIsStale};
 ghost use Rattle.circuit_set.specs.ByBook.{FreshByBook, PartnersByBook, TimelyBy128, TimelyByBook};
+ghost use Rattle.circuit_set.specs.ByBook.{HeldByBook, OvertakenByBook, TooManyByBook, UnaskedByBook, UnsentByBook};
 ghost use Rattle.circuit_set.specs.NotedRuns.{NarrowIsTimely, PartnersStay, WindowsFit};
 
 /// At each moment of every run of several nodes' ends, in which any datagram whatever may come to any node and any node may
 /// start again, and which is timely and fresh (`IsTimely` and `IsFresh` in `specs/TooLate.antt`): each end that has a partner has
-/// received a beginning of what its partner wrote, with every message that is acknowledged in it, and all of it after an orderly
-/// close; an end that has none has received nothing; and an end is told that its retries are used up exactly where there was one
+/// received a beginning of what its partner wrote, with every message that is acknowledged in it, and all of it after the partner's
+/// orderly close; an end that has none has received nothing; and an end is told that its retries are used up exactly where there was one
 /// expiry more than there are retries.
 pub fn circuits_safe()
     ensures { CircuitsSafe }
@@ -36,6 +38,24 @@ pub fn book_tells_what_is_late()
     ensures timely { TimelyByBook }
     ensures fixed { TimelyBy128 }
     ensures partners { PartnersByBook }
+{}
+
+/// Of fresh events, by the notes of the book: which sending by its partner is the latest of what an end heeds, how many fragments have
+/// overtaken it, how many are too many, that it was never sent, that nobody waits on the request that opens an end, and which end still
+/// has a partner with a pair. All of that is so by the events themselves.
+pub fn book_tells_why()
+    ensures unsent { UnsentByBook }
+    ensures overtaken { OvertakenByBook }
+    ensures many { TooManyByBook }
+    ensures unasked { UnaskedByBook }
+    ensures held { HeldByBook }
+{}
+
+/// At each moment of every timely and fresh run (`Owned`): an end that has a partner keeps it and gets no other; no two ends have the same
+/// partner; each datagram that an end has heeded is a copy of one that its partner had sent; and a requester's end that was told that its
+/// circuit is open sends to its partner's pair.
+pub fn ends_are_owned()
+    ensures { EndsAreOwned }
 {}
 
 /// In a timely run an end keeps its partner once it has one, and partners are two ends of which each is the other's: so no two

@@ -19,8 +19,8 @@ use std::marker::Model;
 /// A node's circuits over its router (NET/ROM, Appendix B, level 4): a pure machine, which reads no clock and holds at most 64 ends. Its
 /// calls are of three kinds.
 ///
-/// - Inputs, each but `discard` with its moment in milliseconds: `connect`, `write`, `take`, `close` and `discard` of the user, `tick` of
-///   time. They want `drained()`. What comes from neighbours is brought to the router, which `router_mut` lends.
+/// - Inputs, each but `discard` with its moment in milliseconds: `connect`, `connect_for`, `write`, `take`, `close` and `discard` of the
+///   user, `tick` of time. They want `drained()`. What comes from neighbours is brought to the router, which `router_mut` lends.
 /// - Outputs: `pump`. After each input, and whenever something came to the router, it is called until it answers None: it hands what the
 ///   ends put out to the router, takes what came up, and tells what happened.
 /// - Looks, which change nothing: `facts`, `partner`, `requested`, `end`, `held`, `is_idle`, `drained`, `router`.
@@ -148,6 +148,28 @@ impl<C: Carrier> CircuitSet<C> {
         ensures few { length self.new.held.ends.entries ≤ 64 }
         ensures kept { OnOk result (KeepsOn self.old self.new) }
     {
+        let user = self.held.user;
+        self.connect_for(&user, node, now)
+    }
+
+    /// Asks for a circuit with a node in the name of this user, and gives the number of the end that is made for it.
+    pub fn connect_for(
+        &mut self,
+        user: &Call,
+        node: &Call,
+        now: Moment,
+    ) -> Result<u64, ConnectRefusal>
+        requires { IsDrained self.old }
+        ensures answer { self.new.spent ≡ false → (s : SetState) (log : List Item) → SetStands self.old (at_rest s) →
+            StandsFor self.old.router.table log →
+            result ≡ connect_answer (next_hop self.old.router.table.rules log) node.now s }
+        ensures goes { OnOk result (GoesBy (sets.ConnectFor user.now node.now now.0) self.old self.new) }
+        ensures err { OnErr result (self.new.spent ≡ false → self.new ≡ self.old) }
+        ensures memory { IsErrOf result connect_refusals.NoMemory ↔ IsTrue self.new.spent }
+        ensures spent { IsTrue self.old.spent → self.new ≡ self.old }
+        ensures few { length self.new.held.ends.entries ≤ 64 }
+        ensures kept { OnOk result (KeepsOn self.old self.new) }
+    {
         if self.spent {
             return Err(ConnectRefusal::NoMemory);
         }
@@ -160,7 +182,7 @@ impl<C: Carrier> CircuitSet<C> {
         if self.held.is_full() {
             return Err(ConnectRefusal::Full);
         }
-        match self.held.request(node, now) {
+        match self.held.request(user, node, now) {
             Ok(id) => Ok(id),
             Err(NoMemory) => {
                 self.spent = true;
@@ -203,8 +225,8 @@ impl<C: Carrier> CircuitSet<C> {
         Ok(())
     }
 
-    /// Writes a message for the partner of an end: `NoEnd` where no end of that number is held, else what the end answers. A refusal
-    /// changes nothing.
+    /// Writes a message for the partner of an end: `NoEnd` where no end of that number is held, else what the end answers. After a
+    /// refusal the set stands for what it stood for.
     pub fn write(&mut self, id: u64, message: &[u8], now: Moment) -> Result<(), SetRefusal>
         requires { IsDrained self.old }
         ensures answer { (s : SetState) → SetStands self.old (at_rest s) →
