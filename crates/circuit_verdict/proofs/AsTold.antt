@@ -1,7 +1,7 @@
 -- A verdict by what is kept is one by the events themselves.
 use Rattle.std.proofs.Common.{◌≡◌, ◌↔◌, ℕ, refl, sym, List, [], ◌∷◌, ◌++◌}
 use Rattle.std.specs.Prelude.{Option, Some, None}
-use Rattle.circuit_set.specs.Books.{Fresh, FreshTold, Timely, TimelyTold, empty, with_events}
+use Rattle.circuit_set.specs.Books.{Fresh, FreshTold, Timely, TimelyTold, empty, with_events, lost_in}
 use Rattle.circuit_set.specs.Events.{Event}
 use Rattle.circuit_set.specs.ByBook.{FreshByBook, TimelyBy128, TimelyByBook}
 use Rattle.circuit_set.specs.Sets.{CircuitTold, Made, Sent, Heeded, Notice, Gone, Restarted, Lost}
@@ -13,7 +13,7 @@ use Rattle.circuit_verdict.specs.declared.allowance.Allowance.TheVariants.{Fixed
 use Rattle.circuit_verdict.specs.declared.late.Late.{Late}
 use Rattle.circuit_verdict.specs.declared.late.LateWhy.{LateWhy}
 use Rattle.circuit_verdict.specs.declared.late.LateWhy.TheVariants.{Overtaken, Returned}
-use Rattle.circuit_verdict.specs.ByBook.{FailsAt, FirstLateByBook, InTimeByBook, allowance_of, lost_in}
+use Rattle.circuit_verdict.specs.ByBook.{FailsAt, FirstLateByBook, InTimeByBook, allowance_of}
 use Rattle.circuit_verdict.specs.Verdicts.{event_of, events_of, AreInTime, Fails, IsFirstLate, IsVerdict, allows_of}
 use Rattle.circuit_verdict.specs.Standing.{Follows}
 use Rattle.circuit_verdict.proofs.Runs.{fresh_at, fresh_more, late_fails, timely_at}

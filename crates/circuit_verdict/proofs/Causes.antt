@@ -4,7 +4,7 @@ use Rattle.std.specs.Prelude.{Bool, true, false, ◌&&◌, ◌||◌, cond, if◌
 use Rattle.std.specs.List.{list_any}
 use Rattle.std.proofs.lemmas.Bool.Decides.{nat_tests}
 use Rattle.circuit_l4.specs.declared.pair.Pair.{Pair}
-use Rattle.circuit_set.specs.Books.{Book, FreshTold, HasRequester, MadeNote, NoOther, SentNote, TimelyTo, TimelyTold, empty, first_name, is_unknown, latest_in, with_events, overtakers, partner, requester}
+use Rattle.circuit_set.specs.Books.{Book, FreshTold, HasRequester, MadeNote, NoOther, SentNote, TimelyTo, TimelyTold, empty, first_name, is_unknown, latest_in, with_events, overtakers, partner, requester, lost_in}
 use Rattle.circuit_set.specs.Events.{Event, Name}
 use Rattle.circuit_set.specs.Sets.{CircuitTold, Made, Sent, Heeded, Notice, Gone, Restarted, Lost}
 use Rattle.circuit_verdict.specs.declared.cause.Cause.{Cause}
@@ -15,7 +15,7 @@ use Rattle.circuit_verdict.specs.declared.allowance.Allowance.{Allowance}
 use Rattle.circuit_verdict.specs.Causes.{cause_after, cause_told, held_cause, heeded_cause, holders, kept_partners, overtaken_cause}
 use Rattle.circuit_verdict.specs.Ends.{EndsStand, faces, facing_in, given_in, has_open_partner, is_faced, kept_faces}
 use Rattle.circuit_verdict.specs.Sendings.{sending_in, sending_of}
-use Rattle.circuit_verdict.specs.ByBook.{InTimeByBook, allowance_of, lost_in}
+use Rattle.circuit_verdict.specs.ByBook.{InTimeByBook, allowance_of}
 use Rattle.circuit_verdict.proofs.Facing.{faces_kept}
 use Rattle.circuit_verdict.proofs.Judged.{having, lacking, some_same}
 use Rattle.circuit_verdict.proofs.Returns.{faced_fails, unfaced}
@@ -35,7 +35,7 @@ fails f xs i x h is e =
     ap (λ (ys : List Name). filter f ys) (rest_of xs i x h is)
     ∙ ap (λ (b : Bool). cond b (x ∷ filter f (drop (i + 1) xs)) (filter f (drop (i + 1) xs))) e
 
-first_either : (xs ys : List Name) → slice_get (xs ++ ys) 0 ≡ first_name (slice_get xs 0) (slice_get ys 0)
+pub first_either : (xs ys : List Name) → slice_get (xs ++ ys) 0 ≡ first_name (slice_get xs 0) (slice_get ys 0)
 first_either [] ys = refl
 first_either (x ∷ xs) ys = refl
 

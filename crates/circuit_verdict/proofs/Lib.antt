@@ -11,4 +11,5 @@ pub mod Returns
 pub mod Judged
 pub mod Runs
 pub mod Causes
+pub mod Shows
 pub mod AsTold

@@ -143,13 +143,24 @@ unfaced b lost node pair e m q held_m held_q going kept elsewhere partner at by 
     let both : is_faced b.made lost node pair ≡ true = rw (← at, ← by) faced in
     absurd (cc (both, e))
 
-pub faced_fails : (b : Book) (lost : List Name) (node : ℕ) (pair : Pair) → is_faced b.made lost node pair ≡ true → NoOther b lost node pair → ⊥
-faced_fails b lost node pair e rule =
-    let given = given_from (has_open_partner b.made lost) b.made node pair e in
+-- ---- the notes of an open end and of its partner, to which the node gave the pair ----
+pub record Facing (b : Book) (lost : List Name) (node : ℕ) (pair : Pair) (u : Name) : Type 0 where
+  pub holder : MadeNote
+  pub partner : MadeNote
+  pub in_holder : Contains b.made holder
+  pub in_partner : Contains b.made partner
+  pub who : holder.who ≡ u
+  pub going : any_ends holder.told ≡ false
+  pub kept : is_lost lost holder.who ≡ false
+  pub elsewhere : holder.who.node ≢ node
+  pub met : partner_in b.made holder.who ≡ Some partner.who
+  pub at : partner.who.node ≡ node
+  pub by : partner.pair ≡ pair
+
+notes_of : (b : Book) (lost : List Name) (node : ℕ) (pair : Pair) (f : Name → Bool) (given : Given f b.made node pair) (u : Name) → faces b.made lost given.note.who u ≡ true → Facing b lost node pair u
+notes_of b lost node pair f given u facing =
     let q = given.note in
-    let found = any_from (faces b.made lost q.who) (facing_in b.made q.who) given.passes in
-    let u = found.0 in
-    let first = both_true (not (nat_eq u.node q.who.node) && is_open b.made lost u) (is_some_name (partner_in b.made u) q.who) found.1 in
+    let first = both_true (not (nat_eq u.node q.who.node) && is_open b.made lost u) (is_some_name (partner_in b.made u) q.who) facing in
     let second = both_true (not (nat_eq u.node q.who.node)) (is_open b.made lost u) first.0 in
     let third = both_true (is_going b.made u) (not (is_lost lost u)) second.1 in
     let going = going_from b.made u third.0 in
@@ -159,4 +170,29 @@ faced_fails b lost node pair e rule =
     let node_of : Name → ℕ = λ x. x.node in
     let elsewhere : m.who.node ≢ node = λ same. other (sym (ap node_of going.who) ∙ same ∙ sym given.at) in
     let partner : partner_in b.made m.who ≡ Some q.who = rw going.who (is_name (partner_in b.made u) q.who first.1) in
-    rule m q going.held given.held going.going kept elsewhere partner given.at given.by
+    record {
+      holder = m;
+      partner = q;
+      in_holder = going.held;
+      in_partner = given.held;
+      who = going.who;
+      going = going.going;
+      kept = kept;
+      elsewhere = elsewhere;
+      met = partner;
+      at = given.at;
+      by = given.by;
+    }
+
+-- of an end that faces one of those to which the node gave the pair
+pub faced_notes : (b : Book) (lost : List Name) (node : ℕ) (pair : Pair) (u : Name) → list_any (λ (x : Name). faces b.made lost x u) (given_in b.made node pair) ≡ true → Facing b lost node pair u
+faced_notes b lost node pair u e =
+    let given = given_from (λ (x : Name). faces b.made lost x u) b.made node pair e in
+    notes_of b lost node pair (λ (x : Name). faces b.made lost x u) given u given.passes
+
+pub faced_fails : (b : Book) (lost : List Name) (node : ℕ) (pair : Pair) → is_faced b.made lost node pair ≡ true → NoOther b lost node pair → ⊥
+faced_fails b lost node pair e rule =
+    let given = given_from (has_open_partner b.made lost) b.made node pair e in
+    let found = any_from (faces b.made lost given.note.who) (facing_in b.made given.note.who) given.passes in
+    let f = notes_of b lost node pair (has_open_partner b.made lost) given found.0 found.1 in
+    rule f.holder f.partner f.in_holder f.in_partner f.going f.kept f.elsewhere f.met f.at f.by

@@ -5,7 +5,7 @@ use Rattle.ax_address.specs.Callsign.{Callsign}
 use Rattle.circuit_set.specs.Sets.{CircuitTold, Made, Sent, Heeded, Notice, Gone, Restarted, Lost}
 use Rattle.circuit_set.specs.Books as books
 use Rattle.circuit_set.specs.Events.{Event, Name}
-use Rattle.circuit_set.specs.Books.{Fresh, FreshFrom, FreshTold, Timely, TimelyTold, empty, lost_with, with_event, with_events}
+use Rattle.circuit_set.specs.Books.{Fresh, FreshFrom, FreshTold, Timely, TimelyTold, empty, lost_with, with_event, with_events, lost_in}
 use Rattle.circuit_verdict.specs.declared.book.Book.{Book}
 use Rattle.circuit_verdict.specs.declared.event.Event.{Event as Coming}
 use Rattle.circuit_verdict.specs.declared.event.Numbered.{Numbered}
@@ -16,7 +16,7 @@ use Rattle.circuit_verdict.specs.declared.late.LateWhy.TheVariants.{Overtaken, R
 use Rattle.circuit_verdict.specs.Verdicts.{event_of, events_of, late_of}
 use Rattle.circuit_verdict.specs.Judging.{BookStands, Judges}
 use Rattle.circuit_verdict.specs.Standing.{Follows, InTime}
-use Rattle.circuit_verdict.specs.ByBook.{FailsAt, FirstLateByBook, InTimeByBook, allowance_of, lost_in}
+use Rattle.circuit_verdict.specs.ByBook.{FailsAt, FirstLateByBook, InTimeByBook, allowance_of}
 
 -- ---- one more event ----
 pub timely_more : (allow : books.Book → Name → ℕ) (b : books.Book) (es : List Event) (e : Event) → Timely allow b es → TimelyTold allow (with_events b es) e.node e.told → Timely allow b (es ++ e ∷ [])

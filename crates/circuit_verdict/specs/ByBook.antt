@@ -1,7 +1,7 @@
 -- The verdict on a list of events by the notes that are kept of them, as `circuit_set` says. Of the public calls `Verdict::cause` alone
 -- speaks by them.
 use Rattle.std.specs.Prelude.{◌≡◌, ℕ, List, [], ◌∷◌, ◌++◌}
-use Rattle.circuit_set.specs.Books.{Book, Timely, TimelyTold, Fresh, FreshTold, empty, with_events, lost_with}
+use Rattle.circuit_set.specs.Books.{Book, Timely, TimelyTold, Fresh, FreshTold, empty, lost_in, with_events}
 use Rattle.circuit_set.specs.Events.{Event, Name}
 use Rattle.circuit_set.specs.NotedRuns.{allowance_at}
 use Rattle.circuit_verdict.specs.declared.event.Numbered.{Numbered}
@@ -16,11 +16,6 @@ use Rattle.circuit_verdict.specs.Verdicts.{event_of, events_of}
 abbrev pub allowance_of : Allowance → Book → Name → ℕ
 allowance_of Fixed b x = 128
 allowance_of OfWindow b x = allowance_at b x
-
--- the ends that restarts took away
-abbrev pub lost_in : List Name → List Event → List Name
-lost_in lost [] = lost
-lost_in lost (e ∷ es) = lost_in (lost_with lost e.node e.told) es
 
 -- none of these events comes too late
 abbrev pub InTimeByBook : Allowance → List Event → Type 0

@@ -1,6 +1,6 @@
 -- What a verdict stands for: the events that it has taken in.
 use Rattle.std.specs.Prelude.{◌≡◌, List, [], Option, Some, None, true}
-use Rattle.circuit_set.specs.Books.{Fresh, Timely, empty, with_events}
+use Rattle.circuit_set.specs.Books.{Fresh, Timely, empty, with_events, lost_in}
 use Rattle.circuit_verdict.specs.declared.event.Numbered.{Numbered}
 use Rattle.circuit_verdict.specs.declared.allowance.Allowance.{Allowance}
 use Rattle.circuit_verdict.specs.declared.late.Late.{Late}
@@ -8,7 +8,7 @@ use Rattle.circuit_verdict.specs.declared.verdict.Verdict.{Verdict}
 use Rattle.circuit_verdict.specs.declared.book.Book.{Book}
 use Rattle.circuit_verdict.specs.Verdicts.{events_of}
 use Rattle.circuit_verdict.specs.Judging.{BookStands}
-use Rattle.circuit_verdict.specs.ByBook.{FirstLateByBook, allowance_of, lost_in}
+use Rattle.circuit_verdict.specs.ByBook.{FirstLateByBook, allowance_of}
 
 -- none of these was late, and all are noted
 pub record InTime (a : Allowance) (k : Book) (ns : List Numbered) : Type 0 where

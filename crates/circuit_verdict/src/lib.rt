@@ -9,6 +9,7 @@ mod circuit_told;
 mod ends;
 mod event;
 mod late;
+pub mod laws;
 mod lists;
 mod message;
 mod names;

@@ -1,5 +1,6 @@
 //! The verdict on a list of events.
 ghost use Rattle.std.specs.Prelude.{◌≡◌, ◌↔◌, ◌++◌, ◌∷◌, [], List, Option, Some, None, Err, OnOk, OnErr, IfOk};
+ghost use Rattle.circuit_verdict.specs.declared.cause.Cause.{Cause as SeenCause};
 ghost use Rattle.circuit_verdict.specs.declared.event.Numbered.{Numbered as SeenNumbered};
 ghost use Rattle.circuit_verdict.specs.Verdicts.{IsVerdict, late_of};
 ghost use Rattle.circuit_verdict.specs.Standing.{allowance_in};
@@ -9,6 +10,7 @@ use crate::book::Book;
 use crate::cause::Cause;
 use crate::event::{Event, Numbered};
 use crate::late::{Late, LateWhy};
+use crate::laws::causes_show;
 use circuit_set::laws;
 use radio_base::NoMemory;
 use std::alloc::Global;
@@ -43,8 +45,8 @@ pub struct Verdict {
 }
 
 impl Verdict {
-    ghost use Rattle.circuit_verdict.specs.Causes.{cause_after};
-    ghost use Rattle.circuit_verdict.specs.Verdicts.{AreInTime, event_of, events_of};
+    ghost use Rattle.circuit_verdict.specs.Causes.{Shows, cause_after};
+    ghost use Rattle.circuit_verdict.specs.Verdicts.{AreInTime, allows_of, event_of, events_of};
     ghost use Rattle.circuit_verdict.specs.Standing.{IsSpent, StandsFor};
 
     /// No event was told yet.
@@ -88,8 +90,12 @@ impl Verdict {
         ensures none { IfOk result (λ cause. (events : List SeenNumbered) → StandsFor self.now events
             → AreInTime (allowance_in self.now) (events_of events)
             → cause ≡ None ↔ AreInTime (allowance_in self.now) (events_of events ++ event_of event.now ∷ [])) }
+        ensures shows { IfOk result (λ cause. (events : List SeenNumbered) → StandsFor self.now events
+            → AreInTime (allowance_in self.now) (events_of events) → (shown : SeenCause) → cause ≡ Some shown
+            → Shows (allows_of (allowance_in self.now)) (events_of events) (event_of event.now) shown) }
     {
         laws::book_tells_what_is_late();
+        causes_show();
         self.book.cause(event, self.allowance)
     }
 
