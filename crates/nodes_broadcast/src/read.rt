@@ -1,5 +1,5 @@
 //! Octets become broadcasts.
-ghost use Rattle.std.specs.Prelude.{◌≡◌, ◌≤◌, ◌/◌, ◌%◌, [], ◌∷◌, length, take, IfOk, OnOk, IfNone, IsOkAnd, MatchResult, Ok, Err, true};
+ghost use Rattle.std.specs.Prelude.{◌≡◌, ◌≤◌, ◌/◌, ◌%◌, [], ◌∷◌, length, take, IfOk, OnOk, OnErr, IfNone, IsOkAnd, MatchResult, Ok, Err, true};
 ghost use Rattle.nodes_broadcast.specs.Nodes.{Broadcast, view, Spells, SpellsEntry, SpellsEntries};
 ghost use Rattle.nodes_broadcast.specs.Nodes as reading;
 ghost use Rattle.ax_address.specs.Octets.{SpellsNetCall};
@@ -28,14 +28,14 @@ pub fn read_nodes(info: &[u8]) -> Result<Nodes, NodesRefusal>
     Ok(nodes)
 }
 
-/// Reads the same broadcast straight into its place: it is large, and so is not moved. After a refusal nothing is said of
-/// what stands there.
+/// Reads the same broadcast into its place. A refusal leaves what stands there as it was.
 pub fn read_nodes_into(nodes: &mut Nodes, info: &[u8]) -> Result<(), NodesRefusal>
     ensures found { OnOk result (Spells (view nodes.new) info.now) }
     ensures only { (broadcast : Broadcast) → Spells broadcast info.now
         → IsOkAnd result (λ _. view nodes.new ≡ broadcast) }
     ensures exact { MatchResult result (λ _. reading.nodes_at info.now ≡ Ok (view nodes.new))
         (λ e. reading.nodes_at info.now ≡ Err e) }
+    ensures same { OnErr result (nodes.new ≡ nodes.old) }
 {
     // By the laws of the spelling none that is spelled is refused.
     laws::nodes_spelling();
@@ -47,13 +47,16 @@ fn fill(nodes: &mut Nodes, info: &[u8]) -> Result<(), NodesRefusal>
     ensures found { OnOk result (Spells (view nodes.new) info.now) }
     ensures exact { MatchResult result (λ _. reading.nodes_at info.now ≡ Ok (view nodes.new))
         (λ e. reading.nodes_at info.now ≡ Err e) }
+    ensures same { OnErr result (nodes.new ≡ nodes.old) }
 {
     if let Some(refusal) = shape_fault(info) {
         return Err(refusal);
     }
+    // The entries are all read before any of them is put in its place.
+    let mut entries = ArrayVec::new();
+    read_entries(&mut entries, &info[HEAD_LEN..])?;
     nodes.alias = alias_of(&info[1..HEAD_LEN]);
-    nodes.entries.clear();
-    read_entries(&mut nodes.entries, &info[HEAD_LEN..])?;
+    nodes.entries = entries;
     Ok(())
 }
 
