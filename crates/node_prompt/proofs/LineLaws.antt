@@ -24,17 +24,12 @@ use Rattle.node_prompt.specs.declared.line_refusal.LineRefusal.{LineRefusal}
 use Rattle.node_prompt.specs.declared.line_refusal.LineRefusal.TheVariants.{TooLong, UnknownCommand, WrongWords, BadCall}
 use Rattle.node_prompt.specs.declared.command.Verb.{Verb}
 use Rattle.node_prompt.specs.declared.command.Verb.TheVariants.{Connect, Nodes, Routes, Users, Info, Bye, Help}
-use Rattle.node_prompt.specs.Commands.{capital, words_of, is_either, verb_of, about, command_from, command_of, command_at}
+use Rattle.node_prompt.specs.Commands.{capital, words_of, is_either, verb_of, about, command_from, command_of, command_at, wanted_by, wanted}
 use Rattle.node_prompt.specs.Replies.{Prompt, prefix_of, ended}
 use Rattle.node_prompt.specs.Replies as replies
-use Rattle.node_prompt.specs.Laws.{AsksForRoutes, RoutesAreAskedFor, IsReply, AllIsReply, CaseIsNothing}
+use Rattle.node_prompt.specs.Laws.{AsksForRoutes, WantedIsAskedFor, RoutesAreAskedFor, IsReply, AllIsReply, CaseIsNothing}
 
 -- ---- which line asks for routes
-
--- the destination whose routes are asked for
-abbrev wanted_by : Result Command LineRefusal → Option Callsign
-wanted_by (Ok (ask.RoutesTo dest)) = Some dest
-wanted_by other = None
 
 abbrev maybe_verb : Verb → Option Verb
 maybe_verb v = Some v
@@ -114,15 +109,18 @@ asks_for line dest false l e =
     let a = asks (words_of (map capital line)) dest e in
     record { first = a.first; second = a.second; fits = grind (arith, nat_tests); words = a.words; named = named a.first a.named; call = a.call }
 
-wanted_asks : (line : List ℕ) (dest : Callsign) → wanted_by (command_at line) ≡ Some dest → AsksForRoutes line dest
+wanted_asks : (line : List ℕ) (dest : Callsign) → wanted line ≡ Some dest → AsksForRoutes line dest
 unfolding command_at
 wanted_asks line dest e = asks_for line dest (nat_lt 80 (length line)) refl e
 
-asks_wanted : (line : List ℕ) (dest : Callsign) → AsksForRoutes line dest → wanted_by (command_at line) ≡ Some dest
+asks_wanted : (line : List ℕ) (dest : Callsign) → AsksForRoutes line dest → wanted line ≡ Some dest
 unfolding command_at
 asks_wanted line dest a =
     let short : nat_lt 80 (length line) ≡ false = grind (arith, nat_tests, a.fits) in
     rw (short, a.words, names a.first a.named, a.call) refl
+
+pub wanted_is_asked_for : WantedIsAskedFor
+wanted_is_asked_for line dest = (wanted_asks line dest, asks_wanted line dest)
 
 -- these are what is shown then
 shown_wanted : (p : Prompt) (dest : Callsign) (r : Result Command LineRefusal) → replies.action_of p r ≡ Show (sight.RoutesTo dest) → wanted_by r ≡ Some dest

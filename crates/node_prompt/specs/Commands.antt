@@ -72,3 +72,11 @@ command_of (first ∷ words) = command_from (verb_of first) words
 -- What a line asks for. Its length is judged first, then the first word, then how many words there are, and then the call.
 unfoldable pub command_at : List ℕ → Result Command LineRefusal
 command_at line = if nat_lt 80 (length line) then Err TooLong else command_of (words_of (map capital line))
+
+-- the destination whose routes are asked for
+abbrev pub wanted_by : Result Command LineRefusal → Option Callsign
+wanted_by (Ok (ask.RoutesTo dest)) = Some dest
+wanted_by other = None
+
+abbrev pub wanted : List ℕ → Option Callsign
+wanted line = wanted_by (command_at line)

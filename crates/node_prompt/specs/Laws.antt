@@ -1,11 +1,11 @@
 -- What follows of the table of commands. Own profile.
-use Rattle.std.specs.Prelude.{ℕ, ◌≡◌, ◌≤◌, ◌⊎◌, ◌↔◌, List, [], ◌∷◌, ◌++◌, length, map, Ok, IfSome, codes}
+use Rattle.std.specs.Prelude.{ℕ, ◌≡◌, ◌≤◌, ◌⊎◌, ◌↔◌, List, [], ◌∷◌, ◌++◌, length, map, Some, Ok, IfSome, codes}
 use Rattle.ax_address.specs.Callsign.{Callsign, call_at}
 use Rattle.node_prompt.specs.declared.action.Action.TheVariants.{Show}
 use Rattle.node_prompt.specs.declared.sight.Sight.TheVariants.{RoutesTo}
 use Rattle.node_prompt.specs.declared.trouble.Trouble.{Trouble}
 use Rattle.node_prompt.specs.declared.view.View.{View}
-use Rattle.node_prompt.specs.Commands.{capital, words_of}
+use Rattle.node_prompt.specs.Commands.{capital, words_of, wanted}
 use Rattle.node_prompt.specs.Replies.{Prompt, prefix_of, ended, action_for, said, view_text, trying, connected, refused, disconnected}
 
 -- the line is NODES and a call, or N and a call, in letters of any case
@@ -17,7 +17,11 @@ pub record AsksForRoutes (line : List ℕ) (dest : Callsign) : Type 0 where
   pub named : (first ≡ codes "NODES") ⊎ (first ≡ codes "N")
   pub call : call_at second ≡ Ok dest
 
--- for exactly such a line the routes to this destination are shown
+-- exactly in such a line the routes to this destination are wanted
+abbrev pub WantedIsAskedFor : Type 0
+WantedIsAskedFor = (line : List ℕ) (dest : Callsign) → (wanted line ≡ Some dest) ↔ AsksForRoutes line dest
+
+-- for exactly such a line they are shown
 abbrev pub RoutesAreAskedFor : Type 0
 RoutesAreAskedFor = (p : Prompt) (line : List ℕ) (dest : Callsign) →
     (action_for p line ≡ Show (RoutesTo dest)) ↔ AsksForRoutes line dest

@@ -1,5 +1,5 @@
 //! What a line asks for.
-ghost use Rattle.std.specs.Prelude.{◌≡◌};
+ghost use Rattle.std.specs.Prelude.{◌≡◌, Ok};
 ghost use Rattle.node_prompt.specs.Commands as commands;
 
 use crate::line_refusal::LineRefusal;
@@ -29,6 +29,18 @@ pub enum Command {
     Help,
 }
 
+impl Command {
+    /// The destination whose routes are asked for.
+    fn wanted(&self) -> Option<Call>
+        ensures { result ≡ commands.wanted_by (Ok self.now) }
+    {
+        match self {
+            Command::RoutesTo(dest) => Some(*dest),
+            _ => None,
+        }
+    }
+}
+
 /// The commands by their first words.
 #[derive(Clone, Copy, Debug, PartialEq, Eq)]
 pub enum Verb {
@@ -50,6 +62,16 @@ pub fn command_at(line: &[u8]) -> Result<Command, LineRefusal>
         return Err(LineRefusal::TooLong);
     }
     command_of(&capitals(line))
+}
+
+/// The destination whose routes a line asks for, without the CR that ended it; None where it asks for none.
+pub fn wanted(text: &[u8]) -> Option<Call>
+    ensures { result ≡ commands.wanted text.now }
+{
+    match command_at(text) {
+        Ok(command) => command.wanted(),
+        Err(_) => None,
+    }
 }
 
 /// What the line, in capital letters, asks for.

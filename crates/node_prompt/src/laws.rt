@@ -1,9 +1,10 @@
 //! What the definitions promise by themselves.
-ghost use Rattle.node_prompt.specs.Laws.{RoutesAreAskedFor, CaseIsNothing, AllIsReply};
+ghost use Rattle.node_prompt.specs.Laws.{WantedIsAskedFor, RoutesAreAskedFor, CaseIsNothing, AllIsReply};
 
-/// The routes to a destination are shown exactly for a line that is `NODES` or `N` and a call, in letters of any case.
+/// The routes to a destination are wanted, and shown, exactly for a line that is `NODES` or `N` and a call, in letters of any case.
 pub fn routes_to()
-    ensures { RoutesAreAskedFor }
+    ensures wanted { WantedIsAskedFor }
+    ensures shown { RoutesAreAskedFor }
 {}
 
 /// Two lines that differ in the case of letters from a to z alone are answered alike.

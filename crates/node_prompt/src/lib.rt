@@ -16,6 +16,7 @@ mod view;
 mod words;
 
 pub use action::Action;
+pub use command::wanted;
 pub use prompt::Prompt;
 pub use sight::Sight;
 pub use trouble::Trouble;
